@@ -36,9 +36,9 @@ held_if : (b : Bool) (bytes : List ℕ) (o : Option (List ℕ)) → held_of (con
 held_if true bytes o = refl
 held_if false bytes o = refl
 
-added_device : (fs : Files) (name bytes : List ℕ) (failures : ℕ) (b : Bool) → device_of (file_added name bytes fs) failures b ≡ record (device_of fs failures b) { named = λ q. cond (bytes_eq q name) (Holds bytes) (held_of (fs.named q)) }
+added_device : (fs : Files) (name bytes : List ℕ) (failures : ℕ) → device_of (file_added name bytes fs) failures ≡ record (device_of fs failures) { named = λ q. cond (bytes_eq q name) (Holds bytes) (held_of (fs.named q)) }
 unfolding with_named
-added_device fs name bytes failures b = ap (with_named (device_of fs failures b)) (fun_ext (λ q. held_if (bytes_eq q name) bytes (fs.named q)))
+added_device fs name bytes failures = ap (with_named (device_of fs failures)) (fun_ext (λ q. held_if (bytes_eq q name) bytes (fs.named q)))
 
 missing_then : (o : Option (List ℕ)) → o ≡ None → is_there (held_of o) ≡ false
 missing_then o none = ap (λ (x : Option (List ℕ)). is_there (held_of x)) none
@@ -105,14 +105,14 @@ module _ (old : Host MemFiles) (files : MemFiles) (name bytes : List ℕ) (w : W
   unfolding chain_of budget_of
   stays_taken d e hosts is = record { same = is; hosts = hosts_still d e hosts (ap (λ (x : Device). x.numbered) is) (ap (λ (x : Device). x.next) is); chain = refl; budget = refl }
 
-  module _ (fs gs : Files) (m n : ℕ) (b c : Bool) (same : n ≡ m) (kept : c ≡ b) where
-    device_after : (hs : Files) → gs ≡ hs → device_of gs n c ≡ device_of hs m b
-    device_after hs is = ap (λ (k : ℕ). device_of gs k c) same ∙ (ap (device_of gs m) kept ∙ ap (λ (x : Files). device_of x m b) is)
+  module _ (fs gs : Files) (m n : ℕ) (same : n ≡ m) where
+    device_after : (hs : Files) → gs ≡ hs → device_of gs n ≡ device_of hs m
+    device_after hs is = ap (device_of gs) same ∙ ap (λ (x : Files). device_of x m) is
 
-    pub tries_to_add : (r : Result (Unit {0}) AddRefusal) → IsHosting (device_of fs m b) old w → IsAdding fs name bytes r gs → TriesToAdd (device_of fs m b) (device_of gs n c) old new name bytes r w
+    pub tries_to_add : (r : Result (Unit {0}) AddRefusal) → IsHosting (device_of fs m) old w → IsAdding fs name bytes r gs → TriesToAdd (device_of fs m) (device_of gs n) old new name bytes r w
     tries_to_add (Ok x) hosts (free, is) =
-        was_added (device_of fs m b) (device_of gs n c) hosts (missing_then (fs.named name) free) (device_after (file_added name bytes fs) is ∙ added_device fs name bytes m b)
+        was_added (device_of fs m) (device_of gs n) hosts (missing_then (fs.named name) free) (device_after (file_added name bytes fs) is ∙ added_device fs name bytes m)
     tries_to_add (Err added.NoMemory) hosts (free, is) =
-        (missing_then (fs.named name) free, not_added (device_of fs m b) (device_of gs n c) hosts (device_after fs is))
+        (missing_then (fs.named name) free, not_added (device_of fs m) (device_of gs n) hosts (device_after fs is))
     tries_to_add (Err added.Taken) hosts (taken, is) =
-        (there_then (fs.named name) taken, stays_taken (device_of fs m b) (device_of gs n c) hosts (device_after fs is))
+        (there_then (fs.named name) taken, stays_taken (device_of fs m) (device_of gs n) hosts (device_after fs is))

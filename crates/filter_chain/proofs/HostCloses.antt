@@ -65,7 +65,7 @@ close_serves budget chain d e w tree number c s given newer store conn left spar
   told = nothing_told;
   all = (w.common, over (map_of tree) c);
   is = ap (λ (x : World). (Refused refusal.NoMemory, x)) (sym (put_same number w c s.here) ∙ ap (λ (v : Linked). put_conn number v w) (its_part (map_of tree) w.common c s.lies));
-  tells = spared.folder;
+  tells = (ap (λ (x : Device). x.named) same, ap (λ (x : Device). x.plan) same);
   closes = same;
   short = tt;
   turn = Same;
@@ -187,7 +187,7 @@ module _ {F : Type 0} (host : Host F) (number : ℕ) (conn : Conn) (lent : Conns
       let gone = its_conn (budget_of host) (chain_of host) d host.tree host.store host.last (conn_at host.conns) w hosts number conn0 conn at f.0 f.1 e spared new.tree new.store was in
       let closes = closed_own (chain_of host) w (map_of host.tree) number f.0 s d e (λ file. was.closed file ∙ ap (λ t. if t then Missing else d.numbered file)
       (ap (λ (n : ℕ). lets_go (map_of host.tree) n (map_of new.tree) file) (sym gone) ∙ ap (λ (ps : Pools Payload). lets_go (map_of host.tree) f.0.conn ps file) (was.pools ∙ ap (λ (n : ℕ). destroyed n (map_of host.tree)) (sym gone)))) was.others in
-      happened_on d e host new number w hosts (ap chain_of is_new) (ap budget_of is_new) event.Close true nothing_told (Labels labels) to is spared.folder
+      happened_on d e host new number w hosts (ap chain_of is_new) (ap budget_of is_new) event.Close true nothing_told (Labels labels) to is (was.others.named, was.others.plan)
       (subst (λ (o : Option Connection). ClosesFiles d e (chain_of host) event.Close (Labels labels) w.common o to.common (to.conns number)) (sym f.1) closes) tt
       (λ reached. subst (λ (n : ℕ). HoldsWorld (budget_of host) (chain_of host) e new.tree new.store n (conn_at new.conns) to) (sym (ap (λ (x : Host F). x.last) is_new))
       (subst (λ (x : ℕ → Option Conn). HoldsWorld (budget_of host) (chain_of host) e new.tree new.store host.last x to) (sym (ap (λ (x : Host F). conn_at x.conns) is_new))

@@ -34,7 +34,8 @@ use Rattle.filter_chain.specs.Hosted.{conn_at}
 use Rattle.filter_chain.specs.Hosting.{HoldsWorld, IsHosting, Happens, chain_of, budget_of}
 use Rattle.filter_chain.specs.HostViews.{ClosesFiles, TellsEvent, StepTellsReads, host_view}
 use Rattle.filter_chain.specs.Spared.{Spares}
-use Rattle.module_run.proofs.OpeningsTold.{may_tell_unasked, refused_after, unasked}
+use Rattle.module_run.specs.OpenedFile.{IsAfterOpening}
+use Rattle.module_run.proofs.OpeningsTold.{may_tell_unasked, unasked}
 use Rattle.filter_chain.proofs.Hosts.{found, known, missing, stands_for}
 use Rattle.filter_chain.proofs.HostsLeft.{holds_put, same_conns, IsWritten, written}
 
@@ -53,24 +54,35 @@ abbrev pub unasked_in : ℕ → Device → Event → Told
 unasked_in next d (event.OpenFile name) = record { reads = λ k. None; opening = unasked next d name }
 unasked_in next d e = nothing_told
 
+-- whether an event that is refused so has asked no device
+abbrev pub IsBeforeAsking : Event → Refusal → Type 0
+IsBeforeAsking (event.OpenFile name) r = r ≡ refusal.NoSuchConn
+IsBeforeAsking event.Step r = r ≡ refusal.NoSuchConn
+IsBeforeAsking what r = Unit {0}
+
+before : (what : Event) → IsBeforeAsking what refusal.NoSuchConn
+before (event.OpenFile name) = refl
+before event.Step = refl
+before what = tt
+
 -- What is refused need not be told anything.
-pub refused_tells : (chain : List Program) (number : ℕ) (what : Event) (w : World) (d : Device) (r : Refusal) → w.common.file ≤ d.next → r ≢ refusal.FileFailed
+pub refused_tells : (chain : List Program) (number : ℕ) (what : Event) (w : World) (d : Device) (r : Refusal) → w.common.file ≤ d.next → IsBeforeAsking what r
     → TellsEvent chain number what (host_view w d) (Refused r) (unasked_in w.common.file d what) d
 unfolding TellsEvent
-refused_tells chain number event.Open w d r below apart = refl
-refused_tells chain number event.Begin w d r below apart = refl
-refused_tells chain number (event.AddFile name bytes) w d r below apart = refl
-refused_tells chain number (event.OpenFile name) w d r below apart = (may_tell_unasked w.common.file d name below, refused_after name d r apart)
-refused_tells chain number (event.Bring pieces) w d r below apart = refl
-refused_tells chain number event.Step w d r below apart = by_conn (w.conns number) where
+refused_tells chain number event.Open w d r below first = refl
+refused_tells chain number event.Begin w d r below first = refl
+refused_tells chain number (event.AddFile name bytes) w d r below first = refl
+refused_tells chain number (event.OpenFile name) w d r below first = (may_tell_unasked w.common.file d name below, subst (λ (x : Refusal). IsAfterOpening name (Some x) d d) (sym first) refl)
+refused_tells chain number (event.Bring pieces) w d r below first = refl
+refused_tells chain number event.Step w d r below first = by_conn (w.conns number) where
   by_conn : (o : Option Connection) → StepTellsReads chain (host_view w d) o (Refused r) (λ k. None) d
   by_conn None = refl
-  by_conn (Some c) = refl
-refused_tells chain number event.End w d r below apart = (refl, refl)
-refused_tells chain number event.TakeOutput w d r below apart = refl
-refused_tells chain number event.TellLabels w d r below apart = refl
-refused_tells chain number event.TellPools w d r below apart = refl
-refused_tells chain number event.Close w d r below apart = (refl, refl)
+  by_conn (Some c) = subst (λ (x : Refusal). StepTellsReads chain (host_view w d) (Some c) (Refused x) (λ k. None) d) (sym first) refl
+refused_tells chain number event.End w d r below first = (refl, refl)
+refused_tells chain number event.TakeOutput w d r below first = refl
+refused_tells chain number event.TellLabels w d r below first = refl
+refused_tells chain number event.TellPools w d r below first = refl
+refused_tells chain number event.Close w d r below first = (refl, refl)
 
 -- and it closes nothing
 pub refused_closes : (d : Device) (chain : List Program) (what : Event) (r : Refusal) (g h : Common) (c x : Option Connection) → ClosesFiles d d chain what (Refused r) g c h x
@@ -117,10 +129,10 @@ module _ {F : Type 0} (d : Device) (old new : Host F) (number : ℕ) (w : World)
   unfolding IsHosting
   stays_on what memory told answer is tells closes short = happened_on d d old new number w hosts chain budget what memory told answer w is tells closes short (λ reached. holds)
 
-  pub refused_on : (what : Event) (memory : Bool) (r : Refusal) → r ≢ refusal.FileFailed → happens memory (budget_of old) (chain_of old) (unasked_in w.common.file d what) number what w ≡ (Refused r, w) → Happens d d old new number what (Refused r) w
+  pub refused_on : (what : Event) (memory : Bool) (r : Refusal) → IsBeforeAsking what r → happens memory (budget_of old) (chain_of old) (unasked_in w.common.file d what) number what w ≡ (Refused r, w) → Happens d d old new number what (Refused r) w
   unfolding IsHosting
-  refused_on what memory r apart is =
-      stays_on what memory (unasked_in w.common.file d what) (Refused r) is (refused_tells (chain_of old) number what w d r hosts.files apart)
+  refused_on what memory r first is =
+      stays_on what memory (unasked_in w.common.file d what) (Refused r) is (refused_tells (chain_of old) number what w d r hosts.files first)
       (refused_closes d (chain_of old) what r w.common w.common (w.conns number) (w.conns number)) tt
 
   -- There is no such connection.
@@ -128,7 +140,7 @@ module _ {F : Type 0} (d : Device) (old new : Host F) (number : ℕ) (w : World)
   unfolding IsHosting
   none_served at what of =
       let none = missing (budget_of old) (chain_of old) d old.tree old.store old.last (conn_at old.conns) w hosts number at in
-      refused_on what true refusal.NoSuchConn (λ q. cc)
+      refused_on what true refusal.NoSuchConn (before what)
       (ap (λ (o : Option Connection). happens_on true (budget_of old) (chain_of old) (unasked_in w.common.file d what) what number o w) none ∙ none_is true (budget_of old) (chain_of old) (unasked_in w.common.file d what) number w what of)
 
 -- A connection c that is there answers this, and is conn then, by devices d and e. all: what is left of it over the tree that all share.

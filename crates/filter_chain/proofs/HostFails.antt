@@ -1,5 +1,5 @@
 -- A host of which a call of its files is set to fail.
-use Rattle.std.proofs.Common.{◌≡◌, ℕ, Bool, ap}
+use Rattle.std.proofs.Common.{◌≡◌, ℕ, ap}
 use Rattle.run_model.specs.Files.{Files}
 use Rattle.run_model.specs.Worlds.{World}
 use Rattle.bucket_kinds.specs.Device.{Device, Held}
@@ -17,6 +17,6 @@ module _ (old : Host MemFiles) (files : MemFiles) (w : World) where
   still_hosts d e hosts numbered same = renamed_holds (budget_of old) (chain_of old) d e old.tree old.store old.last (conn_at old.conns) w hosts numbered same
 
   -- It stands for the same world.
-  pub hosts_failing : (call : ℕ) (fs gs : Files) (m n : ℕ) (b c : Bool) → gs ≡ failing_at call fs → IsHosting (device_of fs m b) old w → IsHosting (device_of gs n c) (record old { files = files }) w
-  hosts_failing call fs gs m n b c is hosts =
-      still_hosts (device_of fs m b) (device_of gs n c) hosts (ap {B = ℕ → Held} (λ (x : Files) (k : ℕ). held_of (x.opened k)) is) (ap (λ (x : Files). x.next) is)
+  pub hosts_failing : (call : ℕ) (fs gs : Files) (m n : ℕ) → gs ≡ failing_at call fs → IsHosting (device_of fs m) old w → IsHosting (device_of gs n) (record old { files = files }) w
+  hosts_failing call fs gs m n is hosts =
+      still_hosts (device_of fs m) (device_of gs n) hosts (ap {B = ℕ → Held} (λ (x : Files) (k : ℕ). held_of (x.opened k)) is) (ap (λ (x : Files). x.next) is)

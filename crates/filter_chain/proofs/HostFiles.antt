@@ -71,5 +71,5 @@ opens_serves budget chain d e w tree number c s newer store conn name answer st 
       turn = opens_file_turn chain AnyLength w.common (over (map_of tree) c) (lasted answer) st.opening (any_length all.0);
       left = st.happened.left;
       files = st.numbers;
-      spared = record { rises = kept.rises; folder = kept.folder; others = λ file old none. kept.others file old };
+      spared = record { rises = kept.rises; folder = kept.folder; sound = kept.sound; others = λ file old none. kept.others file old };
     }

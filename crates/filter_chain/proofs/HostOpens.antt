@@ -64,11 +64,11 @@ module _ {F : Type 0} (d : Device) (old new : Host F) (w : World) (hosts : IsHos
     (holds : HoldsWorld (budget_of old) (chain_of old) d new.tree new.store new.last (conn_at new.conns) w) where
   pub opens_spent : spent old.last (map_of old.tree).next (next_name old.store) ≡ true → Happens d d old new 0 event.Open (Refused refusal.NamesSpent) w
   unfolding happens_on
-  opens_spent is = refused_on d old new 0 w hosts chain budget holds event.Open true refusal.NamesSpent (λ q. cc) (by_names true (chain_of old) w true (spent_is d old w hosts true is))
+  opens_spent is = refused_on d old new 0 w hosts chain budget holds event.Open true refusal.NamesSpent tt (by_names true (chain_of old) w true (spent_is d old w hosts true is))
 
   pub opens_forgot : spent old.last (map_of old.tree).next (next_name old.store) ≡ false → Happens d d old new 0 event.Open (Refused refusal.NoMemory) w
   unfolding happens_on
-  opens_forgot is = refused_on d old new 0 w hosts chain budget holds event.Open false refusal.NoMemory (λ q. cc) (by_names false (chain_of old) w false (spent_is d old w hosts false is))
+  opens_forgot is = refused_on d old new 0 w hosts chain budget holds event.Open false refusal.NoMemory tt (by_names false (chain_of old) w false (spent_is d old w hosts false is))
 
 opened_file : (chain : List Program) (g : Common) → (opened chain g).0.file ≡ g.file
 unfolding opened all_called

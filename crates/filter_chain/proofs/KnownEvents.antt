@@ -2,7 +2,7 @@
 use Rattle.std.proofs.Common.{◌≡◌, ℕ, ◌≤◌, Bool, true, false, List, Option, Some, None, Result, Ok, Err, OnOk, OnErr, is_some, inl, inr, refl, sym, ◌∙◌, ap, subst, arith}
 use Rattle.std.proofs.Math.Path.{fun_ext}
 use Rattle.module_code.specs.Program.{Program}
-use Rattle.bucket_kinds.specs.Device.{Device}
+use Rattle.bucket_kinds.specs.Device.{Device, IsUnasked}
 use Rattle.bucket_ring.specs.declared.rings.Rings.{Ghosts}
 use Rattle.run_model.specs.declared.bucket.Bucket.{Bucket}
 use Rattle.run_model.specs.declared.event.Event.{Event}
@@ -68,11 +68,11 @@ step_told k w (Ok s, v) = refl
 step_told k w (Err r, v) = refl
 
 pub spares_all : (d : Device) (c : Connection) → Spares d d c
-spares_all d c = record { rises = omega arith; folder = (refl, refl); others = λ file old none. refl }
+spares_all d c = record { rises = omega arith; folder = refl; sound = λ is. is; others = λ file old none. refl }
 
 -- what is spared of a connection's files is spared whatever pools it stands over
 pub spares_over : (d e : Device) (ps : Pools Payload) (c : Connection) → Spares d e (over ps c) → Spares d e c
-spares_over d e ps c s = record { rises = s.rises; folder = s.folder; others = s.others }
+spares_over d e ps c s = record { rises = s.rises; folder = s.folder; sound = s.sound; others = s.others }
 
 -- What is refused changes nothing, so each answer is told of the world with the connection put back.
 answered_is : (k : ℕ) (w : World) (c : Connection) (o : Option Refusal) (new : Linked) → w.conns k ≡ Some c
@@ -168,7 +168,8 @@ pub spares_unreferred : (d e : Device) (ps : Pools Payload) (c : Connection) →
     → ((file : ℕ) → ((p : ℕ) → is_under ps c.conn p ≡ true → refers ps p file ≡ false) → e.numbered file ≡ d.numbered file) → Spares d e c
 spares_unreferred d e ps c lasts same rest = record {
   rises = (let next = same.next in omega (arith, next));
-  folder = (same.named, same.may_fail);
+  folder = same.named;
+  sound = λ is. same.plan ∙ is;
   others = λ file old none. rest file (λ p under. not_held file p none under);
 } where
   not_held : (file p : ℕ) → c.opened file ≡ None → is_under ps c.conn p ≡ true → refers ps p file ≡ false
@@ -190,13 +191,13 @@ end_closes chain d e w ps number c s newer new conn (Err r) happened closed unre
 
 module _ {R : Type 0} {g : Ghosts R Bucket} (budget : ℕ) (chain : List Program) (d e : Device) (w : World) (tree : PoolTree Payload) (number : ℕ) (c : Connection) (s : Stands chain w (map_of tree) number c) (given : w.common.file ≤ d.next)
     (newer : PoolTree Payload) (store : Brigades R g) (conn : Conn) where
-  pub ends_serves : (r : Result (Unit {0}) Refusal) → Happened chain newer store e conn (refusal_of r) (ends (lasted r) (w.common, over (map_of tree) c)) → OnOk r (ClosedWith d e c.req (map_of tree) (map_of newer)) → OnErr r (e ≡ d) → Spares d e c
+  pub ends_serves : (r : Result (Unit {0}) Refusal) → Happened chain newer store e conn (refusal_of r) (ends (lasted r) (w.common, over (map_of tree) c)) → OnOk r (ClosedWith d e c.req (map_of tree) (map_of newer)) → OnErr r (e ≡ d) → IsUnasked d e → Spares d e c
       → Serves budget chain d e w tree number c event.End (done_answer (refusal_of r)) newer store conn
   unfolding happens_on ends TellsEvent
-  ends_serves r h closed unread spared =
+  ends_serves r h closed unread unasked spared =
       let file = ends_file (lasted r) w.common (over (map_of tree) c) in
       done_serves budget chain d e w tree number c s.here event.End (lasted r) (refusal_of r) _ (ended c.req (w.common, c)) (ends (lasted r) (w.common, over (map_of tree) c)) refl (ends_in_part (lasted r) (map_of tree) w.common c s.lies)
-      (ends_turn chain AnyLength w.common (over (map_of tree) c) (lasted r)) spared.folder (end_closes chain d e w (map_of tree) number c s newer store conn r h closed unread) newer store conn h
+      (ends_turn chain AnyLength w.common (over (map_of tree) c) (lasted r)) unasked (end_closes chain d e w (map_of tree) number c s newer store conn r h closed unread) newer store conn h
       (let le = spared.rises in omega (arith, file, given, le)) spared
 
 -- The same by what the calls promise of its files.
@@ -214,7 +215,7 @@ pub ended_serves : {R : Type 0} {g : Ghosts R Bucket} (budget : ℕ) (chain : Li
     → ((file : ℕ) → ((p : ℕ) → is_under (map_of tree) conn0.conn p ≡ true → refers (map_of tree) p file ≡ false) → e.numbered file ≡ d.numbered file) → Serves budget chain d e w tree number c event.End (done_answer (refusal_of r)) newer store conn
 unfolding is_under
 ended_serves budget chain d e w tree store0 conn0 number c s given newer store conn so r happened closed unread same rest =
-    ends_serves budget chain d e w tree number c s given newer store conn r happened (subst (λ (o : Option ℕ). OnOk r (ClosedWith d e o (map_of tree) (map_of newer))) (sym (req_is (map_of tree) (lists store0) (next_name store0) conn0 v so.left.seen)) closed) unread
+    ends_serves budget chain d e w tree number c s given newer store conn r happened (subst (λ (o : Option ℕ). OnOk r (ClosedWith d e o (map_of tree) (map_of newer))) (sym (req_is (map_of tree) (lists store0) (next_name store0) conn0 v so.left.seen)) closed) unread (same.named, same.plan)
     (closed_spares chain d e w tree store0 conn0 c so same rest) where
       v : Linked
       v = (w.common, over (map_of tree) c)

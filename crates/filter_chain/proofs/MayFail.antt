@@ -1,5 +1,5 @@
--- Whether its files may fail is never changed by an event of a host; and where they may not, no event is told that they did.
-use Rattle.std.proofs.Common.{◌≡◌, ◌≢◌, ℕ, zero, suc, Bool, true, false, List, Option, Some, None, Result, Ok, Err, inl, inr, refl, sym, ap, subst, ◌∙◌}
+-- Where no call of its files is to fail, no event of a host changes that, and none is told that they failed.
+use Rattle.std.proofs.Common.{◌≡◌, ◌≢◌, ℕ, zero, suc, Bool, true, List, Option, Some, None, Result, Ok, Err, inl, inr, refl, sym, ap, subst, ◌∙◌}
 use Rattle.std.proofs.lemmas.Bool.{false≢true}
 use Rattle.module_code.specs.Program.{Program}
 use Rattle.run_model.specs.declared.event.Event.{Event}
@@ -15,7 +15,7 @@ use Rattle.run_model.specs.Turns.{Opening, Found, Missing, Failing, is_failing, 
 use Rattle.run_model.specs.Worlds.{World, Answer, Done, Refused, Step, Told, happens_on, step_answered}
 use Rattle.model_laws.proofs.RefusalOrder.{first_is_told}
 use Rattle.model_laws.proofs.Refusals.{refused_step_breaks}
-use Rattle.bucket_kinds.specs.Device.{Device}
+use Rattle.bucket_kinds.specs.Device.{Device, MayFail, Sound}
 use Rattle.module_run.specs.OpenedFile.{MayTell}
 use Rattle.filter_chain.specs.Running.{HostGoesOn}
 use Rattle.module_run.proofs.FileOpens.{keeps_files}
@@ -24,35 +24,36 @@ use Rattle.filter_chain.proofs.FilesSpared.{step_spares}
 
 -- It stays as it is.
 
-same_kind : (d e : Device) → e ≡ d → e.may_fail ≡ d.may_fail
-same_kind d e is = ap (λ (x : Device). x.may_fail) is
+same_kind : (d e : Device) → e ≡ d → d.plan ≡ Sound → e.plan ≡ Sound
+same_kind d e is sound = ap (λ (x : Device). x.plan) is ∙ sound
 
-added_kind : (name bytes : List ℕ) (d e : Device) (answer : Answer) → HasAdded name bytes d answer e → e.may_fail ≡ d.may_fail
-added_kind name bytes d e Done (free, is) = ap (λ (x : Device). x.may_fail) is
-added_kind name bytes d e answer is = same_kind d e is
+added_kind : (name bytes : List ℕ) (d e : Device) (answer : Answer) → HasAdded name bytes d answer e → d.plan ≡ Sound → e.plan ≡ Sound
+added_kind name bytes d e Done (free, is) sound = ap (λ (x : Device). x.plan) is ∙ sound
+added_kind name bytes d e answer is sound = same_kind d e is sound
 
-reads_kind : (chain : List Program) (s : HostView) (c : Option Connection) (answer : Answer) (reads : Reads) (e : Device) → StepTellsReads chain s c answer reads e → e.may_fail ≡ s.device.may_fail
+reads_kind : (chain : List Program) (s : HostView) (c : Option Connection) (answer : Answer) (reads : Reads) (e : Device) → StepTellsReads chain s c answer reads e → s.device.plan ≡ Sound → e.plan ≡ Sound
 reads_kind chain s None answer reads e is = same_kind s.device e is
-reads_kind chain s (Some c) (Step t) reads e told = (step_spares s.device e chain (Ok t) (s.world.common, c) reads told).folder.1
+reads_kind chain s (Some c) (Step t) reads e told = (step_spares s.device e chain (Ok t) (s.world.common, c) reads told).sound
+reads_kind chain s (Some c) (Refused r) reads e told = (step_spares s.device e chain (Err r) (s.world.common, c) reads told).sound
 reads_kind chain s (Some c) answer reads e is = same_kind s.device e is
 
-tells_kind : (chain : List Program) (k : ℕ) (what : Event) (s : HostView) (answer : Answer) (told : Told) (e : Device) → TellsEvent chain k what s answer told e → e.may_fail ≡ s.device.may_fail
+tells_kind : (chain : List Program) (k : ℕ) (what : Event) (s : HostView) (answer : Answer) (told : Told) (e : Device) → TellsEvent chain k what s answer told e → s.device.plan ≡ Sound → e.plan ≡ Sound
 unfolding TellsEvent
-tells_kind chain k (event.AddFile name bytes) s answer told e tells = added_kind name bytes s.device e answer tells
-tells_kind chain k (event.OpenFile name) s answer told e tells = (keeps_files name s.device e (refusal_in answer) tells.1).folder.1
-tells_kind chain k event.Step s answer told e tells = reads_kind chain s (s.world.conns k) answer told.reads e tells
-tells_kind chain k event.End s answer told e tells = tells.1
-tells_kind chain k event.Close s answer told e tells = tells.1
-tells_kind chain k what s answer told e tells = same_kind s.device e tells
+tells_kind chain k (event.AddFile name bytes) s answer told e tells sound = added_kind name bytes s.device e answer tells sound
+tells_kind chain k (event.OpenFile name) s answer told e tells sound = (keeps_files name s.device e (refusal_in answer) tells.1).sound sound
+tells_kind chain k event.Step s answer told e tells sound = reads_kind chain s (s.world.conns k) answer told.reads e tells sound
+tells_kind chain k event.End s answer told e tells sound = tells.1 ∙ sound
+tells_kind chain k event.Close s answer told e tells sound = tells.1 ∙ sound
+tells_kind chain k what s answer told e tells sound = same_kind s.device e tells sound
 
 module _ (budget : ℕ) (chain : List Program) (number : ℕ) where
-  pub acts_kind : (what : Event) (old new : HostView) (answer : Answer) → Answers budget chain number what old answer new → new.device.may_fail ≡ old.device.may_fail
+  pub acts_kind : (what : Event) (old new : HostView) (answer : Answer) → Answers budget chain number what old answer new → old.device.plan ≡ Sound → new.device.plan ≡ Sound
   acts_kind what old new answer acts = tells_kind chain number what old answer acts.told new.device acts.tells
 
-  pub goes_kind : (n : ℕ) (old new : HostView) → HostGoesOn budget chain number n old new → new.device.may_fail ≡ old.device.may_fail
+  pub goes_kind : (n : ℕ) (old new : HostView) → HostGoesOn budget chain number n old new → old.device.plan ≡ Sound → new.device.plan ≡ Sound
   unfolding HostGoesOn
-  goes_kind zero old new same = ap (λ (s : HostView). s.device.may_fail) same
-  goes_kind (suc n) old new (mid, acts, rest) = goes_kind n mid new rest ∙ acts_kind event.Step old mid (Step stepped.Went) acts
+  goes_kind zero old new same sound = ap (λ (s : HostView). s.device.plan) same ∙ sound
+  goes_kind (suc n) old new (mid, acts, rest) sound = goes_kind n mid new rest (acts_kind event.Step old mid (Step stepped.Went) acts sound)
 
 -- A step tells no failure of a device.
 module _ (memory : Bool) (budget : ℕ) (chain : List Program) (told : Told) (k : ℕ) (w to : World) where
@@ -71,22 +72,22 @@ module _ (memory : Bool) (budget : ℕ) (chain : List Program) (told : Told) (k 
   step_unfailing None is = (let never : Refused refusal.NoSuchConn ≡ Refused refusal.FileFailed = ap (λ (a : Answer × World). a.0) is in cc)
   step_unfailing (Some c) is = by_result c (steps memory budget chain told.reads (w.common, c)) refl is
 
--- An opening that is told to fail is one of a device that may.
-by_opening : (next : ℕ) (d : Device) (name : List ℕ) (o : Opening) → is_failing o ≡ true → MayTell next d name o → d.may_fail ≡ true
+-- An opening that is told to fail is one that may.
+by_opening : (next : ℕ) (d : Device) (name : List ℕ) (o : Opening) → is_failing o ≡ true → MayTell next d name o → MayFail d.plan
 by_opening next d name (Found skipped bytes) fails tells = absurd (false≢true fails)
 by_opening next d name Missing fails tells = absurd (false≢true fails)
 by_opening next d name Failing fails tells = tells
 
-by_event : (chain : List Program) (k : ℕ) (what : Event) (s : HostView) (answer : Answer) (told : Told) (e : Device) → fails_to_open what told ≡ true → TellsEvent chain k what s answer told e → s.device.may_fail ≡ true
+by_event : (chain : List Program) (k : ℕ) (what : Event) (s : HostView) (answer : Answer) (told : Told) (e : Device) → fails_to_open what told ≡ true → TellsEvent chain k what s answer told e → MayFail s.device.plan
 unfolding TellsEvent
 by_event chain k (event.OpenFile name) s answer told e fails tells = by_opening s.world.common.file s.device name told.opening fails tells.0
 by_event chain k what s answer told e fails tells = absurd (false≢true fails)
 
-module _ (budget : ℕ) (chain : List Program) (number : ℕ) (old new : HostView) (sound : old.device.may_fail ≡ false) where
+module _ (budget : ℕ) (chain : List Program) (number : ℕ) (old new : HostView) (sound : old.device.plan ≡ Sound) where
   other : (what : Event) → what ≢ event.Step → Answers budget chain number what old (Refused refusal.FileFailed) new → ⊥
   other what apart acts =
       let first = (first_is_told acts.memory budget chain acts.told number what old.world refusal.FileFailed apart).0 (ap (λ (a : Answer × World). a.0) acts.is) in
-      false≢true (sym sound ∙ by_event chain number what old (Refused refusal.FileFailed) acts.told new.device first.holds acts.tells)
+      subst MayFail sound (by_event chain number what old (Refused refusal.FileFailed) acts.told new.device first.holds acts.tells)
 
   failed_never : (what : Event) → Answers budget chain number what old (Refused refusal.FileFailed) new → ⊥
   failed_never event.Step acts = step_unfailing acts.memory budget chain acts.told number old.world new.world (old.world.conns number) acts.is

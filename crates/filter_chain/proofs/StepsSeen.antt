@@ -10,6 +10,7 @@ use Rattle.bucket_kinds.specs.Device.{Device, Held, Missing}
 use Rattle.run_model.specs.declared.event.Cause.{Cause}
 use Rattle.run_model.specs.declared.event.Cause.TheVariants as cause
 use Rattle.run_model.specs.declared.event.Refusal.{Refusal}
+use Rattle.run_model.specs.declared.event.Refusal.TheVariants as refusal
 use Rattle.run_model.specs.declared.event.Stepped.{Stepped}
 use Rattle.run_model.specs.declared.event.Stepped.TheVariants as stepped
 use Rattle.run_model.specs.declared.fault.FaultKind.{FaultKind}
@@ -59,6 +60,7 @@ pub tells_alike : (d e : Device) (chain : List Program) (answer : Result Stepped
 tells_alike d e chain (Ok stepped.Went) g c ps reads told = top_alike d e chain c.stack g c ps reads told
 tells_alike d e chain (Ok (stepped.CallEnded s)) g c ps reads told = top_alike d e chain c.stack g c ps reads told
 tells_alike d e chain (Ok (stepped.Fault kind of pc)) g c ps reads told = told
+tells_alike d e chain (Err (refusal.Broken cause.NoMemory)) g c ps reads told = told
 tells_alike d e chain (Err r) g c ps reads told = told
 
 -- What is closed.

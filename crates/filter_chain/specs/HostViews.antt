@@ -9,7 +9,7 @@ use Rattle.run_model.specs.Pools.{destroyed}
 use Rattle.run_model.specs.Chains.{Connection, Common, pools_of}
 use Rattle.run_model.specs.Passing.{Reads}
 use Rattle.run_model.specs.Worlds.{World, Told, Answer, Done, Refused, Step, Labels, happens}
-use Rattle.bucket_kinds.specs.Device.{Device, Holds, SameFolder, is_there}
+use Rattle.bucket_kinds.specs.Device.{Device, Holds, IsUnasked, is_there}
 use Rattle.ring_run.specs.CarriedOut.{ClosedWith}
 use Rattle.module_run.specs.OpenedFile.{IsAfterOpening, MayTell}
 use Rattle.module_run.specs.Stepping.{ClosesStep, TellsStep}
@@ -26,10 +26,11 @@ abbrev pub HasAdded : List ℕ → List ℕ → Device → Answer → Device →
 HasAdded name bytes d Done e = (is_there (d.named name) ≡ false) × (e ≡ record d { named = λ q. if bytes_eq q name then Holds bytes else d.named q })
 HasAdded name bytes d answer e = e ≡ d
 
--- A step of this connection reads what the device may give. What is refused reads nothing.
+-- A step of this connection reads what the device may give. What is refused reads nothing, but for a pass that lacks memory.
 abbrev pub StepTellsReads : List Program → HostView → Option Connection → Answer → Reads → Device → Type 0
 StepTellsReads chain s None answer reads e = e ≡ s.device
 StepTellsReads chain s (Some c) (Step t) reads e = TellsStep s.device e chain (Ok t) (s.world.common, c) reads
+StepTellsReads chain s (Some c) (Refused r) reads e = TellsStep s.device e chain (Err r) (s.world.common, c) reads
 StepTellsReads chain s (Some c) answer reads e = e ≡ s.device
 
 -- why an event was refused, if it was
@@ -37,8 +38,8 @@ abbrev pub refusal_in : Answer → Option Refusal
 refusal_in (Refused r) = Some r
 refusal_in answer = None
 
--- What an event is told is what the device may tell, and the device is e then. Files are closed where pools go (`ClosesFiles`); their names stay,
--- and so does whether it may fail.
+-- What an event is told is what the device may tell, and the device is e then. Files are closed where pools go (`ClosesFiles`); their names stay, and
+-- the call that is to fail is as far off as before.
 unfoldable pub TellsEvent : List Program → ℕ → Event → HostView → Answer → Told → Device → Type 0
 TellsEvent chain k event.Open s answer told e = e ≡ s.device
 TellsEvent chain k event.Begin s answer told e = e ≡ s.device
@@ -46,11 +47,11 @@ TellsEvent chain k (event.AddFile name bytes) s answer told e = HasAdded name by
 TellsEvent chain k (event.OpenFile name) s answer told e = MayTell s.world.common.file s.device name told.opening × IsAfterOpening name (refusal_in answer) s.device e
 TellsEvent chain k (event.Bring pieces) s answer told e = e ≡ s.device
 TellsEvent chain k event.Step s answer told e = StepTellsReads chain s (s.world.conns k) answer told.reads e
-TellsEvent chain k event.End s answer told e = SameFolder s.device e
+TellsEvent chain k event.End s answer told e = IsUnasked s.device e
 TellsEvent chain k event.TakeOutput s answer told e = e ≡ s.device
 TellsEvent chain k event.TellLabels s answer told e = e ≡ s.device
 TellsEvent chain k event.TellPools s answer told e = e ≡ s.device
-TellsEvent chain k event.Close s answer told e = SameFolder s.device e
+TellsEvent chain k event.Close s answer told e = IsUnasked s.device e
 
 -- Which files an event closed of a connection that was there: those of which the last references were on the pools that went, and no others. What is
 -- refused closes none. (Of the other events `TellsEvent` says it.)

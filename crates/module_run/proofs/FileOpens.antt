@@ -6,7 +6,7 @@ use Rattle.std.proofs.Math.Path.{fun_ext}
 use Rattle.std.proofs.lemmas.Bool.{cases_eq, eq-eqb, ne_eqb}
 use Rattle.std.proofs.lemmas.List.{map-append, length-replicate}
 use Rattle.bucket_kinds.specs.Answers.{MayHave, Opens}
-use Rattle.bucket_kinds.specs.Device.{Device, Held, Missing, Untold, Holds, closed, HasFailed, SameFolder, is_there, opened}
+use Rattle.bucket_kinds.specs.Device.{Device, Held, Missing, Untold, Holds, closed, HasFailed, SameFolder, Sound, is_there, moved, nearer, opened, spent}
 use Rattle.bucket_ring.specs.declared.names.BucketId.{BucketId}
 use Rattle.bucket_ring.specs.declared.rings.Rings.{Ghosts}
 use Rattle.module_code.specs.Program.{Program}
@@ -75,24 +75,35 @@ module _ {R : Type 0} {g : Ghosts R Bucket} (chain : List Program) (tree : PoolT
     with_files : List (ℕ × ℕ) → Connection
     with_files fs = record (conn_of (map_of tree) (lists store) v.1.opened c) { files = fs }
 
--- A device was d, and is e behind an opening: numbers rise, names stay and whether it may fail, and a file whose number was given before is as it was.
+-- A device was d, and is e after an opening: numbers rise, names stay, where no call was to fail none is, and a file whose number was given before is as it was.
 pub record KeepsFiles (d e : Device) : Type 0 where
   pub rises : d.next ≤ e.next
   pub folder : SameFolder d e
+  pub sound : d.plan ≡ Sound → e.plan ≡ Sound
   pub others : (file : ℕ) → file < d.next → e.numbered file ≡ d.numbered file
 
 module _ (name : List ℕ) (d e : Device) where
   kept_same : e ≡ d → KeepsFiles d e
   kept_same is = record {
     rises = (let next = ap (λ (x : Device). x.next) is in omega (arith, next));
-    folder = (ap (λ (x : Device). x.named) is, ap (λ (x : Device). x.may_fail) is);
+    folder = ap (λ (x : Device). x.named) is;
+    sound = λ sound. ap (λ (x : Device). x.plan) is ∙ sound;
+    others = λ file given. ap (λ (x : Device). x.numbered file) is;
+  }
+
+  kept_moved : e ≡ moved d → KeepsFiles d e
+  kept_moved is = record {
+    rises = (let next = ap (λ (x : Device). x.next) is in omega (arith, next));
+    folder = ap (λ (x : Device). x.named) is;
+    sound = λ sound. ap (λ (x : Device). x.plan) is ∙ ap nearer sound;
     others = λ file given. ap (λ (x : Device). x.numbered file) is;
   }
 
   kept_failed : HasFailed d e → KeepsFiles d e
   kept_failed (may, is) = record {
     rises = (let next = ap (λ (x : Device). x.next) is in omega (arith, next));
-    folder = (ap (λ (x : Device). x.named) is, ap (λ (x : Device). x.may_fail) is);
+    folder = ap (λ (x : Device). x.named) is;
+    sound = λ sound. ap (λ (x : Device). x.plan) is ∙ ap spent sound;
     others = λ file given. ap (λ (x : Device). x.numbered file) is;
   }
 
@@ -101,25 +112,29 @@ module _ (name : List ℕ) (d e : Device) where
   unfolding upd
   apart file given h at = ap (λ (t : Bool). if t then h else at file) (ne_eqb file d.next (λ q. omega (arith, given, q)))
 
-  kept_open : e ≡ opened name d → KeepsFiles d e
+  kept_open : e ≡ opened name (moved d) → KeepsFiles d e
   kept_open is = record {
     rises = (let next = ap (λ (x : Device). x.next) is in omega (arith, next));
-    folder = (ap (λ (x : Device). x.named) is, ap (λ (x : Device). x.may_fail) is);
+    folder = ap (λ (x : Device). x.named) is;
+    sound = λ sound. ap (λ (x : Device). x.plan) is ∙ ap nearer sound;
     others = λ file given. ap (λ (x : Device). x.numbered file) is ∙ apart file given (d.named name) d.numbered;
   }
 
-  kept_closed : e ≡ closed d.next (opened name d) → KeepsFiles d e
+  kept_closed : e ≡ closed d.next (opened name (moved d)) → KeepsFiles d e
   kept_closed is = record {
     rises = (let next = ap (λ (x : Device). x.next) is in omega (arith, next));
-    folder = (ap (λ (x : Device). x.named) is, ap (λ (x : Device). x.may_fail) is);
-    others = λ file given. ap (λ (x : Device). x.numbered file) is ∙ (apart file given Missing (opened name d).numbered ∙ apart file given (d.named name) d.numbered);
+    folder = ap (λ (x : Device). x.named) is;
+    sound = λ sound. ap (λ (x : Device). x.plan) is ∙ ap nearer sound;
+    others = λ file given. ap (λ (x : Device). x.numbered file) is ∙ (apart file given Missing (opened name (moved d)).numbered ∙ apart file given (d.named name) d.numbered);
   }
 
   pub keeps_files : (why : Option Refusal) → IsAfterOpening name why d e → KeepsFiles d e
-  keeps_files None is = kept_open is
+  keeps_files None is = kept_open is.1
+  keeps_files (Some refusal.NoFile) is = kept_moved is.1
   keeps_files (Some refusal.FileFailed) is = kept_failed is
-  keeps_files (Some refusal.NoMemory) (inl is) = kept_same is
-  keeps_files (Some refusal.NoMemory) (inr is) = kept_closed is
+  keeps_files (Some refusal.NamesSpent) is = kept_moved is.1
+  keeps_files (Some refusal.NoMemory) (well, inl is) = kept_moved is
+  keeps_files (Some refusal.NoMemory) (well, inr is) = kept_closed is
   keeps_files (Some r) is = kept_same is
 
 -- the files that are open on a device that opened one
@@ -143,7 +158,7 @@ module _ (d e : Device) (name : List ℕ) (number len : ℕ) (opens : Opens d na
     | inr ne ↦ ap (λ (t : Bool). if t then Missing else e.numbered file) (ne_eqb file number ne) ∙ numbered_old file ne
   ]
 
-  pub closed_again : (last : Device) → last ≡ closed number e → last ≡ closed d.next (opened name d)
+  pub closed_again : (last : Device) → last ≡ closed number e → last ≡ closed d.next (opened name (moved d))
   closed_again last is = is ∙ (ap (λ (n : ℕ). closed n e) opens.number_is ∙ ap (closed d.next) opens.after)
 
   module _ {R : Type 0} {g : Ghosts R Bucket} (chain : List Program) (tree newer : PoolTree Payload) (old new : Brigades R g) (c : Conn) (v : Linked) (left : LeftAs chain tree old d c v) (req : ℕ) (bytes : List ℕ)

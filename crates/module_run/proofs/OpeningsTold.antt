@@ -68,11 +68,6 @@ stays_unasked name d None true req r is = subst (λ (o : Option Refusal). IsAfte
 stays_unasked name d None false None r is = subst (λ (o : Option Refusal). IsAfterOpening name o d d) (sym is) refl
 stays_unasked name d None false (Some pool) r is = absurd (cc)
 
-pub refused_after : (name : List ℕ) (d : Device) (r : Refusal) → r ≢ refusal.FileFailed → IsAfterOpening name (Some r) d d
-refused_after name d refusal.FileFailed apart = absurd (apart refl)
-refused_after name d refusal.NoMemory apart = inl refl
-refused_after name d r apart = refl
-
 module _ {R : Type 0} {g : Ghosts R Bucket} (chain : List Program) (tree : PoolTree Payload) (store : Brigades R g) (d e : Device) (c : Conn) (name : List ℕ) (v : Linked) where
   pub was_opened : (answer : Result (ℕ × ℕ) Refusal) (opening : Opening) (w : Linked) → MayTell v.0.file d name opening → opens_file (lasted answer) opening v ≡ (answer, w) → LeftAs chain tree store e c w → w.0.file ≤ e.next → IsAfterOpening name (refusal_of answer) d e → TellsShort answer
       → WasOpened chain tree store d e c name answer v
@@ -88,22 +83,22 @@ module _ {R : Type 0} {g : Ghosts R Bucket} (chain : List Program) (tree : PoolT
   -- the device tells a fault
   pub was_refused : (why : FileFault) → IsOpening d name (Err why) e → first_refusal (request_tests c.broken c.busy c.req) ≡ None → LeftAs chain tree store d c v → v.0.file ≤ d.next
       → WasOpened chain tree store d e c name (Err (unopened_by why)) v
-  was_refused fault.NotThere (miss, same) none left below =
+  was_refused fault.NotThere (miss, went) none left below =
       was_opened (Err refusal.NoFile) Missing v miss (open_missing (map_of tree) (lists store) (next_name store) c v left.seen true none)
-      (subst (λ (x : Device). LeftAs chain tree store x c v) (sym same) left) (subst (λ (x : Device). v.0.file ≤ x.next) (sym same) below) same tt
+      (left_device chain tree store d e c v (λ file. ap (λ (x : Device). x.numbered file) went.1) left) (subst (λ (x : Device). v.0.file ≤ x.next) (sym went.1) below) went tt
   was_refused fault.Failed (may, same) none left below =
       was_opened (Err refusal.FileFailed) Failing v may (open_failing (map_of tree) (lists store) (next_name store) c v left.seen true none)
       (left_device chain tree store d e c v (λ file. ap (λ (x : Device). x.numbered file) same) left) (subst (λ (x : Device). v.0.file ≤ x.next) (sym same) below) (may, same) tt
-  was_refused fault.NamesSpent (there, last, same) none left below =
+  was_refused fault.NamesSpent (there, last, went) none left below =
       let bytes = there_bytes (d.named name) there in
       was_opened (Err refusal.NamesSpent) (Found (d.next - v.0.file) bytes.0) v (bytes.1, rest_of v.0.file d.next below)
       (open_spent (map_of tree) (lists store) (next_name store) c v left.seen true (d.next - v.0.file) bytes.0 none (last_spent (v.0.file + (d.next - v.0.file)) (rest_of v.0.file d.next below ∙ last)))
-      (subst (λ (x : Device). LeftAs chain tree store x c v) (sym same) left) (subst (λ (x : Device). v.0.file ≤ x.next) (sym same) below) same tt
-  was_refused fault.NoMemory (there, lt, same) none left below =
+      (left_device chain tree store d e c v (λ file. ap (λ (x : Device). x.numbered file) went.1) left) (subst (λ (x : Device). v.0.file ≤ x.next) (sym went.1) below) went tt
+  was_refused fault.NoMemory (there, lt, went) none left below =
       let bytes = there_bytes (d.named name) there in
       was_opened (Err refusal.NoMemory) (Found (d.next - v.0.file) bytes.0) v (bytes.1, rest_of v.0.file d.next below)
       (open_left (map_of tree) (lists store) (next_name store) c v left.seen false (d.next - v.0.file) bytes.0 none (not_spent (v.0.file + (d.next - v.0.file)) (let at = rest_of v.0.file d.next below in omega (arith, lt, at))))
-      (subst (λ (x : Device). LeftAs chain tree store x c v) (sym same) left) (subst (λ (x : Device). v.0.file ≤ x.next) (sym same) below) (inl same) tt
+      (left_device chain tree store d e c v (λ file. ap (λ (x : Device). x.numbered file) went.1) left) (subst (λ (x : Device). v.0.file ≤ x.next) (sym went.1) below) (went.0, inl went.1) tt
 
 -- the file was found, and its number and length are told
 pub opening_is : (ps : Pools Payload) (rings : ℕ → Option Items) (next : ℕ) (c : Conn) (v : Linked) → IsSeenAs ps rings next c v → (number len next_number req : ℕ) (bytes : List ℕ) → number ≡ next_number → number < last_number → v.0.file ≤ next_number → len ≡ length bytes → c.req ≡ Some req

@@ -2,7 +2,7 @@
 use Rattle.std.specs.Prelude.{◌≡◌, ◌⊎◌, true, ℕ, ◌+◌, ◌≤◌, List, Option, Some, None, Result, Ok, Err}
 use Rattle.module_code.specs.Program.{Program}
 use Rattle.bucket_kinds.specs.Answers.{MayMiss}
-use Rattle.bucket_kinds.specs.Device.{Device, HasFailed, opened, closed}
+use Rattle.bucket_kinds.specs.Device.{Device, MayGoWell, MayFail, WentWell, HasFailed, moved, opened, closed}
 use Rattle.bucket_kinds.specs.declared.refusal.FileFault.{FileFault}
 use Rattle.bucket_kinds.specs.declared.refusal.FileFault.TheVariants as fault
 use Rattle.bucket_ring.specs.declared.rings.Rings.{Ghosts}
@@ -20,18 +20,20 @@ use Rattle.module_run.specs.Happened.{Happened, lasted, refusal_of}
 use Rattle.module_run.specs.Proceeding.{MayHold}
 
 -- What a device may tell of the file of this name, where `next` is the model's next number: of what is found also how many numbers lie between that
--- and the device's own. (That it failed may be told of each, where it may fail.)
+-- and the device's own. (That it failed may be told of each, where this opening may fail.)
 abbrev pub MayTell : ℕ → Device → List ℕ → Opening → Type 0
 MayTell next d name (Found skipped bytes) = MayHold (d.named name) bytes × (next + skipped ≡ d.next)
 MayTell next d name Missing = MayMiss (d.named name)
-MayTell next d name Failing = d.may_fail ≡ true
+MayTell next d name Failing = MayFail d.plan
 
--- A device was d, and is e behind an opening. Not refused, the file is open under the next number. A failure was counted. Without memory, the file
--- was not opened, or it was closed again. Refused for another reason, nothing happened to the device.
+-- A device was d, and is e after an opening. Not refused, the file is open under the next number. A failure was counted. Without memory, the file
+-- was not opened, or it was closed again. Where the device was asked and did not fail, the opening went on well. Else it is as it was.
 abbrev pub IsAfterOpening : List ℕ → Option Refusal → Device → Device → Type 0
-IsAfterOpening name None d e = e ≡ opened name d
+IsAfterOpening name None d e = MayGoWell d.plan × (e ≡ opened name (moved d))
+IsAfterOpening name (Some refusal.NoFile) d e = WentWell d e
 IsAfterOpening name (Some refusal.FileFailed) d e = HasFailed d e
-IsAfterOpening name (Some refusal.NoMemory) d e = (e ≡ d) ⊎ (e ≡ closed d.next (opened name d))
+IsAfterOpening name (Some refusal.NamesSpent) d e = WentWell d e
+IsAfterOpening name (Some refusal.NoMemory) d e = MayGoWell d.plan × ((e ≡ moved d) ⊎ (e ≡ closed d.next (opened name (moved d))))
 IsAfterOpening name (Some r) d e = e ≡ d
 
 -- why a file is not opened

@@ -2,6 +2,7 @@
 
 ghost use Rattle.std.specs.Prelude.{◌≡◌, ◌<◌, ◌+◌, List, true, false, if◌then◌else◌, IsOk, OnOk, OnErr};
 ghost use Rattle.module_code.specs.Program.{Program};
+ghost use Rattle.bucket_kinds.specs.Device.{SomeWentWell};
 ghost use Rattle.run_model.specs.declared.payload.Payload.{Payload};
 ghost use Rattle.run_model.specs.Pools.{Pools};
 ghost use Rattle.run_model.specs.Chains.{Frame, Linked, configuration, is_last};
@@ -19,7 +20,8 @@ use std::alloc::AllocError;
 
 impl Conn {
     /// The last filter passes the brigade of a variable to the end of the chain. It goes on behind the pass, or at the target of the pass
-    /// where not all went well. Only bytes that are put out take memory. Without it nothing is changed.
+    /// where not all went well. Only bytes that are put out take memory. Without it nothing is
+    /// changed; parts may have been read.
     pub(crate) fn pass_to_output<R: Rings<Bucket> + Drop, F: Files>(
         &mut self,
         store: &mut Brigades<R>,
@@ -31,7 +33,7 @@ impl Conn {
         ensures ok { OnOk result ((chain : List Program) (tree : PoolTree Payload) (v : Linked) (f : Frame) (rest : List Frame) → is_last chain (top_of self.old) ≡ true → IsReady chain (Instr.Pass b target) tree store.old (F.device files.old) self.old v f rest → RefinesStep chain (Instr.Pass b target) (F.device files.old) (F.device files.new) v f rest tree store.new self.new Stepped.Went) }
         ensures err { OnErr result ((chain : List Program) (tree : PoolTree Payload) (v : Linked) → LeftAs chain tree store.old (F.device files.old) self.old v → LeftAs chain tree store.new (F.device files.new) self.new v) }
         ensures sure { (chain : List Program) (tree : PoolTree Payload) (v : Linked) (f : Frame) (rest : List Frame) → IsReady chain (Instr.Pass b target) tree store.old (F.device files.old) self.old v f rest → grows (configuration v.0 v.1 f) (Instr.Pass b target) ≡ false → IsOk result }
-        ensures unread { OnErr result (F.device files.new ≡ F.device files.old) }
+        ensures lacked { OnErr result (SomeWentWell (F.device files.old) (F.device files.new)) }
         ensures leaves { (ps : Pools Payload) → LeavesOthers ps store.old store.new self.old self.new }
         ensures ended { EndsLoose store.old store.new self.old self.new }
         ensures count { self.new.count ≡ self.old.count }

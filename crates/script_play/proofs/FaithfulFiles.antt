@@ -1,5 +1,5 @@
 -- The files of a play give what they hold, and no command answers that one failed.
-use Rattle.std.proofs.Common.{◌≡◌, ◌≢◌, ℕ, false, List, [], ◌∷◌, ◌++◌, Option, Some, None, Result, Ok, Err, sym, ap, ◌∙◌}
+use Rattle.std.proofs.Common.{◌≡◌, ◌≢◌, ℕ, List, [], ◌∷◌, ◌++◌, Option, Some, None, Result, Ok, Err, sym, ap, ◌∙◌}
 use Rattle.module_code.specs.Program.{Program}
 use Rattle.run_model.specs.declared.event.Event.{Event}
 use Rattle.run_model.specs.declared.event.Event.TheVariants as event
@@ -11,7 +11,7 @@ use Rattle.run_model.specs.declared.event.Stepped.{Stepped}
 use Rattle.run_model.specs.declared.event.Stepped.TheVariants as stepped
 use Rattle.run_model.specs.Chains.{Connection}
 use Rattle.run_model.specs.Worlds.{Answer, Done, Refused, Connected, Step, Output, Opened, Labels, Tree}
-use Rattle.bucket_kinds.specs.Device.{Device, Untold, Holds}
+use Rattle.bucket_kinds.specs.Device.{Device, Untold, Holds, Sound}
 use Rattle.bucket_kinds.specs.MemDevice.{files_of, held_of}
 use Rattle.module_run.specs.Proceeding.{MayHold}
 use Rattle.module_run.specs.declared.conn.Conn.{Conn}
@@ -84,57 +84,57 @@ module _ (budget : ℕ) (chain : List Program) where
   -- A reply and what it leaves.
   record IsSound (r : Reply) (new : HostView) : Type 0 where
     unfailing : r ≢ reply.Refused refusal.FileFailed
-    sound : new.device.may_fail ≡ false
+    sound : new.device.plan ≡ Sound
 
-  tells_sound : (number : ℕ) (what : Event) (old new : HostView) (r : Reply) → old.device.may_fail ≡ false → RepliesTo budget chain number what old r new → IsSound r new
+  tells_sound : (number : ℕ) (what : Event) (old new : HostView) (r : Reply) → old.device.plan ≡ Sound → RepliesTo budget chain number what old r new → IsSound r new
   tells_sound number what old new r sound tells = record {
     unfailing = λ is. acts_unfailing budget chain number old new sound what tells.answer tells.acts (refused_answer tells.answer refusal.FileFailed (sym tells.told ∙ is));
-    sound = acts_kind budget chain number what old new tells.answer tells.acts ∙ sound;
+    sound = acts_kind budget chain number what old new tells.answer tells.acts sound;
   }
 
-  steps_sound : (number n : ℕ) (old new : HostView) (r : Reply) → old.device.may_fail ≡ false → MakesSteps budget chain number n old r new → IsSound r new
+  steps_sound : (number n : ℕ) (old new : HostView) (r : Reply) → old.device.plan ≡ Sound → MakesSteps budget chain number n old r new → IsSound r new
   steps_sound number n old new r sound makes =
       let steps = makes.steps in
-      let before : steps.before.device.may_fail ≡ false = goes_kind budget chain number steps.count old steps.before steps.goes ∙ sound in
+      let before : steps.before.device.plan ≡ Sound = goes_kind budget chain number steps.count old steps.before steps.goes sound in
       record {
         unfailing = λ is. acts_unfailing budget chain number steps.before new before event.Step (step_answer makes.answer) steps.last (refused_steps n makes.answer refusal.FileFailed (sym makes.told ∙ is));
-        sound = acts_kind budget chain number event.Step steps.before new (step_answer makes.answer) steps.last ∙ before;
+        sound = acts_kind budget chain number event.Step steps.before new (step_answer makes.answer) steps.last before;
       }
 
-  runs_sound : (number : ℕ) (old new : HostView) (r : Reply) → old.device.may_fail ≡ false → RunsTo budget chain number old r new → IsSound r new
+  runs_sound : (number : ℕ) (old new : HostView) (r : Reply) → old.device.plan ≡ Sound → RunsTo budget chain number old r new → IsSound r new
   runs_sound number old new r sound to =
       let runs = to.runs in
-      let before : runs.before.device.may_fail ≡ false = goes_kind budget chain number runs.count old runs.before runs.goes ∙ sound in
+      let before : runs.before.device.plan ≡ Sound = goes_kind budget chain number runs.count old runs.before runs.goes sound in
       record {
         unfailing = λ is. acts_unfailing budget chain number runs.before new before event.Step (step_answer to.answer) runs.last (refused_answer (step_answer to.answer) refusal.FileFailed (sym to.told ∙ is));
-        sound = acts_kind budget chain number event.Step runs.before new (step_answer to.answer) runs.last ∙ before;
+        sound = acts_kind budget chain number event.Step runs.before new (step_answer to.answer) runs.last before;
       }
 
   opening_refused : (why : Refusal) (r : Reply) → r ≡ reply.Refused why → r ≡ reply.Refused refusal.FileFailed → Refused why ≡ Refused refusal.FileFailed
   opening_refused why r told is = (let same : why ≡ refusal.FileFailed = cc in ap Refused same)
 
-  brings_sound : (number : ℕ) (ready : List Piece) (pieces : List ScriptPiece) (old new : HostView) (r : Reply) → old.device.may_fail ≡ false → BringsPieces budget chain number ready pieces old r new → IsSound r new
+  brings_sound : (number : ℕ) (ready : List Piece) (pieces : List ScriptPiece) (old new : HostView) (r : Reply) → old.device.plan ≡ Sound → BringsPieces budget chain number ready pieces old r new → IsSound r new
   unfolding BringsPieces
   brings_sound number ready [] old new r sound brings = tells_sound number (event.Bring ready) old new r sound brings
   brings_sound number ready (script_piece.Ready x ∷ xs) old new r sound brings = brings_sound number (ready ++ x ∷ []) xs old new r sound brings
   brings_sound number ready (script_piece.Range name start len ∷ xs) old new r sound (answer, mid, acts, rest) =
-      by_answer answer (λ is. acts_unfailing budget chain number old mid sound (event.OpenFile name) (file_answer answer) acts is) (acts_kind budget chain number (event.OpenFile name) old mid (file_answer answer) acts ∙ sound)
+      by_answer answer (λ is. acts_unfailing budget chain number old mid sound (event.OpenFile name) (file_answer answer) acts is) (acts_kind budget chain number (event.OpenFile name) old mid (file_answer answer) acts sound)
       (λ file still more. brings_sound number (ready ++ piece.File file start len ∷ []) xs mid new r still more) rest where
-        by_answer : (a : Result (ℕ × ℕ) Refusal) → file_answer a ≢ Refused refusal.FileFailed → mid.device.may_fail ≡ false
-            → ((file : ℕ) → mid.device.may_fail ≡ false → BringsPieces budget chain number (ready ++ piece.File file start len ∷ []) xs mid r new → IsSound r new)
+        by_answer : (a : Result (ℕ × ℕ) Refusal) → file_answer a ≢ Refused refusal.FileFailed → mid.device.plan ≡ Sound
+            → ((file : ℕ) → mid.device.plan ≡ Sound → BringsPieces budget chain number (ready ++ piece.File file start len ∷ []) xs mid r new → IsSound r new)
             → IfOpened a (λ why. (r ≡ reply.Refused why) × (new ≡ mid)) (λ file. BringsPieces budget chain number (ready ++ piece.File file start len ∷ []) xs mid r new) → IsSound r new
         by_answer (Err why) other still next (told, same) = record {
           unfailing = λ is. other (opening_refused why r told is);
-          sound = ap (λ (s : HostView). s.device.may_fail) same ∙ still;
+          sound = ap (λ (s : HostView). s.device.plan) same ∙ still;
         }
         by_answer (Ok f) other still next more = next f.0 still more
 
-  all_sound : (c : Command) (old new : HostView) (r : Reply) → old.device.may_fail ≡ false → AnswersCommand budget chain c old r new → IsSound r new
+  all_sound : (c : Command) (old new : HostView) (r : Reply) → old.device.plan ≡ Sound → AnswersCommand budget chain c old r new → IsSound r new
   unfolding AnswersCommand
   all_sound command.Open old new r sound serves = tells_sound 0 event.Open old new r sound serves
   all_sound (command.File f) old new r sound (told, acts) = record {
     unfailing = λ is. (let never : reply.Done ≡ reply.Refused refusal.FileFailed = sym told ∙ is in cc);
-    sound = acts_kind budget chain 0 (event.AddFile f.name (file_bytes f)) old new Done acts ∙ sound;
+    sound = acts_kind budget chain 0 (event.AddFile f.name (file_bytes f)) old new Done acts sound;
   }
   all_sound (command.Begin k) old new r sound serves = tells_sound k event.Begin old new r sound serves
   all_sound (command.End k) old new r sound serves = tells_sound k event.End old new r sound serves
@@ -146,8 +146,8 @@ module _ (budget : ℕ) (chain : List Program) where
   all_sound (command.Close k) old new r sound serves = tells_sound k event.Close old new r sound serves
   all_sound command.Pools old new r sound serves = tells_sound 0 event.TellPools old new r sound serves
 
-  pub serves_unfailing : (c : Command) (old new : HostView) (r : Reply) → old.device.may_fail ≡ false → AnswersCommand budget chain c old r new → r ≢ reply.Refused refusal.FileFailed
+  pub serves_unfailing : (c : Command) (old new : HostView) (r : Reply) → old.device.plan ≡ Sound → AnswersCommand budget chain c old r new → r ≢ reply.Refused refusal.FileFailed
   serves_unfailing c old new r sound serves = (all_sound c old new r sound serves).unfailing
 
-  pub serves_sound : (c : Command) (old new : HostView) (r : Reply) → old.device.may_fail ≡ false → AnswersCommand budget chain c old r new → new.device.may_fail ≡ false
+  pub serves_sound : (c : Command) (old new : HostView) (r : Reply) → old.device.plan ≡ Sound → AnswersCommand budget chain c old r new → new.device.plan ≡ Sound
   serves_sound c old new r sound serves = (all_sound c old new r sound serves).sound

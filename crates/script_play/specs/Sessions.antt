@@ -2,7 +2,7 @@
 use Rattle.std.specs.Prelude.{◌≡◌, ℕ, ◌+◌, Bool, true, false, List, ◌++◌, length}
 use Rattle.byte_text.specs.TextLines.{RawLine}
 use Rattle.run_model.specs.Worlds.{World}
-use Rattle.bucket_kinds.specs.Device.{Device}
+use Rattle.bucket_kinds.specs.Device.{Device, Sound}
 use Rattle.bucket_kinds.specs.MemDevice.{mem_device}
 use Rattle.bucket_kinds.specs.declared.mem_files.MemFiles.{MemFiles}
 use Rattle.filter_chain.specs.declared.host.Host.{Host}
@@ -44,7 +44,7 @@ pub record IsHosted (s : CodeSession) (v : Session) : Type 0 where
   pub hosts : IsHosting (device s.host) s.host v.host_view.world
   pub safe : v.is_checked ≡ true → IsSafe s.host
   pub device : device s.host ≡ v.host_view.device
-  pub sound : v.host_view.device.may_fail ≡ false
+  pub sound : v.host_view.device.plan ≡ Sound
 
 -- A line was taken of a session, and what is told of it is added. was: whether it was a command.
 abbrev pub TakesOne : CodeSession → List ℕ → List ℕ → ℕ → RawLine → Session → Bool → Type 0

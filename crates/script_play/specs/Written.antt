@@ -47,7 +47,7 @@ is_over Over = true
 
 -- no connection, whose names begin with 1, and no file; none may fail
 abbrev pub first_view : HostView
-first_view = host_view (new_world 1) (device_of no_files 0 false)
+first_view = host_view (new_world 1) (device_of no_files 0)
 
 abbrev pub session_of : Bool → ScriptHead → Session
 session_of checked h = record { chain = codes_of h.parts; budget = h.budget; is_checked = checked; host_view = first_view }

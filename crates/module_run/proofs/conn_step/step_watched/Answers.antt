@@ -3,6 +3,7 @@ use Rattle.std.proofs.Common.{refl, sym, subst, ◌∙◌, arith}
 use Rattle.module_code.specs.declared.instr.Instr.{Instr}
 use Rattle.pool_tree.specs.Tree.{map_of}
 use Rattle.module_run.specs.Proceeding.{RefinesStep}
+use Rattle.module_run.specs.Stepping.{LackedIn}
 use Rattle.module_run.proofs.CallsLeave.{ends_unchanged}
 use Rattle.module_run.proofs.Executing.{executed_answers, fault_looked, grows_looked, lacks_looked, none_there, ready_of, true_false}
 use Rattle.module_run.proofs.Neighbours.{unchanged}
@@ -82,5 +83,8 @@ returns-in-Err-clause-steps g c v f rest is =
       fault_looked chain v f x looks ∙ none,
       lacks_looked chain v f rest x looks ∙ last,
       grows_looked chain v f rest x looks (λ quiet alone. true_false (sym (c.in-Err.ensures.sure v f rest ready quiet alone))),
-      record { device = c.in-Err.ensures.unread; left = c.in-Err.ensures.err v f rest ready },
+      record {
+        device = subst (λ (i : Instr). LackedIn d (g.F.Files.device c.execute_at_top.new.files) chain i f) looks.instr (c.in-Err.ensures.lacked v f rest ready);
+        left = c.in-Err.ensures.err v f rest ready;
+      },
     )

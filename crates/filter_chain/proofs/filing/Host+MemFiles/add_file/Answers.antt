@@ -1,5 +1,5 @@
 -- By what adding a file makes of the device.
-use Rattle.bucket_kinds.specs.MemDevice.{files_of, failures_of, may_fail_of}
+use Rattle.bucket_kinds.specs.MemDevice.{files_of, failures_of}
 use Rattle.filter_chain.proofs.HostAdds.{tries_to_add}
 use Rattle.filter_chain.proofs.filing.Host+MemFiles.add_file.Goals as goal
 
@@ -7,4 +7,4 @@ pub returns : goal.returns
 returns c w hosts =
     let old = c.args.self.now.files in
     let new = c.add.new.self in
-    tries_to_add c.args.self.now new c.args.name.now c.args.bytes.items w (files_of old) (files_of new) (failures_of old) (failures_of new) (may_fail_of old) (may_fail_of new) c.add.ensures.failures c.add.ensures.may_fail c.add.result hosts c.add.ensures.files
+    tries_to_add c.args.self.now new c.args.name.now c.args.bytes.items w (files_of old) (files_of new) (failures_of old) (failures_of new) c.add.ensures.failures c.add.result hosts c.add.ensures.files

@@ -1,6 +1,6 @@
-use Rattle.std.proofs.Common.{◌≡◌, ◌∙◌, sym, ap, subst}
+use Rattle.std.proofs.Common.{◌≡◌, ◌∙◌, refl, sym, ap, subst}
 use Rattle.module_code.specs.declared.instr.Instr.{Instr}
-use Rattle.run_model.specs.Chains.{configuration}
+use Rattle.run_model.specs.Chains.{configuration, is_last}
 use Rattle.run_model.specs.Steps.{grows}
 use Rattle.run_model.specs.declared.event.Stepped.TheVariants.{Went}
 use Rattle.run_model.specs.Turns.{calls_of}
@@ -8,7 +8,8 @@ use Rattle.pool_tree.specs.Tree.{map_of}
 use Rattle.module_run.specs.Conns.{top_of}
 use Rattle.module_run.specs.Proceeding.{IsReady, RefinesStep}
 use Rattle.module_run.proofs.CanPass.{passer_at}
-use Rattle.module_run.proofs.Executing.{is_last_here, on_err_to, passes_on}
+use Rattle.module_run.specs.Stepping.{LackedIn}
+use Rattle.module_run.proofs.Executing.{is_last_here, lacked_last, lacked_same, on_err_to, passes_on}
 use Rattle.module_run.proofs.HandsOnBuilt.{on_err}
 use Rattle.module_run.proofs.conn.Conn.execute_at_top.Goals as goal
 
@@ -68,6 +69,26 @@ pass_to_output-requires g c = record {
 -- src/conn_step.rt
 pub returns-in_err-pass_to_output-in-Pass-clause-err : goal.returns-in_err-pass_to_output-in-Pass-clause-err
 returns-in_err-pass_to_output-in-Pass-clause-err g c = on_err c.from_residual-in_err-pass_to_output-in-Pass.result (λ v f rest ready. c.in_err-pass_to_output-in-Pass.ensures.err c.args.modules.now c.args.tree.now v ready.stands.left)
+
+-- src/conn_step.rt
+pub returns-in_err-pass_to_next-in-Pass-clause-lacked : goal.returns-in_err-pass_to_next-in-Pass-clause-lacked
+returns-in_err-pass_to_next-in-Pass-clause-lacked g c =
+    on_err c.from_residual.result (λ v f rest ready. lacked_same (g.F.Files.device c.args.files.now) (g.F.Files.device c.args.files.now) c.args.modules.now c.args.instr f refl)
+
+-- src/conn_step.rt
+pub returns-in_err-pass_to_output-in-Pass-clause-lacked : goal.returns-in_err-pass_to_output-in-Pass-clause-lacked
+returns-in_err-pass_to_output-in-Pass-clause-lacked g c = on_err c.from_residual-in_err-pass_to_output-in-Pass.result (λ v f rest ready.
+    let chain = c.args.modules.now in
+    let d = g.F.Files.device c.args.files.now in
+    let e = g.F.Files.device c.pass_to_output.new.files in
+    let passes = subst (λ (i : Instr). IsReady chain i c.args.tree.now c.args.store.now d c.args.self.now v f rest) c.in-Pass.is ready in
+    let at : f.of ≡ top_of c.args.self.now = passer_at chain c.in-Pass.b c.in-Pass.l c.args.tree.now c.args.store.now d c.args.self.now v f rest passes in
+    let last = ap (is_last chain) at ∙ is_last_here chain c.top.result (top_of c.args.self.now) c.top.ensures c.if-top-modules.false in
+    subst (λ (i : Instr). LackedIn d e chain i f) (sym c.in-Pass.is) (lacked_last d e chain c.in-Pass.b c.in-Pass.l f last c.in_err-pass_to_output-in-Pass.ensures.lacked))
+
+-- src/conn_step.rt
+pub returns-then-is_empty-clause-lacked : goal.returns-then-is_empty-clause-lacked
+returns-then-is_empty-clause-lacked g c = on_err c.return_last.result (λ v f rest ready. lacked_same (g.F.Files.device c.args.files.now) (g.F.Files.device c.args.files.now) c.args.modules.now c.args.instr f refl)
 
 -- src/conn_step.rt
 pub return_last-requires-clause-ready : goal.return_last-requires-clause-ready

@@ -56,7 +56,7 @@ returns-in_default-clause-opened g c chain v stands below =
     (left_refiled chain c.keep_file.new.tree c.keep_file.new.store d d self v c.keep_file.new.self.files k.same
     (left_same c.args.store.now c.keep_file.new.store (λ n. ap (λ (f : ℕ → _). f n) k.lists) k.next k.pools chain c.args.tree.now c.keep_file.new.tree d self v k.kept (fun_ext k.uncounted) stands.left))))
     (let next = ap (λ (x : Device). x.next) c.close_file.ensures in let after = ap (λ (x : Device). x.next) opens.after in omega (arith, below, next, after))
-    (inr (closed_again d e c.args.name.now told.0 told.1 opens last c.close_file.ensures)) tt
+    (opens.went_well, inr (closed_again d e c.args.name.now told.0 told.1 opens last c.close_file.ensures)) tt
 
 pub returns-clause-opened : goal.returns-clause-opened
 returns-clause-opened g c chain v stands below =
@@ -75,7 +75,7 @@ returns-clause-opened g c chain v stands below =
     (file_left d e c.args.name.now told.0 told.1 opens chain c.args.tree.now c.keep_file.new.tree c.args.store.now c.keep_file.new.store self v stands.left c.in-Ok.pool bytes.0 bytes.1.0 bytes.1.1
     c.keep_file.new.self.files file refl refl k.files k.map k.formed (k.house stands.left.house) k.counted k.lists k.brigades k.pools k.next))
     (let after = ap (λ (x : Device). x.next) opens.after in let at = opens.number_is in omega (arith, after, at))
-    opens.after short
+    (opens.went_well, opens.after) short
 
 pub returns-in-Err-clause-leaves : goal.returns-in-Err-clause-leaves
 returns-in-Err-clause-leaves g c = unchanged (map_of c.args.tree.now) c.args.store.now c.args.store.now c.args.self.now c.args.self.now (λ n. refl) refl (omega arith) (λ id there young. there) (λ k. refl)

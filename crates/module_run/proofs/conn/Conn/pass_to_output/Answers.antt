@@ -5,7 +5,7 @@ use Rattle.std.proofs.lemmas.List.{length-set}
 use Rattle.std.specs.Vec.{with_item}
 use Rattle.module_code.specs.declared.instr.Instr.TheVariants as instr
 use Rattle.run_model.specs.declared.bucket.Mark.TheVariants.{Passed}
-use Rattle.bucket_kinds.specs.Device.{Device}
+use Rattle.bucket_kinds.specs.Device.{Held}
 use Rattle.run_model.specs.Chains.{module_at}
 use Rattle.run_model.specs.Effects.{do_pass}
 use Rattle.run_model.specs.State.{Configuration, Out, items_of}
@@ -30,6 +30,7 @@ use Rattle.module_run.proofs.CallsLeave.{ends_one, ends_unchanged, marked_name, 
 use Rattle.module_run.proofs.Neighbours.{unchanged}
 use Rattle.module_run.proofs.CanPass.{passer, passed_live, passed_variable}
 use Rattle.module_run.proofs.Delivers.{delivers, passed_on}
+use Rattle.module_run.proofs.FileOpens.{left_device}
 use Rattle.ring_run.proofs.Faultless.{passed_homes}
 use Rattle.module_run.proofs.HandsOn.{changed}
 use Rattle.module_run.proofs.HandsOnBuilt.{on_err, reads_here, same_back, writes_here, writes_off}
@@ -101,7 +102,7 @@ returns-in_err-well-clause-err g c =
     let back : w ≡ r = ap (λ (i : Instance). let q : Filter = record { instance = i; call = r.call; lent = r.lent } in q) c.in_err-well.ensures.same.0 in
     let fs = with_item self.filters c.top-top.result w in
     let spared = left_spared self fs self.waits (same_back self.filters c.top-top.result r w c.index_mut-filter.ensures.value back) refl chain tree store store d v (λ n. refl) refl (λ id is young. is) refl refl left in
-    subst (λ (n : Device). LeftAs chain tree c.pass_out.new.store n (with_out (changed self fs self.waits) c.pass_out.new.out c.pass_out.new.ended) v) (sym c.in_err-well.ensures.unread)
+    left_device chain tree c.pass_out.new.store d e (with_out (changed self fs self.waits) c.pass_out.new.out c.pass_out.new.ended) v (λ file. ap (λ (n : ℕ → Held). n file) c.pass_out.ensures.open_files)
     (subst (λ s. LeftAs chain tree s d (with_out (changed self fs self.waits) c.pass_out.new.out c.pass_out.new.ended) v) (sym c.in_err-well.ensures.same.1)
     (subst (λ (o : Out). LeftAs chain tree store d (with_out (changed self fs self.waits) o.bytes o.ended) v) (sym c.in_err-well.ensures.kept) spared)))
 

@@ -8,7 +8,7 @@ use Rattle.module_run.specs.declared.conn.Conn.{Conn}
 use Rattle.module_run.specs.Conns.{filter_at}
 use Rattle.module_run.specs.Stepping.{IsStep, settled}
 use Rattle.module_run.proofs.CallsLeave.{ends_alike, ends_unchanged, leaves_alike}
-use Rattle.module_run.proofs.Executing.{answer_settled, count_of, none_there, refusal_settled, runs_on_top, settled_filters, step_broken, step_goes, step_idle, step_over}
+use Rattle.module_run.proofs.Executing.{answer_settled, cause_of, count_of, none_there, refusal_settled, runs_on_top, settled_filters, step_broken, step_goes, step_idle, step_over}
 use Rattle.module_run.proofs.Neighbours.{unchanged}
 use Rattle.module_run.proofs.conn.Conn.step.Goals as goal
 
@@ -49,7 +49,8 @@ returns-in-Err-clause-steps g c v stands =
     let after = c.step_watched.new.conn in
     let t = runs_on_top chain c.args.budget c.args.tree.now c.args.store.now d self v stands.left c.if-not-self.false in
     let done = c.in-Err.ensures.steps v t.0 t.1.0 (record { stands = stands; on_top = t.1.1 }) in
-    let broke = refusal_settled chain c.step_watched.new.tree c.step_watched.new.store d e after v t.0 t.1.0 c.in-Err.why done in
+    let sound = cause_of chain c.args.tree.now c.args.store.now d self v stands.left ∙ none_there self.broken c.in_default.not-Some in
+    let broke = refusal_settled chain c.step_watched.new.tree c.step_watched.new.store d e after v t.0 t.1.0 c.in-Err.why sound t.1.1 done in
     let told : c.break_by-in-Err.result ≡ Broken c.cause_of.result = c.break_by-in-Err.ensures.told in
     subst (λ (x : Conn). IsStep chain c.args.budget d e v c.step_watched.new.tree c.step_watched.new.store x (Err c.break_by-in-Err.result)) (sym c.break_by-in-Err.ensures.broken)
     (subst (λ (r : Refusal). IsStep chain c.args.budget d e v c.step_watched.new.tree c.step_watched.new.store (record after { broken = Some c.cause_of.result }) (Err r)) (sym told)
