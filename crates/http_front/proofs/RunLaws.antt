@@ -30,7 +30,8 @@ module _ {F : Type 0} (device : F → Device) (number : ℕ) (pieces : List Piec
       leads_on device old mid new (λ b c s t. Answers b c number (event.Bring pieces) s Done t) (λ b c s t. RunsCall b c number s how t) (λ b c s t. BringsBrigade b c number pieces s how t)
       (λ b c s m t a r. record { answer = None; mid = m; acts = a; runs = r }) (by_event device old mid number (event.Bring pieces) Done h) run
 
-  pub bring_refused : (why : Refusal) → Happened device old mid number (event.Bring pieces) (Refused why) → lack_of why ≡ None → Refines device old mid (λ b c s t. BringsBrigade b c number pieces s (ended.Failed (failure.Refused why)) t)
+  pub bring_refused : (why : Refusal) → Happened device old mid number (event.Bring pieces) (Refused why) → lack_of why ≡ None
+      → Refines device old mid (λ b c s t. BringsBrigade b c number pieces s (ended.Failed (failure.Refused why)) t)
   bring_refused why h well =
       leads_as device old mid (λ b c s t. Answers b c number (event.Bring pieces) s (Refused why) t) (λ b c s t. BringsBrigade b c number pieces s (ended.Failed (failure.Refused why)) t)
       (λ b c s t a. record { answer = Some why; mid = t; acts = a; runs = (well, refl, refl) }) (by_event device old mid number (event.Bring pieces) (Refused why) h)

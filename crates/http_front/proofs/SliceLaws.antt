@@ -13,7 +13,8 @@ use Rattle.filter_chain.specs.Led.{IsAlive, Refines, Transition}
 use Rattle.http_message.specs.declared.failure.Failure.{Failure}
 use Rattle.http_message.specs.declared.failure.Failure.TheVariants as failure
 use Rattle.http_message.specs.declared.reply.Method.{Method}
-use Rattle.http_front.specs.Among.{BringsAllIn, CarriesIn, ComesIn, EndsBareIn, EndsCallIn, FinishesIn, HandlesAmong, InitsIn, IsOpening, MakesSlice, OpensIn, OpensUnlessIn, Rests, RestsAmong, RestsBehind, RunsIn, RunsSlice, Slices, Way, Whole, alone, among, brigades_left}
+use Rattle.http_front.specs.Among.{BringsAllIn, CarriesIn, ComesIn, EndsBareIn, EndsCallIn, FinishesIn, HandlesAmong, InitsIn, IsOpening, MakesSlice, OpensIn}
+use Rattle.http_front.specs.Among.{OpensUnlessIn, Rests, RestsAmong, RestsBehind, RunsIn, RunsSlice, Slices, Way, Whole, alone, among, brigades_left}
 use Rattle.http_front.specs.Nearing.{Nears}
 use Rattle.http_front.specs.Outcomes.{IsUnserved}
 use Rattle.http_front.specs.RequestEvents as by

@@ -26,7 +26,8 @@ use Rattle.http_front.specs.Requests.{RunsCall}
 use Rattle.http_front.specs.declared.running.CallEnd.{CallEnd}
 
 -- an event of another connection, or an opening
-elsewhere : (memory : Bool) (budget : ℕ) (chain : List Program) (told : Told) (i k : ℕ) (e : Event) (w : World) → k ≢ w.last + 1 → k ≢ i → (happens memory budget chain told i e w).1.conns k ≡ w.conns k
+elsewhere : (memory : Bool) (budget : ℕ) (chain : List Program) (told : Told) (i k : ℕ) (e : Event) (w : World) → k ≢ w.last + 1 → k ≢ i
+    → (happens memory budget chain told i e w).1.conns k ≡ w.conns k
 elsewhere memory budget chain told i k event.Open w old differ = opening_stays memory budget chain told i k w old
 elsewhere memory budget chain told i k e w old differ = others_stay memory budget chain told i k e w (λ is. absurd (cc)) differ
 
@@ -47,7 +48,8 @@ module _ (b : ℕ) (c : List Program) (number : ℕ) where
   others_numbered (x ∷ xs) s t goes h = one_numbered x.0 x.1 x.2 goes.0 t goes.3 (others_numbered xs s goes.0 goes.1 h)
 
   -- events of others leave a connection as it is
-  others_keep : (events : List (ℕ × Event × Answer)) (s t : HostView) (x : Connection) → GoesByOthers b c number events s t → WorldNumbers s.world → s.world.conns number ≡ Some x → t.world.conns number ≡ Some x
+  others_keep : (events : List (ℕ × Event × Answer)) (s t : HostView) (x : Connection) → GoesByOthers b c number events s t → WorldNumbers s.world
+      → s.world.conns number ≡ Some x → t.world.conns number ≡ Some x
   unfolding GoesByOthers
   others_keep [] s t x same h at = subst (λ (v : HostView). v.world.conns number ≡ Some x) (sym same) at
   others_keep (e ∷ es) s t x goes h at =
@@ -60,7 +62,8 @@ module _ (b : ℕ) (c : List Program) (number : ℕ) where
   step_numbered answer s t a h = one_numbered number event.Step answer a.0 t a.2 (others_numbered a.1.0 s a.0 a.1.1 h)
 
   -- where a further step goes on, fewer did before than the budget
-  few_from : (n k : ℕ) (s t new : HostView) (y : Connection) → s.world.conns number ≡ Some y → k ≤ y.count → WorldNumbers s.world → GoesOnLater b c number n s t → AnswersLater b c number event.Step t (Step stepped.Went) new → k + n < b
+  few_from : (n k : ℕ) (s t new : HostView) (y : Connection) → s.world.conns number ≡ Some y → k ≤ y.count → WorldNumbers s.world → GoesOnLater b c number n s t
+      → AnswersLater b c number event.Step t (Step stepped.Went) new → k + n < b
   unfolding GoesOnLater
   few_from zero k s t new y at le h same a =
       let here = subst (λ (v : HostView). AnswersLater b c number event.Step v (Step stepped.Went) new) same a in

@@ -49,7 +49,8 @@ module _ (b : ℕ) (c : List Program) (number : ℕ) where
     rests_before (task.Brings rest) o t x = record { first = x.first; mid = x.mid; runs = runs_before x.first x.mid x.runs; carries = x.carries }
 
 module _ {F : Type 0} (device : F → Device) (number : ℕ) (old now new : Host F) where
-  pub among_later : (method : Method) (file : List ℕ) (o : RequestOutcome) → NoEventsOf device old number now → HandlesAmong device now number method file o new → HandlesAmong device old number method file o new
+  pub among_later : (method : Method) (file : List ℕ) (o : RequestOutcome) → NoEventsOf device old number now → HandlesAmong device now number method file o new
+      → HandlesAmong device old number method file o new
   unfolding NoEventsOf HandlesAmong
   among_later method file o gap comes =
       leads_on device old now new (λ b c s t. Others b c number s t) (λ b c s t. ComesLater b c number method file s o t) (λ b c s t. ComesLater b c number method file s o t)

@@ -25,12 +25,7 @@ fn whole_brigade(alloc: Global, file: u64, start: u64) -> Result<Seq<Piece>, All
     Ok(pieces)
 }
 
-fn last_brigade(
-    alloc: Global,
-    file: u64,
-    start: u64,
-    len: u64,
-) -> Result<Seq<Piece>, AllocError>
+fn last_brigade(alloc: Global, file: u64, start: u64, len: u64) -> Result<Seq<Piece>, AllocError>
     ensures { IfOk result (λ pieces. pieces ≡ last_brigade file start len) }
 {
     let mut pieces = Seq::new(alloc);
@@ -59,7 +54,10 @@ pub(crate) fn wanted(method: Method, file: (u64, u64)) -> Option<FileRest>
 }
 
 /// The next brigade, and what is left behind it.
-pub(crate) fn next_brigade(alloc: Global, rest: FileRest) -> Result<(Seq<Piece>, Option<FileRest>), AllocError>
+pub(crate) fn next_brigade(
+    alloc: Global,
+    rest: FileRest,
+) -> Result<(Seq<Piece>, Option<FileRest>), AllocError>
     ensures { IfOk result (λ r. brigades_left (Some rest) ≡ r.0 ∷ brigades_left r.1) }
 {
     if rest.left == 0 {

@@ -12,4 +12,5 @@ returns-in_err-end_request-clause-leads g c =
 
 pub returns-clause-leads : goal.returns-clause-leads
 returns-clause-leads g c =
-    output_finished g.F.Files.device c.args.number c.args.host.now c.output-outcome.new.host c.end_request.new.host c.output-outcome.result c.output-outcome.ensures.leads c.in_ok-end_request.ensures.leads
+    output_finished g.F.Files.device c.args.number c.args.host.now c.output-outcome.new.host c.end_request.new.host c.output-outcome.result
+    c.output-outcome.ensures.leads c.in_ok-end_request.ensures.leads

@@ -10,7 +10,8 @@ returns-then-not-succeeded-clause-leads g c =
 
 pub returns-in-Some-clause-leads : goal.returns-in-Some-clause-leads
 returns-in-Some-clause-leads g c =
-    carried_on g.F.Files.device c.args.number c.args.host.now c.bring_next.new.host c.bring_next.result c.args.how c.args.rest c.in-Some.rest (c.succeeded.ensures.0 c.if-not-succeeded.false) c.in-Some.is c.bring_next.ensures.leads
+    carried_on g.F.Files.device c.args.number c.args.host.now c.bring_next.new.host c.bring_next.result c.args.how c.args.rest c.in-Some.rest
+    (c.succeeded.ensures.0 c.if-not-succeeded.false) c.in-Some.is c.bring_next.ensures.leads
 
 pub returns-in-None-clause-leads : goal.returns-in-None-clause-leads
 returns-in-None-clause-leads g c =

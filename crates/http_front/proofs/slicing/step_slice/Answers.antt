@@ -15,13 +15,16 @@ returns-clause-leads g c way =
     (λ h. absurd (let clash : true ≡ false = sym (c.went.ensures.1 h) ∙ c.if-went.false in cc)) c.how_ended.ensures
 
 pub returns-then-went-clause-beside : goal.returns-then-went-clause-beside
-returns-then-went-clause-beside g c from so = beside_steps g.F.Files.device c.args.number from c.args.host.now c.step_up_to-answer.new.self so _ c.step_up_to-answer.result c.step_up_to-answer.ensures.steps
+returns-then-went-clause-beside g c from so =
+    beside_steps g.F.Files.device c.args.number from c.args.host.now c.step_up_to-answer.new.self so _ c.step_up_to-answer.result c.step_up_to-answer.ensures.steps
 
 pub returns-clause-beside : goal.returns-clause-beside
 returns-clause-beside g c from so = beside_steps g.F.Files.device c.args.number from c.args.host.now c.step_up_to-answer.new.self so _ c.step_up_to-answer.result c.step_up_to-answer.ensures.steps
 
 pub returns-then-went-clause-few : goal.returns-then-went-clause-few
-returns-then-went-clause-few g c from n so = few_steps g.F.Files.device c.args.number from c.args.host.now n so c.step_up_to-answer.new.self _ slice_steps c.step_up_to-answer.result (omega arith) c.step_up_to-answer.ensures.steps
+returns-then-went-clause-few g c from n so =
+    few_steps g.F.Files.device c.args.number from c.args.host.now n so c.step_up_to-answer.new.self _ slice_steps c.step_up_to-answer.result (omega arith) c.step_up_to-answer.ensures.steps
 
 pub returns-clause-few : goal.returns-clause-few
-returns-clause-few g c from n so = few_steps g.F.Files.device c.args.number from c.args.host.now n so c.step_up_to-answer.new.self _ slice_steps c.step_up_to-answer.result (omega arith) c.step_up_to-answer.ensures.steps
+returns-clause-few g c from n so =
+    few_steps g.F.Files.device c.args.number from c.args.host.now n so c.step_up_to-answer.new.self _ slice_steps c.step_up_to-answer.result (omega arith) c.step_up_to-answer.ensures.steps
