@@ -1,21 +1,23 @@
--- How a request ends.
+-- Calls that run to their end, and how a request ends.
 use Rattle.std.proofs.Common.{◌≡◌, ℕ, List, [], Option, Some, None, Result, Ok, Err, IfOk, refl, sym, subst}
 use Rattle.module_code.specs.Program.{Program}
 use Rattle.run_model.specs.declared.event.Event.{Event}
 use Rattle.run_model.specs.declared.event.Event.TheVariants as event
 use Rattle.run_model.specs.declared.event.Refusal.{Refusal}
+use Rattle.run_model.specs.declared.event.Stepped.{Stepped}
 use Rattle.run_model.specs.Worlds.{Answer, Output, Refused}
 use Rattle.bucket_kinds.specs.Device.{Device}
 use Rattle.filter_chain.specs.declared.host.Host.{Host}
 use Rattle.filter_chain.specs.HostViews.{HostView, Answers}
 use Rattle.filter_chain.specs.Led.{Transition}
+use Rattle.filter_chain.specs.Running as steps
 use Rattle.http_message.specs.declared.failure.Failure.{Failure}
 use Rattle.http_message.specs.declared.failure.Failure.TheVariants as failure
 use Rattle.http_message.specs.declared.status.StatusCode.TheVariants.{Success}
 use Rattle.http_front.specs.Among.{Acts, EndsBareIn, EndsIn, EndsWithOutputIn, FinishesIn, MakesSlice, Slices, TakesOutputIn, Way, Whole, alone, among}
 use Rattle.http_front.specs.Driven.{GoesByOthers, Refines}
 use Rattle.http_front.specs.Outcomes.{IsUnserved}
-use Rattle.http_front.specs.Requests.{EndsRequest, TakesOutput}
+use Rattle.http_front.specs.Requests.{EndsRequest, RunsCall, TakesOutput, ended_of}
 use Rattle.http_front.specs.declared.fault.FrontKind.{FrontKind}
 use Rattle.http_front.specs.declared.handler.RequestOutcome.{RequestOutcome}
 use Rattle.http_front.specs.declared.handler.Slice.{Slice}
@@ -24,6 +26,13 @@ use Rattle.http_front.specs.declared.running.CallEnd.{CallEnd}
 use Rattle.http_front.specs.declared.running.CallEnd.TheVariants as ended
 use Rattle.http_front.specs.declared.task.RequestTask.{RequestTask}
 use Rattle.filter_chain.proofs.Driving.{Happened, by_event, leads_as, leads_on}
+
+-- A call runs, and it is told how it ended.
+pub runs_told : {F : Type 0} (device : F → Device) (number : ℕ) (old new : Host F) (answer : Result Stepped Refusal) (how : CallEnd) → how ≡ ended_of answer
+    → Refines device old new (λ b c s t. steps.StepsToEnd b c number s answer t) → Refines device old new (λ b c s t. RunsCall b c number s how t)
+runs_told device number old new answer how told =
+    leads_as device old new (λ b c s t. steps.StepsToEnd b c number s answer t) (λ b c s t. RunsCall b c number s how t)
+    (λ b c s t x. record { answer = answer; runs = x; told = told })
 
 -- What happens with nothing of others before it happens so among others, too.
 
