@@ -25,7 +25,7 @@ use Rattle.http_front.specs.declared.handler.Slice.TheVariants as slice
 use Rattle.http_front.specs.declared.running.CallEnd.{CallEnd}
 use Rattle.http_front.specs.declared.running.CallEnd.TheVariants as ended
 use Rattle.http_front.specs.declared.task.RequestTask.{RequestTask}
-use Rattle.filter_chain.proofs.Driving.{Happened, by_event, leads_as, leads_on}
+use Rattle.filter_chain.proofs.Driving.{Happened, by_event, leads_any, leads_as, leads_on}
 
 -- A call runs, and it is told how it ended.
 pub runs_told : {F : Type 0} (device : F → Device) (number : ℕ) (old new : Host F) (answer : Result Stepped Refusal) (how : CallEnd) → how ≡ ended_of answer
@@ -69,6 +69,13 @@ module _ {F : Type 0} (device : F → Device) (number : ℕ) where
         leads_as device old new (λ b c s t. EndsRequest b c number s t) (λ b c s t. EndsBareIn way b c number why s o t)
         (λ b c s t e. (bare, ends_now way b c number s t e)) h
 
+    -- something lacked
+    pub lacked : (all : Whole) (first : Transition) (r : Result (Slice RequestTask) FrontKind) (e : FrontKind) → r ≡ Err e → Refines device old new first
+        → MakesSlice device number all old r new
+    lacked all first r e is h way =
+        subst (λ (x : Result (Slice RequestTask) FrontKind). Refines device old new (λ b c s t. IfOk x (λ y. Slices way b c number (all way b c) s y t))) (sym is)
+        (leads_any device old new first h)
+
     -- by how the last call ended
     pub finished : (r : Result (Slice RequestTask) FrontKind) (how is : CallEnd) → how ≡ is
         → MakesSlice device number (λ way b c. FinishesIn way b c number is) old r new → MakesSlice device number (λ way b c. FinishesIn way b c number how) old r new
@@ -81,9 +88,12 @@ module _ {F : Type 0} (device : F → Device) (number : ℕ) where
         leads_on device old mid new (λ b c s t. TakesOutput b c number s o t) (λ b c s t. EndsRequest b c number s t) (λ b c s t. EndsWithOutputIn way b c number s o t)
         (λ b c s m t x y. (m, takes_now way b c number s o m x, ends_now way b c number m t y)) h k
 
-    -- something lacked after a deed
-    pub slice_lacks : (all : Whole) (first : Transition) (r : Result (Slice RequestTask) FrontKind) (e : FrontKind) → r ≡ Err e
-        → Refines device old mid first → Refines device mid new (λ b c s t. Unit {0}) → MakesSlice device number all old r new
-    slice_lacks all first r e is h k way =
-        subst (λ (x : Result (Slice RequestTask) FrontKind). Refines device old new (λ b c s t. IfOk x (λ y. Slices way b c number (all way b c) s y t))) (sym is)
-        (leads_on device old mid new first (λ b c s t. Unit {0}) (λ b c s t. Unit {0}) (λ b c s m t x y. tt) h k)
+    output_unfinished : (o : RequestOutcome) → Refines device old mid (λ b c s t. TakesOutput b c number s o t) → Refines device mid new (λ b c s t. Unit {0})
+        → Refines device old new (λ b c s t. Unit {0})
+    output_unfinished o =
+        leads_on device old mid new (λ b c s t. TakesOutput b c number s o t) (λ b c s t. Unit {0}) (λ b c s t. Unit {0}) (λ b c s m t x y. tt)
+
+    pub output_lacked : (o : RequestOutcome) (r : Result (Slice RequestTask) FrontKind) (e : FrontKind) → r ≡ Err e
+        → Refines device old mid (λ b c s t. TakesOutput b c number s o t) → Refines device mid new (λ b c s t. Unit {0})
+        → MakesSlice device number (λ way b c. EndsWithOutputIn way b c number) old r new
+    output_lacked o r e is h k = lacked old new (λ way b c. EndsWithOutputIn way b c number) (λ b c s t. Unit {0}) r e is (output_unfinished o h k)

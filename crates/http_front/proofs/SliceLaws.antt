@@ -30,7 +30,7 @@ use Rattle.http_front.specs.declared.task.FileRest.{FileRest}
 use Rattle.http_front.specs.declared.task.RequestTask.{RequestTask}
 use Rattle.http_front.specs.declared.task.RequestTask.TheVariants as task
 use Rattle.filter_chain.proofs.Driving.{Happened, alive_then, by_event, leads_any, leads_as, leads_ok, leads_on}
-use Rattle.http_front.proofs.RequestLaws.{now_acts}
+use Rattle.http_front.proofs.RequestLaws.{lacked, now_acts}
 use Rattle.http_front.proofs.SliceSteps.{runs_now}
 
 module _ (way : Way) (b : ℕ) (c : List Program) (number : ℕ) where
@@ -151,6 +151,22 @@ module _ {F : Type 0} (device : F → Device) (number : ℕ) where
   pub alive_after : (old new : Host F) (all : Whole) (r : Result (Slice RequestTask) FrontKind) → IsAlive device old → MakesSlice device number all old r new → IsAlive device new
   alive_after old new all r alive h =
       alive_then device old new (λ b c s t. IfOk r (λ x. Slices among b c number (all among b c) s x t)) alive (h among)
+
+  -- and after a slice of a call
+  pub alive_stepped : (old new : Host F) (how : Option CallEnd) → IsAlive device old
+      → ((way : Way) → Refines device old new (λ b c s t. RunsSlice way b c number how s t)) → IsAlive device new
+  alive_stepped old new how alive h = alive_then device old new (λ b c s t. RunsSlice among b c number how s t) alive (h among)
+
+  -- what lacked in a part lacked in the whole
+  pub part_lacked : (old new : Host F) (all part : Whole) (x r : Result (Slice RequestTask) FrontKind) (e : FrontKind) → r ≡ Err e
+      → MakesSlice device number part old x new → MakesSlice device number all old r new
+  part_lacked old new all part x r e is h =
+      lacked device number old new all (λ b c s t. IfOk x (λ y. Slices among b c number (part among b c) s y t)) r e is (h among)
+
+  -- the same slice
+  pub slice_is : (old new : Host F) (all : Whole) (x y : Slice RequestTask) → x ≡ y → MakesSlice device number all old (Ok x) new
+      → MakesSlice device number all old (Ok y) new
+  slice_is old new all x y is = subst (λ (z : Slice RequestTask). MakesSlice device number all old (Ok z) new) is
 
   module _ (old new : Host F) (r : Result (Slice RequestTask) FrontKind) (how : CallEnd) where
     pub carried_stopped : (left : List (List Piece)) → ¬ (how ≡ ended.Succeeded) → MakesSlice device number (λ way b c. FinishesIn way b c number how) old r new

@@ -1,6 +1,8 @@
 use Rattle.std.proofs.Common.{◌≡◌, ◌<◌, Ok, Err, ap, arith}
 use Rattle.std.proofs.lemmas.Result.{err_from_is_err_and}
 use Rattle.http_front.specs.Among.{ComesIn, calls_after, calls_left}
+use Rattle.http_front.specs.Requests.{RunsCall}
+use Rattle.filter_chain.proofs.Driving.{alive_then}
 use Rattle.http_front.proofs.Beside.{err_by}
 use Rattle.http_front.proofs.SliceLaws.{alive_after, goes_on, handled, not_handled, runs_on}
 use Rattle.http_front.proofs.slicing.handle_request.Goals as goal
@@ -52,3 +54,14 @@ returns-in_err-slice-in-Works-clause-leads g c =
 pub returns-in_err-slice-in-Works-clause-beside : goal.returns-in_err-slice-in-Works-clause-beside
 returns-in_err-slice-in-Works-clause-beside g c from so =
     c.end_call.ensures.beside from (c.run_call-how.ensures.beside from (c.loop-slice.invariant.beside from so))
+
+pub returns-in_err-slice-in-Works-clause-lacks : goal.returns-in_err-slice-in-Works-clause-lacks
+returns-in_err-slice-in-Works-clause-lacks g c from so =
+    let p = err_from_is_err_and c.from_residual-in_err-slice-in-Works.result c.from_residual-in_err-slice-in-Works.ensures.1 in
+    err_by _ c.from_residual-in_err-slice-in-Works.result p.0 c.in_err-slice-in-Works.field-0.0 p.1 p.2
+    (c.in_err-slice-in-Works.ensures.lacks from (c.run_call-how.ensures.beside from (c.loop-slice.invariant.beside from so)))
+
+pub end_call-requires : goal.end_call-requires
+end_call-requires g c =
+    alive_then g.F.Files.device c.loop-slice.host c.run_call-how.new.host (λ b h s t. RunsCall b h c.args.number s c.run_call-how.result t)
+    c.loop-slice.invariant.alive c.run_call-how.ensures.leads

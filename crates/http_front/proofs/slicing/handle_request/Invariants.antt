@@ -8,7 +8,7 @@ use Rattle.http_front.proofs.slicing.handle_request.Given as goal
 abbrev pub invariant-loop-slice : goal.invariant-loop-slice
 invariant-loop-slice g l = record {
   alive : IsAlive g.F.Files.device l.host;
-  made : MakesSlice g.F.Files.device l.number (λ way b c. ComesIn way b c l.number l.method l.name) l.fn.host (Ok l.slice) l.host;
+  made : MakesSlice g.F.Files.device l.number (λ way b c. ComesIn way b c l.number l.fn.method l.name) l.fn.host (Ok l.slice) l.host;
   beside : (from : Host g.row.F.Denot) → OnlyEventsOf g.F.Files.device from l.number l.fn.host → OnlyEventsOf g.F.Files.device from l.number l.host;
 }
 
