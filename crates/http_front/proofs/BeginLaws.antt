@@ -40,7 +40,8 @@ use Rattle.http_front.proofs.Stepped.{begins_wider, some_bytes, steps_front}
 
 -- The text of a response is that of the reply to the head.
 module _ {K : Type 0} (tells : K → Said → K → Type 0) (before after : K) where
-  written_for : (seen method target : List ℕ) (a : Asked) (h : RequestHead) (r : Reply) (text : List ℕ) → IsAskedBy seen a h → (IsWithin (length seen) a.head.method → method ≡ span_bytes seen a.head.method) → (IsWithin (length seen) a.head.path → target ≡ span_bytes seen a.head.path)
+  written_for : (seen method target : List ℕ) (a : Asked) (h : RequestHead) (r : Reply) (text : List ℕ) → IsAskedBy seen a h
+      → (IsWithin (length seen) a.head.method → method ≡ span_bytes seen a.head.method) → (IsWithin (length seen) a.head.path → target ≡ span_bytes seen a.head.path)
       → IsWritten tells before method target r text after → IsWritten tells before h.method h.target r text after
   written_for seen method target a h r text asked sent named w =
       let fits = asked.within.section.len_fits in
@@ -49,7 +50,8 @@ module _ {K : Type 0} (tells : K → Said → K → Type 0) (before after : K) w
       subst (λ (x : List ℕ). IsWritten tells before x h.target r text after) m (subst (λ (x : List ℕ). IsWritten tells before method x r text after) t w)
 
   pub sends_so : (seen method target : List ℕ) (a : Asked) (o : RequestOutcome) (r : Reply) (s : ServeStep) (text : List ℕ) (closes : Bool)
-      → ((seen : List ℕ) (h : RequestHead) → IsAskedBy seen a h → IsReplyTo h o r) → (IsWithin (length seen) a.head.method → method ≡ span_bytes seen a.head.method) → (IsWithin (length seen) a.head.path → target ≡ span_bytes seen a.head.path)
+      → ((seen : List ℕ) (h : RequestHead) → IsAskedBy seen a h → IsReplyTo h o r) → (IsWithin (length seen) a.head.method → method ≡ span_bytes seen a.head.method)
+      → (IsWithin (length seen) a.head.path → target ≡ span_bytes seen a.head.path)
       → IsWritten tells before method target r text after → r.closes ≡ closes → Answered closes a.head.len s → (h : RequestHead) → IsAskedBy seen a h → Sends tells before h o a.head.len s text after
   sends_so seen method target a o r s text closes is sent named w same step h asked =
       record { reply = r; is = is seen h asked; written = written_for seen method target a h r text asked sent named w; answered = subst (λ (b : Bool). Answered b a.head.len s) (sym same) step }
@@ -59,8 +61,18 @@ pub pending_all : {T : Type 0} (c : HttpConn T) (t : ResponseText) → c.sent �
 pending_all c t none is = subst (λ (n : ℕ). drop n (text_of c.text) ≡ text_of t) (sym none) (ap text_of is)
 
 pub follows_as : {T : Type 0} (s : ServeStep) (a b new : HttpConn T) → a.inbox ≡ b.inbox → a.wants ≡ b.wants → a.requests ≡ b.requests → Follows s a new → Follows s b new
-follows_as (step.Stays size) a b new inbox wants count f = record { still = f.still ∙ ap (λ i. drop size (unread i)) inbox; wants = f.wants ∙ wants; over = f.over; counted = f.counted ∙ ap one_more count }
-follows_as (step.Closes size) a b new inbox wants count f = record { still = f.still ∙ ap (λ i. drop size (unread i)) inbox; wants = f.wants ∙ wants; over = f.over; counted = f.counted ∙ ap one_more count }
+follows_as (step.Stays size) a b new inbox wants count f = record {
+  still = f.still ∙ ap (λ i. drop size (unread i)) inbox;
+  wants = f.wants ∙ wants;
+  over = f.over;
+  counted = f.counted ∙ ap one_more count;
+}
+follows_as (step.Closes size) a b new inbox wants count f = record {
+  still = f.still ∙ ap (λ i. drop size (unread i)) inbox;
+  wants = f.wants ∙ wants;
+  over = f.over;
+  counted = f.counted ∙ ap one_more count;
+}
 follows_as step.Refused a b new inbox wants count f = record { still = f.still ∙ ap unread inbox; wants = f.wants ∙ wants; over = f.over; counted = f.counted ∙ ap one_more count }
 follows_as step.More a b new inbox wants count f = record { still = f.still ∙ ap unread inbox; wants = f.wants; over = f.over; counted = f.counted ∙ count }
 follows_as step.Done a b new inbox wants count f = record { still = f.still ∙ ap unread inbox; wants = f.wants ∙ wants; over = f.over; counted = f.counted ∙ count }
@@ -71,67 +83,98 @@ wants_path site h (wanted.Status status) none p = inr (none, p)
 wants_path site h (wanted.File file) none p = (none, p)
 
 -- an outcome is there
-pub near_done : {H T : Type 0} (all : RequestOutcome → H → Type 0) (rest : T → RequestOutcome → H → Type 0) (now : H) (x : Slice T) (o : RequestOutcome) → x ≡ request.Done o → Nears all rest now x → all o now
+pub near_done : {H T : Type 0} (all : RequestOutcome → H → Type 0) (rest : T → RequestOutcome → H → Type 0) (now : H) (x : Slice T) (o : RequestOutcome)
+    → x ≡ request.Done o → Nears all rest now x → all o now
 near_done all rest now x o is near = subst (λ y. Nears all rest now y) is near
 
 module _ {H T : Type 0} (site : Site) (among : H → Method → List ℕ → RequestOutcome → H → Type 0) (rests : H → T → RequestOutcome → H → Type 0) where
   -- a head that nothing refuses, and whose path has a file, comes to what the request for it does
-  comes_so : (h : RequestHead) (file : List ℕ) (o : RequestOutcome) (old new : H) → refusal h ≡ None → file_of site h ≡ Some file → among old (method_of h.method) file o new → ComesUnless site among (refusal h) old h o new
+  comes_so : (h : RequestHead) (file : List ℕ) (o : RequestOutcome) (old new : H) → refusal h ≡ None → file_of site h ≡ Some file
+      → among old (method_of h.method) file o new → ComesUnless site among (refusal h) old h o new
   comes_so h file o old new allowed named x =
       subst (λ r. ComesUnless site among r old h o new) (sym allowed) (subst (λ f. ComesTo site among f old h o new) (sym named) x)
 
-  pub begins_status : (h : RequestHead) (status : StatusCode) (o : RequestOutcome) (old : H) → (refusal h ≡ Some status) ⊎ ((refusal h ≡ None) × ((file_of site h ≡ None) × (status ≡ NotFound))) → IsBare status o → BeginsHead site among rests h old (request.Done o) old
+  pub begins_status : (h : RequestHead) (status : StatusCode) (o : RequestOutcome) (old : H) → (refusal h ≡ Some status)
+      ⊎ ((refusal h ≡ None) × ((file_of site h ≡ None) × (status ≡ NotFound))) → IsBare status o → BeginsHead site among rests h old (request.Done o) old
   begins_status h status o old (inl is) bare = subst (λ r. ComesUnless site among r old h o old) (sym is) (bare, refl)
   begins_status h status o old (inr p) bare =
       subst (λ r. ComesUnless site among r old h o old) (sym p.0) (subst (λ f. ComesTo site among f old h o old) (sym p.1.0) (subst (λ (s : StatusCode). IsBare s o) p.1.1 bare, refl))
 
-  begins_file : (h : RequestHead) (method : Method) (file : List ℕ) (old new : H) (s : Slice T) → refusal h ≡ None → file_of site h ≡ Some file → method ≡ method_of h.method → Nears (among old method file) (rests new) new s → BeginsHead site among rests h old s new
+  begins_file : (h : RequestHead) (method : Method) (file : List ℕ) (old new : H) (s : Slice T) → refusal h ≡ None → file_of site h ≡ Some file
+      → method ≡ method_of h.method → Nears (among old method file) (rests new) new s → BeginsHead site among rests h old s new
   begins_file h method file old new (request.Done o) allowed named is near = comes_so h file o old new allowed named (subst (λ (m : Method). among old m file o new) is near)
-  begins_file h method file old new (request.Works k) allowed named is near = record { file = file; allowed = allowed; named = named; goes = λ o z r. subst (λ (m : Method). among old m file o z) is (near o z r) }
+  begins_file h method file old new (request.Works k) allowed named is
+      near = record { file = file; allowed = allowed; named = named; goes = λ o z r. subst (λ (m : Method). among old m file o z) is (near o z r) }
 
-  pub begins_so : {E : Type 0} (r : Result (Slice T) E) (h : RequestHead) (method : Method) (file : List ℕ) (old new : H) → refusal h ≡ None → file_of site h ≡ Some file → method ≡ method_of h.method → IfOk r (Nears (among old method file) (rests new) new) → IfOk r (λ s. BeginsHead site among rests h old s new)
+  pub begins_so : {E : Type 0} (r : Result (Slice T) E) (h : RequestHead) (method : Method) (file : List ℕ) (old new : H) → refusal h ≡ None
+      → file_of site h ≡ Some file → method ≡ method_of h.method → IfOk r (Nears (among old method file) (rests new) new) → IfOk r (λ s. BeginsHead site among rests h old s new)
   begins_so (Ok s) h method file old new allowed named is near = begins_file h method file old new s allowed named is near
   begins_so (Err e) h method file old new allowed named is near = tt
 
   -- a request goes on
-  pub goes_on_so : (seen : List ℕ) (u : UnderWay T) (old now new : H) (k : T) → IsUnderWay site among rests seen u old now → Nears (rests now u.task) (rests new) new (request.Works k) → IsUnderWay site among rests seen (record { asked = u.asked; task = k }) old new
+  pub goes_on_so : (seen : List ℕ) (u : UnderWay T) (old now new : H) (k : T) → IsUnderWay site among rests seen u old now
+      → Nears (rests now u.task) (rests new) new (request.Works k) → IsUnderWay site among rests seen (record { asked = u.asked; task = k }) old new
   goes_on_so seen u old now new k w near =
-      record { head = w.head; asked = w.asked; begins = w.begins; fits = w.fits; asks = record { file = w.asks.file; allowed = w.asks.allowed; named = w.asks.named; goes = λ o z r. w.asks.goes o z (near o z r) } }
+      record {
+        head = w.head;
+        asked = w.asked;
+        begins = w.begins;
+        fits = w.fits;
+        asks = record { file = w.asks.file; allowed = w.asks.allowed; named = w.asks.named; goes = λ o z r. w.asks.goes o z (near o z r) };
+      }
 
   module _ {K : Type 0} (tells : K → Said → K → Type 0) (before after : K) where
     -- the head is answered
-    serves_so : (low seen : List ℕ) (a : Asked) (h : RequestHead) (o : RequestOutcome) (old new : H) (s : ServeStep) (text : List ℕ) → IsAskedBy low a h → BeginsWithin head_limit fields_limit seen h (drop a.head.len seen) → a.head.len ≤ length seen
-        → ComesUnless site among (refusal h) old h o new → (x : Sends tells before h o a.head.len s text after) → ServesRequest site among tells old before seen x.reply.closes a.head.len text new after
+    serves_so : (low seen : List ℕ) (a : Asked) (h : RequestHead) (o : RequestOutcome) (old new : H) (s : ServeStep) (text : List ℕ) → IsAskedBy low a h
+        → BeginsWithin head_limit fields_limit seen h (drop a.head.len seen) → a.head.len ≤ length seen
+        → ComesUnless site among (refusal h) old h o new → (x : Sends tells before h o a.head.len s text after)
+        → ServesRequest site among tells old before seen x.reply.closes a.head.len text new after
     serves_so low seen a h o old new s text asked begins fits comes x = record {
       turn = record { head = h; reply = x.reply; date = x.written.date };
       begins = begins;
       fits = fits;
       some = subst (λ (n : ℕ). 0 < n) (sym asked.at.len) (some_bytes h);
-      answers = record { valid = begins.reads.0; within = record { size = begins.size; count = begins.count }; outcome = o; comes = comes; reply = x.is; then = x.written.then; dated = x.written.dated; noted = x.written.noted };
+      answers = record {
+        valid = begins.reads.0;
+        within = record { size = begins.size; count = begins.count };
+        outcome = o;
+        comes = comes;
+        reply = x.is;
+        then = x.written.then;
+        dated = x.written.dated;
+        noted = x.written.noted;
+      };
       written = x.written.written;
       goes_on = refl;
     }
 
-    by_closes : (closes : Bool) (seen : List ℕ) (whole : Bool) (size : ℕ) (s : ServeStep) (text : List ℕ) (old new : H) → Answered closes size s → ServesRequest site among tells old before seen closes size text new after → DoesStep site among tells old before seen whole s text new after
+    by_closes : (closes : Bool) (seen : List ℕ) (whole : Bool) (size : ℕ) (s : ServeStep) (text : List ℕ) (old new : H) → Answered closes size s
+        → ServesRequest site among tells old before seen closes size text new after → DoesStep site among tells old before seen whole s text new after
     by_closes true seen whole size s text old new is x = subst (λ (t : ServeStep). DoesStep site among tells old before seen whole t text new after) (sym is) x
     by_closes false seen whole size s text old new is x = subst (λ (t : ServeStep). DoesStep site among tells old before seen whole t text new after) (sym is) x
 
-    does_so : (low seen : List ℕ) (whole : Bool) (a : Asked) (h : RequestHead) (o : RequestOutcome) (old new : H) (s : ServeStep) (text : List ℕ) → IsAskedBy low a h → BeginsWithin head_limit fields_limit seen h (drop a.head.len seen) → a.head.len ≤ length seen
+    does_so : (low seen : List ℕ) (whole : Bool) (a : Asked) (h : RequestHead) (o : RequestOutcome) (old new : H) (s : ServeStep) (text : List ℕ)
+        → IsAskedBy low a h → BeginsWithin head_limit fields_limit seen h (drop a.head.len seen) → a.head.len ≤ length seen
         → ComesUnless site among (refusal h) old h o new → Sends tells before h o a.head.len s text after → DoesStep site among tells old before seen whole s text new after
-    does_so low seen whole a h o old new s text asked begins fits comes x = by_closes x.reply.closes seen whole a.head.len s text old new x.answered (serves_so low seen a h o old new s text asked begins fits comes x)
+    does_so low seen whole a h o old new s text asked begins fits comes x =
+        by_closes x.reply.closes seen whole a.head.len s text old new x.answered (serves_so low seen a h o old new s text asked begins fits comes x)
 
     -- a head that was found: it is answered
-    pub found_does : (seen : List ℕ) (spans : List HeaderSpan) (whole : Bool) (r : RequestSpans) (a : Asked) (o : RequestOutcome) (old new : H) (s : ServeStep) (text : List ℕ) → IsRequestWithin seen spans r → length spans ≡ fields_limit → (found : IsFound head_limit seen spans r)
-        → a.head ≡ r → ((h : RequestHead) → IsRequestAt seen spans r h → IsAskedBy seen a h) → BeginsHead site among rests found.0 old (request.Done o) new → ((h : RequestHead) → IsAskedBy seen a h → Sends tells before h o a.head.len s text after)
+    pub found_does : (seen : List ℕ) (spans : List HeaderSpan) (whole : Bool) (r : RequestSpans) (a : Asked) (o : RequestOutcome) (old new : H) (s : ServeStep)
+        (text : List ℕ) → IsRequestWithin seen spans r → length spans ≡ fields_limit → (found : IsFound head_limit seen spans r)
+        → a.head ≡ r → ((h : RequestHead) → IsRequestAt seen spans r h → IsAskedBy seen a h) → BeginsHead site among rests found.0 old (request.Done o) new
+        → ((h : RequestHead) → IsAskedBy seen a h → Sends tells before h o a.head.len s text after)
         → DoesStep site among tells old before seen whole s text new after
     found_does seen spans whole r a o old new s text within room found is asked comes sends =
         let h = found.0 in
         let by = asked h found.1 in
-        let begins = subst (λ (x : RequestSpans). BeginsWithin head_limit fields_limit seen h (drop x.len seen)) (sym is) (subst (λ (n : ℕ). BeginsWithin head_limit n seen h (drop r.len seen)) room found.2) in
+        let begins = subst (λ (x : RequestSpans). BeginsWithin head_limit fields_limit seen h (drop x.len seen)) (sym is)
+        (subst (λ (n : ℕ). BeginsWithin head_limit n seen h (drop r.len seen)) room found.2) in
         does_so seen seen whole a h o old new s text by begins (subst (λ (x : RequestSpans). x.len ≤ length seen) (sym is) within.section.len_fits) comes (sends h by)
 
     -- a request is answered that was under way
-    pub under_does : (seen low : List ℕ) (whole : Bool) (u : UnderWay T) (o : RequestOutcome) (old now new : H) (s : ServeStep) (text : List ℕ) → low ≡ take head_limit seen → (w : IsUnderWay site among rests seen u old now) → rests now u.task o new
+    pub under_does : (seen low : List ℕ) (whole : Bool) (u : UnderWay T) (o : RequestOutcome) (old now new : H) (s : ServeStep) (text : List ℕ)
+        → low ≡ take head_limit seen → (w : IsUnderWay site among rests seen u old now) → rests now u.task o new
         → ((h : RequestHead) → IsAskedBy low u.asked h → Sends tells before h o u.asked.head.len s text after) → DoesStep site among tells old before seen whole s text new after
     under_does seen low whole u o old now new s text is w rest sends =
         let by = subst (λ (l : List ℕ). IsAskedBy l u.asked w.head) (sym is) w.asked in
@@ -147,7 +190,8 @@ module _ {H T : Type 0} (site : Site) (among : H → Method → List ℕ → Req
         (subst (λ (l : List ℕ). StepsFrom site among rests tells took now before low whole y l new after) (sym left) s)))
 
     -- a request was in hand
-    pub steps_some : (hand : Option (UnderWay T)) (u : UnderWay T) (now new : H) (seen : List ℕ) (whole : Bool) (x : StepSlice T) (text : List ℕ) → hand ≡ Some u → ((old : H) → IsUnderWay site among rests seen u old now → Steps site among rests tells old before seen whole x text new after)
+    pub steps_some : (hand : Option (UnderWay T)) (u : UnderWay T) (now new : H) (seen : List ℕ) (whole : Bool) (x : StepSlice T) (text : List ℕ) → hand ≡ Some u
+        → ((old : H) → IsUnderWay site among rests seen u old now → Steps site among rests tells old before seen whole x text new after)
         → StepsFrom site among rests tells hand now before seen whole x text new after
     steps_some hand u now new seen whole x text is says = subst (λ (h : Option (UnderWay T)). StepsFrom site among rests tells h now before seen whole x text new after) (sym is) says
 
@@ -166,12 +210,16 @@ module _ {H T : Type 0} (site : Site) (among : H → Method → List ℕ → Req
       }
 
   -- a head that was found: its request is under way
-  pub found_works : (seen : List ℕ) (spans : List HeaderSpan) (r : RequestSpans) (a : Asked) (k : T) (old new : H) → IsRequestWithin seen spans r → length spans ≡ fields_limit → length seen ≤ head_limit → (found : IsFound head_limit seen spans r)
-      → a.head ≡ r → ((h : RequestHead) → IsRequestAt seen spans r h → IsAskedBy seen a h) → BeginsHead site among rests found.0 old (request.Works k) new → IsUnderWay site among rests seen (record { asked = a; task = k }) old new
+  pub found_works : (seen : List ℕ) (spans : List HeaderSpan) (r : RequestSpans) (a : Asked) (k : T) (old new : H) → IsRequestWithin seen spans r
+      → length spans ≡ fields_limit → length seen ≤ head_limit → (found : IsFound head_limit seen spans r)
+      → a.head ≡ r → ((h : RequestHead) → IsRequestAt seen spans r h → IsAskedBy seen a h) → BeginsHead site among rests found.0 old (request.Works k) new
+      → IsUnderWay site among rests seen (record { asked = a; task = k }) old new
   found_works seen spans r a k old new within room few found is asked asks = record {
     head = found.0;
     asked = subst (λ (l : List ℕ). IsAskedBy l a found.0) (sym (take_all head_limit seen few)) (asked found.0 found.1);
-    begins = subst (λ (x : RequestSpans). BeginsWithin head_limit fields_limit seen found.0 (drop x.len seen)) (sym is) (subst (λ (n : ℕ). BeginsWithin head_limit n seen found.0 (drop r.len seen)) room found.2);
+    begins =
+        subst (λ (x : RequestSpans). BeginsWithin head_limit fields_limit seen found.0 (drop x.len seen)) (sym is)
+        (subst (λ (n : ℕ). BeginsWithin head_limit n seen found.0 (drop r.len seen)) room found.2);
     fits = subst (λ (x : RequestSpans). x.len ≤ length seen) (sym is) within.section.len_fits;
     asks = asks;
   }

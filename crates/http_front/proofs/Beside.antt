@@ -23,7 +23,8 @@ use Rattle.filter_chain.proofs.Driving.{Happened, by_event, leads_as, leads_on, 
 abbrev Some-events : ℕ → List Program → ℕ → HostView → HostView → Type 0
 Some-events b c number s t = (events : List (Event × Answer)) × GoesBy b c number events s t
 
-one_more : (b : ℕ) (c : List Program) (number : ℕ) (what : Event) (answer : Answer) (s m t : HostView) → IsOfConn what → Some-events b c number s m → Answers b c number what m answer t → Some-events b c number s t
+one_more : (b : ℕ) (c : List Program) (number : ℕ) (what : Event) (answer : Answer) (s m t : HostView) → IsOfConn what → Some-events b c number s m
+    → Answers b c number what m answer t → Some-events b c number s t
 unfolding GoesBy
 one_more b c number what answer s m t own so acts = ((what, answer) ∷ so.0, (m, so.1, own, acts))
 
@@ -61,12 +62,15 @@ module _ {F : Type 0} (device : F → Device) (number : ℕ) where
     unfolding OnlyEventsOf LacksFor
     beside_lacks what why e asked lacks h =
         leads_on device from old new (λ b c s t. Some-events b c number s t) (λ b c s t. Answers b c number what s (Refused why) t) (λ b c s t. Lacks b c number e s t)
-        (λ b c s m t x a. record { events = x.0; mid = m; before = x.1; last = inl (record { what = what; why = why; asked = asked; lacks = lacks; acts = a }) }) so (by_event device old new number what (Refused why) h)
+        (λ b c s m t x a. record { events = x.0; mid = m; before = x.1; last = inl (record { what = what; why = why; asked = asked; lacks = lacks; acts = a }) }) so
+        (by_event device old new number what (Refused why) h)
 
   -- memory was lacking, and no event asked for it
   pub beside_none : (from old : Host F) → OnlyEventsOf device from number old → LacksFor device from number kind.NoMemory old
   unfolding OnlyEventsOf LacksFor
-  beside_none from old so = leads_as device from old (λ b c s t. Some-events b c number s t) (λ b c s t. Lacks b c number kind.NoMemory s t) (λ b c s t x. record { events = x.0; mid = t; before = x.1; last = inr (refl, refl) }) so
+  beside_none from old so =
+      leads_as device from old (λ b c s t. Some-events b c number s t) (λ b c s t. Lacks b c number kind.NoMemory s t)
+      (λ b c s t x. record { events = x.0; mid = t; before = x.1; last = inr (refl, refl) }) so
 
 -- how a `?` leaves
 pub err_by : {T : Type 0} (P : FrontKind → Type 0) (r : Result T FrontKind) (y e : FrontKind) → r ≡ Err y → y ≡ e → P e → IfErr r P

@@ -30,7 +30,8 @@ module _ (k : ℕ) (w v : World) where
     labels_none None labels is = let told = ap (λ (p : Answer × World). p.0) is in absurd (cc)
 
     -- it was refused, and not for want of memory
-    not_there : (at : Option Connection) (why : Refusal) → w.conns k ≡ at → ¬ (why ≡ refusal.NoMemory) → happens_on memory budget chain told event.Close k at w ≡ (Refused why, v) → (why ≡ refusal.NoSuchConn) × (v.conns k ≡ None)
+    not_there : (at : Option Connection) (why : Refusal) → w.conns k ≡ at → ¬ (why ≡ refusal.NoMemory)
+        → happens_on memory budget chain told event.Close k at w ≡ (Refused why, v) → (why ≡ refusal.NoSuchConn) × (v.conns k ≡ None)
     unfolding happens_on
     not_there (Some c) why at not is = absurd (not (refused_so memory c why is))
     not_there None why at not is =
@@ -45,20 +46,24 @@ module _ {F : Type 0} (device : F → Device) (number : ℕ) (old new : Host F) 
       (leads_as device old new (λ b c s t. Answers b c number event.Close s (Labels labels) t) (λ b c s t. ClosesTurns b c number true s t)
       (λ b c s t a. (inl (labels, a), labels_none number s.world t.world a.memory b c a.told (s.world.conns number) labels a.is)) (by_event device old new number event.Close (Labels labels) h))
 
-  pub turns_kept : (why : Refusal) → result ≡ false → why ≡ refusal.NoMemory → Happened device old new number event.Close (Refused why) → Refines device old new (λ b c s t. ClosesTurns b c number result s t)
+  pub turns_kept : (why : Refusal) → result ≡ false → why ≡ refusal.NoMemory → Happened device old new number event.Close (Refused why)
+      → Refines device old new (λ b c s t. ClosesTurns b c number result s t)
   turns_kept why is lacks h =
       subst (λ (r : Bool). Refines device old new (λ b c s t. ClosesTurns b c number r s t)) (sym is)
       (leads_as device old new (λ b c s t. Answers b c number event.Close s (Refused why) t) (λ b c s t. ClosesTurns b c number false s t)
       (λ b c s t a. subst (λ (r : Refusal). Answers b c number event.Close s (Refused r) t) lacks a) (by_event device old new number event.Close (Refused why) h))
 
-  pub turns_gone : (why : Refusal) → result ≡ true → ¬ (why ≡ refusal.NoMemory) → Happened device old new number event.Close (Refused why) → Refines device old new (λ b c s t. ClosesTurns b c number result s t)
+  pub turns_gone : (why : Refusal) → result ≡ true → ¬ (why ≡ refusal.NoMemory) → Happened device old new number event.Close (Refused why)
+      → Refines device old new (λ b c s t. ClosesTurns b c number result s t)
   turns_gone why is not h =
       subst (λ (r : Bool). Refines device old new (λ b c s t. ClosesTurns b c number r s t)) (sym is)
       (leads_as device old new (λ b c s t. Answers b c number event.Close s (Refused why) t) (λ b c s t. ClosesTurns b c number true s t)
-      (λ b c s t a. (let gone = not_there number s.world t.world a.memory b c a.told (s.world.conns number) why refl not a.is in (inr (subst (λ (r : Refusal). Answers b c number event.Close s (Refused r) t) gone.0 a), gone.1)))
+      (λ b c s t a. (let gone = not_there number s.world t.world a.memory b c a.told (s.world.conns number) why refl not a.is in
+      (inr (subst (λ (r : Refusal). Answers b c number event.Close s (Refused r) t) gone.0 a), gone.1)))
       (by_event device old new number event.Close (Refused why) h))
 
   -- by whether memory was lacking
-  pub turns_refused : (why : Refusal) (lacks : Bool) → result ≡ not lacks → ((lacks ≡ true → why ≡ refusal.NoMemory) × (why ≡ refusal.NoMemory → lacks ≡ true)) → Happened device old new number event.Close (Refused why) → Refines device old new (λ b c s t. ClosesTurns b c number result s t)
+  pub turns_refused : (why : Refusal) (lacks : Bool) → result ≡ not lacks → ((lacks ≡ true → why ≡ refusal.NoMemory) × (why ≡ refusal.NoMemory → lacks ≡ true))
+      → Happened device old new number event.Close (Refused why) → Refines device old new (λ b c s t. ClosesTurns b c number result s t)
   turns_refused why true is by h = turns_kept why is (by.0 refl) h
   turns_refused why false is by h = turns_gone why is (λ lacks. let clash : false ≡ true = by.1 lacks in absurd (cc)) h

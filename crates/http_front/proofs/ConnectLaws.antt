@@ -30,30 +30,39 @@ module _ {F : Type 0} (device : F → Device) (number : ℕ) (old new : Host F) 
   pub closed : (left : Option ℕ) (labels : List (List ℕ)) → left ≡ None → Happened device old new number event.Close (Labels labels) → Refines device old new (λ b c s t. IsClosed b c number left s t)
   closed left labels is h =
       subst (λ (x : Option ℕ). Refines device old new (λ b c s t. IsClosed b c number x s t)) (sym is)
-      (leads_as device old new (λ b c s t. Answers b c number event.Close s (Labels labels) t) (λ b c s t. IsClosed b c number None s t) (λ b c s t a. (labels, a)) (by_event device old new number event.Close (Labels labels) h))
+      (leads_as device old new (λ b c s t. Answers b c number event.Close s (Labels labels) t) (λ b c s t. IsClosed b c number None s t) (λ b c s t a. (labels, a))
+      (by_event device old new number event.Close (Labels labels) h))
 
   lacks_memory : (why : Refusal) → HasConn device old number → Happened device old new number event.Close (Refused why) → why ≡ refusal.NoMemory
   lacks_memory why has h = close_refused _ _ number why _ _ (h has.0 has.1).acts (has.2, has.3)
 
-  pub kept : (left : Option ℕ) (why : Refusal) → left ≡ Some number → HasConn device old number → Happened device old new number event.Close (Refused why) → Refines device old new (λ b c s t. IsClosed b c number left s t)
+  pub kept : (left : Option ℕ) (why : Refusal) → left ≡ Some number → HasConn device old number → Happened device old new number event.Close (Refused why)
+      → Refines device old new (λ b c s t. IsClosed b c number left s t)
   kept left why is has h =
       subst (λ (x : Option ℕ). Refines device old new (λ b c s t. IsClosed b c number x s t)) (sym is)
-      (leads_as device old new (λ b c s t. Answers b c number event.Close s (Refused why) t) (λ b c s t. IsClosed b c number (Some number) s t) (λ b c s t a. (refl, subst (λ (r : Refusal). Answers b c number event.Close s (Refused r) t) (lacks_memory why has h) a)) (by_event device old new number event.Close (Refused why) h))
+      (leads_as device old new (λ b c s t. Answers b c number event.Close s (Refused why) t) (λ b c s t. IsClosed b c number (Some number) s t)
+      (λ b c s t a. (refl, subst (λ (r : Refusal). Answers b c number event.Close s (Refused r) t) (lacks_memory why has h) a)) (by_event device old new number event.Close (Refused why) h))
 
-  pub opened_conn : (mid : Host F) (how : CallEnd) → Happened device old mid 0 event.Open (Connected number) → Refines device mid new (λ b c s t. RunsCall b c number s how t) → Refines device old new (λ b c s t. IsOpened b c number s t)
+  pub opened_conn : (mid : Host F) (how : CallEnd) → Happened device old mid 0 event.Open (Connected number)
+      → Refines device mid new (λ b c s t. RunsCall b c number s how t) → Refines device old new (λ b c s t. IsOpened b c number s t)
   opened_conn mid how h = leads_on device old mid new (λ b c s t. Answers b c 0 event.Open s (Connected number) t) (λ b c s t. RunsCall b c number s how t) (λ b c s t. IsOpened b c number s t)
       (λ b c s m t a r. record { mid = m; how = how; acts = a; runs = r }) (by_event device old mid 0 event.Open (Connected number) h)
 
 -- What is written where serving fails.
-module _ {H K : Type 0} (site : Site) (handles : H → Method → List ℕ → RequestOutcome → H → Type 0) (tells : K → Said → K → Type 0) (lacks : H → Method → List ℕ → FrontKind → H → Type 0) (old : H) (before : K) where
-  front_whole : (stream text : List ℕ) (unread : Option (List ℕ)) (m n : ℕ) (new : H) (after : K) → Responses site handles tells old before stream text n new after → FallsBy site handles tells lacks kind.NoMemory (Some m) old before stream text unread new after
+module _ {H K : Type 0} (site : Site) (handles : H → Method → List ℕ → RequestOutcome → H → Type 0) (tells : K → Said → K → Type 0)
+    (lacks : H → Method → List ℕ → FrontKind → H → Type 0) (old : H) (before : K) where
+  front_whole : (stream text : List ℕ) (unread : Option (List ℕ)) (m n : ℕ) (new : H) (after : K) → Responses site handles tells old before stream text n new after
+      → FallsBy site handles tells lacks kind.NoMemory (Some m) old before stream text unread new after
   front_whole stream text unread m n new after all = inr ((λ none. cc), n, all)
 
-  lacking : (read unread was is : Option (List ℕ)) (left : Option ℕ) (new : H) (after : K) → Writes read was is (λ stream text. LacksMemory site handles tells old before stream text unread new after) → Writes read was is (λ stream text. FallsBy site handles tells lacks kind.NoMemory left old before stream text unread new after)
+  lacking : (read unread was is : Option (List ℕ)) (left : Option ℕ) (new : H) (after : K)
+      → Writes read was is (λ stream text. LacksMemory site handles tells old before stream text unread new after)
+      → Writes read was is (λ stream text. FallsBy site handles tells lacks kind.NoMemory left old before stream text unread new after)
   lacking None unread was is left new after h = tt
   lacking (Some stream) unread was is left new after h = (h.0, inl h.1, h.2)
 
-  pub falls : (read unread was is : Option (List ℕ)) (left : Option ℕ) (new : H) (after : K) (e : FrontKind) → FailsBy site handles tells lacks old before read unread was is new after e → Writes read was is (λ stream text. FallsBy site handles tells lacks e left old before stream text unread new after)
+  pub falls : (read unread was is : Option (List ℕ)) (left : Option ℕ) (new : H) (after : K) (e : FrontKind)
+      → FailsBy site handles tells lacks old before read unread was is new after e → Writes read was is (λ stream text. FallsBy site handles tells lacks e left old before stream text unread new after)
   falls read unread was is left new after kind.Write h = h
   falls read unread was is left new after kind.Read h = h
   falls read unread was is left new after kind.TooManyReads h = h
@@ -61,7 +70,8 @@ module _ {H K : Type 0} (site : Site) (handles : H → Method → List ℕ → R
   falls read unread was is left new after kind.NamesSpent h = h
 
 module _ {F K : Type 0} (device : F → Device) (tells : K → Said → K → Type 0) (site : Site) (old : Host F) (before : K) (unread was is : Option (List ℕ)) where
-  pub none_opened : (new : Host F) (e : FrontFault) (why : Refusal) (read : Option (List ℕ)) → unread ≡ read → is ≡ was → e.kind ≡ kind_of why → e.left ≡ None → Happened device old new 0 event.Open (Refused why)
+  pub none_opened : (new : Host F) (e : FrontFault) (why : Refusal) (read : Option (List ℕ)) → unread ≡ read → is ≡ was → e.kind ≡ kind_of why → e.left ≡ None
+      → Happened device old new 0 event.Open (Refused why)
       → IfSome read (λ stream. ServingFails device tells site old before stream e unread was is new before)
   none_opened new e why None keeps same kind left h = tt
   none_opened new e why (Some stream) keeps same kind left h = inl record {
@@ -74,13 +84,16 @@ module _ {F K : Type 0} (device : F → Device) (tells : K → Said → K → Ty
     still = refl;
   }
 
-  module _ (number : ℕ) (opened served new : Host F) (after : K) (opens : Refines device old opened (λ b c s t. IsOpened b c number s t)) (alive : IsAlive device served) (beside : OnlyEventsOf device opened number served) where
+  module _ (number : ℕ) (opened served new : Host F) (after : K) (opens : Refines device old opened (λ b c s t. IsOpened b c number s t))
+      (alive : IsAlive device served) (beside : OnlyEventsOf device opened number served) where
     -- what serving the open connection comes to
     abbrev AllSo : Option (List ℕ) → Served → Type 0
     AllSo read s = IfSome read (λ stream. (text : List ℕ) × Responses site (λ o. Handles device o number) tells opened before stream text s.requests served after × Appends was is text)
 
     abbrev FrontSo : Option ℕ → Option (List ℕ) → FrontKind → Type 0
-    FrontSo left read k = IfSome read (λ stream. (text : List ℕ) × FallsBy site (λ o. Handles device o number) tells (λ o method file. LacksFor device o number) k left opened before stream text unread served after × Appends was is text)
+    FrontSo left read k =
+        IfSome read (λ stream. (text : List ℕ) × FallsBy site (λ o. Handles device o number) tells (λ o method file. LacksFor device o number) k left opened before
+        stream text unread served after × Appends was is text)
 
     by_ok : (read : Option (List ℕ)) (r : Result Served FrontKind) (left : Option ℕ) → Refines device served new (λ b c s t. IsClosed b c number left s t) → IfOk r (AllSo read)
         → IfOk (outcome_of r left) (λ s. IfSome read (λ stream. ServesAll device tells site old before stream s.requests was is new after))
@@ -93,13 +106,25 @@ module _ {F K : Type 0} (device : F → Device) (tells : K → Said → K → Ty
       written = written;
     }
 
-    by_err : (read : Option (List ℕ)) (r : Result Served FrontKind) (left : Option ℕ) → Refines device served new (λ b c s t. IsClosed b c number left s t) → IfOk r (AllSo read) → IfErr r (λ k. FrontSo left read k)
+    by_err : (read : Option (List ℕ)) (r : Result Served FrontKind) (left : Option ℕ) → Refines device served new (λ b c s t. IsClosed b c number left s t)
+        → IfOk r (AllSo read) → IfErr r (λ k. FrontSo left read k)
         → IfErr (outcome_of r left) (λ e. IfSome read (λ stream. ServingFails device tells site old before stream e unread was is new after))
     by_err read (Ok s) None closes all front = tt
     by_err None (Ok s) (Some n) closes all front = tt
     by_err (Some stream) (Ok s) (Some n) closes (text, all, written) front = inr record {
       text = text;
-      connects = record { number = number; opened = opened; served = served; opens = opens; done = front_whole site (λ o. Handles device o number) tells (λ o method file. LacksFor device o number) opened before stream text unread n s.requests served after all; alive = alive; beside = beside; closes = closes };
+      connects = record {
+        number = number;
+        opened = opened;
+        served = served;
+        opens = opens;
+        done =
+            front_whole site (λ o. Handles device o number) tells (λ o method file. LacksFor device o number) opened before stream text unread n s.requests served
+            after all;
+        alive = alive;
+        beside = beside;
+        closes = closes;
+      };
       written = written;
     }
     by_err None (Err k) left closes all front = tt
@@ -109,29 +134,39 @@ module _ {F K : Type 0} (device : F → Device) (tells : K → Said → K → Ty
       written = written;
     }
 
-    fails_so : (read : Option (List ℕ)) (r : Result Served FrontKind) (left : Option ℕ) → IfErr r (λ e. FailsBy site (λ o. Handles device o number) tells (λ o method file. LacksFor device o number) opened before read unread was is served after e) → IfErr r (λ k. FrontSo left read k)
+    fails_so : (read : Option (List ℕ)) (r : Result Served FrontKind) (left : Option ℕ)
+        → IfErr r (λ e. FailsBy site (λ o. Handles device o number) tells (λ o method file. LacksFor device o number) opened before read unread was is served after
+        e) → IfErr r (λ k. FrontSo left read k)
     fails_so read (Ok s) left h = tt
     fails_so read (Err e) left h = falls site (λ o. Handles device o number) tells (λ o method file. LacksFor device o number) opened before read unread was is left served after e h
 
-    module _ (read : Option (List ℕ)) (r : Result Served FrontKind) (left : Option ℕ) (closes : Refines device served new (λ b c s t. IsClosed b c number left s t)) (all : IfOk r (AllSo read)) (result : Result Served FrontFault) (same : result ≡ outcome_of r left) where
+    module _ (read : Option (List ℕ)) (r : Result Served FrontKind) (left : Option ℕ) (closes : Refines device served new (λ b c s t. IsClosed b c number left s t))
+        (all : IfOk r (AllSo read)) (result : Result Served FrontFault) (same : result ≡ outcome_of r left) where
       pub served_ok : IfOk result (λ s. IfSome read (λ stream. ServesAll device tells site old before stream s.requests was is new after))
-      served_ok = subst (λ (x : Result Served FrontFault). IfOk x (λ s. IfSome read (λ stream. ServesAll device tells site old before stream s.requests was is new after))) (sym same) (by_ok read r left closes all)
+      served_ok =
+          subst (λ (x : Result Served FrontFault). IfOk x (λ s. IfSome read (λ stream. ServesAll device tells site old before stream s.requests was is new after)))
+          (sym same) (by_ok read r left closes all)
 
-      pub served_err : IfErr r (λ e. FailsBy site (λ o. Handles device o number) tells (λ o method file. LacksFor device o number) opened before read unread was is served after e) → IfErr result (λ e. IfSome read (λ stream. ServingFails device tells site old before stream e unread was is new after))
-      served_err front = subst (λ (x : Result Served FrontFault). IfErr x (λ e. IfSome read (λ stream. ServingFails device tells site old before stream e unread was is new after))) (sym same) (by_err read r left closes all (fails_so read r left front))
+      pub served_err : IfErr r (λ e. FailsBy site (λ o. Handles device o number) tells (λ o method file. LacksFor device o number) opened before read unread was is
+          served after e) → IfErr result (λ e. IfSome read (λ stream. ServingFails device tells site old before stream e unread was is new after))
+      served_err front =
+          subst (λ (x : Result Served FrontFault). IfErr x (λ e. IfSome read
+          (λ stream. ServingFails device tells site old before stream e unread was is new after))) (sym same) (by_err read r left closes all (fails_so read r left front))
 
 -- Of any reader.
 module _ {F K : Type 0} (device : F → Device) (tells : K → Said → K → Type 0) (site : Site) (old : Host F) where
   pub not_visited : (new : Host F) (e : FrontFault) (why : Refusal) → Happened device old new 0 event.Open (Refused why) → Visits device tells site old (Err e) new
   not_visited new e why h = inl (why, by_event device old new 0 event.Open (Refused why) h)
 
-  module _ (number : ℕ) (opened served new : Host F) (opens : Refines device old opened (λ b c s t. IsOpened b c number s t)) (alive : IsAlive device served) (beside : OnlyEventsOf device opened number served) where
+  module _ (number : ℕ) (opened served new : Host F) (opens : Refines device old opened (λ b c s t. IsOpened b c number s t)) (alive : IsAlive device served)
+      (beside : OnlyEventsOf device opened number served) where
     visits_by : (r : Result Served FrontKind) (left : Option ℕ) → Refines device served new (λ b c s t. IsClosed b c number left s t) → Visits device tells site old (outcome_of r left) new
     visits_by (Ok s) None closes = record { number = number; opened = opened; served = served; opens = opens; done = tt; alive = alive; beside = beside; closes = closes }
     visits_by (Ok s) (Some n) closes = inr record { number = number; opened = opened; served = served; opens = opens; done = tt; alive = alive; beside = beside; closes = closes }
     visits_by (Err k) left closes = inr record { number = number; opened = opened; served = served; opens = opens; done = tt; alive = alive; beside = beside; closes = closes }
 
-    pub visited : (r : Result Served FrontKind) (left : Option ℕ) → Refines device served new (λ b c s t. IsClosed b c number left s t) → (result : Result Served FrontFault) → result ≡ outcome_of r left
+    pub visited : (r : Result Served FrontKind) (left : Option ℕ) → Refines device served new (λ b c s t. IsClosed b c number left s t)
+        → (result : Result Served FrontFault) → result ≡ outcome_of r left
         → Visits device tells site old result new
     visited r left closes result same = subst (λ (x : Result Served FrontFault). Visits device tells site old x new) (sym same) (visits_by r left closes)
 
@@ -165,7 +200,8 @@ module _ (was is : Bool) where
   source_of reads (Ok s) (Some n) h = h
   source_of reads (Err k) left h = h
 
-  pub source_told : (reads : ℕ) (r : Result Served FrontKind) (left : Option ℕ) (result : Result Served FrontFault) → result ≡ outcome_of r left → BlamesSource r was is reads → BlamesSource (kind_result result) was is reads
+  pub source_told : (reads : ℕ) (r : Result Served FrontKind) (left : Option ℕ) (result : Result Served FrontFault) → result ≡ outcome_of r left
+      → BlamesSource r was is reads → BlamesSource (kind_result result) was is reads
   source_told reads r left result same h = subst (λ (x : Result Served FrontFault). BlamesSource (kind_result x) was is reads) (sym same) (source_of reads r left h)
 
 -- where nothing is opened, neither is asked

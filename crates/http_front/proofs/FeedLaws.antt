@@ -1,95 +1,43 @@
--- A file is brought, brigade by brigade.
-use Rattle.std.proofs.Common.{◌≡◌, ℕ, zero, suc, ◌+◌, ◌-◌, ◌/◌, ◌<◌, List, [], ◌∷◌, Result, Ok, Err, IfOk, refl, ap, sym, subst, arith}
-use Rattle.module_code.specs.Program.{Program}
+-- What is left of a file.
+use Rattle.std.proofs.Common.{◌≡◌, ℕ, zero, suc, ◌+◌, ◌*◌, ◌-◌, ◌/◌, ◌<◌, ◌≤◌, ◌^◌, List, [], ◌∷◌, length, refl, ap, sym, subst, ◌∙◌, arith}
+use Rattle.std.proofs.Math.Nat.{div-mul-le_self}
 use Rattle.run_model.specs.declared.event.Piece.{Piece}
 use Rattle.run_model.specs.declared.event.Piece.TheVariants as piece
-use Rattle.bucket_kinds.specs.Device.{Device}
-use Rattle.filter_chain.specs.declared.host.Host.{Host}
-use Rattle.filter_chain.specs.HostViews.{HostView}
-use Rattle.http_front.specs.declared.fault.FrontKind.{FrontKind}
-use Rattle.http_front.specs.Driven.{IsAlive, Refines}
+use Rattle.http_message.specs.declared.reply.Method.{Method}
+use Rattle.http_message.specs.declared.reply.Method.TheVariants.{Get}
 use Rattle.http_front.specs.RequestEvents as by
-use Rattle.http_front.specs.Requests.{BringsBrigade, BringsAll, IfSucceeded, brigades_from, brigades_of, last_brigade, piece_bytes}
-use Rattle.http_front.specs.declared.running.CallEnd.{CallEnd}
-use Rattle.http_front.specs.declared.running.CallEnd.TheVariants as ended
-use Rattle.filter_chain.proofs.Driving.{alive_then, leads_on, leads_still}
+use Rattle.http_front.specs.RequestEvents.{brigades_for}
 
-module _ {F : Type 0} (device : F → Device) (number : ℕ) where
-  pub brings_same : (old new : Host F) (r : Result CallEnd FrontKind) (p q : List Piece) → p ≡ q
-      → Refines device old new (λ b c s t. IfOk r (λ how. BringsBrigade b c number p s how t)) → Refines device old new (λ b c s t. IfOk r (λ how. BringsBrigade b c number q s how t))
-  brings_same old new r p q is h = subst (λ (x : List Piece). Refines device old new (λ b c s t. IfOk r (λ how. BringsBrigade b c number x s how t))) is h
+pub wanted_all : (method : Method) (file : ℕ × ℕ) (less : ℕ) → method ≡ Get → less ≡ file.1 - 1
+    → by.brigades_from file.0 file.1 0 (less / 65536) ≡ brigades_for method file
+unfolding by.brigades_of
+wanted_all method file less get is =
+    subst (λ (m : Method). by.brigades_from file.0 file.1 0 (less / 65536) ≡ brigades_for m file) (sym get)
+    (ap (λ (n : ℕ). by.brigades_from file.0 file.1 0 (n / 65536)) is)
 
--- Some brigades of a file are brought, and these are left.
-pub record IsFeeding {F : Type 0} (device : F → Device) (old now : Host F) (number file len start left : ℕ) : Type 0 where
-  pub alive : IsAlive device now
-  pub goes : Refines device old now (λ b c s m. (how : CallEnd) (t : HostView) → BringsAll b c number (brigades_from file len start left) m how t → BringsAll b c number (brigades_of file len) s how t)
+pub last_left : (file len start left : ℕ) (pieces : List Piece) → left ≡ 0 → pieces ≡ by.last_brigade file start (len - start)
+    → by.brigades_from file len start left ≡ pieces ∷ []
+unfolding by.brigades_from
+last_left file len start left pieces none is =
+    subst (λ (n : ℕ). by.brigades_from file len start n ≡ pieces ∷ []) (sym none) (ap (λ (p : List Piece). p ∷ []) (sym is))
 
-stopped : (how : CallEnd) (s : HostView) (A : Type 0) → ¬ (how ≡ ended.Succeeded) → IfSucceeded how A ((how ≡ how) × (s ≡ s))
-stopped ended.Succeeded s A not = absurd (not refl)
-stopped (ended.Failed why) s A not = (refl, refl)
-stopped (ended.Broke why) s A not = (refl, refl)
+pub more_left : (file len start left : ℕ) (pieces : List Piece) → 0 < left → pieces ≡ piece.File file start 65536 ∷ []
+    → by.brigades_from file len start left ≡ pieces ∷ by.brigades_from file len (start + 65536) (left - 1)
+unfolding by.brigades_from
+more_left file len start zero pieces some is = absurd (omega (arith, some))
+more_left file len start (suc n) pieces some is =
+    let back : n ≡ suc n - 1 = omega arith in
+    ap (λ (p : List Piece). p ∷ by.brigades_from file len (start + 65536) n) (sym is)
+    ∙ ap (λ (k : ℕ). pieces ∷ by.brigades_from file len (start + 65536) k) back
 
-ends_either : (how : CallEnd) (s : HostView) → IfSucceeded how ((how ≡ ended.Succeeded) × (s ≡ s)) ((how ≡ how) × (s ≡ s))
-ends_either ended.Succeeded s = (refl, refl)
-ends_either (ended.Failed why) s = (refl, refl)
-ends_either (ended.Broke why) s = (refl, refl)
+-- how many there are
+brigades_count : (file len start left : ℕ) → length (by.brigades_from file len start left) ≡ left + 1
+unfolding by.brigades_from
+brigades_count file len start zero = refl
+brigades_count file len start (suc n) = (let rest = brigades_count file len (start + 65536) n in omega (arith, rest))
 
-module _ {F : Type 0} (device : F → Device) (number file len : ℕ) where
-  pub feeding_begins : (host : Host F) (left : ℕ) → left ≡ (len - 1) / piece_bytes → IsAlive device host → IsFeeding device host host number file len 0 left
-  unfolding brigades_of
-  feeding_begins host left is alive = record {
-    alive = alive;
-    goes = leads_still device host (λ b c s m. (how : CallEnd) (t : HostView) → BringsAll b c number (brigades_from file len 0 left) m how t → BringsAll b c number (brigades_of file len) s how t)
-        (λ b c s how t h. subst (λ (n : ℕ). BringsAll b c number (brigades_from file len 0 n) s how t) is h);
-  }
-
-  module _ (old now new : Host F) (start : ℕ) where
-    whole_next : (left : ℕ) → 0 < left → brigades_from file len start left ≡ (piece.File file start piece_bytes ∷ []) ∷ brigades_from file len (start + piece_bytes) (left - 1)
-    unfolding brigades_from
-    whole_next zero some = absurd (omega (arith, some))
-    whole_next (suc n) some =
-        let back : n ≡ suc n - 1 = omega arith in
-        ap (λ (k : ℕ). (piece.File file start piece_bytes ∷ []) ∷ brigades_from file len (start + piece_bytes) k) back
-
-    module _ (left : ℕ) (so : IsFeeding device old now number file len start left) where
-      module _ (some : 0 < left) (how : CallEnd) (one : Refines device now new (λ b c s t. BringsBrigade b c number (piece.File file start piece_bytes ∷ []) s how t)) where
-        pub feeding_on : how ≡ ended.Succeeded → IsFeeding device old new number file len (start + piece_bytes) (left - 1)
-        unfolding by.BringsAll
-        feeding_on well = record {
-          alive = alive_then device now new (λ b c s t. BringsBrigade b c number (piece.File file start piece_bytes ∷ []) s how t) so.alive one;
-          goes = leads_on device old now new
-              (λ b c s m. (how : CallEnd) (t : HostView) → BringsAll b c number (brigades_from file len start left) m how t → BringsAll b c number (brigades_of file len) s how t)
-              (λ b c s t. BringsBrigade b c number (piece.File file start piece_bytes ∷ []) s how t)
-              (λ b c s m. (how : CallEnd) (t : HostView) → BringsAll b c number (brigades_from file len (start + piece_bytes) (left - 1)) m how t → BringsAll b c number (brigades_of file len) s how t)
-              (λ b c s m t k x last end rest. k last end (subst (λ (bs : List (List Piece)). BringsAll b c number bs m last end) (sym (whole_next left some))
-              (ended.Succeeded, t, subst (λ (e : CallEnd). BringsBrigade b c number (piece.File file start piece_bytes ∷ []) m e t) well x, rest))) so.goes one;
-        }
-
-        pub feeding_stops : ¬ (how ≡ ended.Succeeded) → Refines device old new (λ b c s t. BringsAll b c number (brigades_of file len) s how t)
-        unfolding by.BringsAll
-        feeding_stops not = leads_on device old now new
-            (λ b c s m. (how : CallEnd) (t : HostView) → BringsAll b c number (brigades_from file len start left) m how t → BringsAll b c number (brigades_of file len) s how t)
-            (λ b c s t. BringsBrigade b c number (piece.File file start piece_bytes ∷ []) s how t)
-            (λ b c s t. BringsAll b c number (brigades_of file len) s how t)
-            (λ b c s m t k x. k how t (subst (λ (bs : List (List Piece)). BringsAll b c number bs m how t) (sym (whole_next left some))
-            (how, t, x, stopped how t (BringsAll b c number (brigades_from file len (start + piece_bytes) (left - 1)) t how t) not))) so.goes one
-
-      -- none but the last is left
-      pub feeding_ends : (r : Result CallEnd FrontKind) → left ≡ 0 → Refines device now new (λ b c s t. IfOk r (λ how. BringsBrigade b c number (last_brigade file start (len - start)) s how t))
-          → Refines device old new (λ b c s t. IfOk r (λ how. BringsAll b c number (brigades_of file len) s how t))
-      unfolding by.BringsAll brigades_from
-      feeding_ends r none one = leads_on device old now new
-          (λ b c s m. (how : CallEnd) (t : HostView) → BringsAll b c number (brigades_from file len start left) m how t → BringsAll b c number (brigades_of file len) s how t)
-          (λ b c s t. IfOk r (λ how. BringsBrigade b c number (last_brigade file start (len - start)) s how t))
-          (λ b c s t. IfOk r (λ how. BringsAll b c number (brigades_of file len) s how t))
-          (λ b c s m t k x. by r b c s m t k x) so.goes one where
-            by : (r : Result CallEnd FrontKind) (b : ℕ) (c : List Program) (s m t : HostView) → ((how : CallEnd) (t : HostView) → BringsAll b c number (brigades_from file len start left) m how t → BringsAll b c number (brigades_of file len) s how t)
-                → IfOk r (λ how. BringsBrigade b c number (last_brigade file start (len - start)) m how t) → IfOk r (λ how. BringsAll b c number (brigades_of file len) s how t)
-            by (Err e) b c s m t k x = tt
-            by (Ok how) b c s m t k x = k how t (subst (λ (n : ℕ). BringsAll b c number (brigades_from file len start n) m how t) (sym none) (how, t, x, ends_either how t))
-
--- No brigade is brought.
-pub feeds_nothing : {F : Type 0} (device : F → Device) (number : ℕ) (host : Host F) (brigades : List (List Piece)) → brigades ≡ [] → Refines device host host (λ b c s t. BringsAll b c number brigades s ended.Succeeded t)
-unfolding by.BringsAll
-feeds_nothing device number host brigades none =
-    leads_still device host (λ b c s t. BringsAll b c number brigades s ended.Succeeded t) (λ b c s. subst (λ (bs : List (List Piece)). BringsAll b c number bs s ended.Succeeded s) (sym none) (refl, refl))
+pub few_wanted : (file len less : ℕ) → less < 2 ^ 64 → length (by.brigades_from file len 0 (less / 65536)) ≤ 2 ^ 48
+few_wanted file len less small =
+    let count = brigades_count file len 0 (less / 65536) in
+    let most = div-mul-le_self less 65536 in
+    omega (arith, count, most, small)

@@ -50,7 +50,8 @@ module _ {F : Type 0} (device : F → Device) (number : ℕ) (from old : Host F)
       leads_on device from old new (λ b c s t. Few b c number n s t) (λ b c s t. Answers b c number what s answer t) (λ b c s t. Few b c number n s t)
       (λ b c s m t x a. (let y = one_more b c number n what answer s m t own x a in (let bound = y.2 in (y.0, y.1, omega (arith, bound, none))))) so (by_event device old new number what answer h)
 
-  pub few_steps : (new : Host F) (more most : ℕ) (answer : Result Stepped Refusal) → more + 1 ≤ most → Refines device old new (λ b c s t. steps.StepsOn b c number more s answer t) → StepsAtMost device from number (n + most) new
+  pub few_steps : (new : Host F) (more most : ℕ) (answer : Result Stepped Refusal) → more + 1 ≤ most
+      → Refines device old new (λ b c s t. steps.StepsOn b c number more s answer t) → StepsAtMost device from number (n + most) new
   unfolding StepsAtMost
   few_steps new more most answer room h =
       leads_on device from old new (λ b c s t. Few b c number n s t) (λ b c s t. steps.StepsOn b c number more s answer t) (λ b c s t. Few b c number (n + most) s t)

@@ -1,6 +1,5 @@
 pub mod ServingLaws
 pub mod Stepped
-pub mod RunLaws
 pub mod FeedLaws
 pub mod RequestLaws
 pub mod ConnectLaws

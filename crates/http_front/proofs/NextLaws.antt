@@ -33,7 +33,8 @@ counts n k m few is = is ∙ min-eq_left (omega (arith, few))
 
 module _ {T : Type 0} where
   -- A step leaves less to be done.
-  pub step_less : (s : ServeStep) (c d : HttpConn T) → c.over ≡ false → c.wants ≡ false → Follows s c d → (is : (size : ℕ) → s ≡ step.Stays size → (0 < size) × (size ≤ length (unread c.inbox))) → to_do d < to_do c
+  pub step_less : (s : ServeStep) (c d : HttpConn T) → c.over ≡ false → c.wants ≡ false → Follows s c d
+      → (is : (size : ℕ) → s ≡ step.Stays size → (0 < size) × (size ≤ length (unread c.inbox))) → to_do d < to_do c
   step_less (step.Stays size) c d going ready f is =
       let some = is size refl in
       let left = ap length f.still ∙ length-drop size (unread c.inbox) in
@@ -56,7 +57,8 @@ module _ {T : Type 0} where
     nothing None = refl
     nothing (Some u) = absurd (never u.task)
 
-module _ {H K T : Type 0} (site : Site) (handles : H → Method → List ℕ → RequestOutcome → H → Type 0) (rests : H → T → RequestOutcome → H → Type 0) (tells : K → Said → K → Type 0) (never : T → ⊥) where
+module _ {H K T : Type 0} (site : Site) (handles : H → Method → List ℕ → RequestOutcome → H → Type 0) (rests : H → T → RequestOutcome → H → Type 0)
+    (tells : K → Said → K → Type 0) (never : T → ⊥) where
   -- a slice is a step, where nothing is ever under way
   pub slice_step : (hand : Option (UnderWay T)) (x : StepSlice T) (c d : HttpConn T) (seen : List ℕ) (whole : Bool) (mid new : H) (then after : K) (text : List ℕ)
       → StepsFrom site handles rests tells hand mid then seen whole x text new after → Lands x c d → (s : ServeStep) × DoesStep site handles tells mid then seen whole s text new after × Follows s c d
@@ -65,20 +67,23 @@ module _ {H K T : Type 0} (site : Site) (handles : H → Method → List ℕ →
   slice_step (Some u) x c d seen whole mid new then after text did lands = absurd (never u.task)
 
 module _ {H T : Type 0} (site : Site) (lacks : H → Method → List ℕ → FrontKind → H → Type 0) (lacks_rest : H → T → FrontKind → H → Type 0) (never : T → ⊥) where
-  pub slice_lacks : (hand : Option (UnderWay T)) (old new : H) (seen : List ℕ) (whole : Bool) (e : FrontKind) → LacksSlice site lacks lacks_rest hand old seen whole new e → LacksAnswer site lacks old seen whole new e
+  pub slice_lacks : (hand : Option (UnderWay T)) (old new : H) (seen : List ℕ) (whole : Bool) (e : FrontKind)
+      → LacksSlice site lacks lacks_rest hand old seen whole new e → LacksAnswer site lacks old seen whole new e
   slice_lacks None old new seen whole e lack = lack
   slice_lacks (Some u) old new seen whole e lack = absurd (never u.task)
 
 module _ {H K : Type 0} (site : Site) (handles : H → Method → List ℕ → RequestOutcome → H → Type 0) (tells : K → Said → K → Type 0) where
   -- the size of a request that is answered
-  pub stays_some : (s : ServeStep) (seen : List ℕ) (whole : Bool) (mid new : H) (then after : K) (text : List ℕ) → DoesStep site handles tells mid then seen whole s text new after → (size : ℕ) → s ≡ step.Stays size → (0 < size) × (size ≤ length seen)
+  pub stays_some : (s : ServeStep) (seen : List ℕ) (whole : Bool) (mid new : H) (then after : K) (text : List ℕ)
+      → DoesStep site handles tells mid then seen whole s text new after → (size : ℕ) → s ≡ step.Stays size → (0 < size) × (size ≤ length seen)
   stays_some s seen whole mid new then after text did size is =
       let x = subst (λ (y : ServeStep). DoesStep site handles tells mid then seen whole y text new after) is did in
       (x.some, x.fits)
 
   module _ {T : Type 0} (c d : HttpConn T) (mid new : H) (then after : K) (text : List ℕ) where
     -- more bytes are wanted
-    pub wants_more : (s : ServeStep) → c.wants ≡ false → DoesStep site handles tells mid then (unread c.inbox) c.whole s text new after → Follows s c d → d.wants ≡ true → (c.whole ≡ false) × WantsMore (unread d.inbox)
+    pub wants_more : (s : ServeStep) → c.wants ≡ false → DoesStep site handles tells mid then (unread c.inbox) c.whole s text new after → Follows s c d
+        → d.wants ≡ true → (c.whole ≡ false) × WantsMore (unread d.inbox)
     wants_more (step.Stays size) ready did f wants = absurd (cc)
     wants_more (step.Closes size) ready did f wants = absurd (cc)
     wants_more step.Refused ready did f wants = absurd (cc)
@@ -101,7 +106,8 @@ module _ {H K : Type 0} (site : Site) (handles : H → Method → List ℕ → R
 
     module _ (old : H) (before : K) (r q w v u : Option (List ℕ)) (so : SoFar site handles tells old before r q w v (unread c.inbox) c.requests mid then) (end : c.whole ≡ true → IsAtEnd q) where
       -- nothing is answered
-      still_far : (left : List ℕ) (m : ℕ) → new ≡ mid → after ≡ then → text ≡ [] → Appends v u text → left ≡ unread c.inbox → m ≡ c.requests → SoFar site handles tells old before r q w u left m new after
+      still_far : (left : List ℕ) (m : ℕ) → new ≡ mid → after ≡ then → text ≡ [] → Appends v u text → left ≡ unread c.inbox → m ≡ c.requests
+          → SoFar site handles tells old before r q w u left m new after
       still_far left m same clock none wrote still count =
           subst (λ (h : H). SoFar site handles tells old before r q w u left m h after) (sym same)
           (subst (λ (k : K). SoFar site handles tells old before r q w u left m mid k) (sym clock)
@@ -117,20 +123,26 @@ module _ {H K : Type 0} (site : Site) (handles : H → Method → List ℕ → R
           }))))
 
       -- all of the text is written
-      pub goes_well : (s : ServeStep) → c.requests + length (unread c.inbox) < 2 ^ 63 → DoesStep site handles tells mid then (unread c.inbox) c.whole s text new after → Follows s c d → Appends v u text
+      pub goes_well : (s : ServeStep) → c.requests + length (unread c.inbox) < 2 ^ 63
+          → DoesStep site handles tells mid then (unread c.inbox) c.whole s text new after → Follows s c d → Appends v u text
           → Standing site handles tells old before r q w u d.over (unread d.inbox) d.requests new after
       goes_well (step.Stays size) few did f wrote =
-          rw f.over (far_stays site handles tells old before r q w v u (unread c.inbox) (unread d.inbox) c.requests d.requests size mid new then after text so did wrote f.still (counts c.requests (length (unread c.inbox)) d.requests few f.counted))
+          rw f.over (far_stays site handles tells old before r q w v u (unread c.inbox) (unread d.inbox) c.requests d.requests size mid new then after text so did
+          wrote f.still (counts c.requests (length (unread c.inbox)) d.requests few f.counted))
       goes_well (step.Closes size) few did f wrote =
-          rw f.over (far_closes site handles tells old before r q w v u (unread c.inbox) c.requests d.requests size mid new then after text so did wrote (counts c.requests (length (unread c.inbox)) d.requests few f.counted))
+          rw f.over (far_closes site handles tells old before r q w v u (unread c.inbox) c.requests d.requests size mid new then after text so did wrote
+          (counts c.requests (length (unread c.inbox)) d.requests few f.counted))
       goes_well step.Refused few did f wrote =
-          rw f.over (far_refused site handles tells old before r q w v u (unread c.inbox) c.whole c.requests d.requests mid new then after text so end did wrote (counts c.requests (length (unread c.inbox)) d.requests few f.counted))
+          rw f.over (far_refused site handles tells old before r q w v u (unread c.inbox) c.whole c.requests d.requests mid new then after text so end did wrote
+          (counts c.requests (length (unread c.inbox)) d.requests few f.counted))
       goes_well step.More few did f wrote = rw f.over (still_far (unread d.inbox) d.requests did.2.same did.2.still did.2.none wrote f.still f.counted)
       goes_well step.Done few did f wrote =
-          rw f.over (far_done site handles tells old before r q w u (unread d.inbox) d.requests new after (still_far (unread d.inbox) d.requests did.2.same did.2.still did.2.none wrote f.still f.counted) (f.still ∙ did.1) (end did.0))
+          rw f.over (far_done site handles tells old before r q w u (unread d.inbox) d.requests new after
+          (still_far (unread d.inbox) d.requests did.2.same did.2.still did.2.none wrote f.still f.counted) (f.still ∙ did.1) (end did.0))
 
       -- a front of it is
-      pub goes_cut : (s : ServeStep) → DoesStep site handles tells mid then (unread c.inbox) c.whole s text new after → AppendsFront v u text → Writes r w u (λ stream text. IsCut site handles tells old before stream text new after)
+      pub goes_cut : (s : ServeStep) → DoesStep site handles tells mid then (unread c.inbox) c.whole s text new after → AppendsFront v u text
+          → Writes r w u (λ stream text. IsCut site handles tells old before stream text new after)
       goes_cut (step.Stays size) did (k, below, wrote) = cut_stays site handles tells old before r q w v u (unread c.inbox) c.requests size k mid new then after text so did below wrote
       goes_cut (step.Closes size) did (k, below, wrote) = cut_closes site handles tells old before r q w v u (unread c.inbox) c.requests size k mid new then after text so did below wrote
       goes_cut step.Refused did (k, below, wrote) = cut_refused site handles tells old before r q w v u (unread c.inbox) c.whole c.requests k mid new then after text so end did below wrote
@@ -138,9 +150,11 @@ module _ {H K : Type 0} (site : Site) (handles : H → Method → List ℕ → R
       goes_cut step.Done did (k, below, wrote) = let none = ap length did.2.none in absurd (omega (arith, below, none))
 
       -- it is put so; put: the connection once it is
-      pub goes_put : {A : Type 0} (lacks : H → Method → List ℕ → FrontKind → H → Type 0) (put : HttpConn T) (s : ServeStep) (result : Result A FrontKind) → c.requests + length (unread c.inbox) < 2 ^ 63
+      pub goes_put : {A : Type 0} (lacks : H → Method → List ℕ → FrontKind → H → Type 0) (put : HttpConn T) (s : ServeStep) (result : Result A FrontKind)
+          → c.requests + length (unread c.inbox) < 2 ^ 63
           → DoesStep site handles tells mid then (unread c.inbox) c.whole s text new after → Follows s c d → put.over ≡ d.over → put.inbox ≡ d.inbox → put.requests ≡ d.requests
-          → IfOk result (λ x. Appends v u text) → IfErr result (λ e. IsSinkKind e × AppendsFront v u text) → Goes site handles tells lacks old before r q w u put.over (unread put.inbox) put.requests new after result
+          → IfOk result (λ x. Appends v u text) → IfErr result (λ e. IsSinkKind e × AppendsFront v u text)
+          → Goes site handles tells lacks old before r q w u put.over (unread put.inbox) put.requests new after result
       goes_put lacks put s (Ok x) few did f over inbox count wrote failed = rw (over, inbox, count) (goes_well s few did f wrote)
       goes_put lacks put s (Err e) few did f over inbox count wrote failed = cut_by site handles tells lacks old before r q w u new after e failed.0 (goes_cut s did failed.1)
 
@@ -149,7 +163,8 @@ module _ {A T : Type 0} (r : Result A FrontKind) (c d put : HttpConn T) (over : 
   pub less_put : to_do d < to_do c → OnOk r (to_do put < to_do c)
   less_put less = on_ok r (rw (over, wants, inbox) less)
 
-  pub few_put : (d.over ≡ false → d.requests + length (unread d.inbox) ≤ c.requests + length (unread c.inbox)) → OnOk r (put.over ≡ false → put.requests + length (unread put.inbox) ≤ c.requests + length (unread c.inbox))
+  pub few_put : (d.over ≡ false → d.requests + length (unread d.inbox) ≤ c.requests + length (unread c.inbox))
+      → OnOk r (put.over ≡ false → put.requests + length (unread put.inbox) ≤ c.requests + length (unread c.inbox))
   few_put few = on_ok r (λ going. rw (inbox, count) (few (sym over ∙ going)))
 
   pub wants_put : (d.wants ≡ true → (c.whole ≡ false) × WantsMore (unread d.inbox)) → OnOk r (put.wants ≡ true → (c.whole ≡ false) × WantsMore (unread put.inbox))

@@ -1,23 +1,53 @@
--- A request is handled, event by event.
-use Rattle.std.proofs.Common.{◌≡◌, ℕ, List, Option, Some, None, Result, Ok, Err, IfOk, refl, sym, subst}
+-- Calls that run to their end, and how a request ends.
+use Rattle.std.proofs.Common.{◌≡◌, ℕ, List, [], Option, Some, None, Result, Ok, Err, IfOk, refl, sym, subst}
+use Rattle.module_code.specs.Program.{Program}
+use Rattle.run_model.specs.declared.event.Event.{Event}
 use Rattle.run_model.specs.declared.event.Event.TheVariants as event
 use Rattle.run_model.specs.declared.event.Refusal.{Refusal}
-use Rattle.run_model.specs.Worlds.{Done, Opened, Output, Refused}
+use Rattle.run_model.specs.declared.event.Stepped.{Stepped}
+use Rattle.run_model.specs.Worlds.{Answer, Output, Refused}
 use Rattle.bucket_kinds.specs.Device.{Device}
 use Rattle.filter_chain.specs.declared.host.Host.{Host}
-use Rattle.filter_chain.specs.HostViews.{Answers}
+use Rattle.filter_chain.specs.HostViews.{HostView, Answers}
+use Rattle.filter_chain.specs.Led.{Transition}
+use Rattle.filter_chain.specs.Running as steps
 use Rattle.http_message.specs.declared.failure.Failure.{Failure}
 use Rattle.http_message.specs.declared.failure.Failure.TheVariants as failure
-use Rattle.http_message.specs.declared.reply.Method.{Method}
 use Rattle.http_message.specs.declared.status.StatusCode.TheVariants.{Success}
+use Rattle.http_front.specs.Among.{Acts, EndsBareIn, EndsIn, EndsWithOutputIn, FinishesIn, MakesSlice, Slices, TakesOutputIn, Way, Whole, alone, among}
+use Rattle.http_front.specs.Driven.{GoesByOthers, Refines}
 use Rattle.http_front.specs.Outcomes.{IsUnserved}
+use Rattle.http_front.specs.Requests.{EndsRequest, RunsCall, TakesOutput, ended_of}
 use Rattle.http_front.specs.declared.fault.FrontKind.{FrontKind}
 use Rattle.http_front.specs.declared.handler.RequestOutcome.{RequestOutcome}
-use Rattle.http_front.specs.Driven.{Refines}
-use Rattle.http_front.specs.Requests.{BringsAll, ComesOf, EndsBare, EndsRequest, EndsWithOutput, Feeds, Finishes, IfSucceeded, Inits, OpensAndFeeds, OpensUnless, RunsCall, TakesOutput, brigades_for, lack_of, unopened}
+use Rattle.http_front.specs.declared.handler.Slice.{Slice}
+use Rattle.http_front.specs.declared.handler.Slice.TheVariants as slice
 use Rattle.http_front.specs.declared.running.CallEnd.{CallEnd}
 use Rattle.http_front.specs.declared.running.CallEnd.TheVariants as ended
-use Rattle.filter_chain.proofs.Driving.{Happened, by_event, leads_as, leads_on, leads_ok}
+use Rattle.http_front.specs.declared.task.RequestTask.{RequestTask}
+use Rattle.filter_chain.proofs.Driving.{Happened, by_event, leads_any, leads_as, leads_on}
+
+-- A call runs, and it is told how it ended.
+pub runs_told : {F : Type 0} (device : F → Device) (number : ℕ) (old new : Host F) (answer : Result Stepped Refusal) (how : CallEnd) → how ≡ ended_of answer
+    → Refines device old new (λ b c s t. steps.StepsToEnd b c number s answer t) → Refines device old new (λ b c s t. RunsCall b c number s how t)
+runs_told device number old new answer how told =
+    leads_as device old new (λ b c s t. steps.StepsToEnd b c number s answer t) (λ b c s t. RunsCall b c number s how t)
+    (λ b c s t x. record { answer = answer; runs = x; told = told })
+
+-- What happens with nothing of others before it happens so among others, too.
+
+pub now_acts : (way : Way) (b : ℕ) (c : List Program) (number : ℕ) (what : Event) (answer : Answer) (s t : HostView)
+    → Answers b c number what s answer t → Acts way b c number what s answer t
+unfolding GoesByOthers
+now_acts alone b c number what answer s t a = a
+now_acts among b c number what answer s t a = (s, ([], refl), a)
+
+module _ (way : Way) (b : ℕ) (c : List Program) (number : ℕ) where
+  ends_now : (s t : HostView) → EndsRequest b c number s t → EndsIn way b c number s t
+  ends_now s t e = record { answer = e.answer; acts = now_acts way b c number event.End _ s t e.acts; lacks = e.lacks }
+
+  takes_now : (s : HostView) (o : RequestOutcome) (t : HostView) → TakesOutput b c number s o t → TakesOutputIn way b c number s o t
+  takes_now s o t x = record { answer = x.answer; acts = now_acts way b c number event.TakeOutput _ s t x.acts; gives = x.gives }
 
 module _ {F : Type 0} (device : F → Device) (number : ℕ) where
   module _ (old new : Host F) where
@@ -33,61 +63,37 @@ module _ {F : Type 0} (device : F → Device) (number : ℕ) where
         leads_as device old new (λ b c s t. Answers b c number event.TakeOutput s (Refused why) t) (λ b c s t. TakesOutput b c number s o t)
         (λ b c s t a. record { answer = Err why; acts = a; gives = bare }) (by_event device old new number event.TakeOutput (Refused why) h)
 
-    -- `init` succeeded.
-    pub opened_unless : (r : Result RequestOutcome FrontKind) (init : CallEnd) (method : Method) (name : List ℕ) → init ≡ ended.Succeeded → Refines device old new (λ b c s t. IfOk r (λ o. OpensAndFeeds b c number init method name s o t))
-        → Refines device old new (λ b c s t. IfOk r (λ o. OpensUnless b c number init method name s o t))
-    opened_unless r init method name is h =
-        subst (λ (i : CallEnd). Refines device old new (λ b c s t. IfOk r (λ o. OpensUnless b c number i method name s o t))) (sym is)
-        (subst (λ (i : CallEnd). Refines device old new (λ b c s t. IfOk r (λ o. OpensAndFeeds b c number i method name s o t))) is h)
+    pub bare_finished : (why : Option Failure) (o : RequestOutcome) → IsUnserved why o → Refines device old new (λ b c s t. EndsRequest b c number s t)
+        → MakesSlice device number (λ way b c. EndsBareIn way b c number why) old (Ok (slice.Done o)) new
+    bare_finished why o bare h way =
+        leads_as device old new (λ b c s t. EndsRequest b c number s t) (λ b c s t. EndsBareIn way b c number why s o t)
+        (λ b c s t e. (bare, ends_now way b c number s t e)) h
 
-    pub bare_finished : (status : Option Failure) (o : RequestOutcome) → IsUnserved status o → Refines device old new (λ b c s t. EndsRequest b c number s t) → Refines device old new (λ b c s t. EndsBare b c number status s o t)
-    bare_finished status o bare = leads_as device old new (λ b c s t. EndsRequest b c number s t) (λ b c s t. EndsBare b c number status s o t) (λ b c s t e. (bare, e))
+    -- something lacked
+    pub lacked : (all : Whole) (first : Transition) (r : Result (Slice RequestTask) FrontKind) (e : FrontKind) → r ≡ Err e → Refines device old new first
+        → MakesSlice device number all old r new
+    lacked all first r e is h way =
+        subst (λ (x : Result (Slice RequestTask) FrontKind). Refines device old new (λ b c s t. IfOk x (λ y. Slices way b c number (all way b c) s y t))) (sym is)
+        (leads_any device old new first h)
+
+    -- by how the last call ended
+    pub finished : (r : Result (Slice RequestTask) FrontKind) (how is : CallEnd) → how ≡ is
+        → MakesSlice device number (λ way b c. FinishesIn way b c number is) old r new → MakesSlice device number (λ way b c. FinishesIn way b c number how) old r new
+    finished r how is same h = subst (λ (e : CallEnd). MakesSlice device number (λ way b c. FinishesIn way b c number e) old r new) (sym same) h
 
   module _ (old mid new : Host F) where
     pub output_finished : (o : RequestOutcome) → Refines device old mid (λ b c s t. TakesOutput b c number s o t) → Refines device mid new (λ b c s t. EndsRequest b c number s t)
-        → Refines device old new (λ b c s t. EndsWithOutput b c number s o t)
-    output_finished o = leads_on device old mid new (λ b c s t. TakesOutput b c number s o t) (λ b c s t. EndsRequest b c number s t) (λ b c s t. EndsWithOutput b c number s o t)
-        (λ b c s m t x y. (m, x, y))
+        → MakesSlice device number (λ way b c. EndsWithOutputIn way b c number) old (Ok (slice.Done o)) new
+    output_finished o h k way =
+        leads_on device old mid new (λ b c s t. TakesOutput b c number s o t) (λ b c s t. EndsRequest b c number s t) (λ b c s t. EndsWithOutputIn way b c number s o t)
+        (λ b c s m t x y. (m, takes_now way b c number s o m x, ends_now way b c number m t y)) h k
 
-    pub output_unfinished : (o : RequestOutcome) (r : Result RequestOutcome FrontKind) (e : FrontKind) → r ≡ Err e → Refines device old mid (λ b c s t. TakesOutput b c number s o t) → Refines device mid new (λ b c s t. Unit {0})
-        → Refines device old new (λ b c s t. IfOk r (λ o. EndsWithOutput b c number s o t))
-    output_unfinished o r e is h k =
-        subst (λ (x : Result RequestOutcome FrontKind). Refines device old new (λ b c s t. IfOk x (λ o. EndsWithOutput b c number s o t))) (sym is)
-        (leads_on device old mid new (λ b c s t. TakesOutput b c number s o t) (λ b c s t. Unit {0}) (λ b c s t. Unit {0}) (λ b c s m t x y. tt) h k)
+    output_unfinished : (o : RequestOutcome) → Refines device old mid (λ b c s t. TakesOutput b c number s o t) → Refines device mid new (λ b c s t. Unit {0})
+        → Refines device old new (λ b c s t. Unit {0})
+    output_unfinished o =
+        leads_on device old mid new (λ b c s t. TakesOutput b c number s o t) (λ b c s t. Unit {0}) (λ b c s t. Unit {0}) (λ b c s m t x y. tt)
 
-    module _ (r : Result RequestOutcome FrontKind) where
-      pub fed : (init how : CallEnd) (method : Method) (file : ℕ × ℕ) → Refines device old mid (λ b c s t. IfSucceeded init (BringsAll b c number (brigades_for method file) s how t) ((how ≡ init) × (t ≡ s)))
-          → Refines device mid new (λ b c s t. IfOk r (λ o. Finishes b c number how s o t)) → Refines device old new (λ b c s t. IfOk r (λ o. Feeds b c number init method file s o t))
-      fed init how method file = leads_ok device r old mid new (λ b c s t. IfSucceeded init (BringsAll b c number (brigades_for method file) s how t) ((how ≡ init) × (t ≡ s)))
-          (λ o b c s t. Finishes b c number how s o t) (λ o b c s t. Feeds b c number init method file s o t) (λ o b c s m t x y. record { how = how; mid = m; brings = x; finishes = y })
-
-      pub opened : (init : CallEnd) (method : Method) (name : List ℕ) (file : ℕ × ℕ) → Happened device old mid number (event.OpenFile name) (Opened file.0 file.1)
-          → Refines device mid new (λ b c s t. IfOk r (λ o. Feeds b c number init method file s o t)) → Refines device old new (λ b c s t. IfOk r (λ o. OpensAndFeeds b c number init method name s o t))
-      opened init method name file h = leads_ok device r old mid new (λ b c s t. Answers b c number (event.OpenFile name) s (Opened file.0 file.1) t)
-          (λ o b c s t. Feeds b c number init method file s o t) (λ o b c s t. OpensAndFeeds b c number init method name s o t)
-          (λ o b c s m t x y. record { answer = Ok file; mid = m; acts = x; feeds = y }) (by_event device old mid number (event.OpenFile name) (Opened file.0 file.1) h)
-
-      pub open_refused : (init : CallEnd) (method : Method) (name : List ℕ) (why : Refusal) (status : Option Failure) → status ≡ unopened why → lack_of why ≡ None → Happened device old mid number (event.OpenFile name) (Refused why)
-          → Refines device mid new (λ b c s t. IfOk r (λ o. EndsBare b c number status s o t)) → Refines device old new (λ b c s t. IfOk r (λ o. OpensAndFeeds b c number init method name s o t))
-      open_refused init method name why status is well h ends = leads_ok device r old mid new (λ b c s t. Answers b c number (event.OpenFile name) s (Refused why) t)
-          (λ o b c s t. EndsBare b c number (unopened why) s o t) (λ o b c s t. OpensAndFeeds b c number init method name s o t)
-          (λ o b c s m t x y. record { answer = Err why; mid = m; acts = x; feeds = (well, y) }) (by_event device old mid number (event.OpenFile name) (Refused why) h)
-          (subst (λ (x : Option Failure). Refines device mid new (λ b c s t. IfOk r (λ o. EndsBare b c number x s o t))) is ends)
-
-      pub inited : (init : CallEnd) (method : Method) (name : List ℕ) → Refines device old mid (λ b c s t. RunsCall b c number s init t)
-          → Refines device mid new (λ b c s t. IfOk r (λ o. OpensUnless b c number init method name s o t)) → Refines device old new (λ b c s t. IfOk r (λ o. Inits b c number method name s o t))
-      inited init method name = leads_ok device r old mid new (λ b c s t. RunsCall b c number s init t)
-          (λ o b c s t. OpensUnless b c number init method name s o t) (λ o b c s t. Inits b c number method name s o t)
-          (λ o b c s m t x y. record { init = init; mid = m; runs = x; opens = y })
-
-      pub begun : (method : Method) (name : List ℕ) → Happened device old mid number event.Begin Done
-          → Refines device mid new (λ b c s t. IfOk r (λ o. Inits b c number method name s o t)) → Refines device old new (λ b c s t. IfOk r (λ o. ComesOf b c number method name s o t))
-      begun method name h = leads_ok device r old mid new (λ b c s t. Answers b c number event.Begin s Done t)
-          (λ o b c s t. Inits b c number method name s o t) (λ o b c s t. ComesOf b c number method name s o t)
-          (λ o b c s m t x y. record { answer = None; mid = m; acts = x; inits = y }) (by_event device old mid number event.Begin Done h)
-
-  pub begin_refused : (old new : Host F) (method : Method) (name : List ℕ) (why : Refusal) (o : RequestOutcome) → lack_of why ≡ None → IsUnserved (Some (failure.Refused why)) o → Happened device old new number event.Begin (Refused why)
-      → Refines device old new (λ b c s t. ComesOf b c number method name s o t)
-  begin_refused old new method name why o well bare h =
-      leads_as device old new (λ b c s t. Answers b c number event.Begin s (Refused why) t) (λ b c s t. ComesOf b c number method name s o t)
-      (λ b c s t a. record { answer = Some why; mid = t; acts = a; inits = (well, bare, refl) }) (by_event device old new number event.Begin (Refused why) h)
+    pub output_lacked : (o : RequestOutcome) (r : Result (Slice RequestTask) FrontKind) (e : FrontKind) → r ≡ Err e
+        → Refines device old mid (λ b c s t. TakesOutput b c number s o t) → Refines device mid new (λ b c s t. Unit {0})
+        → MakesSlice device number (λ way b c. EndsWithOutputIn way b c number) old r new
+    output_lacked o r e is h k = lacked old new (λ way b c. EndsWithOutputIn way b c number) (λ b c s t. Unit {0}) r e is (output_unfinished o h k)

@@ -24,7 +24,8 @@ use Rattle.http_message.specs.declared.status.StatusCode.{StatusCode}
 use Rattle.http_message.proofs.SitePaths.{path-utf8}
 use Rattle.http_front.specs.Outcomes.{file_of}
 use Rattle.http_front.specs.declared.handler.RequestOutcome.{RequestOutcome}
-use Rattle.http_front.specs.Rows.{Http10, HttpBadHead, HttpConnectionOption, HttpEmptyFile, HttpFailing, HttpGet, HttpGetAbsolute, HttpHead, HttpLargeFile, HttpManyFields, HttpMethods, HttpMissing, HttpRequestBody, RepliesAreThese, bad_reply, bare, failed, host, line, many, reply_of}
+use Rattle.http_front.specs.Rows.{Http10, HttpBadHead, HttpConnectionOption, HttpEmptyFile, HttpFailing, HttpGet, HttpGetAbsolute, HttpHead, HttpLargeFile}
+use Rattle.http_front.specs.Rows.{HttpManyFields, HttpMethods, HttpMissing, HttpRequestBody, RepliesAreThese, bad_reply, bare, failed, host, line, many, reply_of}
 use Rattle.http_front.specs.Turns.{fields_limit, head_limit}
 
 -- replies with the same parts
@@ -69,7 +70,8 @@ replies_are_these = record {
 }
 
 pub http_get : HttpGet
-unfolding digits print_request refusal field_refusal hosts_fit is_bad_length has_content method_refusal target_path head_closes closes elements eq_ignore_case trim_ows file_of percent_decode reply_text opening middle closing head_text
+unfolding digits print_request refusal field_refusal hosts_fit is_bad_length has_content method_refusal target_path head_closes closes elements eq_ignore_case
+    trim_ows file_of percent_decode reply_text opening middle closing head_text
 http_get = record { sent = refl; asks = (refl, refl, refl); file = λ site. refl; answered = (refl, refl) }
 
 pub http_get_absolute : HttpGetAbsolute
@@ -77,11 +79,13 @@ unfolding print_request refusal field_refusal hosts_fit is_bad_length has_conten
 http_get_absolute = record { sent = refl; asks = (refl, refl, refl); decoded = refl; file = λ site. refl; reply = λ o. refl }
 
 pub http_head : HttpHead
-unfolding print_request refusal field_refusal hosts_fit is_bad_length has_content method_refusal target_path head_closes closes elements eq_ignore_case trim_ows reply_text opening middle closing head_text
+unfolding print_request refusal field_refusal hosts_fit is_bad_length has_content method_refusal target_path head_closes closes elements eq_ignore_case trim_ows
+    reply_text opening middle closing head_text
 http_head = record { sent = refl; asks = (refl, refl, refl); method = refl; answered = (refl, refl) }
 
 pub http_bad_head : HttpBadHead
-unfolding print_request refusal field_refusal hosts_fit is_bad_length has_content method_refusal target_path head_closes closes elements eq_ignore_case trim_ows reply_text opening middle closing head_text
+unfolding print_request refusal field_refusal hosts_fit is_bad_length has_content method_refusal target_path head_closes closes elements eq_ignore_case trim_ows
+    reply_text opening middle closing head_text
 http_bad_head = record { sent = refl; asks = (refl, refl, refl); answered = (refl, refl) }
 
 field : (f : Field) → IsField f → (n : ℕ) (g : Field) → IsField g → All IsField (f ∷ replicate n g)
@@ -113,7 +117,8 @@ too_many limit room h is over k rest begins =
     absurd (omega (arith, over, fits))
 
 pub http_many_fields : HttpManyFields
-unfolding print_request refusal field_refusal hosts_fit is_bad_length has_content method_refusal target_path head_closes closes elements eq_ignore_case trim_ows reply_text opening middle closing head_text
+unfolding print_request refusal field_refusal hosts_fit is_bad_length has_content method_refusal target_path head_closes closes elements eq_ignore_case trim_ows
+    reply_text opening middle closing head_text
 http_many_fields = record {
   within = record { size = lit≤ tt; count = lit≤ tt };
   asks = (refl, refl, refl);
@@ -123,7 +128,8 @@ http_many_fields = record {
 }
 
 pub http_1_0 : Http10
-unfolding digits print_request refusal field_refusal hosts_fit is_bad_length has_content method_refusal target_path head_closes closes elements eq_ignore_case trim_ows reply_text opening middle closing head_text
+unfolding digits print_request refusal field_refusal hosts_fit is_bad_length has_content method_refusal target_path head_closes closes elements eq_ignore_case
+    trim_ows reply_text opening middle closing head_text
 http_1_0 = record { sent = refl; asks = (refl, refl, refl); answered = (refl, refl) }
 
 pub http_methods : HttpMethods
@@ -131,7 +137,8 @@ unfolding refusal field_refusal hosts_fit is_bad_length has_content method_refus
 http_methods = record { post_asks = (refl, refl, refl); post_answered = (refl, refl); brew_asks = (refl, refl, refl); brew_answered = (refl, refl) }
 
 pub http_missing : HttpMissing
-unfolding refusal field_refusal hosts_fit is_bad_length has_content method_refusal target_path head_closes closes elements eq_ignore_case trim_ows file_of percent_decode reply_text opening middle closing head_text
+unfolding refusal field_refusal hosts_fit is_bad_length has_content method_refusal target_path head_closes closes elements eq_ignore_case trim_ows file_of
+    percent_decode reply_text opening middle closing head_text
 http_missing = record { asks = (refl, refl, refl); file = λ site. refl; answered = (refl, refl) }
 
 pub http_failing : HttpFailing

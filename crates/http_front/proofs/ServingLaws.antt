@@ -13,7 +13,8 @@ use Rattle.http_message.specs.declared.site.Site.{Site}
 use Rattle.http_front.specs.declared.fault.FrontKind.{FrontKind}
 use Rattle.http_front.specs.declared.fault.FrontKind.TheVariants as kind
 use Rattle.http_front.specs.declared.handler.RequestOutcome.{RequestOutcome}
-use Rattle.http_front.specs.Turns.{Turn, AllStay, AnswersRequest, AnswersAll, AnswersRequestsRead, SendsBad, WantsMore, heads_of, texts_of, head_limit, fields_limit, ClosesAfter, RefusesAfter, IsDue, IsResponsesFront, IsCut, IsNext, LacksAt, LacksFile, LacksMemory}
+use Rattle.http_front.specs.Turns.{Turn, AllStay, AnswersRequest, AnswersAll, AnswersRequestsRead, SendsBad, WantsMore, heads_of, texts_of, head_limit}
+use Rattle.http_front.specs.Turns.{fields_limit, ClosesAfter, RefusesAfter, IsDue, IsResponsesFront, IsCut, IsNext, LacksAt, LacksFile, LacksMemory}
 use Rattle.http_front.specs.Stepping.{LacksAnswer, ServesRequest, WantsAnswer}
 use Rattle.http_front.specs.Serving.{Writes, SoFar, EndsWell, FailsBy, IsSinkKind}
 
@@ -91,7 +92,9 @@ module _ {H K : Type 0} (site : Site) (handles : H → Method → List ℕ → R
       → Appends v u text → left ≡ drop size unread → m ≡ n + 1 → Far old before r q w u left m new after
   far_stays old before r q w v u unread left n m size mid new then after text so serves wrote skipped more =
       let t = serves.turn in
-      let took : heads_of so.turns ++ unread ≡ heads_of (so.turns ++ t ∷ []) ++ left = ap (λ l. heads_of so.turns ++ l) (serves.begins.reads.1 ∙ ap (λ l. print_request t.head ++ l) (sym skipped)) ∙ sym (append_assoc (heads_of so.turns) (print_request t.head) left) ∙ ap (λ l. l ++ left) (sym (heads_more so.turns t)) in
+      let took : heads_of so.turns ++ unread ≡ heads_of (so.turns ++ t ∷ []) ++ left = ap (λ l. heads_of so.turns ++ l)
+      (serves.begins.reads.1 ∙ ap (λ l. print_request t.head ++ l) (sym skipped)) ∙ sym (append_assoc (heads_of so.turns) (print_request t.head) left)
+      ∙ ap (λ l. l ++ left) (sym (heads_more so.turns t)) in
       record {
         turns = so.turns ++ t ∷ [];
         stay = stay_more so.turns t so.stay serves.goes_on;
@@ -160,7 +163,8 @@ module _ {H K : Type 0} (site : Site) (handles : H → Method → List ℕ → R
 
   -- Memory is lacking for bytes that were read.
   pub far_loses_read : (old : H) (before : K) (r q p w v : Option (List ℕ)) (unread lost : List ℕ) (n : ℕ) (new : H) (after : K)
-      → Far old before r q w v unread n new after → WantsMore unread → ¬ (lost ≡ []) → length lost ≤ 8192 → Consumes q p lost → Writes r w v (λ stream text. LacksMemory site handles tells old before stream text p new after)
+      → Far old before r q w v unread n new after → WantsMore unread → ¬ (lost ≡ []) → length lost ≤ 8192 → Consumes q p lost
+      → Writes r w v (λ stream text. LacksMemory site handles tells old before stream text p new after)
   far_loses_read old before None q p w v unread lost n new after so wants some few took = tt
   far_loses_read old before (Some stream) q p w v unread lost n new after so wants some few took =
       let left = left_of stream (heads_of so.turns ++ unread) q so.took in
@@ -188,7 +192,8 @@ module _ {H K : Type 0} (site : Site) (handles : H → Method → List ℕ → R
   far_done old before None q w v unread n new after so none end = tt
   far_done old before (Some stream) q w v unread n new after so none end =
       let left = left_of stream (heads_of so.turns ++ unread) q so.took in
-      let all : stream ≡ heads_of so.turns = left.2 ∙ ap (λ l. (heads_of so.turns ++ unread) ++ l) (at_end q left.0 left.1 end) ∙ append-nil (heads_of so.turns ++ unread) ∙ ap (λ l. heads_of so.turns ++ l) none ∙ append-nil (heads_of so.turns) in
+      let all : stream ≡ heads_of so.turns = left.2 ∙ ap (λ l. (heads_of so.turns ++ unread) ++ l) (at_end q left.0 left.1 end)
+      ∙ append-nil (heads_of so.turns ++ unread) ∙ ap (λ l. heads_of so.turns ++ l) none ∙ append-nil (heads_of so.turns) in
       (texts_of so.turns, inl (record { turns = so.turns; stay = so.stay; answers = so.answers; requests = all; written = refl; count = so.count }), so.wrote)
 
   -- A request is answered, and the connection closes.
@@ -198,7 +203,8 @@ module _ {H K : Type 0} (site : Site) (handles : H → Method → List ℕ → R
   closed old before stream q w v unread n m size mid new then after text so serves more =
       let t = serves.turn in
       let left = left_of stream (heads_of so.turns ++ unread) q so.took in
-      let one : heads_of so.turns ++ unread ≡ heads_of (so.turns ++ t ∷ []) ++ drop size unread = ap (λ l. heads_of so.turns ++ l) serves.begins.reads.1 ∙ sym (append_assoc (heads_of so.turns) (print_request t.head) (drop size unread)) ∙ ap (λ l. l ++ drop size unread) (sym (heads_more so.turns t)) in
+      let one : heads_of so.turns ++ unread ≡ heads_of (so.turns ++ t ∷ []) ++ drop size unread = ap (λ l. heads_of so.turns ++ l) serves.begins.reads.1
+      ∙ sym (append_assoc (heads_of so.turns) (print_request t.head) (drop size unread)) ∙ ap (λ l. l ++ drop size unread) (sym (heads_more so.turns t)) in
       record {
         turns = so.turns;
         last = t;
@@ -255,7 +261,8 @@ module _ {H K : Type 0} (site : Site) (handles : H → Method → List ℕ → R
 
   -- The writer failed: a front of the response is written.
 
-  unwritten : (old : H) (before : K) (r q w v : Option (List ℕ)) (unread : List ℕ) (n : ℕ) (new : H) (after : K) → Far old before r q w v unread n new after → Far old before r q None None unread n new after
+  unwritten : (old : H) (before : K) (r q w v : Option (List ℕ)) (unread : List ℕ) (n : ℕ) (new : H) (after : K) → Far old before r q w v unread n new after
+      → Far old before r q None None unread n new after
   unwritten old before r q w v unread n new after so = record { turns = so.turns; stay = so.stay; answers = so.answers; count = so.count; took = so.took; wrote = tt }
 
   -- A part of a response is written.
@@ -287,7 +294,8 @@ module _ {H K : Type 0} (site : Site) (handles : H → Method → List ℕ → R
       let next = far_stays old before (Some stream) q None None None unread (drop size unread) n (n + 1) size mid new then after text bare serves tt refl refl in
       let all : texts_of next.turns ≡ texts_of so.turns ++ text = texts_more so.turns serves.turn ∙ ap (λ l. texts_of so.turns ++ l) (sym serves.written) in
       cut_of old before q w v u stream unread n k mid new then after text so
-      (subst (λ l. IsNext site handles tells old before stream l (n + 1) new after) all (inl (front_of old before stream q None None (drop size unread) (n + 1) new after next, refl, refl, refl))) few wrote
+      (subst (λ l. IsNext site handles tells old before stream l (n + 1) new after) all
+      (inl (front_of old before stream q None None (drop size unread) (n + 1) new after next, refl, refl, refl))) few wrote
 
   pub cut_closes : (old : H) (before : K) (r q w v u : Option (List ℕ)) (unread : List ℕ) (n size k : ℕ) (mid new : H) (then after : K) (text : List ℕ)
       → Far old before r q w v unread n mid then → ServesRequest site handles tells mid then unread true size text new after
@@ -307,7 +315,9 @@ module _ {H K : Type 0} (site : Site) (handles : H → Method → List ℕ → R
 
   -- Memory or names are lacking, as the kind of the fault says.
   module _ (lacks : H → Method → List ℕ → FrontKind → H → Type 0) where
-    lack_memory : (r q w v : Option (List ℕ)) (old : H) (before : K) (new : H) (after : K) → Writes r w v (λ stream text. LacksAt site handles tells (λ mid. IsDue) old before stream text q) → Writes r w v (λ stream text. LacksMemory site handles tells old before stream text q new after)
+    lack_memory : (r q w v : Option (List ℕ)) (old : H) (before : K) (new : H) (after : K)
+        → Writes r w v (λ stream text. LacksAt site handles tells (λ mid. IsDue) old before stream text q)
+        → Writes r w v (λ stream text. LacksMemory site handles tells old before stream text q new after)
     lack_memory None q w v old before new after h = tt
     lack_memory (Some stream) q w v old before new after h = (h.0, inl h.1, h.2)
 
@@ -322,10 +332,12 @@ module _ {H K : Type 0} (site : Site) (handles : H → Method → List ℕ → R
     far_lacks_by old before r q w v unread whole n mid new then after kind.TooManyReads so end lack = absurd lack
 
     -- The sink fails, or lacks memory.
-    cut_lacks : (r q w v : Option (List ℕ)) (old : H) (before : K) (new : H) (after : K) → Writes r w v (λ stream text. IsCut site handles tells old before stream text new after) → Writes r w v (λ stream text. LacksMemory site handles tells old before stream text q new after)
+    cut_lacks : (r q w v : Option (List ℕ)) (old : H) (before : K) (new : H) (after : K)
+        → Writes r w v (λ stream text. IsCut site handles tells old before stream text new after) → Writes r w v (λ stream text. LacksMemory site handles tells old before stream text q new after)
     cut_lacks None q w v old before new after h = tt
     cut_lacks (Some stream) q w v old before new after h = (h.0, inr (inr h.1), h.2)
 
-    pub cut_by : (old : H) (before : K) (r q w v : Option (List ℕ)) (new : H) (after : K) (e : FrontKind) → IsSinkKind e → Writes r w v (λ stream text. IsCut site handles tells old before stream text new after) → FailsBy site handles tells lacks old before r q w v new after e
+    pub cut_by : (old : H) (before : K) (r q w v : Option (List ℕ)) (new : H) (after : K) (e : FrontKind) → IsSinkKind e
+        → Writes r w v (λ stream text. IsCut site handles tells old before stream text new after) → FailsBy site handles tells lacks old before r q w v new after e
     cut_by old before r q w v new after e (inl write) cut = subst (FailsBy site handles tells lacks old before r q w v new after) (sym write) cut
     cut_by old before r q w v new after e (inr memory) cut = subst (FailsBy site handles tells lacks old before r q w v new after) (sym memory) (cut_lacks r q w v old before new after cut)

@@ -39,21 +39,36 @@ module _ {K : Type 0} (tells : K → Said → K → Type 0) where
 -- What is answered now is answered behind what belongs to others.
 module _ {H K : Type 0} (site : Site) (among : H → Method → List ℕ → RequestOutcome → H → Type 0) (tells : K → Said → K → Type 0) (apart : H → H → Type 0) (same : (h : H) → apart h h)
     (later : (mid now new : H) (method : Method) (file : List ℕ) (o : RequestOutcome) → apart mid now → among now method file o new → among mid method file o new) where
-  route_later : (route : Option (List ℕ)) (h : RequestHead) (o : RequestOutcome) (mid now new : H) → apart mid now → ComesTo site among route now h o new → (to : H) × ComesTo site among route mid h o to × apart to new
+  route_later : (route : Option (List ℕ)) (h : RequestHead) (o : RequestOutcome) (mid now new : H) → apart mid now → ComesTo site among route now h o new → (to : H)
+      × ComesTo site among route mid h o to × apart to new
   route_later None h o mid now new gap comes = (mid, (comes.0, refl), subst (λ (x : H). apart mid x) (sym comes.1) gap)
   route_later (Some file) h o mid now new gap comes = (new, later mid now new (method_of h.method) file o gap comes, same new)
 
-  comes_later : (status : Option StatusCode) (h : RequestHead) (o : RequestOutcome) (mid now new : H) → apart mid now → ComesUnless site among status now h o new → (to : H) × ComesUnless site among status mid h o to × apart to new
+  comes_later : (status : Option StatusCode) (h : RequestHead) (o : RequestOutcome) (mid now new : H) → apart mid now → ComesUnless site among status now h o new
+      → (to : H) × ComesUnless site among status mid h o to × apart to new
   comes_later (Some status) h o mid now new gap comes = (mid, (comes.0, refl), subst (λ (x : H). apart mid x) (sym comes.1) gap)
   comes_later None h o mid now new gap comes = route_later (file_of site h) h o mid now new gap comes
 
   answers_later : (t : Turn) (mid now new : H) (then at after : K) → apart mid now → Passes tells then at → AnswersRequest site among tells now at t new after
       → (to : H) × AnswersRequest site among (TellsLater tells) mid then t to after × apart to new
   answers_later t mid now new then at after gap p a =
-      let c = comes_later (refusal t.head) t.head a.outcome mid now new gap a.comes in
-      (c.0, record { valid = a.valid; within = a.within; outcome = a.outcome; comes = c.1; reply = a.reply; then = a.then; dated = dated_later tells then at a.then t.date p a.dated; noted = noted_later tells a.then after t.head.method t.head.target t.reply a.noted }, c.2)
+      let c = comes_later (refusal t.head) t.head a.outcome mid now new gap a.comes in (
+        c.0,
+        record {
+          valid = a.valid;
+          within = a.within;
+          outcome = a.outcome;
+          comes = c.1;
+          reply = a.reply;
+          then = a.then;
+          dated = dated_later tells then at a.then t.date p a.dated;
+          noted = noted_later tells a.then after t.head.method t.head.target t.reply a.noted;
+        },
+        c.2,
+      )
 
-  serves_later : (seen : List ℕ) (closes : Bool) (size : ℕ) (text : List ℕ) (mid now new : H) (then at after : K) → apart mid now → Passes tells then at → ServesRequest site among tells now at seen closes size text new after
+  serves_later : (seen : List ℕ) (closes : Bool) (size : ℕ) (text : List ℕ) (mid now new : H) (then at after : K) → apart mid now → Passes tells then at
+      → ServesRequest site among tells now at seen closes size text new after
       → (to : H) × ServesRequest site among (TellsLater tells) mid then seen closes size text to after × apart to new
   serves_later seen closes size text mid now new then at after gap p s =
       let a = answers_later s.turn mid now new then at after gap p s.answers in
@@ -61,21 +76,33 @@ module _ {H K : Type 0} (site : Site) (among : H → Method → List ℕ → Req
 
   bad_later : (text : List ℕ) (then at after : K) → Passes tells then at → SendsBad site among tells at text after → SendsBad site among (TellsLater tells) then text after
   bad_later text then at after p b =
-      record { reply = b.reply; date = b.date; bad = b.bad; then = b.then; dated = dated_later tells then at b.then b.date p b.dated; noted = noted_later tells b.then after [] [] b.reply b.noted; written = b.written }
+      record {
+        reply = b.reply;
+        date = b.date;
+        bad = b.bad;
+        then = b.then;
+        dated = dated_later tells then at b.then b.date p b.dated;
+        noted = noted_later tells b.then after [] [] b.reply b.noted;
+        written = b.written;
+      }
 
 -- How far a connection is behind a step.
 module _ {H K : Type 0} (site : Site) (among : H → Method → List ℕ → RequestOutcome → H → Type 0) (tells : K → Said → K → Type 0) (start : H) (first : K) (came : List ℕ) where
-  so_stays : (text seen left t : List ℕ) (size : ℕ) (mid to : H) (then after : K) → IsOpenSo site among tells start first came text seen mid then → ServesRequest site among tells mid then seen false size t to after → left ≡ drop size seen
+  so_stays : (text seen left t : List ℕ) (size : ℕ) (mid to : H) (then after : K) → IsOpenSo site among tells start first came text seen mid then
+      → ServesRequest site among tells mid then seen false size t to after → left ≡ drop size seen
       → IsOpenSo site among tells start first came (text ++ t) left to after
   so_stays text seen left t size mid to then after so s is = record {
     turns = so.turns ++ s.turn ∷ [];
     stay = stay_more so.turns s.turn so.stay s.goes_on;
     answers = answers_more site among tells start first so.turns mid then s.turn to after so.answers s.answers;
-    read = so.read ∙ ap (λ l. heads_of so.turns ++ l) (s.begins.reads.1 ∙ ap (λ l. print_request s.turn.head ++ l) (sym is)) ∙ sym (append_assoc (heads_of so.turns) (print_request s.turn.head) left) ∙ ap (λ l. l ++ left) (sym (heads_more so.turns s.turn));
+    read =
+        so.read ∙ ap (λ l. heads_of so.turns ++ l) (s.begins.reads.1 ∙ ap (λ l. print_request s.turn.head ++ l) (sym is))
+        ∙ sym (append_assoc (heads_of so.turns) (print_request s.turn.head) left) ∙ ap (λ l. l ++ left) (sym (heads_more so.turns s.turn));
     written = ap (λ l. l ++ t) so.written ∙ ap (λ l. texts_of so.turns ++ l) s.written ∙ sym (texts_more so.turns s.turn);
   }
 
-  so_closes : (text seen t : List ℕ) (size : ℕ) (mid to : H) (then after : K) → IsOpenSo site among tells start first came text seen mid then → ServesRequest site among tells mid then seen true size t to after
+  so_closes : (text seen t : List ℕ) (size : ℕ) (mid to : H) (then after : K) → IsOpenSo site among tells start first came text seen mid then
+      → ServesRequest site among tells mid then seen true size t to after
       → (n : ℕ) × Responses site among tells start first came (text ++ t) n to after
   so_closes text seen t size mid to then after so s = (
     length (so.turns ++ s.turn ∷ []),
@@ -86,13 +113,16 @@ module _ {H K : Type 0} (site : Site) (among : H → Method → List ℕ → Req
       stay = so.stay;
       closes = s.goes_on;
       answers = answers_more site among tells start first so.turns mid then s.turn to after so.answers s.answers;
-      requests = so.read ∙ ap (λ l. heads_of so.turns ++ l) s.begins.reads.1 ∙ sym (append_assoc (heads_of so.turns) (print_request s.turn.head) (drop size seen)) ∙ ap (λ l. l ++ drop size seen) (sym (heads_more so.turns s.turn));
+      requests =
+          so.read ∙ ap (λ l. heads_of so.turns ++ l) s.begins.reads.1 ∙ sym (append_assoc (heads_of so.turns) (print_request s.turn.head) (drop size seen))
+          ∙ ap (λ l. l ++ drop size seen) (sym (heads_more so.turns s.turn));
       written = ap (λ l. l ++ t) so.written ∙ ap (λ l. texts_of so.turns ++ l) s.written ∙ sym (texts_more so.turns s.turn);
       count = refl;
     })),
   )
 
-  so_refused : (text seen t : List ℕ) (whole : Bool) (mid : H) (then after : K) → IsOpenSo site among tells start first came text seen mid then → ¬ (seen ≡ []) → StaysHeadless head_limit fields_limit seen whole → SendsBad site among tells then t after
+  so_refused : (text seen t : List ℕ) (whole : Bool) (mid : H) (then after : K) → IsOpenSo site among tells start first came text seen mid then → ¬ (seen ≡ [])
+      → StaysHeadless head_limit fields_limit seen whole → SendsBad site among tells then t after
       → (n : ℕ) × Responses site among tells start first came (text ++ t) n mid after
   so_refused text seen t whole mid then after so some never bad = (
     length so.turns + 1,
@@ -112,14 +142,23 @@ module _ {H K : Type 0} (site : Site) (among : H → Method → List ℕ → Req
     })),
   )
 
-  so_done : (text seen : List ℕ) (mid : H) (then : K) → IsOpenSo site among tells start first came text seen mid then → seen ≡ [] → (n : ℕ) × Responses site among tells start first came text n mid then
+  so_done : (text seen : List ℕ) (mid : H) (then : K) → IsOpenSo site among tells start first came text seen mid then → seen ≡ [] → (n : ℕ)
+      × Responses site among tells start first came text n mid then
   so_done text seen mid then so none = (
     length so.turns,
-    inl (record { turns = so.turns; stay = so.stay; answers = so.answers; requests = so.read ∙ ap (λ l. heads_of so.turns ++ l) none ∙ append-nil (heads_of so.turns); written = so.written; count = refl }),
+    inl (record {
+      turns = so.turns;
+      stay = so.stay;
+      answers = so.answers;
+      requests = so.read ∙ ap (λ l. heads_of so.turns ++ l) none ∙ append-nil (heads_of so.turns);
+      written = so.written;
+      count = refl;
+    }),
   )
 
 -- A connection stands so.
-module _ {H K T : Type 0} (site : Site) (among : H → Method → List ℕ → RequestOutcome → H → Type 0) (rests : H → T → RequestOutcome → H → Type 0) (tells : K → Said → K → Type 0) (apart : H → H → Type 0) (start : H) (first : K) where
+module _ {H K T : Type 0} (site : Site) (among : H → Method → List ℕ → RequestOutcome → H → Type 0) (rests : H → T → RequestOutcome → H → Type 0)
+    (tells : K → Said → K → Type 0) (apart : H → H → Type 0) (start : H) (first : K) where
   abbrev Stand : List ℕ → List ℕ → HttpConn T → H → K → Type 0
   Stand came went c now at = Stands site among rests tells apart start first came went c now at
 
@@ -138,14 +177,22 @@ module _ {H K T : Type 0} (site : Site) (among : H → Method → List ℕ → R
       → ((k : T) (o : RequestOutcome) (z : H) → rests new k o z → rests now k o z) → Hand came went hand seen mid now → Hand came went hand seen mid new
   hand_later came went None seen mid now new gap rest h = gap mid h
   hand_later came went (Some u) seen mid now new gap rest h =
-      record { head = h.head; asked = h.asked; begins = h.begins; fits = h.fits; asks = record { file = h.asks.file; allowed = h.asks.allowed; named = h.asks.named; goes = λ o z r. h.asks.goes o z (rest u.task o z r) } }
+      record {
+        head = h.head;
+        asked = h.asked;
+        begins = h.begins;
+        fits = h.fits;
+        asks = record { file = h.asks.file; allowed = h.asks.allowed; named = h.asks.named; goes = λ o z r. h.asks.goes o z (rest u.task o z r) };
+      }
 
-  pub stands_later : (came went : List ℕ) (c : HttpConn T) (now new : H) (at after : K) → ((from : H) → apart from now → apart from new) → ((k : T) (o : RequestOutcome) (z : H) → rests new k o z → rests now k o z)
+  pub stands_later : (came went : List ℕ) (c : HttpConn T) (now new : H) (at after : K) → ((from : H) → apart from now → apart from new)
+      → ((k : T) (o : RequestOutcome) (z : H) → rests new k o z → rests now k o z)
       → ((from : K) → Passes tells from at → Passes tells from after) → Stand came went c now at → Stand came went c new after
   stands_later came went c now new at after gap rest pass s =
       record { mid = s.mid; then = s.then; so = s.so; hand = hand_later came went c.hand (unread c.inbox) s.mid now new gap rest s.hand; passed = pass s.then s.passed }
 
-  hand_as : (came went more text : List ℕ) (old new : HttpConn T) (mid now to : H) → to ≡ now → new.inbox ≡ old.inbox → new.hand ≡ old.hand → Hand came went old.hand (unread old.inbox) mid now → Hand more text new.hand (unread new.inbox) mid to
+  hand_as : (came went more text : List ℕ) (old new : HttpConn T) (mid now to : H) → to ≡ now → new.inbox ≡ old.inbox → new.hand ≡ old.hand
+      → Hand came went old.hand (unread old.inbox) mid now → Hand more text new.hand (unread new.inbox) mid to
   hand_as came went more text old new mid now to still inbox hand h =
       subst (λ (x : H). Hand more text new.hand (unread new.inbox) mid x) (sym still) (subst (λ (x : Option (UnderWay T)). Hand more text x (unread new.inbox) mid now) (sym hand)
       (subst (λ (x : List ℕ). Hand more text old.hand x mid now) (ap unread (sym inbox)) (moved old.hand h))) where
@@ -154,36 +201,52 @@ module _ {H K T : Type 0} (site : Site) (among : H → Method → List ℕ → R
         moved (Some u) h = h
 
   -- a part of a response is written
-  pub stands_wrote : (came went : List ℕ) (old new : HttpConn T) (now to : H) (at : K) (n : ℕ) → to ≡ now → pending new ≡ drop n (pending old) → new.inbox ≡ old.inbox → new.over ≡ old.over → new.hand ≡ old.hand → Stand came went old now at → Stand came (went ++ take n (pending old)) new to at
+  pub stands_wrote : (came went : List ℕ) (old new : HttpConn T) (now to : H) (at : K) (n : ℕ) → to ≡ now → pending new ≡ drop n (pending old)
+      → new.inbox ≡ old.inbox → new.over ≡ old.over → new.hand ≡ old.hand → Stand came went old now at → Stand came (went ++ take n (pending old)) new to at
   stands_wrote came went old new now to at n still left inbox over hand s = record {
     mid = s.mid;
     then = s.then;
     so = so_as came old.over new.over (went ++ pending old) ((went ++ take n (pending old)) ++ pending new) (unread old.inbox) (unread new.inbox) s.mid s.then (sym over)
-        (ap (λ l. went ++ l) (sym (take-append-drop n (pending old)) ∙ ap (λ l. take n (pending old) ++ l) (sym left)) ∙ sym (append_assoc went (take n (pending old)) (pending new))) (ap unread (sym inbox)) s.so;
+        (ap (λ l. went ++ l) (sym (take-append-drop n (pending old)) ∙ ap (λ l. take n (pending old) ++ l) (sym left))
+        ∙ sym (append_assoc went (take n (pending old)) (pending new))) (ap unread (sym inbox)) s.so;
     hand = hand_as came went came (went ++ take n (pending old)) old new s.mid now to still inbox hand s.hand;
     passed = s.passed;
   }
 
-  open_more : (came bytes text left : List ℕ) (mid : H) (then : K) → IsOpenSo site among (TellsLater tells) start first came text left mid then → IsOpenSo site among (TellsLater tells) start first (came ++ bytes) text (left ++ bytes) mid then
-  open_more came bytes text left mid then so = record { turns = so.turns; stay = so.stay; answers = so.answers; read = ap (λ l. l ++ bytes) so.read ∙ append_assoc (heads_of so.turns) left bytes; written = so.written }
+  open_more : (came bytes text left : List ℕ) (mid : H) (then : K) → IsOpenSo site among (TellsLater tells) start first came text left mid then
+      → IsOpenSo site among (TellsLater tells) start first (came ++ bytes) text (left ++ bytes) mid then
+  open_more came bytes text left mid then so = record {
+    turns = so.turns;
+    stay = so.stay;
+    answers = so.answers;
+    read = ap (λ l. l ++ bytes) so.read ∙ append_assoc (heads_of so.turns) left bytes;
+    written = so.written;
+  }
 
   -- the connection is open
-  is_open : (came went : List ℕ) (c : HttpConn T) (now : H) (at : K) → c.over ≡ false → (s : Stand came went c now at) → IsOpenSo site among (TellsLater tells) start first came (went ++ pending c) (unread c.inbox) s.mid s.then
+  is_open : (came went : List ℕ) (c : HttpConn T) (now : H) (at : K) → c.over ≡ false → (s : Stand came went c now at)
+      → IsOpenSo site among (TellsLater tells) start first came (went ++ pending c) (unread c.inbox) s.mid s.then
   is_open came went c now at over s = so_as came c.over false (went ++ pending c) (went ++ pending c) (unread c.inbox) (unread c.inbox) s.mid s.then over refl refl s.so
 
   -- bytes came in
-  pub stands_read : (came went bytes : List ℕ) (old new : HttpConn T) (now : H) (at : K) → unread new.inbox ≡ unread old.inbox ++ bytes → pending new ≡ pending old → new.over ≡ old.over → old.over ≡ false → new.hand ≡ old.hand → old.hand ≡ None → Stand came went old now at → Stand (came ++ bytes) went new now at
+  pub stands_read : (came went bytes : List ℕ) (old new : HttpConn T) (now : H) (at : K) → unread new.inbox ≡ unread old.inbox ++ bytes → pending new ≡ pending old
+      → new.over ≡ old.over → old.over ≡ false → new.hand ≡ old.hand → old.hand ≡ None → Stand came went old now at → Stand (came ++ bytes) went new now at
   stands_read came went bytes old new now at added still over was hand none s = record {
     mid = s.mid;
     then = s.then;
-    so = so_as (came ++ bytes) false new.over (went ++ pending old) (went ++ pending new) (unread old.inbox ++ bytes) (unread new.inbox) s.mid s.then (sym (over ∙ was)) (ap (λ l. went ++ l) (sym still)) (sym added)
+    so =
+        so_as (came ++ bytes) false new.over (went ++ pending old) (went ++ pending new) (unread old.inbox ++ bytes) (unread new.inbox) s.mid s.then
+        (sym (over ∙ was)) (ap (λ l. went ++ l) (sym still)) (sym added)
         (open_more came bytes (went ++ pending old) (unread old.inbox) s.mid s.then (is_open came went old now at was s));
-    hand = subst (λ (x : Option (UnderWay T)). Hand (came ++ bytes) went x (unread new.inbox) s.mid now) (sym (hand ∙ none)) (subst (λ (x : Option (UnderWay T)). Hand came went x (unread old.inbox) s.mid now) none s.hand);
+    hand =
+        subst (λ (x : Option (UnderWay T)). Hand (came ++ bytes) went x (unread new.inbox) s.mid now) (sym (hand ∙ none))
+        (subst (λ (x : Option (UnderWay T)). Hand came went x (unread old.inbox) s.mid now) none s.hand);
     passed = s.passed;
   }
 
   -- bytes came in, and there was no room for them
-  pub cut_read : (came went bytes : List ℕ) (old : HttpConn T) (now : H) (at : K) → old.over ≡ false → Stand came went old now at → StandsCut site among rests tells apart start first (came ++ bytes) went
+  pub cut_read : (came went bytes : List ℕ) (old : HttpConn T) (now : H) (at : K) → old.over ≡ false → Stand came went old now at
+      → StandsCut site among rests tells apart start first (came ++ bytes) went
   cut_read came went bytes old now at was s = record {
     over = false;
     rest = pending old;
@@ -200,10 +263,12 @@ module _ {H K T : Type 0} (site : Site) (among : H → Method → List ℕ → R
   module _ (same : (h : H) → apart h h) (later : (mid now new : H) (method : Method) (file : List ℕ) (o : RequestOutcome) → apart mid now → among now method file o new → among mid method file o new)
       (came went : List ℕ) (old new : HttpConn T) (now to : H) (at after : K) (none : pending old ≡ []) (was : old.over ≡ false) (s : Stand came went old now at) where
     here : IsOpenSo site among (TellsLater tells) start first came went (unread old.inbox) s.mid s.then
-    here = so_as came false false (went ++ pending old) went (unread old.inbox) (unread old.inbox) s.mid s.then refl (ap (λ l. went ++ l) none ∙ append-nil went) refl (is_open came went old now at was s)
+    here =
+        so_as came false false (went ++ pending old) went (unread old.inbox) (unread old.inbox) s.mid s.then refl (ap (λ l. went ++ l) none ∙ append-nil went) refl (is_open came went old now at was s)
 
     -- it stands behind a step
-    behind : (over : Bool) (left : List ℕ) (mid : H) (then : K) → new.over ≡ over → unread new.inbox ≡ left → new.hand ≡ None → So came over (went ++ pending new) left mid then → apart mid to → Passes tells then after → Stand came went new to after
+    behind : (over : Bool) (left : List ℕ) (mid : H) (then : K) → new.over ≡ over → unread new.inbox ≡ left → new.hand ≡ None
+        → So came over (went ++ pending new) left mid then → apart mid to → Passes tells then after → Stand came went new to after
     behind over left mid then ends reads idle so gap pass = record {
       mid = mid;
       then = then;
@@ -218,14 +283,16 @@ module _ {H K T : Type 0} (site : Site) (among : H → Method → List ℕ → R
       stands_step (step.Stays size) did f =
           let l = serves_later site among tells apart same later (unread old.inbox) false size (pending new) s.mid from to s.then at after gap s.passed did in
           behind false (drop size (unread old.inbox)) l.0 after f.over f.still idle
-          (so_stays site among (TellsLater tells) start first came went (unread old.inbox) (drop size (unread old.inbox)) (pending new) size s.mid l.0 s.then after here l.1 refl) l.2 (passes_none tells after)
+          (so_stays site among (TellsLater tells) start first came went (unread old.inbox) (drop size (unread old.inbox))
+          (pending new) size s.mid l.0 s.then after here l.1 refl) l.2 (passes_none tells after)
       stands_step (step.Closes size) did f =
           let l = serves_later site among tells apart same later (unread old.inbox) true size (pending new) s.mid from to s.then at after gap s.passed did in
           behind true (drop size (unread old.inbox)) l.0 after f.over f.still idle
           (so_closes site among (TellsLater tells) start first came went (unread old.inbox) (pending new) size s.mid l.0 s.then after here l.1) l.2 (passes_none tells after)
       stands_step step.Refused did f =
           behind true (unread old.inbox) s.mid after f.over f.still idle
-          (so_refused site among (TellsLater tells) start first came went (unread old.inbox) (pending new) old.whole s.mid s.then after here did.0 did.1 (bad_later site among tells apart same later (pending new) s.then at after s.passed did.3))
+          (so_refused site among (TellsLater tells) start first came went (unread old.inbox) (pending new) old.whole s.mid s.then after here did.0 did.1
+          (bad_later site among tells apart same later (pending new) s.then at after s.passed did.3))
           (subst (λ (x : H). apart s.mid x) (sym did.2) gap) (passes_none tells after)
       stands_step step.More did f =
           behind false (unread old.inbox) s.mid s.then f.over f.still idle
@@ -238,11 +305,14 @@ module _ {H K T : Type 0} (site : Site) (among : H → Method → List ℕ → R
           (subst (λ (x : H). apart s.mid x) (sym did.2.same) gap) (subst (λ (x : K). Passes tells s.then x) (sym did.2.still) s.passed)
 
     -- a request is under way
-    stands_works : (u : UnderWay T) → IsUnderWay site among rests (unread old.inbox) u s.mid to → after ≡ at → pending new ≡ [] → unread new.inbox ≡ unread old.inbox → new.over ≡ false → new.hand ≡ Some u → Stand came went new to after
+    stands_works : (u : UnderWay T) → IsUnderWay site among rests (unread old.inbox) u s.mid to → after ≡ at → pending new ≡ []
+        → unread new.inbox ≡ unread old.inbox → new.over ≡ false → new.hand ≡ Some u → Stand came went new to after
     stands_works u way still nothing reads going hand = record {
       mid = s.mid;
       then = s.then;
-      so = so_as came false new.over went (went ++ pending new) (unread old.inbox) (unread new.inbox) s.mid s.then (sym going) (sym (append-nil went) ∙ ap (λ l. went ++ l) (sym nothing)) (sym reads) here;
+      so =
+          so_as came false new.over went (went ++ pending new) (unread old.inbox) (unread new.inbox) s.mid s.then (sym going)
+          (sym (append-nil went) ∙ ap (λ l. went ++ l) (sym nothing)) (sym reads) here;
       hand = subst (λ (x : Option (UnderWay T)). Hand came went x (unread new.inbox) s.mid to) (sym hand) (subst (λ (x : List ℕ). IsUnderWay site among rests x u s.mid to) (sym reads) way);
       passed = subst (λ (x : K). Passes tells s.then x) (sym still) s.passed;
     }
@@ -256,7 +326,8 @@ module _ {H K T : Type 0} (site : Site) (among : H → Method → List ℕ → R
       asks = record { file = w.asks.file; allowed = w.asks.allowed; named = w.asks.named; goes = λ o z r. later s.mid now z (method_of w.head.method) w.asks.file o gap (w.asks.goes o z r) };
     }
 
-    lands : (hand : Option (UnderWay T)) (x : StepSlice T) → Hand came went hand (unread old.inbox) s.mid now → StepsFrom site among rests tells hand now at (unread old.inbox) old.whole x (pending new) to after → Lands x old new → Stand came went new to after
+    lands : (hand : Option (UnderWay T)) (x : StepSlice T) → Hand came went hand (unread old.inbox) s.mid now
+        → StepsFrom site among rests tells hand now at (unread old.inbox) old.whole x (pending new) to after → Lands x old new → Stand came went new to after
     lands None (slice.Did st) gap did l = stands_step now gap l.1 st did l.0
     lands None (slice.Works u) gap did l = stands_works u (under_later u gap did.0) did.1 did.2 l.0.still l.0.over l.1
     lands (Some v) (slice.Did st) way did l = stands_step s.mid (same s.mid) l.1 st (did s.mid way) l.0
@@ -266,35 +337,44 @@ module _ {H K T : Type 0} (site : Site) (among : H → Method → List ℕ → R
     stands_lands x did l = lands old.hand x s.hand did l
 
 -- A turn, by what it did. came and went grow by what it took in and put out.
-module _ {H K T : Type 0} (site : Site) (among : H → Method → List ℕ → RequestOutcome → H → Type 0) (rests : H → T → RequestOutcome → H → Type 0) (tells : K → Said → K → Type 0) (apart : H → H → Type 0) (same : (h : H) → apart h h)
+module _ {H K T : Type 0} (site : Site) (among : H → Method → List ℕ → RequestOutcome → H → Type 0) (rests : H → T → RequestOutcome → H → Type 0)
+    (tells : K → Said → K → Type 0) (apart : H → H → Type 0) (same : (h : H) → apart h h)
     (later : (mid now new : H) (method : Method) (file : List ℕ) (o : RequestOutcome) → apart mid now → among now method file o new → among mid method file o new) where
   abbrev Goes : H → K → List ℕ → List ℕ → Result Turned FrontKind → HttpConn T → H → K → Type 0
   Goes start first came went = GoesSo site among rests tells apart start first came went
 
   abbrev pub Own : H → K → HttpConn T → List ℕ → List ℕ → Result Turned FrontKind → HttpConn T → H → K → Type 0
-  Own now at old bytes text r new to after = (start : H) (first : K) (came went : List ℕ) → Stands site among rests tells apart start first came went old now at → Goes start first (came ++ bytes) (went ++ text) r new to after
+  Own now at old bytes text r new to after =
+      (start : H) (first : K) (came went : List ℕ) → Stands site among rests tells apart start first came went old now at → Goes start first (came ++ bytes) (went ++ text) r new to after
 
-  goes_any : (start : H) (first : K) (came went : List ℕ) (r : Result Turned FrontKind) (c : HttpConn T) (now : H) (at : K) → Stands site among rests tells apart start first came went c now at → Goes start first came went r c now at
+  goes_any : (start : H) (first : K) (came went : List ℕ) (r : Result Turned FrontKind) (c : HttpConn T) (now : H) (at : K)
+      → Stands site among rests tells apart start first came went c now at → Goes start first came went r c now at
   goes_any start first came went (Ok t) c now at s = s
   goes_any start first came went (Err e) c now at s = stands_cut site among rests tells apart start first came went c now at s
 
-  goes_as : (start : H) (first : K) (came more went text : List ℕ) (r : Result Turned FrontKind) (c : HttpConn T) (now : H) (at : K) → came ≡ more → went ≡ text → Goes start first came went r c now at → Goes start first more text r c now at
-  goes_as start first came more went text r c now at in_as out_as s = subst (λ (l : List ℕ). Goes start first l text r c now at) in_as (subst (λ (l : List ℕ). Goes start first came l r c now at) out_as s)
+  goes_as : (start : H) (first : K) (came more went text : List ℕ) (r : Result Turned FrontKind) (c : HttpConn T) (now : H) (at : K) → came ≡ more → went ≡ text
+      → Goes start first came went r c now at → Goes start first more text r c now at
+  goes_as start first came more went text r c now at in_as out_as s =
+      subst (λ (l : List ℕ). Goes start first l text r c now at) in_as (subst (λ (l : List ℕ). Goes start first came l r c now at) out_as s)
 
   pub own_over : (r : Result Turned FrontKind) (c : HttpConn T) (now : H) (at : K) → Own now at c [] [] r c now at
   own_over r c now at start first came went s =
       goes_as start first came (came ++ []) went (went ++ []) r c now at (sym (append-nil came)) (sym (append-nil went)) (goes_any start first came went r c now at s)
 
-  pub own_wrote : (r : Result Turned FrontKind) (old new : HttpConn T) (now to : H) (at : K) (n : ℕ) → to ≡ now → pending new ≡ drop n (pending old) → new.inbox ≡ old.inbox → new.over ≡ old.over → new.hand ≡ old.hand → Own now at old [] (take n (pending old)) r new to at
+  pub own_wrote : (r : Result Turned FrontKind) (old new : HttpConn T) (now to : H) (at : K) (n : ℕ) → to ≡ now → pending new ≡ drop n (pending old)
+      → new.inbox ≡ old.inbox → new.over ≡ old.over → new.hand ≡ old.hand → Own now at old [] (take n (pending old)) r new to at
   own_wrote r old new now to at n still left inbox over hand start first came went s =
       goes_as start first came (came ++ []) (went ++ take n (pending old)) (went ++ take n (pending old)) r new to at (sym (append-nil came)) refl
       (goes_any start first came (went ++ take n (pending old)) r new to at (stands_wrote site among rests tells apart start first came went old new now to at n still left inbox over hand s))
 
-  pub own_read : (r : Result Turned FrontKind) (old new : HttpConn T) (now : H) (at : K) (bytes : List ℕ) → OnOk r (unread new.inbox ≡ unread old.inbox ++ bytes) → pending new ≡ pending old → new.over ≡ old.over → old.over ≡ false → new.hand ≡ old.hand → old.hand ≡ None → Own now at old bytes [] r new now at
+  pub own_read : (r : Result Turned FrontKind) (old new : HttpConn T) (now : H) (at : K) (bytes : List ℕ) → OnOk r (unread new.inbox ≡ unread old.inbox ++ bytes)
+      → pending new ≡ pending old → new.over ≡ old.over → old.over ≡ false → new.hand ≡ old.hand → old.hand ≡ None → Own now at old bytes [] r new now at
   own_read (Ok t) old new now at bytes added still over was hand idle start first came went s =
-      goes_as start first (came ++ bytes) (came ++ bytes) went (went ++ []) (Ok t) new now at refl (sym (append-nil went)) (stands_read site among rests tells apart start first came went bytes old new now at added still over was hand idle s)
+      goes_as start first (came ++ bytes) (came ++ bytes) went (went ++ []) (Ok t) new now at refl (sym (append-nil went))
+      (stands_read site among rests tells apart start first came went bytes old new now at added still over was hand idle s)
   own_read (Err e) old new now at bytes added still over was hand idle start first came went s =
-      goes_as start first (came ++ bytes) (came ++ bytes) went (went ++ []) (Err e) new now at refl (sym (append-nil went)) (cut_read site among rests tells apart start first came went bytes old now at was s)
+      goes_as start first (came ++ bytes) (came ++ bytes) went (went ++ []) (Err e) new now at refl (sym (append-nil went))
+      (cut_read site among rests tells apart start first came went bytes old now at was s)
 
   pub own_step : (r : Result Turned FrontKind) (old new : HttpConn T) (now to : H) (at after : K) → pending old ≡ [] → old.over ≡ false
       → OnOk r ((x : StepSlice T) × StepsFrom site among rests tells old.hand now at (unread old.inbox) old.whole x (pending new) to after × Lands x old new) → Own now at old [] [] r new to after
@@ -302,4 +382,5 @@ module _ {H K T : Type 0} (site : Site) (among : H → Method → List ℕ → R
       goes_as start first came (came ++ []) went (went ++ []) (Ok t) new to after (sym (append-nil came)) (sym (append-nil went))
       (stands_lands site among rests tells apart start first same later came went old new now to at after none was s did.0 did.1 did.2)
   own_step (Err e) old new now to at after none was did start first came went s =
-      goes_as start first came (came ++ []) went (went ++ []) (Err e) new to after (sym (append-nil came)) (sym (append-nil went)) (stands_cut site among rests tells apart start first came went old now at s)
+      goes_as start first came (came ++ []) went (went ++ []) (Err e) new to after (sym (append-nil came)) (sym (append-nil went))
+      (stands_cut site among rests tells apart start first came went old now at s)

@@ -18,13 +18,16 @@ use Rattle.filter_chain.specs.HostViews.{HostView, Answers}
 use Rattle.filter_chain.specs.Led.{Refines}
 use Rattle.filter_chain.specs.Running.{HostGoesOn, StepsOn}
 use Rattle.filter_chain.proofs.StepCounts.{acts_count, goes_more}
-use Rattle.http_front.specs.Among.{AnswersLater, GoesOnLater, RunsLater, RunsSlice}
+use Rattle.filter_chain.proofs.StepCounts as counts
+use Rattle.http_front.specs.Among.{AnswersLater, GoesOnLater, RunsIn, RunsSlice, Way, alone, among}
 use Rattle.http_front.specs.Driven.{GoesByOthers}
 use Rattle.http_front.specs.RequestEvents.{ended_of}
+use Rattle.http_front.specs.Requests.{RunsCall}
 use Rattle.http_front.specs.declared.running.CallEnd.{CallEnd}
 
 -- an event of another connection, or an opening
-elsewhere : (memory : Bool) (budget : ℕ) (chain : List Program) (told : Told) (i k : ℕ) (e : Event) (w : World) → k ≢ w.last + 1 → k ≢ i → (happens memory budget chain told i e w).1.conns k ≡ w.conns k
+elsewhere : (memory : Bool) (budget : ℕ) (chain : List Program) (told : Told) (i k : ℕ) (e : Event) (w : World) → k ≢ w.last + 1 → k ≢ i
+    → (happens memory budget chain told i e w).1.conns k ≡ w.conns k
 elsewhere memory budget chain told i k event.Open w old differ = opening_stays memory budget chain told i k w old
 elsewhere memory budget chain told i k e w old differ = others_stay memory budget chain told i k e w (λ is. absurd (cc)) differ
 
@@ -45,7 +48,8 @@ module _ (b : ℕ) (c : List Program) (number : ℕ) where
   others_numbered (x ∷ xs) s t goes h = one_numbered x.0 x.1 x.2 goes.0 t goes.3 (others_numbered xs s goes.0 goes.1 h)
 
   -- events of others leave a connection as it is
-  others_keep : (events : List (ℕ × Event × Answer)) (s t : HostView) (x : Connection) → GoesByOthers b c number events s t → WorldNumbers s.world → s.world.conns number ≡ Some x → t.world.conns number ≡ Some x
+  others_keep : (events : List (ℕ × Event × Answer)) (s t : HostView) (x : Connection) → GoesByOthers b c number events s t → WorldNumbers s.world
+      → s.world.conns number ≡ Some x → t.world.conns number ≡ Some x
   unfolding GoesByOthers
   others_keep [] s t x same h at = subst (λ (v : HostView). v.world.conns number ≡ Some x) (sym same) at
   others_keep (e ∷ es) s t x goes h at =
@@ -58,7 +62,8 @@ module _ (b : ℕ) (c : List Program) (number : ℕ) where
   step_numbered answer s t a h = one_numbered number event.Step answer a.0 t a.2 (others_numbered a.1.0 s a.0 a.1.1 h)
 
   -- where a further step goes on, fewer did before than the budget
-  few_from : (n k : ℕ) (s t new : HostView) (y : Connection) → s.world.conns number ≡ Some y → k ≤ y.count → WorldNumbers s.world → GoesOnLater b c number n s t → AnswersLater b c number event.Step t (Step stepped.Went) new → k + n < b
+  few_from : (n k : ℕ) (s t new : HostView) (y : Connection) → s.world.conns number ≡ Some y → k ≤ y.count → WorldNumbers s.world → GoesOnLater b c number n s t
+      → AnswersLater b c number event.Step t (Step stepped.Went) new → k + n < b
   unfolding GoesOnLater
   few_from zero k s t new y at le h same a =
       let here = subst (λ (v : HostView). AnswersLater b c number event.Step v (Step stepped.Went) new) same a in
@@ -114,29 +119,55 @@ module _ (b : ℕ) (c : List Program) (number : ℕ) where
   goes_join zero m s q t same then = (m, subst (λ (v : HostView). GoesOnLater b c number m v t) same then)
   goes_join (suc n) m s q t goes then = (let r = goes_join n m goes.0 q t goes.2 then in (suc r.0, (goes.0, goes.1, r.1)))
 
-  pub slice_goes : (more : ℕ) (s m : HostView) → WorldNumbers s.world → StepsOn b c number more s (Ok stepped.Went) m → RunsSlice b c number None s m
-  slice_goes more s m h x how t r =
-      let all = goes_join (suc x.count) r.runs.count s m r.runs.before (goes_alone (suc x.count) s m (goes_more b c number x.count s x.before m x.goes x.last)) r.runs.goes in
-      record { answer = r.answer; runs = record { count = all.0; before = r.runs.before; few = few_all all.0 s r.runs.before h all.1; goes = all.1; last = r.runs.last; stops = r.runs.stops }; told = r.told }
+  few_alone : (n : ℕ) (s t : HostView) → WorldNumbers s.world → HostGoesOn b c number n s t → n ≤ b
+  few_alone n s t h goes = few_all n s t h (goes_alone n s t goes)
 
-  pub slice_ends : (more : ℕ) (answer : Result Stepped Refusal) (how : CallEnd) (s t : HostView) → WorldNumbers s.world → ¬ (answer ≡ Ok stepped.Went) → how ≡ ended_of answer → StepsOn b c number more s answer t → RunsLater b c number s how t
+  -- A slice of a call went on: what is left of the call, when it is run, makes it whole.
+  pub slice_goes : (way : Way) (more : ℕ) (s m : HostView) → WorldNumbers s.world → StepsOn b c number more s (Ok stepped.Went) m
+      → RunsSlice way b c number None s m
+  slice_goes alone more s m h x how t r =
+      let first = goes_more b c number x.count s x.before m x.goes x.last in
+      let all = counts.goes_join b c number (suc x.count) r.runs.count s m r.runs.before first r.runs.goes in
+      let few = few_alone (suc x.count + r.runs.count) s r.runs.before h all in
+      record { answer = r.answer; runs = record { count = suc x.count + r.runs.count; before = r.runs.before; few = few; goes = all; last = r.runs.last; stops = r.runs.stops }; told = r.told }
+  slice_goes among more s m h x how t r =
+      let first = goes_alone (suc x.count) s m (goes_more b c number x.count s x.before m x.goes x.last) in
+      let all = goes_join (suc x.count) r.runs.count s m r.runs.before first r.runs.goes in
+      let few = few_all all.0 s r.runs.before h all.1 in
+      record { answer = r.answer; runs = record { count = all.0; before = r.runs.before; few = few; goes = all.1; last = r.runs.last; stops = r.runs.stops }; told = r.told }
+
+  pub slice_ends : (way : Way) (more : ℕ) (answer : Result Stepped Refusal) (how : CallEnd) (s t : HostView) → WorldNumbers s.world
+      → ¬ (answer ≡ Ok stepped.Went) → how ≡ ended_of answer → StepsOn b c number more s answer t → RunsIn way b c number s how t
   unfolding GoesByOthers
-  slice_ends more answer how s t h stops told x =
+  slice_ends alone more answer how s t h stops told x =
+      let few = few_alone x.count s x.before h x.goes in
+      record { answer = answer; runs = record { count = x.count; before = x.before; few = few; goes = x.goes; last = x.last; stops = stops }; told = told }
+  slice_ends among more answer how s t h stops told x =
       let all = goes_alone x.count s x.before x.goes in
-      record { answer = answer; runs = record { count = x.count; before = x.before; few = few_all x.count s x.before h all; goes = all; last = (x.before, ([], refl), x.last); stops = stops }; told = told }
+      let few = few_all x.count s x.before h all in
+      record { answer = answer; runs = record { count = x.count; before = x.before; few = few; goes = all; last = (x.before, ([], refl), x.last); stops = stops }; told = told }
 
-module _ {F : Type 0} (device : F → Device) (number : ℕ) where
+  -- A call was run to its end, and nothing of others happened.
+  pub runs_now : (way : Way) (how : CallEnd) (s t : HostView) → RunsCall b c number s how t → RunsIn way b c number s how t
+  unfolding GoesByOthers
+  runs_now alone how s t r = r
+  runs_now among how s t r =
+      let x = r.runs in
+      let all = goes_alone x.count s x.before x.goes in
+      record { answer = r.answer; runs = record { count = x.count; before = x.before; few = x.few; goes = all; last = (x.before, ([], refl), x.last); stops = x.stops }; told = r.told }
+
+module _ {F : Type 0} (device : F → Device) (number : ℕ) (way : Way) where
   numbered : (host : Host F) (w : World) → IsHosting (device (files_of host)) host w → WorldNumbers w
   unfolding IsHosting
   numbered host w hosts = (let r = hosts.reached in run_keeps_numbers _ _ r.events r.answers w r.run)
 
   module _ (old new : Host F) (more : ℕ) (answer : Result Stepped Refusal) (did : Refines device old new (λ b c s t. StepsOn b c number more s answer t)) where
-    pub sliced_on : answer ≡ Ok stepped.Went → Refines device old new (λ b c s t. RunsSlice b c number None s t)
+    pub sliced_on : answer ≡ Ok stepped.Went → Refines device old new (λ b c s t. RunsSlice way b c number None s t)
     sliced_on went w hosts =
         let x = subst (λ (a : Result Stepped Refusal). Refines device old new (λ b c s t. StepsOn b c number more s a t)) went did w hosts in
-        record { to = x.to; did = slice_goes _ _ number more _ _ (numbered old w hosts) x.did; hosts = x.hosts; chain = x.chain; budget = x.budget }
+        record { to = x.to; did = slice_goes _ _ number way more _ _ (numbered old w hosts) x.did; hosts = x.hosts; chain = x.chain; budget = x.budget }
 
-    pub sliced_ends : (how : CallEnd) → ¬ (answer ≡ Ok stepped.Went) → how ≡ ended_of answer → Refines device old new (λ b c s t. RunsSlice b c number (Some how) s t)
+    pub sliced_ends : (how : CallEnd) → ¬ (answer ≡ Ok stepped.Went) → how ≡ ended_of answer → Refines device old new (λ b c s t. RunsSlice way b c number (Some how) s t)
     sliced_ends how stops told w hosts =
         let x = did w hosts in
-        record { to = x.to; did = slice_ends _ _ number more answer how _ _ (numbered old w hosts) stops told x.did; hosts = x.hosts; chain = x.chain; budget = x.budget }
+        record { to = x.to; did = slice_ends _ _ number way more answer how _ _ (numbered old w hosts) stops told x.did; hosts = x.hosts; chain = x.chain; budget = x.budget }

@@ -51,7 +51,8 @@ module _ (budget : ℕ) (chain : List Program) (number : ℕ) where
   stays : (what : Event) (answer : Answer) (s t : HostView) → IsOfConn what → Answers budget chain number what s answer t → IsThere number s.world → IsThere number t.world
   stays what answer s t own acts there =
       let as_is = stays_on number s.world there acts.memory budget chain acts.told what there.0 own in
-      let is : happens_on acts.memory budget chain acts.told what number (Some there.0) s.world ≡ (answer, t.world) = subst (λ (o : Option Connection). happens_on acts.memory budget chain acts.told what number o s.world ≡ (answer, t.world)) there.1 acts.is in
+      let is : happens_on acts.memory budget chain acts.told what number (Some there.0) s.world ≡ (answer, t.world) = subst
+      (λ (o : Option Connection). happens_on acts.memory budget chain acts.told what number o s.world ≡ (answer, t.world)) there.1 acts.is in
       subst (λ (p : Answer × World). IsThere number p.1) is as_is
 
   pub goes_there : (events : List (Event × Answer)) (s t : HostView) → GoesBy budget chain number events s t → IsThere number s.world → IsThere number t.world
@@ -66,7 +67,8 @@ module _ (budget : ℕ) (chain : List Program) (number : ℕ) where
   pub close_refused : (why : Refusal) (s t : HostView) → Answers budget chain number event.Close s (Refused why) t → IsThere number s.world → why ≡ refusal.NoMemory
   unfolding happens_on
   close_refused why s t acts there =
-      refused_by acts.memory there.0 s.world t.world why (subst (λ (o : Option Connection). happens_on acts.memory budget chain acts.told event.Close number o s.world ≡ (Refused why, t.world)) there.1 acts.is)
+      refused_by acts.memory there.0 s.world t.world why (subst
+      (λ (o : Option Connection). happens_on acts.memory budget chain acts.told event.Close number o s.world ≡ (Refused why, t.world)) there.1 acts.is)
 
   -- one that is opened is there
   opened_if : (why : Option Refusal) (w v : World) → opens_if why chain w ≡ (Connected number, v) → IsThere number v
@@ -74,7 +76,8 @@ module _ (budget : ℕ) (chain : List Program) (number : ℕ) where
   opened_if None w v is =
       let told : Connected (w.last + 1) ≡ Connected number = ap (λ (p : Answer × World). p.0) is in
       let same : w.last + 1 ≡ number = cc in
-      subst (λ (x : World). IsThere number x) (ap (λ (p : Answer × World). p.1) is) (subst (λ (n : ℕ). IsThere n (opens_if None chain w).1) same (put_there (w.last + 1) (opened chain w.common) (record w { last = w.last + 1 })))
+      subst (λ (x : World). IsThere number x) (ap (λ (p : Answer × World). p.1) is)
+      (subst (λ (n : ℕ). IsThere n (opens_if None chain w).1) same (put_there (w.last + 1) (opened chain w.common) (record w { last = w.last + 1 })))
 
   pub open_there : (s t : HostView) → Answers budget chain 0 event.Open s (Connected number) t → IsThere number t.world
   unfolding happens_on opens

@@ -1,5 +1,6 @@
 -- What a step does, from its parts.
-use Rattle.std.proofs.Common.{◌≡◌, ℕ, ◌≤◌, ◌<◌, ◌==◌, Bool, true, false, ◌&&◌, nat_le, Ok, Err, Some, None, List, [], ◌∷◌, ◌++◌, length, take, drop, refl, sym, inl, inr, ◌∙◌, ap, subst, append_assoc, append-nil, take-append-drop, arith, length-take, length-drop, length-append}
+use Rattle.std.proofs.Common.{◌≡◌, ℕ, ◌≤◌, ◌<◌, ◌==◌, Bool, true, false, ◌&&◌, nat_le, Ok, Err, Some, None, List, [], ◌∷◌, ◌++◌, length, take, drop, refl}
+use Rattle.std.proofs.Common.{sym, inl, inr, ◌∙◌, ap, subst, append_assoc, append-nil, take-append-drop, arith, length-take, length-drop, length-append}
 use Rattle.std.specs.Prelude.{Result, IfOk, IfErr}
 use Rattle.std.proofs.lemmas.Bool.{eqb-true, leb-true, le-leb}
 use Rattle.std.proofs.lemmas.List.{drop_all, nil_from_length, take_all}
@@ -108,9 +109,11 @@ more_wider seen false is wants =
     (refl, subst WantsMore (take_all head_limit seen fits) wants)
 
 -- what a front of the bytes begins with, they begin with
-begins_before : (seen : List ℕ) (h : RequestHead) (rest : List ℕ) → BeginsWithin head_limit fields_limit (take head_limit seen) h rest → BeginsWithin head_limit fields_limit seen h (rest ++ drop head_limit seen)
+begins_before : (seen : List ℕ) (h : RequestHead) (rest : List ℕ) → BeginsWithin head_limit fields_limit (take head_limit seen) h rest
+    → BeginsWithin head_limit fields_limit seen h (rest ++ drop head_limit seen)
 begins_before seen h rest begins =
-    let all : seen ≡ print_request h ++ (rest ++ drop head_limit seen) = sym (take-append-drop head_limit seen) ∙ ap (λ x. x ++ drop head_limit seen) begins.reads.1 ∙ append_assoc (print_request h) rest (drop head_limit seen) in
+    let all : seen ≡ print_request h ++ (rest ++ drop head_limit seen) = sym (take-append-drop head_limit seen) ∙ ap (λ x. x ++ drop head_limit seen) begins.reads.1
+    ∙ append_assoc (print_request h) rest (drop head_limit seen) in
     record { reads = (begins.reads.0, all); size = begins.size; count = begins.count }
 
 -- an answer that is wanted to a front of the bytes is wanted to them all
@@ -120,9 +123,15 @@ answer_wider seen whole (inr bad) = inr ((λ none. bad.0 (ap (take head_limit) n
 
 -- why a step gets no answer, from a front of the bytes
 module _ {H : Type 0} (site : Site) (lacks : H → Method → List ℕ → FrontKind → H → Type 0) (old new : H) where
-  lack_before : (seen : List ℕ) (whole : Bool) (e : FrontKind) → LacksAnswer site lacks old (take head_limit seen) (whole && nat_le (length seen) head_limit) new e → LacksAnswer site lacks old seen whole new e
+  lack_before : (seen : List ℕ) (whole : Bool) (e : FrontKind) → LacksAnswer site lacks old (take head_limit seen) (whole && nat_le (length seen) head_limit) new e
+      → LacksAnswer site lacks old seen whole new e
   lack_before seen whole kind.NoMemory wants = answer_wider seen whole wants
-  lack_before seen whole kind.NamesSpent wants = record { head = wants.head; rest = wants.rest ++ drop head_limit seen; begins = begins_before seen wants.head wants.rest wants.begins; names = wants.names }
+  lack_before seen whole kind.NamesSpent wants = record {
+    head = wants.head;
+    rest = wants.rest ++ drop head_limit seen;
+    begins = begins_before seen wants.head wants.rest wants.begins;
+    names = wants.names;
+  }
   lack_before seen whole kind.Read lack = absurd lack
   lack_before seen whole kind.Write lack = absurd lack
   lack_before seen whole kind.TooManyReads lack = absurd lack
@@ -131,10 +140,12 @@ module _ {H : Type 0} (site : Site) (lacks : H → Method → List ℕ → Front
       → IfErr r (LacksAnswer site lacks old low ended new) → IfErr r (LacksAnswer site lacks old seen whole new)
   lack_wider seen low whole ended (Ok s) front over h = tt
   lack_wider seen low whole ended (Err e) front over h =
-      lack_before seen whole e (subst (λ (l : List ℕ). LacksAnswer site lacks old l (whole && nat_le (length seen) head_limit) new e) front (subst (λ (b : Bool). LacksAnswer site lacks old low b new e) over h))
+      lack_before seen whole e (subst (λ (l : List ℕ). LacksAnswer site lacks old l (whole && nat_le (length seen) head_limit) new e) front
+      (subst (λ (b : Bool). LacksAnswer site lacks old low b new e) over h))
 
   -- why a head that was found gets no answer
-  pub found_lack : {A : Type 0} (seen : List ℕ) (spans : List HeaderSpan) (whole : Bool) (head : RequestSpans) (r : Result A FrontKind) → length spans ≡ fields_limit → IsFound head_limit seen spans head
+  pub found_lack : {A : Type 0} (seen : List ℕ) (spans : List HeaderSpan) (whole : Bool) (head : RequestSpans) (r : Result A FrontKind)
+      → length spans ≡ fields_limit → IsFound head_limit seen spans head
       → IfErr r (λ e. IsLack e × (e ≡ kind.NamesSpent → (h : RequestHead) → IsRequestAt seen spans head h → LacksNamesAt lacks site old h new)) → IfErr r (LacksAnswer site lacks old seen whole new)
   found_lack seen spans whole head (Ok s) room found lack = tt
   found_lack seen spans whole head (Err e) room found lack =

@@ -94,7 +94,8 @@ module _ {H T : Type 0} (site : Site) (lacks : H → Method → List ℕ → Fro
   slice_lack (Some u) kind.TooManyReads h = absurd h
 
   -- of a request that was in hand
-  pub in_hand : {A : Type 0} (hand : Option (UnderWay T)) (u : UnderWay T) (r : Result A FrontKind) → hand ≡ Some u → IfErr r (λ e. IsLack e × (e ≡ kind.NamesSpent → lacks_rest old u.task e new)) → IfErr r (LacksSlice site lacks lacks_rest hand old seen whole new)
+  pub in_hand : {A : Type 0} (hand : Option (UnderWay T)) (u : UnderWay T) (r : Result A FrontKind) → hand ≡ Some u
+      → IfErr r (λ e. IsLack e × (e ≡ kind.NamesSpent → lacks_rest old u.task e new)) → IfErr r (LacksSlice site lacks lacks_rest hand old seen whole new)
   in_hand hand u (Ok x) is h = tt
   in_hand hand u (Err e) is h = subst (λ (o : Option (UnderWay T)). LacksSlice site lacks lacks_rest o old seen whole new e) (sym is) (by e h.0 h.1) where
     by : (e : FrontKind) → IsLack e → (e ≡ kind.NamesSpent → lacks_rest old u.task e new) → LacksSlice site lacks lacks_rest (Some u) old seen whole new e
@@ -108,7 +109,8 @@ module _ {H T : Type 0} (site : Site) (lacks : H → Method → List ℕ → Fro
     by kind.TooManyReads (inr ill) names = absurd (cc)
 
   -- a text is made only where an answer is wanted
-  module _ {K : Type 0} (among : H → Method → List ℕ → RequestOutcome → H → Type 0) (rests : H → T → RequestOutcome → H → Type 0) (tells : K → Said → K → Type 0) (before after : K) (text : List ℕ) (some : ¬ (text ≡ [])) where
+  module _ {K : Type 0} (among : H → Method → List ℕ → RequestOutcome → H → Type 0) (rests : H → T → RequestOutcome → H → Type 0) (tells : K → Said → K → Type 0)
+      (before after : K) (text : List ℕ) (some : ¬ (text ≡ [])) where
     did_wanted : (s : ServeStep) → DoesStep site among tells old before seen whole s text new after → LacksAnswer site lacks old seen whole new kind.NoMemory
     did_wanted (step.Stays size) x = inl (x.turn.head, _, x.begins)
     did_wanted (step.Closes size) x = inl (x.turn.head, _, x.begins)
@@ -116,14 +118,17 @@ module _ {H T : Type 0} (site : Site) (lacks : H → Method → List ℕ → Fro
     did_wanted step.More x = absurd (some x.2.none)
     did_wanted step.Done x = absurd (some x.2.none)
 
-    pub text_wanted : (hand : Option (UnderWay T)) (x : StepSlice T) → StepsFrom site among rests tells hand old before seen whole x text new after → LacksSlice site lacks lacks_rest hand old seen whole new kind.NoMemory
+    pub text_wanted : (hand : Option (UnderWay T)) (x : StepSlice T) → StepsFrom site among rests tells hand old before seen whole x text new after
+        → LacksSlice site lacks lacks_rest hand old seen whole new kind.NoMemory
     text_wanted None (slice.Did s) did = did_wanted s did
     text_wanted None (slice.Works u) did = absurd (some did.2)
     text_wanted (Some u) x did = tt
 
   -- how a slice fails: by itself, or its text has too many bytes
-  module _ {K : Type 0} (among : H → Method → List ℕ → RequestOutcome → H → Type 0) (rests : H → T → RequestOutcome → H → Type 0) (tells : K → Said → K → Type 0) (before after : K) (text : List ℕ) where
-    pub sized_lack : (hand : Option (UnderWay T)) (did : Result (StepSlice T) FrontKind) (e : FrontKind) → IfOk did (λ x. StepsFrom site among rests tells hand old before seen whole x text new after) → IfErr did (LacksSlice site lacks lacks_rest hand old seen whole new)
+  module _ {K : Type 0} (among : H → Method → List ℕ → RequestOutcome → H → Type 0) (rests : H → T → RequestOutcome → H → Type 0) (tells : K → Said → K → Type 0)
+      (before after : K) (text : List ℕ) where
+    pub sized_lack : (hand : Option (UnderWay T)) (did : Result (StepSlice T) FrontKind) (e : FrontKind)
+        → IfOk did (λ x. StepsFrom site among rests tells hand old before seen whole x text new after) → IfErr did (LacksSlice site lacks lacks_rest hand old seen whole new)
         → (did ≡ Err e) ⊎ ((x : StepSlice T) × (did ≡ Ok x) × (e ≡ kind.NoMemory) × ¬ (text ≡ [])) → LacksSlice site lacks lacks_rest hand old seen whole new e
     sized_lack hand did e well ill (inl is) = subst (λ (r : Result (StepSlice T) FrontKind). IfErr r (LacksSlice site lacks lacks_rest hand old seen whole new)) is ill
     sized_lack hand did e well ill (inr (x, is, memory, some)) =
@@ -131,7 +136,8 @@ module _ {H T : Type 0} (site : Site) (lacks : H → Method → List ℕ → Fro
         subst (LacksSlice site lacks lacks_rest hand old seen whole new) (sym memory) (text_wanted among rests tells before after text some hand x steps)
 
 -- the same, of what was taken in hand and seen
-pub lack_as : {H T : Type 0} (site : Site) (lacks : H → Method → List ℕ → FrontKind → H → Type 0) (lacks_rest : H → T → FrontKind → H → Type 0) (old new : H) (took hand : Option (UnderWay T)) (low seen : List ℕ) (whole : Bool) (e : FrontKind)
+pub lack_as : {H T : Type 0} (site : Site) (lacks : H → Method → List ℕ → FrontKind → H → Type 0) (lacks_rest : H → T → FrontKind → H → Type 0) (old new : H)
+    (took hand : Option (UnderWay T)) (low seen : List ℕ) (whole : Bool) (e : FrontKind)
     → took ≡ hand → low ≡ seen → LacksSlice site lacks lacks_rest took old low whole new e → LacksSlice site lacks lacks_rest hand old seen whole new e
 lack_as site lacks lacks_rest old new took hand low seen whole e taken same h =
     subst (λ (l : List ℕ). LacksSlice site lacks lacks_rest hand old l whole new e) same (subst (λ o. LacksSlice site lacks lacks_rest o old low whole new e) taken h)
@@ -177,7 +183,8 @@ module _ {T : Type 0} (c d : HttpConn T) where
   counts_slice (slice.Did s) l = counts_step s l.0
   counts_slice (slice.Works u) l = inl l.0.counted
 
-  module _ {H K : Type 0} (site : Site) (among : H → Method → List ℕ → RequestOutcome → H → Type 0) (rests : H → T → RequestOutcome → H → Type 0) (tells : K → Said → K → Type 0) (now new : H) (before after : K) (whole : Bool) (text : List ℕ) where
+  module _ {H K : Type 0} (site : Site) (among : H → Method → List ℕ → RequestOutcome → H → Type 0) (rests : H → T → RequestOutcome → H → Type 0)
+      (tells : K → Said → K → Type 0) (now new : H) (before after : K) (whole : Bool) (text : List ℕ) where
     wants_step : (s : ServeStep) → DoesStep site among tells now before (unread c.inbox) whole s text new after → Follows s c d → d.wants ≡ true → (c.wants ≡ true) ⊎ WantsMore (unread d.inbox)
     wants_step (step.Stays size) did f is = inl (sym f.wants ∙ is)
     wants_step (step.Closes size) did f is = inl (sym f.wants ∙ is)
@@ -185,7 +192,8 @@ module _ {T : Type 0} (c d : HttpConn T) where
     wants_step step.More did f is = inr (subst WantsMore (sym f.still) did.1)
     wants_step step.Done did f is = inl (sym f.wants ∙ is)
 
-    wants_slice : (hand : Option (UnderWay T)) (x : StepSlice T) → StepsFrom site among rests tells hand now before (unread c.inbox) whole x text new after → Lands x c d → hand ≡ None → d.wants ≡ true → (c.wants ≡ true) ⊎ WantsMore (unread d.inbox)
+    wants_slice : (hand : Option (UnderWay T)) (x : StepSlice T) → StepsFrom site among rests tells hand now before (unread c.inbox) whole x text new after
+        → Lands x c d → hand ≡ None → d.wants ≡ true → (c.wants ≡ true) ⊎ WantsMore (unread d.inbox)
     wants_slice None (slice.Did s) did l none is = wants_step s did l.0 is
     wants_slice hand (slice.Works u) did l none is = inl (sym l.0.wants ∙ is)
     wants_slice (Some u) (slice.Did s) did l none is = absurd (cc)

@@ -16,7 +16,8 @@ abbrev Own : ℕ → List Program → ℕ → HostView → HostView → Type 0
 Own b c number s t = (events : List (Event × Answer)) × GoesBy b c number events s t
 
 -- the events of one connection are behind those of others than another one
-others_more : (b : ℕ) (c : List Program) (number other : ℕ) → other ≢ number → (events : List (Event × Answer)) (s m t : HostView) → Others b c other s m → GoesBy b c number events m t → Others b c other s t
+others_more : (b : ℕ) (c : List Program) (number other : ℕ) → other ≢ number → (events : List (Event × Answer)) (s m t : HostView) → Others b c other s m
+    → GoesBy b c number events m t → Others b c other s t
 unfolding GoesBy GoesByOthers
 others_more b c number other apart [] s m t so same = subst (λ (v : HostView). Others b c other s v) (sym same) so
 others_more b c number other apart (x ∷ xs) s m t so goes =
@@ -44,7 +45,8 @@ module _ {F : Type 0} (device : F → Device) (number : ℕ) where
       (λ b c s m t x y. others_more b c number other apart y.0 s m t x y.1) so own
 
   -- one event of another connection, it may be an opening
-  pub apart_event : (other : ℕ) (from old new : Host F) → other ≢ number → NoEventsOf device from other old → (what : Event) (answer : Answer) → Happened device old new number what answer → NoEventsOf device from other new
+  pub apart_event : (other : ℕ) (from old new : Host F) → other ≢ number → NoEventsOf device from other old → (what : Event) (answer : Answer)
+      → Happened device old new number what answer → NoEventsOf device from other new
   unfolding NoEventsOf GoesByOthers
   apart_event other from old new apart so what answer h =
       leads_on device from old new (λ b c s t. Others b c other s t) (λ b c s t. Answers b c number what s answer t) (λ b c s t. Others b c other s t)

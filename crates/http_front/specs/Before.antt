@@ -9,7 +9,7 @@ use Rattle.filter_chain.specs.declared.host.Host.{Host}
 use Rattle.filter_chain.specs.Hosting.{step_answer}
 use Rattle.filter_chain.specs.HostViews.{HostView}
 use Rattle.http_message.specs.declared.reply.Method.{Method}
-use Rattle.http_front.specs.Among.{AnswersLater, ComesLater, GoesOnLater, HandlesAmong, Others, Rests, RestsAmong, RunsLater}
+use Rattle.http_front.specs.Among.{AnswersLater, ComesLater, GoesOnLater, HandlesAmong, Others, Rests, RestsAmong, RunsIn, among}
 use Rattle.http_front.specs.Driven.{GoesByOthers, NoEventsOf}
 use Rattle.http_front.specs.declared.handler.RequestOutcome.{RequestOutcome}
 use Rattle.http_front.specs.declared.running.CallEnd.{CallEnd}
@@ -29,13 +29,14 @@ module _ (b : ℕ) (c : List Program) (number : ℕ) where
     pub answers_before : (what : Event) (answer : Answer) (t : HostView) → AnswersLater b c number what m answer t → AnswersLater b c number what s answer t
     answers_before what answer t a = (a.0, others_join a.1.0 s m a.0 gap a.1.1, a.2)
 
-    steps_before : (n : ℕ) (before : HostView) → GoesOnLater b c number n m before → (answer : Answer) (t : HostView) → AnswersLater b c number event.Step before answer t
+    steps_before : (n : ℕ) (before : HostView) → GoesOnLater b c number n m before → (answer : Answer) (t : HostView)
+        → AnswersLater b c number event.Step before answer t
         → (now : HostView) × GoesOnLater b c number n s now × AnswersLater b c number event.Step now answer t
     unfolding GoesOnLater
     steps_before zero before same answer t a = (s, refl, answers_before event.Step answer t (subst (λ (v : HostView). AnswersLater b c number event.Step v answer t) same a))
     steps_before (suc n) before goes answer t a = (before, (goes.0, answers_before event.Step _ goes.0 goes.1, goes.2), a)
 
-    pub runs_before : (how : CallEnd) (t : HostView) → RunsLater b c number m how t → RunsLater b c number s how t
+    pub runs_before : (how : CallEnd) (t : HostView) → RunsIn among b c number m how t → RunsIn among b c number s how t
     runs_before how t r =
         let x = steps_before r.runs.count r.runs.before r.runs.goes (step_answer r.answer) t r.runs.last in
         record { answer = r.answer; runs = record { count = r.runs.count; before = x.0; few = r.runs.few; goes = x.1; last = x.2; stops = r.runs.stops }; told = r.told }
@@ -43,12 +44,13 @@ module _ (b : ℕ) (c : List Program) (number : ℕ) where
     comes_before : (method : Method) (file : List ℕ) (o : RequestOutcome) (t : HostView) → ComesLater b c number method file m o t → ComesLater b c number method file s o t
     comes_before method file o t x = record { answer = x.answer; mid = x.mid; acts = answers_before event.Begin _ x.mid x.acts; inits = x.inits }
 
-    rests_before : (k : RequestTask) (o : RequestOutcome) (t : HostView) → Rests b c number k m o t → Rests b c number k s o t
+    rests_before : (k : RequestTask) (o : RequestOutcome) (t : HostView) → Rests among b c number k m o t → Rests among b c number k s o t
     rests_before (task.Opens method name) o t x = record { init = x.init; mid = x.mid; runs = runs_before x.init x.mid x.runs; opens = x.opens }
     rests_before (task.Brings rest) o t x = record { first = x.first; mid = x.mid; runs = runs_before x.first x.mid x.runs; carries = x.carries }
 
 module _ {F : Type 0} (device : F → Device) (number : ℕ) (old now new : Host F) where
-  pub among_later : (method : Method) (file : List ℕ) (o : RequestOutcome) → NoEventsOf device old number now → HandlesAmong device now number method file o new → HandlesAmong device old number method file o new
+  pub among_later : (method : Method) (file : List ℕ) (o : RequestOutcome) → NoEventsOf device old number now → HandlesAmong device now number method file o new
+      → HandlesAmong device old number method file o new
   unfolding NoEventsOf HandlesAmong
   among_later method file o gap comes =
       leads_on device old now new (λ b c s t. Others b c number s t) (λ b c s t. ComesLater b c number method file s o t) (λ b c s t. ComesLater b c number method file s o t)
@@ -57,5 +59,5 @@ module _ {F : Type 0} (device : F → Device) (number : ℕ) (old now new : Host
   pub rests_later : (k : RequestTask) (o : RequestOutcome) → NoEventsOf device old number now → RestsAmong device now number k o new → RestsAmong device old number k o new
   unfolding NoEventsOf RestsAmong
   rests_later k o gap rests =
-      leads_on device old now new (λ b c s t. Others b c number s t) (λ b c s t. Rests b c number k s o t) (λ b c s t. Rests b c number k s o t)
+      leads_on device old now new (λ b c s t. Others b c number s t) (λ b c s t. Rests among b c number k s o t) (λ b c s t. Rests among b c number k s o t)
       (λ b c s m t x y. rests_before b c number s m x k o t y) gap rests

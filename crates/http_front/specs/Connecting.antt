@@ -98,7 +98,8 @@ module _ {F K : Type 0} (device : F → Device) (tells : K → Said → K → Ty
   -- The front of the responses is written, as far as the kind of the fault tells.
   pub record ServesFront (old : Host F) (before : K) (stream : List ℕ) (e : FrontFault) (unread was is : Option (List ℕ)) (new : Host F) (after : K) : Type 0 where
     pub text : List ℕ
-    pub connects : Connects old new e.left (λ number a z. FallsBy site (λ o. Handles device o number) tells (λ o method file. LacksFor device o number) e.kind e.left a before stream text unread z after)
+    pub connects : Connects old new e.left (λ number a z. FallsBy site (λ o. Handles device o number) tells
+        (λ o method file. LacksFor device o number) e.kind e.left a before stream text unread z after)
     pub written : Appends was is text
 
   -- No connection is opened, and nothing is read or written. The clock is not asked.

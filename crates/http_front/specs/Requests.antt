@@ -1,10 +1,8 @@
 -- A request on the host of chains, where nothing happens but its own events.
-use Rattle.std.specs.Prelude.{ℕ, List, Option}
+use Rattle.std.specs.Prelude.{ℕ, List}
 use Rattle.module_code.specs.Program.{Program}
-use Rattle.run_model.specs.declared.event.Piece.{Piece}
 use Rattle.filter_chain.specs.Running.{StepsToEnd}
 use Rattle.filter_chain.specs.HostViews.{HostView, Answers}
-use Rattle.http_message.specs.declared.failure.Failure.{Failure}
 use Rattle.http_message.specs.declared.reply.Method.{Method}
 unfoldable pub use Rattle.http_front.specs.RequestEvents.{brigades_from, brigades_of}
 pub use Rattle.http_front.specs.RequestEvents.{piece_bytes, last_brigade, brigades_for, lack_of, ended_of, unopened, IfSucceeded, IsOfRequest}
@@ -24,35 +22,11 @@ module _ (budget : ℕ) (chain : List Program) (number : ℕ) where
   abbrev pub EndsRequest : HostView → HostView → Type 0
   EndsRequest = by.EndsRequest (Answers budget chain number) (StepsToEnd budget chain number)
 
-  abbrev pub BringsBrigade : List Piece → HostView → CallEnd → HostView → Type 0
-  BringsBrigade = by.BringsBrigade (Answers budget chain number) (StepsToEnd budget chain number)
-
-  abbrev pub BringsAll : List (List Piece) → HostView → CallEnd → HostView → Type 0
-  BringsAll = by.BringsAll (Answers budget chain number) (StepsToEnd budget chain number)
-
-  abbrev pub EndsBare : Option Failure → HostView → RequestOutcome → HostView → Type 0
-  EndsBare = by.EndsBare (Answers budget chain number) (StepsToEnd budget chain number)
-
   abbrev pub TakesOutput : HostView → RequestOutcome → HostView → Type 0
   TakesOutput = by.TakesOutput (Answers budget chain number) (StepsToEnd budget chain number)
 
-  abbrev pub EndsWithOutput : HostView → RequestOutcome → HostView → Type 0
-  EndsWithOutput = by.EndsWithOutput (Answers budget chain number) (StepsToEnd budget chain number)
-
   abbrev pub Finishes : CallEnd → HostView → RequestOutcome → HostView → Type 0
   Finishes = by.Finishes (Answers budget chain number) (StepsToEnd budget chain number)
-
-  abbrev pub Feeds : CallEnd → Method → ℕ × ℕ → HostView → RequestOutcome → HostView → Type 0
-  Feeds = by.Feeds (Answers budget chain number) (StepsToEnd budget chain number)
-
-  abbrev pub OpensAndFeeds : CallEnd → Method → List ℕ → HostView → RequestOutcome → HostView → Type 0
-  OpensAndFeeds = by.OpensAndFeeds (Answers budget chain number) (StepsToEnd budget chain number)
-
-  abbrev pub OpensUnless : CallEnd → Method → List ℕ → HostView → RequestOutcome → HostView → Type 0
-  OpensUnless = by.OpensUnless (Answers budget chain number) (StepsToEnd budget chain number)
-
-  abbrev pub Inits : Method → List ℕ → HostView → RequestOutcome → HostView → Type 0
-  Inits = by.Inits (Answers budget chain number) (StepsToEnd budget chain number)
 
   abbrev pub ComesOf : Method → List ℕ → HostView → RequestOutcome → HostView → Type 0
   ComesOf = by.ComesOf (Answers budget chain number) (StepsToEnd budget chain number)

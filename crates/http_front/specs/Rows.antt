@@ -164,7 +164,8 @@ pub record HttpMissing : Type 0 where
 
 -- A connection that is broken, and a filter that answers that it failed.
 pub record HttpFailing : Type 0 where
-  pub answered : (why : Failure) → IsAnswered get (failed why) (codes "HTTP/1.1 500 Internal Server Error\r\nDate: Sun, 06 Nov 1994 08:49:37 GMT\r\nConnection: close\r\nContent-Length: 0\r\n\r\n") true
+  pub answered : (why : Failure) → IsAnswered get (failed why)
+      (codes "HTTP/1.1 500 Internal Server Error\r\nDate: Sun, 06 Nov 1994 08:49:37 GMT\r\nConnection: close\r\nContent-Length: 0\r\n\r\n") true
 
 pub record HttpEmptyFile : Type 0 where
   pub answered : IsAnswered get (served []) (codes "HTTP/1.1 200 OK\r\nDate: Sun, 06 Nov 1994 08:49:37 GMT\r\nTransfer-Encoding: chunked\r\n\r\n0\r\n\r\n") false
@@ -176,10 +177,12 @@ pub record HttpLargeFile : Type 0 where
 
 pub record HttpRequestBody : Type 0 where
   pub asks : Asks (with_length (codes " 3")) (Some ContentTooLarge) false (Some (codes "/a"))
-  pub answered : IsAnswered (with_length (codes " 3")) (bare ContentTooLarge) (codes "HTTP/1.1 413 Content Too Large\r\nDate: Sun, 06 Nov 1994 08:49:37 GMT\r\nConnection: close\r\nContent-Length: 0\r\n\r\n") true
+  pub answered : IsAnswered (with_length (codes " 3")) (bare ContentTooLarge)
+      (codes "HTTP/1.1 413 Content Too Large\r\nDate: Sun, 06 Nov 1994 08:49:37 GMT\r\nConnection: close\r\nContent-Length: 0\r\n\r\n") true
   pub none_asks : Asks (with_length (codes " 0")) None false (Some (codes "/a"))
   pub none_reply : (o : RequestOutcome) → reply_of (with_length (codes " 0")) o ≡ reply_of get o
 
 pub record HttpConnectionOption : Type 0 where
   pub asks : Asks get_closing None true (Some (codes "/a"))
-  pub answered : IsAnswered get_closing (served (codes "hi")) (codes "HTTP/1.1 200 OK\r\nDate: Sun, 06 Nov 1994 08:49:37 GMT\r\nConnection: close\r\nTransfer-Encoding: chunked\r\n\r\n2\r\nhi\r\n0\r\n\r\n") true
+  pub answered : IsAnswered get_closing (served (codes "hi"))
+      (codes "HTTP/1.1 200 OK\r\nDate: Sun, 06 Nov 1994 08:49:37 GMT\r\nConnection: close\r\nTransfer-Encoding: chunked\r\n\r\n2\r\nhi\r\n0\r\n\r\n") true

@@ -75,6 +75,7 @@ module _ {H K : Type 0} (site : Site) (handles : H → Method → List ℕ → R
   Standing old before r q w v false unread n new after = SoFar old before r q w v unread n new after
 
   -- It goes on so, or fails.
-  abbrev pub Goes : {T : Type 0} → (H → Method → List ℕ → FrontKind → H → Type 0) → H → K → Option (List ℕ) → Option (List ℕ) → Option (List ℕ) → Option (List ℕ) → Bool → List ℕ → ℕ → H → K → Result T FrontKind → Type 0
+  abbrev pub Goes : {T : Type 0} → (H → Method → List ℕ → FrontKind → H → Type 0) → H → K → Option (List ℕ) → Option (List ℕ) → Option (List ℕ) → Option (List ℕ)
+      → Bool → List ℕ → ℕ → H → K → Result T FrontKind → Type 0
   Goes lacks old before r q w v over unread n new after (Ok x) = Standing old before r q w v over unread n new after
   Goes lacks old before r q w v over unread n new after (Err e) = FailsBy lacks old before r q w v new after e

@@ -35,7 +35,8 @@ IsNext c next.Works = (pending c ≡ []) × (c.over ≡ false) × ¬ (c.hand ≡
 
 -- among: what a request comes to, beside others. rests: what is left of one does. apart: only what belongs to other connections happened. start, first: the
 -- handler and the clock as the connection began. came: all bytes that were taken in. went: all that were written.
-module _ {H K T : Type 0} (site : Site) (among : H → Method → List ℕ → RequestOutcome → H → Type 0) (rests : H → T → RequestOutcome → H → Type 0) (tells : K → Said → K → Type 0) (apart : H → H → Type 0) (start : H) (first : K) (came went : List ℕ) where
+module _ {H K T : Type 0} (site : Site) (among : H → Method → List ℕ → RequestOutcome → H → Type 0) (rests : H → T → RequestOutcome → H → Type 0)
+    (tells : K → Said → K → Type 0) (apart : H → H → Type 0) (start : H) (first : K) (came went : List ℕ) where
   -- Since the last answer only others had their turns; or a request is under way. mid, now: the handler then, and now
   abbrev pub IsInHand : Option (UnderWay T) → List ℕ → H → H → Type 0
   IsInHand None seen mid now = apart mid now

@@ -113,8 +113,10 @@ pub fn serve<R: Source, W: Sink, F: Files + Drop, K: Clock>(
     requires alive { IsAlive F.device host.old }
     ensures still { IsAlive F.device host.new }
     ensures visits { Visits F.device K.tells site.now host.old result host.new }
-    ensures ok { IfOk result (λ s. IfSome (R.remaining (source_of reader.old)) (λ stream. ServesAll F.device K.tells site.now host.old clock.old stream s.requests (W.contents sink.old) (W.contents sink.new) host.new clock.new)) }
-    ensures err { IfErr result (λ e. IfSome (R.remaining (source_of reader.old)) (λ stream. ServingFails F.device K.tells site.now host.old clock.old stream e (R.remaining (source_of reader.new)) (W.contents sink.old) (W.contents sink.new) host.new clock.new)) }
+    ensures ok { IfOk result (λ s. IfSome (R.remaining (source_of reader.old))
+        (λ stream. ServesAll F.device K.tells site.now host.old clock.old stream s.requests (W.contents sink.old) (W.contents sink.new) host.new clock.new)) }
+    ensures err { IfErr result (λ e. IfSome (R.remaining (source_of reader.old))
+        (λ stream. ServingFails F.device K.tells site.now host.old clock.old stream e (R.remaining (source_of reader.new)) (W.contents sink.old) (W.contents sink.new) host.new clock.new)) }
     ensures source { BlamesSource (kind_result result) (R.failed (source_of reader.old)) (R.failed (source_of reader.new)) (reads_left reader.new) }
     ensures sink { BlamesSink (kind_result result) (W.failed sink.old) (W.failed sink.new) }
 {

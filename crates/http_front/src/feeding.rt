@@ -1,23 +1,19 @@
-//! A file, brought to the host of chains.
+//! The brigades of a file, one after another.
 
-ghost use Rattle.std.specs.Prelude.{◌≡◌, ◌↔◌, ℕ, List, [], ◌∷◌, IfOk, IfErr, IsTrue};
-ghost use Rattle.module_code.specs.Program.{Program};
+ghost use Rattle.std.specs.Prelude.{◌≡◌, ◌∷◌, ◌≤◌, ◌^◌, [], length, Some, IfOk};
 ghost use Rattle.run_model.specs.declared.event.Piece.TheVariants.{File};
-ghost use Rattle.filter_chain.specs.HostViews.{HostView};
-ghost use Rattle.http_front.specs.Outcomes.{IsLack};
-ghost use Rattle.http_front.specs.Driven.{LacksFor, OnlyEventsOf, IsAlive, Refines};
-ghost use Rattle.http_front.specs.Requests.{BringsBrigade, BringsAll, IfSucceeded, brigades_for, brigades_of, last_brigade, piece_bytes};
+ghost use Rattle.http_front.specs.Among.{brigades_left};
+ghost use Rattle.http_front.specs.Requests.{brigades_for, last_brigade, piece_bytes};
 
-use crate::fault::FrontKind;
-use crate::running::{CallEnd, bring};
-use filter_chain::{Files, Host, Piece, Seq};
+use crate::task::FileRest;
+use filter_chain::{Piece, Seq};
 use http_message::Method;
 use std::alloc::{AllocError, Global};
 
 /// The most bytes of a file in one brigade.
-pub(crate) const PIECE_BYTES: u64 = 65536;
+const PIECE_BYTES: u64 = 65536;
 
-pub(crate) fn whole_brigade(alloc: Global, file: u64, start: u64) -> Result<Seq<Piece>, AllocError>
+fn whole_brigade(alloc: Global, file: u64, start: u64) -> Result<Seq<Piece>, AllocError>
     ensures { IfOk result (λ pieces. pieces ≡ File file start piece_bytes ∷ []) }
 {
     let mut pieces = Seq::new(alloc);
@@ -29,12 +25,7 @@ pub(crate) fn whole_brigade(alloc: Global, file: u64, start: u64) -> Result<Seq<
     Ok(pieces)
 }
 
-pub(crate) fn last_brigade(
-    alloc: Global,
-    file: u64,
-    start: u64,
-    len: u64,
-) -> Result<Seq<Piece>, AllocError>
+fn last_brigade(alloc: Global, file: u64, start: u64, len: u64) -> Result<Seq<Piece>, AllocError>
     ensures { IfOk result (λ pieces. pieces ≡ last_brigade file start len) }
 {
     let mut pieces = Seq::new(alloc);
@@ -45,117 +36,40 @@ pub(crate) fn last_brigade(
     Ok(pieces)
 }
 
-fn bring_whole<F: Files + Drop>(
-    alloc: Global,
-    host: &mut Host<F>,
-    number: u64,
-    file: u64,
-    start: u64,
-) -> Result<CallEnd, FrontKind>
-    requires { IsAlive F.device host.old }
-    ensures leads { Refines F.device host.old host.new (λ (b : ℕ) (c : List Program) (s t : HostView). IfOk result (λ how. BringsBrigade b c number (File file start piece_bytes ∷ []) s how t)) }
-    ensures beside { (from : Host F) → OnlyEventsOf F.device from number host.old → OnlyEventsOf F.device from number host.new }
-    ensures err { IfErr result IsLack }
-    ensures lacks { (from : Host F) → OnlyEventsOf F.device from number host.old → IfErr result (λ e. LacksFor F.device from number e host.new) }
-{
-    match whole_brigade(alloc, file, start) {
-        Ok(pieces) => bring(host, number, pieces),
-        Err(AllocError) => Err(FrontKind::NoMemory),
-    }
-}
-
-fn bring_last<F: Files + Drop>(
-    alloc: Global,
-    host: &mut Host<F>,
-    number: u64,
-    file: u64,
-    start: u64,
-    len: u64,
-) -> Result<CallEnd, FrontKind>
-    requires { IsAlive F.device host.old }
-    ensures leads { Refines F.device host.old host.new (λ (b : ℕ) (c : List Program) (s t : HostView). IfOk result (λ how. BringsBrigade b c number (last_brigade file start len) s how t)) }
-    ensures beside { (from : Host F) → OnlyEventsOf F.device from number host.old → OnlyEventsOf F.device from number host.new }
-    ensures err { IfErr result IsLack }
-    ensures lacks { (from : Host F) → OnlyEventsOf F.device from number host.old → IfErr result (λ e. LacksFor F.device from number e host.new) }
-{
-    match last_brigade(alloc, file, start, len) {
-        Ok(pieces) => bring(host, number, pieces),
-        Err(AllocError) => Err(FrontKind::NoMemory),
-    }
-}
-
-pub(crate) fn succeeded(how: CallEnd) -> bool
-    ensures { IsTrue result ↔ how ≡ CallEnd.Succeeded }
-{
-    matches!(how, CallEnd::Succeeded)
-}
-
-/// Brings a file, up to the first brigade that does not succeed.
-fn bring_file<F: Files + Drop>(
-    alloc: Global,
-    host: &mut Host<F>,
-    number: u64,
-    file: u64,
-    len: u64,
-) -> Result<CallEnd, FrontKind>
-    requires { IsAlive F.device host.old }
-    ensures leads { Refines F.device host.old host.new (λ (b : ℕ) (c : List Program) (s t : HostView). IfOk result (λ how. BringsAll b c number (brigades_of file len) s how t)) }
-    ensures beside { (from : Host F) → OnlyEventsOf F.device from number host.old → OnlyEventsOf F.device from number host.new }
-    ensures err { IfErr result IsLack }
-    ensures lacks { (from : Host F) → OnlyEventsOf F.device from number host.old → IfErr result (λ e. LacksFor F.device from number e host.new) }
-{
-    let mut start = 0;
-    let mut left = len.saturating_sub(1) / PIECE_BYTES;
-    while left > 0 {
-        let how = bring_whole(alloc, host, number, file, start)?;
-        if !succeeded(how) {
-            return Ok(how);
-        }
-        start += PIECE_BYTES;
-        left -= 1;
-    }
-    bring_last(alloc, host, number, file, start, len - start)
-}
-
-/// Brings what a method wants of a file.
-fn feed_method<F: Files + Drop>(
-    alloc: Global,
-    host: &mut Host<F>,
-    number: u64,
-    method: Method,
-    file: (u64, u64),
-) -> Result<CallEnd, FrontKind>
-    requires { IsAlive F.device host.old }
-    ensures leads { Refines F.device host.old host.new (λ (b : ℕ) (c : List Program) (s t : HostView). IfOk result (λ how. BringsAll b c number (brigades_for method file) s how t)) }
-    ensures beside { (from : Host F) → OnlyEventsOf F.device from number host.old → OnlyEventsOf F.device from number host.new }
-    ensures err { IfErr result IsLack }
-    ensures lacks { (from : Host F) → OnlyEventsOf F.device from number host.old → IfErr result (λ e. LacksFor F.device from number e host.new) }
+/// What a method wants of a file.
+pub(crate) fn wanted(method: Method, file: (u64, u64)) -> Option<FileRest>
+    ensures all { brigades_left result ≡ brigades_for method file }
+    ensures few { length (brigades_left result) ≤ 2 ^ 48 }
 {
     match method {
-        Method::Get => bring_file(alloc, host, number, file.0, file.1),
-        Method::Head => Ok(CallEnd::Succeeded),
-        Method::Other => Ok(CallEnd::Succeeded),
+        Method::Get => Some(FileRest {
+            file: file.0,
+            len: file.1,
+            start: 0,
+            left: file.1.saturating_sub(1) / PIECE_BYTES,
+        }),
+        Method::Head => None,
+        Method::Other => None,
     }
 }
 
-/// Brings what a method wants of a file, unless `init` did not succeed.
-pub(crate) fn feed<F: Files + Drop>(
+/// The next brigade, and what is left behind it.
+pub(crate) fn next_brigade(
     alloc: Global,
-    host: &mut Host<F>,
-    number: u64,
-    init: CallEnd,
-    method: Method,
-    file: (u64, u64),
-) -> Result<CallEnd, FrontKind>
-    requires { IsAlive F.device host.old }
-    ensures leads { Refines F.device host.old host.new (λ (b : ℕ) (c : List Program) (s t : HostView). IfOk result (λ how. IfSucceeded init (BringsAll b c number (brigades_for method file) s how t) ((how ≡ init) × (t ≡ s)))) }
-    ensures beside { (from : Host F) → OnlyEventsOf F.device from number host.old → OnlyEventsOf F.device from number host.new }
-    ensures err { IfErr result IsLack }
-    ensures lacks { (from : Host F) → OnlyEventsOf F.device from number host.old → IfErr result (λ e. LacksFor F.device from number e host.new) }
+    rest: FileRest,
+) -> Result<(Seq<Piece>, Option<FileRest>), AllocError>
+    ensures { IfOk result (λ r. brigades_left (Some rest) ≡ r.0 ∷ brigades_left r.1) }
 {
-    match init {
-        CallEnd::Succeeded => feed_method(alloc, host, number, method, file),
-        CallEnd::Failed(why) => Ok(CallEnd::Failed(why)),
-        CallEnd::Broke(why) => Ok(CallEnd::Broke(why)),
+    if rest.left == 0 {
+        let pieces = last_brigade(alloc, rest.file, rest.start, rest.len - rest.start)?;
+        return Ok((pieces, None));
     }
+    let pieces = whole_brigade(alloc, rest.file, rest.start)?;
+    let left = FileRest {
+        file: rest.file,
+        len: rest.len,
+        start: rest.start + PIECE_BYTES,
+        left: rest.left - 1,
+    };
+    Ok((pieces, Some(left)))
 }

@@ -123,7 +123,8 @@ pub trait Handler {
     ghost apart_on: { (from old new : Self) (number other : ℕ) → other ≢ number → apart from other old → beside old number new → apart from other new };
 
     // What belongs to others may have happened before.
-    ghost among_later: { (old now new : Self) (number : ℕ) (method : Method) (file : List ℕ) (o : RequestOutcome) → apart old number now → among now number method file o new → among old number method file o new };
+    ghost among_later: { (old now new : Self) (number : ℕ) (method : Method) (file : List ℕ) (o : RequestOutcome) → apart old number now
+        → among now number method file o new → among old number method file o new };
 
     ghost rests_later: { (old now new : Self) (number : ℕ) (task : Self.Task) (o : RequestOutcome) → apart old number now → rests now number task o new → rests old number task o new };
 }

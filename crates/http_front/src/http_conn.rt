@@ -359,7 +359,8 @@ impl<T: Drop> HttpConn<T> {
         ensures open { H.is_open handler.new number }
         ensures beside { (from : H) → H.beside from number handler.old → H.beside from number handler.new }
         ensures clock { (from : K) → Passes K.tells from clock.old → Passes K.tells from clock.new }
-        ensures did { OnOk result ((x : StepSlice T) × StepsFrom site.now (λ old. P.comes old number) (λ old. P.rests old number) K.tells self.old.hand handler.old clock.old (unread self.old.inbox) self.old.whole x (pending self.new) handler.new clock.new
+        ensures did { OnOk result ((x : StepSlice T) × StepsFrom site.now (λ old. P.comes old number) (λ old. P.rests old number) K.tells self.old.hand handler.old
+            clock.old (unread self.old.inbox) self.old.whole x (pending self.new) handler.new clock.new
             × Lands x self.old self.new) }
         ensures whole { self.new.whole ≡ self.old.whole }
         ensures lacks { IfErr result (LacksSlice site.now (λ old. H.lacks old number) (λ old. P.lacks_rest old number) self.old.hand handler.old (unread self.old.inbox) self.old.whole handler.new) }
@@ -408,13 +409,16 @@ impl<T: Drop> HttpConn<T> {
         requires room { 0 < length buffer.old }
         ensures open { H.is_open handler.new number }
         ensures own { (bytes text : List ℕ) × Consumes (R.remaining reader.old) (R.remaining reader.new) bytes × Appends (W.contents sink.old) (W.contents sink.new) text
-            × ((start : H) (first : K) (came went : List ℕ) → Stands site.now (λ old. H.among old number) (λ old. H.rests old number) K.tells (λ old new. H.apart old number new) start first came went self.old handler.old clock.old
-            → GoesSo site.now (λ old. H.among old number) (λ old. H.rests old number) K.tells (λ old new. H.apart old number new) start first (came ++ bytes) (went ++ text) result self.new handler.new clock.new) }
+            × ((start : H) (first : K) (came went : List ℕ) → Stands site.now (λ old. H.among old number) (λ old. H.rests old number) K.tells
+            (λ old new. H.apart old number new) start first came went self.old handler.old clock.old
+            → GoesSo site.now (λ old. H.among old number) (λ old. H.rests old number) K.tells (λ old new. H.apart old number new) start first (came ++ bytes)
+            (went ++ text) result self.new handler.new clock.new) }
         ensures others { (k : ℕ) → k ≢ number → (start : H) (first : K) (came went : List ℕ) (other : HttpConn T)
             → Stands site.now (λ old. H.among old k) (λ old. H.rests old k) K.tells (λ old new. H.apart old k new) start first came went other handler.old clock.old
             → Stands site.now (λ old. H.among old k) (λ old. H.rests old k) K.tells (λ old new. H.apart old k new) start first came went other handler.new clock.new }
         ensures whole { self.new.whole ≡ true → (self.old.whole ≡ true) ⊎ IsAtEnd (R.remaining reader.new) }
-        ensures fails { IfErr result (Fails site.now (λ old. H.lacks old number) (λ old. H.lacks_rest old number) (length buffer.new) (R.remaining reader.old) (R.remaining reader.new) handler.old handler.new self.old) }
+        ensures fails { IfErr result (Fails site.now (λ old. H.lacks old number) (λ old. H.lacks_rest old number) (length buffer.new) (R.remaining reader.old)
+            (R.remaining reader.new) handler.old handler.new self.old) }
         ensures none { OnErr result (pending self.old ≡ [] → pending self.new ≡ []) }
         ensures few { H.steps handler.old number (most_steps self.old.hand) handler.new }
         ensures wants { OnOk result (WantsSo self.old self.new) }

@@ -1,7 +1,8 @@
 //! Worked examples of what requests are answered. The function does nothing: what its contract says holds of the definitions alone.
 
 ghost use Rattle.http_front.specs.FeedRows.{CallRows, FileRows};
-ghost use Rattle.http_front.specs.Rows.{Http10, HttpBadHead, HttpConnectionOption, HttpEmptyFile, HttpFailing, HttpGet, HttpGetAbsolute, HttpHead, HttpLargeFile, HttpManyFields, HttpMethods, HttpMissing, HttpRequestBody, RepliesAreThese};
+ghost use Rattle.http_front.specs.Rows.{Http10, HttpBadHead, HttpConnectionOption, HttpEmptyFile, HttpFailing, HttpGet, HttpGetAbsolute, HttpHead};
+ghost use Rattle.http_front.specs.Rows.{HttpLargeFile, HttpManyFields, HttpMethods, HttpMissing, HttpRequestBody, RepliesAreThese};
 
 /// Requests ask for what was worked out by hand, and are answered with the texts that were: heads as values, what refuses them, the path that
 /// they ask for, the whole response at a moment, what is brought of a file, and what a request comes to by how its calls ended.

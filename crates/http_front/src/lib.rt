@@ -33,6 +33,4 @@ pub use laws::worked_rows;
 pub use response::ResponseText;
 pub use running::CallEnd;
 pub use slicing::SLICE_STEPS;
-pub use steps::ServeStep;
 pub use task::{FileRest, RequestTask};
-pub use under_way::{Asked, StepSlice, UnderWay};

@@ -1,17 +1,17 @@
-//! A request for a file, on the host of chains.
+//! How a request for a file ends on the host of chains, and the host as what handles requests.
 
 ghost use Rattle.std.specs.Prelude.{◌≡◌, ℕ, List, IfOk, IfErr};
 ghost use Rattle.module_code.specs.Program.{Program};
 ghost use Rattle.filter_chain.specs.HostViews.{HostView};
+ghost use Rattle.http_front.specs.Among.{EndsBareIn, EndsWithOutputIn, FinishesIn, MakesSlice, Way, calls_after};
 ghost use Rattle.http_front.specs.Outcomes.{IsLack, IsUnserved};
 ghost use Rattle.http_front.specs.Driven.{LacksFor, OnlyEventsOf, IsAlive, Refines, StepsAtMost};
-ghost use Rattle.http_front.specs.Requests.{ComesOf, EndsBare, EndsWithOutput, Feeds, Finishes, Inits, OpensAndFeeds, OpensUnless, TakesOutput, unopened};
+ghost use Rattle.http_front.specs.Requests.{TakesOutput, unopened};
 
 use crate::fault::FrontKind;
-use crate::feeding::feed;
 use crate::handler::{Handler, RequestOutcome, Slice};
-use crate::running::{CallEnd, end_request, run_call, unless_lack};
-use crate::slicing::{begin_request, go_on_request};
+use crate::running::{CallEnd, end_request};
+use crate::slicing::{begin_request, go_on_request, handle_request};
 use crate::task::RequestTask;
 use filter_chain::{Files, Host, Refusal, Seq};
 use http_message::{Failure, Method, StatusCode};
@@ -64,17 +64,18 @@ fn finish_with_output<F: Files + Drop>(
     alloc: Global,
     host: &mut Host<F>,
     number: u64,
-) -> Result<RequestOutcome, FrontKind>
+) -> Result<Slice<RequestTask>, FrontKind>
     requires { IsAlive F.device host.old }
-    ensures leads { Refines F.device host.old host.new (λ (b : ℕ) (c : List Program) (s t : HostView). IfOk result (λ o. EndsWithOutput b c number s o t)) }
+    ensures leads { MakesSlice F.device number (λ (way : Way) (b : ℕ) (c : List Program). EndsWithOutputIn way b c number) host.old result host.new }
     ensures beside { (from : Host F) → OnlyEventsOf F.device from number host.old → OnlyEventsOf F.device from number host.new }
     ensures err { IfErr result IsLack }
     ensures lacks { (from : Host F) → OnlyEventsOf F.device from number host.old → IfErr result (λ e. LacksFor F.device from number e host.new) }
     ensures few { (from : Host F) (n : ℕ) → StepsAtMost F.device from number n host.old → StepsAtMost F.device from number n host.new }
+    ensures calls { IfOk result (λ r. calls_after r ≡ 0) }
 {
     let outcome = output(alloc, host, number);
     end_request(host, number)?;
-    Ok(outcome)
+    Ok(Slice::Done(outcome))
 }
 
 /// Ends the request without content.
@@ -83,16 +84,17 @@ pub(crate) fn finish_bare<F: Files + Drop>(
     host: &mut Host<F>,
     number: u64,
     failure: Option<Failure>,
-) -> Result<RequestOutcome, FrontKind>
+) -> Result<Slice<RequestTask>, FrontKind>
     requires { IsAlive F.device host.old }
-    ensures leads { Refines F.device host.old host.new (λ (b : ℕ) (c : List Program) (s t : HostView). IfOk result (λ o. EndsBare b c number failure s o t)) }
+    ensures leads { MakesSlice F.device number (λ (way : Way) (b : ℕ) (c : List Program). EndsBareIn way b c number failure) host.old result host.new }
     ensures beside { (from : Host F) → OnlyEventsOf F.device from number host.old → OnlyEventsOf F.device from number host.new }
     ensures err { IfErr result IsLack }
     ensures lacks { (from : Host F) → OnlyEventsOf F.device from number host.old → IfErr result (λ e. LacksFor F.device from number e host.new) }
     ensures few { (from : Host F) (n : ℕ) → StepsAtMost F.device from number n host.old → StepsAtMost F.device from number n host.new }
+    ensures calls { IfOk result (λ r. calls_after r ≡ 0) }
 {
     end_request(host, number)?;
-    Ok(bare(alloc, failure))
+    Ok(Slice::Done(bare(alloc, failure)))
 }
 
 /// Finishes a request whose last call ended so.
@@ -101,124 +103,19 @@ pub(crate) fn finish<F: Files + Drop>(
     host: &mut Host<F>,
     number: u64,
     how: CallEnd,
-) -> Result<RequestOutcome, FrontKind>
+) -> Result<Slice<RequestTask>, FrontKind>
     requires { IsAlive F.device host.old }
-    ensures leads { Refines F.device host.old host.new (λ (b : ℕ) (c : List Program) (s t : HostView). IfOk result (λ o. Finishes b c number how s o t)) }
+    ensures leads { MakesSlice F.device number (λ (way : Way) (b : ℕ) (c : List Program). FinishesIn way b c number how) host.old result host.new }
     ensures beside { (from : Host F) → OnlyEventsOf F.device from number host.old → OnlyEventsOf F.device from number host.new }
     ensures err { IfErr result IsLack }
     ensures lacks { (from : Host F) → OnlyEventsOf F.device from number host.old → IfErr result (λ e. LacksFor F.device from number e host.new) }
     ensures few { (from : Host F) (n : ℕ) → StepsAtMost F.device from number n host.old → StepsAtMost F.device from number n host.new }
+    ensures calls { IfOk result (λ r. calls_after r ≡ 0) }
 {
     match how {
         CallEnd::Succeeded => finish_with_output(alloc, host, number),
         CallEnd::Failed(why) => finish_bare(alloc, host, number, Some(why)),
-        CallEnd::Broke(why) => Ok(bare(alloc, Some(why))),
-    }
-}
-
-/// Brings a file that is open, and finishes.
-fn feed_opened<F: Files + Drop>(
-    alloc: Global,
-    host: &mut Host<F>,
-    number: u64,
-    init: CallEnd,
-    method: Method,
-    file: (u64, u64),
-) -> Result<RequestOutcome, FrontKind>
-    requires { IsAlive F.device host.old }
-    ensures leads { Refines F.device host.old host.new (λ (b : ℕ) (c : List Program) (s t : HostView). IfOk result (λ o. Feeds b c number init method file s o t)) }
-    ensures beside { (from : Host F) → OnlyEventsOf F.device from number host.old → OnlyEventsOf F.device from number host.new }
-    ensures err { IfErr result IsLack }
-    ensures lacks { (from : Host F) → OnlyEventsOf F.device from number host.old → IfErr result (λ e. LacksFor F.device from number e host.new) }
-{
-    let how = feed(alloc, host, number, init, method, file)?;
-    finish(alloc, host, number, how)
-}
-
-/// Opens the file, brings it, and finishes.
-fn open_and_feed<F: Files + Drop>(
-    alloc: Global,
-    host: &mut Host<F>,
-    number: u64,
-    init: CallEnd,
-    method: Method,
-    file: &[u8],
-) -> Result<RequestOutcome, FrontKind>
-    requires { IsAlive F.device host.old }
-    ensures leads { Refines F.device host.old host.new (λ (b : ℕ) (c : List Program) (s t : HostView). IfOk result (λ o. OpensAndFeeds b c number init method file.now s o t)) }
-    ensures beside { (from : Host F) → OnlyEventsOf F.device from number host.old → OnlyEventsOf F.device from number host.new }
-    ensures err { IfErr result IsLack }
-    ensures lacks { (from : Host F) → OnlyEventsOf F.device from number host.old → IfErr result (λ e. LacksFor F.device from number e host.new) }
-{
-    match host.open_file(number, file) {
-        Ok(opened) => feed_opened(alloc, host, number, init, method, opened),
-        Err(refusal) => {
-            unless_lack(refusal)?;
-            finish_bare(alloc, host, number, unopened(refusal))
-        }
-    }
-}
-
-/// Goes on with a request whose `init` ended so.
-fn go_on<F: Files + Drop>(
-    alloc: Global,
-    host: &mut Host<F>,
-    number: u64,
-    init: CallEnd,
-    method: Method,
-    file: &[u8],
-) -> Result<RequestOutcome, FrontKind>
-    requires { IsAlive F.device host.old }
-    ensures leads { Refines F.device host.old host.new (λ (b : ℕ) (c : List Program) (s t : HostView). IfOk result (λ o. OpensUnless b c number init method file.now s o t)) }
-    ensures beside { (from : Host F) → OnlyEventsOf F.device from number host.old → OnlyEventsOf F.device from number host.new }
-    ensures err { IfErr result IsLack }
-    ensures lacks { (from : Host F) → OnlyEventsOf F.device from number host.old → IfErr result (λ e. LacksFor F.device from number e host.new) }
-{
-    match init {
-        CallEnd::Broke(why) => Ok(bare(alloc, Some(why))),
-        CallEnd::Succeeded => open_and_feed(alloc, host, number, init, method, file),
-        CallEnd::Failed(_) => open_and_feed(alloc, host, number, init, method, file),
-    }
-}
-
-/// Runs `init`, and goes on.
-fn init_and_go_on<F: Files + Drop>(
-    alloc: Global,
-    host: &mut Host<F>,
-    number: u64,
-    method: Method,
-    file: &[u8],
-) -> Result<RequestOutcome, FrontKind>
-    requires { IsAlive F.device host.old }
-    ensures leads { Refines F.device host.old host.new (λ (b : ℕ) (c : List Program) (s t : HostView). IfOk result (λ o. Inits b c number method file.now s o t)) }
-    ensures beside { (from : Host F) → OnlyEventsOf F.device from number host.old → OnlyEventsOf F.device from number host.new }
-    ensures err { IfErr result IsLack }
-    ensures lacks { (from : Host F) → OnlyEventsOf F.device from number host.old → IfErr result (λ e. LacksFor F.device from number e host.new) }
-{
-    let init = run_call(host, number);
-    go_on(alloc, host, number, init, method, file)
-}
-
-/// The request for a file, from its begin to its end.
-fn request<F: Files + Drop>(
-    alloc: Global,
-    host: &mut Host<F>,
-    number: u64,
-    method: Method,
-    file: &[u8],
-) -> Result<RequestOutcome, FrontKind>
-    requires { IsAlive F.device host.old }
-    ensures leads { Refines F.device host.old host.new (λ (b : ℕ) (c : List Program) (s t : HostView). IfOk result (λ o. ComesOf b c number method file.now s o t)) }
-    ensures beside { (from : Host F) → OnlyEventsOf F.device from number host.old → OnlyEventsOf F.device from number host.new }
-    ensures err { IfErr result IsLack }
-    ensures lacks { (from : Host F) → OnlyEventsOf F.device from number host.old → IfErr result (λ e. LacksFor F.device from number e host.new) }
-{
-    match host.begin(number) {
-        Ok(()) => init_and_go_on(alloc, host, number, method, file),
-        Err(refusal) => {
-            unless_lack(refusal)?;
-            Ok(bare(alloc, Some(Failure::Refused(refusal))))
-        }
+        CallEnd::Broke(why) => Ok(Slice::Done(bare(alloc, Some(why)))),
     }
 }
 
@@ -267,7 +164,7 @@ impl<F: Files + Drop> Handler for Host<F> {
         method: Method,
         file: &[u8],
     ) -> Result<RequestOutcome, FrontKind> {
-        request(alloc, self, number, method, file)
+        handle_request(alloc, self, number, method, file)
     }
 
     fn begin(

@@ -1,14 +1,14 @@
 //! Calls on the host of chains, each run to its end.
 
-ghost use Rattle.std.specs.Prelude.{◌≡◌, ℕ, List, IfOk, IfErr, OnOk, None, Some};
+ghost use Rattle.std.specs.Prelude.{◌≡◌, ◌↔◌, ℕ, List, IfErr, IsTrue, OnOk, None, Some};
 ghost use Rattle.module_code.specs.Program.{Program};
 ghost use Rattle.filter_chain.specs.HostViews.{HostView};
 ghost use Rattle.http_front.specs.Outcomes.{IsLack};
 ghost use Rattle.http_front.specs.Driven.{LacksFor, OnlyEventsOf, IsAlive, Refines, StepsAtMost};
-ghost use Rattle.http_front.specs.Requests.{BringsBrigade, EndsRequest, RunsCall, ended_of, lack_of};
+ghost use Rattle.http_front.specs.Requests.{EndsRequest, RunsCall, ended_of, lack_of};
 
 use crate::fault::FrontKind;
-use filter_chain::{Cause, Files, Host, Piece, Refusal, Seq, Stepped};
+use filter_chain::{Cause, Files, Host, Refusal, Stepped};
 use http_message::Failure;
 use module_code::Status;
 
@@ -21,6 +21,12 @@ pub enum CallEnd {
     Failed(Failure),
     /// It did not end: the connection broke.
     Broke(Failure),
+}
+
+pub(crate) fn succeeded(how: CallEnd) -> bool
+    ensures { IsTrue result ↔ how ≡ CallEnd.Succeeded }
+{
+    matches!(how, CallEnd::Succeeded)
 }
 
 /// What a refusal lacks, memory or names, is an error.
@@ -56,27 +62,6 @@ pub(crate) fn run_call<F: Files + Drop>(host: &mut Host<F>, number: u64) -> Call
     ensures beside { (from : Host F) → OnlyEventsOf F.device from number host.old → OnlyEventsOf F.device from number host.new }
 {
     how_ended(host.run(number))
-}
-
-/// Brings a brigade, and runs its call.
-pub(crate) fn bring<F: Files + Drop>(
-    host: &mut Host<F>,
-    number: u64,
-    pieces: Seq<Piece>,
-) -> Result<CallEnd, FrontKind>
-    requires { IsAlive F.device host.old }
-    ensures leads { Refines F.device host.old host.new (λ (b : ℕ) (c : List Program) (s t : HostView). IfOk result (λ how. BringsBrigade b c number pieces s how t)) }
-    ensures beside { (from : Host F) → OnlyEventsOf F.device from number host.old → OnlyEventsOf F.device from number host.new }
-    ensures err { IfErr result IsLack }
-    ensures lacks { (from : Host F) → OnlyEventsOf F.device from number host.old → IfErr result (λ e. LacksFor F.device from number e host.new) }
-{
-    match host.bring(number, pieces) {
-        Ok(()) => Ok(run_call(host, number)),
-        Err(refusal) => {
-            unless_lack(refusal)?;
-            Ok(CallEnd::Failed(Failure::Refused(refusal)))
-        }
-    }
 }
 
 /// Ends the request.

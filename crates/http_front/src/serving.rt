@@ -42,7 +42,8 @@ fn answer_next<W: Sink, H: Handler, K: Clock>(
     ensures unread { result ≢ Err FrontKind.Read × result ≢ Err FrontKind.TooManyReads }
     ensures goes { (old : H) (before : K) (r q w : Option (List ℕ)) → (conn.old.whole ≡ true → IsAtEnd q)
         → SoFar site.now (λ h. H.handles h number) K.tells old before r q w (W.contents sink.old) (unread conn.old.inbox) conn.old.requests handler.old clock.old
-        → Goes site.now (λ h. H.handles h number) K.tells (λ h. H.lacks h number) old before r q w (W.contents sink.new) conn.new.over (unread conn.new.inbox) conn.new.requests handler.new clock.new result }
+        → Goes site.now (λ h. H.handles h number) K.tells (λ h. H.lacks h number) old before r q w (W.contents sink.new) conn.new.over
+        (unread conn.new.inbox) conn.new.requests handler.new clock.new result }
 {
     conn.step::<H, K, AtOnce>(alloc, site, handler, number, clock)?;
     conn.put_all(alloc, sink, handler)
@@ -73,7 +74,8 @@ fn answer_all<W: Sink, H: Handler, K: Clock>(
     ensures unread { result ≢ Err FrontKind.Read × result ≢ Err FrontKind.TooManyReads }
     ensures goes { (old : H) (before : K) (r q w : Option (List ℕ)) → (conn.old.whole ≡ true → IsAtEnd q)
         → SoFar site.now (λ h. H.handles h number) K.tells old before r q w (W.contents sink.old) (unread conn.old.inbox) conn.old.requests handler.old clock.old
-        → Goes site.now (λ h. H.handles h number) K.tells (λ h. H.lacks h number) old before r q w (W.contents sink.new) conn.new.over (unread conn.new.inbox) conn.new.requests handler.new clock.new result }
+        → Goes site.now (λ h. H.handles h number) K.tells (λ h. H.lacks h number) old before r q w (W.contents sink.new) conn.new.over
+        (unread conn.new.inbox) conn.new.requests handler.new clock.new result }
 {
     loop {
         match conn.next() {
@@ -115,8 +117,10 @@ pub(crate) fn serve_open<R: Source, W: Sink, H: Handler, K: Clock>(
     requires { H.is_open handler.old number }
     ensures open { H.is_open handler.new number }
     ensures beside { (from : H) → H.beside from number handler.old → H.beside from number handler.new }
-    ensures ok { IfOk result (λ s. EndsWell site.now (λ h. H.handles h number) K.tells handler.old clock.old (R.remaining (source_of reader.old)) (W.contents sink.old) (W.contents sink.new) s.requests handler.new clock.new) }
-    ensures err { IfErr result (λ e. FailsBy site.now (λ h. H.handles h number) K.tells (λ h. H.lacks h number) handler.old clock.old (R.remaining (source_of reader.old)) (R.remaining (source_of reader.new)) (W.contents sink.old) (W.contents sink.new) handler.new clock.new e) }
+    ensures ok { IfOk result (λ s. EndsWell site.now (λ h. H.handles h number) K.tells handler.old clock.old (R.remaining (source_of reader.old))
+        (W.contents sink.old) (W.contents sink.new) s.requests handler.new clock.new) }
+    ensures err { IfErr result (λ e. FailsBy site.now (λ h. H.handles h number) K.tells (λ h. H.lacks h number) handler.old clock.old
+        (R.remaining (source_of reader.old)) (R.remaining (source_of reader.new)) (W.contents sink.old) (W.contents sink.new) handler.new clock.new e) }
     ensures source { BlamesSource result (R.failed (source_of reader.old)) (R.failed (source_of reader.new)) (reads_left reader.new) }
     ensures sink { BlamesSink result (W.failed sink.old) (W.failed sink.new) }
 {

@@ -1,21 +1,21 @@
-//! A request for a file on the host of chains, in slices. Between two of them others are served.
+//! A request for a file on the host of chains, in slices. Between two of them others may be served.
 
-ghost use Rattle.std.specs.Prelude.{◌≡◌, ◌↔◌, ◌∷◌, ◌+◌, ℕ, List, Ok, Some, IfOk, IfErr, IsTrue};
+ghost use Rattle.std.specs.Prelude.{◌≡◌, ◌↔◌, ◌+◌, ◌<◌, ◌≤◌, ◌^◌, ℕ, List, length, Ok, Some, IfOk, IfErr, IsTrue};
 ghost use Rattle.module_code.specs.Program.{Program};
 ghost use Rattle.filter_chain.specs.HostViews.{HostView};
 ghost use Rattle.http_front.specs.Outcomes.{IsLack};
 ghost use Rattle.http_front.specs.Nearing.{slice_steps};
 ghost use Rattle.http_front.specs.Driven.{IsAlive, LacksFor, OnlyEventsOf, Refines, StepsAtMost};
-ghost use Rattle.http_front.specs.Requests.{brigades_for};
-ghost use Rattle.http_front.specs.Among.{CarriesLater, ComesLater, EndsBareLater, FinishesLater, IsOpening, InitsLater, OpensLater, OpensUnlessLater, Rests, RestsBehind, RunsSlice, Slices, brigades_left};
+ghost use Rattle.http_front.specs.Requests.{ComesOf};
+ghost use Rattle.http_front.specs.Among.{CarriesIn, ComesIn, InitsIn, IsOpening, MakesSlice, OpensIn, OpensUnlessIn, Rests, RestsBehind, RunsSlice, Way, brigades_left, calls_after, calls_left};
 
 use crate::fault::FrontKind;
-use crate::feeding::{PIECE_BYTES, last_brigade, succeeded, whole_brigade};
-use crate::handler::Slice;
+use crate::feeding::{next_brigade, wanted};
+use crate::handler::{RequestOutcome, Slice};
 use crate::requests::{bare, finish, finish_bare, unopened};
-use crate::running::{CallEnd, how_ended, unless_lack};
+use crate::running::{CallEnd, how_ended, run_call, succeeded, unless_lack};
 use crate::task::{FileRest, RequestTask};
-use filter_chain::{Files, Host, Piece, Refusal, Seq, Stepped};
+use filter_chain::{Files, Host, Refusal, Stepped};
 use http_message::{Failure, Method};
 use std::alloc::{AllocError, Global};
 
@@ -31,7 +31,7 @@ fn went(answer: &Result<Stepped, Refusal>) -> bool
 /// Makes a slice of the steps of a call. Answers how it ended, if it did.
 fn step_slice<F: Files + Drop>(host: &mut Host<F>, number: u64) -> Option<CallEnd>
     requires { IsAlive F.device host.old }
-    ensures leads { Refines F.device host.old host.new (λ (b : ℕ) (c : List Program) (s t : HostView). RunsSlice b c number result s t) }
+    ensures leads { (way : Way) → Refines F.device host.old host.new (λ (b : ℕ) (c : List Program) (s t : HostView). RunsSlice way b c number result s t) }
     ensures beside { (from : Host F) → OnlyEventsOf F.device from number host.old → OnlyEventsOf F.device from number host.new }
     ensures few { (from : Host F) (n : ℕ) → StepsAtMost F.device from number n host.old → StepsAtMost F.device from number (n + slice_steps) host.new }
 {
@@ -42,74 +42,6 @@ fn step_slice<F: Files + Drop>(host: &mut Host<F>, number: u64) -> Option<CallEn
     Some(how_ended(answer))
 }
 
-/// What a method wants of a file.
-fn wanted(method: Method, file: (u64, u64)) -> Option<FileRest>
-    ensures { brigades_left result ≡ brigades_for method file }
-{
-    match method {
-        Method::Get => Some(FileRest {
-            file: file.0,
-            len: file.1,
-            start: 0,
-            left: file.1.saturating_sub(1) / PIECE_BYTES,
-        }),
-        Method::Head => None,
-        Method::Other => None,
-    }
-}
-
-/// The next brigade, and what is left behind it.
-fn next_brigade(alloc: Global, rest: FileRest) -> Result<(Seq<Piece>, Option<FileRest>), AllocError>
-    ensures { IfOk result (λ r. brigades_left (Some rest) ≡ r.0 ∷ brigades_left r.1) }
-{
-    if rest.left == 0 {
-        let pieces = last_brigade(alloc, rest.file, rest.start, rest.len - rest.start)?;
-        return Ok((pieces, None));
-    }
-    let pieces = whole_brigade(alloc, rest.file, rest.start)?;
-    let left = FileRest {
-        file: rest.file,
-        len: rest.len,
-        start: rest.start + PIECE_BYTES,
-        left: rest.left - 1,
-    };
-    Ok((pieces, Some(left)))
-}
-
-/// Finishes a request whose last call ended so.
-fn finish_slice<F: Files + Drop>(
-    alloc: Global,
-    host: &mut Host<F>,
-    number: u64,
-    how: CallEnd,
-) -> Result<Slice<RequestTask>, FrontKind>
-    requires { IsAlive F.device host.old }
-    ensures leads { Refines F.device host.old host.new (λ (b : ℕ) (c : List Program) (s t : HostView). IfOk result (λ r. Slices b c number (FinishesLater b c number how) s r t)) }
-    ensures beside { (from : Host F) → OnlyEventsOf F.device from number host.old → OnlyEventsOf F.device from number host.new }
-    ensures err { IfErr result IsLack }
-    ensures lacks { (from : Host F) → OnlyEventsOf F.device from number host.old → IfErr result (λ e. LacksFor F.device from number e host.new) }
-    ensures few { (from : Host F) (n : ℕ) → StepsAtMost F.device from number n host.old → StepsAtMost F.device from number n host.new }
-{
-    Ok(Slice::Done(finish(alloc, host, number, how)?))
-}
-
-/// Finishes a request without content.
-fn bare_slice<F: Files + Drop>(
-    alloc: Global,
-    host: &mut Host<F>,
-    number: u64,
-    failure: Option<Failure>,
-) -> Result<Slice<RequestTask>, FrontKind>
-    requires { IsAlive F.device host.old }
-    ensures leads { Refines F.device host.old host.new (λ (b : ℕ) (c : List Program) (s t : HostView). IfOk result (λ r. Slices b c number (EndsBareLater b c number failure) s r t)) }
-    ensures beside { (from : Host F) → OnlyEventsOf F.device from number host.old → OnlyEventsOf F.device from number host.new }
-    ensures err { IfErr result IsLack }
-    ensures lacks { (from : Host F) → OnlyEventsOf F.device from number host.old → IfErr result (λ e. LacksFor F.device from number e host.new) }
-    ensures few { (from : Host F) (n : ℕ) → StepsAtMost F.device from number n host.old → StepsAtMost F.device from number n host.new }
-{
-    Ok(Slice::Done(finish_bare(alloc, host, number, failure)?))
-}
-
 /// Brings the next brigade, whose call is then under way. Where it is refused, the request finishes.
 fn bring_next<F: Files + Drop>(
     alloc: Global,
@@ -118,11 +50,12 @@ fn bring_next<F: Files + Drop>(
     rest: FileRest,
 ) -> Result<Slice<RequestTask>, FrontKind>
     requires { IsAlive F.device host.old }
-    ensures leads { Refines F.device host.old host.new (λ (b : ℕ) (c : List Program) (s t : HostView). IfOk result (λ r. Slices b c number (CarriesLater b c number CallEnd.Succeeded (brigades_left (Some rest))) s r t)) }
+    ensures leads { MakesSlice F.device number (λ (way : Way) (b : ℕ) (c : List Program). CarriesIn way b c number CallEnd.Succeeded (brigades_left (Some rest))) host.old result host.new }
     ensures beside { (from : Host F) → OnlyEventsOf F.device from number host.old → OnlyEventsOf F.device from number host.new }
     ensures err { IfErr result IsLack }
     ensures lacks { (from : Host F) → OnlyEventsOf F.device from number host.old → IfErr result (λ e. LacksFor F.device from number e host.new) }
     ensures few { (from : Host F) (n : ℕ) → StepsAtMost F.device from number n host.old → StepsAtMost F.device from number n host.new }
+    ensures calls { IfOk result (λ r. calls_after r ≤ length (brigades_left (Some rest))) }
 {
     let (pieces, left) = next_brigade(alloc, rest)?;
     match host.bring(number, pieces) {
@@ -130,12 +63,12 @@ fn bring_next<F: Files + Drop>(
         Err(refusal) => {
             unless_lack(refusal)?;
             let failed = CallEnd::Failed(Failure::Refused(refusal));
-            finish_slice(alloc, host, number, failed)
+            finish(alloc, host, number, failed)
         }
     }
 }
 
-/// Goes on behind a call that ended so.
+/// Goes on after a call that ended so.
 fn carry_on<F: Files + Drop>(
     alloc: Global,
     host: &mut Host<F>,
@@ -144,18 +77,19 @@ fn carry_on<F: Files + Drop>(
     rest: Option<FileRest>,
 ) -> Result<Slice<RequestTask>, FrontKind>
     requires { IsAlive F.device host.old }
-    ensures leads { Refines F.device host.old host.new (λ (b : ℕ) (c : List Program) (s t : HostView). IfOk result (λ r. Slices b c number (CarriesLater b c number how (brigades_left rest)) s r t)) }
+    ensures leads { MakesSlice F.device number (λ (way : Way) (b : ℕ) (c : List Program). CarriesIn way b c number how (brigades_left rest)) host.old result host.new }
     ensures beside { (from : Host F) → OnlyEventsOf F.device from number host.old → OnlyEventsOf F.device from number host.new }
     ensures err { IfErr result IsLack }
     ensures lacks { (from : Host F) → OnlyEventsOf F.device from number host.old → IfErr result (λ e. LacksFor F.device from number e host.new) }
     ensures few { (from : Host F) (n : ℕ) → StepsAtMost F.device from number n host.old → StepsAtMost F.device from number n host.new }
+    ensures calls { IfOk result (λ r. calls_after r ≤ length (brigades_left rest)) }
 {
     if !succeeded(how) {
-        return finish_slice(alloc, host, number, how);
+        return finish(alloc, host, number, how);
     }
     match rest {
         Some(rest) => bring_next(alloc, host, number, rest),
-        None => finish_slice(alloc, host, number, how),
+        None => finish(alloc, host, number, how),
     }
 }
 
@@ -169,17 +103,18 @@ fn open_slice<F: Files + Drop>(
     name: &[u8],
 ) -> Result<Slice<RequestTask>, FrontKind>
     requires { IsAlive F.device host.old }
-    ensures leads { Refines F.device host.old host.new (λ (b : ℕ) (c : List Program) (s t : HostView). IfOk result (λ r. Slices b c number (OpensLater b c number init method name.now) s r t)) }
+    ensures leads { MakesSlice F.device number (λ (way : Way) (b : ℕ) (c : List Program). OpensIn way b c number init method name.now) host.old result host.new }
     ensures beside { (from : Host F) → OnlyEventsOf F.device from number host.old → OnlyEventsOf F.device from number host.new }
     ensures err { IfErr result IsLack }
     ensures lacks { (from : Host F) → OnlyEventsOf F.device from number host.old → IfErr result (λ e. LacksFor F.device from number e host.new) }
     ensures few { (from : Host F) (n : ℕ) → StepsAtMost F.device from number n host.old → StepsAtMost F.device from number n host.new }
+    ensures calls { IfOk result (λ r. calls_after r ≤ 2 ^ 48) }
 {
     match host.open_file(number, name) {
         Ok(file) => carry_on(alloc, host, number, init, wanted(method, file)),
         Err(refusal) => {
             unless_lack(refusal)?;
-            bare_slice(alloc, host, number, unopened(refusal))
+            finish_bare(alloc, host, number, unopened(refusal))
         }
     }
 }
@@ -194,11 +129,12 @@ fn open_unless<F: Files + Drop>(
     name: &[u8],
 ) -> Result<Slice<RequestTask>, FrontKind>
     requires { IsAlive F.device host.old }
-    ensures leads { Refines F.device host.old host.new (λ (b : ℕ) (c : List Program) (s t : HostView). IfOk result (λ r. Slices b c number (OpensUnlessLater b c number init method name.now) s r t)) }
+    ensures leads { MakesSlice F.device number (λ (way : Way) (b : ℕ) (c : List Program). OpensUnlessIn way b c number init method name.now) host.old result host.new }
     ensures beside { (from : Host F) → OnlyEventsOf F.device from number host.old → OnlyEventsOf F.device from number host.new }
     ensures err { IfErr result IsLack }
     ensures lacks { (from : Host F) → OnlyEventsOf F.device from number host.old → IfErr result (λ e. LacksFor F.device from number e host.new) }
     ensures few { (from : Host F) (n : ℕ) → StepsAtMost F.device from number n host.old → StepsAtMost F.device from number n host.new }
+    ensures calls { IfOk result (λ r. calls_after r ≤ 2 ^ 48) }
 {
     match init {
         CallEnd::Broke(why) => Ok(Slice::Done(bare(alloc, Some(why)))),
@@ -225,7 +161,7 @@ fn init_slice<F: Files + Drop>(
     name: &[u8],
 ) -> Result<Slice<RequestTask>, FrontKind>
     requires { IsAlive F.device host.old }
-    ensures leads { Refines F.device host.old host.new (λ (b : ℕ) (c : List Program) (s t : HostView). IfOk result (λ r. Slices b c number (InitsLater b c number method name.now) s r t)) }
+    ensures leads { MakesSlice F.device number (λ (way : Way) (b : ℕ) (c : List Program). InitsIn way b c number method name.now) host.old result host.new }
     ensures beside { (from : Host F) → OnlyEventsOf F.device from number host.old → OnlyEventsOf F.device from number host.new }
     ensures err { IfErr result IsLack }
     ensures lacks { (from : Host F) → OnlyEventsOf F.device from number host.old → IfErr result (λ e. LacksFor F.device from number e host.new) }
@@ -246,7 +182,7 @@ fn begin_init<F: Files + Drop>(
     name: &[u8],
 ) -> Result<Slice<RequestTask>, FrontKind>
     requires { IsAlive F.device host.old }
-    ensures leads { Refines F.device host.old host.new (λ (b : ℕ) (c : List Program) (s t : HostView). IfOk result (λ r. Slices b c number (ComesLater b c number method name.now) s r t)) }
+    ensures leads { MakesSlice F.device number (λ (way : Way) (b : ℕ) (c : List Program). ComesIn way b c number method name.now) host.old result host.new }
     ensures beside { (from : Host F) → OnlyEventsOf F.device from number host.old → OnlyEventsOf F.device from number host.new }
     ensures err { IfErr result IsLack }
     ensures lacks { (from : Host F) → OnlyEventsOf F.device from number host.old → IfErr result (λ e. LacksFor F.device from number e host.new) }
@@ -261,7 +197,7 @@ fn begin_init<F: Files + Drop>(
     }
 }
 
-/// Goes on behind the call that was under way, which ended so.
+/// Goes on after the call that was under way, which ended so.
 fn end_call<F: Files + Drop>(
     alloc: Global,
     host: &mut Host<F>,
@@ -270,11 +206,12 @@ fn end_call<F: Files + Drop>(
     how: CallEnd,
 ) -> Result<Slice<RequestTask>, FrontKind>
     requires { IsAlive F.device host.old }
-    ensures leads { Refines F.device host.old host.new (λ (b : ℕ) (c : List Program) (s t : HostView). IfOk result (λ r. Slices b c number (RestsBehind b c number task how) s r t)) }
+    ensures leads { MakesSlice F.device number (λ (way : Way) (b : ℕ) (c : List Program). RestsBehind way b c number task how) host.old result host.new }
     ensures beside { (from : Host F) → OnlyEventsOf F.device from number host.old → OnlyEventsOf F.device from number host.new }
     ensures err { IfErr result IsLack }
     ensures lacks { (from : Host F) → OnlyEventsOf F.device from number host.old → IfErr result (λ e. LacksFor F.device from number e host.new) }
     ensures few { (from : Host F) (n : ℕ) → StepsAtMost F.device from number n host.old → StepsAtMost F.device from number n host.new }
+    ensures calls { IfOk result (λ r. calls_after r < calls_left task) }
 {
     match task {
         RequestTask::Opens { method, name } => {
@@ -292,7 +229,7 @@ pub(crate) fn go_on_request<F: Files + Drop>(
     task: RequestTask,
 ) -> Result<Slice<RequestTask>, FrontKind>
     requires { IsAlive F.device host.old }
-    ensures leads { Refines F.device host.old host.new (λ (b : ℕ) (c : List Program) (s t : HostView). IfOk result (λ r. Slices b c number (Rests b c number task) s r t)) }
+    ensures leads { MakesSlice F.device number (λ (way : Way) (b : ℕ) (c : List Program). Rests way b c number task) host.old result host.new }
     ensures beside { (from : Host F) → OnlyEventsOf F.device from number host.old → OnlyEventsOf F.device from number host.new }
     ensures err { IfErr result IsLack }
     ensures lacks { (from : Host F) → OnlyEventsOf F.device from number host.old → IfErr result (λ e. LacksFor F.device from number e host.new) }
@@ -313,7 +250,7 @@ pub(crate) fn begin_request<F: Files + Drop>(
     name: &[u8],
 ) -> Result<Slice<RequestTask>, FrontKind>
     requires { IsAlive F.device host.old }
-    ensures leads { Refines F.device host.old host.new (λ (b : ℕ) (c : List Program) (s t : HostView). IfOk result (λ r. Slices b c number (ComesLater b c number method name.now) s r t)) }
+    ensures leads { MakesSlice F.device number (λ (way : Way) (b : ℕ) (c : List Program). ComesIn way b c number method name.now) host.old result host.new }
     ensures beside { (from : Host F) → OnlyEventsOf F.device from number host.old → OnlyEventsOf F.device from number host.new }
     ensures err { IfErr result IsLack }
     ensures lacks { (from : Host F) → OnlyEventsOf F.device from number host.old → IfErr result (λ e. LacksFor F.device from number e host.new) }
@@ -323,5 +260,31 @@ pub(crate) fn begin_request<F: Files + Drop>(
     match slice {
         Slice::Works(task) => go_on_request(alloc, host, number, task),
         Slice::Done(outcome) => Ok(Slice::Done(outcome)),
+    }
+}
+
+/// Handles a request for a file: from its beginning on, each call that is under way is run to its end.
+pub(crate) fn handle_request<F: Files + Drop>(
+    alloc: Global,
+    host: &mut Host<F>,
+    number: u64,
+    method: Method,
+    name: &[u8],
+) -> Result<RequestOutcome, FrontKind>
+    requires { IsAlive F.device host.old }
+    ensures leads { Refines F.device host.old host.new (λ (b : ℕ) (c : List Program) (s t : HostView). IfOk result (λ o. ComesOf b c number method name.now s o t)) }
+    ensures beside { (from : Host F) → OnlyEventsOf F.device from number host.old → OnlyEventsOf F.device from number host.new }
+    ensures err { IfErr result IsLack }
+    ensures lacks { (from : Host F) → OnlyEventsOf F.device from number host.old → IfErr result (λ e. LacksFor F.device from number e host.new) }
+{
+    let mut slice = begin_init(alloc, host, number, method, name)?;
+    loop {
+        match slice {
+            Slice::Done(outcome) => return Ok(outcome),
+            Slice::Works(task) => {
+                let how = run_call(host, number);
+                slice = end_call(alloc, host, number, task, how)?;
+            }
+        }
     }
 }

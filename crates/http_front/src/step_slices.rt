@@ -97,7 +97,8 @@ fn begin_head<H: Handler, K: Clock, P: Pace<H>>(
     ensures open { H.is_open handler.new number }
     ensures beside { (from : H) → H.beside from number handler.old → H.beside from number handler.new }
     ensures clock { (from : K) → Passes K.tells from clock.old → Passes K.tells from clock.new }
-    ensures ok { IfOk result (λ x. (whole : Bool) → Steps site.now (λ old. P.comes old number) (λ old. P.rests old number) K.tells handler.old clock.old seen.now whole x (text_of text.new) handler.new clock.new) }
+    ensures ok { IfOk result (λ x. (whole : Bool) → Steps site.now (λ old. P.comes old number) (λ old. P.rests old number) K.tells handler.old clock.old seen.now
+        whole x (text_of text.new) handler.new clock.new) }
     ensures err { IfErr result (λ e. IsLack e × (e ≡ FrontKind.NamesSpent → (h : RequestHead) → IsRequestAt seen.now spans.now head h
         → LacksNamesAt (λ old. H.lacks old number) site.now handler.old h handler.new)) }
     ensures few { P.steps handler.old number (2 * slice_steps) handler.new }
@@ -235,7 +236,8 @@ pub(crate) fn step_on<H: Handler, K: Clock, P: Pace<H>>(
     ensures open { H.is_open handler.new number }
     ensures beside { (from : H) → H.beside from number handler.old → H.beside from number handler.new }
     ensures clock { (from : K) → Passes K.tells from clock.old → Passes K.tells from clock.new }
-    ensures ok { IfOk result (λ x. StepsFrom site.now (λ old. P.comes old number) (λ old. P.rests old number) K.tells hand handler.old clock.old seen.now whole x (text_of text.new) handler.new clock.new) }
+    ensures ok { IfOk result (λ x. StepsFrom site.now (λ old. P.comes old number) (λ old. P.rests old number) K.tells hand handler.old clock.old seen.now whole x
+        (text_of text.new) handler.new clock.new) }
     ensures err { IfErr result (LacksSlice site.now (λ old. H.lacks old number) (λ old. P.lacks_rest old number) hand handler.old seen.now whole handler.new) }
     ensures few { P.steps handler.old number (most_steps hand) handler.new }
 {

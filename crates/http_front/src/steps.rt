@@ -9,7 +9,7 @@ pub(crate) const FIELDS_LIMIT: usize = 64;
 
 /// What a step does.
 #[derive(Clone, Copy, Debug, PartialEq, Eq)]
-pub enum ServeStep {
+pub(crate) enum ServeStep {
     /// A request of so many bytes is answered, and the connection stays open.
     Stays(usize),
     /// A request of so many bytes is answered, and the connection closes.

@@ -14,7 +14,7 @@ use httparse::spans::{HeaderSpan, RequestSpans, Span};
 
 /// What was found of a head, for its response.
 #[derive(Clone, Copy, Debug, PartialEq, Eq)]
-pub struct Asked {
+pub(crate) struct Asked {
     /// Where its parts are.
     pub head: RequestSpans,
     /// Its method.
@@ -25,7 +25,7 @@ pub struct Asked {
 
 /// A request that is under way.
 #[derive(Drop)]
-pub struct UnderWay<T> {
+pub(crate) struct UnderWay<T> {
     /// Its head, with which the bytes at hand begin.
     pub asked: Asked,
     /// What works on it.
@@ -34,7 +34,7 @@ pub struct UnderWay<T> {
 
 /// What a slice of a step comes to.
 #[derive(Drop)]
-pub enum StepSlice<T> {
+pub(crate) enum StepSlice<T> {
     /// The step is made.
     Did(ServeStep),
     /// A request is under way.

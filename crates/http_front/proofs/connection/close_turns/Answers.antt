@@ -14,5 +14,6 @@ pub returns-clause-closed : goal.returns-clause-closed
 returns-clause-closed g c =
     elim c.match-answer.branch [
       | in-Ok v ↦ turns_closed g.F.Files.device c.args.number c.args.host.now c.close-answer.new.self c.match-answer.result _ v.result-is v.in-Ok.ensures.event
-      | in-Err v ↦ turns_refused g.F.Files.device c.args.number c.args.host.now c.close-answer.new.self c.match-answer.result v.in-Err.refusal v.lacks_memory.result v.result-is v.lacks_memory.ensures v.in-Err.ensures.event
+      | in-Err v ↦ turns_refused g.F.Files.device c.args.number c.args.host.now c.close-answer.new.self c.match-answer.result v.in-Err.refusal v.lacks_memory.result
+          v.result-is v.lacks_memory.ensures v.in-Err.ensures.event
     ]

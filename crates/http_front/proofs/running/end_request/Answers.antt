@@ -12,7 +12,8 @@ returns-in-Err-clause-beside g c from so = beside_event g.F.Files.device c.args.
 
 pub returns-in-Err-clause-lacks : goal.returns-in-Err-clause-lacks
 returns-in-Err-clause-lacks g c from so =
-    IfErr-weaker c.unless_lack.result _ _ (λ e lack. beside_lacks g.F.Files.device c.args.number from c.args.host.now c.end_request.new.self so _ c.in-Err.refusal e tt lack c.in-Err.ensures.event) c.unless_lack.ensures.lack
+    IfErr-weaker c.unless_lack.result _ _ (λ e lack. beside_lacks g.F.Files.device c.args.number from c.args.host.now c.end_request.new.self so _ c.in-Err.refusal e
+    tt lack c.in-Err.ensures.event) c.unless_lack.ensures.lack
 
 pub returns-in-Ok-clause-few : goal.returns-in-Ok-clause-few
 returns-in-Ok-clause-few g c from n so = few_event g.F.Files.device c.args.number from c.args.host.now n so c.end_request.new.self _ _ tt refl c.in-Ok.ensures.event

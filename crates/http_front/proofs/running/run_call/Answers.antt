@@ -1,5 +1,5 @@
 use Rattle.http_front.proofs.Beside.{beside_runs}
-use Rattle.http_front.proofs.RunLaws.{runs_told}
+use Rattle.http_front.proofs.RequestLaws.{runs_told}
 use Rattle.http_front.proofs.running.run_call.Goals as goal
 
 pub returns-clause-leads : goal.returns-clause-leads

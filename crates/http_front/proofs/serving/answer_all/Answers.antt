@@ -21,7 +21,8 @@ loop-conn-preserved g c =
       sound = e.blames ∙ inv.sound;
       goes = λ old before r q w ends so.
           e.goes old before r q w (λ is. ends (sym inv.whole ∙ is))
-          (subst (λ (b : Bool). Standing c.args.site.now (λ h. g.H.Handler.handles h c.args.number) g.K.Clock.tells old before r q w (g.W.Sink.contents c.loop-conn.sink) b (unread c.loop-conn.conn.inbox) c.loop-conn.conn.requests c.loop-conn.handler c.loop-conn.clock) at.0 (inv.goes old before r q w ends so));
+          (subst (λ (b : Bool). Standing c.args.site.now (λ h. g.H.Handler.handles h c.args.number) g.K.Clock.tells old before r q w
+          (g.W.Sink.contents c.loop-conn.sink) b (unread c.loop-conn.conn.inbox) c.loop-conn.conn.requests c.loop-conn.handler c.loop-conn.clock) at.0 (inv.goes old before r q w ends so));
     }
 
 pub returns-in_err-answer_next-in_default-clause-goes : goal.returns-in_err-answer_next-in_default-clause-goes
@@ -29,6 +30,9 @@ returns-in_err-answer_next-in_default-clause-goes g c old before r q w ends so =
     let p = err_from_is_err_and c.from_residual.result c.from_residual.ensures.1 in
     let at = next_step c.loop-conn.conn c.next.result (λ t. elim t [ ]) c.loop-conn.invariant.written c.next.ensures c.in_default.not-Over c.in_default.not-Reads in
     let inv = c.loop-conn.invariant in
-    fails_as c.args.site.now (λ h. g.H.Handler.handles h c.args.number) g.K.Clock.tells (λ h. g.H.Handler.lacks h c.args.number) old before r q w (g.W.Sink.contents c.answer_next.new.sink) c.answer_next.new.conn.over (unread c.answer_next.new.conn.inbox) c.answer_next.new.conn.requests c.answer_next.new.handler c.answer_next.new.clock c.from_residual.result p.0 c.in_err-answer_next-in_default.field-0.0 p.1 p.2
+    fails_as c.args.site.now (λ h. g.H.Handler.handles h c.args.number) g.K.Clock.tells (λ h. g.H.Handler.lacks h c.args.number) old before r q w
+    (g.W.Sink.contents c.answer_next.new.sink) c.answer_next.new.conn.over (unread c.answer_next.new.conn.inbox) c.answer_next.new.conn.requests
+    c.answer_next.new.handler c.answer_next.new.clock c.from_residual.result p.0 c.in_err-answer_next-in_default.field-0.0 p.1 p.2
     (c.in_err-answer_next-in_default.ensures.goes old before r q w (λ is. ends (sym inv.whole ∙ is))
-    (subst (λ (b : Bool). Standing c.args.site.now (λ h. g.H.Handler.handles h c.args.number) g.K.Clock.tells old before r q w (g.W.Sink.contents c.loop-conn.sink) b (unread c.loop-conn.conn.inbox) c.loop-conn.conn.requests c.loop-conn.handler c.loop-conn.clock) at.0 (inv.goes old before r q w ends so)))
+    (subst (λ (b : Bool). Standing c.args.site.now (λ h. g.H.Handler.handles h c.args.number) g.K.Clock.tells old before r q w
+    (g.W.Sink.contents c.loop-conn.sink) b (unread c.loop-conn.conn.inbox) c.loop-conn.conn.requests c.loop-conn.handler c.loop-conn.clock) at.0 (inv.goes old before r q w ends so)))

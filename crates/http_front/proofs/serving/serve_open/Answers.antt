@@ -30,8 +30,12 @@ returns-in_err-take_counted-clause-err g c =
     let site = c.args.site.now in
     let r = g.R.Source.remaining in
     let w = g.W.Sink.contents in
-    fails_err site (λ h. g.H.Handler.handles h c.args.number) g.K.Clock.tells (λ h. g.H.Handler.lacks h c.args.number) c.args.handler.now c.args.clock.now (r (source_of c.args.reader.now)) (r (source_of c.take_counted.new.reader)) (w c.args.sink.now) (w c.loop-conn.sink) c.loop-conn.handler c.loop-conn.clock c.from_residual.result p.0 c.in_err-take_counted.field-0.0 p.1 p.2
-    (far_loses site (λ h. g.H.Handler.handles h c.args.number) g.K.Clock.tells (λ h. g.H.Handler.lacks h c.args.number) c.args.handler.now c.args.clock.now (r (source_of c.args.reader.now)) (r (source_of c.loop-conn.reader)) (r (source_of c.take_counted.new.reader)) (w c.args.sink.now) (w c.loop-conn.sink) _ _ _ _ c.in_err-take_counted.field-0.0 c.loop-conn.invariant.far c.loop-conn.invariant.wants c.in_err-take_counted.ensures.err)
+    fails_err site (λ h. g.H.Handler.handles h c.args.number) g.K.Clock.tells (λ h. g.H.Handler.lacks h c.args.number) c.args.handler.now c.args.clock.now
+    (r (source_of c.args.reader.now)) (r (source_of c.take_counted.new.reader)) (w c.args.sink.now)
+    (w c.loop-conn.sink) c.loop-conn.handler c.loop-conn.clock c.from_residual.result p.0 c.in_err-take_counted.field-0.0 p.1 p.2
+    (far_loses site (λ h. g.H.Handler.handles h c.args.number) g.K.Clock.tells (λ h. g.H.Handler.lacks h c.args.number) c.args.handler.now c.args.clock.now
+    (r (source_of c.args.reader.now)) (r (source_of c.loop-conn.reader)) (r (source_of c.take_counted.new.reader)) (w c.args.sink.now)
+    (w c.loop-conn.sink) _ _ _ _ c.in_err-take_counted.field-0.0 c.loop-conn.invariant.far c.loop-conn.invariant.wants c.in_err-take_counted.ensures.err)
 
 pub returns-in_err-answer_all-clause-err : goal.returns-in_err-answer_all-clause-err
 returns-in_err-answer_all-clause-err g c =
@@ -39,9 +43,13 @@ returns-in_err-answer_all-clause-err g c =
     let adds = c.in_ok-take_counted.ensures.ok in
     let r = g.R.Source.remaining in
     let w = g.W.Sink.contents in
-    fails_err c.args.site.now (λ h. g.H.Handler.handles h c.args.number) g.K.Clock.tells (λ h. g.H.Handler.lacks h c.args.number) c.args.handler.now c.args.clock.now (r (source_of c.args.reader.now)) (r (source_of c.take_counted.new.reader)) (w c.args.sink.now) (w c.answer_all.new.sink) c.answer_all.new.handler c.answer_all.new.clock c.from_residual-in_err-answer_all.result p.0 c.in_err-answer_all.field-0.0 p.1 p.2
+    fails_err c.args.site.now (λ h. g.H.Handler.handles h c.args.number) g.K.Clock.tells
+    (λ h. g.H.Handler.lacks h c.args.number) c.args.handler.now c.args.clock.now (r (source_of c.args.reader.now)) (r (source_of c.take_counted.new.reader))
+    (w c.args.sink.now) (w c.answer_all.new.sink) c.answer_all.new.handler c.answer_all.new.clock c.from_residual-in_err-answer_all.result p.0 c.in_err-answer_all.field-0.0 p.1 p.2
     (c.in_err-answer_all.ensures.goes c.args.handler.now c.args.clock.now (r (source_of c.args.reader.now)) (r (source_of c.take_counted.new.reader)) (w c.args.sink.now) adds.end
-    (subst (λ (n : ℕ). SoFar c.args.site.now (λ h. g.H.Handler.handles h c.args.number) g.K.Clock.tells c.args.handler.now c.args.clock.now (r (source_of c.args.reader.now)) (r (source_of c.take_counted.new.reader)) (w c.args.sink.now) (w c.loop-conn.sink) (unread c.take_counted.new.self.inbox) n c.loop-conn.handler c.loop-conn.clock) (sym c.take_counted.ensures.requests)
+    (subst (λ (n : ℕ). SoFar c.args.site.now (λ h. g.H.Handler.handles h c.args.number) g.K.Clock.tells c.args.handler.now c.args.clock.now
+    (r (source_of c.args.reader.now)) (r (source_of c.take_counted.new.reader)) (w c.args.sink.now) (w c.loop-conn.sink)
+    (unread c.take_counted.new.self.inbox) n c.loop-conn.handler c.loop-conn.clock) (sym c.take_counted.ensures.requests)
     (far_adds _ _ _ (λ h. g.H.Handler.lacks h c.args.number) _ _ _ _ _ _ _ _ _ _ _ _ _ _ c.loop-conn.invariant.far adds)))
 
 pub returns-then-branch-clause-ok : goal.returns-then-branch-clause-ok
@@ -51,10 +59,15 @@ returns-then-branch-clause-ok g c =
     let w = g.W.Sink.contents in
     let e = c.in_ok-answer_all.ensures in
     let over : c.answer_all.new.conn.over ≡ true = e.over ∙ c.if-branch.true in
-    subst (λ (n : ℕ). EndsWell c.args.site.now (λ h. g.H.Handler.handles h c.args.number) g.K.Clock.tells c.args.handler.now c.args.clock.now (r (source_of c.args.reader.now)) (w c.args.sink.now) (w c.answer_all.new.sink) n c.answer_all.new.handler c.answer_all.new.clock) (sym c.requests.ensures)
-    (subst (λ (b : Bool). Standing c.args.site.now (λ h. g.H.Handler.handles h c.args.number) g.K.Clock.tells c.args.handler.now c.args.clock.now (r (source_of c.args.reader.now)) (r (source_of c.take_counted.new.reader)) (w c.args.sink.now) (w c.answer_all.new.sink) b (unread c.answer_all.new.conn.inbox) c.answer_all.new.conn.requests c.answer_all.new.handler c.answer_all.new.clock) over
+    subst (λ (n : ℕ). EndsWell c.args.site.now (λ h. g.H.Handler.handles h c.args.number) g.K.Clock.tells c.args.handler.now c.args.clock.now
+    (r (source_of c.args.reader.now)) (w c.args.sink.now) (w c.answer_all.new.sink) n c.answer_all.new.handler c.answer_all.new.clock) (sym c.requests.ensures)
+    (subst (λ (b : Bool). Standing c.args.site.now (λ h. g.H.Handler.handles h c.args.number) g.K.Clock.tells c.args.handler.now c.args.clock.now
+    (r (source_of c.args.reader.now)) (r (source_of c.take_counted.new.reader)) (w c.args.sink.now) (w c.answer_all.new.sink) b
+    (unread c.answer_all.new.conn.inbox) c.answer_all.new.conn.requests c.answer_all.new.handler c.answer_all.new.clock) over
     (e.goes c.args.handler.now c.args.clock.now (r (source_of c.args.reader.now)) (r (source_of c.take_counted.new.reader)) (w c.args.sink.now) adds.end
-    (subst (λ (n : ℕ). SoFar c.args.site.now (λ h. g.H.Handler.handles h c.args.number) g.K.Clock.tells c.args.handler.now c.args.clock.now (r (source_of c.args.reader.now)) (r (source_of c.take_counted.new.reader)) (w c.args.sink.now) (w c.loop-conn.sink) (unread c.take_counted.new.self.inbox) n c.loop-conn.handler c.loop-conn.clock) (sym c.take_counted.ensures.requests)
+    (subst (λ (n : ℕ). SoFar c.args.site.now (λ h. g.H.Handler.handles h c.args.number) g.K.Clock.tells c.args.handler.now c.args.clock.now
+    (r (source_of c.args.reader.now)) (r (source_of c.take_counted.new.reader)) (w c.args.sink.now) (w c.loop-conn.sink)
+    (unread c.take_counted.new.self.inbox) n c.loop-conn.handler c.loop-conn.clock) (sym c.take_counted.ensures.requests)
     (far_adds _ _ _ (λ h. g.H.Handler.lacks h c.args.number) _ _ _ _ _ _ _ _ _ _ _ _ _ _ c.loop-conn.invariant.far adds))))
 
 pub loop-conn-preserved : goal.loop-conn-preserved
@@ -83,9 +96,13 @@ loop-conn-preserved g c =
       written = c.answer_all.ensures.written;
       more = wants.0;
       far =
-          subst (λ (b : Bool). Standing c.args.site.now (λ h. g.H.Handler.handles h c.args.number) g.K.Clock.tells c.args.handler.now c.args.clock.now (r (source_of c.args.reader.now)) (r (source_of c.take_counted.new.reader)) (w c.args.sink.now) (w c.answer_all.new.sink) b (unread c.answer_all.new.conn.inbox) c.answer_all.new.conn.requests c.answer_all.new.handler c.answer_all.new.clock) going
+          subst (λ (b : Bool). Standing c.args.site.now (λ h. g.H.Handler.handles h c.args.number) g.K.Clock.tells c.args.handler.now c.args.clock.now
+          (r (source_of c.args.reader.now)) (r (source_of c.take_counted.new.reader)) (w c.args.sink.now) (w c.answer_all.new.sink) b
+          (unread c.answer_all.new.conn.inbox) c.answer_all.new.conn.requests c.answer_all.new.handler c.answer_all.new.clock) going
           (e.goes c.args.handler.now c.args.clock.now (r (source_of c.args.reader.now)) (r (source_of c.take_counted.new.reader)) (w c.args.sink.now) adds.end
-          (subst (λ (n : ℕ). SoFar c.args.site.now (λ h. g.H.Handler.handles h c.args.number) g.K.Clock.tells c.args.handler.now c.args.clock.now (r (source_of c.args.reader.now)) (r (source_of c.take_counted.new.reader)) (w c.args.sink.now) (w c.loop-conn.sink) (unread c.take_counted.new.self.inbox) n c.loop-conn.handler c.loop-conn.clock) (sym c.take_counted.ensures.requests)
+          (subst (λ (n : ℕ). SoFar c.args.site.now (λ h. g.H.Handler.handles h c.args.number) g.K.Clock.tells c.args.handler.now c.args.clock.now
+          (r (source_of c.args.reader.now)) (r (source_of c.take_counted.new.reader)) (w c.args.sink.now) (w c.loop-conn.sink)
+          (unread c.take_counted.new.self.inbox) n c.loop-conn.handler c.loop-conn.clock) (sym c.take_counted.ensures.requests)
           (far_adds _ _ _ (λ h. g.H.Handler.lacks h c.args.number) _ _ _ _ _ _ _ _ _ _ _ _ _ _ inv.far adds)));
       wants = wants.1;
       read_well = c.in_ok-take_counted.ensures.blames ∙ inv.read_well;

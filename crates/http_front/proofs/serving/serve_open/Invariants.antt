@@ -17,7 +17,8 @@ invariant-loop-conn g l = record {
   going : l.conn.over ≡ false;
   written : pending l.conn ≡ [];
   more : l.conn.whole ≡ false;
-  far : SoFar l.site (λ h. g.H.Handler.handles h l.number) g.K.Clock.tells l.fn.handler l.fn.clock (g.R.Source.remaining (source_of l.fn.reader)) (g.R.Source.remaining (source_of l.reader)) (g.W.Sink.contents l.fn.sink) (g.W.Sink.contents l.sink) (unread l.conn.inbox) l.conn.requests l.handler l.clock;
+  far : SoFar l.site (λ h. g.H.Handler.handles h l.number) g.K.Clock.tells l.fn.handler l.fn.clock (g.R.Source.remaining (source_of l.fn.reader))
+      (g.R.Source.remaining (source_of l.reader)) (g.W.Sink.contents l.fn.sink) (g.W.Sink.contents l.sink) (unread l.conn.inbox) l.conn.requests l.handler l.clock;
   wants : WantsMore (unread l.conn.inbox);
   read_well : g.R.Source.failed (source_of l.reader) ≡ g.R.Source.failed (source_of l.fn.reader);
   wrote_well : g.W.Sink.failed l.sink ≡ g.W.Sink.failed l.fn.sink;

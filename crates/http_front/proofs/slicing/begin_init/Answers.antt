@@ -12,7 +12,8 @@ returns-in-Ok-clause-leads g c =
 
 pub returns-in_ok-unless_lack-in-Err-clause-leads : goal.returns-in_ok-unless_lack-in-Err-clause-leads
 returns-in_ok-unless_lack-in-Err-clause-leads g c =
-    not_begun g.F.Files.device c.args.number c.args.host.now c.begin.new.self c.args.method c.args.name.now c.in-Err.refusal c.bare.result c.in_ok-unless_lack-in-Err.ensures.ok c.bare.ensures c.in-Err.ensures.event
+    not_begun g.F.Files.device c.args.number c.args.host.now c.begin.new.self c.args.method c.args.name.now c.in-Err.refusal c.bare.result
+    c.in_ok-unless_lack-in-Err.ensures.ok c.bare.ensures c.in-Err.ensures.event
 
 pub returns-in-Ok-clause-beside : goal.returns-in-Ok-clause-beside
 returns-in-Ok-clause-beside g c from so = c.init_slice.ensures.beside from (beside_event g.F.Files.device c.args.number from c.args.host.now c.begin.new.self so _ _ tt c.in-Ok.ensures.event)
@@ -27,7 +28,8 @@ pub returns-in_err-unless_lack-in-Err-clause-lacks : goal.returns-in_err-unless_
 returns-in_err-unless_lack-in-Err-clause-lacks g c from so =
     let p = err_from_is_err_and c.from_residual.result c.from_residual.ensures.1 in
     let e = c.in_err-unless_lack-in-Err.field-0.0 in
-    err_by _ c.from_residual.result p.0 e p.1 p.2 (beside_lacks g.F.Files.device c.args.number from c.args.host.now c.begin.new.self so _ c.in-Err.refusal e tt c.in_err-unless_lack-in-Err.ensures.lack c.in-Err.ensures.event)
+    err_by _ c.from_residual.result p.0 e p.1 p.2 (beside_lacks g.F.Files.device c.args.number from c.args.host.now c.begin.new.self so _ c.in-Err.refusal e tt
+    c.in_err-unless_lack-in-Err.ensures.lack c.in-Err.ensures.event)
 
 pub returns-in-Ok-clause-lacks : goal.returns-in-Ok-clause-lacks
 returns-in-Ok-clause-lacks g c from so = c.init_slice.ensures.lacks from (beside_event g.F.Files.device c.args.number from c.args.host.now c.begin.new.self so _ _ tt c.in-Ok.ensures.event)
@@ -37,8 +39,10 @@ returns-in-Ok-clause-few g c from n so = c.init_slice.ensures.few from n (few_ev
 
 pub returns-in_err-unless_lack-in-Err-clause-few : goal.returns-in_err-unless_lack-in-Err-clause-few
 returns-in_err-unless_lack-in-Err-clause-few g c from n so =
-    few_more g.F.Files.device c.args.number from c.begin.new.self n (few_event g.F.Files.device c.args.number from c.args.host.now n so c.begin.new.self _ _ tt refl c.in-Err.ensures.event) (n + slice_steps) (omega arith)
+    few_more g.F.Files.device c.args.number from c.begin.new.self n
+    (few_event g.F.Files.device c.args.number from c.args.host.now n so c.begin.new.self _ _ tt refl c.in-Err.ensures.event) (n + slice_steps) (omega arith)
 
 pub returns-in_ok-unless_lack-in-Err-clause-few : goal.returns-in_ok-unless_lack-in-Err-clause-few
 returns-in_ok-unless_lack-in-Err-clause-few g c from n so =
-    few_more g.F.Files.device c.args.number from c.begin.new.self n (few_event g.F.Files.device c.args.number from c.args.host.now n so c.begin.new.self _ _ tt refl c.in-Err.ensures.event) (n + slice_steps) (omega arith)
+    few_more g.F.Files.device c.args.number from c.begin.new.self n
+    (few_event g.F.Files.device c.args.number from c.args.host.now n so c.begin.new.self _ _ tt refl c.in-Err.ensures.event) (n + slice_steps) (omega arith)

@@ -13,8 +13,9 @@ returns-in-Ok-clause-leads g c =
 
 pub returns-in_ok-unless_lack-in-Err-clause-leads : goal.returns-in_ok-unless_lack-in-Err-clause-leads
 returns-in_ok-unless_lack-in-Err-clause-leads g c =
-    not_brought g.F.Files.device c.args.number c.args.host.now c.bring.new.self c.finish_slice.new.host c.finish_slice.result c.in_ok-pieces.pieces (brigades_left (Some c.args.rest)) (brigades_left c.in_ok-pieces.left) c.in-Err.refusal
-    c.in_ok-pieces.ensures c.in_ok-unless_lack-in-Err.ensures.ok c.in-Err.ensures.event c.finish_slice.ensures.leads
+    not_brought g.F.Files.device c.args.number c.args.host.now c.bring.new.self c.finish.new.host c.finish.result c.in_ok-pieces.pieces
+    (brigades_left (Some c.args.rest)) (brigades_left c.in_ok-pieces.left) c.in-Err.refusal
+    c.in_ok-pieces.ensures c.in_ok-unless_lack-in-Err.ensures.ok c.in-Err.ensures.event c.finish.ensures.leads
 
 pub returns-in-Ok-clause-beside : goal.returns-in-Ok-clause-beside
 returns-in-Ok-clause-beside g c from so = beside_event g.F.Files.device c.args.number from c.args.host.now c.bring.new.self so _ _ tt c.in-Ok.ensures.event
@@ -23,16 +24,19 @@ pub returns-in_err-unless_lack-in-Err-clause-beside : goal.returns-in_err-unless
 returns-in_err-unless_lack-in-Err-clause-beside g c from so = beside_event g.F.Files.device c.args.number from c.args.host.now c.bring.new.self so _ _ tt c.in-Err.ensures.event
 
 pub returns-in_ok-unless_lack-in-Err-clause-beside : goal.returns-in_ok-unless_lack-in-Err-clause-beside
-returns-in_ok-unless_lack-in-Err-clause-beside g c from so = c.finish_slice.ensures.beside from (beside_event g.F.Files.device c.args.number from c.args.host.now c.bring.new.self so _ _ tt c.in-Err.ensures.event)
+returns-in_ok-unless_lack-in-Err-clause-beside g c from so =
+    c.finish.ensures.beside from (beside_event g.F.Files.device c.args.number from c.args.host.now c.bring.new.self so _ _ tt c.in-Err.ensures.event)
 
 pub returns-in_err-unless_lack-in-Err-clause-lacks : goal.returns-in_err-unless_lack-in-Err-clause-lacks
 returns-in_err-unless_lack-in-Err-clause-lacks g c from so =
     let p = err_from_is_err_and c.from_residual-in_err-unless_lack-in-Err.result c.from_residual-in_err-unless_lack-in-Err.ensures.1 in
     let e = c.in_err-unless_lack-in-Err.field-0.0 in
-    err_by _ c.from_residual-in_err-unless_lack-in-Err.result p.0 e p.1 p.2 (beside_lacks g.F.Files.device c.args.number from c.args.host.now c.bring.new.self so _ c.in-Err.refusal e tt c.in_err-unless_lack-in-Err.ensures.lack c.in-Err.ensures.event)
+    err_by _ c.from_residual-in_err-unless_lack-in-Err.result p.0 e p.1 p.2
+    (beside_lacks g.F.Files.device c.args.number from c.args.host.now c.bring.new.self so _ c.in-Err.refusal e tt c.in_err-unless_lack-in-Err.ensures.lack c.in-Err.ensures.event)
 
 pub returns-in_ok-unless_lack-in-Err-clause-lacks : goal.returns-in_ok-unless_lack-in-Err-clause-lacks
-returns-in_ok-unless_lack-in-Err-clause-lacks g c from so = c.finish_slice.ensures.lacks from (beside_event g.F.Files.device c.args.number from c.args.host.now c.bring.new.self so _ _ tt c.in-Err.ensures.event)
+returns-in_ok-unless_lack-in-Err-clause-lacks g c from so =
+    c.finish.ensures.lacks from (beside_event g.F.Files.device c.args.number from c.args.host.now c.bring.new.self so _ _ tt c.in-Err.ensures.event)
 
 pub returns-in_err-pieces-clause-lacks : goal.returns-in_err-pieces-clause-lacks
 returns-in_err-pieces-clause-lacks g c from so =
@@ -46,4 +50,5 @@ pub returns-in_err-unless_lack-in-Err-clause-few : goal.returns-in_err-unless_la
 returns-in_err-unless_lack-in-Err-clause-few g c from n so = few_event g.F.Files.device c.args.number from c.args.host.now n so c.bring.new.self _ _ tt refl c.in-Err.ensures.event
 
 pub returns-in_ok-unless_lack-in-Err-clause-few : goal.returns-in_ok-unless_lack-in-Err-clause-few
-returns-in_ok-unless_lack-in-Err-clause-few g c from n so = c.finish_slice.ensures.few from n (few_event g.F.Files.device c.args.number from c.args.host.now n so c.bring.new.self _ _ tt refl c.in-Err.ensures.event)
+returns-in_ok-unless_lack-in-Err-clause-few g c from n so =
+    c.finish.ensures.few from n (few_event g.F.Files.device c.args.number from c.args.host.now n so c.bring.new.self _ _ tt refl c.in-Err.ensures.event)

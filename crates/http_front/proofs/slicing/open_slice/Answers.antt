@@ -7,12 +7,14 @@ use Rattle.http_front.proofs.slicing.open_slice.Goals as goal
 
 pub returns-in-Ok-clause-leads : goal.returns-in-Ok-clause-leads
 returns-in-Ok-clause-leads g c =
-    opened_so g.F.Files.device c.args.number c.args.host.now c.open_file.new.self c.carry_on.new.host c.carry_on.result c.args.init c.args.method c.args.name.now c.in-Ok.file c.wanted.result c.wanted.ensures c.in-Ok.ensures.event c.carry_on.ensures.leads
+    opened_so g.F.Files.device c.args.number c.args.host.now c.open_file.new.self c.carry_on.new.host c.carry_on.result c.args.init c.args.method c.args.name.now
+    c.in-Ok.file c.wanted.result c.wanted.ensures.all c.in-Ok.ensures.event c.carry_on.ensures.leads
 
 pub returns-in_ok-unless_lack-in-Err-clause-leads : goal.returns-in_ok-unless_lack-in-Err-clause-leads
 returns-in_ok-unless_lack-in-Err-clause-leads g c =
-    not_opened g.F.Files.device c.args.number c.args.host.now c.open_file.new.self c.bare_slice.new.host c.bare_slice.result c.args.init c.args.method c.args.name.now c.in-Err.refusal c.unopened.result c.unopened.ensures
-    c.in_ok-unless_lack-in-Err.ensures.ok c.in-Err.ensures.event c.bare_slice.ensures.leads
+    not_opened g.F.Files.device c.args.number c.args.host.now c.open_file.new.self c.finish_bare.new.host c.finish_bare.result c.args.init c.args.method
+    c.args.name.now c.in-Err.refusal c.unopened.result c.unopened.ensures
+    c.in_ok-unless_lack-in-Err.ensures.ok c.in-Err.ensures.event c.finish_bare.ensures.leads
 
 pub returns-in-Ok-clause-beside : goal.returns-in-Ok-clause-beside
 returns-in-Ok-clause-beside g c from so = c.carry_on.ensures.beside from (beside_event g.F.Files.device c.args.number from c.args.host.now c.open_file.new.self so _ _ tt c.in-Ok.ensures.event)
@@ -21,19 +23,22 @@ pub returns-in_err-unless_lack-in-Err-clause-beside : goal.returns-in_err-unless
 returns-in_err-unless_lack-in-Err-clause-beside g c from so = beside_event g.F.Files.device c.args.number from c.args.host.now c.open_file.new.self so _ _ tt c.in-Err.ensures.event
 
 pub returns-in_ok-unless_lack-in-Err-clause-beside : goal.returns-in_ok-unless_lack-in-Err-clause-beside
-returns-in_ok-unless_lack-in-Err-clause-beside g c from so = c.bare_slice.ensures.beside from (beside_event g.F.Files.device c.args.number from c.args.host.now c.open_file.new.self so _ _ tt c.in-Err.ensures.event)
+returns-in_ok-unless_lack-in-Err-clause-beside g c from so =
+    c.finish_bare.ensures.beside from (beside_event g.F.Files.device c.args.number from c.args.host.now c.open_file.new.self so _ _ tt c.in-Err.ensures.event)
 
 pub returns-in_err-unless_lack-in-Err-clause-lacks : goal.returns-in_err-unless_lack-in-Err-clause-lacks
 returns-in_err-unless_lack-in-Err-clause-lacks g c from so =
     let p = err_from_is_err_and c.from_residual.result c.from_residual.ensures.1 in
     let e = c.in_err-unless_lack-in-Err.field-0.0 in
-    err_by _ c.from_residual.result p.0 e p.1 p.2 (beside_lacks g.F.Files.device c.args.number from c.args.host.now c.open_file.new.self so _ c.in-Err.refusal e tt c.in_err-unless_lack-in-Err.ensures.lack c.in-Err.ensures.event)
+    err_by _ c.from_residual.result p.0 e p.1 p.2 (beside_lacks g.F.Files.device c.args.number from c.args.host.now c.open_file.new.self so _ c.in-Err.refusal e tt
+    c.in_err-unless_lack-in-Err.ensures.lack c.in-Err.ensures.event)
 
 pub returns-in-Ok-clause-lacks : goal.returns-in-Ok-clause-lacks
 returns-in-Ok-clause-lacks g c from so = c.carry_on.ensures.lacks from (beside_event g.F.Files.device c.args.number from c.args.host.now c.open_file.new.self so _ _ tt c.in-Ok.ensures.event)
 
 pub returns-in_ok-unless_lack-in-Err-clause-lacks : goal.returns-in_ok-unless_lack-in-Err-clause-lacks
-returns-in_ok-unless_lack-in-Err-clause-lacks g c from so = c.bare_slice.ensures.lacks from (beside_event g.F.Files.device c.args.number from c.args.host.now c.open_file.new.self so _ _ tt c.in-Err.ensures.event)
+returns-in_ok-unless_lack-in-Err-clause-lacks g c from so =
+    c.finish_bare.ensures.lacks from (beside_event g.F.Files.device c.args.number from c.args.host.now c.open_file.new.self so _ _ tt c.in-Err.ensures.event)
 
 pub returns-in-Ok-clause-few : goal.returns-in-Ok-clause-few
 returns-in-Ok-clause-few g c from n so = c.carry_on.ensures.few from n (few_event g.F.Files.device c.args.number from c.args.host.now n so c.open_file.new.self _ _ tt refl c.in-Ok.ensures.event)
@@ -42,4 +47,5 @@ pub returns-in_err-unless_lack-in-Err-clause-few : goal.returns-in_err-unless_la
 returns-in_err-unless_lack-in-Err-clause-few g c from n so = few_event g.F.Files.device c.args.number from c.args.host.now n so c.open_file.new.self _ _ tt refl c.in-Err.ensures.event
 
 pub returns-in_ok-unless_lack-in-Err-clause-few : goal.returns-in_ok-unless_lack-in-Err-clause-few
-returns-in_ok-unless_lack-in-Err-clause-few g c from n so = c.bare_slice.ensures.few from n (few_event g.F.Files.device c.args.number from c.args.host.now n so c.open_file.new.self _ _ tt refl c.in-Err.ensures.event)
+returns-in_ok-unless_lack-in-Err-clause-few g c from n so =
+    c.finish_bare.ensures.few from n (few_event g.F.Files.device c.args.number from c.args.host.now n so c.open_file.new.self _ _ tt refl c.in-Err.ensures.event)

@@ -18,4 +18,5 @@ returns-in-Head-clause-ok g c = ok_gives _ _ c.begin_head.result (λ x says. say
 
 pub returns-in-Head-clause-err : goal.returns-in-Head-clause-err
 returns-in-Head-clause-err g c =
-    found_lack c.args.site.now (λ old. g.H.Handler.lacks old c.args.number) _ _ c.args.seen.now c.look_at.new.spans c.args.whole c.in-Head.head c.begin_head.result (c.look_at.ensures.room ∙ c.requires.room) c.in-Head.ensures.looks.1 c.begin_head.ensures.err
+    found_lack c.args.site.now (λ old. g.H.Handler.lacks old c.args.number) _ _ c.args.seen.now c.look_at.new.spans c.args.whole c.in-Head.head c.begin_head.result
+    (c.look_at.ensures.room ∙ c.requires.room) c.in-Head.ensures.looks.1 c.begin_head.ensures.err

@@ -8,8 +8,12 @@ returns-in_default c h t = (sym (no_file c.args.site.now h c.args.target.now t c
 
 pub returns-in-Some-route : goal.returns-in-Some-route
 returns-in-Some-route c h t =
-    sym (file_at_path c.args.site.now h c.args.target.now c.in-Some.sent.now t c.in-Some.ensures) ∙ ap (route_of c.args.site.now) (sym (c.as_slice.ensures.value ∙ c.in_ok-path.ensures)) ∙ c.in-Some-route.ensures
+    sym (file_at_path c.args.site.now h c.args.target.now c.in-Some.sent.now t c.in-Some.ensures)
+    ∙ ap (route_of c.args.site.now) (sym (c.as_slice.ensures.value ∙ c.in_ok-path.ensures)) ∙ c.in-Some-route.ensures
 
 pub returns : goal.returns
-returns c h t =
-    (sym (file_at_path c.args.site.now h c.args.target.now c.in-Some.sent.now t c.in-Some.ensures) ∙ ap (route_of c.args.site.now) (sym (c.as_slice.ensures.value ∙ c.in_ok-path.ensures)) ∙ c.in-None.ensures, refl)
+returns c h t = (
+  sym (file_at_path c.args.site.now h c.args.target.now c.in-Some.sent.now t c.in-Some.ensures)
+      ∙ ap (route_of c.args.site.now) (sym (c.as_slice.ensures.value ∙ c.in_ok-path.ensures)) ∙ c.in-None.ensures,
+  refl,
+)

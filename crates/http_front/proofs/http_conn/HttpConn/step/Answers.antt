@@ -13,18 +13,27 @@ use Rattle.http_front.proofs.http_conn.HttpConn.step.Goals as goal
 pub returns-in-Did-clause-did : goal.returns-in-Did-clause-did
 returns-in-Did-clause-did g c = (
   slice.Did c.in-Did.step,
-  stepped_so c.args.site.now (λ old. g.P.Pace.comes old c.args.number) (λ old. g.P.Pace.rests old c.args.number) g.K.Clock.tells c.args.clock.now c.step_on-did.new.clock c.in_ok-slice.slice (slice.Did c.in-Did.step) c.args.self.now.hand c.take-hand.result c.args.handler.now c.step_on-did.new.handler
-      (unread c.args.self.now.inbox) c.unread-seen.result.now c.args.self.now.whole (text_of c.step_on-did.new.text) (pending c.follow.new.self) c.in-Did.is c.take-hand.ensures.value c.unread-seen.ensures (pending_all c.follow.new.self c.sized.new.text c.follow.ensures.sent c.follow.ensures.text ∙ ap text_of c.in_ok-slice.ensures.ok.1)
-      (ok_at (λ x. StepsFrom c.args.site.now (λ old. g.P.Pace.comes old c.args.number) (λ old. g.P.Pace.rests old c.args.number) g.K.Clock.tells c.take-hand.result c.args.handler.now c.args.clock.now c.unread-seen.result.now c.args.self.now.whole x (text_of c.step_on-did.new.text) c.step_on-did.new.handler c.step_on-did.new.clock) c.step_on-did.result c.in_ok-slice.slice c.in_ok-slice.ensures.ok.0 c.step_on-did.ensures.ok),
+  stepped_so c.args.site.now (λ old. g.P.Pace.comes old c.args.number) (λ old. g.P.Pace.rests old c.args.number) g.K.Clock.tells c.args.clock.now
+      c.step_on-did.new.clock c.in_ok-slice.slice (slice.Did c.in-Did.step) c.args.self.now.hand c.take-hand.result c.args.handler.now c.step_on-did.new.handler
+      (unread c.args.self.now.inbox) c.unread-seen.result.now c.args.self.now.whole (text_of c.step_on-did.new.text)
+      (pending c.follow.new.self) c.in-Did.is c.take-hand.ensures.value c.unread-seen.ensures
+      (pending_all c.follow.new.self c.sized.new.text c.follow.ensures.sent c.follow.ensures.text ∙ ap text_of c.in_ok-slice.ensures.ok.1)
+      (ok_at (λ x. StepsFrom c.args.site.now (λ old. g.P.Pace.comes old c.args.number) (λ old. g.P.Pace.rests old c.args.number) g.K.Clock.tells c.take-hand.result
+      c.args.handler.now c.args.clock.now c.unread-seen.result.now c.args.self.now.whole x
+      (text_of c.step_on-did.new.text) c.step_on-did.new.handler c.step_on-did.new.clock) c.step_on-did.result c.in_ok-slice.slice c.in_ok-slice.ensures.ok.0 c.step_on-did.ensures.ok),
   (follows_as c.in-Did.step _ c.args.self.now c.follow.new.self refl refl refl c.follow.ensures.follows, c.follow.ensures.hand ∙ c.take-hand.ensures.after),
 )
 
 pub returns-in-Works-clause-did : goal.returns-in-Works-clause-did
 returns-in-Works-clause-did g c = (
   slice.Works c.in-Works.under_way,
-  stepped_so c.args.site.now (λ old. g.P.Pace.comes old c.args.number) (λ old. g.P.Pace.rests old c.args.number) g.K.Clock.tells c.args.clock.now c.step_on-did.new.clock c.in_ok-slice.slice (slice.Works c.in-Works.under_way) c.args.self.now.hand c.take-hand.result c.args.handler.now c.step_on-did.new.handler
-      (unread c.args.self.now.inbox) c.unread-seen.result.now c.args.self.now.whole (text_of c.step_on-did.new.text) (text_of c.sized.new.text) c.in-Works.is c.take-hand.ensures.value c.unread-seen.ensures (ap text_of c.in_ok-slice.ensures.ok.1)
-      (ok_at (λ x. StepsFrom c.args.site.now (λ old. g.P.Pace.comes old c.args.number) (λ old. g.P.Pace.rests old c.args.number) g.K.Clock.tells c.take-hand.result c.args.handler.now c.args.clock.now c.unread-seen.result.now c.args.self.now.whole x (text_of c.step_on-did.new.text) c.step_on-did.new.handler c.step_on-did.new.clock) c.step_on-did.result c.in_ok-slice.slice c.in_ok-slice.ensures.ok.0 c.step_on-did.ensures.ok),
+  stepped_so c.args.site.now (λ old. g.P.Pace.comes old c.args.number) (λ old. g.P.Pace.rests old c.args.number) g.K.Clock.tells c.args.clock.now
+      c.step_on-did.new.clock c.in_ok-slice.slice (slice.Works c.in-Works.under_way) c.args.self.now.hand c.take-hand.result c.args.handler.now c.step_on-did.new.handler
+      (unread c.args.self.now.inbox) c.unread-seen.result.now c.args.self.now.whole (text_of c.step_on-did.new.text)
+      (text_of c.sized.new.text) c.in-Works.is c.take-hand.ensures.value c.unread-seen.ensures (ap text_of c.in_ok-slice.ensures.ok.1)
+      (ok_at (λ x. StepsFrom c.args.site.now (λ old. g.P.Pace.comes old c.args.number) (λ old. g.P.Pace.rests old c.args.number) g.K.Clock.tells c.take-hand.result
+      c.args.handler.now c.args.clock.now c.unread-seen.result.now c.args.self.now.whole x
+      (text_of c.step_on-did.new.text) c.step_on-did.new.handler c.step_on-did.new.clock) c.step_on-did.result c.in_ok-slice.slice c.in_ok-slice.ensures.ok.0 c.step_on-did.ensures.ok),
   (record { still = refl; wants = refl; over = c.requires.going; counted = refl }, refl),
 )
 
@@ -32,6 +41,12 @@ pub returns-in_err-slice-clause-lacks : goal.returns-in_err-slice-clause-lacks
 returns-in_err-slice-clause-lacks g c =
     let p = err_from_is_err_and c.from_residual.result c.from_residual.ensures.1 in
     let e = c.in_err-slice.field-0.0 in
-    err_by (LacksSlice c.args.site.now (λ old. g.H.Handler.lacks old c.args.number) (λ old. g.P.Pace.lacks_rest old c.args.number) c.args.self.now.hand c.args.handler.now (unread c.args.self.now.inbox) c.args.self.now.whole c.step_on-did.new.handler) c.from_residual.result p.0 e p.1 p.2
-    (lack_as c.args.site.now (λ old. g.H.Handler.lacks old c.args.number) (λ old. g.P.Pace.lacks_rest old c.args.number) c.args.handler.now c.step_on-did.new.handler c.take-hand.result c.args.self.now.hand c.unread-seen.result.now (unread c.args.self.now.inbox) c.args.self.now.whole e c.take-hand.ensures.value c.unread-seen.ensures
-    (sized_lack c.args.site.now (λ old. g.H.Handler.lacks old c.args.number) (λ old. g.P.Pace.lacks_rest old c.args.number) c.args.handler.now c.step_on-did.new.handler c.unread-seen.result.now c.args.self.now.whole (λ old. g.P.Pace.comes old c.args.number) (λ old. g.P.Pace.rests old c.args.number) g.K.Clock.tells c.args.clock.now c.step_on-did.new.clock (text_of c.step_on-did.new.text) c.take-hand.result c.step_on-did.result e c.step_on-did.ensures.ok c.step_on-did.ensures.err c.in_err-slice.ensures.err))
+    err_by (LacksSlice c.args.site.now (λ old. g.H.Handler.lacks old c.args.number) (λ old. g.P.Pace.lacks_rest old c.args.number) c.args.self.now.hand
+    c.args.handler.now (unread c.args.self.now.inbox) c.args.self.now.whole c.step_on-did.new.handler) c.from_residual.result p.0 e p.1 p.2
+    (lack_as c.args.site.now (λ old. g.H.Handler.lacks old c.args.number) (λ old. g.P.Pace.lacks_rest old c.args.number) c.args.handler.now
+    c.step_on-did.new.handler c.take-hand.result c.args.self.now.hand c.unread-seen.result.now
+    (unread c.args.self.now.inbox) c.args.self.now.whole e c.take-hand.ensures.value c.unread-seen.ensures
+    (sized_lack c.args.site.now (λ old. g.H.Handler.lacks old c.args.number) (λ old. g.P.Pace.lacks_rest old c.args.number) c.args.handler.now
+    c.step_on-did.new.handler c.unread-seen.result.now c.args.self.now.whole (λ old. g.P.Pace.comes old c.args.number)
+    (λ old. g.P.Pace.rests old c.args.number) g.K.Clock.tells c.args.clock.now c.step_on-did.new.clock
+    (text_of c.step_on-did.new.text) c.take-hand.result c.step_on-did.result e c.step_on-did.ensures.ok c.step_on-did.ensures.err c.in_err-slice.ensures.err))

@@ -17,7 +17,10 @@ returns-in-Writes-clause-own g c =
       take w.0 (pending c.args.self.now),
       Consumes-nil (g.R.Source.remaining c.args.reader.now),
       w.1,
-      own_wrote c.args.site.now (λ old. g.H.Handler.among old c.args.number) (λ old. g.H.Handler.rests old c.args.number) g.K.Clock.tells (λ old new. g.H.Handler.apart old c.args.number new) (λ h. g.met.H.Handler.apart_self h c.args.number) (λ mid now new method file o. g.met.H.Handler.among_later mid now new c.args.number method file o) c.put_out.result c.args.self.now c.put_out.new.self c.args.handler.now c.put_out.new.handler c.args.clock.now w.0 c.put_out.ensures.still w.2 c.put_out.ensures.inbox c.put_out.ensures.over c.put_out.ensures.hand,
+      own_wrote c.args.site.now (λ old. g.H.Handler.among old c.args.number) (λ old. g.H.Handler.rests old c.args.number) g.K.Clock.tells
+          (λ old new. g.H.Handler.apart old c.args.number new) (λ h. g.met.H.Handler.apart_self h c.args.number)
+          (λ mid now new method file o. g.met.H.Handler.among_later mid now new c.args.number method file o) c.put_out.result c.args.self.now c.put_out.new.self
+          c.args.handler.now c.put_out.new.handler c.args.clock.now w.0 c.put_out.ensures.still w.2 c.put_out.ensures.inbox c.put_out.ensures.over c.put_out.ensures.hand,
     )
 
 pub returns-in-Over-clause-own : goal.returns-in-Over-clause-own
@@ -26,7 +29,9 @@ returns-in-Over-clause-own g c = (
   [],
   Consumes-nil (g.R.Source.remaining c.args.reader.now),
   Appends-nil (g.W.Sink.contents c.args.sink.now),
-  own_over c.args.site.now (λ old. g.H.Handler.among old c.args.number) (λ old. g.H.Handler.rests old c.args.number) g.K.Clock.tells (λ old new. g.H.Handler.apart old c.args.number new) (λ h. g.met.H.Handler.apart_self h c.args.number) (λ mid now new method file o. g.met.H.Handler.among_later mid now new c.args.number method file o) (Ok turned.Over) c.args.self.now c.args.handler.now c.args.clock.now,
+  own_over c.args.site.now (λ old. g.H.Handler.among old c.args.number) (λ old. g.H.Handler.rests old c.args.number) g.K.Clock.tells
+      (λ old new. g.H.Handler.apart old c.args.number new) (λ h. g.met.H.Handler.apart_self h c.args.number)
+      (λ mid now new method file o. g.met.H.Handler.among_later mid now new c.args.number method file o) (Ok turned.Over) c.args.self.now c.args.handler.now c.args.clock.now,
 )
 
 pub returns-in-Reads-clause-own : goal.returns-in-Reads-clause-own
@@ -36,7 +41,10 @@ returns-in-Reads-clause-own g c =
       [],
       t.1,
       Appends-nil (g.W.Sink.contents c.args.sink.now),
-      own_read c.args.site.now (λ old. g.H.Handler.among old c.args.number) (λ old. g.H.Handler.rests old c.args.number) g.K.Clock.tells (λ old new. g.H.Handler.apart old c.args.number new) (λ h. g.met.H.Handler.apart_self h c.args.number) (λ mid now new method file o. g.met.H.Handler.among_later mid now new c.args.number method file o) c.take_in.result c.args.self.now c.take_in.new.self c.args.handler.now c.args.clock.now t.0 t.2 c.take_in.ensures.text c.take_in.ensures.over c.in-Reads.ensures.1 c.take_in.ensures.hand c.in-Reads.ensures.3,
+      own_read c.args.site.now (λ old. g.H.Handler.among old c.args.number) (λ old. g.H.Handler.rests old c.args.number) g.K.Clock.tells
+          (λ old new. g.H.Handler.apart old c.args.number new) (λ h. g.met.H.Handler.apart_self h c.args.number)
+          (λ mid now new method file o. g.met.H.Handler.among_later mid now new c.args.number method file o) c.take_in.result c.args.self.now c.take_in.new.self
+          c.args.handler.now c.args.clock.now t.0 t.2 c.take_in.ensures.text c.take_in.ensures.over c.in-Reads.ensures.1 c.take_in.ensures.hand c.in-Reads.ensures.3,
     )
 
 pub returns-in-Works-clause-own : goal.returns-in-Works-clause-own
@@ -45,15 +53,20 @@ returns-in-Works-clause-own g c = (
   [],
   Consumes-nil (g.R.Source.remaining c.args.reader.now),
   Appends-nil (g.W.Sink.contents c.args.sink.now),
-  own_step c.args.site.now (λ old. g.H.Handler.among old c.args.number) (λ old. g.H.Handler.rests old c.args.number) g.K.Clock.tells (λ old new. g.H.Handler.apart old c.args.number new) (λ h. g.met.H.Handler.apart_self h c.args.number) (λ mid now new method file o. g.met.H.Handler.among_later mid now new c.args.number method file o) c.step.result c.args.self.now c.step.new.self c.args.handler.now c.step.new.handler c.args.clock.now c.step.new.clock c.in-Works.ensures.0 c.in-Works.ensures.1 c.step.ensures.did,
+  own_step c.args.site.now (λ old. g.H.Handler.among old c.args.number) (λ old. g.H.Handler.rests old c.args.number) g.K.Clock.tells
+      (λ old new. g.H.Handler.apart old c.args.number new) (λ h. g.met.H.Handler.apart_self h c.args.number)
+      (λ mid now new method file o. g.met.H.Handler.among_later mid now new c.args.number method file o) c.step.result c.args.self.now c.step.new.self
+      c.args.handler.now c.step.new.handler c.args.clock.now c.step.new.clock c.in-Works.ensures.0 c.in-Works.ensures.1 c.step.ensures.did,
 )
 
 pub returns-in-Works-clause-others : goal.returns-in-Works-clause-others
 returns-in-Works-clause-others g c k apart start first came went other s =
     let own = c.step.ensures.beside c.args.handler.now (g.met.H.Handler.beside_self c.args.handler.now c.args.number) in
     let gap = g.met.H.Handler.apart_on c.args.handler.now c.args.handler.now c.step.new.handler c.args.number k apart (g.met.H.Handler.apart_self c.args.handler.now k) own in
-    stands_later c.args.site.now (λ old. g.H.Handler.among old k) (λ old. g.H.Handler.rests old k) g.K.Clock.tells (λ old new. g.H.Handler.apart old k new) start first came went other c.args.handler.now c.step.new.handler c.args.clock.now c.step.new.clock
-    (λ from before. g.met.H.Handler.apart_on from c.args.handler.now c.step.new.handler c.args.number k apart before own) (λ task o z rest. g.met.H.Handler.rests_later c.args.handler.now c.step.new.handler z k task o gap rest) c.step.ensures.clock s
+    stands_later c.args.site.now (λ old. g.H.Handler.among old k) (λ old. g.H.Handler.rests old k) g.K.Clock.tells
+    (λ old new. g.H.Handler.apart old k new) start first came went other c.args.handler.now c.step.new.handler c.args.clock.now c.step.new.clock
+    (λ from before. g.met.H.Handler.apart_on from c.args.handler.now c.step.new.handler c.args.number k apart before own)
+    (λ task o z rest. g.met.H.Handler.rests_later c.args.handler.now c.step.new.handler z k task o gap rest) c.step.ensures.clock s
 
 pub returns-in-Steps-clause-own : goal.returns-in-Steps-clause-own
 returns-in-Steps-clause-own g c = (
@@ -61,15 +74,20 @@ returns-in-Steps-clause-own g c = (
   [],
   Consumes-nil (g.R.Source.remaining c.args.reader.now),
   Appends-nil (g.W.Sink.contents c.args.sink.now),
-  own_step c.args.site.now (λ old. g.H.Handler.among old c.args.number) (λ old. g.H.Handler.rests old c.args.number) g.K.Clock.tells (λ old new. g.H.Handler.apart old c.args.number new) (λ h. g.met.H.Handler.apart_self h c.args.number) (λ mid now new method file o. g.met.H.Handler.among_later mid now new c.args.number method file o) c.step-in-Steps.result c.args.self.now c.step-in-Steps.new.self c.args.handler.now c.step-in-Steps.new.handler c.args.clock.now c.step-in-Steps.new.clock c.in-Steps.ensures.0 c.in-Steps.ensures.1 c.step-in-Steps.ensures.did,
+  own_step c.args.site.now (λ old. g.H.Handler.among old c.args.number) (λ old. g.H.Handler.rests old c.args.number) g.K.Clock.tells
+      (λ old new. g.H.Handler.apart old c.args.number new) (λ h. g.met.H.Handler.apart_self h c.args.number)
+      (λ mid now new method file o. g.met.H.Handler.among_later mid now new c.args.number method file o) c.step-in-Steps.result c.args.self.now
+      c.step-in-Steps.new.self c.args.handler.now c.step-in-Steps.new.handler c.args.clock.now c.step-in-Steps.new.clock c.in-Steps.ensures.0 c.in-Steps.ensures.1 c.step-in-Steps.ensures.did,
 )
 
 pub returns-in-Steps-clause-others : goal.returns-in-Steps-clause-others
 returns-in-Steps-clause-others g c k apart start first came went other s =
     let own = c.step-in-Steps.ensures.beside c.args.handler.now (g.met.H.Handler.beside_self c.args.handler.now c.args.number) in
     let gap = g.met.H.Handler.apart_on c.args.handler.now c.args.handler.now c.step-in-Steps.new.handler c.args.number k apart (g.met.H.Handler.apart_self c.args.handler.now k) own in
-    stands_later c.args.site.now (λ old. g.H.Handler.among old k) (λ old. g.H.Handler.rests old k) g.K.Clock.tells (λ old new. g.H.Handler.apart old k new) start first came went other c.args.handler.now c.step-in-Steps.new.handler c.args.clock.now c.step-in-Steps.new.clock
-    (λ from before. g.met.H.Handler.apart_on from c.args.handler.now c.step-in-Steps.new.handler c.args.number k apart before own) (λ task o z rest. g.met.H.Handler.rests_later c.args.handler.now c.step-in-Steps.new.handler z k task o gap rest) c.step-in-Steps.ensures.clock s
+    stands_later c.args.site.now (λ old. g.H.Handler.among old k) (λ old. g.H.Handler.rests old k) g.K.Clock.tells
+    (λ old new. g.H.Handler.apart old k new) start first came went other c.args.handler.now c.step-in-Steps.new.handler c.args.clock.now c.step-in-Steps.new.clock
+    (λ from before. g.met.H.Handler.apart_on from c.args.handler.now c.step-in-Steps.new.handler c.args.number k apart before own)
+    (λ task o z rest. g.met.H.Handler.rests_later c.args.handler.now c.step-in-Steps.new.handler z k task o gap rest) c.step-in-Steps.ensures.clock s
 
 pub returns-in-Writes-clause-fails : goal.returns-in-Writes-clause-fails
 returns-in-Writes-clause-fails g c = IfErr-weaker c.put_out.result _ _ (λ e how. (next.Writes, c.in-Writes.ensures, how)) c.put_out.ensures.kinds
@@ -103,22 +121,32 @@ returns-in-Reads-clause-sink g c = sink_read _ _ refl c.take_in.result c.take_in
 
 pub returns-in-Works-clause-source : goal.returns-in-Works-clause-source
 returns-in-Works-clause-source g c =
-    source_lack _ _ refl _ c.step.result (IfErr-weaker c.step.result _ _ (λ e how. slice_lack c.args.site.now (λ old. g.H.Handler.lacks old c.args.number) (λ old. g.H.Handler.lacks_rest old c.args.number) c.args.handler.now c.step.new.handler (unread c.args.self.now.inbox) c.args.self.now.whole c.args.self.now.hand e how) c.step.ensures.lacks)
+    source_lack _ _ refl _ c.step.result (IfErr-weaker c.step.result _ _
+    (λ e how. slice_lack c.args.site.now (λ old. g.H.Handler.lacks old c.args.number) (λ old. g.H.Handler.lacks_rest old c.args.number) c.args.handler.now
+    c.step.new.handler (unread c.args.self.now.inbox) c.args.self.now.whole c.args.self.now.hand e how) c.step.ensures.lacks)
 
 pub returns-in-Works-clause-sink : goal.returns-in-Works-clause-sink
 returns-in-Works-clause-sink g c =
-    sink_lack _ _ refl c.step.result (IfErr-weaker c.step.result _ _ (λ e how. slice_lack c.args.site.now (λ old. g.H.Handler.lacks old c.args.number) (λ old. g.H.Handler.lacks_rest old c.args.number) c.args.handler.now c.step.new.handler (unread c.args.self.now.inbox) c.args.self.now.whole c.args.self.now.hand e how) c.step.ensures.lacks)
+    sink_lack _ _ refl c.step.result (IfErr-weaker c.step.result _ _
+    (λ e how. slice_lack c.args.site.now (λ old. g.H.Handler.lacks old c.args.number) (λ old. g.H.Handler.lacks_rest old c.args.number) c.args.handler.now
+    c.step.new.handler (unread c.args.self.now.inbox) c.args.self.now.whole c.args.self.now.hand e how) c.step.ensures.lacks)
 
 pub returns-in-Steps-clause-source : goal.returns-in-Steps-clause-source
 returns-in-Steps-clause-source g c =
-    source_lack _ _ refl _ c.step-in-Steps.result (IfErr-weaker c.step-in-Steps.result _ _ (λ e how. slice_lack c.args.site.now (λ old. g.H.Handler.lacks old c.args.number) (λ old. g.H.Handler.lacks_rest old c.args.number) c.args.handler.now c.step-in-Steps.new.handler (unread c.args.self.now.inbox) c.args.self.now.whole c.args.self.now.hand e how) c.step-in-Steps.ensures.lacks)
+    source_lack _ _ refl _ c.step-in-Steps.result (IfErr-weaker c.step-in-Steps.result _ _
+    (λ e how. slice_lack c.args.site.now (λ old. g.H.Handler.lacks old c.args.number) (λ old. g.H.Handler.lacks_rest old c.args.number) c.args.handler.now
+    c.step-in-Steps.new.handler (unread c.args.self.now.inbox) c.args.self.now.whole c.args.self.now.hand e how) c.step-in-Steps.ensures.lacks)
 
 pub returns-in-Steps-clause-sink : goal.returns-in-Steps-clause-sink
 returns-in-Steps-clause-sink g c =
-    sink_lack _ _ refl c.step-in-Steps.result (IfErr-weaker c.step-in-Steps.result _ _ (λ e how. slice_lack c.args.site.now (λ old. g.H.Handler.lacks old c.args.number) (λ old. g.H.Handler.lacks_rest old c.args.number) c.args.handler.now c.step-in-Steps.new.handler (unread c.args.self.now.inbox) c.args.self.now.whole c.args.self.now.hand e how) c.step-in-Steps.ensures.lacks)
+    sink_lack _ _ refl c.step-in-Steps.result (IfErr-weaker c.step-in-Steps.result _ _
+    (λ e how. slice_lack c.args.site.now (λ old. g.H.Handler.lacks old c.args.number) (λ old. g.H.Handler.lacks_rest old c.args.number) c.args.handler.now
+    c.step-in-Steps.new.handler (unread c.args.self.now.inbox) c.args.self.now.whole c.args.self.now.hand e how) c.step-in-Steps.ensures.lacks)
 
 pub returns-in-Writes-clause-few : goal.returns-in-Writes-clause-few
-returns-in-Writes-clause-few g c = subst (λ h. g.H.Handler.steps c.args.handler.now c.args.number (most_steps c.args.self.now.hand) h) (sym c.put_out.ensures.still) (g.met.H.Handler.steps_none c.args.handler.now c.args.number (most_steps c.args.self.now.hand))
+returns-in-Writes-clause-few g c =
+    subst (λ h. g.H.Handler.steps c.args.handler.now c.args.number (most_steps c.args.self.now.hand) h) (sym c.put_out.ensures.still)
+    (g.met.H.Handler.steps_none c.args.handler.now c.args.number (most_steps c.args.self.now.hand))
 
 pub returns-in-Over-clause-few : goal.returns-in-Over-clause-few
 returns-in-Over-clause-few g c = g.met.H.Handler.steps_none c.args.handler.now c.args.number _
@@ -139,13 +167,25 @@ pub returns-in-Reads-clause-counted : goal.returns-in-Reads-clause-counted
 returns-in-Reads-clause-counted g c = count_kept c.take_in.result c.args.self.now c.take_in.new.self c.take_in.ensures.requests
 
 pub returns-in-Works-clause-wants : goal.returns-in-Works-clause-wants
-returns-in-Works-clause-wants g c = wants_made c.args.self.now c.step.new.self c.args.site.now (λ old. g.H.Handler.among old c.args.number) (λ old. g.H.Handler.rests old c.args.number) g.K.Clock.tells c.args.handler.now c.step.new.handler c.args.clock.now c.step.new.clock c.args.self.now.whole (pending c.step.new.self) c.step.result c.step.ensures.did
+returns-in-Works-clause-wants g c =
+    wants_made c.args.self.now c.step.new.self c.args.site.now (λ old. g.H.Handler.among old c.args.number)
+    (λ old. g.H.Handler.rests old c.args.number) g.K.Clock.tells c.args.handler.now c.step.new.handler c.args.clock.now c.step.new.clock c.args.self.now.whole
+    (pending c.step.new.self) c.step.result c.step.ensures.did
 
 pub returns-in-Works-clause-counted : goal.returns-in-Works-clause-counted
-returns-in-Works-clause-counted g c = counts_made c.args.self.now c.step.new.self c.args.site.now (λ old. g.H.Handler.among old c.args.number) (λ old. g.H.Handler.rests old c.args.number) g.K.Clock.tells c.args.handler.now c.step.new.handler c.args.clock.now c.step.new.clock c.args.self.now.whole (pending c.step.new.self) c.step.result c.step.ensures.did
+returns-in-Works-clause-counted g c =
+    counts_made c.args.self.now c.step.new.self c.args.site.now (λ old. g.H.Handler.among old c.args.number)
+    (λ old. g.H.Handler.rests old c.args.number) g.K.Clock.tells c.args.handler.now c.step.new.handler c.args.clock.now c.step.new.clock c.args.self.now.whole
+    (pending c.step.new.self) c.step.result c.step.ensures.did
 
 pub returns-in-Steps-clause-wants : goal.returns-in-Steps-clause-wants
-returns-in-Steps-clause-wants g c = wants_made c.args.self.now c.step-in-Steps.new.self c.args.site.now (λ old. g.H.Handler.among old c.args.number) (λ old. g.H.Handler.rests old c.args.number) g.K.Clock.tells c.args.handler.now c.step-in-Steps.new.handler c.args.clock.now c.step-in-Steps.new.clock c.args.self.now.whole (pending c.step-in-Steps.new.self) c.step-in-Steps.result c.step-in-Steps.ensures.did
+returns-in-Steps-clause-wants g c =
+    wants_made c.args.self.now c.step-in-Steps.new.self c.args.site.now (λ old. g.H.Handler.among old c.args.number)
+    (λ old. g.H.Handler.rests old c.args.number) g.K.Clock.tells c.args.handler.now c.step-in-Steps.new.handler c.args.clock.now c.step-in-Steps.new.clock
+    c.args.self.now.whole (pending c.step-in-Steps.new.self) c.step-in-Steps.result c.step-in-Steps.ensures.did
 
 pub returns-in-Steps-clause-counted : goal.returns-in-Steps-clause-counted
-returns-in-Steps-clause-counted g c = counts_made c.args.self.now c.step-in-Steps.new.self c.args.site.now (λ old. g.H.Handler.among old c.args.number) (λ old. g.H.Handler.rests old c.args.number) g.K.Clock.tells c.args.handler.now c.step-in-Steps.new.handler c.args.clock.now c.step-in-Steps.new.clock c.args.self.now.whole (pending c.step-in-Steps.new.self) c.step-in-Steps.result c.step-in-Steps.ensures.did
+returns-in-Steps-clause-counted g c =
+    counts_made c.args.self.now c.step-in-Steps.new.self c.args.site.now (λ old. g.H.Handler.among old c.args.number)
+    (λ old. g.H.Handler.rests old c.args.number) g.K.Clock.tells c.args.handler.now c.step-in-Steps.new.handler c.args.clock.now c.step-in-Steps.new.clock
+    c.args.self.now.whole (pending c.step-in-Steps.new.self) c.step-in-Steps.result c.step-in-Steps.ensures.did

@@ -31,5 +31,6 @@ returns-clause-front c =
     let size = ap length body in
     let beyond = c.if-in_body-body.false in
     let tail : c.as_slice.result.now ≡ t.tail.items = c.as_slice.ensures.value in
-    rest_tail t.head.items t.body t.tail.items c.args.at (c.args.at - length c.as_slice-head.result.now) (c.args.at - length c.as_slice-head.result.now - length c.as_slice-body.result.now) c.behind-2.result.now
+    rest_tail t.head.items t.body t.tail.items c.args.at (c.args.at - length c.as_slice-head.result.now)
+    (c.args.at - length c.as_slice-head.result.now - length c.as_slice-body.result.now) c.behind-2.result.now
     (omega (arith, long, past)) (omega (arith, size, beyond)) (c.behind-2.ensures ∙ ap (drop (c.args.at - length c.as_slice-head.result.now - length c.as_slice-body.result.now)) tail)

@@ -15,7 +15,9 @@ returns-in_err-put_part-2 g c =
     let first = rw head at c.in_ok-put_part.ensures in
     let e = c.in_err-put_part-2.field-0.0 in
     let p = err_from_is_err_and c.from_residual-in_err-put_part-2.result c.from_residual-in_err-put_part-2.ensures.1 in
-    let both = put_next (f c.args.sink.now) (f c.put_part-2.new.sink) (f c.put_part.new.sink) (w c.args.sink.now) (w c.put_part.new.sink) (w c.put_part-2.new.sink) t.head.items t.body (Err e) first (subst (λ (l : List ℕ). IsPut (w c.put_part.new.sink) (w c.put_part-2.new.sink) (f c.put_part.new.sink) (f c.put_part-2.new.sink) l (Err e)) body c.in_err-put_part-2.ensures) in
+    let both = put_next (f c.args.sink.now) (f c.put_part-2.new.sink) (f c.put_part.new.sink) (w c.args.sink.now) (w c.put_part.new.sink)
+    (w c.put_part-2.new.sink) t.head.items t.body (Err e) first
+    (subst (λ (l : List ℕ). IsPut (w c.put_part.new.sink) (w c.put_part-2.new.sink) (f c.put_part.new.sink) (f c.put_part-2.new.sink) l (Err e)) body c.in_err-put_part-2.ensures) in
     put_is (f c.args.sink.now) (f c.put_part-2.new.sink) (w c.args.sink.now) (w c.put_part-2.new.sink) _ _ (Err e) c.from_residual-in_err-put_part-2.result (sym (p.1 ∙ ap Err p.2)) refl
     (put_first (f c.args.sink.now) (f c.put_part-2.new.sink) (w c.args.sink.now) (w c.put_part-2.new.sink) (t.head.items ++ t.body) t.tail.items e both)
 
@@ -29,5 +31,7 @@ returns g c =
     let tail : c.as_slice-3.result.now ≡ t.tail.items = c.as_slice-3.ensures.value in
     let first = rw head at c.in_ok-put_part.ensures in
     let next = rw body at c.in_ok-put_part-2.ensures in
-    put_next (f c.args.sink.now) (f c.put_part-3.new.sink) (f c.put_part-2.new.sink) (w c.args.sink.now) (w c.put_part-2.new.sink) (w c.put_part-3.new.sink) (t.head.items ++ t.body) t.tail.items c.put_part-3.result
-    (Appends-trans (w c.args.sink.now) (w c.put_part.new.sink) (w c.put_part-2.new.sink) t.head.items t.body first.0 next.0, next.1 ∙ first.1) (subst (λ (l : List ℕ). IsPut (w c.put_part-2.new.sink) (w c.put_part-3.new.sink) (f c.put_part-2.new.sink) (f c.put_part-3.new.sink) l c.put_part-3.result) tail c.put_part-3.ensures)
+    put_next (f c.args.sink.now) (f c.put_part-3.new.sink) (f c.put_part-2.new.sink) (w c.args.sink.now) (w c.put_part-2.new.sink) (w c.put_part-3.new.sink)
+    (t.head.items ++ t.body) t.tail.items c.put_part-3.result
+    (Appends-trans (w c.args.sink.now) (w c.put_part.new.sink) (w c.put_part-2.new.sink) t.head.items t.body first.0 next.0, next.1 ∙ first.1)
+    (subst (λ (l : List ℕ). IsPut (w c.put_part-2.new.sink) (w c.put_part-3.new.sink) (f c.put_part-2.new.sink) (f c.put_part-3.new.sink) l c.put_part-3.result) tail c.put_part-3.ensures)
