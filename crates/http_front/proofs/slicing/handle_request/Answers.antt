@@ -1,4 +1,4 @@
-use Rattle.std.proofs.Common.{◌≡◌, ◌<◌, Ok, Err, ap, arith}
+use Rattle.std.proofs.Common.{◌≡◌, Ok, ap, arith}
 use Rattle.std.proofs.lemmas.Result.{err_from_is_err_and}
 use Rattle.http_front.specs.Among.{ComesIn, calls_after, calls_left}
 use Rattle.http_front.specs.Requests.{RunsCall}

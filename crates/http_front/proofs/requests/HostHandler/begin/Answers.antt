@@ -1,6 +1,7 @@
 use Rattle.http_front.specs.Apart.{none_made}
 use Rattle.http_front.proofs.Beside.{beside_same, err_both}
-use Rattle.http_front.proofs.SliceLaws.{begun_host}
+use Rattle.http_front.specs.Among.{ComesIn}
+use Rattle.http_front.proofs.SliceLaws.{alive_after, begun_host}
 use Rattle.http_front.proofs.requests.HostHandler.begin.Goals as goal
 
 pub returns-clause-ok : goal.returns-clause-ok
@@ -11,3 +12,8 @@ returns-clause-err g c = err_both c.begin_request.result _ _ c.begin_request.ens
 
 pub returns-clause-few : goal.returns-clause-few
 returns-clause-few g c = c.begin_request.ensures.few c.args.self.now 0 (none_made g.F.Files.device c.args.number c.args.self.now 0)
+
+pub returns-clause-open : goal.returns-clause-open
+returns-clause-open g c =
+    alive_after g.F.Files.device c.args.number c.args.self.now c.begin_request.new.host (λ way b h. ComesIn way b h c.args.number c.args.method c.args.file.now)
+    c.begin_request.result c.requires c.begin_request.ensures.leads
