@@ -58,13 +58,13 @@ int posix_memalign(void **result, size_t align, size_t size) {
 class Refuser:
     """The program, with one of its growths refused."""
 
-    def __init__(self, program, folder):
+    def __init__(self, program, folder, code=REFUSER):
         if not shutil.which('cc'):
             raise SystemExit('there is no compiler cc')
         source, self.library = os.path.join(folder, 'refuser.c'), os.path.join(folder, 'refuser.so')
         with open(source, 'w', encoding='utf-8') as file:
-            file.write(REFUSER)
-        subprocess.run(['cc', '-shared', '-fPIC', '-O1', '-o', self.library, source], check=True)
+            file.write(code)
+        subprocess.run(['cc', '-shared', '-fPIC', '-O1', '-D_GNU_SOURCE', '-o', self.library, source], check=True)
         self.program = program
 
     def environment(self, refused):

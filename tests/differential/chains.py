@@ -1,7 +1,7 @@
 #!/usr/bin/env python3
 """Plays random chains of filters that the checker accepts, on random commands of up to three connections. None may have a fault.
 
-    python3 tests/differential/chains.py [N] [SEED] [--program PATH] [--driver PATH] [--keep FOLDER]
+    python3 tests/differential/chains.py [N] [SEED] [--program PATH] [--driver PATH [--growths]] [--troubled] [--keep FOLDER]
     python3 tests/differential/chains.py [N] [SEED] --unchecked [--program PATH]
     python3 tests/differential/chains.py [N] [SEED] --write FOLDER
 
@@ -11,7 +11,6 @@ device that fails where it is told, closes after each step of a call and growths
 """
 import argparse
 import os
-import sys
 import tempfile
 import time
 import traceback
@@ -21,7 +20,9 @@ import trials
 from accepted import hand_written
 from check import pieces
 from compare import answer_of, generator_of, report, shown
+from driver import Driver
 from filters import MEETING, PAIR
+from growths import Growths
 from modules import FILTERS, random_module
 from odd import quote, some_bytes
 from reading.certificates import Refusal, make, show_certificate
@@ -36,6 +37,7 @@ MEETING_EACH_OTHER = .5                  # how often a filter is one of those th
 OFTEN_IN_TROUBLE = {'opening': [0, .05, .3], 'read': [0, .05, .3, 1], 'growth': [0, .001, .01, .05]}
 PASSING = .85                            # how often another one passes something
 NEW = .5                                 # how often a chain has a new filter
+OFTEN_CLOSED = .2                        # how often a chain is closed after each step of a call
 NO_SCRIPT = (b'asm line ', b'cert line ', b'script line ', b'refused module ')
 
 
@@ -273,29 +275,29 @@ def trials_of(rng, chain):
     first = trials.first_name(rng)
     talk = Talk(rng, chain, troubled=False, first=first)
     talk.all()
-    yield trials.script(chain, talk.host.budget, first, talk.lines), ''.join(talk.answers).encode('latin-1')
-    if rng.random() < .2:
-        for lines in trials.closes(rng, chain, talk.host.budget, first, talk.lines):
-            answers = trials.played(chain, talk.host.budget, first, lines)[0]
-            yield trials.script(chain, talk.host.budget, first, lines), ''.join(answers).encode('latin-1')
+    yield trials.Trial(chain, talk.host.budget, first, talk.lines, talk.answers)
+    if rng.random() < OFTEN_CLOSED:
+        yield from trials.closes(rng, chain, talk.host.budget, first, talk.lines)
 
 
-def drive(rng, chain, path, driver, refuser):
+def keep(trial, path):
+    """Writes a script for the driver beside its answers."""
+    with open(path, 'wb') as file, open(path + '.stdout', 'wb') as answers:
+        file.write(trial.script())
+        answers.write(trial.due)
+
+
+def drive(rng, chain, path, driver, refuses):
     """Plays scripts with the driver; gives whether all is well, and keeps the script where it is not."""
-    for number, (script, due) in enumerate(trials_of(rng, chain)):
-        wrong = b'fault ' in due and 'FAULT of an accepted chain, where things fail'
-        if not wrong and driver and trials.driven(driver, script) != (due, 0, b''):
+    for number, trial in enumerate(trials_of(rng, chain)):
+        wrong = b'fault ' in trial.due and 'FAULT of an accepted chain, where things fail'
+        if not wrong and driver and driver.play(trial.script())[:3] != (trial.due, 0, []):
             wrong = 'the driver answers otherwise'
-        if not wrong and refuser and number == 0:
-            growths = refuser.call([], 0, script)[2]
-            for refused in rng.sample(range(1, growths + 1), min(growths, 5)):
-                arose('growth that is refused to the driver')
-                if not trials.well_refused(due, refuser.call([], refused, script)[0]):
-                    wrong = 'the driver answers otherwise where growth %d is refused' % refused
+        if not wrong and driver and refuses and number == 0:
+            growth = Growths(driver).fault(rng, trial)
+            wrong = growth and 'the driver answers otherwise where growth %d is refused' % growth
         if wrong:
-            with open(path + '.trial', 'wb') as file, open(path + '.due', 'wb') as answers:
-                file.write(script)
-                answers.write(due)
+            keep(trial, path + '.trial')
             print('%s\n  %s.trial' % (wrong, path))
             return False
     return True
@@ -303,11 +305,9 @@ def drive(rng, chain, path, driver, refuser):
 
 def write_trials(rng, chain, path):
     """Writes scripts for the driver beside their answers; gives whether none of these is a fault."""
-    for number, (script, due) in enumerate(trials_of(rng, chain)):
-        with open('%s_%d' % (path, number), 'wb') as file, open('%s_%d.stdout' % (path, number), 'wb') as answers:
-            file.write(script)
-            answers.write(due)
-        if b'fault ' in due:
+    for number, trial in enumerate(trials_of(rng, chain)):
+        keep(trial, '%s_%d' % (path, number))
+        if b'fault ' in trial.due:
             print('FAULT of an accepted chain, where things fail\n  %s_%d' % (path, number))
             return False
     return True
@@ -354,13 +354,6 @@ def play_chain(players, script, path, unchecked):
     return True
 
 
-def refuser_of(driver):
-    """The driver with one of its growths refused, as tests/refusals.py does it."""
-    sys.path.insert(0, os.path.dirname(os.path.dirname(os.path.abspath(__file__))))
-    from refusals import Refuser
-    return Refuser(driver, tempfile.mkdtemp())
-
-
 def main():
     parser = argparse.ArgumentParser(description='Plays chains of filters that the checker accepts; none may have a fault.')
     parser.add_argument('n', nargs='?', type=int, default=2000, metavar='N', help='how many chains')
@@ -368,12 +361,13 @@ def main():
     parser.add_argument('--program', help='a program, whose answers are compared with those of the reading')
     parser.add_argument('--keep', default=tempfile.gettempdir(), help='the folder for a script on which something is amiss')
     parser.add_argument('--unchecked', action='store_true', help='chains of any filters, which may have faults')
-    parser.add_argument('--driver', help='the program `troubled_play`, which plays the chains in which things fail')
-    parser.add_argument('--growths', action='store_true', help='refuse growths of memory to the driver; this needs a compiler cc')
+    parser.add_argument('--troubled', action='store_true', help='things fail in each chain, and not in every other one')
+    parser.add_argument('--driver', help='the program `troubled_play`, which plays the chains in which things fail; this needs a compiler cc')
+    parser.add_argument('--growths', action='store_true', help='refuse growths of memory to the driver')
     parser.add_argument('--write', metavar='FOLDER', help='write the scripts for the driver, with their answers, and play nothing')
     options = parser.parse_args()
     players = [chain_answer] + ([answer_of(options.program)] if options.program else [])
-    refuser = refuser_of(options.driver) if options.driver and options.growths else None
+    driver = Driver(options.driver, tempfile.mkdtemp()) if options.driver else None
     filters = Filters(options.unchecked)
     start = time.monotonic()
     for number in range(options.n):
@@ -382,8 +376,8 @@ def main():
         path = os.path.join(options.keep, 'chain_%s_%d' % (options.seed.replace('/', '_'), number))
         if options.write:
             well = write_trials(rng, chain, os.path.join(options.write, os.path.basename(path)))
-        elif number % 2 and not options.unchecked:
-            well = play_troubled(rng, chain, path) and drive(rng, chain, path, options.driver, refuser)
+        elif (number % 2 or options.troubled) and not options.unchecked:
+            well = play_troubled(rng, chain, path) and drive(rng, chain, path, driver, options.growths)
         else:
             well = play_chain(players, script_of(rng, chain, options.unchecked), path, options.unchecked)
         if not well:

@@ -1,15 +1,12 @@
 """Scripts for the driver of troubled chains, `troubled_play`: names that run out, devices that fail at a call that is told, growths that are
-refused, and closes at each step of a call. The reading answers all but the growths; after one of these there may be no fault.
+refused, and closes at each step of a call. The reading answers all but the growths; what is right after one of these is said in growths.py.
 """
-import subprocess
-
 from reading.chains import Host
 from reading.counts import arose
 from reading.pools import LAST
 from reading.scripts import answer
 
 LONGEST_CALL = 60                        # a call of more steps is not closed at each of them
-REFUSED = b'NoMemory'
 
 
 class Device:
@@ -52,11 +49,19 @@ def played(chain, budget, first, lines):
     return [told(host, line) for line in lines], host
 
 
-def script(chain, budget, first, lines):
-    """The script that the driver reads."""
-    texts = b''.join(filter.text + (filter.certificate if place % 2 else b'') for place, filter in enumerate(chain))
-    lines = ['budget %d' % budget, 'checked'] + lines
-    return b'first %d\n' % first + texts + ''.join(line + '\n' for line in lines).encode('latin-1')
+class Trial:
+    """A script for the driver: its texts, its lines, and what is due to each line."""
+
+    def __init__(self, chain, budget, first, lines, answers):
+        texts = b''.join(filter.text + (filter.certificate if place % 2 else b'') for place, filter in enumerate(chain))
+        self.head = b'first %d\n' % first + texts + b'budget %d\nchecked\n' % budget
+        self.lines = [line.encode('latin-1') for line in lines]
+        self.answers = [given.encode('latin-1') for given in answers]
+        self.due = b''.join(self.answers)
+
+    def script(self, lines=None):
+        """The script that the driver reads, of its own lines or of others."""
+        return self.head + b''.join(line + b'\n' for line in (self.lines if lines is None else lines))
 
 
 def steps_of(chain, budget, first, lines, place):
@@ -69,7 +74,7 @@ def steps_of(chain, budget, first, lines, place):
 
 
 def closes(rng, chain, budget, first, lines):
-    """The lines up to a call, with a close of its connection after each of its steps, and what the others answer then."""
+    """Trials of the lines up to a call, with a close of its connection after each of its steps, and then the lines of the others."""
     runs = [place for place, line in enumerate(lines) if line.startswith('run ')]
     if not runs:
         return
@@ -81,17 +86,5 @@ def closes(rng, chain, budget, first, lines):
     rest = [line for line in lines[place + 1:] if line.split()[1:2] != [number]]
     for steps in range(1, count):
         arose('close after a step')
-        yield lines[:place] + ['step %s %d' % (number, steps), 'output ' + number, 'close ' + number] + rest
-
-
-def well_refused(due, found):
-    """Whether answers are those that are due up to one that tells of a growth that was refused, and none is a fault; or end before."""
-    for wanted, given in zip(due.splitlines(), found.splitlines()):
-        if given != wanted:
-            return REFUSED in given and b'\nfault ' not in found
-    return len(found) <= len(due)
-
-
-def driven(driver, data, environment=None):
-    done = subprocess.run([driver], input=data, capture_output=True, env=environment)
-    return done.stdout, done.returncode, done.stderr
+        changed = lines[:place] + ['step %s %d' % (number, steps), 'output ' + number, 'close ' + number] + rest
+        yield Trial(chain, budget, first, changed, played(chain, budget, first, changed)[0])

@@ -89,9 +89,9 @@ class Pools:
         return number
 
     def read(self, number, start, length):
-        """The bytes of a range of an open file, or None where the file ends before, or the read fails."""
+        """The bytes of a range of an open file, or None where the file ends before, or the read fails. Of no bytes there is no read."""
         data = self.files[self.open_files[number].name][start:start + length]
-        return None if len(data) < length or self.fails('read') else data
+        return None if len(data) < length or length > 0 and self.fails('read') else data
 
     def refer(self, pool, number):
         """Keeps an open file open for as long as the pool lives."""
