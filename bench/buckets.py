@@ -217,6 +217,8 @@ def over_a_slab():
     with open(os.path.join(SLAB, HOST), 'w') as it:
         it.write(text)
     program = os.path.join(SLAB, BUILT)
+    if os.path.exists(program):
+        os.remove(program)
     done = subprocess.run(['rt', 'run'], cwd=os.path.join(SLAB, 'crates', 'host_cli'), stdin=subprocess.DEVNULL, capture_output=True, text=True)
     if not os.access(program, os.X_OK):
         raise SystemExit(done.stdout + done.stderr)
@@ -230,7 +232,7 @@ def both(programs, text, last):
 
 
 def alone(programs, code, connection=1):
-    """The seconds of each program for one `step 1 1` within some code, which goes round forever; of a connection that is not there, for the command."""
+    """The seconds of each program for one `step 1 1` within code that goes round forever; of no such connection, those of the command alone."""
     count, text = 100_000, script('%s / first c1 b0 / %s' % (filled('b0', 1_000, 'fill'), code), '', 0)
     text += 'step 1 5000\n' + 'step %d 1\n' % connection * count
     answer = b'went 1' if connection == 1 else b'refused NoSuchConn'
