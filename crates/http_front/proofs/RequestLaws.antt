@@ -23,7 +23,6 @@ use Rattle.http_front.specs.declared.handler.RequestOutcome.{RequestOutcome}
 use Rattle.http_front.specs.declared.handler.Slice.{Slice}
 use Rattle.http_front.specs.declared.handler.Slice.TheVariants as slice
 use Rattle.http_front.specs.declared.running.CallEnd.{CallEnd}
-use Rattle.http_front.specs.declared.running.CallEnd.TheVariants as ended
 use Rattle.http_front.specs.declared.task.RequestTask.{RequestTask}
 use Rattle.filter_chain.proofs.Driving.{Happened, by_event, leads_any, leads_as, leads_on}
 
