@@ -8,4 +8,4 @@ returns-in-Succeeded-clause-leads g c =
 
 pub returns-in-Failed-clause-leads : goal.returns-in-Failed-clause-leads
 returns-in-Failed-clause-leads g c =
-    finished g.F.Files.device c.args.number c.args.host.now c.finish_bare.new.host c.finish_bare.result c.args.how (ended.Failed c.in-Failed.why) c.in-Failed.is c.finish_bare.ensures.leads
+    finished g.F.Files.device c.args.number c.args.host.now c.finish_bare.new.host c.finish_bare.result c.args.how _ c.in-Failed.is c.finish_bare.ensures.leads

@@ -9,7 +9,9 @@ use Rattle.http_front.proofs.slicing.handle_request.Goals as goal
 
 pub loop-slice-init : goal.loop-slice-init
 loop-slice-init g c = record {
-  alive = alive_after g.F.Files.device c.args.number c.args.host.now c.begin_init.new.host (λ way b h. ComesIn way b h c.args.number c.args.method c.args.name.now) c.begin_init.result c.requires c.begin_init.ensures.leads;
+  alive =
+      alive_after g.F.Files.device c.args.number c.args.host.now c.begin_init.new.host (λ way b h. ComesIn way b h c.args.number c.args.method c.args.name.now)
+      c.begin_init.result c.requires c.begin_init.ensures.leads;
   made = c.in_ok-slice.ensures.leads;
   beside = c.begin_init.ensures.beside;
 }
@@ -17,12 +19,15 @@ loop-slice-init g c = record {
 pub loop-slice-preserved : goal.loop-slice-preserved
 loop-slice-preserved g c =
     let inv = c.loop-slice.invariant in
-    let went = runs_on g.F.Files.device c.args.number c.loop-slice.host c.run_call-how.new.host c.end_call.new.host (Ok c.in_ok-slice-in-Works.slice) c.in-Works.task c.run_call-how.result c.run_call-how.ensures.leads
+    let went = runs_on g.F.Files.device c.args.number c.loop-slice.host c.run_call-how.new.host c.end_call.new.host
+    (Ok c.in_ok-slice-in-Works.slice) c.in-Works.task c.run_call-how.result c.run_call-how.ensures.leads
     c.in_ok-slice-in-Works.ensures.leads in
     let made = goes_on g.F.Files.device c.args.number c.args.host.now c.loop-slice.host c.end_call.new.host (Ok c.in_ok-slice-in-Works.slice) c.loop-slice.slice c.in-Works.task
     (λ way b h. ComesIn way b h c.args.number c.args.method c.args.name.now) c.in-Works.is inv.made went in
     record {
-      alive = alive_after g.F.Files.device c.args.number c.args.host.now c.end_call.new.host (λ way b h. ComesIn way b h c.args.number c.args.method c.args.name.now) (Ok c.in_ok-slice-in-Works.slice) c.requires made;
+      alive =
+          alive_after g.F.Files.device c.args.number c.args.host.now c.end_call.new.host (λ way b h. ComesIn way b h c.args.number c.args.method c.args.name.now)
+          (Ok c.in_ok-slice-in-Works.slice) c.requires made;
       made = made;
       beside = λ from so. c.end_call.ensures.beside from (c.run_call-how.ensures.beside from (inv.beside from so));
     }
