@@ -1,6 +1,8 @@
 """Scripts for the driver of troubled chains, `troubled_play`: names that run out, devices that fail at a call that is told, growths that are
 refused, and closes at each step of a call. The reading answers all but the growths; what is right after one of these is said in growths.py.
 """
+import copy
+
 from reading.chains import Host
 from reading.counts import arose
 from reading.pools import LAST
@@ -64,12 +66,16 @@ class Trial:
         return self.head + b''.join(line + b'\n' for line in (self.lines if lines is None else lines))
 
 
-def steps_of(chain, budget, first, lines, place):
-    """How many steps the call makes that the line `run N` at a place goes on with; 0 where it makes none to its end."""
-    host = played(chain, budget, first, lines[:place])[1]
-    number = int(lines[place].split()[1])
+def copied(host):
+    """A host as this one stands; both have the same modules, which do not change."""
+    return copy.deepcopy(host, {id(module): module for module in host.modules})
+
+
+def steps_of(host, line):
+    """How many steps the call makes that the line `run N` goes on with; 0 where it makes none to its end."""
+    number = int(line.split()[1])
     before = host.connections[number].count if number in host.connections else 0
-    end = told(host, lines[place])
+    end = told(host, line)
     return host.connections[number].count - before if end.startswith('ended ') else 0
 
 
@@ -79,12 +85,13 @@ def closes(rng, chain, budget, first, lines):
     if not runs:
         return
     place = rng.choice(runs)
-    count = steps_of(chain, budget, first, lines, place)
+    answers, host = played(chain, budget, first, lines[:place])
+    count = steps_of(copied(host), lines[place])
     if not 0 < count <= LONGEST_CALL:
         return
     number = lines[place].split()[1]
     rest = [line for line in lines[place + 1:] if line.split()[1:2] != [number]]
     for steps in range(1, count):
         arose('close after a step')
-        changed = lines[:place] + ['step %s %d' % (number, steps), 'output ' + number, 'close ' + number] + rest
-        yield Trial(chain, budget, first, changed, played(chain, budget, first, changed)[0])
+        changed, after = ['step %s %d' % (number, steps), 'output ' + number, 'close ' + number] + rest, copied(host)
+        yield Trial(chain, budget, first, lines[:place] + changed, answers + [told(after, line) for line in changed])

@@ -2,6 +2,7 @@
 //! must print is `stdout`.
 #![tactic(auto)]
 
+mod failing;
 mod loopback;
 mod modules;
 mod names_spent;
@@ -9,6 +10,7 @@ mod pages;
 mod requests;
 mod shown;
 mod stopped_clock;
+mod streams;
 
 use anyhow::Result;
 
@@ -16,5 +18,6 @@ fn main(rt: HostRuntime) -> Result<()> {
     requests::show_rows(&rt)?;
     requests::cut_requests(&rt)?;
     names_spent::names_spent_host(&rt)?;
+    failing::failing_streams(&rt)?;
     loopback::serves_over_a_socket(&rt)
 }

@@ -18,6 +18,21 @@ ret fail
 end
 ";
 
+/// Its certificate.
+pub(crate) const IDENTITY_CERT: &[u8] = b"cert 1
+idle sent=no
+ready sent=maybe
+0 sent=no
+1 sent=no
+2 sent=maybe in=u/o/call
+3 sent=no in=u/o/call
+4 sent=maybe in=p
+5 sent=maybe in=u/o/call
+6 sent=maybe in=u/e/-
+7 sent=maybe in=p
+end
+";
+
 /// Answers that it failed.
 pub(crate) const FAILING: &[u8] = b"module 1
 open

@@ -1,0 +1,300 @@
+//! Rows of streams that are slow, fail, or never end: of `serve`, and of the calls that play a script or answer a text.
+
+use crate::modules::{IDENTITY, IDENTITY_CERT};
+use crate::pages::{MOMENT, host, site};
+use crate::requests::{GET, PLAIN};
+use crate::stopped_clock::StoppedClock;
+use crate::streams::{Feed, Taker};
+use anyhow::Result;
+use byte_streams::{CountedSource, READS, Sink, Source};
+use http_front::{FrontKind, serve};
+use module_tools::{Ended, PlayFault, run_assemble, run_certify, run_check, run_new};
+use script_play::run_play;
+use std::alloc::Global;
+
+/// A call that reads a text and writes an answer.
+#[derive(Clone, Copy, Debug)]
+enum Call {
+    /// Requests are served.
+    Serve,
+    /// A script is played.
+    Play,
+    /// A module is printed.
+    Assemble,
+    /// A certificate of it is made.
+    Certify,
+    /// The same, in its slim form.
+    Slim,
+    /// It is checked. The certificate is read from memory.
+    Check,
+    /// It is checked. The module is read from memory.
+    CheckWith,
+    /// A module to begin with is written; nothing is read.
+    New,
+}
+
+/// What a call reads.
+#[derive(Clone, Copy)]
+struct Row {
+    call: Call,
+    what: &'static str,
+    text: &'static [u8],
+    /// What comes after the text.
+    then: &'static [u8],
+    /// What comes after both, again and again, where there is no end.
+    again: &'static [u8],
+}
+
+/// How many reads give nothing before each byte of a reader without an end: so it gives 50,000 bytes in all.
+const PAUSES: u32 = 19;
+
+const ROWS: &[Row] = &[
+    Row {
+        call: Call::Serve,
+        what: "two requests",
+        text: GET,
+        then: GET,
+        again: GET,
+    },
+    Row {
+        call: Call::Serve,
+        what: "refusals, a HEAD and a GET",
+        text: b"POST /a HTTP/1.1\r\nHost: h\r\n\r\nGET /b HTTP/1.1\r\nHost: h\r\n\r\nHEAD /a HTTP/1.1\r\nHost: h\r\n\r\n",
+        then: GET,
+        again: GET,
+    },
+    Row {
+        call: Call::Serve,
+        what: "a head that is none",
+        text: b"GET /a HTTP/1.1\r\n\r\n",
+        then: b"",
+        again: GET,
+    },
+    Row {
+        call: Call::Play,
+        what: "a script",
+        text: IDENTITY,
+        then: b"open\nrun 1\nbegin 1\nrun 1\nbring 1 heap \"ab\" eos\nrun 1\noutput 1\n",
+        again: b"labels 1\n",
+    },
+    Row {
+        call: Call::Play,
+        what: "a script with a line that is none",
+        text: IDENTITY,
+        then: b"open\nrun\n",
+        again: b"labels 1\n",
+    },
+    Row {
+        call: Call::Assemble,
+        what: "a module",
+        text: IDENTITY,
+        then: b"",
+        again: IDENTITY,
+    },
+    Row {
+        call: Call::Certify,
+        what: "a module",
+        text: IDENTITY,
+        then: b"",
+        again: IDENTITY,
+    },
+    Row {
+        call: Call::Slim,
+        what: "a module",
+        text: IDENTITY,
+        then: b"",
+        again: IDENTITY,
+    },
+    Row {
+        call: Call::Check,
+        what: "a module",
+        text: IDENTITY,
+        then: b"",
+        again: IDENTITY,
+    },
+    Row {
+        call: Call::CheckWith,
+        what: "a certificate",
+        text: IDENTITY_CERT,
+        then: b"",
+        again: IDENTITY_CERT,
+    },
+    Row {
+        call: Call::New,
+        what: "nothing",
+        text: b"",
+        then: b"",
+        again: IDENTITY,
+    },
+];
+
+/// How a call ends.
+#[derive(Clone, Copy, Debug, PartialEq, Eq)]
+enum End {
+    Done,
+    Refused,
+    Read,
+    Write,
+    TooManyReads,
+    /// A fault that no stream has, or one after which a connection is left.
+    Other,
+}
+
+fn end_of(ended: Result<Ended, PlayFault>) -> End {
+    match ended {
+        Ok(Ended::Done) => End::Done,
+        Ok(Ended::Refused) => End::Refused,
+        Err(PlayFault::Read) => End::Read,
+        Err(PlayFault::Write) => End::Write,
+        Err(PlayFault::NoMemory) => End::Other,
+    }
+}
+
+fn end_of_serve<R: Source, W: Sink>(
+    alloc: Global,
+    reader: &mut CountedSource<R>,
+    writer: &mut W,
+) -> Result<End> {
+    let site = site(alloc)?;
+    let mut host = host(alloc, PLAIN)?;
+    let mut clock = StoppedClock(MOMENT);
+    match serve(alloc, reader, writer, &site, &mut host, &mut clock) {
+        Ok(_) => Ok(End::Done),
+        Err(fault) if fault.left.is_some() => Ok(End::Other),
+        Err(fault) => Ok(match fault.kind {
+            FrontKind::Read => End::Read,
+            FrontKind::Write => End::Write,
+            FrontKind::TooManyReads => End::TooManyReads,
+            FrontKind::NoMemory | FrontKind::NamesSpent => End::Other,
+        }),
+    }
+}
+
+/// Makes a call, and says how it ended.
+fn ask<R: Source + Drop, W: Sink>(
+    alloc: Global,
+    call: Call,
+    source: R,
+    writer: &mut W,
+) -> Result<End> {
+    let mut reader = CountedSource::new(source, READS);
+    let mut module = CountedSource::new(IDENTITY, READS);
+    let mut cert = CountedSource::new(IDENTITY_CERT, READS);
+    Ok(match call {
+        Call::Serve => end_of_serve(alloc, &mut reader, writer)?,
+        Call::Play => end_of(run_play(alloc, &mut reader, writer)),
+        Call::Assemble => end_of(run_assemble(alloc, &mut reader, writer)),
+        Call::Certify => end_of(run_certify(alloc, &mut reader, writer, false)),
+        Call::Slim => end_of(run_certify(alloc, &mut reader, writer, true)),
+        Call::Check => end_of(run_check(alloc, &mut reader, &mut cert, writer)),
+        Call::CheckWith => end_of(run_check(alloc, &mut module, &mut reader, writer)),
+        Call::New => end_of(run_new(writer)),
+    })
+}
+
+/// A reader that gives a byte a read, and one that pauses before each byte and never ends: how the call ended, and what it wrote.
+fn show_slow(rt: &HostRuntime, call: Call, feed: Feed<'_>, taker: Taker<'_>) -> Result<()> {
+    let slow = Feed { step: 1, ..feed };
+    let mut writer = taker;
+    let end = ask(rt.alloc(), call, Feed { again: b"", ..slow }, &mut writer)?;
+    let is_same = writer.is_front && writer.due.is_empty();
+    println!(rt; "  a byte a read: {end:?}, the same answer: {is_same}")?;
+    let mut writer = taker;
+    let end = ask(
+        rt.alloc(),
+        call,
+        Feed {
+            pauses: PAUSES,
+            ..slow
+        },
+        &mut writer,
+    )?;
+    let count = taker.room.saturating_sub(writer.room);
+    println!(rt; "  without an end: {end:?}, {count} bytes are written")?;
+    Ok(())
+}
+
+/// The readers that fail after each number of bytes: how many calls reported it, wrote nothing, and wrote a front of the answer.
+fn show_readers(rt: &HostRuntime, call: Call, feed: Feed<'_>, taker: Taker<'_>) -> Result<()> {
+    let (mut reported, mut silent, mut fronts) = (0u32, 0u32, 0u32);
+    for fails_after in 0..=feed.text.len() {
+        let mut writer = taker;
+        let end = ask(
+            rt.alloc(),
+            call,
+            Feed {
+                fails_after,
+                ..feed
+            },
+            &mut writer,
+        )?;
+        reported = reported.saturating_add((end == End::Read) as u32);
+        silent = silent.saturating_add((writer.room == taker.room) as u32);
+        fronts = fronts.saturating_add(writer.is_front as u32);
+    }
+    println!(rt;
+        "  the reader fails after 0 to {} bytes: {reported} reported it, {silent} wrote nothing, {fronts} a front",
+        feed.text.len()
+    )?;
+    Ok(())
+}
+
+/// The writers that take each number of bytes below those of the answer: how many calls reported it, and wrote just so many bytes of the answer.
+fn show_writers(rt: &HostRuntime, call: Call, feed: Feed<'_>, taker: Taker<'_>) -> Result<()> {
+    let (mut reported, mut fronts) = (0u32, 0u32);
+    for room in 0..taker.due.len() {
+        let mut writer = Taker { room, ..taker };
+        let end = ask(rt.alloc(), call, feed, &mut writer)?;
+        reported = reported.saturating_add((end == End::Write) as u32);
+        fronts = fronts.saturating_add((writer.is_front && writer.room == 0) as u32);
+    }
+    println!(rt;
+        "  the writer fails after 0 bytes and on, up to {}: {reported} reported it, {fronts} wrote so many",
+        taker.due.len()
+    )?;
+    Ok(())
+}
+
+/// A call, with streams that are slow, fail, or never end.
+fn show_row(rt: &HostRuntime, row: Row) -> Result<()> {
+    let Row {
+        call,
+        what,
+        text,
+        then,
+        again,
+    } = row;
+    let mut whole = text.to_vec(rt.alloc())?;
+    whole.extend_from_slice(then)?;
+    let text = whole.as_slice();
+    let mut answer = Vec::new(rt.alloc());
+    let end = ask(rt.alloc(), call, text, &mut answer)?;
+    let count = answer.len();
+    println!(rt; "{call:?} of {what}: {end:?}, {count} bytes are written")?;
+    let feed = Feed {
+        text,
+        again: b"",
+        step: usize::MAX,
+        pauses: 0,
+        waited: 0,
+        fails_after: usize::MAX,
+        has_failed: false,
+    };
+    let taker = Taker {
+        due: answer.as_slice(),
+        room: usize::MAX,
+        is_front: true,
+        has_failed: false,
+    };
+    show_slow(rt, call, Feed { again, ..feed }, taker)?;
+    show_readers(rt, call, feed, taker)?;
+    show_writers(rt, call, feed, taker)
+}
+
+/// Each call, with streams that are slow, fail, or never end.
+pub(crate) fn failing_streams(rt: &HostRuntime) -> Result<()> {
+    for row in ROWS {
+        show_row(rt, *row)?;
+    }
+    Ok(())
+}
