@@ -20,3 +20,6 @@ pub mod Renumbered
 pub mod Noted
 pub mod DueBuckets
 pub mod Pruned
+pub mod Shown
+pub mod Shelves
+pub mod Kept

@@ -1,11 +1,11 @@
 -- Walks along a brigade.
-use Rattle.std.proofs.Common.{◌≡◌, ◌==◌, ℕ, suc, ◌+◌, ◌≤◌, Bool, true, false, Option, None, Some, Ok, Err, List, [], ◌∷◌, drop, length, refl, ap, subst, arith}
+use Rattle.std.proofs.Common.{◌≡◌, ◌==◌, eqb, ℕ, suc, ◌+◌, ◌<◌, ◌≤◌, Bool, true, false, Option, None, Some, Ok, Err, List, [], ◌∷◌, drop, length, refl, ap, subst, arith, map}
 use Rattle.std.specs.Prelude.{IfSome, if◌then◌else◌}
 use Rattle.run_model.specs.declared.bucket.Bucket.{Bucket}
 use Rattle.run_model.specs.BrigadeLists.{length_in}
 use Rattle.run_model.specs.Cutting.{length_of}
 use Rattle.bucket_ring.specs.declared.names.BucketId.{BucketId}
-use Rattle.bucket_ring.specs.Lists.{times, rest, first_of, next_in, or_end, found}
+use Rattle.bucket_ring.specs.Lists.{same, times, rest, first_of, next_in, or_end, found}
 use Rattle.bucket_ring.specs.Kept.{once_in}
 use Rattle.bucket_ring.specs.Laws.{same_self}
 use Rattle.brigade_ops.specs.Items.{Items, named, from_place}
@@ -50,12 +50,12 @@ module _ {T : Type 0} where
   head_is b bs = rw (same_self b.0) refl
 
 -- a walk begins with the whole brigade
-pub start_whole : (xs : Items) (place : Option BucketId) → place ≡ first_of xs → from_place place xs ≡ xs
+pub start_whole : {T : Type 0} (xs : List (BucketId × T)) (place : Option BucketId) → place ≡ first_of xs → from_place place xs ≡ xs
 start_whole [] place e = rw e refl
 start_whole (b ∷ bs) place e = rw e (head_is b bs)
 
 -- one bucket and the others
-pub count_head : (id : BucketId) (xs : Items) (x : Bucket) → found id xs ≡ Some x → length (rest id xs) ≡ suc (length (drop 1 (rest id xs)))
+pub count_head : {T : Type 0} (id : BucketId) (xs : List (BucketId × T)) (x : T) → found id xs ≡ Some x → length (rest id xs) ≡ suc (length (drop 1 (rest id xs)))
 count_head id xs x e = ap length (rest_head id xs x e)
 
 -- the length of what begins with a bucket

@@ -20,7 +20,7 @@ use crate::due::reached;
 use crate::morphs::{Morph, Morphs, home_after, kind_after, reaches};
 use crate::saving::push_some;
 use crate::store::{BrigadeId, Brigades};
-use bucket_kinds::Files;
+use bucket_kinds::{Files, Stored};
 use bucket_ring::{BucketId, Rings};
 use pool_tree::{PoolId, PoolTree};
 use run_model::{Bucket, Home, Kind, Payload, Seq};
@@ -45,8 +45,8 @@ pub(crate) fn depends_on(tree: &PoolTree<Payload>, pool: PoolId, kind: Kind, hom
     holds || lies
 }
 
-#[tactic(auto, unfolding(crate::specs::Store::lists, crate::specs::Store::brigade_of, crate::specs::Store::pool_of, crate::specs::Store::next_name, crate::specs::Store::references), using(pool_tree::proofs::Trees::tree_formed))]
-impl<R: Rings<Bucket> + Drop> Brigades<R> {
+#[tactic(auto, unfolding(crate::specs::Shelf::seen, crate::specs::Store::lists, crate::specs::Store::brigade_of, crate::specs::Store::pool_of, crate::specs::Store::next_name, crate::specs::Store::references), using(pool_tree::proofs::Trees::tree_formed))]
+impl<R: Rings<Stored> + Drop> Brigades<R> {
     ghost use Rattle.brigade_ops.specs.Store.{lists, brigade_of, bucket_at, pool_of, next_name, references};
 
     /// What a clear of a pool makes of a bucket; `None` where it stays as it is.
@@ -111,8 +111,13 @@ impl<R: Rings<Bucket> + Drop> Brigades<R> {
                 self.plan_ring(&mut found, *ring, pool, tree)?;
             }
         }
+        let copies = Vec::new(self.alloc);
         let pools = Vec::new(self.alloc);
-        Ok(Morphs { found, pools })
+        Ok(Morphs {
+            found,
+            copies,
+            pools,
+        })
     }
 
     /// Makes ready what a clear of a pool makes of the buckets of these brigades: POOL bytes that lie under it go to the heap, and homes
@@ -126,7 +131,7 @@ impl<R: Rings<Bucket> + Drop> Brigades<R> {
         requires { IsTrue (is_live (map_of tree.now) pool) }
         ensures { IfOk result (λ morphs. (n : ℕ) → option_map (all_morphed morphs.found) (lists self.now n) ≡ option_map (cleared_items (is_under (map_of tree.now) pool) (is_in n rings.now)) (lists self.now n)) }
     {
-        if self.held.dependents.is_lost() {
+        if self.held.rings.dependents.is_lost() {
             return self.plan_by_walk(rings, pool, tree);
         }
         let pools = reached(tree, pool)?;
@@ -134,6 +139,7 @@ impl<R: Rings<Bucket> + Drop> Brigades<R> {
         let morphs = self.plan_morphs_of(names.as_slice(), pool, tree)?;
         Ok(Morphs {
             found: morphs.found,
+            copies: morphs.copies,
             pools,
         })
     }

@@ -10,9 +10,10 @@ ghost use Rattle.brigade_ops.specs.Morphs.{is_named};
 
 use crate::clearing::depends_on;
 use crate::store::{BrigadeId, Brigades};
+use bucket_kinds::Stored;
 use bucket_ring::{BucketId, Rings};
 use pool_tree::{PoolId, PoolTree};
-use run_model::{Bucket, Payload, Seq};
+use run_model::{Payload, Seq};
 use std::alloc::AllocError;
 
 /// A pool and the pools under it: those that a clear of it reaches.
@@ -25,8 +26,8 @@ pub(crate) fn reached(tree: &PoolTree<Payload>, pool: PoolId) -> Result<Vec<Pool
     Ok(pools)
 }
 
-#[tactic(auto, unfolding(crate::specs::Store::lists, crate::specs::Store::brigade_of, crate::specs::Store::pool_of, crate::specs::Store::next_name, crate::specs::Store::references))]
-impl<R: Rings<Bucket> + Drop> Brigades<R> {
+#[tactic(auto, unfolding(crate::specs::Shelf::seen, crate::specs::Store::lists, crate::specs::Store::brigade_of, crate::specs::Store::pool_of, crate::specs::Store::next_name, crate::specs::Store::references))]
+impl<R: Rings<Stored> + Drop> Brigades<R> {
     ghost use Rattle.brigade_ops.specs.Store.{lists, brigade_of, bucket_at, pool_of, next_name, references};
 
     /// Whether a bucket is in one of these brigades, and a clear of a pool changes it.
@@ -79,13 +80,13 @@ impl<R: Rings<Bucket> + Drop> Brigades<R> {
     ) -> Result<Seq<BucketId>, AllocError>
         requires reached { (p : ℕ) → is_under (map_of tree.now) pool p ≡ true → is_in p pools.now ≡ true }
         requires live { IsTrue (is_live (map_of tree.now) pool) }
-        requires noted { self.now.held.dependents.lost ≡ false }
+        requires noted { self.now.held.rings.dependents.lost ≡ false }
         ensures told { IfOk result (λ names. (id : BucketId) → is_named id names ≡ true → is_due (is_under (map_of tree.now) pool) rings.now (brigade_of self.now id) (bucket_at self.now id) ≡ true) }
         ensures all { IfOk result (λ names. (id : BucketId) → is_due (is_under (map_of tree.now) pool) rings.now (brigade_of self.now id) (bucket_at self.now id) ≡ true → is_named id names ≡ true) }
     {
         let mut names = Seq::new(self.alloc);
         for name in pools {
-            let noted = self.held.dependents.names(*name);
+            let noted = self.held.rings.dependents.names(*name);
             self.push_due(&mut names, noted, rings, pool, tree)?;
         }
         Ok(names)

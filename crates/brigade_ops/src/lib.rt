@@ -18,12 +18,14 @@ mod pruning;
 mod reading;
 mod references;
 mod refusal;
+mod regions;
 mod saving;
+mod shelf;
 mod store;
 mod view;
 mod walking;
 
-pub use bucket_kinds::{FileNo, Files};
+pub use bucket_kinds::{FileNo, Files, Stored};
 pub use bucket_ring::{BucketId, PlainRings, RingRefusal, Rings};
 pub use laws::{lists_are_the_models, points_are_the_models, worked_changes};
 pub use morphs::Morphs;

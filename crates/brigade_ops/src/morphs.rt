@@ -11,7 +11,9 @@ ghost use Rattle.brigade_ops.specs.Morphs.{morphed, all_morphed, cleared_as, is_
 
 use crate::aside::hollow;
 use crate::saving::push_some;
+use crate::shelf::HeapCopy;
 use crate::store::Brigades;
+use bucket_kinds::{Kept, Stored};
 use bucket_ring::{BucketId, Rings};
 use pool_tree::{PoolId, PoolTree};
 use run_model::{Bucket, Home, Kind, Payload, Seq};
@@ -25,10 +27,12 @@ pub(crate) struct Morph {
     pub(crate) home: Home,
 }
 
-/// What a clear of a pool makes of buckets, made ready before it; and the pools under which it was looked for.
+/// What a clear of a pool makes of buckets, made ready before it, with copies of the bytes that lie in regions; and the pools under which
+/// it was looked for.
 #[derive(Drop)]
 pub struct Morphs {
     pub(crate) found: Seq<Morph>,
+    pub(crate) copies: Vec<HeapCopy>,
     pub(crate) pools: Vec<PoolId>,
 }
 
@@ -61,8 +65,8 @@ pub(crate) fn kind_after(tree: &PoolTree<Payload>, pool: PoolId, kind: Kind) -> 
     }
 }
 
-#[tactic(auto, unfolding(crate::specs::Store::lists, crate::specs::Store::brigade_of, crate::specs::Store::bucket_at, crate::specs::Store::pool_of, crate::specs::Store::next_name, crate::specs::Store::references))]
-impl<R: Rings<Bucket> + Drop> Brigades<R> {
+#[tactic(auto, unfolding(crate::specs::Shelf::seen, crate::specs::Store::lists, crate::specs::Store::brigade_of, crate::specs::Store::bucket_at, crate::specs::Store::pool_of, crate::specs::Store::next_name, crate::specs::Store::references))]
+impl<R: Rings<Stored> + Drop> Brigades<R> {
     ghost use Rattle.brigade_ops.specs.Store.{lists, brigade_of, bucket_at, pool_of, next_name, references};
 
     /// What a clear of a pool makes of a bucket; `None` where it was destroyed.
@@ -84,6 +88,31 @@ impl<R: Rings<Bucket> + Drop> Brigades<R> {
         })
     }
 
+    /// A copy of the bytes of a bucket, where they lie in a region.
+    fn copy_of(&self, id: BucketId) -> Result<Option<HeapCopy>, AllocError> {
+        if self.ring_of(id).is_none() {
+            return Ok(None);
+        }
+        match &self.stored(id).kept {
+            Kept::Own(_) => Ok(None),
+            Kept::Placed(place) => {
+                let bucket = self.held.regions.heap_copy(*place)?;
+                Ok(Some(HeapCopy { id, bucket }))
+            }
+        }
+    }
+
+    /// Copies of the bytes of these buckets that lie in regions.
+    fn copies_of(&self, names: &[BucketId]) -> Result<Vec<HeapCopy>, AllocError> {
+        let mut copies = Vec::new(self.alloc);
+        for name in names {
+            if let Some(copy) = self.copy_of(*name)? {
+                copies.push(copy)?;
+            }
+        }
+        Ok(copies)
+    }
+
     /// Makes ready what a clear of a pool makes of the buckets of these names: POOL bytes that lie under it go to the heap, and homes
     /// under it end. A name whose bucket was destroyed is passed over. Nothing is changed.
     pub fn plan_morphs_of(
@@ -101,8 +130,13 @@ impl<R: Rings<Bucket> + Drop> Brigades<R> {
             let morph = self.morph_of(tree, pool, *name);
             push_some(&mut found, morph)?;
         }
+        let copies = self.copies_of(names)?;
         let pools = Vec::new(self.alloc);
-        Ok(Morphs { found, pools })
+        Ok(Morphs {
+            found,
+            copies,
+            pools,
+        })
     }
 
     /// Gives a bucket another kind and home.
@@ -115,11 +149,11 @@ impl<R: Rings<Bucket> + Drop> Brigades<R> {
         ensures pools { pool_of self.new ≡ pool_of self.old }
         ensures references { references self.new ≡ references self.old }
     {
-        let nothing = hollow(self.bucket(morph.id));
-        let mut bucket = self.held.set_payload(morph.id, nothing);
+        let nothing = hollow(self.stored(morph.id));
+        let mut bucket = self.held.put(morph.id, nothing);
         bucket.kind = morph.kind;
         bucket.home = morph.home;
-        let _nothing = self.held.set_payload(morph.id, bucket);
+        let _nothing = self.held.put(morph.id, bucket);
     }
 
     /// Gives a bucket, where it is there still, another kind and home.
@@ -156,7 +190,12 @@ impl<R: Rings<Bucket> + Drop> Brigades<R> {
         ensures pools { pool_of self.new ≡ pool_of self.old }
         ensures references { references self.new ≡ references self.old }
     {
-        let Morphs { found, pools } = morphs;
+        let Morphs {
+            found,
+            copies,
+            pools,
+        } = morphs;
+        self.held.put_copies(copies);
         self.apply_found(found);
         self.held.forget(pools.as_slice());
     }

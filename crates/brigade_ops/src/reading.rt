@@ -12,12 +12,12 @@ ghost use Rattle.brigade_ops.specs.Reads.{IsRead};
 use crate::refusal::ReadRefusal;
 use crate::store::Brigades;
 use crate::view::ContentView;
-use bucket_kinds::{Files, ReadFault, read_into, rest_of_read, room_to_read};
+use bucket_kinds::{Files, ReadFault, Stored, read_into, rest_of_read, room_to_read};
 use bucket_ring::{BucketId, Rings};
 use run_model::{Bucket, Content, Seq};
 
-#[tactic(auto, unfolding(crate::specs::Store::lists, crate::specs::Store::brigade_of, crate::specs::Store::pool_of, crate::specs::Store::next_name, crate::specs::Store::references, crate::specs::Store::has_room))]
-impl<R: Rings<Bucket> + Drop> Brigades<R> {
+#[tactic(auto, unfolding(crate::specs::Shelf::seen, crate::specs::Store::lists, crate::specs::Store::brigade_of, crate::specs::Store::pool_of, crate::specs::Store::next_name, crate::specs::Store::references, crate::specs::Store::has_room))]
+impl<R: Rings<Stored> + Drop> Brigades<R> {
     ghost use Rattle.brigade_ops.specs.Store.{lists, brigade_of, bucket_at, pool_of, next_name, references, has_room};
 
     /// A bucket that is a range of a file.
@@ -65,7 +65,7 @@ impl<R: Rings<Bucket> + Drop> Brigades<R> {
         ensures err { OnErr result ((m : ℕ) → lists self.new m ≡ lists self.old m) }
     {
         let _rest = read_into(&mut bucket, room, files)?;
-        let _unread = self.held.set_payload(id, bucket);
+        self.set_own(id, bucket);
         Ok(())
     }
 
@@ -100,10 +100,8 @@ impl<R: Rings<Bucket> + Drop> Brigades<R> {
         ensures err { OnErr result ((m : ℕ) → lists self.new m ≡ lists self.old m) }
     {
         let _rest = read_into(&mut bucket, room, files)?;
-        let Ok(new) = self.put_behind(id, rest) else {
-            unreachable!()
-        };
-        let _unread = self.held.set_payload(id, bucket);
+        let new = self.put_own_behind(id, rest);
+        self.set_own(id, bucket);
         Ok(new)
     }
 
@@ -145,7 +143,7 @@ impl<R: Rings<Bucket> + Drop> Brigades<R> {
         if self.held.next_name() == u64::MAX {
             return Err(ReadRefusal::NamesSpent);
         }
-        self.held.dependents.make_room(rest.kind, rest.home, 1)?;
+        self.held.rings.dependents.make_room(rest.kind, rest.home, 1)?;
         self.make_room()?;
         match self.read_front(files, id, bucket, room, rest) {
             Ok(new) => Ok(Some(new)),

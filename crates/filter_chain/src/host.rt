@@ -8,11 +8,11 @@ use crate::conns::Conns;
 use crate::limits::Limits;
 use crate::spare::Spare;
 use brigade_ops::Brigades;
-use bucket_kinds::Files;
+use bucket_kinds::{Files, Stored};
 use bucket_ring::RawRings;
 use life_check::CheckedChain;
 use pool_tree::{PoolError, PoolId, PoolTree};
-use run_model::{Bucket, Module, Payload};
+use run_model::{Module, Payload};
 use std::alloc::{AllocError, Global};
 
 /// Connections by number, each with the same chain of filters. They share one tree of pools, one store of brigades, and the files that
@@ -25,7 +25,7 @@ pub struct Host<F: Files> {
     pub(crate) conns: Conns,
     pub(crate) last: u64,
     pub(crate) tree: PoolTree<Payload>,
-    pub(crate) store: Brigades<RawRings<Bucket>>,
+    pub(crate) store: Brigades<RawRings<Stored>>,
     pub(crate) files: F,
     pub(crate) spare: Spare,
 }

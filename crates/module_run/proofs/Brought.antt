@@ -13,6 +13,7 @@ use Rattle.run_model.specs.declared.bucket.NamedBucket.{NamedBucket}
 use Rattle.run_model.specs.declared.event.Piece.{Piece}
 use Rattle.run_model.specs.declared.event.Piece.TheVariants as piece
 use Rattle.run_model.specs.Pieces.{bucket_of, named_from}
+use Rattle.bucket_kinds.specs.declared.stored.Stored.{Stored}
 use Rattle.brigade_ops.specs.declared.store.Brigades.{Brigades}
 use Rattle.brigade_ops.specs.Items.{Item, Items, named, named_item}
 use Rattle.brigade_ops.specs.Store.{lists, next_name}
@@ -50,5 +51,5 @@ module _ (runs : ℕ → Bool) (call req : ℕ) (alive : runs call ≡ true) whe
   brought_shown n pieces xs is young = ap named (brought_reads n pieces xs is young) ∙ is
 
 -- The next name is no brigade's.
-pub next_free : {R : Type 0} {g : Ghosts R Bucket} (store : Brigades R g) → lists store (next_name store) ≡ None
+pub next_free : {R : Type 0} {g : Ghosts R Stored} (store : Brigades R g) → lists store (next_name store) ≡ None
 next_free store = not_there (lists store (next_name store)) (λ there. omega (arith, brigades store (next_name store) there))

@@ -6,7 +6,6 @@ use Rattle.module_code.specs.Program.{Program}
 use Rattle.module_code.specs.declared.instr.Instr.TheVariants as instr
 use Rattle.bucket_kinds.specs.Device.{Device}
 use Rattle.bucket_ring.specs.declared.rings.Rings.{Ghosts}
-use Rattle.run_model.specs.declared.bucket.Bucket.{Bucket}
 use Rattle.run_model.specs.declared.bucket.BrigadeVar.{BrigadeVar}
 use Rattle.run_model.specs.declared.bucket.BrigadeVar.TheVariants as var
 use Rattle.run_model.specs.declared.payload.Payload.{Payload}
@@ -19,6 +18,7 @@ use Rattle.run_model.specs.Steps.{current, is_spent}
 use Rattle.run_model.proofs.Updates.{upd_either}
 use Rattle.pool_tree.specs.declared.tree.PoolTree.{PoolTree}
 use Rattle.pool_tree.specs.Tree.{map_of}
+use Rattle.bucket_kinds.specs.declared.stored.Stored.{Stored}
 use Rattle.brigade_ops.specs.declared.store.Brigades.{Brigades}
 use Rattle.brigade_ops.specs.Items.{Items}
 use Rattle.brigade_ops.specs.Store.{lists, next_name, pool_of}
@@ -62,7 +62,7 @@ filter_not runs L f a n (Some b) named = elim (upd_either (λ d. shown_slot runs
   | inr p ↦ ap is_null p.1 ∙ (shown_not runs L (slot_at f.instance a) n named).0
 ]
 
-module _ {R : Type 0} {g : Ghosts R Bucket} (chain : List Program) (b l : ℕ) (tree : PoolTree Payload) (store : Brigades R g) (d : Device) (c : Conn) (v : Linked) (f : Frame) (rest : List Frame)
+module _ {R : Type 0} {g : Ghosts R Stored} (chain : List Program) (b l : ℕ) (tree : PoolTree Payload) (store : Brigades R g) (d : Device) (c : Conn) (v : Linked) (f : Frame) (rest : List Frame)
     (ready : IsReady chain (instr.Pass b l) tree store d c v f rest) where
   pub passer : OnTop (lists store) c f rest
   passer = on_top_of chain (instr.Pass b l) tree store d c v f rest ready

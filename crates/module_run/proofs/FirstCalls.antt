@@ -10,7 +10,6 @@ use Rattle.bucket_ring.specs.Kept.{NoneRevived}
 use Rattle.bucket_ring.specs.Lists as ring
 use Rattle.bucket_ring.specs.Lists.{list_at}
 use Rattle.module_code.specs.Program.{Program}
-use Rattle.run_model.specs.declared.bucket.Bucket.{Bucket}
 use Rattle.run_model.specs.declared.bucket.BrigadeVar.{BrigadeVar}
 use Rattle.run_model.specs.declared.bucket.Cursor.{Cursor}
 use Rattle.run_model.specs.declared.bucket.Cursor.TheVariants as cursor
@@ -22,6 +21,7 @@ use Rattle.run_model.specs.Pools.{Pools}
 use Rattle.run_model.specs.State as model
 use Rattle.run_model.specs.State.{fresh_call}
 use Rattle.run_model.specs.Turns.{numbers_below, tail_of}
+use Rattle.bucket_kinds.specs.declared.stored.Stored.{Stored}
 use Rattle.brigade_ops.specs.declared.store.Brigades.{Brigades}
 use Rattle.brigade_ops.specs.Items.{Items}
 use Rattle.brigade_ops.specs.Store.{lists, brigade_of, pool_of, next_name}
@@ -78,7 +78,7 @@ none_between a k n e = go (nat_le a k) refl where
   go true is = (let low = leb-true a k is in le-ltb k (a + n) (omega (arith, low, e)))
 
 -- Where no call runs, none waits and nothing is lent.
-module _ {R : Type 0} {g : Ghosts R Bucket} (chain : List Program) (store : Brigades R g) (c : Conn) (stacked : IsStacked chain store c) (idle : c.busy ≡ false) where
+module _ {R : Type 0} {g : Ghosts R Stored} (chain : List Program) (store : Brigades R g) (c : Conn) (stacked : IsStacked chain store c) (idle : c.busy ≡ false) where
   pub none_waits : c.waits.items ≡ []
   none_waits = none_in c.waits.items (stacked.called.quiet idle)
 
@@ -107,7 +107,7 @@ module _ {R : Type 0} {g : Ghosts R Bucket} (chain : List Program) (store : Brig
       ∙ (ap (λ (n : ℕ). is_running n c.waits.items) (no_call (top_of c) top.0 top.1) ∙ ap (is_running 0) none_waits)
 
 -- The call of the first filter begins, in a request or in none.
-module _ {R : Type 0} {g : Ghosts R Bucket} (chain : List Program) (old new : Brigades R g) (c d : Conn) (r : Option ℕ) (stacked : IsStacked chain old c) (idle : c.busy ≡ false)
+module _ {R : Type 0} {g : Ghosts R Stored} (chain : List Program) (old new : Brigades R g) (c d : Conn) (r : Option ℕ) (stacked : IsStacked chain old c) (idle : c.busy ≡ false)
     (begins : CalledFirst chain (next_name old) (record c { req = r }) d) (over : (n : ℕ) → lists new n ≡ ring.upd (lists old) (next_name old) (Some []) n) where
   pub started : (f : Filter) → filter_at c 0 ≡ Some f → (e : Filter) × ((filter_at d 0 ≡ Some e) × Starts (next_name old) (handler_at r (module_at chain 0)) f e)
   unfolding filter_at

@@ -7,7 +7,6 @@ use Rattle.bucket_ring.specs.declared.rings.Rings.{Ghosts}
 use Rattle.bucket_ring.specs.Kept.{NoneRevived}
 use Rattle.bucket_ring.specs.Lists as ring
 use Rattle.module_code.specs.Program.{Program}
-use Rattle.run_model.specs.declared.bucket.Bucket.{Bucket}
 use Rattle.run_model.specs.declared.payload.Payload.{Payload}
 use Rattle.run_model.specs.Chains.{Connection, Common, Linked, module_at}
 use Rattle.run_model.specs.Passing.{called, handler_at}
@@ -16,6 +15,7 @@ use Rattle.run_model.specs.RunOrder.{IsPoolMap}
 use Rattle.run_model.specs.Turns.{all_called, numbers_below, tail_of, with_pools}
 use Rattle.pool_tree.specs.declared.tree.PoolTree.{PoolTree}
 use Rattle.pool_tree.specs.Tree.{map_of}
+use Rattle.bucket_kinds.specs.declared.stored.Stored.{Stored}
 use Rattle.brigade_ops.specs.declared.store.Brigades.{Brigades}
 use Rattle.brigade_ops.specs.House.{IsHouse, AreOpen}
 use Rattle.brigade_ops.specs.Items.{Items}
@@ -45,7 +45,7 @@ less : (a b : ℕ) → a < b → a ≢ b
 less a b lt e = omega (arith, lt, e)
 
 -- a ring of a new name leaves what is held of a filter that has no call
-module _ {R : Type 0} {g : Ghosts R Bucket} (old new : Brigades R g) (over : (n : ℕ) → lists new n ≡ ring.upd (lists old) (next_name old) (Some []) n)
+module _ {R : Type 0} {g : Ghosts R Stored} (old new : Brigades R g) (over : (n : ℕ) → lists new n ≡ ring.upd (lists old) (next_name old) (Some []) n)
     (next : next_name new ≡ next_name old + 1) (names : NoneRevived (brigade_of old) (brigade_of new) (next_name old)) (pools : pool_of new ≡ pool_of old) where
   as_before : (n : ℕ) → n < next_name old → lists new n ≡ lists old n
   as_before n lt = over n ∙ ring_off (lists old) (next_name old) n (Some []) (less n (next_name old) lt)
@@ -69,7 +69,7 @@ module _ {R : Type 0} {g : Ghosts R Bucket} (old new : Brigades R g) (over : (n 
       only = λ j there e. name.only j (names j there (let b = name.young in omega (arith, b, e))) e;
     }
 
-module _ {R : Type 0} {g : Ghosts R Bucket} (chain : List Program) (old new : Brigades R g) (c d : Conn) (r : Option ℕ) (stacked : IsStacked chain old c) (idle : c.busy ≡ false)
+module _ {R : Type 0} {g : Ghosts R Stored} (chain : List Program) (old new : Brigades R g) (c d : Conn) (r : Option ℕ) (stacked : IsStacked chain old c) (idle : c.busy ≡ false)
     (begins : CalledFirst chain (next_name old) (record c { req = r }) d) (over : (n : ℕ) → lists new n ≡ ring.upd (lists old) (next_name old) (Some []) n)
     (next : next_name new ≡ next_name old + 1) (names : NoneRevived (brigade_of old) (brigade_of new) (next_name old)) (pools : pool_of new ≡ pool_of old) (free : pool_of old (next_name old) ≡ None) where
   abbrev There : ℕ → Filter → Type 0

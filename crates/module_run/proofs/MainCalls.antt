@@ -10,7 +10,6 @@ use Rattle.bucket_ring.specs.declared.rings.Rings.{Ghosts}
 use Rattle.bucket_ring.specs.Lists.{list_at, times}
 use Rattle.module_code.specs.Program.{Program}
 use Rattle.run_model.specs.declared.bucket.Brigade.{Brigade}
-use Rattle.run_model.specs.declared.bucket.Bucket.{Bucket}
 use Rattle.run_model.specs.declared.bucket.BrigadeVar.{BrigadeVar}
 use Rattle.run_model.specs.declared.bucket.BrigadeVar.TheVariants as var
 use Rattle.run_model.specs.declared.bucket.Cursor.{Cursor}
@@ -29,6 +28,7 @@ use Rattle.run_model.specs.Pools.{Pools}
 use Rattle.run_model.specs.State as model
 use Rattle.run_model.specs.State.{fresh_call}
 use Rattle.run_model.specs.Turns.{brought_in}
+use Rattle.bucket_kinds.specs.declared.stored.Stored.{Stored}
 use Rattle.brigade_ops.specs.declared.store.Brigades.{Brigades}
 use Rattle.brigade_ops.specs.Items.{Items, named}
 use Rattle.brigade_ops.specs.Store.{lists, brigade_of, pool_of, next_name}
@@ -54,14 +54,14 @@ runs_itself zero pos = absurd (omega (arith, pos))
 runs_itself (suc n) pos = ap (λ (t : Bool). t || false) (eq-eqb (suc n) (suc n) refl)
 
 -- A store in which a call of the next name has its brigade of loose buckets, and the name behind it is that of the brigade of these pieces.
-pub record HasBrought {R : Type 0} {g : Ghosts R Bucket} (old new : Brigades R g) (req : ℕ) (pieces : List Piece) : Type 0 where
+pub record HasBrought {R : Type 0} {g : Ghosts R Stored} (old new : Brigades R g) (req : ℕ) (pieces : List Piece) : Type 0 where
   pub items : Items
   pub reads : named items ≡ named_from (bucket_of (next_name old) req) (next_name old + 2) pieces
   pub before : (n : ℕ) → n < next_name old → lists new n ≡ lists old n
   pub loose : lists new (next_name old) ≡ Some []
   pub brigade : lists new (next_name old + 1) ≡ Some items
 
-module _ {R : Type 0} {g : Ghosts R Bucket} (chain : List Program) (old new : Brigades R g) (c d : Conn) (req : ℕ) (pieces : List Piece) (stacked : IsStacked chain old c) (idle : c.busy ≡ false)
+module _ {R : Type 0} {g : Ghosts R Stored} (chain : List Program) (old new : Brigades R g) (c d : Conn) (req : ℕ) (pieces : List Piece) (stacked : IsStacked chain old c) (idle : c.busy ≡ false)
     (begins : CalledMain chain (next_name old) (next_name old + 1) c d) (made : HasBrought old new req pieces) where
   abbrev pub before : Filter
   before = (filter_first chain old c stacked idle).0

@@ -8,7 +8,6 @@ use Rattle.bucket_kinds.specs.declared.refusal.FileFault.{FileFault}
 use Rattle.bucket_kinds.specs.declared.refusal.FileFault.TheVariants as fault
 use Rattle.bucket_ring.specs.declared.rings.Rings.{Ghosts}
 use Rattle.module_code.specs.Program.{Program}
-use Rattle.run_model.specs.declared.bucket.Bucket.{Bucket}
 use Rattle.run_model.specs.declared.event.Cause.{Cause}
 use Rattle.run_model.specs.declared.event.Refusal.{Refusal}
 use Rattle.run_model.specs.declared.event.Refusal.TheVariants as refusal
@@ -20,6 +19,7 @@ use Rattle.run_model.specs.Steps.{is_spent}
 use Rattle.run_model.specs.Turns.{Opening, Found, Missing, Failing, file_answer, file_taken, opens_file}
 use Rattle.pool_tree.specs.declared.tree.PoolTree.{PoolTree}
 use Rattle.pool_tree.specs.Tree.{map_of}
+use Rattle.bucket_kinds.specs.declared.stored.Stored.{Stored}
 use Rattle.brigade_ops.specs.declared.store.Brigades.{Brigades}
 use Rattle.brigade_ops.specs.Items.{Items}
 use Rattle.brigade_ops.specs.Store.{lists, next_name}
@@ -73,7 +73,7 @@ refused_after name d refusal.FileFailed apart = absurd (apart refl)
 refused_after name d refusal.NoMemory apart = inl refl
 refused_after name d r apart = refl
 
-module _ {R : Type 0} {g : Ghosts R Bucket} (chain : List Program) (tree : PoolTree Payload) (store : Brigades R g) (d e : Device) (c : Conn) (name : List ℕ) (v : Linked) where
+module _ {R : Type 0} {g : Ghosts R Stored} (chain : List Program) (tree : PoolTree Payload) (store : Brigades R g) (d e : Device) (c : Conn) (name : List ℕ) (v : Linked) where
   pub was_opened : (answer : Result (ℕ × ℕ) Refusal) (opening : Opening) (w : Linked) → MayTell v.0.file d name opening → opens_file (lasted answer) opening v ≡ (answer, w) → LeftAs chain tree store e c w → w.0.file ≤ e.next → IsAfterOpening name (refusal_of answer) d e → TellsShort answer
       → WasOpened chain tree store d e c name answer v
   was_opened answer opening w told is left numbers after short = record {

@@ -9,7 +9,6 @@ use Rattle.std.proofs.lemmas.Option.{slice_get-map}
 use Rattle.bucket_kinds.specs.Device.{Device, Held, Missing}
 use Rattle.bucket_ring.specs.declared.rings.Rings.{Ghosts}
 use Rattle.module_code.specs.Program.{Program}
-use Rattle.run_model.specs.declared.bucket.Bucket.{Bucket}
 use Rattle.run_model.specs.declared.bucket.BrigadeVar.{BrigadeVar}
 use Rattle.run_model.specs.declared.event.Cause.{Cause}
 use Rattle.run_model.specs.declared.payload.Payload.{Payload}
@@ -24,6 +23,7 @@ use Rattle.run_model.specs.State.{fresh_call, with_pools}
 use Rattle.run_model.specs.Turns.{between_requests, closing_labels, pool_gone, request_over}
 use Rattle.pool_tree.specs.declared.tree.PoolTree.{PoolTree}
 use Rattle.pool_tree.specs.Tree.{map_of}
+use Rattle.bucket_kinds.specs.declared.stored.Stored.{Stored}
 use Rattle.brigade_ops.specs.declared.store.Brigades.{Brigades}
 use Rattle.brigade_ops.specs.Items.{Items}
 use Rattle.brigade_ops.specs.House.{cleared_ring}
@@ -68,7 +68,7 @@ abbrev OpenThen : Device → Files → Type 0
 OpenThen d fs = (file : ℕ) (bytes : List ℕ) → fs.opened file ≡ Some bytes → MayHold (d.numbered file) bytes
 
 -- No call runs over these rings, and one pool was destroyed.
-module _ {R : Type 0} {g : Ghosts R Bucket} (chain : List Program) (tree newer : PoolTree Payload) (old new : Brigades R g) (dev e : Device) (c : Conn) (stacked : IsStacked chain old c) (idle : c.busy ≡ false)
+module _ {R : Type 0} {g : Ghosts R Stored} (chain : List Program) (tree newer : PoolTree Payload) (old new : Brigades R g) (dev e : Device) (c : Conn) (stacked : IsStacked chain old c) (idle : c.busy ≡ false)
     (pool : ℕ) (gone : WasDestroyed pool tree newer old new dev e c) where
   abbrev reached : ℕ → Bool
   reached = is_under (map_of tree) pool

@@ -25,7 +25,7 @@ ghost use Rattle.module_run.specs.Proceeding.{LeftAs, StandsFor};
 ghost use Rattle.module_run.specs.Stacked.{named_at};
 
 use crate::conn::{Conn, Filter};
-use brigade_ops::{BrigadeId, Brigades, Bucket, Files, PoolTree, Rings};
+use brigade_ops::{BrigadeId, Brigades, Files, PoolTree, Rings, Stored};
 use ring_run::labels::add_labels;
 use ring_run::machine::Slot;
 use run_model::Payload;
@@ -33,7 +33,7 @@ use std::alloc::AllocError;
 
 /// Ends a brigade that is on no pool, if it is there.
 #[tactic(auto, using(crate::proofs::Leaving::none_stays))]
-fn end_brigade<R: Rings<Bucket> + Drop>(store: &mut Brigades<R>, name: BrigadeId)
+fn end_brigade<R: Rings<Stored> + Drop>(store: &mut Brigades<R>, name: BrigadeId)
     requires free { pool_of store.old name ≡ None }
     ensures out { (n : ℕ) → lists store.new n ≡ upd (lists store.old) name None n }
     ensures next { next_name store.new ≡ next_name store.old }
@@ -60,7 +60,7 @@ impl Filter {
 
 impl Conn {
     /// Ends the loose buckets of its calls.
-    fn end_calls<R: Rings<Bucket> + Drop>(&self, store: &mut Brigades<R>)
+    fn end_calls<R: Rings<Stored> + Drop>(&self, store: &mut Brigades<R>)
         requires free { (k : ℕ) (f : Filter) → filter_at self.now k ≡ Some f → pool_of store.old f.call.name ≡ None }
         ensures others { (n : ℕ) → (Holds self.now n → ⊥) → lists store.new n ≡ lists store.old n }
         ensures gone { (k : ℕ) (f : Filter) → filter_at self.now k ≡ Some f → lists store.new f.call.name ≡ None }
@@ -79,7 +79,7 @@ impl Conn {
     /// Closes the connection, in any state: its pool is destroyed with all that lies on it and under it, labels run, and files are closed with
     /// their last references. The loose buckets of its calls and the brigade that was brought go, too. From then on only its output and its
     /// labels serve. Without memory nothing is changed.
-    pub fn close<R: Rings<Bucket> + Drop, F: Files>(
+    pub fn close<R: Rings<Stored> + Drop, F: Files>(
         &mut self,
         tree: &mut PoolTree<Payload>,
         store: &mut Brigades<R>,

@@ -23,7 +23,7 @@ ghost use Rattle.ring_run.specs.Seen.{seen, is_running};
 ghost use Rattle.ring_run.specs.Slots.{live_in, marked, name_in, slot_at};
 
 use crate::conn::{Conn, Filter};
-use brigade_ops::{BrigadeId, Brigades, Bucket, RingRefusal, Rings};
+use brigade_ops::{BrigadeId, Brigades, RingRefusal, Rings, Stored};
 use ring_run::calls::begin_call;
 use ring_run::effects::live;
 use ring_run::passes::{hand_over, take_in};
@@ -32,7 +32,7 @@ use std::alloc::AllocError;
 
 impl Filter {
     /// Its call begins at an instruction, where a name is left. Without memory nothing is changed.
-    fn begin_in<R: Rings<Bucket> + Drop>(
+    fn begin_in<R: Rings<Stored> + Drop>(
         &mut self,
         store: &mut Brigades<R>,
         pc: usize,
@@ -63,7 +63,7 @@ impl Filter {
     }
 
     /// Lends the brigade of a variable to the next filter, and tells its name.
-    fn lend<R: Rings<Bucket> + Drop>(&mut self, store: &Brigades<R>, b: u8) -> BrigadeId
+    fn lend<R: Rings<Stored> + Drop>(&mut self, store: &Brigades<R>, b: u8) -> BrigadeId
         requires slot { b < 9 }
         requires live { is_some (live_in (lists store.now) (slot_at self.old.instance b)) ≡ true }
         ensures name { name_in (slot_at self.old.instance b) ≡ Some result }
@@ -85,7 +85,7 @@ impl Filter {
 
 impl Conn {
     /// The filter on top passes the brigade of a variable to the next filter, whose `main` begins. Without memory nothing is changed.
-    pub(crate) fn pass_to_next<R: Rings<Bucket> + Drop>(
+    pub(crate) fn pass_to_next<R: Rings<Stored> + Drop>(
         &mut self,
         modules: &[Module],
         store: &mut Brigades<R>,

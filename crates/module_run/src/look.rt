@@ -8,7 +8,7 @@ ghost use Rattle.module_run.specs.Conns.{top_of};
 ghost use Rattle.module_run.specs.Stepping.{IsOnTop};
 
 use crate::conn::Conn;
-use brigade_ops::{Brigades, Bucket, PoolTree, Rings};
+use brigade_ops::{Brigades, PoolTree, Rings, Stored};
 use ring_run::asks::{is_spent, lacks_names};
 use ring_run::outside::Outside;
 use ring_run::wants::fault;
@@ -26,7 +26,7 @@ pub(crate) struct NextInstr {
 impl Conn {
     /// Looks at the next instruction of the call on top.
     #[tactic(auto, using(crate::proofs::Looking::sees, crate::proofs::Looking::looked))]
-    pub(crate) fn look<R: Rings<Bucket> + Drop>(
+    pub(crate) fn look<R: Rings<Stored> + Drop>(
         &self,
         modules: &[Module],
         tree: &PoolTree<Payload>,
@@ -71,7 +71,7 @@ impl Conn {
 
     /// Whether a name that the next instruction would have to give out is not there.
     #[tactic(auto, using(crate::proofs::Looking::sees, crate::proofs::Looking::looked))]
-    pub(crate) fn lacks<R: Rings<Bucket> + Drop>(
+    pub(crate) fn lacks<R: Rings<Stored> + Drop>(
         &self,
         modules: &[Module],
         tree: &PoolTree<Payload>,

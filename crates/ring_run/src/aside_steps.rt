@@ -17,12 +17,12 @@ ghost use Rattle.ring_run.specs.Seen.{seen};
 
 use crate::machine::{Call, Instance};
 use crate::places::{Place, place_of};
-use brigade_ops::{Brigades, PoolId, PoolTree, Rings};
-use run_model::{Bucket, Payload};
+use brigade_ops::{Brigades, PoolId, PoolTree, Rings, Stored};
+use run_model::{Payload};
 use std::alloc::AllocError;
 
 /// Sets the bucket of a cursor aside into a pool. Only a further reference to a file takes memory. Without it nothing is changed.
-pub(crate) fn aside<R: Rings<Bucket> + Drop>(
+pub(crate) fn aside<R: Rings<Stored> + Drop>(
     instance: &Instance,
     call: &Call,
     tree: &mut PoolTree<Payload>,

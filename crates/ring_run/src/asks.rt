@@ -28,14 +28,14 @@ use crate::outside::Outside;
 use crate::places::{Place, place_of};
 use crate::pool_wants;
 use crate::values::value_of;
-use brigade_ops::{Brigades, Bucket, BucketId, ContentView, Kind, Rings, View};
+use brigade_ops::{Brigades, BucketId, ContentView, Kind, Rings, Stored, View};
 use run_model::{Instr, KindTest, Module, PoolVar, Value, VarRef};
 
 /// How many bytes a read takes from a file, at most.
 const READ_LIMIT: u64 = 8000;
 
 /// Whether a cursor stands at the end of a brigade.
-pub(crate) fn is_end<R: Rings<Bucket> + Drop>(
+pub(crate) fn is_end<R: Rings<Stored> + Drop>(
     instance: &Instance,
     call: &Call,
     store: &Brigades<R>,
@@ -49,7 +49,7 @@ pub(crate) fn is_end<R: Rings<Bucket> + Drop>(
 }
 
 /// The bucket of a brigade at which a cursor stands.
-fn bucket_within<R: Rings<Bucket> + Drop>(
+fn bucket_within<R: Rings<Stored> + Drop>(
     instance: &Instance,
     call: &Call,
     store: &Brigades<R>,
@@ -84,7 +84,7 @@ fn is_of_kind(test: KindTest, kind: Kind) -> bool
 }
 
 /// Whether the bucket at a cursor is of a kind.
-pub(crate) fn kind_is<R: Rings<Bucket> + Drop>(
+pub(crate) fn kind_is<R: Rings<Stored> + Drop>(
     instance: &Instance,
     call: &Call,
     store: &Brigades<R>,
@@ -109,7 +109,7 @@ fn is_refused(bucket: View<'_>, n: u32) -> bool
 }
 
 /// Whether a split at a cursor is refused.
-pub(crate) fn is_unsplit<R: Rings<Bucket> + Drop>(
+pub(crate) fn is_unsplit<R: Rings<Stored> + Drop>(
     instance: &Instance,
     call: &Call,
     store: &Brigades<R>,
@@ -127,7 +127,7 @@ pub(crate) fn is_unsplit<R: Rings<Bucket> + Drop>(
 }
 
 /// How many names a split takes.
-fn names_to_split<R: Rings<Bucket> + Drop>(
+fn names_to_split<R: Rings<Stored> + Drop>(
     instance: &Instance,
     call: &Call,
     store: &Brigades<R>,
@@ -156,7 +156,7 @@ fn has_rest(content: ContentView<'_>) -> bool
 }
 
 /// How many names a read takes.
-pub(crate) fn names_to_read<R: Rings<Bucket> + Drop>(
+pub(crate) fn names_to_read<R: Rings<Stored> + Drop>(
     instance: &Instance,
     call: &Call,
     store: &Brigades<R>,
@@ -177,7 +177,7 @@ pub(crate) fn names_to_read<R: Rings<Bucket> + Drop>(
 }
 
 /// Whether a brigade has fewer bytes than a partition wants.
-pub(crate) fn is_incomplete<R: Rings<Bucket> + Drop>(
+pub(crate) fn is_incomplete<R: Rings<Stored> + Drop>(
     instance: &Instance,
     store: &Brigades<R>,
     b: u8,
@@ -194,7 +194,7 @@ pub(crate) fn is_incomplete<R: Rings<Bucket> + Drop>(
 }
 
 /// How many names a partition takes.
-fn names_to_part<R: Rings<Bucket> + Drop>(
+fn names_to_part<R: Rings<Stored> + Drop>(
     instance: &Instance,
     store: &Brigades<R>,
     b: u8,
@@ -214,7 +214,7 @@ fn names_to_part<R: Rings<Bucket> + Drop>(
 }
 
 /// Whether a brigade has no buckets, or is not there.
-pub(crate) fn is_empty<R: Rings<Bucket> + Drop>(
+pub(crate) fn is_empty<R: Rings<Stored> + Drop>(
     instance: &Instance,
     store: &Brigades<R>,
     b: u8,
@@ -229,7 +229,7 @@ pub(crate) fn is_empty<R: Rings<Bucket> + Drop>(
 }
 
 /// Whether nothing was made in a variable.
-pub(crate) fn is_null<R: Rings<Bucket> + Drop>(
+pub(crate) fn is_null<R: Rings<Stored> + Drop>(
     code: &Module,
     instance: &Instance,
     store: &Brigades<R>,
@@ -246,7 +246,7 @@ pub(crate) fn is_null<R: Rings<Bucket> + Drop>(
 }
 
 /// How many names of buckets, brigades and calls an instruction gives out.
-fn names<R: Rings<Bucket> + Drop>(
+fn names<R: Rings<Stored> + Drop>(
     code: &Module,
     instance: &Instance,
     call: &Call,
@@ -291,7 +291,7 @@ pub fn is_spent(next: u64, names: u64) -> bool
 }
 
 /// Whether a name that an instruction would have to give out is not there.
-pub fn lacks_names<R: Rings<Bucket> + Drop>(
+pub fn lacks_names<R: Rings<Stored> + Drop>(
     code: &Module,
     instance: &Instance,
     call: &Call,

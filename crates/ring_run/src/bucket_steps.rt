@@ -11,11 +11,11 @@ ghost use Rattle.ring_run.specs.Seen.{seen};
 use crate::effects::live;
 use crate::machine::{Call, Instance};
 use crate::places::{Place, place_of};
-use brigade_ops::{Brigades, Bucket, Rings};
+use brigade_ops::{Brigades, Rings, Stored};
 use std::alloc::AllocError;
 
 /// Takes the bucket of a cursor out of its brigade; it is loose then. It takes no memory.
-pub(crate) fn unlink<R: Rings<Bucket> + Drop>(
+pub(crate) fn unlink<R: Rings<Stored> + Drop>(
     instance: &Instance,
     call: &Call,
     store: &mut Brigades<R>,
@@ -37,7 +37,7 @@ pub(crate) fn unlink<R: Rings<Bucket> + Drop>(
 }
 
 /// Destroys the bucket of a cursor.
-pub(crate) fn delete<R: Rings<Bucket> + Drop>(
+pub(crate) fn delete<R: Rings<Stored> + Drop>(
     instance: &Instance,
     call: &Call,
     store: &mut Brigades<R>,
@@ -57,7 +57,7 @@ pub(crate) fn delete<R: Rings<Bucket> + Drop>(
 }
 
 /// Puts the loose bucket of a cursor at the tail of a brigade. It takes no memory.
-pub(crate) fn tail<R: Rings<Bucket> + Drop>(
+pub(crate) fn tail<R: Rings<Stored> + Drop>(
     instance: &Instance,
     call: &Call,
     store: &mut Brigades<R>,
@@ -84,7 +84,7 @@ pub(crate) fn tail<R: Rings<Bucket> + Drop>(
 }
 
 /// Puts the loose bucket of a cursor at the head of a brigade. It takes no memory.
-pub(crate) fn head<R: Rings<Bucket> + Drop>(
+pub(crate) fn head<R: Rings<Stored> + Drop>(
     instance: &Instance,
     call: &Call,
     store: &mut Brigades<R>,
@@ -111,7 +111,7 @@ pub(crate) fn head<R: Rings<Bucket> + Drop>(
 }
 
 /// Puts the loose bucket of a cursor before that of another, which is in a brigade. It takes no memory.
-pub(crate) fn before<R: Rings<Bucket> + Drop>(
+pub(crate) fn before<R: Rings<Stored> + Drop>(
     instance: &Instance,
     call: &Call,
     store: &mut Brigades<R>,

@@ -17,7 +17,7 @@ ghost use Rattle.ring_run.specs.Slots.{cursor_at, slot_at};
 use crate::home_wants::bucket_of;
 use crate::machine::{Call, Instance};
 use crate::values::value_of;
-use brigade_ops::{Brigades, Bucket, ContentView, Rings};
+use brigade_ops::{Brigades, ContentView, Rings, Stored};
 use run_model::Value;
 use std::alloc::AllocError;
 
@@ -60,7 +60,7 @@ pub(crate) fn put(instance: &Instance, call: &mut Call, x: Value) -> Result<(), 
 }
 
 /// The length of the bucket at a cursor; 0 where there is none.
-fn length_at<R: Rings<Bucket> + Drop>(
+fn length_at<R: Rings<Stored> + Drop>(
     instance: &Instance,
     call: &Call,
     store: &Brigades<R>,
@@ -77,7 +77,7 @@ fn length_at<R: Rings<Bucket> + Drop>(
 }
 
 /// Sets a number to the length of the bucket at a cursor, at most 4294967295.
-pub(crate) fn len<R: Rings<Bucket> + Drop>(
+pub(crate) fn len<R: Rings<Stored> + Drop>(
     instance: &mut Instance,
     call: &Call,
     store: &Brigades<R>,
@@ -106,7 +106,7 @@ pub(crate) fn byte_of(content: ContentView<'_>, k: u32) -> Option<u8>
 }
 
 /// A byte of the bucket at the read cursor.
-pub(crate) fn byte_read<R: Rings<Bucket> + Drop>(
+pub(crate) fn byte_read<R: Rings<Stored> + Drop>(
     instance: &Instance,
     call: &Call,
     store: &Brigades<R>,
@@ -122,7 +122,7 @@ pub(crate) fn byte_read<R: Rings<Bucket> + Drop>(
 }
 
 /// Sets a number to a byte of the bucket at the read cursor, where there is that byte.
-pub(crate) fn get<R: Rings<Bucket> + Drop>(
+pub(crate) fn get<R: Rings<Stored> + Drop>(
     instance: &mut Instance,
     call: &Call,
     store: &Brigades<R>,

@@ -16,10 +16,10 @@ ghost use Rattle.ring_run.specs.Seen.{seen, seen_over, shown_cursor};
 use crate::effects::live;
 use crate::machine::{Call, CursorValue, Instance};
 use crate::places::{Place, place_of};
-use brigade_ops::{Brigades, Bucket, BucketId, Rings};
+use brigade_ops::{Brigades, BucketId, Rings, Stored};
 
 /// The first place of a brigade: its first bucket or its end.
-fn first_cursor_value<R: Rings<Bucket> + Drop>(
+fn first_cursor_value<R: Rings<Stored> + Drop>(
     instance: &Instance,
     store: &Brigades<R>,
     b: u8,
@@ -38,7 +38,7 @@ fn first_cursor_value<R: Rings<Bucket> + Drop>(
 }
 
 /// The cursor is at the first bucket of a brigade, or at its end.
-pub(crate) fn first<R: Rings<Bucket> + Drop>(
+pub(crate) fn first<R: Rings<Stored> + Drop>(
     instance: &Instance,
     call: &mut Call,
     store: &Brigades<R>,
@@ -57,7 +57,7 @@ pub(crate) fn first<R: Rings<Bucket> + Drop>(
 }
 
 /// The place behind a bucket: the next bucket, or the end of its brigade.
-fn cursor_value_after<R: Rings<Bucket> + Drop>(store: &Brigades<R>, id: BucketId) -> CursorValue
+fn cursor_value_after<R: Rings<Stored> + Drop>(store: &Brigades<R>, id: BucketId) -> CursorValue
     requires { is_some (brigade_of store.now id) ≡ true }
     ensures place { (around : Around) (i : Instance) (call : Call) (b n : ℕ) → name_in (slot_at i b) ≡ Some n → brigade_of store.now id ≡ Some n
         → let r = seen store.now around i call in shown_cursor result ≡ cursor_at (r.instance.brigades b) (next_place id.birth (items_at r b)) }
@@ -70,7 +70,7 @@ fn cursor_value_after<R: Rings<Bucket> + Drop>(store: &Brigades<R>, id: BucketId
 }
 
 /// The cursor `d` is at the bucket behind that of `c`, or at the end of its brigade.
-pub(crate) fn next<R: Rings<Bucket> + Drop>(
+pub(crate) fn next<R: Rings<Stored> + Drop>(
     instance: &Instance,
     call: &mut Call,
     store: &Brigades<R>,

@@ -11,12 +11,12 @@ ghost use Rattle.ring_run.specs.Slots.{live_in, name_in, slot_at};
 ghost use Rattle.ring_run.specs.Seen.{seen};
 
 use crate::machine::{Instance, Slot};
-use brigade_ops::{BrigadeId, Brigades, Bucket, Rings};
+use brigade_ops::{BrigadeId, Brigades, Rings, Stored};
 use run_model::Mark;
 use std::alloc::AllocError;
 
 /// The brigade of a variable, where it is there.
-pub fn live<R: Rings<Bucket> + Drop>(
+pub fn live<R: Rings<Stored> + Drop>(
     instance: &Instance,
     store: &Brigades<R>,
     b: u8,
@@ -31,7 +31,7 @@ pub fn live<R: Rings<Bucket> + Drop>(
 }
 
 /// Moves the buckets of a brigade to the tail of another. It takes no memory.
-pub(crate) fn concat<R: Rings<Bucket> + Drop>(
+pub(crate) fn concat<R: Rings<Stored> + Drop>(
     instance: &Instance,
     store: &mut Brigades<R>,
     a: u8,
@@ -58,7 +58,7 @@ pub(crate) fn concat<R: Rings<Bucket> + Drop>(
 }
 
 /// Destroys the buckets of a brigade, which is usable then.
-pub(crate) fn clean<R: Rings<Bucket> + Drop>(
+pub(crate) fn clean<R: Rings<Stored> + Drop>(
     instance: &mut Instance,
     store: &mut Brigades<R>,
     b: u8,

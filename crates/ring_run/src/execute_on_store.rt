@@ -20,13 +20,13 @@ use crate::outside::Outside;
 use crate::pool_wants::pool_named;
 use crate::values::value_of;
 use crate::{bucket_steps, bytes, cut_steps, effects, makers, part_steps, split_steps, values};
-use brigade_ops::{Brigades, Bucket, Kind, Rings};
+use brigade_ops::{Brigades, Kind, Rings, Stored};
 use run_model::{Instr, Module, PoolRef};
 use std::alloc::{AllocError, Global};
 
 /// Changes a number, or the buffer. Without memory nothing is changed.
 #[tactic(auto, using(crate::proofs::HeldAlike::held_slots, crate::proofs::HeldAlike::held_cursors))]
-fn change_numbers<R: Rings<Bucket> + Drop>(
+fn change_numbers<R: Rings<Stored> + Drop>(
     code: &Module,
     instance: &mut Instance,
     call: &mut Call,
@@ -58,7 +58,7 @@ fn change_numbers<R: Rings<Bucket> + Drop>(
 
 /// Makes a POOL bucket of the buffer's bytes in the pool that an operand names. Without memory, and where the names are spent,
 /// nothing is changed.
-fn make_in_pool<R: Rings<Bucket> + Drop>(
+fn make_in_pool<R: Rings<Stored> + Drop>(
     alloc: Global,
     instance: &Instance,
     call: &mut Call,
@@ -83,7 +83,7 @@ fn make_in_pool<R: Rings<Bucket> + Drop>(
 }
 
 /// Makes a bucket, which is loose. Without memory, and where the names are spent, nothing is changed.
-fn make_bucket<R: Rings<Bucket> + Drop>(
+fn make_bucket<R: Rings<Stored> + Drop>(
     alloc: Global,
     code: &Module,
     instance: &Instance,
@@ -115,7 +115,7 @@ fn make_bucket<R: Rings<Bucket> + Drop>(
 }
 
 /// Moves, destroys, splits or copies the bucket of a cursor. Without memory, and where the names are spent, nothing is changed.
-fn move_bucket<R: Rings<Bucket> + Drop>(
+fn move_bucket<R: Rings<Stored> + Drop>(
     code: &Module,
     instance: &Instance,
     call: &mut Call,
@@ -151,7 +151,7 @@ fn move_bucket<R: Rings<Bucket> + Drop>(
 }
 
 /// Empties, joins, cuts or walks a brigade. Without memory, and where the names are spent, nothing is changed.
-fn cut_brigade<R: Rings<Bucket> + Drop>(
+fn cut_brigade<R: Rings<Stored> + Drop>(
     code: &Module,
     instance: &mut Instance,
     call: &mut Call,
@@ -187,7 +187,7 @@ fn cut_brigade<R: Rings<Bucket> + Drop>(
 
 /// What an instruction does that changes no pools and no files and has no fault; a return and a pass are done elsewhere. Without memory,
 /// and where the names are spent, nothing is changed.
-pub(crate) fn execute_on_store<R: Rings<Bucket> + Drop>(
+pub(crate) fn execute_on_store<R: Rings<Stored> + Drop>(
     alloc: Global,
     code: &Module,
     instance: &mut Instance,

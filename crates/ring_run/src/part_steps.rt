@@ -21,12 +21,12 @@ use crate::effects::live;
 use crate::machine::{Call, CursorValue, Instance};
 use crate::places::{Place, place_of};
 use crate::values::value_of;
-use brigade_ops::{BrigadeId, Brigades, Bucket, BucketId, Cut, Rings};
+use brigade_ops::{BrigadeId, Brigades, BucketId, Cut, Rings, Stored};
 use run_model::Value;
 use std::alloc::AllocError;
 
 /// The bucket of a cursor that stands in the brigade of a variable.
-fn place_in<R: Rings<Bucket> + Drop>(
+fn place_in<R: Rings<Stored> + Drop>(
     instance: &Instance,
     call: &Call,
     store: &Brigades<R>,
@@ -50,7 +50,7 @@ fn place_in<R: Rings<Bucket> + Drop>(
 }
 
 /// What stands in a brigade from the place of a cursor on goes to another, which is emptied first. It takes no memory.
-pub(crate) fn bsplit<R: Rings<Bucket> + Drop>(
+pub(crate) fn bsplit<R: Rings<Stored> + Drop>(
     instance: &Instance,
     call: &Call,
     store: &mut Brigades<R>,
@@ -93,7 +93,7 @@ fn cursor_value_of(b: BrigadeId, cut: Cut) -> CursorValue
 }
 
 /// Parts a brigade at a point, as `bpart`.
-fn part<R: Rings<Bucket> + Drop>(
+fn part<R: Rings<Stored> + Drop>(
     instance: &Instance,
     call: &mut Call,
     store: &mut Brigades<R>,
@@ -126,7 +126,7 @@ fn part<R: Rings<Bucket> + Drop>(
 
 /// Parts a brigade at a point and sets a cursor to the place behind it; a bucket that the point lies inside is split. Where the brigade
 /// is shorter the place is its end. Only a bucket that is split takes memory. Without it, and where the names are spent, nothing is changed.
-pub(crate) fn bpart<R: Rings<Bucket> + Drop>(
+pub(crate) fn bpart<R: Rings<Stored> + Drop>(
     instance: &Instance,
     call: &mut Call,
     store: &mut Brigades<R>,

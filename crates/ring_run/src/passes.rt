@@ -16,7 +16,7 @@ ghost use Rattle.ring_run.specs.Slots.{live_in, marked, name_in, slot_at};
 
 use crate::effects::live;
 use crate::machine::{Instance, Slot};
-use brigade_ops::{BrigadeId, Brigades, Bucket, Rings};
+use brigade_ops::{BrigadeId, Brigades, Rings, Stored};
 use run_model::{Kind, Mark};
 
 /// Whether it is an EOS.
@@ -27,7 +27,7 @@ pub(crate) fn is_eos(kind: Kind) -> bool
 }
 
 /// Whether an EOS stands in a brigade.
-pub(crate) fn has_eos<R: Rings<Bucket> + Drop>(store: &Brigades<R>, b: BrigadeId) -> bool
+pub(crate) fn has_eos<R: Rings<Stored> + Drop>(store: &Brigades<R>, b: BrigadeId) -> bool
     requires { is_some (lists store.now b) ≡ true }
     ensures { (runs : ℕ → Bool) → result ≡ has_eos (shown runs (list_at (lists store.now) b)) }
 {
@@ -43,7 +43,7 @@ pub(crate) fn has_eos<R: Rings<Bucket> + Drop>(store: &Brigades<R>, b: BrigadeId
 
 /// Whether an EOS stands in the brigade of a variable.
 #[tactic(auto, using(crate::proofs::Contents::items_told))]
-fn holds_eos<R: Rings<Bucket> + Drop>(instance: &Instance, store: &Brigades<R>, b: u8) -> bool
+fn holds_eos<R: Rings<Stored> + Drop>(instance: &Instance, store: &Brigades<R>, b: u8) -> bool
     requires { b < 9 }
     ensures { (runs : ℕ → Bool) → result ≡ has_eos (contents runs (lists store.now) (live_in (lists store.now) (slot_at instance.now b))) }
 {
@@ -68,7 +68,7 @@ impl Instance {
 
 /// Hands a brigade over. What is in it stays where it is; the variable is marked passed, and it is remembered where an EOS went with it.
 /// Until the next filter returns it reads as empty (`lent`), and then as what that filter left.
-pub fn hand_over<R: Rings<Bucket> + Drop>(instance: &mut Instance, store: &Brigades<R>, b: u8)
+pub fn hand_over<R: Rings<Stored> + Drop>(instance: &mut Instance, store: &Brigades<R>, b: u8)
     requires { b < 9 }
     ensures seen { (around : Around) (call : Call) → lent b (seen store.now around instance.new call) ≡ do_pass b (seen store.now around instance.old call) }
     ensures held { (call : Call) → IsHeld store.now instance.old call → IsHeld store.now instance.new call }
@@ -80,7 +80,7 @@ pub fn hand_over<R: Rings<Bucket> + Drop>(instance: &mut Instance, store: &Briga
 }
 
 /// Takes a brigade that the filter before hands on, as `in`: it is usable, and on no pool. It is in no other variable of the instance.
-pub fn take_in<R: Rings<Bucket> + Drop>(
+pub fn take_in<R: Rings<Stored> + Drop>(
     instance: &mut Instance,
     store: &Brigades<R>,
     name: BrigadeId,

@@ -16,7 +16,7 @@ ghost use Rattle.ring_run.specs.Seen.{seen};
 
 use crate::machine::{Call, CursorValue, Instance};
 use crate::places::{Place, place_of};
-use brigade_ops::{Brigades, Bucket, Files, ReadRefusal, Rings};
+use brigade_ops::{Brigades, Files, ReadRefusal, Rings, Stored};
 use std::alloc::AllocError;
 
 /// The read cursor `rd`.
@@ -25,7 +25,7 @@ const READ_CURSOR: u8 = 8;
 /// Reads the bucket of a cursor, a longer range up to its first 8000 bytes, and tells whether that went well. The read cursor is at the
 /// bucket then; where the read failed it is unset. Only bytes of a file take memory. Without it, and where the names are spent, nothing is
 /// changed, and nothing is read.
-pub(crate) fn read<R: Rings<Bucket> + Drop, F: Files>(
+pub(crate) fn read<R: Rings<Stored> + Drop, F: Files>(
     instance: &Instance,
     call: &mut Call,
     store: &mut Brigades<R>,

@@ -19,13 +19,13 @@ ghost use Rattle.ring_run.specs.Seen.{seen};
 
 use crate::effects::live;
 use crate::machine::{Instance, Slot};
-use brigade_ops::{Brigades, PoolTree, Rings};
-use run_model::{Bucket, Payload};
+use brigade_ops::{Brigades, PoolTree, Rings, Stored};
+use run_model::{Payload};
 use std::alloc::AllocError;
 
 /// Sets the buckets of a second brigade aside into the pool of a first, and moves them to its tail. Where the first is on no pool, or one
 /// of them is not there, nothing is changed. Only further references to files take memory. Without it nothing is changed.
-pub(crate) fn save<R: Rings<Bucket> + Drop>(
+pub(crate) fn save<R: Rings<Stored> + Drop>(
     instance: &Instance,
     tree: &mut PoolTree<Payload>,
     store: &mut Brigades<R>,

@@ -15,12 +15,12 @@ ghost use Rattle.ring_run.specs.Seen.{seen, bucket_in, calls_in};
 
 use crate::machine::{Call, CursorValue, Instance};
 use crate::places::{Place, place_of};
-use brigade_ops::{Brigades, Bucket, BucketId, Rings, SplitRefusal};
+use brigade_ops::{Brigades, BucketId, Rings, SplitRefusal, Stored};
 use std::alloc::AllocError;
 
 /// Splits the bucket of a cursor after its first `n` bytes, where that is not refused: only then it takes memory. Without it, and where the
 /// names are spent, nothing is changed.
-pub(crate) fn split<R: Rings<Bucket> + Drop>(
+pub(crate) fn split<R: Rings<Stored> + Drop>(
     instance: &Instance,
     call: &Call,
     store: &mut Brigades<R>,
@@ -49,7 +49,7 @@ pub(crate) fn split<R: Rings<Bucket> + Drop>(
 }
 
 /// Makes a loose copy of a bucket, at which the cursor is. Without memory, and where the names are spent, nothing is changed.
-fn add_copy<R: Rings<Bucket> + Drop>(
+fn add_copy<R: Rings<Stored> + Drop>(
     call: &mut Call,
     store: &mut Brigades<R>,
     d: u8,
@@ -73,7 +73,7 @@ fn add_copy<R: Rings<Bucket> + Drop>(
 }
 
 /// Copies the bucket of the cursor `c`; `d` is at the copy. Without memory, and where the names are spent, nothing is changed.
-pub(crate) fn copy<R: Rings<Bucket> + Drop>(
+pub(crate) fn copy<R: Rings<Stored> + Drop>(
     instance: &Instance,
     call: &mut Call,
     store: &mut Brigades<R>,

@@ -5,7 +5,7 @@ use crate::calls::{Call, Four, Place, show_named, show_two};
 use crate::missing::Missing;
 use crate::shown::{Seen, Shown};
 use anyhow::Result;
-use brigade_ops::{BrigadeId, Brigades, BucketId};
+use brigade_ops::{BrigadeId, Brigades, BucketId, Stored};
 use bucket_kinds::Bucket;
 use bucket_ring::RawRings;
 use std::alloc::{AllocError, Global};
@@ -14,7 +14,7 @@ use std::alloc::{AllocError, Global};
 const MOST: usize = 9;
 
 /// The store of a row.
-pub(crate) type Store = Brigades<RawRings<Bucket>>;
+pub(crate) type Store = Brigades<RawRings<Stored>>;
 
 /// Tells the buckets of a brigade.
 pub(crate) fn show_brigade(rt: &HostRuntime, store: &Store, brigade: BrigadeId) -> Result<()> {

@@ -1,7 +1,8 @@
-use Rattle.std.proofs.Common.{◌==◌, [], ◌∷◌, refl, sym, ap, ◌∙◌, inl, inr}
+use Rattle.std.proofs.Common.{◌≡◌, ◌==◌, ◌++◌, ◌&&◌, ℕ, List, true, [], ◌∷◌, not, reverse, refl, sym, ap, ◌∙◌, inl, inr}
 use Rattle.std.proofs.lemmas.Bool.{cases_Bool, eqb-true, eq-eqb}
 use Rattle.std.proofs.lemmas.List.Folds.{list_any-append}
-use Rattle.run_model.specs.Pools.{is_in}
+use Rattle.run_model.specs.Pools.{is_under, is_in}
+use Rattle.pool_tree.specs.Tree.{map_of}
 use Rattle.pool_tree.proofs.Rooms.{found_is}
 use Rattle.brigade_ops.proofs.DueBuckets.{first_named, second_named, in_turned}
 use Rattle.brigade_ops.proofs.due.reached.Goals as goal

@@ -1,23 +1,24 @@
-use Rattle.std.proofs.Common.{◌≡◌, ◌≤◌, true, Option, Some, ◌∷◌, is_some, sym, ap, subst, ◌∙◌, arith, inl, inr}
+use Rattle.std.proofs.Common.{◌≡◌, ◌≤◌, ℕ, true, false, Option, Some, List, ◌∷◌, is_some, length, sym, ap, subst, ◌∙◌, arith, inl, inr}
 use Rattle.std.proofs.lemmas.Bool.{cases_Bool}
+use Rattle.bucket_kinds.specs.declared.stored.Stored.{Stored}
 use Rattle.bucket_ring.specs.declared.names.BucketId.{BucketId}
-use Rattle.bucket_ring.specs.Lists.{list_at, times, same, found}
-use Rattle.bucket_ring.specs.Laws.{same_name, first_found, found_times}
+use Rattle.bucket_ring.specs.Lists.{list_at, times, same, found, first_of}
+use Rattle.bucket_ring.specs.Laws.{same_name, first_found, times_found, found_times}
 use Rattle.brigade_ops.specs.Dependents.{noted}
-use Rattle.brigade_ops.specs.Items.{Items, from_place}
+use Rattle.brigade_ops.specs.Items.{StoredItems, from_place}
 use Rattle.brigade_ops.specs.Noted.{is_noted}
 use Rattle.brigade_ops.proofs.Noted.{item_kept}
 use Rattle.brigade_ops.proofs.Lists.{rest_head}
-use Rattle.brigade_ops.proofs.Plans.{later_times}
+use Rattle.brigade_ops.proofs.Plans.{later_times, none_left}
 use Rattle.brigade_ops.proofs.Saves.{found_some}
-use Rattle.brigade_ops.proofs.Walks.{start_whole, told_some}
+use Rattle.brigade_ops.proofs.Walks.{start_whole, told_some, count_head}
 use Rattle.brigade_ops.proofs.noting.note_ring.Goals as goal
 
 pub loop-place-init : goal.loop-place-init
 loop-place-init g c =
     let s = c.args.rings.now in
     let b = c.args.ring in
-    let xs : Items = list_at (g.R.Rings.lists s) b in
+    let xs : StoredItems = list_at (g.R.Rings.lists s) b in
     record {
       done = λ id x is none le. absurd (
           let some = found_times id xs (ap is_some is) in
@@ -32,10 +33,10 @@ loop-place-preserved g c =
     let s = c.args.rings.now in
     let b = c.args.ring in
     let name = c.in-Some.id in
-    let xs : Items = list_at (g.R.Rings.lists s) b in
+    let xs : StoredItems = list_at (g.R.Rings.lists s) b in
     let inside = c.loop-place.invariant.inside name c.in-Some.is in
     let first = found_some name xs (g.met.R.Rings.found_in s name b inside) in
-    let head = rest_head name xs first.0 first.1 ∙ ap (λ (ys : Items). (name, first.0) ∷ ys) (sym c.after-place.ensures.rest) in
+    let head = rest_head name xs first.0 first.1 ∙ ap (λ (ys : StoredItems). (name, first.0) ∷ ys) (sym c.after-place.ensures.rest) in
     record {
       done = λ id x is none le. elim (cases_Bool (same id name)) [
         | inl hit ↦ subst (λ (j : BucketId). found j xs ≡ Some x → c.args.from ≤ j.birth → is_noted (noted c.note_bucket.new.dependents) (j, x) ≡ true) (sym (same_name id name hit)) (c.note_bucket.ensures.here x) is le

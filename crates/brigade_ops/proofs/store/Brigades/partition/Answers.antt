@@ -1,9 +1,10 @@
 -- A bucket that the point lies inside is data, and longer than what stands before the point.
-use Rattle.std.proofs.Common.{◌≡◌, ◌<◌, true, false, Err, sym, ap, ◌∙◌, arith}
+use Rattle.std.proofs.Common.{◌≡◌, ℕ, ◌<◌, true, false, Some, Err, List, sym, ap, ◌∙◌, arith}
 use Rattle.run_model.specs.Buckets.{is_data_kind}
 use Rattle.run_model.specs.Cutting.{length_of}
 use Rattle.bucket_ring.specs.Lists.{list_at}
 use Rattle.brigade_ops.specs.declared.refusal.SplitRefusal.{SplitRefusal}
+use Rattle.brigade_ops.specs.declared.refusal.SplitRefusal.TheVariants as refusal
 use Rattle.brigade_ops.specs.Items.{Items}
 use Rattle.brigade_ops.specs.Store.{lists, brigade_of}
 use Rattle.brigade_ops.proofs.Parts.{inside_short, bytes_are_data}

@@ -1,8 +1,10 @@
-use Rattle.std.proofs.Common.{cond, is_some, List, sym, ap, ◌∙◌}
+use Rattle.std.proofs.Common.{◌≡◌, ◌&&◌, ℕ, Bool, true, cond, Some, is_some, List, sym, ap, ◌∙◌}
+use Rattle.run_model.specs.declared.bucket.Bucket.{Bucket}
 use Rattle.run_model.specs.Pools.{is_under, is_in}
 use Rattle.pool_tree.specs.Tree.{map_of}
 use Rattle.bucket_ring.specs.declared.names.BucketId.{BucketId}
-use Rattle.brigade_ops.specs.Morphs.{cleared_as, is_named}
+use Rattle.brigade_ops.specs.Due.{depends}
+use Rattle.brigade_ops.specs.Morphs.{morphed, cleared_as, is_named}
 use Rattle.brigade_ops.specs.Store.{lists, brigade_of, bucket_at}
 use Rattle.brigade_ops.proofs.DueBuckets.{due_made, due_is}
 use Rattle.brigade_ops.proofs.Plans.{ring_made}

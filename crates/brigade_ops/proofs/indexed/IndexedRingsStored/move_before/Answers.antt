@@ -1,0 +1,17 @@
+use Rattle.std.proofs.Common.{◌≡◌, ℕ, true}
+use Rattle.std.specs.List.{list_all}
+use Rattle.bucket_ring.specs.Lists.{list_at}
+use Rattle.brigade_ops.specs.Dependents.{noted}
+use Rattle.brigade_ops.specs.Noted.{is_noted}
+use Rattle.brigade_ops.proofs.Noted.{by_result, moved_before, same_lists}
+use Rattle.brigade_ops.proofs.indexed.IndexedRingsStored.move_before.Goals as goal
+
+pub invariant_of-self-clause-indexed : goal.invariant_of-self-clause-indexed
+invariant_of-self-clause-indexed g c =
+    let s = c.args.self.now in
+    let p = is_noted (noted s.dependents) in
+    let old = g.R.Rings.lists s.rings in
+    let new = g.R.Rings.lists c.move_before.new.self in
+    by_result {X = (n : ℕ) → list_all p (list_at new n) ≡ true} _ _ c.move_before.result c.move_before.ensures.ok c.move_before.ensures.err
+    (λ change. moved_before p old new s.indexed (g.R.Rings.ring_at s.rings) (g.R.Rings.next_name s.rings) s.kept c.args.id c.requires.bucket c.args.at c.requires.place change)
+    (λ same. same_lists p old s.indexed new same)
