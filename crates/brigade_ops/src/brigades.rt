@@ -17,7 +17,7 @@ use pool_tree::{PoolId, PoolTree};
 use run_model::{Bucket, Payload};
 use std::alloc::AllocError;
 
-#[tactic(auto, unfolding(crate::specs::Shelf::seen, crate::specs::Store::lists, crate::specs::Store::brigade_of, crate::specs::Store::pool_of, crate::specs::Store::next_name, crate::specs::Store::references, crate::specs::Store::has_room), using(pool_tree::proofs::Trees::tree_formed))]
+#[tactic(auto, unfolding(crate::specs::Store::lists, crate::specs::Store::brigade_of, crate::specs::Store::pool_of, crate::specs::Store::next_name, crate::specs::Store::references, crate::specs::Store::has_room), using(pool_tree::proofs::Trees::tree_formed))]
 impl<R: Rings<Stored> + Drop> Brigades<R> {
     ghost use Rattle.brigade_ops.specs.Store.{lists, brigade_of, bucket_at, pool_of, next_name, references, has_room};
 

@@ -45,7 +45,7 @@ pub(crate) fn depends_on(tree: &PoolTree<Payload>, pool: PoolId, kind: Kind, hom
     holds || lies
 }
 
-#[tactic(auto, unfolding(crate::specs::Shelf::seen, crate::specs::Store::lists, crate::specs::Store::brigade_of, crate::specs::Store::pool_of, crate::specs::Store::next_name, crate::specs::Store::references), using(pool_tree::proofs::Trees::tree_formed))]
+#[tactic(auto, unfolding(crate::specs::Store::lists, crate::specs::Store::brigade_of, crate::specs::Store::pool_of, crate::specs::Store::next_name, crate::specs::Store::references), using(pool_tree::proofs::Trees::tree_formed))]
 impl<R: Rings<Stored> + Drop> Brigades<R> {
     ghost use Rattle.brigade_ops.specs.Store.{lists, brigade_of, bucket_at, pool_of, next_name, references};
 

@@ -26,7 +26,7 @@ pub(crate) fn reached(tree: &PoolTree<Payload>, pool: PoolId) -> Result<Vec<Pool
     Ok(pools)
 }
 
-#[tactic(auto, unfolding(crate::specs::Shelf::seen, crate::specs::Store::lists, crate::specs::Store::brigade_of, crate::specs::Store::pool_of, crate::specs::Store::next_name, crate::specs::Store::references))]
+#[tactic(auto, unfolding(crate::specs::Store::lists, crate::specs::Store::brigade_of, crate::specs::Store::pool_of, crate::specs::Store::next_name, crate::specs::Store::references))]
 impl<R: Rings<Stored> + Drop> Brigades<R> {
     ghost use Rattle.brigade_ops.specs.Store.{lists, brigade_of, bucket_at, pool_of, next_name, references};
 

@@ -32,7 +32,7 @@ pub(crate) fn push_some<T: Drop>(items: &mut Seq<T>, item: Option<T>) -> Result<
     }
 }
 
-#[tactic(auto, unfolding(crate::specs::Shelf::seen, crate::specs::Store::lists, crate::specs::Store::brigade_of, crate::specs::Store::pool_of, crate::specs::Store::next_name, crate::specs::Store::references, crate::specs::Numbers::count_at), using(pool_tree::proofs::Trees::tree_formed))]
+#[tactic(auto, unfolding(crate::specs::Store::lists, crate::specs::Store::brigade_of, crate::specs::Store::pool_of, crate::specs::Store::next_name, crate::specs::Store::references, crate::specs::Numbers::count_at), using(pool_tree::proofs::Trees::tree_formed))]
 impl<R: Rings<Stored> + Drop> Brigades<R> {
     ghost use Rattle.brigade_ops.specs.Store.{lists, brigade_of, pool_of, next_name, references};
 

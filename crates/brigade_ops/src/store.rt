@@ -20,7 +20,7 @@ pub struct Brigades<R: Rings<Stored>> {
     pub(crate) references: Numbers,
 }
 
-#[tactic(auto, unfolding(crate::specs::Shelf::seen, crate::specs::Store::lists, crate::specs::Store::pool_of, crate::specs::Store::next_name, crate::specs::Store::references))]
+#[tactic(auto, unfolding(crate::specs::Store::lists, crate::specs::Store::pool_of, crate::specs::Store::next_name, crate::specs::Store::references))]
 impl<R: Rings<Stored> + Drop> Brigades<R> {
     ghost use Rattle.brigade_ops.specs.Store.{lists, pool_of, next_name, references};
 

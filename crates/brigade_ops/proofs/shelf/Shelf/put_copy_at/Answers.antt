@@ -16,5 +16,5 @@ returns-then-is_copy-clause-same g c n =
     let stored = c.stored-stored.result.now in
     let as_own : Content → Bucket = λ x. record { kind = stored.kind; content = x; home = stored.home } in
     let here : found id (list_at (seen s) q.0) ≡ Some (as_own c.args.copy) = c.stored-stored.ensures.shown q.0 q.1 ∙ ap (λ (x : Content). Some (as_own x)) (c.is_copy.ensures c.if-is_copy.true) in
-    c.put-_placed.ensures.out q.0 n q.1
+    c.put-placed.ensures.out q.0 n q.1
     ∙ sym (on_same q.0 n (with_payload id (as_own c.args.copy)) (seen s) (set_same id (as_own c.args.copy) (list_at (seen s) q.0) here))

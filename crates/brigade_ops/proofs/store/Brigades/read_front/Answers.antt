@@ -11,21 +11,21 @@ use Rattle.brigade_ops.proofs.store.Brigades.read_front.Goals as goal
 
 pub set_own-requires : goal.set_own-requires
 unfolding brigade_of
-set_own-requires g c = still_in (g.R.Rings.ring_at c.args.self.now.held.rings.rings c.args.id) _ c.requires.there c.put_own_behind.ensures.still
+set_own-requires g c = still_in (g.R.Rings.ring_at c.args.self.now.held.rings.rings c.args.id) _ c.requires.there c.put_own_behind-new.ensures.still
 
 pub returns-clause-ok : goal.returns-clause-ok
 unfolding lists brigade_of
 returns-clause-ok g c b at =
     let old = c.args.self.now.held in
     let id = c.args.id in
-    let y : Item = (c.put_own_behind.result, c.args.rest) in
+    let y : Item = (c.put_own_behind-new.result, c.args.rest) in
     let xs : Items = list_at (seen old) b in
     let told = c.in_ok-_rest.ensures.ok in
     let v = (read_of told.0 c.args.bucket).0 in
     let is : c.read_into.new.bucket ≡ v = ap (λ (p : Bucket × Option Bucket). p.0) told.2 in (
       told.0,
       told.1,
-      λ m. c.set_own.ensures.out b m (c.put_own_behind.ensures.still b at)
-          ∙ on_after b m (put_after id y) (with_payload id c.read_into.new.bucket) (replaced id v (y ∷ [])) (seen old) (seen c.put_own_behind.new.self.held) (λ k. c.put_own_behind.ensures.out b k at)
+      λ m. c.set_own.ensures.out b m (c.put_own_behind-new.ensures.still b at)
+          ∙ on_after b m (put_after id y) (with_payload id c.read_into.new.bucket) (replaced id v (y ∷ [])) (seen old) (seen c.put_own_behind-new.new.self.held) (λ k. c.put_own_behind-new.ensures.out b k at)
           (set_behind id y c.read_into.new.bucket xs (found_in old id b at) ∙ ap (λ (x : Bucket). replaced id x (y ∷ []) xs) is),
     )

@@ -22,7 +22,7 @@ use Rattle.brigade_ops.proofs.Shelves.{counted, found_in, in_found}
 use Rattle.brigade_ops.proofs.store.Brigades.save.Goals as goal
 
 pub put_all_aside-requires-clause-inside : goal.put_all_aside-requires-clause-inside
-unfolding lists brigade_of
+unfolding seen lists brigade_of
 put_all_aside-requires-clause-inside g c =
     let s = c.args.self.now.held in
     let o = c.args.o in
@@ -38,7 +38,7 @@ put_all_aside-requires-clause-inside g c =
     (ap (λ (zs : Items). is_some (found id zs)) whole ∙ found_append id (list_at (seen s) o) (list_at (seen s) b) none (found_in s id b inside)))
 
 pub returns-clause-ok : goal.returns-clause-ok
-unfolding lists brigade_of pool_of
+unfolding seen lists brigade_of pool_of
 returns-clause-ok g c p n at =
     let s = c.args.self.now.held in
     let o = c.args.o in
@@ -77,7 +77,7 @@ returns-clause-counted g c p f at =
     ∙ ap (λ (q : ℕ). start + times_in f (filter_map (new_ref ps q) (named bs))) same_pool))
 
 pub returns-clause-house : goal.returns-clause-house
-unfolding lists pool_of references count_at
+unfolding seen lists pool_of references count_at
 returns-clause-house g c house =
     let store = c.args.self.now in
     let after = c.put_all_aside.new.self in

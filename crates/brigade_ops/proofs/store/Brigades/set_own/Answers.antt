@@ -11,4 +11,4 @@ pub returns-clause-out : goal.returns-clause-out
 unfolding lists brigade_of
 returns-clause-out g c b n at =
     let s = c.args.self.now.held in
-    c.put-_had.ensures.out b n at ∙ ap (λ (x : Stored). on b (with_payload c.args.id (shown (look s.regions) x)) (seen s) n) c.keep_own.ensures
+    c.put-had.ensures.out b n at ∙ ap (λ (x : Stored). on b (with_payload c.args.id (shown (look s.regions) x)) (seen s) n) c.keep_own.ensures
