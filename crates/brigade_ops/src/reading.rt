@@ -106,6 +106,7 @@ impl<R: Rings<Stored> + Drop> Brigades<R> {
     }
 
     /// Reads a bucket that is a range of a file. A name and room for what a read leaves of it are got before the file is asked.
+    #[tactic(auto, unfolding(crate::specs::Shelf::seen, crate::specs::Store::lists, crate::specs::Store::brigade_of, crate::specs::Store::pool_of, crate::specs::Store::next_name, crate::specs::Store::references, crate::specs::Store::has_room))]
     fn read_range<F: Files>(
         &mut self,
         files: &mut F,

@@ -1,0 +1,10 @@
+use Rattle.std.proofs.Common.{◌≡◌, Option, ap, ◌∙◌}
+use Rattle.run_model.specs.declared.bucket.Bucket.{Bucket}
+use Rattle.bucket_ring.specs.Lists.{on, with_payload}
+use Rattle.brigade_ops.specs.Store.{lists}
+use Rattle.brigade_ops.proofs.store.Brigades.read_whole.Goals as goal
+
+pub returns-clause-ok : goal.returns-clause-ok
+returns-clause-ok g c b at =
+    let told = c.in_ok-_rest.ensures.ok in
+    (told.0, told.1, λ m. c.set_own.ensures.out b m at ∙ ap (λ (p : Bucket × Option Bucket). on b (with_payload c.args.id p.0) (lists c.args.self.now) m) told.2)
