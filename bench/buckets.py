@@ -2,11 +2,14 @@
 """Measures instructions on single buckets beside few and many other buckets, as ratios within one run.
 
     python3 bench/buckets.py [PROGRAM]
+    python3 bench/buckets.py bare [PROGRAM]
     python3 bench/buckets.py rings [RAW SLAB]
 
 PROGRAM is crates/host_cli/out/host_cli where none is given (`./host` builds it). A step is measured in a loop that goes round as
 often as takes a tenth of a second, less the loop without it. Each time is the best of three runs. A ratio near 1 says that the
 time of a step does not depend on how many other buckets there are.
+
+With `bare` the steps of a checked host, which looks for no fault, are measured beside those of a watched one, and nothing else.
 
 With `rings` the host over rings in a raw block is measured beside the host over rings in a slab, each run of the one after one of the
 other. RAW and SLAB are the two programs. Where they are not given both are built: the program of this repository, and in
@@ -21,7 +24,9 @@ import time
 
 TOP = os.path.dirname(os.path.dirname(os.path.abspath(__file__)))
 BUILT = os.path.join('crates', 'host_cli', 'out', 'host_cli')
-PROGRAM = sys.argv[1] if len(sys.argv) > 1 and sys.argv[1] != 'rings' else os.path.join(TOP, BUILT)
+WAY = sys.argv[1] if sys.argv[1:2] in (['bare'], ['rings']) else ''
+GIVEN = sys.argv[1:] if WAY == '' else sys.argv[2:]
+PROGRAM = GIVEN[0] if GIVEN and WAY != 'rings' else os.path.join(TOP, BUILT)
 
 SIZES = (10, 1_000, 10_000, 100_000)
 KEPT = (0, 1_000, 64_000)
@@ -102,15 +107,35 @@ def steps():
         told(name, 'of another brigade', [each(setup, code) for setup in other])
 
 
+MOVE = ':move / first c1 b0 / jend c1 moved / unlink c1 / tail b1 c1 / jump move / :moved / bconcat b0 b1'
+
+
 def moves():
     """A brigade moved bucket by bucket, against a loop of numbers that goes round as often."""
     for size in SIZES[1:3]:
         setup = filled('b0', size, 'fill')
-        move = ':move / first c1 b0 / jend c1 moved / unlink c1 / tail b1 c1 / jump move / :moved / bconcat b0 b1'
         count = 'set n3 0 / :count / add n3 1 / jlt n3 %d count' % size
-        one, other = each(setup, move) / size, each(setup, count) / size
+        one, other = each(setup, MOVE) / size, each(setup, count) / size
         print('a bucket of %s moved by `first jend unlink tail jump`: %.0f ns; a round of `add jlt`: %.0f ns; ratio of one instruction %.1f'
               % (format(size, ','), 1e9 * one, 1e9 * other, one / 5 / (other / 2)))
+
+
+def checked(text):
+    """The script on a host whose chain is checked first."""
+    budget = 'budget 18446744073709551615\n'
+    return text.replace(budget, budget + 'checked\n')
+
+
+def bare():
+    """A brigade moved bucket by bucket on a watched host and on a checked one, which looks for no fault: each run of the one after one of the other."""
+    size, rounds = 1_000, 200
+    setup = filled('b0', size, 'fill')
+    few, many = script(setup, '', 0), script(setup, MOVE, rounds)
+    texts = [few, many, checked(few), checked(many)]
+    times = [min(column) for column in zip(*([once(PROGRAM, text, b'ended ok') for text in texts] for _ in range(RUNS)))]
+    watched, unwatched = (times[k + 1] - times[k] for k in (0, 2))
+    print('a bucket moved by `first jend unlink tail jump`: %.0f ns on a watched host, %.0f ns on a checked one; %.2f times the steps'
+          % (1e9 * watched / rounds / size, 1e9 * unwatched / rounds / size, watched / unwatched))
 
 
 PASSER = ('module 1\nopen\nret ok\ninit\nret ok\nmain\njeq n7 1 done\nset n7 1\npass in done\n:done\nret ok\nend\n')
@@ -182,7 +207,7 @@ def ends():
 
 SLAB = '/tmp/buckets_over_a_slab'
 HOST = os.path.join('crates', 'filter_chain', 'src', 'host.rt')
-SWAPS = [('use bucket_ring::RawRings;', 'use bucket_ring::PlainRings;'), ('Brigades<RawRings<Bucket>>', 'Brigades<PlainRings<Bucket>>')]
+SWAPS = [('use bucket_ring::RawRings;', 'use bucket_ring::PlainRings;'), ('Brigades<RawRings<Stored>>', 'Brigades<PlainRings<Stored>>')]
 RUNS = 5
 
 
@@ -243,7 +268,7 @@ def alone(programs, code, connection=1):
 def single_steps(programs):
     """A bucket that is moved, beside a round of `add jlt`: each instruction stepped alone, less what the command takes."""
     none = alone(programs, ':round / add n1 1 / jlt n1 4294967295 round', 2)
-    move = alone(programs, ':move / first c1 b0 / jend c1 moved / unlink c1 / tail b1 c1 / jump move / :moved / bconcat b0 b1 / jump move')
+    move = alone(programs, MOVE + ' / jump move')
     count = alone(programs, ':round / add n1 1 / jlt n1 4294967295 round')
     for kind, n, m, c in zip(KINDS, none, move, count):
         print('over %s: an instruction of a bucket moved (`first jend unlink tail jump`) %.0f ns, one of `add jlt` %.0f ns, each stepped alone; ratio %.2f'
@@ -285,8 +310,8 @@ KINDS = ('a raw block', 'a slab')
 
 def rings():
     """The host over rings of both kinds."""
-    if len(sys.argv) == 4:
-        programs = sys.argv[2:4]
+    if len(GIVEN) == 2:
+        programs = GIVEN
     else:
         subprocess.run([os.path.join(TOP, 'host')], stdin=subprocess.DEVNULL, stdout=subprocess.DEVNULL)
         programs = [PROGRAM, over_a_slab()]
@@ -296,12 +321,15 @@ def rings():
 
 
 def main():
-    if sys.argv[1:2] == ['rings']:
+    if WAY == 'rings':
         return rings()
     if not os.access(PROGRAM, os.X_OK):
         raise SystemExit('bench/buckets.py: there is no program %s; ./host builds the one of this repository' % PROGRAM)
+    if WAY == 'bare':
+        return bare()
     steps()
     moves()
+    bare()
     returns('its filter', '')
     returns('the next filter', PASSER)
     ends()

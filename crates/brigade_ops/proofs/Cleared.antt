@@ -11,10 +11,12 @@ use Rattle.bucket_ring.specs.Kept.{once_in}
 use Rattle.bucket_ring.specs.Laws.{same_name}
 use Rattle.bucket_ring.specs.Lists.{upd, on, list_at, same, times, found, with_payload}
 use Rattle.run_model.specs.declared.bucket.Bucket.{Bucket}
+use Rattle.run_model.specs.declared.bucket.Kind.{Kind}
+use Rattle.run_model.specs.declared.bucket.Kind.TheVariants as kind
 use Rattle.run_model.specs.Buckets.{to_heap, end_pools}
 use Rattle.brigade_ops.specs.declared.morphs.Morph.{Morph}
 use Rattle.brigade_ops.specs.Items.{Item, Items}
-use Rattle.brigade_ops.specs.Morphs.{morph_one, morphed, all_morphed, cleared_as, is_named}
+use Rattle.brigade_ops.specs.Morphs.{kind_given, given_by, morph_one, morphed, all_morphed, cleared_as, is_named}
 
 pub morphed_append : (ms ns : List Morph) (id : BucketId) (x : Bucket) → morphed (ms ++ ns) id x ≡ morphed ns id (morphed ms id x)
 unfolding morphed
@@ -45,6 +47,30 @@ or_one : (b : Bool) → (b || (true || false)) ≡ true
 or_one true = refl
 or_one false = refl
 
+-- the kind that a clear makes of a kind, once and again
+pub given_once : (reached : ℕ → Bool) (k : Kind) → kind_given k (to_heap reached k) ≡ to_heap reached k
+given_once reached kind.Heap = refl
+given_once reached kind.Transient = refl
+given_once reached kind.Immortal = refl
+given_once reached (kind.Pool p) = go (reached p) where
+  go : (b : Bool) → kind_given (kind.Pool p) (cond b kind.Heap (kind.Pool p)) ≡ cond b kind.Heap (kind.Pool p)
+  go true = refl
+  go false = refl
+given_once reached kind.File = refl
+given_once reached kind.Flush = refl
+given_once reached kind.Eos = refl
+
+pub given_twice : (reached : ℕ → Bool) (k : Kind) → kind_given (to_heap reached k) (to_heap reached k) ≡ to_heap reached k
+given_twice reached k = go (to_heap reached k) where
+  go : (j : Kind) → kind_given j j ≡ j
+  go kind.Heap = refl
+  go kind.Transient = refl
+  go kind.Immortal = refl
+  go (kind.Pool p) = refl
+  go kind.File = refl
+  go kind.Flush = refl
+  go kind.Eos = refl
+
 -- What was made ready for the names so far, and for one name more.
 module _ (reached : ℕ → Bool) (ready : List Morph) (names : List BucketId) (name id : BucketId) (x : Bucket) (so_far : morphed ready id x ≡ cond (is_named id names) (cleared_as reached x) x) where
   other : same id name ≡ false → cond (is_named id names) (cleared_as reached x) x ≡ cond (is_named id (names ++ name ∷ [])) (cleared_as reached x) x
@@ -54,8 +80,8 @@ module _ (reached : ℕ → Bool) (ready : List Morph) (names : List BucketId) (
   this hit = ap (λ b. cond b (cleared_as reached x) x) (sym (list_any-append (λ n. same id n) names (name ∷ []) ∙ (ap (λ b. is_named id names || (b || false)) hit ∙ or_one (is_named id names))))
 
   over : (b : Bool) (m : Morph) → same id m.id ≡ true → m.kind ≡ to_heap reached x.kind → m.home ≡ end_pools reached x.home → morph_one m id (cond b (cleared_as reached x) x) ≡ cleared_as reached x
-  over true m hit k h = rw (hit, k, h) refl
-  over false m hit k h = rw (hit, k, h) refl
+  over true m hit k h = rw (hit, k, h, given_twice reached x.kind) refl
+  over false m hit k h = rw (hit, k, h, given_once reached x.kind) refl
 
   kept : (m : Morph) (y : Bucket) → same id m.id ≡ false → morph_one m id y ≡ y
   kept m y miss = rw miss refl
@@ -88,15 +114,15 @@ module _ (m : Morph) where
     go later true hit = let some : suc (times m.id bs) ≡ 0 = rw hit at none in absurd (omega arith)
     go later false miss = rw miss (ap (λ (zs : Items). b ∷ zs) (later (rw miss at none)))
 
-  once : (x : Bucket) (xs : Items) → times m.id xs ≤ 1 → found m.id xs ≡ Some x → all_morphed one xs ≡ with_payload m.id (record x { kind = m.kind; home = m.home }) xs
+  once : (x : Bucket) (xs : Items) → times m.id xs ≤ 1 → found m.id xs ≡ Some x → all_morphed one xs ≡ with_payload m.id (given_by m x) xs
   unfolding morphed
   once x [] few here = cc
   once x (b ∷ bs) few here = go (once x bs) (same b.0 m.id) refl where
-    head : b.0 ≡ m.id → b.1 ≡ x → all_morphed one bs ≡ bs → (b.0, record b.1 { kind = m.kind; home = m.home }) ∷ all_morphed one bs ≡ (m.id, record x { kind = m.kind; home = m.home }) ∷ bs
+    head : b.0 ≡ m.id → b.1 ≡ x → all_morphed one bs ≡ bs → (b.0, given_by m b.1) ∷ all_morphed one bs ≡ (m.id, given_by m x) ∷ bs
     head at is same_rest = rw (at, is, same_rest) refl
 
-    go : (times m.id bs ≤ 1 → found m.id bs ≡ Some x → all_morphed one bs ≡ with_payload m.id (record x { kind = m.kind; home = m.home }) bs) → (s : Bool) → same b.0 m.id ≡ s
-        → all_morphed one (b ∷ bs) ≡ with_payload m.id (record x { kind = m.kind; home = m.home }) (b ∷ bs)
+    go : (times m.id bs ≤ 1 → found m.id bs ≡ Some x → all_morphed one bs ≡ with_payload m.id (given_by m x) bs) → (s : Bool) → same b.0 m.id ≡ s
+        → all_morphed one (b ∷ bs) ≡ with_payload m.id (given_by m x) (b ∷ bs)
     go later true hit =
         let few_more : suc (times m.id bs) ≤ 1 = rw hit at few in
         let is : b.1 ≡ x = (let e : Some b.1 ≡ Some x = rw hit at here in cc) in
@@ -108,7 +134,7 @@ module _ (m : Morph) where
   absent_kept (Some xs) none = ap (λ (zs : Items). Some zs) (sym (absent xs none))
 
   pub once_kept : (b n : ℕ) (x : Bucket) (lists : ℕ → Option Items) → ((r : ℕ) → times m.id (list_at lists r) ≡ once_in r (Some b)) → found m.id (list_at lists b) ≡ Some x
-      → on b (with_payload m.id (record x { kind = m.kind; home = m.home })) lists n ≡ option_map (all_morphed one) (lists n)
+      → on b (with_payload m.id (given_by m x)) lists n ≡ option_map (all_morphed one) (lists n)
   unfolding upd
   once_kept b n x lists count here = elim (cases_eq n b) [
     | inl same_ring ↦ rw (eq-eqb n b same_ring) (at (lists b) (count b) here ∙ ap (λ k. option_map (all_morphed one) (lists k)) (sym same_ring))
@@ -117,7 +143,7 @@ module _ (m : Morph) where
     one_here : times m.id (list_at lists b) ≡ 1
     one_here = count b ∙ rw (eq-eqb b b refl) refl
 
-    at : (o : Option Items) → times m.id (option_map_or (λ xs. xs) o []) ≡ once_in b (Some b) → found m.id (option_map_or (λ xs. xs) o []) ≡ Some x → option_map (with_payload m.id (record x { kind = m.kind; home = m.home })) o ≡ option_map (all_morphed one) o
+    at : (o : Option Items) → times m.id (option_map_or (λ xs. xs) o []) ≡ once_in b (Some b) → found m.id (option_map_or (λ xs. xs) o []) ≡ Some x → option_map (with_payload m.id (given_by m x)) o ≡ option_map (all_morphed one) o
     at None c is = refl
     at (Some xs) c is = let few : times m.id xs ≡ 1 = c ∙ rw (eq-eqb b b refl) refl in ap (λ (zs : Items). Some zs) (sym (once x xs (omega arith) is))
 

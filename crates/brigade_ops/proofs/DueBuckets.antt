@@ -5,6 +5,7 @@ use Rattle.std.proofs.lemmas.Bool.{cases_Bool, false≢true, and_parts, eqb-true
 use Rattle.std.proofs.lemmas.List.{reverse-append}
 use Rattle.std.proofs.lemmas.List.Folds.{list_any-append}
 use Rattle.std.proofs.lemmas.Map.Views.{any-filter_same}
+use Rattle.bucket_kinds.specs.declared.stored.Stored.{Stored}
 use Rattle.run_model.specs.declared.bucket.Bucket.{Bucket}
 use Rattle.run_model.specs.declared.bucket.Kind.{Kind}
 use Rattle.run_model.specs.declared.bucket.Kind.TheVariants as kind
@@ -17,7 +18,7 @@ use Rattle.bucket_ring.specs.Lists.{same}
 use Rattle.bucket_ring.specs.Laws.{same_name}
 use Rattle.brigade_ops.specs.Due.{kind_reached, home_reached, depends, is_due}
 use Rattle.brigade_ops.specs.Morphs.{cleared_as, is_named}
-use Rattle.brigade_ops.specs.Noted.{kind_under, home_under, is_noted}
+use Rattle.brigade_ops.specs.Noted.{kind_under, home_under, place_under, place_of, is_noted}
 
 other_part : (a b : Bool) → a ≡ false → (a || b) ≡ true → b ≡ true
 other_part true b none some = absurd (false≢true (sym none))
@@ -40,12 +41,13 @@ module _ (reached : ℕ → Bool) (names : ℕ → BucketId → Bool) (id : Buck
   by_home (home.Pool p) under is = (p, is, under)
   by_home home.Ended under is = absurd (false≢true is)
 
-  pub under_one : (x : Bucket) → is_noted names (id, x) ≡ true → depends reached x ≡ true → (p : ℕ) × (reached p ≡ true) × (names p id ≡ true)
+  pub under_one : (x : Stored) → is_noted names (id, x) ≡ true → (kind_reached reached x.kind || home_reached reached x.home) ≡ true → (p : ℕ) × (reached p ≡ true) × (names p id ≡ true)
   under_one x noted is =
-      let parts = and_parts (kind_under (λ p. names p id) x.kind) (home_under (λ p. names p id) x.home) noted in
+      let one = and_parts (kind_under (λ p. names p id) x.kind) (home_under (λ p. names p id) x.home && place_under (λ p. names p id) (place_of x.kept)) noted in
+      let two = and_parts (home_under (λ p. names p id) x.home) (place_under (λ p. names p id) (place_of x.kept)) one.1 in
       elim (cases_Bool (kind_reached reached x.kind)) [
-        | inl lies ↦ by_kind x.kind parts.0 lies
-        | inr apart ↦ by_home x.home parts.1 (other_part (kind_reached reached x.kind) (home_reached reached x.home) apart is)
+        | inl lies ↦ by_kind x.kind one.0 lies
+        | inr apart ↦ by_home x.home two.0 (other_part (kind_reached reached x.kind) (home_reached reached x.home) apart is)
       ]
 
 -- A bucket that depends on none of them stays as it is.

@@ -7,12 +7,12 @@ use Rattle.bucket_kinds.specs.Device.{Device, is_there}
 use Rattle.bucket_ring.specs.Kept.{once_in}
 use Rattle.bucket_ring.specs.Lists.{upd, on}
 use Rattle.bucket_ring.specs.declared.rings.Rings.{Ghosts}
-use Rattle.run_model.specs.declared.bucket.Bucket.{Bucket}
 use Rattle.run_model.specs.declared.payload.Payload.{Payload}
 use Rattle.run_model.specs.Payloads.{is_brigade}
 use Rattle.run_model.specs.Pools.{Pools, is_empty, is_live}
 use Rattle.run_model.specs.Holding.{times_held}
 use Rattle.run_model.specs.RunOrder.{IsPoolMap}
+use Rattle.bucket_kinds.specs.declared.stored.Stored.{Stored}
 use Rattle.brigade_ops.specs.declared.store.Brigades.{Brigades}
 use Rattle.brigade_ops.specs.House.{IsHouse, AreOpen}
 use Rattle.brigade_ops.specs.Items.{Items}
@@ -30,7 +30,7 @@ still_on b change L M changed n = ap is_some (changed n) ∙ elim (cases_eq n b)
   mapped None = refl
   mapped (Some xs) = refl
 
-module _ {R : Type 0} {g : Ghosts R Bucket} where
+module _ {R : Type 0} {g : Ghosts R Stored} where
   -- a brigade that is on a pool is on one that is live
   pub house_live : (store : Brigades R g) (ps : Pools Payload) → IsPoolMap ps → IsHouse store ps → (n p : ℕ) → pool_of store n ≡ Some p → is_live ps p ≡ true
   unfolding is_live

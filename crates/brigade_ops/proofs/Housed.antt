@@ -16,13 +16,13 @@ use Rattle.run_model.specs.Steps.{all_referred}
 use Rattle.run_model.proofs.Formed.{formed_fresh}
 use Rattle.run_model.proofs.Sums.{sum_below_same, all_none}
 use Rattle.run_model.proofs.Updates.{upd_at, upd_off, upd_either}
+use Rattle.bucket_kinds.specs.declared.stored.Stored.{Stored}
 use Rattle.brigade_ops.specs.Files.{times_in}
 use Rattle.brigade_ops.specs.House.{all_refs, AreHoused, IsHouse, cleared_item}
 use Rattle.brigade_ops.specs.Items.{Items, named, named_item}
 use Rattle.brigade_ops.specs.declared.store.Brigades.{Brigades}
 use Rattle.brigade_ops.specs.Store.{lists, pool_of, references}
 use Rattle.bucket_ring.specs.declared.rings.Rings.{Ghosts}
-use Rattle.run_model.specs.declared.bucket.Bucket.{Bucket}
 use Rattle.run_model.specs.declared.bucket.NamedBucket.{NamedBucket}
 use Rattle.run_model.specs.Buckets.{cleared_bucket}
 use Rattle.brigade_ops.proofs.Counts.{one_if, count_cons, count_last, sum_more, once_at, once_off}
@@ -252,7 +252,7 @@ named_cleared reached [] = refl
 named_cleared reached (x ∷ xs) = ap (λ (ys : List NamedBucket). cleared_bucket reached (named_item x) ∷ ys) (named_cleared reached xs)
 
 -- A call changed no pool of a brigade and no count, and no brigade on a pool ended.
-pub house_kept : {R : Type 0} {g : Ghosts R Bucket} (old new : Brigades R g) (ps : Pools Payload) → pool_of new ≡ pool_of old → references new ≡ references old
+pub house_kept : {R : Type 0} {g : Ghosts R Stored} (old new : Brigades R g) (ps : Pools Payload) → pool_of new ≡ pool_of old → references new ≡ references old
     → ((n p : ℕ) → pool_of old n ≡ Some p → is_some (lists old n) ≡ true → is_some (lists new n) ≡ true) → IsHouse old ps → IsHouse new ps
 house_kept old new ps off counts there house =
     house_stays (lists old) (pool_of old) (references old) ps house (lists new) (pool_of new) (references new) there (λ n. ap (λ (f : ℕ → Option ℕ). f n) off) (λ f. ap (λ (h : ℕ → ℕ). h f) counts)

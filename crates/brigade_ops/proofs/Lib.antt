@@ -5,6 +5,7 @@ pub mod Points
 pub mod Ended
 pub mod Above
 pub mod Unread
+pub mod Lying
 pub mod Models
 pub mod Parts
 pub mod Referred
@@ -19,4 +20,8 @@ pub mod HouseCalls
 pub mod Renumbered
 pub mod Noted
 pub mod DueBuckets
+pub mod PoolsReached
 pub mod Pruned
+pub mod Shown
+pub mod Shelves
+pub mod Kept

@@ -2,6 +2,7 @@
 use Rattle.std.proofs.Common.{◌≡◌, ◌==◌, ℕ, suc, ◌<◌, ◌≤◌, Bool, true, false, cond, Option, None, Some, is_some, List, [], ◌∷◌, ◌++◌, drop, length, refl, sym, ap, subst, ◌∙◌, arith, inl, inr}
 use Rattle.std.specs.Bool.{if◌then◌else◌}
 use Rattle.std.specs.Option.{option_map, option_map_or, option_and_then}
+use Rattle.std.proofs.lemmas.List.{append_assoc}
 use Rattle.std.proofs.lemmas.Bool.{eq-eqb, ne_eqb, cases_eq}
 use Rattle.bucket_ring.specs.declared.names.BucketId.{BucketId}
 use Rattle.bucket_ring.specs.Lists.{upd, on, list_at, same, times, front, rest, first_of, found, put_after, without, with_payload}
@@ -63,6 +64,9 @@ module _ {T : Type 0} where
   -- a bucket that gets the payload that it has
   pub put_back : (id : BucketId) (x : T) (xs : List (BucketId × T)) → found id xs ≡ Some x → front id xs ++ (id, x) ∷ drop 1 (rest id xs) ≡ xs
   put_back id x xs e = ap (λ (zs : List (BucketId × T)). front id xs ++ zs) (sym (rest_head id xs x e)) ∙ front_rest id xs
+
+  pub set_same : (id : BucketId) (x : T) (xs : List (BucketId × T)) → found id xs ≡ Some x → with_payload id x xs ≡ xs
+  set_same id x xs e = append_assoc (front id xs) ((id, x) ∷ []) (drop 1 (rest id xs)) ∙ put_back id x xs e
 
   -- a bucket that gets one payload after another
   pub set_twice : (id : BucketId) (x y : T) (xs : List (BucketId × T)) → is_some (found id xs) ≡ true → with_payload id y (with_payload id x xs) ≡ with_payload id y xs

@@ -10,15 +10,18 @@ use Rattle.bucket_ring.specs.declared.names.BucketId.{BucketId}
 use Rattle.bucket_ring.specs.Laws.{same_name, same_self, found_times}
 use Rattle.bucket_ring.specs.declared.rings.Rings.{Ghosts}
 use Rattle.bucket_ring.specs.Lists.{list_at, same, times, found}
+use Rattle.bucket_kinds.specs.declared.stored.Stored.{Stored}
 use Rattle.run_model.specs.declared.bucket.Bucket.{Bucket}
+use Rattle.run_model.specs.Buckets.{to_heap}
 use Rattle.run_model.specs.Pools.{is_in}
 use Rattle.brigade_ops.specs.declared.morphs.Morph.{Morph}
 use Rattle.brigade_ops.specs.Items.{Item, Items, from_place}
 use Rattle.brigade_ops.specs.House.{cleared_item, cleared_items}
-use Rattle.brigade_ops.specs.Morphs.{morphed, all_morphed, cleared_as, IsAsItWas}
+use Rattle.brigade_ops.specs.Morphs.{kind_given, given_by, morphed, all_morphed, cleared_as, IsAsItWas}
 use Rattle.brigade_ops.specs.declared.store.Brigades.{Brigades}
+use Rattle.brigade_ops.specs.Shelf.{seen}
 use Rattle.brigade_ops.specs.Store.{brigade_of, bucket_at}
-use Rattle.brigade_ops.proofs.Cleared.{morphed_append, at_some}
+use Rattle.brigade_ops.proofs.Cleared.{given_once, given_twice, morphed_append, at_some}
 
 pub not_same : (i j : BucketId) → same i j ≡ false → same j i ≡ false
 not_same i j miss = elim (cases_Bool (same j i)) [
@@ -35,7 +38,7 @@ module _ (reached : ℕ → Bool) (ready : List Morph) (name : BucketId) (r : Op
     go None told = ap (λ ms. morphed ms id x) (append-nil ready)
     go (Some m) told =
         morphed_append ready (m ∷ []) id x
-        ∙ ap (λ (b : Bool). cond b (record (morphed ready id x) { kind = m.kind; home = m.home }) (morphed ready id x)) (ap (λ (n : BucketId). same id n) told ∙ miss)
+        ∙ ap (λ (b : Bool). cond b (given_by m (morphed ready id x)) (morphed ready id x)) (ap (λ (n : BucketId). same id n) told ∙ miss)
 
   pub this_ready : (id : BucketId) (x : Bucket) → same id name ≡ true → IsAsItWas reached ready id x → IfSome r (λ m. m.kind ≡ (cleared_as reached x).kind) → IfSome r (λ m. m.home ≡ (cleared_as reached x).home)
       → (r ≡ None → cleared_as reached x ≡ x) → morphed (ready ++ cons_option r []) id x ≡ cleared_as reached x
@@ -44,6 +47,10 @@ module _ (reached : ℕ → Bool) (ready : List Morph) (name : BucketId) (r : Op
     content : (y : Bucket) → (y ≡ x) ⊎ (y ≡ cleared_as reached x) → y.content ≡ x.content
     content y (inl e) = ap (λ (z : Bucket). z.content) e
     content y (inr e) = ap (λ (z : Bucket). z.content) e
+
+    kind_of : (y : Bucket) → (y ≡ x) ⊎ (y ≡ cleared_as reached x) → kind_given y.kind (to_heap reached x.kind) ≡ to_heap reached x.kind
+    kind_of y (inl e) = ap (λ (z : Bucket). kind_given z.kind (to_heap reached x.kind)) e ∙ given_once reached x.kind
+    kind_of y (inr e) = ap (λ (z : Bucket). kind_given z.kind (to_heap reached x.kind)) e ∙ given_twice reached x.kind
 
     same_either : (y : Bucket) → (y ≡ x) ⊎ (y ≡ cleared_as reached x) → cleared_as reached x ≡ x → y ≡ cleared_as reached x
     same_either y (inl e) s = e ∙ sym s
@@ -54,14 +61,14 @@ module _ (reached : ℕ → Bool) (ready : List Morph) (name : BucketId) (r : Op
     go None told k h s = ap (λ ms. morphed ms id x) (append-nil ready) ∙ same_either (morphed ready id x) begun (s refl)
     go (Some m) told k h s =
         morphed_append ready (m ∷ []) id x
-        ∙ (ap (λ (b : Bool). cond b (record (morphed ready id x) { kind = m.kind; home = m.home }) (morphed ready id x)) (ap (λ (n : BucketId). same id n) told ∙ hit)
-        ∙ rw (k, h, content (morphed ready id x) begun) refl)
+        ∙ (ap (λ (b : Bool). cond b (given_by m (morphed ready id x)) (morphed ready id x)) (ap (λ (n : BucketId). same id n) told ∙ hit)
+        ∙ rw (k, h, kind_of (morphed ready id x) begun, content (morphed ready id x) begun) refl)
 
 -- what is there of one bucket, where none of its brigade is left
-pub none_left : (id : BucketId) (place : Option BucketId) (xs : Items) → place ≡ None → times id (from_place place xs) ≡ 0
+pub none_left : {T : Type 0} (id : BucketId) (place : Option BucketId) (xs : List (BucketId × T)) → place ≡ None → times id (from_place place xs) ≡ 0
 none_left id place xs e = ap (λ (p : Option BucketId). times id (from_place p xs)) e
 
-pub later_times : (id name : BucketId) (x : Bucket) (xs ys : Items) → same id name ≡ false → xs ≡ (name, x) ∷ ys → times id ys ≡ 0 → times id xs ≡ 0
+pub later_times : {T : Type 0} (id name : BucketId) (x : T) (xs ys : List (BucketId × T)) → same id name ≡ false → xs ≡ (name, x) ∷ ys → times id ys ≡ 0 → times id xs ≡ 0
 later_times id name x xs ys miss e none = ap (times id) e ∙ rw (not_same id name miss) none
 
 -- The buckets of the brigades so far, and of one more.
@@ -128,6 +135,6 @@ some_of None there = cc
 some_of (Some b) there = (b, refl)
 
 -- a bucket that is there is in a brigade
-pub bucket_in : {R : Type 0} {g : Ghosts R Bucket} (store : Brigades R g) (id : BucketId) (x : Bucket) → bucket_at store id ≡ Some x → (b : ℕ) × (brigade_of store id ≡ Some b)
+pub bucket_in : {R : Type 0} {g : Ghosts R Stored} (store : Brigades R g) (id : BucketId) (x : Bucket) → bucket_at store id ≡ Some x → (b : ℕ) × (brigade_of store id ≡ Some b)
 unfolding brigade_of bucket_at
-bucket_in {R} {g} store id x is = some_of (g.ring_at store.held.rings id) (at_some (g.ring_at store.held.rings id) (λ b. found id (list_at (g.lists store.held.rings) b)) x is)
+bucket_in {R} {g} store id x is = some_of (g.ring_at store.held.rings.rings id) (at_some (g.ring_at store.held.rings.rings id) (λ b. found id (list_at (seen store.held) b)) x is)

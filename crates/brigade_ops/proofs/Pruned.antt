@@ -1,7 +1,7 @@
 -- Names of buckets that depend on a pool no more may be thrown out.
-use Rattle.std.proofs.Common.{◌≡◌, ◌≢◌, ◌==◌, ◌||◌, ℕ, Bool, true, cond, Option, Some, List, filter, is_some, ◌⊎◌, refl, sym, ap, ◌∙◌, inl, inr}
-use Rattle.std.proofs.lemmas.Bool.{cases_eq, eq-eqb, ne_eqb, and_parts}
-use Rattle.run_model.specs.declared.bucket.Bucket.{Bucket}
+use Rattle.std.proofs.Common.{◌≡◌, ◌≢◌, ◌==◌, ◌||◌, ℕ, Bool, true, cond, Option, None, Some, List, filter, is_some, ◌⊎◌, refl, sym, ap, ◌∙◌, inl, inr}
+use Rattle.std.proofs.lemmas.Bool.{cases_eq, eq-eqb, ne_eqb}
+use Rattle.bucket_kinds.specs.declared.stored.Stored.{Stored}
 use Rattle.run_model.specs.declared.bucket.Kind.{Kind}
 use Rattle.run_model.specs.declared.bucket.Kind.TheVariants as kind
 use Rattle.run_model.specs.declared.bucket.Home.{Home}
@@ -12,23 +12,23 @@ use Rattle.bucket_ring.specs.Kept.{IsKept}
 use Rattle.bucket_ring.specs.Laws.{in_found}
 use Rattle.brigade_ops.specs.declared.dependents.Dependents.{Dependents}
 use Rattle.brigade_ops.specs.Dependents.{names_of, noted, StayNoted}
-use Rattle.brigade_ops.specs.Due.{kind_reached, home_reached, depends}
-use Rattle.brigade_ops.specs.Items.{Items}
+use Rattle.brigade_ops.specs.Due.{kind_reached, home_reached}
+use Rattle.brigade_ops.specs.Items.{StoredItems}
 use Rattle.brigade_ops.specs.Morphs.{is_named}
-use Rattle.brigade_ops.specs.Noted.{kind_under, home_under, is_noted, AreNoted, bucket_named, still_under}
+use Rattle.brigade_ops.specs.Noted.{kind_under, home_under, place_under, place_of, place_reached, held_under, is_noted, AreNoted, bucket_named, still_under}
 use Rattle.brigade_ops.proofs.DueBuckets.{named_filtered, either_named, first_named, second_named}
-use Rattle.brigade_ops.proofs.Noted.{all_found, are_kept, listed_by_found, noted_item}
+use Rattle.brigade_ops.proofs.Noted.{all_found, are_kept, listed_by_found, noted_item, noted_parts}
 use Rattle.brigade_ops.proofs.Saves.{here_at}
 use Rattle.brigade_ops.proofs.Walks.{once_listed}
 
 -- What a bucket depends on stays noted, so it stays noted under all of them.
-module _ (names more : ℕ → BucketId → Bool) (id : BucketId) (x : Bucket) (kept : (p : ℕ) → depends (λ q. q == p) x ≡ true → names p id ≡ true → more p id ≡ true) where
+module _ (names more : ℕ → BucketId → Bool) (id : BucketId) (x : Stored) (kept : (p : ℕ) → held_under (λ q. q == p) x ≡ true → names p id ≡ true → more p id ≡ true) where
   kind_stays : (k : Kind) → x.kind ≡ k → kind_under (λ p. names p id) k ≡ true → kind_under (λ p. more p id) k ≡ true
   kind_stays kind.Heap is e = refl
   kind_stays kind.Transient is e = refl
   kind_stays kind.Immortal is e = refl
   kind_stays (kind.Pool p) is e =
-      kept p (first_named (kind_reached (λ q. q == p) x.kind) (home_reached (λ q. q == p) x.home) (ap (kind_reached (λ q. q == p)) is ∙ eq-eqb p p refl)) e
+      kept p (first_named (kind_reached (λ q. q == p) x.kind) (home_reached (λ q. q == p) x.home || place_reached (λ q. q == p) (place_of x.kept)) (ap (kind_reached (λ q. q == p)) is ∙ eq-eqb p p refl)) e
   kind_stays kind.File is e = refl
   kind_stays kind.Flush is e = refl
   kind_stays kind.Eos is e = refl
@@ -37,18 +37,25 @@ module _ (names more : ℕ → BucketId → Bool) (id : BucketId) (x : Bucket) (
   home_stays home.Free is e = refl
   home_stays (home.Call n) is e = refl
   home_stays (home.Pool p) is e =
-      kept p (second_named (kind_reached (λ q. q == p) x.kind) (home_reached (λ q. q == p) x.home) (ap (home_reached (λ q. q == p)) is ∙ eq-eqb p p refl)) e
+      kept p (second_named (kind_reached (λ q. q == p) x.kind) (home_reached (λ q. q == p) x.home || place_reached (λ q. q == p) (place_of x.kept))
+      (first_named (home_reached (λ q. q == p) x.home) (place_reached (λ q. q == p) (place_of x.kept)) (ap (home_reached (λ q. q == p)) is ∙ eq-eqb p p refl))) e
   home_stays home.Ended is e = refl
+
+  place_stays : (o : Option ℕ) → place_of x.kept ≡ o → place_under (λ p. names p id) o ≡ true → place_under (λ p. more p id) o ≡ true
+  place_stays None is e = refl
+  place_stays (Some p) is e =
+      kept p (second_named (kind_reached (λ q. q == p) x.kind) (home_reached (λ q. q == p) x.home || place_reached (λ q. q == p) (place_of x.kept))
+      (second_named (home_reached (λ q. q == p) x.home) (place_reached (λ q. q == p) (place_of x.kept)) (ap (place_reached (λ q. q == p)) is ∙ eq-eqb p p refl))) e
 
   item_stays : is_noted names (id, x) ≡ true → is_noted more (id, x) ≡ true
   item_stays e =
-      let parts = and_parts (kind_under (λ p. names p id) x.kind) (home_under (λ p. names p id) x.home) e in
-      noted_item more id x (kind_stays x.kind refl parts.0) (home_stays x.home refl parts.1)
+      let parts = noted_parts names id x e in
+      noted_item more id x (kind_stays x.kind refl parts.0) (home_stays x.home refl parts.1) (place_stays (place_of x.kept) refl parts.2)
 
 -- Names are thrown out from under one pool whose buckets are gone or depend on it no more.
-module _ (at : BucketId → Option ℕ) (lists : ℕ → Option Items) (next : ℕ) (law : IsKept at lists next) (old new : Dependents) (pool : ℕ)
+module _ (at : BucketId → Option ℕ) (lists : ℕ → Option StoredItems) (next : ℕ) (law : IsKept at lists next) (old new : Dependents) (pool : ℕ)
     (out : (p : ℕ) → names_of new p ≡ cond (p == pool) (filter (λ i. still_under pool (bucket_named at lists i)) (names_of old p)) (names_of old p)) (still : new.lost ≡ old.lost) where
-  under_kept : (id : BucketId) (x : Bucket) → bucket_named at lists id ≡ Some x → (p : ℕ) → depends (λ q. q == p) x ≡ true → noted old p id ≡ true → noted new p id ≡ true
+  under_kept : (id : BucketId) (x : Stored) → bucket_named at lists id ≡ Some x → (p : ℕ) → held_under (λ q. q == p) x ≡ true → noted old p id ≡ true → noted new p id ≡ true
   unfolding noted
   under_kept id x there p on e = elim (either_named old.lost (is_named id (names_of old p)) e) [
     | inl gone ↦ first_named new.lost (is_named id (names_of new p)) (still ∙ gone)
@@ -57,7 +64,7 @@ module _ (at : BucketId → Option ℕ) (lists : ℕ → Option Items) (next : �
     by_pool : (p ≡ pool) ⊎ (p ≢ pool) → is_named id (names_of old p) ≡ true → is_named id (cond (p == pool) (filter (λ i. still_under pool (bucket_named at lists i)) (names_of old p)) (names_of old p)) ≡ true
     by_pool (inl here) named =
         rw (eq-eqb p pool here) (named_filtered (λ i. still_under pool (bucket_named at lists i)) id (names_of old p)
-        ∙ rw (ap (still_under pool) there ∙ (ap (λ (q : ℕ). depends (λ n. n == q) x) (sym here) ∙ on), named) refl)
+        ∙ rw (ap (still_under pool) there ∙ (ap (λ (q : ℕ). held_under (λ n. n == q) x) (sym here) ∙ on), named) refl)
     by_pool (inr apart) named = rw (ne_eqb p pool apart) named
 
   pub pruned : AreNoted (noted old) lists → AreNoted (noted new) lists

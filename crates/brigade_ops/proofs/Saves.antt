@@ -18,14 +18,15 @@ use Rattle.brigade_ops.specs.Items.{Items, named, before_place, from_place, asid
 use Rattle.brigade_ops.proofs.Lists.{rest_head, front_rest, rest_append, list_on, list_off, there_off}
 use Rattle.brigade_ops.proofs.Walks.{count_head}
 
-pub found_some : (id : BucketId) (xs : Items) → is_some (found id xs) ≡ true → (x : Bucket) × (found id xs ≡ Some x)
-found_some id xs there = go (found id xs) refl there where
-  go : (o : Option Bucket) → found id xs ≡ o → is_some o ≡ true → (x : Bucket) × (found id xs ≡ Some x)
-  go None is h = cc
-  go (Some x) is h = (x, is)
+module _ {T : Type 0} where
+  pub found_some : (id : BucketId) (xs : List (BucketId × T)) → is_some (found id xs) ≡ true → (x : T) × (found id xs ≡ Some x)
+  found_some id xs there = go (found id xs) refl there where
+    go : (o : Option T) → found id xs ≡ o → is_some o ≡ true → (x : T) × (found id xs ≡ Some x)
+    go None is h = cc
+    go (Some x) is h = (x, is)
 
 -- the bucket of a name, by the brigade that it is in
-pub here_at : (at : Option ℕ) (lists : ℕ → Option Items) (id : BucketId) (b : ℕ) (x : Bucket) → at ≡ Some b → found id (list_at lists b) ≡ Some x → option_and_then (λ q. found id (list_at lists q)) at ≡ Some x
+pub here_at : {T : Type 0} (at : Option ℕ) (lists : ℕ → Option (List (BucketId × T))) (id : BucketId) (b : ℕ) (x : T) → at ≡ Some b → found id (list_at lists b) ≡ Some x → option_and_then (λ q. found id (list_at lists q)) at ≡ Some x
 here_at at lists id b x is here = ap (option_and_then (λ q. found id (list_at lists q))) is ∙ here
 
 -- what stands from a bucket on after it got another payload

@@ -7,18 +7,20 @@ use Rattle.bucket_ring.specs.Lists.{list_at, times, found}
 use Rattle.bucket_ring.specs.Kept.{once_in, IsKept}
 use Rattle.bucket_ring.specs.Laws as ring
 use Rattle.run_model.specs.declared.bucket.Bucket.{Bucket}
+use Rattle.bucket_kinds.specs.declared.stored.Stored.{Stored}
 use Rattle.brigade_ops.specs.declared.store.Brigades.{Brigades}
 use Rattle.brigade_ops.specs.Items.{Items}
 use Rattle.brigade_ops.specs.Laws.{IsGiven}
 use Rattle.brigade_ops.specs.Store.{lists, brigade_of, bucket_at, next_name}
 use Rattle.brigade_ops.proofs.Lists.{and_then_told}
 use Rattle.brigade_ops.proofs.Saves.{here_at}
+use Rattle.brigade_ops.proofs.Shelves as shelf
 
-module _ {R : Type 0} {g : Ghosts R Bucket} (store : Brigades R g) where
+module _ {R : Type 0} {g : Ghosts R Stored} (store : Brigades R g) where
   -- all of it
   pub kept : IsKept (brigade_of store) (lists store) (next_name store)
   unfolding lists brigade_of next_name
-  kept = store.held.kept
+  kept = shelf.kept store.held
 
   -- each bucket stands once in the brigade that it is in, and in no other
   pub counted : (id : BucketId) (b : ℕ) → times id (list_at (lists store) b) ≡ once_in b (brigade_of store id)
@@ -75,7 +77,7 @@ same_ring None (Some q) same = absurd (omega (arith, same q, ring.once_here q))
 same_ring (Some q) p same = sym (ring.once_some q p (omega (arith, same q, ring.once_here q)))
 
 -- Where two stores have the same lists, each bucket is in the same brigade.
-module _ {R : Type 0} {g : Ghosts R Bucket} (old new : Brigades R g) (same : (b : ℕ) → lists new b ≡ lists old b) where
+module _ {R : Type 0} {g : Ghosts R Stored} (old new : Brigades R g) (same : (b : ℕ) → lists new b ≡ lists old b) where
   pub same_brigade : (id : BucketId) → brigade_of new id ≡ brigade_of old id
   same_brigade id =
       same_ring (brigade_of new id) (brigade_of old id) (λ b. sym (counted new id b) ∙ (ap (λ (o : Option Items). times id (option_map_or (λ xs. xs) o [])) (same b) ∙ counted old id b))

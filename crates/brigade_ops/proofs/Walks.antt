@@ -1,5 +1,5 @@
 -- Walks along a brigade.
-use Rattle.std.proofs.Common.{◌≡◌, ◌==◌, ℕ, suc, ◌+◌, ◌≤◌, Bool, true, false, Option, None, Some, Ok, Err, List, [], ◌∷◌, drop, length, refl, ap, subst, arith}
+use Rattle.std.proofs.Common.{◌≡◌, ◌==◌, ℕ, suc, ◌+◌, ◌<◌, ◌≤◌, Bool, true, false, Option, None, Some, Ok, Err, List, [], ◌∷◌, drop, length, refl, ap, subst, arith}
 use Rattle.std.specs.Prelude.{IfSome, if◌then◌else◌}
 use Rattle.run_model.specs.declared.bucket.Bucket.{Bucket}
 use Rattle.run_model.specs.BrigadeLists.{length_in}
@@ -50,13 +50,22 @@ module _ {T : Type 0} where
   head_is b bs = rw (same_self b.0) refl
 
 -- a walk begins with the whole brigade
-pub start_whole : (xs : Items) (place : Option BucketId) → place ≡ first_of xs → from_place place xs ≡ xs
+pub start_whole : {T : Type 0} (xs : List (BucketId × T)) (place : Option BucketId) → place ≡ first_of xs → from_place place xs ≡ xs
 start_whole [] place e = rw e refl
 start_whole (b ∷ bs) place e = rw e (head_is b bs)
 
 -- one bucket and the others
-pub count_head : (id : BucketId) (xs : Items) (x : Bucket) → found id xs ≡ Some x → length (rest id xs) ≡ suc (length (drop 1 (rest id xs)))
+pub count_head : {T : Type 0} (id : BucketId) (xs : List (BucketId × T)) (x : T) → found id xs ≡ Some x → length (rest id xs) ≡ suc (length (drop 1 (rest id xs)))
 count_head id xs x e = ap length (rest_head id xs x e)
+
+-- fewer buckets are left behind one of them
+pub fewer_behind : {T : Type 0} (id : BucketId) (place behind : Option BucketId) (xs : List (BucketId × T)) (x : T) → found id xs ≡ Some x → place ≡ Some id → from_place behind xs ≡ drop 1 (rest id xs)
+    → length (from_place behind xs) < length (from_place place xs)
+fewer_behind id place behind xs x e here told =
+    let less = ap length told in
+    let one = count_head id xs x e in
+    let at : length (from_place place xs) ≡ length (rest id xs) = ap (λ p. length (from_place p xs)) here in
+    omega (arith, less, one, at)
 
 -- the length of what begins with a bucket
 pub length_head : (id : BucketId) (xs : Items) (x : Bucket) → found id xs ≡ Some x → length_in (named (rest id xs)) ≡ length_of x.content + length_in (named (drop 1 (rest id xs)))

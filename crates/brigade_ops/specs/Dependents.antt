@@ -4,7 +4,7 @@ use Rattle.std.specs.Option.{option_map_or}
 use Rattle.std.specs.HashMap.{get}
 use Rattle.bucket_ring.specs.declared.names.BucketId.{BucketId}
 use Rattle.brigade_ops.specs.declared.dependents.Dependents.{Dependents}
-use Rattle.brigade_ops.specs.Items.{Items}
+use Rattle.brigade_ops.specs.Items.{StoredItems}
 use Rattle.brigade_ops.specs.Morphs.{is_named}
 use Rattle.brigade_ops.specs.Noted.{AreNoted}
 
@@ -18,4 +18,4 @@ noted deps p id = deps.lost || is_named id (names_of deps p)
 
 -- The items that were noted are noted still.
 abbrev pub StayNoted : Dependents → Dependents → Type 0
-StayNoted old new = (lists : ℕ → Option Items) → AreNoted (noted old) lists → AreNoted (noted new) lists
+StayNoted old new = (lists : ℕ → Option StoredItems) → AreNoted (noted old) lists → AreNoted (noted new) lists

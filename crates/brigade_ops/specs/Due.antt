@@ -6,6 +6,11 @@ use Rattle.run_model.specs.declared.bucket.Kind.TheVariants as kind
 use Rattle.run_model.specs.declared.bucket.Home.{Home}
 use Rattle.run_model.specs.declared.bucket.Home.TheVariants as home
 use Rattle.run_model.specs.Pools.{is_in}
+use Rattle.brigade_ops.specs.declared.reached.Reached.{Reached}
+
+-- whether a clear reaches the pool of a name
+abbrev pub is_reached : Reached → ℕ → Bool
+is_reached reached p = is_in p reached.pools.items
 
 -- whether bytes lie in one of these pools,
 abbrev pub kind_reached : (ℕ → Bool) → Kind → Bool

@@ -2,7 +2,7 @@
 use Rattle.std.specs.Prelude.{◌≡◌, ℕ, ◌<◌, Bool, true, if◌then◌else◌, map, count_by, Option, None, Some, is_some}
 use Rattle.bucket_ring.specs.Kept.{once_in}
 use Rattle.bucket_ring.specs.declared.rings.Rings.{Ghosts}
-use Rattle.run_model.specs.declared.bucket.Bucket.{Bucket}
+use Rattle.bucket_kinds.specs.declared.stored.Stored.{Stored}
 use Rattle.run_model.specs.declared.payload.Payload.{Payload}
 use Rattle.run_model.specs.Clearing.{is_reached}
 use Rattle.run_model.specs.Payloads.{is_file_ref}
@@ -27,7 +27,7 @@ pub record AreHoused (lists : ℕ → Option Items) (pool_of : ℕ → Option �
   pub referred : (file : ℕ) → references file ≡ all_refs ps file
 
 -- The brigades of a store stand on these pools.
-abbrev pub IsHouse : {R : Type 0} {g : Ghosts R Bucket} → Brigades R g → Pools Payload → Type 0
+abbrev pub IsHouse : {R : Type 0} {g : Ghosts R Stored} → Brigades R g → Pools Payload → Type 0
 IsHouse store ps = AreHoused (lists store) (pool_of store) (references store) ps
 
 -- Files that are referred to are open.

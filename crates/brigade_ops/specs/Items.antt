@@ -8,6 +8,7 @@ use Rattle.run_model.specs.Pools.{Pools, registered}
 use Rattle.run_model.specs.Steps.{is_above, file_of}
 use Rattle.run_model.specs.Cutting.{set_aside}
 use Rattle.run_model.specs.declared.bucket.Bucket.{Bucket}
+use Rattle.bucket_kinds.specs.declared.stored.Stored.{Stored}
 use Rattle.run_model.specs.declared.bucket.NamedBucket.{NamedBucket}
 use Rattle.run_model.specs.declared.bucket.Content.{Content}
 use Rattle.run_model.specs.declared.bucket.Content.TheVariants as content
@@ -17,6 +18,13 @@ Item = BucketId × Bucket
 
 abbrev pub Items : Type 0
 Items = List Item
+
+-- the same, as the rings hold them
+abbrev pub StoredItem : Type 0
+StoredItem = BucketId × Stored
+
+abbrev pub StoredItems : Type 0
+StoredItems = List StoredItem
 
 -- a bucket with the name that the model knows: its birth
 abbrev pub named_item : Item → NamedBucket
@@ -53,13 +61,14 @@ rest_item (Some new) (Some y) = (new, y) ∷ []
 
 -- A place in a brigade is the name of a bucket, or None for its end, which is the sentinel. What stays before a place,
 -- and what stands from it on (apr_brigade_split_ex).
-abbrev pub before_place : Option BucketId → Items → Items
-before_place None xs = xs
-before_place (Some id) xs = front id xs
+module _ {T : Type 0} where
+  abbrev pub before_place : Option BucketId → List (BucketId × T) → List (BucketId × T)
+  before_place None xs = xs
+  before_place (Some id) xs = front id xs
 
-abbrev pub from_place : Option BucketId → Items → Items
-from_place None xs = []
-from_place (Some id) xs = rest id xs
+  abbrev pub from_place : Option BucketId → List (BucketId × T) → List (BucketId × T)
+  from_place None xs = []
+  from_place (Some id) xs = rest id xs
 
 -- the file of which setting a bucket aside takes a further reference (apr_bucket_setaside)
 abbrev pub file_for : Pools Payload → ℕ → Bucket → Option ℕ

@@ -13,3 +13,6 @@ pub mod Noted
 pub mod Dependents
 pub mod Due
 pub mod Views
+pub mod Regions
+pub mod Shown
+pub mod Shelf

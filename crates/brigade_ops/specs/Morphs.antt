@@ -4,13 +4,28 @@ use Rattle.std.specs.List.{list_any}
 use Rattle.bucket_ring.specs.declared.names.BucketId.{BucketId}
 use Rattle.bucket_ring.specs.Lists.{same}
 use Rattle.run_model.specs.declared.bucket.Bucket.{Bucket}
+use Rattle.run_model.specs.declared.bucket.Kind.{Kind}
+use Rattle.run_model.specs.declared.bucket.Kind.TheVariants as kind
 use Rattle.run_model.specs.Buckets.{to_heap, end_pools}
 use Rattle.brigade_ops.specs.declared.morphs.Morph.{Morph}
 use Rattle.brigade_ops.specs.Items.{Item, Items}
 
+-- A clear makes a kind HEAP, or leaves it.
+abbrev pub kind_given : Kind → Kind → Kind
+kind_given was kind.Heap = kind.Heap
+kind_given was kind.Transient = was
+kind_given was kind.Immortal = was
+kind_given was (kind.Pool p) = was
+kind_given was kind.File = was
+kind_given was kind.Flush = was
+kind_given was kind.Eos = was
+
 -- one bucket gets the kind and the home that were made ready for it
+abbrev pub given_by : Morph → Bucket → Bucket
+given_by m x = record x { kind = kind_given x.kind m.kind; home = m.home }
+
 abbrev pub morph_one : Morph → BucketId → Bucket → Bucket
-morph_one m id x = if same id m.id then record x { kind = m.kind; home = m.home } else x
+morph_one m id x = if same id m.id then given_by m x else x
 
 unfoldable pub morphed : List Morph → BucketId → Bucket → Bucket
 morphed [] id x = x

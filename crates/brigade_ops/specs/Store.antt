@@ -4,23 +4,25 @@ use Rattle.std.specs.Option.{option_and_then, option_map_or}
 use Rattle.bucket_ring.specs.declared.names.BucketId.{BucketId}
 use Rattle.bucket_ring.specs.declared.rings.Rings.{Ghosts}
 use Rattle.bucket_ring.specs.Lists.{list_at, found}
+use Rattle.bucket_kinds.specs.declared.stored.Stored.{Stored}
 use Rattle.run_model.specs.declared.bucket.Bucket.{Bucket}
 use Rattle.brigade_ops.specs.declared.store.Brigades.{Brigades}
 use Rattle.brigade_ops.specs.Items.{Items}
 use Rattle.brigade_ops.specs.Numbers.{number_at}
+use Rattle.brigade_ops.specs.Shelf.{seen, IsGivenUp}
 
-module _ {R : Type 0} {g : Ghosts R Bucket} where
+module _ {R : Type 0} {g : Ghosts R Stored} where
   -- the buckets of each brigade, by its name; None where there is no such brigade
   unfoldable pub lists : Brigades R g → ℕ → Option Items
-  lists store = g.lists store.held.rings
+  lists store = seen store.held
 
   -- the brigade that a bucket is in
   unfoldable pub brigade_of : Brigades R g → BucketId → Option ℕ
-  brigade_of store = g.ring_at store.held.rings
+  brigade_of store = g.ring_at store.held.rings.rings
 
   -- the bucket of a name
   unfoldable pub bucket_at : Brigades R g → BucketId → Option Bucket
-  bucket_at store id = option_and_then (λ b. found id (list_at (g.lists store.held.rings) b)) (g.ring_at store.held.rings id)
+  bucket_at store id = option_and_then (λ b. found id (list_at (seen store.held) b)) (g.ring_at store.held.rings.rings id)
 
   -- the pool that a brigade is on; None where it is on none
   unfoldable pub pool_of : Brigades R g → ℕ → Option ℕ
@@ -32,8 +34,12 @@ module _ {R : Type 0} {g : Ghosts R Bucket} where
 
   -- the next name
   unfoldable pub next_name : Brigades R g → ℕ
-  next_name store = g.next_name store.held.rings
+  next_name store = g.next_name store.held.rings.rings
 
   -- there is room for one more brigade or bucket
   unfoldable pub has_room : Brigades R g → Type 0
-  has_room store = g.has_room store.held.rings
+  has_room store = g.has_room store.held.rings.rings
+
+  -- No bytes lie in the region of a pool, where it is known that no bucket is noted under it.
+  unfoldable pub IsFreed : Brigades R g → ℕ → Type 0
+  IsFreed store p = IsGivenUp store.held p

@@ -1,6 +1,7 @@
 //! A bucket of the store is set aside.
 
 ghost use Rattle.std.specs.Prelude.{◌≡◌, ℕ, Some, None, true, is_some, IsTrue, IsOk, OnOk, OnErr};
+ghost use Rattle.run_model.specs.declared.bucket.Bucket.{Bucket};
 ghost use Rattle.run_model.specs.Pools.{is_live};
 ghost use Rattle.run_model.specs.RunOrder.{IsPoolMap};
 ghost use Rattle.run_model.specs.Cutting.{set_aside};
@@ -9,34 +10,45 @@ ghost use Rattle.pool_tree.specs.Tree.{map_of};
 ghost use Rattle.bucket_ring.specs.Lists.{on, with_payload};
 ghost use Rattle.bucket_ring.specs.Kept.{NoneRevived};
 ghost use Rattle.brigade_ops.specs.Items.{file_for, pools_for, count_for};
+ghost use Rattle.bucket_kinds.specs.Stored.{Look, is_whole};
 ghost use Rattle.brigade_ops.specs.House.{IsHouse};
+ghost use Rattle.brigade_ops.specs.Noted.{place_of};
+ghost use Rattle.brigade_ops.specs.Shown.{lies_right};
 ghost use Rattle.brigade_ops.specs.Views.{content_of};
 
 use crate::store::Brigades;
 use crate::view::{ContentView, View};
-use bucket_kinds::{FileNo, aside_bucket};
+use bucket_kinds::{FileNo, Kept, Stored, stored_aside};
 use bucket_ring::{BucketId, Rings};
 use pool_tree::{PoolId, PoolTree};
-use run_model::{Bucket, Content, Home, Kind, Payload};
+use run_model::{Content, Home, Kind, Payload};
 use std::alloc::AllocError;
 
-/// What stands in a bucket's place while that is changed: its kind and its home, and no bytes.
-pub(crate) fn hollow(bucket: &Bucket) -> Bucket {
-    Bucket {
+/// What stands in a bucket's place while that is changed: its kind, its home, and where it lies in a region, but no bytes of its own. So
+/// it depends on the same pools, and nothing is noted anew when the bucket is put back.
+pub(crate) fn hollow(bucket: &Stored) -> Stored
+    ensures whole { (look : Look) → is_whole look bucket.now.kept ≡ true → is_whole look result.kept ≡ true }
+    ensures lies { lies_right bucket.now.kind bucket.now.kept ≡ true → lies_right result.kind result.kept ≡ true }
+    ensures place { place_of result.kept ≡ place_of bucket.now.kept }
+{
+    let kept = match &bucket.kept {
+        Kept::Placed(place) => Kept::Placed(*place),
+        Kept::Own(_) => Kept::Own(Content::Nothing),
+    };
+    Stored {
         kind: bucket.kind,
-        content: Content::Nothing,
+        kept,
         home: bucket.home,
     }
 }
 
-/// Whether the pool of a home is the target or stands above it.
-#[tactic(auto, using(crate::proofs::Above::dead_above, pool_tree::proofs::Trees::tree_formed))]
+/// Whether the pool of a home is the target or stands above it; a pool that is gone is not.
 pub(crate) fn is_above(pools: &PoolTree<Payload>, target: PoolId, home: Home) -> bool
     requires { IsTrue (is_live (map_of pools.now) target) }
     ensures { result ≡ is_above (map_of pools.now) target home }
 {
     match home {
-        Home::Pool(name) => pools.is_live(name) && pools.is_ancestor(name, target),
+        Home::Pool(name) => pools.is_ancestor(name, target),
         Home::Free | Home::Call(_) | Home::Ended => false,
     }
 }
@@ -52,7 +64,7 @@ fn file_of(bucket: View<'_>) -> Option<FileNo>
 }
 
 #[tactic(auto, unfolding(crate::specs::Store::lists, crate::specs::Store::brigade_of, crate::specs::Store::pool_of, crate::specs::Store::next_name, crate::specs::Store::references))]
-impl<R: Rings<Bucket> + Drop> Brigades<R> {
+impl<R: Rings<Stored> + Drop> Brigades<R> {
     ghost use Rattle.brigade_ops.specs.Store.{lists, brigade_of, bucket_at, pool_of, next_name, references};
 
     /// The file of which setting a bucket aside takes a further reference, and whether its home is the target or above it.
@@ -83,10 +95,10 @@ impl<R: Rings<Bucket> + Drop> Brigades<R> {
         ensures pools { pool_of self.new ≡ pool_of self.old }
         ensures references { references self.new ≡ references self.old }
     {
-        let nothing = hollow(self.bucket(id));
-        let mut bucket = self.held.set_payload(id, nothing);
-        aside_bucket(&mut bucket, pool, above);
-        let _nothing = self.held.set_payload(id, bucket);
+        let nothing = hollow(self.stored(id));
+        let mut bucket = self.held.put(id, nothing);
+        stored_aside(&mut bucket, pool, above);
+        let _nothing = self.held.put(id, bucket);
     }
 
     /// Sets a bucket aside into a pool (`apr_bucket_setaside`). A FILE bucket whose home is not above the pool gets a reference to its

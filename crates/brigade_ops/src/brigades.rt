@@ -11,13 +11,14 @@ ghost use Rattle.brigade_ops.specs.House.{IsHouse};
 ghost use Rattle.bucket_ring.specs.Kept.{NoneRevived};
 
 use crate::store::{BrigadeId, Brigades};
+use bucket_kinds::Stored;
 use bucket_ring::{RingRefusal, Rings};
 use pool_tree::{PoolId, PoolTree};
 use run_model::{Bucket, Payload};
 use std::alloc::AllocError;
 
 #[tactic(auto, unfolding(crate::specs::Store::lists, crate::specs::Store::brigade_of, crate::specs::Store::pool_of, crate::specs::Store::next_name, crate::specs::Store::references, crate::specs::Store::has_room), using(pool_tree::proofs::Trees::tree_formed))]
-impl<R: Rings<Bucket> + Drop> Brigades<R> {
+impl<R: Rings<Stored> + Drop> Brigades<R> {
     ghost use Rattle.brigade_ops.specs.Store.{lists, brigade_of, bucket_at, pool_of, next_name, references, has_room};
 
     /// Whether there is such a brigade.

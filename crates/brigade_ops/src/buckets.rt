@@ -3,17 +3,21 @@
 ghost use Rattle.std.specs.Prelude.{◌≡◌, ◌↔◌, ℕ, ◌+◌, ◌<◌, ◌^◌, ◌++◌, length, Some, true, is_some, is_ok, if◌then◌else◌, IsOk, IfOk, IfErr, OnOk, OnErr};
 ghost use Rattle.bucket_ring.specs.Lists.{on, list_at, same, first_of, next_in, found, put_tail, put_head, put_before, put_after, without, by_birth, numbered};
 ghost use Rattle.bucket_ring.specs.Kept.{NoneRevived};
+ghost use Rattle.bucket_kinds.specs.Stored.{is_whole, shown};
 ghost use Rattle.brigade_ops.specs.Items.{Items, bytes_in};
+ghost use Rattle.brigade_ops.specs.Regions.{look};
+ghost use Rattle.brigade_ops.specs.Shown.{lies_right};
 ghost use Rattle.brigade_ops.specs.Views.{bucket_of};
 
 use crate::store::{BrigadeId, Brigades};
 use crate::view::{ContentView, View};
+use bucket_kinds::{Kept, Stored};
 use bucket_ring::{BucketId, RingRefusal, Rings};
-use run_model::{Bucket, Content};
+use run_model::Bucket;
 use std::alloc::AllocError;
 
-#[tactic(auto, unfolding(crate::specs::Store::lists, crate::specs::Store::brigade_of, crate::specs::Store::pool_of, crate::specs::Store::next_name, crate::specs::Store::references))]
-impl<R: Rings<Bucket> + Drop> Brigades<R> {
+#[tactic(auto, unfolding(crate::specs::Shelf::seen, crate::specs::Store::lists, crate::specs::Store::brigade_of, crate::specs::Store::pool_of, crate::specs::Store::next_name, crate::specs::Store::references))]
+impl<R: Rings<Stored> + Drop> Brigades<R> {
     ghost use Rattle.brigade_ops.specs.Store.{lists, brigade_of, bucket_at, pool_of, next_name, references};
 
     /// Puts a new bucket at the tail of a brigade (`APR_BRIGADE_INSERT_TAIL`). `NamesSpent`: the next name is `u64::MAX`. Refused,
@@ -38,12 +42,16 @@ impl<R: Rings<Bucket> + Drop> Brigades<R> {
         let next = self.held.next_name();
         if let Err(why) = self
             .held
+            .rings
             .dependents
             .make_room_for(next, bucket.kind, bucket.home)
         {
             return Err((why, bucket));
         }
-        self.held.add_tail(b, bucket)
+        match self.held.take(bucket) {
+            Ok(stored) => Ok(self.held.add_tail(b, stored)),
+            Err(bucket) => Err((RingRefusal::NoMemory, bucket)),
+        }
     }
 
     /// Puts new buckets at the tail of a brigade, in this order: all, or none. `NamesSpent`: so many names are not left. Refused, nothing is
@@ -82,12 +90,16 @@ impl<R: Rings<Bucket> + Drop> Brigades<R> {
         let next = self.held.next_name();
         if let Err(why) = self
             .held
+            .rings
             .dependents
             .make_room_for(next, bucket.kind, bucket.home)
         {
             return Err((why, bucket));
         }
-        self.held.add_head(b, bucket)
+        match self.held.take(bucket) {
+            Ok(stored) => Ok(self.held.add_head(b, stored)),
+            Err(bucket) => Err((RingRefusal::NoMemory, bucket)),
+        }
     }
 
     /// Puts a new bucket before another (`APR_BUCKET_INSERT_BEFORE`), else as `add_tail`.
@@ -111,12 +123,16 @@ impl<R: Rings<Bucket> + Drop> Brigades<R> {
         let next = self.held.next_name();
         if let Err(why) = self
             .held
+            .rings
             .dependents
             .make_room_for(next, bucket.kind, bucket.home)
         {
             return Err((why, bucket));
         }
-        self.held.add_before(at, bucket)
+        match self.held.take(bucket) {
+            Ok(stored) => Ok(self.held.add_before(at, stored)),
+            Err(bucket) => Err((RingRefusal::NoMemory, bucket)),
+        }
     }
 
     /// Puts a new bucket behind another (`APR_BUCKET_INSERT_AFTER`), else as `add_tail`.
@@ -140,12 +156,16 @@ impl<R: Rings<Bucket> + Drop> Brigades<R> {
         let next = self.held.next_name();
         if let Err(why) = self
             .held
+            .rings
             .dependents
             .make_room_for(next, bucket.kind, bucket.home)
         {
             return Err((why, bucket));
         }
-        self.held.add_after(at, bucket)
+        match self.held.take(bucket) {
+            Ok(stored) => Ok(self.held.add_after(at, stored)),
+            Err(bucket) => Err((RingRefusal::NoMemory, bucket)),
+        }
     }
 
     /// Moves a bucket to the tail of a brigade, which may be its own. It gets no new name, and takes no memory.
@@ -222,13 +242,15 @@ impl<R: Rings<Bucket> + Drop> Brigades<R> {
         self.held.ring_of(id)
     }
 
-    /// A bucket of the rings.
+    /// A bucket as the rings hold it. What lies in a region is there.
     #[tactic(auto, unfolding(crate::specs::Store::brigade_of, crate::specs::Store::bucket_at))]
-    pub(crate) fn bucket(&self, id: BucketId) -> &Bucket
+    pub(crate) fn stored(&self, id: BucketId) -> &Stored
         requires { is_some (brigade_of self.now id) ≡ true }
-        ensures { bucket_at self.now id ≡ Some result.now }
+        ensures shown { bucket_at self.now id ≡ Some (shown (look self.now.held.regions) result.now) }
+        ensures whole { is_whole (look self.now.held.regions) result.now.kept ≡ true }
+        ensures lies { lies_right result.now.kind result.now.kept ≡ true }
     {
-        self.held.payload(id)
+        self.held.stored(id)
     }
 
     /// A bucket.
@@ -236,20 +258,15 @@ impl<R: Rings<Bucket> + Drop> Brigades<R> {
         requires { is_some (brigade_of self.now id) ≡ true }
         ensures { bucket_at self.now id ≡ Some (bucket_of result) }
     {
-        let bucket = self.bucket(id);
-        let content = match &bucket.content {
-            Content::Bytes(bytes) => ContentView::Bytes(bytes.as_slice()),
-            Content::Range { file, start, len } => ContentView::Range {
-                file: *file,
-                start: *start,
-                len: *len,
-            },
-            Content::Nothing => ContentView::Nothing,
+        let stored = self.stored(id);
+        let content = match &stored.kept {
+            Kept::Own(content) => ContentView::of(content),
+            Kept::Placed(place) => ContentView::Bytes(self.held.regions.bytes(*place)),
         };
         View {
-            kind: bucket.kind,
+            kind: stored.kind,
             content,
-            home: bucket.home,
+            home: stored.home,
         }
     }
 

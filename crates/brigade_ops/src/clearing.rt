@@ -11,59 +11,57 @@ ghost use Rattle.run_model.specs.RunOrder.{run_order, IsPoolMap};
 ghost use Rattle.pool_tree.specs.Tree.{map_of};
 ghost use Rattle.bucket_kinds.specs.Device.{Missing, is_there};
 ghost use Rattle.bucket_ring.specs.Kept.{NoneRevived};
-ghost use Rattle.brigade_ops.specs.Due.{kind_reached, home_reached};
+ghost use Rattle.brigade_ops.specs.Due.{kind_reached, home_reached, is_reached};
 ghost use Rattle.brigade_ops.specs.Files.{refs_in, is_let_go, SameButOpen};
 ghost use Rattle.brigade_ops.specs.House.{IsHouse, AreOpen, cleared_items, cleared_ring, pool_left};
 ghost use Rattle.brigade_ops.specs.Morphs.{morphed, all_morphed, cleared_as, IsAsItWas};
 
-use crate::due::reached;
-use crate::morphs::{Morph, Morphs, home_after, kind_after, reaches};
+use crate::morphs::{Morph, Morphs};
+use crate::reached::Reached;
 use crate::saving::push_some;
 use crate::store::{BrigadeId, Brigades};
-use bucket_kinds::Files;
+use bucket_kinds::{Files, Stored};
 use bucket_ring::{BucketId, Rings};
 use pool_tree::{PoolId, PoolTree};
 use run_model::{Bucket, Home, Kind, Payload, Seq};
 use std::alloc::AllocError;
 
 /// Whether a clear of a pool changes a bucket of this kind and home.
-pub(crate) fn depends_on(tree: &PoolTree<Payload>, pool: PoolId, kind: Kind, home: Home) -> bool
-    requires { IsTrue (is_live (map_of tree.now) pool) }
-    ensures value { result ≡ (kind_reached (is_under (map_of tree.now) pool) kind || home_reached (is_under (map_of tree.now) pool) home) }
-    ensures kind { result ≡ false → to_heap (is_under (map_of tree.now) pool) kind ≡ kind }
-    ensures home { result ≡ false → end_pools (is_under (map_of tree.now) pool) home ≡ home }
+pub(crate) fn depends_on(reached: &Reached, kind: Kind, home: Home) -> bool
+    ensures value { result ≡ (kind_reached (is_reached reached.now) kind || home_reached (is_reached reached.now) home) }
+    ensures kind { result ≡ false → to_heap (is_reached reached.now) kind ≡ kind }
+    ensures home { result ≡ false → end_pools (is_reached reached.now) home ≡ home }
 {
     let holds = match kind {
-        Kind::Pool(name) => reaches(tree, pool, name),
+        Kind::Pool(name) => reached.has(name),
         Kind::Heap | Kind::Transient | Kind::Immortal | Kind::File | Kind::Flush | Kind::Eos =>
             false,
     };
     let lies = match home {
-        Home::Pool(name) => reaches(tree, pool, name),
+        Home::Pool(name) => reached.has(name),
         Home::Free | Home::Call(_) | Home::Ended => false,
     };
     holds || lies
 }
 
 #[tactic(auto, unfolding(crate::specs::Store::lists, crate::specs::Store::brigade_of, crate::specs::Store::pool_of, crate::specs::Store::next_name, crate::specs::Store::references), using(pool_tree::proofs::Trees::tree_formed))]
-impl<R: Rings<Bucket> + Drop> Brigades<R> {
-    ghost use Rattle.brigade_ops.specs.Store.{lists, brigade_of, bucket_at, pool_of, next_name, references};
+impl<R: Rings<Stored> + Drop> Brigades<R> {
+    ghost use Rattle.brigade_ops.specs.Store.{lists, brigade_of, bucket_at, pool_of, next_name, references, IsFreed};
 
     /// What a clear of a pool makes of a bucket; `None` where it stays as it is.
-    fn morph_for(&self, tree: &PoolTree<Payload>, pool: PoolId, id: BucketId) -> Option<Morph>
-        requires there { is_some (brigade_of self.now id) ≡ true }
-        requires live { IsTrue (is_live (map_of tree.now) pool) }
+    fn morph_for(&self, reached: &Reached, id: BucketId) -> Option<Morph>
+        requires { is_some (brigade_of self.now id) ≡ true }
         ensures name { IfSome result (λ morph. morph.id ≡ id) }
-        ensures kind { IfSome result (λ morph. (x : Bucket) → bucket_at self.now id ≡ Some x → morph.kind ≡ (cleared_as (is_under (map_of tree.now) pool) x).kind) }
-        ensures home { IfSome result (λ morph. (x : Bucket) → bucket_at self.now id ≡ Some x → morph.home ≡ (cleared_as (is_under (map_of tree.now) pool) x).home) }
-        ensures same { (x : Bucket) → result ≡ None → bucket_at self.now id ≡ Some x → cleared_as (is_under (map_of tree.now) pool) x ≡ x }
+        ensures kind { IfSome result (λ morph. (x : Bucket) → bucket_at self.now id ≡ Some x → morph.kind ≡ (cleared_as (is_reached reached.now) x).kind) }
+        ensures home { IfSome result (λ morph. (x : Bucket) → bucket_at self.now id ≡ Some x → morph.home ≡ (cleared_as (is_reached reached.now) x).home) }
+        ensures same { (x : Bucket) → result ≡ None → bucket_at self.now id ≡ Some x → cleared_as (is_reached reached.now) x ≡ x }
     {
         let bucket = self.payload(id);
-        if depends_on(tree, pool, bucket.kind, bucket.home) {
+        if depends_on(reached, bucket.kind, bucket.home) {
             Some(Morph {
                 id,
-                kind: kind_after(tree, pool, bucket.kind),
-                home: home_after(tree, pool, bucket.home),
+                kind: reached.kind_after(bucket.kind),
+                home: reached.home_after(bucket.home),
             })
         } else {
             None
@@ -75,20 +73,18 @@ impl<R: Rings<Bucket> + Drop> Brigades<R> {
         &self,
         found: &mut Seq<Morph>,
         b: BrigadeId,
-        pool: PoolId,
-        tree: &PoolTree<Payload>,
+        reached: &Reached,
     ) -> Result<(), AllocError>
         requires there { is_some (lists self.now b) ≡ true }
-        requires live { IsTrue (is_live (map_of tree.now) pool) }
-        requires begun { (id : BucketId) (x : Bucket) → bucket_at self.now id ≡ Some x → IsAsItWas (is_under (map_of tree.now) pool) found.old id x }
+        requires begun { (id : BucketId) (x : Bucket) → bucket_at self.now id ≡ Some x → IsAsItWas (is_reached reached.now) found.old id x }
         ensures ready { OnOk result ((id : BucketId) (x : Bucket) → brigade_of self.now id ≡ Some b → bucket_at self.now id ≡ Some x
-            → morphed found.new id x ≡ cleared_as (is_under (map_of tree.now) pool) x) }
+            → morphed found.new id x ≡ cleared_as (is_reached reached.now) x) }
         ensures others { OnOk result ((id : BucketId) (q : ℕ) (x : Bucket) → brigade_of self.now id ≡ Some q → q ≢ b
             → morphed found.new id x ≡ morphed found.old id x) }
     {
         let mut place = self.start(b);
         while let Some(id) = place {
-            let morph = self.morph_for(tree, pool, id);
+            let morph = self.morph_for(reached, id);
             push_some(found, morph)?;
             place = self.behind(id);
         }
@@ -96,23 +92,22 @@ impl<R: Rings<Bucket> + Drop> Brigades<R> {
     }
 
     /// Makes ready what a clear of a pool makes of the buckets of these brigades, in a walk along each.
-    fn plan_by_walk(
-        &self,
-        rings: &[BrigadeId],
-        pool: PoolId,
-        tree: &PoolTree<Payload>,
-    ) -> Result<Morphs, AllocError>
-        requires { IsTrue (is_live (map_of tree.now) pool) }
-        ensures { IfOk result (λ morphs. (n : ℕ) → option_map (all_morphed morphs.found) (lists self.now n) ≡ option_map (cleared_items (is_under (map_of tree.now) pool) (is_in n rings.now)) (lists self.now n)) }
+    fn plan_by_walk(&self, rings: &[BrigadeId], reached: &Reached) -> Result<Morphs, AllocError>
+        ensures { IfOk result (λ morphs. (n : ℕ) → option_map (all_morphed morphs.found) (lists self.now n) ≡ option_map (cleared_items (is_reached reached.now) (is_in n rings.now)) (lists self.now n)) }
     {
         let mut found = Seq::new(self.alloc);
         for ring in rings {
             if self.has(*ring) {
-                self.plan_ring(&mut found, *ring, pool, tree)?;
+                self.plan_ring(&mut found, *ring, reached)?;
             }
         }
+        let copies = Vec::new(self.alloc);
         let pools = Vec::new(self.alloc);
-        Ok(Morphs { found, pools })
+        Ok(Morphs {
+            found,
+            copies,
+            pools,
+        })
     }
 
     /// Makes ready what a clear of a pool makes of the buckets of these brigades: POOL bytes that lie under it go to the heap, and homes
@@ -124,17 +119,24 @@ impl<R: Rings<Bucket> + Drop> Brigades<R> {
         tree: &PoolTree<Payload>,
     ) -> Result<Morphs, AllocError>
         requires { IsTrue (is_live (map_of tree.now) pool) }
-        ensures { IfOk result (λ morphs. (n : ℕ) → option_map (all_morphed morphs.found) (lists self.now n) ≡ option_map (cleared_items (is_under (map_of tree.now) pool) (is_in n rings.now)) (lists self.now n)) }
+        ensures reached { IfOk result (λ morphs. (p : ℕ) → is_under (map_of tree.now) pool p ≡ true → is_in p morphs.pools.items ≡ true) }
+        ensures made { IfOk result (λ morphs. (n : ℕ) → option_map (all_morphed morphs.found) (lists self.now n) ≡ option_map (cleared_items (is_under (map_of tree.now) pool) (is_in n rings.now)) (lists self.now n)) }
     {
-        if self.held.dependents.is_lost() {
-            return self.plan_by_walk(rings, pool, tree);
+        let reached = Reached::new(tree, pool)?;
+        if self.held.rings.dependents.is_lost() {
+            let walked = self.plan_by_walk(rings, &reached)?;
+            return Ok(Morphs {
+                found: walked.found,
+                copies: walked.copies,
+                pools: reached.pools,
+            });
         }
-        let pools = reached(tree, pool)?;
-        let names = self.due_names(pools.as_slice(), rings, pool, tree)?;
-        let morphs = self.plan_morphs_of(names.as_slice(), pool, tree)?;
+        let names = self.due_names(rings, &reached)?;
+        let morphs = self.plan_morphs_of(names.as_slice(), &reached)?;
         Ok(Morphs {
             found: morphs.found,
-            pools,
+            copies: morphs.copies,
+            pools: reached.pools,
         })
     }
 
@@ -147,11 +149,13 @@ impl<R: Rings<Bucket> + Drop> Brigades<R> {
         ensures counted { (f : ℕ) → references self.new f + refs_in f handed.now ≡ references self.old f }
         ensures closed { (f : ℕ) → (F.device files.new).numbered f ≡ (if is_let_go (references self.old f) (refs_in f handed.now) then Missing else (F.device files.old).numbered f) }
         ensures others { SameButOpen (F.device files.old) (F.device files.new) }
+        ensures freed { (p : ℕ) → is_in p morphs.pools.items ≡ true → IsFreed self.new p }
         ensures next { next_name self.new ≡ next_name self.old }
         ensures names { NoneRevived (brigade_of self.old) (brigade_of self.new) (next_name self.old) }
     {
-        self.apply_morphs(morphs);
+        let pools = self.change_found(morphs);
         self.end_pool(files, handed);
+        self.held.forget(pools.as_slice());
     }
 
     /// Clears a pool (`apr_pool_clear`): all pools under it go, and its own payloads. With them go the brigades that are on them, and the
@@ -173,6 +177,7 @@ impl<R: Rings<Bucket> + Drop> Brigades<R> {
         ensures off { OnOk result ((n : ℕ) → pool_of self.new n ≡ pool_left (is_under (map_of tree.old) pool) (pool_of self.old n)) }
         ensures closed { OnOk result ((f : ℕ) → (F.device files.new).numbered f
             ≡ (if list_any (λ x. is_file_ref f x.1) (run_order (map_of tree.old) pool) && not (is_referred (map_of tree.new) f) then Missing else (F.device files.old).numbered f)) }
+        ensures freed { OnOk result ((p : ℕ) → is_under (map_of tree.old) pool p ≡ true → IsFreed self.new p) }
         ensures house { IsHouse self.new (map_of tree.new) }
         ensures open { AreOpen (references self.new) (F.device files.new) }
         ensures others { SameButOpen (F.device files.old) (F.device files.new) }
@@ -209,6 +214,7 @@ impl<R: Rings<Bucket> + Drop> Brigades<R> {
         ensures off { OnOk result ((n : ℕ) → pool_of self.new n ≡ pool_left (is_under (map_of tree.old) pool) (pool_of self.old n)) }
         ensures closed { OnOk result ((f : ℕ) → (F.device files.new).numbered f
             ≡ (if list_any (λ x. is_file_ref f x.1) (run_order (map_of tree.old) pool) && not (is_referred (map_of tree.new) f) then Missing else (F.device files.old).numbered f)) }
+        ensures freed { OnOk result ((p : ℕ) → is_under (map_of tree.old) pool p ≡ true → IsFreed self.new p) }
         ensures house { IsHouse self.new (map_of tree.new) }
         ensures open { AreOpen (references self.new) (F.device files.new) }
         ensures others { SameButOpen (F.device files.old) (F.device files.new) }

@@ -1,49 +1,91 @@
 //! One bucket of the store is split, copied or read.
 
 ghost use Rattle.std.specs.Prelude.{◌≡◌, ◌↔◌, ℕ, ◌+◌, ◌<◌, List, [], ◌∷◌, Some, None, Err, true, false, is_some, is_ok, if◌then◌else◌, IsOk, IfOk, OnOk, OnErr, IsErr};
-ghost use Rattle.bucket_ring.specs.Lists.{on, put_tail, put_after};
+ghost use Rattle.bucket_ring.specs.Lists.{on, put_tail, put_after, with_payload};
 ghost use Rattle.bucket_ring.specs.Kept.{NoneRevived};
 ghost use Rattle.run_model.specs.Buckets.{is_data_kind};
 ghost use Rattle.run_model.specs.Cutting.{EndsInFile, length_of, split_at};
+ghost use Rattle.bucket_kinds.specs.declared.stored.Kept.{Kept};
+ghost use Rattle.bucket_kinds.specs.Stored.{is_whole, shown};
 ghost use Rattle.brigade_ops.specs.Items.{replaced};
+ghost use Rattle.brigade_ops.specs.Regions.{look};
+ghost use Rattle.brigade_ops.specs.Shown.{lies_right};
 
 use crate::refusal::SplitRefusal;
 use crate::store::{BrigadeId, Brigades};
-use bucket_kinds::{copy_bucket, halves};
+use bucket_kinds::{SplitError, Stored, keep_own, stored_copy, stored_halves};
 use bucket_ring::{BucketId, RingRefusal, Rings};
 use run_model::Bucket;
 
-#[tactic(auto, unfolding(crate::specs::Store::lists, crate::specs::Store::brigade_of, crate::specs::Store::pool_of, crate::specs::Store::next_name, crate::specs::Store::references, crate::specs::Store::has_room))]
-impl<R: Rings<Bucket> + Drop> Brigades<R> {
+#[tactic(auto, unfolding(crate::specs::Shelf::seen, crate::specs::Store::lists, crate::specs::Store::brigade_of, crate::specs::Store::pool_of, crate::specs::Store::next_name, crate::specs::Store::references, crate::specs::Store::has_room))]
+impl<R: Rings<Stored> + Drop> Brigades<R> {
     ghost use Rattle.brigade_ops.specs.Store.{lists, brigade_of, bucket_at, pool_of, next_name, references, has_room};
 
-    /// Puts a new bucket behind another. Refused, nothing is changed, and it is dropped. Where `make_room` made room, it is not refused for
-    /// memory.
-    pub(crate) fn put_behind(
-        &mut self,
-        at: BucketId,
-        bucket: Bucket,
-    ) -> Result<BucketId, RingRefusal>
-        requires { is_some (brigade_of self.old at) ≡ true }
-        ensures ok { IfOk result (λ id. (b n : ℕ) → brigade_of self.old at ≡ Some b → lists self.new n ≡ on b (put_after at (id, bucket)) (lists self.old) n) }
-        ensures inside { IfOk result (λ id. (b : ℕ) → brigade_of self.old at ≡ Some b → brigade_of self.new id ≡ Some b) }
-        ensures absent { IfOk result (λ id. brigade_of self.old id ≡ None) }
-        ensures still { OnOk result ((b : ℕ) → brigade_of self.old at ≡ Some b → brigade_of self.new at ≡ Some b) }
-        ensures name { IfOk result (λ id. id.birth ≡ next_name self.old) }
-        ensures next { next_name self.new ≡ (if is_ok result then next_name self.old + 1 else next_name self.old) }
+    /// Puts a new bucket whose bytes are placed behind another. A name and room for it are there.
+    pub(crate) fn put_behind(&mut self, at: BucketId, bucket: Stored) -> BucketId
+        requires there { is_some (brigade_of self.old at) ≡ true }
+        requires whole { is_whole (look self.old.held.regions) bucket.kept ≡ true }
+        requires lies { lies_right bucket.kind bucket.kept ≡ true }
+        requires room { has_room self.old }
+        requires unspent { next_name self.old < u64.MAX }
+        ensures out { (b n : ℕ) → brigade_of self.old at ≡ Some b → lists self.new n ≡ on b (put_after at (result, shown (look self.old.held.regions) bucket)) (lists self.old) n }
+        ensures inside { (b : ℕ) → brigade_of self.old at ≡ Some b → brigade_of self.new result ≡ Some b }
+        ensures absent { brigade_of self.old result ≡ None }
+        ensures still { (b : ℕ) → brigade_of self.old at ≡ Some b → brigade_of self.new at ≡ Some b }
+        ensures regions { self.new.held.regions ≡ self.old.held.regions }
+        ensures name { result.birth ≡ next_name self.old }
+        ensures next { next_name self.new ≡ next_name self.old + 1 }
         ensures names { NoneRevived (brigade_of self.old) (brigade_of self.new) (next_name self.old) }
         ensures pools { pool_of self.new ≡ pool_of self.old }
         ensures references { references self.new ≡ references self.old }
-        ensures spent { next_name self.old ≡ u64.MAX → result ≡ Err RingRefusal.NamesSpent }
-        ensures unspent { result ≡ Err RingRefusal.NamesSpent → next_name self.old ≡ u64.MAX }
-        ensures sure { has_room self.old → next_name self.old < u64.MAX → IsOk result }
-        ensures err { OnErr result ((n : ℕ) → lists self.new n ≡ lists self.old n) }
     {
-        let id = match self.held.add_after(at, bucket) {
-            Ok(id) => id,
-            Err((why, _)) => return Err(why),
-        };
-        Ok(id)
+        self.held.add_after(at, bucket)
+    }
+
+    /// Puts a new bucket that keeps its own content behind another. A name and room for it are there.
+    pub(crate) fn put_own_behind(&mut self, at: BucketId, bucket: Bucket) -> BucketId
+        requires there { is_some (brigade_of self.old at) ≡ true }
+        requires lies { lies_right bucket.kind (Kept.Own bucket.content) ≡ true }
+        requires room { has_room self.old }
+        requires unspent { next_name self.old < u64.MAX }
+        ensures out { (b n : ℕ) → brigade_of self.old at ≡ Some b → lists self.new n ≡ on b (put_after at (result, bucket)) (lists self.old) n }
+        ensures still { (b : ℕ) → brigade_of self.old at ≡ Some b → brigade_of self.new at ≡ Some b }
+        ensures name { result.birth ≡ next_name self.old }
+        ensures next { next_name self.new ≡ next_name self.old + 1 }
+        ensures names { NoneRevived (brigade_of self.old) (brigade_of self.new) (next_name self.old) }
+        ensures pools { pool_of self.new ≡ pool_of self.old }
+        ensures references { references self.new ≡ references self.old }
+    {
+        self.put_behind(at, keep_own(bucket))
+    }
+
+    /// Puts a bucket that keeps its own content in the place of another.
+    pub(crate) fn set_own(&mut self, id: BucketId, bucket: Bucket)
+        requires there { is_some (brigade_of self.old id) ≡ true }
+        requires lies { lies_right bucket.kind (Kept.Own bucket.content) ≡ true }
+        ensures out { (b n : ℕ) → brigade_of self.old id ≡ Some b → lists self.new n ≡ on b (with_payload id bucket) (lists self.old) n }
+        ensures next { next_name self.new ≡ next_name self.old }
+        ensures names { NoneRevived (brigade_of self.old) (brigade_of self.new) (next_name self.old) }
+        ensures pools { pool_of self.new ≡ pool_of self.old }
+        ensures references { references self.new ≡ references self.old }
+    {
+        let _had = self.held.put(id, keep_own(bucket));
+    }
+
+    /// The first `n` bytes of a bucket and the rest. What lies in a region stays there.
+    fn halves_at(&self, id: BucketId, n: u64) -> Result<(Stored, Stored), SplitError>
+        requires there { is_some (brigade_of self.now id) ≡ true }
+        requires ends { (x : Bucket) → bucket_at self.now id ≡ Some x → EndsInFile x.content }
+        ensures front { IfOk result (λ p. (x : Bucket) → bucket_at self.now id ≡ Some x → shown (look self.now.held.regions) p.0 ≡ (split_at n x).0) }
+        ensures rest { IfOk result (λ p. (x : Bucket) → bucket_at self.now id ≡ Some x → shown (look self.now.held.regions) p.1 ≡ (split_at n x).1) }
+        ensures front_whole { IfOk result (λ p. is_whole (look self.now.held.regions) p.0.kept ≡ true) }
+        ensures rest_whole { IfOk result (λ p. is_whole (look self.now.held.regions) p.1.kept ≡ true) }
+        ensures front_lies { IfOk result (λ p. lies_right p.0.kind p.0.kept ≡ true) }
+        ensures rest_lies { IfOk result (λ p. lies_right p.1.kind p.1.kept ≡ true) }
+        ensures metadata { (x : Bucket) → bucket_at self.now id ≡ Some x → (result ≡ Err SplitError.Metadata) ↔ (is_data_kind x.kind ≡ false) }
+        ensures too_long { (x : Bucket) → bucket_at self.now id ≡ Some x → (result ≡ Err SplitError.TooLong) ↔ ((is_data_kind x.kind ≡ true) × (length_of x.content < n)) }
+    {
+        stored_halves(self.alloc, self.stored(id), n)
     }
 
     /// Splits a bucket after its first `n` bytes (`apr_bucket_split`): they keep its name, and the rest stands behind it under the
@@ -64,10 +106,17 @@ impl<R: Rings<Bucket> + Drop> Brigades<R> {
         ensures unspent { result ≡ Err SplitRefusal.NamesSpent → next_name self.old ≡ u64.MAX }
         ensures err { OnErr result ((m : ℕ) → lists self.new m ≡ lists self.old m) }
     {
-        let (front, rest) = halves(self.alloc, self.bucket(id), n)?;
-        self.held.dependents.make_room(rest.kind, rest.home, 1)?;
-        let new = self.put_behind(id, rest)?;
-        let _whole = self.held.set_payload(id, front);
+        let (front, rest) = self.halves_at(id, n)?;
+        if self.held.next_name() == u64::MAX {
+            return Err(SplitRefusal::NamesSpent);
+        }
+        self.held
+            .rings
+            .dependents
+            .make_room(rest.kind, rest.home, 1)?;
+        self.held.make_room()?;
+        let new = self.put_behind(id, rest);
+        let _whole = self.held.put(id, front);
         Ok(new)
     }
 
@@ -85,10 +134,13 @@ impl<R: Rings<Bucket> + Drop> Brigades<R> {
         ensures unspent { result ≡ Err RingRefusal.NamesSpent → next_name self.old ≡ u64.MAX }
         ensures err { OnErr result ((m : ℕ) → lists self.new m ≡ lists self.old m) }
     {
-        let copy = copy_bucket(self.alloc, self.bucket(id))?;
-        match self.add_tail(b, copy) {
-            Ok(new) => Ok(new),
-            Err((why, _)) => Err(why),
-        }
+        let copy = stored_copy(self.alloc, self.stored(id))?;
+        let next = self.held.next_name();
+        self.held
+            .rings
+            .dependents
+            .make_room_for(next, copy.kind, copy.home)?;
+        self.held.make_room()?;
+        Ok(self.held.add_tail(b, copy))
     }
 }

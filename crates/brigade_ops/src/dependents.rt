@@ -1,11 +1,12 @@
 //! Which buckets depend on a pool.
 
-ghost use Rattle.std.specs.Prelude.{◌≡◌, ◌↔◌, ◌==◌, ◌++◌, ℕ, [], ◌∷◌, true, if◌then◌else◌, IsOk, OnOk};
+ghost use Rattle.std.specs.Prelude.{◌≡◌, ◌↔◌, ◌==◌, ◌++◌, ℕ, [], ◌∷◌, true, false, if◌then◌else◌, IsOk, OnOk};
 ghost use Rattle.bucket_ring.specs.declared.names.BucketId.{BucketId};
 ghost use Rattle.brigade_ops.specs.Dependents.{StayNoted};
-ghost use Rattle.brigade_ops.specs.Noted.{kind_under, home_under};
+ghost use Rattle.brigade_ops.specs.Noted.{kind_under, home_under, place_under};
 
 use bucket_ring::{BucketId, RingRefusal};
+use pool_tree::PoolId;
 use run_model::{Home, Kind};
 use std::alloc::{AllocError, Global};
 use std::collections::HashMap;
@@ -91,6 +92,20 @@ impl Dependents {
         Ok(())
     }
 
+    /// Makes room for so many names under the pools of a kind and a home.
+    fn make_room_for_names(&mut self, kind: Kind, home: Home, more: usize) -> Result<(), AllocError>
+        ensures names { (p : ℕ) → names_of self.new p ≡ names_of self.old p }
+        ensures lost { self.new.lost ≡ self.old.lost }
+    {
+        if let Kind::Pool(pool) = kind {
+            self.make_room_under(pool, more)?;
+        }
+        if let Home::Pool(pool) = home {
+            self.make_room_under(pool, more)?;
+        }
+        Ok(())
+    }
+
     /// Makes room for the names of so many buckets of this kind and home, each under its pools. What is noted stays so, also where it is
     /// refused.
     pub(crate) fn make_room(
@@ -105,14 +120,7 @@ impl Dependents {
         if buckets == 0 {
             return Ok(());
         }
-        let more = buckets.saturating_mul(2);
-        if let Kind::Pool(pool) = kind {
-            self.make_room_under(pool, more)?;
-        }
-        if let Home::Pool(pool) = home {
-            self.make_room_under(pool, more)?;
-        }
-        Ok(())
+        self.make_room_for_names(kind, home, buckets.saturating_mul(2))
     }
 
     /// Makes room for the names of a new bucket, which gets the next name. `NamesSpent`: that is `u64::MAX`.
@@ -148,6 +156,18 @@ impl Dependents {
         }
     }
 
+    /// Whether it is known that no bucket depends on a pool.
+    pub(crate) fn has_none(&self, pool: u64) -> bool
+        ensures none { result ≡ true → names_of self.now pool ≡ [] }
+        ensures kept { result ≡ true → self.now.lost ≡ false }
+        ensures sure { names_of self.now pool ≡ [] → self.now.lost ≡ false → result ≡ true }
+    {
+        if self.lost {
+            return false;
+        }
+        self.names(pool).is_empty()
+    }
+
     /// Takes a pool out that has no names.
     pub(crate) fn drop_empty(&mut self, pool: u64)
         ensures names { (p : ℕ) → names_of self.new p ≡ names_of self.old p }
@@ -168,10 +188,23 @@ impl Dependents {
         }
     }
 
+    /// Notes a bucket under the pool in whose region its bytes lie, where that is not done by its kind.
+    fn note_placed(&mut self, pool: u64, id: BucketId, kind: Kind)
+        requires { kind_under (λ p. noted self.old p id) kind ≡ true }
+        ensures here { noted self.new pool id ≡ true }
+        ensures kept { (p : ℕ) (j : BucketId) → noted self.old p j ≡ true → noted self.new p j ≡ true }
+    {
+        match kind {
+            Kind::Pool(name) if name == pool => {}
+            _ => self.note_under(pool, id),
+        }
+    }
+
     /// Notes a bucket under the pools that it depends on.
-    pub(crate) fn note(&mut self, id: BucketId, kind: Kind, home: Home)
+    pub(crate) fn note(&mut self, id: BucketId, kind: Kind, home: Home, place: Option<PoolId>)
         ensures kind { kind_under (λ p. noted self.new p id) kind ≡ true }
         ensures home { home_under (λ p. noted self.new p id) home ≡ true }
+        ensures place { place_under (λ p. noted self.new p id) place ≡ true }
         ensures kept { (p : ℕ) (j : BucketId) → noted self.old p j ≡ true → noted self.new p j ≡ true }
     {
         if let Kind::Pool(pool) = kind {
@@ -179,6 +212,9 @@ impl Dependents {
         }
         if let Home::Pool(pool) = home {
             self.note_under(pool, id);
+        }
+        if let Some(pool) = place {
+            self.note_placed(pool, id, kind);
         }
     }
 }

@@ -14,14 +14,14 @@ ghost use Rattle.brigade_ops.specs.House.{IsHouse};
 
 use crate::references::refer;
 use crate::store::{BrigadeId, Brigades};
-use bucket_kinds::{FileNo, Files};
+use bucket_kinds::{FileNo, Files, Stored};
 use bucket_ring::Rings;
 use pool_tree::{PoolId, PoolTree};
-use run_model::{Bucket, Home, Kind, Payload};
+use run_model::{Home, Kind, Payload};
 use std::alloc::AllocError;
 
 #[tactic(auto, unfolding(crate::specs::Store::lists, crate::specs::Store::brigade_of, crate::specs::Store::bucket_at, crate::specs::Store::pool_of, crate::specs::Store::next_name, crate::specs::Store::references, crate::specs::Numbers::count_at, bucket_ring::specs::Lists::upd), using(pool_tree::proofs::Trees::tree_formed))]
-impl<R: Rings<Bucket> + Drop> Brigades<R> {
+impl<R: Rings<Stored> + Drop> Brigades<R> {
     ghost use Rattle.brigade_ops.specs.Store.{lists, brigade_of, bucket_at, pool_of, next_name, references};
 
     /// Registers a reference to a file with a pool, and counts it. Refused, nothing is changed.
@@ -49,6 +49,7 @@ impl<R: Rings<Bucket> + Drop> Brigades<R> {
     }
 
     /// Registers a reference to a file, where one is named, as `refer` does.
+    #[tactic(auto, unfolding(crate::specs::Shelf::seen, crate::specs::Store::lists, crate::specs::Store::brigade_of, crate::specs::Store::bucket_at, crate::specs::Store::pool_of, crate::specs::Store::next_name, crate::specs::Store::references, crate::specs::Numbers::count_at, bucket_ring::specs::Lists::upd), using(pool_tree::proofs::Trees::tree_formed))]
     pub(crate) fn refer_for(
         &mut self,
         tree: &mut PoolTree<Payload>,
@@ -73,6 +74,7 @@ impl<R: Rings<Bucket> + Drop> Brigades<R> {
         match file {
             Some(file) => {
                 self.held
+                    .rings
                     .dependents
                     .make_room(Kind::File, Home::Pool(pool), 1)?;
                 self.refer(tree, pool, file)

@@ -1,44 +1,53 @@
 //! Rings of buckets that know which of them depend on a pool.
 
-ghost use Rattle.std.specs.Prelude.{◌≡◌, ◌↔◌, ℕ, ◌+◌, ◌<◌, ◌++◌, [], length, Some, true, is_some, is_ok, if◌then◌else◌, IfOk, OnOk, OnErr};
+ghost use Rattle.std.specs.Prelude.{◌≡◌, ◌≢◌, ◌↔◌, ℕ, ◌+◌, ◌<◌, ◌++◌, [], length, Some, true, false, is_some, is_ok, if◌then◌else◌, IfOk, OnOk, OnErr};
 ghost use Rattle.bucket_ring.specs.Lists.{upd, on, by_birth, numbered};
 ghost use Rattle.bucket_ring.specs.Kept.{IsKept, NoneRevived};
-ghost use Rattle.brigade_ops.specs.Items.{Items};
-ghost use Rattle.brigade_ops.specs.Dependents.{noted};
+ghost use Rattle.brigade_ops.specs.Items.{StoredItems};
+ghost use Rattle.brigade_ops.specs.Dependents.{names_of, noted};
 ghost use Rattle.brigade_ops.specs.Noted.{AreNoted};
 
 use crate::dependents::Dependents;
 use crate::noting::{make_room_for_all, note_changed, note_ring};
-use crate::pruning::{prune, tidy};
+use crate::pruning::{place_of, prune, tidy};
+use bucket_kinds::Stored;
 use bucket_ring::{BucketId, RingId, RingRefusal, Rings};
 use pool_tree::PoolId;
-use run_model::Bucket;
 use std::alloc::{AllocError, Global};
 
 /// Rings of buckets. The ghost fields are the law of all rings, and that each bucket is noted under the pools that it depends on. By the
 /// first the type of a store knows its rings, so that what contracts see of a store takes no argument but the store, and what is true of
 /// each store needs none either.
 #[derive(Drop)]
-pub(crate) struct Indexed<R: Rings<Bucket>> {
+pub(crate) struct Indexed<R: Rings<Stored>> {
     pub(crate) rings: R,
     pub(crate) dependents: Dependents,
     ghost kept: { IsKept (R.ring_at rings) (R.lists rings) (R.next_name rings) },
     ghost indexed: { AreNoted (noted dependents) (R.lists rings) },
 }
 
-impl<R: Rings<Bucket> + Drop> Indexed<R> {
-    /// Throws out the names under these pools whose buckets are gone or depend on them no more.
-    pub(crate) fn forget(&mut self, pools: &[PoolId])
-        ensures { self.new.rings ≡ self.old.rings }
+impl<R: Rings<Stored> + Drop> Indexed<R> {
+    /// Throws out the names under a pool whose buckets are gone or depend on it no more.
+    pub(crate) fn forget(&mut self, pool: PoolId)
+        ensures rings { self.new.rings ≡ self.old.rings }
+        ensures others { (p : ℕ) → p ≢ pool → names_of self.new.dependents p ≡ names_of self.old.dependents p }
+        ensures lost { self.new.dependents.lost ≡ self.old.dependents.lost }
     {
-        for pool in pools {
-            prune(&mut self.dependents, &self.rings, *pool);
-            self.dependents.drop_empty(*pool);
-        }
+        prune(&mut self.dependents, &self.rings, pool);
+        self.dependents.drop_empty(pool);
+    }
+
+    /// Whether it is known that no bucket depends on a pool.
+    pub(crate) fn has_none(&self, pool: PoolId) -> bool
+        ensures none { result ≡ true → names_of self.now.dependents pool ≡ [] }
+        ensures kept { result ≡ true → self.now.dependents.lost ≡ false }
+        ensures sure { names_of self.now.dependents pool ≡ [] → self.now.dependents.lost ≡ false → result ≡ true }
+    {
+        self.dependents.has_none(pool)
     }
 }
 
-impl<R: Rings<Bucket> + Drop> Rings<Bucket> for Indexed<R> {
+impl<R: Rings<Stored> + Drop> Rings<Stored> for Indexed<R> {
     ghost lists = { λ s. R.lists s.rings };
 
     ghost ring_at = { λ s. R.ring_at s.rings };
@@ -83,18 +92,18 @@ impl<R: Rings<Bucket> + Drop> Rings<Bucket> for Indexed<R> {
     fn add_tail(
         &mut self,
         ring: RingId,
-        payload: Bucket,
-    ) -> Result<BucketId, (RingRefusal, Bucket)> {
-        let (kind, home) = (payload.kind, payload.home);
+        payload: Stored,
+    ) -> Result<BucketId, (RingRefusal, Stored)> {
+        let (kind, home, place) = (payload.kind, payload.home, place_of(&payload.kept));
         let id = self.rings.add_tail(ring, payload)?;
-        self.dependents.note(id, kind, home);
+        self.dependents.note(id, kind, home, place);
         tidy(&mut self.dependents, &self.rings, kind, home);
         Ok(id)
     }
 
-    fn add_all(&mut self, ring: RingId, given: Vec<Bucket>) -> Result<(), RingRefusal>
+    fn add_all(&mut self, ring: RingId, given: Vec<Stored>) -> Result<(), RingRefusal>
         requires { is_some (R.lists self.old.rings ring) ≡ true }
-        ensures ok { OnOk result ((bs : Items) × (by_birth bs ≡ numbered (R.next_name self.old.rings) given.items) × ((n : ℕ) → R.lists self.new.rings n ≡ on ring (λ xs. xs ++ bs) (R.lists self.old.rings) n)) }
+        ensures ok { OnOk result ((bs : StoredItems) × (by_birth bs ≡ numbered (R.next_name self.old.rings) given.items) × ((n : ℕ) → R.lists self.new.rings n ≡ on ring (λ xs. xs ++ bs) (R.lists self.old.rings) n)) }
         ensures next { R.next_name self.new.rings ≡ (if is_ok result then R.next_name self.old.rings + length given.items else R.next_name self.old.rings) }
         ensures names { NoneRevived (R.ring_at self.old.rings) (R.ring_at self.new.rings) (R.next_name self.old.rings) }
         ensures spent { (result ≡ Err RingRefusal.NamesSpent) ↔ (u64.MAX < R.next_name self.old.rings + length given.items) }
@@ -110,8 +119,8 @@ impl<R: Rings<Bucket> + Drop> Rings<Bucket> for Indexed<R> {
         Ok(())
     }
 
-    fn new_pair(&mut self, given: Vec<Bucket>) -> Result<(RingId, RingId), RingRefusal>
-        ensures ok { OnOk result ((bs : Items) × (by_birth bs ≡ numbered (R.next_name self.old.rings + 2) given.items)
+    fn new_pair(&mut self, given: Vec<Stored>) -> Result<(RingId, RingId), RingRefusal>
+        ensures ok { OnOk result ((bs : StoredItems) × (by_birth bs ≡ numbered (R.next_name self.old.rings + 2) given.items)
             × ((n : ℕ) → R.lists self.new.rings n ≡ upd (upd (R.lists self.old.rings) (R.next_name self.old.rings) (Some [])) (R.next_name self.old.rings + 1) (Some bs) n)) }
         ensures name { IfOk result (λ pair. pair ≡ (R.next_name self.old.rings, R.next_name self.old.rings + 1)) }
         ensures next { R.next_name self.new.rings ≡ (if is_ok result then R.next_name self.old.rings + 2 + length given.items else R.next_name self.old.rings) }
@@ -132,11 +141,11 @@ impl<R: Rings<Bucket> + Drop> Rings<Bucket> for Indexed<R> {
     fn add_head(
         &mut self,
         ring: RingId,
-        payload: Bucket,
-    ) -> Result<BucketId, (RingRefusal, Bucket)> {
-        let (kind, home) = (payload.kind, payload.home);
+        payload: Stored,
+    ) -> Result<BucketId, (RingRefusal, Stored)> {
+        let (kind, home, place) = (payload.kind, payload.home, place_of(&payload.kept));
         let id = self.rings.add_head(ring, payload)?;
-        self.dependents.note(id, kind, home);
+        self.dependents.note(id, kind, home, place);
         tidy(&mut self.dependents, &self.rings, kind, home);
         Ok(id)
     }
@@ -144,11 +153,11 @@ impl<R: Rings<Bucket> + Drop> Rings<Bucket> for Indexed<R> {
     fn add_before(
         &mut self,
         at: BucketId,
-        payload: Bucket,
-    ) -> Result<BucketId, (RingRefusal, Bucket)> {
-        let (kind, home) = (payload.kind, payload.home);
+        payload: Stored,
+    ) -> Result<BucketId, (RingRefusal, Stored)> {
+        let (kind, home, place) = (payload.kind, payload.home, place_of(&payload.kept));
         let id = self.rings.add_before(at, payload)?;
-        self.dependents.note(id, kind, home);
+        self.dependents.note(id, kind, home, place);
         tidy(&mut self.dependents, &self.rings, kind, home);
         Ok(id)
     }
@@ -156,11 +165,11 @@ impl<R: Rings<Bucket> + Drop> Rings<Bucket> for Indexed<R> {
     fn add_after(
         &mut self,
         at: BucketId,
-        payload: Bucket,
-    ) -> Result<BucketId, (RingRefusal, Bucket)> {
-        let (kind, home) = (payload.kind, payload.home);
+        payload: Stored,
+    ) -> Result<BucketId, (RingRefusal, Stored)> {
+        let (kind, home, place) = (payload.kind, payload.home, place_of(&payload.kept));
         let id = self.rings.add_after(at, payload)?;
-        self.dependents.note(id, kind, home);
+        self.dependents.note(id, kind, home, place);
         tidy(&mut self.dependents, &self.rings, kind, home);
         Ok(id)
     }
@@ -221,14 +230,14 @@ impl<R: Rings<Bucket> + Drop> Rings<Bucket> for Indexed<R> {
         self.rings.ring_of(id)
     }
 
-    fn payload(&self, id: BucketId) -> &Bucket {
+    fn payload(&self, id: BucketId) -> &Stored {
         self.rings.payload(id)
     }
 
-    fn set_payload(&mut self, id: BucketId, payload: Bucket) -> Bucket {
-        let (kind, home) = (payload.kind, payload.home);
+    fn set_payload(&mut self, id: BucketId, payload: Stored) -> Stored {
+        let (kind, home, place) = (payload.kind, payload.home, place_of(&payload.kept));
         let had = self.rings.set_payload(id, payload);
-        note_changed(&mut self.dependents, id, &had, kind, home);
+        note_changed(&mut self.dependents, id, &had, kind, home, place);
         tidy(&mut self.dependents, &self.rings, kind, home);
         had
     }

@@ -5,16 +5,18 @@ ghost use Rattle.bucket_ring.specs.declared.names.BucketId.{BucketId};
 ghost use Rattle.bucket_ring.specs.Lists.{list_at, rest, found};
 ghost use Rattle.brigade_ops.specs.Dependents.{noted, StayNoted};
 ghost use Rattle.brigade_ops.specs.Items.{from_place};
-ghost use Rattle.brigade_ops.specs.Noted.{kind_under, home_under, is_noted};
+ghost use Rattle.brigade_ops.specs.Noted.{kind_under, home_under, place_under, place_of, is_noted};
 
 use crate::dependents::Dependents;
-use crate::pruning::keeps_pools;
+use crate::pruning::{keeps_pools, place_of};
+use bucket_kinds::Stored;
 use bucket_ring::{BucketId, RingId, Rings};
-use run_model::{Bucket, Home, Kind};
+use pool_tree::PoolId;
+use run_model::{Home, Kind};
 use std::alloc::AllocError;
 
 /// Where a walk along a ring goes on behind a bucket.
-fn after<R: Rings<Bucket>>(rings: &R, ring: RingId, id: BucketId) -> Option<BucketId>
+fn after<R: Rings<Stored>>(rings: &R, ring: RingId, id: BucketId) -> Option<BucketId>
     requires { R.ring_at rings.now id ≡ Some ring }
     ensures rest { from_place result (list_at (R.lists rings.now) ring) ≡ drop 1 (rest id (list_at (R.lists rings.now) ring)) }
     ensures inside { IfSome result (λ j. R.ring_at rings.now j ≡ Some ring) }
@@ -28,7 +30,7 @@ fn after<R: Rings<Bucket>>(rings: &R, ring: RingId, id: BucketId) -> Option<Buck
 /// Makes room for the names of new buckets.
 pub(crate) fn make_room_for_all(
     dependents: &mut Dependents,
-    buckets: &[Bucket],
+    buckets: &[Stored],
 ) -> Result<(), AllocError>
     ensures { StayNoted dependents.old dependents.new }
 {
@@ -39,7 +41,7 @@ pub(crate) fn make_room_for_all(
 }
 
 /// Notes a bucket of a ring whose birth is not below a name.
-fn note_bucket<R: Rings<Bucket>>(
+fn note_bucket<R: Rings<Stored>>(
     dependents: &mut Dependents,
     rings: &R,
     ring: RingId,
@@ -47,24 +49,24 @@ fn note_bucket<R: Rings<Bucket>>(
     from: u64,
 )
     requires { R.ring_at rings.now id ≡ Some ring }
-    ensures here { (x : Bucket) → found id (list_at (R.lists rings.now) ring) ≡ Some x → from ≤ id.birth → is_noted (noted dependents.new) (id, x) ≡ true }
+    ensures here { (x : Stored) → found id (list_at (R.lists rings.now) ring) ≡ Some x → from ≤ id.birth → is_noted (noted dependents.new) (id, x) ≡ true }
     ensures kept { (p : ℕ) (j : BucketId) → noted dependents.old p j ≡ true → noted dependents.new p j ≡ true }
 {
     if id.birth >= from {
         let bucket = rings.payload(id);
-        dependents.note(id, bucket.kind, bucket.home);
+        dependents.note(id, bucket.kind, bucket.home, place_of(&bucket.kept));
     }
 }
 
 /// Notes the buckets of a ring whose births are not below a name.
-pub(crate) fn note_ring<R: Rings<Bucket>>(
+pub(crate) fn note_ring<R: Rings<Stored>>(
     dependents: &mut Dependents,
     rings: &R,
     ring: RingId,
     from: u64,
 )
     requires { is_some (R.lists rings.now ring) ≡ true }
-    ensures here { (id : BucketId) (x : Bucket) → found id (list_at (R.lists rings.now) ring) ≡ Some x → from ≤ id.birth → is_noted (noted dependents.new) (id, x) ≡ true }
+    ensures here { (id : BucketId) (x : Stored) → found id (list_at (R.lists rings.now) ring) ≡ Some x → from ≤ id.birth → is_noted (noted dependents.new) (id, x) ≡ true }
     ensures kept { (p : ℕ) (j : BucketId) → noted dependents.old p j ≡ true → noted dependents.new p j ≡ true }
 {
     let mut place = rings.first(ring);
@@ -78,15 +80,17 @@ pub(crate) fn note_ring<R: Rings<Bucket>>(
 pub(crate) fn note_changed(
     dependents: &mut Dependents,
     id: BucketId,
-    had: &Bucket,
+    had: &Stored,
     kind: Kind,
     home: Home,
+    place: Option<PoolId>,
 )
     ensures kind { kind_under (λ p. noted dependents.old p id) had.now.kind ≡ true → kind_under (λ p. noted dependents.new p id) kind ≡ true }
     ensures home { home_under (λ p. noted dependents.old p id) had.now.home ≡ true → home_under (λ p. noted dependents.new p id) home ≡ true }
+    ensures place { place_under (λ p. noted dependents.old p id) (place_of had.now.kept) ≡ true → place_under (λ p. noted dependents.new p id) place ≡ true }
     ensures kept { (p : ℕ) (j : BucketId) → noted dependents.old p j ≡ true → noted dependents.new p j ≡ true }
 {
-    if !keeps_pools(had, kind, home) {
-        dependents.note(id, kind, home);
+    if !keeps_pools(had, kind, home, place) {
+        dependents.note(id, kind, home, place);
     }
 }

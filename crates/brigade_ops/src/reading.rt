@@ -4,20 +4,22 @@ ghost use Rattle.std.specs.Prelude.{◌≡◌, ◌≢◌, ◌⊎◌, ◌&&◌, �
 ghost use Rattle.bucket_ring.specs.Lists.{on, with_payload};
 ghost use Rattle.bucket_ring.specs.Kept.{NoneRevived};
 ghost use Rattle.run_model.specs.Cutting.{EndsInFile, wanted, read_of};
+ghost use Rattle.bucket_kinds.specs.declared.stored.Kept.{Kept};
 ghost use Rattle.bucket_kinds.specs.Device.{WentWell, HasFailed, WasAsked};
 ghost use Rattle.bucket_kinds.specs.Reading.{IsOpenFor, GivesFor, EndsWithin};
 ghost use Rattle.brigade_ops.specs.Items.{replaced, rest_item, range_in};
 ghost use Rattle.brigade_ops.specs.Reads.{IsRead};
+ghost use Rattle.brigade_ops.specs.Shown.{lies_right};
 
 use crate::refusal::ReadRefusal;
 use crate::store::Brigades;
 use crate::view::ContentView;
-use bucket_kinds::{Files, ReadFault, read_into, rest_of_read, room_to_read};
+use bucket_kinds::{Files, ReadFault, Stored, read_into, rest_of_read, room_to_read};
 use bucket_ring::{BucketId, Rings};
 use run_model::{Bucket, Content, Seq};
 
 #[tactic(auto, unfolding(crate::specs::Store::lists, crate::specs::Store::brigade_of, crate::specs::Store::pool_of, crate::specs::Store::next_name, crate::specs::Store::references, crate::specs::Store::has_room))]
-impl<R: Rings<Bucket> + Drop> Brigades<R> {
+impl<R: Rings<Stored> + Drop> Brigades<R> {
     ghost use Rattle.brigade_ops.specs.Store.{lists, brigade_of, bucket_at, pool_of, next_name, references, has_room};
 
     /// A bucket that is a range of a file.
@@ -25,6 +27,7 @@ impl<R: Rings<Bucket> + Drop> Brigades<R> {
         requires { is_some (brigade_of self.now id) ≡ true }
         ensures here { IfSome result (λ bucket. bucket_at self.now id ≡ Some bucket) }
         ensures range { (x : Bucket) → bucket_at self.now id ≡ Some x → result ≡ range_in x }
+        ensures lies { IfSome result (λ bucket. lies_right bucket.kind (Kept.Own bucket.content) ≡ true) }
     {
         let bucket = self.payload(id);
         let ContentView::Range { file, start, len } = bucket.content else {
@@ -47,6 +50,7 @@ impl<R: Rings<Bucket> + Drop> Brigades<R> {
         room: Seq<u8>,
     ) -> Result<(), ReadFault>
         requires there { is_some (brigade_of self.old id) ≡ true }
+        requires lies { lies_right bucket.kind (Kept.Own bucket.content) ≡ true }
         requires ends { EndsInFile bucket.content }
         requires open { IsOpenFor (F.device files.old) bucket.content }
         requires room { length room ≡ wanted bucket.content }
@@ -65,7 +69,7 @@ impl<R: Rings<Bucket> + Drop> Brigades<R> {
         ensures err { OnErr result ((m : ℕ) → lists self.new m ≡ lists self.old m) }
     {
         let _rest = read_into(&mut bucket, room, files)?;
-        let _unread = self.held.set_payload(id, bucket);
+        self.set_own(id, bucket);
         Ok(())
     }
 
@@ -79,10 +83,12 @@ impl<R: Rings<Bucket> + Drop> Brigades<R> {
         rest: Bucket,
     ) -> Result<BucketId, ReadFault>
         requires there { is_some (brigade_of self.old id) ≡ true }
+        requires lies { lies_right bucket.kind (Kept.Own bucket.content) ≡ true }
         requires ends { EndsInFile bucket.content }
         requires open { IsOpenFor (F.device files.old) bucket.content }
         requires room { length room ≡ wanted bucket.content }
         requires long { wanted bucket.content ≢ 0 }
+        requires rest { lies_right rest.kind (Kept.Own rest.content) ≡ true }
         requires unspent { next_name self.old < u64.MAX }
         requires room_for_rest { has_room self.old }
         ensures ok { IfOk result (λ new. (b : ℕ) → brigade_of self.old id ≡ Some b → (bytes : List ℕ) × GivesFor (F.device files.old) bucket.content bytes
@@ -100,14 +106,13 @@ impl<R: Rings<Bucket> + Drop> Brigades<R> {
         ensures err { OnErr result ((m : ℕ) → lists self.new m ≡ lists self.old m) }
     {
         let _rest = read_into(&mut bucket, room, files)?;
-        let Ok(new) = self.put_behind(id, rest) else {
-            unreachable!()
-        };
-        let _unread = self.held.set_payload(id, bucket);
+        let new = self.put_own_behind(id, rest);
+        self.set_own(id, bucket);
         Ok(new)
     }
 
     /// Reads a bucket that is a range of a file. A name and room for what a read leaves of it are got before the file is asked.
+    #[tactic(auto, unfolding(crate::specs::Shelf::seen, crate::specs::Store::lists, crate::specs::Store::brigade_of, crate::specs::Store::pool_of, crate::specs::Store::next_name, crate::specs::Store::references, crate::specs::Store::has_room))]
     fn read_range<F: Files>(
         &mut self,
         files: &mut F,
@@ -115,6 +120,7 @@ impl<R: Rings<Bucket> + Drop> Brigades<R> {
         bucket: Bucket,
     ) -> Result<Option<BucketId>, ReadRefusal>
         requires there { is_some (brigade_of self.old id) ≡ true }
+        requires lies { lies_right bucket.kind (Kept.Own bucket.content) ≡ true }
         requires ends { EndsInFile bucket.content }
         requires open { IsOpenFor (F.device files.old) bucket.content }
         ensures ok { IfOk result (λ rest. (b : ℕ) → brigade_of self.old id ≡ Some b → (bytes : List ℕ) × GivesFor (F.device files.old) bucket.content bytes
@@ -145,7 +151,10 @@ impl<R: Rings<Bucket> + Drop> Brigades<R> {
         if self.held.next_name() == u64::MAX {
             return Err(ReadRefusal::NamesSpent);
         }
-        self.held.dependents.make_room(rest.kind, rest.home, 1)?;
+        self.held
+            .rings
+            .dependents
+            .make_room(rest.kind, rest.home, 1)?;
         self.make_room()?;
         match self.read_front(files, id, bucket, room, rest) {
             Ok(new) => Ok(Some(new)),

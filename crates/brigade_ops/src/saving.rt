@@ -15,10 +15,10 @@ ghost use Rattle.brigade_ops.specs.House.{IsHouse};
 use crate::aside::is_above;
 use crate::references::refer_all;
 use crate::store::{BrigadeId, Brigades};
-use bucket_kinds::FileNo;
+use bucket_kinds::{FileNo, Stored};
 use bucket_ring::{BucketId, Rings};
 use pool_tree::{PoolId, PoolTree};
-use run_model::{Bucket, Home, Kind, Payload, Seq};
+use run_model::{Home, Kind, Payload, Seq};
 use std::alloc::AllocError;
 
 /// Puts an item, where there is one, behind others.
@@ -33,7 +33,7 @@ pub(crate) fn push_some<T: Drop>(items: &mut Seq<T>, item: Option<T>) -> Result<
 }
 
 #[tactic(auto, unfolding(crate::specs::Store::lists, crate::specs::Store::brigade_of, crate::specs::Store::pool_of, crate::specs::Store::next_name, crate::specs::Store::references, crate::specs::Numbers::count_at), using(pool_tree::proofs::Trees::tree_formed))]
-impl<R: Rings<Bucket> + Drop> Brigades<R> {
+impl<R: Rings<Stored> + Drop> Brigades<R> {
     ghost use Rattle.brigade_ops.specs.Store.{lists, brigade_of, pool_of, next_name, references};
 
     /// The files of which setting the buckets of a brigade aside takes further references.
@@ -84,6 +84,7 @@ impl<R: Rings<Bucket> + Drop> Brigades<R> {
 
     /// Sets each bucket of `b` aside into the pool that `o` is on, and moves them to the tail of `o` (`ap_save_brigade`). A FILE bucket
     /// whose home is not above the pool gets a reference to its file there, and no other takes memory. Refused, nothing is changed.
+    #[tactic(auto, unfolding(crate::specs::Shelf::seen, crate::specs::Store::lists, crate::specs::Store::brigade_of, crate::specs::Store::pool_of, crate::specs::Store::next_name, crate::specs::Store::references, crate::specs::Numbers::count_at), using(pool_tree::proofs::Trees::tree_formed))]
     pub fn save(
         &mut self,
         tree: &mut PoolTree<Payload>,
@@ -117,6 +118,7 @@ impl<R: Rings<Bucket> + Drop> Brigades<R> {
         let files = self.files_for(tree, b, pool)?;
         let home = Home::Pool(pool);
         self.held
+            .rings
             .dependents
             .make_room(Kind::File, home, files.len())?;
         let first = self.start(b);

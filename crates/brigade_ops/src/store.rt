@@ -2,10 +2,10 @@
 
 ghost use Rattle.std.specs.Prelude.{◌≡◌, ℕ, None};
 
-use crate::indexed::Indexed;
 use crate::numbers::Numbers;
+use crate::shelf::Shelf;
+use bucket_kinds::Stored;
 use bucket_ring::{RingId, Rings};
-use run_model::Bucket;
 use std::alloc::Global;
 
 /// The name of a brigade, which is never given again.
@@ -13,15 +13,15 @@ pub type BrigadeId = RingId;
 
 /// Brigades (apr_buckets.h, `apr_bucket_brigade`): rings of buckets, each on a pool or on none.
 #[derive(Drop)]
-pub struct Brigades<R: Rings<Bucket>> {
+pub struct Brigades<R: Rings<Stored>> {
     pub(crate) alloc: Global,
-    pub(crate) held: Indexed<R>,
+    pub(crate) held: Shelf<R>,
     pub(crate) pools: Numbers,
     pub(crate) references: Numbers,
 }
 
 #[tactic(auto, unfolding(crate::specs::Store::lists, crate::specs::Store::pool_of, crate::specs::Store::next_name, crate::specs::Store::references))]
-impl<R: Rings<Bucket> + Drop> Brigades<R> {
+impl<R: Rings<Stored> + Drop> Brigades<R> {
     ghost use Rattle.brigade_ops.specs.Store.{lists, pool_of, next_name, references};
 
     /// No brigades; the first name is `first`.
@@ -33,7 +33,7 @@ impl<R: Rings<Bucket> + Drop> Brigades<R> {
     {
         Brigades {
             alloc,
-            held: Indexed::new(alloc, first),
+            held: Shelf::new(alloc, first),
             pools: Numbers::new(alloc),
             references: Numbers::new(alloc),
         }

@@ -2,9 +2,9 @@
 
 ghost use Rattle.std.specs.Prelude.{◌≡◌};
 ghost use Rattle.run_model.specs.Cutting.{length_of};
-ghost use Rattle.brigade_ops.specs.Views.{content_of};
+ghost use Rattle.brigade_ops.specs.Views.{content_of, bucket_of};
 
-use run_model::{Home, Kind};
+use run_model::{Bucket, Content, Home, Kind};
 
 /// What a bucket holds.
 #[derive(Clone, Copy)]
@@ -17,7 +17,22 @@ pub enum ContentView<'a> {
     Nothing,
 }
 
-impl ContentView<'_> {
+impl<'a> ContentView<'a> {
+    /// A content that lies by itself.
+    pub fn of(content: &'a Content) -> ContentView<'a>
+        ensures { content_of result ≡ content.now }
+    {
+        match content {
+            Content::Bytes(bytes) => ContentView::Bytes(bytes.as_slice()),
+            Content::Range { file, start, len } => ContentView::Range {
+                file: *file,
+                start: *start,
+                len: *len,
+            },
+            Content::Nothing => ContentView::Nothing,
+        }
+    }
+
     /// How many bytes it stands for.
     pub fn len(&self) -> u64
         ensures { result ≡ length_of (content_of self.now) }
@@ -36,4 +51,17 @@ pub struct View<'a> {
     pub kind: Kind,
     pub content: ContentView<'a>,
     pub home: Home,
+}
+
+impl<'a> View<'a> {
+    /// A bucket that lies by itself.
+    pub fn of(bucket: &'a Bucket) -> View<'a>
+        ensures { bucket_of result ≡ bucket.now }
+    {
+        View {
+            kind: bucket.kind,
+            content: ContentView::of(&bucket.content),
+            home: bucket.home,
+        }
+    }
 }

@@ -10,6 +10,7 @@ ghost use Rattle.brigade_ops.specs.Points.{point_in, is_inside, cut_at};
 
 use crate::refusal::SplitRefusal;
 use crate::store::{BrigadeId, Brigades};
+use bucket_kinds::Stored;
 use bucket_ring::{BucketId, RingRefusal, Rings};
 use run_model::Bucket;
 use std::alloc::AllocError;
@@ -36,23 +37,8 @@ pub(crate) enum Point {
     Inside(BucketId, u64),
 }
 
-/// Destroys the buckets of a ring before one of them.
-fn drop_before<R: Rings<Bucket>>(rings: &mut R, b: BrigadeId, id: BucketId)
-    requires { R.ring_at rings.old id ≡ Some b }
-    ensures out { (n : ℕ) → R.lists rings.new n ≡ on b (rest id) (R.lists rings.old) n }
-    ensures next { R.next_name rings.new ≡ R.next_name rings.old }
-    ensures names { NoneRevived (R.ring_at rings.old) (R.ring_at rings.new) (R.next_name rings.old) }
-{
-    while let Some(first) = rings.first(b) {
-        if first == id {
-            return;
-        }
-        rings.drop_bucket(first);
-    }
-}
-
 #[tactic(auto, unfolding(crate::specs::Store::lists, crate::specs::Store::brigade_of, crate::specs::Store::pool_of, crate::specs::Store::next_name, crate::specs::Store::references))]
-impl<R: Rings<Bucket> + Drop> Brigades<R> {
+impl<R: Rings<Stored> + Drop> Brigades<R> {
     ghost use Rattle.brigade_ops.specs.Store.{lists, brigade_of, bucket_at, pool_of, next_name, references};
 
     /// Where a walk along a brigade begins: its first bucket. The place of a walk is the bucket at which it stands, and `None` at the end;
@@ -176,7 +162,7 @@ impl<R: Rings<Bucket> + Drop> Brigades<R> {
             return Ok(());
         };
         self.held.splice_from(id, a);
-        drop_before(&mut self.held, a, id);
+        self.held.drop_before(a, id);
         Ok(())
     }
 

@@ -2,4 +2,5 @@ pub mod FarReads
 pub mod InMemoryLemmas
 pub mod MemDeviceLemmas
 pub mod OpenNumbers
+pub mod Places
 pub mod ReadLemmas

@@ -9,3 +9,4 @@ pub mod InMemory
 pub mod MemDevice
 pub mod MemAnswers
 pub mod DiskDevice
+pub mod Stored

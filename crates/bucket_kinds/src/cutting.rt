@@ -8,7 +8,7 @@ use crate::refusal::SplitError;
 use run_model::{Bucket, Content, Home, Kind, Seq};
 use std::alloc::{AllocError, Global};
 
-fn bytes_copy(alloc: Global, bytes: &[u8]) -> Result<Seq<u8>, AllocError>
+pub(crate) fn bytes_copy(alloc: Global, bytes: &[u8]) -> Result<Seq<u8>, AllocError>
     ensures { IfOk result (λ copy. copy ≡ bytes.now) }
 {
     let mut copy = Seq::new(alloc);
@@ -16,7 +16,7 @@ fn bytes_copy(alloc: Global, bytes: &[u8]) -> Result<Seq<u8>, AllocError>
     Ok(copy)
 }
 
-fn is_metadata(kind: Kind) -> bool
+pub(crate) fn is_metadata(kind: Kind) -> bool
     ensures { IsTrue result ↔ (is_data_kind kind ≡ false) }
 {
     matches!(kind, Kind::Flush | Kind::Eos)
@@ -34,7 +34,11 @@ pub fn length(content: &Content) -> u64
 }
 
 // The content before a point and the content from it on.
-fn parts(alloc: Global, content: &Content, n: u64) -> Result<(Content, Content), AllocError>
+pub(crate) fn parts(
+    alloc: Global,
+    content: &Content,
+    n: u64,
+) -> Result<(Content, Content), AllocError>
     requires within { n ≤ length_of content.now }
     requires ends { EndsInFile content.now }
     ensures ok { IfOk result (λ p. p ≡ (front_of n content.now, rest_of n content.now)) }
@@ -112,21 +116,29 @@ pub fn split_bucket(alloc: Global, bucket: &mut Bucket, n: u64) -> Result<Bucket
     Ok(rest)
 }
 
+/// The same content again.
+pub(crate) fn content_copy(alloc: Global, content: &Content) -> Result<Content, AllocError>
+    ensures ok { IfOk result (λ copy. copy ≡ content.now) }
+    ensures err { OnErr result (form_of content.now ≡ Memory) }
+{
+    match content {
+        Content::Bytes(bytes) => Ok(Content::Bytes(bytes_copy(alloc, bytes.as_slice())?)),
+        Content::Range { file, start, len } => Ok(Content::Range {
+            file: *file,
+            start: *start,
+            len: *len,
+        }),
+        Content::Nothing => Ok(Content::Nothing),
+    }
+}
+
 /// A bucket of the same kind, content and home.
 pub fn copy_bucket(alloc: Global, bucket: &Bucket) -> Result<Bucket, AllocError>
     ensures ok { IfOk result (λ copy. copy ≡ bucket.now) }
     ensures err { OnErr result (form_of bucket.now.content ≡ Memory) }
     ensures fits { IsBucket bucket.now → IfOk result IsBucket }
 {
-    let content = match &bucket.content {
-        Content::Bytes(bytes) => Content::Bytes(bytes_copy(alloc, bytes.as_slice())?),
-        Content::Range { file, start, len } => Content::Range {
-            file: *file,
-            start: *start,
-            len: *len,
-        },
-        Content::Nothing => Content::Nothing,
-    };
+    let content = content_copy(alloc, &bucket.content)?;
     Ok(Bucket {
         kind: bucket.kind,
         content,

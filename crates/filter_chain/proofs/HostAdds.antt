@@ -17,9 +17,9 @@ use Rattle.bucket_kinds.specs.MemAnswers.{IsAdding}
 use Rattle.bucket_kinds.specs.MemDevice.{held_of, device_of}
 use Rattle.module_run.specs.Proceeding.{MayHold}
 use Rattle.bucket_ring.specs.declared.rings.Rings.{Ghosts}
-use Rattle.run_model.specs.declared.bucket.Bucket.{Bucket}
 use Rattle.run_model.specs.declared.payload.Payload.{Payload}
 use Rattle.pool_tree.specs.declared.tree.PoolTree.{PoolTree}
+use Rattle.bucket_kinds.specs.declared.stored.Stored.{Stored}
 use Rattle.brigade_ops.specs.declared.store.Brigades.{Brigades}
 use Rattle.module_run.specs.declared.conn.Conn.{Conn}
 use Rattle.filter_chain.specs.Hosted.{conn_at}
@@ -48,7 +48,7 @@ there_then None there = absurd (cc)
 there_then (Some bytes) there = refl
 
 -- The host stands for the same world where its device gives the same numbers, and has the same files under them.
-module _ {R : Type 0} {g : Ghosts R Bucket} (budget : ℕ) (chain : List Program) (d e : Device) (tree : PoolTree Payload) (store : Brigades R g) (last : ℕ) (conns : ℕ → Option Conn) (w : World) (h : HoldsWorld budget chain d tree store last conns w)
+module _ {R : Type 0} {g : Ghosts R Stored} (budget : ℕ) (chain : List Program) (d e : Device) (tree : PoolTree Payload) (store : Brigades R g) (last : ℕ) (conns : ℕ → Option Conn) (w : World) (h : HoldsWorld budget chain d tree store last conns w)
     (numbered : e.numbered ≡ d.numbered) (same : e.next ≡ d.next) where
   pub renamed_holds : HoldsWorld budget chain e tree store last conns w
   renamed_holds = record {

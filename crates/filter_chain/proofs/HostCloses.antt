@@ -6,7 +6,6 @@ use Rattle.std.proofs.Math.Path.{fun_ext}
 use Rattle.module_code.specs.Program.{Program}
 use Rattle.bucket_kinds.specs.Device.{Device, Missing}
 use Rattle.bucket_ring.specs.declared.rings.Rings.{Ghosts}
-use Rattle.run_model.specs.declared.bucket.Bucket.{Bucket}
 use Rattle.run_model.specs.declared.event.Event.TheVariants as event
 use Rattle.run_model.specs.declared.event.Refusal.TheVariants as refusal
 use Rattle.run_model.specs.declared.payload.Payload.{Payload}
@@ -35,6 +34,7 @@ use Rattle.model_laws.proofs.parts.Seen.{its_part, labels_in_part, whole_pools}
 use Rattle.model_laws.proofs.parts.Within.{changes_within}
 use Rattle.pool_tree.specs.declared.tree.PoolTree.{PoolTree}
 use Rattle.pool_tree.specs.Tree.{map_of}
+use Rattle.bucket_kinds.specs.declared.stored.Stored.{Stored}
 use Rattle.brigade_ops.specs.declared.store.Brigades.{Brigades}
 use Rattle.brigade_ops.specs.Files.{SameButOpen}
 use Rattle.brigade_ops.specs.House.{AreOpen, IsHouse}
@@ -57,7 +57,7 @@ use Rattle.filter_chain.proofs.KnownEvents.{put_same}
 use Rattle.filter_chain.proofs.StepsSeen.{own_pools}
 
 -- Where there is no memory it is there as it was.
-pub close_serves : {R : Type 0} {g : Ghosts R Bucket} (budget : ℕ) (chain : List Program) (d e : Device) (w : World) (tree : PoolTree Payload) (number : ℕ) (c : Connection) (s : Stands chain w (map_of tree) number c) → w.common.file ≤ d.next → (newer : PoolTree Payload) (store : Brigades R g) (conn : Conn)
+pub close_serves : {R : Type 0} {g : Ghosts R Stored} (budget : ℕ) (chain : List Program) (d e : Device) (w : World) (tree : PoolTree Payload) (number : ℕ) (c : Connection) (s : Stands chain w (map_of tree) number c) → w.common.file ≤ d.next → (newer : PoolTree Payload) (store : Brigades R g) (conn : Conn)
     → LeftAs chain newer store e conn (w.common, over (map_of tree) c) → Spares d e c → e ≡ d → Serves budget chain d e w tree number c event.Close (Refused refusal.NoMemory) newer store conn
 unfolding happens_on TellsEvent
 close_serves budget chain d e w tree number c s given newer store conn left spared same = record {
@@ -103,7 +103,7 @@ module _ (chain : List Program) (w : World) (ps : Pools Payload) (number : ℕ) 
     alike file = lets_go_alike c.conn c.conn ps (destroyed c.conn ps) has files (changes_within Destroyed c.conn c.conn ps has under) (destroyed_formed c.conn ps s.pools.formed) under file
 
 -- What is known of a close over tree, store and device.
-pub record WasClosed {R : Type 0} {g : Ghosts R Bucket} (tree newer : PoolTree Payload) (old new : Brigades R g) (d e : Device) (conn0 conn : Conn) : Type 0 where
+pub record WasClosed {R : Type 0} {g : Ghosts R Stored} (tree newer : PoolTree Payload) (old new : Brigades R g) (d e : Device) (conn0 conn : Conn) : Type 0 where
   pub pools : map_of newer ≡ destroyed conn0.conn (map_of tree)
   pub next : next_name new ≡ next_name old
   pub house : IsHouse new (map_of newer)
@@ -113,7 +113,7 @@ pub record WasClosed {R : Type 0} {g : Ghosts R Bucket} (tree newer : PoolTree P
   pub closed : (file : ℕ) → e.numbered file ≡ (if lets_go (map_of tree) conn0.conn (map_of newer) file then Missing else d.numbered file)
   pub others : SameButOpen d e
 
-module _ {R : Type 0} {g : Ghosts R Bucket} (budget : ℕ) (chain : List Program) (d : Device) (tree : PoolTree Payload) (store : Brigades R g) (last : ℕ) (conns : ℕ → Option Conn) (w : World) (h : HoldsWorld budget chain d tree store last conns w) (number : ℕ) (conn0 conn : Conn) (at : conns number ≡ Some conn0)
+module _ {R : Type 0} {g : Ghosts R Stored} (budget : ℕ) (chain : List Program) (d : Device) (tree : PoolTree Payload) (store : Brigades R g) (last : ℕ) (conns : ℕ → Option Conn) (w : World) (h : HoldsWorld budget chain d tree store last conns w) (number : ℕ) (conn0 conn : Conn) (at : conns number ≡ Some conn0)
     (c : Connection) (here : w.conns number ≡ Some c) (e : Device) (spared : Spares d e c) (newer : PoolTree Payload) (new : Brigades R g) (was : WasClosed tree newer store new d e conn0 conn) where
   its_conn : c.conn ≡ conn0.conn
   its_conn = conn_is (map_of tree) (lists store) (next_name store) conn0 (w.common, over (map_of tree) c) (stands_for budget chain d tree store last conns w h number c here conn0 hosted).left.seen where

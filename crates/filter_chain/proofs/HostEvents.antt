@@ -17,13 +17,13 @@ use Rattle.model_laws.proofs.chains.EventTurns.{Turn}
 use Rattle.model_laws.proofs.chains.Reached.{event_reaches}
 use Rattle.bucket_kinds.specs.Device.{Device}
 use Rattle.bucket_ring.specs.declared.rings.Rings.{Ghosts}
-use Rattle.run_model.specs.declared.bucket.Bucket.{Bucket}
 use Rattle.run_model.specs.declared.payload.Payload.{Payload}
 use Rattle.model_laws.specs.PartSteps.{linked_in_part}
 use Rattle.model_laws.specs.SharedPools.{over}
 use Rattle.model_laws.proofs.chains.LeftTree.{Stands}
 use Rattle.pool_tree.specs.declared.tree.PoolTree.{PoolTree}
 use Rattle.pool_tree.specs.Tree.{map_of}
+use Rattle.bucket_kinds.specs.declared.stored.Stored.{Stored}
 use Rattle.brigade_ops.specs.declared.store.Brigades.{Brigades}
 use Rattle.module_run.specs.declared.conn.Conn.{Conn}
 use Rattle.module_run.specs.Neighbours.{LeavesOthers}
@@ -144,7 +144,7 @@ module _ {F : Type 0} (d : Device) (old new : Host F) (number : ℕ) (w : World)
       (ap (λ (o : Option Connection). happens_on true (budget_of old) (chain_of old) (unasked_in w.common.file d what) what number o w) none ∙ none_is true (budget_of old) (chain_of old) (unasked_in w.common.file d what) number w what of)
 
 -- A connection c that is there answers this, and is conn then, by devices d and e. all: what is left of it over the tree that all share.
-pub record Serves {R : Type 0} {g : Ghosts R Bucket} (budget : ℕ) (chain : List Program) (d e : Device) (w : World) (tree : PoolTree Payload) (number : ℕ) (c : Connection) (what : Event) (answer : Answer) (newer : PoolTree Payload) (new : Brigades R g) (conn : Conn) : Type 0 where
+pub record Serves {R : Type 0} {g : Ghosts R Stored} (budget : ℕ) (chain : List Program) (d e : Device) (w : World) (tree : PoolTree Payload) (number : ℕ) (c : Connection) (what : Event) (answer : Answer) (newer : PoolTree Payload) (new : Brigades R g) (conn : Conn) : Type 0 where
   pub memory : Bool
   pub told : Told
   pub all : Linked
@@ -158,7 +158,7 @@ pub record Serves {R : Type 0} {g : Ghosts R Bucket} (budget : ℕ) (chain : Lis
   pub spared : Spares d e c
 
 -- Whatever the connection is in the world, it serves so.
-abbrev pub AlwaysServes : {F : Type 0} {R : Type 0} {g : Ghosts R Bucket} → Device → Device → Host F → ℕ → World → Event → Answer → PoolTree Payload → Brigades R g → Conn → Conn → Type 0
+abbrev pub AlwaysServes : {F : Type 0} {R : Type 0} {g : Ghosts R Stored} → Device → Device → Host F → ℕ → World → Event → Answer → PoolTree Payload → Brigades R g → Conn → Conn → Type 0
 AlwaysServes d e host number w what answer newer new conn0 conn =
     (c : Connection) → Stands (chain_of host) w (map_of host.tree) number c → StandsFor (chain_of host) host.tree host.store d conn0 (w.common, over (map_of host.tree) c) → w.common.file ≤ d.next
     → Serves (budget_of host) (chain_of host) d e w host.tree number c what answer newer new conn
@@ -190,7 +190,7 @@ can_serve d host number w hosts modules conn same at =
     ((w.common, over (map_of host.tree) f.0), subst (λ (chain : List Program). StandsFor chain host.tree host.store d conn (w.common, over (map_of host.tree) f.0)) (sym same) stands)
 
 -- So it does by the chain as it was handed on.
-pub lent : {R : Type 0} {g : Ghosts R Bucket} (modules chain : List Program) → modules ≡ chain → (tree : PoolTree Payload) (store : Brigades R g) (d : Device) (conn : Conn) (v : Linked) → StandsFor chain tree store d conn v → StandsFor modules tree store d conn v
+pub lent : {R : Type 0} {g : Ghosts R Stored} (modules chain : List Program) → modules ≡ chain → (tree : PoolTree Payload) (store : Brigades R g) (d : Device) (conn : Conn) (v : Linked) → StandsFor chain tree store d conn v → StandsFor modules tree store d conn v
 lent modules chain same tree store d conn v so = subst (λ (m : List Program). StandsFor m tree store d conn v) (sym same) so
 
 -- None is found.

@@ -14,7 +14,6 @@ use Rattle.bucket_kinds.specs.Device.{Device}
 use Rattle.module_run.specs.Happened.{lasted, refusal_of}
 use Rattle.module_run.specs.OpenedFile.{IsAfterOpening, TellsShort, WasOpened}
 use Rattle.bucket_ring.specs.declared.rings.Rings.{Ghosts}
-use Rattle.run_model.specs.declared.bucket.Bucket.{Bucket}
 use Rattle.run_model.specs.declared.payload.Payload.{Payload}
 use Rattle.run_model.specs.Chains.{Linked}
 use Rattle.model_laws.specs.PartSteps.{linked_in_part}
@@ -23,6 +22,7 @@ use Rattle.model_laws.proofs.chains.LeftTree.{Stands}
 use Rattle.model_laws.proofs.parts.Seen.{opens_file_in_part}
 use Rattle.pool_tree.specs.declared.tree.PoolTree.{PoolTree}
 use Rattle.pool_tree.specs.Tree.{map_of}
+use Rattle.bucket_kinds.specs.declared.stored.Stored.{Stored}
 use Rattle.brigade_ops.specs.declared.store.Brigades.{Brigades}
 use Rattle.module_run.specs.declared.conn.Conn.{Conn}
 use Rattle.module_run.proofs.FileOpens.{keeps_files}
@@ -52,7 +52,7 @@ after_answer : (name : List ℕ) (answer : Result (ℕ × ℕ) Refusal) (d e : D
 after_answer name (Ok file) d e after = after
 after_answer name (Err r) d e after = after
 
-pub opens_serves : {R : Type 0} {g : Ghosts R Bucket} (budget : ℕ) (chain : List Program) (d e : Device) (w : World) (tree : PoolTree Payload) (number : ℕ) (c : Connection) (s : Stands chain w (map_of tree) number c) (newer : PoolTree Payload) (store : Brigades R g) (conn : Conn) (name : List ℕ) (answer : Result (ℕ × ℕ) Refusal)
+pub opens_serves : {R : Type 0} {g : Ghosts R Stored} (budget : ℕ) (chain : List Program) (d e : Device) (w : World) (tree : PoolTree Payload) (number : ℕ) (c : Connection) (s : Stands chain w (map_of tree) number c) (newer : PoolTree Payload) (store : Brigades R g) (conn : Conn) (name : List ℕ) (answer : Result (ℕ × ℕ) Refusal)
     → WasOpened chain newer store d e conn name answer (w.common, over (map_of tree) c) → Serves budget chain d e w tree number c (event.OpenFile name) (file_answer answer) newer store conn
 unfolding happens_on opens_file TellsEvent
 opens_serves budget chain d e w tree number c s newer store conn name answer st =

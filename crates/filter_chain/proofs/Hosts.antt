@@ -7,7 +7,6 @@ use Rattle.module_code.specs.Program.{Program}
 use Rattle.bucket_kinds.specs.Device.{Device}
 use Rattle.bucket_ring.specs.declared.rings.Rings.{Ghosts}
 use Rattle.bucket_ring.specs.Kept.{once_in}
-use Rattle.run_model.specs.declared.bucket.Bucket.{Bucket}
 use Rattle.run_model.specs.declared.bucket.BrigadeVar.{BrigadeVar}
 use Rattle.run_model.specs.declared.bucket.BrigadeVar.TheVariants as var
 use Rattle.run_model.specs.declared.payload.Payload.{Payload}
@@ -30,6 +29,7 @@ use Rattle.model_laws.proofs.parts.Paths.{part_payloads, under_belongs}
 use Rattle.model_laws.proofs.parts.SoundOver.{sound_over}
 use Rattle.pool_tree.specs.declared.tree.PoolTree.{PoolTree}
 use Rattle.pool_tree.specs.Tree.{map_of}
+use Rattle.bucket_kinds.specs.declared.stored.Stored.{Stored}
 use Rattle.brigade_ops.specs.declared.store.Brigades.{Brigades}
 use Rattle.brigade_ops.specs.Items.{Items}
 use Rattle.brigade_ops.specs.Store.{lists, next_name, pool_of}
@@ -80,7 +80,7 @@ stands_once : (p : ℕ) (o : Option ℕ) → o ≡ Some p → once_in p o ≡ 1
 stands_once p None is = absurd (cc)
 stands_once p (Some q) is = (let same : q ≡ p = cc in ap (λ (b : Bool). if b then 1 else 0) (eq-eqb q p same))
 
-module _ {R : Type 0} {g : Ghosts R Bucket} (budget : ℕ) (chain : List Program) (d : Device) (tree : PoolTree Payload) (store : Brigades R g) (last : ℕ) (conns : ℕ → Option Conn) (w : World) (h : HoldsWorld budget chain d tree store last conns w) where
+module _ {R : Type 0} {g : Ghosts R Stored} (budget : ℕ) (chain : List Program) (d : Device) (tree : PoolTree Payload) (store : Brigades R g) (last : ℕ) (conns : ℕ → Option Conn) (w : World) (h : HoldsWorld budget chain d tree store last conns w) where
   pub laws : WorldLaws chain w
   laws = reached_holds budget chain w h.chained h.reached
 

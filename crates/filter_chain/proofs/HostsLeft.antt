@@ -7,7 +7,6 @@ use Rattle.std.proofs.lemmas.Bool.Decides.{nat_tests}
 use Rattle.module_code.specs.Program.{Program}
 use Rattle.bucket_kinds.specs.Device.{Device, Held}
 use Rattle.bucket_ring.specs.declared.rings.Rings.{Ghosts}
-use Rattle.run_model.specs.declared.bucket.Bucket.{Bucket}
 use Rattle.run_model.specs.declared.payload.Payload.{Payload}
 use Rattle.run_model.specs.Chains.{Connection, Linked, pools_of}
 use Rattle.run_model.specs.Indexed.{upd}
@@ -22,6 +21,7 @@ use Rattle.model_laws.proofs.chains.LeftTree.{left_tree}
 use Rattle.model_laws.proofs.chains.WorldKept.{AnyLength}
 use Rattle.pool_tree.specs.declared.tree.PoolTree.{PoolTree}
 use Rattle.pool_tree.specs.Tree.{map_of}
+use Rattle.bucket_kinds.specs.declared.stored.Stored.{Stored}
 use Rattle.brigade_ops.specs.declared.store.Brigades.{Brigades}
 use Rattle.brigade_ops.specs.House.{IsHouse}
 use Rattle.brigade_ops.specs.Items.{Items}
@@ -39,7 +39,7 @@ use Rattle.filter_chain.specs.Spared.{Spares}
 use Rattle.filter_chain.proofs.Hosts.{laws, known, found, held_given, foreign}
 
 -- no brigade of the name 0 is on a pool
-pub none_off : {R : Type 0} {g : Ghosts R Bucket} (store : Brigades R g) (ps : Pools Payload) → IsHouse store ps → lists store 0 ≡ None → pool_of store 0 ≡ None
+pub none_off : {R : Type 0} {g : Ghosts R Stored} (store : Brigades R g) (ps : Pools Payload) → IsHouse store ps → lists store 0 ≡ None → pool_of store 0 ≡ None
 none_off store ps house none = by_pool (pool_of store 0) refl where
   by_pool : (o : Option ℕ) → pool_of store 0 ≡ o → pool_of store 0 ≡ None
   by_pool None is = is
@@ -50,7 +50,7 @@ pub over_shown : (ps qs : Pools Payload) (rings : ℕ → Option Items) (opened 
 unfolding conn_of
 over_shown ps qs rings opened conn c seen = ap (over qs) seen
 
-module _ {R : Type 0} {g : Ghosts R Bucket} (budget : ℕ) (chain : List Program) (d : Device) (tree : PoolTree Payload) (store : Brigades R g) (last : ℕ) (conns : ℕ → Option Conn) (w : World) (h : HoldsWorld budget chain d tree store last conns w) where
+module _ {R : Type 0} {g : Ghosts R Stored} (budget : ℕ) (chain : List Program) (d : Device) (tree : PoolTree Payload) (store : Brigades R g) (last : ℕ) (conns : ℕ → Option Conn) (w : World) (h : HoldsWorld budget chain d tree store last conns w) where
   -- What the device has of the files of others.
   module _ (number : ℕ) (c : Connection) (here : w.conns number ≡ Some c) (e : Device) (spared : Spares d e c) where
     not_open : (k file : ℕ) (b : Connection) → k ≢ number → w.conns k ≡ Some b → is_some (b.opened file) ≡ true → c.opened file ≡ None

@@ -4,7 +4,6 @@ use Rattle.std.proofs.Math.Path.{fun_ext}
 use Rattle.module_code.specs.Program.{Program}
 use Rattle.bucket_kinds.specs.Device.{Device, IsUnasked}
 use Rattle.bucket_ring.specs.declared.rings.Rings.{Ghosts}
-use Rattle.run_model.specs.declared.bucket.Bucket.{Bucket}
 use Rattle.run_model.specs.declared.event.Event.{Event}
 use Rattle.run_model.specs.declared.event.Event.TheVariants as event
 use Rattle.run_model.specs.declared.event.Piece.{Piece}
@@ -31,6 +30,7 @@ use Rattle.model_laws.proofs.chains.LeftTree.{Stands, turn_within}
 use Rattle.model_laws.proofs.parts.Seen.{begins_in_part, brings_in_part, ends_in_part, its_part, steps_in_part, whole_pools}
 use Rattle.pool_tree.specs.declared.tree.PoolTree.{PoolTree}
 use Rattle.pool_tree.specs.Tree.{map_of}
+use Rattle.bucket_kinds.specs.declared.stored.Stored.{Stored}
 use Rattle.brigade_ops.specs.declared.store.Brigades.{Brigades}
 use Rattle.brigade_ops.specs.Files.{SameButOpen}
 use Rattle.brigade_ops.specs.Store.{lists, next_name}
@@ -59,7 +59,7 @@ put_same k w c here = ap (λ (conns : ℕ → Option Connection). record w { con
   ]
 
 -- What is left over the tree is a pool map.
-pub formed_then : {R : Type 0} {g : Ghosts R Bucket} (chain : List Program) (newer : PoolTree Payload) (new : Brigades R g) (e : Device) (conn : Conn) (all : Linked) → LeftAs chain newer new e conn all → IsPoolMap (pools_of all.0 all.1)
+pub formed_then : {R : Type 0} {g : Ghosts R Stored} (chain : List Program) (newer : PoolTree Payload) (new : Brigades R g) (e : Device) (conn : Conn) (all : Linked) → LeftAs chain newer new e conn all → IsPoolMap (pools_of all.0 all.1)
 formed_then chain newer new e conn all left = subst IsPoolMap (sym (pools_are (map_of newer) (lists new) (next_name new) conn all left.seen)) left.formed
 
 -- What a step answers, it answers of the world.
@@ -99,7 +99,7 @@ step_closes chain d e g h c x (Ok t) closed = closed
 step_closes chain d e g h c x (Err r) closed = tt
 
 -- An event that answers whether it happened. part, all: what it is of the connection, and over the tree.
-done_serves : {R : Type 0} {g : Ghosts R Bucket} (budget : ℕ) (chain : List Program) (d e : Device) (w : World) (tree : PoolTree Payload) (number : ℕ) (c : Connection) → w.conns number ≡ Some c → (what : Event) (memory : Bool) (answer o : Option Refusal) (new : Linked) (all : Option Refusal × Linked)
+done_serves : {R : Type 0} {g : Ghosts R Stored} (budget : ℕ) (chain : List Program) (d e : Device) (w : World) (tree : PoolTree Payload) (number : ℕ) (c : Connection) → w.conns number ≡ Some c → (what : Event) (memory : Bool) (answer o : Option Refusal) (new : Linked) (all : Option Refusal × Linked)
     → happens_on memory budget chain nothing_told what number (Some c) w ≡ answered number w (unless_refused o (w.common, c) new) → unless_refused o (w.common, c) new ≡ seen_in c.conn all → Turn chain AnyLength w.common (over (map_of tree) c) all.1
     → TellsEvent chain number what (host_view w d) (done_answer answer) nothing_told e → ClosesFiles d e chain what (done_answer answer) w.common (Some c) all.1.0 (Some (linked_in_part c.conn all.1).1) → (newer : PoolTree Payload) (store : Brigades R g) (conn : Conn)
     → Happened chain newer store e conn answer all → all.1.0.file ≤ e.next → Spares d e c → Serves budget chain d e w tree number c what (done_answer answer) newer store conn
@@ -118,7 +118,7 @@ done_serves budget chain d e w tree number c here what memory answer o new all i
 }
 
 -- modules: the chain, as it was handed on.
-module _ {R : Type 0} {g : Ghosts R Bucket} (budget : ℕ) (chain modules : List Program) (same : modules ≡ chain) (d : Device) (w : World) (tree : PoolTree Payload) (number : ℕ) (c : Connection) (s : Stands chain w (map_of tree) number c) (given : w.common.file ≤ d.next)
+module _ {R : Type 0} {g : Ghosts R Stored} (budget : ℕ) (chain modules : List Program) (same : modules ≡ chain) (d : Device) (w : World) (tree : PoolTree Payload) (number : ℕ) (c : Connection) (s : Stands chain w (map_of tree) number c) (given : w.common.file ≤ d.next)
     (newer : PoolTree Payload) (store : Brigades R g) (conn : Conn) where
   abbrev all : Linked
   all = (w.common, over (map_of tree) c)
@@ -176,7 +176,7 @@ spares_unreferred d e ps c lasts same rest = record {
   not_held file p none under = false_from_ne_true (refers ps p file) (λ there. let is_open : is_some (c.opened file) ≡ true = lasts p file under there in let gone = ap is_some none in cc)
 
 -- What the end of a request closes.
-end_closes : {R : Type 0} {g : Ghosts R Bucket} (chain : List Program) (d e : Device) (w : World) (ps : Pools Payload) (number : ℕ) (c : Connection) (s : Stands chain w ps number c) (newer : PoolTree Payload) (new : Brigades R g) (conn : Conn) (r : Result (Unit {0}) Refusal)
+end_closes : {R : Type 0} {g : Ghosts R Stored} (chain : List Program) (d e : Device) (w : World) (ps : Pools Payload) (number : ℕ) (c : Connection) (s : Stands chain w ps number c) (newer : PoolTree Payload) (new : Brigades R g) (conn : Conn) (r : Result (Unit {0}) Refusal)
     → Happened chain newer new e conn (refusal_of r) (ends (lasted r) (w.common, over ps c)) → OnOk r (ClosedWith d e c.req ps (map_of newer)) → OnErr r (e ≡ d)
     → (let v = (ends (lasted r) (w.common, over ps c)).1 in ClosesFiles d e chain event.End (done_answer (refusal_of r)) w.common (Some c) v.0 (Some (linked_in_part c.conn v).1))
 unfolding is_under
@@ -189,7 +189,7 @@ end_closes chain d e w ps number c s newer new conn (Ok x) happened closed unrea
     (subst (λ (qs : Pools Payload). ClosedWith d e c.req qs (pools_of v.0 v.1)) (sym whole) (subst (λ (qs : Pools Payload). ClosedWith d e c.req ps qs) (sym same) closed))
 end_closes chain d e w ps number c s newer new conn (Err r) happened closed unread = unread
 
-module _ {R : Type 0} {g : Ghosts R Bucket} (budget : ℕ) (chain : List Program) (d e : Device) (w : World) (tree : PoolTree Payload) (number : ℕ) (c : Connection) (s : Stands chain w (map_of tree) number c) (given : w.common.file ≤ d.next)
+module _ {R : Type 0} {g : Ghosts R Stored} (budget : ℕ) (chain : List Program) (d e : Device) (w : World) (tree : PoolTree Payload) (number : ℕ) (c : Connection) (s : Stands chain w (map_of tree) number c) (given : w.common.file ≤ d.next)
     (newer : PoolTree Payload) (store : Brigades R g) (conn : Conn) where
   pub ends_serves : (r : Result (Unit {0}) Refusal) → Happened chain newer store e conn (refusal_of r) (ends (lasted r) (w.common, over (map_of tree) c)) → OnOk r (ClosedWith d e c.req (map_of tree) (map_of newer)) → OnErr r (e ≡ d) → IsUnasked d e → Spares d e c
       → Serves budget chain d e w tree number c event.End (done_answer (refusal_of r)) newer store conn
@@ -201,7 +201,7 @@ module _ {R : Type 0} {g : Ghosts R Bucket} (budget : ℕ) (chain : List Program
       (let le = spared.rises in omega (arith, file, given, le)) spared
 
 -- The same by what the calls promise of its files.
-pub closed_spares : {R : Type 0} {g : Ghosts R Bucket} (chain : List Program) (d e : Device) (w : World) (tree : PoolTree Payload) (store : Brigades R g) (conn0 : Conn) (c : Connection) → StandsFor chain tree store d conn0 (w.common, over (map_of tree) c) → SameButOpen d e
+pub closed_spares : {R : Type 0} {g : Ghosts R Stored} (chain : List Program) (d e : Device) (w : World) (tree : PoolTree Payload) (store : Brigades R g) (conn0 : Conn) (c : Connection) → StandsFor chain tree store d conn0 (w.common, over (map_of tree) c) → SameButOpen d e
     → ((file : ℕ) → ((p : ℕ) → is_under (map_of tree) conn0.conn p ≡ true → refers (map_of tree) p file ≡ false) → e.numbered file ≡ d.numbered file) → Spares d e c
 unfolding is_under
 closed_spares chain d e w tree store conn0 c so same rest =
@@ -209,7 +209,7 @@ closed_spares chain d e w tree store conn0 c so same rest =
     (sym (conn_is (map_of tree) (lists store) (next_name store) conn0 (w.common, over (map_of tree) c) so.left.seen)) rest)
 
 -- So it does by what an end of a request answers. conn0: the connection before.
-pub ended_serves : {R : Type 0} {g : Ghosts R Bucket} (budget : ℕ) (chain : List Program) (d e : Device) (w : World) (tree : PoolTree Payload) (store0 : Brigades R g) (conn0 : Conn) (number : ℕ) (c : Connection) (s : Stands chain w (map_of tree) number c) → w.common.file ≤ d.next
+pub ended_serves : {R : Type 0} {g : Ghosts R Stored} (budget : ℕ) (chain : List Program) (d e : Device) (w : World) (tree : PoolTree Payload) (store0 : Brigades R g) (conn0 : Conn) (number : ℕ) (c : Connection) (s : Stands chain w (map_of tree) number c) → w.common.file ≤ d.next
     → (newer : PoolTree Payload) (store : Brigades R g) (conn : Conn) → StandsFor chain tree store0 d conn0 (w.common, over (map_of tree) c) → (r : Result (Unit {0}) Refusal) → Happened chain newer store e conn (refusal_of r) (ends (lasted r) (w.common, over (map_of tree) c))
     → OnOk r (ClosedWith d e conn0.req (map_of tree) (map_of newer)) → OnErr r (e ≡ d) → SameButOpen d e
     → ((file : ℕ) → ((p : ℕ) → is_under (map_of tree) conn0.conn p ≡ true → refers (map_of tree) p file ≡ false) → e.numbered file ≡ d.numbered file) → Serves budget chain d e w tree number c event.End (done_answer (refusal_of r)) newer store conn
@@ -221,7 +221,7 @@ ended_serves budget chain d e w tree store0 conn0 number c s given newer store c
       v = (w.common, over (map_of tree) c)
 
 -- Its output is taken.
-pub takes_serves : {R : Type 0} {g : Ghosts R Bucket} (budget : ℕ) (chain : List Program) (d : Device) (w : World) (tree : PoolTree Payload) (number : ℕ) (c : Connection) (s : Stands chain w (map_of tree) number c) → w.common.file ≤ d.next → (store : Brigades R g) (conn : Conn) (bytes : List ℕ)
+pub takes_serves : {R : Type 0} {g : Ghosts R Stored} (budget : ℕ) (chain : List Program) (d : Device) (w : World) (tree : PoolTree Payload) (number : ℕ) (c : Connection) (s : Stands chain w (map_of tree) number c) → w.common.file ≤ d.next → (store : Brigades R g) (conn : Conn) (bytes : List ℕ)
     → bytes ≡ c.out.bytes → LeftAs chain tree store d conn (w.common, drained (over (map_of tree) c)) → Serves budget chain d d w tree number c event.TakeOutput (Output bytes) tree store conn
 unfolding happens_on TellsEvent part
 takes_serves budget chain d w tree number c s given store conn bytes told left = record {

@@ -13,6 +13,7 @@ pub mod HostFiles
 pub mod HostAdds
 pub mod HostFails
 pub mod Safety
+pub mod Faultless
 pub mod HostCloses
 pub mod StepCounts
 pub mod Driving

@@ -1,5 +1,5 @@
 -- Steps that change one connection alone, one after another.
-use Rattle.std.proofs.Common.{◌≡◌, ℕ, zero, suc, ◌+◌, List, Option, Some, None, Result, Ok, Err, refl, sym, ◌∙◌, ap, subst, inl, inr, arith}
+use Rattle.std.proofs.Common.{◌≡◌, ℕ, zero, suc, ◌+◌, true, List, Option, Some, None, Result, Ok, Err, refl, sym, ◌∙◌, ap, subst, inl, inr, arith}
 use Rattle.std.proofs.Math.Path.{fun_ext}
 use Rattle.module_code.specs.Program.{Program}
 use Rattle.run_model.specs.declared.event.Event.TheVariants as event
@@ -16,8 +16,9 @@ use Rattle.pool_tree.specs.Tree.{map_of}
 use Rattle.module_run.specs.declared.conn.Conn.{Conn}
 use Rattle.module_run.specs.Neighbours.{LeavesOthers}
 use Rattle.module_run.specs.Proceeding.{StandsFor}
-use Rattle.module_run.specs.Stepping.{IsStep}
+use Rattle.module_run.specs.Stepping.{IsStep, NextIsFaultless}
 use Rattle.module_run.specs.StepsGo.{StepGoes, StepsGo}
+use Rattle.filter_chain.specs.declared.chain.Chain.{Chain}
 use Rattle.filter_chain.specs.declared.conns.Conns.{Conns}
 use Rattle.filter_chain.specs.declared.host.Host.{Host}
 use Rattle.filter_chain.specs.Hosted.{conn_at}
@@ -27,6 +28,7 @@ use Rattle.filter_chain.specs.Led.{IsAlive, Refines}
 use Rattle.filter_chain.specs.Running.{HostGoesOn, StepsBefore}
 use Rattle.filter_chain.specs.Safe.{GoesWell, IsSafe}
 use Rattle.filter_chain.proofs.Driving.{Happened, by_event, leads_as, leads_on}
+use Rattle.filter_chain.proofs.Faultless.{can_step, is_faultless}
 use Rattle.filter_chain.proofs.Going.{IsGoing, going_on, safe_still}
 use Rattle.filter_chain.proofs.HostEvents.{can_serve, lent, none_found, served_on}
 use Rattle.filter_chain.proofs.KnownEvents.{steps_serves}
@@ -65,9 +67,9 @@ module _ {F : Type 0} (device : F → Device) (number : ℕ) (host : Host F) (ta
   one_goes : (x y : Conn) → Goes x y → (w : World) → IsHosting d (with_conn x) w → Happens d d (with_conn x) (with_conn y) number event.Step (Step stepped.Went) w
   unfolding chain_of budget_of
   one_goes x y goes w hosts =
-      let stood = can_serve d (with_conn x) number w hosts host.modules.items x refl (found_there x) in
+      let stood = can_serve d (with_conn x) number w hosts host.chain.modules.items x refl (found_there x) in
       served_on d d (with_conn x) (with_conn y) number w hosts refl refl refl event.Step (Step stepped.Went) x y (found_there x) (put_again x y) (goes stood.0 stood.1).1
-      (λ c s so given. steps_serves host.budget host.modules.items host.modules.items refl d w host.tree number c s given host.tree host.store y d (Ok stepped.Went) (goes _ so).0)
+      (λ c s so given. steps_serves host.budget host.chain.modules.items host.chain.modules.items refl d w host.tree number c s given host.tree host.store y d (Ok stepped.Went) (goes _ so).0)
 
   -- it is there as it was
   begins : (x : Conn) → conn_at host.conns number ≡ Some x → IsAlive device host → IsGoing device host (with_conn x) number 0
@@ -95,19 +97,19 @@ module _ {F : Type 0} (device : F → Device) (number : ℕ) (host : Host F) (ta
     pub went_on : IsGoing device host (with_conn y) number n
     went_on = conn_goes n x y at alive (subst (λ (m : List Program). StepsGo m (budget_of host) host.tree host.store d n x y) same steps)
 
-    pub stands_then : (v : Linked) × StandsFor modules host.tree host.store d y v
-    unfolding chain_of
-    stands_then = can_serve d (with_conn y) number went_on.alive.0 went_on.alive.1 modules y same (found_there y)
+    -- and makes one step more, barely where its chain was checked.
+    pub stands_then : (v : Linked) × (StandsFor modules host.tree host.store d y v × (host.chain.bare ≡ true → NextIsFaultless (budget_of host) modules v))
+    unfolding chain_of budget_of
+    stands_then = can_step d (with_conn y) number went_on.alive.0 went_on.alive.1 modules same y (found_there y)
 
-    -- and made one step more.
-    module _ (left : Host F) (z : Conn) (answer : Result Stepped Refusal) (chain : left.modules ≡ host.modules) (budget : left.budget ≡ host.budget) (last : left.last ≡ host.last) (conns : left.conns ≡ table z)
-        (leaves : LeavesOthers (map_of host.tree) host.store left.store y z) (step : (v : Linked) → StandsFor modules host.tree host.store d y v → IsStep modules (budget_of host) d (device left.files) v left.tree left.store z answer) where
+    module _ (left : Host F) (z : Conn) (answer : Result Stepped Refusal) (chain : left.chain ≡ host.chain) (budget : left.budget ≡ host.budget) (last : left.last ≡ host.last) (conns : left.conns ≡ table z)
+        (leaves : LeavesOthers (map_of host.tree) host.store left.store y z) (step : (v : Linked) → StandsFor modules host.tree host.store d y v → (host.chain.bare ≡ true → NextIsFaultless (budget_of host) modules v) → IsStep modules (budget_of host) d (device left.files) v left.tree left.store z answer) where
       then_steps : Happened device (with_conn y) left number event.Step (step_answer answer)
       unfolding chain_of budget_of
       then_steps w hosts =
-          served_on d (device left.files) (with_conn y) left number w hosts (ap (λ m. m.items) chain) budget last event.Step (step_answer answer) y z (found_there y)
+          served_on d (device left.files) (with_conn y) left number w hosts (ap (λ (x : Chain). x.modules.items) chain) budget last event.Step (step_answer answer) y z (found_there y)
           (λ k. ap (λ (cs : Conns). conn_at cs k) conns ∙ put_again y z k) leaves
-          (λ c s so given. steps_serves (budget_of host) (chain_of host) modules same d w host.tree number c s given left.tree left.store z (device left.files) answer (step _ (lent modules (chain_of host) same host.tree host.store d y _ so)))
+          (λ c s so given. steps_serves (budget_of host) (chain_of host) modules same d w host.tree number c s given left.tree left.store z (device left.files) answer (step _ (lent modules (chain_of host) same host.tree host.store d y _ so) (is_faultless d (with_conn y) number w hosts modules same c s)))
 
       pub steps_past : Refines device host left (λ b c s t. StepsBefore b c number n s answer t)
       steps_past =

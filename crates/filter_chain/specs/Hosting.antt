@@ -15,9 +15,9 @@ use Rattle.bucket_kinds.specs.Device.{Device, is_there}
 use Rattle.bucket_kinds.specs.declared.refusal.AddRefusal.{AddRefusal}
 use Rattle.bucket_kinds.specs.declared.refusal.AddRefusal.TheVariants as added
 use Rattle.bucket_ring.specs.declared.rings.Rings.{Ghosts}
-use Rattle.run_model.specs.declared.bucket.Bucket.{Bucket}
 use Rattle.pool_tree.specs.declared.tree.PoolTree.{PoolTree}
 use Rattle.pool_tree.specs.Tree.{map_of}
+use Rattle.bucket_kinds.specs.declared.stored.Stored.{Stored}
 use Rattle.brigade_ops.specs.declared.store.Brigades.{Brigades}
 use Rattle.brigade_ops.specs.House.{AreOpen, IsHouse}
 use Rattle.brigade_ops.specs.Store.{lists, next_name, references}
@@ -30,7 +30,7 @@ use Rattle.filter_chain.specs.Hosted.{conn_at, IsHosted}
 use Rattle.ring_run.specs.declared.labels_run.LabelsRun.{LabelsRun}
 
 -- It is there exactly where the model has it, and as the model has it.
-abbrev pub IsHostedIf : {R : Type 0} {g : Ghosts R Bucket} → List Program → PoolTree Payload → Brigades R g → Device → Option Conn → Option Connection → Type 0
+abbrev pub IsHostedIf : {R : Type 0} {g : Ghosts R Stored} → List Program → PoolTree Payload → Brigades R g → Device → Option Conn → Option Connection → Type 0
 IsHostedIf chain tree store d None None = Unit {0}
 IsHostedIf chain tree store d None (Some c) = ⊥
 IsHostedIf chain tree store d (Some conn) None = ⊥
@@ -71,7 +71,7 @@ close_answer (Err r) = Refused r
 -- number that was given last. pools: the tree is the world's. names, files: the names that are given next; a device may have used up numbers
 -- of files that no opening told. house, open_files: the brigades stand on the pools of the tree, and files that these refer to are open. none: no
 -- brigade has the name 0. apart: no brigade is held by two connections.
-pub record HoldsWorld {R : Type 0} {g : Ghosts R Bucket} (budget : ℕ) (chain : List Program) (d : Device) (tree : PoolTree Payload) (store : Brigades R g) (last : ℕ) (at : ℕ → Option Conn) (w : World) : Type 0 where
+pub record HoldsWorld {R : Type 0} {g : Ghosts R Stored} (budget : ℕ) (chain : List Program) (d : Device) (tree : PoolTree Payload) (store : Brigades R g) (last : ℕ) (at : ℕ → Option Conn) (w : World) : Type 0 where
   pub chained : IsChain chain
   pub reached : IsReached budget chain w
   pub last_is : w.last ≡ last
@@ -87,7 +87,7 @@ pub record HoldsWorld {R : Type 0} {g : Ghosts R Bucket} (budget : ℕ) (chain :
 -- the chain and the budget of a host, and its files
 
 unfoldable pub chain_of : {F : Type 0} → Host F → List Program
-chain_of host = host.modules.items
+chain_of host = host.chain.modules.items
 
 unfoldable pub budget_of : {F : Type 0} → Host F → ℕ
 budget_of host = host.budget

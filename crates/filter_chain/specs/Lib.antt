@@ -2,6 +2,7 @@ pub mod Spared
 pub mod Hosted
 pub mod HostViews
 pub mod Hosting
+pub mod Facts
 pub mod Failing
 pub mod Safe
 pub mod Led

@@ -1,11 +1,14 @@
 -- A host on a chain that was checked: no call answers a fault.
-use Rattle.std.specs.Prelude.{◌≡◌, ℕ, List, Result}
+use Rattle.std.specs.Prelude.{◌≡◌, ℕ, List, Some, Result}
 use Rattle.module_code.specs.Program.{Program}
 use Rattle.run_model.specs.declared.event.Event.{Event}
 use Rattle.run_model.specs.declared.event.Refusal.{Refusal}
 use Rattle.run_model.specs.declared.event.Stepped.{Stepped}
+use Rattle.run_model.specs.Chains.{Connection}
+use Rattle.run_model.specs.Worlds.{World}
 use Rattle.model_laws.specs.Reached.{IsReached}
 use Rattle.life_check.specs.ChainTheorem.{ChainNeverFaults, IsNoFault}
+use Rattle.module_run.specs.Stepping.{NextIsFaultless}
 use Rattle.filter_chain.specs.declared.host.Host.{Host}
 use Rattle.filter_chain.specs.Hosting.{chain_of, step_answer}
 use Rattle.filter_chain.specs.HostViews.{HostView, Answers}
@@ -22,3 +25,7 @@ GoesWell answer = IsNoFault (step_answer answer)
 abbrev pub ReachedWorldsAnswerNoFault : Type 0
 ReachedWorldsAnswerNoFault = (budget : ℕ) (chain : List Program) (number : ℕ) (what : Event) (old new : HostView) (answer : _) → ChainNeverFaults chain → IsReached budget chain old.world
     → Answers budget chain number what old answer new → IsNoFault answer
+
+-- There the next instruction of a call that is to be stepped has no fault.
+abbrev pub ReachedCallsAreFaultless : Type 0
+ReachedCallsAreFaultless = (budget : ℕ) (chain : List Program) (w : World) (number : ℕ) (c : Connection) → ChainNeverFaults chain → IsReached budget chain w → w.conns number ≡ Some c → NextIsFaultless budget chain (w.common, c)

@@ -1,18 +1,20 @@
 //! The host.
 
-ghost use Rattle.std.specs.Prelude.{◌≡◌, ◌<◌, ◌↔◌, IfOk, IsErrOf};
+ghost use Rattle.std.specs.Prelude.{◌≡◌, ◌<◌, ◌↔◌, true, IfOk, IsErrOf};
 ghost use Rattle.run_model.specs.Chains.{IsChain};
 ghost use Rattle.run_model.specs.Worlds.{new_world};
+ghost use Rattle.life_check.specs.ChainTheorem.{ChainNeverFaults};
 
+use crate::chain::Chain;
 use crate::conns::Conns;
 use crate::limits::Limits;
 use crate::spare::Spare;
 use brigade_ops::Brigades;
-use bucket_kinds::Files;
+use bucket_kinds::{Files, Stored};
 use bucket_ring::RawRings;
 use life_check::CheckedChain;
 use pool_tree::{PoolError, PoolId, PoolTree};
-use run_model::{Bucket, Module, Payload};
+use run_model::{Module, Payload};
 use std::alloc::{AllocError, Global};
 
 /// Connections by number, each with the same chain of filters. They share one tree of pools, one store of brigades, and the files that
@@ -20,12 +22,12 @@ use std::alloc::{AllocError, Global};
 #[derive(Drop)]
 pub struct Host<F: Files> {
     pub(crate) alloc: Global,
-    pub(crate) modules: Vec<Module>,
+    pub(crate) chain: Chain,
     pub(crate) budget: u64,
     pub(crate) conns: Conns,
     pub(crate) last: u64,
     pub(crate) tree: PoolTree<Payload>,
-    pub(crate) store: Brigades<RawRings<Bucket>>,
+    pub(crate) store: Brigades<RawRings<Stored>>,
     pub(crate) files: F,
     pub(crate) spare: Spare,
 }
@@ -71,18 +73,7 @@ impl<F: Files + Drop> Host<F> {
         ensures files { IfOk result (λ host. files_of host ≡ files) }
         ensures spent { IsErrOf result PoolError.NamesSpent ↔ (first ≡ u64.MAX) }
     {
-        let tree = PoolTree::new(alloc, first)?;
-        Ok(Host {
-            alloc,
-            modules,
-            budget: limits.budget,
-            conns: Conns::new(alloc),
-            last: 0,
-            tree,
-            store: Brigades::new(alloc, first),
-            files,
-            spare: Spare::new(alloc),
-        })
+        Host::begun_at(alloc, files, modules, limits, first, false)
     }
 
     /// No connection, on a chain that was checked: no call answers a fault. Names begin with 1. Refused where there is no memory for the
@@ -121,7 +112,39 @@ impl<F: Files + Drop> Host<F> {
         ensures safe { IfOk result (λ host. IsSafe host) }
         ensures spent { IsErrOf result PoolError.NamesSpent ↔ (first ≡ u64.MAX) }
     {
-        Host::watched_at(alloc, files, chain.into_modules(), limits, first)
+        Host::begun_at(alloc, files, chain.into_modules(), limits, first, true)
+    }
+
+    /// No connection, on a chain that was checked where the host is to be bare. Refused as `watched_at` is.
+    fn begun_at(
+        alloc: Global,
+        files: F,
+        modules: Vec<Module>,
+        limits: Limits,
+        first: PoolId,
+        bare: bool,
+    ) -> Result<Self, PoolError>
+        requires chain { IsChain modules.items }
+        requires checked { bare ≡ true → ChainNeverFaults modules.items }
+        requires named { 0 < first }
+        ensures empty { IfOk result (λ host. IsHosting (F.device (files_of host)) host (new_world first)) }
+        ensures chain { IfOk result (λ host. chain_of host ≡ modules.items) }
+        ensures budget { IfOk result (λ host. budget_of host ≡ limits.budget) }
+        ensures files { IfOk result (λ host. files_of host ≡ files) }
+        ensures spent { IsErrOf result PoolError.NamesSpent ↔ (first ≡ u64.MAX) }
+    {
+        let tree = PoolTree::new(alloc, first)?;
+        Ok(Host {
+            alloc,
+            chain: Chain { modules, bare },
+            budget: limits.budget,
+            conns: Conns::new(alloc),
+            last: 0,
+            tree,
+            store: Brigades::new(alloc, first),
+            files,
+            spare: Spare::new(alloc),
+        })
     }
 
     /// The chain.
@@ -129,7 +152,7 @@ impl<F: Files + Drop> Host<F> {
     pub fn modules(&self) -> &[Module]
         ensures { result.now ≡ chain_of self.now }
     {
-        self.modules.as_slice()
+        self.chain.modules.as_slice()
     }
 
     /// How many instructions a connection executes at most from an open, begin or bring on.

@@ -1,6 +1,7 @@
 //! The host: chains of filters on many connections, one instruction at a time.
 #![tactic(auto)]
 
+mod chain;
 mod closing;
 mod conns;
 mod filing;

@@ -47,9 +47,10 @@ impl<F: Files + Drop> Host<F> {
         let Ok(()) = self.conns.reserve() else {
             return Err(Refusal::NoMemory);
         };
+        let chain = &self.chain;
         let Ok(conn) = Conn::open(
             self.alloc,
-            self.modules.as_slice(),
+            chain.modules.as_slice(),
             &mut self.tree,
             &mut self.store,
         ) else {

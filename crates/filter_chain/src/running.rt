@@ -27,14 +27,16 @@ impl<F: Files + Drop> Host<F> {
         ensures steps { Refines F.device self.old self.new (λ (b : ℕ) (c : List Program) (s t : HostView). StepsBefore b c number result.0 s result.1 t) }
         ensures safe { IsSafe self.old → GoesWell result.1 }
     {
+        let chain = &self.chain;
         match self.conns.by_number.get_mut(&number) {
             None => (0, Err(Refusal::NoSuchConn)),
             Some(conn) => {
-                let modules = self.modules.as_slice();
+                let modules = chain.modules.as_slice();
                 let made = conn.quiet_steps(modules, self.budget, &self.store, most);
                 let answer = conn.step(
                     modules,
                     self.budget,
+                    chain.bare,
                     &mut self.tree,
                     &mut self.store,
                     &mut self.files,

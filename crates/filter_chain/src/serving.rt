@@ -19,9 +19,10 @@ impl<F: Files + Drop> Host<F> {
         ensures event { (w : World) → IsHosting (F.device (files_of self.old)) self.old w → Happens (F.device (files_of self.old)) (F.device (files_of self.new)) self.old self.new number Begin (done_answer (refusal_of result)) w }
         ensures files { files_of self.new ≡ files_of self.old }
     {
+        let chain = &self.chain;
         match self.conns.by_number.get_mut(&number) {
             None => Err(Refusal::NoSuchConn),
-            Some(conn) => conn.begin(self.modules.as_slice(), &mut self.tree, &mut self.store),
+            Some(conn) => conn.begin(chain.modules.as_slice(), &mut self.tree, &mut self.store),
         }
     }
 
@@ -32,9 +33,10 @@ impl<F: Files + Drop> Host<F> {
         ensures event { (w : World) → IsHosting (F.device (files_of self.old)) self.old w → Happens (F.device (files_of self.old)) (F.device (files_of self.new)) self.old self.new number (Bring pieces) (done_answer (refusal_of result)) w }
         ensures files { files_of self.new ≡ files_of self.old }
     {
+        let chain = &self.chain;
         match self.conns.by_number.get_mut(&number) {
             None => Err(Refusal::NoSuchConn),
-            Some(conn) => { conn.bring(self.modules.as_slice(), &mut self.store, pieces) }
+            Some(conn) => { conn.bring(chain.modules.as_slice(), &mut self.store, pieces) }
         }
     }
 

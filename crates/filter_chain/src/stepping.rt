@@ -19,11 +19,13 @@ impl<F: Files + Drop> Host<F> {
         ensures event { (w : World) → IsHosting (F.device (files_of self.old)) self.old w → Happens (F.device (files_of self.old)) (F.device (files_of self.new)) self.old self.new number Step (step_answer result) w }
         ensures safe { IsSafe self.old → GoesWell result }
     {
+        let chain = &self.chain;
         match self.conns.by_number.get_mut(&number) {
             None => Err(Refusal::NoSuchConn),
             Some(conn) => conn.step(
-                self.modules.as_slice(),
+                chain.modules.as_slice(),
                 self.budget,
+                chain.bare,
                 &mut self.tree,
                 &mut self.store,
                 &mut self.files,

@@ -5,10 +5,10 @@ use Rattle.bucket_ring.specs.declared.names.BucketId.{BucketId}
 use Rattle.bucket_kinds.specs.Device.{Device}
 use Rattle.bucket_ring.specs.declared.rings.Rings.{Ghosts}
 use Rattle.module_code.specs.Program.{Program}
-use Rattle.run_model.specs.declared.bucket.Bucket.{Bucket}
 use Rattle.run_model.specs.Chains.{Connection, Linked}
 use Rattle.pool_tree.specs.declared.tree.PoolTree.{PoolTree}
 use Rattle.pool_tree.specs.Tree.{map_of}
+use Rattle.bucket_kinds.specs.declared.stored.Stored.{Stored}
 use Rattle.brigade_ops.specs.declared.store.Brigades.{Brigades}
 use Rattle.brigade_ops.specs.Store.{lists, brigade_of, pool_of, next_name}
 use Rattle.module_run.specs.Proceeding.{LeftAs}
@@ -51,7 +51,7 @@ stacked_beside chain at rings pools next c labels conn req files out ended count
 }
 
 -- labels that are the same change nothing
-pub left_relabelled : {R : Type 0} {g : Ghosts R Bucket} (chain : List Program) (tree : PoolTree Payload) (store : Brigades R g) (d : Device) (c : Conn) (v : Linked) (labels : Vec LabelsRun) → labels.items ≡ c.labels.items
+pub left_relabelled : {R : Type 0} {g : Ghosts R Stored} (chain : List Program) (tree : PoolTree Payload) (store : Brigades R g) (d : Device) (c : Conn) (v : Linked) (labels : Vec LabelsRun) → labels.items ≡ c.labels.items
     → LeftAs chain tree store d c v → LeftAs chain tree store d (record c { labels = labels }) v
 unfolding conn_of filter_at
 left_relabelled chain tree store d c v labels same left = record {

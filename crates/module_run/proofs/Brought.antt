@@ -1,11 +1,8 @@
 -- What was brought to a call that runs reads as it was brought.
-use Rattle.std.proofs.Common.{◌≡◌, ℕ, ◌+◌, ◌<◌, Bool, true, List, [], ◌∷◌, ◌++◌, Option, None, Some, is_some, refl, sym, ap, ◌∙◌, inl, inr, arith}
-use Rattle.std.specs.Option.{option_map}
-use Rattle.std.proofs.lemmas.Bool.{cases_eq, lt-ltb}
+use Rattle.std.proofs.Common.{◌≡◌, ℕ, ◌+◌, ◌<◌, Bool, true, List, [], ◌∷◌, None, refl, sym, ap, ◌∙◌, arith}
+use Rattle.std.proofs.lemmas.Bool.{lt-ltb}
 use Rattle.pool_tree.proofs.Trees.{not_there}
 use Rattle.bucket_ring.specs.declared.rings.Rings.{Ghosts}
-use Rattle.bucket_ring.specs.Lists as ring
-use Rattle.bucket_ring.proofs.Counted.{upd_on, upd_off}
 use Rattle.run_model.specs.declared.bucket.Bucket.{Bucket}
 use Rattle.run_model.specs.declared.bucket.Home.{Home}
 use Rattle.run_model.specs.declared.bucket.Home.TheVariants as home
@@ -13,6 +10,7 @@ use Rattle.run_model.specs.declared.bucket.NamedBucket.{NamedBucket}
 use Rattle.run_model.specs.declared.event.Piece.{Piece}
 use Rattle.run_model.specs.declared.event.Piece.TheVariants as piece
 use Rattle.run_model.specs.Pieces.{bucket_of, named_from}
+use Rattle.bucket_kinds.specs.declared.stored.Stored.{Stored}
 use Rattle.brigade_ops.specs.declared.store.Brigades.{Brigades}
 use Rattle.brigade_ops.specs.Items.{Item, Items, named, named_item}
 use Rattle.brigade_ops.specs.Store.{lists, next_name}
@@ -50,5 +48,5 @@ module _ (runs : ℕ → Bool) (call req : ℕ) (alive : runs call ≡ true) whe
   brought_shown n pieces xs is young = ap named (brought_reads n pieces xs is young) ∙ is
 
 -- The next name is no brigade's.
-pub next_free : {R : Type 0} {g : Ghosts R Bucket} (store : Brigades R g) → lists store (next_name store) ≡ None
+pub next_free : {R : Type 0} {g : Ghosts R Stored} (store : Brigades R g) → lists store (next_name store) ≡ None
 next_free store = not_there (lists store (next_name store)) (λ there. omega (arith, brigades store (next_name store) there))

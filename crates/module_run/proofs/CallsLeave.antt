@@ -7,11 +7,11 @@ use Rattle.bucket_ring.specs.declared.rings.Rings.{Ghosts}
 use Rattle.bucket_ring.specs.Kept.{NoneRevived}
 use Rattle.module_code.specs.Program.{Program}
 use Rattle.module_code.specs.declared.instr.Status.{Status}
-use Rattle.run_model.specs.declared.bucket.Bucket.{Bucket}
 use Rattle.run_model.specs.declared.bucket.Mark.TheVariants.{Passed, Usable}
 use Rattle.run_model.specs.declared.payload.Payload.{Payload}
 use Rattle.run_model.specs.Chains.{module_at}
 use Rattle.run_model.specs.Pools.{Pools}
+use Rattle.bucket_kinds.specs.declared.stored.Stored.{Stored}
 use Rattle.brigade_ops.specs.declared.store.Brigades.{Brigades}
 use Rattle.brigade_ops.specs.Store.{lists, brigade_of, pool_of, next_name}
 use Rattle.ring_run.specs.declared.machine.Call.{Call}
@@ -64,7 +64,7 @@ marked_name i j b slots a = ap name_in (slots a) ∙ elim (cases_eq a b) [
   go true same = name_marked (slot_at i b) ∙ same
   go false same = refl
 
-module _ {R : Type 0} {g : Ghosts R Bucket} (ps : Pools Payload) (old new : Brigades R g) where
+module _ {R : Type 0} {g : Ghosts R Stored} (ps : Pools Payload) (old new : Brigades R g) where
   -- Filters are told alike.
   pub leaves_alike : (c d e : Conn) → ((k : ℕ) → filter_at e k ≡ filter_at d k) → LeavesOthers ps old new c d → LeavesOthers ps old new c e
   leaves_alike c d e same left = record {
@@ -81,14 +81,14 @@ module _ {R : Type 0} {g : Ghosts R Bucket} (ps : Pools Payload) (old new : Brig
   }
 
 -- No filter changed.
-pub ends_unchanged : {R : Type 0} {g : Ghosts R Bucket} (old new : Brigades R g) (c d : Conn) → ((k : ℕ) → filter_at d k ≡ filter_at c k) → EndsLoose old new c d
+pub ends_unchanged : {R : Type 0} {g : Ghosts R Stored} (old new : Brigades R g) (c d : Conn) → ((k : ℕ) → filter_at d k ≡ filter_at c k) → EndsLoose old new c d
 ends_unchanged old new c d same = record {
   calls = λ k f e is now other. absurd (other (ap (λ (x : Filter). x.call.name) (some_is e f (sym now ∙ (same k ∙ is)))));
   brought = λ k m f is named free unheld. absurd (unheld (held_by d k 8 m f (same k ∙ is) named));
 }
 
 -- One filter changed, whose call goes on, and so does what came in to it.
-pub ends_one : {R : Type 0} {g : Ghosts R Bucket} (old new : Brigades R g) (c d : Conn) (t : ℕ) (x y : Filter) → filter_at c t ≡ Some x → filter_at d t ≡ Some y → ((k : ℕ) → k ≢ t → filter_at d k ≡ filter_at c k)
+pub ends_one : {R : Type 0} {g : Ghosts R Stored} (old new : Brigades R g) (c d : Conn) (t : ℕ) (x y : Filter) → filter_at c t ≡ Some x → filter_at d t ≡ Some y → ((k : ℕ) → k ≢ t → filter_at d k ≡ filter_at c k)
     → y.call.name ≡ x.call.name → named_at y 8 ≡ named_at x 8 → EndsLoose old new c d
 ends_one old new c d t x y was now others name came = record { calls = calls; brought = brought } where
   calls : (k : ℕ) (f e : Filter) → filter_at c k ≡ Some f → filter_at d k ≡ Some e → e.call.name ≢ f.call.name → lists new f.call.name ≡ None
@@ -109,7 +109,7 @@ ends_one old new c d t x y was now others name came = record { calls = calls; br
   ]
 
 -- A call returned to the one that waits for it.
-module _ {R : Type 0} {g : Ghosts R Bucket} (chain : List Program) (s : Status) (ps : Pools Payload) (old new : Brigades R g) (c : Conn) (filters : Vec Filter) (waits : Vec ℕ) (w : ℕ)
+module _ {R : Type 0} {g : Ghosts R Stored} (chain : List Program) (s : Status) (ps : Pools Payload) (old new : Brigades R g) (c : Conn) (filters : Vec Filter) (waits : Vec ℕ) (w : ℕ)
     (st : IsStacked chain old c) (x : GivesBack chain s (lists old) (lists new) c (with_calls c filters waits) w) where
   abbrev after : Conn
   after = with_calls c filters waits
@@ -189,7 +189,7 @@ module _ {R : Type 0} {g : Ghosts R Bucket} (chain : List Program) (s : Status) 
   returned_ends = record { calls = calls_end; brought = brought_end }
 
 -- The call for which none waits ended.
-module _ {R : Type 0} {g : Ghosts R Bucket} (chain : List Program) (ps : Pools Payload) (old new : Brigades R g) (c d : Conn) (st : IsStacked chain old c)
+module _ {R : Type 0} {g : Ghosts R Stored} (chain : List Program) (ps : Pools Payload) (old new : Brigades R g) (c d : Conn) (st : IsStacked chain old c)
     (x : EndsLast (lists old) (lists new) (next_name old) c d) (none : lists old 0 ≡ None) where
   first_ended_came : Came c (next_name old) x.ended
   first_ended_came n pos by = elim by [
@@ -292,7 +292,7 @@ module _ {R : Type 0} {g : Ghosts R Bucket} (chain : List Program) (ps : Pools P
     }
 
 -- A brigade was handed to the next filter, whose call began.
-module _ {R : Type 0} {g : Ghosts R Bucket} (chain : List Program) (ps : Pools Payload) (old new : Brigades R g) (c : Conn) (fs : Vec Filter) (ws : Vec ℕ) (b m : ℕ) (x e y z : Filter) (st : IsStacked chain old c)
+module _ {R : Type 0} {g : Ghosts R Stored} (chain : List Program) (ps : Pools Payload) (old new : Brigades R g) (c : Conn) (fs : Vec Filter) (ws : Vec ℕ) (b m : ℕ) (x e y z : Filter) (st : IsStacked chain old c)
     (h : HandsOn c fs ws (next_name old) b m x e y z) (more : OneMore old new) (none : lists old 0 ≡ None) where
   abbrev handed : Conn
   handed = changed c fs ws
@@ -365,7 +365,7 @@ module _ {R : Type 0} {g : Ghosts R Bucket} (chain : List Program) (ps : Pools P
     ]
 
 -- One filter changed, whose call goes on, and whose variables name what they named.
-module _ {R : Type 0} {g : Ghosts R Bucket} (ps : Pools Payload) (old new : Brigades R g) (c d : Conn) (t : ℕ) (x y : Filter) (was : filter_at c t ≡ Some x) (now : filter_at d t ≡ Some y) (others : (k : ℕ) → k ≢ t → filter_at d k ≡ filter_at c k)
+module _ {R : Type 0} {g : Ghosts R Stored} (ps : Pools Payload) (old new : Brigades R g) (c d : Conn) (t : ℕ) (x y : Filter) (was : filter_at c t ≡ Some x) (now : filter_at d t ≡ Some y) (others : (k : ℕ) → k ≢ t → filter_at d k ≡ filter_at c k)
     (name : y.call.name ≡ x.call.name) (names : (a : ℕ) → named_at y a ≡ named_at x a) where
   one_came : (k : ℕ) (f : Filter) → filter_at d k ≡ Some f → Came c (next_name old) f
   one_came k f is = elim (cases_eq k t) [
@@ -388,7 +388,7 @@ module _ {R : Type 0} {g : Ghosts R Bucket} (ps : Pools Payload) (old new : Brig
   }
 
 -- A brigade was brought, and the call of the first filter began.
-module _ {R : Type 0} {g : Ghosts R Bucket} (chain : List Program) (ps : Pools Payload) (old new : Brigades R g) (c d : Conn) (before : Filter) (before_is : filter_at c 0 ≡ Some before) (begins : CalledMain chain (next_name old) (next_name old + 1) c d) where
+module _ {R : Type 0} {g : Ghosts R Stored} (chain : List Program) (ps : Pools Payload) (old new : Brigades R g) (c d : Conn) (before : Filter) (before_is : filter_at c 0 ≡ Some before) (begins : CalledMain chain (next_name old) (next_name old + 1) c d) where
   main_came : (k : ℕ) (f : Filter) → filter_at d k ≡ Some f → Came c (next_name old) f
   main_came k f is n pos by = elim (cases_eq k 0) [
     | inl q ↦ at_first (begins.first before before_is) (ap (filter_at d) (sym q) ∙ is)

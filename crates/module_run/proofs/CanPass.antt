@@ -6,7 +6,6 @@ use Rattle.module_code.specs.Program.{Program}
 use Rattle.module_code.specs.declared.instr.Instr.TheVariants as instr
 use Rattle.bucket_kinds.specs.Device.{Device}
 use Rattle.bucket_ring.specs.declared.rings.Rings.{Ghosts}
-use Rattle.run_model.specs.declared.bucket.Bucket.{Bucket}
 use Rattle.run_model.specs.declared.bucket.BrigadeVar.{BrigadeVar}
 use Rattle.run_model.specs.declared.bucket.BrigadeVar.TheVariants as var
 use Rattle.run_model.specs.declared.payload.Payload.{Payload}
@@ -19,6 +18,7 @@ use Rattle.run_model.specs.Steps.{current, is_spent}
 use Rattle.run_model.proofs.Updates.{upd_either}
 use Rattle.pool_tree.specs.declared.tree.PoolTree.{PoolTree}
 use Rattle.pool_tree.specs.Tree.{map_of}
+use Rattle.bucket_kinds.specs.declared.stored.Stored.{Stored}
 use Rattle.brigade_ops.specs.declared.store.Brigades.{Brigades}
 use Rattle.brigade_ops.specs.Items.{Items}
 use Rattle.brigade_ops.specs.Store.{lists, next_name, pool_of}
@@ -33,7 +33,7 @@ use Rattle.ring_run.specs.Seen.{seen_over, shown_as, shown_slot}
 use Rattle.ring_run.specs.Slots.{slot_at, name_in, live_in}
 use Rattle.module_run.specs.Stacked.{named_at}
 use Rattle.ring_run.proofs.Changes.{live_is}
-use Rattle.ring_run.proofs.Faultless.{pass_of}
+use Rattle.ring_run.proofs.Faultless.{usable_live}
 use Rattle.module_run.proofs.HandsOn.{AreNamed, cases_le, not_called, not_waiting}
 use Rattle.module_run.proofs.TopFilter.{on_top_of}
 use Rattle.module_run.proofs.Tops.{OnTop, around_of, configured, filter_within, instances_are}
@@ -62,7 +62,7 @@ filter_not runs L f a n (Some b) named = elim (upd_either (λ d. shown_slot runs
   | inr p ↦ ap is_null p.1 ∙ (shown_not runs L (slot_at f.instance a) n named).0
 ]
 
-module _ {R : Type 0} {g : Ghosts R Bucket} (chain : List Program) (b l : ℕ) (tree : PoolTree Payload) (store : Brigades R g) (d : Device) (c : Conn) (v : Linked) (f : Frame) (rest : List Frame)
+module _ {R : Type 0} {g : Ghosts R Stored} (chain : List Program) (b l : ℕ) (tree : PoolTree Payload) (store : Brigades R g) (d : Device) (c : Conn) (v : Linked) (f : Frame) (rest : List Frame)
     (ready : IsReady chain (instr.Pass b l) tree store d c v f rest) where
   pub passer : OnTop (lists store) c f rest
   passer = on_top_of chain (instr.Pass b l) tree store d c v f rest ready
@@ -78,8 +78,8 @@ module _ {R : Type 0} {g : Ghosts R Bucket} (chain : List Program) (b l : ℕ) (
 
   -- the brigade that is passed
   pub passed_live : is_some (live_in (lists store) (slot_at passer.filter.instance b)) ≡ true
-  passed_live = pass_of (module_at chain f.of) (lists store) (next_name store) (around_of (map_of tree) c v) passer.filter.instance passer.filter.call b l
-      (ap (λ (r : Configuration). fault (module_at chain f.of) r (instr.Pass b l)) (sym passer_sees) ∙ ready.faultless)
+  passed_live = usable_live (module_at chain f.of) (lists store) (next_name store) (around_of (map_of tree) c v) passer.filter.instance passer.filter.call (instr.Pass b l) (instr.Pass b l) refl
+      (ap (λ (r : Configuration). fault (module_at chain f.of) r (instr.Pass b l)) (sym passer_sees) ∙ ready.faultless) 0 b refl
 
   -- it is an instruction of the module of its filter
   pub passes_there : current (module_at chain (top_of c)) passer.filter.call.pc ≡ instr.Pass b l

@@ -8,7 +8,6 @@ use Rattle.module_code.specs.declared.instr.Instr.TheVariants as instr
 use Rattle.bucket_kinds.specs.Device.{Device, Held, is_there}
 use Rattle.bucket_ring.specs.declared.rings.Rings.{Ghosts}
 use Rattle.bucket_ring.specs.Kept.{once_in}
-use Rattle.run_model.specs.declared.bucket.Bucket.{Bucket}
 use Rattle.run_model.specs.declared.bucket.Mark.TheVariants.{Passed}
 use Rattle.run_model.specs.declared.bucket.NamedBucket.{NamedBucket}
 use Rattle.run_model.specs.declared.event.Stepped.TheVariants as stepped
@@ -20,6 +19,7 @@ use Rattle.run_model.specs.State.{Configuration, Out, items_of, set_brigade}
 use Rattle.run_model.specs.Steps.{answer_to, is_fail, jumps_if}
 use Rattle.pool_tree.specs.declared.tree.PoolTree.{PoolTree}
 use Rattle.pool_tree.specs.Tree.{map_of}
+use Rattle.bucket_kinds.specs.declared.stored.Stored.{Stored}
 use Rattle.brigade_ops.specs.declared.store.Brigades.{Brigades}
 use Rattle.brigade_ops.specs.Store.{lists, brigade_of, pool_of, next_name}
 use Rattle.ring_run.specs.declared.machine.Instance.{Instance}
@@ -49,7 +49,7 @@ pub pass_leads : (well : Bool) (b l pc : ℕ) → (if well then pc + 1 else l) �
 pass_leads true b l pc = refl
 pass_leads false b l pc = refl
 
-module _ {R : Type 0} {g : Ghosts R Bucket} (chain : List Program) (b l : ℕ) (tree : PoolTree Payload) (old new : Brigades R g) (d e : Device) (c : Conn) (v : Linked) (f : Frame) (rest : List Frame)
+module _ {R : Type 0} {g : Ghosts R Stored} (chain : List Program) (b l : ℕ) (tree : PoolTree Payload) (old new : Brigades R g) (d e : Device) (c : Conn) (v : Linked) (f : Frame) (rest : List Frame)
     (ready : IsReady chain (instr.Pass b l) tree old d c v f rest) (i : Instance) (well : Bool) (fs : Vec Filter) (out : List ℕ) (ended : Bool) where
   abbrev x : Filter
   x = (passer chain b l tree old d c v f rest ready).filter

@@ -9,7 +9,6 @@ use Rattle.bucket_kinds.specs.Device.{Device}
 use Rattle.module_code.specs.Program.{Program}
 use Rattle.module_code.specs.declared.instr.Instr.TheVariants as instr
 use Rattle.module_code.specs.declared.instr.Status.{Status}
-use Rattle.run_model.specs.declared.bucket.Bucket.{Bucket}
 use Rattle.run_model.specs.declared.event.Stepped.TheVariants as stepped
 use Rattle.run_model.specs.declared.payload.Payload.{Payload}
 use Rattle.run_model.specs.Chains.{Frame, Linked, configuration, put_back}
@@ -17,6 +16,7 @@ use Rattle.run_model.specs.Passing.{next_called, returned_from}
 use Rattle.run_model.specs.State as model
 use Rattle.pool_tree.specs.declared.tree.PoolTree.{PoolTree}
 use Rattle.pool_tree.specs.Tree.{map_of}
+use Rattle.bucket_kinds.specs.declared.stored.Stored.{Stored}
 use Rattle.brigade_ops.specs.declared.store.Brigades.{Brigades}
 use Rattle.brigade_ops.specs.Store.{lists, brigade_of, pool_of, references, next_name}
 use Rattle.module_run.specs.declared.conn.Conn.{Conn}
@@ -31,7 +31,7 @@ use Rattle.module_run.proofs.HeldStays.{held_stays}
 use Rattle.module_run.proofs.Known.{some_is}
 use Rattle.module_run.proofs.LoneCalls.{HasLone, stacked_lone}
 
-module _ {R : Type 0} {g : Ghosts R Bucket} (chain : List Program) (s : Status) (tree : PoolTree Payload) (store : Brigades R g) (device : Device) (c : Conn) (v : Linked) (f : Frame) (rest : List Frame)
+module _ {R : Type 0} {g : Ghosts R Stored} (chain : List Program) (s : Status) (tree : PoolTree Payload) (store : Brigades R g) (device : Device) (c : Conn) (v : Linked) (f : Frame) (rest : List Frame)
     (ready : IsReady chain (instr.Ret s) tree store device c v f rest) (none : waiting c ≡ 0) (new : Brigades R g) (filters : Vec Filter)
     (x : EndsLast (lists store) (lists new) (next_name store) c (record c { filters = filters; busy = false })) where
   abbrev d : Conn

@@ -1,8 +1,7 @@
 -- A file is opened: what the connection stands for then.
-use Rattle.std.proofs.Common.{◌≡◌, ◌≢◌, ◌==◌, ℕ, suc, ◌+◌, ◌<◌, ◌≤◌, Bool, true, false, List, [], ◌∷◌, ◌++◌, length, map, replicate, Option, Some, None, Result, Ok, Err, refl, sym, ap, subst, ◌∙◌, inl, inr, arith}
+use Rattle.std.proofs.Common.{◌≡◌, ◌≢◌, ◌==◌, ℕ, ◌+◌, ◌<◌, ◌≤◌, Bool, true, List, [], ◌∷◌, ◌++◌, length, replicate, Option, Some, None, refl, sym, ap, subst, ◌∙◌, inl, inr, arith}
 use Rattle.std.specs.Prelude.{if◌then◌else◌}
 use Rattle.std.specs.Global.{Vec}
-use Rattle.std.proofs.Math.Path.{fun_ext}
 use Rattle.std.proofs.lemmas.Bool.{cases_eq, eq-eqb, ne_eqb}
 use Rattle.std.proofs.lemmas.List.{map-append, length-replicate}
 use Rattle.bucket_kinds.specs.Answers.{MayHave, Opens}
@@ -10,7 +9,6 @@ use Rattle.bucket_kinds.specs.Device.{Device, Held, Missing, Untold, Holds, clos
 use Rattle.bucket_ring.specs.declared.names.BucketId.{BucketId}
 use Rattle.bucket_ring.specs.declared.rings.Rings.{Ghosts}
 use Rattle.module_code.specs.Program.{Program}
-use Rattle.run_model.specs.declared.bucket.Bucket.{Bucket}
 use Rattle.run_model.specs.declared.event.Refusal.{Refusal}
 use Rattle.run_model.specs.declared.event.Refusal.TheVariants as refusal
 use Rattle.run_model.specs.declared.payload.Payload.{Payload}
@@ -22,6 +20,7 @@ use Rattle.run_model.specs.RunOrder.{IsPoolMap}
 use Rattle.run_model.specs.Turns.{file_taken}
 use Rattle.pool_tree.specs.declared.tree.PoolTree.{PoolTree}
 use Rattle.pool_tree.specs.Tree.{map_of}
+use Rattle.bucket_kinds.specs.declared.stored.Stored.{Stored}
 use Rattle.brigade_ops.specs.declared.store.Brigades.{Brigades}
 use Rattle.brigade_ops.specs.House.{AreOpen, IsHouse}
 use Rattle.brigade_ops.specs.Items.{Items}
@@ -30,7 +29,7 @@ use Rattle.module_run.specs.declared.conn.Conn.{Conn}
 use Rattle.module_run.specs.declared.conn.OpenFile.{OpenFile}
 use Rattle.module_run.specs.Conns.{conn_of, filter_at, lengths}
 use Rattle.module_run.specs.OpenedFile.{IsAfterOpening}
-use Rattle.module_run.specs.Proceeding.{HasOpen, LeftAs, MayHold}
+use Rattle.module_run.specs.Proceeding.{LeftAs, MayHold}
 use Rattle.module_run.specs.Stacked.{IsStacked, StackedOver}
 use Rattle.module_run.proofs.Alongside.{stacked_beside}
 use Rattle.module_run.proofs.Looked.{some_same}
@@ -47,7 +46,7 @@ there_bytes Missing there = absurd (cc)
 there_bytes Untold there = ([], tt)
 there_bytes (Holds held) there = (held, refl)
 
-module _ {R : Type 0} {g : Ghosts R Bucket} (chain : List Program) (tree : PoolTree Payload) (store : Brigades R g) (d e : Device) (c : Conn) (v : Linked) where
+module _ {R : Type 0} {g : Ghosts R Stored} (chain : List Program) (tree : PoolTree Payload) (store : Brigades R g) (d e : Device) (c : Conn) (v : Linked) where
   -- where the same files are open
   pub left_device : ((file : ℕ) → e.numbered file ≡ d.numbered file) → LeftAs chain tree store d c v → LeftAs chain tree store e c v
   left_device same left = record {
@@ -161,7 +160,7 @@ module _ (d e : Device) (name : List ℕ) (number len : ℕ) (opens : Opens d na
   pub closed_again : (last : Device) → last ≡ closed number e → last ≡ closed d.next (opened name (moved d))
   closed_again last is = is ∙ (ap (λ (n : ℕ). closed n e) opens.number_is ∙ ap (closed d.next) opens.after)
 
-  module _ {R : Type 0} {g : Ghosts R Bucket} (chain : List Program) (tree newer : PoolTree Payload) (old new : Brigades R g) (c : Conn) (v : Linked) (left : LeftAs chain tree old d c v) (req : ℕ) (bytes : List ℕ)
+  module _ {R : Type 0} {g : Ghosts R Stored} (chain : List Program) (tree newer : PoolTree Payload) (old new : Brigades R g) (c : Conn) (v : Linked) (left : LeftAs chain tree old d c v) (req : ℕ) (bytes : List ℕ)
       (holds : MayHold (d.named name) bytes) (long : len ≡ length bytes) (files : Vec OpenFile) (file : OpenFile) (is_number : file.number ≡ number) (is_len : file.len ≡ len) (more : files.items ≡ c.files.items ++ file ∷ [])
       (map_is : map_of newer ≡ registered req (FileRef number) (map_of tree)) (formed : IsPoolMap (map_of newer)) (house : IsHouse new (map_of newer)) (counted : (f : ℕ) → references new f ≡ (if f == number then references old f + 1 else references old f))
       (same_lists : lists new ≡ lists old) (same_at : brigade_of new ≡ brigade_of old) (same_on : pool_of new ≡ pool_of old) (same_next : next_name new ≡ next_name old) where

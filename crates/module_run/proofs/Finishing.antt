@@ -6,7 +6,6 @@ use Rattle.bucket_kinds.specs.Device.{Device}
 use Rattle.module_code.specs.Program.{Program}
 use Rattle.module_code.specs.declared.instr.Instr.TheVariants as instr
 use Rattle.module_code.specs.declared.instr.Status.{Status}
-use Rattle.run_model.specs.declared.bucket.Bucket.{Bucket}
 use Rattle.run_model.specs.declared.bucket.BrigadeVar.{BrigadeVar}
 use Rattle.run_model.specs.declared.bucket.BrigadeVar.TheVariants as var
 use Rattle.run_model.specs.declared.event.Stepped.{Stepped}
@@ -18,6 +17,7 @@ use Rattle.run_model.specs.State as model
 use Rattle.run_model.proofs.Updates.{upd_either}
 use Rattle.pool_tree.specs.declared.tree.PoolTree.{PoolTree}
 use Rattle.pool_tree.specs.Tree.{map_of}
+use Rattle.bucket_kinds.specs.declared.stored.Stored.{Stored}
 use Rattle.brigade_ops.specs.declared.store.Brigades.{Brigades}
 use Rattle.brigade_ops.specs.House.{AreOpen, IsHouse}
 use Rattle.brigade_ops.specs.Items.{Items}
@@ -58,7 +58,7 @@ null_slot runs L i b (Some a) e = elim (upd_either was a b (handed_over (was a))
   was : ℕ → BrigadeVar
   was k = shown_slot runs L (slot_at i k)
 
-module _ {R : Type 0} {g : Ghosts R Bucket} (chain : List Program) (s : Status) (tree : PoolTree Payload) (store : Brigades R g) (device : Device) (c : Conn) (v : Linked) (f : Frame) (rest : List Frame)
+module _ {R : Type 0} {g : Ghosts R Stored} (chain : List Program) (s : Status) (tree : PoolTree Payload) (store : Brigades R g) (device : Device) (c : Conn) (v : Linked) (f : Frame) (rest : List Frame)
     (ready : IsReady chain (instr.Ret s) tree store device c v f rest) (none : waiting c ≡ 0) where
   pub nine : HasNine c
   nine k b h is past = null_slot (runs_of c) (lists store) h.instance b h.lent

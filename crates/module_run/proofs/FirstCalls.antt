@@ -1,42 +1,38 @@
 -- The call of the first filter begins, where no call runs: what the connection reads as, and what is true of its filters.
-use Rattle.std.proofs.Common.{◌≡◌, ◌≢◌, ◌==◌, ℕ, zero, suc, ◌+◌, ◌-◌, ◌<◌, ◌≤◌, ◌&&◌, nat_le, nat_lt, Bool, true, false, List, [], ◌∷◌, ◌++◌, length, Option, Some, None, is_some, refl, sym, ap, subst, ◌∙◌, ◌⊎◌, inl, inr, arith}
+use Rattle.std.proofs.Common.{◌≡◌, ◌≢◌, ℕ, zero, suc, ◌+◌, ◌-◌, ◌&&◌, nat_le, nat_lt, Bool, true, false, List, [], ◌∷◌, ◌++◌, length, Option, Some, None, is_some, refl, sym, ap, ◌∙◌, ◌⊎◌, inl, inr, arith}
 use Rattle.std.specs.Prelude.{if◌then◌else◌}
 use Rattle.std.specs.Option.{option_map_or}
 use Rattle.std.proofs.Math.Path.{fun_ext}
-use Rattle.std.proofs.lemmas.Bool.{cases_eq, le-ltb, leb-true, lt-leb}
-use Rattle.bucket_ring.specs.declared.names.BucketId.{BucketId}
+use Rattle.std.proofs.lemmas.Bool.{le-ltb, leb-true}
 use Rattle.bucket_ring.specs.declared.rings.Rings.{Ghosts}
-use Rattle.bucket_ring.specs.Kept.{NoneRevived}
 use Rattle.bucket_ring.specs.Lists as ring
 use Rattle.bucket_ring.specs.Lists.{list_at}
 use Rattle.module_code.specs.Program.{Program}
-use Rattle.run_model.specs.declared.bucket.Bucket.{Bucket}
 use Rattle.run_model.specs.declared.bucket.BrigadeVar.{BrigadeVar}
 use Rattle.run_model.specs.declared.bucket.Cursor.{Cursor}
 use Rattle.run_model.specs.declared.bucket.Cursor.TheVariants as cursor
 use Rattle.run_model.specs.declared.bucket.NamedBucket.{NamedBucket}
 use Rattle.run_model.specs.declared.payload.Payload.{Payload}
-use Rattle.run_model.specs.Chains.{Frame, Connection, Common, Linked, module_at}
+use Rattle.run_model.specs.Chains.{Frame, Connection, Common, module_at}
 use Rattle.run_model.specs.Passing.{called, handler_at}
 use Rattle.run_model.specs.Pools.{Pools}
 use Rattle.run_model.specs.State as model
 use Rattle.run_model.specs.State.{fresh_call}
 use Rattle.run_model.specs.Turns.{numbers_below, tail_of}
+use Rattle.bucket_kinds.specs.declared.stored.Stored.{Stored}
 use Rattle.brigade_ops.specs.declared.store.Brigades.{Brigades}
 use Rattle.brigade_ops.specs.Items.{Items}
-use Rattle.brigade_ops.specs.Store.{lists, brigade_of, pool_of, next_name}
+use Rattle.brigade_ops.specs.Store.{lists, next_name}
 use Rattle.module_run.specs.declared.conn.Conn.{Conn}
 use Rattle.module_run.specs.declared.conn.Filter.{Filter}
-use Rattle.ring_run.specs.declared.machine.Call.{Call}
 use Rattle.ring_run.specs.declared.machine.Instance.{Instance}
 use Rattle.module_run.specs.CalledFirst.{CalledFirst, Starts}
 use Rattle.module_run.specs.Conns.{call_name, conn_of, counting, filter_at, labels_handed, lengths, lent_by, runs_of, shown_call, shown_filter, shown_frame, shown_instance, stack_of, stack_up, top_of, waiting}
-use Rattle.ring_run.specs.Held.{HeldOver, IsHeld, WasGiven}
 use Rattle.ring_run.specs.Seen.{is_running, shown, shown_cursor, shown_slot}
-use Rattle.ring_run.specs.Slots.{cursor_at, slot_at, name_in}
-use Rattle.module_run.specs.Stacked.{FiltersApart, AreCalled, IsStacked, StackedOver, is_called, is_waiting, named_at, names_up}
-use Rattle.ring_run.proofs.Begins.{by_slot, held_begun}
-use Rattle.ring_run.proofs.Changes.{ring_here, ring_off}
+use Rattle.ring_run.specs.Slots.{cursor_at, slot_at}
+use Rattle.module_run.specs.Stacked.{IsStacked, is_called, is_waiting, named_at}
+use Rattle.ring_run.proofs.Begins.{by_slot}
+use Rattle.ring_run.proofs.Changes.{ring_here}
 use Rattle.module_run.proofs.Looked.{some_same}
 use Rattle.module_run.proofs.Tops.{filter_within, frame_at}
 
@@ -78,7 +74,7 @@ none_between a k n e = go (nat_le a k) refl where
   go true is = (let low = leb-true a k is in le-ltb k (a + n) (omega (arith, low, e)))
 
 -- Where no call runs, none waits and nothing is lent.
-module _ {R : Type 0} {g : Ghosts R Bucket} (chain : List Program) (store : Brigades R g) (c : Conn) (stacked : IsStacked chain store c) (idle : c.busy ≡ false) where
+module _ {R : Type 0} {g : Ghosts R Stored} (chain : List Program) (store : Brigades R g) (c : Conn) (stacked : IsStacked chain store c) (idle : c.busy ≡ false) where
   pub none_waits : c.waits.items ≡ []
   none_waits = none_in c.waits.items (stacked.called.quiet idle)
 
@@ -107,7 +103,7 @@ module _ {R : Type 0} {g : Ghosts R Bucket} (chain : List Program) (store : Brig
       ∙ (ap (λ (n : ℕ). is_running n c.waits.items) (no_call (top_of c) top.0 top.1) ∙ ap (is_running 0) none_waits)
 
 -- The call of the first filter begins, in a request or in none.
-module _ {R : Type 0} {g : Ghosts R Bucket} (chain : List Program) (old new : Brigades R g) (c d : Conn) (r : Option ℕ) (stacked : IsStacked chain old c) (idle : c.busy ≡ false)
+module _ {R : Type 0} {g : Ghosts R Stored} (chain : List Program) (old new : Brigades R g) (c d : Conn) (r : Option ℕ) (stacked : IsStacked chain old c) (idle : c.busy ≡ false)
     (begins : CalledFirst chain (next_name old) (record c { req = r }) d) (over : (n : ℕ) → lists new n ≡ ring.upd (lists old) (next_name old) (Some []) n) where
   pub started : (f : Filter) → filter_at c 0 ≡ Some f → (e : Filter) × ((filter_at d 0 ≡ Some e) × Starts (next_name old) (handler_at r (module_at chain 0)) f e)
   unfolding filter_at

@@ -11,12 +11,12 @@ use Rattle.bucket_kinds.specs.Device.{Device}
 use Rattle.module_code.specs.Program.{Program}
 use Rattle.module_code.specs.declared.instr.Instr.TheVariants as instr
 use Rattle.module_code.specs.declared.instr.Status.{Status}
-use Rattle.run_model.specs.declared.bucket.Bucket.{Bucket}
 use Rattle.run_model.specs.declared.payload.Payload.{Payload}
 use Rattle.run_model.specs.Chains.{Frame, Connection, Linked}
 use Rattle.model_laws.specs.ChainSound.{IsRising}
 use Rattle.run_model.specs.Turns.{calls_of}
 use Rattle.pool_tree.specs.declared.tree.PoolTree.{PoolTree}
+use Rattle.bucket_kinds.specs.declared.stored.Stored.{Stored}
 use Rattle.brigade_ops.specs.declared.store.Brigades.{Brigades}
 use Rattle.brigade_ops.specs.Store.{lists, brigade_of, pool_of, next_name}
 use Rattle.module_run.specs.declared.conn.Conn.{Conn}
@@ -33,7 +33,7 @@ use Rattle.module_run.proofs.Finishing.{rest_none, top_first}
 use Rattle.module_run.proofs.HeldStays.{held_stays}
 use Rattle.module_run.proofs.TopFilter.{filter_read, on_top_of, top_runs, top_within}
 
-module _ {R : Type 0} {g : Ghosts R Bucket} (chain : List Program) (s : Status) (tree : PoolTree Payload) (store : Brigades R g) (device : Device) (c : Conn) (v : Linked) (f : Frame) (rest : List Frame)
+module _ {R : Type 0} {g : Ghosts R Stored} (chain : List Program) (s : Status) (tree : PoolTree Payload) (store : Brigades R g) (device : Device) (c : Conn) (v : Linked) (f : Frame) (rest : List Frame)
     (ready : IsReady chain (instr.Ret s) tree store device c v f rest) (none : waiting c ≡ 0) where
   pub first_within : c.first < length c.filters.items
   first_within = (let a = top_within chain (instr.Ret s) tree store device c v f rest ready in omega (arith, a))

@@ -1,24 +1,22 @@
 -- The call of the first filter begins, where no call runs: what is true of the filters and calls.
-use Rattle.std.proofs.Common.{◌≡◌, ◌≢◌, ◌==◌, ℕ, zero, suc, ◌+◌, ◌-◌, ◌<◌, ◌≤◌, ◌&&◌, nat_le, nat_lt, Bool, true, false, List, [], ◌∷◌, ◌++◌, length, Option, Some, None, is_some, refl, sym, ap, subst, ◌∙◌, ◌⊎◌, inl, inr, arith}
-use Rattle.std.proofs.lemmas.Bool.{le-leb, lt-leb, leb-true}
+use Rattle.std.proofs.Common.{◌≡◌, ◌≢◌, ℕ, zero, suc, ◌+◌, ◌<◌, ◌&&◌, nat_le, Bool, true, false, List, [], length, Option, Some, None, is_some, refl, sym, ap, subst, ◌∙◌, inl, inr, arith}
+use Rattle.std.proofs.lemmas.Bool.{le-leb, leb-true}
 use Rattle.bucket_kinds.specs.Device.{Device}
 use Rattle.bucket_ring.specs.declared.names.BucketId.{BucketId}
 use Rattle.bucket_ring.specs.declared.rings.Rings.{Ghosts}
 use Rattle.bucket_ring.specs.Kept.{NoneRevived}
 use Rattle.bucket_ring.specs.Lists as ring
 use Rattle.module_code.specs.Program.{Program}
-use Rattle.run_model.specs.declared.bucket.Bucket.{Bucket}
 use Rattle.run_model.specs.declared.payload.Payload.{Payload}
-use Rattle.run_model.specs.Chains.{Connection, Common, Linked, module_at}
+use Rattle.run_model.specs.Chains.{Connection, Common, module_at}
 use Rattle.run_model.specs.Passing.{called, handler_at}
-use Rattle.run_model.specs.Pools.{Pools}
 use Rattle.run_model.specs.RunOrder.{IsPoolMap}
 use Rattle.run_model.specs.Turns.{all_called, numbers_below, tail_of, with_pools}
 use Rattle.pool_tree.specs.declared.tree.PoolTree.{PoolTree}
 use Rattle.pool_tree.specs.Tree.{map_of}
+use Rattle.bucket_kinds.specs.declared.stored.Stored.{Stored}
 use Rattle.brigade_ops.specs.declared.store.Brigades.{Brigades}
 use Rattle.brigade_ops.specs.House.{IsHouse, AreOpen}
-use Rattle.brigade_ops.specs.Items.{Items}
 use Rattle.brigade_ops.specs.Store.{lists, brigade_of, pool_of, next_name, references}
 use Rattle.brigade_ops.proofs.HouseCalls.{house_loose}
 use Rattle.module_run.specs.declared.conn.Conn.{Conn}
@@ -26,14 +24,14 @@ use Rattle.module_run.specs.declared.conn.Filter.{Filter}
 use Rattle.ring_run.specs.declared.machine.Call.{Call}
 use Rattle.ring_run.specs.declared.machine.Instance.{Instance}
 use Rattle.module_run.specs.CalledFirst.{CalledFirst, Starts}
-use Rattle.module_run.specs.Conns.{conn_of, IsSeenAs, filter_at, top_of, waiting}
-use Rattle.ring_run.specs.Held.{HeldOver, IsHeld, WasGiven}
+use Rattle.module_run.specs.Conns.{conn_of, filter_at, top_of, waiting}
+use Rattle.ring_run.specs.Held.{IsHeld, WasGiven}
 use Rattle.module_run.specs.Proceeding.{LeftAs}
 use Rattle.ring_run.specs.Slots.{slot_at, name_in}
-use Rattle.module_run.specs.Stacked.{FiltersApart, AreCalled, IsStacked, StackedOver, is_called, is_waiting, named_at, names_up}
+use Rattle.module_run.specs.Stacked.{FiltersApart, AreCalled, IsStacked, is_called, is_waiting, named_at, names_up}
 use Rattle.ring_run.proofs.Begins.{held_begun}
 use Rattle.ring_run.proofs.Changes.{ring_off}
-use Rattle.module_run.proofs.FirstCalls.{Was, was, started, others_stay, waits_are, first_is, none_waiting, top_is, starts, before, before_is, after, after_is, conn_called, no_call, nothing_in, not_lent, none_between, no_lent, true_false}
+use Rattle.module_run.proofs.FirstCalls.{Was, was, others_stay, waits_are, first_is, none_waiting, top_is, starts, before, before_is, after, after_is, conn_called, no_call, nothing_in, not_lent, none_between, no_lent, true_false}
 use Rattle.module_run.proofs.Looked.{some_same}
 
 pub no_names : (c : Conn) (k n : ℕ) → n ≡ 0 → names_up c k n ≡ []
@@ -45,7 +43,7 @@ less : (a b : ℕ) → a < b → a ≢ b
 less a b lt e = omega (arith, lt, e)
 
 -- a ring of a new name leaves what is held of a filter that has no call
-module _ {R : Type 0} {g : Ghosts R Bucket} (old new : Brigades R g) (over : (n : ℕ) → lists new n ≡ ring.upd (lists old) (next_name old) (Some []) n)
+module _ {R : Type 0} {g : Ghosts R Stored} (old new : Brigades R g) (over : (n : ℕ) → lists new n ≡ ring.upd (lists old) (next_name old) (Some []) n)
     (next : next_name new ≡ next_name old + 1) (names : NoneRevived (brigade_of old) (brigade_of new) (next_name old)) (pools : pool_of new ≡ pool_of old) where
   as_before : (n : ℕ) → n < next_name old → lists new n ≡ lists old n
   as_before n lt = over n ∙ ring_off (lists old) (next_name old) n (Some []) (less n (next_name old) lt)
@@ -69,7 +67,7 @@ module _ {R : Type 0} {g : Ghosts R Bucket} (old new : Brigades R g) (over : (n 
       only = λ j there e. name.only j (names j there (let b = name.young in omega (arith, b, e))) e;
     }
 
-module _ {R : Type 0} {g : Ghosts R Bucket} (chain : List Program) (old new : Brigades R g) (c d : Conn) (r : Option ℕ) (stacked : IsStacked chain old c) (idle : c.busy ≡ false)
+module _ {R : Type 0} {g : Ghosts R Stored} (chain : List Program) (old new : Brigades R g) (c d : Conn) (r : Option ℕ) (stacked : IsStacked chain old c) (idle : c.busy ≡ false)
     (begins : CalledFirst chain (next_name old) (record c { req = r }) d) (over : (n : ℕ) → lists new n ≡ ring.upd (lists old) (next_name old) (Some []) n)
     (next : next_name new ≡ next_name old + 1) (names : NoneRevived (brigade_of old) (brigade_of new) (next_name old)) (pools : pool_of new ≡ pool_of old) (free : pool_of old (next_name old) ≡ None) where
   abbrev There : ℕ → Filter → Type 0

@@ -10,7 +10,6 @@ use Rattle.bucket_ring.specs.declared.names.BucketId.{BucketId}
 use Rattle.bucket_ring.specs.declared.rings.Rings.{Ghosts}
 use Rattle.bucket_ring.specs.Lists as ring
 use Rattle.bucket_ring.specs.Kept.{NoneRevived, once_in}
-use Rattle.run_model.specs.declared.bucket.Bucket.{Bucket}
 use Rattle.run_model.specs.declared.bucket.Mark.TheVariants.{Usable}
 use Rattle.run_model.specs.declared.event.Stepped.TheVariants as stepped
 use Rattle.run_model.specs.declared.payload.Payload.{Payload}
@@ -20,6 +19,7 @@ use Rattle.run_model.specs.Passing.{delivered_by, passed_to, proceeds}
 use Rattle.run_model.specs.State.{items_of, set_brigade, fresh_call}
 use Rattle.pool_tree.specs.declared.tree.PoolTree.{PoolTree}
 use Rattle.pool_tree.specs.Tree.{map_of}
+use Rattle.bucket_kinds.specs.declared.stored.Stored.{Stored}
 use Rattle.brigade_ops.specs.declared.store.Brigades.{Brigades}
 use Rattle.brigade_ops.specs.House.{IsHouse}
 use Rattle.brigade_ops.specs.Items.{Items}
@@ -47,14 +47,14 @@ use Rattle.module_run.proofs.HandsOnSeen.{seen_after}
 use Rattle.module_run.proofs.MoreCalls.{all_older}
 
 -- A call began in a store: its loose buckets are a new ring.
-pub record OneMore {R : Type 0} {g : Ghosts R Bucket} (old new : Brigades R g) : Type 0 where
+pub record OneMore {R : Type 0} {g : Ghosts R Stored} (old new : Brigades R g) : Type 0 where
   pub out : (n : ℕ) → lists new n ≡ ring.upd (lists old) (next_name old) (Some []) n
   pub next : next_name new ≡ next_name old + 1
   pub names : NoneRevived (brigade_of old) (brigade_of new) (next_name old)
   pub pools : pool_of new ≡ pool_of old
   pub references : references new ≡ references old
 
-module _ {R : Type 0} {g : Ghosts R Bucket} (old new : Brigades R g) (more : OneMore old new) where
+module _ {R : Type 0} {g : Ghosts R Stored} (old new : Brigades R g) (more : OneMore old new) where
   pub lists_kept : (n : ℕ) → n < next_name old → lists new n ≡ lists old n
   lists_kept n below = more.out n ∙ ring_off (lists old) (next_name old) n (Some []) (λ e. omega (arith, below, e))
 
@@ -89,7 +89,7 @@ module _ {R : Type 0} {g : Ghosts R Bucket} (old new : Brigades R g) (more : One
       only = λ j there e. name.only j (more.names j there (let b = name.young in omega (arith, b, e))) e;
     }
 
-module _ {R : Type 0} {g : Ghosts R Bucket} (chain : List Program) (b l : ℕ) (tree : PoolTree Payload) (old new : Brigades R g) (d : Device) (c : Conn) (v : Linked) (f : Frame) (rest : List Frame)
+module _ {R : Type 0} {g : Ghosts R Stored} (chain : List Program) (b l : ℕ) (tree : PoolTree Payload) (old new : Brigades R g) (d : Device) (c : Conn) (v : Linked) (f : Frame) (rest : List Frame)
     (ready : IsReady chain (instr.Pass b l) tree old d c v f rest) (behind : is_last chain (top_of c) ≡ false) (more : OneMore old new)
     (fs : Vec Filter) (ws : Vec ℕ) (m : ℕ) (y z : Filter) where
   abbrev x : Filter

@@ -11,7 +11,6 @@ use Rattle.bucket_ring.specs.Lists as ring
 use Rattle.run_model.specs.declared.bucket.Brigade.{Brigade}
 use Rattle.run_model.specs.declared.bucket.BrigadeVar.{BrigadeVar}
 use Rattle.run_model.specs.declared.bucket.BrigadeVar.TheVariants as var
-use Rattle.run_model.specs.declared.bucket.Bucket.{Bucket}
 use Rattle.run_model.specs.declared.bucket.Mark.TheVariants.{Passed}
 use Rattle.run_model.specs.declared.payload.Payload.{Payload}
 use Rattle.run_model.specs.Chains.{Linked, configuration, module_at, pools_of}
@@ -25,6 +24,7 @@ use Rattle.model_laws.specs.Parts.{HasPart}
 use Rattle.model_laws.proofs.parts.Paths.{part_under}
 use Rattle.pool_tree.specs.declared.tree.PoolTree.{PoolTree}
 use Rattle.pool_tree.specs.Tree.{map_of}
+use Rattle.bucket_kinds.specs.declared.stored.Stored.{Stored}
 use Rattle.brigade_ops.specs.declared.store.Brigades.{Brigades}
 use Rattle.brigade_ops.specs.House.{IsHouse, cleared_ring, pool_left}
 use Rattle.brigade_ops.specs.Items.{Items}
@@ -67,7 +67,7 @@ none_kept L M name out n none = elim (cases_eq n name) [
 ]
 
 -- The brigades stand on their pools where one goes that is on none.
-pub house_ended : {R : Type 0} {g : Ghosts R Bucket} (old new : Brigades R g) (ps : Pools Payload) (name : ℕ) → pool_of old name ≡ None → ((n : ℕ) → lists new n ≡ ring.upd (lists old) name None n)
+pub house_ended : {R : Type 0} {g : Ghosts R Stored} (old new : Brigades R g) (ps : Pools Payload) (name : ℕ) → pool_of old name ≡ None → ((n : ℕ) → lists new n ≡ ring.upd (lists old) name None n)
     → pool_of new ≡ pool_of old → references new ≡ references old → IsHouse old ps → IsHouse new ps
 house_ended old new ps name free out pools refs house =
     house_stays (lists old) (pool_of old) (references old) ps house (lists new) (pool_of new) (references new) still (λ n. ap (λ (f : ℕ → Option ℕ). f n) pools) (λ f. ap (λ (r : ℕ → ℕ). r f) refs) where
@@ -108,7 +108,7 @@ never_all true true u none all = cc
 never_all true false u none all = cc
 never_all false t u none all = cc
 
-module _ {R : Type 0} {g : Ghosts R Bucket} (chain : List Program) (tree : PoolTree Payload) (old : Brigades R g) (dev : Device) (c : Conn) (v : Linked) (stands : StandsFor chain tree old dev c v) where
+module _ {R : Type 0} {g : Ghosts R Stored} (chain : List Program) (tree : PoolTree Payload) (old : Brigades R g) (dev : Device) (c : Conn) (v : Linked) (stands : StandsFor chain tree old dev c v) where
   pools_so : pools_of v.0 v.1 ≡ map_of tree
   pools_so = pools_are (map_of tree) (lists old) (next_name old) c v stands.left.seen
 

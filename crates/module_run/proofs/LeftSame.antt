@@ -5,11 +5,11 @@ use Rattle.bucket_ring.specs.declared.rings.Rings.{Ghosts}
 use Rattle.bucket_ring.specs.Kept.{NoneRevived, once_in}
 use Rattle.bucket_kinds.specs.Device.{Device}
 use Rattle.module_code.specs.Program.{Program}
-use Rattle.run_model.specs.declared.bucket.Bucket.{Bucket}
 use Rattle.run_model.specs.declared.payload.Payload.{Payload}
 use Rattle.run_model.specs.Chains.{Linked}
 use Rattle.pool_tree.specs.declared.tree.PoolTree.{PoolTree}
 use Rattle.pool_tree.specs.Tree.{map_of}
+use Rattle.bucket_kinds.specs.declared.stored.Stored.{Stored}
 use Rattle.brigade_ops.specs.declared.store.Brigades.{Brigades}
 use Rattle.brigade_ops.specs.House.{AreOpen, IsHouse}
 use Rattle.brigade_ops.specs.Items.{Items}
@@ -20,7 +20,7 @@ use Rattle.module_run.specs.Proceeding.{LeftAs}
 use Rattle.module_run.specs.Stacked.{IsStacked}
 use Rattle.module_run.proofs.HeldStays.{held_stays}
 
-module _ {R : Type 0} {g : Ghosts R Bucket} (chain : List Program) (tree : PoolTree Payload) (store new : Brigades R g) (device : Device) (c : Conn) (v : Linked) (out : (n : ℕ) → lists new n ≡ lists store n)
+module _ {R : Type 0} {g : Ghosts R Stored} (chain : List Program) (tree : PoolTree Payload) (store new : Brigades R g) (device : Device) (c : Conn) (v : Linked) (out : (n : ℕ) → lists new n ≡ lists store n)
     (next : next_name new ≡ next_name store) (pools : pool_of new ≡ pool_of store) (refs : references new ≡ references store) (names : NoneRevived (brigade_of store) (brigade_of new) (next_name store)) where
   house : IsHouse store (map_of tree) → IsHouse new (map_of tree)
   house old = record {

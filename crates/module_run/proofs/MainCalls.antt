@@ -1,27 +1,23 @@
 -- A brigade is brought, where no call runs: what the connection reads as.
-use Rattle.std.proofs.Common.{◌≡◌, ◌≢◌, ◌==◌, ℕ, zero, suc, ◌+◌, ◌-◌, ◌<◌, ◌≤◌, ◌&&◌, ◌||◌, nat_le, nat_lt, Bool, true, false, List, [], ◌∷◌, length, Option, Some, None, is_some, refl, sym, ap, subst, ◌∙◌, ◌⊎◌, inl, inr, arith}
+use Rattle.std.proofs.Common.{◌≡◌, ◌==◌, ℕ, zero, suc, ◌+◌, ◌-◌, ◌<◌, ◌||◌, Bool, true, false, List, [], ◌∷◌, length, Option, Some, None, is_some, refl, sym, ap, subst, ◌∙◌, arith}
 use Rattle.std.specs.Prelude.{if◌then◌else◌, slice_index_or}
-use Rattle.std.specs.List.{list_any}
 use Rattle.std.specs.Option.{option_map_or}
 use Rattle.std.proofs.Math.Path.{fun_ext}
-use Rattle.std.proofs.lemmas.Bool.{cases_eq, eq-eqb, ne_eqb}
+use Rattle.std.proofs.lemmas.Bool.{eq-eqb, ne_eqb}
 use Rattle.bucket_ring.specs.declared.names.BucketId.{BucketId}
 use Rattle.bucket_ring.specs.declared.rings.Rings.{Ghosts}
 use Rattle.bucket_ring.specs.Lists.{list_at, times}
 use Rattle.module_code.specs.Program.{Program}
-use Rattle.run_model.specs.declared.bucket.Brigade.{Brigade}
-use Rattle.run_model.specs.declared.bucket.Bucket.{Bucket}
 use Rattle.run_model.specs.declared.bucket.BrigadeVar.{BrigadeVar}
 use Rattle.run_model.specs.declared.bucket.BrigadeVar.TheVariants as var
 use Rattle.run_model.specs.declared.bucket.Cursor.{Cursor}
 use Rattle.run_model.specs.declared.bucket.Cursor.TheVariants as cursor
-use Rattle.run_model.specs.declared.bucket.Mark.{Mark}
 use Rattle.run_model.specs.declared.bucket.Mark.TheVariants.{Usable}
 use Rattle.run_model.specs.declared.bucket.NamedBucket.{NamedBucket}
 use Rattle.run_model.specs.declared.bucket.PoolVar.TheVariants as poolvar
 use Rattle.run_model.specs.declared.event.Piece.{Piece}
 use Rattle.run_model.specs.declared.payload.Payload.{Payload}
-use Rattle.run_model.specs.Chains.{Frame, Connection, Common, Linked, module_at}
+use Rattle.run_model.specs.Chains.{Frame, Connection, Common, module_at}
 use Rattle.run_model.specs.Pieces.{bucket_of, named_from}
 use Rattle.run_model.specs.Indexed.{upd}
 use Rattle.run_model.specs.Passing.{set_in}
@@ -29,13 +25,13 @@ use Rattle.run_model.specs.Pools.{Pools}
 use Rattle.run_model.specs.State as model
 use Rattle.run_model.specs.State.{fresh_call}
 use Rattle.run_model.specs.Turns.{brought_in}
+use Rattle.bucket_kinds.specs.declared.stored.Stored.{Stored}
 use Rattle.brigade_ops.specs.declared.store.Brigades.{Brigades}
 use Rattle.brigade_ops.specs.Items.{Items, named}
-use Rattle.brigade_ops.specs.Store.{lists, brigade_of, pool_of, next_name}
+use Rattle.brigade_ops.specs.Store.{lists, next_name}
 use Rattle.brigade_ops.proofs.Stores.{in_listed, young}
 use Rattle.module_run.specs.declared.conn.Conn.{Conn}
 use Rattle.module_run.specs.declared.conn.Filter.{Filter}
-use Rattle.ring_run.specs.declared.machine.Instance.{Instance}
 use Rattle.ring_run.specs.declared.machine.Slot.{Slot}
 use Rattle.ring_run.specs.declared.machine.Slot.TheVariants as slot
 use Rattle.module_run.specs.CalledMain.{CalledMain, StartsWith}
@@ -45,7 +41,7 @@ use Rattle.ring_run.specs.Slots.{cursor_at, slot_at, name_in}
 use Rattle.module_run.specs.Stacked.{IsStacked}
 use Rattle.ring_run.proofs.Begins.{items_begun}
 use Rattle.module_run.proofs.Brought.{brought_shown}
-use Rattle.module_run.proofs.FirstCalls.{filter_first, no_call, no_runs, none_waits, not_lent}
+use Rattle.module_run.proofs.FirstCalls.{filter_first, no_runs, none_waits, not_lent}
 use Rattle.module_run.proofs.Tops.{frame_at}
 
 -- a call runs
@@ -54,14 +50,14 @@ runs_itself zero pos = absurd (omega (arith, pos))
 runs_itself (suc n) pos = ap (λ (t : Bool). t || false) (eq-eqb (suc n) (suc n) refl)
 
 -- A store in which a call of the next name has its brigade of loose buckets, and the name behind it is that of the brigade of these pieces.
-pub record HasBrought {R : Type 0} {g : Ghosts R Bucket} (old new : Brigades R g) (req : ℕ) (pieces : List Piece) : Type 0 where
+pub record HasBrought {R : Type 0} {g : Ghosts R Stored} (old new : Brigades R g) (req : ℕ) (pieces : List Piece) : Type 0 where
   pub items : Items
   pub reads : named items ≡ named_from (bucket_of (next_name old) req) (next_name old + 2) pieces
   pub before : (n : ℕ) → n < next_name old → lists new n ≡ lists old n
   pub loose : lists new (next_name old) ≡ Some []
   pub brigade : lists new (next_name old + 1) ≡ Some items
 
-module _ {R : Type 0} {g : Ghosts R Bucket} (chain : List Program) (old new : Brigades R g) (c d : Conn) (req : ℕ) (pieces : List Piece) (stacked : IsStacked chain old c) (idle : c.busy ≡ false)
+module _ {R : Type 0} {g : Ghosts R Stored} (chain : List Program) (old new : Brigades R g) (c d : Conn) (req : ℕ) (pieces : List Piece) (stacked : IsStacked chain old c) (idle : c.busy ≡ false)
     (begins : CalledMain chain (next_name old) (next_name old + 1) c d) (made : HasBrought old new req pieces) where
   abbrev pub before : Filter
   before = (filter_first chain old c stacked idle).0

@@ -1,22 +1,21 @@
 -- A brigade is brought, where no call runs: what is true of the filters and calls.
-use Rattle.std.proofs.Common.{◌≡◌, ◌≢◌, ◌==◌, ℕ, zero, suc, ◌+◌, ◌-◌, ◌<◌, ◌≤◌, ◌&&◌, nat_le, nat_lt, Bool, true, false, List, [], ◌∷◌, length, Option, Some, None, is_some, refl, sym, ap, subst, ◌∙◌, ◌⊎◌, inl, inr, arith}
+use Rattle.std.proofs.Common.{◌≡◌, ◌≢◌, ℕ, zero, suc, ◌+◌, ◌<◌, ◌≤◌, ◌&&◌, nat_le, Bool, true, false, List, [], length, Option, Some, None, is_some, refl, sym, ap, subst, ◌∙◌, ◌⊎◌, inl, inr, arith}
 use Rattle.std.specs.Prelude.{if◌then◌else◌}
-use Rattle.std.proofs.lemmas.Bool.{cases_eq, eq-eqb, ne_eqb, le-leb, leb-true}
+use Rattle.std.proofs.lemmas.Bool.{cases_eq, ne_eqb, le-leb, leb-true}
 use Rattle.bucket_kinds.specs.Device.{Device}
 use Rattle.bucket_ring.specs.declared.names.BucketId.{BucketId}
 use Rattle.bucket_ring.specs.declared.rings.Rings.{Ghosts}
 use Rattle.bucket_ring.specs.Kept.{NoneRevived}
 use Rattle.bucket_ring.specs.Lists as ring
 use Rattle.module_code.specs.Program.{Program}
-use Rattle.run_model.specs.declared.bucket.Bucket.{Bucket}
-use Rattle.run_model.specs.declared.bucket.Mark.{Mark}
 use Rattle.run_model.specs.declared.bucket.Mark.TheVariants.{Usable}
 use Rattle.run_model.specs.declared.event.Piece.{Piece}
 use Rattle.run_model.specs.declared.payload.Payload.{Payload}
-use Rattle.run_model.specs.Chains.{Connection, Common, Linked, module_at}
+use Rattle.run_model.specs.Chains.{Connection, Common, module_at}
 use Rattle.run_model.specs.Turns.{brought_in}
 use Rattle.pool_tree.specs.declared.tree.PoolTree.{PoolTree}
 use Rattle.pool_tree.specs.Tree.{map_of}
+use Rattle.bucket_kinds.specs.declared.stored.Stored.{Stored}
 use Rattle.brigade_ops.specs.declared.store.Brigades.{Brigades}
 use Rattle.brigade_ops.specs.House.{AreOpen}
 use Rattle.brigade_ops.specs.Items.{Items, named}
@@ -27,15 +26,14 @@ use Rattle.module_run.specs.declared.conn.Conn.{Conn}
 use Rattle.module_run.specs.declared.conn.Filter.{Filter}
 use Rattle.ring_run.specs.declared.machine.Call.{Call}
 use Rattle.ring_run.specs.declared.machine.Instance.{Instance}
-use Rattle.ring_run.specs.declared.machine.Slot.{Slot}
 use Rattle.ring_run.specs.declared.machine.Slot.TheVariants as slot
 use Rattle.ring_run.specs.declared.machine.CursorValue.TheVariants as stand
 use Rattle.module_run.specs.CalledMain.{CalledMain, StartsWith}
-use Rattle.module_run.specs.Conns.{conn_of, IsSeenAs, filter_at, top_of, waiting}
-use Rattle.ring_run.specs.Held.{HeldOver, IsHeld, WasGiven}
+use Rattle.module_run.specs.Conns.{conn_of, filter_at, top_of, waiting}
+use Rattle.ring_run.specs.Held.{IsHeld, WasGiven}
 use Rattle.module_run.specs.Proceeding.{LeftAs}
-use Rattle.ring_run.specs.Slots.{cursor_at, slot_at, name_in}
-use Rattle.module_run.specs.Stacked.{FiltersApart, AreCalled, IsStacked, is_called, is_waiting, named_at, names_up}
+use Rattle.ring_run.specs.Slots.{slot_at, name_in}
+use Rattle.module_run.specs.Stacked.{FiltersApart, AreCalled, IsStacked, is_called, named_at}
 use Rattle.ring_run.proofs.Changes.{ring_here, ring_off}
 use Rattle.module_run.proofs.FirstCalls.{no_call, no_lent, none_between, not_lent, nothing_in, true_false}
 use Rattle.module_run.proofs.FirstStacked.{no_names}
@@ -48,7 +46,7 @@ last_and true true false e = refl
 last_and true false false e = refl
 last_and false t false e = refl
 
-module _ {R : Type 0} {g : Ghosts R Bucket} (chain : List Program) (old new : Brigades R g) (c d : Conn) (req : ℕ) (pieces : List Piece) (stacked : IsStacked chain old c) (idle : c.busy ≡ false)
+module _ {R : Type 0} {g : Ghosts R Stored} (chain : List Program) (old new : Brigades R g) (c d : Conn) (req : ℕ) (pieces : List Piece) (stacked : IsStacked chain old c) (idle : c.busy ≡ false)
     (begins : CalledMain chain (next_name old) (next_name old + 1) c d) (made : HasBrought old new req pieces)
     (next : next_name old + 2 ≤ next_name new) (names : NoneRevived (brigade_of old) (brigade_of new) (next_name old)) (pools : pool_of new ≡ pool_of old) (free : (n : ℕ) → next_name old ≤ n → pool_of old n ≡ None) where
   abbrev first : Filter
@@ -276,7 +274,7 @@ module _ {R : Type 0} {g : Ghosts R Bucket} (chain : List Program) (old new : Br
   }
 
 -- the rings of the call and the brigade
-abbrev pub has_brought : {R : Type 0} {g : Ghosts R Bucket} (old new : Brigades R g) (req : ℕ) (pieces : List Piece) (xs : Items) → named xs ≡ named_from (bucket_of (next_name old) req) (next_name old + 2) pieces
+abbrev pub has_brought : {R : Type 0} {g : Ghosts R Stored} (old new : Brigades R g) (req : ℕ) (pieces : List Piece) (xs : Items) → named xs ≡ named_from (bucket_of (next_name old) req) (next_name old + 2) pieces
     → ((n : ℕ) → lists new n ≡ ring.upd (ring.upd (lists old) (next_name old) (Some [])) (next_name old + 1) (Some xs) n) → HasBrought old new req pieces
 has_brought old new req pieces xs reads over = record {
   items = xs;

@@ -18,6 +18,7 @@ use Rattle.run_model.specs.declared.bucket.NamedBucket.{NamedBucket}
 use Rattle.run_model.specs.State as model
 use Rattle.run_model.specs.State.{Configuration, fresh_call}
 use Rattle.run_model.specs.Chains.{Frame}
+use Rattle.bucket_kinds.specs.declared.stored.Stored.{Stored}
 use Rattle.brigade_ops.specs.declared.store.Brigades.{Brigades}
 use Rattle.brigade_ops.specs.Items.{Item, Items, named_item}
 use Rattle.brigade_ops.specs.Store.{lists, next_name}
@@ -37,7 +38,7 @@ use Rattle.ring_run.specs.Slots.{slot_at, name_in}
 abbrev pub AreOlder : (ℕ → Option Items) → ℕ → Type 0
 AreOlder L k = (n : ℕ) (xs : Items) → L n ≡ Some xs → (id : BucketId) → 0 < times id xs → id.birth < k
 
-pub all_older : {R : Type 0} {g : Ghosts R Bucket} (s : Brigades R g) → AreOlder (lists s) (next_name s)
+pub all_older : {R : Type 0} {g : Ghosts R Stored} (s : Brigades R g) → AreOlder (lists s) (next_name s)
 all_older s n xs e id h = young s id (ap is_some (in_listed s id n (subst (λ (o : Option Items). 0 < times id (option_map_or (λ bs. bs) o [])) (sym e) h)))
 
 -- names that an instance has are below k

@@ -1,5 +1,5 @@
 -- A connection stays as it was where an event of another leaves what is foreign to that one.
-use Rattle.std.proofs.Common.{◌≡◌, ℕ, zero, suc, ◌<◌, ◌≤◌, Bool, List, [], length, Option, Some, None, is_some, refl, sym, ap, ◌∙◌, inl, inr, arith}
+use Rattle.std.proofs.Common.{◌≡◌, ℕ, zero, suc, ◌<◌, ◌≤◌, Bool, List, [], length, Option, Some, None, is_some, refl, sym, ap, subst, ◌∙◌, inl, inr, arith}
 use Rattle.std.specs.Prelude.{if◌then◌else◌}
 use Rattle.std.proofs.Math.Path.{fun_ext}
 use Rattle.bucket_ring.specs.declared.names.BucketId.{BucketId}
@@ -7,12 +7,12 @@ use Rattle.bucket_ring.specs.declared.rings.Rings.{Ghosts}
 use Rattle.bucket_ring.specs.Kept.{NoneRevived}
 use Rattle.bucket_ring.specs.Lists.{list_at}
 use Rattle.module_code.specs.Program.{Program}
-use Rattle.run_model.specs.declared.bucket.Bucket.{Bucket}
 use Rattle.run_model.specs.declared.bucket.BrigadeVar.{BrigadeVar}
 use Rattle.run_model.specs.declared.payload.Payload.{Payload}
 use Rattle.run_model.specs.Chains.{Connection, Frame}
 use Rattle.run_model.specs.Pools.{Pools}
 use Rattle.run_model.specs.State as model
+use Rattle.bucket_kinds.specs.declared.stored.Stored.{Stored}
 use Rattle.brigade_ops.specs.declared.store.Brigades.{Brigades}
 use Rattle.brigade_ops.specs.Items.{Items}
 use Rattle.brigade_ops.specs.Store.{lists, brigade_of, pool_of, next_name}
@@ -27,7 +27,7 @@ use Rattle.module_run.specs.Stacked.{IsStacked, named_at}
 use Rattle.module_run.proofs.Untouched.{slot_same}
 
 -- Nothing changed but names that were given out.
-pub unchanged : {R : Type 0} {g : Ghosts R Bucket} (ps : Pools Payload) (old new : Brigades R g) (c d : Conn) → ((n : ℕ) → lists new n ≡ lists old n) → pool_of new ≡ pool_of old → next_name old ≤ next_name new
+pub unchanged : {R : Type 0} {g : Ghosts R Stored} (ps : Pools Payload) (old new : Brigades R g) (c d : Conn) → ((n : ℕ) → lists new n ≡ lists old n) → pool_of new ≡ pool_of old → next_name old ≤ next_name new
     → NoneRevived (brigade_of old) (brigade_of new) (next_name old) → ((k : ℕ) → filter_at d k ≡ filter_at c k) → LeavesOthers ps old new c d
 unchanged ps old new c d same pools rises names filters = record {
   rises = rises;
@@ -36,8 +36,18 @@ unchanged ps old new c d same pools rises names filters = record {
   holds = λ n pos h. inl (record { at = h.at; filter = h.filter; is = sym (filters h.at) ∙ h.is; by = h.by });
 }
 
+-- Nothing that is seen of the store changed after an event.
+pub then_same : {R : Type 0} {g : Ghosts R Stored} (ps : Pools Payload) (old mid new : Brigades R g) (c d : Conn) → LeavesOthers ps old mid c d → ((n : ℕ) → lists new n ≡ lists mid n)
+    → next_name new ≡ next_name mid → brigade_of new ≡ brigade_of mid → pool_of new ≡ pool_of mid → LeavesOthers ps old new c d
+then_same ps old mid new c d left same next names pools = record {
+  rises = subst (λ (k : ℕ). next_name old ≤ k) (sym next) left.rises;
+  names = subst (λ (f : BucketId → Option ℕ). NoneRevived (brigade_of old) f (next_name old)) (sym names) left.names;
+  others = λ n foreign. let was = left.others n foreign in record { list = same n ∙ was.list; pool = ap (λ (f : ℕ → Option ℕ). f n) pools ∙ was.pool };
+  holds = left.holds;
+}
+
 -- An event of c left d, and e is another connection. 0 is no brigade's name.
-module _ {R : Type 0} {g : Ghosts R Bucket} (chain : List Program) (ps : Pools Payload) (old new : Brigades R g) (c d e : Conn) (left : LeavesOthers ps old new c d) (stacked : IsStacked chain old e)
+module _ {R : Type 0} {g : Ghosts R Stored} (chain : List Program) (ps : Pools Payload) (old new : Brigades R g) (c d e : Conn) (left : LeavesOthers ps old new c d) (stacked : IsStacked chain old e)
     (foreign : (n : ℕ) → 0 < n → Holds e n → IsForeign ps old c n) (none : lists old 0 ≡ None) (none_now : lists new 0 ≡ None) (off : pool_of old 0 ≡ None) (off_now : pool_of new 0 ≡ None) where
   ring_same : (n : ℕ) → Holds e n → SameRing old new n
   ring_same zero h = record { list = none_now ∙ sym none; pool = off_now ∙ sym off }

@@ -7,12 +7,12 @@ use Rattle.bucket_ring.specs.Kept.{NoneRevived}
 use Rattle.bucket_ring.specs.Lists as ring
 use Rattle.ring_run.proofs.Changes.{ring_off}
 use Rattle.module_code.specs.Program.{Program}
-use Rattle.run_model.specs.declared.bucket.Bucket.{Bucket}
 use Rattle.run_model.specs.declared.payload.Payload.{Payload}
 use Rattle.run_model.specs.Clearing.{is_reached}
 use Rattle.run_model.specs.Pools.{Pools, is_in, is_under}
 use Rattle.run_model.specs.RunOrder.{IsPoolMap}
 use Rattle.model_laws.proofs.parts.Paths.{under_trans}
+use Rattle.bucket_kinds.specs.declared.stored.Stored.{Stored}
 use Rattle.brigade_ops.specs.declared.store.Brigades.{Brigades}
 use Rattle.brigade_ops.specs.House.{cleared_ring}
 use Rattle.brigade_ops.specs.Items.{Items}
@@ -41,7 +41,7 @@ earlier : (a b : ℕ) → a < b → a ≢ b
 earlier a b lt e = omega (arith, lt, e)
 
 -- The call of the first filter begins.
-module _ {R : Type 0} {g : Ghosts R Bucket} (chain : List Program) (ps : Pools Payload) (old new : Brigades R g) (c d : Conn) (r : Option ℕ) (stacked : IsStacked chain old c) (idle : c.busy ≡ false)
+module _ {R : Type 0} {g : Ghosts R Stored} (chain : List Program) (ps : Pools Payload) (old new : Brigades R g) (c d : Conn) (r : Option ℕ) (stacked : IsStacked chain old c) (idle : c.busy ≡ false)
     (begins : CalledFirst chain (next_name old) (record c { req = r }) d) (over : (n : ℕ) → lists new n ≡ ring.upd (lists old) (next_name old) (Some []) n) where
   first_holds : (n : ℕ) (h : Holds d n) → Was chain old new c d r stacked idle begins over h.at h.filter → (Holds c n) ⊎ (next_name old ≤ n)
   first_holds n h w = elim h.by [
@@ -61,7 +61,7 @@ module _ {R : Type 0} {g : Ghosts R Bucket} (chain : List Program) (ps : Pools P
   }
 
 -- A pool under the connection's is cleared or destroyed, and the clear looks at its own brigades alone.
-module _ {R : Type 0} {g : Ghosts R Bucket} (ps : Pools Payload) (formed : IsPoolMap ps) (old new : Brigades R g) (c : Conn) (pool : ℕ) (under : is_under ps c.conn pool ≡ true)
+module _ {R : Type 0} {g : Ghosts R Stored} (ps : Pools Payload) (formed : IsPoolMap ps) (old new : Brigades R g) (c : Conn) (pool : ℕ) (under : is_under ps c.conn pool ≡ true)
     (looked : List ℕ) (only : (n : ℕ) → is_in n looked ≡ true → Holds c n) (left : LeavesUncleared (is_under ps pool) looked old new) where
   not_looked : (n : ℕ) → IsForeign ps old c n → is_in n looked ≡ false
   not_looked n foreign = false_from_ne_true (is_in n looked) (λ there. foreign.unheld (only n there))
@@ -83,7 +83,7 @@ module _ {R : Type 0} {g : Ghosts R Bucket} (ps : Pools Payload) (formed : IsPoo
       }
 
 -- An instruction of the filter on top was carried out.
-module _ {R : Type 0} {g : Ghosts R Bucket} (ps : Pools Payload) (old new : Brigades R g) (c d : Conn) (x : Filter) (here : filter_at c (top_of c) ≡ Some x) where
+module _ {R : Type 0} {g : Ghosts R Stored} (ps : Pools Payload) (old new : Brigades R g) (c d : Conn) (x : Filter) (here : filter_at c (top_of c) ≡ Some x) where
   pub quiet_spared : run.LeavesRest old new x.instance x.call → (n : ℕ) → IsForeign ps old c n → SameRing old new n
   quiet_spared left n foreign = record {
     list = left.others n foreign.given (λ b named. foreign.unheld (record { at = top_of c; filter = x; is = here; by = inr (b, named) }))
@@ -104,7 +104,7 @@ module _ {R : Type 0} {g : Ghosts R Bucket} (ps : Pools Payload) (old new : Brig
     ]
 
 -- The pool of a request went, and no EOS was passed in the next one.
-pub destroyed_leaves : {R : Type 0} {g : Ghosts R Bucket} (chain : List Program) (tree newer : PoolTree Payload) (old new : Brigades R g) (d e : Device) (c after : Conn) (pool : ℕ) → is_under (map_of tree) c.conn pool ≡ true → IsPoolMap (map_of tree)
+pub destroyed_leaves : {R : Type 0} {g : Ghosts R Stored} (chain : List Program) (tree newer : PoolTree Payload) (old new : Brigades R g) (d e : Device) (c after : Conn) (pool : ℕ) → is_under (map_of tree) c.conn pool ≡ true → IsPoolMap (map_of tree)
     → WasDestroyed pool tree newer old new d e c → after.filters.items ≡ map quieted c.filters.items → LeavesOthers (map_of tree) old new c after
 unfolding filter_at slot_at
 destroyed_leaves chain tree newer old new d e c after pool under formed gone quiet = record {

@@ -5,13 +5,13 @@ use Rattle.std.proofs.Math.Path.{fun_ext}
 use Rattle.bucket_ring.specs.declared.names.BucketId.{BucketId}
 use Rattle.bucket_ring.specs.declared.rings.Rings.{Ghosts}
 use Rattle.bucket_ring.specs.Lists.{list_at, times}
-use Rattle.run_model.specs.declared.bucket.Bucket.{Bucket}
 use Rattle.run_model.specs.declared.bucket.NamedBucket.{NamedBucket}
 use Rattle.run_model.specs.declared.bucket.BrigadeVar.{BrigadeVar}
 use Rattle.run_model.specs.declared.bucket.BrigadeVar.TheVariants as var
 use Rattle.run_model.specs.declared.bucket.Cursor.{Cursor}
 use Rattle.run_model.specs.Chains.{Frame}
 use Rattle.run_model.specs.State.{fresh_call}
+use Rattle.bucket_kinds.specs.declared.stored.Stored.{Stored}
 use Rattle.brigade_ops.specs.declared.store.Brigades.{Brigades}
 use Rattle.brigade_ops.specs.Items.{Items}
 use Rattle.brigade_ops.specs.Store.{lists, next_name}
@@ -26,7 +26,7 @@ use Rattle.ring_run.specs.Slots.{name_in, slot_at}
 use Rattle.ring_run.proofs.Begins.{items_begun}
 use Rattle.module_run.proofs.ReturnedParts.{AreAsWere}
 
-module _ {R : Type 0} {g : Ghosts R Bucket} (store : Brigades R g) (M : ℕ → Option Items) where
+module _ {R : Type 0} {g : Ghosts R Stored} (store : Brigades R g) (M : ℕ → Option Items) where
   -- A call of the next name is no home of a bucket that is there.
   slot_begun : (s : Slot) → ((n : ℕ) → name_in s ≡ Some n → M n ≡ lists store n) → shown_slot (is_running (next_name store) []) M s ≡ shown_slot (is_running 0 []) M s
   slot_begun slot.Null same = refl

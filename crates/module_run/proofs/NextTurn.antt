@@ -10,7 +10,6 @@ use Rattle.bucket_kinds.specs.Device.{Device}
 use Rattle.module_code.specs.Program.{Program}
 use Rattle.module_code.specs.declared.instr.Instr.TheVariants as instr
 use Rattle.module_code.specs.declared.instr.Status.{Status}
-use Rattle.run_model.specs.declared.bucket.Bucket.{Bucket}
 use Rattle.run_model.specs.declared.event.Stepped.TheVariants as stepped
 use Rattle.run_model.specs.declared.payload.Payload.{Payload}
 use Rattle.run_model.specs.Chains.{Frame, Linked, configuration, module_at, put_back}
@@ -19,6 +18,7 @@ use Rattle.run_model.specs.State as model
 use Rattle.run_model.specs.State.{fresh_call}
 use Rattle.pool_tree.specs.declared.tree.PoolTree.{PoolTree}
 use Rattle.pool_tree.specs.Tree.{map_of}
+use Rattle.bucket_kinds.specs.declared.stored.Stored.{Stored}
 use Rattle.brigade_ops.specs.declared.store.Brigades.{Brigades}
 use Rattle.brigade_ops.specs.Store.{lists, brigade_of, pool_of, references, next_name}
 use Rattle.module_run.specs.declared.conn.Conn.{Conn}
@@ -56,7 +56,7 @@ pub record Turns (chain : List Program) (next : ℕ) (c d : Conn) : Type 0 where
   pub others : (k : ℕ) → k ≢ c.first → k ≢ c.queue → filter_at d k ≡ filter_at c k
   pub count : length d.filters.items ≡ length c.filters.items
 
-module _ {R : Type 0} {g : Ghosts R Bucket} (chain : List Program) (s : Status) (tree : PoolTree Payload) (store : Brigades R g) (device : Device) (c : Conn) (v : Linked) (f : Frame) (rest : List Frame)
+module _ {R : Type 0} {g : Ghosts R Stored} (chain : List Program) (s : Status) (tree : PoolTree Payload) (store : Brigades R g) (device : Device) (c : Conn) (v : Linked) (f : Frame) (rest : List Frame)
     (ready : IsReady chain (instr.Ret s) tree store device c v f rest) (none : waiting c ≡ 0) (new : Brigades R g) (filters : Vec Filter)
     (x : EndsLast (lists store) (lists new) (next_name store) c (turned c filters)) (y : Turns chain (next_name store) c (turned c filters)) (empty : lists new (next_name store) ≡ Some []) where
   abbrev d : Conn

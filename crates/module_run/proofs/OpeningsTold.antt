@@ -1,14 +1,13 @@
 -- What is told of an opening that is refused, and of one that is not.
-use Rattle.std.proofs.Common.{◌≡◌, ℕ, ◌+◌, ◌-◌, ◌^◌, ◌<◌, ◌≢◌, ◌≤◌, nat_lt, Bool, true, false, List, length, Option, Some, None, Result, Ok, Err, refl, sym, ap, subst, ◌∙◌, inl, arith}
+use Rattle.std.proofs.Common.{◌≡◌, ℕ, ◌+◌, ◌-◌, ◌^◌, ◌<◌, ◌≤◌, Bool, true, false, List, length, Option, Some, None, Result, Ok, Err, refl, sym, ap, subst, ◌∙◌, inl, arith}
 use Rattle.std.proofs.lemmas.Bool.{le-ltb, lt-ltb}
-use Rattle.bucket_kinds.specs.Answers.{IsOpening, MayMiss, Opens}
+use Rattle.bucket_kinds.specs.Answers.{IsOpening, MayMiss}
 use Rattle.bucket_kinds.specs.Device.{Device, Held, last_number}
 use Rattle.bucket_kinds.specs.Device as device
 use Rattle.bucket_kinds.specs.declared.refusal.FileFault.{FileFault}
 use Rattle.bucket_kinds.specs.declared.refusal.FileFault.TheVariants as fault
 use Rattle.bucket_ring.specs.declared.rings.Rings.{Ghosts}
 use Rattle.module_code.specs.Program.{Program}
-use Rattle.run_model.specs.declared.bucket.Bucket.{Bucket}
 use Rattle.run_model.specs.declared.event.Cause.{Cause}
 use Rattle.run_model.specs.declared.event.Refusal.{Refusal}
 use Rattle.run_model.specs.declared.event.Refusal.TheVariants as refusal
@@ -20,6 +19,7 @@ use Rattle.run_model.specs.Steps.{is_spent}
 use Rattle.run_model.specs.Turns.{Opening, Found, Missing, Failing, file_answer, file_taken, opens_file}
 use Rattle.pool_tree.specs.declared.tree.PoolTree.{PoolTree}
 use Rattle.pool_tree.specs.Tree.{map_of}
+use Rattle.bucket_kinds.specs.declared.stored.Stored.{Stored}
 use Rattle.brigade_ops.specs.declared.store.Brigades.{Brigades}
 use Rattle.brigade_ops.specs.Items.{Items}
 use Rattle.brigade_ops.specs.Store.{lists, next_name}
@@ -29,7 +29,7 @@ use Rattle.module_run.specs.Happened.{lasted, refusal_of}
 use Rattle.module_run.specs.OpenedFile.{IsAfterOpening, MayTell, TellsShort, WasOpened, unopened_by}
 use Rattle.module_run.specs.Proceeding.{LeftAs, MayHold}
 use Rattle.module_run.specs.Refused.{request_tests}
-use Rattle.module_run.proofs.FileOpens.{left_device, some_bytes, there_bytes}
+use Rattle.module_run.proofs.FileOpens.{left_device, there_bytes}
 use Rattle.module_run.proofs.Refusing.{open_failing, open_left, open_missing, open_spent}
 use Rattle.module_run.proofs.RequestBegins.{happened_as, req_is}
 
@@ -68,7 +68,7 @@ stays_unasked name d None true req r is = subst (λ (o : Option Refusal). IsAfte
 stays_unasked name d None false None r is = subst (λ (o : Option Refusal). IsAfterOpening name o d d) (sym is) refl
 stays_unasked name d None false (Some pool) r is = absurd (cc)
 
-module _ {R : Type 0} {g : Ghosts R Bucket} (chain : List Program) (tree : PoolTree Payload) (store : Brigades R g) (d e : Device) (c : Conn) (name : List ℕ) (v : Linked) where
+module _ {R : Type 0} {g : Ghosts R Stored} (chain : List Program) (tree : PoolTree Payload) (store : Brigades R g) (d e : Device) (c : Conn) (name : List ℕ) (v : Linked) where
   pub was_opened : (answer : Result (ℕ × ℕ) Refusal) (opening : Opening) (w : Linked) → MayTell v.0.file d name opening → opens_file (lasted answer) opening v ≡ (answer, w) → LeftAs chain tree store e c w → w.0.file ≤ e.next → IsAfterOpening name (refusal_of answer) d e → TellsShort answer
       → WasOpened chain tree store d e c name answer v
   was_opened answer opening w told is left numbers after short = record {

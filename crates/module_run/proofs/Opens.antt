@@ -8,7 +8,6 @@ use Rattle.bucket_ring.specs.declared.rings.Rings.{Ghosts}
 use Rattle.bucket_ring.specs.Kept.{NoneRevived}
 use Rattle.bucket_ring.specs.Lists as ring
 use Rattle.module_code.specs.Program.{Program}
-use Rattle.run_model.specs.declared.bucket.Bucket.{Bucket}
 use Rattle.run_model.specs.declared.bucket.BrigadeVar.{BrigadeVar}
 use Rattle.run_model.specs.declared.bucket.BrigadeVar.TheVariants as var
 use Rattle.run_model.specs.declared.bucket.PoolVar.{PoolVar}
@@ -23,6 +22,7 @@ use Rattle.run_model.specs.State.{fresh_instance}
 use Rattle.run_model.specs.Turns.{all_called, fresh_connection, opened, with_pools}
 use Rattle.pool_tree.specs.declared.tree.PoolTree.{PoolTree}
 use Rattle.pool_tree.specs.Tree.{map_of}
+use Rattle.bucket_kinds.specs.declared.stored.Stored.{Stored}
 use Rattle.brigade_ops.specs.declared.store.Brigades.{Brigades}
 use Rattle.brigade_ops.specs.House.{AreHoused, AreOpen, IsHouse}
 use Rattle.brigade_ops.specs.Items.{Items}
@@ -65,7 +65,7 @@ new_instance runs rings f is =
       made : (ℕ → PoolVar) → (ℕ → BrigadeVar) → (ℕ → ℕ) → Bool → model.Instance
       made ps bs ns sent = record { pools = ps; brigades = bs; numbers = ns; sent = sent }
 
-module _ {R : Type 0} {g : Ghosts R Bucket} (chain : List Program) (tree : PoolTree Payload) (old : Brigades R g) (new : CanOpen tree old) (c : Conn) (some : 0 < length chain) (filters : Vec Filter)
+module _ {R : Type 0} {g : Ghosts R Stored} (chain : List Program) (tree : PoolTree Payload) (old : Brigades R g) (new : CanOpen tree old) (c : Conn) (some : 0 < length chain) (filters : Vec Filter)
     (is : IsNewConn filters (map_of tree).next c) (many : length c.filters.items ≡ length chain) (fresh : (k : ℕ) (f : Filter) → filter_at c k ≡ Some f → IsNewFilter f) where
   none_named : (k b m : ℕ) (f : Filter) → filter_at c k ≡ Some f → named_at f b ≡ Some m → ⊥
   none_named k b m f at e = no_lent (named_at f b) m (ap name_in ((fresh k f at).slots b)) e

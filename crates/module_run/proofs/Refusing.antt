@@ -1,12 +1,12 @@
 -- The tests that refuse an event of a connection, and the last of them, which is memory.
-use Rattle.std.proofs.Common.{◌≡◌, ℕ, suc, ◌+◌, Bool, true, false, ◌||◌, not, List, [], ◌∷◌, ◌++◌, Option, Some, None, Result, Ok, Err, is_some, refl, sym, ap, ◌∙◌}
+use Rattle.std.proofs.Common.{◌≡◌, ℕ, suc, ◌+◌, Bool, true, false, not, List, [], ◌∷◌, ◌++◌, Option, Some, None, Err, refl, ap, ◌∙◌}
 use Rattle.std.specs.Prelude.{if◌then◌else◌}
 use Rattle.module_code.specs.Program.{Program}
 use Rattle.run_model.specs.declared.event.Piece.{Piece}
 use Rattle.run_model.specs.declared.event.Refusal.{Refusal}
 use Rattle.run_model.specs.declared.event.Refusal.TheVariants as refusal
 use Rattle.run_model.specs.declared.payload.Payload.{Payload}
-use Rattle.run_model.specs.Chains.{Connection, Common, Frame, Linked}
+use Rattle.run_model.specs.Chains.{Connection, Common, Linked}
 use Rattle.run_model.specs.Refusals.{first_refusal, refused_if}
 use Rattle.run_model.specs.Pools.{Pools}
 use Rattle.run_model.specs.Steps.{is_spent}

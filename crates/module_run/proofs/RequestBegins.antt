@@ -6,7 +6,6 @@ use Rattle.bucket_ring.specs.declared.rings.Rings.{Ghosts}
 use Rattle.bucket_ring.specs.Kept.{NoneRevived}
 use Rattle.bucket_ring.specs.Lists as ring
 use Rattle.module_code.specs.Program.{Program}
-use Rattle.run_model.specs.declared.bucket.Bucket.{Bucket}
 use Rattle.run_model.specs.declared.event.Cause.{Cause}
 use Rattle.run_model.specs.declared.event.Piece.{Piece}
 use Rattle.run_model.specs.declared.event.Refusal.{Refusal}
@@ -22,6 +21,7 @@ use Rattle.run_model.specs.Steps.{is_spent}
 use Rattle.run_model.specs.Turns.{all_called, begun, with_pools}
 use Rattle.pool_tree.specs.declared.tree.PoolTree.{PoolTree}
 use Rattle.pool_tree.specs.Tree.{map_of}
+use Rattle.bucket_kinds.specs.declared.stored.Stored.{Stored}
 use Rattle.brigade_ops.specs.declared.store.Brigades.{Brigades}
 use Rattle.brigade_ops.specs.House.{AreHoused, IsHouse}
 use Rattle.brigade_ops.specs.Items.{Items}
@@ -77,7 +77,7 @@ module _ (ps : Pools Payload) (rings : ℕ → Option Items) (next : ℕ) (c : C
   unfolding conn_of
   req_is = ap (λ (x : Connection). x.req) seen.conn
 
-module _ {R : Type 0} {g : Ghosts R Bucket} (chain : List Program) (tree : PoolTree Payload) (old : Brigades R g) (dev : Device) (c : Conn) (v : Linked) (stands : StandsFor chain tree old dev c v) where
+module _ {R : Type 0} {g : Ghosts R Stored} (chain : List Program) (tree : PoolTree Payload) (old : Brigades R g) (dev : Device) (c : Conn) (v : Linked) (stands : StandsFor chain tree old dev c v) where
   pub conn_live : is_live (map_of tree) c.conn ≡ true
   unfolding configuration
   conn_live =
@@ -133,7 +133,7 @@ module _ {R : Type 0} {g : Ghosts R Bucket} (chain : List Program) (tree : PoolT
         house = subst (AreHoused (lists old) (pool_of old) (references old)) (sym map) (house_created (lists old) (pool_of old) (references old) (map_of tree) stands.left.house c.conn stands.left.formed)
 
 -- an event that answers this, and leaves what this one leaves
-pub happened_as : {R : Type 0} {g : Ghosts R Bucket} {A : Type 0} (chain : List Program) (tree : PoolTree Payload) (store : Brigades R g) (dev : Device) (c : Conn) (answer : A) (w : A × Linked) (v : Linked)
+pub happened_as : {R : Type 0} {g : Ghosts R Stored} {A : Type 0} (chain : List Program) (tree : PoolTree Payload) (store : Brigades R g) (dev : Device) (c : Conn) (answer : A) (w : A × Linked) (v : Linked)
     → w ≡ (answer, v) → LeftAs chain tree store dev c v → Happened chain tree store dev c answer w
 happened_as {R} {g} {A} chain tree store dev c answer w v is left = record {
   answers = ap (λ (x : A × Linked). x.0) is;

@@ -1,5 +1,5 @@
 -- A request ends: what the connection stands for then.
-use Rattle.std.proofs.Common.{◌≡◌, ◌≢◌, ◌==◌, ℕ, zero, suc, ◌+◌, ◌-◌, ◌<◌, ◌≤◌, ◌&&◌, not, nat_le, Bool, true, false, List, [], ◌∷◌, ◌++◌, length, map, Option, Some, None, is_some, refl, sym, ap, subst, ◌∙◌, inl, inr, arith}
+use Rattle.std.proofs.Common.{◌≡◌, ℕ, suc, ◌-◌, ◌<◌, ◌&&◌, not, nat_le, Bool, true, false, List, [], ◌∷◌, ◌++◌, length, map, Option, Some, None, is_some, refl, sym, ap, subst, ◌∙◌, arith}
 use Rattle.std.specs.Prelude.{if◌then◌else◌, slice_get}
 use Rattle.std.specs.Option.{option_map}
 use Rattle.std.specs.List.{list_any}
@@ -9,39 +9,37 @@ use Rattle.std.proofs.lemmas.Option.{slice_get-map}
 use Rattle.bucket_kinds.specs.Device.{Device, Held, Missing}
 use Rattle.bucket_ring.specs.declared.rings.Rings.{Ghosts}
 use Rattle.module_code.specs.Program.{Program}
-use Rattle.run_model.specs.declared.bucket.Bucket.{Bucket}
 use Rattle.run_model.specs.declared.bucket.BrigadeVar.{BrigadeVar}
-use Rattle.run_model.specs.declared.event.Cause.{Cause}
 use Rattle.run_model.specs.declared.payload.Payload.{Payload}
-use Rattle.run_model.specs.Chains.{Connection, Common, Frame, Linked, configuration, files_of, pools_of, touched_instance}
+use Rattle.run_model.specs.Chains.{Connection, Frame, Linked, configuration, files_of, pools_of, touched_instance}
 use Rattle.run_model.specs.Clearing.{cleared_var, run_down}
 use Rattle.run_model.specs.Files.{Files, is_referred, let_go}
 use Rattle.run_model.specs.Payloads.{is_file_ref, labels_in}
-use Rattle.run_model.specs.Pools.{Pools, destroyed, is_in, is_live, is_under}
-use Rattle.run_model.specs.RunOrder.{run_order, IsPoolMap}
+use Rattle.run_model.specs.Pools.{Pools, destroyed, is_in, is_under}
+use Rattle.run_model.specs.RunOrder.{run_order}
 use Rattle.run_model.specs.State as model
 use Rattle.run_model.specs.State.{fresh_call, with_pools}
-use Rattle.run_model.specs.Turns.{between_requests, closing_labels, pool_gone, request_over}
+use Rattle.run_model.specs.Turns.{between_requests, closing_labels, request_over}
 use Rattle.pool_tree.specs.declared.tree.PoolTree.{PoolTree}
 use Rattle.pool_tree.specs.Tree.{map_of}
+use Rattle.bucket_kinds.specs.declared.stored.Stored.{Stored}
 use Rattle.brigade_ops.specs.declared.store.Brigades.{Brigades}
 use Rattle.brigade_ops.specs.Items.{Items}
 use Rattle.brigade_ops.specs.House.{cleared_ring}
-use Rattle.brigade_ops.specs.Store.{lists, brigade_of, pool_of, next_name, references}
+use Rattle.brigade_ops.specs.Store.{lists, brigade_of, pool_of, next_name}
 use Rattle.module_run.specs.declared.conn.Conn.{Conn}
 use Rattle.module_run.specs.declared.conn.Filter.{Filter}
 use Rattle.module_run.specs.declared.conn.OpenFile.{OpenFile}
-use Rattle.ring_run.specs.declared.machine.Instance.{Instance}
 use Rattle.ring_run.specs.Cleared.{LooksAt}
 use Rattle.module_run.specs.Conns.{IsSeenAs, call_name, conn_of, counting, filter_at, labels_handed, lengths, lent_by, runs_of, shown_filter, shown_instance, stack_of, stack_up, top_of, waiting}
 use Rattle.module_run.specs.Destroyed.{WasDestroyed, quieted, request_left}
-use Rattle.ring_run.specs.Held.{HeldOver, IsHeld}
-use Rattle.module_run.specs.Proceeding.{HasOpen, LeftAs, MayHold, StandsFor}
+use Rattle.ring_run.specs.Held.{IsHeld}
+use Rattle.module_run.specs.Proceeding.{HasOpen, LeftAs, MayHold}
 use Rattle.ring_run.specs.Seen.{is_running, shown_slot}
 use Rattle.ring_run.specs.Slots.{slot_at, name_in}
-use Rattle.module_run.specs.Stacked.{FiltersApart, AreCalled, IsStacked, is_called, is_waiting, named_at, names_up}
+use Rattle.module_run.specs.Stacked.{IsStacked, is_called, named_at}
 use Rattle.ring_run.proofs.Cleared.{by_slot, held_cleared}
-use Rattle.module_run.proofs.FirstCalls.{no_call, no_lent, none_between, not_called, not_lent, nothing_in, none_waits, not_waiting, true_false}
+use Rattle.module_run.proofs.FirstCalls.{no_call, no_lent, none_between, not_lent, nothing_in, none_waits, true_false}
 use Rattle.module_run.proofs.FirstStacked.{no_names}
 use Rattle.ring_run.proofs.HeldAlike.{held_slots}
 use Rattle.module_run.proofs.Looked.{some_same}
@@ -68,7 +66,7 @@ abbrev OpenThen : Device → Files → Type 0
 OpenThen d fs = (file : ℕ) (bytes : List ℕ) → fs.opened file ≡ Some bytes → MayHold (d.numbered file) bytes
 
 -- No call runs over these rings, and one pool was destroyed.
-module _ {R : Type 0} {g : Ghosts R Bucket} (chain : List Program) (tree newer : PoolTree Payload) (old new : Brigades R g) (dev e : Device) (c : Conn) (stacked : IsStacked chain old c) (idle : c.busy ≡ false)
+module _ {R : Type 0} {g : Ghosts R Stored} (chain : List Program) (tree newer : PoolTree Payload) (old new : Brigades R g) (dev e : Device) (c : Conn) (stacked : IsStacked chain old c) (idle : c.busy ≡ false)
     (pool : ℕ) (gone : WasDestroyed pool tree newer old new dev e c) where
   abbrev reached : ℕ → Bool
   reached = is_under (map_of tree) pool

@@ -8,7 +8,6 @@ use Rattle.bucket_kinds.specs.Device.{Device}
 use Rattle.module_code.specs.Program.{Program}
 use Rattle.module_code.specs.declared.instr.Instr.TheVariants as instr
 use Rattle.module_code.specs.declared.instr.Status.{Status}
-use Rattle.run_model.specs.declared.bucket.Bucket.{Bucket}
 use Rattle.run_model.specs.declared.event.Stepped.{Stepped}
 use Rattle.run_model.specs.declared.event.Stepped.TheVariants as stepped
 use Rattle.run_model.specs.declared.payload.Payload.{Payload}
@@ -18,6 +17,7 @@ use Rattle.run_model.specs.Passing.{Reads, proceeds, went}
 use Rattle.run_model.specs.Steps.{current}
 use Rattle.pool_tree.specs.declared.tree.PoolTree.{PoolTree}
 use Rattle.pool_tree.specs.Tree.{map_of}
+use Rattle.bucket_kinds.specs.declared.stored.Stored.{Stored}
 use Rattle.brigade_ops.specs.declared.store.Brigades.{Brigades}
 use Rattle.brigade_ops.specs.House.{AreHoused, IsHouse}
 use Rattle.brigade_ops.specs.Store.{lists, brigade_of, pool_of, references, next_name}
@@ -32,7 +32,7 @@ use Rattle.module_run.proofs.StackedBack.{stacked_back}
 use Rattle.module_run.proofs.TopFilter.{on_top_of, top_frame}
 use Rattle.module_run.proofs.Tops.{frame_at}
 
-module _ {R : Type 0} {g : Ghosts R Bucket} (chain : List Program) (s : Status) (tree : PoolTree Payload) (store : Brigades R g) (device : Device) (c : Conn) (v : Linked) (f : Frame) (rest : List Frame)
+module _ {R : Type 0} {g : Ghosts R Stored} (chain : List Program) (s : Status) (tree : PoolTree Payload) (store : Brigades R g) (device : Device) (c : Conn) (v : Linked) (f : Frame) (rest : List Frame)
     (ready : IsReady chain (instr.Ret s) tree store device c v f rest) where
   -- the frames of the calls that wait
   below_frames : (w : ℕ) (t : Filter) → waiting c ≡ suc w → filter_at c (c.first + w) ≡ Some t → rest ≡ shown_frame (runs_of c) (lists store) (c.first + w) (Some t) ∷ stack_up (frame_at (lists store) c) c.first w

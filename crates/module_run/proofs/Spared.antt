@@ -7,12 +7,12 @@ use Rattle.module_code.specs.Program.{Program}
 use Rattle.bucket_kinds.specs.Device.{Device}
 use Rattle.bucket_ring.specs.declared.rings.Rings.{Ghosts}
 use Rattle.bucket_ring.specs.Kept.{NoneRevived, once_in}
-use Rattle.run_model.specs.declared.bucket.Bucket.{Bucket}
 use Rattle.run_model.specs.declared.payload.Payload.{Payload}
 use Rattle.run_model.specs.Pools.{Pools}
 use Rattle.run_model.specs.Chains.{Connection, Linked}
 use Rattle.pool_tree.specs.declared.tree.PoolTree.{PoolTree}
 use Rattle.pool_tree.specs.Tree.{map_of}
+use Rattle.bucket_kinds.specs.declared.stored.Stored.{Stored}
 use Rattle.brigade_ops.specs.declared.store.Brigades.{Brigades}
 use Rattle.brigade_ops.specs.Items.{Items}
 use Rattle.brigade_ops.specs.Store.{lists, brigade_of, pool_of, references, next_name}
@@ -89,7 +89,7 @@ module _ (c : Conn) (fs : Vec Filter) (ws : Vec ℕ) (filters : fs.items ≡ c.f
             queue = counting c.queue (length xs - c.queue);
           }
 
-  module _ {R : Type 0} {g : Ghosts R Bucket} (chain : List Program) (tree : PoolTree Payload) (old new : Brigades R g) (d : Device) (v : Linked)
+  module _ {R : Type 0} {g : Ghosts R Stored} (chain : List Program) (tree : PoolTree Payload) (old new : Brigades R g) (d : Device) (v : Linked)
       (same : (n : ℕ) → lists new n ≡ lists old n) (next : next_name new ≡ next_name old) (names : NoneRevived (brigade_of old) (brigade_of new) (next_name old))
       (pools : pool_of new ≡ pool_of old) (refs : references new ≡ references old) where
     stacked_spared : IsStacked chain old c → IsStacked chain new (changed c fs ws)

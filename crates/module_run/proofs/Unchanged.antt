@@ -1,37 +1,34 @@
 -- A connection over a store and a tree in which nothing has changed.
-use Rattle.std.proofs.Common.{◌≡◌, ℕ, ◌<◌, ◌≤◌, Result, Ok, Err, true, List, Option, None, Some, [], arith, is_some, refl, sym, ap, subst, ◌∙◌, inl, inr}
+use Rattle.std.proofs.Common.{◌≡◌, ℕ, ◌≤◌, Result, Ok, Err, true, List, Option, None, Some, arith, is_some, refl, sym, ap, subst, ◌∙◌}
 use Rattle.std.specs.Prelude.{OnErr}
 use Rattle.std.proofs.Math.Path.{fun_ext}
 use Rattle.bucket_kinds.specs.Device.{Device}
-use Rattle.std.proofs.lemmas.Bool.{cases_eq}
-use Rattle.bucket_ring.specs.Lists as ring
 use Rattle.bucket_ring.specs.declared.names.BucketId.{BucketId}
 use Rattle.bucket_ring.specs.declared.rings.Rings.{Ghosts}
 use Rattle.module_code.specs.Program.{Program}
-use Rattle.run_model.specs.declared.bucket.Bucket.{Bucket}
 use Rattle.run_model.specs.declared.payload.Payload.{Payload}
 use Rattle.run_model.specs.Chains.{Linked}
 use Rattle.run_model.specs.Pools.{Pools}
 use Rattle.run_model.specs.RunOrder.{IsPoolMap}
 use Rattle.pool_tree.specs.declared.tree.PoolTree.{PoolTree}
 use Rattle.pool_tree.specs.Tree.{map_of}
+use Rattle.bucket_kinds.specs.declared.stored.Stored.{Stored}
 use Rattle.brigade_ops.specs.declared.store.Brigades.{Brigades}
-use Rattle.brigade_ops.specs.House.{AreHoused, AreOpen, IsHouse}
+use Rattle.brigade_ops.specs.House.{AreOpen, IsHouse}
 use Rattle.brigade_ops.specs.Items.{Items}
 use Rattle.brigade_ops.specs.Store.{lists, brigade_of, pool_of, next_name, references}
 use Rattle.brigade_ops.proofs.HouseCalls.{house_still}
 use Rattle.brigade_ops.proofs.Stores.{brigades, same_brigade}
 use Rattle.module_run.specs.declared.conn.Conn.{Conn}
-use Rattle.module_run.specs.Conns.{conn_of, IsSeenAs}
+use Rattle.module_run.specs.Conns.{IsSeenAs}
 use Rattle.module_run.specs.Proceeding.{LeftAs}
 use Rattle.module_run.specs.Stacked.{IsStacked, StackedOver}
-use Rattle.ring_run.proofs.Changes.{ring_here, ring_off}
 
 none_under : (o : Option ℕ) → ((p : ℕ) → o ≡ Some p → ⊥) → o ≡ None
 none_under None never = refl
 none_under (Some p) never = absurd (never p refl)
 
-module _ {R : Type 0} {g : Ghosts R Bucket} where
+module _ {R : Type 0} {g : Ghosts R Stored} where
   -- what lies on a pool is there
   pub off_pools : (store : Brigades R g) (ps : Pools Payload) → IsHouse store ps → (n : ℕ) → (is_some (lists store n) ≡ true → ⊥) → pool_of store n ≡ None
   off_pools store ps house n gone = none_under (pool_of store n) (λ p on. gone (house.there n p on))

@@ -5,7 +5,6 @@ use Rattle.std.specs.Global.{Vec}
 use Rattle.bucket_kinds.specs.Device.{Device, Missing}
 use Rattle.bucket_ring.specs.declared.rings.Rings.{Ghosts}
 use Rattle.bucket_ring.specs.Kept.{NoneRevived}
-use Rattle.run_model.specs.declared.bucket.Bucket.{Bucket}
 use Rattle.run_model.specs.declared.payload.Payload.{Payload}
 use Rattle.run_model.specs.Files.{is_referred}
 use Rattle.run_model.specs.Payloads.{is_file_ref}
@@ -13,6 +12,7 @@ use Rattle.run_model.specs.Pools.{destroyed, is_in, is_under}
 use Rattle.run_model.specs.RunOrder.{run_order, IsPoolMap}
 use Rattle.pool_tree.specs.declared.tree.PoolTree.{PoolTree}
 use Rattle.pool_tree.specs.Tree.{map_of}
+use Rattle.bucket_kinds.specs.declared.stored.Stored.{Stored}
 use Rattle.brigade_ops.specs.declared.store.Brigades.{Brigades}
 use Rattle.brigade_ops.specs.House.{AreOpen, IsHouse, cleared_ring, pool_left}
 use Rattle.brigade_ops.specs.Store.{lists, brigade_of, pool_of, next_name, references}
@@ -32,7 +32,7 @@ quieted f = record f { instance = record f.instance { sent = false } }
 abbrev pub request_left : Conn → Vec Filter → Vec LabelsRun → Vec OpenFile → Conn
 request_left c filters labels files = record c { filters = filters; labels = labels; req = None; files = files; ended = false }
 
-module _ {R : Type 0} {g : Ghosts R Bucket} where
+module _ {R : Type 0} {g : Ghosts R Stored} where
   -- The pool went, over the tree, the store and the device, where those of all filters and calls of the connection are among the brigades that were looked at.
   pub record WasDestroyed (pool : ℕ) (tree newer : PoolTree Payload) (old new : Brigades R g) (d e : Device) (c : Conn) : Type 0 where
     pub looked : List ℕ

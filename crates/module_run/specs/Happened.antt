@@ -2,13 +2,13 @@
 use Rattle.std.specs.Prelude.{◌≡◌, Bool, true, false, List, Option, Some, None, Result, Ok, Err}
 use Rattle.module_code.specs.Program.{Program}
 use Rattle.bucket_ring.specs.declared.rings.Rings.{Ghosts}
-use Rattle.run_model.specs.declared.bucket.Bucket.{Bucket}
 use Rattle.run_model.specs.declared.event.Refusal.{Refusal}
 use Rattle.run_model.specs.declared.event.Refusal.TheVariants as refusal
 use Rattle.run_model.specs.declared.payload.Payload.{Payload}
 use Rattle.run_model.specs.Chains.{Linked}
 use Rattle.bucket_kinds.specs.Device.{Device}
 use Rattle.pool_tree.specs.declared.tree.PoolTree.{PoolTree}
+use Rattle.bucket_kinds.specs.declared.stored.Stored.{Stored}
 use Rattle.brigade_ops.specs.declared.store.Brigades.{Brigades}
 use Rattle.module_run.specs.declared.conn.Conn.{Conn}
 use Rattle.module_run.specs.Proceeding.{LeftAs, StandsFor}
@@ -27,7 +27,7 @@ abbrev pub refusal_of : {X : Type 0} → Result X Refusal → Option Refusal
 refusal_of (Ok x) = None
 refusal_of (Err r) = Some r
 
-module _ {R : Type 0} {g : Ghosts R Bucket} where
+module _ {R : Type 0} {g : Ghosts R Stored} where
   -- It stands for some connection of the model.
   pub record Stands (chain : List Program) (tree : PoolTree Payload) (store : Brigades R g) (d : Device) (c : Conn) : Type 0 where
     pub linked : Linked

@@ -2,9 +2,9 @@
 use Rattle.std.specs.Prelude.{◌≡◌, ◌≢◌, ◌⊎◌, ℕ, ◌<◌, ◌≤◌, false, None, Some}
 use Rattle.bucket_ring.specs.declared.rings.Rings.{Ghosts}
 use Rattle.bucket_ring.specs.Kept.{NoneRevived}
-use Rattle.run_model.specs.declared.bucket.Bucket.{Bucket}
 use Rattle.run_model.specs.declared.payload.Payload.{Payload}
 use Rattle.run_model.specs.Pools.{Pools, is_under}
+use Rattle.bucket_kinds.specs.declared.stored.Stored.{Stored}
 use Rattle.brigade_ops.specs.declared.store.Brigades.{Brigades}
 use Rattle.brigade_ops.specs.Store.{lists, brigade_of, pool_of, next_name}
 use Rattle.module_run.specs.declared.conn.Filter.{Filter}
@@ -19,7 +19,7 @@ pub record Holds (c : Conn) (n : ℕ) : Type 0 where
   pub is : filter_at c at ≡ Some filter
   pub by : (filter.call.name ≡ n) ⊎ ((b : ℕ) × (named_at filter b ≡ Some n))
 
-module _ {R : Type 0} {g : Ghosts R Bucket} where
+module _ {R : Type 0} {g : Ghosts R Stored} where
   -- A brigade that was given out, which the connection does not hold, and which lies on none of its pools.
   pub record IsForeign (ps : Pools Payload) (store : Brigades R g) (c : Conn) (n : ℕ) : Type 0 where
     pub real : 0 < n

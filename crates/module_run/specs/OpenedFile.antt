@@ -1,12 +1,11 @@
 -- A file of an opening.
-use Rattle.std.specs.Prelude.{◌≡◌, ◌⊎◌, true, ℕ, ◌+◌, ◌≤◌, List, Option, Some, None, Result, Ok, Err}
+use Rattle.std.specs.Prelude.{◌≡◌, ◌⊎◌, ℕ, ◌+◌, ◌≤◌, List, Option, Some, None, Result, Ok, Err}
 use Rattle.module_code.specs.Program.{Program}
 use Rattle.bucket_kinds.specs.Answers.{MayMiss}
 use Rattle.bucket_kinds.specs.Device.{Device, MayGoWell, MayFail, WentWell, HasFailed, moved, opened, closed}
 use Rattle.bucket_kinds.specs.declared.refusal.FileFault.{FileFault}
 use Rattle.bucket_kinds.specs.declared.refusal.FileFault.TheVariants as fault
 use Rattle.bucket_ring.specs.declared.rings.Rings.{Ghosts}
-use Rattle.run_model.specs.declared.bucket.Bucket.{Bucket}
 use Rattle.run_model.specs.declared.event.Refusal.{Refusal}
 use Rattle.run_model.specs.declared.event.Refusal.TheVariants as refusal
 use Rattle.run_model.specs.declared.payload.Payload.{Payload}
@@ -14,6 +13,7 @@ use Rattle.model_laws.specs.ChainFiles.{IsShortLength}
 use Rattle.run_model.specs.Chains.{Linked}
 use Rattle.run_model.specs.Turns.{Opening, Found, Missing, Failing, opens_file}
 use Rattle.pool_tree.specs.declared.tree.PoolTree.{PoolTree}
+use Rattle.bucket_kinds.specs.declared.stored.Stored.{Stored}
 use Rattle.brigade_ops.specs.declared.store.Brigades.{Brigades}
 use Rattle.module_run.specs.declared.conn.Conn.{Conn}
 use Rattle.module_run.specs.Happened.{Happened, lasted, refusal_of}
@@ -48,7 +48,7 @@ abbrev pub TellsShort : Result (ℕ × ℕ) Refusal → Type 0
 TellsShort (Ok file) = IsShortLength file.1
 TellsShort (Err r) = Unit {0}
 
-module _ {R : Type 0} {g : Ghosts R Bucket} where
+module _ {R : Type 0} {g : Ghosts R Stored} where
   -- The device d told of the file, and is e then. numbers: the model's next number is at most the device's. short: the length that is told is below 2^64.
   pub record WasOpened (chain : List Program) (tree : PoolTree Payload) (store : Brigades R g) (d e : Device) (c : Conn) (name : List ℕ) (answer : Result (ℕ × ℕ) Refusal) (v : Linked) : Type 0 where
     pub opening : Opening

@@ -4,13 +4,13 @@ use Rattle.std.specs.Global.{Vec}
 use Rattle.bucket_ring.specs.Kept.{NoneRevived}
 use Rattle.bucket_ring.specs.declared.names.BucketId.{BucketId}
 use Rattle.bucket_ring.specs.declared.rings.Rings.{Ghosts}
-use Rattle.run_model.specs.declared.bucket.Bucket.{Bucket}
 use Rattle.run_model.specs.declared.bucket.PoolVar.TheVariants as poolvar
 use Rattle.run_model.specs.declared.payload.Payload.{Payload}
 use Rattle.run_model.specs.Chains.{Linked}
 use Rattle.run_model.specs.Pools.{Pools}
 use Rattle.pool_tree.specs.declared.tree.PoolTree.{PoolTree}
 use Rattle.pool_tree.specs.Tree.{map_of}
+use Rattle.bucket_kinds.specs.declared.stored.Stored.{Stored}
 use Rattle.brigade_ops.specs.declared.store.Brigades.{Brigades}
 use Rattle.brigade_ops.specs.House.{IsHouse}
 use Rattle.brigade_ops.specs.Items.{Items}
@@ -47,7 +47,7 @@ pub record IsNewConn (filters : Vec Filter) (pool : ℕ) (c : Conn) : Type 0 whe
   pub count : c.count ≡ 0
   pub broken : c.broken ≡ None
 
-module _ {R : Type 0} {g : Ghosts R Bucket} where
+module _ {R : Type 0} {g : Ghosts R Stored} where
   -- A tree of pools and a store of brigades, in which others may stand. house: brigades stand on their pools. none, named: 0 is no brigade's name.
   pub record CanOpen (tree : PoolTree Payload) (store : Brigades R g) : Type 0 where
     pub house : IsHouse store (map_of tree)

@@ -17,14 +17,14 @@ ghost use Rattle.module_run.specs.Proceeding.{StandsFor};
 ghost use Rattle.module_run.specs.Refused.{begin_tests};
 
 use crate::conn::Conn;
-use brigade_ops::{BrigadeId, Brigades, Bucket, PoolId, PoolTree, Rings};
+use brigade_ops::{BrigadeId, Brigades, PoolId, PoolTree, Rings, Stored};
 use ring_run::asks::is_spent;
 use run_model::{Module, Payload, Refusal};
 use std::alloc::AllocError;
 
 /// Makes the brigade of a call's loose buckets, and a pool under this one, and tells their names. Without memory, and where the names are
 /// spent, nothing is changed.
-pub(crate) fn call_and_pool<R: Rings<Bucket> + Drop>(
+pub(crate) fn call_and_pool<R: Rings<Stored> + Drop>(
     tree: &mut PoolTree<Payload>,
     store: &mut Brigades<R>,
     parent: PoolId,
@@ -56,7 +56,7 @@ pub(crate) fn call_and_pool<R: Rings<Bucket> + Drop>(
 
 impl Conn {
     /// Why no request may begin now, if there is a reason.
-    fn refusal_to_begin<R: Rings<Bucket> + Drop>(
+    fn refusal_to_begin<R: Rings<Stored> + Drop>(
         &self,
         tree: &PoolTree<Payload>,
         store: &Brigades<R>,
@@ -81,7 +81,7 @@ impl Conn {
     /// A request begins: its pool is made under the connection's, and `init` of the first filter begins. Refused, nothing is changed:
     /// `Broken`; `Busy`: a call is running; `InRequest`; `NamesSpent`: a name to be given out would be `u64::MAX`; `NoMemory`.
     #[tactic(auto, using(crate::proofs::RequestBegins::begun_left))]
-    pub fn begin<R: Rings<Bucket> + Drop>(
+    pub fn begin<R: Rings<Stored> + Drop>(
         &mut self,
         modules: &[Module],
         tree: &mut PoolTree<Payload>,

@@ -23,7 +23,7 @@ ghost use Rattle.module_run.specs.Conns.{lengths};
 
 use crate::conn::{Conn, Filter};
 use crate::pieces::{buckets_of, has_data_behind_eos, lack_files};
-use brigade_ops::{BrigadeId, Brigades, Bucket, PoolId, Rings};
+use brigade_ops::{BrigadeId, Brigades, PoolId, Rings, Stored};
 use ring_run::machine::Slot;
 use run_model::{Mark, Module, Piece, Refusal, Seq};
 use std::alloc::{AllocError, Global};
@@ -39,7 +39,7 @@ fn are_spent(next: u64, buckets: u64) -> bool
 
 /// Makes the brigade of a call's loose buckets, and that of the pieces that are brought to it in a request of this pool. They have the next
 /// two names, and the buckets those behind them. Without memory nothing is changed, and no name is spent.
-fn call_and_brigade<R: Rings<Bucket> + Drop>(
+fn call_and_brigade<R: Rings<Stored> + Drop>(
     alloc: Global,
     store: &mut Brigades<R>,
     req: PoolId,
@@ -88,7 +88,7 @@ impl Conn {
     }
 
     /// The pool of the request in which these pieces may be brought now, or why they may not.
-    fn pool_to_bring<R: Rings<Bucket> + Drop>(
+    fn pool_to_bring<R: Rings<Stored> + Drop>(
         &self,
         store: &Brigades<R>,
         pieces: &[Piece],
@@ -121,7 +121,7 @@ impl Conn {
     /// dropped: `Broken`; `Busy`: a call is running; `NotInRequest`; `DataAfterEos`: a data piece stands behind an EOS; `NoFile`: a range
     /// is of no file that was opened in this request, or ends behind it; `NamesSpent`: a name to be given out would be `u64::MAX`;
     /// `NoMemory`.
-    pub fn bring<R: Rings<Bucket> + Drop>(
+    pub fn bring<R: Rings<Stored> + Drop>(
         &mut self,
         modules: &[Module],
         store: &mut Brigades<R>,

@@ -23,7 +23,7 @@ ghost use Rattle.module_run.specs.Proceeding.{StandsFor};
 ghost use Rattle.module_run.specs.Refused.{request_tests};
 
 use crate::conn::{Conn, Filter};
-use brigade_ops::{Brigades, Bucket, Files, PoolId, PoolTree, Rings};
+use brigade_ops::{Brigades, Files, PoolId, PoolTree, Rings, Stored};
 use ring_run::labels::add_labels;
 use run_model::{Payload, Refusal};
 use std::alloc::AllocError;
@@ -56,7 +56,7 @@ impl Conn {
     }
 
     /// Destroys a pool of the connection that is not the root, while no call runs. Without memory nothing is changed.
-    pub(crate) fn destroy<R: Rings<Bucket> + Drop, F: Files>(
+    pub(crate) fn destroy<R: Rings<Stored> + Drop, F: Files>(
         &mut self,
         tree: &mut PoolTree<Payload>,
         store: &mut Brigades<R>,
@@ -101,7 +101,7 @@ impl Conn {
 
     /// The request ends: its pool is destroyed with what lies on it and under it, and labels run. Refused, nothing is changed: `Broken`;
     /// `Busy`: a call is running; `NotInRequest`; `NoMemory`.
-    pub fn end_request<R: Rings<Bucket> + Drop, F: Files>(
+    pub fn end_request<R: Rings<Stored> + Drop, F: Files>(
         &mut self,
         tree: &mut PoolTree<Payload>,
         store: &mut Brigades<R>,

@@ -16,7 +16,7 @@ ghost use Rattle.std.specs.Vec.{vec_len, vec_capacity};
 ghost use Rattle.module_run.specs.Proceeding.{StandsFor};
 
 use crate::conn::{Conn, OpenFile};
-use brigade_ops::{Brigades, Bucket, FileNo, Files, PoolId, PoolTree, Rings};
+use brigade_ops::{Brigades, FileNo, Files, PoolId, PoolTree, Rings, Stored};
 use bucket_kinds::FileFault;
 use run_model::{Payload, Refusal};
 use std::alloc::AllocError;
@@ -43,7 +43,7 @@ fn add_file(files: &mut Vec<OpenFile>, file: OpenFile)
 
 impl Conn {
     /// Notes a file that was opened in the request of this pool, which holds the reference. Without memory nothing is changed.
-    fn keep_file<R: Rings<Bucket> + Drop>(
+    fn keep_file<R: Rings<Stored> + Drop>(
         &mut self,
         tree: &mut PoolTree<Payload>,
         store: &mut Brigades<R>,
@@ -75,7 +75,7 @@ impl Conn {
     /// `Broken`; `Busy`: a call is running; `NotInRequest`; `NoFile`: there is none of that name; `FileFailed`: the device failed;
     /// `NamesSpent`: its number would be `u64::MAX`; `NoMemory`.
     #[tactic(auto, using(crate::proofs::FileOpens::file_left, crate::proofs::Refusing::open_left))]
-    pub fn open_file<R: Rings<Bucket> + Drop, F: Files>(
+    pub fn open_file<R: Rings<Stored> + Drop, F: Files>(
         &mut self,
         tree: &mut PoolTree<Payload>,
         store: &mut Brigades<R>,

@@ -15,7 +15,7 @@ ghost use Rattle.module_run.specs.Proceeding.{LeftAs};
 
 use crate::conn::{Conn, Filter};
 use crate::conn_begin::call_and_pool;
-use brigade_ops::{Brigades, Bucket, PoolId, PoolTree, Rings};
+use brigade_ops::{Brigades, PoolId, PoolTree, Rings, Stored};
 use ring_run::OutputBlock;
 use ring_run::asks::is_spent;
 use ring_run::machine::{Call, Instance};
@@ -73,7 +73,7 @@ impl Conn {
     /// Opens a connection over a tree of pools and a store of brigades, in which others may stand: its pool is made under the root, and
     /// `open` of the first filter begins. Refused, nothing is changed: `NamesSpent`: a name to be given out would be `u64::MAX`; `NoMemory`.
     #[tactic(auto, using(crate::proofs::Opens::opened_left))]
-    pub fn open<R: Rings<Bucket> + Drop>(
+    pub fn open<R: Rings<Stored> + Drop>(
         alloc: Global,
         modules: &[Module],
         tree: &mut PoolTree<Payload>,

@@ -23,16 +23,15 @@ ghost use Rattle.ring_run.specs.Seen.{seen, is_running};
 ghost use Rattle.ring_run.specs.Slots.{live_in, marked, name_in, slot_at};
 
 use crate::conn::{Conn, Filter};
-use brigade_ops::{BrigadeId, Brigades, Bucket, RingRefusal, Rings};
+use brigade_ops::{BrigadeId, Brigades, RingRefusal, Rings, Stored};
 use ring_run::calls::begin_call;
-use ring_run::effects::live;
 use ring_run::passes::{hand_over, take_in};
 use run_model::{Instr, Mark, Module, Stepped};
 use std::alloc::AllocError;
 
 impl Filter {
     /// Its call begins at an instruction, where a name is left. Without memory nothing is changed.
-    fn begin_in<R: Rings<Bucket> + Drop>(
+    fn begin_in<R: Rings<Stored> + Drop>(
         &mut self,
         store: &mut Brigades<R>,
         pc: usize,
@@ -63,7 +62,7 @@ impl Filter {
     }
 
     /// Lends the brigade of a variable to the next filter, and tells its name.
-    fn lend<R: Rings<Bucket> + Drop>(&mut self, store: &Brigades<R>, b: u8) -> BrigadeId
+    fn lend<R: Rings<Stored> + Drop>(&mut self, store: &Brigades<R>, b: u8) -> BrigadeId
         requires slot { b < 9 }
         requires live { is_some (live_in (lists store.now) (slot_at self.old.instance b)) ≡ true }
         ensures name { name_in (slot_at self.old.instance b) ≡ Some result }
@@ -74,9 +73,7 @@ impl Filter {
         ensures call { self.new.call ≡ self.old.call }
         ensures lent { self.new.lent ≡ Some b }
     {
-        let Some(name) = live(&self.instance, store, b) else {
-            unreachable!()
-        };
+        let name = self.instance.brigade(b);
         hand_over(&mut self.instance, store, b);
         self.lent = Some(b);
         name
@@ -85,7 +82,7 @@ impl Filter {
 
 impl Conn {
     /// The filter on top passes the brigade of a variable to the next filter, whose `main` begins. Without memory nothing is changed.
-    pub(crate) fn pass_to_next<R: Rings<Bucket> + Drop>(
+    pub(crate) fn pass_to_next<R: Rings<Stored> + Drop>(
         &mut self,
         modules: &[Module],
         store: &mut Brigades<R>,

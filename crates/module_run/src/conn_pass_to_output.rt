@@ -13,7 +13,7 @@ ghost use Rattle.module_run.specs.Neighbours.{EndsLoose, LeavesOthers};
 ghost use Rattle.module_run.specs.Proceeding.{CanProceed, IsReady, RefinesStep, LeftAs};
 
 use crate::conn::Conn;
-use brigade_ops::{Brigades, Bucket, Files, Rings};
+use brigade_ops::{Brigades, Files, Rings, Stored};
 use ring_run::output::pass_out;
 use run_model::{Instr, Stepped};
 use std::alloc::AllocError;
@@ -22,7 +22,7 @@ impl Conn {
     /// The last filter passes the brigade of a variable to the end of the chain. It goes on behind the pass, or at the target of the pass
     /// where not all went well. Only bytes that are put out take memory. Without it nothing is
     /// changed; parts may have been read.
-    pub(crate) fn pass_to_output<R: Rings<Bucket> + Drop, F: Files>(
+    pub(crate) fn pass_to_output<R: Rings<Stored> + Drop, F: Files>(
         &mut self,
         store: &mut Brigades<R>,
         files: &mut F,

@@ -11,7 +11,7 @@ ghost use Rattle.module_run.specs.Neighbours.{EndsLoose, LeavesOthers};
 ghost use Rattle.module_run.specs.Proceeding.{CanProceed, IsReady, RefinesStep, LeftAs};
 
 use crate::conn::Conn;
-use brigade_ops::{Brigades, Bucket, PoolId, PoolTree, Rings};
+use brigade_ops::{Brigades, PoolId, PoolTree, Rings, Stored};
 use run_model::{Instr, Module, Payload, Status, Stepped};
 use std::alloc::AllocError;
 
@@ -28,7 +28,7 @@ fn handler(req: Option<PoolId>, code: &Module) -> usize
 impl Conn {
     /// The call on top returns, and none waits for it: it ends, or where the handler of a further filter is to run, that one's call begins.
     /// Without memory nothing is changed.
-    pub(crate) fn return_last<R: Rings<Bucket> + Drop>(
+    pub(crate) fn return_last<R: Rings<Stored> + Drop>(
         &mut self,
         modules: &[Module],
         store: &mut Brigades<R>,

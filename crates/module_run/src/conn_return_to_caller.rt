@@ -11,7 +11,7 @@ ghost use Rattle.module_run.specs.Neighbours.{EndsLoose, LeavesOthers};
 ghost use Rattle.module_run.specs.Proceeding.{CanProceed, IsReady, RefinesStep};
 
 use crate::conn::{Conn, Filter};
-use brigade_ops::{Brigades, Bucket, PoolTree, Rings};
+use brigade_ops::{Brigades, PoolTree, Rings, Stored};
 use run_model::{Instr, Module, Payload, Status, Stepped};
 
 /// Where a filter goes on behind its pass.
@@ -43,7 +43,7 @@ impl Filter {
 
 impl Conn {
     /// The call on top returns to the one that waits for it.
-    pub(crate) fn return_to_caller<R: Rings<Bucket> + Drop>(
+    pub(crate) fn return_to_caller<R: Rings<Stored> + Drop>(
         &mut self,
         modules: &[Module],
         store: &mut Brigades<R>,

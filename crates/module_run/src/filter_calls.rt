@@ -10,13 +10,13 @@ ghost use Rattle.ring_run.specs.Slots.{SameButSlots, slot_at};
 ghost use Rattle.module_run.specs.Stacked.{named_at};
 
 use crate::conn::Filter;
-use brigade_ops::{BrigadeId, Brigades, Bucket, Rings};
+use brigade_ops::{BrigadeId, Brigades, Rings, Stored};
 use ring_run::calls::end_call;
 use ring_run::machine::Slot;
 
 impl Filter {
     /// Its call returns.
-    pub(crate) fn end<R: Rings<Bucket> + Drop>(&mut self, store: &mut Brigades<R>)
+    pub(crate) fn end<R: Rings<Stored> + Drop>(&mut self, store: &mut Brigades<R>)
         requires held { IsHeld store.old self.old.instance self.old.call }
         requires runs { 0 < self.old.call.name }
         requires none { lists store.old 0 ≡ None }
@@ -37,7 +37,7 @@ impl Filter {
     }
 
     /// Its call returns, which was the first one: the brigade that came in to it goes with it.
-    pub(crate) fn end_first<R: Rings<Bucket> + Drop>(&mut self, store: &mut Brigades<R>)
+    pub(crate) fn end_first<R: Rings<Stored> + Drop>(&mut self, store: &mut Brigades<R>)
         requires held { IsHeld store.old self.old.instance self.old.call }
         requires runs { 0 < self.old.call.name }
         requires none { lists store.old 0 ≡ None }

@@ -2,6 +2,7 @@
 #![tactic(auto)]
 
 mod conn;
+mod conn_bare;
 mod conn_begin;
 mod conn_bring;
 mod conn_calls;
@@ -26,6 +27,7 @@ pub use brigade_ops::{
     BrigadeId, Brigades, BucketId, PlainRings, PoolId, PoolTree, RawRings, Rings,
 };
 pub use conn::{Conn, Filter, OpenFile};
+pub use conn_bare::{Bare, step_bare};
 pub use conn_step::step_watched;
 pub use ring_run::LabelsRun;
 pub use run_model::{Bucket, Mark, Payload, PoolVar, Seq, StepRefusal, Stepped};

@@ -1,59 +1,75 @@
 //! A look at the next instruction of a connection.
 
-ghost use Rattle.std.specs.Prelude.{◌≡◌, ◌<◌, ℕ, List, length};
+ghost use Rattle.std.specs.Prelude.{◌≡◌, ◌<◌, ℕ, List, length, Some, None};
 ghost use Rattle.bucket_kinds.specs.Device.{Device};
 ghost use Rattle.run_model.specs.Chains.{Frame, Linked};
-ghost use Rattle.module_run.specs.Looking.{IsNextInstr, step_lacks_names, calls_at};
-ghost use Rattle.module_run.specs.Conns.{top_of};
-ghost use Rattle.module_run.specs.Stepping.{IsOnTop};
+ghost use Rattle.module_run.specs.declared.conn.Filter.{Filter};
+ghost use Rattle.module_run.specs.Looking.{IsNextInstr, StandsAt, next_of, step_lacks_names, calls_at};
+ghost use Rattle.module_run.specs.Conns.{filter_at, top_of};
+ghost use Rattle.module_run.specs.Stepping.{IsOnTop, next_fault};
 
 use crate::conn::Conn;
-use brigade_ops::{Brigades, Bucket, PoolTree, Rings};
+use brigade_ops::{Brigades, PoolTree, Rings, Stored};
 use ring_run::asks::{is_spent, lacks_names};
 use ring_run::outside::Outside;
 use ring_run::wants::fault;
 use run_model::{FaultKind, Instr, Module, Payload};
 
-/// The next instruction of the call on top: the number of its module and its own, and its fault, if it has one.
+/// The next instruction of the call on top: the number of its module and its own.
 #[derive(Clone, Copy)]
 pub(crate) struct NextInstr {
     pub(crate) of: usize,
     pub(crate) pc: usize,
     pub(crate) instr: Instr,
-    pub(crate) fault: Option<FaultKind>,
 }
 
 impl Conn {
-    /// Looks at the next instruction of the call on top.
-    #[tactic(auto, using(crate::proofs::Looking::sees, crate::proofs::Looking::looked))]
-    pub(crate) fn look<R: Rings<Bucket> + Drop>(
-        &self,
-        modules: &[Module],
-        tree: &PoolTree<Payload>,
-        store: &Brigades<R>,
-    ) -> NextInstr
-        requires on_top { (d : Device) × ((v : Linked) × ((f : Frame) × ((rest : List Frame) × IsOnTop modules.now tree.now store.now d self.now v f rest))) }
-        ensures { (d : Device) (v : Linked) (f : Frame) (rest : List Frame) → IsOnTop modules.now tree.now store.now d self.now v f rest → IsNextInstr modules.now v f result }
+    /// The next instruction of the call on top.
+    pub(crate) fn next_instr(&self, modules: &[Module]) -> NextInstr
+        requires { StandsAt modules.now self.now }
+        ensures { (filter : Filter) → filter_at self.now (top_of self.now) ≡ Some filter → result ≡ next_of modules.now self.now filter }
     {
         let of = self.top();
         let (Some(filter), Some(code)) = (self.filters.get(of), modules.get(of)) else {
             unreachable!()
         };
         let pc = filter.call.pc;
-        let instr = code.at(pc);
+        NextInstr {
+            of,
+            pc,
+            instr: code.at(pc),
+        }
+    }
+
+    /// The fault of the next instruction of the call on top, if it has one.
+    pub(crate) fn fault_of<R: Rings<Stored> + Drop>(
+        &self,
+        modules: &[Module],
+        tree: &PoolTree<Payload>,
+        store: &Brigades<R>,
+        next: NextInstr,
+    ) -> Option<FaultKind>
+        requires on_top { (d : Device) × ((v : Linked) × ((f : Frame) × ((rest : List Frame) × (IsOnTop modules.now tree.now store.now d self.now v f rest × IsNextInstr modules.now f next)))) }
+        ensures { (d : Device) (v : Linked) (f : Frame) (rest : List Frame) → IsOnTop modules.now tree.now store.now d self.now v f rest → IsNextInstr modules.now f next → result ≡ next_fault modules.now v f }
+    {
+        let of = self.top();
+        let (Some(filter), Some(code)) = (self.filters.get(of), modules.get(of)) else {
+            unreachable!()
+        };
         let outside = Outside {
             tree,
             conn: self.conn,
             req: self.req,
             waits: self.waits.as_slice(),
         };
-        let fault = fault(code, &filter.instance, &filter.call, &outside, store, instr);
-        NextInstr {
-            of,
-            pc,
-            instr,
-            fault,
-        }
+        fault(
+            code,
+            &filter.instance,
+            &filter.call,
+            &outside,
+            store,
+            next.instr,
+        )
     }
 
     /// How many calls an instruction of the call on top begins: a pass to the next filter one, and the last return of an `open` or `init`
@@ -69,17 +85,17 @@ impl Conn {
         }
     }
 
-    /// Whether a name that the next instruction would have to give out is not there.
+    /// Whether a name that the next instruction, which has no fault, would have to give out is not there.
     #[tactic(auto, using(crate::proofs::Looking::sees, crate::proofs::Looking::looked))]
-    pub(crate) fn lacks<R: Rings<Bucket> + Drop>(
+    pub(crate) fn lacks<R: Rings<Stored> + Drop>(
         &self,
         modules: &[Module],
         tree: &PoolTree<Payload>,
         store: &Brigades<R>,
-        look: NextInstr,
+        next: NextInstr,
     ) -> bool
-        requires on_top { (d : Device) × ((v : Linked) × ((f : Frame) × ((rest : List Frame) × (IsOnTop modules.now tree.now store.now d self.now v f rest × IsNextInstr modules.now v f look)))) }
-        ensures { (d : Device) (v : Linked) (f : Frame) (rest : List Frame) → IsOnTop modules.now tree.now store.now d self.now v f rest → IsNextInstr modules.now v f look → result ≡ step_lacks_names modules.now v f rest look }
+        requires on_top { (d : Device) × ((v : Linked) × ((f : Frame) × ((rest : List Frame) × (IsOnTop modules.now tree.now store.now d self.now v f rest × IsNextInstr modules.now f next × (next_fault modules.now v f ≡ None))))) }
+        ensures { (d : Device) (v : Linked) (f : Frame) (rest : List Frame) → IsOnTop modules.now tree.now store.now d self.now v f rest → IsNextInstr modules.now f next → result ≡ step_lacks_names modules.now v f rest next }
     {
         let of = self.top();
         let (Some(filter), Some(code)) = (self.filters.get(of), modules.get(of)) else {
@@ -97,7 +113,7 @@ impl Conn {
             &filter.call,
             &outside,
             store,
-            look.instr,
-        ) || is_spent(store.next_name(), self.calls(modules, look.instr))
+            next.instr,
+        ) || is_spent(store.next_name(), self.calls(modules, next.instr))
     }
 }

@@ -48,6 +48,10 @@ module _ {T : Type 0} (tree : PoolTree T) where
   unfolding map_of
   tree_payloads n = map_payloads tree.root tree.next (record_of tree.records) tree.linked n
 
+  -- the pool above is there
+  pub above_live : (n p : ℕ) → parent_of (record_of tree.records) n ≡ Some p → is_live (map_of tree) p ≡ true
+  above_live n p at = tree_live p ∙ tree.linked.closed n p at
+
   -- what is under a pool goes by the pool above
   pub under_step : (a n p : ℕ) → a < n → parent_of (record_of tree.records) n ≡ Some p → is_under (map_of tree) a n ≡ is_under (map_of tree) a p
   unfolding map_of is_under
@@ -63,10 +67,10 @@ module _ {T : Type 0} (tree : PoolTree T) where
       ∙ top_cases (map_of tree).path n a (record_of tree.records n) (λ e. omega arith) at
 
   -- a pool is not under a younger one
-  pub under_end : (a n : ℕ) → n ≤ a → is_live (map_of tree) a ≡ true → is_under (map_of tree) a n ≡ (n == a)
+  pub under_end : (a n : ℕ) → n ≤ a → is_live (map_of tree) n ≡ true → is_under (map_of tree) a n ≡ (n == a)
   under_end a n low live =
       elim (cases_eq n a) [
-        | inl here ↦ ap (λ k. is_under (map_of tree) a k) here ∙ under_itself (map_of tree) tree_formed a live ∙ sym (eq-eqb n a here)
+        | inl here ↦ ap (λ k. is_under (map_of tree) k n) (sym here) ∙ under_itself (map_of tree) tree_formed n live ∙ sym (eq-eqb n a here)
         | inr apart ↦
             false_from_ne_true (is_under (map_of tree) a n) (λ under. omega (arith, under_above (map_of tree) tree_formed a n under, apart))
             ∙ sym (ne_eqb n a apart)

@@ -158,10 +158,9 @@ impl<T: Drop> PoolTree<T> {
         self.records.get(pool).is_some()
     }
 
-    /// Whether a pool is another or one of those above it.
+    /// Whether a name is that of a pool or of one above it. It walks up from the pool, so the name may be that of a pool that is gone.
     pub fn is_ancestor(&self, ancestor: PoolId, pool: PoolId) -> bool
-        requires above { IsTrue (is_live (map_of self.now) ancestor) }
-        requires below { IsTrue (is_live (map_of self.now) pool) }
+        requires { IsTrue (is_live (map_of self.now) pool) }
         ensures { result ≡ is_under (map_of self.now) ancestor pool }
     {
         let mut current = pool;

@@ -24,8 +24,7 @@ use Rattle.ring_run.specs.declared.machine.Slot.TheVariants as slot
 use Rattle.ring_run.specs.Around.{Around}
 use Rattle.ring_run.specs.Slots.{slot_at, live_in}
 use Rattle.ring_run.specs.Seen.{seen_over, calls_in, shown, shown_as, shown_slot}
-use Rattle.ring_run.proofs.Changes.{dead_seen, items_of_slot, live_is}
-use Rattle.ring_run.proofs.Crossed.{none_there}
+use Rattle.ring_run.proofs.Changes.{items_of_slot, live_is}
 
 length_shown : (runs : ℕ → Bool) (xs : Items) → length_in (shown runs xs) ≡ length_in (named xs)
 unfolding length_in
@@ -70,20 +69,11 @@ module _ (L : ℕ → Option Items) (k : ℕ) (around : Around) (i : Instance) (
     pub short_live : (n p : ℕ) → live_in L (slot_at i b) ≡ Some n → nat_lt (length_in (named (list_at L n))) p ≡ is_short p (items_at (seen_over L k around i call) b)
     short_live n p is = ap (λ m. nat_lt m p) (sym (ap length_in (items_live n is) ∙ length_shown (calls_in around call) (list_at L n)))
 
-    pub short_dead : (p : ℕ) → live_in L (slot_at i b) ≡ None → nat_lt 0 p ≡ is_short p (items_at (seen_over L k around i call) b)
-    short_dead p none = ap (λ m. nat_lt m p) (sym (ap length_in (dead_seen L k around i call b none).0 ∙ no_length))
-
     pub empty_live : (n : ℕ) (first : Option BucketId) (t : Bool) → live_in L (slot_at i b) ≡ Some n → first ≡ first_of (list_at L n) → is_some first ≡ not t → t ≡ is_empty (items_at (seen_over L k around i call) b)
     empty_live n first t is at none = none_first (calls_in around call) (list_at L n) t (sym (ap is_some at) ∙ none) ∙ ap is_empty (sym (items_live n is))
 
-    pub empty_dead : live_in L (slot_at i b) ≡ None → true ≡ is_empty (items_at (seen_over L k around i call) b)
-    empty_dead none = ap is_empty (sym (dead_seen L k around i call b none).0)
-
     pub across_live : (n p : ℕ) (o : Option NamedBucket) → live_in L (slot_at i b) ≡ Some n → o ≡ bucket_across p (shown (calls_in around call) (list_at L n)) → names_if (is_some o) ≡ names_to_part p (items_at (seen_over L k around i call) b)
     across_live n p o is at = ap (λ (y : Option NamedBucket). names_if (is_some y)) (at ∙ ap (bucket_across p) (sym (items_live n is)))
-
-    pub across_dead : (p : ℕ) → live_in L (slot_at i b) ≡ None → 0 ≡ names_to_part p (items_at (seen_over L k around i call) b)
-    across_dead p none = ap (λ (y : Option NamedBucket). names_if (is_some y)) (sym (ap (bucket_across p) (dead_seen L k around i call b none).0 ∙ none_there p))
 
   -- a buffer is full by its length
   pub full_is : (x : Value) (n m : ℕ) (t : Bool) → t ≡ (nat_lt 255 n || nat_le buffer_limit m) → n ≡ value_of (seen_over L k around i call) x → m ≡ length call.buffer → t ≡ is_full (seen_over L k around i call) x

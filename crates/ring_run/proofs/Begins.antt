@@ -19,6 +19,7 @@ use Rattle.run_model.specs.declared.bucket.Cursor.{Cursor}
 use Rattle.run_model.specs.declared.bucket.Cursor.TheVariants as cursor
 use Rattle.run_model.specs.declared.bucket.Mark.{Mark}
 use Rattle.run_model.specs.State.{Configuration}
+use Rattle.bucket_kinds.specs.declared.stored.Stored.{Stored}
 use Rattle.brigade_ops.specs.declared.store.Brigades.{Brigades}
 use Rattle.brigade_ops.specs.Items.{Item, Items, named_item}
 use Rattle.brigade_ops.specs.Store.{lists, brigade_of, pool_of, next_name}
@@ -73,7 +74,7 @@ items_begun k waits (x ∷ xs) older =
         go true = omega (arith)
         go false = there
 
-module _ {R : Type 0} {g : Ghosts R Bucket} (old new : Brigades R g) (i : Instance) (call begun : Call) (held : IsHeld old i call)
+module _ {R : Type 0} {g : Ghosts R Stored} (old new : Brigades R g) (i : Instance) (call begun : Call) (held : IsHeld old i call)
     (idle : call.name ≡ 0) (over : (n : ℕ) → lists new n ≡ ring.upd (lists old) (next_name old) (Some []) n) (name : begun.name ≡ next_name old) (unset : (c : ℕ) → cursor_at begun c ≡ cursor_value.Unset) where
   as_was : (n : ℕ) → n < next_name old → lists new n ≡ lists old n
   as_was n below = over n ∙ ring_off (lists old) (next_name old) n (Some []) (λ e. omega (arith, below, e))

@@ -52,3 +52,4 @@ pub mod LabelsKept
 pub mod Instructions
 pub mod Pushed
 pub mod Spans
+pub mod Standing

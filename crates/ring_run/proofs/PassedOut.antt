@@ -15,7 +15,7 @@ use Rattle.ring_run.specs.Around.{Around}
 use Rattle.ring_run.specs.Handed.{lent}
 use Rattle.ring_run.specs.Slots.{slot_at, live_in, marked}
 use Rattle.ring_run.specs.Seen.{seen_over, calls_in, shown_as, shown_slot}
-use Rattle.ring_run.proofs.Changes.{ApartIn, live_is, seen_same, seen_slot, set_same}
+use Rattle.ring_run.proofs.Changes.{ApartIn, live_is, seen_same, seen_slot}
 
 mark_is : (s : Slot) (n : ℕ) (pool : Option ℕ) (mark : Mark) → marked Passed s ≡ slot.Made n pool mark → mark ≡ Passed
 mark_is slot.Null n pool mark is = absurd (cc)
@@ -24,13 +24,6 @@ mark_is (slot.Made m p old) n pool mark is = cc
 empty_shown : (runs : ℕ → Bool) (n : ℕ) (pool : Option ℕ) (o : Option Items) → with_items [] (shown_as runs n pool Passed o) ≡ handed_over (shown_as runs n pool Passed o)
 empty_shown runs n pool None = refl
 empty_shown runs n pool (Some xs) = refl
-
-gone_shown : (L : ℕ → Option Items) (runs : ℕ → Bool) (s : Slot) → live_in L s ≡ None → handed_over (shown_slot runs L s) ≡ shown_slot runs L s
-gone_shown L runs slot.Null e = refl
-gone_shown L runs (slot.Made n pool mark) e = go (L n) refl where
-  go : (o : Option Items) → L n ≡ o → handed_over (shown_as runs n pool mark (L n)) ≡ shown_as runs n pool mark (L n)
-  go None is = rw is refl
-  go (Some xs) is = absurd (let x = rw is at e in cc)
 
 module _ (L : ℕ → Option Items) (k : ℕ) (around : Around) (i : Instance) (call : Call) (b : ℕ) where
   pub lent_cleaned : (M : ℕ → Option Items) (l n : ℕ) (old : Slot) → ApartIn i call → slot_at i b ≡ marked Passed old → live_in L (slot_at i b) ≡ Some n → l ≡ k → ((j : ℕ) → M j ≡ on n (λ xs. []) L j)
@@ -44,9 +37,3 @@ module _ (L : ℕ → Option Items) (k : ℕ) (around : Around) (i : Instance) (
       seen_same (on n (λ xs. []) L) k around i call M l same out
       ∙ (seen_slot L k around i call b n t.0 Passed (λ xs. []) [] held passed refl
       ∙ ap (λ (v : BrigadeVar). set_brigade b v r) (ap (λ (s : Slot). with_items [] (shown_slot runs L s)) passed ∙ (empty_shown runs n t.0 (L n) ∙ ap (λ (s : Slot). handed_over (shown_slot runs L s)) (sym passed))))
-
-  pub lent_gone : live_in L (slot_at i b) ≡ None → seen_over L k around i call ≡ lent b (seen_over L k around i call)
-  unfolding seen_over
-  lent_gone none =
-      let r = seen_over L k around i call in
-      sym (ap (λ (v : BrigadeVar). set_brigade b v r) (gone_shown L (calls_in around call) (slot_at i b) none) ∙ set_same b r)

@@ -3,7 +3,7 @@ use Rattle.std.proofs.Common.{◌≡◌, ℕ, ◌≤◌, Option, refl, sym, subs
 use Rattle.std.proofs.Math.Path.{fun_ext}
 use Rattle.bucket_ring.specs.declared.names.BucketId.{BucketId}
 use Rattle.bucket_ring.specs.declared.rings.Rings.{Ghosts}
-use Rattle.run_model.specs.declared.bucket.Bucket.{Bucket}
+use Rattle.bucket_kinds.specs.declared.stored.Stored.{Stored}
 use Rattle.brigade_ops.specs.declared.store.Brigades.{Brigades}
 use Rattle.brigade_ops.specs.Items.{Items}
 use Rattle.brigade_ops.specs.Store.{lists, brigade_of, pool_of, next_name}
@@ -49,7 +49,7 @@ unfolding seen_over
 seen_renamed rings next now around i call = refl
 
 -- The same of a store of which only the next name was set.
-module _ {R : Type 0} {g : Ghosts R Bucket} (old new : Brigades R g) (same : (b : ℕ) → lists new b ≡ lists old b) (places : (id : BucketId) → brigade_of new id ≡ brigade_of old id)
+module _ {R : Type 0} {g : Ghosts R Stored} (old new : Brigades R g) (same : (b : ℕ) → lists new b ≡ lists old b) (places : (id : BucketId) → brigade_of new id ≡ brigade_of old id)
     (on : pool_of new ≡ pool_of old) (i : Instance) (call : Call) where
   moved_over : (next : ℕ) → HeldOver (brigade_of old) (lists old) (pool_of old) next i call → HeldOver (brigade_of new) (lists new) (pool_of new) next i call
   moved_over next held =

@@ -24,7 +24,7 @@ use Rattle.ring_run.specs.Around.{Around}
 use Rattle.ring_run.specs.Held.{HeldOver}
 use Rattle.ring_run.specs.Slots.{slot_at, name_in, live_in, marked, SameButSlots}
 use Rattle.ring_run.specs.Seen.{seen_over, calls_in, shown_as, shown_slot}
-use Rattle.ring_run.proofs.Changes.{ApartIn, ring_here, live_is, seen_same, seen_slot, set_same}
+use Rattle.ring_run.proofs.Changes.{ApartIn, ring_here, live_is, seen_same, seen_slot}
 
 abbrev instance_as : (ℕ → PoolVar) → (ℕ → BrigadeVar) → (ℕ → ℕ) → Bool → Configuration → Configuration
 instance_as pools brigades numbers sent r = record r { instance = record { pools = pools; brigades = brigades; numbers = numbers; sent = sent } }
@@ -70,22 +70,13 @@ module _ (L M : ℕ → Option Items) (k l : ℕ) (around : Around) (i new : Ins
       ∙ (ap (λ (y : Configuration). set_brigade b (shown_slot runs N (marked Usable (slot_at i b))) y) (seen_slot L k around i call b n t.0 t.1.0 (λ xs. []) [] held t.1.1.0 refl)
       ∙ (set_twice b (with_items [] (r.instance.brigades b)) (shown_slot runs N (marked Usable (slot_at i b))) r ∙ ap (λ (w : BrigadeVar). set_brigade b w r) v)))
 
-clean_dead : (L : ℕ → Option Items) (runs : ℕ → Bool) (s : Slot) → live_in L s ≡ None → cleaned (shown_slot runs L s) ≡ shown_slot runs L s
-clean_dead L runs slot.Null e = refl
-clean_dead L runs (slot.Made n pool mark) e = go (L n) refl where
-  go : (o : Option Items) → L n ≡ o → cleaned (shown_as runs n pool mark (L n)) ≡ shown_as runs n pool mark (L n)
-  go None is = rw is refl
-  go (Some xs) is = absurd (let x = rw is at e in cc)
-
-pub nothing_cleaned : (L : ℕ → Option Items) (k : ℕ) (around : Around) (i : Instance) (call : Call) (b : ℕ) → live_in L (slot_at i b) ≡ None → seen_over L k around i call ≡ do_clean b (seen_over L k around i call)
-unfolding seen_over
-nothing_cleaned L k around i call b none =
-    let r = seen_over L k around i call in
-    sym (ap (λ (v : BrigadeVar). set_brigade b v r) (clean_dead L (calls_in around call) (slot_at i b) none) ∙ set_same b r)
-
 pub named_marked : (mark : Mark) (s : Slot) → name_in (marked mark s) ≡ name_in s
 named_marked mark slot.Null = refl
 named_marked mark (slot.Made n pool old) = refl
+
+pub live_marked : {X : Type 0} (L : ℕ → Option X) (mark : Mark) (s : Slot) → live_in L (marked mark s) ≡ live_in L s
+live_marked L mark slot.Null = refl
+live_marked L mark (slot.Made n pool old) = refl
 
 -- a variable keeps its brigade where it is marked
 pub held_marked : (at : BucketId → Option ℕ) (L : ℕ → Option Items) (p : ℕ → Option ℕ) (next : ℕ) (i new : Instance) (call : Call) (b : ℕ) (mark : Mark) → ((a : ℕ) → slot_at new a ≡ (if a == b then marked mark (slot_at i b) else slot_at i a))

@@ -8,6 +8,7 @@ use Rattle.bucket_ring.specs.Lists.{list_at, rest}
 use Rattle.run_model.specs.declared.bucket.Bucket.{Bucket}
 use Rattle.run_model.specs.declared.bucket.NamedBucket.{NamedBucket}
 use Rattle.run_model.specs.Buckets.{is_data, is_eos}
+use Rattle.bucket_kinds.specs.declared.stored.Stored.{Stored}
 use Rattle.brigade_ops.specs.declared.store.Brigades.{Brigades}
 use Rattle.brigade_ops.specs.Items.{Items, named_item, from_place}
 use Rattle.brigade_ops.specs.Store.{lists, brigade_of, bucket_at}
@@ -17,7 +18,7 @@ use Rattle.ring_run.specs.Seen.{item_in, shown}
 use Rattle.ring_run.specs.Tests.{late_data}
 use Rattle.ring_run.proofs.LateData.{eos_is_no_data}
 
-pub head_here : {R : Type 0} {g : Ghosts R Bucket} (store : Brigades R g) (id : BucketId) (b : ℕ) (x : Bucket) → brigade_of store id ≡ Some b → bucket_at store id ≡ Some x → from_place (Some id) (list_at (lists store) b) ≡ (id, x) ∷ drop 1 (rest id (list_at (lists store) b))
+pub head_here : {R : Type 0} {g : Ghosts R Stored} (store : Brigades R g) (id : BucketId) (b : ℕ) (x : Bucket) → brigade_of store id ≡ Some b → bucket_at store id ≡ Some x → from_place (Some id) (list_at (lists store) b) ≡ (id, x) ∷ drop 1 (rest id (list_at (lists store) b))
 head_here store id b x at is = rest_head id (list_at (lists store) b) x (bucket_found store id b x at is)
 
 -- of a walk that stands at a bucket, with others behind it

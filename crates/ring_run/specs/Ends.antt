@@ -4,12 +4,13 @@ use Rattle.bucket_ring.specs.declared.names.BucketId.{BucketId}
 use Rattle.bucket_ring.specs.declared.rings.Rings.{Ghosts}
 use Rattle.run_model.specs.declared.bucket.Bucket.{Bucket}
 use Rattle.run_model.specs.Cutting.{EndsInFile, form_of, form_of_kind}
+use Rattle.bucket_kinds.specs.declared.stored.Stored.{Stored}
 use Rattle.brigade_ops.specs.declared.store.Brigades.{Brigades}
 use Rattle.brigade_ops.specs.Store.{brigade_of, bucket_at}
 use Rattle.ring_run.specs.declared.machine.Instance.{Instance}
 use Rattle.ring_run.specs.Slots.{slot_at, name_in}
 
-module _ {R : Type 0} {g : Ghosts R Bucket} where
+module _ {R : Type 0} {g : Ghosts R Stored} where
   abbrev pub EndInFiles : Brigades R g → Instance → Type 0
   EndInFiles store i = (b n : ℕ) (id : BucketId) (x : Bucket) → name_in (slot_at i b) ≡ Some n → brigade_of store id ≡ Some n → bucket_at store id ≡ Some x → EndsInFile x.content
 

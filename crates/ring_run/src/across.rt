@@ -7,10 +7,10 @@ ghost use Rattle.brigade_ops.specs.Store.{lists, brigade_of, bucket_at};
 ghost use Rattle.ring_run.specs.Seen.{shown};
 ghost use Rattle.ring_run.specs.Shown.{shown_at};
 
-use brigade_ops::{BrigadeId, Brigades, Bucket, BucketId, Rings};
+use brigade_ops::{BrigadeId, Brigades, BucketId, Rings, Stored};
 
 /// The bucket that a point of a brigade lies inside.
-pub(crate) fn bucket_across<R: Rings<Bucket> + Drop>(
+pub(crate) fn bucket_across<R: Rings<Stored> + Drop>(
     store: &Brigades<R>,
     b: BrigadeId,
     point: u64,

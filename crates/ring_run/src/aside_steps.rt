@@ -5,6 +5,7 @@ ghost use Rattle.bucket_kinds.specs.Device.{Device};
 ghost use Rattle.bucket_kinds.specs.Reading.{IsOpenFor};
 ghost use Rattle.run_model.specs.BucketSteps.{content_at, do_aside};
 ghost use Rattle.run_model.specs.Cursors.{bucket_at, spot};
+ghost use Rattle.run_model.specs.Faults.{OnBucket};
 ghost use Rattle.run_model.specs.Pools.{is_live};
 ghost use Rattle.run_model.specs.Steps.{takes_reference};
 ghost use Rattle.pool_tree.specs.Tree.{map_of};
@@ -13,16 +14,16 @@ ghost use Rattle.brigade_ops.specs.Store.{references};
 ghost use Rattle.ring_run.specs.Around.{Around};
 ghost use Rattle.ring_run.specs.Held.{IsHeld};
 ghost use Rattle.ring_run.specs.LeftAlone.{LeavesRest};
+ghost use Rattle.ring_run.specs.Needs.{StandsAs};
 ghost use Rattle.ring_run.specs.Seen.{seen};
 
 use crate::machine::{Call, Instance};
-use crate::places::{Place, place_of};
-use brigade_ops::{Brigades, PoolId, PoolTree, Rings};
-use run_model::{Bucket, Payload};
+use brigade_ops::{Brigades, PoolId, PoolTree, Rings, Stored};
+use run_model::Payload;
 use std::alloc::AllocError;
 
 /// Sets the bucket of a cursor aside into a pool. Only a further reference to a file takes memory. Without it nothing is changed.
-pub(crate) fn aside<R: Rings<Bucket> + Drop>(
+pub(crate) fn aside<R: Rings<Stored> + Drop>(
     instance: &Instance,
     call: &Call,
     tree: &mut PoolTree<Payload>,
@@ -33,6 +34,7 @@ pub(crate) fn aside<R: Rings<Bucket> + Drop>(
     requires cursor { c < 9 }
     requires live { IsTrue (is_live (map_of tree.old) pool) }
     requires held { IsHeld store.old instance.now call.now }
+    requires stands { StandsAs store.old instance.now call.now c OnBucket }
     ensures ok { OnOk result ((around : Around) → let r = seen store.old (record around { pools = map_of tree.old }) instance.now call.now in
         seen store.new (record around { pools = map_of tree.new }) instance.now call.now ≡ do_aside (spot r c) (Some pool) r) }
     ensures sure { (around : Around) → let r = seen store.old (record around { pools = map_of tree.old }) instance.now call.now in takes_reference (map_of tree.old) (Some pool) (option_to_list (bucket_at (spot r c))) ≡ false → IsOk result }
@@ -44,9 +46,5 @@ pub(crate) fn aside<R: Rings<Bucket> + Drop>(
     ensures open { (d : Device) (around : Around) → IsOpenFor d (content_at (spot (seen store.old around instance.now call.now) c))
         → AreOpen (references store.old) d → AreOpen (references store.new) d }
 {
-    match place_of(instance, call, store, c) {
-        Place::Within(_, id) => store.aside(tree, id, pool),
-        Place::Loose(id) => store.aside(tree, id, pool),
-        Place::Nowhere | Place::End(_) => Ok(()),
-    }
+    store.aside(tree, call.bucket(c), pool)
 }

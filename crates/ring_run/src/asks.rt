@@ -1,41 +1,39 @@
 //! What is asked of the state before an instruction runs: the tests that decide where it leads, and whether there are names enough.
 
-ghost use Rattle.std.specs.Prelude.{◌≡◌, ◌<◌, ◌≤◌, ℕ, true, is_some, IfSome, length};
+ghost use Rattle.std.specs.Prelude.{◌≡◌, ◌<◌, ◌≤◌, ℕ, None, Some, true, is_some, length};
 ghost use Rattle.module_code.specs.Program.{fits, is_variable};
 ghost use Rattle.run_model.specs.BrigadeLists.{is_short, split_refusal};
 ghost use Rattle.run_model.specs.BucketSteps.{has_rest, is_of_kind, is_unsplit, items_at, kind_is, names_to_part, names_to_read, names_to_split};
 ghost use Rattle.run_model.specs.Cursors.{bucket_at as model_bucket_at, is_end, spot};
+ghost use Rattle.run_model.specs.Faults.{Anywhere, InBrigade, OnBucket, fault};
 ghost use Rattle.run_model.specs.Pools.{is_empty};
 ghost use Rattle.run_model.specs.State.{items_of};
 ghost use Rattle.run_model.specs.Steps.{is_null, is_spent, lacks_names, names_of, pool_names_of, value_of};
 ghost use Rattle.run_model.specs.declared.bucket.NamedBucket.{NamedBucket};
 ghost use Rattle.pool_tree.specs.Tree.{map_of};
-ghost use Rattle.brigade_ops.specs.Store.{brigade_of, bucket_at, next_name};
+ghost use Rattle.brigade_ops.specs.Store.{lists, next_name};
 ghost use Rattle.brigade_ops.specs.Views.{content_of};
 ghost use Rattle.ring_run.specs.declared.machine.Call.{Call};
 ghost use Rattle.ring_run.specs.Around.{Around};
-ghost use Rattle.ring_run.specs.Asked.{bucket_within};
 ghost use Rattle.ring_run.specs.Held.{IsHeld};
+ghost use Rattle.ring_run.specs.Needs.{StandsAs};
 ghost use Rattle.ring_run.specs.Outside.{with_outside};
-ghost use Rattle.ring_run.specs.Seen.{calls_in, seen};
-ghost use Rattle.ring_run.specs.Shown.{shown_at};
+ghost use Rattle.ring_run.specs.Seen.{seen};
+ghost use Rattle.ring_run.specs.Slots.{live_in, slot_at};
 
 use crate::across::bucket_across;
-use crate::effects::live;
-use crate::home_wants::bucket_of;
-use crate::machine::{Call, Instance, Slot};
+use crate::machine::{Call, CursorValue, Instance, Slot};
 use crate::outside::Outside;
-use crate::places::{Place, place_of};
 use crate::pool_wants;
 use crate::values::value_of;
-use brigade_ops::{Brigades, Bucket, BucketId, ContentView, Kind, Rings, View};
+use brigade_ops::{Brigades, ContentView, Kind, Rings, Stored, View};
 use run_model::{Instr, KindTest, Module, PoolVar, Value, VarRef};
 
 /// How many bytes a read takes from a file, at most.
 const READ_LIMIT: u64 = 8000;
 
 /// Whether a cursor stands at the end of a brigade.
-pub(crate) fn is_end<R: Rings<Bucket> + Drop>(
+pub(crate) fn is_end<R: Rings<Stored> + Drop>(
     instance: &Instance,
     call: &Call,
     store: &Brigades<R>,
@@ -43,29 +41,29 @@ pub(crate) fn is_end<R: Rings<Bucket> + Drop>(
 ) -> bool
     requires cursor { c < 9 }
     requires held { IsHeld store.now instance.now call.now }
+    requires stands { StandsAs store.now instance.now call.now c Anywhere }
     ensures { (around : Around) → result ≡ is_end (spot (seen store.now around instance.now call.now) c) }
 {
-    matches!(place_of(instance, call, store, c), Place::End(_))
+    match call.cursor(c) {
+        CursorValue::End(_) => true,
+        CursorValue::At(_) => false,
+        CursorValue::Unset => false,
+    }
 }
 
-/// The bucket of a brigade at which a cursor stands.
-fn bucket_within<R: Rings<Bucket> + Drop>(
+/// The bucket at which a cursor stands, as it is seen.
+pub(crate) fn view_at<'a, R: Rings<Stored> + Drop>(
     instance: &Instance,
     call: &Call,
-    store: &Brigades<R>,
+    store: &'a Brigades<R>,
     c: u8,
-) -> Option<BucketId>
+) -> View<'a>
     requires cursor { c < 9 }
     requires held { IsHeld store.now instance.now call.now }
-    ensures at { (around : Around) → shown_at (calls_in around call.now) (bucket_at store.now) result ≡ bucket_within (spot (seen store.now around instance.now call.now) c) }
-    ensures there { IfSome result (λ id. is_some (brigade_of store.now id) ≡ true) }
+    requires stands { StandsAs store.now instance.now call.now c OnBucket }
+    ensures { (around : Around) → (y : NamedBucket) × ((model_bucket_at (spot (seen store.now around instance.now call.now) c) ≡ Some y) × (y.bucket.kind ≡ result.kind) × (y.bucket.content ≡ content_of result.content)) }
 {
-    match place_of(instance, call, store, c) {
-        Place::Within(_, id) => Some(id),
-        Place::Loose(_) => None,
-        Place::Nowhere => None,
-        Place::End(_) => None,
-    }
+    store.payload(call.bucket(c))
 }
 
 fn is_of_kind(test: KindTest, kind: Kind) -> bool
@@ -84,7 +82,7 @@ fn is_of_kind(test: KindTest, kind: Kind) -> bool
 }
 
 /// Whether the bucket at a cursor is of a kind.
-pub(crate) fn kind_is<R: Rings<Bucket> + Drop>(
+pub(crate) fn kind_is<R: Rings<Stored> + Drop>(
     instance: &Instance,
     call: &Call,
     store: &Brigades<R>,
@@ -93,12 +91,10 @@ pub(crate) fn kind_is<R: Rings<Bucket> + Drop>(
 ) -> bool
     requires cursor { c < 9 }
     requires held { IsHeld store.now instance.now call.now }
+    requires stands { StandsAs store.now instance.now call.now c OnBucket }
     ensures { (around : Around) → result ≡ kind_is test (model_bucket_at (spot (seen store.now around instance.now call.now) c)) }
 {
-    match bucket_of(instance, call, store, c) {
-        Some(id) => is_of_kind(test, store.payload(id).kind),
-        None => false,
-    }
+    is_of_kind(test, view_at(instance, call, store, c).kind)
 }
 
 /// Whether a split of a bucket at a place is refused: metadata is not split, nor is a bucket that is shorter.
@@ -109,7 +105,7 @@ fn is_refused(bucket: View<'_>, n: u32) -> bool
 }
 
 /// Whether a split at a cursor is refused.
-pub(crate) fn is_unsplit<R: Rings<Bucket> + Drop>(
+pub(crate) fn is_unsplit<R: Rings<Stored> + Drop>(
     instance: &Instance,
     call: &Call,
     store: &Brigades<R>,
@@ -118,16 +114,14 @@ pub(crate) fn is_unsplit<R: Rings<Bucket> + Drop>(
 ) -> bool
     requires cursor { c < 9 }
     requires held { IsHeld store.now instance.now call.now }
+    requires stands { StandsAs store.now instance.now call.now c InBrigade }
     ensures { (around : Around) → let r = seen store.now around instance.now call.now in result ≡ is_unsplit (value_of r x) (spot r c) }
 {
-    match bucket_within(instance, call, store, c) {
-        Some(id) => is_refused(store.payload(id), value_of(instance, x)),
-        None => true,
-    }
+    is_refused(view_at(instance, call, store, c), value_of(instance, x))
 }
 
 /// How many names a split takes.
-fn names_to_split<R: Rings<Bucket> + Drop>(
+fn names_to_split<R: Rings<Stored> + Drop>(
     instance: &Instance,
     call: &Call,
     store: &Brigades<R>,
@@ -136,6 +130,7 @@ fn names_to_split<R: Rings<Bucket> + Drop>(
 ) -> u64
     requires cursor { c < 9 }
     requires held { IsHeld store.now instance.now call.now }
+    requires stands { StandsAs store.now instance.now call.now c InBrigade }
     ensures { (around : Around) → let r = seen store.now around instance.now call.now in result ≡ names_to_split (value_of r x) (spot r c) }
 {
     if is_unsplit(instance, call, store, x, c) {
@@ -156,7 +151,7 @@ fn has_rest(content: ContentView<'_>) -> bool
 }
 
 /// How many names a read takes.
-pub(crate) fn names_to_read<R: Rings<Bucket> + Drop>(
+pub(crate) fn names_to_read<R: Rings<Stored> + Drop>(
     instance: &Instance,
     call: &Call,
     store: &Brigades<R>,
@@ -164,12 +159,10 @@ pub(crate) fn names_to_read<R: Rings<Bucket> + Drop>(
 ) -> u64
     requires cursor { c < 9 }
     requires held { IsHeld store.now instance.now call.now }
+    requires stands { StandsAs store.now instance.now call.now c InBrigade }
     ensures { (around : Around) → result ≡ names_to_read (spot (seen store.now around instance.now call.now) c) }
 {
-    let Some(id) = bucket_within(instance, call, store, c) else {
-        return 0;
-    };
-    if has_rest(store.payload(id).content) {
+    if has_rest(view_at(instance, call, store, c).content) {
         1
     } else {
         0
@@ -177,59 +170,53 @@ pub(crate) fn names_to_read<R: Rings<Bucket> + Drop>(
 }
 
 /// Whether a brigade has fewer bytes than a partition wants.
-pub(crate) fn is_incomplete<R: Rings<Bucket> + Drop>(
+pub(crate) fn is_incomplete<R: Rings<Stored> + Drop>(
     instance: &Instance,
     store: &Brigades<R>,
     b: u8,
     x: Value,
 ) -> bool
-    requires { b < 9 }
+    requires slot { b < 9 }
+    requires live { is_some (live_in (lists store.now) (slot_at instance.now b)) ≡ true }
     ensures { (around : Around) (call : Call) → let r = seen store.now around instance.now call in result ≡ is_short (value_of r x) (items_at r b) }
 {
     let point = u128::from(value_of(instance, x));
-    match live(instance, store, b) {
-        Some(name) => store.length(name) < point,
-        None => 0 < point,
-    }
+    store.length(instance.brigade(b)) < point
 }
 
 /// How many names a partition takes.
-fn names_to_part<R: Rings<Bucket> + Drop>(
+fn names_to_part<R: Rings<Stored> + Drop>(
     instance: &Instance,
     store: &Brigades<R>,
     b: u8,
     x: Value,
 ) -> u64
-    requires { b < 9 }
+    requires slot { b < 9 }
+    requires live { is_some (live_in (lists store.now) (slot_at instance.now b)) ≡ true }
     ensures { (around : Around) (call : Call) → let r = seen store.now around instance.now call in result ≡ names_to_part (value_of r x) (items_at r b) }
 {
     let point = u64::from(value_of(instance, x));
-    let Some(name) = live(instance, store, b) else {
-        return 0;
-    };
-    match bucket_across(store, name, point) {
+    match bucket_across(store, instance.brigade(b), point) {
         Some(_) => 1,
         None => 0,
     }
 }
 
-/// Whether a brigade has no buckets, or is not there.
-pub(crate) fn is_empty<R: Rings<Bucket> + Drop>(
+/// Whether a brigade has no buckets.
+pub(crate) fn is_empty<R: Rings<Stored> + Drop>(
     instance: &Instance,
     store: &Brigades<R>,
     b: u8,
 ) -> bool
-    requires { b < 9 }
+    requires slot { b < 9 }
+    requires live { is_some (live_in (lists store.now) (slot_at instance.now b)) ≡ true }
     ensures { (around : Around) (call : Call) → result ≡ is_empty (items_of ((seen store.now around instance.now call).instance.brigades b)) }
 {
-    match live(instance, store, b) {
-        Some(name) => store.start(name).is_none(),
-        None => true,
-    }
+    store.start(instance.brigade(b)).is_none()
 }
 
 /// Whether nothing was made in a variable.
-pub(crate) fn is_null<R: Rings<Bucket> + Drop>(
+pub(crate) fn is_null<R: Rings<Stored> + Drop>(
     code: &Module,
     instance: &Instance,
     store: &Brigades<R>,
@@ -246,7 +233,7 @@ pub(crate) fn is_null<R: Rings<Bucket> + Drop>(
 }
 
 /// How many names of buckets, brigades and calls an instruction gives out.
-fn names<R: Rings<Bucket> + Drop>(
+fn names<R: Rings<Stored> + Drop>(
     code: &Module,
     instance: &Instance,
     call: &Call,
@@ -256,6 +243,7 @@ fn names<R: Rings<Bucket> + Drop>(
     requires fit { fits code.now instr ≡ true }
     requires few { length code.now.brigades ≤ 8 }
     requires held { IsHeld store.now instance.now call.now }
+    requires faultless { (around : Around) × (fault code.now (seen store.now around instance.now call.now) instr ≡ None) }
     ensures { (around : Around) → result ≡ names_of (seen store.now around instance.now call.now) instr }
 {
     match instr {
@@ -290,8 +278,8 @@ pub fn is_spent(next: u64, names: u64) -> bool
     names > u64::MAX - next
 }
 
-/// Whether a name that an instruction would have to give out is not there.
-pub fn lacks_names<R: Rings<Bucket> + Drop>(
+/// Whether a name that an instruction that has no fault would have to give out is not there.
+pub fn lacks_names<R: Rings<Stored> + Drop>(
     code: &Module,
     instance: &Instance,
     call: &Call,
@@ -302,6 +290,7 @@ pub fn lacks_names<R: Rings<Bucket> + Drop>(
     requires fit { fits code.now instr ≡ true }
     requires few { length code.now.brigades ≤ 8 }
     requires held { IsHeld store.now instance.now call.now }
+    requires faultless { (around : Around) × (fault code.now (seen store.now around instance.now call.now) instr ≡ None) }
     ensures { (around : Around) → result ≡ lacks_names (seen store.now (with_outside outside.now around) instance.now call.now) instr }
 {
     let names = names(code, instance, call, store, instr);

@@ -12,18 +12,32 @@ ghost use Rattle.ring_run.specs.Seen.{seen, is_running};
 ghost use Rattle.ring_run.specs.Slots.{slot_at, live_in};
 
 use crate::across::bucket_across;
-use crate::effects::live;
 use crate::home_walks::{has_dead, has_late_data, has_stray};
 use crate::home_wants::home_fault;
 use crate::machine::{Call, Instance, Slot};
 use crate::outside::Outside;
 use crate::values::value_of;
-use brigade_ops::{Brigades, Bucket, Rings};
+use brigade_ops::{BrigadeId, Brigades, Rings, Stored};
 use run_model::{FaultKind, Mark, Value};
+
+/// The brigade of a variable, where it is there.
+fn live<R: Rings<Stored> + Drop>(
+    instance: &Instance,
+    store: &Brigades<R>,
+    b: u8,
+) -> Option<BrigadeId>
+    requires { b < 9 }
+    ensures { result ≡ live_in (lists store.now) (slot_at instance.now b) }
+{
+    match instance.slot(b) {
+        Slot::Made(name, _, _) if store.has(name) => Some(name),
+        Slot::Made(_, _, _) | Slot::Null => None,
+    }
+}
 
 /// The fault of a brigade in which some bucket's home is dead.
 #[tactic(auto, using(crate::proofs::Contents::homes_told))]
-pub(crate) fn want_homes<R: Rings<Bucket> + Drop>(
+pub(crate) fn want_homes<R: Rings<Stored> + Drop>(
     instance: &Instance,
     call: &Call,
     outside: &Outside<'_>,
@@ -41,7 +55,7 @@ pub(crate) fn want_homes<R: Rings<Bucket> + Drop>(
 
 /// The fault of a brigade in which the bucket that a point lies inside has a home that is dead.
 #[tactic(auto, using(crate::proofs::Contents::across_told, crate::proofs::Contents::none_across))]
-pub(crate) fn want_home_across<R: Rings<Bucket> + Drop>(
+pub(crate) fn want_home_across<R: Rings<Stored> + Drop>(
     instance: &Instance,
     call: &Call,
     outside: &Outside<'_>,
@@ -61,7 +75,7 @@ pub(crate) fn want_home_across<R: Rings<Bucket> + Drop>(
 
 /// The fault of a brigade that may not be sent on: data stands behind an EOS of its own, or of the request.
 #[tactic(auto, using(crate::proofs::Contents::send_told))]
-pub(crate) fn want_send<R: Rings<Bucket> + Drop>(
+pub(crate) fn want_send<R: Rings<Stored> + Drop>(
     instance: &Instance,
     store: &Brigades<R>,
     b: u8,
@@ -76,7 +90,7 @@ pub(crate) fn want_send<R: Rings<Bucket> + Drop>(
 }
 
 /// Whether a variable is a usable brigade with a bucket that does not outlast the call.
-fn keeps_stray<R: Rings<Bucket> + Drop>(
+fn keeps_stray<R: Rings<Stored> + Drop>(
     instance: &Instance,
     call: &Call,
     outside: &Outside<'_>,
@@ -96,7 +110,7 @@ fn keeps_stray<R: Rings<Bucket> + Drop>(
 }
 
 /// The fault of a return that keeps a bucket which does not outlast the call.
-pub(crate) fn want_return<R: Rings<Bucket> + Drop>(
+pub(crate) fn want_return<R: Rings<Stored> + Drop>(
     instance: &Instance,
     call: &Call,
     outside: &Outside<'_>,

@@ -1,20 +1,22 @@
 //! What instructions do to buckets: they are taken out, put in and destroyed (apr_buckets.h).
 
-ghost use Rattle.std.specs.Prelude.{◌≡◌, ◌<◌};
+ghost use Rattle.std.specs.Prelude.{◌≡◌, ◌<◌, is_some, true};
 ghost use Rattle.run_model.specs.BucketSteps.{do_before, do_delete, do_head, do_tail, do_unlink};
 ghost use Rattle.run_model.specs.Cursors.{spot};
+ghost use Rattle.run_model.specs.Faults.{InBrigade, OnBucket, OnLoose};
+ghost use Rattle.brigade_ops.specs.Store.{lists};
 ghost use Rattle.ring_run.specs.Around.{Around};
 ghost use Rattle.ring_run.specs.Held.{IsHeld};
 ghost use Rattle.ring_run.specs.LeftAlone.{LeavesOthers};
+ghost use Rattle.ring_run.specs.Needs.{StandsAs};
 ghost use Rattle.ring_run.specs.Seen.{seen};
+ghost use Rattle.ring_run.specs.Slots.{live_in, slot_at};
 
-use crate::effects::live;
 use crate::machine::{Call, Instance};
-use crate::places::{Place, place_of};
-use brigade_ops::{Brigades, Bucket, Rings};
+use brigade_ops::{Brigades, Rings, Stored};
 
 /// Takes the bucket of a cursor out of its brigade; it is loose then. It takes no memory.
-pub(crate) fn unlink<R: Rings<Bucket> + Drop>(
+pub(crate) fn unlink<R: Rings<Stored> + Drop>(
     instance: &Instance,
     call: &Call,
     store: &mut Brigades<R>,
@@ -23,18 +25,16 @@ pub(crate) fn unlink<R: Rings<Bucket> + Drop>(
     requires cursor { c < 9 }
     requires held { IsHeld store.old instance.now call.now }
     requires runs { 0 < call.now.name }
+    requires stands { StandsAs store.old instance.now call.now c InBrigade }
     ensures new { (around : Around) → let r = seen store.old around instance.now call.now in seen store.new around instance.now call.now ≡ do_unlink (spot r c) r }
     ensures held { IsHeld store.new instance.now call.now }
     ensures left { LeavesOthers store.old store.new instance.now call.now }
 {
-    match place_of(instance, call, store, c) {
-        Place::Within(_, id) => store.move_tail(call.name, id),
-        Place::Nowhere | Place::Loose(_) | Place::End(_) => {}
-    }
+    store.move_tail(call.name, call.bucket(c));
 }
 
 /// Destroys the bucket of a cursor.
-pub(crate) fn delete<R: Rings<Bucket> + Drop>(
+pub(crate) fn delete<R: Rings<Stored> + Drop>(
     instance: &Instance,
     call: &Call,
     store: &mut Brigades<R>,
@@ -42,19 +42,16 @@ pub(crate) fn delete<R: Rings<Bucket> + Drop>(
 )
     requires cursor { c < 9 }
     requires held { IsHeld store.old instance.now call.now }
+    requires stands { StandsAs store.old instance.now call.now c OnBucket }
     ensures new { (around : Around) → let r = seen store.old around instance.now call.now in seen store.new around instance.now call.now ≡ do_delete (spot r c) r }
     ensures held { IsHeld store.new instance.now call.now }
     ensures left { LeavesOthers store.old store.new instance.now call.now }
 {
-    match place_of(instance, call, store, c) {
-        Place::Within(_, id) => store.drop_bucket(id),
-        Place::Loose(id) => store.drop_bucket(id),
-        Place::Nowhere | Place::End(_) => {}
-    }
+    store.drop_bucket(call.bucket(c));
 }
 
 /// Puts the loose bucket of a cursor at the tail of a brigade. It takes no memory.
-pub(crate) fn tail<R: Rings<Bucket> + Drop>(
+pub(crate) fn tail<R: Rings<Stored> + Drop>(
     instance: &Instance,
     call: &Call,
     store: &mut Brigades<R>,
@@ -64,22 +61,17 @@ pub(crate) fn tail<R: Rings<Bucket> + Drop>(
     requires slot { b < 9 }
     requires cursor { c < 9 }
     requires held { IsHeld store.old instance.now call.now }
+    requires live { is_some (live_in (lists store.old) (slot_at instance.now b)) ≡ true }
+    requires stands { StandsAs store.old instance.now call.now c OnLoose }
     ensures new { (around : Around) → let r = seen store.old around instance.now call.now in seen store.new around instance.now call.now ≡ do_tail b (spot r c) r }
     ensures held { IsHeld store.new instance.now call.now }
     ensures left { LeavesOthers store.old store.new instance.now call.now }
 {
-    let Place::Loose(id) = place_of(instance, call, store, c) else {
-        return;
-    };
-    let Some(to) = live(instance, store, b) else {
-        store.drop_bucket(id);
-        return;
-    };
-    store.move_tail(to, id);
+    store.move_tail(instance.brigade(b), call.bucket(c));
 }
 
 /// Puts the loose bucket of a cursor at the head of a brigade. It takes no memory.
-pub(crate) fn head<R: Rings<Bucket> + Drop>(
+pub(crate) fn head<R: Rings<Stored> + Drop>(
     instance: &Instance,
     call: &Call,
     store: &mut Brigades<R>,
@@ -89,22 +81,17 @@ pub(crate) fn head<R: Rings<Bucket> + Drop>(
     requires slot { b < 9 }
     requires cursor { c < 9 }
     requires held { IsHeld store.old instance.now call.now }
+    requires live { is_some (live_in (lists store.old) (slot_at instance.now b)) ≡ true }
+    requires stands { StandsAs store.old instance.now call.now c OnLoose }
     ensures new { (around : Around) → let r = seen store.old around instance.now call.now in seen store.new around instance.now call.now ≡ do_head b (spot r c) r }
     ensures held { IsHeld store.new instance.now call.now }
     ensures left { LeavesOthers store.old store.new instance.now call.now }
 {
-    let Place::Loose(id) = place_of(instance, call, store, c) else {
-        return;
-    };
-    let Some(to) = live(instance, store, b) else {
-        store.drop_bucket(id);
-        return;
-    };
-    store.move_head(to, id);
+    store.move_head(instance.brigade(b), call.bucket(c));
 }
 
 /// Puts the loose bucket of a cursor before that of another, which is in a brigade. It takes no memory.
-pub(crate) fn before<R: Rings<Bucket> + Drop>(
+pub(crate) fn before<R: Rings<Stored> + Drop>(
     instance: &Instance,
     call: &Call,
     store: &mut Brigades<R>,
@@ -114,15 +101,11 @@ pub(crate) fn before<R: Rings<Bucket> + Drop>(
     requires first { c < 9 }
     requires second { d < 9 }
     requires held { IsHeld store.old instance.now call.now }
+    requires loose { StandsAs store.old instance.now call.now c OnLoose }
+    requires within { StandsAs store.old instance.now call.now d InBrigade }
     ensures new { (around : Around) → let r = seen store.old around instance.now call.now in seen store.new around instance.now call.now ≡ do_before (spot r c) (spot r d) r }
     ensures held { IsHeld store.new instance.now call.now }
     ensures left { LeavesOthers store.old store.new instance.now call.now }
 {
-    match (
-        place_of(instance, call, store, c),
-        place_of(instance, call, store, d),
-    ) {
-        (Place::Loose(id), Place::Within(_, at)) => store.move_before(at, id),
-        _ => {}
-    }
+    store.move_before(call.bucket(d), call.bucket(c));
 }

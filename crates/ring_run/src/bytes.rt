@@ -5,19 +5,21 @@ ghost use Rattle.bucket_ring.specs.declared.names.BucketId.{BucketId};
 ghost use Rattle.run_model.specs.BucketSteps.{byte_of, content_at, do_len, got};
 ghost use Rattle.run_model.specs.Cursors.{spot, read_cursor};
 ghost use Rattle.run_model.specs.Cutting.{length_of};
+ghost use Rattle.run_model.specs.Faults.{OnBucket};
 ghost use Rattle.run_model.specs.Steps.{buffer_limit, do_put, is_full, value_of};
 ghost use Rattle.brigade_ops.specs.Items.{Items};
 ghost use Rattle.brigade_ops.specs.Views.{content_of};
 ghost use Rattle.ring_run.specs.declared.machine.Instance.{Instance};
 ghost use Rattle.ring_run.specs.Around.{Around};
 ghost use Rattle.ring_run.specs.Held.{HeldOver, IsHeld};
+ghost use Rattle.ring_run.specs.Needs.{StandsAs};
 ghost use Rattle.ring_run.specs.Seen.{seen, seen_over};
 ghost use Rattle.ring_run.specs.Slots.{cursor_at, slot_at};
 
-use crate::home_wants::bucket_of;
+use crate::asks::view_at;
 use crate::machine::{Call, Instance};
 use crate::values::value_of;
-use brigade_ops::{Brigades, Bucket, ContentView, Rings};
+use brigade_ops::{Brigades, ContentView, Rings, Stored};
 use run_model::Value;
 use std::alloc::AllocError;
 
@@ -59,8 +61,8 @@ pub(crate) fn put(instance: &Instance, call: &mut Call, x: Value) -> Result<(), 
     call.buffer_byte(number as u8)
 }
 
-/// The length of the bucket at a cursor; 0 where there is none.
-fn length_at<R: Rings<Bucket> + Drop>(
+/// The length of the bucket at a cursor.
+fn length_at<R: Rings<Stored> + Drop>(
     instance: &Instance,
     call: &Call,
     store: &Brigades<R>,
@@ -68,16 +70,14 @@ fn length_at<R: Rings<Bucket> + Drop>(
 ) -> u64
     requires cursor { c < 9 }
     requires held { IsHeld store.now instance.now call.now }
+    requires stands { StandsAs store.now instance.now call.now c OnBucket }
     ensures { (around : Around) → result ≡ length_of (content_at (spot (seen store.now around instance.now call.now) c)) }
 {
-    match bucket_of(instance, call, store, c) {
-        Some(id) => store.payload(id).content.len(),
-        None => 0,
-    }
+    view_at(instance, call, store, c).content.len()
 }
 
 /// Sets a number to the length of the bucket at a cursor, at most 4294967295.
-pub(crate) fn len<R: Rings<Bucket> + Drop>(
+pub(crate) fn len<R: Rings<Stored> + Drop>(
     instance: &mut Instance,
     call: &Call,
     store: &Brigades<R>,
@@ -87,6 +87,7 @@ pub(crate) fn len<R: Rings<Bucket> + Drop>(
     requires number { n < 8 }
     requires cursor { c < 9 }
     requires held { IsHeld store.now instance.old call.now }
+    requires stands { StandsAs store.now instance.old call.now c OnBucket }
     ensures new { (around : Around) → let r = seen store.now around instance.old call.now in seen store.now around instance.new call.now ≡ do_len n (spot r c) r }
     ensures slots { (b : ℕ) → slot_at instance.new b ≡ slot_at instance.old b }
     ensures held { IsHeld store.now instance.new call.now }
@@ -106,23 +107,24 @@ pub(crate) fn byte_of(content: ContentView<'_>, k: u32) -> Option<u8>
 }
 
 /// A byte of the bucket at the read cursor.
-pub(crate) fn byte_read<R: Rings<Bucket> + Drop>(
+pub(crate) fn byte_read<R: Rings<Stored> + Drop>(
     instance: &Instance,
     call: &Call,
     store: &Brigades<R>,
     x: Value,
 ) -> Option<u8>
-    requires { IsHeld store.now instance.now call.now }
+    requires held { IsHeld store.now instance.now call.now }
+    requires stands { StandsAs store.now instance.now call.now read_cursor OnBucket }
     ensures { (around : Around) → let r = seen store.now around instance.now call.now in result ≡ byte_of (value_of r x) (content_at (spot r read_cursor)) }
 {
-    match bucket_of(instance, call, store, RD) {
-        Some(id) => byte_of(store.payload(id).content, value_of(instance, x)),
-        None => None,
-    }
+    byte_of(
+        view_at(instance, call, store, RD).content,
+        value_of(instance, x),
+    )
 }
 
 /// Sets a number to a byte of the bucket at the read cursor, where there is that byte.
-pub(crate) fn get<R: Rings<Bucket> + Drop>(
+pub(crate) fn get<R: Rings<Stored> + Drop>(
     instance: &mut Instance,
     call: &Call,
     store: &Brigades<R>,
@@ -131,6 +133,7 @@ pub(crate) fn get<R: Rings<Bucket> + Drop>(
 )
     requires number { n < 8 }
     requires held { IsHeld store.now instance.old call.now }
+    requires stands { StandsAs store.now instance.old call.now read_cursor OnBucket }
     ensures new { (around : Around) → let r = seen store.now around instance.old call.now in seen store.now around instance.new call.now ≡ got n (byte_of (value_of r x) (content_at (spot r read_cursor))) r }
     ensures slots { (b : ℕ) → slot_at instance.new b ≡ slot_at instance.old b }
     ensures held { IsHeld store.now instance.new call.now }

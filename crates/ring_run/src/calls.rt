@@ -13,7 +13,7 @@ ghost use Rattle.ring_run.specs.Seen.{seen};
 ghost use Rattle.ring_run.specs.Slots.{cursor_at, slot_at, SameButSlots};
 
 use crate::machine::{Call, CursorValue, Instance, Slot};
-use brigade_ops::{BrigadeId, Brigades, Bucket, RingRefusal, Rings};
+use brigade_ops::{BrigadeId, Brigades, RingRefusal, Rings, Stored};
 
 impl Call {
     /// A call of this name, at this instruction.
@@ -58,7 +58,7 @@ impl Call {
 
 /// A call begins at an instruction. Its name is new, and that of the brigade of its loose buckets. `NamesSpent`: the next name is `u64::MAX`.
 /// Refused, nothing is changed.
-pub fn begin_call<R: Rings<Bucket> + Drop>(
+pub fn begin_call<R: Rings<Stored> + Drop>(
     instance: &Instance,
     call: &mut Call,
     store: &mut Brigades<R>,
@@ -86,7 +86,7 @@ pub fn begin_call<R: Rings<Bucket> + Drop>(
 
 /// A call returns: its loose buckets are destroyed, `in` is null, and homes that are this call have ended. What stands in the brigade of `in`
 /// stays there.
-pub fn end_call<R: Rings<Bucket> + Drop>(
+pub fn end_call<R: Rings<Stored> + Drop>(
     instance: &mut Instance,
     call: &mut Call,
     store: &mut Brigades<R>,

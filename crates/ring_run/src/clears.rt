@@ -19,13 +19,13 @@ ghost use Rattle.ring_run.specs.Held.{IsHeld};
 ghost use Rattle.ring_run.specs.Seen.{seen};
 
 use crate::machine::{Call, Instance};
-use brigade_ops::{BrigadeId, Brigades, Bucket, Files, PoolId, PoolTree, Rings};
+use brigade_ops::{BrigadeId, Brigades, Files, PoolId, PoolTree, Rings, Stored};
 use run_model::Payload;
 use std::alloc::AllocError;
 
 /// Clears a pool (`apr_pool_clear`), looking at these brigades: those of the connection, in all its filters, and the loose buckets of all its
 /// calls. Answers what the pools handed on, in the run order. Without memory nothing is changed.
-pub fn clear_pool<R: Rings<Bucket> + Drop, F: Files>(
+pub fn clear_pool<R: Rings<Stored> + Drop, F: Files>(
     instance: &Instance,
     call: &Call,
     rings: &[BrigadeId],
@@ -63,7 +63,7 @@ pub fn clear_pool<R: Rings<Bucket> + Drop, F: Files>(
 }
 
 /// Destroys a pool (`apr_pool_destroy`) that is not the root, else as `clear_pool`.
-pub fn destroy_pool<R: Rings<Bucket> + Drop, F: Files>(
+pub fn destroy_pool<R: Rings<Stored> + Drop, F: Files>(
     instance: &Instance,
     call: &Call,
     rings: &[BrigadeId],

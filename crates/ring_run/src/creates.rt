@@ -16,13 +16,13 @@ ghost use Rattle.ring_run.specs.LeftAlone.{LeavesRest};
 ghost use Rattle.ring_run.specs.Seen.{seen};
 
 use crate::machine::{Instance, Slot};
-use brigade_ops::{Brigades, PoolId, PoolTree, Rings};
-use run_model::{Bucket, Mark, Payload};
+use brigade_ops::{Brigades, PoolId, PoolTree, Rings, Stored};
+use run_model::{Mark, Payload};
 use std::alloc::AllocError;
 
 /// Makes an empty brigade on its declared pool, where it is registered. What was in the variable is in no variable then. Without
 /// memory, and where the names are spent, nothing is changed.
-pub(crate) fn create<R: Rings<Bucket> + Drop>(
+pub(crate) fn create<R: Rings<Stored> + Drop>(
     instance: &mut Instance,
     tree: &mut PoolTree<Payload>,
     store: &mut Brigades<R>,

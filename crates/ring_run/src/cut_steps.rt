@@ -6,31 +6,30 @@ ghost use Rattle.bucket_ring.specs.Lists.{list_at};
 ghost use Rattle.run_model.specs.BrigadeLists.{first_place, next_place};
 ghost use Rattle.run_model.specs.BucketSteps.{cursor_at, do_first, do_next, items_at};
 ghost use Rattle.run_model.specs.Cursors.{spot};
+ghost use Rattle.run_model.specs.Faults.{InBrigade};
 ghost use Rattle.brigade_ops.specs.Store.{lists, brigade_of};
 ghost use Rattle.ring_run.specs.declared.machine.Call.{Call};
 ghost use Rattle.ring_run.specs.Around.{Around};
 ghost use Rattle.ring_run.specs.Held.{IsHeld, WasGiven};
-ghost use Rattle.ring_run.specs.Slots.{slot_at, name_in};
+ghost use Rattle.ring_run.specs.Needs.{StandsAs};
+ghost use Rattle.ring_run.specs.Slots.{live_in, name_in, slot_at};
 ghost use Rattle.ring_run.specs.Seen.{seen, seen_over, shown_cursor};
 
-use crate::effects::live;
 use crate::machine::{Call, CursorValue, Instance};
-use crate::places::{Place, place_of};
-use brigade_ops::{Brigades, Bucket, BucketId, Rings};
+use brigade_ops::{Brigades, BucketId, Rings, Stored};
 
 /// The first place of a brigade: its first bucket or its end.
-fn first_cursor_value<R: Rings<Bucket> + Drop>(
+fn first_cursor_value<R: Rings<Stored> + Drop>(
     instance: &Instance,
     store: &Brigades<R>,
     b: u8,
 ) -> CursorValue
-    requires { b < 9 }
+    requires slot { b < 9 }
+    requires live { is_some (live_in (lists store.now) (slot_at instance.now b)) ≡ true }
     ensures place { (around : Around) (call : Call) → let r = seen store.now around instance.now call in shown_cursor result ≡ cursor_at (r.instance.brigades b) (first_place (items_at r b)) }
     ensures given { (id : BucketId) → result ≡ CursorValue.At id → WasGiven store.now id }
 {
-    let Some(name) = live(instance, store, b) else {
-        return CursorValue::Unset;
-    };
+    let name = instance.brigade(b);
     match store.first(name) {
         Some(id) => CursorValue::At(id),
         None => CursorValue::End(name),
@@ -38,7 +37,7 @@ fn first_cursor_value<R: Rings<Bucket> + Drop>(
 }
 
 /// The cursor is at the first bucket of a brigade, or at its end.
-pub(crate) fn first<R: Rings<Bucket> + Drop>(
+pub(crate) fn first<R: Rings<Stored> + Drop>(
     instance: &Instance,
     call: &mut Call,
     store: &Brigades<R>,
@@ -47,6 +46,7 @@ pub(crate) fn first<R: Rings<Bucket> + Drop>(
 )
     requires cursor { c < 9 }
     requires slot { b < 9 }
+    requires live { is_some (live_in (lists store.now) (slot_at instance.now b)) ≡ true }
     requires held { IsHeld store.now instance.now call.old }
     ensures new { (around : Around) → seen store.now around instance.now call.new ≡ do_first c b (seen store.now around instance.now call.old) }
     ensures held { IsHeld store.now instance.now call.new }
@@ -57,7 +57,7 @@ pub(crate) fn first<R: Rings<Bucket> + Drop>(
 }
 
 /// The place behind a bucket: the next bucket, or the end of its brigade.
-fn cursor_value_after<R: Rings<Bucket> + Drop>(store: &Brigades<R>, id: BucketId) -> CursorValue
+fn cursor_value_after<R: Rings<Stored> + Drop>(store: &Brigades<R>, id: BucketId) -> CursorValue
     requires { is_some (brigade_of store.now id) ≡ true }
     ensures place { (around : Around) (i : Instance) (call : Call) (b n : ℕ) → name_in (slot_at i b) ≡ Some n → brigade_of store.now id ≡ Some n
         → let r = seen store.now around i call in shown_cursor result ≡ cursor_at (r.instance.brigades b) (next_place id.birth (items_at r b)) }
@@ -70,7 +70,7 @@ fn cursor_value_after<R: Rings<Bucket> + Drop>(store: &Brigades<R>, id: BucketId
 }
 
 /// The cursor `d` is at the bucket behind that of `c`, or at the end of its brigade.
-pub(crate) fn next<R: Rings<Bucket> + Drop>(
+pub(crate) fn next<R: Rings<Stored> + Drop>(
     instance: &Instance,
     call: &mut Call,
     store: &Brigades<R>,
@@ -80,15 +80,11 @@ pub(crate) fn next<R: Rings<Bucket> + Drop>(
     requires set { d < 9 }
     requires cursor { c < 9 }
     requires held { IsHeld store.now instance.now call.old }
+    requires stands { StandsAs store.now instance.now call.old c InBrigade }
     ensures new { (around : Around) → let r = seen store.now around instance.now call.old in seen store.now around instance.now call.new ≡ do_next d (spot r c) r }
     ensures held { IsHeld store.now instance.now call.new }
     ensures name { call.new.name ≡ call.old.name }
 {
-    match place_of(instance, call, store, c) {
-        Place::Within(_, id) => {
-            let cursor_value = cursor_value_after(store, id);
-            call.set_cursor(d, cursor_value);
-        }
-        Place::Nowhere | Place::Loose(_) | Place::End(_) => {}
-    }
+    let cursor_value = cursor_value_after(store, call.bucket(c));
+    call.set_cursor(d, cursor_value);
 }

@@ -32,7 +32,7 @@ use crate::outside::Outside;
 use crate::pool_clears::{clear_named, cleared_pool};
 use crate::reads::read;
 use crate::setting::Setting;
-use brigade_ops::{Brigades, Bucket, Files, PoolTree, Rings};
+use brigade_ops::{Brigades, Files, PoolTree, Rings, Stored};
 use run_model::{Exit, Instr, Module, Payload};
 use std::alloc::{AllocError, Global};
 
@@ -52,7 +52,7 @@ fn changes_pools(instr: Instr) -> bool
 }
 
 /// Carries out an instruction that neither clears a pool nor reads. Without memory, and where the names are spent, nothing is changed.
-fn execute_without_files<R: Rings<Bucket> + Drop>(
+fn execute_without_files<R: Rings<Stored> + Drop>(
     alloc: Global,
     code: &Module,
     instance: &mut Instance,
@@ -99,7 +99,7 @@ fn execute_without_files<R: Rings<Bucket> + Drop>(
 }
 
 /// Carries out an instruction that clears a pool. Without memory nothing is changed.
-fn execute_clear<R: Rings<Bucket> + Drop, F: Files>(
+fn execute_clear<R: Rings<Stored> + Drop, F: Files>(
     instance: &Instance,
     call: &Call,
     setting: &Setting<'_>,
@@ -148,7 +148,7 @@ fn execute_clear<R: Rings<Bucket> + Drop, F: Files>(
 
 /// Carries out an instruction that has no fault and whose names are there, other than a pass and a return, and tells where it leads. To the
 /// labels that clears ran, the oldest first, are added those that this one runs. Without memory nothing is changed.
-pub fn execute_instr<R: Rings<Bucket> + Drop, F: Files>(
+pub fn execute_instr<R: Rings<Stored> + Drop, F: Files>(
     alloc: Global,
     code: &Module,
     instance: &mut Instance,

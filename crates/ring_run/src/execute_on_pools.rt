@@ -29,7 +29,7 @@ use crate::pool_steps::{create_pool, label, unlabel};
 use crate::pool_wants::pool_named;
 use crate::saves::save;
 use crate::setting::Setting;
-use brigade_ops::{Brigades, Bucket, PoolId, PoolTree, Rings};
+use brigade_ops::{Brigades, PoolId, PoolTree, Rings, Stored};
 use run_model::{Instr, Module, Payload, PoolRef};
 use std::alloc::{AllocError, Global};
 
@@ -58,7 +58,7 @@ fn live_pool(
 
 /// What an instruction that has no fault does where pools change, or what lies on them, and none is cleared. Without memory, and where the
 /// names are spent, nothing is changed.
-pub(crate) fn execute_on_pools<R: Rings<Bucket> + Drop>(
+pub(crate) fn execute_on_pools<R: Rings<Stored> + Drop>(
     alloc: Global,
     code: &Module,
     instance: &mut Instance,

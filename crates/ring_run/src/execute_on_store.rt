@@ -3,7 +3,7 @@
 ghost use Rattle.std.specs.Prelude.{◌≡◌, ◌<◌, ◌≤◌, ℕ, None, true, false, length, IsOk, OnOk, OnErr};
 ghost use Rattle.module_code.specs.Program.{fits};
 ghost use Rattle.run_model.specs.BucketSteps.{do_poolb};
-ghost use Rattle.run_model.specs.Faults.{fault};
+ghost use Rattle.run_model.specs.Faults.{WPool, fault, fault_want};
 ghost use Rattle.run_model.specs.State.{pool_named};
 ghost use Rattle.run_model.specs.Steps.{Choice, grows, step};
 ghost use Rattle.ring_run.specs.Apart.{cuts_brigade, makes_bucket, moves_bucket, sets_number, touches_others};
@@ -20,13 +20,13 @@ use crate::outside::Outside;
 use crate::pool_wants::pool_named;
 use crate::values::value_of;
 use crate::{bucket_steps, bytes, cut_steps, effects, makers, part_steps, split_steps, values};
-use brigade_ops::{Brigades, Bucket, Kind, Rings};
+use brigade_ops::{Brigades, Kind, Rings, Stored};
 use run_model::{Instr, Module, PoolRef};
 use std::alloc::{AllocError, Global};
 
 /// Changes a number, or the buffer. Without memory nothing is changed.
 #[tactic(auto, using(crate::proofs::HeldAlike::held_slots, crate::proofs::HeldAlike::held_cursors))]
-fn change_numbers<R: Rings<Bucket> + Drop>(
+fn change_numbers<R: Rings<Stored> + Drop>(
     code: &Module,
     instance: &mut Instance,
     call: &mut Call,
@@ -36,6 +36,7 @@ fn change_numbers<R: Rings<Bucket> + Drop>(
     requires fit { fits code.now instr ≡ true }
     requires kind { sets_number instr ≡ true }
     requires held { IsHeld store.now instance.old call.old }
+    requires faultless { (around : Around) × (fault code.now (seen store.now around instance.old call.old) instr ≡ None) }
     ensures ok { OnOk result ((around : Around) (choice : Choice) → seen store.now around instance.new call.new ≡ (step code.now choice instr (seen store.now around instance.old call.old)).state) }
     ensures err { OnErr result ((around : Around) → seen store.now around instance.new call.new ≡ seen store.now around instance.old call.old) }
     ensures sure { (around : Around) → grows (seen store.now around instance.old call.old) instr ≡ false → IsOk result }
@@ -58,7 +59,7 @@ fn change_numbers<R: Rings<Bucket> + Drop>(
 
 /// Makes a POOL bucket of the buffer's bytes in the pool that an operand names. Without memory, and where the names are spent,
 /// nothing is changed.
-fn make_in_pool<R: Rings<Bucket> + Drop>(
+fn make_in_pool<R: Rings<Stored> + Drop>(
     alloc: Global,
     instance: &Instance,
     call: &mut Call,
@@ -70,6 +71,7 @@ fn make_in_pool<R: Rings<Bucket> + Drop>(
     requires cursor { c < 9 }
     requires held { IsHeld store.old instance.now call.old }
     requires runs { 0 < call.old.name }
+    requires there { (around : Around) × (fault_want (seen store.old (with_outside outside.now around) instance.now call.old) (WPool pool) ≡ None) }
     ensures ok { OnOk result ((around : Around) → let r = seen store.old (with_outside outside.now around) instance.now call.old in seen store.new (with_outside outside.now around) instance.now call.new ≡ do_poolb c (pool_named r pool) r) }
     ensures err { OnErr result ((around : Around) → seen store.new around instance.now call.new ≡ seen store.old around instance.now call.old) }
     ensures held { IsHeld store.new instance.now call.new }
@@ -78,12 +80,12 @@ fn make_in_pool<R: Rings<Bucket> + Drop>(
 {
     match pool_named(instance, outside, pool) {
         Some(name) => makers::pool(alloc, call, store, c, name),
-        None => Ok(()),
+        None => unreachable!(),
     }
 }
 
-/// Makes a bucket, which is loose. Without memory, and where the names are spent, nothing is changed.
-fn make_bucket<R: Rings<Bucket> + Drop>(
+/// Makes a bucket, which is loose, by an instruction that has no fault. Without memory, and where the names are spent, nothing is changed.
+fn make_bucket<R: Rings<Stored> + Drop>(
     alloc: Global,
     code: &Module,
     instance: &Instance,
@@ -96,6 +98,7 @@ fn make_bucket<R: Rings<Bucket> + Drop>(
     requires kind { makes_bucket instr ≡ true }
     requires held { IsHeld store.old instance.now call.old }
     requires runs { 0 < call.old.name }
+    requires faultless { (around : Around) → fault code.now (seen store.old (with_outside outside.now around) instance.now call.old) instr ≡ None }
     ensures ok { OnOk result ((around : Around) (choice : Choice) → seen store.new (with_outside outside.now around) instance.now call.new ≡ (step code.now choice instr (seen store.old (with_outside outside.now around) instance.now call.old)).state) }
     ensures err { OnErr result ((around : Around) → seen store.new around instance.now call.new ≡ seen store.old around instance.now call.old) }
     ensures held { IsHeld store.new instance.now call.new }
@@ -115,10 +118,11 @@ fn make_bucket<R: Rings<Bucket> + Drop>(
 }
 
 /// Moves, destroys, splits or copies the bucket of a cursor. Without memory, and where the names are spent, nothing is changed.
-fn move_bucket<R: Rings<Bucket> + Drop>(
+fn move_bucket<R: Rings<Stored> + Drop>(
     code: &Module,
     instance: &Instance,
     call: &mut Call,
+    outside: &Outside<'_>,
     store: &mut Brigades<R>,
     instr: Instr,
 ) -> Result<(), AllocError>
@@ -128,9 +132,10 @@ fn move_bucket<R: Rings<Bucket> + Drop>(
     requires held { IsHeld store.old instance.now call.old }
     requires runs { 0 < call.old.name }
     requires ends { EndInFiles store.old instance.now }
-    ensures ok { OnOk result ((around : Around) (choice : Choice) → let r = seen store.old around instance.now call.old in fault code.now r instr ≡ None → seen store.new around instance.now call.new ≡ (step code.now choice instr r).state) }
+    requires faultless { (around : Around) → fault code.now (seen store.old (with_outside outside.now around) instance.now call.old) instr ≡ None }
+    ensures ok { OnOk result ((around : Around) (choice : Choice) → let r = seen store.old (with_outside outside.now around) instance.now call.old in seen store.new (with_outside outside.now around) instance.now call.new ≡ (step code.now choice instr r).state) }
     ensures err { OnErr result ((around : Around) → seen store.new around instance.now call.new ≡ seen store.old around instance.now call.old) }
-    ensures sure { (around : Around) → let r = seen store.old around instance.now call.old in grows r instr ≡ false → IsOk result }
+    ensures sure { (around : Around) → let r = seen store.old (with_outside outside.now around) instance.now call.old in grows r instr ≡ false → IsOk result }
     ensures held { IsHeld store.new instance.now call.new }
     ensures name { call.new.name ≡ call.old.name }
     ensures left { LeavesOthers store.old store.new instance.now call.old }
@@ -151,7 +156,7 @@ fn move_bucket<R: Rings<Bucket> + Drop>(
 }
 
 /// Empties, joins, cuts or walks a brigade. Without memory, and where the names are spent, nothing is changed.
-fn cut_brigade<R: Rings<Bucket> + Drop>(
+fn cut_brigade<R: Rings<Stored> + Drop>(
     code: &Module,
     instance: &mut Instance,
     call: &mut Call,
@@ -187,7 +192,7 @@ fn cut_brigade<R: Rings<Bucket> + Drop>(
 
 /// What an instruction does that changes no pools and no files and has no fault; a return and a pass are done elsewhere. Without memory,
 /// and where the names are spent, nothing is changed.
-pub(crate) fn execute_on_store<R: Rings<Bucket> + Drop>(
+pub(crate) fn execute_on_store<R: Rings<Stored> + Drop>(
     alloc: Global,
     code: &Module,
     instance: &mut Instance,
@@ -225,7 +230,7 @@ pub(crate) fn execute_on_store<R: Rings<Bucket> + Drop>(
         | Instr::Head(_, _)
         | Instr::Before(_, _)
         | Instr::Split(_, _, _)
-        | Instr::Copy(_, _) => move_bucket(code, instance, call, store, instr),
+        | Instr::Copy(_, _) => move_bucket(code, instance, call, outside, store, instr),
         Instr::Heap(_, _)
         | Instr::Immortal(_, _)
         | Instr::FromBuf(_)

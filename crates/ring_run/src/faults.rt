@@ -10,7 +10,7 @@ ghost use Rattle.ring_run.specs.Seen.{seen};
 ghost use Rattle.ring_run.specs.Slots.{slot_at};
 
 use crate::machine::{Instance, Slot};
-use brigade_ops::{Brigades, Bucket, Rings};
+use brigade_ops::{Brigades, Rings, Stored};
 use run_model::{FaultKind, Mark};
 
 /// The fault of the first want, or else of those behind it.
@@ -24,7 +24,7 @@ pub(crate) fn or_else(first: Option<FaultKind>, second: Option<FaultKind>) -> Op
 }
 
 /// The mark of the brigade in a variable, where it is there.
-fn mark_of<R: Rings<Bucket> + Drop>(instance: &Instance, store: &Brigades<R>, b: u8) -> Option<Mark>
+fn mark_of<R: Rings<Stored> + Drop>(instance: &Instance, store: &Brigades<R>, b: u8) -> Option<Mark>
     requires { b < 9 }
     ensures { result ≡ mark_in (lists store.now) (slot_at instance.now b) }
 {
@@ -73,7 +73,7 @@ fn new_fault(mark: Option<Mark>) -> Option<FaultKind>
 
 /// The fault of a brigade that is to be there.
 #[tactic(auto, using(crate::proofs::Wanted::brigade_told))]
-pub(crate) fn want_brigade<R: Rings<Bucket> + Drop>(
+pub(crate) fn want_brigade<R: Rings<Stored> + Drop>(
     instance: &Instance,
     store: &Brigades<R>,
     b: u8,
@@ -86,7 +86,7 @@ pub(crate) fn want_brigade<R: Rings<Bucket> + Drop>(
 
 /// The fault of a brigade that is to be there, and was not passed.
 #[tactic(auto, using(crate::proofs::Wanted::usable_told))]
-pub(crate) fn want_usable<R: Rings<Bucket> + Drop>(
+pub(crate) fn want_usable<R: Rings<Stored> + Drop>(
     instance: &Instance,
     store: &Brigades<R>,
     b: u8,
@@ -99,7 +99,7 @@ pub(crate) fn want_usable<R: Rings<Bucket> + Drop>(
 
 /// The fault of a variable in which no brigade is to be.
 #[tactic(auto, using(crate::proofs::Wanted::new_told))]
-pub(crate) fn want_new<R: Rings<Bucket> + Drop>(
+pub(crate) fn want_new<R: Rings<Stored> + Drop>(
     instance: &Instance,
     store: &Brigades<R>,
     b: u8,
@@ -112,7 +112,7 @@ pub(crate) fn want_new<R: Rings<Bucket> + Drop>(
 
 /// The fault of a brigade that was passed.
 #[tactic(auto, using(crate::proofs::Wanted::passed_told))]
-pub(crate) fn passed_fault<R: Rings<Bucket> + Drop>(
+pub(crate) fn passed_fault<R: Rings<Stored> + Drop>(
     instance: &Instance,
     store: &Brigades<R>,
     b: u8,

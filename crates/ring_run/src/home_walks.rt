@@ -15,11 +15,11 @@ use crate::home_wants::{home_of, is_ended};
 use crate::machine::{Call, Instance};
 use crate::outside::Outside;
 use crate::pool_wants::is_stray;
-use brigade_ops::{BrigadeId, Brigades, Bucket, Rings};
+use brigade_ops::{BrigadeId, Brigades, Rings, Stored};
 use run_model::Kind;
 
 /// Whether the home of some bucket is dead.
-pub(crate) fn has_dead<R: Rings<Bucket> + Drop>(
+pub(crate) fn has_dead<R: Rings<Stored> + Drop>(
     call: &Call,
     outside: &Outside<'_>,
     store: &Brigades<R>,
@@ -39,7 +39,7 @@ pub(crate) fn has_dead<R: Rings<Bucket> + Drop>(
 }
 
 /// Whether the home of some bucket does not outlast the call, or lies in a pool of another filter.
-pub(crate) fn has_stray<R: Rings<Bucket> + Drop>(
+pub(crate) fn has_stray<R: Rings<Stored> + Drop>(
     instance: &Instance,
     call: &Call,
     outside: &Outside<'_>,
@@ -74,7 +74,7 @@ fn comes_late(late: bool, kind: Kind) -> bool
 }
 
 /// Whether data stands behind an EOS of the brigade, or anywhere in it where an EOS was sent before it.
-pub(crate) fn has_late_data<R: Rings<Bucket> + Drop>(
+pub(crate) fn has_late_data<R: Rings<Stored> + Drop>(
     store: &Brigades<R>,
     b: BrigadeId,
     sent: bool,

@@ -17,7 +17,7 @@ ghost use Rattle.ring_run.specs.Shown.{shown_at};
 use crate::machine::{Call, Instance};
 use crate::outside::Outside;
 use crate::places::{Place, place_of};
-use brigade_ops::{BrigadeId, Brigades, Bucket, BucketId, Rings};
+use brigade_ops::{BrigadeId, Brigades, BucketId, Rings, Stored};
 use run_model::{FaultKind, Home};
 
 /// Whether a name is one of these.
@@ -55,7 +55,7 @@ fn home_in(call: &Call, outside: &Outside<'_>, birth: u64, home: Home) -> Home
 }
 
 /// The home of a bucket.
-pub(crate) fn home_of<R: Rings<Bucket> + Drop>(
+pub(crate) fn home_of<R: Rings<Stored> + Drop>(
     call: &Call,
     outside: &Outside<'_>,
     store: &Brigades<R>,
@@ -75,7 +75,7 @@ pub(crate) fn is_ended(home: Home) -> bool
 }
 
 /// The bucket that a cursor stands at.
-pub(crate) fn bucket_of<R: Rings<Bucket> + Drop>(
+pub(crate) fn bucket_of<R: Rings<Stored> + Drop>(
     instance: &Instance,
     call: &Call,
     store: &Brigades<R>,
@@ -94,7 +94,7 @@ pub(crate) fn bucket_of<R: Rings<Bucket> + Drop>(
 }
 
 /// The fault of a bucket whose home is dead.
-pub(crate) fn home_fault<R: Rings<Bucket> + Drop>(
+pub(crate) fn home_fault<R: Rings<Stored> + Drop>(
     call: &Call,
     outside: &Outside<'_>,
     store: &Brigades<R>,
@@ -114,7 +114,7 @@ pub(crate) fn home_fault<R: Rings<Bucket> + Drop>(
 }
 
 /// The fault of a cursor at a bucket whose home is dead.
-pub(crate) fn want_home<R: Rings<Bucket> + Drop>(
+pub(crate) fn want_home<R: Rings<Stored> + Drop>(
     instance: &Instance,
     call: &Call,
     outside: &Outside<'_>,

@@ -12,7 +12,7 @@ pub mod calls;
 mod clears;
 mod creates;
 mod cut_steps;
-pub mod effects;
+mod effects;
 pub mod execute_instr;
 mod execute_on_pools;
 mod execute_on_store;

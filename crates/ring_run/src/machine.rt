@@ -1,6 +1,6 @@
 //! What a step sees: an instance of a module, and a call of one of its handlers.
 
-ghost use Rattle.std.specs.Prelude.{◌⊎◌, ◌≡◌, ◌<◌, ◌==◌, ℕ, Option, None, Some, true, false, if◌then◌else◌, slice_index_or, OnOk};
+ghost use Rattle.std.specs.Prelude.{◌⊎◌, ◌≡◌, ◌<◌, ◌==◌, ℕ, Option, None, Some, true, false, is_some, if◌then◌else◌, slice_index_or, OnOk};
 ghost use Rattle.brigade_ops.specs.Items.{Items};
 ghost use Rattle.run_model.specs.State.{set_cursor};
 ghost use Rattle.ring_run.specs.Around.{Around};
@@ -54,7 +54,7 @@ pub struct Call {
 
 impl Instance {
     ghost use Rattle.run_model.specs.Pools.{is_in};
-    ghost use Rattle.ring_run.specs.Slots.{slot_at, marked, name_in, SameButSlots};
+    ghost use Rattle.ring_run.specs.Slots.{slot_at, live_in, marked, name_in, SameButSlots};
 
     /// An instance before its `open`.
     #[tactic(auto, unfolding(crate::specs::Slots::slot_at))]
@@ -79,6 +79,20 @@ impl Instance {
         ensures { result ≡ slot_at self.now b }
     {
         self.slots[usize::from(b)]
+    }
+
+    /// The name of the brigade that was made in a variable, whether it is there still or not.
+    pub fn brigade(&self, b: u8) -> BrigadeId
+        requires slot { b < 9 }
+        requires made { is_some (name_in (slot_at self.now b)) ≡ true }
+        ensures name { name_in (slot_at self.now b) ≡ Some result }
+        ensures live { (rings : ℕ → Option Items) → is_some (live_in rings (slot_at self.now b)) ≡ true → live_in rings (slot_at self.now b) ≡ Some result }
+        ensures there { (rings : ℕ → Option Items) → is_some (live_in rings (slot_at self.now b)) ≡ true → is_some (rings result) ≡ true }
+    {
+        match self.slot(b) {
+            Slot::Made(name, _, _) => name,
+            Slot::Null => unreachable!(),
+        }
     }
 
     /// Sets a brigade variable.
@@ -145,6 +159,18 @@ impl Call {
         ensures { result ≡ cursor_at self.now c }
     {
         self.cursors[usize::from(c)]
+    }
+
+    /// The bucket that a cursor is at, which is at one.
+    pub(crate) fn bucket(&self, c: u8) -> BucketId
+        requires cursor { c < 9 }
+        requires at { (id : BucketId) × (cursor_at self.now c ≡ CursorValue.At id) }
+        ensures { cursor_at self.now c ≡ CursorValue.At result }
+    {
+        match self.cursor(c) {
+            CursorValue::At(id) => id,
+            CursorValue::Unset | CursorValue::End(_) => unreachable!(),
+        }
     }
 
     /// Sets a cursor.

@@ -11,12 +11,12 @@ ghost use Rattle.ring_run.specs.LeftAlone.{LeavesOthers};
 ghost use Rattle.ring_run.specs.Seen.{seen, bucket_in, calls_in};
 
 use crate::machine::{Call, CursorValue};
-use brigade_ops::{Brigades, PoolId, Rings};
+use brigade_ops::{Brigades, PoolId, Rings, Stored};
 use run_model::{Bucket, Content, Home, Kind, Module, Seq};
 use std::alloc::{AllocError, Global};
 
 /// Makes a loose bucket, at which the cursor is. Without memory, and where the names are spent, nothing is changed.
-fn add_loose<R: Rings<Bucket> + Drop>(
+fn add_loose<R: Rings<Stored> + Drop>(
     call: &mut Call,
     store: &mut Brigades<R>,
     c: u8,
@@ -50,7 +50,7 @@ pub(crate) fn text(alloc: Global, code: &Module, text: u8) -> Result<Seq<u8>, Al
 }
 
 /// Makes a HEAP bucket of a text. Refused as `add_loose`.
-pub(crate) fn heap<R: Rings<Bucket> + Drop>(
+pub(crate) fn heap<R: Rings<Stored> + Drop>(
     alloc: Global,
     code: &Module,
     call: &mut Call,
@@ -76,7 +76,7 @@ pub(crate) fn heap<R: Rings<Bucket> + Drop>(
 }
 
 /// Makes an IMMORTAL bucket of a text. Refused as `add_loose`.
-pub(crate) fn immortal<R: Rings<Bucket> + Drop>(
+pub(crate) fn immortal<R: Rings<Stored> + Drop>(
     alloc: Global,
     code: &Module,
     call: &mut Call,
@@ -111,7 +111,7 @@ fn buffered(alloc: Global, call: &Call) -> Result<Seq<u8>, AllocError>
 }
 
 /// Makes a HEAP bucket of the buffer's bytes. Refused as `add_loose`.
-pub(crate) fn from_buffer<R: Rings<Bucket> + Drop>(
+pub(crate) fn from_buffer<R: Rings<Stored> + Drop>(
     alloc: Global,
     call: &mut Call,
     store: &mut Brigades<R>,
@@ -134,7 +134,7 @@ pub(crate) fn from_buffer<R: Rings<Bucket> + Drop>(
 }
 
 /// Makes a TRANSIENT bucket of the buffer's bytes, whose home is this call. Refused as `add_loose`.
-pub(crate) fn transient<R: Rings<Bucket> + Drop>(
+pub(crate) fn transient<R: Rings<Stored> + Drop>(
     alloc: Global,
     call: &mut Call,
     store: &mut Brigades<R>,
@@ -158,7 +158,7 @@ pub(crate) fn transient<R: Rings<Bucket> + Drop>(
 }
 
 /// Makes a POOL bucket of the buffer's bytes in a pool. Refused as `add_loose`.
-pub(crate) fn pool<R: Rings<Bucket> + Drop>(
+pub(crate) fn pool<R: Rings<Stored> + Drop>(
     alloc: Global,
     call: &mut Call,
     store: &mut Brigades<R>,
@@ -182,7 +182,7 @@ pub(crate) fn pool<R: Rings<Bucket> + Drop>(
 }
 
 /// Makes a bucket of metadata. Refused as `add_loose`.
-pub(crate) fn mark<R: Rings<Bucket> + Drop>(
+pub(crate) fn mark<R: Rings<Stored> + Drop>(
     call: &mut Call,
     store: &mut Brigades<R>,
     c: u8,

@@ -13,7 +13,7 @@ ghost use Rattle.ring_run.specs.Seen.{seen};
 use crate::faults::{or_else, passed_fault};
 use crate::machine::{Call, Instance};
 use crate::places::{Place, place_of};
-use brigade_ops::{Brigades, Bucket, Rings};
+use brigade_ops::{Brigades, Rings, Stored};
 use run_model::FaultKind;
 
 /// Where a cursor has to stand.
@@ -61,7 +61,7 @@ fn end_fault(need: Need, b: u8) -> Option<FaultKind>
     }
 }
 
-fn place_fault_at<R: Rings<Bucket> + Drop>(
+fn place_fault_at<R: Rings<Stored> + Drop>(
     instance: &Instance,
     call: &Call,
     store: &Brigades<R>,
@@ -81,7 +81,7 @@ fn place_fault_at<R: Rings<Bucket> + Drop>(
 
 /// Whether a cursor stands as is wanted: somewhere; in no brigade that was passed; at no end where a bucket is wanted.
 #[tactic(auto, using(crate::proofs::Wanted::fault_told))]
-pub(crate) fn want_cursor<R: Rings<Bucket> + Drop>(
+pub(crate) fn want_cursor<R: Rings<Stored> + Drop>(
     instance: &Instance,
     call: &Call,
     store: &Brigades<R>,

@@ -24,11 +24,10 @@ ghost use Rattle.ring_run.specs.LeftAlone.{LeavesOthers};
 ghost use Rattle.ring_run.specs.Slots.{live_in, marked, slot_at};
 ghost use Rattle.ring_run.specs.Seen.{seen, shown};
 
-use crate::effects::live;
 use crate::machine::Instance;
 use crate::output_block::OutputBlock;
 use crate::passes::{hand_over, has_eos, is_eos};
-use brigade_ops::{BrigadeId, Brigades, Bucket, Content, ContentView, FileNo, Files, Rings};
+use brigade_ops::{BrigadeId, Brigades, Content, ContentView, FileNo, Files, Rings, Stored};
 use run_model::Mark;
 use std::alloc::AllocError;
 
@@ -132,7 +131,7 @@ fn add<F: Files>(
 
 /// Adds the bytes of a brigade before its first EOS to the output, up to a read that fails, and tells whether none did. Without memory some
 /// may have been added.
-fn add_all<R: Rings<Bucket> + Drop, F: Files>(
+fn add_all<R: Rings<Stored> + Drop, F: Files>(
     out: &mut OutputBlock,
     files: &mut F,
     store: &Brigades<R>,
@@ -163,7 +162,7 @@ fn add_all<R: Rings<Bucket> + Drop, F: Files>(
 
 /// Adds the bytes of a brigade before its first EOS to the output, up to a read that fails, and tells whether none did. An EOS ends the
 /// output, also behind a read that failed, and what comes after it is ignored. Without memory nothing is changed; parts may have been read.
-pub fn add_brigade<R: Rings<Bucket> + Drop, F: Files>(
+pub fn add_brigade<R: Rings<Stored> + Drop, F: Files>(
     store: &Brigades<R>,
     files: &mut F,
     b: BrigadeId,
@@ -193,23 +192,22 @@ pub fn add_brigade<R: Rings<Bucket> + Drop, F: Files>(
 
 /// The brigade of a variable was taken by the output: its buckets are destroyed, and the variable is marked passed. It is remembered where
 /// an EOS went with it.
-fn empty_passed<R: Rings<Bucket> + Drop>(instance: &mut Instance, store: &mut Brigades<R>, b: u8)
-    requires { b < 9 }
+fn empty_passed<R: Rings<Stored> + Drop>(instance: &mut Instance, store: &mut Brigades<R>, b: u8)
+    requires slot { b < 9 }
+    requires live { is_some (live_in (lists store.old) (slot_at instance.old b)) ≡ true }
     ensures seen { (around : Around) (call : Call) → IsHeld store.old instance.old call → seen store.new around instance.new call ≡ do_pass b (seen store.old around instance.old call) }
     ensures held { (call : Call) → IsHeld store.old instance.old call → IsHeld store.new instance.new call }
     ensures left { (call : Call) → LeavesOthers store.old store.new instance.old call }
     ensures slots { (a : ℕ) → slot_at instance.new a ≡ (if a == b then marked Mark.Passed (slot_at instance.old b) else slot_at instance.old a) }
 {
+    let name = instance.brigade(b);
     hand_over(instance, store, b);
-    let Some(name) = live(instance, store, b) else {
-        return;
-    };
     store.clean(name);
 }
 
 /// The last filter passes the brigade of a variable to the end of the chain, and it is told whether that went well. Without memory
 /// nothing is changed; parts may have been read.
-pub fn pass_out<R: Rings<Bucket> + Drop, F: Files>(
+pub fn pass_out<R: Rings<Stored> + Drop, F: Files>(
     instance: &mut Instance,
     store: &mut Brigades<R>,
     files: &mut F,
@@ -233,9 +231,7 @@ pub fn pass_out<R: Rings<Bucket> + Drop, F: Files>(
     ensures read { OnErr result (SomeWentWell (F.device files.old) (F.device files.new)) }
     ensures open_files { (F.device files.new).numbered ≡ (F.device files.old).numbered }
 {
-    let Some(name) = live(instance, store, b) else {
-        unreachable!()
-    };
+    let name = instance.brigade(b);
     let well = add_brigade(store, files, name, out, ended)?;
     empty_passed(instance, store, b);
     Ok(well)

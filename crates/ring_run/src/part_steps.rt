@@ -5,7 +5,7 @@ ghost use Rattle.bucket_ring.specs.Lists.{list_at};
 ghost use Rattle.run_model.specs.BrigadeLists.{bucket_across, moves, stays};
 ghost use Rattle.run_model.specs.BucketSteps.{do_bpart, do_bsplit, items_at, names_to_part, place_at};
 ghost use Rattle.run_model.specs.Cursors.{spot};
-ghost use Rattle.run_model.specs.Faults.{home_fault};
+ghost use Rattle.run_model.specs.Faults.{InThis, home_fault};
 ghost use Rattle.run_model.specs.Steps.{value_of};
 ghost use Rattle.brigade_ops.specs.Items.{before_place, from_place};
 ghost use Rattle.brigade_ops.specs.Store.{lists, brigade_of};
@@ -13,20 +13,19 @@ ghost use Rattle.ring_run.specs.Around.{Around};
 ghost use Rattle.ring_run.specs.Ends.{EndInFiles, FitKinds};
 ghost use Rattle.ring_run.specs.Held.{IsHeld};
 ghost use Rattle.ring_run.specs.LeftAlone.{LeavesOthers};
+ghost use Rattle.ring_run.specs.Needs.{StandsAs};
 ghost use Rattle.ring_run.specs.Places.{cursor_value_of};
 ghost use Rattle.ring_run.specs.Slots.{live_in, name_in, slot_at};
 ghost use Rattle.ring_run.specs.Seen.{seen, shown, calls_in};
 
-use crate::effects::live;
 use crate::machine::{Call, CursorValue, Instance};
-use crate::places::{Place, place_of};
 use crate::values::value_of;
-use brigade_ops::{BrigadeId, Brigades, Bucket, BucketId, Cut, Rings};
+use brigade_ops::{BrigadeId, Brigades, BucketId, Cut, Rings, Stored};
 use run_model::Value;
 use std::alloc::AllocError;
 
-/// The bucket of a cursor that stands in the brigade of a variable.
-fn place_in<R: Rings<Bucket> + Drop>(
+/// The bucket of a cursor that stands in the brigade of a variable; none where it stands at its end.
+fn place_in<R: Rings<Stored> + Drop>(
     instance: &Instance,
     call: &Call,
     store: &Brigades<R>,
@@ -37,20 +36,20 @@ fn place_in<R: Rings<Bucket> + Drop>(
     requires cursor { c < 9 }
     requires held { IsHeld store.now instance.now call.now }
     requires named { name_in (slot_at instance.now b) ≡ Some name }
+    requires stands { StandsAs store.now instance.now call.now c (InThis b) }
     ensures inside { IfSome result (λ id. brigade_of store.now id ≡ Some name) }
     ensures stays { (around : Around) → let r = seen store.now around instance.now call.now in shown (calls_in around call.now) (before_place result (list_at (lists store.now) name)) ≡ stays (place_at (spot r c)) (items_at r b) }
     ensures moves { (around : Around) → let r = seen store.now around instance.now call.now in shown (calls_in around call.now) (from_place result (list_at (lists store.now) name)) ≡ moves (place_at (spot r c)) (items_at r b) }
 {
-    match place_of(instance, call, store, c) {
-        Place::Within(k, id) => { if k == b { Some(id) } else { None } }
-        Place::Nowhere => None,
-        Place::Loose(_) => None,
-        Place::End(_) => None,
+    match call.cursor(c) {
+        CursorValue::At(id) => Some(id),
+        CursorValue::End(_) => None,
+        CursorValue::Unset => unreachable!(),
     }
 }
 
 /// What stands in a brigade from the place of a cursor on goes to another, which is emptied first. It takes no memory.
-pub(crate) fn bsplit<R: Rings<Bucket> + Drop>(
+pub(crate) fn bsplit<R: Rings<Stored> + Drop>(
     instance: &Instance,
     call: &Call,
     store: &mut Brigades<R>,
@@ -65,18 +64,15 @@ pub(crate) fn bsplit<R: Rings<Bucket> + Drop>(
     requires live_from { is_some (live_in (lists store.old) (slot_at instance.now b)) ≡ true }
     requires live_into { is_some (live_in (lists store.old) (slot_at instance.now a)) ≡ true }
     requires held { IsHeld store.old instance.now call.now }
+    requires stands { StandsAs store.old instance.now call.now c (InThis b) }
     ensures ok { OnOk result ((around : Around) → let r = seen store.old around instance.now call.now in seen store.new around instance.now call.now ≡ do_bsplit b (spot r c) a r) }
     ensures sure { IsOk result }
     ensures err { OnErr result ((around : Around) → seen store.new around instance.now call.now ≡ seen store.old around instance.now call.now) }
     ensures held { IsHeld store.new instance.now call.now }
     ensures left { LeavesOthers store.old store.new instance.now call.now }
 {
-    let Some(from) = live(instance, store, b) else {
-        unreachable!()
-    };
-    let Some(to) = live(instance, store, a) else {
-        unreachable!()
-    };
+    let from = instance.brigade(b);
+    let to = instance.brigade(a);
     let place = place_in(instance, call, store, b, from, c);
     store.split_at(from, place, to)
 }
@@ -93,7 +89,7 @@ fn cursor_value_of(b: BrigadeId, cut: Cut) -> CursorValue
 }
 
 /// Parts a brigade at a point, as `bpart`.
-fn part<R: Rings<Bucket> + Drop>(
+fn part<R: Rings<Stored> + Drop>(
     instance: &Instance,
     call: &mut Call,
     store: &mut Brigades<R>,
@@ -114,9 +110,7 @@ fn part<R: Rings<Bucket> + Drop>(
     ensures name { call.new.name ≡ call.old.name }
     ensures left { LeavesOthers store.old store.new instance.now call.old }
 {
-    let Some(name) = live(instance, store, b) else {
-        unreachable!()
-    };
+    let name = instance.brigade(b);
     let Ok(cut) = store.partition(name, point) else {
         return Err(AllocError);
     };
@@ -126,7 +120,7 @@ fn part<R: Rings<Bucket> + Drop>(
 
 /// Parts a brigade at a point and sets a cursor to the place behind it; a bucket that the point lies inside is split. Where the brigade
 /// is shorter the place is its end. Only a bucket that is split takes memory. Without it, and where the names are spent, nothing is changed.
-pub(crate) fn bpart<R: Rings<Bucket> + Drop>(
+pub(crate) fn bpart<R: Rings<Stored> + Drop>(
     instance: &Instance,
     call: &mut Call,
     store: &mut Brigades<R>,

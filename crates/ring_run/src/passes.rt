@@ -14,9 +14,8 @@ ghost use Rattle.ring_run.specs.Held.{IsHeld};
 ghost use Rattle.ring_run.specs.Seen.{seen, calls_in, shown, shown_slot};
 ghost use Rattle.ring_run.specs.Slots.{live_in, marked, name_in, slot_at};
 
-use crate::effects::live;
 use crate::machine::{Instance, Slot};
-use brigade_ops::{BrigadeId, Brigades, Bucket, Rings};
+use brigade_ops::{BrigadeId, Brigades, Rings, Stored};
 use run_model::{Kind, Mark};
 
 /// Whether it is an EOS.
@@ -27,7 +26,7 @@ pub(crate) fn is_eos(kind: Kind) -> bool
 }
 
 /// Whether an EOS stands in a brigade.
-pub(crate) fn has_eos<R: Rings<Bucket> + Drop>(store: &Brigades<R>, b: BrigadeId) -> bool
+pub(crate) fn has_eos<R: Rings<Stored> + Drop>(store: &Brigades<R>, b: BrigadeId) -> bool
     requires { is_some (lists store.now b) ≡ true }
     ensures { (runs : ℕ → Bool) → result ≡ has_eos (shown runs (list_at (lists store.now) b)) }
 {
@@ -42,15 +41,12 @@ pub(crate) fn has_eos<R: Rings<Bucket> + Drop>(store: &Brigades<R>, b: BrigadeId
 }
 
 /// Whether an EOS stands in the brigade of a variable.
-#[tactic(auto, using(crate::proofs::Contents::items_told))]
-fn holds_eos<R: Rings<Bucket> + Drop>(instance: &Instance, store: &Brigades<R>, b: u8) -> bool
-    requires { b < 9 }
+fn holds_eos<R: Rings<Stored> + Drop>(instance: &Instance, store: &Brigades<R>, b: u8) -> bool
+    requires slot { b < 9 }
+    requires live { is_some (live_in (lists store.now) (slot_at instance.now b)) ≡ true }
     ensures { (runs : ℕ → Bool) → result ≡ has_eos (contents runs (lists store.now) (live_in (lists store.now) (slot_at instance.now b))) }
 {
-    match live(instance, store, b) {
-        Some(name) => has_eos(store, name),
-        None => false,
-    }
+    has_eos(store, instance.brigade(b))
 }
 
 impl Instance {
@@ -68,8 +64,9 @@ impl Instance {
 
 /// Hands a brigade over. What is in it stays where it is; the variable is marked passed, and it is remembered where an EOS went with it.
 /// Until the next filter returns it reads as empty (`lent`), and then as what that filter left.
-pub fn hand_over<R: Rings<Bucket> + Drop>(instance: &mut Instance, store: &Brigades<R>, b: u8)
-    requires { b < 9 }
+pub fn hand_over<R: Rings<Stored> + Drop>(instance: &mut Instance, store: &Brigades<R>, b: u8)
+    requires slot { b < 9 }
+    requires live { is_some (live_in (lists store.now) (slot_at instance.old b)) ≡ true }
     ensures seen { (around : Around) (call : Call) → lent b (seen store.now around instance.new call) ≡ do_pass b (seen store.now around instance.old call) }
     ensures held { (call : Call) → IsHeld store.now instance.old call → IsHeld store.now instance.new call }
     ensures slots { (a : ℕ) → slot_at instance.new a ≡ (if a == b then marked Mark.Passed (slot_at instance.old b) else slot_at instance.old a) }
@@ -80,7 +77,7 @@ pub fn hand_over<R: Rings<Bucket> + Drop>(instance: &mut Instance, store: &Briga
 }
 
 /// Takes a brigade that the filter before hands on, as `in`: it is usable, and on no pool. It is in no other variable of the instance.
-pub fn take_in<R: Rings<Bucket> + Drop>(
+pub fn take_in<R: Rings<Stored> + Drop>(
     instance: &mut Instance,
     store: &Brigades<R>,
     name: BrigadeId,

@@ -11,7 +11,7 @@ ghost use Rattle.ring_run.specs.Seen.{seen_over};
 ghost use Rattle.ring_run.specs.Places.{by_birth, place_of, IsInBrigade};
 
 use crate::machine::{Call, CursorValue, Instance, Slot};
-use brigade_ops::{BrigadeId, Brigades, Bucket, BucketId, Rings};
+use brigade_ops::{BrigadeId, Brigades, BucketId, Rings, Stored};
 
 /// Where a cursor stands.
 #[derive(Clone, Copy)]
@@ -48,7 +48,7 @@ fn slot_of(instance: &Instance, name: BrigadeId) -> Option<u8>
     None
 }
 
-fn bucket_place<R: Rings<Bucket> + Drop>(
+fn bucket_place<R: Rings<Stored> + Drop>(
     instance: &Instance,
     call: &Call,
     store: &Brigades<R>,
@@ -72,7 +72,7 @@ fn bucket_place<R: Rings<Bucket> + Drop>(
 }
 
 /// The variable of a brigade, where it is there.
-fn end_place<R: Rings<Bucket> + Drop>(
+fn end_place<R: Rings<Stored> + Drop>(
     instance: &Instance,
     store: &Brigades<R>,
     b: BrigadeId,
@@ -88,7 +88,7 @@ fn end_place<R: Rings<Bucket> + Drop>(
 }
 
 /// Where a cursor stands.
-pub fn place_of<R: Rings<Bucket> + Drop>(
+pub fn place_of<R: Rings<Stored> + Drop>(
     instance: &Instance,
     call: &Call,
     store: &Brigades<R>,

@@ -24,7 +24,7 @@ ghost use Rattle.ring_run.specs.Seen.{seen};
 use crate::clears::{clear_pool, destroy_pool};
 use crate::machine::{Call, Instance};
 use crate::pool_wants::{name_in, variable};
-use brigade_ops::{BrigadeId, Brigades, Bucket, Files, PoolId, PoolTree, Rings};
+use brigade_ops::{BrigadeId, Brigades, Files, PoolId, PoolTree, Rings, Stored};
 use run_model::{Instr, Payload};
 use std::alloc::AllocError;
 
@@ -39,7 +39,7 @@ pub(crate) fn cleared_pool(instance: &Instance, instr: Instr) -> Option<PoolId>
 }
 
 /// Clears or destroys the pool that an instruction names, as `clear_pool` and `destroy_pool` do. Without memory nothing is changed.
-pub(crate) fn clear_named<R: Rings<Bucket> + Drop, F: Files>(
+pub(crate) fn clear_named<R: Rings<Stored> + Drop, F: Files>(
     instance: &Instance,
     call: &Call,
     rings: &[BrigadeId],

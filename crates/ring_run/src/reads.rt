@@ -5,18 +5,18 @@ ghost use Rattle.bucket_kinds.specs.Reading.{IsOpenFor};
 ghost use Rattle.run_model.specs.BucketSteps.{content_at};
 ghost use Rattle.run_model.specs.Cursors.{Within, spot};
 ghost use Rattle.run_model.specs.Cutting.{wanted};
-ghost use Rattle.run_model.specs.Faults.{home_fault};
+ghost use Rattle.run_model.specs.Faults.{InBrigade, home_fault};
 ghost use Rattle.run_model.specs.declared.bucket.NamedBucket.{NamedBucket};
 ghost use Rattle.ring_run.specs.Around.{Around};
 ghost use Rattle.ring_run.specs.Ends.{EndInFiles};
 ghost use Rattle.ring_run.specs.Given.{WasRead};
 ghost use Rattle.ring_run.specs.Held.{IsHeld};
 ghost use Rattle.ring_run.specs.LeftAlone.{LeavesOthers};
+ghost use Rattle.ring_run.specs.Needs.{StandsAs};
 ghost use Rattle.ring_run.specs.Seen.{seen};
 
 use crate::machine::{Call, CursorValue, Instance};
-use crate::places::{Place, place_of};
-use brigade_ops::{Brigades, Bucket, Files, ReadRefusal, Rings};
+use brigade_ops::{Brigades, Files, ReadRefusal, Rings, Stored};
 use std::alloc::AllocError;
 
 /// The read cursor `rd`.
@@ -25,7 +25,7 @@ const READ_CURSOR: u8 = 8;
 /// Reads the bucket of a cursor, a longer range up to its first 8000 bytes, and tells whether that went well. The read cursor is at the
 /// bucket then; where the read failed it is unset. Only bytes of a file take memory. Without it, and where the names are spent, nothing is
 /// changed, and nothing is read.
-pub(crate) fn read<R: Rings<Bucket> + Drop, F: Files>(
+pub(crate) fn read<R: Rings<Stored> + Drop, F: Files>(
     instance: &Instance,
     call: &mut Call,
     store: &mut Brigades<R>,
@@ -34,6 +34,7 @@ pub(crate) fn read<R: Rings<Bucket> + Drop, F: Files>(
 ) -> Result<bool, AllocError>
     requires cursor { c < 9 }
     requires held { IsHeld store.old instance.now call.old }
+    requires stands { StandsAs store.old instance.now call.old c InBrigade }
     requires ends { EndInFiles store.old instance.now }
     requires open { (around : Around) × IsOpenFor (F.device files.old) (content_at (spot (seen store.old around instance.now call.old) c)) }
     ensures ok { IfOk result (λ well. (around : Around) (b : ℕ) (x : NamedBucket) → let r = seen store.old around instance.now call.old in spot r c ≡ Within b x → home_fault (Some x) ≡ None
@@ -46,9 +47,7 @@ pub(crate) fn read<R: Rings<Bucket> + Drop, F: Files>(
     ensures held { IsHeld store.new instance.now call.new }
     ensures name { call.new.name ≡ call.old.name }
 {
-    let Place::Within(_, id) = place_of(instance, call, store, c) else {
-        return Ok(true);
-    };
+    let id = call.bucket(c);
     match store.read(files, id) {
         Ok(_) => {
             call.set_cursor(READ_CURSOR, CursorValue::At(id));

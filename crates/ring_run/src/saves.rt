@@ -1,6 +1,6 @@
 //! The buckets of a brigade are set aside into the pool of another (ap_save_brigade).
 
-ghost use Rattle.std.specs.Prelude.{◌≡◌, ◌≢◌, ◌<◌, ℕ, All, Some, false, IsTrue, IsOk, OnOk, OnErr};
+ghost use Rattle.std.specs.Prelude.{◌≡◌, ◌≢◌, ◌<◌, ℕ, All, Some, true, false, is_some, IsTrue, IsOk, OnOk, OnErr};
 ghost use Rattle.bucket_kinds.specs.Device.{Device};
 ghost use Rattle.run_model.specs.Pools.{is_live};
 ghost use Rattle.run_model.specs.State.{items_of};
@@ -17,15 +17,14 @@ ghost use Rattle.ring_run.specs.LeftAlone.{LeavesRest};
 ghost use Rattle.ring_run.specs.Slots.{live_in, slot_at};
 ghost use Rattle.ring_run.specs.Seen.{seen};
 
-use crate::effects::live;
 use crate::machine::{Instance, Slot};
-use brigade_ops::{Brigades, PoolTree, Rings};
-use run_model::{Bucket, Payload};
+use brigade_ops::{Brigades, PoolTree, Rings, Stored};
+use run_model::Payload;
 use std::alloc::AllocError;
 
-/// Sets the buckets of a second brigade aside into the pool of a first, and moves them to its tail. Where the first is on no pool, or one
-/// of them is not there, nothing is changed. Only further references to files take memory. Without it nothing is changed.
-pub(crate) fn save<R: Rings<Bucket> + Drop>(
+/// Sets the buckets of a second brigade aside into the pool of a first, and moves them to its tail. Where the first is on no pool nothing
+/// is changed. Only further references to files take memory. Without it nothing is changed.
+pub(crate) fn save<R: Rings<Stored> + Drop>(
     instance: &Instance,
     tree: &mut PoolTree<Payload>,
     store: &mut Brigades<R>,
@@ -35,6 +34,8 @@ pub(crate) fn save<R: Rings<Bucket> + Drop>(
     requires first { o < 8 }
     requires second { b < 9 }
     requires apart { o ≢ b }
+    requires live_into { is_some (live_in (lists store.old) (slot_at instance.now o)) ≡ true }
+    requires live_from { is_some (live_in (lists store.old) (slot_at instance.now b)) ≡ true }
     requires held { VariablesApart instance.now }
     requires on { AreOn (lists store.old) (pool_of store.old) instance.now }
     requires live { (n p : ℕ) → live_in (lists store.old) (slot_at instance.now o) ≡ Some n → pool_of store.old n ≡ Some p → IsTrue (is_live (map_of tree.old) p) }
@@ -50,13 +51,11 @@ pub(crate) fn save<R: Rings<Bucket> + Drop>(
         → AreOpen (references store.old) d → AreOpen (references store.new) d }
 {
     let Slot::Made(to, on, _) = instance.slot(o) else {
-        return Ok(());
+        unreachable!()
     };
-    if on.is_none() || !store.has(to) {
+    if on.is_none() {
         return Ok(());
     }
-    let Some(from) = live(instance, store, b) else {
-        return Ok(());
-    };
+    let from = instance.brigade(b);
     store.save(tree, to, from)
 }

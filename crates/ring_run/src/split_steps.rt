@@ -3,7 +3,7 @@
 ghost use Rattle.std.specs.Prelude.{◌≡◌, ◌<◌, ℕ, None, Some, true, is_some, IsOk, OnOk, OnErr};
 ghost use Rattle.run_model.specs.BucketSteps.{do_copy, do_split, names_to_split, new_loose};
 ghost use Rattle.run_model.specs.Cursors.{bucket_at as model_bucket_at, spot};
-ghost use Rattle.run_model.specs.Faults.{home_fault};
+ghost use Rattle.run_model.specs.Faults.{InBrigade, OnBucket, home_fault};
 ghost use Rattle.run_model.specs.declared.bucket.Bucket.{Bucket};
 ghost use Rattle.brigade_ops.specs.Store.{lists, brigade_of, bucket_at, next_name};
 ghost use Rattle.ring_run.specs.declared.machine.Instance.{Instance};
@@ -11,16 +11,16 @@ ghost use Rattle.ring_run.specs.Around.{Around};
 ghost use Rattle.ring_run.specs.Ends.{EndInFiles};
 ghost use Rattle.ring_run.specs.Held.{IsHeld};
 ghost use Rattle.ring_run.specs.LeftAlone.{LeavesOthers};
+ghost use Rattle.ring_run.specs.Needs.{StandsAs};
 ghost use Rattle.ring_run.specs.Seen.{seen, bucket_in, calls_in};
 
 use crate::machine::{Call, CursorValue, Instance};
-use crate::places::{Place, place_of};
-use brigade_ops::{Brigades, Bucket, BucketId, Rings, SplitRefusal};
+use brigade_ops::{Brigades, BucketId, Rings, SplitRefusal, Stored};
 use std::alloc::AllocError;
 
 /// Splits the bucket of a cursor after its first `n` bytes, where that is not refused: only then it takes memory. Without it, and where the
 /// names are spent, nothing is changed.
-pub(crate) fn split<R: Rings<Bucket> + Drop>(
+pub(crate) fn split<R: Rings<Stored> + Drop>(
     instance: &Instance,
     call: &Call,
     store: &mut Brigades<R>,
@@ -29,6 +29,7 @@ pub(crate) fn split<R: Rings<Bucket> + Drop>(
 ) -> Result<(), AllocError>
     requires cursor { c < 9 }
     requires held { IsHeld store.old instance.now call.now }
+    requires stands { StandsAs store.old instance.now call.now c InBrigade }
     requires ends { EndInFiles store.old instance.now }
     ensures ok { OnOk result ((around : Around) → let r = seen store.old around instance.now call.now in home_fault (model_bucket_at (spot r c)) ≡ None → seen store.new around instance.now call.now ≡ do_split n (spot r c) r) }
     ensures sure { (around : Around) → let r = seen store.old around instance.now call.now in names_to_split n (spot r c) ≡ 0 → IsOk result }
@@ -36,10 +37,7 @@ pub(crate) fn split<R: Rings<Bucket> + Drop>(
     ensures held { IsHeld store.new instance.now call.now }
     ensures left { LeavesOthers store.old store.new instance.now call.now }
 {
-    let Place::Within(_, id) = place_of(instance, call, store, c) else {
-        return Ok(());
-    };
-    match store.split(id, n) {
+    match store.split(call.bucket(c), n) {
         Ok(_) => Ok(()),
         Err(SplitRefusal::Metadata) => Ok(()),
         Err(SplitRefusal::TooLong) => Ok(()),
@@ -49,7 +47,7 @@ pub(crate) fn split<R: Rings<Bucket> + Drop>(
 }
 
 /// Makes a loose copy of a bucket, at which the cursor is. Without memory, and where the names are spent, nothing is changed.
-fn add_copy<R: Rings<Bucket> + Drop>(
+fn add_copy<R: Rings<Stored> + Drop>(
     call: &mut Call,
     store: &mut Brigades<R>,
     d: u8,
@@ -73,7 +71,7 @@ fn add_copy<R: Rings<Bucket> + Drop>(
 }
 
 /// Copies the bucket of the cursor `c`; `d` is at the copy. Without memory, and where the names are spent, nothing is changed.
-pub(crate) fn copy<R: Rings<Bucket> + Drop>(
+pub(crate) fn copy<R: Rings<Stored> + Drop>(
     instance: &Instance,
     call: &mut Call,
     store: &mut Brigades<R>,
@@ -84,15 +82,13 @@ pub(crate) fn copy<R: Rings<Bucket> + Drop>(
     requires cursor { c < 9 }
     requires runs { 0 < call.old.name }
     requires held { IsHeld store.old instance.now call.old }
+    requires stands { StandsAs store.old instance.now call.old c OnBucket }
     ensures ok { OnOk result ((around : Around) → let r = seen store.old around instance.now call.old in home_fault (model_bucket_at (spot r c)) ≡ None → seen store.new around instance.now call.new ≡ do_copy d (spot r c) r) }
     ensures err { OnErr result ((around : Around) → seen store.new around instance.now call.new ≡ seen store.old around instance.now call.old) }
     ensures held { IsHeld store.new instance.now call.new }
     ensures name { call.new.name ≡ call.old.name }
     ensures left { LeavesOthers store.old store.new instance.now call.old }
 {
-    match place_of(instance, call, store, c) {
-        Place::Within(_, id) => add_copy(call, store, d, id),
-        Place::Loose(id) => add_copy(call, store, d, id),
-        Place::Nowhere | Place::End(_) => Ok(()),
-    }
+    let id = call.bucket(c);
+    add_copy(call, store, d, id)
 }

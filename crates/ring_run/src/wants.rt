@@ -16,11 +16,11 @@ use crate::machine::{Call, Instance};
 use crate::needs::{Need, want_cursor};
 use crate::outside::Outside;
 use crate::pool_wants::{want_new_pool, want_pool};
-use brigade_ops::{Brigades, Bucket, Rings};
+use brigade_ops::{Brigades, Rings, Stored};
 use run_model::{FaultKind, Instr, Module, PoolRef};
 
 /// The fault of an instruction, if it has one: the first of what it wants that is not so.
-pub fn fault<R: Rings<Bucket> + Drop>(
+pub fn fault<R: Rings<Stored> + Drop>(
     code: &Module,
     instance: &Instance,
     call: &Call,

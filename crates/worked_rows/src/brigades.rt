@@ -5,7 +5,7 @@ use crate::calls::{Call, Four, Place, show_named, show_two};
 use crate::missing::Missing;
 use crate::shown::{Seen, Shown};
 use anyhow::Result;
-use brigade_ops::{BrigadeId, Brigades, BucketId};
+use brigade_ops::{BrigadeId, Brigades, BucketId, Rings, Stored};
 use bucket_kinds::Bucket;
 use bucket_ring::RawRings;
 use std::alloc::{AllocError, Global};
@@ -14,10 +14,14 @@ use std::alloc::{AllocError, Global};
 const MOST: usize = 9;
 
 /// The store of a row.
-pub(crate) type Store = Brigades<RawRings<Bucket>>;
+pub(crate) type Store = Brigades<RawRings<Stored>>;
 
 /// Tells the buckets of a brigade.
-pub(crate) fn show_brigade(rt: &HostRuntime, store: &Store, brigade: BrigadeId) -> Result<()> {
+pub(crate) fn show_brigade<R: Rings<Stored> + Drop>(
+    rt: &HostRuntime,
+    store: &Brigades<R>,
+    brigade: BrigadeId,
+) -> Result<()> {
     if !store.has(brigade) {
         println!(rt; "no brigade")?;
         return Ok(());
@@ -68,7 +72,11 @@ fn show(rt: &HostRuntime, what: &str, store: &Store, r: BrigadeId, s: BrigadeId)
 }
 
 /// Puts a new bucket in.
-pub(crate) fn put(store: &mut Store, place: Place, bucket: Bucket) -> Result<BucketId> {
+pub(crate) fn put<R: Rings<Stored> + Drop>(
+    store: &mut Brigades<R>,
+    place: Place,
+    bucket: Bucket,
+) -> Result<BucketId> {
     let put = match place {
         Place::Head(brigade) if store.has(brigade) => store.add_head(brigade, bucket),
         Place::Tail(brigade) if store.has(brigade) => store.add_tail(brigade, bucket),

@@ -20,7 +20,7 @@ use bucket_kinds::{Bucket, FileNo, Files, MemFiles};
 use std::alloc::Global;
 
 /// Whether what a bucket stands for ends below 2^64.
-fn ends_in_file(bucket: View<'_>) -> bool
+pub(crate) fn ends_in_file(bucket: View<'_>) -> bool
     ensures { IsTrue result → EndsInFile (content_of bucket.entry.content) }
 {
     match bucket.content {

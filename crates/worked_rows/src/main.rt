@@ -10,6 +10,7 @@ mod cuts;
 mod disk;
 mod missing;
 mod modules;
+mod pooled;
 mod pools;
 mod reads;
 mod regions;
@@ -17,8 +18,10 @@ mod rings;
 mod rows;
 mod saves;
 mod shown;
+mod sizes;
 
 use anyhow::Result;
+use brigade_ops::Stored;
 use bucket_ring::{PlainRings, RawRings};
 
 fn main(rt: HostRuntime) -> Result<()> {
@@ -27,6 +30,7 @@ fn main(rt: HostRuntime) -> Result<()> {
     rings::ring_names_spent::<PlainRings<u8>>(&rt, "in a slab")?;
     rings::ring_names_spent::<RawRings<u8>>(&rt, "in a raw block")?;
     commands::commands_alike(&rt)?;
+    sizes::node_sizes(&rt)?;
     regions::region_spans(&rt)?;
     pools::pool_names_spent(&rt)?;
     pools::destroy_run_order(&rt)?;
@@ -39,6 +43,8 @@ fn main(rt: HostRuntime) -> Result<()> {
     saves::saves(&rt)?;
     saves::references(&rt)?;
     saves::clears_under_a_brigade(&rt)?;
+    pooled::pool_bucket_split_and_new_after_clear::<PlainRings<Stored>>(&rt, "in a slab")?;
+    pooled::pool_bucket_split_and_new_after_clear::<RawRings<Stored>>(&rt, "in a raw block")?;
     rows::show_rows(&rt, rows::READS)?;
     reads::reads_that_fail(&rt)?;
     reads::openings_that_fail(&rt)?;

@@ -13,7 +13,7 @@ use crate::missing::Missing;
 use crate::pools::create;
 use crate::shown::Shown;
 use anyhow::Result;
-use brigade_ops::BrigadeId;
+use brigade_ops::{BrigadeId, Brigades, Rings, Stored};
 use bucket_kinds::Bucket;
 use pool_tree::{PoolId, PoolTree};
 use run_model::Payload;
@@ -152,8 +152,8 @@ const CLEARED: &[Made] = &[
 ];
 
 /// Clears a pool under a brigade, and gives the number of cleanups that ran.
-fn clear(
-    store: &mut Store,
+pub(crate) fn clear<R: Rings<Stored> + Drop>(
+    store: &mut Brigades<R>,
     tree: &mut PoolTree<Payload>,
     pool: PoolId,
     brigade: BrigadeId,

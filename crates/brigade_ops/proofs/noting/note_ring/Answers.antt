@@ -4,7 +4,7 @@ use Rattle.bucket_ring.specs.declared.names.BucketId.{BucketId}
 use Rattle.bucket_ring.specs.Lists.{list_at, times, same, found}
 use Rattle.bucket_ring.specs.Laws.{same_name, first_found, found_times}
 use Rattle.brigade_ops.specs.Dependents.{noted}
-use Rattle.brigade_ops.specs.Items.{Items, from_place}
+use Rattle.brigade_ops.specs.Items.{StoredItems, from_place}
 use Rattle.brigade_ops.specs.Noted.{is_noted}
 use Rattle.brigade_ops.proofs.Noted.{item_kept}
 use Rattle.brigade_ops.proofs.Lists.{rest_head}
@@ -17,7 +17,7 @@ pub loop-place-init : goal.loop-place-init
 loop-place-init g c =
     let s = c.args.rings.now in
     let b = c.args.ring in
-    let xs : Items = list_at (g.R.Rings.lists s) b in
+    let xs : StoredItems = list_at (g.R.Rings.lists s) b in
     record {
       done = λ id x is none le. absurd (
           let some = found_times id xs (ap is_some is) in
@@ -32,10 +32,10 @@ loop-place-preserved g c =
     let s = c.args.rings.now in
     let b = c.args.ring in
     let name = c.in-Some.id in
-    let xs : Items = list_at (g.R.Rings.lists s) b in
+    let xs : StoredItems = list_at (g.R.Rings.lists s) b in
     let inside = c.loop-place.invariant.inside name c.in-Some.is in
     let first = found_some name xs (g.met.R.Rings.found_in s name b inside) in
-    let head = rest_head name xs first.0 first.1 ∙ ap (λ (ys : Items). (name, first.0) ∷ ys) (sym c.after-place.ensures.rest) in
+    let head = rest_head name xs first.0 first.1 ∙ ap (λ (ys : StoredItems). (name, first.0) ∷ ys) (sym c.after-place.ensures.rest) in
     record {
       done = λ id x is none le. elim (cases_Bool (same id name)) [
         | inl hit ↦ subst (λ (j : BucketId). found j xs ≡ Some x → c.args.from ≤ j.birth → is_noted (noted c.note_bucket.new.dependents) (j, x) ≡ true) (sym (same_name id name hit)) (c.note_bucket.ensures.here x) is le

@@ -1,6 +1,5 @@
 -- By the brigades that were made, the second of the pieces' buckets.
-use Rattle.std.proofs.Common.{◌≡◌, ℕ, ◌+◌, length, map, ap, ◌∙◌, arith}
-use Rattle.std.proofs.lemmas.List.{length-map}
+use Rattle.std.proofs.Common.{ℕ, ◌+◌, map, ap, ◌∙◌}
 use Rattle.bucket_ring.specs.Lists.{numbered}
 use Rattle.run_model.specs.Pieces.{bucket_of}
 use Rattle.brigade_ops.specs.Store.{next_name}

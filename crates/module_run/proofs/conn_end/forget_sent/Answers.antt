@@ -1,5 +1,5 @@
 -- Filter by filter.
-use Rattle.std.proofs.Common.{◌≡◌, ◌<◌, ◌≤◌, ℕ, length, map, sym, ◌∙◌, arith}
+use Rattle.std.proofs.Common.{map, sym, ◌∙◌, arith}
 use Rattle.std.proofs.lemmas.Option.{slice_get-map}
 use Rattle.module_run.specs.Destroyed.{quieted}
 use Rattle.module_run.proofs.RequestEnds.{quiet_length, same_items}

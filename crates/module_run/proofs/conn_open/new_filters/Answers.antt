@@ -1,5 +1,5 @@
 -- By the filter that was added.
-use Rattle.std.proofs.Common.{◌≡◌, ℕ, List, [], ◌∷◌, length, slice_get, length-append, sym, ap, ◌∙◌, arith}
+use Rattle.std.proofs.Common.{List, [], ◌∷◌, length, slice_get, length-append, sym, ap, ◌∙◌, arith}
 use Rattle.module_run.specs.declared.conn.Filter.{Filter}
 use Rattle.module_run.specs.Opening.{IsNewFilter}
 use Rattle.module_run.proofs.Opens.{all_pushed}

@@ -1,18 +1,27 @@
--- By what is looked at, and what the call on top does.
-use Rattle.std.proofs.Common.{refl, sym, subst, ◌∙◌, arith}
-use Rattle.module_code.specs.declared.instr.Instr.{Instr}
+-- By its fault, or by what the call on top does.
+use Rattle.std.proofs.Common.{refl, sym, ◌∙◌, arith}
 use Rattle.pool_tree.specs.Tree.{map_of}
-use Rattle.module_run.specs.Proceeding.{RefinesStep}
-use Rattle.module_run.specs.Stepping.{LackedIn}
 use Rattle.module_run.proofs.CallsLeave.{ends_unchanged}
-use Rattle.module_run.proofs.Executing.{executed_answers, fault_looked, grows_looked, lacks_looked, none_there, ready_of, true_false}
+use Rattle.module_run.proofs.Executing.{none_there}
+use Rattle.module_run.proofs.Looking.{seen_next, stands_at}
 use Rattle.module_run.proofs.Neighbours.{unchanged}
 use Rattle.module_run.proofs.conn_step.step_watched.Goals as goal
 
+pub next_instr-next-requires : goal.next_instr-next-requires
+next_instr-next-requires g c = (let p = c.requires.on_top in stands_at c.args.modules.now c.args.tree.now c.args.store.now (g.F.Files.device c.args.files.now) c.args.conn.now p.0 p.1.0 p.1.1.0 p.1.1.1)
+
+pub fault_of-requires : goal.fault_of-requires
+fault_of-requires g c =
+    let d = g.F.Files.device c.args.files.now in
+    let p = c.requires.on_top in
+    let looks = seen_next c.args.modules.now c.args.tree.now c.args.store.now d c.args.conn.now p.0 p.1.0 p.1.1.0 p.1.1.1 c.next_instr-next.result c.next_instr-next.ensures in
+    record { on_top = (d, (p.0, (p.1.0, (p.1.1.0, (p.1.1.1, looks))))) }
+
 pub returns-in-Some-clause-steps : goal.returns-in-Some-clause-steps
 returns-in-Some-clause-steps g c v f rest is =
-    let looks = c.look-look.ensures (g.F.Files.device c.args.files.now) v f rest is in
-    (fault_looked c.args.modules.now v f c.look-look.result looks ∙ c.in-Some.is, looks.of, looks.pc, record { device = refl; left = is.stands.left })
+    let d = g.F.Files.device c.args.files.now in
+    let looks = seen_next c.args.modules.now c.args.tree.now c.args.store.now d c.args.conn.now v f rest is c.next_instr-next.result c.next_instr-next.ensures in
+    (sym (c.fault_of.ensures d v f rest is looks) ∙ c.in-Some.is, looks.of, looks.pc, record { device = refl; left = is.stands.left })
 
 pub returns-in-Some-clause-leaves : goal.returns-in-Some-clause-leaves
 returns-in-Some-clause-leaves g c = unchanged (map_of c.args.tree.now) c.args.store.now c.args.store.now c.args.conn.now c.args.conn.now (λ n. refl) refl (omega arith) (λ id there young. there) (λ k. refl)
@@ -20,71 +29,17 @@ returns-in-Some-clause-leaves g c = unchanged (map_of c.args.tree.now) c.args.st
 pub returns-in-Some-clause-ended : goal.returns-in-Some-clause-ended
 returns-in-Some-clause-ended g c = ends_unchanged c.args.store.now c.args.store.now c.args.conn.now c.args.conn.now (λ k. refl)
 
-pub lacks-requires : goal.lacks-requires
-lacks-requires g c = (let p = c.requires.on_top in record { on_top = (g.F.Files.device c.args.files.now, (p.0, (p.1.0, (p.1.1.0, (p.1.1.1, c.look-look.ensures (g.F.Files.device c.args.files.now) p.0 p.1.0 p.1.1.0 p.1.1.1))))) })
-
-pub returns-then-lacks-clause-steps : goal.returns-then-lacks-clause-steps
-returns-then-lacks-clause-steps g c v f rest is =
-    let d = g.F.Files.device c.args.files.now in
-    let looks = c.look-look.ensures d v f rest is in (
-      fault_looked c.args.modules.now v f c.look-look.result looks ∙ none_there c.look-look.result.fault c.in_default.not-Some,
-      lacks_looked c.args.modules.now v f rest c.look-look.result looks ∙ (sym (c.lacks.ensures d v f rest is looks) ∙ c.if-lacks.true),
-      record { device = refl; left = is.stands.left },
-    )
-
-pub returns-then-lacks-clause-leaves : goal.returns-then-lacks-clause-leaves
-returns-then-lacks-clause-leaves g c = unchanged (map_of c.args.tree.now) c.args.store.now c.args.store.now c.args.conn.now c.args.conn.now (λ n. refl) refl (omega arith) (λ id there young. there) (λ k. refl)
-
-pub returns-then-lacks-clause-ended : goal.returns-then-lacks-clause-ended
-returns-then-lacks-clause-ended g c = ends_unchanged c.args.store.now c.args.store.now c.args.conn.now c.args.conn.now (λ k. refl)
-
-pub execute_at_top-requires : goal.execute_at_top-requires
-execute_at_top-requires g c =
+pub execute_next-requires : goal.execute_next-requires
+execute_next-requires g c =
     let d = g.F.Files.device c.args.files.now in
     let p = c.requires.on_top in
-    let is = p.1.1.1 in
-    let looks = c.look-look.ensures d p.0 p.1.0 p.1.1.0 is in
-    record {
-      ready = (
-        p.0,
-        (
-          p.1.0,
-          (
-            p.1.1.0,
-            ready_of c.args.modules.now c.args.tree.now c.args.store.now d c.args.conn.now p.0 p.1.0 p.1.1.0 c.look-look.result is looks (none_there c.look-look.result.fault c.in_default.not-Some)
-                (sym (c.lacks.ensures d p.0 p.1.0 p.1.1.0 is looks) ∙ c.if-lacks.false),
-          ),
-        ),
-      );
-    }
+    let looks = seen_next c.args.modules.now c.args.tree.now c.args.store.now d c.args.conn.now p.0 p.1.0 p.1.1.0 p.1.1.1 c.next_instr-next.result c.next_instr-next.ensures in
+    let none = none_there c.fault_of.result c.in_default.not-Some in
+    record { on_top = (p.0, (p.1.0, (p.1.1.0, (record { is_top = p.1.1.1; faultless = sym (c.fault_of.ensures d p.0 p.1.0 p.1.1.0 p.1.1.1 looks) ∙ none }, looks)))) }
 
-pub returns-in-Ok-clause-steps : goal.returns-in-Ok-clause-steps
-returns-in-Ok-clause-steps g c v f rest is =
+pub returns-clause-steps : goal.returns-clause-steps
+returns-clause-steps g c v f rest is =
     let d = g.F.Files.device c.args.files.now in
-    let e = g.F.Files.device c.execute_at_top.new.files in
-    let chain = c.args.modules.now in
-    let x = c.look-look.result in
-    let looks = c.look-look.ensures d v f rest is in
-    let none = none_there x.fault c.in_default.not-Some in
-    let last = sym (c.lacks.ensures d v f rest is looks) ∙ c.if-lacks.false in
-    let ready = ready_of chain c.args.tree.now c.args.store.now d c.args.conn.now v f rest x is looks none last in
-    executed_answers chain c.execute_at_top.new.tree c.execute_at_top.new.store d e c.execute_at_top.new.self v f rest c.in-Ok.stepped (fault_looked chain v f x looks ∙ none) (lacks_looked chain v f rest x looks ∙ last)
-    (subst (λ (i : Instr). RefinesStep chain i d e v f rest c.execute_at_top.new.tree c.execute_at_top.new.store c.execute_at_top.new.self c.in-Ok.stepped) looks.instr (c.in-Ok.ensures.ok v f rest ready))
-
-pub returns-in-Err-clause-steps : goal.returns-in-Err-clause-steps
-returns-in-Err-clause-steps g c v f rest is =
-    let d = g.F.Files.device c.args.files.now in
-    let chain = c.args.modules.now in
-    let x = c.look-look.result in
-    let looks = c.look-look.ensures d v f rest is in
-    let none = none_there x.fault c.in_default.not-Some in
-    let last = sym (c.lacks.ensures d v f rest is looks) ∙ c.if-lacks.false in
-    let ready = ready_of chain c.args.tree.now c.args.store.now d c.args.conn.now v f rest x is looks none last in (
-      fault_looked chain v f x looks ∙ none,
-      lacks_looked chain v f rest x looks ∙ last,
-      grows_looked chain v f rest x looks (λ quiet alone. true_false (sym (c.in-Err.ensures.sure v f rest ready quiet alone))),
-      record {
-        device = subst (λ (i : Instr). LackedIn d (g.F.Files.device c.execute_at_top.new.files) chain i f) looks.instr (c.in-Err.ensures.lacked v f rest ready);
-        left = c.in-Err.ensures.err v f rest ready;
-      },
-    )
+    let looks = seen_next c.args.modules.now c.args.tree.now c.args.store.now d c.args.conn.now v f rest is c.next_instr-next.result c.next_instr-next.ensures in
+    let none = none_there c.fault_of.result c.in_default.not-Some in
+    c.execute_next.ensures.steps v f rest (record { is_top = is; faultless = sym (c.fault_of.ensures d v f rest is looks) ∙ none }) looks

@@ -1,38 +1,37 @@
 -- The bucket is taken out of the list that it is in.
+use Rattle.std.proofs.Common.{inl, inr}
 use Rattle.brigade_ops.specs.Store.{lists, brigade_of, pool_of, next_name}
 use Rattle.brigade_ops.proofs.Stores.{kept}
 use Rattle.bucket_ring.specs.Lists as ring
 use Rattle.ring_run.proofs.Names.{held_kept, no_less, still_on}
+use Rattle.ring_run.proofs.Standing.{bucket_set, bucket_at, bucket_here, bucket_live}
 use Rattle.ring_run.proofs.Steps.{delete_step, delete_loose_step}
-use Rattle.ring_run.proofs.LeftAlone.{left_on, ours_slot, ours_loose}
+use Rattle.ring_run.proofs.LeftAlone.{left_on}
 use Rattle.ring_run.proofs.bucket_steps.delete.Goals as goal
 
-pub returns-in-Within-clause-new : goal.returns-in-Within-clause-new
-returns-in-Within-clause-new g c =
-    λ around.
-    delete_step (brigade_of c.args.store.now) (lists c.args.store.now) (lists c.drop_bucket.new.self) (pool_of c.args.store.now) (next_name c.args.store.now) (next_name c.drop_bucket.new.self) (kept c.args.store.now) c.drop_bucket.ensures.next c.in-Within.id around c.args.instance.now c.args.call.now c.args.c c.requires.held c.in-Within.field-0 (c.in-Within.ensures.at (next_name c.args.store.now) around) c.in-Within.ensures.inside.1 (λ j m is. c.drop_bucket.ensures.out j m is)
+pub bucket-requires-clause-at : goal.bucket-requires-clause-at
+bucket-requires-clause-at g c = bucket_set c.args.store.now c.args.instance.now c.args.call.now c.args.c c.requires.held c.requires.stands
 
-pub returns-in-Within-clause-held : goal.returns-in-Within-clause-held
-returns-in-Within-clause-held g c =
+pub drop_bucket-requires : goal.drop_bucket-requires
+drop_bucket-requires g c = bucket_live c.args.store.now c.args.instance.now c.args.call.now c.args.c c.requires.held c.requires.stands c.bucket.result c.bucket.ensures
+
+pub returns-clause-new : goal.returns-clause-new
+returns-clause-new g c =
+    λ around.
+    elim (bucket_at c.args.store.now c.args.instance.now c.args.call.now c.args.c c.requires.held c.requires.stands c.bucket.result c.bucket.ensures) [
+      | inl s ↦ delete_step (brigade_of c.args.store.now) (lists c.args.store.now) (lists c.drop_bucket.new.self) (pool_of c.args.store.now) (next_name c.args.store.now) (next_name c.drop_bucket.new.self) (kept c.args.store.now) c.drop_bucket.ensures.next c.bucket.result around c.args.instance.now c.args.call.now c.args.c c.requires.held s.variable (s.told (next_name c.args.store.now) around) s.inside.1 (λ j m is. c.drop_bucket.ensures.out j m is)
+      | inr s ↦ delete_loose_step (brigade_of c.args.store.now) (lists c.args.store.now) (lists c.drop_bucket.new.self) (pool_of c.args.store.now) (next_name c.args.store.now) (next_name c.drop_bucket.new.self) (kept c.args.store.now) c.drop_bucket.ensures.next c.bucket.result around c.args.instance.now c.args.call.now c.args.c c.requires.held (s.told (next_name c.args.store.now) around) s.inside (λ j m is. c.drop_bucket.ensures.out j m is)
+    ]
+
+pub returns-clause-held : goal.returns-clause-held
+returns-clause-held g c =
+    let s = bucket_here c.args.store.now c.args.instance.now c.args.call.now c.args.c c.requires.held c.requires.stands c.bucket.result c.bucket.ensures in
     held_kept c.args.store.now c.drop_bucket.new.self (no_less (next_name c.args.store.now) (next_name c.drop_bucket.new.self) c.drop_bucket.ensures.next) c.drop_bucket.ensures.names c.drop_bucket.ensures.pools
-    (still_on (lists c.args.store.now) (lists c.drop_bucket.new.self) c.in-Within.ensures.inside.1.0 (ring.without c.in-Within.id) (λ m. c.drop_bucket.ensures.out c.in-Within.ensures.inside.1.0 m c.in-Within.ensures.inside.1.1.1))
+    (still_on (lists c.args.store.now) (lists c.drop_bucket.new.self) s.ring (ring.without c.bucket.result) (λ m. c.drop_bucket.ensures.out s.ring m s.inside))
     c.args.instance.now c.args.call.now c.requires.held
 
-pub returns-in-Loose-clause-new : goal.returns-in-Loose-clause-new
-returns-in-Loose-clause-new g c =
-    λ around.
-    delete_loose_step (brigade_of c.args.store.now) (lists c.args.store.now) (lists c.drop_bucket-in-Loose.new.self) (pool_of c.args.store.now) (next_name c.args.store.now) (next_name c.drop_bucket-in-Loose.new.self) (kept c.args.store.now) c.drop_bucket-in-Loose.ensures.next c.in-Loose.id around c.args.instance.now c.args.call.now c.args.c c.requires.held (c.in-Loose.ensures.at (next_name c.args.store.now) around) c.in-Loose.ensures.inside (λ j m is. c.drop_bucket-in-Loose.ensures.out j m is)
-
-pub returns-in-Loose-clause-held : goal.returns-in-Loose-clause-held
-returns-in-Loose-clause-held g c =
-    held_kept c.args.store.now c.drop_bucket-in-Loose.new.self (no_less (next_name c.args.store.now) (next_name c.drop_bucket-in-Loose.new.self) c.drop_bucket-in-Loose.ensures.next) c.drop_bucket-in-Loose.ensures.names c.drop_bucket-in-Loose.ensures.pools
-    (still_on (lists c.args.store.now) (lists c.drop_bucket-in-Loose.new.self) c.args.call.now.name (ring.without c.in-Loose.id) (λ m. c.drop_bucket-in-Loose.ensures.out c.args.call.now.name m c.in-Loose.ensures.inside))
-    c.args.instance.now c.args.call.now c.requires.held
-
-pub returns-in-Within-clause-left : goal.returns-in-Within-clause-left
-returns-in-Within-clause-left g c =
-    left_on c.args.store.now c.drop_bucket.new.self (no_less (next_name c.args.store.now) (next_name c.drop_bucket.new.self) c.drop_bucket.ensures.next) c.drop_bucket.ensures.names c.drop_bucket.ensures.pools c.drop_bucket.ensures.references c.in-Within.ensures.inside.1.0 (ring.without c.in-Within.id) (λ m. c.drop_bucket.ensures.out c.in-Within.ensures.inside.1.0 m c.in-Within.ensures.inside.1.1.1) c.args.instance.now c.args.call.now (ours_slot c.args.instance.now c.args.call.now c.in-Within.field-0 c.in-Within.ensures.inside.1.0 c.in-Within.ensures.inside.1.1.0)
-
-pub returns-in-Loose-clause-left : goal.returns-in-Loose-clause-left
-returns-in-Loose-clause-left g c =
-    left_on c.args.store.now c.drop_bucket-in-Loose.new.self (no_less (next_name c.args.store.now) (next_name c.drop_bucket-in-Loose.new.self) c.drop_bucket-in-Loose.ensures.next) c.drop_bucket-in-Loose.ensures.names c.drop_bucket-in-Loose.ensures.pools c.drop_bucket-in-Loose.ensures.references c.args.call.now.name (ring.without c.in-Loose.id) (λ m. c.drop_bucket-in-Loose.ensures.out c.args.call.now.name m c.in-Loose.ensures.inside) c.args.instance.now c.args.call.now (ours_loose c.args.instance.now c.args.call.now)
+pub returns-clause-left : goal.returns-clause-left
+returns-clause-left g c =
+    let s = bucket_here c.args.store.now c.args.instance.now c.args.call.now c.args.c c.requires.held c.requires.stands c.bucket.result c.bucket.ensures in
+    left_on c.args.store.now c.drop_bucket.new.self (no_less (next_name c.args.store.now) (next_name c.drop_bucket.new.self) c.drop_bucket.ensures.next) c.drop_bucket.ensures.names c.drop_bucket.ensures.pools c.drop_bucket.ensures.references s.ring (ring.without c.bucket.result) (λ m. c.drop_bucket.ensures.out s.ring m s.inside)
+    c.args.instance.now c.args.call.now s.ours

@@ -1,19 +1,19 @@
 -- The clear, the read, and all others.
-use Rattle.std.proofs.Common.{◌≡◌, true, sym, ap, ◌∙◌, rules}
+use Rattle.std.proofs.Common.{◌≡◌, true, refl, sym, rules}
 use Rattle.std.proofs.lemmas.Result.{IfOk-weaker, on_err_weaker}
-use Rattle.module_code.specs.declared.instr.Instr.{Instr}
-use Rattle.run_model.specs.Faults.{fault}
+use Rattle.run_model.specs.Faults.{InBrigade, WCursor, WHome}
 use Rattle.pool_tree.specs.Tree.{map_of}
 use Rattle.brigade_ops.specs.Store.{lists, next_name}
 use Rattle.ring_run.specs.Apart.{clears_pool, keeps_files}
 use Rattle.ring_run.specs.CarriedOut.{during}
 use Rattle.ring_run.specs.Seen.{seen_over}
 use Rattle.ring_run.specs.Setting.{in_setting}
-use Rattle.ring_run.proofs.Carried.{read_alive, read_within}
+use Rattle.ring_run.proofs.Carried.{read_within}
 use Rattle.ring_run.proofs.CarriedOut.{carried_inside, carried_read, pools_same}
-use Rattle.ring_run.proofs.Faultless.{nowhere}
+use Rattle.ring_run.proofs.Faultless.{nowhere, wanted}
 use Rattle.ring_run.proofs.Instructions.{files_kept, pool_cleared}
 use Rattle.ring_run.proofs.OpenFiles.{open_spot}
+use Rattle.ring_run.proofs.Standing.{stands}
 use Rattle.ring_run.proofs.execute_instr.execute_instr.Goals as goal
 
 pub execute_clear-requires-clause-live : goal.execute_clear-requires-clause-live
@@ -27,8 +27,11 @@ read-requires-clause-open g c =
     let r = seen_over (lists c.args.store.now) (next_name c.args.store.now) over c.args.instance.now c.args.call.now in (
       over,
       open_spot (g.F.Files.device c.args.files.now) r c.in-Read.c (c.requires.ranges nowhere)
-          (read_alive c.args.code.now r c.in-Read.c c.in-Read.field-1 (ap (λ (i : Instr). fault c.args.code.now r i) (sym c.in-Read.is) ∙ c.requires.faultless nowhere)),
+          (wanted c.args.code.now (lists c.args.store.now) (next_name c.args.store.now) over c.args.instance.now c.args.call.now c.args.instr _ c.in-Read.is (c.requires.faultless nowhere) 1 (WHome c.in-Read.c) refl),
     )
+
+pub read-requires-clause-stands : goal.read-requires-clause-stands
+read-requires-clause-stands g c = stands c.args.code.now (lists c.args.store.now) (next_name c.args.store.now) (in_setting c.args.setting.now (map_of c.args.tree.now) nowhere) c.args.instance.now c.args.call.now c.args.instr _ c.in-Read.is (c.requires.faultless nowhere) 0 c.in-Read.c InBrigade refl
 
 pub returns-in-PClear-clause-ok : goal.returns-in-PClear-clause-ok
 returns-in-PClear-clause-ok g c = IfOk-weaker c.execute_clear.result _ _ (λ exit done. done c.args.code.now) c.execute_clear.ensures.ok
@@ -39,7 +42,8 @@ returns-in_ok-well-in-Read-clause-ok g c =
     let s = c.args.store.now in
     let over = during c.args.setting.now (map_of c.args.tree.now) c.args.handed.now.items around in
     let r = seen_over (lists s) (next_name s) over c.args.instance.now c.args.call.now in
-    let at = read_within c.args.code.now r c.in-Read.c c.in-Read.field-1 (ap (λ (i : Instr). fault c.args.code.now r i) (sym c.in-Read.is) ∙ c.requires.faultless over) in
+    let none = c.requires.faultless over in
+    let at = read_within r c.in-Read.c (wanted c.args.code.now (lists c.args.store.now) (next_name c.args.store.now) over c.args.instance.now c.args.call.now c.args.instr _ c.in-Read.is none 0 (WCursor c.in-Read.c InBrigade) refl) (wanted c.args.code.now (lists c.args.store.now) (next_name c.args.store.now) over c.args.instance.now c.args.call.now c.args.instr _ c.in-Read.is none 1 (WHome c.in-Read.c) refl) in
     carried_read (g.F.Files.device c.args.files.now) (g.F.Files.device c.read.new.files) c.args.code.now c.args.instr c.in-Read.c c.in-Read.field-1 (sym c.in-Read.is) (lists c.read.new.store) (next_name c.read.new.store) over c.args.instance.now c.read.new.call
     r c.in_ok-well-in-Read.well _ (c.in_ok-well-in-Read.ensures.ok over at.0 at.1 at.2 at.3) c.jumps_if.ensures
 

@@ -2,12 +2,13 @@
 use Rattle.std.proofs.Common.{ℕ, Option, refl, sym, ap, ◌∙◌}
 use Rattle.std.specs.Prelude.{option_to_list}
 use Rattle.std.proofs.lemmas.Result.{on_ok_weaker}
+use Rattle.module_code.specs.Program.{pool_of_brigade, pool_of_pool}
 use Rattle.module_code.specs.declared.instr.Instr.{Instr}
 use Rattle.module_code.specs.declared.instr.PoolRef.{PoolRef}
 use Rattle.run_model.specs.BucketSteps.{do_aside, items_at}
 use Rattle.run_model.specs.Cursors.{bucket_at, spot}
 use Rattle.run_model.specs.Effects.{made_on}
-use Rattle.run_model.specs.Faults.{WPool, fault, fault_want}
+use Rattle.run_model.specs.Faults.{OnBucket, WHome, WHomes, WPool, fault_want}
 use Rattle.run_model.specs.State.{items_of, pool_named}
 use Rattle.run_model.specs.Steps.{grows, label_killed, label_registered, on_pool, step, takes_reference, text_of}
 use Rattle.pool_tree.specs.Tree.{map_of}
@@ -17,41 +18,48 @@ use Rattle.brigade_ops.proofs.Housed.{house_live}
 use Rattle.ring_run.specs.Seen.{seen_over}
 use Rattle.ring_run.specs.Setting.{in_setting}
 use Rattle.ring_run.specs.Slots.{name_in}
-use Rattle.ring_run.proofs.Carried.{pool_wanted, parent_wanted, label_wanted, unlabel_wanted, brigade_wanted, aside_wanted, aside_alive, saved_wanted}
+use Rattle.ring_run.proofs.Carried.{pool_wanted}
 use Rattle.ring_run.proofs.CarriedOut.{names_kept}
 use Rattle.ring_run.proofs.LeftAlone.{rest_none}
 use Rattle.ring_run.proofs.OpenFiles.{open_items, open_spot, refs_same}
-use Rattle.ring_run.proofs.Faultless.{nowhere}
+use Rattle.ring_run.proofs.Faultless.{nowhere, usable_live, wanted}
 use Rattle.ring_run.proofs.Quiet.{grown_none}
+use Rattle.ring_run.proofs.Standing.{stands}
 use Rattle.ring_run.proofs.execute_on_pools.execute_on_pools.Goals as goal
+
+pub aside-requires-clause-stands : goal.aside-requires-clause-stands
+aside-requires-clause-stands g c = stands c.args.code.now (lists c.args.store.now) (next_name c.args.store.now) (in_setting c.args.setting.now (map_of c.args.tree.now) nowhere) c.args.instance.now c.args.call.now c.args.instr _ c.in-Aside.is (c.requires.faultless nowhere) 0 c.in-Aside.c OnBucket refl
 
 pub live_pool-parent-requires : goal.live_pool-parent-requires
 live_pool-parent-requires g c =
     let r = seen_over (lists c.args.store.now) (next_name c.args.store.now) (in_setting c.args.setting.now (map_of c.args.tree.now) nowhere) c.args.instance.now c.args.call.now in
-    record { there = pool_wanted c.args.setting.now (map_of c.args.tree.now) c.args.instance.now c.pool_parent.result (lists c.args.store.now) (next_name c.args.store.now) nowhere c.args.call.now (ap (λ (p : PoolRef). fault_want r (WPool p)) c.pool_parent.ensures ∙ parent_wanted c.args.code.now r c.in-PCreate.q (ap (λ (i : Instr). fault c.args.code.now r i) (sym c.in-PCreate.is) ∙ c.requires.faultless nowhere)) }
+    record { there = pool_wanted c.args.setting.now (map_of c.args.tree.now) c.args.instance.now c.pool_parent.result (lists c.args.store.now) (next_name c.args.store.now) nowhere c.args.call.now (ap (λ (p : PoolRef). fault_want r (WPool p)) c.pool_parent.ensures ∙ wanted c.args.code.now (lists c.args.store.now) (next_name c.args.store.now) (in_setting c.args.setting.now (map_of c.args.tree.now) nowhere) c.args.instance.now c.args.call.now c.args.instr _ c.in-PCreate.is (c.requires.faultless nowhere) 0 (WPool (pool_of_pool c.args.code.now c.in-PCreate.q)) refl) }
 
 pub live_pool-on-requires : goal.live_pool-on-requires
 live_pool-on-requires g c =
-    let r = seen_over (lists c.args.store.now) (next_name c.args.store.now) (in_setting c.args.setting.now (map_of c.args.tree.now) nowhere) c.args.instance.now c.args.call.now in
-    record { there = pool_wanted c.args.setting.now (map_of c.args.tree.now) c.args.instance.now c.in-Label.pool (lists c.args.store.now) (next_name c.args.store.now) nowhere c.args.call.now (label_wanted c.args.code.now r c.in-Label.pool c.in-Label.text (ap (λ (i : Instr). fault c.args.code.now r i) (sym c.in-Label.is) ∙ c.requires.faultless nowhere)) }
+    record { there = pool_wanted c.args.setting.now (map_of c.args.tree.now) c.args.instance.now c.in-Label.pool (lists c.args.store.now) (next_name c.args.store.now) nowhere c.args.call.now (wanted c.args.code.now (lists c.args.store.now) (next_name c.args.store.now) (in_setting c.args.setting.now (map_of c.args.tree.now) nowhere) c.args.instance.now c.args.call.now c.args.instr _ c.in-Label.is (c.requires.faultless nowhere) 0 (WPool c.in-Label.pool) refl) }
 
 pub live_pool-on-requires-in-Unlabel : goal.live_pool-on-requires-in-Unlabel
 live_pool-on-requires-in-Unlabel g c =
-    let r = seen_over (lists c.args.store.now) (next_name c.args.store.now) (in_setting c.args.setting.now (map_of c.args.tree.now) nowhere) c.args.instance.now c.args.call.now in
-    record { there = pool_wanted c.args.setting.now (map_of c.args.tree.now) c.args.instance.now c.in-Unlabel.pool (lists c.args.store.now) (next_name c.args.store.now) nowhere c.args.call.now (unlabel_wanted c.args.code.now r c.in-Unlabel.pool c.in-Unlabel.text (ap (λ (i : Instr). fault c.args.code.now r i) (sym c.in-Unlabel.is) ∙ c.requires.faultless nowhere)) }
+    record { there = pool_wanted c.args.setting.now (map_of c.args.tree.now) c.args.instance.now c.in-Unlabel.pool (lists c.args.store.now) (next_name c.args.store.now) nowhere c.args.call.now (wanted c.args.code.now (lists c.args.store.now) (next_name c.args.store.now) (in_setting c.args.setting.now (map_of c.args.tree.now) nowhere) c.args.instance.now c.args.call.now c.args.instr _ c.in-Unlabel.is (c.requires.faultless nowhere) 0 (WPool c.in-Unlabel.pool) refl) }
 
 pub live_pool-on-requires-in-BCreate : goal.live_pool-on-requires-in-BCreate
 live_pool-on-requires-in-BCreate g c =
     let r = seen_over (lists c.args.store.now) (next_name c.args.store.now) (in_setting c.args.setting.now (map_of c.args.tree.now) nowhere) c.args.instance.now c.args.call.now in
-    record { there = pool_wanted c.args.setting.now (map_of c.args.tree.now) c.args.instance.now c.brigade_pool.result (lists c.args.store.now) (next_name c.args.store.now) nowhere c.args.call.now (ap (λ (p : PoolRef). fault_want r (WPool p)) c.brigade_pool.ensures ∙ brigade_wanted c.args.code.now r c.in-BCreate.o (ap (λ (i : Instr). fault c.args.code.now r i) (sym c.in-BCreate.is) ∙ c.requires.faultless nowhere)) }
+    record { there = pool_wanted c.args.setting.now (map_of c.args.tree.now) c.args.instance.now c.brigade_pool.result (lists c.args.store.now) (next_name c.args.store.now) nowhere c.args.call.now (ap (λ (p : PoolRef). fault_want r (WPool p)) c.brigade_pool.ensures ∙ wanted c.args.code.now (lists c.args.store.now) (next_name c.args.store.now) (in_setting c.args.setting.now (map_of c.args.tree.now) nowhere) c.args.instance.now c.args.call.now c.args.instr _ c.in-BCreate.is (c.requires.faultless nowhere) 0 (WPool (pool_of_brigade c.args.code.now c.in-BCreate.o)) refl) }
+
+pub save-requires-clause-live_into : goal.save-requires-clause-live_into
+save-requires-clause-live_into g c = usable_live c.args.code.now (lists c.args.store.now) (next_name c.args.store.now) (in_setting c.args.setting.now (map_of c.args.tree.now) nowhere) c.args.instance.now c.args.call.now c.args.instr _ c.in-BSave.is (c.requires.faultless nowhere) 0 c.in-BSave.o refl
+
+pub save-requires-clause-live_from : goal.save-requires-clause-live_from
+save-requires-clause-live_from g c = usable_live c.args.code.now (lists c.args.store.now) (next_name c.args.store.now) (in_setting c.args.setting.now (map_of c.args.tree.now) nowhere) c.args.instance.now c.args.call.now c.args.instr _ c.in-BSave.is (c.requires.faultless nowhere) 1 c.in-BSave.b refl
 
 pub save-requires-clause-live : goal.save-requires-clause-live
 save-requires-clause-live g c = λ n p is on. house_live (lists c.args.store.now) (pool_of c.args.store.now) (references c.args.store.now) (map_of c.args.tree.now) c.requires.house (tree_formed c.args.tree.now) n p on
 
 pub live_pool-to-requires : goal.live_pool-to-requires
 live_pool-to-requires g c =
-    let r = seen_over (lists c.args.store.now) (next_name c.args.store.now) (in_setting c.args.setting.now (map_of c.args.tree.now) nowhere) c.args.instance.now c.args.call.now in
-    record { there = pool_wanted c.args.setting.now (map_of c.args.tree.now) c.args.instance.now c.in-Aside.pool (lists c.args.store.now) (next_name c.args.store.now) nowhere c.args.call.now (aside_wanted c.args.code.now r c.in-Aside.c c.in-Aside.pool (ap (λ (i : Instr). fault c.args.code.now r i) (sym c.in-Aside.is) ∙ c.requires.faultless nowhere)) }
+    record { there = pool_wanted c.args.setting.now (map_of c.args.tree.now) c.args.instance.now c.in-Aside.pool (lists c.args.store.now) (next_name c.args.store.now) nowhere c.args.call.now (wanted c.args.code.now (lists c.args.store.now) (next_name c.args.store.now) (in_setting c.args.setting.now (map_of c.args.tree.now) nowhere) c.args.instance.now c.args.call.now c.args.instr _ c.in-Aside.is (c.requires.faultless nowhere) 1 (WPool c.in-Aside.pool) refl) }
 
 pub returns-in-PCreate-clause-ok : goal.returns-in-PCreate-clause-ok
 returns-in-PCreate-clause-ok g c =
@@ -141,7 +149,7 @@ returns-in-BSave-clause-open g c =
     λ d ranges all.
     let over = in_setting c.args.setting.now (map_of c.args.tree.now) nowhere in
     let r = seen_over (lists c.args.store.now) (next_name c.args.store.now) over c.args.instance.now c.args.call.now in
-    let alive = saved_wanted c.args.code.now r c.in-BSave.o c.in-BSave.b (ap (λ (i : Instr). fault c.args.code.now r i) (sym c.in-BSave.is) ∙ c.requires.faultless nowhere) in
+    let alive = wanted c.args.code.now (lists c.args.store.now) (next_name c.args.store.now) (in_setting c.args.setting.now (map_of c.args.tree.now) nowhere) c.args.instance.now c.args.call.now c.args.instr _ c.in-BSave.is (c.requires.faultless nowhere) 2 (WHomes c.in-BSave.b) refl in
     c.save.ensures.open d over c.args.call.now (open_items d (items_of (r.instance.brigades c.in-BSave.b)) ((ranges nowhere).brigades c.in-BSave.b) alive) all
 
 pub returns-in-BSave-clause-left : goal.returns-in-BSave-clause-left
@@ -155,7 +163,7 @@ returns-in-Aside-clause-open g c =
     λ d ranges all.
     let over = in_setting c.args.setting.now (map_of c.args.tree.now) nowhere in
     let r = seen_over (lists c.args.store.now) (next_name c.args.store.now) over c.args.instance.now c.args.call.now in
-    let alive = aside_alive c.args.code.now r c.in-Aside.c c.in-Aside.pool (ap (λ (i : Instr). fault c.args.code.now r i) (sym c.in-Aside.is) ∙ c.requires.faultless nowhere) in
+    let alive = wanted c.args.code.now (lists c.args.store.now) (next_name c.args.store.now) (in_setting c.args.setting.now (map_of c.args.tree.now) nowhere) c.args.instance.now c.args.call.now c.args.instr _ c.in-Aside.is (c.requires.faultless nowhere) 2 (WHome c.in-Aside.c) refl in
     c.aside.ensures.open d over (open_spot d r c.in-Aside.c (ranges nowhere) alive) all
 
 pub returns-in-BSave-clause-sure : goal.returns-in-BSave-clause-sure

@@ -1,41 +1,51 @@
 -- Brigades that are cut are there, since there is no fault.
-use Rattle.std.proofs.Common.{false, sym, ap, ◌∙◌}
+use Rattle.std.proofs.Common.{false, refl, sym, ap, ◌∙◌}
 use Rattle.std.proofs.lemmas.Result.{on_ok_weaker}
 use Rattle.module_code.specs.declared.instr.Instr.{Instr}
-use Rattle.run_model.specs.Faults.{fault}
+use Rattle.run_model.specs.Faults.{InBrigade, InThis, WHomeAcross}
 use Rattle.run_model.specs.BucketSteps.{items_at, names_to_part}
 use Rattle.run_model.specs.Steps.{grows, step, value_of}
 use Rattle.brigade_ops.specs.Store.{lists, next_name}
 use Rattle.ring_run.specs.Outside.{with_outside}
 use Rattle.ring_run.specs.Seen.{seen_over}
-use Rattle.ring_run.proofs.Faultless.{nowhere, split_from, split_into, part_of, across_alive}
+use Rattle.ring_run.proofs.Faultless.{nowhere, brigade_live, usable_live, wanted}
 use Rattle.ring_run.proofs.Quiet.{grown_none}
+use Rattle.ring_run.proofs.Standing.{stands}
 use Rattle.ring_run.proofs.execute_on_store.cut_brigade.Goals as goal
 
+pub clean-requires-clause-live : goal.clean-requires-clause-live
+clean-requires-clause-live g c = brigade_live c.args.code.now (lists c.args.store.now) (next_name c.args.store.now) (with_outside c.args.outside.now nowhere) c.args.instance.now c.args.call.now c.args.instr _ c.in-BClean.is (c.requires.faultless nowhere) 0 c.in-BClean.b refl
+
+pub concat-requires-clause-live_first : goal.concat-requires-clause-live_first
+concat-requires-clause-live_first g c = usable_live c.args.code.now (lists c.args.store.now) (next_name c.args.store.now) (with_outside c.args.outside.now nowhere) c.args.instance.now c.args.call.now c.args.instr _ c.in-BConcat.is (c.requires.faultless nowhere) 0 c.in-BConcat.a refl
+
+pub concat-requires-clause-live_second : goal.concat-requires-clause-live_second
+concat-requires-clause-live_second g c = usable_live c.args.code.now (lists c.args.store.now) (next_name c.args.store.now) (with_outside c.args.outside.now nowhere) c.args.instance.now c.args.call.now c.args.instr _ c.in-BConcat.is (c.requires.faultless nowhere) 1 c.in-BConcat.b refl
+
 pub bsplit-requires-clause-live_from : goal.bsplit-requires-clause-live_from
-bsplit-requires-clause-live_from g c =
-    let over = with_outside c.args.outside.now nowhere in
-    split_from c.args.code.now (lists c.args.store.now) (next_name c.args.store.now) over c.args.instance.now c.args.call.now c.in-BSplit.b c.in-BSplit.c c.in-BSplit.a
-    (ap (λ (i : Instr). fault c.args.code.now (seen_over (lists c.args.store.now) (next_name c.args.store.now) over c.args.instance.now c.args.call.now) i) (sym c.in-BSplit.is) ∙ c.requires.faultless nowhere)
+bsplit-requires-clause-live_from g c = usable_live c.args.code.now (lists c.args.store.now) (next_name c.args.store.now) (with_outside c.args.outside.now nowhere) c.args.instance.now c.args.call.now c.args.instr _ c.in-BSplit.is (c.requires.faultless nowhere) 0 c.in-BSplit.b refl
 
 pub bsplit-requires-clause-live_into : goal.bsplit-requires-clause-live_into
-bsplit-requires-clause-live_into g c =
-    let over = with_outside c.args.outside.now nowhere in
-    split_into c.args.code.now (lists c.args.store.now) (next_name c.args.store.now) over c.args.instance.now c.args.call.now c.in-BSplit.b c.in-BSplit.c c.in-BSplit.a
-    (ap (λ (i : Instr). fault c.args.code.now (seen_over (lists c.args.store.now) (next_name c.args.store.now) over c.args.instance.now c.args.call.now) i) (sym c.in-BSplit.is) ∙ c.requires.faultless nowhere)
+bsplit-requires-clause-live_into g c = usable_live c.args.code.now (lists c.args.store.now) (next_name c.args.store.now) (with_outside c.args.outside.now nowhere) c.args.instance.now c.args.call.now c.args.instr _ c.in-BSplit.is (c.requires.faultless nowhere) 2 c.in-BSplit.a refl
 
 pub bpart-requires-clause-live : goal.bpart-requires-clause-live
-bpart-requires-clause-live g c =
-    let over = with_outside c.args.outside.now nowhere in
-    part_of c.args.code.now (lists c.args.store.now) (next_name c.args.store.now) over c.args.instance.now c.args.call.now c.in-BPart.b c.in-BPart.x c.in-BPart.c c.in-BPart.field-3
-    (ap (λ (i : Instr). fault c.args.code.now (seen_over (lists c.args.store.now) (next_name c.args.store.now) over c.args.instance.now c.args.call.now) i) (sym c.in-BPart.is) ∙ c.requires.faultless nowhere)
+bpart-requires-clause-live g c = usable_live c.args.code.now (lists c.args.store.now) (next_name c.args.store.now) (with_outside c.args.outside.now nowhere) c.args.instance.now c.args.call.now c.args.instr _ c.in-BPart.is (c.requires.faultless nowhere) 0 c.in-BPart.b refl
+
+pub first-requires-clause-live : goal.first-requires-clause-live
+first-requires-clause-live g c = usable_live c.args.code.now (lists c.args.store.now) (next_name c.args.store.now) (with_outside c.args.outside.now nowhere) c.args.instance.now c.args.call.now c.args.instr _ c.in-First.is (c.requires.faultless nowhere) 0 c.in-First.b refl
+
+pub bsplit-requires-clause-stands : goal.bsplit-requires-clause-stands
+bsplit-requires-clause-stands g c = stands c.args.code.now (lists c.args.store.now) (next_name c.args.store.now) (with_outside c.args.outside.now nowhere) c.args.instance.now c.args.call.now c.args.instr _ c.in-BSplit.is (c.requires.faultless nowhere) 1 c.in-BSplit.c (InThis c.in-BSplit.b) refl
+
+pub next-requires-clause-stands : goal.next-requires-clause-stands
+next-requires-clause-stands g c = stands c.args.code.now (lists c.args.store.now) (next_name c.args.store.now) (with_outside c.args.outside.now nowhere) c.args.instance.now c.args.call.now c.args.instr _ c.in-Next.is (c.requires.faultless nowhere) 0 c.in-Next.c InBrigade refl
 
 pub returns-in-BPart-clause-ok : goal.returns-in-BPart-clause-ok
 returns-in-BPart-clause-ok g c =
     on_ok_weaker c.bpart.result (λ parted around choice.
     let over = with_outside c.args.outside.now around in
     let r = seen_over (lists c.args.store.now) (next_name c.args.store.now) over c.args.instance.now c.args.call.now in
-    parted over (across_alive c.args.code.now r c.in-BPart.b c.in-BPart.x c.in-BPart.c c.in-BPart.field-3 (ap (λ (i : Instr). fault c.args.code.now r i) (sym c.in-BPart.is) ∙ c.requires.faultless around))
+    parted over (wanted c.args.code.now (lists c.args.store.now) (next_name c.args.store.now) over c.args.instance.now c.args.call.now c.args.instr _ c.in-BPart.is (c.requires.faultless around) 1 (WHomeAcross c.in-BPart.b c.in-BPart.x) refl)
     ∙ ap (λ (i : Instr). (step c.args.code.now choice i r).state) (sym c.in-BPart.is))
     c.bpart.ensures.ok
 

@@ -1,12 +1,17 @@
 -- What each maker makes.
-use Rattle.std.proofs.Common.{sym, ap, ◌∙◌}
+use Rattle.std.proofs.Common.{refl, sym, ap, ◌∙◌}
 use Rattle.std.proofs.lemmas.Result.{on_ok_weaker}
 use Rattle.module_code.specs.declared.instr.Instr.{Instr}
+use Rattle.run_model.specs.Faults.{WPool}
 use Rattle.run_model.specs.Steps.{step}
 use Rattle.brigade_ops.specs.Store.{lists, next_name}
 use Rattle.ring_run.specs.Outside.{with_outside}
 use Rattle.ring_run.specs.Seen.{seen_over}
+use Rattle.ring_run.proofs.Faultless.{nowhere, wanted}
 use Rattle.ring_run.proofs.execute_on_store.make_bucket.Goals as goal
+
+pub make_in_pool-requires-clause-there : goal.make_in_pool-requires-clause-there
+make_in_pool-requires-clause-there g c = (nowhere, wanted c.args.code.now (lists c.args.store.now) (next_name c.args.store.now) (with_outside c.args.outside.now nowhere) c.args.instance.now c.args.call.now c.args.instr _ c.in-PoolB.is (c.requires.faultless nowhere) 0 (WPool c.in-PoolB.pool) refl)
 
 pub returns-in-Heap-clause-held : goal.returns-in-Heap-clause-held
 returns-in-Heap-clause-held g c = c.heap.ensures.held c.args.instance.now c.requires.held

@@ -1,5 +1,5 @@
 -- The second brigade has what stood from the place on.
-use Rattle.std.proofs.Common.{List, sym, ap, ◌∙◌}
+use Rattle.std.proofs.Common.{List, ap, ◌∙◌}
 use Rattle.std.proofs.lemmas.Result.{on_ok_weaker}
 use Rattle.bucket_ring.specs.Lists.{list_at}
 use Rattle.run_model.specs.BrigadeLists.{moves}
@@ -9,22 +9,26 @@ use Rattle.run_model.specs.declared.bucket.NamedBucket.{NamedBucket}
 use Rattle.brigade_ops.specs.Items.{before_place, from_place}
 use Rattle.brigade_ops.specs.Store.{lists, brigade_of, pool_of, next_name}
 use Rattle.ring_run.specs.Seen.{seen_over, calls_in, shown}
-use Rattle.ring_run.specs.Slots.{slot_at, name_in}
-use Rattle.ring_run.proofs.Changes.{live_is}
+use Rattle.ring_run.specs.Slots.{slot_at}
 use Rattle.ring_run.proofs.Cuts.{parted}
 use Rattle.ring_run.proofs.Names.{apart_in, held_kept, no_less, still_same, still_both, by_result}
 use Rattle.ring_run.proofs.LeftAlone.{left_both, left_same, ours_slot}
+use Rattle.ring_run.proofs.Slots.{made_in}
 use Rattle.ring_run.proofs.part_steps.bsplit.Goals as goal
+
+pub brigade-from-requires-clause-made : goal.brigade-from-requires-clause-made
+brigade-from-requires-clause-made g c = made_in (lists c.args.store.now) (slot_at c.args.instance.now c.args.b) c.requires.live_from
+
+pub brigade-to-requires-clause-made : goal.brigade-to-requires-clause-made
+brigade-to-requires-clause-made g c = made_in (lists c.args.store.now) (slot_at c.args.instance.now c.args.a) c.requires.live_into
 
 pub returns-clause-ok : goal.returns-clause-ok
 returns-clause-ok g c =
-    let to = live_is (lists c.args.store.now) (slot_at c.args.instance.now c.args.a) c.in-Some-live.to (sym c.live-2.ensures ∙ c.in-Some-live.is) in
-    let from = live_is (lists c.args.store.now) (slot_at c.args.instance.now c.args.b) c.in-Some.from (sym c.live.ensures ∙ c.in-Some.is) in
     on_ok_weaker c.split_at.result (λ out around.
     let r = (seen_over (lists c.args.store.now) (next_name c.args.store.now) around c.args.instance.now c.args.call.now) in
-    parted (lists c.args.store.now) (lists c.split_at.new.self) (next_name c.args.store.now) (next_name c.split_at.new.self) around c.args.instance.now c.args.call.now c.args.a c.args.b c.in-Some-live.to c.in-Some.from c.place_in-place.result (apart_in (brigade_of c.args.store.now) (lists c.args.store.now) (pool_of c.args.store.now) (next_name c.args.store.now) c.args.instance.now c.args.call.now c.requires.held) c.requires.apart
-    (ap name_in to.1.1.0) (ap name_in from.1.1.0) c.split_at.ensures.next out
-    ∙ (ap (λ (zs : List NamedBucket). set_items c.args.a zs (set_items c.args.b (shown (calls_in around c.args.call.now) (before_place c.place_in-place.result (list_at (lists c.args.store.now) c.in-Some.from))) r)) (c.place_in-place.ensures.moves around)
+    parted (lists c.args.store.now) (lists c.split_at.new.self) (next_name c.args.store.now) (next_name c.split_at.new.self) around c.args.instance.now c.args.call.now c.args.a c.args.b c.brigade-to.result c.brigade-from.result c.place_in-place.result (apart_in (brigade_of c.args.store.now) (lists c.args.store.now) (pool_of c.args.store.now) (next_name c.args.store.now) c.args.instance.now c.args.call.now c.requires.held) c.requires.apart
+    c.brigade-to.ensures.name c.brigade-from.ensures.name c.split_at.ensures.next out
+    ∙ (ap (λ (zs : List NamedBucket). set_items c.args.a zs (set_items c.args.b (shown (calls_in around c.args.call.now) (before_place c.place_in-place.result (list_at (lists c.args.store.now) c.brigade-from.result))) r)) (c.place_in-place.ensures.moves around)
     ∙ ap (λ (ys : List NamedBucket). set_items c.args.a (moves (place_at (spot r c.args.c)) (items_at r c.args.b)) (set_items c.args.b ys r)) (c.place_in-place.ensures.stays around)))
     c.split_at.ensures.ok
 
@@ -32,7 +36,7 @@ pub returns-clause-held : goal.returns-clause-held
 returns-clause-held g c =
     held_kept c.args.store.now c.split_at.new.self (no_less (next_name c.args.store.now) (next_name c.split_at.new.self) c.split_at.ensures.next) c.split_at.ensures.names c.split_at.ensures.pools
     (by_result c.split_at.result _ _
-    (λ out. still_both (lists c.args.store.now) (lists c.split_at.new.self) c.in-Some-live.to c.in-Some.from (λ xs. from_place c.place_in-place.result (list_at (lists c.args.store.now) c.in-Some.from)) (before_place c.place_in-place.result) out)
+    (λ out. still_both (lists c.args.store.now) (lists c.split_at.new.self) c.brigade-to.result c.brigade-from.result (λ xs. from_place c.place_in-place.result (list_at (lists c.args.store.now) c.brigade-from.result)) (before_place c.place_in-place.result) out)
     (λ out. still_same (lists c.args.store.now) (lists c.split_at.new.self) out)
     c.split_at.ensures.ok c.split_at.ensures.err)
     c.args.instance.now c.args.call.now c.requires.held
@@ -40,8 +44,8 @@ returns-clause-held g c =
 pub returns-clause-left : goal.returns-clause-left
 returns-clause-left g c =
     by_result c.split_at.result _ _
-    (λ out. left_both c.args.store.now c.split_at.new.self (no_less (next_name c.args.store.now) (next_name c.split_at.new.self) c.split_at.ensures.next) c.split_at.ensures.names c.split_at.ensures.pools c.split_at.ensures.references c.in-Some-live.to c.in-Some.from (λ xs. from_place c.place_in-place.result (list_at (lists c.args.store.now) c.in-Some.from)) (before_place c.place_in-place.result) out c.args.instance.now c.args.call.now
-    (ours_slot c.args.instance.now c.args.call.now c.args.a c.in-Some-live.to (ap name_in (live_is (lists c.args.store.now) (slot_at c.args.instance.now c.args.a) c.in-Some-live.to (sym c.live-2.ensures ∙ c.in-Some-live.is)).1.1.0))
-    (ours_slot c.args.instance.now c.args.call.now c.args.b c.in-Some.from (ap name_in (live_is (lists c.args.store.now) (slot_at c.args.instance.now c.args.b) c.in-Some.from (sym c.live.ensures ∙ c.in-Some.is)).1.1.0)))
+    (λ out. left_both c.args.store.now c.split_at.new.self (no_less (next_name c.args.store.now) (next_name c.split_at.new.self) c.split_at.ensures.next) c.split_at.ensures.names c.split_at.ensures.pools c.split_at.ensures.references c.brigade-to.result c.brigade-from.result (λ xs. from_place c.place_in-place.result (list_at (lists c.args.store.now) c.brigade-from.result)) (before_place c.place_in-place.result) out c.args.instance.now c.args.call.now
+    (ours_slot c.args.instance.now c.args.call.now c.args.a c.brigade-to.result c.brigade-to.ensures.name)
+    (ours_slot c.args.instance.now c.args.call.now c.args.b c.brigade-from.result c.brigade-from.ensures.name))
     (λ out. left_same c.args.store.now c.split_at.new.self (no_less (next_name c.args.store.now) (next_name c.split_at.new.self) c.split_at.ensures.next) c.split_at.ensures.names c.split_at.ensures.pools c.split_at.ensures.references out c.args.instance.now c.args.call.now)
     c.split_at.ensures.ok c.split_at.ensures.err

@@ -1,4 +1,4 @@
--- Both brigades are there, the first on a pool, or nothing is saved.
+-- Both brigades are there, and the first is on a pool, or nothing is saved.
 use Rattle.std.proofs.Common.{◌≡◌, ◌++◌, [], ℕ, Option, Some, None, Bool, true, false, not, is_some, map, List, All, sym, ap, subst, ◌∙◌, refl, arith}
 use Rattle.std.proofs.lemmas.Bool.{false≢true}
 use Rattle.bucket_ring.specs.Lists.{list_at}
@@ -13,17 +13,16 @@ use Rattle.run_model.specs.Effects.{made_on, new_ref}
 use Rattle.run_model.specs.Steps.{takes_reference}
 use Rattle.ring_run.specs.Seen.{seen_over, shown, calls_in}
 use Rattle.ring_run.specs.Slots.{slot_at, name_in}
-use Rattle.ring_run.proofs.Changes.{live_is, dead_seen}
+use Rattle.ring_run.proofs.Slots.{made_in, named_there}
 use Rattle.ring_run.proofs.Items.{items_live}
 use Rattle.ring_run.proofs.LeftAlone.{rest_both, rest_same, ours_slot}
 use Rattle.ring_run.proofs.OpenFiles.{refs_all, refs_same}
 use Rattle.ring_run.proofs.Names.{apart_in, held_kept, no_less, still_same, still_both, by_result}
-use Rattle.ring_run.proofs.Saved.{made_null, made_loose, made_gone, made_there, not_saved, nothing_saved, saved}
+use Rattle.ring_run.proofs.Saved.{made_loose, made_there, not_saved, saved}
 use Rattle.ring_run.proofs.Quiet.{none_referred}
 use Rattle.ring_run.proofs.SetAside.{refs_shown}
 use Rattle.ring_run.proofs.Trees.{over_pools, on_both, on_both_err, seen_kept}
 use Rattle.ring_run.proofs.saves.save.Goals as goal
-use Rattle.ring_run.proofs.saves.save.Goals.{then-is_none-via-then-is_none, then-is_none-via-else-is_none+then-not-has}
 
 none_is : (o : Option ℕ) (t : Bool) → is_some o ≡ not t → t ≡ true → o ≡ None
 none_is None t e f = refl
@@ -33,12 +32,6 @@ some_is : (o : Option ℕ) (t : Bool) → is_some o ≡ not t → t ≡ false �
 some_is None t e f = absurd (false≢true (e ∙ ap not f))
 some_is (Some p) t e f = (p, refl)
 
-pub returns-in_default-clause-ok : goal.returns-in_default-clause-ok
-returns-in_default-clause-ok g c =
-    λ around call held.
-    let r = seen_over (lists c.args.store.now) (next_name c.args.store.now) (over_pools (map_of c.args.tree.now) around) c.args.instance.now call in
-    not_saved r c.args.o c.args.b (made_null (lists c.args.store.now) (next_name c.args.store.now) (over_pools (map_of c.args.tree.now) around) c.args.instance.now call c.args.o (sym c.in_default.ensures))
-
 pub returns-then-is_none-clause-ok : goal.returns-then-is_none-clause-ok
 returns-then-is_none-clause-ok g c =
     λ around call held.
@@ -46,26 +39,16 @@ returns-then-is_none-clause-ok g c =
     let k = next_name c.args.store.now in
     let i = c.args.instance.now in
     let these = over_pools (map_of c.args.tree.now) around in
-    let r = seen_over L k these i call in
-    elim c.then-is_none.branch [
-      | then-is_none-via-then-is_none w ↦ not_saved r c.args.o c.args.b (made_loose L k these i call c.args.o c.in-Made.to c.in-Made.field-2 (sym c.in-Made.ensures ∙ ap (λ (p : Option ℕ). slot.Made c.in-Made.to p c.in-Made.field-2) (none_is c.in-Made.on c.is_none.result c.is_none.ensures w.if-is_none.true)))
-      | then-is_none-via-else-is_none+then-not-has w ↦ not_saved r c.args.o c.args.b (made_gone L k these i call c.args.o c.in-Made.to c.in-Made.on c.in-Made.field-2 (sym c.in-Made.ensures) (sym w.if-not-has.ensures))
-    ]
+    not_saved (seen_over L k these i call) c.args.o c.args.b (made_loose L k these i call c.args.o c.in-Made.to c.in-Made.field-2 (sym c.in-Made.ensures ∙ ap (λ (p : Option ℕ). slot.Made c.in-Made.to p c.in-Made.field-2) (none_is c.in-Made.on c.is_none.result c.is_none.ensures c.if-is_none.true)))
 
-pub returns-in_default-live-clause-ok : goal.returns-in_default-live-clause-ok
-returns-in_default-live-clause-ok g c =
-    λ around call held.
-    let L = lists c.args.store.now in
-    let k = next_name c.args.store.now in
-    let these = over_pools (map_of c.args.tree.now) around in
-    let dead = dead_seen L k these c.args.instance.now call c.args.b (sym c.in_default-live.ensures) in
-    nothing_saved (seen_over L k these c.args.instance.now call) c.args.o c.args.b dead.0 (dead.1 [])
+pub brigade-from-requires-clause-made : goal.brigade-from-requires-clause-made
+brigade-from-requires-clause-made g c = made_in (lists c.args.store.now) (slot_at c.args.instance.now c.args.b) c.requires.live_from
+
+pub save-requires-clause-onto : goal.save-requires-clause-onto
+save-requires-clause-onto g c = named_there (lists c.args.store.now) (slot_at c.args.instance.now c.args.o) c.in-Made.to c.requires.live_into (ap name_in (sym c.in-Made.ensures))
 
 pub save-requires-clause-apart : goal.save-requires-clause-apart
-save-requires-clause-apart g c =
-    λ e.
-    let from = live_is (lists c.args.store.now) (slot_at c.args.instance.now c.args.b) c.in-Some.from (sym c.in-Some.ensures) in
-    c.requires.apart (c.requires.held c.args.o c.args.b c.in-Some.from (ap name_in (sym c.in-Made.ensures) ∙ ap (λ (n : ℕ). Some n) e) (ap name_in from.1.1.0))
+save-requires-clause-apart g c = λ e. c.requires.apart (c.requires.held c.args.o c.args.b c.brigade-from.result (ap name_in (sym c.in-Made.ensures) ∙ ap (λ (n : ℕ). Some n) e) c.brigade-from.ensures.name)
 
 pub returns-clause-ok : goal.returns-clause-ok
 returns-clause-ok g c =
@@ -74,10 +57,10 @@ returns-clause-ok g c =
     let ps = map_of c.args.tree.now in
     let on = some_is c.in-Made.on c.is_none.result c.is_none.ensures c.if-is_none.false in
     let is : slot_at i c.args.o ≡ slot.Made c.in-Made.to (Some on.0) c.in-Made.field-2 = sym c.in-Made.ensures ∙ ap (λ (p : Option ℕ). slot.Made c.in-Made.to p c.in-Made.field-2) on.1 in
-    let there : is_some (lists s c.in-Made.to) ≡ true = sym c.if-not-has.ensures in
+    let there = named_there (lists s) (slot_at i c.args.o) c.in-Made.to c.requires.live_into (ap name_in (sym c.in-Made.ensures)) in
     let lies : pool_of s c.in-Made.to ≡ Some on.0 = c.requires.on c.args.o c.in-Made.to (Some on.0) c.in-Made.field-2 (λ e. let first = c.requires.first in omega (arith, first, e)) is there in
     on_both c.save.result _ _ _ (λ out refs around call held.
-    saved (lists s) (lists c.save.new.self) (next_name s) (next_name c.save.new.self) ps (map_of c.save.new.tree) around i call c.args.o c.args.b c.in-Made.to c.in-Some.from on.0 c.in-Made.field-2 (apart_in (brigade_of s) (lists s) (pool_of s) (next_name s) i call held) c.requires.apart is there (sym c.in-Some.ensures) c.save.ensures.next (λ n. out on.0 n lies) (refs on.0 lies))
+    saved (lists s) (lists c.save.new.self) (next_name s) (next_name c.save.new.self) ps (map_of c.save.new.tree) around i call c.args.o c.args.b c.in-Made.to c.brigade-from.result on.0 c.in-Made.field-2 (apart_in (brigade_of s) (lists s) (pool_of s) (next_name s) i call held) c.requires.apart is there (c.brigade-from.ensures.live (lists s) c.requires.live_from) c.save.ensures.next (λ n. out on.0 n lies) (refs on.0 lies))
     c.save.ensures.ok c.save.ensures.registered
 
 pub returns-clause-held : goal.returns-clause-held
@@ -87,10 +70,10 @@ returns-clause-held g c =
     let ps = map_of c.args.tree.now in
     let on = some_is c.in-Made.on c.is_none.result c.is_none.ensures c.if-is_none.false in
     let is : slot_at c.args.instance.now c.args.o ≡ slot.Made c.in-Made.to (Some on.0) c.in-Made.field-2 = sym c.in-Made.ensures ∙ ap (λ (p : Option ℕ). slot.Made c.in-Made.to p c.in-Made.field-2) on.1 in
-    let lies : pool_of s c.in-Made.to ≡ Some on.0 = c.requires.on c.args.o c.in-Made.to (Some on.0) c.in-Made.field-2 (λ e. let first = c.requires.first in omega (arith, first, e)) is (sym c.if-not-has.ensures) in
+    let lies : pool_of s c.in-Made.to ≡ Some on.0 = c.requires.on c.args.o c.in-Made.to (Some on.0) c.in-Made.field-2 (λ e. let first = c.requires.first in omega (arith, first, e)) is (named_there (lists s) (slot_at c.args.instance.now c.args.o) c.in-Made.to c.requires.live_into (ap name_in (sym c.in-Made.ensures))) in
     held_kept s c.save.new.self (no_less (next_name s) (next_name c.save.new.self) c.save.ensures.next) c.save.ensures.names c.save.ensures.pools
     (by_result c.save.result _ _
-    (λ out. still_both (lists s) (lists c.save.new.self) c.in-Made.to c.in-Some.from (λ xs. xs ++ map (aside_item ps on.0) (list_at (lists s) c.in-Some.from)) (λ xs. []) (λ n. out on.0 n lies))
+    (λ out. still_both (lists s) (lists c.save.new.self) c.in-Made.to c.brigade-from.result (λ xs. xs ++ map (aside_item ps on.0) (list_at (lists s) c.brigade-from.result)) (λ xs. []) (λ n. out on.0 n lies))
     (λ out. still_same (lists s) (lists c.save.new.self) out)
     c.save.ensures.ok c.save.ensures.err)
     c.args.instance.now call held
@@ -110,12 +93,11 @@ returns-clause-left g c =
     let ps = map_of c.args.tree.now in
     let on = some_is c.in-Made.on c.is_none.result c.is_none.ensures c.if-is_none.false in
     let is : slot_at i c.args.o ≡ slot.Made c.in-Made.to (Some on.0) c.in-Made.field-2 = sym c.in-Made.ensures ∙ ap (λ (p : Option ℕ). slot.Made c.in-Made.to p c.in-Made.field-2) on.1 in
-    let lies : pool_of s c.in-Made.to ≡ Some on.0 = c.requires.on c.args.o c.in-Made.to (Some on.0) c.in-Made.field-2 (λ e. let first = c.requires.first in omega (arith, first, e)) is (sym c.if-not-has.ensures) in
-    let from = live_is (lists s) (slot_at i c.args.b) c.in-Some.from (sym c.in-Some.ensures) in
+    let lies : pool_of s c.in-Made.to ≡ Some on.0 = c.requires.on c.args.o c.in-Made.to (Some on.0) c.in-Made.field-2 (λ e. let first = c.requires.first in omega (arith, first, e)) is (named_there (lists s) (slot_at c.args.instance.now c.args.o) c.in-Made.to c.requires.live_into (ap name_in (sym c.in-Made.ensures))) in
     let rises = no_less (next_name s) (next_name c.save.new.self) c.save.ensures.next in
     by_result c.save.result _ _
-    (λ out. rest_both s c.save.new.self rises c.save.ensures.names c.save.ensures.pools c.in-Made.to c.in-Some.from (λ xs. xs ++ map (aside_item ps on.0) (list_at (lists s) c.in-Some.from)) (λ xs. []) (λ n. out on.0 n lies) i call
-    (ours_slot i call c.args.o c.in-Made.to (ap name_in is)) (ours_slot i call c.args.b c.in-Some.from (ap name_in from.1.1.0)))
+    (λ out. rest_both s c.save.new.self rises c.save.ensures.names c.save.ensures.pools c.in-Made.to c.brigade-from.result (λ xs. xs ++ map (aside_item ps on.0) (list_at (lists s) c.brigade-from.result)) (λ xs. []) (λ n. out on.0 n lies) i call
+    (ours_slot i call c.args.o c.in-Made.to (ap name_in is)) (ours_slot i call c.args.b c.brigade-from.result c.brigade-from.ensures.name))
     (λ out. rest_same s c.save.new.self rises c.save.ensures.names (λ n. ap (λ (f : ℕ → Option ℕ). f n) c.save.ensures.pools) out i call)
     c.save.ensures.ok c.save.ensures.err
 
@@ -127,10 +109,10 @@ returns-clause-open g c =
     let ps = map_of c.args.tree.now in
     let on = some_is c.in-Made.on c.is_none.result c.is_none.ensures c.if-is_none.false in
     let is : slot_at i c.args.o ≡ slot.Made c.in-Made.to (Some on.0) c.in-Made.field-2 = sym c.in-Made.ensures ∙ ap (λ (p : Option ℕ). slot.Made c.in-Made.to p c.in-Made.field-2) on.1 in
-    let lies : pool_of s c.in-Made.to ≡ Some on.0 = c.requires.on c.args.o c.in-Made.to (Some on.0) c.in-Made.field-2 (λ e. let first = c.requires.first in omega (arith, first, e)) is (sym c.if-not-has.ensures) in
-    let has = subst (λ (xs : List NamedBucket). All (RangeIsOpen d) xs) (items_live (lists s) (next_name s) around i call c.args.b c.in-Some.from (sym c.in-Some.ensures)) opens in
+    let lies : pool_of s c.in-Made.to ≡ Some on.0 = c.requires.on c.args.o c.in-Made.to (Some on.0) c.in-Made.field-2 (λ e. let first = c.requires.first in omega (arith, first, e)) is (named_there (lists s) (slot_at c.args.instance.now c.args.o) c.in-Made.to c.requires.live_into (ap name_in (sym c.in-Made.ensures))) in
+    let has = subst (λ (xs : List NamedBucket). All (RangeIsOpen d) xs) (items_live (lists s) (next_name s) around i call c.args.b c.brigade-from.result (c.brigade-from.ensures.live (lists s) c.requires.live_from)) opens in
     by_result c.save.result _ _
-    (λ counts. refs_all d (calls_in around call) ps on.0 (list_at (lists s) c.in-Some.from) (references s) (references c.save.new.self) (λ f. counts on.0 f lies) has)
+    (λ counts. refs_all d (calls_in around call) ps on.0 (list_at (lists s) c.brigade-from.result) (references s) (references c.save.new.self) (λ f. counts on.0 f lies) has)
     (λ same. refs_same d (references s) (references c.save.new.self) same)
     c.save.ensures.counted c.save.ensures.uncounted
 
@@ -142,11 +124,11 @@ returns-clause-sure g c around call none =
     let over = over_pools ps around in
     let on = some_is c.in-Made.on c.is_none.result c.is_none.ensures c.if-is_none.false in
     let is : slot_at i c.args.o ≡ slot.Made c.in-Made.to (Some on.0) c.in-Made.field-2 = sym c.in-Made.ensures ∙ ap (λ (p : Option ℕ). slot.Made c.in-Made.to p c.in-Made.field-2) on.1 in
-    let there : is_some (lists s c.in-Made.to) ≡ true = sym c.if-not-has.ensures in
+    let there = named_there (lists s) (slot_at i c.args.o) c.in-Made.to c.requires.live_into (ap name_in (sym c.in-Made.ensures)) in
     let lies : pool_of s c.in-Made.to ≡ Some on.0 = c.requires.on c.args.o c.in-Made.to (Some on.0) c.in-Made.field-2 (λ e. let first = c.requires.first in omega (arith, first, e)) is there in
     let runs = calls_in over call in
     let r = seen_over (lists s) (next_name s) over i call in
     let made : made_on (r.instance.brigades c.args.o) ≡ Some on.0 = made_there (lists s) (next_name s) over i call c.args.o c.in-Made.to on.0 c.in-Made.field-2 is there in
-    let items : items_at r c.args.b ≡ shown runs (list_at (lists s) c.in-Some.from) = items_live (lists s) (next_name s) over i call c.args.b c.in-Some.from (sym c.in-Some.ensures) in
-    let quiet : takes_reference ps (Some on.0) (shown runs (list_at (lists s) c.in-Some.from)) ≡ false = sym (ap (λ (o : Option ℕ). takes_reference ps o (items_at r c.args.b)) made ∙ ap (takes_reference ps (Some on.0)) items) ∙ none in
-    c.save.ensures.sure on.0 lies (sym (refs_shown ps on.0 runs (list_at (lists s) c.in-Some.from)) ∙ none_referred (new_ref ps on.0) (shown runs (list_at (lists s) c.in-Some.from)) quiet)
+    let items : items_at r c.args.b ≡ shown runs (list_at (lists s) c.brigade-from.result) = items_live (lists s) (next_name s) over i call c.args.b c.brigade-from.result (c.brigade-from.ensures.live (lists s) c.requires.live_from) in
+    let quiet : takes_reference ps (Some on.0) (shown runs (list_at (lists s) c.brigade-from.result)) ≡ false = sym (ap (λ (o : Option ℕ). takes_reference ps o (items_at r c.args.b)) made ∙ ap (takes_reference ps (Some on.0)) items) ∙ none in
+    c.save.ensures.sure on.0 lies (sym (refs_shown ps on.0 runs (list_at (lists s) c.brigade-from.result)) ∙ none_referred (new_ref ps on.0) (shown runs (list_at (lists s) c.brigade-from.result)) quiet)

@@ -1,72 +1,67 @@
 -- The bucket is split, or the split is refused.
-use Rattle.std.proofs.Common.{◌≡◌, ℕ, ◌+◌, ◌≤◌, [], ◌∷◌, true, Some, is_some, inl, inr, sym, ap, ◌∙◌, arith}
-use Rattle.bucket_ring.specs.Lists.{list_at}
+use Rattle.std.proofs.Common.{◌≡◌, ℕ, ◌+◌, ◌≤◌, [], ◌∷◌, true, is_some, inl, inr, sym, ap, ◌∙◌, arith}
 use Rattle.run_model.specs.BrigadeLists.{split_refusal}
 use Rattle.run_model.specs.BucketSteps.{do_split, names_to_split}
 use Rattle.run_model.specs.Buckets.{is_data_kind}
-use Rattle.run_model.specs.Cursors.{Place, Within, bucket_at, spot}
+use Rattle.run_model.specs.Cursors.{Place, bucket_at}
 use Rattle.run_model.specs.Cutting.{split_at, length_of}
 use Rattle.run_model.specs.Faults.{home_fault}
 use Rattle.run_model.specs.declared.bucket.NamedBucket.{NamedBucket}
 use Rattle.brigade_ops.specs.declared.refusal.SplitRefusal.TheVariants as refusal
 use Rattle.brigade_ops.specs.Items.{named_item, replaced}
-use Rattle.brigade_ops.specs.Store as store
 use Rattle.brigade_ops.specs.Store.{lists, brigade_of, pool_of, next_name}
-use Rattle.brigade_ops.proofs.Saves.{found_some}
-use Rattle.brigade_ops.proofs.Stores.{kept, found_in, found_bucket}
 use Rattle.ring_run.specs.Seen.{seen_over, calls_in, item_in}
 use Rattle.ring_run.proofs.Changes.{seen_same}
 use Rattle.ring_run.proofs.Homes.{not_dead}
 use Rattle.ring_run.proofs.Names.{apart_in, held_kept, no_less, still_same, still_on}
 use Rattle.ring_run.proofs.Quiet.{refused_why, same_err, uncut}
-use Rattle.ring_run.proofs.Slots.{name_there, given_in}
 use Rattle.ring_run.proofs.Splits.{split_into, not_refused, refused_data, refused_long, done_split, not_split, ok_data, ok_short, err_data, err_long}
-use Rattle.ring_run.proofs.Stands.{stands_within}
+use Rattle.ring_run.proofs.Standing.{within_set, within_here, within_live}
 use Rattle.ring_run.proofs.LeftAlone.{left_on, left_same, ours_slot}
 use Rattle.ring_run.proofs.split_steps.split.Goals as goal
+
+pub bucket-requires-clause-at : goal.bucket-requires-clause-at
+bucket-requires-clause-at g c = within_set c.args.store.now c.args.instance.now c.args.call.now c.args.c c.requires.held c.requires.stands
+
+pub split-requires-clause-there : goal.split-requires-clause-there
+split-requires-clause-there g c = within_live c.args.store.now c.args.instance.now c.args.call.now c.args.c c.requires.held c.requires.stands c.bucket.result c.bucket.ensures
+
+pub split-requires-clause-ends : goal.split-requires-clause-ends
+split-requires-clause-ends g c =
+    λ x here.
+    let s = within_here c.args.store.now c.args.instance.now c.args.call.now c.args.c c.requires.held c.requires.stands c.bucket.result c.bucket.ensures in
+    c.requires.ends s.variable s.ring c.bucket.result x s.named s.inside here
 
 pub returns-in-Ok-clause-ok : goal.returns-in-Ok-clause-ok
 returns-in-Ok-clause-ok g c =
     λ around alive.
-    let n = c.in-Within.ensures.inside.1 in
-    let x = found_some c.in-Within.id (list_at (lists c.args.store.now) n.0) (found_in c.args.store.now c.in-Within.id n.0 n.1.1) in
-    let is : store.bucket_at c.args.store.now c.in-Within.id ≡ Some x.0 = found_bucket c.args.store.now c.in-Within.id n.0 x.0 n.1.1 x.1 in
+    let s = within_here c.args.store.now c.args.instance.now c.args.call.now c.args.c c.requires.held c.requires.stands c.bucket.result c.bucket.ensures in
     let r = seen_over (lists c.args.store.now) (next_name c.args.store.now) around c.args.instance.now c.args.call.now in
-    let y : NamedBucket = named_item (item_in (calls_in around c.args.call.now) (c.in-Within.id, x.0)) in
-    let name = name_there (brigade_of c.args.store.now) (lists c.args.store.now) (next_name c.args.store.now) n.0 c.in-Within.id (kept c.args.store.now) n.1.1 in
-    let given = given_in (brigade_of c.args.store.now) (lists c.args.store.now) (next_name c.args.store.now) c.in-Within.id (kept c.args.store.now) name n.0 in
-    let at : spot r c.args.c ≡ Within c.in-Within.field-0 y = stands_within (lists c.args.store.now) (next_name c.args.store.now) around c.args.instance.now c.args.call.now c.args.c c.in-Within.id x.0 c.in-Within.field-0 n.0 given (c.in-Within.ensures.at (next_name c.args.store.now) around) n.1.0 x.1 in
-    let proper = ok_data c.in-Ok.field-0 refusal.Metadata (is_data_kind x.0.kind) (c.in-Ok.ensures.metadata x.0 is) in
-    let short = ok_short c.in-Ok.field-0 refusal.TooLong (is_data_kind x.0.kind) (length_of x.0.content) c.args.n (c.in-Ok.ensures.too_long x.0 is) proper in
+    let y : NamedBucket = named_item (item_in (calls_in around c.args.call.now) (c.bucket.result, s.bucket)) in
+    let proper = ok_data c.in-Ok.field-0 refusal.Metadata (is_data_kind s.bucket.kind) (c.in-Ok.ensures.metadata s.bucket s.here) in
+    let short = ok_short c.in-Ok.field-0 refusal.TooLong (is_data_kind s.bucket.kind) (length_of s.bucket.content) c.args.n (c.in-Ok.ensures.too_long s.bucket s.here) proper in
     ap (λ (k : ℕ). seen_over (lists c.split.new.self) k around c.args.instance.now c.args.call.now) c.in-Ok.ensures.next
-    ∙ (done_split c.args.n c.in-Within.field-0 y r (seen_over (lists c.split.new.self) (next_name c.args.store.now + 1) around c.args.instance.now c.args.call.now) (not_refused c.args.n y proper short)
-    (split_into (lists c.args.store.now) (lists c.split.new.self) (next_name c.args.store.now) around c.args.instance.now c.args.call.now (apart_in (brigade_of c.args.store.now) (lists c.args.store.now) (pool_of c.args.store.now) (next_name c.args.store.now) c.args.instance.now c.args.call.now c.requires.held) c.in-Within.id c.in-Ok.field-0 c.args.n x.0 c.in-Within.field-0 n.0 n.1.0 given x.1
-    (not_dead y (sym (ap (λ (s : Place). home_fault (bucket_at s)) at) ∙ alive)) name.young c.in-Ok.ensures.name (λ m. c.in-Ok.ensures.ok n.0 m x.0 n.1.1 is))
-    ∙ ap (λ (s : Place). do_split c.args.n s r) (sym at))
+    ∙ (done_split c.args.n s.variable y r (seen_over (lists c.split.new.self) (next_name c.args.store.now + 1) around c.args.instance.now c.args.call.now) (not_refused c.args.n y proper short)
+    (split_into (lists c.args.store.now) (lists c.split.new.self) (next_name c.args.store.now) around c.args.instance.now c.args.call.now (apart_in (brigade_of c.args.store.now) (lists c.args.store.now) (pool_of c.args.store.now) (next_name c.args.store.now) c.args.instance.now c.args.call.now c.requires.held) c.bucket.result c.in-Ok.field-0 c.args.n s.bucket s.variable s.ring s.named s.given s.found
+    (not_dead y (sym (ap (λ (s : Place). home_fault (bucket_at s)) (s.at around)) ∙ alive)) s.name.young c.in-Ok.ensures.name (λ m. c.in-Ok.ensures.ok s.ring m s.bucket s.inside s.here))
+    ∙ ap (λ (s : Place). do_split c.args.n s r) (sym (s.at around)))
 
 pub returns-in-Ok-clause-held : goal.returns-in-Ok-clause-held
 returns-in-Ok-clause-held g c =
-    let n = c.in-Within.ensures.inside.1 in
-    let x = found_some c.in-Within.id (list_at (lists c.args.store.now) n.0) (found_in c.args.store.now c.in-Within.id n.0 n.1.1) in
-    let is : store.bucket_at c.args.store.now c.in-Within.id ≡ Some x.0 = found_bucket c.args.store.now c.in-Within.id n.0 x.0 n.1.1 x.1 in
+    let s = within_here c.args.store.now c.args.instance.now c.args.call.now c.args.c c.requires.held c.requires.stands c.bucket.result c.bucket.ensures in
     let rises : next_name c.args.store.now ≤ next_name c.split.new.self = let e = c.in-Ok.ensures.next in omega (arith, e) in
     held_kept c.args.store.now c.split.new.self rises c.split.ensures.names c.split.ensures.pools
-    (still_on (lists c.args.store.now) (lists c.split.new.self) n.0 (replaced c.in-Within.id (split_at c.args.n x.0).0 ((c.in-Ok.field-0, (split_at c.args.n x.0).1) ∷ [])) (λ m. c.in-Ok.ensures.ok n.0 m x.0 n.1.1 is))
+    (still_on (lists c.args.store.now) (lists c.split.new.self) s.ring (replaced c.bucket.result (split_at c.args.n s.bucket).0 ((c.in-Ok.field-0, (split_at c.args.n s.bucket).1) ∷ [])) (λ m. c.in-Ok.ensures.ok s.ring m s.bucket s.inside s.here))
     c.args.instance.now c.args.call.now c.requires.held
 
 pub returns-in-Err-Metadata-clause-ok : goal.returns-in-Err-Metadata-clause-ok
 returns-in-Err-Metadata-clause-ok g c =
     λ around alive.
-    let n = c.in-Within.ensures.inside.1 in
-    let x = found_some c.in-Within.id (list_at (lists c.args.store.now) n.0) (found_in c.args.store.now c.in-Within.id n.0 n.1.1) in
-    let is : store.bucket_at c.args.store.now c.in-Within.id ≡ Some x.0 = found_bucket c.args.store.now c.in-Within.id n.0 x.0 n.1.1 x.1 in
+    let s = within_here c.args.store.now c.args.instance.now c.args.call.now c.args.c c.requires.held c.requires.stands c.bucket.result c.bucket.ensures in
     let r = seen_over (lists c.args.store.now) (next_name c.args.store.now) around c.args.instance.now c.args.call.now in
-    let y : NamedBucket = named_item (item_in (calls_in around c.args.call.now) (c.in-Within.id, x.0)) in
-    let name = name_there (brigade_of c.args.store.now) (lists c.args.store.now) (next_name c.args.store.now) n.0 c.in-Within.id (kept c.args.store.now) n.1.1 in
-    let given = given_in (brigade_of c.args.store.now) (lists c.args.store.now) (next_name c.args.store.now) c.in-Within.id (kept c.args.store.now) name n.0 in
-    let at : spot r c.args.c ≡ Within c.in-Within.field-0 y = stands_within (lists c.args.store.now) (next_name c.args.store.now) around c.args.instance.now c.args.call.now c.args.c c.in-Within.id x.0 c.in-Within.field-0 n.0 given (c.in-Within.ensures.at (next_name c.args.store.now) around) n.1.0 x.1 in
+    let y : NamedBucket = named_item (item_in (calls_in around c.args.call.now) (c.bucket.result, s.bucket)) in
     seen_same (lists c.args.store.now) (next_name c.args.store.now) around c.args.instance.now c.args.call.now (lists c.split.new.self) (next_name c.split.new.self) c.in-Err-Metadata.ensures.next c.in-Err-Metadata.ensures.err
-    ∙ (not_split c.args.n c.in-Within.field-0 y r (refused_data c.args.n y (err_data c.in-Err-Metadata.field-0 refusal.Metadata (is_data_kind x.0.kind) (c.in-Err-Metadata.ensures.metadata x.0 is) c.in-Err-Metadata.field-0-is)) ∙ ap (λ (s : Place). do_split c.args.n s r) (sym at))
+    ∙ (not_split c.args.n s.variable y r (refused_data c.args.n y (err_data c.in-Err-Metadata.field-0 refusal.Metadata (is_data_kind s.bucket.kind) (c.in-Err-Metadata.ensures.metadata s.bucket s.here) c.in-Err-Metadata.field-0-is)) ∙ ap (λ (s : Place). do_split c.args.n s r) (sym (s.at around)))
 
 pub returns-in-Err-Metadata-clause-held : goal.returns-in-Err-Metadata-clause-held
 returns-in-Err-Metadata-clause-held g c =
@@ -77,16 +72,11 @@ returns-in-Err-Metadata-clause-held g c =
 pub returns-in-Err-TooLong-clause-ok : goal.returns-in-Err-TooLong-clause-ok
 returns-in-Err-TooLong-clause-ok g c =
     λ around alive.
-    let n = c.in-Within.ensures.inside.1 in
-    let x = found_some c.in-Within.id (list_at (lists c.args.store.now) n.0) (found_in c.args.store.now c.in-Within.id n.0 n.1.1) in
-    let is : store.bucket_at c.args.store.now c.in-Within.id ≡ Some x.0 = found_bucket c.args.store.now c.in-Within.id n.0 x.0 n.1.1 x.1 in
+    let s = within_here c.args.store.now c.args.instance.now c.args.call.now c.args.c c.requires.held c.requires.stands c.bucket.result c.bucket.ensures in
     let r = seen_over (lists c.args.store.now) (next_name c.args.store.now) around c.args.instance.now c.args.call.now in
-    let y : NamedBucket = named_item (item_in (calls_in around c.args.call.now) (c.in-Within.id, x.0)) in
-    let name = name_there (brigade_of c.args.store.now) (lists c.args.store.now) (next_name c.args.store.now) n.0 c.in-Within.id (kept c.args.store.now) n.1.1 in
-    let given = given_in (brigade_of c.args.store.now) (lists c.args.store.now) (next_name c.args.store.now) c.in-Within.id (kept c.args.store.now) name n.0 in
-    let at : spot r c.args.c ≡ Within c.in-Within.field-0 y = stands_within (lists c.args.store.now) (next_name c.args.store.now) around c.args.instance.now c.args.call.now c.args.c c.in-Within.id x.0 c.in-Within.field-0 n.0 given (c.in-Within.ensures.at (next_name c.args.store.now) around) n.1.0 x.1 in
+    let y : NamedBucket = named_item (item_in (calls_in around c.args.call.now) (c.bucket.result, s.bucket)) in
     seen_same (lists c.args.store.now) (next_name c.args.store.now) around c.args.instance.now c.args.call.now (lists c.split.new.self) (next_name c.split.new.self) c.in-Err-TooLong.ensures.next c.in-Err-TooLong.ensures.err
-    ∙ (not_split c.args.n c.in-Within.field-0 y r (let both = err_long c.in-Err-TooLong.field-0 refusal.TooLong (is_data_kind x.0.kind) (length_of x.0.content) c.args.n (c.in-Err-TooLong.ensures.too_long x.0 is) c.in-Err-TooLong.field-0-is in refused_long c.args.n y both.0 both.1) ∙ ap (λ (s : Place). do_split c.args.n s r) (sym at))
+    ∙ (not_split c.args.n s.variable y r (let both = err_long c.in-Err-TooLong.field-0 refusal.TooLong (is_data_kind s.bucket.kind) (length_of s.bucket.content) c.args.n (c.in-Err-TooLong.ensures.too_long s.bucket s.here) c.in-Err-TooLong.field-0-is in refused_long c.args.n y both.0 both.1) ∙ ap (λ (s : Place). do_split c.args.n s r) (sym (s.at around)))
 
 pub returns-in-Err-TooLong-clause-held : goal.returns-in-Err-TooLong-clause-held
 returns-in-Err-TooLong-clause-held g c =
@@ -108,11 +98,9 @@ returns-in-Err-NamesSpent-clause-held g c =
 
 pub returns-in-Ok-clause-left : goal.returns-in-Ok-clause-left
 returns-in-Ok-clause-left g c =
-    let n = c.in-Within.ensures.inside.1 in
-    let x = found_some c.in-Within.id (list_at (lists c.args.store.now) n.0) (found_in c.args.store.now c.in-Within.id n.0 n.1.1) in
-    let is : store.bucket_at c.args.store.now c.in-Within.id ≡ Some x.0 = found_bucket c.args.store.now c.in-Within.id n.0 x.0 n.1.1 x.1 in
+    let s = within_here c.args.store.now c.args.instance.now c.args.call.now c.args.c c.requires.held c.requires.stands c.bucket.result c.bucket.ensures in
     let rises : next_name c.args.store.now ≤ next_name c.split.new.self = let e = c.in-Ok.ensures.next in omega (arith, e) in
-    left_on c.args.store.now c.split.new.self rises c.split.ensures.names c.split.ensures.pools c.split.ensures.references n.0 (replaced c.in-Within.id (split_at c.args.n x.0).0 ((c.in-Ok.field-0, (split_at c.args.n x.0).1) ∷ [])) (λ m. c.in-Ok.ensures.ok n.0 m x.0 n.1.1 is) c.args.instance.now c.args.call.now (ours_slot c.args.instance.now c.args.call.now c.in-Within.field-0 n.0 n.1.0)
+    left_on c.args.store.now c.split.new.self rises c.split.ensures.names c.split.ensures.pools c.split.ensures.references s.ring (replaced c.bucket.result (split_at c.args.n s.bucket).0 ((c.in-Ok.field-0, (split_at c.args.n s.bucket).1) ∷ [])) (λ m. c.in-Ok.ensures.ok s.ring m s.bucket s.inside s.here) c.args.instance.now c.args.call.now (ours_slot c.args.instance.now c.args.call.now s.variable s.ring s.named)
 
 pub returns-in-Err-Metadata-clause-left : goal.returns-in-Err-Metadata-clause-left
 returns-in-Err-Metadata-clause-left g c = left_same c.args.store.now c.split.new.self (no_less (next_name c.args.store.now) (next_name c.split.new.self) c.in-Err-Metadata.ensures.next) c.split.ensures.names c.split.ensures.pools c.split.ensures.references c.in-Err-Metadata.ensures.err c.args.instance.now c.args.call.now
@@ -128,34 +116,24 @@ returns-in-Err-NamesSpent-clause-left g c = left_same c.args.store.now c.split.n
 
 pub returns-in-Err-NoMemory-clause-sure : goal.returns-in-Err-NoMemory-clause-sure
 returns-in-Err-NoMemory-clause-sure g c around none =
-    let n = c.in-Within.ensures.inside.1 in
-    let x = found_some c.in-Within.id (list_at (lists c.args.store.now) n.0) (found_in c.args.store.now c.in-Within.id n.0 n.1.1) in
-    let is : store.bucket_at c.args.store.now c.in-Within.id ≡ Some x.0 = found_bucket c.args.store.now c.in-Within.id n.0 x.0 n.1.1 x.1 in
+    let s = within_here c.args.store.now c.args.instance.now c.args.call.now c.args.c c.requires.held c.requires.stands c.bucket.result c.bucket.ensures in
     let r = seen_over (lists c.args.store.now) (next_name c.args.store.now) around c.args.instance.now c.args.call.now in
-    let y : NamedBucket = named_item (item_in (calls_in around c.args.call.now) (c.in-Within.id, x.0)) in
-    let name = name_there (brigade_of c.args.store.now) (lists c.args.store.now) (next_name c.args.store.now) n.0 c.in-Within.id (kept c.args.store.now) n.1.1 in
-    let given = given_in (brigade_of c.args.store.now) (lists c.args.store.now) (next_name c.args.store.now) c.in-Within.id (kept c.args.store.now) name n.0 in
-    let at : spot r c.args.c ≡ Within c.in-Within.field-0 y = stands_within (lists c.args.store.now) (next_name c.args.store.now) around c.args.instance.now c.args.call.now c.args.c c.in-Within.id x.0 c.in-Within.field-0 n.0 given (c.in-Within.ensures.at (next_name c.args.store.now) around) n.1.0 x.1 in
-    let refused : is_some (split_refusal c.args.n y) ≡ true = uncut _ (sym (ap (names_to_split c.args.n) at) ∙ none) in
+    let y : NamedBucket = named_item (item_in (calls_in around c.args.call.now) (c.bucket.result, s.bucket)) in
+    let refused : is_some (split_refusal c.args.n y) ≡ true = uncut _ (sym (ap (names_to_split c.args.n) (s.at around)) ∙ none) in
     let other : c.in-Err-NoMemory.field-0 ≡ refusal.NoMemory = c.in-Err-NoMemory.field-0-is in
     elim (refused_why c.args.n y refused) [
-      | inl meta ↦ absurd (let told : c.in-Err-NoMemory.field-0 ≡ refusal.Metadata = same_err _ _ (sym c.in-Err-NoMemory.is ∙ (c.split.ensures.metadata x.0 is).1 meta) in cc)
-      | inr long ↦ absurd (let told : c.in-Err-NoMemory.field-0 ≡ refusal.TooLong = same_err _ _ (sym c.in-Err-NoMemory.is ∙ (c.split.ensures.too_long x.0 is).1 long) in cc)
+      | inl meta ↦ absurd (let told : c.in-Err-NoMemory.field-0 ≡ refusal.Metadata = same_err _ _ (sym c.in-Err-NoMemory.is ∙ (c.split.ensures.metadata s.bucket s.here).1 meta) in cc)
+      | inr long ↦ absurd (let told : c.in-Err-NoMemory.field-0 ≡ refusal.TooLong = same_err _ _ (sym c.in-Err-NoMemory.is ∙ (c.split.ensures.too_long s.bucket s.here).1 long) in cc)
     ]
 
 pub returns-in-Err-NamesSpent-clause-sure : goal.returns-in-Err-NamesSpent-clause-sure
 returns-in-Err-NamesSpent-clause-sure g c around none =
-    let n = c.in-Within.ensures.inside.1 in
-    let x = found_some c.in-Within.id (list_at (lists c.args.store.now) n.0) (found_in c.args.store.now c.in-Within.id n.0 n.1.1) in
-    let is : store.bucket_at c.args.store.now c.in-Within.id ≡ Some x.0 = found_bucket c.args.store.now c.in-Within.id n.0 x.0 n.1.1 x.1 in
+    let s = within_here c.args.store.now c.args.instance.now c.args.call.now c.args.c c.requires.held c.requires.stands c.bucket.result c.bucket.ensures in
     let r = seen_over (lists c.args.store.now) (next_name c.args.store.now) around c.args.instance.now c.args.call.now in
-    let y : NamedBucket = named_item (item_in (calls_in around c.args.call.now) (c.in-Within.id, x.0)) in
-    let name = name_there (brigade_of c.args.store.now) (lists c.args.store.now) (next_name c.args.store.now) n.0 c.in-Within.id (kept c.args.store.now) n.1.1 in
-    let given = given_in (brigade_of c.args.store.now) (lists c.args.store.now) (next_name c.args.store.now) c.in-Within.id (kept c.args.store.now) name n.0 in
-    let at : spot r c.args.c ≡ Within c.in-Within.field-0 y = stands_within (lists c.args.store.now) (next_name c.args.store.now) around c.args.instance.now c.args.call.now c.args.c c.in-Within.id x.0 c.in-Within.field-0 n.0 given (c.in-Within.ensures.at (next_name c.args.store.now) around) n.1.0 x.1 in
-    let refused : is_some (split_refusal c.args.n y) ≡ true = uncut _ (sym (ap (names_to_split c.args.n) at) ∙ none) in
+    let y : NamedBucket = named_item (item_in (calls_in around c.args.call.now) (c.bucket.result, s.bucket)) in
+    let refused : is_some (split_refusal c.args.n y) ≡ true = uncut _ (sym (ap (names_to_split c.args.n) (s.at around)) ∙ none) in
     let other : c.in-Err-NamesSpent.field-0 ≡ refusal.NamesSpent = c.in-Err-NamesSpent.field-0-is in
     elim (refused_why c.args.n y refused) [
-      | inl meta ↦ absurd (let told : c.in-Err-NamesSpent.field-0 ≡ refusal.Metadata = same_err _ _ (sym c.in-Err-NamesSpent.is ∙ (c.split.ensures.metadata x.0 is).1 meta) in cc)
-      | inr long ↦ absurd (let told : c.in-Err-NamesSpent.field-0 ≡ refusal.TooLong = same_err _ _ (sym c.in-Err-NamesSpent.is ∙ (c.split.ensures.too_long x.0 is).1 long) in cc)
+      | inl meta ↦ absurd (let told : c.in-Err-NamesSpent.field-0 ≡ refusal.Metadata = same_err _ _ (sym c.in-Err-NamesSpent.is ∙ (c.split.ensures.metadata s.bucket s.here).1 meta) in cc)
+      | inr long ↦ absurd (let told : c.in-Err-NamesSpent.field-0 ≡ refusal.TooLong = same_err _ _ (sym c.in-Err-NamesSpent.is ∙ (c.split.ensures.too_long s.bucket s.here).1 long) in cc)
     ]

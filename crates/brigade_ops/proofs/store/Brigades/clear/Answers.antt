@@ -35,7 +35,7 @@ returns-clause-out g c n =
     let gone : Emptied pool ps (map_of c.clear.new.self) = subst (Emptied pool ps) (sym c.in_ok-ran.ensures.ok) (cleared_emptied pool ps) in
     let ran : c.as_slice.result.now ≡ run_order ps pool = c.as_slice.ensures.value ∙ c.in_ok-ran.ensures.ran in
     lists_left pool ps (map_of c.clear.new.self) (tree_formed c.args.tree.now) c.requires.live gone (lists store) (pool_of store) (references store) c.requires.house c.as_slice.result.now ran
-    n (is_in n c.args.rings.now) c.in_ok-morphs.morphs.found (lists c.run_down.new.self n) (c.run_down.ensures.out n) (c.in_ok-morphs.ensures n)
+    n (is_in n c.args.rings.now) c.in_ok-morphs.morphs.found (lists c.run_down.new.self n) (c.run_down.ensures.out n) (c.in_ok-morphs.ensures.made n)
 
 pub returns-clause-off : goal.returns-clause-off
 returns-clause-off g c n =
@@ -68,7 +68,10 @@ returns-clause-house g c =
     house_left pool ps (map_of c.clear.new.self) (tree_formed c.args.tree.now) c.requires.live gone (lists store) (pool_of store) (references store) c.requires.house c.as_slice.result.now ran
     (lists after) (pool_of after) (references after) (λ n. is_in n c.args.rings.now)
     (λ n. lists_left pool ps (map_of c.clear.new.self) (tree_formed c.args.tree.now) c.requires.live gone (lists store) (pool_of store) (references store) c.requires.house c.as_slice.result.now ran
-    n (is_in n c.args.rings.now) c.in_ok-morphs.morphs.found (lists after n) (c.run_down.ensures.out n) (c.in_ok-morphs.ensures n))
+    n (is_in n c.args.rings.now) c.in_ok-morphs.morphs.found (lists after n) (c.run_down.ensures.out n) (c.in_ok-morphs.ensures.made n))
     (λ n. pools_left pool ps (map_of c.clear.new.self) (tree_formed c.args.tree.now) c.requires.live gone (lists store) (pool_of store) (references store) c.requires.house c.as_slice.result.now ran
     n (pool_of after n) (c.run_down.ensures.off n))
     c.run_down.ensures.counted
+
+pub returns-clause-freed : goal.returns-clause-freed
+returns-clause-freed g c p is = c.run_down.ensures.freed p (c.in_ok-morphs.ensures.reached p is)

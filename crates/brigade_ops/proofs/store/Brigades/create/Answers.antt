@@ -14,6 +14,7 @@ use Rattle.brigade_ops.specs.Store.{lists, pool_of, next_name, references}
 use Rattle.brigade_ops.proofs.Housed.{house_stays, house_made}
 use Rattle.brigade_ops.proofs.Stores.{brigades}
 use Rattle.brigade_ops.proofs.Undone.{killed_again, live_registered}
+use Rattle.brigade_ops.specs.Shelf.{seen}
 use Rattle.brigade_ops.proofs.store.Brigades.create.Goals as goal
 
 pub kill-killed-requires : goal.kill-killed-requires
@@ -37,8 +38,8 @@ returns-in-Ok-new_ring-clause-house g c house =
     let ps = map_of c.args.tree.now in
     let name : b ≡ next_name store = c.in-Ok-new_ring.ensures.name in
     let same : c.next_name-name.result ≡ b = c.next_name-name.ensures ∙ sym name in
-    subst (AreHoused (g.R.Rings.lists c.new_ring.new.self.rings) (number_at c.put.new.self) (references store)) (sym (c.in-Ok.ensures.ok ∙ ap (λ (n : ℕ). registered pool (Brigade n) ps) same))
-    (house_made (lists store) (pool_of store) (references store) ps house (g.R.Rings.lists c.new_ring.new.self.rings) (number_at c.put.new.self) (references store) pool b (tree_formed c.args.tree.now) c.requires
+    subst (AreHoused (seen c.new_ring.new.self) (number_at c.put.new.self) (references store)) (sym (c.in-Ok.ensures.ok ∙ ap (λ (n : ℕ). registered pool (Brigade n) ps) same))
+    (house_made (lists store) (pool_of store) (references store) ps house (seen c.new_ring.new.self) (number_at c.put.new.self) (references store) pool b (tree_formed c.args.tree.now) c.requires
     (λ there. let young = brigades store b there in absurd (omega (arith, young, name)))
     c.in-Ok-new_ring.ensures.ok
     (λ n. c.put.ensures n ∙ ap (λ (o : Option ℕ). cond (n == b) (Some pool) o) (c.in_ok-reserve.ensures.same n))
@@ -48,8 +49,8 @@ pub returns-in-Err-clause-house : goal.returns-in-Err-clause-house
 unfolding lists pool_of references
 returns-in-Err-clause-house g c house =
     let store = c.args.self.now in
-    subst (AreHoused (g.R.Rings.lists c.new_ring.new.self.rings) (number_at c.reserve.new.self) (references store)) (sym (returns-in-Err-clause-kept g c))
-    (house_stays (lists store) (pool_of store) (references store) (map_of c.args.tree.now) house (g.R.Rings.lists c.new_ring.new.self.rings) (number_at c.reserve.new.self) (references store)
+    subst (AreHoused (seen c.new_ring.new.self) (number_at c.reserve.new.self) (references store)) (sym (returns-in-Err-clause-kept g c))
+    (house_stays (lists store) (pool_of store) (references store) (map_of c.args.tree.now) house (seen c.new_ring.new.self) (number_at c.reserve.new.self) (references store)
     (λ n p at some. ap is_some (c.in-Err.ensures.err n) ∙ some)
     c.in_ok-reserve.ensures.same
     (λ f. refl))

@@ -1,11 +1,15 @@
 use Rattle.std.proofs.Common.{◌≡◌, ◌++◌, ◌&&◌, ◌||◌, ℕ, Bool, List, true, filter, take, get_or, refl, sym, ap, ◌∙◌, inl, inr}
 use Rattle.std.proofs.lemmas.Bool.{and_parts, false≢true}
 use Rattle.std.proofs.lemmas.List.{take_more, take_all}
-use Rattle.run_model.specs.Pools.{is_under, is_in}
-use Rattle.pool_tree.specs.Tree.{map_of}
+use Rattle.run_model.specs.Pools.{is_in}
 use Rattle.bucket_ring.specs.declared.names.BucketId.{BucketId}
 use Rattle.brigade_ops.specs.Dependents.{names_of, noted}
-use Rattle.brigade_ops.specs.Due.{is_due}
+use Rattle.run_model.specs.declared.bucket.Bucket.{Bucket}
+use Rattle.bucket_kinds.specs.Stored.{shown}
+use Rattle.brigade_ops.specs.Due.{depends, is_due, is_reached}
+use Rattle.brigade_ops.specs.Regions.{look}
+use Rattle.brigade_ops.specs.Shelf.{seen}
+use Rattle.brigade_ops.proofs.Shown.{found_stored}
 use Rattle.brigade_ops.specs.Morphs.{is_named}
 use Rattle.brigade_ops.specs.Store.{lists, brigade_of, bucket_at}
 use Rattle.brigade_ops.proofs.DueBuckets.{named_filtered, named_joined, either_named, first_named, second_named, in_pushed, due_parts, under_one}
@@ -23,12 +27,12 @@ loop-name-init g c = record {
 pub loop-name-preserved : goal.loop-name-preserved
 loop-name-preserved g c =
     let store = c.args.self.now in
-    let reached = is_under (map_of c.args.tree.now) c.args.pool in
-    let pools = c.args.pools.now in
+    let reached = is_reached c.args.reached.now in
+    let pools = c.deref-name-items.result.now in
     let i = c.loop-name.name-index in
     let test : BucketId → Bool = λ id. is_due reached c.args.rings.now (brigade_of store id) (bucket_at store id) in
     let names = c.loop-name.names in
-    let more = names_of store.held.dependents (get_or pools i 0) in
+    let more = names_of store.held.rings.dependents (get_or pools i 0) in
     let grown : ((id : BucketId) → is_named id c.push_due.new.found ≡ (is_named id names || (test id && is_named id more))) = λ id. (
     ap (is_named id) (c.in_ok-push_due.ensures ∙ ap (λ (ns : List BucketId). names ++ filter test ns) c.names-noted.ensures)
     ∙ (named_joined id names (filter test more) ∙ ap (λ (b : Bool). is_named id names || b) (named_filtered test id more))) in
@@ -39,7 +43,7 @@ loop-name-preserved g c =
       ];
       all = λ p id is named due. grown id ∙ (elim (in_pushed p (get_or pools i 0) (take i pools) (ap (is_in p) (sym (take_more pools i 0 c.loop-name-test.true)) ∙ is)) [
         | inl old ↦ first_named (is_named id names) (test id && is_named id more) (c.loop-name.invariant.all p id old named due)
-        | inr here ↦ second_named (is_named id names) (test id && is_named id more) (rw (due, ap (λ (q : ℕ). is_named id (names_of store.held.dependents q)) here ∙ named) refl)
+        | inr here ↦ second_named (is_named id names) (test id && is_named id more) (rw (due, ap (λ (q : ℕ). is_named id (names_of store.held.rings.dependents q)) here ∙ named) refl)
       ]);
     }
 
@@ -47,15 +51,19 @@ pub returns-clause-told : goal.returns-clause-told
 returns-clause-told g c = c.loop-name.invariant.told
 
 pub returns-clause-all : goal.returns-clause-all
-unfolding noted lists
+unfolding noted lists seen
 returns-clause-all g c id due =
     let store = c.args.self.now in
-    let reached = is_under (map_of c.args.tree.now) c.args.pool in
-    let pools = c.args.pools.now in
+    let reached = is_reached c.args.reached.now in
+    let pools = c.deref-name-items.result.now in
     let parts = due_parts reached c.args.rings.now (brigade_of store id) (bucket_at store id) due in
     let b = parts.0 in
     let x = parts.1 in
     let here = bucket_found store id b x parts.2 parts.3 in
-    let is = under_one reached (noted store.held.dependents) id x (all_found (is_noted (noted store.held.dependents)) id x _ (store.held.indexed b) here) parts.4 in
-    let named : is_named id (names_of store.held.dependents is.0) ≡ true = ap (λ (l : Bool). l || is_named id (names_of store.held.dependents is.0)) (sym c.requires.noted) ∙ is.2 in
-    c.loop-name.invariant.all is.0 id (ap (is_in is.0) (take_all c.loop-name.name-index pools c.loop-name-test.false) ∙ c.requires.reached is.0 is.1) named due
+    let see = look store.held.regions in
+    let old = g.R.Rings.lists store.held.rings.rings in
+    let y = found_stored see old old b id x here in
+    let on_one : depends reached (shown see y.0) ≡ true = ap (λ (z : Bucket). depends reached z) y.2 ∙ parts.4 in
+    let is = under_one reached (noted store.held.rings.dependents) id y.0 (all_found (is_noted (noted store.held.rings.dependents)) id y.0 _ (store.held.rings.indexed b) y.1) on_one in
+    let named : is_named id (names_of store.held.rings.dependents is.0) ≡ true = ap (λ (l : Bool). l || is_named id (names_of store.held.rings.dependents is.0)) (sym c.requires) ∙ is.2 in
+    c.loop-name.invariant.all is.0 id (ap (is_in is.0) (take_all c.loop-name.name-index pools c.loop-name-test.false ∙ c.deref-name-items.ensures.value) ∙ is.1) named due

@@ -1,17 +1,16 @@
 -- What the pools so far gave.
 use Rattle.std.proofs.Common.{◌≡◌, ℕ, true, take}
-use Rattle.run_model.specs.Pools.{is_under, is_in}
-use Rattle.pool_tree.specs.Tree.{map_of}
+use Rattle.run_model.specs.Pools.{is_in}
 use Rattle.bucket_ring.specs.declared.names.BucketId.{BucketId}
 use Rattle.brigade_ops.specs.Dependents.{names_of}
-use Rattle.brigade_ops.specs.Due.{is_due}
+use Rattle.brigade_ops.specs.Due.{is_due, is_reached}
 use Rattle.brigade_ops.specs.Morphs.{is_named}
 use Rattle.brigade_ops.specs.Store.{brigade_of, bucket_at}
 use Rattle.brigade_ops.proofs.store.Brigades.due_names.Given as goal
 
 abbrev pub invariant-loop-name : goal.invariant-loop-name
 invariant-loop-name g l = record {
-  told : (id : BucketId) → is_named id l.names ≡ true → is_due (is_under (map_of l.tree) l.pool) l.rings (brigade_of l.self id) (bucket_at l.self id) ≡ true;
-  all : (p : ℕ) (id : BucketId) → is_in p (take l.name-index l.pools) ≡ true → is_named id (names_of l.self.held.dependents p) ≡ true
-      → is_due (is_under (map_of l.tree) l.pool) l.rings (brigade_of l.self id) (bucket_at l.self id) ≡ true → is_named id l.names ≡ true;
+  told : (id : BucketId) → is_named id l.names ≡ true → is_due (is_reached l.reached) l.rings (brigade_of l.self id) (bucket_at l.self id) ≡ true;
+  all : (p : ℕ) (id : BucketId) → is_in p (take l.name-index l.name-items) ≡ true → is_named id (names_of l.self.held.rings.dependents p) ≡ true
+      → is_due (is_reached l.reached) l.rings (brigade_of l.self id) (bucket_at l.self id) ≡ true → is_named id l.names ≡ true;
 }

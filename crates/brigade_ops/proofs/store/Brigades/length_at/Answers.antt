@@ -6,29 +6,30 @@ use Rattle.brigade_ops.specs.Items.{named}
 use Rattle.brigade_ops.specs.Store.{lists, brigade_of, bucket_at}
 use Rattle.brigade_ops.proofs.Lists.{and_then_told, rest_head}
 use Rattle.brigade_ops.proofs.Walks.{length_head, count_head}
+use Rattle.brigade_ops.specs.Shelf.{seen}
 use Rattle.brigade_ops.proofs.store.Brigades.length_at.Goals as goal
 
 pub returns-clause-one : goal.returns-clause-one
 unfolding lists brigade_of bucket_at
 returns-clause-one g c b at =
-    let s = c.args.self.now.held.rings in
-    let xs = list_at (g.R.Rings.lists s) b in
+    let s = c.args.self.now.held in
+    let xs = list_at (seen s) b in
     let x = bucket_of c.payload-bucket.result in
-    rw add-one (count_head c.args.id xs x (and_then_told (g.R.Rings.ring_at s c.args.id) (λ q. found c.args.id (list_at (g.R.Rings.lists s) q)) b x at c.payload-bucket.ensures))
+    rw add-one (count_head c.args.id xs x (and_then_told (g.R.Rings.ring_at s.rings.rings c.args.id) (λ q. found c.args.id (list_at (seen s) q)) b x at c.payload-bucket.ensures))
 
 pub returns-clause-sum : goal.returns-clause-sum
 unfolding lists brigade_of bucket_at
 returns-clause-sum g c b at =
-    let s = c.args.self.now.held.rings in
-    let xs = list_at (g.R.Rings.lists s) b in
+    let s = c.args.self.now.held in
+    let xs = list_at (seen s) b in
     let x = bucket_of c.payload-bucket.result in
-    length_head c.args.id xs x (and_then_told (g.R.Rings.ring_at s c.args.id) (λ q. found c.args.id (list_at (g.R.Rings.lists s) q)) b x at c.payload-bucket.ensures)
+    length_head c.args.id xs x (and_then_told (g.R.Rings.ring_at s.rings.rings c.args.id) (λ q. found c.args.id (list_at (seen s) q)) b x at c.payload-bucket.ensures)
     ∙ ap (λ n. n + length_in (named (drop 1 (rest c.args.id xs)))) (sym c.len.ensures)
 
 pub returns-clause-head : goal.returns-clause-head
 unfolding lists brigade_of bucket_at
 returns-clause-head g c b at =
-    let s = c.args.self.now.held.rings in
-    let xs = list_at (g.R.Rings.lists s) b in
+    let s = c.args.self.now.held in
+    let xs = list_at (seen s) b in
     let x = bucket_of c.payload-bucket.result in
-    (x, rest_head c.args.id xs x (and_then_told (g.R.Rings.ring_at s c.args.id) (λ q. found c.args.id (list_at (g.R.Rings.lists s) q)) b x at c.payload-bucket.ensures), c.len.ensures)
+    (x, rest_head c.args.id xs x (and_then_told (g.R.Rings.ring_at s.rings.rings c.args.id) (λ q. found c.args.id (list_at (seen s) q)) b x at c.payload-bucket.ensures), c.len.ensures)

@@ -1,9 +1,9 @@
 use Rattle.std.proofs.Common.{◌≡◌, ◌≢◌, ◌+◌, ℕ, true, false, cond, Some, is_some, List, take, get_or, sym, ap, ◌∙◌}
 use Rattle.std.proofs.lemmas.List.{take_more, take_all}
 use Rattle.run_model.specs.declared.bucket.Bucket.{Bucket}
-use Rattle.run_model.specs.Pools.{is_under, is_in}
-use Rattle.pool_tree.specs.Tree.{map_of}
+use Rattle.run_model.specs.Pools.{is_in}
 use Rattle.brigade_ops.specs.declared.morphs.Morph.{Morph}
+use Rattle.brigade_ops.specs.Due.{is_reached}
 use Rattle.brigade_ops.specs.Morphs.{morphed, cleared_as}
 use Rattle.brigade_ops.specs.Store.{lists, brigade_of}
 use Rattle.brigade_ops.proofs.Cleared.{morphed_none}
@@ -19,7 +19,7 @@ loop-ring-init g c id b x at is = ap (λ (ms : List Morph). morphed ms id x) c.n
 pub plan_ring-requires-clause-begun : goal.plan_ring-requires-clause-begun
 plan_ring-requires-clause-begun g c id x there =
     let at = bucket_in c.args.self.now id x there in
-    as_it_was (is_under (map_of c.args.tree.now) c.args.pool) c.loop-ring.found id x (is_in at.0 (take c.loop-ring.ring-index c.args.rings.now)) (c.loop-ring.invariant id at.0 x at.1 there)
+    as_it_was (is_reached c.args.reached.now) c.loop-ring.found id x (is_in at.0 (take c.loop-ring.ring-index c.args.rings.now)) (c.loop-ring.invariant id at.0 x at.1 there)
 
 pub loop-ring-preserved : goal.loop-ring-preserved
 loop-ring-preserved g c id b x at there =
@@ -27,7 +27,7 @@ loop-ring-preserved g c id b x at there =
     let rings = c.args.rings.now in
     let i = c.loop-ring.ring-index in
     let ring : ℕ = get_or rings i 0 in
-    let done : Bucket = cleared_as (is_under (map_of c.args.tree.now) c.args.pool) x in
+    let done : Bucket = cleared_as (is_reached c.args.reached.now) x in
     let old = c.loop-ring.invariant id b x at there in
     let step : (ring ≡ b → morphed c.if-has.found id x ≡ done) → (ring ≢ b → morphed c.if-has.found id x ≡ morphed c.loop-ring.found id x) → morphed c.if-has.found id x ≡ cond (is_in b (take (i + 1) rings)) done x
     = λ here other. (ring_step b ring (take i rings) (morphed c.if-has.found id x) (morphed c.loop-ring.found id x) done x old here other
@@ -47,7 +47,7 @@ pub returns : goal.returns
 returns g c n =
     let store = c.args.self.now in
     let rings = c.args.rings.now in
-    let reached = is_under (map_of c.args.tree.now) c.args.pool in
+    let reached = is_reached c.args.reached.now in
     ring_made reached c.loop-ring.found (is_in n rings) (lists store n)
     (λ i. once_listed n (brigade_of store i) _ (counted store i n))
     (λ id x is. let at = in_found store id n (ap is_some is) in

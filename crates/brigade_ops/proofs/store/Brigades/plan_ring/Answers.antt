@@ -1,28 +1,53 @@
-use Rattle.std.proofs.Common.{◌≡◌, true, false, Option, Some, List, ◌++◌, [], sym, ap, ◌∙◌, inl, inr}
+use Rattle.std.proofs.Common.{◌≡◌, true, false, Option, Some, List, ◌++◌, [], refl, sym, ap, ◌∙◌, arith, inl, inr}
 use Rattle.std.specs.List.{cons_option}
 use Rattle.std.proofs.lemmas.Bool.{cases_Bool}
 use Rattle.run_model.specs.declared.bucket.Bucket.{Bucket}
-use Rattle.run_model.specs.Pools.{is_under}
-use Rattle.pool_tree.specs.Tree.{map_of}
 use Rattle.bucket_ring.specs.declared.names.BucketId.{BucketId}
 use Rattle.bucket_ring.specs.Lists.{list_at, times, same}
-use Rattle.bucket_ring.specs.Laws.{same_name}
+use Rattle.bucket_ring.specs.Kept.{once_in}
+use Rattle.bucket_ring.specs.Laws.{once_here, same_name}
 use Rattle.brigade_ops.specs.declared.morphs.Morph.{Morph}
 use Rattle.brigade_ops.specs.Items.{Items, from_place}
+use Rattle.brigade_ops.specs.Due.{is_reached}
 use Rattle.brigade_ops.specs.Morphs.{morphed, cleared_as}
 use Rattle.brigade_ops.specs.Store.{lists, brigade_of, bucket_at}
 use Rattle.brigade_ops.proofs.Plans.{other_kept, this_ready, later_times}
 use Rattle.brigade_ops.proofs.Saves.{found_some}
-use Rattle.brigade_ops.proofs.Stores.{found_in, found_bucket}
-use Rattle.brigade_ops.proofs.Walks.{if_some, told_some}
+use Rattle.brigade_ops.proofs.Stores.{counted, found_in, found_bucket}
+use Rattle.brigade_ops.proofs.Walks.{if_some, told_some, fewer_behind}
 use Rattle.brigade_ops.proofs.store.Brigades.plan_ring.Goals as goal
+
+pub loop-place-init : goal.loop-place-init
+loop-place-init g c =
+    let store = c.args.self.now in
+    let b = c.args.b in
+    let xs : Items = list_at (lists store) b in
+    record {
+      ready = λ id x at there none.
+          (let here = once_here b in
+          let never : once_in b (Some b) ≡ 0 = ap (once_in b) (sym at) ∙ (sym (counted store id b) ∙ (ap (λ (ys : Items). times id ys) (sym c.start-place.ensures.whole) ∙ none)) in
+          absurd (omega (arith, never, here)));
+      begun = c.requires.begun;
+      others = λ id q x at ne. refl;
+      inside = told_some (λ j. brigade_of store j ≡ Some b) c.start-place.result c.start-place.ensures.inside;
+    }
+
+pub loop-place-smaller : goal.loop-place-smaller
+loop-place-smaller g c =
+    let store = c.args.self.now in
+    let b = c.args.b in
+    let id = c.in-Some.id in
+    let xs : Items = list_at (lists store) b in
+    let inside : brigade_of store id ≡ Some b = c.loop-place.invariant.inside id c.in-Some.is in
+    let x = found_some id xs (found_in store id b inside) in
+    fewer_behind id c.loop-place.place c.behind-place.result xs x.0 x.1 c.in-Some.is (c.behind-place.ensures.others b inside)
 
 pub loop-place-preserved : goal.loop-place-preserved
 loop-place-preserved g c =
     let store = c.args.self.now in
     let b = c.args.b in
     let name = c.in-Some.id in
-    let reached = is_under (map_of c.args.tree.now) c.args.pool in
+    let reached = is_reached c.args.reached.now in
     let ready = c.loop-place.found in
     let r = c.morph_for-morph.result in
     let xs : Items = list_at (lists store) b in

@@ -11,40 +11,41 @@ use Rattle.brigade_ops.specs.Store.{lists, brigade_of, bucket_at, next_name}
 use Rattle.brigade_ops.proofs.Lists.{and_then_told, found_set, list_on, on_after, on_same}
 use Rattle.brigade_ops.proofs.Walks.{told_some}
 use Rattle.brigade_ops.proofs.Saves.{aside_step, fewer_left, none_left}
+use Rattle.brigade_ops.specs.Shelf.{seen}
+use Rattle.brigade_ops.proofs.Shelves.{found_in, in_found, ring_there}
 use Rattle.brigade_ops.proofs.store.Brigades.put_all_aside.Goals as goal
 use Rattle.brigade_ops.proofs.store.Brigades.put_all_aside.Goals.{After-put_aside}
 
-inside : (g : _) (c : After-put_aside g) → g.R.Rings.ring_at c.loop-place.self.held.rings c.in-Some.id ≡ Some c.args.b
+inside : (g : _) (c : After-put_aside g) → g.R.Rings.ring_at c.loop-place.self.held.rings.rings c.in-Some.id ≡ Some c.args.b
 unfolding brigade_of
 inside g c = c.loop-place.invariant.inside c.in-Some.id c.in-Some.is
 
-here : (g : _) (c : After-put_aside g) → found c.in-Some.id (list_at (g.R.Rings.lists c.loop-place.self.held.rings) c.args.b) ≡ Some (bucket_of c.payload.result)
+here : (g : _) (c : After-put_aside g) → found c.in-Some.id (list_at (seen c.loop-place.self.held) c.args.b) ≡ Some (bucket_of c.payload.result)
 unfolding bucket_at
 here g c =
-    let s = c.loop-place.self.held.rings in
-    and_then_told (g.R.Rings.ring_at s c.in-Some.id) (λ q. found c.in-Some.id (list_at (g.R.Rings.lists s) q)) c.args.b (bucket_of c.payload.result) (inside g c) c.payload.ensures
+    let s = c.loop-place.self.held in
+    and_then_told (g.R.Rings.ring_at s.rings.rings c.in-Some.id) (λ q. found c.in-Some.id (list_at (seen s) q)) c.args.b (bucket_of c.payload.result) (inside g c) c.payload.ensures
 
 change : (g : _) (c : After-put_aside g) (n : ℕ)
-    → g.R.Rings.lists c.put_aside.new.self.held.rings n ≡ on c.args.b (with_payload c.in-Some.id (set_aside c.args.pool (is_above (map_of c.args.tree.now) c.args.pool (bucket_of c.payload.result).home) (bucket_of c.payload.result))) (g.R.Rings.lists c.loop-place.self.held.rings) n
+    → seen c.put_aside.new.self.held n ≡ on c.args.b (with_payload c.in-Some.id (set_aside c.args.pool (is_above (map_of c.args.tree.now) c.args.pool (bucket_of c.payload.result).home) (bucket_of c.payload.result))) (seen c.loop-place.self.held) n
 unfolding lists brigade_of
 change g c n =
     c.put_aside.ensures.out c.args.b n (bucket_of c.payload.result) (inside g c) c.payload.ensures
-    ∙ ap (λ above. on c.args.b (with_payload c.in-Some.id (set_aside c.args.pool above (bucket_of c.payload.result))) (g.R.Rings.lists c.loop-place.self.held.rings) n) c.is_above-above.ensures
+    ∙ ap (λ above. on c.args.b (with_payload c.in-Some.id (set_aside c.args.pool above (bucket_of c.payload.result))) (seen c.loop-place.self.held) n) c.is_above-above.ensures
 
 list : (g : _) (c : After-put_aside g)
-    → list_at (g.R.Rings.lists c.put_aside.new.self.held.rings) c.args.b
-    ≡ with_payload c.in-Some.id (set_aside c.args.pool (is_above (map_of c.args.tree.now) c.args.pool (bucket_of c.payload.result).home) (bucket_of c.payload.result)) (list_at (g.R.Rings.lists c.loop-place.self.held.rings) c.args.b)
+    → list_at (seen c.put_aside.new.self.held) c.args.b
+    ≡ with_payload c.in-Some.id (set_aside c.args.pool (is_above (map_of c.args.tree.now) c.args.pool (bucket_of c.payload.result).home) (bucket_of c.payload.result)) (list_at (seen c.loop-place.self.held) c.args.b)
 list g c =
-    let s = c.loop-place.self.held.rings in
-    list_on c.args.b (with_payload c.in-Some.id _) (g.R.Rings.lists s) (g.R.Rings.lists c.put_aside.new.self.held.rings) (change g c) (g.met.R.Rings.ring_there s c.in-Some.id c.args.b (inside g c))
+    let s = c.loop-place.self.held in
+    list_on c.args.b (with_payload c.in-Some.id _) (seen s) (seen c.put_aside.new.self.held) (change g c) (ring_there s c.in-Some.id c.args.b (inside g c))
 
-still : (g : _) (c : After-put_aside g) → g.R.Rings.ring_at c.put_aside.new.self.held.rings c.in-Some.id ≡ Some c.args.b
+still : (g : _) (c : After-put_aside g) → g.R.Rings.ring_at c.put_aside.new.self.held.rings.rings c.in-Some.id ≡ Some c.args.b
 still g c =
-    let laws = g.met.R.Rings in
-    let s = c.loop-place.self.held.rings in
+    let s = c.loop-place.self.held in
     let id = c.in-Some.id in
-    laws.in_found c.put_aside.new.self.held.rings id c.args.b
-    (ap (λ (ys : Items). is_some (found id ys)) (list g c) ∙ found_set id _ (list_at (g.R.Rings.lists s) c.args.b) (laws.found_in s id c.args.b (inside g c)))
+    in_found c.put_aside.new.self.held id c.args.b
+    (ap (λ (ys : Items). is_some (found id ys)) (list g c) ∙ found_set id _ (list_at (seen s) c.args.b) (found_in s id c.args.b (inside g c)))
 
 pub behind-place-requires : goal.behind-place-requires
 unfolding brigade_of
@@ -57,7 +58,7 @@ loop-place-smaller g c =
     let id = c.in-Some.id in
     let x = (bucket_of c.payload.result) in
     let ps = map_of c.args.tree.now in
-    let xs : Items = list_at (g.R.Rings.lists c.loop-place.self.held.rings) c.args.b in
+    let xs : Items = list_at (seen c.loop-place.self.held) c.args.b in
     let place = c.behind-place.result in
     let others = c.behind-place.ensures.others c.args.b (still g d) in
     let ys = with_payload id (set_aside c.args.pool (is_above ps c.args.pool x.home) x) xs in
@@ -70,20 +71,20 @@ pub loop-place-preserved : goal.loop-place-preserved
 unfolding lists brigade_of
 loop-place-preserved g c =
     let d = (goal.at.loop-place-preserved g c).After-put_aside in
-    let s = c.loop-place.self.held.rings in
+    let s = c.loop-place.self.held in
     let id = c.in-Some.id in
     let x = (bucket_of c.payload.result) in
     let ps = map_of c.args.tree.now in
     let pool = c.args.pool in
     let b = c.args.b in
-    let xs : Items = list_at (g.R.Rings.lists s) b in
+    let xs : Items = list_at (seen s) b in
     let place = c.behind-place.result in
     let ys = with_payload id (set_aside pool (is_above ps pool x.home) x) xs in
     let told : from_place place ys ≡ drop 1 (rest id ys) = subst (λ (zs : Items). from_place place zs ≡ drop 1 (rest id zs)) (list g d) (c.behind-place.ensures.others b (still g d)) in
     record {
-      out = λ n. on_after b n (with_payload id (set_aside pool (is_above ps pool x.home) x)) (aside_behind ps pool place) (aside_behind ps pool (Some id)) (g.R.Rings.lists s) (g.R.Rings.lists c.put_aside.new.self.held.rings) (change g d) (aside_step ps pool id place x xs (here g d) told)
-          ∙ (ap (λ (p : Option BucketId). on b (aside_behind ps pool p) (g.R.Rings.lists s) n) (sym c.in-Some.is) ∙ c.loop-place.invariant.out n);
-      inside = told_some (λ j. g.R.Rings.ring_at c.put_aside.new.self.held.rings j ≡ Some b) place (c.behind-place.ensures.inside b (still g d));
+      out = λ n. on_after b n (with_payload id (set_aside pool (is_above ps pool x.home) x)) (aside_behind ps pool place) (aside_behind ps pool (Some id)) (seen s) (seen c.put_aside.new.self.held) (change g d) (aside_step ps pool id place x xs (here g d) told)
+          ∙ (ap (λ (p : Option BucketId). on b (aside_behind ps pool p) (seen s) n) (sym c.in-Some.is) ∙ c.loop-place.invariant.out n);
+      inside = told_some (λ j. g.R.Rings.ring_at c.put_aside.new.self.held.rings.rings j ≡ Some b) place (c.behind-place.ensures.inside b (still g d));
       next = c.put_aside.ensures.next ∙ c.loop-place.invariant.next;
       names = none_revived_twice (brigade_of c.args.self.now) (brigade_of c.loop-place.self) (brigade_of c.put_aside.new.self) (next_name c.args.self.now) (next_name c.loop-place.self)
           (omega (arith, c.loop-place.invariant.next)) c.loop-place.invariant.names c.put_aside.ensures.names;
@@ -95,8 +96,8 @@ pub returns-clause-out : goal.returns-clause-out
 unfolding lists
 returns-clause-out g c n = out c.loop-place.place c.in_default.not-Some (c.loop-place.invariant.out n) where
   out : (p : Option BucketId) → ((id : BucketId) → p ≡ Some id → ⊥)
-      → on c.args.b (aside_behind (map_of c.args.tree.now) c.args.pool p) (g.R.Rings.lists c.loop-place.self.held.rings) n ≡ on c.args.b (aside_behind (map_of c.args.tree.now) c.args.pool c.args.from) (g.R.Rings.lists c.args.self.now.held.rings) n
-      → g.R.Rings.lists c.loop-place.self.held.rings n ≡ on c.args.b (aside_behind (map_of c.args.tree.now) c.args.pool c.args.from) (g.R.Rings.lists c.args.self.now.held.rings) n
+      → on c.args.b (aside_behind (map_of c.args.tree.now) c.args.pool p) (seen c.loop-place.self.held) n ≡ on c.args.b (aside_behind (map_of c.args.tree.now) c.args.pool c.args.from) (seen c.args.self.now.held) n
+      → seen c.loop-place.self.held n ≡ on c.args.b (aside_behind (map_of c.args.tree.now) c.args.pool c.args.from) (seen c.args.self.now.held) n
   out None never told =
-      on_same c.args.b n (aside_behind (map_of c.args.tree.now) c.args.pool None) (g.R.Rings.lists c.loop-place.self.held.rings) (none_left (map_of c.args.tree.now) c.args.pool (list_at (g.R.Rings.lists c.loop-place.self.held.rings) c.args.b)) ∙ told
+      on_same c.args.b n (aside_behind (map_of c.args.tree.now) c.args.pool None) (seen c.loop-place.self.held) (none_left (map_of c.args.tree.now) c.args.pool (list_at (seen c.loop-place.self.held) c.args.b)) ∙ told
   out (Some id) never told = absurd (never id refl)

@@ -6,6 +6,7 @@ use Rattle.brigade_ops.specs.Reads.{IsRead}
 use Rattle.brigade_ops.specs.Store.{lists, brigade_of, bucket_at, next_name}
 use Rattle.brigade_ops.proofs.Lists.{and_then_told}
 use Rattle.brigade_ops.proofs.Unread.{unread_is}
+use Rattle.brigade_ops.specs.Shelf.{seen}
 use Rattle.brigade_ops.proofs.store.Brigades.read.Goals as goal
 
 pub read_range-requires-clause-ends : goal.read_range-requires-clause-ends
@@ -30,6 +31,6 @@ returns-in-Some-clause-read g c x is =
 pub returns-in-None-clause-read : goal.returns-in-None-clause-read
 unfolding lists brigade_of bucket_at next_name
 returns-in-None-clause-read g c x is =
-    let s = c.args.self.now.held.rings in
-    unread_is c.args.id (g.R.Rings.ring_at s c.args.id) (g.F.Files.device c.args.files.now) (g.R.Rings.lists s) (g.R.Rings.next_name s) x (sym (c.range_at.ensures.range x is) ∙ c.in-None.is)
-    (λ b at. and_then_told (g.R.Rings.ring_at s c.args.id) (λ q. found c.args.id (list_at (g.R.Rings.lists s) q)) b x at is)
+    let s = c.args.self.now.held in
+    unread_is c.args.id (g.R.Rings.ring_at s.rings.rings c.args.id) (g.F.Files.device c.args.files.now) (seen s) (g.R.Rings.next_name s.rings.rings) x (sym (c.range_at.ensures.range x is) ∙ c.in-None.is)
+    (λ b at. and_then_told (g.R.Rings.ring_at s.rings.rings c.args.id) (λ q. found c.args.id (list_at (seen s) q)) b x at is)

@@ -4,27 +4,34 @@ use Rattle.run_model.specs.Cutting.{read_of}
 use Rattle.bucket_ring.specs.Lists.{list_at, put_after, with_payload}
 use Rattle.brigade_ops.specs.Items.{Item, Items, replaced}
 use Rattle.brigade_ops.specs.Store.{lists, brigade_of}
+use Rattle.brigade_ops.proofs.Lying.{read_told}
 use Rattle.brigade_ops.proofs.Lists.{still_in, set_behind, on_after}
+use Rattle.brigade_ops.specs.Shelf.{seen}
+use Rattle.brigade_ops.proofs.Shelves.{found_in}
 use Rattle.brigade_ops.proofs.store.Brigades.read_front.Goals as goal
 
-pub set_payload-unread-requires : goal.set_payload-unread-requires
+pub set_own-requires-clause-lies : goal.set_own-requires-clause-lies
+set_own-requires-clause-lies g c =
+    let told = c.in_ok-_rest.ensures.ok in
+    read_told told.0 c.args.bucket c.read_into.new.bucket _ told.2 c.requires.lies
+
+pub set_own-requires-clause-there : goal.set_own-requires-clause-there
 unfolding brigade_of
-set_payload-unread-requires g c = still_in (g.R.Rings.ring_at c.args.self.now.held.rings c.args.id) _ c.requires.there c.in-Ok.ensures.still
+set_own-requires-clause-there g c = still_in (g.R.Rings.ring_at c.args.self.now.held.rings.rings c.args.id) _ c.requires.there c.put_own_behind-new.ensures.still
 
 pub returns-clause-ok : goal.returns-clause-ok
 unfolding lists brigade_of
 returns-clause-ok g c b at =
-    let laws = g.met.R.Rings in
-    let old = c.args.self.now.held.rings in
+    let old = c.args.self.now.held in
     let id = c.args.id in
-    let y : Item = (c.in-Ok.new, c.args.rest) in
-    let xs : Items = list_at (g.R.Rings.lists old) b in
+    let y : Item = (c.put_own_behind-new.result, c.args.rest) in
+    let xs : Items = list_at (seen old) b in
     let told = c.in_ok-_rest.ensures.ok in
     let v = (read_of told.0 c.args.bucket).0 in
     let is : c.read_into.new.bucket ≡ v = ap (λ (p : Bucket × Option Bucket). p.0) told.2 in (
       told.0,
       told.1,
-      λ m. c.set_payload-unread.ensures.out b m (c.in-Ok.ensures.still b at)
-          ∙ on_after b m (put_after id y) (with_payload id c.read_into.new.bucket) (replaced id v (y ∷ [])) (g.R.Rings.lists old) (g.R.Rings.lists c.put_behind.new.self.held.rings) (λ k. c.in-Ok.ensures.ok b k at)
-          (set_behind id y c.read_into.new.bucket xs (laws.found_in old id b at) ∙ ap (λ (x : Bucket). replaced id x (y ∷ []) xs) is),
+      λ m. c.set_own.ensures.out b m (c.put_own_behind-new.ensures.still b at)
+          ∙ on_after b m (put_after id y) (with_payload id c.read_into.new.bucket) (replaced id v (y ∷ [])) (seen old) (seen c.put_own_behind-new.new.self.held) (λ k. c.put_own_behind-new.ensures.out b k at)
+          (set_behind id y c.read_into.new.bucket xs (found_in old id b at) ∙ ap (λ (x : Bucket). replaced id x (y ∷ []) xs) is),
     )

@@ -17,49 +17,49 @@ use Rattle.brigade_ops.proofs.Lists.{list_off, on_after}
 use Rattle.brigade_ops.proofs.Walks.{if_some, told_some}
 use Rattle.brigade_ops.proofs.Referred.{aside_same}
 use Rattle.brigade_ops.proofs.Saves.{none_other, found_append, joined, moved_aside}
+use Rattle.brigade_ops.specs.Shelf.{seen}
+use Rattle.brigade_ops.proofs.Shelves.{counted, found_in, in_found}
 use Rattle.brigade_ops.proofs.store.Brigades.save.Goals as goal
 
 pub put_all_aside-requires-clause-inside : goal.put_all_aside-requires-clause-inside
-unfolding lists brigade_of
+unfolding seen lists brigade_of
 put_all_aside-requires-clause-inside g c =
-    let laws = g.met.R.Rings in
-    let s = c.args.self.now.held.rings in
+    let s = c.args.self.now.held in
     let o = c.args.o in
     let b = c.args.b in
-    let new = c.splice_tail.new.self.rings in
-    let whole : list_at (g.R.Rings.lists new) o ≡ list_at (g.R.Rings.lists s) o ++ list_at (g.R.Rings.lists s) b
-    = joined o b (g.R.Rings.lists s) (g.R.Rings.lists new) c.requires.apart c.requires.onto c.splice_tail.ensures.out in
-    if_some (λ id. g.R.Rings.ring_at new id ≡ Some o) c.start-first.result
+    let new = c.splice_tail.new.self in
+    let whole : list_at (seen new) o ≡ list_at (seen s) o ++ list_at (seen s) b
+    = joined o b (seen s) (seen new) c.requires.apart c.requires.onto c.splice_tail.ensures.out in
+    if_some (λ id. g.R.Rings.ring_at new.rings.rings id ≡ Some o) c.start-first.result
     (λ id is.
-    let inside = told_some (λ j. g.R.Rings.ring_at s j ≡ Some b) c.start-first.result c.start-first.ensures.inside id is in
-    let none = none_other o b (times id (list_at (g.R.Rings.lists s) o)) (g.R.Rings.ring_at s id) c.requires.apart inside (laws.counted s id o) in
-    laws.in_found new id o
-    (ap (λ (zs : Items). is_some (found id zs)) whole ∙ found_append id (list_at (g.R.Rings.lists s) o) (list_at (g.R.Rings.lists s) b) none (laws.found_in s id b inside)))
+    let inside = told_some (λ j. g.R.Rings.ring_at s.rings.rings j ≡ Some b) c.start-first.result c.start-first.ensures.inside id is in
+    let none = none_other o b (times id (list_at (seen s) o)) (g.R.Rings.ring_at s.rings.rings id) c.requires.apart inside (counted s id o) in
+    in_found new id o
+    (ap (λ (zs : Items). is_some (found id zs)) whole ∙ found_append id (list_at (seen s) o) (list_at (seen s) b) none (found_in s id b inside)))
 
 pub returns-clause-ok : goal.returns-clause-ok
-unfolding lists brigade_of pool_of
+unfolding seen lists brigade_of pool_of
 returns-clause-ok g c p n at =
-    let laws = g.met.R.Rings in
-    let s = c.args.self.now.held.rings in
+    let s = c.args.self.now.held in
     let o = c.args.o in
     let b = c.args.b in
     let pool = c.in-Some.pool in
     let ps = map_of c.args.tree.now in
     let first = c.start-first.result in
-    let new = c.splice_tail.new.self.rings in
-    let others = on b (λ (xs : Items). []) (g.R.Rings.lists s) in
-    let bs : Items = list_at (g.R.Rings.lists s) b in
+    let new = c.splice_tail.new.self in
+    let others = on b (λ (xs : Items). []) (seen s) in
+    let bs : Items = list_at (seen s) b in
     let same_pool : pool ≡ p = same_Some pool p (sym c.in-Some.is ∙ (c.get.ensures ∙ at)) in
     let paths : aside_item (map_of c.refer_all.new.tree) pool ≡ aside_item ps pool
     = ap (λ (qs : Pools Payload). aside_item qs pool) c.in_ok-refer_all.ensures.ok ∙ aside_same pool c.as_slice.result.now ps in
     let none : IfSome first (λ id. times id (list_at others o) ≡ 0)
     = if_some (λ id. times id (list_at others o) ≡ 0) first
     (λ id is.
-    ap (λ (zs : Items). times id zs) (list_off o b (λ (xs : Items). []) (g.R.Rings.lists s) c.requires.apart)
-    ∙ none_other o b (times id (list_at (g.R.Rings.lists s) o)) (g.R.Rings.ring_at s id) c.requires.apart (told_some (λ j. g.R.Rings.ring_at s j ≡ Some b) first c.start-first.ensures.inside id is) (laws.counted s id o)) in
+    ap (λ (zs : Items). times id zs) (list_off o b (λ (xs : Items). []) (seen s) c.requires.apart)
+    ∙ none_other o b (times id (list_at (seen s) o)) (g.R.Rings.ring_at s.rings.rings id) c.requires.apart (told_some (λ j. g.R.Rings.ring_at s.rings.rings j ≡ Some b) first c.start-first.ensures.inside id is) (counted s id o)) in
     c.put_all_aside.ensures.out n
-    ∙ (ap (λ (f : Item → Item). on o (λ xs. before_place first xs ++ map f (from_place first xs)) (g.R.Rings.lists new) n) paths
-    ∙ (on_after o n (λ xs. xs ++ bs) (aside_behind ps pool first) (λ xs. xs ++ map (aside_item ps pool) bs) others (g.R.Rings.lists new) c.splice_tail.ensures.out
+    ∙ (ap (λ (f : Item → Item). on o (λ xs. before_place first xs ++ map f (from_place first xs)) (seen new) n) paths
+    ∙ (on_after o n (λ xs. xs ++ bs) (aside_behind ps pool first) (λ xs. xs ++ map (aside_item ps pool) bs) others (seen new) c.splice_tail.ensures.out
     (moved_aside ps pool first (list_at others o) bs c.start-first.ensures.whole none)
     ∙ ap (λ (q : ℕ). on o (λ xs. xs ++ map (aside_item ps q) bs) others n) same_pool))
 
@@ -77,7 +77,7 @@ returns-clause-counted g c p f at =
     ∙ ap (λ (q : ℕ). start + times_in f (filter_map (new_ref ps q) (named bs))) same_pool))
 
 pub returns-clause-house : goal.returns-clause-house
-unfolding lists pool_of references count_at
+unfolding seen lists pool_of references count_at
 returns-clause-house g c house =
     let store = c.args.self.now in
     let after = c.put_all_aside.new.self in
@@ -85,9 +85,9 @@ returns-clause-house g c house =
     let b = c.args.b in
     let pool = c.in-Some.pool in
     let ps = map_of c.args.tree.now in
-    let s = g.R.Rings.lists store.held.rings in
+    let s = seen store.held in
     let bs : Items = list_at s b in
-    let moved = g.R.Rings.lists c.splice_tail.new.self.rings in
+    let moved = seen c.splice_tail.new.self in
     let joined : ((n : ℕ) → moved n ≡ on o (λ xs. xs ++ bs) (on b (λ xs. []) s) n) = c.splice_tail.ensures.out in
     subst (AreHoused (lists after) (pool_of after) (references after)) (sym c.in_ok-refer_all.ensures.ok)
     (house_referred (lists store) (pool_of store) (references store) ps house (lists after) (pool_of after) (references after) pool c.as_slice.result.now (tree_formed c.args.tree.now)

@@ -1,30 +1,52 @@
-use Rattle.std.proofs.Common.{◌≡◌, ◌++◌, ◌∷◌, drop, sym, ap, ◌∙◌}
-use Rattle.std.proofs.lemmas.Option.{same_Some}
+use Rattle.std.proofs.Common.{◌≡◌, ◌++◌, ◌∷◌, ℕ, drop, ap, ◌∙◌}
 use Rattle.run_model.specs.declared.bucket.Bucket.{Bucket}
 use Rattle.run_model.specs.Cutting.{split_at}
-use Rattle.bucket_ring.specs.Lists.{list_at, front, rest, put_after, with_payload}
+use Rattle.bucket_ring.specs.Lists.{on, list_at, front, rest, put_after, with_payload}
+use Rattle.bucket_kinds.specs.Stored.{is_whole, shown}
+use Rattle.brigade_ops.specs.declared.regions.Regions.{Regions}
 use Rattle.brigade_ops.specs.Items.{Item, Items}
+use Rattle.brigade_ops.specs.Regions.{look}
+use Rattle.brigade_ops.specs.Shelf.{seen}
 use Rattle.brigade_ops.specs.Store.{lists, brigade_of}
 use Rattle.brigade_ops.proofs.Lists.{still_in, set_behind, on_after}
+use Rattle.brigade_ops.proofs.Shelves.{found_in}
+use Rattle.brigade_ops.proofs.Shown.{on_cong}
 use Rattle.brigade_ops.proofs.store.Brigades.split.Goals as goal
 
-pub set_payload-whole-requires : goal.set_payload-whole-requires
+pub put_behind-new-requires-clause-whole : goal.put_behind-new-requires-clause-whole
+put_behind-new-requires-clause-whole g c = ap (λ (r : Regions). is_whole (look r) c.in_ok-front.rest.kept) c.make_room-2.ensures.regions ∙ c.in_ok-front.ensures.rest_whole
+
+pub put-whole-requires-clause-there : goal.put-whole-requires-clause-there
 unfolding brigade_of
-set_payload-whole-requires g c = still_in (g.R.Rings.ring_at c.args.self.now.held.rings c.args.id) _ c.requires.there c.in_ok-new.ensures.still
+put-whole-requires-clause-there g c =
+    still_in (g.R.Rings.ring_at c.args.self.now.held.rings.rings c.args.id) _ c.requires.there (λ b at. c.put_behind-new.ensures.still b (c.make_room-2.ensures.places c.args.id ∙ at))
+
+pub put-whole-requires-clause-whole : goal.put-whole-requires-clause-whole
+put-whole-requires-clause-whole g c =
+    ap (λ (r : Regions). is_whole (look r) c.in_ok-front.front.kept) (c.put_behind-new.ensures.regions ∙ c.make_room-2.ensures.regions) ∙ c.in_ok-front.ensures.front_whole
 
 pub returns-clause-ok : goal.returns-clause-ok
-unfolding lists brigade_of
+unfolding seen lists brigade_of
 returns-clause-ok g c b m x at is =
-    let laws = g.met.R.Rings in
-    let old = c.args.self.now.held.rings in
+    let s = c.args.self.now.held in
+    let roomy = c.make_room-2.new.self in
+    let last = c.put_behind-new.new.self.held in
+    let see = look s.regions in
     let id = c.args.id in
     let n = c.args.n in
-    let y : Item = (c.in_ok-new.new, c.in_ok-front.rest) in
-    let xs : Items = list_at (g.R.Rings.lists old) b in
-    let whole : c.bucket.result.now ≡ x = same_Some c.bucket.result.now x (sym c.bucket.ensures ∙ is) in
-    let parts : (c.in_ok-front.front, c.in_ok-front.rest) ≡ split_at n x = c.in_ok-front.ensures.ok ∙ ap (λ z. split_at n z) whole in
-    c.set_payload-whole.ensures.out b m (c.in_ok-new.ensures.still b at)
-    ∙ on_after b m (put_after id y) (with_payload id c.in_ok-front.front) (λ zs. front id zs ++ (id, (split_at n x).0) ∷ (c.in_ok-new.new, (split_at n x).1) ∷ drop 1 (rest id zs))
-    (g.R.Rings.lists old) (g.R.Rings.lists c.put_behind.new.self.held.rings) (λ k. c.in_ok-new.ensures.ok b k at)
-    (set_behind id y c.in_ok-front.front xs (laws.found_in old id b at)
-    ∙ ap (λ (p : Bucket × Bucket). front id xs ++ (id, p.0) ∷ (c.in_ok-new.new, p.1) ∷ drop 1 (rest id xs)) parts)
+    let new = c.put_behind-new.result in
+    let first = c.in_ok-front.front in
+    let second = c.in_ok-front.rest in
+    let y : Item = (new, shown see second) in
+    let xs : Items = list_at (seen s) b in
+    let at_now = c.make_room-2.ensures.places id ∙ at in
+    let same : last.regions ≡ s.regions = c.put_behind-new.ensures.regions ∙ c.make_room-2.ensures.regions in
+    let change : ((k : ℕ) → seen last k ≡ on b (put_after id y) (seen s) k) = λ k. (
+    c.put_behind-new.ensures.out b k at_now
+    ∙ (ap (λ (r : Regions). on b (put_after id (let z : Item = (new, shown (look r) second) in z)) (seen roomy) k) c.make_room-2.ensures.regions ∙ on_cong b (put_after id y) (seen roomy) (seen s) c.make_room-2.ensures.same k)) in
+    c.put-whole.ensures.out b m (c.put_behind-new.ensures.still b at_now)
+    ∙ (ap (λ (r : Regions). on b (with_payload id (shown (look r) first)) (seen last) m) same
+    ∙ on_after b m (put_after id y) (with_payload id (shown see first)) (λ zs. front id zs ++ (id, (split_at n x).0) ∷ (new, (split_at n x).1) ∷ drop 1 (rest id zs)) (seen s) (seen last) change
+    (set_behind id y (shown see first) xs (found_in s id b at)
+    ∙ (ap (λ (z : Bucket). front id xs ++ (id, z) ∷ y ∷ drop 1 (rest id xs)) (c.in_ok-front.ensures.front x is)
+    ∙ ap (λ (z : Bucket). front id xs ++ (id, (split_at n x).0) ∷ (new, z) ∷ drop 1 (rest id xs)) (c.in_ok-front.ensures.rest x is))))

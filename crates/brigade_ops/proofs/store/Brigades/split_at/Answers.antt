@@ -7,45 +7,45 @@ use Rattle.brigade_ops.specs.Items.{Items, before_place, from_place}
 use Rattle.brigade_ops.specs.Store.{lists, brigade_of}
 use Rattle.brigade_ops.proofs.Lists.{none_place, list_on, list_off, there_off, on_after, rest_append, rest_again}
 use Rattle.brigade_ops.proofs.Walks.{told_some}
+use Rattle.brigade_ops.specs.Shelf.{seen}
+use Rattle.brigade_ops.proofs.Shelves.{counted, found_in, in_found}
 use Rattle.brigade_ops.proofs.store.Brigades.split_at.Goals as goal
 
 pub returns-in_default-clause-ok : goal.returns-in_default-clause-ok
 unfolding lists
 returns-in_default-clause-ok g c n =
     c.drop_all.ensures.out n
-    ∙ none_place c.args.a c.args.b n (g.R.Rings.lists c.args.self.now.held.rings) before_place from_place c.args.place c.in_default.not-Some (λ xs. refl) (λ xs. refl)
+    ∙ none_place c.args.a c.args.b n (seen c.args.self.now.held) before_place from_place c.args.place c.in_default.not-Some (λ xs. refl) (λ xs. refl)
 
 pub drop_before-requires : goal.drop_before-requires
 unfolding lists brigade_of
 drop_before-requires g c =
-    let laws = g.met.R.Rings in
-    let s = c.args.self.now.held.rings in
-    let new = c.splice_from.new.self.rings in
+    let s = c.args.self.now.held in
+    let new = c.splice_from.new.self in
     let id = c.in-Some.id in
     let a = c.args.a in
     let b = c.args.b in
-    let L = g.R.Rings.lists s in
-    let in_b : g.R.Rings.ring_at s id ≡ Some b = told_some (λ (j : BucketId). g.R.Rings.ring_at s j ≡ Some b) c.args.place c.requires.inside id c.in-Some.is in
-    let none : times id (list_at L a) ≡ 0 = laws.counted s id a ∙ (ap (once_in a) in_b ∙ once_elsewhere a b (λ e. c.requires.apart (sym e))) in
-    let moved : list_at (g.R.Rings.lists new) a ≡ list_at L a ++ rest id (list_at L b) =
-    list_on a (λ bs. bs ++ rest id (list_at L b)) (on b (front id) L) (g.R.Rings.lists new) (λ k. c.splice_from.ensures.out b k in_b) (ap is_some (there_off a b (front id) L c.requires.apart) ∙ c.requires.into)
+    let L = seen s in
+    let in_b : g.R.Rings.ring_at s.rings.rings id ≡ Some b = told_some (λ (j : BucketId). g.R.Rings.ring_at s.rings.rings j ≡ Some b) c.args.place c.requires.inside id c.in-Some.is in
+    let none : times id (list_at L a) ≡ 0 = counted s id a ∙ (ap (once_in a) in_b ∙ once_elsewhere a b (λ e. c.requires.apart (sym e))) in
+    let moved : list_at (seen new) a ≡ list_at L a ++ rest id (list_at L b) =
+    list_on a (λ bs. bs ++ rest id (list_at L b)) (on b (front id) L) (seen new) (λ k. c.splice_from.ensures.out b k in_b) (ap is_some (there_off a b (front id) L c.requires.apart) ∙ c.requires.into)
     ∙ ap (λ ys. ys ++ rest id (list_at L b)) (list_off a b (front id) L c.requires.apart) in
-    laws.in_found new id a (ap (λ ys. is_some (payload_of ys)) (ap (rest id) moved ∙ (rest_append id (list_at L a) (rest id (list_at L b)) none ∙ rest_again id (list_at L b))) ∙ laws.found_in s id b in_b)
+    in_found new id a (ap (λ ys. is_some (payload_of ys)) (ap (rest id) moved ∙ (rest_append id (list_at L a) (rest id (list_at L b)) none ∙ rest_again id (list_at L b))) ∙ found_in s id b in_b)
 
 pub returns-clause-ok : goal.returns-clause-ok
 unfolding lists brigade_of
 returns-clause-ok g c n =
-    let laws = g.met.R.Rings in
-    let s = c.args.self.now.held.rings in
-    let mid = c.splice_from.new.self.rings in
+    let s = c.args.self.now.held in
+    let mid = c.splice_from.new.self in
     let id = c.in-Some.id in
     let a = c.args.a in
     let b = c.args.b in
-    let L = g.R.Rings.lists s in
-    let in_b : g.R.Rings.ring_at s id ≡ Some b = told_some (λ (j : BucketId). g.R.Rings.ring_at s j ≡ Some b) c.args.place c.requires.inside id c.in-Some.is in
-    let none : times id (list_at L a) ≡ 0 = laws.counted s id a ∙ (ap (once_in a) in_b ∙ once_elsewhere a b (λ e. c.requires.apart (sym e))) in
+    let L = seen s in
+    let in_b : g.R.Rings.ring_at s.rings.rings id ≡ Some b = told_some (λ (j : BucketId). g.R.Rings.ring_at s.rings.rings j ≡ Some b) c.args.place c.requires.inside id c.in-Some.is in
+    let none : times id (list_at L a) ≡ 0 = counted s id a ∙ (ap (once_in a) in_b ∙ once_elsewhere a b (λ e. c.requires.apart (sym e))) in
     let left : rest id (list_at (on b (front id) L) a ++ rest id (list_at L b)) ≡ rest id (list_at L b) =
     ap (λ ys. rest id (ys ++ rest id (list_at L b))) (list_off a b (front id) L c.requires.apart) ∙ (rest_append id (list_at L a) (rest id (list_at L b)) none ∙ rest_again id (list_at L b)) in
     c.drop_before.ensures.out n
-    ∙ (on_after a n (λ bs. bs ++ rest id (list_at L b)) (rest id) (λ xs. rest id (list_at L b)) (on b (front id) L) (g.R.Rings.lists mid) (λ k. c.splice_from.ensures.out b k in_b) left
+    ∙ (on_after a n (λ bs. bs ++ rest id (list_at L b)) (rest id) (λ xs. rest id (list_at L b)) (on b (front id) L) (seen mid) (λ k. c.splice_from.ensures.out b k in_b) left
     ∙ ap (λ (p : Option BucketId). on a (λ (xs : Items). from_place p (list_at L b)) (on b (before_place p) L) n) (sym c.in-Some.is))

@@ -4,22 +4,24 @@ use Rattle.bucket_ring.specs.Laws.{first_found}
 use Rattle.bucket_ring.proofs.Short.{short}
 use Rattle.brigade_ops.specs.Store.{lists, brigade_of}
 use Rattle.brigade_ops.proofs.Walks.{start_whole, if_some}
+use Rattle.brigade_ops.specs.Shelf.{seen}
+use Rattle.brigade_ops.proofs.Shelves.{in_found, kept, limit}
 use Rattle.brigade_ops.proofs.store.Brigades.start.Goals as goal
 
 pub returns-clause-whole : goal.returns-clause-whole
 unfolding lists
-returns-clause-whole g c = start_whole (list_at (g.R.Rings.lists c.args.self.now.held.rings) c.args.b) c.first.result c.first.ensures
+returns-clause-whole g c = start_whole (list_at (seen c.args.self.now.held) c.args.b) c.first.result c.first.ensures
 
 pub returns-clause-inside : goal.returns-clause-inside
 unfolding brigade_of
 returns-clause-inside g c =
-    let s = c.args.self.now.held.rings in
-    if_some (λ id. g.R.Rings.ring_at s id ≡ Some c.args.b) c.first.result
-    (λ id e. g.met.R.Rings.in_found s id c.args.b (first_found id (list_at (g.R.Rings.lists s) c.args.b) (sym c.first.ensures ∙ e)))
+    let s = c.args.self.now.held in
+    if_some (λ id. g.R.Rings.ring_at s.rings.rings id ≡ Some c.args.b) c.first.result
+    (λ id e. in_found s id c.args.b (first_found id (list_at (seen s) c.args.b) (sym c.first.ensures ∙ e)))
 
 pub returns-clause-few : goal.returns-clause-few
 unfolding lists
 returns-clause-few g c =
-    let s = c.args.self.now.held.rings in
-    let fits = short (g.R.Rings.ring_at s) (g.R.Rings.lists s) (g.R.Rings.next_name s) c.args.b (g.met.R.Rings.kept s) in
-    omega (arith, fits, g.met.R.Rings.limit s)
+    let s = c.args.self.now.held in
+    let fits = short (g.R.Rings.ring_at s.rings.rings) (seen s) (g.R.Rings.next_name s.rings.rings) c.args.b (kept s) in
+    omega (arith, fits, limit s)

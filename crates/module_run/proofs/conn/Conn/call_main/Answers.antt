@@ -1,5 +1,5 @@
 -- By the filter that was read, and its module.
-use Rattle.std.proofs.Common.{◌≡◌, ◌∙◌, ℕ, ◌<◌, length, sym, ap, refl, arith, length-set}
+use Rattle.std.proofs.Common.{◌≡◌, ◌∙◌, ◌<◌, length, sym, ap, refl, arith, length-set}
 use Rattle.module_code.specs.Program.{Program}
 use Rattle.run_model.specs.Chains.{module_at}
 use Rattle.module_run.specs.Conns.{filter_at}

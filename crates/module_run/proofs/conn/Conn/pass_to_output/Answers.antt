@@ -8,6 +8,7 @@ use Rattle.run_model.specs.declared.bucket.Mark.TheVariants.{Passed}
 use Rattle.bucket_kinds.specs.Device.{Held}
 use Rattle.run_model.specs.Chains.{module_at}
 use Rattle.run_model.specs.Effects.{do_pass}
+use Rattle.run_model.specs.Faults.{WHomes, wants}
 use Rattle.run_model.specs.State.{Configuration, Out, items_of}
 use Rattle.run_model.specs.Steps.{grows, has_bytes}
 use Rattle.ring_run.proofs.Quiet.{grown_none}
@@ -31,7 +32,7 @@ use Rattle.module_run.proofs.Neighbours.{unchanged}
 use Rattle.module_run.proofs.CanPass.{passer, passed_live, passed_variable}
 use Rattle.module_run.proofs.Delivers.{delivers, passed_on}
 use Rattle.module_run.proofs.FileOpens.{left_device}
-use Rattle.ring_run.proofs.Faultless.{passed_homes}
+use Rattle.ring_run.proofs.Faultless.{met_at}
 use Rattle.module_run.proofs.HandsOn.{changed}
 use Rattle.module_run.proofs.HandsOnBuilt.{on_err, reads_here, same_back, writes_here, writes_off}
 use Rattle.ring_run.proofs.OpenFiles.{open_items}
@@ -74,7 +75,7 @@ pass_out-requires-clause-open g c =
     let around = around_of (map_of tree) self p.v in
     let at = reads_here self c.top-top.result c.top-top.ensures t.filter c.index_mut-filter.result.now t.is c.index_mut-filter.ensures.value in
     let opens = work.open_in chain i tree store d self p.v p.top p.rest p.ready t.filter t.is around.labels around.files around.out around.waits refl in
-    let homes = passed_homes (module_at chain (top_of self)) (seen store around t.filter.instance t.filter.call) c.args.b c.args.target (work.faultless_in chain i tree store d self p.v p.top p.rest p.ready t.filter t.is around.labels around.files around.out around.waits refl) in (
+    let homes = met_at (seen store around t.filter.instance t.filter.call) (wants (module_at chain (top_of self)) i) 1 (WHomes c.args.b) (work.faultless_in chain i tree store d self p.v p.top p.rest p.ready t.filter t.is around.labels around.files around.out around.waits refl) refl in (
       around,
       t.filter.call,
       subst (λ (f : Filter). All (RangeIsOpen d) (items_of ((seen store around f.instance t.filter.call).instance.brigades c.args.b))) (sym at)

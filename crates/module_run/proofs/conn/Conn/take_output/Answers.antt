@@ -1,5 +1,4 @@
 -- The rest stays.
-use Rattle.std.proofs.Common.{◌≡◌, ap, sym}
 use Rattle.module_run.proofs.Alongside.{stacked_beside}
 use Rattle.module_run.proofs.conn.Conn.take_output.Goals as goal
 

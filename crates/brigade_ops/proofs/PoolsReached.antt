@@ -1,0 +1,55 @@
+-- The pools that a clear reaches, in the order of their names.
+use Rattle.std.proofs.Common.{◌≡◌, ◌==◌, ◌<◌, ◌≤◌, ◌++◌, ◌||◌, ◌&&◌, ℕ, Bool, true, false, not, List, [], ◌∷◌, reverse, length, get_or, is_ok, Result, Ok, Err, refl, sym, ap, ◌∙◌, inl, inr, arith, ⊎_elim}
+use Rattle.std.specs.List.{list_any, All}
+use Rattle.std.specs.List.Sorted.{IsBinarySearchResult, IsNonDecreasing, IsPermutation}
+use Rattle.std.specs.Ordering.{nat_cmp}
+use Rattle.std.specs.Result.{MatchResult}
+use Rattle.std.proofs.lemmas.Bool.{cases_lt, eqb-true, eq-eqb, ne_eqb, false≢true}
+use Rattle.std.proofs.lemmas.List.Folds.{list_any-append, list_any_at, list_any_none}
+use Rattle.std.proofs.lemmas.List.Sorted.{list_any-IsPermutation, searched}
+use Rattle.std.proofs.lemmas.List.{get_or_default}
+use Rattle.run_model.specs.Pools.{is_live, is_under, is_in}
+use Rattle.run_model.specs.RunOrder.{order_under}
+use Rattle.run_model.proofs.RunOrderLaws.{under_itself}
+use Rattle.pool_tree.specs.declared.tree.PoolTree.{PoolTree}
+use Rattle.pool_tree.specs.Tree.{map_of}
+use Rattle.pool_tree.proofs.Rooms.{found_is}
+use Rattle.pool_tree.proofs.Trees.{tree_formed}
+use Rattle.brigade_ops.proofs.DueBuckets.{in_turned}
+
+-- a search among names that rise finds the one that is there
+module _ (xs : List ℕ) (x : ℕ) where
+  apart : (i : ℕ) → ((k : ℕ) → k < i → get_or xs k 0 < x) → ((k : ℕ) → i ≤ k → k < length xs → x < get_or xs k 0) → (k : ℕ) → k < length xs → (get_or xs k 0 == x) ≡ false
+  apart i low high k lt =
+      ⊎_elim (λ (l : k < i). ne_eqb (get_or xs k 0) x (λ e. omega (arith, low k l, e))) (λ (l : i ≤ k). ne_eqb (get_or xs k 0) x (λ e. omega (arith, high k l lt, e))) (cases_lt k i)
+
+  by_answer : (r : Result ℕ ℕ) → MatchResult r (λ i. (i < length xs) × (get_or xs i 0 ≡ x)) (λ i. (i ≤ length xs) × ((k : ℕ) → k < i → get_or xs k 0 < x) × ((k : ℕ) → i ≤ k → k < length xs → x < get_or xs k 0))
+      → is_ok r ≡ is_in x xs
+  by_answer (Ok i) at = sym (list_any_at (λ m. m == x) xs i 0 at.0 (eq-eqb (get_or xs i 0) x at.1))
+  by_answer (Err i) none = sym (list_any_none (λ m. m == x) xs (λ k d lt. ap (λ m. m == x) (get_or_default xs k d 0 lt) ∙ apart i none.1 none.2 k lt))
+
+  pub found_in : (r : Result ℕ ℕ) → IsBinarySearchResult (λ y. nat_cmp y x) xs r → IsNonDecreasing xs → is_ok r ≡ is_in x xs
+  found_in r at up = by_answer r (searched xs x r at (λ i j le lt. up i j 0 le lt))
+
+or_true : (a : Bool) → (a || true) ≡ true
+or_true true = refl
+or_true false = refl
+
+or_no : (a : Bool) → (a && true || false) ≡ a
+or_no true = refl
+or_no false = refl
+
+-- the pools under a pool, and itself
+pub all_reached : {T : Type 0} (tree : PoolTree T) (pool : ℕ) (found pools : List ℕ) → is_live (map_of tree) pool ≡ true → reverse found ≡ order_under (map_of tree) pool → IsPermutation (found ++ pool ∷ []) pools
+    → (p : ℕ) → is_in p pools ≡ is_under (map_of tree) pool p
+all_reached tree pool found pools live under moved p =
+    sym (list_any-IsPermutation (λ m. m == p) (found ++ pool ∷ []) pools moved)
+    ∙ list_any-append (λ m. m == p) found (pool ∷ [])
+    ∙ ap (λ b. b || (pool == p || false)) (in_turned p found ∙ found_is tree pool found live under p)
+    ∙ by_name (p == pool) refl
+  where
+    by_name : (b : Bool) → (p == pool) ≡ b → (is_under (map_of tree) pool p && not b || (pool == p || false)) ≡ is_under (map_of tree) pool p
+    by_name true here =
+        let same : p ≡ pool = eqb-true p pool here in
+        rw (eq-eqb pool p (sym same)) (or_true (is_under (map_of tree) pool p && false) ∙ sym (ap (is_under (map_of tree) pool) same ∙ under_itself (map_of tree) (tree_formed tree) pool live))
+    by_name false other = rw (ne_eqb pool p (λ e. false≢true (sym other ∙ eq-eqb p pool (sym e)))) (or_no (is_under (map_of tree) pool p))
