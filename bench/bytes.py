@@ -1,7 +1,7 @@
 #!/usr/bin/env python3
 """Measures a filter that looks at each byte: `upper` on 1 MiB through `serve`, beside the same loop in other servers.
 
-    bench/bytes.py [--program PATH] [--program PATH] [--rounds N]
+    bench/bytes.py [--program PATH ..] [--rounds N]
 
 Told is the processor time of the server for a request, user and system, and the time of a request that the same server sends with a filter
 that passes on, so that the rest is the loop. All servers are asked by turns; told are medians and the ratios of each round. With more than
@@ -110,10 +110,7 @@ def body(peer, length):
     peer.link.sendall(ask_for(SIZE))
     got = b''
     while len(got) < length:
-        part = peer.link.recv(length - len(got))
-        if not part:
-            raise SystemExit('bench/bytes.py: %s closed' % peer.name)
-        got += part
+        got += peer.link.recv(length - len(got))
     head, _, rest = got.partition(b'\r\n\r\n')
     if b'chunked' not in head.lower():
         return rest

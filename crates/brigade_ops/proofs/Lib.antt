@@ -21,6 +21,7 @@ pub mod Renumbered
 pub mod Noted
 pub mod DueBuckets
 pub mod PoolsReached
+pub mod Asked
 pub mod Pruned
 pub mod Shown
 pub mod Shelves

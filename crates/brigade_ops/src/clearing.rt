@@ -97,7 +97,7 @@ impl<R: Rings<Stored> + Drop> Brigades<R> {
     {
         let mut found = Seq::new(self.alloc);
         for ring in rings {
-            if self.has(*ring) {
+            if self.held.has_ring(*ring) {
                 self.plan_ring(&mut found, *ring, reached)?;
             }
         }
@@ -152,6 +152,7 @@ impl<R: Rings<Stored> + Drop> Brigades<R> {
         ensures freed { (p : ℕ) → is_in p morphs.pools.items ≡ true → IsFreed self.new p }
         ensures next { next_name self.new ≡ next_name self.old }
         ensures names { NoneRevived (brigade_of self.old) (brigade_of self.new) (next_name self.old) }
+        ensures unasked { self.new.asked ≡ self.old.asked }
     {
         let pools = self.change_found(morphs);
         self.end_pool(files, handed);
@@ -189,6 +190,8 @@ impl<R: Rings<Stored> + Drop> Brigades<R> {
         ensures uncounted { OnErr result (references self.new ≡ references self.old) }
         ensures kept { OnErr result (map_of tree.new ≡ map_of tree.old) }
         ensures unread { OnErr result (F.device files.new ≡ F.device files.old) }
+        ensures unasked { self.new.asked ≡ self.old.asked }
+        ensures tree_unasked { tree.new.asked ≡ tree.old.asked }
     {
         let morphs = self.plan_morphs(rings, pool, tree)?;
         let ran = tree.clear(pool)?;
@@ -226,6 +229,8 @@ impl<R: Rings<Stored> + Drop> Brigades<R> {
         ensures uncounted { OnErr result (references self.new ≡ references self.old) }
         ensures kept { OnErr result (map_of tree.new ≡ map_of tree.old) }
         ensures unread { OnErr result (F.device files.new ≡ F.device files.old) }
+        ensures unasked { self.new.asked ≡ self.old.asked }
+        ensures tree_unasked { tree.new.asked ≡ tree.old.asked }
     {
         let morphs = self.plan_morphs(rings, pool, tree)?;
         let ran = tree.destroy(pool)?;

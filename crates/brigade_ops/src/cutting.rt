@@ -38,6 +38,7 @@ impl<R: Rings<Stored> + Drop> Brigades<R> {
         ensures names { NoneRevived (brigade_of self.old) (brigade_of self.new) (next_name self.old) }
         ensures pools { pool_of self.new ≡ pool_of self.old }
         ensures references { references self.new ≡ references self.old }
+        ensures unasked { self.new.asked ≡ self.old.asked }
     {
         self.held.add_after(at, bucket)
     }
@@ -55,6 +56,7 @@ impl<R: Rings<Stored> + Drop> Brigades<R> {
         ensures names { NoneRevived (brigade_of self.old) (brigade_of self.new) (next_name self.old) }
         ensures pools { pool_of self.new ≡ pool_of self.old }
         ensures references { references self.new ≡ references self.old }
+        ensures unasked { self.new.asked ≡ self.old.asked }
     {
         self.put_behind(at, keep_own(bucket))
     }
@@ -68,6 +70,7 @@ impl<R: Rings<Stored> + Drop> Brigades<R> {
         ensures names { NoneRevived (brigade_of self.old) (brigade_of self.new) (next_name self.old) }
         ensures pools { pool_of self.new ≡ pool_of self.old }
         ensures references { references self.new ≡ references self.old }
+        ensures unasked { self.new.asked ≡ self.old.asked }
     {
         let _had = self.held.put(id, keep_own(bucket));
     }
@@ -105,6 +108,7 @@ impl<R: Rings<Stored> + Drop> Brigades<R> {
         ensures spent { next_name self.old ≡ u64.MAX → IsErr result }
         ensures unspent { result ≡ Err SplitRefusal.NamesSpent → next_name self.old ≡ u64.MAX }
         ensures err { OnErr result ((m : ℕ) → lists self.new m ≡ lists self.old m) }
+        ensures unasked { self.new.asked ≡ self.old.asked }
     {
         let (front, rest) = self.halves_at(id, n)?;
         if self.held.next_name() == u64::MAX {
@@ -133,6 +137,7 @@ impl<R: Rings<Stored> + Drop> Brigades<R> {
         ensures spent { next_name self.old ≡ u64.MAX → IsErr result }
         ensures unspent { result ≡ Err RingRefusal.NamesSpent → next_name self.old ≡ u64.MAX }
         ensures err { OnErr result ((m : ℕ) → lists self.new m ≡ lists self.old m) }
+        ensures unasked { self.new.asked ≡ self.old.asked }
     {
         let copy = stored_copy(self.alloc, self.stored(id))?;
         let next = self.held.next_name();

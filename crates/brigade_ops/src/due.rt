@@ -22,7 +22,7 @@ impl<R: Rings<Stored> + Drop> Brigades<R> {
     fn is_due(&self, rings: &[BrigadeId], reached: &Reached, id: BucketId) -> bool
         ensures { result ≡ is_due (is_reached reached.now) rings.now (brigade_of self.now id) (bucket_at self.now id) }
     {
-        match self.ring_of(id) {
+        match self.held.ring_of(id) {
             Some(ring) if rings.contains(&ring) => {
                 let bucket = self.payload(id);
                 depends_on(reached, bucket.kind, bucket.home)

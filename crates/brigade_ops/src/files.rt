@@ -44,6 +44,8 @@ impl<R: Rings<Stored> + Drop> Brigades<R> {
         ensures kept { OnErr result (map_of tree.new ≡ map_of tree.old) }
         ensures uncounted { OnErr result ((f : ℕ) → references self.new f ≡ references self.old f) }
         ensures house { IsHouse self.old (map_of tree.old) → IsHouse self.new (map_of tree.new) }
+        ensures unasked { self.new.asked ≡ self.old.asked }
+        ensures tree_unasked { tree.new.asked ≡ tree.old.asked }
     {
         refer(&mut self.references, tree, pool, file)
     }
@@ -70,6 +72,8 @@ impl<R: Rings<Stored> + Drop> Brigades<R> {
         ensures kept { OnErr result (map_of tree.new ≡ map_of tree.old) }
         ensures uncounted { OnErr result ((f : ℕ) → references self.new f ≡ references self.old f) }
         ensures house { IsHouse self.old (map_of tree.old) → IsHouse self.new (map_of tree.new) }
+        ensures unasked { self.new.asked ≡ self.old.asked }
+        ensures tree_unasked { tree.new.asked ≡ tree.old.asked }
     {
         match file {
             Some(file) => {
@@ -90,6 +94,7 @@ impl<R: Rings<Stored> + Drop> Brigades<R> {
         ensures next { next_name self.new ≡ next_name self.old }
         ensures names { NoneRevived (brigade_of self.old) (brigade_of self.new) (next_name self.old) }
         ensures references { (f : ℕ) → references self.new f ≡ references self.old f }
+        ensures unasked { self.new.asked ≡ self.old.asked }
     {
         self.pools.take(b);
         if self.held.has_ring(b) {
@@ -108,6 +113,7 @@ impl<R: Rings<Stored> + Drop> Brigades<R> {
         ensures pools { pool_of self.new ≡ pool_of self.old }
         ensures next { next_name self.new ≡ next_name self.old }
         ensures names { NoneRevived (brigade_of self.old) (brigade_of self.new) (next_name self.old) }
+        ensures unasked { self.new.asked ≡ self.old.asked }
     {
         let count = self.references.get(file).unwrap_or(0);
         if count > 1 {
@@ -129,6 +135,7 @@ impl<R: Rings<Stored> + Drop> Brigades<R> {
         ensures others { SameButOpen (F.device files.old) (F.device files.new) }
         ensures next { next_name self.new ≡ next_name self.old }
         ensures names { NoneRevived (brigade_of self.old) (brigade_of self.new) (next_name self.old) }
+        ensures unasked { self.new.asked ≡ self.old.asked }
     {
         match payload {
             Payload::Label(_) => {}
@@ -149,6 +156,7 @@ impl<R: Rings<Stored> + Drop> Brigades<R> {
         ensures others { SameButOpen (F.device files.old) (F.device files.new) }
         ensures next { next_name self.new ≡ next_name self.old }
         ensures names { NoneRevived (brigade_of self.old) (brigade_of self.new) (next_name self.old) }
+        ensures unasked { self.new.asked ≡ self.old.asked }
     {
         for entry in handed {
             self.end_payload(files, &entry.1);

@@ -59,7 +59,7 @@ impl<R: Rings<Stored> + Drop> Brigades<R> {
         ensures kind { IfSome result (λ morph. (x : Bucket) → bucket_at self.now id ≡ Some x → morph.kind ≡ to_heap (is_reached reached.now) x.kind) }
         ensures home { IfSome result (λ morph. (x : Bucket) → bucket_at self.now id ≡ Some x → morph.home ≡ end_pools (is_reached reached.now) x.home) }
     {
-        if self.ring_of(id).is_none() {
+        if self.held.ring_of(id).is_none() {
             return None;
         }
         let bucket = self.payload(id);
@@ -72,7 +72,7 @@ impl<R: Rings<Stored> + Drop> Brigades<R> {
 
     /// A copy of the bytes of a bucket, where they lie in a region.
     fn copy_of(&self, id: BucketId) -> Result<Option<HeapCopy>, AllocError> {
-        if self.ring_of(id).is_none() {
+        if self.held.ring_of(id).is_none() {
             return Ok(None);
         }
         match &self.stored(id).kept {
@@ -128,6 +128,7 @@ impl<R: Rings<Stored> + Drop> Brigades<R> {
         ensures names { NoneRevived (brigade_of self.old) (brigade_of self.new) (next_name self.old) }
         ensures pools { pool_of self.new ≡ pool_of self.old }
         ensures references { references self.new ≡ references self.old }
+        ensures unasked { self.new.asked ≡ self.old.asked }
     {
         let nothing = hollow(self.stored(morph.id));
         let mut bucket = self.held.put(morph.id, nothing);
@@ -143,8 +144,9 @@ impl<R: Rings<Stored> + Drop> Brigades<R> {
         ensures names { NoneRevived (brigade_of self.old) (brigade_of self.new) (next_name self.old) }
         ensures pools { pool_of self.new ≡ pool_of self.old }
         ensures references { references self.new ≡ references self.old }
+        ensures unasked { self.new.asked ≡ self.old.asked }
     {
-        if self.ring_of(morph.id).is_some() {
+        if self.held.ring_of(morph.id).is_some() {
             self.put_morph(morph);
         }
     }
@@ -156,6 +158,7 @@ impl<R: Rings<Stored> + Drop> Brigades<R> {
         ensures names { NoneRevived (brigade_of self.old) (brigade_of self.new) (next_name self.old) }
         ensures pools { pool_of self.new ≡ pool_of self.old }
         ensures references { references self.new ≡ references self.old }
+        ensures unasked { self.new.asked ≡ self.old.asked }
     {
         for morph in found.as_slice() {
             self.apply_morph(*morph);
@@ -170,6 +173,7 @@ impl<R: Rings<Stored> + Drop> Brigades<R> {
         ensures names { NoneRevived (brigade_of self.old) (brigade_of self.new) (next_name self.old) }
         ensures pools { pool_of self.new ≡ pool_of self.old }
         ensures references { references self.new ≡ references self.old }
+        ensures unasked { self.new.asked ≡ self.old.asked }
     {
         let Morphs {
             found,
@@ -189,6 +193,7 @@ impl<R: Rings<Stored> + Drop> Brigades<R> {
         ensures names { NoneRevived (brigade_of self.old) (brigade_of self.new) (next_name self.old) }
         ensures pools { pool_of self.new ≡ pool_of self.old }
         ensures references { references self.new ≡ references self.old }
+        ensures unasked { self.new.asked ≡ self.old.asked }
     {
         let pools = self.change_found(morphs);
         self.held.forget(pools.as_slice());
@@ -203,6 +208,7 @@ impl<R: Rings<Stored> + Drop> Brigades<R> {
         ensures names { brigade_of self.new ≡ brigade_of self.old }
         ensures pools { pool_of self.new ≡ pool_of self.old }
         ensures references { references self.new ≡ references self.old }
+        ensures unasked { self.new.asked ≡ self.old.asked }
     {
         self.held.forget(pools);
     }

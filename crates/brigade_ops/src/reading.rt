@@ -67,6 +67,7 @@ impl<R: Rings<Stored> + Drop> Brigades<R> {
             ⊎ (WentWell (F.device files.old) (F.device files.new) × EndsWithin (F.device files.old) bucket.content)) }
         ensures open_files { (F.device files.new).numbered ≡ (F.device files.old).numbered }
         ensures err { OnErr result ((m : ℕ) → lists self.new m ≡ lists self.old m) }
+        ensures unasked { self.new.asked ≡ self.old.asked }
     {
         let _rest = read_into(&mut bucket, room, files)?;
         self.set_own(id, bucket);
@@ -104,6 +105,7 @@ impl<R: Rings<Stored> + Drop> Brigades<R> {
             ⊎ (WentWell (F.device files.old) (F.device files.new) × EndsWithin (F.device files.old) bucket.content)) }
         ensures open_files { (F.device files.new).numbered ≡ (F.device files.old).numbered }
         ensures err { OnErr result ((m : ℕ) → lists self.new m ≡ lists self.old m) }
+        ensures unasked { self.new.asked ≡ self.old.asked }
     {
         let _rest = read_into(&mut bucket, room, files)?;
         let new = self.put_own_behind(id, rest);
@@ -140,6 +142,7 @@ impl<R: Rings<Stored> + Drop> Brigades<R> {
         ensures unspent { result ≡ Err ReadRefusal.NamesSpent → (next_name self.old ≡ u64.MAX) × (F.device files.new ≡ F.device files.old) }
         ensures open_files { (F.device files.new).numbered ≡ (F.device files.old).numbered }
         ensures err { OnErr result ((m : ℕ) → lists self.new m ≡ lists self.old m) }
+        ensures unasked { self.new.asked ≡ self.old.asked }
     {
         let room = room_to_read(self.alloc, &bucket)?;
         let Some(rest) = rest_of_read(&bucket) else {
@@ -182,6 +185,7 @@ impl<R: Rings<Stored> + Drop> Brigades<R> {
         ensures unspent { result ≡ Err ReadRefusal.NamesSpent → (next_name self.old ≡ u64.MAX) × (F.device files.new ≡ F.device files.old) }
         ensures open_files { (F.device files.new).numbered ≡ (F.device files.old).numbered }
         ensures err { OnErr result ((m : ℕ) → lists self.new m ≡ lists self.old m) }
+        ensures unasked { self.new.asked ≡ self.old.asked }
     {
         match self.range_at(id) {
             Some(bucket) => self.read_range(files, id, bucket),

@@ -29,6 +29,7 @@ pub(crate) fn refer(
     ensures live { IsTrue (is_live (map_of tree.new) pool) }
     ensures kept { OnErr result (map_of tree.new ≡ map_of tree.old) }
     ensures uncounted { OnErr result ((f : ℕ) → count_at counts.new f ≡ count_at counts.old f) }
+    ensures tree_unasked { tree.new.asked ≡ tree.old.asked }
 {
     counts.reserve()?;
     let count = counts.get(file).unwrap_or(0);
@@ -50,6 +51,7 @@ fn unrefer(counts: &mut Numbers, tree: &mut PoolTree<Payload>, pool: PoolId, fil
     ensures gone { map_of tree.new ≡ killed pool (λ other. payload_eq other (Payload.FileRef file)) (map_of tree.old) }
     ensures live { IsTrue (is_live (map_of tree.new) pool) }
     ensures less { (f : ℕ) → count_at counts.old f ≡ (if file == f then count_at counts.new f + 1 else count_at counts.new f) }
+    ensures tree_unasked { tree.new.asked ≡ tree.old.asked }
 {
     let _killed = tree.kill(pool, &Payload::FileRef(file));
     let count = counts.get(file).unwrap_or(0);
@@ -71,6 +73,7 @@ pub(crate) fn unrefer_all(
     requires counted { (f : ℕ) → times_in f files.now ≤ count_at counts.old f }
     ensures gone { (ps : Pools Payload) → map_of tree.old ≡ all_referred pool files.now ps → map_of tree.new ≡ ps }
     ensures less { (f : ℕ) → count_at counts.old f ≡ count_at counts.new f + times_in f files.now }
+    ensures tree_unasked { tree.new.asked ≡ tree.old.asked }
 {
     for index in (0..files.len()).rev() {
         let file = files[index];
@@ -92,6 +95,7 @@ pub(crate) fn refer_all(
     ensures sure { files.now ≡ [] → IsOk result }
     ensures kept { OnErr result (map_of tree.new ≡ map_of tree.old) }
     ensures uncounted { OnErr result ((f : ℕ) → count_at counts.new f ≡ count_at counts.old f) }
+    ensures tree_unasked { tree.new.asked ≡ tree.old.asked }
 {
     for index in 0..files.len() {
         let file = files[index];

@@ -73,6 +73,7 @@ impl<R: Rings<Stored> + Drop> Brigades<R> {
         ensures names { NoneRevived (brigade_of self.old) (brigade_of self.new) (next_name self.old) }
         ensures pools { pool_of self.new ≡ pool_of self.old }
         ensures references { references self.new ≡ references self.old }
+        ensures unasked { self.new.asked ≡ self.old.asked }
     {
         let mut place = from;
         while let Some(id) = place {
@@ -111,6 +112,8 @@ impl<R: Rings<Stored> + Drop> Brigades<R> {
         ensures kept { OnErr result (map_of tree.new ≡ map_of tree.old) }
         ensures uncounted { OnErr result ((f : ℕ) → references self.new f ≡ references self.old f) }
         ensures house { IsHouse self.old (map_of tree.old) → IsHouse self.new (map_of tree.new) }
+        ensures unasked { self.new.asked ≡ self.old.asked }
+        ensures tree_unasked { tree.new.asked ≡ tree.old.asked }
     {
         let Some(pool) = self.pools.get(o) else {
             unreachable!()

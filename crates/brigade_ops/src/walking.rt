@@ -121,6 +121,7 @@ impl<R: Rings<Stored> + Drop> Brigades<R> {
         ensures references { references self.new ≡ references self.old }
         ensures unspent { result ≡ Err RingRefusal.NamesSpent → next_name self.old ≡ u64.MAX }
         ensures err { OnErr result ((m : ℕ) → lists self.new m ≡ lists self.old m) }
+        ensures unasked { self.new.asked ≡ self.old.asked }
     {
         let (id, n) = match self.find(b, point) {
             Point::Short => return Ok(Cut::Incomplete),
@@ -156,6 +157,7 @@ impl<R: Rings<Stored> + Drop> Brigades<R> {
         ensures pools { pool_of self.new ≡ pool_of self.old }
         ensures references { references self.new ≡ references self.old }
         ensures err { OnErr result ((n : ℕ) → lists self.new n ≡ lists self.old n) }
+        ensures unasked { self.new.asked ≡ self.old.asked }
     {
         let Some(id) = place else {
             self.held.drop_all(a);

@@ -53,6 +53,7 @@ impl Filter {
         ensures references { references store.new ≡ references store.old }
         ensures err { OnErr result ((n : ℕ) → lists store.new n ≡ lists store.old n) }
         ensures same { OnErr result (self.new ≡ self.old) }
+        ensures unasked { store.new.asked ≡ store.old.asked }
     {
         match begin_call(&self.instance, &mut self.call, store, pc) {
             Ok(()) => Ok(()),
@@ -95,6 +96,7 @@ impl Conn {
         ensures leaves { (ps : Pools Payload) → LeavesOthers ps store.old store.new self.old self.new }
         ensures ended { EndsLoose store.old store.new self.old self.new }
         ensures count { self.new.count ≡ self.old.count }
+        ensures unasked { store.new.asked ≡ store.old.asked }
     {
         let top = self.top();
         self.waits.reserve(1)?;

@@ -37,6 +37,7 @@ impl Conn {
         ensures leaves { (ps : Pools Payload) → LeavesOthers ps store.old store.new self.old self.new }
         ensures ended { EndsLoose store.old store.new self.old self.new }
         ensures count { self.new.count ≡ self.old.count }
+        ensures unasked { store.new.asked ≡ store.old.asked }
     {
         let top = self.top();
         let filter = &mut self.filters[top];

@@ -32,6 +32,7 @@ impl Filter {
         ensures name { self.new.call.name ≡ 0 }
         ensures pc { self.new.call.pc ≡ self.old.call.pc }
         ensures lent { self.new.lent ≡ self.old.lent }
+        ensures unasked { store.new.asked ≡ store.old.asked }
     {
         end_call(&mut self.instance, &mut self.call, store);
     }
@@ -56,6 +57,7 @@ impl Filter {
         ensures name { self.new.call.name ≡ 0 }
         ensures pc { self.new.call.pc ≡ self.old.call.pc }
         ensures lent { self.new.lent ≡ self.old.lent }
+        ensures unasked { store.new.asked ≡ store.old.asked }
     {
         let brought = self.instance.slot(8);
         self.end(store);

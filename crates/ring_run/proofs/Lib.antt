@@ -53,3 +53,4 @@ pub mod Instructions
 pub mod Pushed
 pub mod Spans
 pub mod Standing
+pub mod OnlyAsked

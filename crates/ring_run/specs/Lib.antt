@@ -24,3 +24,4 @@ pub mod Pieces
 pub mod CarriedOut
 pub mod LabelsKept
 pub mod QuietSteps
+pub mod OnlyAsked

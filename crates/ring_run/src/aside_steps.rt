@@ -45,6 +45,7 @@ pub(crate) fn aside<R: Rings<Stored> + Drop>(
     ensures left { LeavesRest store.old store.new instance.now call.now }
     ensures open { (d : Device) (around : Around) → IsOpenFor d (content_at (spot (seen store.old around instance.now call.now) c))
         → AreOpen (references store.old) d → AreOpen (references store.new) d }
+    ensures tree_unasked { tree.new.asked ≡ tree.old.asked }
 {
     store.aside(tree, call.bucket(c), pool)
 }

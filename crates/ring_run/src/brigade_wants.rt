@@ -1,13 +1,16 @@
 //! What instructions want of all buckets of a brigade: homes that are not dead, no data behind an EOS, nothing that does not outlast
 //! the call.
 
-ghost use Rattle.std.specs.Prelude.{◌≡◌, ◌<◌};
+ghost use Rattle.std.specs.Prelude.{◌≡◌, ◌<◌, true, is_some, IfSome};
+ghost use Rattle.run_model.specs.declared.payload.Payload.{Payload};
+ghost use Rattle.run_model.specs.Pools.{Pools};
 ghost use Rattle.run_model.specs.Faults.{WHomes, WHomeAcross, WSend, WReturn, fault_want, homes_fault, send_fault, keeps_stray};
 ghost use Rattle.brigade_ops.specs.Store.{lists};
 ghost use Rattle.ring_run.specs.declared.machine.Call.{Call};
 ghost use Rattle.ring_run.specs.Around.{Around};
 ghost use Rattle.ring_run.specs.Contents.{contents};
-ghost use Rattle.ring_run.specs.Outside.{with_outside};
+ghost use Rattle.ring_run.specs.OnlyAsked.{OnlyAsked};
+ghost use Rattle.ring_run.specs.Setting.{in_setting};
 ghost use Rattle.ring_run.specs.Seen.{seen, is_running};
 ghost use Rattle.ring_run.specs.Slots.{slot_at, live_in};
 
@@ -15,7 +18,7 @@ use crate::across::bucket_across;
 use crate::home_walks::{has_dead, has_late_data, has_stray};
 use crate::home_wants::home_fault;
 use crate::machine::{Call, Instance, Slot};
-use crate::outside::Outside;
+use crate::setting::Setting;
 use crate::values::value_of;
 use brigade_ops::{BrigadeId, Brigades, Rings, Stored};
 use run_model::{FaultKind, Mark, Value};
@@ -23,69 +26,82 @@ use run_model::{FaultKind, Mark, Value};
 /// The brigade of a variable, where it is there.
 fn live<R: Rings<Stored> + Drop>(
     instance: &Instance,
-    store: &Brigades<R>,
+    store: &mut Brigades<R>,
     b: u8,
 ) -> Option<BrigadeId>
     requires { b < 9 }
-    ensures { result ≡ live_in (lists store.now) (slot_at instance.now b) }
+    ensures value { result ≡ live_in (lists store.old) (slot_at instance.now b) }
+    ensures there { IfSome result (λ n. is_some (lists store.new n) ≡ true) }
+    ensures asked { OnlyAsked store.old store.new }
 {
-    match instance.slot(b) {
-        Slot::Made(name, _, _) if store.has(name) => Some(name),
-        Slot::Made(_, _, _) | Slot::Null => None,
-    }
+    let Slot::Made(name, _, _) = instance.slot(b) else {
+        return None;
+    };
+    if store.has(name) { Some(name) } else { None }
 }
 
 /// The fault of a brigade in which some bucket's home is dead.
-#[tactic(auto, using(crate::proofs::Contents::homes_told))]
+#[tactic(auto, using(crate::proofs::Contents::homes_told, crate::proofs::OnlyAsked::lists_same))]
 pub(crate) fn want_homes<R: Rings<Stored> + Drop>(
     instance: &Instance,
     call: &Call,
-    outside: &Outside<'_>,
-    store: &Brigades<R>,
+    setting: &Setting<'_>,
+    store: &mut Brigades<R>,
     b: u8,
 ) -> Option<FaultKind>
     requires { b < 9 }
-    ensures { (around : Around) → result ≡ fault_want (seen store.now (with_outside outside.now around) instance.now call.now) (WHomes b) }
+    ensures value { (pools : Pools Payload) (around : Around) → result ≡ fault_want (seen store.old (in_setting setting.now pools around) instance.now call.now) (WHomes b) }
+    ensures asked { OnlyAsked store.old store.new }
 {
-    match live(instance, store, b) {
-        Some(name) if has_dead(call, outside, store, name) => Some(FaultKind::F5),
-        Some(_) | None => None,
+    let Some(name) = live(instance, store, b) else {
+        return None;
+    };
+    if has_dead(call, setting, store, name) {
+        Some(FaultKind::F5)
+    } else {
+        None
     }
 }
 
 /// The fault of a brigade in which the bucket that a point lies inside has a home that is dead.
-#[tactic(auto, using(crate::proofs::Contents::across_told, crate::proofs::Contents::none_across))]
+#[tactic(auto, using(crate::proofs::Contents::across_told, crate::proofs::Contents::none_across, crate::proofs::OnlyAsked::lists_same, crate::proofs::OnlyAsked::buckets_same))]
 pub(crate) fn want_home_across<R: Rings<Stored> + Drop>(
     instance: &Instance,
     call: &Call,
-    outside: &Outside<'_>,
-    store: &Brigades<R>,
+    setting: &Setting<'_>,
+    store: &mut Brigades<R>,
     b: u8,
     point: Value,
 ) -> Option<FaultKind>
     requires { b < 9 }
-    ensures { (around : Around) → result ≡ fault_want (seen store.now (with_outside outside.now around) instance.now call.now) (WHomeAcross b point) }
+    ensures value { (pools : Pools Payload) (around : Around) → result ≡ fault_want (seen store.old (in_setting setting.now pools around) instance.now call.now) (WHomeAcross b point) }
+    ensures asked { OnlyAsked store.old store.new }
 {
     let Some(name) = live(instance, store, b) else {
         return None;
     };
     let across = bucket_across(store, name, u64::from(value_of(instance, point)));
-    home_fault(call, outside, store, across)
+    home_fault(call, setting, store, across)
 }
 
 /// The fault of a brigade that may not be sent on: data stands behind an EOS of its own, or of the request.
-#[tactic(auto, using(crate::proofs::Contents::send_told))]
+#[tactic(auto, using(crate::proofs::Contents::send_told, crate::proofs::OnlyAsked::lists_same))]
 pub(crate) fn want_send<R: Rings<Stored> + Drop>(
     instance: &Instance,
-    store: &Brigades<R>,
+    store: &mut Brigades<R>,
     b: u8,
 ) -> Option<FaultKind>
     requires { b < 9 }
-    ensures { (around : Around) (call : Call) → result ≡ fault_want (seen store.now around instance.now call) (WSend b) }
+    ensures value { (around : Around) (call : Call) → result ≡ fault_want (seen store.old around instance.now call) (WSend b) }
+    ensures asked { OnlyAsked store.old store.new }
 {
-    match live(instance, store, b) {
-        Some(name) if has_late_data(store, name, instance.sent) => Some(FaultKind::F8),
-        Some(_) | None => None,
+    let Some(name) = live(instance, store, b) else {
+        return None;
+    };
+    if has_late_data(store, name, instance.sent) {
+        Some(FaultKind::F8)
+    } else {
+        None
     }
 }
 
@@ -93,18 +109,19 @@ pub(crate) fn want_send<R: Rings<Stored> + Drop>(
 fn keeps_stray<R: Rings<Stored> + Drop>(
     instance: &Instance,
     call: &Call,
-    outside: &Outside<'_>,
-    store: &Brigades<R>,
+    setting: &Setting<'_>,
+    store: &mut Brigades<R>,
     b: u8,
 ) -> bool
     requires { b < 9 }
-    ensures { (around : Around) → let r = seen store.now (with_outside outside.now around) instance.now call.now in result ≡ keeps_stray r (r.instance.brigades b) }
+    ensures value { (pools : Pools Payload) (around : Around) → let r = seen store.old (in_setting setting.now pools around) instance.now call.now in result ≡ keeps_stray r (r.instance.brigades b) }
+    ensures asked { OnlyAsked store.old store.new }
 {
     let Slot::Made(name, _, mark) = instance.slot(b) else {
         return false;
     };
     match mark {
-        Mark::Usable => store.has(name) && has_stray(instance, call, outside, store, name),
+        Mark::Usable => store.has(name) && has_stray(instance, call, setting, store, name),
         Mark::Passed => false,
     }
 }
@@ -113,13 +130,14 @@ fn keeps_stray<R: Rings<Stored> + Drop>(
 pub(crate) fn want_return<R: Rings<Stored> + Drop>(
     instance: &Instance,
     call: &Call,
-    outside: &Outside<'_>,
-    store: &Brigades<R>,
+    setting: &Setting<'_>,
+    store: &mut Brigades<R>,
 ) -> Option<FaultKind>
-    ensures { (around : Around) → result ≡ fault_want (seen store.now (with_outside outside.now around) instance.now call.now) WReturn }
+    ensures value { (pools : Pools Payload) (around : Around) → result ≡ fault_want (seen store.old (in_setting setting.now pools around) instance.now call.now) WReturn }
+    ensures asked { OnlyAsked store.old store.new }
 {
     for b in 0..8u8 {
-        if keeps_stray(instance, call, outside, store, b) {
+        if keeps_stray(instance, call, setting, store, b) {
             return Some(FaultKind::F6);
         }
     }

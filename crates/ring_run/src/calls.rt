@@ -78,6 +78,7 @@ pub fn begin_call<R: Rings<Stored> + Drop>(
     ensures err { OnErr result ((n : ℕ) → lists store.new n ≡ lists store.old n) }
     ensures same { OnErr result (call.new ≡ call.old) }
     ensures held { OnOk result (IsHeld store.new instance.now call.new) }
+    ensures unasked { store.new.asked ≡ store.old.asked }
 {
     let name = store.loose()?;
     call.start(name, pc);
@@ -108,6 +109,7 @@ pub fn end_call<R: Rings<Stored> + Drop>(
     ensures cursors { (c : ℕ) → cursor_at call.new c ≡ CursorValue.Unset }
     ensures buffer { call.new.buffer ≡ [] }
     ensures pc { call.new.pc ≡ call.old.pc }
+    ensures unasked { store.new.asked ≡ store.old.asked }
 {
     store.end_loose(call.name);
     instance.set_slot(8, Slot::Null);

@@ -57,6 +57,8 @@ pub fn clear_pool<R: Rings<Stored> + Drop, F: Files>(
     ensures pools { OnErr result (pool_of store.new ≡ pool_of store.old) }
     ensures kept { OnErr result (map_of tree.new ≡ map_of tree.old) }
     ensures unread { OnErr result (F.device files.new ≡ F.device files.old) }
+    ensures unasked { store.new.asked ≡ store.old.asked }
+    ensures tree_unasked { tree.new.asked ≡ tree.old.asked }
 {
     let ran = store.clear(rings, tree, files, pool)?;
     Ok(ran)
@@ -96,6 +98,8 @@ pub fn destroy_pool<R: Rings<Stored> + Drop, F: Files>(
     ensures pools { OnErr result (pool_of store.new ≡ pool_of store.old) }
     ensures kept { OnErr result (map_of tree.new ≡ map_of tree.old) }
     ensures unread { OnErr result (F.device files.new ≡ F.device files.old) }
+    ensures unasked { store.new.asked ≡ store.old.asked }
+    ensures tree_unasked { tree.new.asked ≡ tree.old.asked }
 {
     let ran = store.destroy(rings, tree, files, pool)?;
     Ok(ran)

@@ -41,6 +41,7 @@ pub(crate) fn create<R: Rings<Stored> + Drop>(
     ensures left { (call : Call) → LeavesRest store.old store.new instance.old call }
     ensures references { references store.new ≡ references store.old }
     ensures slots { KeepNames (next_name store.old) (next_name store.new) instance.old instance.new }
+    ensures tree_unasked { tree.new.asked ≡ tree.old.asked }
 {
     let Ok(name) = store.create(tree, pool) else {
         return Err(AllocError);

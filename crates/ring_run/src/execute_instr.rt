@@ -82,6 +82,7 @@ fn execute_without_files<R: Rings<Stored> + Drop>(
     ensures name { call.new.name ≡ call.old.name }
     ensures slots { KeepNames (next_name store.old) (next_name store.new) instance.old instance.new }
     ensures left { LeavesRest store.old store.new instance.old call.old }
+    ensures tree_unasked { tree.new.asked ≡ tree.old.asked }
 {
     let leads = exit(code, instance, call, store, instr);
     if changes_pools(instr) {
@@ -127,6 +128,8 @@ fn execute_clear<R: Rings<Stored> + Drop, F: Files>(
     ensures next { next_name store.new ≡ next_name store.old }
     ensures names { NoneRevived (brigade_of store.old) (brigade_of store.new) (next_name store.old) }
     ensures cleared { OnOk result ((pool : ℕ) → cleared_in instance.now instr ≡ Some pool → LeavesUncleared (is_under (map_of tree.old) pool) setting.now.rings.now store.old store.new) }
+    ensures unasked { store.new.asked ≡ store.old.asked }
+    ensures tree_unasked { tree.new.asked ≡ tree.old.asked }
 {
     let Some(pool) = cleared_pool(instance, instr) else {
         unreachable!()
@@ -189,6 +192,8 @@ pub fn execute_instr<R: Rings<Stored> + Drop, F: Files>(
     ensures names { NoneRevived (brigade_of store.old) (brigade_of store.new) (next_name store.old) }
     ensures left { clears_pool instr ≡ false → LeavesRest store.old store.new instance.old call.old }
     ensures cleared { OnOk result ((pool : ℕ) → cleared_in instance.old instr ≡ Some pool → LeavesUncleared (is_under (map_of tree.old) pool) setting.now.rings.now store.old store.new) }
+    ensures unasked { store.new.asked ≡ store.old.asked }
+    ensures tree_unasked { tree.new.asked ≡ tree.old.asked }
 {
     match instr {
         Instr::PClear(_) | Instr::PDestroy(_) => {

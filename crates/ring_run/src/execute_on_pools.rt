@@ -83,6 +83,7 @@ pub(crate) fn execute_on_pools<R: Rings<Stored> + Drop>(
     ensures open { (d : Device) → ((around : Around) → RangesOpen d (seen store.old (in_setting setting.now (map_of tree.old) around) instance.old call.now)) → AreOpen (references store.old) d → AreOpen (references store.new) d }
     ensures slots { KeepNames (next_name store.old) (next_name store.new) instance.old instance.new }
     ensures left { LeavesRest store.old store.new instance.old call.now }
+    ensures tree_unasked { tree.new.asked ≡ tree.old.asked }
 {
     match instr {
         Instr::PCreate(q) => {

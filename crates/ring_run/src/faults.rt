@@ -6,6 +6,7 @@ ghost use Rattle.brigade_ops.specs.Store.{lists};
 ghost use Rattle.ring_run.specs.declared.machine.Call.{Call};
 ghost use Rattle.ring_run.specs.Around.{Around};
 ghost use Rattle.ring_run.specs.Needs.{bare, mark_in};
+ghost use Rattle.ring_run.specs.OnlyAsked.{OnlyAsked};
 ghost use Rattle.ring_run.specs.Seen.{seen};
 ghost use Rattle.ring_run.specs.Slots.{slot_at};
 
@@ -24,14 +25,19 @@ pub(crate) fn or_else(first: Option<FaultKind>, second: Option<FaultKind>) -> Op
 }
 
 /// The mark of the brigade in a variable, where it is there.
-fn mark_of<R: Rings<Stored> + Drop>(instance: &Instance, store: &Brigades<R>, b: u8) -> Option<Mark>
+fn mark_of<R: Rings<Stored> + Drop>(
+    instance: &Instance,
+    store: &mut Brigades<R>,
+    b: u8,
+) -> Option<Mark>
     requires { b < 9 }
-    ensures { result ≡ mark_in (lists store.now) (slot_at instance.now b) }
+    ensures value { result ≡ mark_in (lists store.old) (slot_at instance.now b) }
+    ensures asked { OnlyAsked store.old store.new }
 {
-    match instance.slot(b) {
-        Slot::Made(name, _, mark) if store.has(name) => Some(mark),
-        Slot::Made(_, _, _) | Slot::Null => None,
-    }
+    let Slot::Made(name, _, mark) = instance.slot(b) else {
+        return None;
+    };
+    if store.has(name) { Some(mark) } else { None }
 }
 
 fn brigade_fault(mark: Option<Mark>) -> Option<FaultKind>
@@ -75,11 +81,12 @@ fn new_fault(mark: Option<Mark>) -> Option<FaultKind>
 #[tactic(auto, using(crate::proofs::Wanted::brigade_told))]
 pub(crate) fn want_brigade<R: Rings<Stored> + Drop>(
     instance: &Instance,
-    store: &Brigades<R>,
+    store: &mut Brigades<R>,
     b: u8,
 ) -> Option<FaultKind>
     requires { b < 9 }
-    ensures { (around : Around) (call : Call) → result ≡ fault_want (seen store.now around instance.now call) (WBrigade b) }
+    ensures value { (around : Around) (call : Call) → result ≡ fault_want (seen store.old around instance.now call) (WBrigade b) }
+    ensures asked { OnlyAsked store.old store.new }
 {
     brigade_fault(mark_of(instance, store, b))
 }
@@ -88,11 +95,12 @@ pub(crate) fn want_brigade<R: Rings<Stored> + Drop>(
 #[tactic(auto, using(crate::proofs::Wanted::usable_told))]
 pub(crate) fn want_usable<R: Rings<Stored> + Drop>(
     instance: &Instance,
-    store: &Brigades<R>,
+    store: &mut Brigades<R>,
     b: u8,
 ) -> Option<FaultKind>
     requires { b < 9 }
-    ensures { (around : Around) (call : Call) → result ≡ fault_want (seen store.now around instance.now call) (WUsable b) }
+    ensures value { (around : Around) (call : Call) → result ≡ fault_want (seen store.old around instance.now call) (WUsable b) }
+    ensures asked { OnlyAsked store.old store.new }
 {
     usable_fault(mark_of(instance, store, b))
 }
@@ -101,11 +109,12 @@ pub(crate) fn want_usable<R: Rings<Stored> + Drop>(
 #[tactic(auto, using(crate::proofs::Wanted::new_told))]
 pub(crate) fn want_new<R: Rings<Stored> + Drop>(
     instance: &Instance,
-    store: &Brigades<R>,
+    store: &mut Brigades<R>,
     b: u8,
 ) -> Option<FaultKind>
     requires { b < 9 }
-    ensures { (around : Around) (call : Call) → result ≡ fault_want (seen store.now around instance.now call) (WNew b) }
+    ensures value { (around : Around) (call : Call) → result ≡ fault_want (seen store.old around instance.now call) (WNew b) }
+    ensures asked { OnlyAsked store.old store.new }
 {
     new_fault(mark_of(instance, store, b))
 }
@@ -114,11 +123,12 @@ pub(crate) fn want_new<R: Rings<Stored> + Drop>(
 #[tactic(auto, using(crate::proofs::Wanted::passed_told))]
 pub(crate) fn passed_fault<R: Rings<Stored> + Drop>(
     instance: &Instance,
-    store: &Brigades<R>,
+    store: &mut Brigades<R>,
     b: u8,
 ) -> Option<FaultKind>
     requires { b < 9 }
-    ensures { (around : Around) (call : Call) → result ≡ passed_fault ((seen store.now around instance.now call).instance.brigades b) }
+    ensures value { (around : Around) (call : Call) → result ≡ passed_fault ((seen store.old around instance.now call).instance.brigades b) }
+    ensures asked { OnlyAsked store.old store.new }
 {
     passed_by(mark_of(instance, store, b))
 }

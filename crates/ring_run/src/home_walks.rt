@@ -5,32 +5,34 @@ ghost use Rattle.std.specs.List.{list_any};
 ghost use Rattle.bucket_ring.specs.Lists.{list_at};
 ghost use Rattle.run_model.specs.Buckets.{is_dead, is_data_kind, is_eos_kind};
 ghost use Rattle.run_model.specs.Faults.{is_stray};
+ghost use Rattle.run_model.specs.declared.payload.Payload.{Payload};
+ghost use Rattle.run_model.specs.Pools.{Pools};
 ghost use Rattle.brigade_ops.specs.Store.{lists};
 ghost use Rattle.ring_run.specs.Around.{Around};
-ghost use Rattle.ring_run.specs.Outside.{with_outside};
+ghost use Rattle.ring_run.specs.Setting.{in_setting};
 ghost use Rattle.ring_run.specs.Seen.{seen, shown, is_running};
 ghost use Rattle.ring_run.specs.Tests.{late_data};
 
 use crate::home_wants::{home_of, is_ended};
 use crate::machine::{Call, Instance};
-use crate::outside::Outside;
 use crate::pool_wants::is_stray;
+use crate::setting::Setting;
 use brigade_ops::{BrigadeId, Brigades, Rings, Stored};
 use run_model::Kind;
 
 /// Whether the home of some bucket is dead.
 pub(crate) fn has_dead<R: Rings<Stored> + Drop>(
     call: &Call,
-    outside: &Outside<'_>,
+    setting: &Setting<'_>,
     store: &Brigades<R>,
     b: BrigadeId,
 ) -> bool
     requires { is_some (lists store.now b) ≡ true }
-    ensures { result ≡ list_any is_dead (shown (is_running call.now.name outside.now.waits.now) (list_at (lists store.now) b)) }
+    ensures { result ≡ list_any is_dead (shown (is_running call.now.name setting.now.waits.now) (list_at (lists store.now) b)) }
 {
     let mut place = store.start(b);
     while let Some(id) = place {
-        if is_ended(home_of(call, outside, store, id)) {
+        if is_ended(home_of(call, setting, store, id)) {
             return true;
         }
         place = store.behind(id);
@@ -42,16 +44,16 @@ pub(crate) fn has_dead<R: Rings<Stored> + Drop>(
 pub(crate) fn has_stray<R: Rings<Stored> + Drop>(
     instance: &Instance,
     call: &Call,
-    outside: &Outside<'_>,
+    setting: &Setting<'_>,
     store: &Brigades<R>,
     b: BrigadeId,
 ) -> bool
     requires { is_some (lists store.now b) ≡ true }
-    ensures { (around : Around) → result ≡ list_any (λ b. is_stray (seen store.now (with_outside outside.now around) instance.now call.now) b.bucket.home) (shown (is_running call.now.name outside.now.waits.now) (list_at (lists store.now) b)) }
+    ensures { (pools : Pools Payload) (around : Around) → result ≡ list_any (λ b. is_stray (seen store.now (in_setting setting.now pools around) instance.now call.now) b.bucket.home) (shown (is_running call.now.name setting.now.waits.now) (list_at (lists store.now) b)) }
 {
     let mut place = store.start(b);
     while let Some(id) = place {
-        if is_stray(instance, outside, home_of(call, outside, store, id)) {
+        if is_stray(instance, setting, home_of(call, setting, store, id)) {
             return true;
         }
         place = store.behind(id);

@@ -3,6 +3,8 @@
 ghost use Rattle.std.specs.Prelude.{◌≡◌, ◌==◌, ◌<◌, true, is_some, Some, IfSome};
 ghost use Rattle.std.specs.List.{list_any};
 ghost use Rattle.bucket_ring.specs.declared.names.BucketId.{BucketId};
+ghost use Rattle.run_model.specs.declared.payload.Payload.{Payload};
+ghost use Rattle.run_model.specs.Pools.{Pools};
 ghost use Rattle.run_model.specs.declared.bucket.Bucket.{Bucket};
 ghost use Rattle.run_model.specs.Buckets.{is_ended};
 ghost use Rattle.run_model.specs.Cursors.{bucket_at as model_bucket_at, spot};
@@ -10,13 +12,14 @@ ghost use Rattle.run_model.specs.Faults.{WHome, fault_want, home_fault};
 ghost use Rattle.brigade_ops.specs.Store.{brigade_of, bucket_at};
 ghost use Rattle.ring_run.specs.Around.{Around};
 ghost use Rattle.ring_run.specs.Held.{IsHeld};
-ghost use Rattle.ring_run.specs.Outside.{with_outside};
+ghost use Rattle.ring_run.specs.OnlyAsked.{OnlyAsked};
+ghost use Rattle.ring_run.specs.Setting.{in_setting};
 ghost use Rattle.ring_run.specs.Seen.{seen, calls_in, home_in, is_running};
 ghost use Rattle.ring_run.specs.Shown.{shown_at};
 
 use crate::machine::{Call, Instance};
-use crate::outside::Outside;
 use crate::places::{Place, place_of};
+use crate::setting::Setting;
 use brigade_ops::{BrigadeId, Brigades, BucketId, Rings, Stored};
 use run_model::{FaultKind, Home};
 
@@ -29,22 +32,22 @@ fn is_among(names: &[BrigadeId], n: BrigadeId) -> bool
 
 /// Whether a call runs: this one, or one that waits.
 #[tactic(auto, using(crate::proofs::Running::running_none, crate::proofs::Running::running_here, crate::proofs::Running::running_waits))]
-fn is_running(call: &Call, outside: &Outside<'_>, n: BrigadeId) -> bool
-    ensures { result ≡ is_running call.now.name outside.now.waits.now n }
+fn is_running(call: &Call, setting: &Setting<'_>, n: BrigadeId) -> bool
+    ensures { result ≡ is_running call.now.name setting.now.waits.now n }
 {
     if n == 0 {
         return false;
     }
-    n == call.name || is_among(outside.waits, n)
+    n == call.name || is_among(setting.waits, n)
 }
 
 /// The home of a bucket of this birth.
-fn home_in(call: &Call, outside: &Outside<'_>, birth: u64, home: Home) -> Home
-    ensures { result ≡ home_in (is_running call.now.name outside.now.waits.now) birth home }
+fn home_in(call: &Call, setting: &Setting<'_>, birth: u64, home: Home) -> Home
+    ensures { result ≡ home_in (is_running call.now.name setting.now.waits.now) birth home }
 {
     match home {
         Home::Call(n) => {
-            if is_running(call, outside, n) && n < birth {
+            if is_running(call, setting, n) && n < birth {
                 home
             } else {
                 Home::Ended
@@ -57,14 +60,14 @@ fn home_in(call: &Call, outside: &Outside<'_>, birth: u64, home: Home) -> Home
 /// The home of a bucket.
 pub(crate) fn home_of<R: Rings<Stored> + Drop>(
     call: &Call,
-    outside: &Outside<'_>,
+    setting: &Setting<'_>,
     store: &Brigades<R>,
     id: BucketId,
 ) -> Home
     requires { is_some (brigade_of store.now id) ≡ true }
-    ensures { (x : Bucket) → bucket_at store.now id ≡ Some x → result ≡ home_in (is_running call.now.name outside.now.waits.now) id.birth x.home }
+    ensures { (x : Bucket) → bucket_at store.now id ≡ Some x → result ≡ home_in (is_running call.now.name setting.now.waits.now) id.birth x.home }
 {
-    home_in(call, outside, id.birth, store.payload(id).home)
+    home_in(call, setting, id.birth, store.payload(id).home)
 }
 
 /// Whether it is a dead home.
@@ -78,13 +81,14 @@ pub(crate) fn is_ended(home: Home) -> bool
 pub(crate) fn bucket_of<R: Rings<Stored> + Drop>(
     instance: &Instance,
     call: &Call,
-    store: &Brigades<R>,
+    store: &mut Brigades<R>,
     c: u8,
 ) -> Option<BucketId>
     requires cursor { c < 9 }
-    requires held { IsHeld store.now instance.now call.now }
-    ensures at { (around : Around) → shown_at (calls_in around call.now) (bucket_at store.now) result ≡ model_bucket_at (spot (seen store.now around instance.now call.now) c) }
-    ensures there { IfSome result (λ id. is_some (brigade_of store.now id) ≡ true) }
+    requires held { IsHeld store.old instance.now call.now }
+    ensures at { (around : Around) → shown_at (calls_in around call.now) (bucket_at store.new) result ≡ model_bucket_at (spot (seen store.old around instance.now call.now) c) }
+    ensures there { IfSome result (λ id. is_some (brigade_of store.new id) ≡ true) }
+    ensures asked { OnlyAsked store.old store.new }
 {
     match place_of(instance, call, store, c) {
         Place::Within(_, id) => Some(id),
@@ -96,17 +100,17 @@ pub(crate) fn bucket_of<R: Rings<Stored> + Drop>(
 /// The fault of a bucket whose home is dead.
 pub(crate) fn home_fault<R: Rings<Stored> + Drop>(
     call: &Call,
-    outside: &Outside<'_>,
+    setting: &Setting<'_>,
     store: &Brigades<R>,
     bucket: Option<BucketId>,
 ) -> Option<FaultKind>
     requires { IfSome bucket (λ id. is_some (brigade_of store.now id) ≡ true) }
-    ensures { result ≡ home_fault (shown_at (is_running call.now.name outside.now.waits.now) (bucket_at store.now) bucket) }
+    ensures { result ≡ home_fault (shown_at (is_running call.now.name setting.now.waits.now) (bucket_at store.now) bucket) }
 {
     let Some(id) = bucket else {
         return None;
     };
-    if is_ended(home_of(call, outside, store, id)) {
+    if is_ended(home_of(call, setting, store, id)) {
         Some(FaultKind::F5)
     } else {
         None
@@ -117,13 +121,15 @@ pub(crate) fn home_fault<R: Rings<Stored> + Drop>(
 pub(crate) fn want_home<R: Rings<Stored> + Drop>(
     instance: &Instance,
     call: &Call,
-    outside: &Outside<'_>,
-    store: &Brigades<R>,
+    setting: &Setting<'_>,
+    store: &mut Brigades<R>,
     c: u8,
 ) -> Option<FaultKind>
     requires cursor { c < 9 }
-    requires held { IsHeld store.now instance.now call.now }
-    ensures { (around : Around) → result ≡ fault_want (seen store.now (with_outside outside.now around) instance.now call.now) (WHome c) }
+    requires held { IsHeld store.old instance.now call.now }
+    ensures value { (pools : Pools Payload) (around : Around) → result ≡ fault_want (seen store.old (in_setting setting.now pools around) instance.now call.now) (WHome c) }
+    ensures asked { OnlyAsked store.old store.new }
 {
-    home_fault(call, outside, store, bucket_of(instance, call, store, c))
+    let bucket = bucket_of(instance, call, store, c);
+    home_fault(call, setting, store, bucket)
 }

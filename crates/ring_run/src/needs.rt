@@ -7,6 +7,7 @@ ghost use Rattle.ring_run.specs.declared.machine.Call.{Call};
 ghost use Rattle.ring_run.specs.Around.{Around};
 ghost use Rattle.ring_run.specs.Needs.{need_of, place_fault};
 ghost use Rattle.ring_run.specs.Held.{IsHeld};
+ghost use Rattle.ring_run.specs.OnlyAsked.{OnlyAsked};
 ghost use Rattle.ring_run.specs.Places.{by_birth, IsInBrigade};
 ghost use Rattle.ring_run.specs.Seen.{seen};
 
@@ -64,12 +65,13 @@ fn end_fault(need: Need, b: u8) -> Option<FaultKind>
 fn place_fault_at<R: Rings<Stored> + Drop>(
     instance: &Instance,
     call: &Call,
-    store: &Brigades<R>,
+    store: &mut Brigades<R>,
     need: Need,
     spot: Place,
 ) -> Option<FaultKind>
-    requires { IsInBrigade (brigade_of store.now) instance.now call.now spot }
-    ensures { (around : Around) → result ≡ place_fault (seen store.now around instance.now call.now) (need_of need) (by_birth spot) }
+    requires { IsInBrigade (brigade_of store.old) instance.now call.now spot }
+    ensures value { (around : Around) → result ≡ place_fault (seen store.old around instance.now call.now) (need_of need) (by_birth spot) }
+    ensures asked { OnlyAsked store.old store.new }
 {
     match spot {
         Place::Nowhere => Some(FaultKind::F3),
@@ -84,19 +86,15 @@ fn place_fault_at<R: Rings<Stored> + Drop>(
 pub(crate) fn want_cursor<R: Rings<Stored> + Drop>(
     instance: &Instance,
     call: &Call,
-    store: &Brigades<R>,
+    store: &mut Brigades<R>,
     c: u8,
     need: Need,
 ) -> Option<FaultKind>
     requires cursor { c < 9 }
-    requires held { IsHeld store.now instance.now call.now }
-    ensures { (around : Around) → result ≡ fault_want (seen store.now around instance.now call.now) (WCursor c (need_of need)) }
+    requires held { IsHeld store.old instance.now call.now }
+    ensures value { (around : Around) → result ≡ fault_want (seen store.old around instance.now call.now) (WCursor c (need_of need)) }
+    ensures asked { OnlyAsked store.old store.new }
 {
-    place_fault_at(
-        instance,
-        call,
-        store,
-        need,
-        place_of(instance, call, store, c),
-    )
+    let spot = place_of(instance, call, store, c);
+    place_fault_at(instance, call, store, need, spot)
 }

@@ -199,6 +199,7 @@ fn empty_passed<R: Rings<Stored> + Drop>(instance: &mut Instance, store: &mut Br
     ensures held { (call : Call) → IsHeld store.old instance.old call → IsHeld store.new instance.new call }
     ensures left { (call : Call) → LeavesOthers store.old store.new instance.old call }
     ensures slots { (a : ℕ) → slot_at instance.new a ≡ (if a == b then marked Mark.Passed (slot_at instance.old b) else slot_at instance.old a) }
+    ensures unasked { store.new.asked ≡ store.old.asked }
 {
     let name = instance.brigade(b);
     hand_over(instance, store, b);
@@ -230,6 +231,7 @@ pub fn pass_out<R: Rings<Stored> + Drop, F: Files>(
     ensures sure { (around : Around) (call : Call) → (not ended.old && has_bytes (items_of ((seen store.old around instance.old call).instance.brigades b))) ≡ false → IsOk result }
     ensures read { OnErr result (SomeWentWell (F.device files.old) (F.device files.new)) }
     ensures open_files { (F.device files.new).numbered ≡ (F.device files.old).numbered }
+    ensures unasked { store.new.asked ≡ store.old.asked }
 {
     let name = instance.brigade(b);
     let well = add_brigade(store, files, name, out, ended)?;

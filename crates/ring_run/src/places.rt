@@ -7,6 +7,7 @@ ghost use Rattle.brigade_ops.specs.Store.{lists, brigade_of};
 ghost use Rattle.ring_run.specs.Around.{Around};
 ghost use Rattle.ring_run.specs.Slots.{slot_at, name_in};
 ghost use Rattle.ring_run.specs.Held.{IsHeld, WasGiven};
+ghost use Rattle.ring_run.specs.OnlyAsked.{OnlyAsked};
 ghost use Rattle.ring_run.specs.Seen.{seen_over};
 ghost use Rattle.ring_run.specs.Places.{by_birth, place_of, IsInBrigade};
 
@@ -51,13 +52,14 @@ fn slot_of(instance: &Instance, name: BrigadeId) -> Option<u8>
 fn bucket_place<R: Rings<Stored> + Drop>(
     instance: &Instance,
     call: &Call,
-    store: &Brigades<R>,
+    store: &mut Brigades<R>,
     id: BucketId,
 ) -> Place
-    requires held { IsHeld store.now instance.now call.now }
-    requires given { WasGiven store.now id }
-    ensures at { (next : ℕ) (around : Around) → let r = seen_over (lists store.now) next around instance.now call.now in by_birth result ≡ place_of (bucket_spot r id.birth (holder_of r id.birth)) }
-    ensures inside { IsInBrigade (brigade_of store.now) instance.now call.now result }
+    requires held { IsHeld store.old instance.now call.now }
+    requires given { WasGiven store.old id }
+    ensures at { (next : ℕ) (around : Around) → let r = seen_over (lists store.old) next around instance.now call.now in by_birth result ≡ place_of (bucket_spot r id.birth (holder_of r id.birth)) }
+    ensures inside { IsInBrigade (brigade_of store.new) instance.now call.now result }
+    ensures asked { OnlyAsked store.old store.new }
 {
     let Some(ring) = store.ring_of(id) else {
         return Place::Nowhere;
@@ -74,11 +76,12 @@ fn bucket_place<R: Rings<Stored> + Drop>(
 /// The variable of a brigade, where it is there.
 fn end_place<R: Rings<Stored> + Drop>(
     instance: &Instance,
-    store: &Brigades<R>,
+    store: &mut Brigades<R>,
     b: BrigadeId,
 ) -> Option<u8>
-    ensures at { (next : ℕ) (around : Around) (call : Call) → result ≡ variable_of (seen_over (lists store.now) next around instance.now call) b }
+    ensures at { (next : ℕ) (around : Around) (call : Call) → result ≡ variable_of (seen_over (lists store.old) next around instance.now call) b }
     ensures slot { IfSome result (λ b. b < 9) }
+    ensures asked { OnlyAsked store.old store.new }
 {
     if store.has(b) {
         slot_of(instance, b)
@@ -91,13 +94,14 @@ fn end_place<R: Rings<Stored> + Drop>(
 pub fn place_of<R: Rings<Stored> + Drop>(
     instance: &Instance,
     call: &Call,
-    store: &Brigades<R>,
+    store: &mut Brigades<R>,
     c: u8,
 ) -> Place
     requires cursor { c < 9 }
-    requires held { IsHeld store.now instance.now call.now }
-    ensures at { (next : ℕ) (around : Around) → by_birth result ≡ place_of (spot (seen_over (lists store.now) next around instance.now call.now) c) }
-    ensures inside { IsInBrigade (brigade_of store.now) instance.now call.now result }
+    requires held { IsHeld store.old instance.now call.now }
+    ensures at { (next : ℕ) (around : Around) → by_birth result ≡ place_of (spot (seen_over (lists store.old) next around instance.now call.now) c) }
+    ensures inside { IsInBrigade (brigade_of store.new) instance.now call.now result }
+    ensures asked { OnlyAsked store.old store.new }
 {
     match call.cursor(c) {
         CursorValue::Unset => Place::Nowhere,

@@ -74,6 +74,8 @@ pub(crate) fn clear_named<R: Rings<Stored> + Drop, F: Files>(
     ensures pools { OnErr result (pool_of store.new ≡ pool_of store.old) }
     ensures kept { OnErr result (map_of tree.new ≡ map_of tree.old) }
     ensures unread { OnErr result (F.device files.new ≡ F.device files.old) }
+    ensures unasked { store.new.asked ≡ store.old.asked }
+    ensures tree_unasked { tree.new.asked ≡ tree.old.asked }
 {
     match instr {
         Instr::PClear(_) => clear_pool(instance, call, rings, tree, store, files, pool),

@@ -38,6 +38,7 @@ pub(crate) fn create_pool(
         → seen_over rings next (record around { pools = map_of tree.new }) instance.new call ≡ seen_over rings next (record around { pools = map_of tree.old }) instance.old call) }
     ensures slots { (b : ℕ) → slot_at instance.new b ≡ slot_at instance.old b }
     ensures house { (rings : ℕ → Option Items) (pools : ℕ → Option ℕ) (references : ℕ → ℕ) → AreHoused rings pools references (map_of tree.old) → AreHoused rings pools references (map_of tree.new) }
+    ensures tree_unasked { tree.new.asked ≡ tree.old.asked }
 {
     let Ok(name) = tree.create(parent) else {
         return Err(AllocError);
@@ -62,6 +63,7 @@ pub(crate) fn label(
     ensures err { OnErr result ((rings : ℕ → Option Items) (next : ℕ) (around : Around) (i : Instance) (call : Call)
         → seen_over rings next (record around { pools = map_of tree.new }) i call ≡ seen_over rings next (record around { pools = map_of tree.old }) i call) }
     ensures house { (rings : ℕ → Option Items) (pools : ℕ → Option ℕ) (references : ℕ → ℕ) → AreHoused rings pools references (map_of tree.old) → AreHoused rings pools references (map_of tree.new) }
+    ensures tree_unasked { tree.new.asked ≡ tree.old.asked }
 {
     let label = text(alloc, code, t)?;
     let Ok(()) = tree.register(pool, Payload::Label(label)) else {
@@ -77,6 +79,7 @@ pub(crate) fn unlabel(code: &Module, tree: &mut PoolTree<Payload>, pool: PoolId,
     ensures new { (rings : ℕ → Option Items) (next : ℕ) (around : Around) (i : Instance) (call : Call)
         → seen_over rings next (record around { pools = map_of tree.new }) i call ≡ on_pool (label_killed (text_of code.now t)) (Some pool) (seen_over rings next (record around { pools = map_of tree.old }) i call) }
     ensures house { (rings : ℕ → Option Items) (pools : ℕ → Option ℕ) (references : ℕ → ℕ) → AreHoused rings pools references (map_of tree.old) → AreHoused rings pools references (map_of tree.new) }
+    ensures tree_unasked { tree.new.asked ≡ tree.old.asked }
 {
     if let Some(index) = newest_label(tree.payloads(pool), code.text(t)) {
         tree.take_out(pool, index);

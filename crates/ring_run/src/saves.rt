@@ -49,6 +49,7 @@ pub(crate) fn save<R: Rings<Stored> + Drop>(
     ensures left { (call : Call) → LeavesRest store.old store.new instance.now call }
     ensures open { (d : Device) (around : Around) (call : Call) → All (RangeIsOpen d) (items_of ((seen store.old around instance.now call).instance.brigades b))
         → AreOpen (references store.old) d → AreOpen (references store.new) d }
+    ensures tree_unasked { tree.new.asked ≡ tree.old.asked }
 {
     let Slot::Made(to, on, _) = instance.slot(o) else {
         unreachable!()

@@ -4,6 +4,7 @@ use crate::buckets::{Made, make};
 use crate::calls::{Call, Four, Place, show_named, show_two};
 use crate::missing::Missing;
 use crate::shown::{Seen, Shown};
+use crate::there::{want_brigade, want_bucket, want_place};
 use anyhow::Result;
 use brigade_ops::{BrigadeId, Brigades, BucketId, Rings, Stored};
 use bucket_kinds::Bucket;
@@ -19,22 +20,17 @@ pub(crate) type Store = Brigades<RawRings<Stored>>;
 /// Tells the buckets of a brigade.
 pub(crate) fn show_brigade<R: Rings<Stored> + Drop>(
     rt: &HostRuntime,
-    store: &Brigades<R>,
+    store: &mut Brigades<R>,
     brigade: BrigadeId,
 ) -> Result<()> {
-    if !store.has(brigade) {
-        println!(rt; "no brigade")?;
-        return Ok(());
-    }
+    want_brigade(store, brigade)?;
     let mut place = store.first(brigade);
     print!(rt; "[")?;
     for index in 0..MOST {
         let Some(id) = place else {
             break;
         };
-        if store.ring_of(id).is_none() {
-            return Err(Missing.into());
-        }
+        want_bucket(store, id)?;
         let comma = if index == 0 { "" } else { ", " };
         print!(rt; "{comma}{}", Seen(store.payload(id)))?;
         place = store.next(id).ok();
@@ -44,19 +40,15 @@ pub(crate) fn show_brigade<R: Rings<Stored> + Drop>(
 }
 
 /// The bytes of all buckets of a brigade.
-fn letters(alloc: Global, store: &Store, brigade: BrigadeId) -> Result<String, AllocError> {
+fn letters(alloc: Global, store: &mut Store, brigade: BrigadeId) -> Result<String> {
     let mut text = String::new(alloc);
-    if !store.has(brigade) {
-        return Ok(text);
-    }
+    want_brigade(store, brigade)?;
     let mut place = store.first(brigade);
     for _ in 0..MOST {
         let Some(id) = place else {
             return Ok(text);
         };
-        if store.ring_of(id).is_none() {
-            return Ok(text);
-        }
+        want_bucket(store, id)?;
         for byte in store.bytes(id) {
             text.push(*byte as char)?;
         }
@@ -65,7 +57,7 @@ fn letters(alloc: Global, store: &Store, brigade: BrigadeId) -> Result<String, A
     Ok(text)
 }
 
-fn show(rt: &HostRuntime, what: &str, store: &Store, r: BrigadeId, s: BrigadeId) -> Result<()> {
+fn show(rt: &HostRuntime, what: &str, store: &mut Store, r: BrigadeId, s: BrigadeId) -> Result<()> {
     let first = letters(rt.alloc(), store, r)?;
     let second = letters(rt.alloc(), store, s)?;
     show_two(rt, what, first.as_str(), second.as_str())
@@ -78,11 +70,22 @@ pub(crate) fn put<R: Rings<Stored> + Drop>(
     bucket: Bucket,
 ) -> Result<BucketId> {
     let put = match place {
-        Place::Head(brigade) if store.has(brigade) => store.add_head(brigade, bucket),
-        Place::Tail(brigade) if store.has(brigade) => store.add_tail(brigade, bucket),
-        Place::Before(at) if store.ring_of(at).is_some() => store.add_before(at, bucket),
-        Place::After(at) if store.ring_of(at).is_some() => store.add_after(at, bucket),
-        _ => return Err(Missing.into()),
+        Place::Head(brigade) => {
+            want_brigade(store, brigade)?;
+            store.add_head(brigade, bucket)
+        }
+        Place::Tail(brigade) => {
+            want_brigade(store, brigade)?;
+            store.add_tail(brigade, bucket)
+        }
+        Place::Before(at) => {
+            want_bucket(store, at)?;
+            store.add_before(at, bucket)
+        }
+        Place::After(at) => {
+            want_bucket(store, at)?;
+            store.add_after(at, bucket)
+        }
     };
     match put {
         Ok(id) => Ok(id),
@@ -102,14 +105,21 @@ fn put_letter(
 
 /// Moves a bucket.
 fn shift(store: &mut Store, id: BucketId, place: Place) -> Result<()> {
-    if store.ring_of(id).is_none() {
-        return Err(Missing.into());
-    }
+    want_bucket(store, id)?;
     match place {
-        Place::Head(brigade) if store.has(brigade) => store.move_head(brigade, id),
-        Place::Tail(brigade) if store.has(brigade) => store.move_tail(brigade, id),
-        Place::Before(at) if store.ring_of(at).is_some() => store.move_before(at, id),
-        _ => return Err(Missing.into()),
+        Place::Head(brigade) => {
+            want_brigade(store, brigade)?;
+            store.move_head(brigade, id);
+        }
+        Place::Tail(brigade) => {
+            want_brigade(store, brigade)?;
+            store.move_tail(brigade, id);
+        }
+        Place::Before(at) => {
+            want_bucket(store, at)?;
+            store.move_before(at, id);
+        }
+        Place::After(_) => return Err(Missing.into()),
     }
     Ok(())
 }
@@ -117,7 +127,9 @@ fn shift(store: &mut Store, id: BucketId, place: Place) -> Result<()> {
 fn make_call(store: &mut Store, call: Call) -> Result<()> {
     match call {
         Call::Move(id, place) => shift(store, id, place),
-        Call::All(onto, from) if onto != from && store.has(onto) && store.has(from) => {
+        Call::All(onto, from) if onto != from => {
+            want_brigade(store, onto)?;
+            want_brigade(store, from)?;
             Ok(store.concat(onto, from)?)
         }
         _ => Err(Missing.into()),
@@ -131,14 +143,12 @@ fn split_at(
     place: Option<BucketId>,
     into: BrigadeId,
 ) -> Result<()> {
-    if brigade == into || !store.has(brigade) || !store.has(into) {
+    if brigade == into {
         return Err(Missing.into());
     }
-    if let Some(id) = place
-        && store.ring_of(id) != Some(brigade)
-    {
-        return Err(Missing.into());
-    }
+    want_brigade(store, brigade)?;
+    want_brigade(store, into)?;
+    want_place(store, brigade, place)?;
     store.split_at(brigade, place, into)?;
     Ok(())
 }
@@ -175,13 +185,13 @@ pub(crate) fn brigade_moves(rt: &HostRuntime) -> Result<()> {
     show(
         rt,
         "tail a, head b, c before a, d after a",
-        &store,
+        &mut store,
         four.r,
         four.s,
     )?;
     for (what, call) in moves(four) {
         make_call(&mut store, call)?;
-        show(rt, what, &store, four.r, four.s)?;
+        show(rt, what, &mut store, four.r, four.s)?;
     }
     Ok(())
 }
@@ -209,10 +219,10 @@ fn fill(alloc: Global) -> Result<Filled> {
 /// Splits the first of two brigades at its middle bucket or at its end.
 fn show_split_at(rt: &HostRuntime, what: &str, at_end: bool) -> Result<()> {
     let mut filled = fill(rt.alloc())?;
-    show(rt, "before", &filled.store, filled.r, filled.s)?;
+    show(rt, "before", &mut filled.store, filled.r, filled.s)?;
     let place = if at_end { None } else { Some(filled.b) };
     split_at(&mut filled.store, filled.r, place, filled.s)?;
-    show(rt, what, &filled.store, filled.r, filled.s)
+    show(rt, what, &mut filled.store, filled.r, filled.s)
 }
 
 /// The brigade that takes what is split off is cleaned first. At the end nothing moves.
@@ -231,9 +241,7 @@ fn two(alloc: Global, first: &'static [u8], second: &'static [u8]) -> Result<Vec
 
 /// Puts two buckets at the tail of a brigade at once.
 fn add_two(store: &mut Store, alloc: Global, brigade: BrigadeId) -> Result<()> {
-    if !store.has(brigade) {
-        return Err(Missing.into());
-    }
+    want_brigade(store, brigade)?;
     store.add_all(brigade, two(alloc, b"c", b"d")?)?;
     Ok(())
 }
@@ -243,9 +251,9 @@ pub(crate) fn brigades_at_once(rt: &HostRuntime) -> Result<()> {
     println!(rt; "brigades and buckets at once")?;
     let mut store = Store::new(rt.alloc(), 1);
     let (r, s) = store.loose_pair(two(rt.alloc(), b"a", b"b")?)?;
-    show(rt, "a pair with a and b", &store, r, s)?;
+    show(rt, "a pair with a and b", &mut store, r, s)?;
     add_two(&mut store, rt.alloc(), r)?;
-    show(rt, "c and d at the tail of the first", &store, r, s)?;
+    show(rt, "c and d at the tail of the first", &mut store, r, s)?;
     println!(rt; "brigades {r} and {s}, and next {}", store.next_name())?;
     Ok(())
 }
@@ -257,9 +265,7 @@ fn show_added(
     letter: &'static [u8],
 ) -> Result<()> {
     let bucket = make(rt.alloc(), Made::Heap(letter))?;
-    if !store.has(brigade) {
-        return Err(Missing.into());
-    }
+    want_brigade(store, brigade)?;
     match store.add_tail(brigade, bucket) {
         Ok(id) => println!(rt; "bucket {}", id.birth)?,
         Err((why, back)) => println!(rt; "{why}, and {} comes back", Shown(&back))?,

@@ -1,12 +1,12 @@
 //! Rows of one bucket of a brigade: it is split, copied and read, and a brigade is parted at a point.
 
-ghost use Rattle.std.specs.Prelude.{◌≡◌, Some, All, IfOk, true, IsTrue};
+ghost use Rattle.std.specs.Prelude.{◌≡◌, Some, All, IfOk, true, is_some, IsTrue};
 ghost use Rattle.run_model.specs.Cutting.{EndsInFile, form_of, form_of_kind};
 ghost use Rattle.run_model.specs.declared.bucket.Bucket.{Bucket};
 ghost use Rattle.bucket_kinds.specs.Device.{Device, is_there};
 ghost use Rattle.bucket_kinds.specs.Reading.{IsOpenFor};
 ghost use Rattle.bucket_ring.specs.declared.names.BucketId.{BucketId};
-ghost use Rattle.brigade_ops.specs.Store.{brigade_of, bucket_at};
+ghost use Rattle.brigade_ops.specs.Store.{lists, brigade_of, bucket_at};
 ghost use Rattle.brigade_ops.specs.Views.{content_of};
 
 use crate::brigades::{Store, put, show_brigade};
@@ -14,6 +14,7 @@ use crate::buckets::{Made, make, range};
 use crate::calls::Place;
 use crate::missing::Missing;
 use crate::shown::{Seen, Shown};
+use crate::there::{want_brigade, want_bucket};
 use anyhow::Result;
 use brigade_ops::{BrigadeId, BucketId, ContentView, Cut, View};
 use bucket_kinds::{Bucket, FileNo, Files, MemFiles};
@@ -36,13 +37,14 @@ pub(crate) fn show_split(rt: &HostRuntime, made: Made, at: u64) -> Result<()> {
     let mut store = Store::new(rt.alloc(), 1);
     let brigade = store.loose()?;
     let id = put(&mut store, Place::Tail(brigade), bucket)?;
-    if store.ring_of(id).is_none() || !ends_in_file(store.payload(id)) {
+    want_bucket(&mut store, id)?;
+    if !ends_in_file(store.payload(id)) {
         return Err(Missing.into());
     }
     if let Err(why) = store.split(id, at) {
         print!(rt; "{why}, and it is ")?;
     }
-    show_brigade(rt, &store, brigade)
+    show_brigade(rt, &mut store, brigade)
 }
 
 /// Puts a copy of the bucket of a brigade into another, and tells both.
@@ -51,12 +53,11 @@ pub(crate) fn show_copy(rt: &HostRuntime, made: Made) -> Result<()> {
     let brigade = store.loose()?;
     let other = store.loose()?;
     let id = put(&mut store, Place::Tail(brigade), make(rt.alloc(), made)?)?;
-    if store.ring_of(id).is_none() || !store.has(other) {
-        return Err(Missing.into());
-    }
+    want_bucket(&mut store, id)?;
+    want_brigade(&mut store, other)?;
     store.copy(id, other)?;
-    show_brigade(rt, &store, brigade)?;
-    show_brigade(rt, &store, other)
+    show_brigade(rt, &mut store, brigade)?;
+    show_brigade(rt, &mut store, other)
 }
 
 /// The buckets of a row, three at most.
@@ -76,14 +77,13 @@ pub(crate) fn make_all(alloc: Global, made: &[Made]) -> Result<Vec<Bucket>>
 pub(crate) fn filled(alloc: Global, buckets: Vec<Bucket>) -> Result<(Store, BrigadeId)>
     requires ends { All (λ x. EndsInFile x.content) buckets.items }
     requires fits { All (λ x. form_of x.content ≡ form_of_kind x.kind) buckets.items }
+    ensures there { IfOk result (λ s. is_some (lists s.0 s.1) ≡ true) }
     ensures ends { IfOk result (λ s. (id : BucketId) (x : Bucket) → brigade_of s.0 id ≡ Some s.1 → bucket_at s.0 id ≡ Some x → EndsInFile x.content) }
     ensures fits { IfOk result (λ s. (id : BucketId) (x : Bucket) → brigade_of s.0 id ≡ Some s.1 → bucket_at s.0 id ≡ Some x → form_of x.content ≡ form_of_kind x.kind) }
 {
     let mut store = Store::new(alloc, 1);
     let brigade = store.loose()?;
-    if !store.has(brigade) {
-        return Err(Missing.into());
-    }
+    want_brigade(&mut store, brigade)?;
     store.add_all(brigade, buckets)?;
     Ok((store, brigade))
 }
@@ -91,20 +91,17 @@ pub(crate) fn filled(alloc: Global, buckets: Vec<Bucket>) -> Result<(Store, Brig
 /// Parts a brigade of these buckets at a point, and tells the place and the brigade.
 pub(crate) fn show_partition(rt: &HostRuntime, made: &[Made], point: u64) -> Result<()> {
     let (mut store, brigade) = filled(rt.alloc(), make_all(rt.alloc(), made)?)?;
-    if !store.has(brigade) {
-        return Err(Missing.into());
-    }
     let cut = store.partition(brigade, point)?;
-    show_cut(rt, &store, point, cut)?;
-    show_brigade(rt, &store, brigade)
+    show_cut(rt, &mut store, point, cut)?;
+    show_brigade(rt, &mut store, brigade)
 }
 
-fn show_cut(rt: &HostRuntime, store: &Store, point: u64, cut: Cut) -> Result<()> {
+fn show_cut(rt: &HostRuntime, store: &mut Store, point: u64, cut: Cut) -> Result<()> {
     match cut {
-        Cut::Found(id) if store.ring_of(id).is_some() => {
+        Cut::Found(id) => {
+            want_bucket(store, id)?;
             print!(rt; "at {point}: before {}, ", Seen(store.payload(id)))?
         }
-        Cut::Found(_) => return Err(Missing.into()),
         Cut::AtEnd => print!(rt; "at {point}: the end, ")?,
         Cut::Incomplete => print!(rt; "at {point}: incomplete, ")?,
     }
@@ -131,7 +128,8 @@ fn read<F: Files>(
 ) -> Result<()>
     requires { is_there ((F.device files.old).numbered file) ≡ true }
 {
-    if store.ring_of(id).is_none() || !is_of_file(store.payload(id), file) {
+    want_bucket(store, id)?;
+    if !is_of_file(store.payload(id), file) {
         return Err(Missing.into());
     }
     if !ends_in_file(store.payload(id)) {
@@ -153,5 +151,5 @@ pub(crate) fn show_read(rt: &HostRuntime, size: usize, len: u32) -> Result<()> {
     print!(rt; "{len} of {size}: ")?;
     let id = put(&mut store, Place::Tail(brigade), range(file, 0, len))?;
     read(rt, &mut store, &mut files, file, id)?;
-    show_brigade(rt, &store, brigade)
+    show_brigade(rt, &mut store, brigade)
 }

@@ -19,6 +19,7 @@ mod rows;
 mod saves;
 mod shown;
 mod sizes;
+mod there;
 
 use anyhow::Result;
 use brigade_ops::Stored;

@@ -12,6 +12,7 @@ use crate::cuts::{filled, make_all};
 use crate::missing::Missing;
 use crate::pools::create;
 use crate::shown::Shown;
+use crate::there::{want_brigade, want_bucket, want_pool};
 use anyhow::Result;
 use brigade_ops::{BrigadeId, Brigades, Rings, Stored};
 use bucket_kinds::Bucket;
@@ -65,11 +66,10 @@ pub(crate) fn show_aside(rt: &HostRuntime, made: Made, below: bool) -> Result<()
     let mut store = Store::new(rt.alloc(), 1);
     let brigade = store.loose()?;
     let id = put(&mut store, Place::Tail(brigade), bucket)?;
-    if store.ring_of(id).is_none() || !pools.tree.is_live(pool) {
-        return Err(Missing.into());
-    }
+    want_bucket(&mut store, id)?;
+    want_pool(&mut pools.tree, pool)?;
     store.aside(&mut pools.tree, id, pool)?;
-    show_brigade(rt, &store, brigade)?;
+    show_brigade(rt, &mut store, brigade)?;
     show_payloads(rt, &pools.tree, pool)
 }
 
@@ -84,9 +84,11 @@ fn save_onto(
     requires live { IsTrue (is_live (map_of tree.old) pool) }
     requires on { pool_of store.old onto ≡ Some pool }
 {
-    if onto == from || !store.has(onto) || !store.has(from) {
+    if onto == from {
         return Err(Missing.into());
     }
+    want_brigade(store, onto)?;
+    want_brigade(store, from)?;
     store.save(tree, onto, from)?;
     Ok(())
 }
@@ -99,19 +101,13 @@ fn save(
     first: Bucket,
     from: BrigadeId,
 ) -> Result<BrigadeId> {
-    if !tree.is_live(pool) {
-        return Err(Missing.into());
-    }
+    want_pool(tree, pool)?;
     let onto = store.create(tree, pool)?;
-    if !store.has(onto) {
-        return Err(Missing.into());
-    }
+    want_brigade(store, onto)?;
     if let Err((why, _)) = store.add_tail(onto, first) {
         return Err(why.into());
     }
-    if !tree.is_live(pool) {
-        return Err(Missing.into());
-    }
+    want_pool(tree, pool)?;
     save_onto(store, tree, pool, onto, from)?;
     Ok(onto)
 }
@@ -127,8 +123,8 @@ pub(crate) fn saves(rt: &HostRuntime) -> Result<()> {
     let (mut store, from) = filled(rt.alloc(), make_all(rt.alloc(), SAVED)?)?;
     let first = make(rt.alloc(), Made::Heap(b"x"))?;
     let onto = save(&mut store, &mut pools.tree, pool, first, from)?;
-    show_brigade(rt, &store, onto)?;
-    show_brigade(rt, &store, from)?;
+    show_brigade(rt, &mut store, onto)?;
+    show_brigade(rt, &mut store, from)?;
     show_payloads(rt, &pools.tree, pool)
 }
 
@@ -137,9 +133,7 @@ pub(crate) fn references(rt: &HostRuntime) -> Result<()> {
     println!(rt; "a file is referred to")?;
     let mut pools = make_pools(rt.alloc())?;
     let mut store = Store::new(rt.alloc(), 1);
-    if !pools.tree.is_live(pools.above) {
-        return Err(Missing.into());
-    }
+    want_pool(&mut pools.tree, pools.above)?;
     store.refer(&mut pools.tree, pools.above, 7)?;
     show_payloads(rt, &pools.tree, pools.above)
 }
@@ -158,9 +152,7 @@ pub(crate) fn clear<R: Rings<Stored> + Drop>(
     pool: PoolId,
     brigade: BrigadeId,
 ) -> Result<usize> {
-    if !tree.is_live(pool) {
-        return Err(Missing.into());
-    }
+    want_pool(tree, pool)?;
     let morphs = store.plan_morphs(&[brigade], pool, tree)?;
     let ran = tree.clear(pool)?;
     store.apply_morphs(morphs);
@@ -172,10 +164,10 @@ pub(crate) fn clears_under_a_brigade(rt: &HostRuntime) -> Result<()> {
     println!(rt; "a pool is cleared under a brigade")?;
     let mut pools = make_pools(rt.alloc())?;
     let (mut store, brigade) = filled(rt.alloc(), make_all(rt.alloc(), CLEARED)?)?;
-    show_brigade(rt, &store, brigade)?;
+    show_brigade(rt, &mut store, brigade)?;
     let pool = pools.above;
     let ran = clear(&mut store, &mut pools.tree, pool, brigade)?;
-    show_brigade(rt, &store, brigade)?;
+    show_brigade(rt, &mut store, brigade)?;
     let is_live = pools.tree.is_live(pools.below);
     println!(rt; "{ran} ran, and pool 3 is live: {is_live}")?;
     Ok(())

@@ -12,4 +12,5 @@ invariant-loop-index l = record {
   live : is_live (map_of l.tree) l.pool ≡ true;
   so_far : map_of l.tree ≡ all_referred l.pool (take l.index l.files) (map_of l.fn.tree);
   counted : (f : ℕ) → count_at l.counts f ≡ count_at l.fn.counts f + times_in f (take l.index l.files);
+  asked : l.tree.asked ≡ l.fn.tree.asked;
 }

@@ -13,4 +13,5 @@ invariant-loop-index l = record {
   live : is_live (map_of l.tree) l.pool ≡ true;
   left : (ps : Pools Payload) → map_of l.fn.tree ≡ all_referred l.pool l.files ps → map_of l.tree ≡ all_referred l.pool (take l.index l.files) ps;
   less : (f : ℕ) → count_at l.fn.counts f + times_in f (take l.index l.files) ≡ count_at l.counts f + times_in f l.files;
+  asked : l.tree.asked ≡ l.fn.tree.asked;
 }

@@ -80,8 +80,8 @@ returns-clause-left g c =
     let p = bucket_here c.args.store.now c.args.instance.now c.args.call.now c.args.c c.requires.held c.requires.stands c.bucket.result c.bucket.ensures in
     let rises = no_less (next_name s) (next_name c.aside.new.self) c.aside.ensures.next in
     by_result c.aside.result _ _
-    (λ out. rest_on s c.aside.new.self rises c.aside.ensures.names c.aside.ensures.pools p.ring (with_payload c.bucket.result (set_aside c.args.pool (is_above (map_of c.args.tree.now) c.args.pool p.bucket.home) p.bucket)) (λ m. out p.ring m p.bucket p.inside p.here) c.args.instance.now c.args.call.now p.ours)
-    (λ out. rest_same s c.aside.new.self rises c.aside.ensures.names (λ n. ap (λ (f : ℕ → Option ℕ). f n) c.aside.ensures.pools) out c.args.instance.now c.args.call.now)
+    (λ out. rest_on s c.aside.new.self rises c.aside.ensures.names c.aside.ensures.pools c.aside.ensures.unasked p.ring (with_payload c.bucket.result (set_aside c.args.pool (is_above (map_of c.args.tree.now) c.args.pool p.bucket.home) p.bucket)) (λ m. out p.ring m p.bucket p.inside p.here) c.args.instance.now c.args.call.now p.ours)
+    (λ out. rest_same s c.aside.new.self rises c.aside.ensures.names (λ n. ap (λ (f : ℕ → Option ℕ). f n) c.aside.ensures.pools) c.aside.ensures.unasked out c.args.instance.now c.args.call.now)
     c.aside.ensures.ok c.aside.ensures.err
 
 pub returns-clause-open : goal.returns-clause-open

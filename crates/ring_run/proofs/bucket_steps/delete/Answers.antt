@@ -33,5 +33,5 @@ returns-clause-held g c =
 pub returns-clause-left : goal.returns-clause-left
 returns-clause-left g c =
     let s = bucket_here c.args.store.now c.args.instance.now c.args.call.now c.args.c c.requires.held c.requires.stands c.bucket.result c.bucket.ensures in
-    left_on c.args.store.now c.drop_bucket.new.self (no_less (next_name c.args.store.now) (next_name c.drop_bucket.new.self) c.drop_bucket.ensures.next) c.drop_bucket.ensures.names c.drop_bucket.ensures.pools c.drop_bucket.ensures.references s.ring (ring.without c.bucket.result) (λ m. c.drop_bucket.ensures.out s.ring m s.inside)
+    left_on c.args.store.now c.drop_bucket.new.self (no_less (next_name c.args.store.now) (next_name c.drop_bucket.new.self) c.drop_bucket.ensures.next) c.drop_bucket.ensures.names c.drop_bucket.ensures.pools c.drop_bucket.ensures.references c.drop_bucket.ensures.unasked s.ring (ring.without c.bucket.result) (λ m. c.drop_bucket.ensures.out s.ring m s.inside)
     c.args.instance.now c.args.call.now s.ours

@@ -33,7 +33,7 @@ returns-clause-held g c =
 pub returns-clause-left : goal.returns-clause-left
 returns-clause-left g c =
     let s = within_at c.args.store.now c.args.instance.now c.args.call.now c.args.c c.requires.held c.requires.stands c.bucket.result c.bucket.ensures in
-    left_off c.args.store.now c.move_tail.new.self (no_less (next_name c.args.store.now) (next_name c.move_tail.new.self) c.move_tail.ensures.next) c.move_tail.ensures.names c.move_tail.ensures.pools c.move_tail.ensures.references c.args.call.now.name s.inside.1.0
+    left_off c.args.store.now c.move_tail.new.self (no_less (next_name c.args.store.now) (next_name c.move_tail.new.self) c.move_tail.ensures.next) c.move_tail.ensures.names c.move_tail.ensures.pools c.move_tail.ensures.references c.move_tail.ensures.unasked c.args.call.now.name s.inside.1.0
     (moved_still (brigade_of c.args.store.now) (lists c.args.store.now) (lists c.move_tail.new.self) (pool_of c.args.store.now) (next_name c.args.store.now) (next_name c.move_tail.new.self) (kept c.args.store.now) c.move_tail.ensures.next c.bucket.result s.inside.1.0 c.args.call.now.name (λ x. ring.put_tail (c.bucket.result, x)) s.inside.1.1.1 c.move_tail.ensures.out)
     (moved_off (brigade_of c.args.store.now) (lists c.args.store.now) (lists c.move_tail.new.self) (pool_of c.args.store.now) (next_name c.args.store.now) (next_name c.move_tail.new.self) (kept c.args.store.now) c.move_tail.ensures.next c.bucket.result s.inside.1.0 c.args.call.now.name (λ x. ring.put_tail (c.bucket.result, x)) s.inside.1.1.1 c.move_tail.ensures.out)
     c.args.instance.now c.args.call.now (ours_loose c.args.instance.now c.args.call.now) (ours_slot c.args.instance.now c.args.call.now s.variable s.inside.1.0 s.inside.1.1.0)

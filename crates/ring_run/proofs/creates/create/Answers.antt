@@ -46,7 +46,7 @@ returns-clause-held g c =
 pub returns-clause-left : goal.returns-clause-left
 returns-clause-left g c =
     λ call.
-    rest_made c.args.store.now c.create.new.self c.in-Ok.ensures.names c.in-Ok.name c.args.pool c.in-Ok.ensures.name c.in-Ok.ensures.next c.in-Ok.ensures.ok c.in-Ok.ensures.on c.args.instance.now call
+    rest_made c.args.store.now c.create.new.self c.in-Ok.ensures.names c.create.ensures.unasked c.in-Ok.name c.args.pool c.in-Ok.ensures.name c.in-Ok.ensures.next c.in-Ok.ensures.ok c.in-Ok.ensures.on c.args.instance.now call
 
 pub returns-clause-slots : goal.returns-clause-slots
 returns-clause-slots g c =

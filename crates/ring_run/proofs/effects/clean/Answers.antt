@@ -30,7 +30,7 @@ returns-clause-held g c =
 pub returns-clause-left : goal.returns-clause-left
 returns-clause-left g c =
     λ call.
-    left_on c.args.store.now c.clean.new.self (no_less (next_name c.args.store.now) (next_name c.clean.new.self) c.clean.ensures.next) c.clean.ensures.names c.clean.ensures.pools c.clean.ensures.references c.brigade-name.result (λ xs. []) c.clean.ensures.out c.args.instance.now call
+    left_on c.args.store.now c.clean.new.self (no_less (next_name c.args.store.now) (next_name c.clean.new.self) c.clean.ensures.next) c.clean.ensures.names c.clean.ensures.pools c.clean.ensures.references c.clean.ensures.unasked c.brigade-name.result (λ xs. []) c.clean.ensures.out c.args.instance.now call
     (ours_slot c.args.instance.now call c.args.b c.brigade-name.result c.brigade-name.ensures.name)
 
 pub returns-clause-slots : goal.returns-clause-slots

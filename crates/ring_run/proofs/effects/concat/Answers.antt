@@ -39,8 +39,8 @@ pub returns-clause-left : goal.returns-clause-left
 returns-clause-left g c =
     λ call.
     by_result c.concat.result _ _
-    (λ out. left_both c.args.store.now c.concat.new.self (no_less (next_name c.args.store.now) (next_name c.concat.new.self) c.concat.ensures.next) c.concat.ensures.names c.concat.ensures.pools c.concat.ensures.references c.brigade-to.result c.brigade-from.result (λ xs. xs ++ list_at (lists c.args.store.now) c.brigade-from.result) (λ xs. []) out c.args.instance.now call
+    (λ out. left_both c.args.store.now c.concat.new.self (no_less (next_name c.args.store.now) (next_name c.concat.new.self) c.concat.ensures.next) c.concat.ensures.names c.concat.ensures.pools c.concat.ensures.references c.concat.ensures.unasked c.brigade-to.result c.brigade-from.result (λ xs. xs ++ list_at (lists c.args.store.now) c.brigade-from.result) (λ xs. []) out c.args.instance.now call
     (ours_slot c.args.instance.now call c.args.a c.brigade-to.result c.brigade-to.ensures.name)
     (ours_slot c.args.instance.now call c.args.b c.brigade-from.result c.brigade-from.ensures.name))
-    (λ out. left_same c.args.store.now c.concat.new.self (no_less (next_name c.args.store.now) (next_name c.concat.new.self) c.concat.ensures.next) c.concat.ensures.names c.concat.ensures.pools c.concat.ensures.references out c.args.instance.now call)
+    (λ out. left_same c.args.store.now c.concat.new.self (no_less (next_name c.args.store.now) (next_name c.concat.new.self) c.concat.ensures.next) c.concat.ensures.names c.concat.ensures.pools c.concat.ensures.references c.concat.ensures.unasked out c.args.instance.now call)
     c.concat.ensures.ok c.concat.ensures.err

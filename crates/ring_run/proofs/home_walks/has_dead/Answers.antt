@@ -19,7 +19,7 @@ returns-then-is_ended g c =
     let in_b = c.loop-place.invariant.inside id c.in-Some.is in
     let x = bucket_there s id (ap is_some in_b) in
     any_stop xs (drop 1 (rest id xs)) c.loop-place.place id x.0 c.in-Some.is (head_here s id c.args.b x.0 in_b x.1)
-    (is_running c.args.call.now.name c.args.outside.now.waits.now) is_dead
+    (is_running c.args.call.now.name c.args.setting.now.waits.now) is_dead
     (ap is_ended (sym (c.home_of.ensures x.0 x.1)) ∙ (sym c.is_ended.ensures ∙ c.if-is_ended.true))
     ∙ c.loop-place.invariant.left
 
@@ -41,7 +41,7 @@ loop-place-preserved g c =
     let x = bucket_there s id (ap is_some in_b) in
     record {
       left = any_on xs (from_place c.behind-place.result xs) c.loop-place.place id x.0 c.in-Some.is (c.behind-place.ensures.head c.args.b x.0 in_b x.1)
-          (is_running c.args.call.now.name c.args.outside.now.waits.now) is_dead
+          (is_running c.args.call.now.name c.args.setting.now.waits.now) is_dead
           (ap is_ended (sym (c.home_of.ensures x.0 x.1)) ∙ (sym c.is_ended.ensures ∙ c.if-is_ended.false))
           ∙ c.loop-place.invariant.left;
       inside = told_some (λ j. brigade_of s j ≡ Some c.args.b) c.behind-place.result (c.behind-place.ensures.inside c.args.b in_b);

@@ -11,7 +11,7 @@ use Rattle.ring_run.proofs.home_walks.has_dead.Given as goal
 
 abbrev pub invariant-loop-place : goal.invariant-loop-place
 invariant-loop-place g l = record {
-  left : list_any is_dead (shown (is_running l.call.name l.outside.waits.now) (from_place l.place (list_at (lists l.store) l.b))) ≡ list_any is_dead (shown (is_running l.call.name l.outside.waits.now) (list_at (lists l.store) l.b));
+  left : list_any is_dead (shown (is_running l.call.name l.setting.waits.now) (from_place l.place (list_at (lists l.store) l.b))) ≡ list_any is_dead (shown (is_running l.call.name l.setting.waits.now) (list_at (lists l.store) l.b));
   inside : (id : BucketId) → l.place ≡ Some id → brigade_of l.store id ≡ Some l.b;
 }
 

@@ -8,7 +8,7 @@ use Rattle.brigade_ops.specs.Items.{from_place}
 use Rattle.brigade_ops.specs.Store.{lists, brigade_of, next_name}
 use Rattle.brigade_ops.proofs.Walks.{told_some}
 use Rattle.std.proofs.Common.{◌≡◌, drop}
-use Rattle.ring_run.specs.Outside.{with_outside}
+use Rattle.ring_run.specs.Setting.{in_setting}
 use Rattle.ring_run.specs.Seen.{seen_over, is_running}
 use Rattle.ring_run.proofs.Running.{bucket_there}
 use Rattle.ring_run.proofs.Walked.{head_here, shorter, any_stop, any_on, at_end}
@@ -16,16 +16,16 @@ use Rattle.ring_run.proofs.home_walks.has_stray.Goals as goal
 
 pub returns-then-is_stray : goal.returns-then-is_stray
 returns-then-is_stray g c =
-    λ around.
+    λ pools around.
     let s = c.args.store.now in
     let xs = list_at (lists s) c.args.b in
     let id = c.in-Some.id in
     let in_b = c.loop-place.invariant.inside id c.in-Some.is in
     let x = bucket_there s id (ap is_some in_b) in
     any_stop xs (drop 1 (rest id xs)) c.loop-place.place id x.0 c.in-Some.is (head_here s id c.args.b x.0 in_b x.1)
-    (is_running c.args.call.now.name c.args.outside.now.waits.now) (λ (b : NamedBucket). is_stray (seen_over (lists s) (next_name s) (with_outside c.args.outside.now around) c.args.instance.now c.args.call.now) b.bucket.home)
-    (ap (is_stray (seen_over (lists s) (next_name s) (with_outside c.args.outside.now around) c.args.instance.now c.args.call.now)) (sym (c.home_of.ensures x.0 x.1)) ∙ (sym (c.is_stray.ensures (lists s) (next_name s) around c.args.call.now) ∙ c.if-is_stray.true))
-    ∙ c.loop-place.invariant.left around
+    (is_running c.args.call.now.name c.args.setting.now.waits.now) (λ (b : NamedBucket). is_stray (seen_over (lists s) (next_name s) (in_setting c.args.setting.now pools around) c.args.instance.now c.args.call.now) b.bucket.home)
+    (ap (is_stray (seen_over (lists s) (next_name s) (in_setting c.args.setting.now pools around) c.args.instance.now c.args.call.now)) (sym (c.home_of.ensures x.0 x.1)) ∙ (sym (c.is_stray.ensures (lists s) (next_name s) pools around c.args.call.now) ∙ c.if-is_stray.true))
+    ∙ c.loop-place.invariant.left pools around
 
 pub loop-place-smaller : goal.loop-place-smaller
 loop-place-smaller g c =
@@ -44,16 +44,16 @@ loop-place-preserved g c =
     let in_b = c.loop-place.invariant.inside id c.in-Some.is in
     let x = bucket_there s id (ap is_some in_b) in
     record {
-      left = λ around. any_on xs (from_place c.behind-place.result xs) c.loop-place.place id x.0 c.in-Some.is (c.behind-place.ensures.head c.args.b x.0 in_b x.1)
-          (is_running c.args.call.now.name c.args.outside.now.waits.now) (λ (b : NamedBucket). is_stray (seen_over (lists s) (next_name s) (with_outside c.args.outside.now around) c.args.instance.now c.args.call.now) b.bucket.home)
-          (ap (is_stray (seen_over (lists s) (next_name s) (with_outside c.args.outside.now around) c.args.instance.now c.args.call.now)) (sym (c.home_of.ensures x.0 x.1)) ∙ (sym (c.is_stray.ensures (lists s) (next_name s) around c.args.call.now) ∙ c.if-is_stray.false))
-          ∙ c.loop-place.invariant.left around;
+      left = λ pools around. any_on xs (from_place c.behind-place.result xs) c.loop-place.place id x.0 c.in-Some.is (c.behind-place.ensures.head c.args.b x.0 in_b x.1)
+          (is_running c.args.call.now.name c.args.setting.now.waits.now) (λ (b : NamedBucket). is_stray (seen_over (lists s) (next_name s) (in_setting c.args.setting.now pools around) c.args.instance.now c.args.call.now) b.bucket.home)
+          (ap (is_stray (seen_over (lists s) (next_name s) (in_setting c.args.setting.now pools around) c.args.instance.now c.args.call.now)) (sym (c.home_of.ensures x.0 x.1)) ∙ (sym (c.is_stray.ensures (lists s) (next_name s) pools around c.args.call.now) ∙ c.if-is_stray.false))
+          ∙ c.loop-place.invariant.left pools around;
       inside = told_some (λ j. brigade_of s j ≡ Some c.args.b) c.behind-place.result (c.behind-place.ensures.inside c.args.b in_b);
     }
 
 pub returns : goal.returns
 returns g c =
-    λ around.
+    λ pools around.
     let s = c.args.store.now in
-    sym (at_end (list_any (λ (b : NamedBucket). is_stray (seen_over (lists s) (next_name s) (with_outside c.args.outside.now around) c.args.instance.now c.args.call.now) b.bucket.home)) (is_running c.args.call.now.name c.args.outside.now.waits.now) (list_at (lists s) c.args.b) c.loop-place.place c.in_default.not-Some)
-    ∙ c.loop-place.invariant.left around
+    sym (at_end (list_any (λ (b : NamedBucket). is_stray (seen_over (lists s) (next_name s) (in_setting c.args.setting.now pools around) c.args.instance.now c.args.call.now) b.bucket.home)) (is_running c.args.call.now.name c.args.setting.now.waits.now) (list_at (lists s) c.args.b) c.loop-place.place c.in_default.not-Some)
+    ∙ c.loop-place.invariant.left pools around

@@ -7,14 +7,16 @@ use Rattle.run_model.specs.declared.bucket.NamedBucket.{NamedBucket}
 use Rattle.run_model.specs.Faults.{is_stray}
 use Rattle.brigade_ops.specs.Items.{from_place}
 use Rattle.brigade_ops.specs.Store.{lists, brigade_of}
+use Rattle.run_model.specs.declared.payload.Payload.{Payload}
+use Rattle.run_model.specs.Pools.{Pools}
 use Rattle.ring_run.specs.Around.{Around}
-use Rattle.ring_run.specs.Outside.{with_outside}
+use Rattle.ring_run.specs.Setting.{in_setting}
 use Rattle.ring_run.specs.Seen.{seen, shown, is_running}
 use Rattle.ring_run.proofs.home_walks.has_stray.Given as goal
 
 abbrev pub invariant-loop-place : goal.invariant-loop-place
 invariant-loop-place g l = record {
-  left : (around : Around) → let stray = λ (b : NamedBucket). is_stray (seen l.store (with_outside l.outside around) l.instance l.call) b.bucket.home in list_any stray (shown (is_running l.call.name l.outside.waits.now) (from_place l.place (list_at (lists l.store) l.b))) ≡ list_any stray (shown (is_running l.call.name l.outside.waits.now) (list_at (lists l.store) l.b));
+  left : (pools : Pools Payload) (around : Around) → let stray = λ (b : NamedBucket). is_stray (seen l.store (in_setting l.setting pools around) l.instance l.call) b.bucket.home in list_any stray (shown (is_running l.call.name l.setting.waits.now) (from_place l.place (list_at (lists l.store) l.b))) ≡ list_any stray (shown (is_running l.call.name l.setting.waits.now) (list_at (lists l.store) l.b));
   inside : (id : BucketId) → l.place ≡ Some id → brigade_of l.store id ≡ Some l.b;
 }
 

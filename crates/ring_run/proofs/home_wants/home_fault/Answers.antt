@@ -12,5 +12,5 @@ returns-then-is_ended g c =
     let s = c.args.store.now in
     let id = c.in-Some.id in
     let x = bucket_there s id (told_some (λ j. is_some (brigade_of s j) ≡ true) c.args.bucket c.requires id c.in-Some.is) in
-    fault_dead (is_running c.args.call.now.name c.args.outside.now.waits.now) (bucket_at s) id x.0 c.args.bucket c.in-Some.is x.1
+    fault_dead (is_running c.args.call.now.name c.args.setting.now.waits.now) (bucket_at s) id x.0 c.args.bucket c.in-Some.is x.1
     (ap is_ended (sym (c.home_of.ensures x.0 x.1)) ∙ (sym c.is_ended.ensures ∙ c.if-is_ended.true))

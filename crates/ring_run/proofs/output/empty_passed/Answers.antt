@@ -37,5 +37,5 @@ returns-clause-left g c =
     λ call.
     let s = c.args.store.now in
     let i = c.hand_over.new.instance in
-    left_on s c.clean.new.self (no_less (next_name s) (next_name c.clean.new.self) c.clean.ensures.next) c.clean.ensures.names c.clean.ensures.pools c.clean.ensures.references c.brigade-name.result (λ xs. []) c.clean.ensures.out c.args.instance.now call
+    left_on s c.clean.new.self (no_less (next_name s) (next_name c.clean.new.self) c.clean.ensures.next) c.clean.ensures.names c.clean.ensures.pools c.clean.ensures.references c.clean.ensures.unasked c.brigade-name.result (λ xs. []) c.clean.ensures.out c.args.instance.now call
     (ours_slot c.args.instance.now call c.args.b c.brigade-name.result c.brigade-name.ensures.name)

@@ -44,8 +44,8 @@ returns-clause-held g c =
 pub returns-clause-left : goal.returns-clause-left
 returns-clause-left g c =
     by_result c.split_at.result _ _
-    (λ out. left_both c.args.store.now c.split_at.new.self (no_less (next_name c.args.store.now) (next_name c.split_at.new.self) c.split_at.ensures.next) c.split_at.ensures.names c.split_at.ensures.pools c.split_at.ensures.references c.brigade-to.result c.brigade-from.result (λ xs. from_place c.place_in-place.result (list_at (lists c.args.store.now) c.brigade-from.result)) (before_place c.place_in-place.result) out c.args.instance.now c.args.call.now
+    (λ out. left_both c.args.store.now c.split_at.new.self (no_less (next_name c.args.store.now) (next_name c.split_at.new.self) c.split_at.ensures.next) c.split_at.ensures.names c.split_at.ensures.pools c.split_at.ensures.references c.split_at.ensures.unasked c.brigade-to.result c.brigade-from.result (λ xs. from_place c.place_in-place.result (list_at (lists c.args.store.now) c.brigade-from.result)) (before_place c.place_in-place.result) out c.args.instance.now c.args.call.now
     (ours_slot c.args.instance.now c.args.call.now c.args.a c.brigade-to.result c.brigade-to.ensures.name)
     (ours_slot c.args.instance.now c.args.call.now c.args.b c.brigade-from.result c.brigade-from.ensures.name))
-    (λ out. left_same c.args.store.now c.split_at.new.self (no_less (next_name c.args.store.now) (next_name c.split_at.new.self) c.split_at.ensures.next) c.split_at.ensures.names c.split_at.ensures.pools c.split_at.ensures.references out c.args.instance.now c.args.call.now)
+    (λ out. left_same c.args.store.now c.split_at.new.self (no_less (next_name c.args.store.now) (next_name c.split_at.new.self) c.split_at.ensures.next) c.split_at.ensures.names c.split_at.ensures.pools c.split_at.ensures.references c.split_at.ensures.unasked out c.args.instance.now c.args.call.now)
     c.split_at.ensures.ok c.split_at.ensures.err

@@ -44,14 +44,14 @@ returns-clause-left g c =
     let there = c.brigade-name.ensures.there (lists c.args.store.now) c.requires.live in
     let between : WasFound c.args.store.now c.partition.new.self c.brigade-name.result c.args.point c.in-Ok.cut = λ no. let h = c.in-Ok.ensures.between no in (same_ok c.in-Ok.cut _ h.0, h.1) in
     let ours = ours_slot c.args.instance.now c.args.call.now c.args.b c.brigade-name.result c.brigade-name.ensures.name in
-    left_off c.args.store.now c.partition.new.self (parted_rises c.args.store.now c.partition.new.self c.brigade-name.result c.args.point c.in-Ok.cut between c.in-Ok.ensures.inside c.in-Ok.ensures.next there) c.partition.ensures.names c.partition.ensures.pools c.partition.ensures.references c.brigade-name.result c.brigade-name.result
+    left_off c.args.store.now c.partition.new.self (parted_rises c.args.store.now c.partition.new.self c.brigade-name.result c.args.point c.in-Ok.cut between c.in-Ok.ensures.inside c.in-Ok.ensures.next there) c.partition.ensures.names c.partition.ensures.pools c.partition.ensures.references c.partition.ensures.unasked c.brigade-name.result c.brigade-name.result
     (parted_still c.args.store.now c.partition.new.self c.brigade-name.result c.args.point c.in-Ok.cut between c.in-Ok.ensures.inside c.in-Ok.ensures.next there)
     (parted_off c.args.store.now c.partition.new.self c.brigade-name.result c.args.point c.in-Ok.cut between c.in-Ok.ensures.inside c.in-Ok.ensures.next there)
     c.args.instance.now c.args.call.now ours ours
 
 pub returns-in_default-clause-left : goal.returns-in_default-clause-left
 returns-in_default-clause-left g c =
-    left_same c.args.store.now c.partition.new.self (no_less (next_name c.args.store.now) (next_name c.partition.new.self) c.in_default.ensures.next) c.partition.ensures.names c.partition.ensures.pools c.partition.ensures.references c.in_default.ensures.err c.args.instance.now c.args.call.now
+    left_same c.args.store.now c.partition.new.self (no_less (next_name c.args.store.now) (next_name c.partition.new.self) c.in_default.ensures.next) c.partition.ensures.names c.partition.ensures.pools c.partition.ensures.references c.partition.ensures.unasked c.in_default.ensures.err c.args.instance.now c.args.call.now
 
 pub returns-in_default-clause-sure : goal.returns-in_default-clause-sure
 returns-in_default-clause-sure g c around none =

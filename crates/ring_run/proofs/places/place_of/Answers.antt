@@ -4,6 +4,7 @@ use Rattle.brigade_ops.specs.Store.{lists}
 use Rattle.ring_run.specs.Places.{place_of}
 use Rattle.ring_run.specs.Seen.{seen_over, shown_cursor}
 use Rattle.ring_run.proofs.Found.{unset, at_bucket, at_end}
+use Rattle.ring_run.proofs.OnlyAsked.{asked_nothing}
 use Rattle.ring_run.proofs.Walks.{cursor_seen}
 use Rattle.ring_run.proofs.places.place_of.Goals as goal
 
@@ -34,3 +35,6 @@ returns-in-None-clause-at g c =
     let r = seen_over (lists c.args.store.now) next around c.args.instance.now c.args.call.now in
     let is = cursor_seen (lists c.args.store.now) next around c.args.instance.now c.args.call.now c.args.c in
     ap place_of (sym (at_end r (r.call.cursors c.args.c) c.in-End.name _ (is ∙ ap shown_cursor (sym c.cursor.ensures ∙ c.in-End.is)) (sym (c.end_place.ensures.at next around c.args.call.now) ∙ c.in-None.is)))
+
+pub returns-in-Unset-clause-asked : goal.returns-in-Unset-clause-asked
+returns-in-Unset-clause-asked g c = asked_nothing c.args.store.now

@@ -1,12 +1,12 @@
 -- A pool that is not the instance's own is another filter's.
 use Rattle.std.proofs.Common.{not, sym, ap, ◌∙◌}
 use Rattle.run_model.specs.Faults.{is_stray}
-use Rattle.ring_run.specs.Outside.{with_outside}
+use Rattle.ring_run.specs.Setting.{in_setting}
 use Rattle.ring_run.specs.Seen.{seen_over}
 use Rattle.ring_run.proofs.pool_wants.is_stray.Goals as goal
 
 pub returns-in-Pool : goal.returns-in-Pool
 unfolding is_stray
-returns-in-Pool c = λ rings next around call.
-    let r = seen_over rings next (with_outside c.args.outside.now around) c.args.instance.now call in
-    ap not (c.is_own.ensures rings next around call) ∙ ap (is_stray r) (sym c.in-Pool.is)
+returns-in-Pool c = λ rings next pools around call.
+    let r = seen_over rings next (in_setting c.args.setting.now pools around) c.args.instance.now call in
+    ap not (c.is_own.ensures rings next pools around call) ∙ ap (is_stray r) (sym c.in-Pool.is)

@@ -96,9 +96,9 @@ returns-clause-left g c =
     let lies : pool_of s c.in-Made.to ≡ Some on.0 = c.requires.on c.args.o c.in-Made.to (Some on.0) c.in-Made.field-2 (λ e. let first = c.requires.first in omega (arith, first, e)) is (named_there (lists s) (slot_at c.args.instance.now c.args.o) c.in-Made.to c.requires.live_into (ap name_in (sym c.in-Made.ensures))) in
     let rises = no_less (next_name s) (next_name c.save.new.self) c.save.ensures.next in
     by_result c.save.result _ _
-    (λ out. rest_both s c.save.new.self rises c.save.ensures.names c.save.ensures.pools c.in-Made.to c.brigade-from.result (λ xs. xs ++ map (aside_item ps on.0) (list_at (lists s) c.brigade-from.result)) (λ xs. []) (λ n. out on.0 n lies) i call
+    (λ out. rest_both s c.save.new.self rises c.save.ensures.names c.save.ensures.pools c.save.ensures.unasked c.in-Made.to c.brigade-from.result (λ xs. xs ++ map (aside_item ps on.0) (list_at (lists s) c.brigade-from.result)) (λ xs. []) (λ n. out on.0 n lies) i call
     (ours_slot i call c.args.o c.in-Made.to (ap name_in is)) (ours_slot i call c.args.b c.brigade-from.result c.brigade-from.ensures.name))
-    (λ out. rest_same s c.save.new.self rises c.save.ensures.names (λ n. ap (λ (f : ℕ → Option ℕ). f n) c.save.ensures.pools) out i call)
+    (λ out. rest_same s c.save.new.self rises c.save.ensures.names (λ n. ap (λ (f : ℕ → Option ℕ). f n) c.save.ensures.pools) c.save.ensures.unasked out i call)
     c.save.ensures.ok c.save.ensures.err
 
 pub returns-clause-open : goal.returns-clause-open

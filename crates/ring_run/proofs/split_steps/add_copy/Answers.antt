@@ -42,9 +42,9 @@ returns-clause-left g c =
     let n = some_of (brigade_of c.args.store.now c.args.id) c.requires.there in
     let x = found_some c.args.id (list_at (lists c.args.store.now) n.0) (found_in c.args.store.now c.args.id n.0 n.1) in
     let is : bucket_at c.args.store.now c.args.id ≡ Some x.0 = found_bucket c.args.store.now c.args.id n.0 x.0 n.1 x.1 in
-    left_on c.args.store.now c.copy.new.self rises c.copy.ensures.names c.copy.ensures.pools c.copy.ensures.references c.args.call.now.name (put_tail (c.in-Ok.new, x.0)) (λ m. c.in-Ok.ensures.ok m x.0 is) i c.args.call.now (ours_loose i c.args.call.now)
+    left_on c.args.store.now c.copy.new.self rises c.copy.ensures.names c.copy.ensures.pools c.copy.ensures.references c.copy.ensures.unasked c.args.call.now.name (put_tail (c.in-Ok.new, x.0)) (λ m. c.in-Ok.ensures.ok m x.0 is) i c.args.call.now (ours_loose i c.args.call.now)
 
 pub returns-in_default-clause-left : goal.returns-in_default-clause-left
 returns-in_default-clause-left g c =
     λ i.
-    left_same c.args.store.now c.copy.new.self (no_less (next_name c.args.store.now) (next_name c.copy.new.self) c.in_default.ensures.next) c.copy.ensures.names c.copy.ensures.pools c.copy.ensures.references c.in_default.ensures.err i c.args.call.now
+    left_same c.args.store.now c.copy.new.self (no_less (next_name c.args.store.now) (next_name c.copy.new.self) c.in_default.ensures.next) c.copy.ensures.names c.copy.ensures.pools c.copy.ensures.references c.copy.ensures.unasked c.in_default.ensures.err i c.args.call.now

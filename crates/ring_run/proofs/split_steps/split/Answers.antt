@@ -100,19 +100,19 @@ pub returns-in-Ok-clause-left : goal.returns-in-Ok-clause-left
 returns-in-Ok-clause-left g c =
     let s = within_here c.args.store.now c.args.instance.now c.args.call.now c.args.c c.requires.held c.requires.stands c.bucket.result c.bucket.ensures in
     let rises : next_name c.args.store.now ≤ next_name c.split.new.self = let e = c.in-Ok.ensures.next in omega (arith, e) in
-    left_on c.args.store.now c.split.new.self rises c.split.ensures.names c.split.ensures.pools c.split.ensures.references s.ring (replaced c.bucket.result (split_at c.args.n s.bucket).0 ((c.in-Ok.field-0, (split_at c.args.n s.bucket).1) ∷ [])) (λ m. c.in-Ok.ensures.ok s.ring m s.bucket s.inside s.here) c.args.instance.now c.args.call.now (ours_slot c.args.instance.now c.args.call.now s.variable s.ring s.named)
+    left_on c.args.store.now c.split.new.self rises c.split.ensures.names c.split.ensures.pools c.split.ensures.references c.split.ensures.unasked s.ring (replaced c.bucket.result (split_at c.args.n s.bucket).0 ((c.in-Ok.field-0, (split_at c.args.n s.bucket).1) ∷ [])) (λ m. c.in-Ok.ensures.ok s.ring m s.bucket s.inside s.here) c.args.instance.now c.args.call.now (ours_slot c.args.instance.now c.args.call.now s.variable s.ring s.named)
 
 pub returns-in-Err-Metadata-clause-left : goal.returns-in-Err-Metadata-clause-left
-returns-in-Err-Metadata-clause-left g c = left_same c.args.store.now c.split.new.self (no_less (next_name c.args.store.now) (next_name c.split.new.self) c.in-Err-Metadata.ensures.next) c.split.ensures.names c.split.ensures.pools c.split.ensures.references c.in-Err-Metadata.ensures.err c.args.instance.now c.args.call.now
+returns-in-Err-Metadata-clause-left g c = left_same c.args.store.now c.split.new.self (no_less (next_name c.args.store.now) (next_name c.split.new.self) c.in-Err-Metadata.ensures.next) c.split.ensures.names c.split.ensures.pools c.split.ensures.references c.split.ensures.unasked c.in-Err-Metadata.ensures.err c.args.instance.now c.args.call.now
 
 pub returns-in-Err-TooLong-clause-left : goal.returns-in-Err-TooLong-clause-left
-returns-in-Err-TooLong-clause-left g c = left_same c.args.store.now c.split.new.self (no_less (next_name c.args.store.now) (next_name c.split.new.self) c.in-Err-TooLong.ensures.next) c.split.ensures.names c.split.ensures.pools c.split.ensures.references c.in-Err-TooLong.ensures.err c.args.instance.now c.args.call.now
+returns-in-Err-TooLong-clause-left g c = left_same c.args.store.now c.split.new.self (no_less (next_name c.args.store.now) (next_name c.split.new.self) c.in-Err-TooLong.ensures.next) c.split.ensures.names c.split.ensures.pools c.split.ensures.references c.split.ensures.unasked c.in-Err-TooLong.ensures.err c.args.instance.now c.args.call.now
 
 pub returns-in-Err-NoMemory-clause-left : goal.returns-in-Err-NoMemory-clause-left
-returns-in-Err-NoMemory-clause-left g c = left_same c.args.store.now c.split.new.self (no_less (next_name c.args.store.now) (next_name c.split.new.self) c.in-Err-NoMemory.ensures.next) c.split.ensures.names c.split.ensures.pools c.split.ensures.references c.in-Err-NoMemory.ensures.err c.args.instance.now c.args.call.now
+returns-in-Err-NoMemory-clause-left g c = left_same c.args.store.now c.split.new.self (no_less (next_name c.args.store.now) (next_name c.split.new.self) c.in-Err-NoMemory.ensures.next) c.split.ensures.names c.split.ensures.pools c.split.ensures.references c.split.ensures.unasked c.in-Err-NoMemory.ensures.err c.args.instance.now c.args.call.now
 
 pub returns-in-Err-NamesSpent-clause-left : goal.returns-in-Err-NamesSpent-clause-left
-returns-in-Err-NamesSpent-clause-left g c = left_same c.args.store.now c.split.new.self (no_less (next_name c.args.store.now) (next_name c.split.new.self) c.in-Err-NamesSpent.ensures.next) c.split.ensures.names c.split.ensures.pools c.split.ensures.references c.in-Err-NamesSpent.ensures.err c.args.instance.now c.args.call.now
+returns-in-Err-NamesSpent-clause-left g c = left_same c.args.store.now c.split.new.self (no_less (next_name c.args.store.now) (next_name c.split.new.self) c.in-Err-NamesSpent.ensures.next) c.split.ensures.names c.split.ensures.pools c.split.ensures.references c.split.ensures.unasked c.in-Err-NamesSpent.ensures.err c.args.instance.now c.args.call.now
 
 pub returns-in-Err-NoMemory-clause-sure : goal.returns-in-Err-NoMemory-clause-sure
 returns-in-Err-NoMemory-clause-sure g c around none =

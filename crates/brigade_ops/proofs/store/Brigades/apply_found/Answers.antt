@@ -11,7 +11,7 @@ use Rattle.brigade_ops.proofs.Cleared.{morphs_step, morphs_none}
 use Rattle.brigade_ops.proofs.store.Brigades.apply_found.Goals as goal
 
 pub loop-morph-init : goal.loop-morph-init
-loop-morph-init g c = record { out = λ n. refl; next = refl; names = λ id there young. there; pools = refl; references = refl }
+loop-morph-init g c = record { out = λ n. refl; next = refl; names = λ id there young. there; pools = refl; references = refl; asked = refl }
 
 pub loop-morph-preserved : goal.loop-morph-preserved
 loop-morph-preserved g c =
@@ -32,6 +32,7 @@ loop-morph-preserved g c =
           (omega (arith, c.loop-morph.invariant.next)) c.loop-morph.invariant.names c.apply_morph.ensures.names;
       pools = c.apply_morph.ensures.pools ∙ c.loop-morph.invariant.pools;
       references = c.apply_morph.ensures.references ∙ c.loop-morph.invariant.references;
+      asked = c.apply_morph.ensures.unasked ∙ c.loop-morph.invariant.asked;
     }
 
 pub returns-clause-out : goal.returns-clause-out

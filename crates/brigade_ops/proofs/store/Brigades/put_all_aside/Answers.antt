@@ -90,6 +90,7 @@ loop-place-preserved g c =
           (omega (arith, c.loop-place.invariant.next)) c.loop-place.invariant.names c.put_aside.ensures.names;
       pools = c.put_aside.ensures.pools ∙ c.loop-place.invariant.pools;
       references = c.put_aside.ensures.references ∙ c.loop-place.invariant.references;
+      asked = c.put_aside.ensures.unasked ∙ c.loop-place.invariant.asked;
     }
 
 pub returns-clause-out : goal.returns-clause-out

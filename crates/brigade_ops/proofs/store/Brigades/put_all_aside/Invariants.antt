@@ -16,6 +16,7 @@ invariant-loop-place g l = record {
   names : NoneRevived (brigade_of l.initial.self) (brigade_of l.self) (next_name l.initial.self);
   pools : pool_of l.self ≡ pool_of l.initial.self;
   references : references l.self ≡ references l.initial.self;
+  asked : l.self.asked ≡ l.initial.self.asked;
 }
 
 abbrev pub decreases-loop-place : goal.decreases-loop-place
