@@ -50,7 +50,10 @@ fn grown(rt: &HostRuntime, others: u32, stay: bool) -> Option<PoolTree<u64>> {
     }
     let holder = tree.create(root).ok()?;
     fill(&mut tree, holder, others)?;
-    if !stay && tree.is_live(holder) {
+    if !stay {
+        if !tree.is_live(holder) {
+            return None;
+        }
         tree.clear(holder).ok()?;
     }
     Some(tree)

@@ -13,11 +13,11 @@ use Rattle.run_model.specs.Payloads.{is_brigade, is_file_ref}
 use Rattle.run_model.specs.Pools.{Pools, is_live, is_under}
 use Rattle.run_model.specs.RunOrder.{IsPoolMap, run_order}
 use Rattle.run_model.proofs.References.{Emptied}
-use Rattle.brigade_ops.specs.declared.morphs.Morph.{Morph}
+use Rattle.stored_rings.specs.declared.morph.Morph.{Morph}
 use Rattle.brigade_ops.specs.Files.{refs_in, is_let_go}
 use Rattle.brigade_ops.specs.House.{all_refs, AreHoused, AreOpen, cleared_items, cleared_ring, pool_left}
-use Rattle.brigade_ops.specs.Items.{Items}
-use Rattle.brigade_ops.specs.Morphs.{all_morphed}
+use Rattle.stored_rings.specs.Items.{Items}
+use Rattle.stored_rings.specs.Morphs.{all_morphed}
 use Rattle.brigade_ops.proofs.Counts.{once_off, any_none, any_some, refs_counted, run_splits, brigade_handed, referred_none, referred_some}
 
 -- A file is closed where its last reference is handed on.

@@ -3,31 +3,26 @@ use Rattle.std.proofs.Common.{◌≡◌, ◌≢◌, ◌==◌, ◌||◌, ◌⊎�
 use Rattle.std.specs.Prelude.{IfSome}
 use Rattle.std.specs.List.{cons_option}
 use Rattle.std.specs.Option.{option_map, option_map_or}
-use Rattle.std.proofs.lemmas.Bool.{cases_Bool, cases_eq, eq-eqb, ne_eqb}
+use Rattle.std.proofs.lemmas.Bool.{cases_Bool, cases_eq, eq-eqb}
 use Rattle.std.proofs.lemmas.List.{append-nil}
 use Rattle.std.proofs.lemmas.List.Folds.{list_any-append}
 use Rattle.bucket_ring.specs.declared.names.BucketId.{BucketId}
-use Rattle.bucket_ring.specs.Laws.{same_name, same_self, found_times}
+use Rattle.bucket_ring.specs.Laws.{same_self, found_times}
 use Rattle.bucket_ring.specs.declared.rings.Rings.{Ghosts}
 use Rattle.bucket_ring.specs.Lists.{list_at, same, times, found}
 use Rattle.bucket_kinds.specs.declared.stored.Stored.{Stored}
 use Rattle.run_model.specs.declared.bucket.Bucket.{Bucket}
 use Rattle.run_model.specs.Buckets.{to_heap}
 use Rattle.run_model.specs.Pools.{is_in}
-use Rattle.brigade_ops.specs.declared.morphs.Morph.{Morph}
-use Rattle.brigade_ops.specs.Items.{Item, Items, from_place}
+use Rattle.stored_rings.specs.declared.morph.Morph.{Morph}
+use Rattle.stored_rings.specs.Items.{Item, Items, from_place}
 use Rattle.brigade_ops.specs.House.{cleared_item, cleared_items}
-use Rattle.brigade_ops.specs.Morphs.{kind_given, given_by, morphed, all_morphed, cleared_as, IsAsItWas}
+use Rattle.stored_rings.specs.Morphs.{kind_given, given_by, morphed, all_morphed, cleared_as, IsAsItWas}
 use Rattle.brigade_ops.specs.declared.store.Brigades.{Brigades}
-use Rattle.brigade_ops.specs.Shelf.{seen}
+use Rattle.stored_rings.specs.Shelf.{seen}
 use Rattle.brigade_ops.specs.Store.{brigade_of, bucket_at}
-use Rattle.brigade_ops.proofs.Cleared.{given_once, given_twice, morphed_append, at_some}
-
-pub not_same : (i j : BucketId) → same i j ≡ false → same j i ≡ false
-not_same i j miss = elim (cases_Bool (same j i)) [
-  | inl hit ↦ absurd (let both : true ≡ false = sym (same_self j) ∙ (ap (λ (k : BucketId). same k j) (same_name j i hit) ∙ miss) in cc)
-  | inr e ↦ e
-]
+use Rattle.stored_rings.proofs.Names.{in_more_other}
+use Rattle.stored_rings.proofs.Cleared.{given_once, given_twice, morphed_append, at_some}
 
 -- One bucket more was looked at.
 module _ (reached : ℕ → Bool) (ready : List Morph) (name : BucketId) (r : Option Morph) (is : IfSome r (λ m. m.id ≡ name)) where
@@ -68,23 +63,13 @@ module _ (reached : ℕ → Bool) (ready : List Morph) (name : BucketId) (r : Op
 pub none_left : {T : Type 0} (id : BucketId) (place : Option BucketId) (xs : List (BucketId × T)) → place ≡ None → times id (from_place place xs) ≡ 0
 none_left id place xs e = ap (λ (p : Option BucketId). times id (from_place p xs)) e
 
-pub later_times : {T : Type 0} (id name : BucketId) (x : T) (xs ys : List (BucketId × T)) → same id name ≡ false → xs ≡ (name, x) ∷ ys → times id ys ≡ 0 → times id xs ≡ 0
-later_times id name x xs ys miss e none = ap (times id) e ∙ rw (not_same id name miss) none
-
 -- The buckets of the brigades so far, and of one more.
-or_none : (b : Bool) → (b || (false || false)) ≡ b
-or_none true = refl
-or_none false = refl
-
 or_one : (b : Bool) → (b || (true || false)) ≡ true
 or_one true = refl
 or_one false = refl
 
 pub in_more_here : (b ring : ℕ) (rings : List ℕ) → (ring ≡ b) → is_in b (rings ++ ring ∷ []) ≡ true
 in_more_here b ring rings here = list_any-append (λ m. m == b) rings (ring ∷ []) ∙ (ap (λ s. is_in b rings || (s || false)) (eq-eqb ring b here) ∙ or_one (is_in b rings))
-
-pub in_more_other : (b ring : ℕ) (rings : List ℕ) → (ring ≢ b) → is_in b (rings ++ ring ∷ []) ≡ is_in b rings
-in_more_other b ring rings ne = list_any-append (λ m. m == b) rings (ring ∷ []) ∙ (ap (λ s. is_in b rings || (s || false)) (ne_eqb ring b ne) ∙ or_none (is_in b rings))
 
 pub as_it_was : (reached : ℕ → Bool) (ms : List Morph) (id : BucketId) (x : Bucket) (b : Bool) → morphed ms id x ≡ cond b (cleared_as reached x) x → IsAsItWas reached ms id x
 as_it_was reached ms id x true e = inr e

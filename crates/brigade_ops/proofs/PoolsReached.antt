@@ -1,6 +1,5 @@
 -- The pools that a clear reaches, in the order of their names.
-use Rattle.std.proofs.Common.{◌≡◌, ◌==◌, ◌<◌, ◌≤◌, ◌++◌, ◌||◌, ◌&&◌, ℕ, Bool, true, false, not, List, [], ◌∷◌, reverse, length, get_or, is_ok, Result, Ok, Err, refl, sym, ap, ◌∙◌, inl, inr, arith, ⊎_elim}
-use Rattle.std.specs.List.{list_any, All}
+use Rattle.std.proofs.Common.{◌≡◌, ◌==◌, ◌<◌, ◌≤◌, ◌++◌, ◌||◌, ◌&&◌, ℕ, Bool, true, false, not, List, [], ◌∷◌, reverse, length, get_or, is_ok, Result, Ok, Err, refl, sym, ap, ◌∙◌, arith, ⊎_elim}
 use Rattle.std.specs.List.Sorted.{IsBinarySearchResult, IsNonDecreasing, IsPermutation}
 use Rattle.std.specs.Ordering.{nat_cmp}
 use Rattle.std.specs.Result.{MatchResult}
@@ -15,7 +14,7 @@ use Rattle.pool_tree.specs.declared.tree.PoolTree.{PoolTree}
 use Rattle.pool_tree.specs.Tree.{map_of}
 use Rattle.pool_tree.proofs.Rooms.{found_is}
 use Rattle.pool_tree.proofs.Trees.{tree_formed}
-use Rattle.brigade_ops.proofs.DueBuckets.{in_turned}
+use Rattle.stored_rings.proofs.DueBuckets.{in_turned}
 
 -- a search among names that rise finds the one that is there
 module _ (xs : List ℕ) (x : ℕ) where

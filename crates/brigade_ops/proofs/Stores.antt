@@ -9,12 +9,12 @@ use Rattle.bucket_ring.specs.Laws as ring
 use Rattle.run_model.specs.declared.bucket.Bucket.{Bucket}
 use Rattle.bucket_kinds.specs.declared.stored.Stored.{Stored}
 use Rattle.brigade_ops.specs.declared.store.Brigades.{Brigades}
-use Rattle.brigade_ops.specs.Items.{Items}
-use Rattle.brigade_ops.specs.Laws.{IsGiven}
+use Rattle.stored_rings.specs.Items.{Items}
+use Rattle.stored_rings.specs.Laws.{IsGiven}
 use Rattle.brigade_ops.specs.Store.{lists, brigade_of, bucket_at, next_name}
-use Rattle.brigade_ops.proofs.Lists.{and_then_told}
-use Rattle.brigade_ops.proofs.Saves.{here_at}
-use Rattle.brigade_ops.proofs.Shelves as shelf
+use Rattle.stored_rings.proofs.Lists.{and_then_told}
+use Rattle.stored_rings.proofs.Saves.{here_at}
+use Rattle.stored_rings.proofs.Shelves as shelf
 
 module _ {R : Type 0} {g : Ghosts R Stored} (store : Brigades R g) where
   -- all of it

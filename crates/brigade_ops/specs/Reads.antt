@@ -6,9 +6,9 @@ use Rattle.run_model.specs.declared.bucket.Bucket.{Bucket}
 use Rattle.run_model.specs.Cutting.{wanted, read_of}
 use Rattle.bucket_kinds.specs.Device.{Device, WentWell, HasFailed, WasAsked}
 use Rattle.bucket_kinds.specs.Reading.{GivesFor, EndsWithin}
-use Rattle.brigade_ops.specs.declared.refusal.ReadRefusal.{ReadRefusal}
-use Rattle.brigade_ops.specs.declared.refusal.ReadRefusal.TheVariants as refusal
-use Rattle.brigade_ops.specs.Items.{Items, replaced, rest_item}
+use Rattle.stored_rings.specs.declared.refusal.ReadRefusal.{ReadRefusal}
+use Rattle.stored_rings.specs.declared.refusal.ReadRefusal.TheVariants as refusal
+use Rattle.stored_rings.specs.Items.{Items, replaced, rest_item}
 
 -- The bucket x of the name id was read. What a read leaves of a longer range stands behind it under a name of its own.
 pub record IsRead (id : BucketId) (x : Bucket) (at : Option ℕ) (d e : Device) (old new : ℕ → Option Items) (next after : ℕ) (result : Result (Option BucketId) ReadRefusal) : Type 0 where

@@ -7,9 +7,9 @@ use Rattle.bucket_ring.specs.Lists.{list_at, found}
 use Rattle.bucket_kinds.specs.declared.stored.Stored.{Stored}
 use Rattle.run_model.specs.declared.bucket.Bucket.{Bucket}
 use Rattle.brigade_ops.specs.declared.store.Brigades.{Brigades}
-use Rattle.brigade_ops.specs.Items.{Items}
-use Rattle.brigade_ops.specs.Numbers.{number_at}
-use Rattle.brigade_ops.specs.Shelf.{seen, IsGivenUp}
+use Rattle.stored_rings.specs.Items.{Items}
+use Rattle.stored_rings.specs.Numbers.{number_at}
+use Rattle.stored_rings.specs.Shelf.{seen, IsGivenUp}
 
 module _ {R : Type 0} {g : Ghosts R Stored} where
   -- the buckets of each brigade, by its name; None where there is no such brigade

@@ -9,20 +9,20 @@ ghost use Rattle.run_model.specs.Steps.{is_above, file_of};
 ghost use Rattle.pool_tree.specs.Tree.{map_of};
 ghost use Rattle.bucket_ring.specs.Lists.{on, with_payload};
 ghost use Rattle.bucket_ring.specs.Kept.{NoneRevived};
-ghost use Rattle.brigade_ops.specs.Items.{file_for, pools_for, count_for};
+ghost use Rattle.stored_rings.specs.Items.{file_for, pools_for, count_for};
 ghost use Rattle.bucket_kinds.specs.Stored.{Look, is_whole};
 ghost use Rattle.brigade_ops.specs.House.{IsHouse};
-ghost use Rattle.brigade_ops.specs.Noted.{place_of};
-ghost use Rattle.brigade_ops.specs.Shown.{lies_right};
-ghost use Rattle.brigade_ops.specs.Views.{content_of};
+ghost use Rattle.stored_rings.specs.Noted.{place_of};
+ghost use Rattle.stored_rings.specs.Shown.{lies_right};
+ghost use Rattle.stored_rings.specs.Views.{content_of};
 
 use crate::store::Brigades;
-use crate::view::{ContentView, View};
 use bucket_kinds::{FileNo, Kept, Stored, stored_aside};
 use bucket_ring::{BucketId, Rings};
 use pool_tree::{PoolId, PoolTree};
 use run_model::{Content, Home, Kind, Payload};
 use std::alloc::AllocError;
+use stored_rings::{ContentView, View};
 
 /// What stands in a bucket's place while that is changed: its kind, its home, and where it lies in a region, but no bytes of its own. So
 /// it depends on the same pools, and nothing is noted anew when the bucket is put back.
@@ -94,6 +94,7 @@ impl<R: Rings<Stored> + Drop> Brigades<R> {
         ensures names { NoneRevived (brigade_of self.old) (brigade_of self.new) (next_name self.old) }
         ensures pools { pool_of self.new ≡ pool_of self.old }
         ensures references { references self.new ≡ references self.old }
+        ensures unasked { self.new.asked ≡ self.old.asked }
     {
         let nothing = hollow(self.stored(id));
         let mut bucket = self.held.put(id, nothing);
@@ -124,6 +125,8 @@ impl<R: Rings<Stored> + Drop> Brigades<R> {
         ensures kept { OnErr result (map_of tree.new ≡ map_of tree.old) }
         ensures uncounted { OnErr result ((f : ℕ) → references self.new f ≡ references self.old f) }
         ensures house { IsHouse self.old (map_of tree.old) → IsHouse self.new (map_of tree.new) }
+        ensures unasked { self.new.asked ≡ self.old.asked }
+        ensures tree_unasked { tree.new.asked ≡ tree.old.asked }
     {
         let (file, above) = self.file_for(tree, id, pool);
         self.refer_for(tree, pool, file)?;

@@ -3,10 +3,10 @@
 ghost use Rattle.std.specs.Prelude.{◌≡◌, ◌≢◌, ◌↔◌, ℕ, ◌+◌, ◌<◌, ◌≤◌, ◌++◌, [], length, Some, None, true, is_some, is_ok, if◌then◌else◌, IsTrue, IsOk, IfOk, OnOk, OnErr, IsErrOf};
 ghost use Rattle.run_model.specs.Pools.{Pools, is_live, registered};
 ghost use Rattle.run_model.specs.RunOrder.{IsPoolMap};
-ghost use Rattle.pool_tree.specs.Tree.{map_of};
+ghost use Rattle.pool_tree.specs.Tree.{map_of, once_more};
 ghost use Rattle.bucket_ring.specs.declared.names.BucketId.{BucketId};
 ghost use Rattle.bucket_ring.specs.Lists.{upd, on, list_at, by_birth, numbered};
-ghost use Rattle.brigade_ops.specs.Items.{Items};
+ghost use Rattle.stored_rings.specs.Items.{Items};
 ghost use Rattle.brigade_ops.specs.House.{IsHouse};
 ghost use Rattle.bucket_ring.specs.Kept.{NoneRevived};
 
@@ -21,10 +21,13 @@ use std::alloc::AllocError;
 impl<R: Rings<Stored> + Drop> Brigades<R> {
     ghost use Rattle.brigade_ops.specs.Store.{lists, brigade_of, bucket_at, pool_of, next_name, references, has_room};
 
-    /// Whether there is such a brigade.
-    pub fn has(&self, b: BrigadeId) -> bool
-        ensures { result ≡ is_some (lists self.now b) }
+    /// Whether there is such a brigade. It is counted that this was asked.
+    pub fn has(&mut self, b: BrigadeId) -> bool
+        ensures value { result ≡ is_some (lists self.old b) }
+        ensures there { result ≡ is_some (lists self.new b) }
+        ensures counted { self.new ≡ record self.old { asked = once_more self.old.asked } }
     {
+        self.asked = self.asked.saturating_add(1);
         self.held.has_ring(b)
     }
 
@@ -49,6 +52,8 @@ impl<R: Rings<Stored> + Drop> Brigades<R> {
         ensures off { OnErr result ((n : ℕ) → pool_of self.new n ≡ pool_of self.old n) }
         ensures kept { OnErr result (map_of tree.new ≡ map_of tree.old) }
         ensures house { IsHouse self.old (map_of tree.old) → IsHouse self.new (map_of tree.new) }
+        ensures unasked { self.new.asked ≡ self.old.asked }
+        ensures tree_unasked { tree.new.asked ≡ tree.old.asked }
     {
         let name = self.held.next_name();
         if name == u64::MAX {
@@ -78,6 +83,7 @@ impl<R: Rings<Stored> + Drop> Brigades<R> {
         ensures next { next_name self.new ≡ next_name self.old }
         ensures pools { pool_of self.new ≡ pool_of self.old }
         ensures references { references self.new ≡ references self.old }
+        ensures unasked { self.new.asked ≡ self.old.asked }
     {
         self.held.make_room()
     }
@@ -93,6 +99,7 @@ impl<R: Rings<Stored> + Drop> Brigades<R> {
         ensures spent { IsErrOf result RingRefusal.NamesSpent ↔ (next_name self.old ≡ u64.MAX) }
         ensures sure { has_room self.old → next_name self.old < u64.MAX → IsOk result }
         ensures err { OnErr result ((n : ℕ) → lists self.new n ≡ lists self.old n) }
+        ensures unasked { self.new.asked ≡ self.old.asked }
     {
         self.held.new_ring()
     }
@@ -113,6 +120,7 @@ impl<R: Rings<Stored> + Drop> Brigades<R> {
         ensures references { references self.new ≡ references self.old }
         ensures spent { (result ≡ Err RingRefusal.NamesSpent) ↔ (u64.MAX < next_name self.old + 2 + length buckets.items) }
         ensures err { OnErr result ((n : ℕ) → lists self.new n ≡ lists self.old n) }
+        ensures unasked { self.new.asked ≡ self.old.asked }
     {
         self.held.new_pair(buckets)
     }
@@ -126,6 +134,7 @@ impl<R: Rings<Stored> + Drop> Brigades<R> {
         ensures names { NoneRevived (brigade_of self.old) (brigade_of self.new) (next_name self.old) }
         ensures pools { pool_of self.new ≡ pool_of self.old }
         ensures references { references self.new ≡ references self.old }
+        ensures unasked { self.new.asked ≡ self.old.asked }
     {
         self.held.end_ring(b);
     }
@@ -138,6 +147,7 @@ impl<R: Rings<Stored> + Drop> Brigades<R> {
         ensures names { NoneRevived (brigade_of self.old) (brigade_of self.new) (next_name self.old) }
         ensures pools { pool_of self.new ≡ pool_of self.old }
         ensures references { references self.new ≡ references self.old }
+        ensures unasked { self.new.asked ≡ self.old.asked }
     {
         self.held.drop_all(b);
     }
@@ -154,6 +164,7 @@ impl<R: Rings<Stored> + Drop> Brigades<R> {
         ensures pools { pool_of self.new ≡ pool_of self.old }
         ensures references { references self.new ≡ references self.old }
         ensures err { OnErr result ((n : ℕ) → lists self.new n ≡ lists self.old n) }
+        ensures unasked { self.new.asked ≡ self.old.asked }
     {
         self.held.splice_tail(a, b);
         Ok(())
@@ -169,6 +180,7 @@ impl<R: Rings<Stored> + Drop> Brigades<R> {
         ensures pools { pool_of self.new ≡ pool_of self.old }
         ensures references { references self.new ≡ references self.old }
         ensures house { (ps : Pools Payload) → IsHouse self.old ps → IsHouse self.new ps }
+        ensures unasked { self.new.asked ≡ self.old.asked }
     {
         self.held.set_next(next);
     }

@@ -1,22 +1,23 @@
 //! One bucket of the store at a time: put in, moved, found and destroyed.
 
 ghost use Rattle.std.specs.Prelude.{◌≡◌, ◌↔◌, ℕ, ◌+◌, ◌<◌, ◌^◌, ◌++◌, length, Some, true, is_some, is_ok, if◌then◌else◌, IsOk, IfOk, IfErr, OnOk, OnErr};
+ghost use Rattle.pool_tree.specs.Tree.{once_more};
 ghost use Rattle.bucket_ring.specs.Lists.{on, list_at, same, first_of, next_in, found, put_tail, put_head, put_before, put_after, without, by_birth, numbered};
 ghost use Rattle.bucket_ring.specs.Kept.{NoneRevived};
 ghost use Rattle.bucket_kinds.specs.Stored.{is_whole, shown};
-ghost use Rattle.brigade_ops.specs.Items.{Items, bytes_in};
-ghost use Rattle.brigade_ops.specs.Regions.{look};
-ghost use Rattle.brigade_ops.specs.Shown.{lies_right};
-ghost use Rattle.brigade_ops.specs.Views.{bucket_of};
+ghost use Rattle.stored_rings.specs.Items.{Items, bytes_in};
+ghost use Rattle.stored_rings.specs.Regions.{look};
+ghost use Rattle.stored_rings.specs.Shown.{lies_right};
+ghost use Rattle.stored_rings.specs.Views.{bucket_of};
 
 use crate::store::{BrigadeId, Brigades};
-use crate::view::{ContentView, View};
 use bucket_kinds::{Kept, Stored};
 use bucket_ring::{BucketId, RingRefusal, Rings};
 use run_model::Bucket;
 use std::alloc::AllocError;
+use stored_rings::{ContentView, View};
 
-#[tactic(auto, unfolding(crate::specs::Shelf::seen, crate::specs::Store::lists, crate::specs::Store::brigade_of, crate::specs::Store::pool_of, crate::specs::Store::next_name, crate::specs::Store::references))]
+#[tactic(auto, unfolding(stored_rings::specs::Shelf::seen, crate::specs::Store::lists, crate::specs::Store::brigade_of, crate::specs::Store::pool_of, crate::specs::Store::next_name, crate::specs::Store::references))]
 impl<R: Rings<Stored> + Drop> Brigades<R> {
     ghost use Rattle.brigade_ops.specs.Store.{lists, brigade_of, bucket_at, pool_of, next_name, references};
 
@@ -38,6 +39,7 @@ impl<R: Rings<Stored> + Drop> Brigades<R> {
         ensures unspent { IfErr result (λ why. why.0 ≡ RingRefusal.NamesSpent → next_name self.old ≡ u64.MAX) }
         ensures err { OnErr result ((n : ℕ) → lists self.new n ≡ lists self.old n) }
         ensures back { IfErr result (λ why. why.1 ≡ bucket) }
+        ensures unasked { self.new.asked ≡ self.old.asked }
     {
         let next = self.held.next_name();
         if let Err(why) = self
@@ -65,6 +67,7 @@ impl<R: Rings<Stored> + Drop> Brigades<R> {
         ensures references { references self.new ≡ references self.old }
         ensures spent { (result ≡ Err RingRefusal.NamesSpent) ↔ (u64.MAX < next_name self.old + length buckets.items) }
         ensures err { OnErr result ((n : ℕ) → lists self.new n ≡ lists self.old n) }
+        ensures unasked { self.new.asked ≡ self.old.asked }
     {
         self.held.add_all(b, buckets)
     }
@@ -86,6 +89,7 @@ impl<R: Rings<Stored> + Drop> Brigades<R> {
         ensures unspent { IfErr result (λ why. why.0 ≡ RingRefusal.NamesSpent → next_name self.old ≡ u64.MAX) }
         ensures err { OnErr result ((n : ℕ) → lists self.new n ≡ lists self.old n) }
         ensures back { IfErr result (λ why. why.1 ≡ bucket) }
+        ensures unasked { self.new.asked ≡ self.old.asked }
     {
         let next = self.held.next_name();
         if let Err(why) = self
@@ -119,6 +123,7 @@ impl<R: Rings<Stored> + Drop> Brigades<R> {
         ensures unspent { IfErr result (λ why. why.0 ≡ RingRefusal.NamesSpent → next_name self.old ≡ u64.MAX) }
         ensures err { OnErr result ((n : ℕ) → lists self.new n ≡ lists self.old n) }
         ensures back { IfErr result (λ why. why.1 ≡ bucket) }
+        ensures unasked { self.new.asked ≡ self.old.asked }
     {
         let next = self.held.next_name();
         if let Err(why) = self
@@ -152,6 +157,7 @@ impl<R: Rings<Stored> + Drop> Brigades<R> {
         ensures unspent { IfErr result (λ why. why.0 ≡ RingRefusal.NamesSpent → next_name self.old ≡ u64.MAX) }
         ensures err { OnErr result ((n : ℕ) → lists self.new n ≡ lists self.old n) }
         ensures back { IfErr result (λ why. why.1 ≡ bucket) }
+        ensures unasked { self.new.asked ≡ self.old.asked }
     {
         let next = self.held.next_name();
         if let Err(why) = self
@@ -177,6 +183,7 @@ impl<R: Rings<Stored> + Drop> Brigades<R> {
         ensures names { NoneRevived (brigade_of self.old) (brigade_of self.new) (next_name self.old) }
         ensures pools { pool_of self.new ≡ pool_of self.old }
         ensures references { references self.new ≡ references self.old }
+        ensures unasked { self.new.asked ≡ self.old.asked }
     {
         self.held.move_tail(b, id);
     }
@@ -190,6 +197,7 @@ impl<R: Rings<Stored> + Drop> Brigades<R> {
         ensures names { NoneRevived (brigade_of self.old) (brigade_of self.new) (next_name self.old) }
         ensures pools { pool_of self.new ≡ pool_of self.old }
         ensures references { references self.new ≡ references self.old }
+        ensures unasked { self.new.asked ≡ self.old.asked }
     {
         self.held.move_head(b, id);
     }
@@ -203,6 +211,7 @@ impl<R: Rings<Stored> + Drop> Brigades<R> {
         ensures names { NoneRevived (brigade_of self.old) (brigade_of self.new) (next_name self.old) }
         ensures pools { pool_of self.new ≡ pool_of self.old }
         ensures references { references self.new ≡ references self.old }
+        ensures unasked { self.new.asked ≡ self.old.asked }
     {
         self.held.move_before(at, id);
     }
@@ -215,6 +224,7 @@ impl<R: Rings<Stored> + Drop> Brigades<R> {
         ensures names { NoneRevived (brigade_of self.old) (brigade_of self.new) (next_name self.old) }
         ensures pools { pool_of self.new ≡ pool_of self.old }
         ensures references { references self.new ≡ references self.old }
+        ensures unasked { self.new.asked ≡ self.old.asked }
     {
         self.held.drop_bucket(id);
     }
@@ -235,10 +245,13 @@ impl<R: Rings<Stored> + Drop> Brigades<R> {
         self.held.next(id)
     }
 
-    /// The brigade that a bucket is in; `None` where it was destroyed.
-    pub fn ring_of(&self, id: BucketId) -> Option<BrigadeId>
-        ensures { result ≡ brigade_of self.now id }
+    /// The brigade that a bucket is in; `None` where it was destroyed. It is counted that this was asked.
+    pub fn ring_of(&mut self, id: BucketId) -> Option<BrigadeId>
+        ensures value { result ≡ brigade_of self.old id }
+        ensures there { result ≡ brigade_of self.new id }
+        ensures counted { self.new ≡ record self.old { asked = once_more self.old.asked } }
     {
+        self.asked = self.asked.saturating_add(1);
         self.held.ring_of(id)
     }
 

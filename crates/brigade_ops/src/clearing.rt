@@ -11,12 +11,13 @@ ghost use Rattle.run_model.specs.RunOrder.{run_order, IsPoolMap};
 ghost use Rattle.pool_tree.specs.Tree.{map_of};
 ghost use Rattle.bucket_kinds.specs.Device.{Missing, is_there};
 ghost use Rattle.bucket_ring.specs.Kept.{NoneRevived};
-ghost use Rattle.brigade_ops.specs.Due.{kind_reached, home_reached, is_reached};
+ghost use Rattle.brigade_ops.specs.Due.{is_reached};
+ghost use Rattle.stored_rings.specs.Due.{kind_reached, home_reached};
 ghost use Rattle.brigade_ops.specs.Files.{refs_in, is_let_go, SameButOpen};
 ghost use Rattle.brigade_ops.specs.House.{IsHouse, AreOpen, cleared_items, cleared_ring, pool_left};
-ghost use Rattle.brigade_ops.specs.Morphs.{morphed, all_morphed, cleared_as, IsAsItWas};
+ghost use Rattle.stored_rings.specs.Morphs.{morphed, all_morphed, cleared_as, IsAsItWas};
 
-use crate::morphs::{Morph, Morphs};
+use crate::morphs::Morphs;
 use crate::reached::Reached;
 use crate::saving::push_some;
 use crate::store::{BrigadeId, Brigades};
@@ -25,6 +26,7 @@ use bucket_ring::{BucketId, Rings};
 use pool_tree::{PoolId, PoolTree};
 use run_model::{Bucket, Home, Kind, Payload, Seq};
 use std::alloc::AllocError;
+use stored_rings::Morph;
 
 /// Whether a clear of a pool changes a bucket of this kind and home.
 pub(crate) fn depends_on(reached: &Reached, kind: Kind, home: Home) -> bool
@@ -97,7 +99,7 @@ impl<R: Rings<Stored> + Drop> Brigades<R> {
     {
         let mut found = Seq::new(self.alloc);
         for ring in rings {
-            if self.has(*ring) {
+            if self.held.has_ring(*ring) {
                 self.plan_ring(&mut found, *ring, reached)?;
             }
         }
@@ -152,6 +154,7 @@ impl<R: Rings<Stored> + Drop> Brigades<R> {
         ensures freed { (p : ℕ) → is_in p morphs.pools.items ≡ true → IsFreed self.new p }
         ensures next { next_name self.new ≡ next_name self.old }
         ensures names { NoneRevived (brigade_of self.old) (brigade_of self.new) (next_name self.old) }
+        ensures unasked { self.new.asked ≡ self.old.asked }
     {
         let pools = self.change_found(morphs);
         self.end_pool(files, handed);
@@ -189,6 +192,8 @@ impl<R: Rings<Stored> + Drop> Brigades<R> {
         ensures uncounted { OnErr result (references self.new ≡ references self.old) }
         ensures kept { OnErr result (map_of tree.new ≡ map_of tree.old) }
         ensures unread { OnErr result (F.device files.new ≡ F.device files.old) }
+        ensures unasked { self.new.asked ≡ self.old.asked }
+        ensures tree_unasked { tree.new.asked ≡ tree.old.asked }
     {
         let morphs = self.plan_morphs(rings, pool, tree)?;
         let ran = tree.clear(pool)?;
@@ -226,6 +231,8 @@ impl<R: Rings<Stored> + Drop> Brigades<R> {
         ensures uncounted { OnErr result (references self.new ≡ references self.old) }
         ensures kept { OnErr result (map_of tree.new ≡ map_of tree.old) }
         ensures unread { OnErr result (F.device files.new ≡ F.device files.old) }
+        ensures unasked { self.new.asked ≡ self.old.asked }
+        ensures tree_unasked { tree.new.asked ≡ tree.old.asked }
     {
         let morphs = self.plan_morphs(rings, pool, tree)?;
         let ran = tree.destroy(pool)?;

@@ -7,17 +7,17 @@ ghost use Rattle.run_model.specs.Buckets.{is_data_kind};
 ghost use Rattle.run_model.specs.Cutting.{EndsInFile, length_of, split_at};
 ghost use Rattle.bucket_kinds.specs.declared.stored.Kept.{Kept};
 ghost use Rattle.bucket_kinds.specs.Stored.{is_whole, shown};
-ghost use Rattle.brigade_ops.specs.Items.{replaced};
-ghost use Rattle.brigade_ops.specs.Regions.{look};
-ghost use Rattle.brigade_ops.specs.Shown.{lies_right};
+ghost use Rattle.stored_rings.specs.Items.{replaced};
+ghost use Rattle.stored_rings.specs.Regions.{look};
+ghost use Rattle.stored_rings.specs.Shown.{lies_right};
 
-use crate::refusal::SplitRefusal;
 use crate::store::{BrigadeId, Brigades};
 use bucket_kinds::{SplitError, Stored, keep_own, stored_copy, stored_halves};
 use bucket_ring::{BucketId, RingRefusal, Rings};
 use run_model::Bucket;
+use stored_rings::SplitRefusal;
 
-#[tactic(auto, unfolding(crate::specs::Shelf::seen, crate::specs::Store::lists, crate::specs::Store::brigade_of, crate::specs::Store::pool_of, crate::specs::Store::next_name, crate::specs::Store::references, crate::specs::Store::has_room))]
+#[tactic(auto, unfolding(stored_rings::specs::Shelf::seen, crate::specs::Store::lists, crate::specs::Store::brigade_of, crate::specs::Store::pool_of, crate::specs::Store::next_name, crate::specs::Store::references, crate::specs::Store::has_room))]
 impl<R: Rings<Stored> + Drop> Brigades<R> {
     ghost use Rattle.brigade_ops.specs.Store.{lists, brigade_of, bucket_at, pool_of, next_name, references, has_room};
 
@@ -38,6 +38,7 @@ impl<R: Rings<Stored> + Drop> Brigades<R> {
         ensures names { NoneRevived (brigade_of self.old) (brigade_of self.new) (next_name self.old) }
         ensures pools { pool_of self.new ≡ pool_of self.old }
         ensures references { references self.new ≡ references self.old }
+        ensures unasked { self.new.asked ≡ self.old.asked }
     {
         self.held.add_after(at, bucket)
     }
@@ -55,6 +56,7 @@ impl<R: Rings<Stored> + Drop> Brigades<R> {
         ensures names { NoneRevived (brigade_of self.old) (brigade_of self.new) (next_name self.old) }
         ensures pools { pool_of self.new ≡ pool_of self.old }
         ensures references { references self.new ≡ references self.old }
+        ensures unasked { self.new.asked ≡ self.old.asked }
     {
         self.put_behind(at, keep_own(bucket))
     }
@@ -68,6 +70,7 @@ impl<R: Rings<Stored> + Drop> Brigades<R> {
         ensures names { NoneRevived (brigade_of self.old) (brigade_of self.new) (next_name self.old) }
         ensures pools { pool_of self.new ≡ pool_of self.old }
         ensures references { references self.new ≡ references self.old }
+        ensures unasked { self.new.asked ≡ self.old.asked }
     {
         let _had = self.held.put(id, keep_own(bucket));
     }
@@ -105,6 +108,7 @@ impl<R: Rings<Stored> + Drop> Brigades<R> {
         ensures spent { next_name self.old ≡ u64.MAX → IsErr result }
         ensures unspent { result ≡ Err SplitRefusal.NamesSpent → next_name self.old ≡ u64.MAX }
         ensures err { OnErr result ((m : ℕ) → lists self.new m ≡ lists self.old m) }
+        ensures unasked { self.new.asked ≡ self.old.asked }
     {
         let (front, rest) = self.halves_at(id, n)?;
         if self.held.next_name() == u64::MAX {
@@ -133,6 +137,7 @@ impl<R: Rings<Stored> + Drop> Brigades<R> {
         ensures spent { next_name self.old ≡ u64.MAX → IsErr result }
         ensures unspent { result ≡ Err RingRefusal.NamesSpent → next_name self.old ≡ u64.MAX }
         ensures err { OnErr result ((m : ℕ) → lists self.new m ≡ lists self.old m) }
+        ensures unasked { self.new.asked ≡ self.old.asked }
     {
         let copy = stored_copy(self.alloc, self.stored(id))?;
         let next = self.held.next_name();

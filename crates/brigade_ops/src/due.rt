@@ -2,9 +2,10 @@
 
 ghost use Rattle.std.specs.Prelude.{◌≡◌, ◌++◌, filter, false, true, IfOk, OnOk};
 ghost use Rattle.bucket_ring.specs.declared.names.BucketId.{BucketId};
-ghost use Rattle.brigade_ops.specs.Dependents.{names_of};
-ghost use Rattle.brigade_ops.specs.Due.{is_due, is_reached};
-ghost use Rattle.brigade_ops.specs.Morphs.{is_named};
+ghost use Rattle.stored_rings.specs.Dependents.{names_of};
+ghost use Rattle.brigade_ops.specs.Due.{is_reached};
+ghost use Rattle.stored_rings.specs.Due.{is_due};
+ghost use Rattle.stored_rings.specs.Morphs.{is_named};
 
 use crate::clearing::depends_on;
 use crate::reached::Reached;
@@ -22,7 +23,7 @@ impl<R: Rings<Stored> + Drop> Brigades<R> {
     fn is_due(&self, rings: &[BrigadeId], reached: &Reached, id: BucketId) -> bool
         ensures { result ≡ is_due (is_reached reached.now) rings.now (brigade_of self.now id) (bucket_at self.now id) }
     {
-        match self.ring_of(id) {
+        match self.held.ring_of(id) {
             Some(ring) if rings.contains(&ring) => {
                 let bucket = self.payload(id);
                 depends_on(reached, bucket.kind, bucket.home)

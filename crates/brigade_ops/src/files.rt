@@ -8,7 +8,7 @@ ghost use Rattle.run_model.specs.Payloads.{is_brigade, is_file_ref};
 ghost use Rattle.pool_tree.specs.Tree.{map_of};
 ghost use Rattle.bucket_ring.specs.Kept.{NoneRevived};
 ghost use Rattle.bucket_kinds.specs.Device.{Missing, is_there};
-ghost use Rattle.brigade_ops.specs.Items.{pools_for, count_for};
+ghost use Rattle.stored_rings.specs.Items.{pools_for, count_for};
 ghost use Rattle.brigade_ops.specs.Files.{refs_in, is_let_go, SameButOpen};
 ghost use Rattle.brigade_ops.specs.House.{IsHouse};
 
@@ -20,7 +20,7 @@ use pool_tree::{PoolId, PoolTree};
 use run_model::{Home, Kind, Payload};
 use std::alloc::AllocError;
 
-#[tactic(auto, unfolding(crate::specs::Store::lists, crate::specs::Store::brigade_of, crate::specs::Store::bucket_at, crate::specs::Store::pool_of, crate::specs::Store::next_name, crate::specs::Store::references, crate::specs::Numbers::count_at, bucket_ring::specs::Lists::upd), using(pool_tree::proofs::Trees::tree_formed))]
+#[tactic(auto, unfolding(crate::specs::Store::lists, crate::specs::Store::brigade_of, crate::specs::Store::bucket_at, crate::specs::Store::pool_of, crate::specs::Store::next_name, crate::specs::Store::references, stored_rings::specs::Numbers::count_at, bucket_ring::specs::Lists::upd), using(pool_tree::proofs::Trees::tree_formed))]
 impl<R: Rings<Stored> + Drop> Brigades<R> {
     ghost use Rattle.brigade_ops.specs.Store.{lists, brigade_of, bucket_at, pool_of, next_name, references};
 
@@ -44,12 +44,14 @@ impl<R: Rings<Stored> + Drop> Brigades<R> {
         ensures kept { OnErr result (map_of tree.new ≡ map_of tree.old) }
         ensures uncounted { OnErr result ((f : ℕ) → references self.new f ≡ references self.old f) }
         ensures house { IsHouse self.old (map_of tree.old) → IsHouse self.new (map_of tree.new) }
+        ensures unasked { self.new.asked ≡ self.old.asked }
+        ensures tree_unasked { tree.new.asked ≡ tree.old.asked }
     {
         refer(&mut self.references, tree, pool, file)
     }
 
     /// Registers a reference to a file, where one is named, as `refer` does.
-    #[tactic(auto, unfolding(crate::specs::Shelf::seen, crate::specs::Store::lists, crate::specs::Store::brigade_of, crate::specs::Store::bucket_at, crate::specs::Store::pool_of, crate::specs::Store::next_name, crate::specs::Store::references, crate::specs::Numbers::count_at, bucket_ring::specs::Lists::upd), using(pool_tree::proofs::Trees::tree_formed))]
+    #[tactic(auto, unfolding(stored_rings::specs::Shelf::seen, crate::specs::Store::lists, crate::specs::Store::brigade_of, crate::specs::Store::bucket_at, crate::specs::Store::pool_of, crate::specs::Store::next_name, crate::specs::Store::references, stored_rings::specs::Numbers::count_at, bucket_ring::specs::Lists::upd), using(pool_tree::proofs::Trees::tree_formed))]
     pub(crate) fn refer_for(
         &mut self,
         tree: &mut PoolTree<Payload>,
@@ -70,6 +72,8 @@ impl<R: Rings<Stored> + Drop> Brigades<R> {
         ensures kept { OnErr result (map_of tree.new ≡ map_of tree.old) }
         ensures uncounted { OnErr result ((f : ℕ) → references self.new f ≡ references self.old f) }
         ensures house { IsHouse self.old (map_of tree.old) → IsHouse self.new (map_of tree.new) }
+        ensures unasked { self.new.asked ≡ self.old.asked }
+        ensures tree_unasked { tree.new.asked ≡ tree.old.asked }
     {
         match file {
             Some(file) => {
@@ -90,6 +94,7 @@ impl<R: Rings<Stored> + Drop> Brigades<R> {
         ensures next { next_name self.new ≡ next_name self.old }
         ensures names { NoneRevived (brigade_of self.old) (brigade_of self.new) (next_name self.old) }
         ensures references { (f : ℕ) → references self.new f ≡ references self.old f }
+        ensures unasked { self.new.asked ≡ self.old.asked }
     {
         self.pools.take(b);
         if self.held.has_ring(b) {
@@ -108,6 +113,7 @@ impl<R: Rings<Stored> + Drop> Brigades<R> {
         ensures pools { pool_of self.new ≡ pool_of self.old }
         ensures next { next_name self.new ≡ next_name self.old }
         ensures names { NoneRevived (brigade_of self.old) (brigade_of self.new) (next_name self.old) }
+        ensures unasked { self.new.asked ≡ self.old.asked }
     {
         let count = self.references.get(file).unwrap_or(0);
         if count > 1 {
@@ -129,6 +135,7 @@ impl<R: Rings<Stored> + Drop> Brigades<R> {
         ensures others { SameButOpen (F.device files.old) (F.device files.new) }
         ensures next { next_name self.new ≡ next_name self.old }
         ensures names { NoneRevived (brigade_of self.old) (brigade_of self.new) (next_name self.old) }
+        ensures unasked { self.new.asked ≡ self.old.asked }
     {
         match payload {
             Payload::Label(_) => {}
@@ -149,6 +156,7 @@ impl<R: Rings<Stored> + Drop> Brigades<R> {
         ensures others { SameButOpen (F.device files.old) (F.device files.new) }
         ensures next { next_name self.new ≡ next_name self.old }
         ensures names { NoneRevived (brigade_of self.old) (brigade_of self.new) (next_name self.old) }
+        ensures unasked { self.new.asked ≡ self.old.asked }
     {
         for entry in handed {
             self.end_payload(files, &entry.1);

@@ -7,26 +7,18 @@ ghost use Rattle.run_model.specs.Pools.{is_in};
 ghost use Rattle.bucket_ring.specs.Lists.{on, with_payload};
 ghost use Rattle.bucket_ring.specs.Kept.{NoneRevived};
 ghost use Rattle.brigade_ops.specs.Due.{is_reached};
-ghost use Rattle.brigade_ops.specs.Morphs.{kind_given, given_by, morphed, all_morphed, cleared_as, is_named};
+ghost use Rattle.stored_rings.specs.Morphs.{kind_given, given_by, morphed, all_morphed, cleared_as, is_named};
 
 use crate::aside::hollow;
 use crate::reached::Reached;
 use crate::saving::push_some;
-use crate::shelf::HeapCopy;
 use crate::store::Brigades;
 use bucket_kinds::{Kept, Stored};
 use bucket_ring::{BucketId, Rings};
 use pool_tree::PoolId;
-use run_model::{Bucket, Home, Kind, Seq};
+use run_model::{Bucket, Kind, Seq};
 use std::alloc::AllocError;
-
-/// The kind and the home that a bucket gets.
-#[derive(Clone, Copy)]
-pub(crate) struct Morph {
-    pub(crate) id: BucketId,
-    pub(crate) kind: Kind,
-    pub(crate) home: Home,
-}
+use stored_rings::{HeapCopy, Morph};
 
 /// What a clear of a pool makes of buckets, made ready before it, with copies of the bytes that lie in regions; and the pools under which
 /// it was looked for.
@@ -59,7 +51,7 @@ impl<R: Rings<Stored> + Drop> Brigades<R> {
         ensures kind { IfSome result (λ morph. (x : Bucket) → bucket_at self.now id ≡ Some x → morph.kind ≡ to_heap (is_reached reached.now) x.kind) }
         ensures home { IfSome result (λ morph. (x : Bucket) → bucket_at self.now id ≡ Some x → morph.home ≡ end_pools (is_reached reached.now) x.home) }
     {
-        if self.ring_of(id).is_none() {
+        if self.held.ring_of(id).is_none() {
             return None;
         }
         let bucket = self.payload(id);
@@ -72,7 +64,7 @@ impl<R: Rings<Stored> + Drop> Brigades<R> {
 
     /// A copy of the bytes of a bucket, where they lie in a region.
     fn copy_of(&self, id: BucketId) -> Result<Option<HeapCopy>, AllocError> {
-        if self.ring_of(id).is_none() {
+        if self.held.ring_of(id).is_none() {
             return Ok(None);
         }
         match &self.stored(id).kept {
@@ -128,6 +120,7 @@ impl<R: Rings<Stored> + Drop> Brigades<R> {
         ensures names { NoneRevived (brigade_of self.old) (brigade_of self.new) (next_name self.old) }
         ensures pools { pool_of self.new ≡ pool_of self.old }
         ensures references { references self.new ≡ references self.old }
+        ensures unasked { self.new.asked ≡ self.old.asked }
     {
         let nothing = hollow(self.stored(morph.id));
         let mut bucket = self.held.put(morph.id, nothing);
@@ -143,8 +136,9 @@ impl<R: Rings<Stored> + Drop> Brigades<R> {
         ensures names { NoneRevived (brigade_of self.old) (brigade_of self.new) (next_name self.old) }
         ensures pools { pool_of self.new ≡ pool_of self.old }
         ensures references { references self.new ≡ references self.old }
+        ensures unasked { self.new.asked ≡ self.old.asked }
     {
-        if self.ring_of(morph.id).is_some() {
+        if self.held.ring_of(morph.id).is_some() {
             self.put_morph(morph);
         }
     }
@@ -156,6 +150,7 @@ impl<R: Rings<Stored> + Drop> Brigades<R> {
         ensures names { NoneRevived (brigade_of self.old) (brigade_of self.new) (next_name self.old) }
         ensures pools { pool_of self.new ≡ pool_of self.old }
         ensures references { references self.new ≡ references self.old }
+        ensures unasked { self.new.asked ≡ self.old.asked }
     {
         for morph in found.as_slice() {
             self.apply_morph(*morph);
@@ -170,6 +165,7 @@ impl<R: Rings<Stored> + Drop> Brigades<R> {
         ensures names { NoneRevived (brigade_of self.old) (brigade_of self.new) (next_name self.old) }
         ensures pools { pool_of self.new ≡ pool_of self.old }
         ensures references { references self.new ≡ references self.old }
+        ensures unasked { self.new.asked ≡ self.old.asked }
     {
         let Morphs {
             found,
@@ -189,6 +185,7 @@ impl<R: Rings<Stored> + Drop> Brigades<R> {
         ensures names { NoneRevived (brigade_of self.old) (brigade_of self.new) (next_name self.old) }
         ensures pools { pool_of self.new ≡ pool_of self.old }
         ensures references { references self.new ≡ references self.old }
+        ensures unasked { self.new.asked ≡ self.old.asked }
     {
         let pools = self.change_found(morphs);
         self.held.forget(pools.as_slice());
@@ -203,6 +200,7 @@ impl<R: Rings<Stored> + Drop> Brigades<R> {
         ensures names { brigade_of self.new ≡ brigade_of self.old }
         ensures pools { pool_of self.new ≡ pool_of self.old }
         ensures references { references self.new ≡ references self.old }
+        ensures unasked { self.new.asked ≡ self.old.asked }
     {
         self.held.forget(pools);
     }

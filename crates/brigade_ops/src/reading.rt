@@ -7,16 +7,15 @@ ghost use Rattle.run_model.specs.Cutting.{EndsInFile, wanted, read_of};
 ghost use Rattle.bucket_kinds.specs.declared.stored.Kept.{Kept};
 ghost use Rattle.bucket_kinds.specs.Device.{WentWell, HasFailed, WasAsked};
 ghost use Rattle.bucket_kinds.specs.Reading.{IsOpenFor, GivesFor, EndsWithin};
-ghost use Rattle.brigade_ops.specs.Items.{replaced, rest_item, range_in};
+ghost use Rattle.stored_rings.specs.Items.{replaced, rest_item, range_in};
 ghost use Rattle.brigade_ops.specs.Reads.{IsRead};
-ghost use Rattle.brigade_ops.specs.Shown.{lies_right};
+ghost use Rattle.stored_rings.specs.Shown.{lies_right};
 
-use crate::refusal::ReadRefusal;
 use crate::store::Brigades;
-use crate::view::ContentView;
 use bucket_kinds::{Files, ReadFault, Stored, read_into, rest_of_read, room_to_read};
 use bucket_ring::{BucketId, Rings};
 use run_model::{Bucket, Content, Seq};
+use stored_rings::{ContentView, ReadRefusal};
 
 #[tactic(auto, unfolding(crate::specs::Store::lists, crate::specs::Store::brigade_of, crate::specs::Store::pool_of, crate::specs::Store::next_name, crate::specs::Store::references, crate::specs::Store::has_room))]
 impl<R: Rings<Stored> + Drop> Brigades<R> {
@@ -67,6 +66,7 @@ impl<R: Rings<Stored> + Drop> Brigades<R> {
             ⊎ (WentWell (F.device files.old) (F.device files.new) × EndsWithin (F.device files.old) bucket.content)) }
         ensures open_files { (F.device files.new).numbered ≡ (F.device files.old).numbered }
         ensures err { OnErr result ((m : ℕ) → lists self.new m ≡ lists self.old m) }
+        ensures unasked { self.new.asked ≡ self.old.asked }
     {
         let _rest = read_into(&mut bucket, room, files)?;
         self.set_own(id, bucket);
@@ -104,6 +104,7 @@ impl<R: Rings<Stored> + Drop> Brigades<R> {
             ⊎ (WentWell (F.device files.old) (F.device files.new) × EndsWithin (F.device files.old) bucket.content)) }
         ensures open_files { (F.device files.new).numbered ≡ (F.device files.old).numbered }
         ensures err { OnErr result ((m : ℕ) → lists self.new m ≡ lists self.old m) }
+        ensures unasked { self.new.asked ≡ self.old.asked }
     {
         let _rest = read_into(&mut bucket, room, files)?;
         let new = self.put_own_behind(id, rest);
@@ -112,7 +113,7 @@ impl<R: Rings<Stored> + Drop> Brigades<R> {
     }
 
     /// Reads a bucket that is a range of a file. A name and room for what a read leaves of it are got before the file is asked.
-    #[tactic(auto, unfolding(crate::specs::Shelf::seen, crate::specs::Store::lists, crate::specs::Store::brigade_of, crate::specs::Store::pool_of, crate::specs::Store::next_name, crate::specs::Store::references, crate::specs::Store::has_room))]
+    #[tactic(auto, unfolding(stored_rings::specs::Shelf::seen, crate::specs::Store::lists, crate::specs::Store::brigade_of, crate::specs::Store::pool_of, crate::specs::Store::next_name, crate::specs::Store::references, crate::specs::Store::has_room))]
     fn read_range<F: Files>(
         &mut self,
         files: &mut F,
@@ -140,6 +141,7 @@ impl<R: Rings<Stored> + Drop> Brigades<R> {
         ensures unspent { result ≡ Err ReadRefusal.NamesSpent → (next_name self.old ≡ u64.MAX) × (F.device files.new ≡ F.device files.old) }
         ensures open_files { (F.device files.new).numbered ≡ (F.device files.old).numbered }
         ensures err { OnErr result ((m : ℕ) → lists self.new m ≡ lists self.old m) }
+        ensures unasked { self.new.asked ≡ self.old.asked }
     {
         let room = room_to_read(self.alloc, &bucket)?;
         let Some(rest) = rest_of_read(&bucket) else {
@@ -182,6 +184,7 @@ impl<R: Rings<Stored> + Drop> Brigades<R> {
         ensures unspent { result ≡ Err ReadRefusal.NamesSpent → (next_name self.old ≡ u64.MAX) × (F.device files.new ≡ F.device files.old) }
         ensures open_files { (F.device files.new).numbered ≡ (F.device files.old).numbered }
         ensures err { OnErr result ((m : ℕ) → lists self.new m ≡ lists self.old m) }
+        ensures unasked { self.new.asked ≡ self.old.asked }
     {
         match self.range_at(id) {
             Some(bucket) => self.read_range(files, id, bucket),

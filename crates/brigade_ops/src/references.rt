@@ -7,16 +7,16 @@ ghost use Rattle.run_model.specs.Payloads.{payload_eq};
 ghost use Rattle.run_model.specs.Steps.{all_referred};
 ghost use Rattle.pool_tree.specs.Tree.{map_of};
 ghost use Rattle.brigade_ops.specs.Files.{times_in};
-ghost use Rattle.brigade_ops.specs.Numbers.{count_at};
+ghost use Rattle.stored_rings.specs.Numbers.{count_at};
 
-use crate::numbers::Numbers;
 use bucket_kinds::FileNo;
 use pool_tree::{PoolId, PoolTree};
 use run_model::Payload;
 use std::alloc::AllocError;
+use stored_rings::Numbers;
 
 /// Registers a reference to a file with a pool, and counts it. Refused, nothing is changed.
-#[tactic(auto, unfolding(crate::specs::Numbers::count_at, bucket_ring::specs::Lists::upd), using(crate::proofs::Undone::live_registered))]
+#[tactic(auto, unfolding(stored_rings::specs::Numbers::count_at, bucket_ring::specs::Lists::upd), using(crate::proofs::Undone::live_registered))]
 pub(crate) fn refer(
     counts: &mut Numbers,
     tree: &mut PoolTree<Payload>,
@@ -29,6 +29,7 @@ pub(crate) fn refer(
     ensures live { IsTrue (is_live (map_of tree.new) pool) }
     ensures kept { OnErr result (map_of tree.new ≡ map_of tree.old) }
     ensures uncounted { OnErr result ((f : ℕ) → count_at counts.new f ≡ count_at counts.old f) }
+    ensures tree_unasked { tree.new.asked ≡ tree.old.asked }
 {
     counts.reserve()?;
     let count = counts.get(file).unwrap_or(0);
@@ -43,13 +44,14 @@ pub(crate) fn refer(
 }
 
 /// Takes out the newest reference to a file that a pool has.
-#[tactic(auto, unfolding(crate::specs::Numbers::count_at, bucket_ring::specs::Lists::upd), using(crate::proofs::Undone::live_killed))]
+#[tactic(auto, unfolding(stored_rings::specs::Numbers::count_at, bucket_ring::specs::Lists::upd), using(crate::proofs::Undone::live_killed))]
 fn unrefer(counts: &mut Numbers, tree: &mut PoolTree<Payload>, pool: PoolId, file: FileNo)
     requires live { IsTrue (is_live (map_of tree.old) pool) }
     requires counted { 0 < count_at counts.old file }
     ensures gone { map_of tree.new ≡ killed pool (λ other. payload_eq other (Payload.FileRef file)) (map_of tree.old) }
     ensures live { IsTrue (is_live (map_of tree.new) pool) }
     ensures less { (f : ℕ) → count_at counts.old f ≡ (if file == f then count_at counts.new f + 1 else count_at counts.new f) }
+    ensures tree_unasked { tree.new.asked ≡ tree.old.asked }
 {
     let _killed = tree.kill(pool, &Payload::FileRef(file));
     let count = counts.get(file).unwrap_or(0);
@@ -71,6 +73,7 @@ pub(crate) fn unrefer_all(
     requires counted { (f : ℕ) → times_in f files.now ≤ count_at counts.old f }
     ensures gone { (ps : Pools Payload) → map_of tree.old ≡ all_referred pool files.now ps → map_of tree.new ≡ ps }
     ensures less { (f : ℕ) → count_at counts.old f ≡ count_at counts.new f + times_in f files.now }
+    ensures tree_unasked { tree.new.asked ≡ tree.old.asked }
 {
     for index in (0..files.len()).rev() {
         let file = files[index];
@@ -92,6 +95,7 @@ pub(crate) fn refer_all(
     ensures sure { files.now ≡ [] → IsOk result }
     ensures kept { OnErr result (map_of tree.new ≡ map_of tree.old) }
     ensures uncounted { OnErr result ((f : ℕ) → count_at counts.new f ≡ count_at counts.old f) }
+    ensures tree_unasked { tree.new.asked ≡ tree.old.asked }
 {
     for index in 0..files.len() {
         let file = files[index];

@@ -9,7 +9,7 @@ ghost use Rattle.pool_tree.specs.Tree.{map_of};
 ghost use Rattle.bucket_ring.specs.Lists.{on, list_at};
 ghost use Rattle.bucket_ring.specs.Kept.{NoneRevived};
 ghost use Rattle.brigade_ops.specs.Files.{times_in};
-ghost use Rattle.brigade_ops.specs.Items.{named, aside_item, aside_behind};
+ghost use Rattle.stored_rings.specs.Items.{named, aside_item, aside_behind};
 ghost use Rattle.brigade_ops.specs.House.{IsHouse};
 
 use crate::aside::is_above;
@@ -32,7 +32,7 @@ pub(crate) fn push_some<T: Drop>(items: &mut Seq<T>, item: Option<T>) -> Result<
     }
 }
 
-#[tactic(auto, unfolding(crate::specs::Store::lists, crate::specs::Store::brigade_of, crate::specs::Store::pool_of, crate::specs::Store::next_name, crate::specs::Store::references, crate::specs::Numbers::count_at), using(pool_tree::proofs::Trees::tree_formed))]
+#[tactic(auto, unfolding(crate::specs::Store::lists, crate::specs::Store::brigade_of, crate::specs::Store::pool_of, crate::specs::Store::next_name, crate::specs::Store::references, stored_rings::specs::Numbers::count_at), using(pool_tree::proofs::Trees::tree_formed))]
 impl<R: Rings<Stored> + Drop> Brigades<R> {
     ghost use Rattle.brigade_ops.specs.Store.{lists, brigade_of, pool_of, next_name, references};
 
@@ -73,6 +73,7 @@ impl<R: Rings<Stored> + Drop> Brigades<R> {
         ensures names { NoneRevived (brigade_of self.old) (brigade_of self.new) (next_name self.old) }
         ensures pools { pool_of self.new ≡ pool_of self.old }
         ensures references { references self.new ≡ references self.old }
+        ensures unasked { self.new.asked ≡ self.old.asked }
     {
         let mut place = from;
         while let Some(id) = place {
@@ -84,7 +85,7 @@ impl<R: Rings<Stored> + Drop> Brigades<R> {
 
     /// Sets each bucket of `b` aside into the pool that `o` is on, and moves them to the tail of `o` (`ap_save_brigade`). A FILE bucket
     /// whose home is not above the pool gets a reference to its file there, and no other takes memory. Refused, nothing is changed.
-    #[tactic(auto, unfolding(crate::specs::Shelf::seen, crate::specs::Store::lists, crate::specs::Store::brigade_of, crate::specs::Store::pool_of, crate::specs::Store::next_name, crate::specs::Store::references, crate::specs::Numbers::count_at), using(pool_tree::proofs::Trees::tree_formed))]
+    #[tactic(auto, unfolding(stored_rings::specs::Shelf::seen, crate::specs::Store::lists, crate::specs::Store::brigade_of, crate::specs::Store::pool_of, crate::specs::Store::next_name, crate::specs::Store::references, stored_rings::specs::Numbers::count_at), using(pool_tree::proofs::Trees::tree_formed))]
     pub fn save(
         &mut self,
         tree: &mut PoolTree<Payload>,
@@ -111,6 +112,8 @@ impl<R: Rings<Stored> + Drop> Brigades<R> {
         ensures kept { OnErr result (map_of tree.new ≡ map_of tree.old) }
         ensures uncounted { OnErr result ((f : ℕ) → references self.new f ≡ references self.old f) }
         ensures house { IsHouse self.old (map_of tree.old) → IsHouse self.new (map_of tree.new) }
+        ensures unasked { self.new.asked ≡ self.old.asked }
+        ensures tree_unasked { tree.new.asked ≡ tree.old.asked }
     {
         let Some(pool) = self.pools.get(o) else {
             unreachable!()

@@ -2,11 +2,10 @@
 
 ghost use Rattle.std.specs.Prelude.{◌≡◌, ℕ, None};
 
-use crate::numbers::Numbers;
-use crate::shelf::Shelf;
 use bucket_kinds::Stored;
 use bucket_ring::{RingId, Rings};
 use std::alloc::Global;
+use stored_rings::{Numbers, Shelf};
 
 /// The name of a brigade, which is never given again.
 pub type BrigadeId = RingId;
@@ -18,6 +17,7 @@ pub struct Brigades<R: Rings<Stored>> {
     pub(crate) held: Shelf<R>,
     pub(crate) pools: Numbers,
     pub(crate) references: Numbers,
+    pub(crate) asked: u64,
 }
 
 #[tactic(auto, unfolding(crate::specs::Store::lists, crate::specs::Store::pool_of, crate::specs::Store::next_name, crate::specs::Store::references))]
@@ -30,12 +30,14 @@ impl<R: Rings<Stored> + Drop> Brigades<R> {
         ensures loose { (n : ℕ) → pool_of result n ≡ None }
         ensures unreferred { (f : ℕ) → references result f ≡ 0 }
         ensures next { next_name result ≡ first }
+        ensures asked { result.asked ≡ 0 }
     {
         Brigades {
             alloc,
             held: Shelf::new(alloc, first),
             pools: Numbers::new(alloc),
             references: Numbers::new(alloc),
+            asked: 0,
         }
     }
 
@@ -44,5 +46,12 @@ impl<R: Rings<Stored> + Drop> Brigades<R> {
         ensures { result ≡ next_name self.now }
     {
         self.held.next_name()
+    }
+
+    /// How often it was asked whether a brigade or a bucket is there (`has`, `ring_of`). At `u64::MAX` it stays.
+    pub fn asked(&self) -> u64
+        ensures { result ≡ self.now.asked }
+    {
+        self.asked
     }
 }

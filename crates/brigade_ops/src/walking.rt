@@ -5,37 +5,15 @@ ghost use Rattle.bucket_ring.specs.Lists.{on, list_at, rest, first_of};
 ghost use Rattle.bucket_ring.specs.Kept.{NoneRevived};
 ghost use Rattle.run_model.specs.BrigadeLists.{length_in};
 ghost use Rattle.run_model.specs.Cutting.{EndsInFile, form_of, form_of_kind, length_of, split_at};
-ghost use Rattle.brigade_ops.specs.Items.{named, replaced, before_place, from_place};
-ghost use Rattle.brigade_ops.specs.Points.{point_in, is_inside, cut_at};
+ghost use Rattle.stored_rings.specs.Items.{named, replaced, before_place, from_place};
+ghost use Rattle.stored_rings.specs.Points.{point_in, is_inside, cut_at};
 
-use crate::refusal::SplitRefusal;
 use crate::store::{BrigadeId, Brigades};
 use bucket_kinds::Stored;
 use bucket_ring::{BucketId, RingRefusal, Rings};
 use run_model::Bucket;
 use std::alloc::AllocError;
-
-/// What a partition answers (`apr_brigade_partition`).
-#[derive(Clone, Copy)]
-pub enum Cut {
-    /// The place before this bucket.
-    Found(BucketId),
-    /// The end of the brigade.
-    AtEnd,
-    /// The brigade is shorter (`APR_INCOMPLETE`).
-    Incomplete,
-}
-
-/// Where a point of a brigade lies.
-#[derive(Clone, Copy)]
-pub(crate) enum Point {
-    /// Past the end.
-    Short,
-    /// At a place.
-    At(Option<BucketId>),
-    /// Inside a bucket, behind so many of its bytes.
-    Inside(BucketId, u64),
-}
+use stored_rings::{Cut, Point, SplitRefusal};
 
 #[tactic(auto, unfolding(crate::specs::Store::lists, crate::specs::Store::brigade_of, crate::specs::Store::pool_of, crate::specs::Store::next_name, crate::specs::Store::references))]
 impl<R: Rings<Stored> + Drop> Brigades<R> {
@@ -121,6 +99,7 @@ impl<R: Rings<Stored> + Drop> Brigades<R> {
         ensures references { references self.new ≡ references self.old }
         ensures unspent { result ≡ Err RingRefusal.NamesSpent → next_name self.old ≡ u64.MAX }
         ensures err { OnErr result ((m : ℕ) → lists self.new m ≡ lists self.old m) }
+        ensures unasked { self.new.asked ≡ self.old.asked }
     {
         let (id, n) = match self.find(b, point) {
             Point::Short => return Ok(Cut::Incomplete),
@@ -156,6 +135,7 @@ impl<R: Rings<Stored> + Drop> Brigades<R> {
         ensures pools { pool_of self.new ≡ pool_of self.old }
         ensures references { references self.new ≡ references self.old }
         ensures err { OnErr result ((n : ℕ) → lists self.new n ≡ lists self.old n) }
+        ensures unasked { self.new.asked ≡ self.old.asked }
     {
         let Some(id) = place else {
             self.held.drop_all(a);

@@ -15,7 +15,7 @@ use Rattle.pool_tree.specs.Tree.{map_of}
 use Rattle.bucket_ring.specs.Kept.{once_in}
 use Rattle.run_model.specs.Chains.{Connection}
 use Rattle.brigade_ops.specs.House.{AreOpen, IsHouse}
-use Rattle.brigade_ops.specs.Items.{Items}
+use Rattle.stored_rings.specs.Items.{Items}
 use Rattle.brigade_ops.specs.Store.{lists, brigade_of, next_name, pool_of, references}
 use Rattle.module_run.specs.Conns.{conn_of}
 use Rattle.module_run.specs.Stacked.{IsStacked}

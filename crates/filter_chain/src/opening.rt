@@ -10,7 +10,7 @@ ghost use Rattle.brigade_ops.specs.Store.{next_name};
 use crate::host::Host;
 use bucket_kinds::Files;
 use module_run::Conn;
-use ring_run::asks::is_spent;
+use ring_calls::asks::is_spent;
 use run_model::Refusal;
 
 /// Whether no connection can have a number behind this one.

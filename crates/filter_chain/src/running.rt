@@ -32,7 +32,7 @@ impl<F: Files + Drop> Host<F> {
             None => (0, Err(Refusal::NoSuchConn)),
             Some(conn) => {
                 let modules = chain.modules.as_slice();
-                let made = conn.quiet_steps(modules, self.budget, &self.store, most);
+                let made = conn.quiet_steps(modules, self.budget, &mut self.store, most);
                 let answer = conn.step(
                     modules,
                     self.budget,

@@ -14,7 +14,7 @@ use Rattle.brigade_ops.specs.Store.{lists, brigade_of, pool_of, next_name}
 use Rattle.module_run.specs.Proceeding.{LeftAs}
 use Rattle.run_model.specs.declared.event.Cause.{Cause}
 use Rattle.run_model.specs.declared.payload.Payload.{Payload}
-use Rattle.brigade_ops.specs.Items.{Items}
+use Rattle.stored_rings.specs.Items.{Items}
 use Rattle.module_run.specs.declared.conn.Conn.{Conn}
 use Rattle.module_run.specs.declared.conn.OpenFile.{OpenFile}
 use Rattle.module_run.specs.Conns.{conn_of, filter_at, labels_handed, waiting}

@@ -3,12 +3,12 @@ use Rattle.std.proofs.Common.{◌≡◌, ◌≢◌, ◌==◌, ℕ, Bool, Option,
 use Rattle.std.specs.Prelude.{if◌then◌else◌}
 use Rattle.std.proofs.lemmas.Bool.{cases_eq, eq-eqb, ne_eqb}
 use Rattle.bucket_ring.specs.Lists as ring
-use Rattle.brigade_ops.specs.Items.{Items}
-use Rattle.ring_run.specs.declared.machine.Instance.{Instance}
-use Rattle.ring_run.specs.declared.machine.Slot.TheVariants as slot
-use Rattle.ring_run.specs.Held.{VariablesApart}
-use Rattle.ring_run.specs.Slots.{name_in, slot_at}
-use Rattle.ring_run.proofs.Changes.{ring_off}
+use Rattle.stored_rings.specs.Items.{Items}
+use Rattle.ring_calls.specs.declared.machine.Instance.{Instance}
+use Rattle.ring_calls.specs.declared.machine.Slot.TheVariants as slot
+use Rattle.ring_calls.specs.Held.{VariablesApart}
+use Rattle.ring_calls.specs.Slots.{name_in, slot_at}
+use Rattle.ring_calls.proofs.Changes.{ring_off}
 use Rattle.module_run.proofs.ReturnedParts.{AreAsWere}
 
 pub named_first : (a b : ℕ) → Some a ≡ Some b → a ≡ b

@@ -21,18 +21,18 @@ use Rattle.run_model.specs.State.{fresh_call}
 use Rattle.run_model.specs.Turns.{numbers_below, tail_of}
 use Rattle.bucket_kinds.specs.declared.stored.Stored.{Stored}
 use Rattle.brigade_ops.specs.declared.store.Brigades.{Brigades}
-use Rattle.brigade_ops.specs.Items.{Items}
+use Rattle.stored_rings.specs.Items.{Items}
 use Rattle.brigade_ops.specs.Store.{lists, next_name}
 use Rattle.module_run.specs.declared.conn.Conn.{Conn}
 use Rattle.module_run.specs.declared.conn.Filter.{Filter}
-use Rattle.ring_run.specs.declared.machine.Instance.{Instance}
+use Rattle.ring_calls.specs.declared.machine.Instance.{Instance}
 use Rattle.module_run.specs.CalledFirst.{CalledFirst, Starts}
 use Rattle.module_run.specs.Conns.{call_name, conn_of, counting, filter_at, labels_handed, lengths, lent_by, runs_of, shown_call, shown_filter, shown_frame, shown_instance, stack_of, stack_up, top_of, waiting}
-use Rattle.ring_run.specs.Seen.{is_running, shown, shown_cursor, shown_slot}
-use Rattle.ring_run.specs.Slots.{cursor_at, slot_at}
+use Rattle.ring_calls.specs.Seen.{is_running, shown, shown_cursor, shown_slot}
+use Rattle.ring_calls.specs.Slots.{cursor_at, slot_at}
 use Rattle.module_run.specs.Stacked.{IsStacked, is_called, is_waiting, named_at}
-use Rattle.ring_run.proofs.Begins.{by_slot}
-use Rattle.ring_run.proofs.Changes.{ring_here}
+use Rattle.ring_passes.proofs.Begins.{by_slot}
+use Rattle.ring_calls.proofs.Changes.{ring_here}
 use Rattle.module_run.proofs.Looked.{some_same}
 use Rattle.module_run.proofs.Tops.{filter_within, frame_at}
 

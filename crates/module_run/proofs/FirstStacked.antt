@@ -21,16 +21,16 @@ use Rattle.brigade_ops.specs.Store.{lists, brigade_of, pool_of, next_name, refer
 use Rattle.brigade_ops.proofs.HouseCalls.{house_loose}
 use Rattle.module_run.specs.declared.conn.Conn.{Conn}
 use Rattle.module_run.specs.declared.conn.Filter.{Filter}
-use Rattle.ring_run.specs.declared.machine.Call.{Call}
-use Rattle.ring_run.specs.declared.machine.Instance.{Instance}
+use Rattle.ring_calls.specs.declared.machine.Call.{Call}
+use Rattle.ring_calls.specs.declared.machine.Instance.{Instance}
 use Rattle.module_run.specs.CalledFirst.{CalledFirst, Starts}
 use Rattle.module_run.specs.Conns.{conn_of, filter_at, top_of, waiting}
-use Rattle.ring_run.specs.Held.{IsHeld, WasGiven}
+use Rattle.ring_calls.specs.Held.{IsHeld, WasGiven}
 use Rattle.module_run.specs.Proceeding.{LeftAs}
-use Rattle.ring_run.specs.Slots.{slot_at, name_in}
+use Rattle.ring_calls.specs.Slots.{slot_at, name_in}
 use Rattle.module_run.specs.Stacked.{FiltersApart, AreCalled, IsStacked, is_called, is_waiting, named_at, names_up}
-use Rattle.ring_run.proofs.Begins.{held_begun}
-use Rattle.ring_run.proofs.Changes.{ring_off}
+use Rattle.ring_passes.proofs.Begins.{held_begun}
+use Rattle.ring_calls.proofs.Changes.{ring_off}
 use Rattle.module_run.proofs.FirstCalls.{Was, was, others_stay, waits_are, first_is, none_waiting, top_is, starts, before, before_is, after, after_is, conn_called, no_call, nothing_in, not_lent, none_between, no_lent, true_false}
 use Rattle.module_run.proofs.Looked.{some_same}
 

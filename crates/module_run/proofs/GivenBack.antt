@@ -22,20 +22,20 @@ use Rattle.run_model.specs.State as model
 use Rattle.run_model.specs.State.{items_of}
 use Rattle.run_model.specs.Steps.{current}
 use Rattle.run_model.proofs.Updates.{upd_either}
-use Rattle.brigade_ops.specs.Items.{Items}
+use Rattle.stored_rings.specs.Items.{Items}
 use Rattle.module_run.specs.declared.conn.Conn.{Conn}
 use Rattle.module_run.specs.declared.conn.Filter.{Filter}
-use Rattle.ring_run.specs.declared.machine.Slot.TheVariants as slot
+use Rattle.ring_calls.specs.declared.machine.Slot.TheVariants as slot
 use Rattle.module_run.specs.Conns.{call_name, conn_of, counting, filter_at, lent_by, runs_of, shown_filter, shown_frame, shown_instance, stack_of, stack_up, top_of, waiting}
-use Rattle.ring_run.specs.Seen.{is_running}
-use Rattle.ring_run.specs.Slots.{SameButSlots, cursor_at, slot_at}
+use Rattle.ring_calls.specs.Seen.{is_running}
+use Rattle.ring_calls.specs.Slots.{SameButSlots, cursor_at, slot_at}
 use Rattle.module_run.specs.Stacked.{StackedOver, is_called, is_waiting, names_up}
-use Rattle.ring_run.proofs.Changes.{ring_off}
+use Rattle.ring_calls.proofs.Changes.{ring_off}
 use Rattle.module_run.proofs.Filters.{names_count, names_none, running_last}
 use Rattle.module_run.proofs.Known.{and_false, no_lent}
-use Rattle.ring_run.proofs.Returned.{RunsWithout}
+use Rattle.ring_passes.proofs.Returned.{RunsWithout}
 use Rattle.module_run.proofs.ReturnedParts.{AreAsWere, ended_instance, given_instance, returned_filter, returned_frame}
-use Rattle.ring_run.proofs.Returns.{runs_without}
+use Rattle.ring_passes.proofs.Returns.{runs_without}
 use Rattle.module_run.proofs.Stacking.{frames_mapped, names_more}
 use Rattle.module_run.proofs.Tops.{frame_at}
 
@@ -133,7 +133,7 @@ module _ (chain : List Program) (s : Status) (at : BucketId → Option ℕ) (L M
         ∙ (ap (λ (o : Option Filter). is_running (call_name o) c.waits.items n) x.on_top ∙ ap (λ (ws : List ℕ). is_running x.top.call.name ws n) waits_were)
 
     names : names_up c c.first w ++ x.resumed.call.name ∷ [] ≡ names_up c c.first (suc w)
-    names = ap (λ (m : ℕ). names_up c c.first w ++ m ∷ []) (ap (λ (k : Rattle.ring_run.specs.declared.machine.Call.Call). k.name) x.call ∙ sym (ap call_name x.below)) ∙ sym (names_more c c.first w)
+    names = ap (λ (m : ℕ). names_up c c.first w ++ m ∷ []) (ap (λ (k : Rattle.ring_calls.specs.declared.machine.Call.Call). k.name) x.call ∙ sym (ap call_name x.below)) ∙ sym (names_more c c.first w)
 
     after : runs_of d n ≡ is_running 0 (names_up c c.first (suc w)) n
     after = ap (λ (k : ℕ). is_running (call_name (filter_at d k)) waits.items n) top_now
@@ -217,7 +217,7 @@ module _ (chain : List Program) (s : Status) (at : BucketId → Option ℕ) (L M
     resumed_is : frame_at M d (c.first + w) ≡ resumed_as (touched wait_frame)
     unfolding cursor_at
     resumed_is = ap (shown_frame (runs_of d) M (c.first + w)) x.below_after
-        ∙ (ap (λ (k : Rattle.ring_run.specs.declared.machine.Call.Call). shown_frame (runs_of d) M (c.first + w) (Some (record x.resumed { call = k }))) x.call
+        ∙ (ap (λ (k : Rattle.ring_calls.specs.declared.machine.Call.Call). shown_frame (runs_of d) M (c.first + w) (Some (record x.resumed { call = k }))) x.call
         ∙ ap resumed_as (returned_frame (runs_of c) (runs_of d) x.top.call.name without L M (c.first + w) (Some x.wait) (λ f is. loose_stays (c.first + w) f (x.below ∙ is) off_t)))
 
     stack_is : stack_of M d ≡ resumed_as (touched wait_frame) ∷ map touched (stack_up (frame_at L c) c.first w)

@@ -5,13 +5,13 @@ use Rattle.std.specs.Global.{Vec}
 use Rattle.std.proofs.lemmas.Bool.{cases_eq, eq-eqb, ne_eqb, le-ltb, le-leb, lt-leb, leb-true, leb-false}
 use Rattle.std.proofs.lemmas.List.{length-append}
 use Rattle.run_model.specs.declared.bucket.Mark.TheVariants.{Usable, Passed}
-use Rattle.ring_run.specs.declared.machine.Call.{Call}
-use Rattle.ring_run.specs.declared.machine.Slot.{Slot}
-use Rattle.ring_run.specs.declared.machine.Slot.TheVariants as slot
+use Rattle.ring_calls.specs.declared.machine.Call.{Call}
+use Rattle.ring_calls.specs.declared.machine.Slot.{Slot}
+use Rattle.ring_calls.specs.declared.machine.Slot.TheVariants as slot
 use Rattle.module_run.specs.declared.conn.Filter.{Filter}
 use Rattle.module_run.specs.declared.conn.Conn.{Conn}
 use Rattle.module_run.specs.Conns.{filter_at, top_of}
-use Rattle.ring_run.specs.Slots.{slot_at, name_in, marked}
+use Rattle.ring_calls.specs.Slots.{slot_at, name_in, marked}
 use Rattle.module_run.specs.Stacked.{FiltersApart, is_called, is_waiting, named_at}
 
 -- a connection with other filters and other calls that wait

@@ -8,13 +8,13 @@ use Rattle.module_code.specs.declared.instr.Instr.TheVariants as instr
 use Rattle.run_model.specs.declared.bucket.Mark.TheVariants.{Passed}
 use Rattle.run_model.specs.Chains.{module_at}
 use Rattle.run_model.specs.Steps.{current}
-use Rattle.ring_run.specs.declared.machine.Call.{Call}
-use Rattle.ring_run.specs.declared.machine.Slot.{Slot}
-use Rattle.ring_run.specs.declared.machine.Slot.TheVariants as slot
+use Rattle.ring_calls.specs.declared.machine.Call.{Call}
+use Rattle.ring_calls.specs.declared.machine.Slot.{Slot}
+use Rattle.ring_calls.specs.declared.machine.Slot.TheVariants as slot
 use Rattle.module_run.specs.declared.conn.Filter.{Filter}
 use Rattle.module_run.specs.declared.conn.Conn.{Conn}
 use Rattle.module_run.specs.Conns.{filter_at, call_name, waiting, top_of}
-use Rattle.ring_run.specs.Slots.{slot_at, marked}
+use Rattle.ring_calls.specs.Slots.{slot_at, marked}
 use Rattle.module_run.specs.Stacked.{AreCalled, is_waiting, named_at, names_up}
 use Rattle.module_run.proofs.HandsOn.{HandsOn, Before, before, changed, same_some, no_some, cases_le, not_waiting, top_rises, called_there, called_before, named_top, named_in}
 use Rattle.module_run.proofs.Stacking.{names_same, names_more}

@@ -22,25 +22,25 @@ use Rattle.pool_tree.specs.Tree.{map_of}
 use Rattle.bucket_kinds.specs.declared.stored.Stored.{Stored}
 use Rattle.brigade_ops.specs.declared.store.Brigades.{Brigades}
 use Rattle.brigade_ops.specs.House.{IsHouse}
-use Rattle.brigade_ops.specs.Items.{Items}
+use Rattle.stored_rings.specs.Items.{Items}
 use Rattle.brigade_ops.specs.Store.{lists, brigade_of, pool_of, references, next_name}
-use Rattle.ring_run.specs.declared.machine.Instance.{Instance}
-use Rattle.ring_run.specs.declared.machine.Call.{Call}
-use Rattle.ring_run.specs.declared.machine.Slot.{Slot}
-use Rattle.ring_run.specs.declared.machine.Slot.TheVariants as slot
+use Rattle.ring_calls.specs.declared.machine.Instance.{Instance}
+use Rattle.ring_calls.specs.declared.machine.Call.{Call}
+use Rattle.ring_calls.specs.declared.machine.Slot.{Slot}
+use Rattle.ring_calls.specs.declared.machine.Slot.TheVariants as slot
 use Rattle.module_run.specs.declared.conn.Filter.{Filter}
 use Rattle.module_run.specs.declared.conn.Conn.{Conn}
-use Rattle.ring_run.specs.Around.{Around}
+use Rattle.ring_calls.specs.Around.{Around}
 use Rattle.module_run.specs.Conns.{filter_at, top_of, shown_call}
-use Rattle.ring_run.specs.Delivery.{IfElse, ReadsGiven}
-use Rattle.ring_run.specs.Handed.{lent}
-use Rattle.ring_run.specs.Held.{IsHeld, WasGiven}
+use Rattle.ring_passes.specs.Delivery.{IfElse, ReadsGiven}
+use Rattle.ring_passes.specs.Handed.{lent}
+use Rattle.ring_calls.specs.Held.{IsHeld, WasGiven}
 use Rattle.module_run.specs.Proceeding.{IsReady, LeftAs, RefinesStep}
-use Rattle.ring_run.specs.Seen.{seen, calls_in, is_running, shown_slot}
-use Rattle.ring_run.specs.Slots.{name_in, live_in}
+use Rattle.ring_calls.specs.Seen.{seen, calls_in, is_running, shown_slot}
+use Rattle.ring_calls.specs.Slots.{name_in, live_in}
 use Rattle.module_run.specs.Stacked.{IsStacked, named_at}
 use Rattle.module_run.proofs.CanPass.{passer, passer_alone, passer_at, passes_there, names_known, next_within, next_there, next_alone}
-use Rattle.ring_run.proofs.Changes.{ring_here, ring_off}
+use Rattle.ring_calls.proofs.Changes.{ring_here, ring_off}
 use Rattle.module_run.proofs.HandsOn.{HandsOn, AreNamed, changed, same_some, top_rises, apart_after, named_top}
 use Rattle.module_run.proofs.HandsOnCalls.{called_after}
 use Rattle.module_run.proofs.HandsOnSeen.{seen_after}

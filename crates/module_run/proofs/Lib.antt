@@ -62,3 +62,4 @@ pub mod NeighboursLeft
 pub mod CallsLeave
 pub mod Leaving
 pub mod QuietGoes
+pub mod OnlyAsked

@@ -18,23 +18,23 @@ use Rattle.pool_tree.specs.Tree.{map_of}
 use Rattle.bucket_kinds.specs.declared.stored.Stored.{Stored}
 use Rattle.brigade_ops.specs.declared.store.Brigades.{Brigades}
 use Rattle.brigade_ops.specs.House.{AreOpen}
-use Rattle.brigade_ops.specs.Items.{Items, named}
+use Rattle.stored_rings.specs.Items.{Items, named}
 use Rattle.brigade_ops.specs.Store.{lists, brigade_of, pool_of, next_name, references}
 use Rattle.brigade_ops.proofs.HouseCalls.{house_paired}
 use Rattle.run_model.specs.Pieces.{bucket_of, named_from}
 use Rattle.module_run.specs.declared.conn.Conn.{Conn}
 use Rattle.module_run.specs.declared.conn.Filter.{Filter}
-use Rattle.ring_run.specs.declared.machine.Call.{Call}
-use Rattle.ring_run.specs.declared.machine.Instance.{Instance}
-use Rattle.ring_run.specs.declared.machine.Slot.TheVariants as slot
-use Rattle.ring_run.specs.declared.machine.CursorValue.TheVariants as stand
+use Rattle.ring_calls.specs.declared.machine.Call.{Call}
+use Rattle.ring_calls.specs.declared.machine.Instance.{Instance}
+use Rattle.ring_calls.specs.declared.machine.Slot.TheVariants as slot
+use Rattle.ring_calls.specs.declared.machine.CursorValue.TheVariants as stand
 use Rattle.module_run.specs.CalledMain.{CalledMain, StartsWith}
 use Rattle.module_run.specs.Conns.{conn_of, filter_at, top_of, waiting}
-use Rattle.ring_run.specs.Held.{IsHeld, WasGiven}
+use Rattle.ring_calls.specs.Held.{IsHeld, WasGiven}
 use Rattle.module_run.specs.Proceeding.{LeftAs}
-use Rattle.ring_run.specs.Slots.{slot_at, name_in}
+use Rattle.ring_calls.specs.Slots.{slot_at, name_in}
 use Rattle.module_run.specs.Stacked.{FiltersApart, AreCalled, IsStacked, is_called, named_at}
-use Rattle.ring_run.proofs.Changes.{ring_here, ring_off}
+use Rattle.ring_calls.proofs.Changes.{ring_here, ring_off}
 use Rattle.module_run.proofs.FirstCalls.{no_call, no_lent, none_between, not_lent, nothing_in, true_false}
 use Rattle.module_run.proofs.FirstStacked.{no_names}
 use Rattle.module_run.proofs.Looked.{some_same}

@@ -5,11 +5,11 @@ use Rattle.module_code.specs.Program.{Program}
 use Rattle.run_model.specs.declared.payload.Payload.{Payload}
 use Rattle.run_model.specs.Chains.{Connection, Linked}
 use Rattle.run_model.specs.Pools.{Pools}
-use Rattle.brigade_ops.specs.Items.{Items}
+use Rattle.stored_rings.specs.Items.{Items}
 use Rattle.std.specs.Prelude.{Option}
 use Rattle.module_run.specs.declared.conn.Conn.{Conn}
 use Rattle.module_run.specs.Conns.{conn_of, filter_at, waiting, IsSeenAs}
-use Rattle.ring_run.specs.Delivery.{out_of}
+use Rattle.ring_passes.specs.Delivery.{out_of}
 use Rattle.module_run.specs.Stacked.{FiltersApart, AreCalled, StackedOver}
 use Rattle.module_run.proofs.Stacking.{names_same}
 

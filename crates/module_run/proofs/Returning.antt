@@ -24,9 +24,9 @@ use Rattle.brigade_ops.specs.Store.{lists, brigade_of, pool_of, references, next
 use Rattle.module_run.specs.declared.conn.Conn.{Conn}
 use Rattle.module_run.specs.declared.conn.Filter.{Filter}
 use Rattle.module_run.specs.Conns.{conn_of, filter_at, runs_of, shown_frame, stack_up, top_of, waiting}
-use Rattle.ring_run.specs.Held.{IsHeld}
+use Rattle.ring_calls.specs.Held.{IsHeld}
 use Rattle.module_run.specs.Proceeding.{IsReady, RefinesStep, LeftAs}
-use Rattle.ring_run.proofs.Changes.{ring_off}
+use Rattle.ring_calls.proofs.Changes.{ring_off}
 use Rattle.module_run.proofs.GivenBack.{GivesBack, returned_is, runs_top, with_calls}
 use Rattle.module_run.proofs.StackedBack.{stacked_back}
 use Rattle.module_run.proofs.TopFilter.{on_top_of, top_frame}

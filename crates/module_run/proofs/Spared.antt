@@ -14,16 +14,16 @@ use Rattle.pool_tree.specs.declared.tree.PoolTree.{PoolTree}
 use Rattle.pool_tree.specs.Tree.{map_of}
 use Rattle.bucket_kinds.specs.declared.stored.Stored.{Stored}
 use Rattle.brigade_ops.specs.declared.store.Brigades.{Brigades}
-use Rattle.brigade_ops.specs.Items.{Items}
+use Rattle.stored_rings.specs.Items.{Items}
 use Rattle.brigade_ops.specs.Store.{lists, brigade_of, pool_of, references, next_name}
 use Rattle.module_run.specs.declared.conn.Filter.{Filter}
 use Rattle.module_run.specs.declared.conn.Conn.{Conn}
 use Rattle.module_run.specs.Conns.{conn_of, filter_at, call_name, top_of, runs_of, stack_up, shown_frame, shown_filter, counting}
 use Rattle.module_run.specs.Proceeding.{LeftAs}
-use Rattle.ring_run.specs.Seen.{is_running}
+use Rattle.ring_calls.specs.Seen.{is_running}
 use Rattle.module_run.specs.Stacked.{FiltersApart, AreCalled, IsStacked, is_called, is_waiting, names_up}
 use Rattle.module_run.proofs.HandsOn.{changed}
-use Rattle.ring_run.proofs.Names.{held_kept, no_less, still_same}
+use Rattle.ring_calls.proofs.Names.{held_kept, no_less, still_same}
 use Rattle.module_run.proofs.Stacking.{names_same}
 
 module _ (c : Conn) (fs : Vec Filter) (ws : Vec ℕ) (filters : fs.items ≡ c.filters.items) (waits : ws.items ≡ c.waits.items) where

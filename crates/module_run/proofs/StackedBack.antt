@@ -11,18 +11,18 @@ use Rattle.module_code.specs.declared.instr.Status.{Status}
 use Rattle.run_model.specs.declared.bucket.Mark.TheVariants.{Passed}
 use Rattle.run_model.specs.Chains.{module_at}
 use Rattle.run_model.specs.Steps.{current}
-use Rattle.brigade_ops.specs.Items.{Items}
+use Rattle.stored_rings.specs.Items.{Items}
 use Rattle.module_run.specs.declared.conn.Conn.{Conn}
 use Rattle.module_run.specs.declared.conn.Filter.{Filter}
-use Rattle.ring_run.specs.declared.machine.Call.{Call}
-use Rattle.ring_run.specs.declared.machine.Instance.{Instance}
-use Rattle.ring_run.specs.declared.machine.Slot.TheVariants as slot
+use Rattle.ring_calls.specs.declared.machine.Call.{Call}
+use Rattle.ring_calls.specs.declared.machine.Instance.{Instance}
+use Rattle.ring_calls.specs.declared.machine.Slot.TheVariants as slot
 use Rattle.module_run.specs.Conns.{call_name, filter_at, top_of}
-use Rattle.ring_run.specs.Held.{HeldOver}
-use Rattle.ring_run.specs.Slots.{marked, name_in, slot_at}
+use Rattle.ring_calls.specs.Held.{HeldOver}
+use Rattle.ring_calls.specs.Slots.{marked, name_in, slot_at}
 use Rattle.module_run.specs.Stacked.{FiltersApart, AreCalled, StackedOver, is_called, is_waiting, named_at, names_up}
 use Rattle.module_run.proofs.GivenBack.{GivesBack, alone, called_before, stays, loose_stays, top_now, waited, waiting_after, with_calls}
-use Rattle.ring_run.proofs.HeldAlike.{held_cursors}
+use Rattle.ring_calls.proofs.HeldAlike.{held_cursors}
 use Rattle.module_run.proofs.HeldStays.{held_stays}
 use Rattle.module_run.proofs.Known.{and_false, some_is}
 use Rattle.module_run.proofs.Stacking.{names_same}
@@ -248,9 +248,9 @@ module _ (chain : List Program) (s : Status) (at new_at : BucketId → Option �
         (stays chain s at L M pools next c filters waits w st x k f is) (λ pos. loose_stays chain s at L M pools next c filters waits w st x k f is ne) (st.held k f is)
 
     held_wait : HeldOver new_at M new_pools new_next x.resumed.instance x.resumed.call
-    unfolding Rattle.ring_run.specs.Slots.cursor_at
+    unfolding Rattle.ring_calls.specs.Slots.cursor_at
     held_wait = subst (λ (i : Instance). HeldOver new_at M new_pools new_next i x.resumed.call) (sym x.instance)
-        (held_cursors new_at M new_pools new_next x.wait.instance x.wait.call x.resumed.call (ap (λ (k : Call). k.name) x.call) (λ n. ap (λ (k : Call). Rattle.ring_run.specs.Slots.cursor_at k n) x.call)
+        (held_cursors new_at M new_pools new_next x.wait.instance x.wait.call x.resumed.call (ap (λ (k : Call). k.name) x.call) (λ n. ap (λ (k : Call). Rattle.ring_calls.specs.Slots.cursor_at k n) x.call)
         (held_same (c.first + w) x.wait x.below (λ e. omega (arith, e))))
 
     held_each : (k : ℕ) (f : Filter) → filter_at d k ≡ Some f → HeldOver new_at M new_pools new_next f.instance f.call

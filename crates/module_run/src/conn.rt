@@ -1,9 +1,9 @@
 //! A connection: a filter for each module of its chain, and the calls that run.
 
 use brigade_ops::{BrigadeId, FileNo, PoolId};
-use ring_run::OutputBlock;
+use ring_calls::machine::{Call, Instance};
+use ring_passes::OutputBlock;
 use ring_run::labels_run::LabelsRun;
-use ring_run::machine::{Call, Instance};
 use run_model::Cause;
 use std::alloc::Global;
 

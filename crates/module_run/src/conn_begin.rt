@@ -18,7 +18,7 @@ ghost use Rattle.module_run.specs.Refused.{begin_tests};
 
 use crate::conn::Conn;
 use brigade_ops::{BrigadeId, Brigades, PoolId, PoolTree, Rings, Stored};
-use ring_run::asks::is_spent;
+use ring_calls::asks::is_spent;
 use run_model::{Module, Payload, Refusal};
 use std::alloc::AllocError;
 

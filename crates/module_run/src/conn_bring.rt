@@ -12,7 +12,7 @@ ghost use Rattle.run_model.specs.Pieces.{bucket_of, named_from};
 ghost use Rattle.run_model.specs.Steps.{is_spent};
 ghost use Rattle.run_model.specs.Turns.{brings};
 ghost use Rattle.pool_tree.specs.declared.tree.PoolTree.{PoolTree};
-ghost use Rattle.brigade_ops.specs.Items.{Items, named};
+ghost use Rattle.stored_rings.specs.Items.{Items, named};
 ghost use Rattle.brigade_ops.specs.Store.{lists, brigade_of, pool_of, references, next_name};
 ghost use Rattle.module_run.specs.CalledMain.{CalledMain, StartsWith};
 ghost use Rattle.module_run.specs.Happened.{Happened, Stands, lasted, refusal_of};
@@ -24,7 +24,7 @@ ghost use Rattle.module_run.specs.Conns.{lengths};
 use crate::conn::{Conn, Filter};
 use crate::pieces::{buckets_of, has_data_behind_eos, lack_files};
 use brigade_ops::{BrigadeId, Brigades, PoolId, Rings, Stored};
-use ring_run::machine::Slot;
+use ring_calls::machine::Slot;
 use run_model::{Mark, Module, Piece, Refusal, Seq};
 use std::alloc::{AllocError, Global};
 

@@ -26,8 +26,8 @@ ghost use Rattle.module_run.specs.Stacked.{named_at};
 
 use crate::conn::{Conn, Filter};
 use brigade_ops::{BrigadeId, Brigades, Files, PoolTree, Rings, Stored};
+use ring_calls::machine::Slot;
 use ring_run::labels::add_labels;
-use ring_run::machine::Slot;
 use run_model::Payload;
 use std::alloc::AllocError;
 

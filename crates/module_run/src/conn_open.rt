@@ -16,9 +16,9 @@ ghost use Rattle.module_run.specs.Proceeding.{LeftAs};
 use crate::conn::{Conn, Filter};
 use crate::conn_begin::call_and_pool;
 use brigade_ops::{Brigades, PoolId, PoolTree, Rings, Stored};
-use ring_run::OutputBlock;
-use ring_run::asks::is_spent;
-use ring_run::machine::{Call, Instance};
+use ring_calls::asks::is_spent;
+use ring_calls::machine::{Call, Instance};
+use ring_passes::OutputBlock;
 use run_model::{Module, Payload, StepRefusal};
 use std::alloc::{AllocError, Global};
 

@@ -11,21 +11,21 @@ ghost use Rattle.run_model.specs.Steps.{do_pass};
 ghost use Rattle.pool_tree.specs.declared.tree.PoolTree.{PoolTree};
 ghost use Rattle.run_model.specs.declared.payload.Payload.{Payload};
 ghost use Rattle.brigade_ops.specs.Store.{lists, brigade_of, pool_of, references, next_name};
-ghost use Rattle.ring_run.specs.declared.machine.Call.{Call};
-ghost use Rattle.ring_run.specs.Around.{Around};
+ghost use Rattle.ring_calls.specs.declared.machine.Call.{Call};
+ghost use Rattle.ring_calls.specs.Around.{Around};
 ghost use Rattle.module_run.specs.Conns.{shown_call, top_of};
-ghost use Rattle.ring_run.specs.Handed.{lent};
+ghost use Rattle.ring_passes.specs.Handed.{lent};
 ghost use Rattle.module_run.specs.Passing.{CanPass};
-ghost use Rattle.ring_run.specs.Held.{IsHeld};
+ghost use Rattle.ring_calls.specs.Held.{IsHeld};
 ghost use Rattle.module_run.specs.Neighbours.{EndsLoose, LeavesOthers};
 ghost use Rattle.module_run.specs.Proceeding.{IsReady, RefinesStep, LeftAs};
-ghost use Rattle.ring_run.specs.Seen.{seen, is_running};
-ghost use Rattle.ring_run.specs.Slots.{live_in, marked, name_in, slot_at};
+ghost use Rattle.ring_calls.specs.Seen.{seen, is_running};
+ghost use Rattle.ring_calls.specs.Slots.{live_in, marked, name_in, slot_at};
 
 use crate::conn::{Conn, Filter};
 use brigade_ops::{BrigadeId, Brigades, RingRefusal, Rings, Stored};
-use ring_run::calls::begin_call;
-use ring_run::passes::{hand_over, take_in};
+use ring_passes::calls::begin_call;
+use ring_passes::passes::{hand_over, take_in};
 use run_model::{Instr, Mark, Module, Stepped};
 use std::alloc::AllocError;
 
@@ -53,6 +53,7 @@ impl Filter {
         ensures references { references store.new ≡ references store.old }
         ensures err { OnErr result ((n : ℕ) → lists store.new n ≡ lists store.old n) }
         ensures same { OnErr result (self.new ≡ self.old) }
+        ensures unasked { store.new.asked ≡ store.old.asked }
     {
         match begin_call(&self.instance, &mut self.call, store, pc) {
             Ok(()) => Ok(()),
@@ -95,6 +96,7 @@ impl Conn {
         ensures leaves { (ps : Pools Payload) → LeavesOthers ps store.old store.new self.old self.new }
         ensures ended { EndsLoose store.old store.new self.old self.new }
         ensures count { self.new.count ≡ self.old.count }
+        ensures unasked { store.new.asked ≡ store.old.asked }
     {
         let top = self.top();
         self.waits.reserve(1)?;

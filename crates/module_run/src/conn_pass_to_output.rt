@@ -14,7 +14,7 @@ ghost use Rattle.module_run.specs.Proceeding.{CanProceed, IsReady, RefinesStep, 
 
 use crate::conn::Conn;
 use brigade_ops::{Brigades, Files, Rings, Stored};
-use ring_run::output::pass_out;
+use ring_passes::output::pass_out;
 use run_model::{Instr, Stepped};
 use std::alloc::AllocError;
 
@@ -37,6 +37,7 @@ impl Conn {
         ensures leaves { (ps : Pools Payload) → LeavesOthers ps store.old store.new self.old self.new }
         ensures ended { EndsLoose store.old store.new self.old self.new }
         ensures count { self.new.count ≡ self.old.count }
+        ensures unasked { store.new.asked ≡ store.old.asked }
     {
         let top = self.top();
         let filter = &mut self.filters[top];

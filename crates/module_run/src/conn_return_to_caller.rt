@@ -56,6 +56,7 @@ impl Conn {
         ensures leaves { (ps : Pools Payload) → LeavesOthers ps store.old store.new self.old self.new }
         ensures ended { EndsLoose store.old store.new self.old self.new }
         ensures count { self.new.count ≡ self.old.count }
+        ensures unasked { store.new.asked ≡ store.old.asked }
     {
         let top = self.top();
         self.filters[top].end(store);

@@ -4,13 +4,13 @@ ghost use Rattle.std.specs.Prelude.{◌≡◌, [], ℕ, Option, List};
 ghost use Rattle.bucket_ring.specs.declared.names.BucketId.{BucketId};
 ghost use Rattle.module_code.specs.Program.{Program};
 ghost use Rattle.run_model.specs.Pools.{Pools};
-ghost use Rattle.brigade_ops.specs.Items.{Items};
+ghost use Rattle.stored_rings.specs.Items.{Items};
 ghost use Rattle.module_run.specs.Conns.{conn_of, labels_handed};
 ghost use Rattle.module_run.specs.Stacked.{StackedOver};
 
 use crate::conn::Conn;
 use brigade_ops::PoolId;
-use ring_run::OutputBlock;
+use ring_passes::OutputBlock;
 use ring_run::labels_run::LabelsRun;
 use run_model::{Payload, Seq};
 use std::mem;

@@ -4,15 +4,15 @@ ghost use Rattle.std.specs.Prelude.{◌≡◌, ◌≢◌, ◌==◌, ◌<◌, ℕ
 ghost use Rattle.bucket_ring.specs.Kept.{NoneRevived};
 ghost use Rattle.bucket_ring.specs.Lists.{upd};
 ghost use Rattle.brigade_ops.specs.Store.{lists, brigade_of, pool_of, references, next_name};
-ghost use Rattle.ring_run.specs.Begun.{IsBegun};
-ghost use Rattle.ring_run.specs.Held.{IsHeld};
-ghost use Rattle.ring_run.specs.Slots.{SameButSlots, slot_at};
+ghost use Rattle.ring_passes.specs.Begun.{IsBegun};
+ghost use Rattle.ring_calls.specs.Held.{IsHeld};
+ghost use Rattle.ring_calls.specs.Slots.{SameButSlots, slot_at};
 ghost use Rattle.module_run.specs.Stacked.{named_at};
 
 use crate::conn::Filter;
 use brigade_ops::{BrigadeId, Brigades, Rings, Stored};
-use ring_run::calls::end_call;
-use ring_run::machine::Slot;
+use ring_calls::machine::Slot;
+use ring_passes::calls::end_call;
 
 impl Filter {
     /// Its call returns.
@@ -32,6 +32,7 @@ impl Filter {
         ensures name { self.new.call.name ≡ 0 }
         ensures pc { self.new.call.pc ≡ self.old.call.pc }
         ensures lent { self.new.lent ≡ self.old.lent }
+        ensures unasked { store.new.asked ≡ store.old.asked }
     {
         end_call(&mut self.instance, &mut self.call, store);
     }
@@ -56,6 +57,7 @@ impl Filter {
         ensures name { self.new.call.name ≡ 0 }
         ensures pc { self.new.call.pc ≡ self.old.call.pc }
         ensures lent { self.new.lent ≡ self.old.lent }
+        ensures unasked { store.new.asked ≡ store.old.asked }
     {
         let brought = self.instance.slot(8);
         self.end(store);

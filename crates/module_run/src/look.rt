@@ -3,6 +3,7 @@
 ghost use Rattle.std.specs.Prelude.{◌≡◌, ◌<◌, ℕ, List, length, Some, None};
 ghost use Rattle.bucket_kinds.specs.Device.{Device};
 ghost use Rattle.run_model.specs.Chains.{Frame, Linked};
+ghost use Rattle.ring_wants.specs.OnlyAsked.{OnlyAsked, TreeOnlyAsked};
 ghost use Rattle.module_run.specs.declared.conn.Filter.{Filter};
 ghost use Rattle.module_run.specs.Looking.{IsNextInstr, StandsAt, next_of, step_lacks_names, calls_at};
 ghost use Rattle.module_run.specs.Conns.{filter_at, top_of};
@@ -10,9 +11,10 @@ ghost use Rattle.module_run.specs.Stepping.{IsOnTop, next_fault};
 
 use crate::conn::Conn;
 use brigade_ops::{Brigades, PoolTree, Rings, Stored};
-use ring_run::asks::{is_spent, lacks_names};
-use ring_run::outside::Outside;
-use ring_run::wants::fault;
+use ring_calls::asks::{is_spent, lacks_names};
+use ring_calls::outside::Outside;
+use ring_calls::setting::Setting;
+use ring_wants::wants::fault;
 use run_model::{FaultKind, Instr, Module, Payload};
 
 /// The next instruction of the call on top: the number of its module and its own.
@@ -45,28 +47,31 @@ impl Conn {
     pub(crate) fn fault_of<R: Rings<Stored> + Drop>(
         &self,
         modules: &[Module],
-        tree: &PoolTree<Payload>,
-        store: &Brigades<R>,
+        tree: &mut PoolTree<Payload>,
+        store: &mut Brigades<R>,
         next: NextInstr,
     ) -> Option<FaultKind>
-        requires on_top { (d : Device) × ((v : Linked) × ((f : Frame) × ((rest : List Frame) × (IsOnTop modules.now tree.now store.now d self.now v f rest × IsNextInstr modules.now f next)))) }
-        ensures { (d : Device) (v : Linked) (f : Frame) (rest : List Frame) → IsOnTop modules.now tree.now store.now d self.now v f rest → IsNextInstr modules.now f next → result ≡ next_fault modules.now v f }
+        requires on_top { (d : Device) × ((v : Linked) × ((f : Frame) × ((rest : List Frame) × (IsOnTop modules.now tree.old store.old d self.now v f rest × IsNextInstr modules.now f next)))) }
+        ensures value { (d : Device) (v : Linked) (f : Frame) (rest : List Frame) → IsOnTop modules.now tree.old store.old d self.now v f rest → IsNextInstr modules.now f next → result ≡ next_fault modules.now v f }
+        ensures tree_asked { TreeOnlyAsked tree.old tree.new }
+        ensures asked { OnlyAsked store.old store.new }
     {
         let of = self.top();
         let (Some(filter), Some(code)) = (self.filters.get(of), modules.get(of)) else {
             unreachable!()
         };
-        let outside = Outside {
-            tree,
+        let setting = Setting {
             conn: self.conn,
             req: self.req,
             waits: self.waits.as_slice(),
+            rings: &[],
         };
         fault(
             code,
             &filter.instance,
             &filter.call,
-            &outside,
+            &setting,
+            tree,
             store,
             next.instr,
         )

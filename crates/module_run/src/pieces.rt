@@ -4,7 +4,7 @@ ghost use Rattle.std.specs.Prelude.{◌≡◌, ◌==◌, ◌&&◌, nat_le, false
 ghost use Rattle.std.specs.List.{list_any};
 ghost use Rattle.run_model.specs.Pieces.{bucket_of, is_data_piece, is_eos_piece, data_behind_eos, lacks_file};
 ghost use Rattle.module_run.specs.Conns.{lengths};
-ghost use Rattle.ring_run.specs.Pieces.{late_piece};
+ghost use Rattle.ring_passes.specs.Pieces.{late_piece};
 
 use crate::conn::OpenFile;
 use brigade_ops::{BrigadeId, Bucket, FileNo, PoolId};
@@ -38,7 +38,7 @@ fn has_late_data(pieces: &[Piece]) -> bool
 }
 
 /// Whether a data piece stands behind an EOS.
-#[tactic(auto, using(ring_run::proofs::LatePieces::late_from_none))]
+#[tactic(auto, using(ring_passes::proofs::LatePieces::late_from_none))]
 pub(crate) fn has_data_behind_eos(pieces: &[Piece]) -> bool
     ensures { result ≡ data_behind_eos pieces.now }
 {

@@ -36,6 +36,11 @@ module _ {T : Type 0} (tree : PoolTree T) where
   unfolding map_of
   tree_formed = formed tree.root tree.next (record_of tree.records) tree.linked
 
+  -- how often it was asked what is live changes no pool
+  pub map_asked : (n : ℕ) → map_of (record tree { asked = n }) ≡ map_of tree
+  unfolding map_of
+  map_asked n = refl
+
   pub tree_live : (n : ℕ) → is_live (map_of tree) n ≡ is_some (record_of tree.records n)
   unfolding map_of
   tree_live n = live_is tree.root tree.next (record_of tree.records) tree.linked n

@@ -25,6 +25,7 @@ pub struct PoolTree<T> {
     root: u64,
     next: u64,
     records: Records<T>,
+    asked: u64,
     ghost linked: { RecordsLinked root next (record_of records) },
 }
 
@@ -33,12 +34,13 @@ impl<T: Drop> PoolTree<T> {
     ghost use Rattle.run_model.specs.Pools.{planted, created, registered, is_live, is_under};
     ghost use Rattle.run_model.specs.Indexed.{upd};
     ghost use Rattle.run_model.specs.RunOrder.{last_that, killed, IsPoolMap};
-    ghost use Rattle.pool_tree.specs.Tree.{map_of};
+    ghost use Rattle.pool_tree.specs.Tree.{map_of, once_more};
 
     /// A tree of the root pool `first`, which must not be `u64::MAX`: `NamesSpent`. `NoMemory`: there is none for the root.
     pub fn new(alloc: Global, first: PoolId) -> Result<Self, PoolError>
         ensures ok { IfOk result (λ tree. map_of tree ≡ planted first) }
         ensures formed { IfOk result (λ tree. IsPoolMap (map_of tree)) }
+        ensures asked { IfOk result (λ tree. tree.asked ≡ 0) }
         ensures spent { IsErrOf result PoolError.NamesSpent ↔ (first ≡ u64.MAX) }
     {
         if first == u64::MAX {
@@ -58,6 +60,7 @@ impl<T: Drop> PoolTree<T> {
             root: first,
             next: first + 1,
             records,
+            asked: 0,
         })
     }
 
@@ -79,6 +82,7 @@ impl<T: Drop> PoolTree<T> {
         ensures formed { IsPoolMap (map_of self.new) }
         ensures spent { IsErrOf result PoolError.NamesSpent ↔ ((map_of self.old).next ≡ u64.MAX) }
         ensures err { OnErr result (map_of self.new ≡ map_of self.old) }
+        ensures unasked { self.new.asked ≡ self.old.asked }
     {
         let name = self.next;
         if name == u64::MAX {
@@ -101,6 +105,7 @@ impl<T: Drop> PoolTree<T> {
         requires { (map_of self.old).next ≤ next }
         ensures out { map_of self.new ≡ record (map_of self.old) { next = next } }
         ensures formed { IsPoolMap (map_of self.new) }
+        ensures unasked { self.new.asked ≡ self.old.asked }
     {
         self.next = next;
     }
@@ -112,6 +117,7 @@ impl<T: Drop> PoolTree<T> {
         ensures formed { IsPoolMap (map_of self.new) }
         ensures err { OnErr result (map_of self.new ≡ map_of self.old) }
         ensures back { IfErr result (λ refused. refused.1 ≡ payload) }
+        ensures unasked { self.new.asked ≡ self.old.asked }
     {
         match push(&mut self.records, pool, payload) {
             Ok(()) => Ok(()),
@@ -127,6 +133,7 @@ impl<T: Drop> PoolTree<T> {
         ensures taken { result ≡ last_that (λ other. T.eq other payload.now) ((map_of self.old).payloads pool) }
         ensures rest { map_of self.new ≡ killed pool (λ other. T.eq other payload.now) (map_of self.old) }
         ensures formed { IsPoolMap (map_of self.new) }
+        ensures unasked { self.new.asked ≡ self.old.asked }
     {
         take_newest_equal(&mut self.records, pool, payload)
     }
@@ -146,16 +153,27 @@ impl<T: Drop> PoolTree<T> {
         ensures taken { result ≡ slice_index_or ((map_of self.old).payloads pool) index result }
         ensures rest { map_of self.new ≡ record (map_of self.old) { payloads = upd (map_of self.old).payloads pool (remove ((map_of self.old).payloads pool) index) } }
         ensures formed { IsPoolMap (map_of self.new) }
+        ensures unasked { self.new.asked ≡ self.old.asked }
     {
         take_at(&mut self.records, pool, index)
     }
 
-    /// Whether there is a pool of this name.
+    /// Whether there is a pool of this name. It is counted that this was asked.
     #[tactic(auto, unfolding(crate::specs::Tree::map_of, crate::specs::Links::map_at, crate::specs::Links::path_within, run_model::specs::Pools::is_live))]
-    pub fn is_live(&self, pool: PoolId) -> bool
-        ensures { result ≡ is_live (map_of self.now) pool }
+    pub fn is_live(&mut self, pool: PoolId) -> bool
+        ensures value { result ≡ is_live (map_of self.old) pool }
+        ensures live { result ≡ is_live (map_of self.new) pool }
+        ensures counted { self.new ≡ record self.old { asked = once_more self.old.asked } }
     {
+        self.asked = self.asked.saturating_add(1);
         self.records.get(pool).is_some()
+    }
+
+    /// How often it was asked whether there is a pool of a name. At `u64::MAX` it stays.
+    pub fn asked(&self) -> u64
+        ensures { result ≡ self.now.asked }
+    {
+        self.asked
     }
 
     /// Whether a name is that of a pool or of one above it. It walks up from the pool, so the name may be that of a pool that is gone.

@@ -11,14 +11,14 @@ ghost use Rattle.run_model.specs.Steps.{takes_reference};
 ghost use Rattle.pool_tree.specs.Tree.{map_of};
 ghost use Rattle.brigade_ops.specs.House.{AreOpen, IsHouse};
 ghost use Rattle.brigade_ops.specs.Store.{references};
-ghost use Rattle.ring_run.specs.Around.{Around};
-ghost use Rattle.ring_run.specs.Held.{IsHeld};
-ghost use Rattle.ring_run.specs.LeftAlone.{LeavesRest};
-ghost use Rattle.ring_run.specs.Needs.{StandsAs};
-ghost use Rattle.ring_run.specs.Seen.{seen};
+ghost use Rattle.ring_calls.specs.Around.{Around};
+ghost use Rattle.ring_calls.specs.Held.{IsHeld};
+ghost use Rattle.ring_calls.specs.LeftAlone.{LeavesRest};
+ghost use Rattle.ring_calls.specs.Needs.{StandsAs};
+ghost use Rattle.ring_calls.specs.Seen.{seen};
 
-use crate::machine::{Call, Instance};
 use brigade_ops::{Brigades, PoolId, PoolTree, Rings, Stored};
+use ring_calls::machine::{Call, Instance};
 use run_model::Payload;
 use std::alloc::AllocError;
 
@@ -45,6 +45,7 @@ pub(crate) fn aside<R: Rings<Stored> + Drop>(
     ensures left { LeavesRest store.old store.new instance.now call.now }
     ensures open { (d : Device) (around : Around) → IsOpenFor d (content_at (spot (seen store.old around instance.now call.now) c))
         → AreOpen (references store.old) d → AreOpen (references store.new) d }
+    ensures tree_unasked { tree.new.asked ≡ tree.old.asked }
 {
     store.aside(tree, call.bucket(c), pool)
 }

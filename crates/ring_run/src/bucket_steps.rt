@@ -5,15 +5,15 @@ ghost use Rattle.run_model.specs.BucketSteps.{do_before, do_delete, do_head, do_
 ghost use Rattle.run_model.specs.Cursors.{spot};
 ghost use Rattle.run_model.specs.Faults.{InBrigade, OnBucket, OnLoose};
 ghost use Rattle.brigade_ops.specs.Store.{lists};
-ghost use Rattle.ring_run.specs.Around.{Around};
-ghost use Rattle.ring_run.specs.Held.{IsHeld};
-ghost use Rattle.ring_run.specs.LeftAlone.{LeavesOthers};
-ghost use Rattle.ring_run.specs.Needs.{StandsAs};
-ghost use Rattle.ring_run.specs.Seen.{seen};
-ghost use Rattle.ring_run.specs.Slots.{live_in, slot_at};
+ghost use Rattle.ring_calls.specs.Around.{Around};
+ghost use Rattle.ring_calls.specs.Held.{IsHeld};
+ghost use Rattle.ring_calls.specs.LeftAlone.{LeavesOthers};
+ghost use Rattle.ring_calls.specs.Needs.{StandsAs};
+ghost use Rattle.ring_calls.specs.Seen.{seen};
+ghost use Rattle.ring_calls.specs.Slots.{live_in, slot_at};
 
-use crate::machine::{Call, Instance};
 use brigade_ops::{Brigades, Rings, Stored};
+use ring_calls::machine::{Call, Instance};
 
 /// Takes the bucket of a cursor out of its brigade; it is loose then. It takes no memory.
 pub(crate) fn unlink<R: Rings<Stored> + Drop>(

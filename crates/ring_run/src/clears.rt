@@ -13,13 +13,13 @@ ghost use Rattle.run_model.specs.Steps.{pool_cleared, pool_destroyed};
 ghost use Rattle.pool_tree.specs.Tree.{map_of};
 ghost use Rattle.brigade_ops.specs.House.{IsHouse, AreOpen, cleared_ring, pool_left};
 ghost use Rattle.brigade_ops.specs.Store.{lists, brigade_of, pool_of, references, next_name};
-ghost use Rattle.ring_run.specs.Around.{Around};
+ghost use Rattle.ring_calls.specs.Around.{Around};
 ghost use Rattle.ring_run.specs.Cleared.{around_cleared, LooksAt};
-ghost use Rattle.ring_run.specs.Held.{IsHeld};
-ghost use Rattle.ring_run.specs.Seen.{seen};
+ghost use Rattle.ring_calls.specs.Held.{IsHeld};
+ghost use Rattle.ring_calls.specs.Seen.{seen};
 
-use crate::machine::{Call, Instance};
 use brigade_ops::{BrigadeId, Brigades, Files, PoolId, PoolTree, Rings, Stored};
+use ring_calls::machine::{Call, Instance};
 use run_model::Payload;
 use std::alloc::AllocError;
 
@@ -57,6 +57,8 @@ pub fn clear_pool<R: Rings<Stored> + Drop, F: Files>(
     ensures pools { OnErr result (pool_of store.new ≡ pool_of store.old) }
     ensures kept { OnErr result (map_of tree.new ≡ map_of tree.old) }
     ensures unread { OnErr result (F.device files.new ≡ F.device files.old) }
+    ensures unasked { store.new.asked ≡ store.old.asked }
+    ensures tree_unasked { tree.new.asked ≡ tree.old.asked }
 {
     let ran = store.clear(rings, tree, files, pool)?;
     Ok(ran)
@@ -96,6 +98,8 @@ pub fn destroy_pool<R: Rings<Stored> + Drop, F: Files>(
     ensures pools { OnErr result (pool_of store.new ≡ pool_of store.old) }
     ensures kept { OnErr result (map_of tree.new ≡ map_of tree.old) }
     ensures unread { OnErr result (F.device files.new ≡ F.device files.old) }
+    ensures unasked { store.new.asked ≡ store.old.asked }
+    ensures tree_unasked { tree.new.asked ≡ tree.old.asked }
 {
     let ran = store.destroy(rings, tree, files, pool)?;
     Ok(ran)

@@ -8,15 +8,15 @@ ghost use Rattle.run_model.specs.Steps.{do_create};
 ghost use Rattle.pool_tree.specs.Tree.{map_of};
 ghost use Rattle.brigade_ops.specs.House.{IsHouse};
 ghost use Rattle.brigade_ops.specs.Store.{next_name, references};
-ghost use Rattle.ring_run.specs.declared.machine.Call.{Call};
-ghost use Rattle.ring_run.specs.Around.{Around};
+ghost use Rattle.ring_calls.specs.declared.machine.Call.{Call};
+ghost use Rattle.ring_calls.specs.Around.{Around};
 ghost use Rattle.ring_run.specs.CarriedOut.{KeepNames};
-ghost use Rattle.ring_run.specs.Held.{IsHeld};
-ghost use Rattle.ring_run.specs.LeftAlone.{LeavesRest};
-ghost use Rattle.ring_run.specs.Seen.{seen};
+ghost use Rattle.ring_calls.specs.Held.{IsHeld};
+ghost use Rattle.ring_calls.specs.LeftAlone.{LeavesRest};
+ghost use Rattle.ring_calls.specs.Seen.{seen};
 
-use crate::machine::{Instance, Slot};
 use brigade_ops::{Brigades, PoolId, PoolTree, Rings, Stored};
+use ring_calls::machine::{Instance, Slot};
 use run_model::{Mark, Payload};
 use std::alloc::AllocError;
 
@@ -41,6 +41,7 @@ pub(crate) fn create<R: Rings<Stored> + Drop>(
     ensures left { (call : Call) → LeavesRest store.old store.new instance.old call }
     ensures references { references store.new ≡ references store.old }
     ensures slots { KeepNames (next_name store.old) (next_name store.new) instance.old instance.new }
+    ensures tree_unasked { tree.new.asked ≡ tree.old.asked }
 {
     let Ok(name) = store.create(tree, pool) else {
         return Err(AllocError);

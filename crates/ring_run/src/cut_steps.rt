@@ -8,15 +8,15 @@ ghost use Rattle.run_model.specs.BucketSteps.{cursor_at, do_first, do_next, item
 ghost use Rattle.run_model.specs.Cursors.{spot};
 ghost use Rattle.run_model.specs.Faults.{InBrigade};
 ghost use Rattle.brigade_ops.specs.Store.{lists, brigade_of};
-ghost use Rattle.ring_run.specs.declared.machine.Call.{Call};
-ghost use Rattle.ring_run.specs.Around.{Around};
-ghost use Rattle.ring_run.specs.Held.{IsHeld, WasGiven};
-ghost use Rattle.ring_run.specs.Needs.{StandsAs};
-ghost use Rattle.ring_run.specs.Slots.{live_in, name_in, slot_at};
-ghost use Rattle.ring_run.specs.Seen.{seen, seen_over, shown_cursor};
+ghost use Rattle.ring_calls.specs.declared.machine.Call.{Call};
+ghost use Rattle.ring_calls.specs.Around.{Around};
+ghost use Rattle.ring_calls.specs.Held.{IsHeld, WasGiven};
+ghost use Rattle.ring_calls.specs.Needs.{StandsAs};
+ghost use Rattle.ring_calls.specs.Slots.{live_in, name_in, slot_at};
+ghost use Rattle.ring_calls.specs.Seen.{seen, seen_over, shown_cursor};
 
-use crate::machine::{Call, CursorValue, Instance};
 use brigade_ops::{Brigades, BucketId, Rings, Stored};
+use ring_calls::machine::{Call, CursorValue, Instance};
 
 /// The first place of a brigade: its first bucket or its end.
 fn first_cursor_value<R: Rings<Stored> + Drop>(

@@ -3,15 +3,15 @@
 ghost use Rattle.std.specs.Prelude.{◌≡◌, ◌≢◌, ◌<◌, ℕ, true, is_some, IsOk, OnOk, OnErr};
 ghost use Rattle.run_model.specs.Steps.{do_clean, do_concat};
 ghost use Rattle.brigade_ops.specs.Store.{lists};
-ghost use Rattle.ring_run.specs.declared.machine.Call.{Call};
-ghost use Rattle.ring_run.specs.Around.{Around};
-ghost use Rattle.ring_run.specs.Held.{VariablesApart, IsHeld};
-ghost use Rattle.ring_run.specs.LeftAlone.{LeavesOthers};
-ghost use Rattle.ring_run.specs.Slots.{live_in, name_in, slot_at};
-ghost use Rattle.ring_run.specs.Seen.{seen};
+ghost use Rattle.ring_calls.specs.declared.machine.Call.{Call};
+ghost use Rattle.ring_calls.specs.Around.{Around};
+ghost use Rattle.ring_calls.specs.Held.{VariablesApart, IsHeld};
+ghost use Rattle.ring_calls.specs.LeftAlone.{LeavesOthers};
+ghost use Rattle.ring_calls.specs.Slots.{live_in, name_in, slot_at};
+ghost use Rattle.ring_calls.specs.Seen.{seen};
 
-use crate::machine::Instance;
 use brigade_ops::{Brigades, Rings, Stored};
+use ring_calls::machine::Instance;
 use run_model::Mark;
 use std::alloc::AllocError;
 

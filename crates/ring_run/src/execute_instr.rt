@@ -11,28 +11,28 @@ ghost use Rattle.pool_tree.specs.Tree.{map_of};
 ghost use Rattle.brigade_ops.specs.House.{IsHouse, AreOpen};
 ghost use Rattle.brigade_ops.specs.Store.{brigade_of, pool_of, references, next_name};
 ghost use Rattle.ring_run.specs.Apart.{changes_pools, clears_pool, is_carried, keeps_files};
-ghost use Rattle.ring_run.specs.Around.{Around};
+ghost use Rattle.ring_calls.specs.Around.{Around};
 ghost use Rattle.ring_run.specs.CarriedOut.{KeepNames, WasCarriedOut, during, with_files};
 ghost use Rattle.ring_run.specs.Cleared.{LooksAt};
-ghost use Rattle.ring_run.specs.Ends.{EndInFiles, FitKinds};
-ghost use Rattle.ring_run.specs.Given.{RangesOpen};
-ghost use Rattle.ring_run.specs.Held.{IsHeld};
-ghost use Rattle.ring_run.specs.LeftAlone.{LeavesRest, LeavesUncleared};
+ghost use Rattle.ring_calls.specs.Ends.{EndInFiles, FitKinds};
+ghost use Rattle.ring_calls.specs.Given.{RangesOpen};
+ghost use Rattle.ring_calls.specs.Held.{IsHeld};
+ghost use Rattle.ring_calls.specs.LeftAlone.{LeavesRest, LeavesUncleared};
 ghost use Rattle.ring_run.specs.Operands.{cleared_in};
-ghost use Rattle.ring_run.specs.Seen.{seen};
-ghost use Rattle.ring_run.specs.Setting.{in_setting};
+ghost use Rattle.ring_calls.specs.Seen.{seen};
+ghost use Rattle.ring_calls.specs.Setting.{in_setting};
 
 use crate::execute_on_pools::execute_on_pools;
 use crate::execute_on_store::execute_on_store;
-use crate::exits::{exit, jumps_if};
 use crate::labels::add_labels;
 use crate::labels_run::LabelsRun;
-use crate::machine::{Call, Instance};
-use crate::outside::Outside;
 use crate::pool_clears::{clear_named, cleared_pool};
 use crate::reads::read;
-use crate::setting::Setting;
 use brigade_ops::{Brigades, Files, PoolTree, Rings, Stored};
+use ring_calls::exits::{exit, jumps_if};
+use ring_calls::machine::{Call, Instance};
+use ring_calls::outside::Outside;
+use ring_calls::setting::Setting;
 use run_model::{Exit, Instr, Module, Payload};
 use std::alloc::{AllocError, Global};
 
@@ -82,6 +82,7 @@ fn execute_without_files<R: Rings<Stored> + Drop>(
     ensures name { call.new.name ≡ call.old.name }
     ensures slots { KeepNames (next_name store.old) (next_name store.new) instance.old instance.new }
     ensures left { LeavesRest store.old store.new instance.old call.old }
+    ensures tree_unasked { tree.new.asked ≡ tree.old.asked }
 {
     let leads = exit(code, instance, call, store, instr);
     if changes_pools(instr) {
@@ -127,6 +128,8 @@ fn execute_clear<R: Rings<Stored> + Drop, F: Files>(
     ensures next { next_name store.new ≡ next_name store.old }
     ensures names { NoneRevived (brigade_of store.old) (brigade_of store.new) (next_name store.old) }
     ensures cleared { OnOk result ((pool : ℕ) → cleared_in instance.now instr ≡ Some pool → LeavesUncleared (is_under (map_of tree.old) pool) setting.now.rings.now store.old store.new) }
+    ensures unasked { store.new.asked ≡ store.old.asked }
+    ensures tree_unasked { tree.new.asked ≡ tree.old.asked }
 {
     let Some(pool) = cleared_pool(instance, instr) else {
         unreachable!()
@@ -189,6 +192,8 @@ pub fn execute_instr<R: Rings<Stored> + Drop, F: Files>(
     ensures names { NoneRevived (brigade_of store.old) (brigade_of store.new) (next_name store.old) }
     ensures left { clears_pool instr ≡ false → LeavesRest store.old store.new instance.old call.old }
     ensures cleared { OnOk result ((pool : ℕ) → cleared_in instance.old instr ≡ Some pool → LeavesUncleared (is_under (map_of tree.old) pool) setting.now.rings.now store.old store.new) }
+    ensures unasked { store.new.asked ≡ store.old.asked }
+    ensures tree_unasked { tree.new.asked ≡ tree.old.asked }
 {
     match instr {
         Instr::PClear(_) | Instr::PDestroy(_) => {

@@ -9,27 +9,27 @@ ghost use Rattle.run_model.specs.State.{pool_named};
 ghost use Rattle.run_model.specs.Steps.{Choice, grows, step};
 ghost use Rattle.pool_tree.specs.Tree.{map_of};
 ghost use Rattle.brigade_ops.specs.House.{IsHouse, AreOpen};
-ghost use Rattle.brigade_ops.specs.Items.{Items};
+ghost use Rattle.stored_rings.specs.Items.{Items};
 ghost use Rattle.brigade_ops.specs.Store.{references, next_name};
-ghost use Rattle.ring_run.specs.declared.machine.Call.{Call};
+ghost use Rattle.ring_calls.specs.declared.machine.Call.{Call};
 ghost use Rattle.ring_run.specs.Apart.{changes_pools};
-ghost use Rattle.ring_run.specs.Around.{Around};
+ghost use Rattle.ring_calls.specs.Around.{Around};
 ghost use Rattle.ring_run.specs.CarriedOut.{KeepNames};
-ghost use Rattle.ring_run.specs.Given.{RangesOpen};
-ghost use Rattle.ring_run.specs.Held.{IsHeld};
-ghost use Rattle.ring_run.specs.LeftAlone.{LeavesRest};
-ghost use Rattle.ring_run.specs.Seen.{seen, seen_over};
-ghost use Rattle.ring_run.specs.Setting.{in_setting};
+ghost use Rattle.ring_calls.specs.Given.{RangesOpen};
+ghost use Rattle.ring_calls.specs.Held.{IsHeld};
+ghost use Rattle.ring_calls.specs.LeftAlone.{LeavesRest};
+ghost use Rattle.ring_calls.specs.Seen.{seen, seen_over};
+ghost use Rattle.ring_calls.specs.Setting.{in_setting};
 
 use crate::aside_steps::aside;
 use crate::creates::create;
-use crate::machine::{Call, Instance};
-use crate::outside::Outside;
 use crate::pool_steps::{create_pool, label, unlabel};
-use crate::pool_wants::pool_named;
 use crate::saves::save;
-use crate::setting::Setting;
 use brigade_ops::{Brigades, PoolId, PoolTree, Rings, Stored};
+use ring_calls::machine::{Call, Instance};
+use ring_calls::outside::Outside;
+use ring_calls::pool_names::pool_named;
+use ring_calls::setting::Setting;
 use run_model::{Instr, Module, Payload, PoolRef};
 use std::alloc::{AllocError, Global};
 
@@ -83,6 +83,7 @@ pub(crate) fn execute_on_pools<R: Rings<Stored> + Drop>(
     ensures open { (d : Device) → ((around : Around) → RangesOpen d (seen store.old (in_setting setting.now (map_of tree.old) around) instance.old call.now)) → AreOpen (references store.old) d → AreOpen (references store.new) d }
     ensures slots { KeepNames (next_name store.old) (next_name store.new) instance.old instance.new }
     ensures left { LeavesRest store.old store.new instance.old call.now }
+    ensures tree_unasked { tree.new.asked ≡ tree.old.asked }
 {
     match instr {
         Instr::PCreate(q) => {

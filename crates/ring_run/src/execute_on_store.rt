@@ -7,25 +7,26 @@ ghost use Rattle.run_model.specs.Faults.{WPool, fault, fault_want};
 ghost use Rattle.run_model.specs.State.{pool_named};
 ghost use Rattle.run_model.specs.Steps.{Choice, grows, step};
 ghost use Rattle.ring_run.specs.Apart.{cuts_brigade, makes_bucket, moves_bucket, sets_number, touches_others};
-ghost use Rattle.ring_run.specs.Around.{Around};
-ghost use Rattle.ring_run.specs.Ends.{EndInFiles, FitKinds};
-ghost use Rattle.ring_run.specs.Held.{IsHeld};
-ghost use Rattle.ring_run.specs.LeftAlone.{LeavesOthers};
-ghost use Rattle.ring_run.specs.Outside.{with_outside};
-ghost use Rattle.ring_run.specs.Seen.{seen};
-ghost use Rattle.ring_run.specs.Slots.{name_in, slot_at};
+ghost use Rattle.ring_calls.specs.Around.{Around};
+ghost use Rattle.ring_calls.specs.Ends.{EndInFiles, FitKinds};
+ghost use Rattle.ring_calls.specs.Held.{IsHeld};
+ghost use Rattle.ring_calls.specs.LeftAlone.{LeavesOthers};
+ghost use Rattle.ring_calls.specs.Outside.{with_outside};
+ghost use Rattle.ring_calls.specs.Seen.{seen};
+ghost use Rattle.ring_calls.specs.Slots.{name_in, slot_at};
 
-use crate::machine::{Call, Instance};
-use crate::outside::Outside;
-use crate::pool_wants::pool_named;
-use crate::values::value_of;
-use crate::{bucket_steps, bytes, cut_steps, effects, makers, part_steps, split_steps, values};
+use crate::{bucket_steps, cut_steps, effects, makers, part_steps, split_steps};
 use brigade_ops::{Brigades, Kind, Rings, Stored};
+use ring_calls::machine::{Call, Instance};
+use ring_calls::outside::Outside;
+use ring_calls::pool_names::pool_named;
+use ring_calls::values::value_of;
+use ring_calls::{bytes, values};
 use run_model::{Instr, Module, PoolRef};
 use std::alloc::{AllocError, Global};
 
 /// Changes a number, or the buffer. Without memory nothing is changed.
-#[tactic(auto, using(crate::proofs::HeldAlike::held_slots, crate::proofs::HeldAlike::held_cursors))]
+#[tactic(auto, using(ring_calls::proofs::HeldAlike::held_slots, ring_calls::proofs::HeldAlike::held_cursors))]
 fn change_numbers<R: Rings<Stored> + Drop>(
     code: &Module,
     instance: &mut Instance,

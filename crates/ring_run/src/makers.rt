@@ -4,14 +4,14 @@ ghost use Rattle.std.specs.Prelude.{◌≡◌, ◌<◌, length, true, is_some, I
 ghost use Rattle.run_model.specs.BucketSteps.{heap_bucket, immortal_bucket, metadata, new_loose, pool_bucket, transient_bucket};
 ghost use Rattle.run_model.specs.Steps.{text_of};
 ghost use Rattle.brigade_ops.specs.Store.{lists, next_name};
-ghost use Rattle.ring_run.specs.declared.machine.Instance.{Instance};
-ghost use Rattle.ring_run.specs.Around.{Around};
-ghost use Rattle.ring_run.specs.Held.{IsHeld};
-ghost use Rattle.ring_run.specs.LeftAlone.{LeavesOthers};
-ghost use Rattle.ring_run.specs.Seen.{seen, bucket_in, calls_in};
+ghost use Rattle.ring_calls.specs.declared.machine.Instance.{Instance};
+ghost use Rattle.ring_calls.specs.Around.{Around};
+ghost use Rattle.ring_calls.specs.Held.{IsHeld};
+ghost use Rattle.ring_calls.specs.LeftAlone.{LeavesOthers};
+ghost use Rattle.ring_calls.specs.Seen.{seen, bucket_in, calls_in};
 
-use crate::machine::{Call, CursorValue};
 use brigade_ops::{Brigades, PoolId, Rings, Stored};
+use ring_calls::machine::{Call, CursorValue};
 use run_model::{Bucket, Content, Home, Kind, Module, Seq};
 use std::alloc::{AllocError, Global};
 

@@ -7,20 +7,20 @@ ghost use Rattle.run_model.specs.BucketSteps.{do_bpart, do_bsplit, items_at, nam
 ghost use Rattle.run_model.specs.Cursors.{spot};
 ghost use Rattle.run_model.specs.Faults.{InThis, home_fault};
 ghost use Rattle.run_model.specs.Steps.{value_of};
-ghost use Rattle.brigade_ops.specs.Items.{before_place, from_place};
+ghost use Rattle.stored_rings.specs.Items.{before_place, from_place};
 ghost use Rattle.brigade_ops.specs.Store.{lists, brigade_of};
-ghost use Rattle.ring_run.specs.Around.{Around};
-ghost use Rattle.ring_run.specs.Ends.{EndInFiles, FitKinds};
-ghost use Rattle.ring_run.specs.Held.{IsHeld};
-ghost use Rattle.ring_run.specs.LeftAlone.{LeavesOthers};
-ghost use Rattle.ring_run.specs.Needs.{StandsAs};
-ghost use Rattle.ring_run.specs.Places.{cursor_value_of};
-ghost use Rattle.ring_run.specs.Slots.{live_in, name_in, slot_at};
-ghost use Rattle.ring_run.specs.Seen.{seen, shown, calls_in};
+ghost use Rattle.ring_calls.specs.Around.{Around};
+ghost use Rattle.ring_calls.specs.Ends.{EndInFiles, FitKinds};
+ghost use Rattle.ring_calls.specs.Held.{IsHeld};
+ghost use Rattle.ring_calls.specs.LeftAlone.{LeavesOthers};
+ghost use Rattle.ring_calls.specs.Needs.{StandsAs};
+ghost use Rattle.ring_calls.specs.Places.{cursor_value_of};
+ghost use Rattle.ring_calls.specs.Slots.{live_in, name_in, slot_at};
+ghost use Rattle.ring_calls.specs.Seen.{seen, shown, calls_in};
 
-use crate::machine::{Call, CursorValue, Instance};
-use crate::values::value_of;
 use brigade_ops::{BrigadeId, Brigades, BucketId, Cut, Rings, Stored};
+use ring_calls::machine::{Call, CursorValue, Instance};
+use ring_calls::values::value_of;
 use run_model::Value;
 use std::alloc::AllocError;
 

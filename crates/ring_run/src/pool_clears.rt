@@ -15,16 +15,16 @@ ghost use Rattle.brigade_ops.specs.Files.{SameButOpen};
 ghost use Rattle.brigade_ops.specs.House.{IsHouse, AreOpen, cleared_ring, pool_left};
 ghost use Rattle.brigade_ops.specs.Store.{lists, brigade_of, pool_of, references, next_name};
 ghost use Rattle.ring_run.specs.Apart.{clears_pool};
-ghost use Rattle.ring_run.specs.Around.{Around};
+ghost use Rattle.ring_calls.specs.Around.{Around};
 ghost use Rattle.ring_run.specs.Cleared.{around_cleared, LooksAt};
-ghost use Rattle.ring_run.specs.Held.{IsHeld};
+ghost use Rattle.ring_calls.specs.Held.{IsHeld};
 ghost use Rattle.ring_run.specs.Operands.{cleared_in};
-ghost use Rattle.ring_run.specs.Seen.{seen};
+ghost use Rattle.ring_calls.specs.Seen.{seen};
 
 use crate::clears::{clear_pool, destroy_pool};
-use crate::machine::{Call, Instance};
-use crate::pool_wants::{name_in, variable};
 use brigade_ops::{BrigadeId, Brigades, Files, PoolId, PoolTree, Rings, Stored};
+use ring_calls::machine::{Call, Instance};
+use ring_calls::pool_names::{name_in, variable};
 use run_model::{Instr, Payload};
 use std::alloc::AllocError;
 
@@ -74,6 +74,8 @@ pub(crate) fn clear_named<R: Rings<Stored> + Drop, F: Files>(
     ensures pools { OnErr result (pool_of store.new ≡ pool_of store.old) }
     ensures kept { OnErr result (map_of tree.new ≡ map_of tree.old) }
     ensures unread { OnErr result (F.device files.new ≡ F.device files.old) }
+    ensures unasked { store.new.asked ≡ store.old.asked }
+    ensures tree_unasked { tree.new.asked ≡ tree.old.asked }
 {
     match instr {
         Instr::PClear(_) => clear_pool(instance, call, rings, tree, store, files, pool),

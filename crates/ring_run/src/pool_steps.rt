@@ -7,22 +7,22 @@ ghost use Rattle.run_model.specs.State.{pool_named};
 ghost use Rattle.run_model.specs.Steps.{do_pcreate, label_killed, label_registered, on_pool, text_of};
 ghost use Rattle.pool_tree.specs.Tree.{map_of};
 ghost use Rattle.brigade_ops.specs.House.{AreHoused};
-ghost use Rattle.brigade_ops.specs.Items.{Items};
-ghost use Rattle.ring_run.specs.declared.machine.Call.{Call};
-ghost use Rattle.ring_run.specs.declared.machine.Instance.{Instance};
-ghost use Rattle.ring_run.specs.Around.{Around};
-ghost use Rattle.ring_run.specs.Seen.{seen_over};
-ghost use Rattle.ring_run.specs.Slots.{slot_at};
+ghost use Rattle.stored_rings.specs.Items.{Items};
+ghost use Rattle.ring_calls.specs.declared.machine.Call.{Call};
+ghost use Rattle.ring_calls.specs.declared.machine.Instance.{Instance};
+ghost use Rattle.ring_calls.specs.Around.{Around};
+ghost use Rattle.ring_calls.specs.Seen.{seen_over};
+ghost use Rattle.ring_calls.specs.Slots.{slot_at};
 
 use crate::labels::newest_label;
-use crate::machine::Instance;
 use crate::makers::text;
 use brigade_ops::{PoolId, PoolTree};
+use ring_calls::machine::Instance;
 use run_model::{Module, Payload, PoolVar};
 use std::alloc::{AllocError, Global};
 
 /// Makes a pool under its declared parent. Without memory, and where the names of pools are spent, nothing is changed.
-#[tactic(auto, unfolding(crate::specs::Seen::seen_over, crate::specs::Slots::slot_at, run_model::specs::State::set_pool, run_model::specs::State::with_pools, run_model::specs::Indexed::upd))]
+#[tactic(auto, unfolding(ring_calls::specs::Seen::seen_over, ring_calls::specs::Slots::slot_at, run_model::specs::State::set_pool, run_model::specs::State::with_pools, run_model::specs::Indexed::upd))]
 pub(crate) fn create_pool(
     instance: &mut Instance,
     tree: &mut PoolTree<Payload>,
@@ -38,6 +38,7 @@ pub(crate) fn create_pool(
         → seen_over rings next (record around { pools = map_of tree.new }) instance.new call ≡ seen_over rings next (record around { pools = map_of tree.old }) instance.old call) }
     ensures slots { (b : ℕ) → slot_at instance.new b ≡ slot_at instance.old b }
     ensures house { (rings : ℕ → Option Items) (pools : ℕ → Option ℕ) (references : ℕ → ℕ) → AreHoused rings pools references (map_of tree.old) → AreHoused rings pools references (map_of tree.new) }
+    ensures tree_unasked { tree.new.asked ≡ tree.old.asked }
 {
     let Ok(name) = tree.create(parent) else {
         return Err(AllocError);
@@ -47,7 +48,7 @@ pub(crate) fn create_pool(
 }
 
 /// Registers a label with a pool. Without memory nothing is changed.
-#[tactic(auto, unfolding(crate::specs::Seen::seen_over, run_model::specs::State::with_pools))]
+#[tactic(auto, unfolding(ring_calls::specs::Seen::seen_over, run_model::specs::State::with_pools))]
 pub(crate) fn label(
     alloc: Global,
     code: &Module,
@@ -62,6 +63,7 @@ pub(crate) fn label(
     ensures err { OnErr result ((rings : ℕ → Option Items) (next : ℕ) (around : Around) (i : Instance) (call : Call)
         → seen_over rings next (record around { pools = map_of tree.new }) i call ≡ seen_over rings next (record around { pools = map_of tree.old }) i call) }
     ensures house { (rings : ℕ → Option Items) (pools : ℕ → Option ℕ) (references : ℕ → ℕ) → AreHoused rings pools references (map_of tree.old) → AreHoused rings pools references (map_of tree.new) }
+    ensures tree_unasked { tree.new.asked ≡ tree.old.asked }
 {
     let label = text(alloc, code, t)?;
     let Ok(()) = tree.register(pool, Payload::Label(label)) else {
@@ -77,6 +79,7 @@ pub(crate) fn unlabel(code: &Module, tree: &mut PoolTree<Payload>, pool: PoolId,
     ensures new { (rings : ℕ → Option Items) (next : ℕ) (around : Around) (i : Instance) (call : Call)
         → seen_over rings next (record around { pools = map_of tree.new }) i call ≡ on_pool (label_killed (text_of code.now t)) (Some pool) (seen_over rings next (record around { pools = map_of tree.old }) i call) }
     ensures house { (rings : ℕ → Option Items) (pools : ℕ → Option ℕ) (references : ℕ → ℕ) → AreHoused rings pools references (map_of tree.old) → AreHoused rings pools references (map_of tree.new) }
+    ensures tree_unasked { tree.new.asked ≡ tree.old.asked }
 {
     if let Some(index) = newest_label(tree.payloads(pool), code.text(t)) {
         tree.take_out(pool, index);

@@ -7,16 +7,16 @@ ghost use Rattle.run_model.specs.Cursors.{Within, spot};
 ghost use Rattle.run_model.specs.Cutting.{wanted};
 ghost use Rattle.run_model.specs.Faults.{InBrigade, home_fault};
 ghost use Rattle.run_model.specs.declared.bucket.NamedBucket.{NamedBucket};
-ghost use Rattle.ring_run.specs.Around.{Around};
-ghost use Rattle.ring_run.specs.Ends.{EndInFiles};
-ghost use Rattle.ring_run.specs.Given.{WasRead};
-ghost use Rattle.ring_run.specs.Held.{IsHeld};
-ghost use Rattle.ring_run.specs.LeftAlone.{LeavesOthers};
-ghost use Rattle.ring_run.specs.Needs.{StandsAs};
-ghost use Rattle.ring_run.specs.Seen.{seen};
+ghost use Rattle.ring_calls.specs.Around.{Around};
+ghost use Rattle.ring_calls.specs.Ends.{EndInFiles};
+ghost use Rattle.ring_calls.specs.Given.{WasRead};
+ghost use Rattle.ring_calls.specs.Held.{IsHeld};
+ghost use Rattle.ring_calls.specs.LeftAlone.{LeavesOthers};
+ghost use Rattle.ring_calls.specs.Needs.{StandsAs};
+ghost use Rattle.ring_calls.specs.Seen.{seen};
 
-use crate::machine::{Call, CursorValue, Instance};
 use brigade_ops::{Brigades, Files, ReadRefusal, Rings, Stored};
+use ring_calls::machine::{Call, CursorValue, Instance};
 use std::alloc::AllocError;
 
 /// The read cursor `rd`.

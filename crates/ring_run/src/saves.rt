@@ -9,16 +9,16 @@ ghost use Rattle.run_model.specs.Steps.{do_save, made_on, takes_reference};
 ghost use Rattle.pool_tree.specs.Tree.{map_of};
 ghost use Rattle.brigade_ops.specs.House.{AreOpen, IsHouse};
 ghost use Rattle.brigade_ops.specs.Store.{lists, pool_of, references};
-ghost use Rattle.ring_run.specs.declared.machine.Call.{Call};
-ghost use Rattle.ring_run.specs.Around.{Around};
-ghost use Rattle.ring_run.specs.Given.{RangeIsOpen};
-ghost use Rattle.ring_run.specs.Held.{VariablesApart, AreOn, IsHeld};
-ghost use Rattle.ring_run.specs.LeftAlone.{LeavesRest};
-ghost use Rattle.ring_run.specs.Slots.{live_in, slot_at};
-ghost use Rattle.ring_run.specs.Seen.{seen};
+ghost use Rattle.ring_calls.specs.declared.machine.Call.{Call};
+ghost use Rattle.ring_calls.specs.Around.{Around};
+ghost use Rattle.ring_calls.specs.Given.{RangeIsOpen};
+ghost use Rattle.ring_calls.specs.Held.{VariablesApart, AreOn, IsHeld};
+ghost use Rattle.ring_calls.specs.LeftAlone.{LeavesRest};
+ghost use Rattle.ring_calls.specs.Slots.{live_in, slot_at};
+ghost use Rattle.ring_calls.specs.Seen.{seen};
 
-use crate::machine::{Instance, Slot};
 use brigade_ops::{Brigades, PoolTree, Rings, Stored};
+use ring_calls::machine::{Instance, Slot};
 use run_model::Payload;
 use std::alloc::AllocError;
 
@@ -49,6 +49,7 @@ pub(crate) fn save<R: Rings<Stored> + Drop>(
     ensures left { (call : Call) → LeavesRest store.old store.new instance.now call }
     ensures open { (d : Device) (around : Around) (call : Call) → All (RangeIsOpen d) (items_of ((seen store.old around instance.now call).instance.brigades b))
         → AreOpen (references store.old) d → AreOpen (references store.new) d }
+    ensures tree_unasked { tree.new.asked ≡ tree.old.asked }
 {
     let Slot::Made(to, on, _) = instance.slot(o) else {
         unreachable!()

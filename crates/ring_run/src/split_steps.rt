@@ -6,16 +6,16 @@ ghost use Rattle.run_model.specs.Cursors.{bucket_at as model_bucket_at, spot};
 ghost use Rattle.run_model.specs.Faults.{InBrigade, OnBucket, home_fault};
 ghost use Rattle.run_model.specs.declared.bucket.Bucket.{Bucket};
 ghost use Rattle.brigade_ops.specs.Store.{lists, brigade_of, bucket_at, next_name};
-ghost use Rattle.ring_run.specs.declared.machine.Instance.{Instance};
-ghost use Rattle.ring_run.specs.Around.{Around};
-ghost use Rattle.ring_run.specs.Ends.{EndInFiles};
-ghost use Rattle.ring_run.specs.Held.{IsHeld};
-ghost use Rattle.ring_run.specs.LeftAlone.{LeavesOthers};
-ghost use Rattle.ring_run.specs.Needs.{StandsAs};
-ghost use Rattle.ring_run.specs.Seen.{seen, bucket_in, calls_in};
+ghost use Rattle.ring_calls.specs.declared.machine.Instance.{Instance};
+ghost use Rattle.ring_calls.specs.Around.{Around};
+ghost use Rattle.ring_calls.specs.Ends.{EndInFiles};
+ghost use Rattle.ring_calls.specs.Held.{IsHeld};
+ghost use Rattle.ring_calls.specs.LeftAlone.{LeavesOthers};
+ghost use Rattle.ring_calls.specs.Needs.{StandsAs};
+ghost use Rattle.ring_calls.specs.Seen.{seen, bucket_in, calls_in};
 
-use crate::machine::{Call, CursorValue, Instance};
 use brigade_ops::{Brigades, BucketId, Rings, SplitRefusal, Stored};
+use ring_calls::machine::{Call, CursorValue, Instance};
 use std::alloc::AllocError;
 
 /// Splits the bucket of a cursor after its first `n` bytes, where that is not refused: only then it takes memory. Without it, and where the

@@ -4,37 +4,29 @@ use crate::buckets::{Made, make};
 use crate::calls::{Call, Four, Place, show_named, show_two};
 use crate::missing::Missing;
 use crate::shown::{Seen, Shown};
+use crate::there::{want_beside, want_both, want_brigade, want_bucket, want_place, want_two};
 use anyhow::Result;
-use brigade_ops::{BrigadeId, Brigades, BucketId, Rings, Stored};
+use brigade_ops::{BrigadeId, Brigades, BucketId, RingRefusal, Rings, Stored};
 use bucket_kinds::Bucket;
-use bucket_ring::RawRings;
 use std::alloc::{AllocError, Global};
 
 /// No brigade of a row has more buckets.
 const MOST: usize = 9;
 
-/// The store of a row.
-pub(crate) type Store = Brigades<RawRings<Stored>>;
-
 /// Tells the buckets of a brigade.
 pub(crate) fn show_brigade<R: Rings<Stored> + Drop>(
     rt: &HostRuntime,
-    store: &Brigades<R>,
+    store: &mut Brigades<R>,
     brigade: BrigadeId,
 ) -> Result<()> {
-    if !store.has(brigade) {
-        println!(rt; "no brigade")?;
-        return Ok(());
-    }
+    want_brigade(store, brigade)?;
     let mut place = store.first(brigade);
     print!(rt; "[")?;
     for index in 0..MOST {
         let Some(id) = place else {
             break;
         };
-        if store.ring_of(id).is_none() {
-            return Err(Missing.into());
-        }
+        want_bucket(store, id)?;
         let comma = if index == 0 { "" } else { ", " };
         print!(rt; "{comma}{}", Seen(store.payload(id)))?;
         place = store.next(id).ok();
@@ -44,19 +36,19 @@ pub(crate) fn show_brigade<R: Rings<Stored> + Drop>(
 }
 
 /// The bytes of all buckets of a brigade.
-fn letters(alloc: Global, store: &Store, brigade: BrigadeId) -> Result<String, AllocError> {
+fn letters<R: Rings<Stored> + Drop>(
+    alloc: Global,
+    store: &mut Brigades<R>,
+    brigade: BrigadeId,
+) -> Result<String> {
     let mut text = String::new(alloc);
-    if !store.has(brigade) {
-        return Ok(text);
-    }
+    want_brigade(store, brigade)?;
     let mut place = store.first(brigade);
     for _ in 0..MOST {
         let Some(id) = place else {
             return Ok(text);
         };
-        if store.ring_of(id).is_none() {
-            return Ok(text);
-        }
+        want_bucket(store, id)?;
         for byte in store.bytes(id) {
             text.push(*byte as char)?;
         }
@@ -65,10 +57,24 @@ fn letters(alloc: Global, store: &Store, brigade: BrigadeId) -> Result<String, A
     Ok(text)
 }
 
-fn show(rt: &HostRuntime, what: &str, store: &Store, r: BrigadeId, s: BrigadeId) -> Result<()> {
+fn show<R: Rings<Stored> + Drop>(
+    rt: &HostRuntime,
+    what: &str,
+    store: &mut Brigades<R>,
+    r: BrigadeId,
+    s: BrigadeId,
+) -> Result<()> {
     let first = letters(rt.alloc(), store, r)?;
     let second = letters(rt.alloc(), store, s)?;
     show_two(rt, what, first.as_str(), second.as_str())
+}
+
+/// The name of a bucket that was put in, or why it was not.
+pub(crate) fn named(put: Result<BucketId, (RingRefusal, Bucket)>) -> Result<BucketId> {
+    match put {
+        Ok(id) => Ok(id),
+        Err((why, _)) => Err(why.into()),
+    }
 }
 
 /// Puts a new bucket in.
@@ -77,22 +83,29 @@ pub(crate) fn put<R: Rings<Stored> + Drop>(
     place: Place,
     bucket: Bucket,
 ) -> Result<BucketId> {
-    let put = match place {
-        Place::Head(brigade) if store.has(brigade) => store.add_head(brigade, bucket),
-        Place::Tail(brigade) if store.has(brigade) => store.add_tail(brigade, bucket),
-        Place::Before(at) if store.ring_of(at).is_some() => store.add_before(at, bucket),
-        Place::After(at) if store.ring_of(at).is_some() => store.add_after(at, bucket),
-        _ => return Err(Missing.into()),
-    };
-    match put {
-        Ok(id) => Ok(id),
-        Err((why, _)) => Err(why.into()),
+    match place {
+        Place::Head(brigade) => {
+            want_brigade(store, brigade)?;
+            named(store.add_head(brigade, bucket))
+        }
+        Place::Tail(brigade) => {
+            want_brigade(store, brigade)?;
+            named(store.add_tail(brigade, bucket))
+        }
+        Place::Before(at) => {
+            want_bucket(store, at)?;
+            named(store.add_before(at, bucket))
+        }
+        Place::After(at) => {
+            want_bucket(store, at)?;
+            named(store.add_after(at, bucket))
+        }
     }
 }
 
 /// Puts a new bucket of these bytes in.
-fn put_letter(
-    store: &mut Store,
+fn put_letter<R: Rings<Stored> + Drop>(
+    store: &mut Brigades<R>,
     alloc: Global,
     place: Place,
     letter: &'static [u8],
@@ -101,23 +114,34 @@ fn put_letter(
 }
 
 /// Moves a bucket.
-fn shift(store: &mut Store, id: BucketId, place: Place) -> Result<()> {
-    if store.ring_of(id).is_none() {
-        return Err(Missing.into());
-    }
+fn shift<R: Rings<Stored> + Drop>(
+    store: &mut Brigades<R>,
+    id: BucketId,
+    place: Place,
+) -> Result<()> {
     match place {
-        Place::Head(brigade) if store.has(brigade) => store.move_head(brigade, id),
-        Place::Tail(brigade) if store.has(brigade) => store.move_tail(brigade, id),
-        Place::Before(at) if store.ring_of(at).is_some() => store.move_before(at, id),
-        _ => return Err(Missing.into()),
+        Place::Head(brigade) => {
+            want_both(store, id, brigade)?;
+            store.move_head(brigade, id);
+        }
+        Place::Tail(brigade) => {
+            want_both(store, id, brigade)?;
+            store.move_tail(brigade, id);
+        }
+        Place::Before(at) => {
+            want_beside(store, id, at)?;
+            store.move_before(at, id);
+        }
+        Place::After(_) => return Err(Missing.into()),
     }
     Ok(())
 }
 
-fn make_call(store: &mut Store, call: Call) -> Result<()> {
+fn make_call<R: Rings<Stored> + Drop>(store: &mut Brigades<R>, call: Call) -> Result<()> {
     match call {
         Call::Move(id, place) => shift(store, id, place),
-        Call::All(onto, from) if onto != from && store.has(onto) && store.has(from) => {
+        Call::All(onto, from) if onto != from => {
+            want_two(store, onto, from)?;
             Ok(store.concat(onto, from)?)
         }
         _ => Err(Missing.into()),
@@ -125,26 +149,23 @@ fn make_call(store: &mut Store, call: Call) -> Result<()> {
 }
 
 /// Splits a brigade at a place into another.
-fn split_at(
-    store: &mut Store,
+fn split_at<R: Rings<Stored> + Drop>(
+    store: &mut Brigades<R>,
     brigade: BrigadeId,
     place: Option<BucketId>,
     into: BrigadeId,
 ) -> Result<()> {
-    if brigade == into || !store.has(brigade) || !store.has(into) {
+    if brigade == into {
         return Err(Missing.into());
     }
-    if let Some(id) = place
-        && store.ring_of(id) != Some(brigade)
-    {
-        return Err(Missing.into());
-    }
+    want_two(store, brigade, into)?;
+    want_place(store, brigade, place)?;
     store.split_at(brigade, place, into)?;
     Ok(())
 }
 
 /// Puts four buckets into one of two brigades.
-fn put_four(store: &mut Store, alloc: Global) -> Result<Four> {
+fn put_four<R: Rings<Stored> + Drop>(store: &mut Brigades<R>, alloc: Global) -> Result<Four> {
     let r = store.loose()?;
     let s = store.loose()?;
     let a = put_letter(store, alloc, Place::Tail(r), b"a")?;
@@ -168,35 +189,35 @@ fn moves(four: Four) -> [(&'static str, Call); 7] {
 }
 
 /// Four buckets are put into a brigade, and moved, to another and back.
-pub(crate) fn brigade_moves(rt: &HostRuntime) -> Result<()> {
+pub(crate) fn brigade_moves<R: Rings<Stored> + Drop>(rt: &HostRuntime) -> Result<()> {
     println!(rt; "moves of brigades")?;
-    let mut store = Store::new(rt.alloc(), 1);
+    let mut store: Brigades<R> = Brigades::new(rt.alloc(), 1);
     let four = put_four(&mut store, rt.alloc())?;
     show(
         rt,
         "tail a, head b, c before a, d after a",
-        &store,
+        &mut store,
         four.r,
         four.s,
     )?;
     for (what, call) in moves(four) {
         make_call(&mut store, call)?;
-        show(rt, what, &store, four.r, four.s)?;
+        show(rt, what, &mut store, four.r, four.s)?;
     }
     Ok(())
 }
 
 /// A store, two brigades and the middle one of the three buckets of the first. The second has one bucket.
 #[derive(Drop)]
-struct Filled {
-    store: Store,
+struct Filled<R: Rings<Stored>> {
+    store: Brigades<R>,
     r: BrigadeId,
     s: BrigadeId,
     b: BucketId,
 }
 
-fn fill(alloc: Global) -> Result<Filled> {
-    let mut store = Store::new(alloc, 1);
+fn fill<R: Rings<Stored> + Drop>(alloc: Global) -> Result<Filled<R>> {
+    let mut store: Brigades<R> = Brigades::new(alloc, 1);
     let r = store.loose()?;
     let s = store.loose()?;
     put_letter(&mut store, alloc, Place::Tail(r), b"a")?;
@@ -207,19 +228,23 @@ fn fill(alloc: Global) -> Result<Filled> {
 }
 
 /// Splits the first of two brigades at its middle bucket or at its end.
-fn show_split_at(rt: &HostRuntime, what: &str, at_end: bool) -> Result<()> {
-    let mut filled = fill(rt.alloc())?;
-    show(rt, "before", &filled.store, filled.r, filled.s)?;
+fn show_split_at<R: Rings<Stored> + Drop>(
+    rt: &HostRuntime,
+    what: &str,
+    at_end: bool,
+) -> Result<()> {
+    let mut filled: Filled<R> = fill(rt.alloc())?;
+    show(rt, "before", &mut filled.store, filled.r, filled.s)?;
     let place = if at_end { None } else { Some(filled.b) };
     split_at(&mut filled.store, filled.r, place, filled.s)?;
-    show(rt, what, &filled.store, filled.r, filled.s)
+    show(rt, what, &mut filled.store, filled.r, filled.s)
 }
 
 /// The brigade that takes what is split off is cleaned first. At the end nothing moves.
-pub(crate) fn brigade_splits(rt: &HostRuntime) -> Result<()> {
+pub(crate) fn brigade_splits<R: Rings<Stored> + Drop>(rt: &HostRuntime) -> Result<()> {
     println!(rt; "brigades are split")?;
-    show_split_at(rt, "at b", false)?;
-    show_split_at(rt, "at the end", true)
+    show_split_at::<R>(rt, "at b", false)?;
+    show_split_at::<R>(rt, "at the end", true)
 }
 
 /// The buckets of two letters.
@@ -230,36 +255,36 @@ fn two(alloc: Global, first: &'static [u8], second: &'static [u8]) -> Result<Vec
 }
 
 /// Puts two buckets at the tail of a brigade at once.
-fn add_two(store: &mut Store, alloc: Global, brigade: BrigadeId) -> Result<()> {
-    if !store.has(brigade) {
-        return Err(Missing.into());
-    }
+fn add_two<R: Rings<Stored> + Drop>(
+    store: &mut Brigades<R>,
+    alloc: Global,
+    brigade: BrigadeId,
+) -> Result<()> {
+    want_brigade(store, brigade)?;
     store.add_all(brigade, two(alloc, b"c", b"d")?)?;
     Ok(())
 }
 
 /// Two brigades are made at once, and buckets are put in at once.
-pub(crate) fn brigades_at_once(rt: &HostRuntime) -> Result<()> {
+pub(crate) fn brigades_at_once<R: Rings<Stored> + Drop>(rt: &HostRuntime) -> Result<()> {
     println!(rt; "brigades and buckets at once")?;
-    let mut store = Store::new(rt.alloc(), 1);
+    let mut store: Brigades<R> = Brigades::new(rt.alloc(), 1);
     let (r, s) = store.loose_pair(two(rt.alloc(), b"a", b"b")?)?;
-    show(rt, "a pair with a and b", &store, r, s)?;
+    show(rt, "a pair with a and b", &mut store, r, s)?;
     add_two(&mut store, rt.alloc(), r)?;
-    show(rt, "c and d at the tail of the first", &store, r, s)?;
+    show(rt, "c and d at the tail of the first", &mut store, r, s)?;
     println!(rt; "brigades {r} and {s}, and next {}", store.next_name())?;
     Ok(())
 }
 
-fn show_added(
+fn show_added<R: Rings<Stored> + Drop>(
     rt: &HostRuntime,
-    store: &mut Store,
+    store: &mut Brigades<R>,
     brigade: BrigadeId,
     letter: &'static [u8],
 ) -> Result<()> {
     let bucket = make(rt.alloc(), Made::Heap(letter))?;
-    if !store.has(brigade) {
-        return Err(Missing.into());
-    }
+    want_brigade(store, brigade)?;
     match store.add_tail(brigade, bucket) {
         Ok(id) => println!(rt; "bucket {}", id.birth)?,
         Err((why, back)) => println!(rt; "{why}, and {} comes back", Shown(&back))?,
@@ -268,9 +293,9 @@ fn show_added(
 }
 
 /// With two names left a brigade and a bucket get them. Then nothing is made any more, and the bucket comes back.
-pub(crate) fn brigade_names_spent(rt: &HostRuntime) -> Result<()> {
+pub(crate) fn brigade_names_spent<R: Rings<Stored> + Drop>(rt: &HostRuntime) -> Result<()> {
     println!(rt; "the names of brigades run out")?;
-    let mut store = Store::new(rt.alloc(), u64::MAX - 2);
+    let mut store: Brigades<R> = Brigades::new(rt.alloc(), u64::MAX - 2);
     let brigade = store.loose()?;
     show_named(rt, "brigade", &Ok::<u64, AllocError>(brigade))?;
     show_added(rt, &mut store, brigade, b"a")?;

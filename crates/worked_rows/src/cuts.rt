@@ -1,21 +1,22 @@
 //! Rows of one bucket of a brigade: it is split, copied and read, and a brigade is parted at a point.
 
-ghost use Rattle.std.specs.Prelude.{◌≡◌, Some, All, IfOk, true, IsTrue};
+ghost use Rattle.std.specs.Prelude.{◌≡◌, Some, All, IfOk, true, is_some, IsTrue};
 ghost use Rattle.run_model.specs.Cutting.{EndsInFile, form_of, form_of_kind};
 ghost use Rattle.run_model.specs.declared.bucket.Bucket.{Bucket};
 ghost use Rattle.bucket_kinds.specs.Device.{Device, is_there};
 ghost use Rattle.bucket_kinds.specs.Reading.{IsOpenFor};
 ghost use Rattle.bucket_ring.specs.declared.names.BucketId.{BucketId};
-ghost use Rattle.brigade_ops.specs.Store.{brigade_of, bucket_at};
-ghost use Rattle.brigade_ops.specs.Views.{content_of};
+ghost use Rattle.brigade_ops.specs.Store.{lists, brigade_of, bucket_at};
+ghost use Rattle.stored_rings.specs.Views.{content_of};
 
-use crate::brigades::{Store, put, show_brigade};
+use crate::brigades::{put, show_brigade};
 use crate::buckets::{Made, make, range};
 use crate::calls::Place;
 use crate::missing::Missing;
 use crate::shown::{Seen, Shown};
+use crate::there::{want_both, want_brigade, want_bucket};
 use anyhow::Result;
-use brigade_ops::{BrigadeId, BucketId, ContentView, Cut, View};
+use brigade_ops::{BrigadeId, Brigades, BucketId, ContentView, Cut, Rings, Stored, View};
 use bucket_kinds::{Bucket, FileNo, Files, MemFiles};
 use std::alloc::Global;
 
@@ -30,33 +31,36 @@ pub(crate) fn ends_in_file(bucket: View<'_>) -> bool
 }
 
 /// Splits the one bucket of a brigade, and tells the brigade.
-pub(crate) fn show_split(rt: &HostRuntime, made: Made, at: u64) -> Result<()> {
+pub(crate) fn show_split<R: Rings<Stored> + Drop>(
+    rt: &HostRuntime,
+    made: Made,
+    at: u64,
+) -> Result<()> {
     let bucket = make(rt.alloc(), made)?;
     print!(rt; "{} at {at}: ", Shown(&bucket))?;
-    let mut store = Store::new(rt.alloc(), 1);
+    let mut store: Brigades<R> = Brigades::new(rt.alloc(), 1);
     let brigade = store.loose()?;
     let id = put(&mut store, Place::Tail(brigade), bucket)?;
-    if store.ring_of(id).is_none() || !ends_in_file(store.payload(id)) {
+    want_bucket(&mut store, id)?;
+    if !ends_in_file(store.payload(id)) {
         return Err(Missing.into());
     }
     if let Err(why) = store.split(id, at) {
         print!(rt; "{why}, and it is ")?;
     }
-    show_brigade(rt, &store, brigade)
+    show_brigade(rt, &mut store, brigade)
 }
 
 /// Puts a copy of the bucket of a brigade into another, and tells both.
-pub(crate) fn show_copy(rt: &HostRuntime, made: Made) -> Result<()> {
-    let mut store = Store::new(rt.alloc(), 1);
+pub(crate) fn show_copy<R: Rings<Stored> + Drop>(rt: &HostRuntime, made: Made) -> Result<()> {
+    let mut store: Brigades<R> = Brigades::new(rt.alloc(), 1);
     let brigade = store.loose()?;
     let other = store.loose()?;
     let id = put(&mut store, Place::Tail(brigade), make(rt.alloc(), made)?)?;
-    if store.ring_of(id).is_none() || !store.has(other) {
-        return Err(Missing.into());
-    }
+    want_both(&mut store, id, other)?;
     store.copy(id, other)?;
-    show_brigade(rt, &store, brigade)?;
-    show_brigade(rt, &store, other)
+    show_brigade(rt, &mut store, brigade)?;
+    show_brigade(rt, &mut store, other)
 }
 
 /// The buckets of a row, three at most.
@@ -73,38 +77,46 @@ pub(crate) fn make_all(alloc: Global, made: &[Made]) -> Result<Vec<Bucket>>
 }
 
 /// A store with one brigade, of these buckets.
-pub(crate) fn filled(alloc: Global, buckets: Vec<Bucket>) -> Result<(Store, BrigadeId)>
+pub(crate) fn filled<R: Rings<Stored> + Drop>(
+    alloc: Global,
+    buckets: Vec<Bucket>,
+) -> Result<(Brigades<R>, BrigadeId)>
     requires ends { All (λ x. EndsInFile x.content) buckets.items }
     requires fits { All (λ x. form_of x.content ≡ form_of_kind x.kind) buckets.items }
+    ensures there { IfOk result (λ s. is_some (lists s.0 s.1) ≡ true) }
     ensures ends { IfOk result (λ s. (id : BucketId) (x : Bucket) → brigade_of s.0 id ≡ Some s.1 → bucket_at s.0 id ≡ Some x → EndsInFile x.content) }
     ensures fits { IfOk result (λ s. (id : BucketId) (x : Bucket) → brigade_of s.0 id ≡ Some s.1 → bucket_at s.0 id ≡ Some x → form_of x.content ≡ form_of_kind x.kind) }
 {
-    let mut store = Store::new(alloc, 1);
+    let mut store: Brigades<R> = Brigades::new(alloc, 1);
     let brigade = store.loose()?;
-    if !store.has(brigade) {
-        return Err(Missing.into());
-    }
+    want_brigade(&mut store, brigade)?;
     store.add_all(brigade, buckets)?;
     Ok((store, brigade))
 }
 
 /// Parts a brigade of these buckets at a point, and tells the place and the brigade.
-pub(crate) fn show_partition(rt: &HostRuntime, made: &[Made], point: u64) -> Result<()> {
-    let (mut store, brigade) = filled(rt.alloc(), make_all(rt.alloc(), made)?)?;
-    if !store.has(brigade) {
-        return Err(Missing.into());
-    }
+pub(crate) fn show_partition<R: Rings<Stored> + Drop>(
+    rt: &HostRuntime,
+    made: &[Made],
+    point: u64,
+) -> Result<()> {
+    let (mut store, brigade) = filled::<R>(rt.alloc(), make_all(rt.alloc(), made)?)?;
     let cut = store.partition(brigade, point)?;
-    show_cut(rt, &store, point, cut)?;
-    show_brigade(rt, &store, brigade)
+    show_cut(rt, &mut store, point, cut)?;
+    show_brigade(rt, &mut store, brigade)
 }
 
-fn show_cut(rt: &HostRuntime, store: &Store, point: u64, cut: Cut) -> Result<()> {
+fn show_cut<R: Rings<Stored> + Drop>(
+    rt: &HostRuntime,
+    store: &mut Brigades<R>,
+    point: u64,
+    cut: Cut,
+) -> Result<()> {
     match cut {
-        Cut::Found(id) if store.ring_of(id).is_some() => {
+        Cut::Found(id) => {
+            want_bucket(store, id)?;
             print!(rt; "at {point}: before {}, ", Seen(store.payload(id)))?
         }
-        Cut::Found(_) => return Err(Missing.into()),
         Cut::AtEnd => print!(rt; "at {point}: the end, ")?,
         Cut::Incomplete => print!(rt; "at {point}: incomplete, ")?,
     }
@@ -122,16 +134,17 @@ fn is_of_file(bucket: View<'_>, file: FileNo) -> bool
 }
 
 /// Reads a bucket, which is a range of an open file. Where it is refused, that is told.
-fn read<F: Files>(
+fn read<R: Rings<Stored> + Drop, F: Files>(
     rt: &HostRuntime,
-    store: &mut Store,
+    store: &mut Brigades<R>,
     files: &mut F,
     file: FileNo,
     id: BucketId,
 ) -> Result<()>
     requires { is_there ((F.device files.old).numbered file) ≡ true }
 {
-    if store.ring_of(id).is_none() || !is_of_file(store.payload(id), file) {
+    want_bucket(store, id)?;
+    if !is_of_file(store.payload(id), file) {
         return Err(Missing.into());
     }
     if !ends_in_file(store.payload(id)) {
@@ -144,8 +157,12 @@ fn read<F: Files>(
 }
 
 /// Reads the first bytes of a file of so many, by the bucket of a brigade.
-pub(crate) fn show_read(rt: &HostRuntime, size: usize, len: u32) -> Result<()> {
-    let mut store = Store::new(rt.alloc(), 1);
+pub(crate) fn show_read<R: Rings<Stored> + Drop>(
+    rt: &HostRuntime,
+    size: usize,
+    len: u32,
+) -> Result<()> {
+    let mut store: Brigades<R> = Brigades::new(rt.alloc(), 1);
     let brigade = store.loose()?;
     let mut files = MemFiles::new(rt.alloc());
     files.add(b"f", vec![in rt.alloc(); b'x'; size]?)?;
@@ -153,5 +170,5 @@ pub(crate) fn show_read(rt: &HostRuntime, size: usize, len: u32) -> Result<()> {
     print!(rt; "{len} of {size}: ")?;
     let id = put(&mut store, Place::Tail(brigade), range(file, 0, len))?;
     read(rt, &mut store, &mut files, file, id)?;
-    show_brigade(rt, &store, brigade)
+    show_brigade(rt, &mut store, brigade)
 }

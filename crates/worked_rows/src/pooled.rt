@@ -7,6 +7,7 @@ use crate::cuts::ends_in_file;
 use crate::missing::Missing;
 use crate::pools::create;
 use crate::saves::clear;
+use crate::there::want_bucket;
 use anyhow::Result;
 use brigade_ops::{BrigadeId, Brigades, BucketId, Rings, Stored};
 use pool_tree::{PoolId, PoolTree};
@@ -22,7 +23,7 @@ struct Pooled {
 fn tell<R: Rings<Stored> + Drop>(
     rt: &HostRuntime,
     what: &str,
-    store: &Brigades<R>,
+    store: &mut Brigades<R>,
     brigade: BrigadeId,
 ) -> Result<()> {
     print!(rt; "{what}: ")?;
@@ -49,7 +50,8 @@ fn split<R: Rings<Stored> + Drop>(
     id: BucketId,
     brigade: BrigadeId,
 ) -> Result<()> {
-    if store.ring_of(id).is_none() || !ends_in_file(store.payload(id)) {
+    want_bucket(store, id)?;
+    if !ends_in_file(store.payload(id)) {
         return Err(Missing.into());
     }
     store.split(id, 1)?;
@@ -69,7 +71,7 @@ fn over_a_clear<R: Rings<Stored> + Drop>(rt: &HostRuntime, is_split: bool) -> Re
         split(rt, &mut store, id, brigade)?;
     }
     clear(&mut store, &mut tree, pool, brigade)?;
-    tell(rt, "cleared", &store, brigade)?;
+    tell(rt, "cleared", &mut store, brigade)?;
     add(rt, &mut store, at, b"x")?;
     Ok(())
 }

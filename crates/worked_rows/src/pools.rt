@@ -2,22 +2,19 @@
 
 use crate::calls::show_named;
 use crate::missing::Missing;
+use crate::there::want_pool;
 use anyhow::Result;
 use pool_tree::{PoolId, PoolTree};
 use std::alloc::AllocError;
 
 /// Makes a pool under another.
 pub(crate) fn create<T: Drop>(tree: &mut PoolTree<T>, parent: PoolId) -> Result<PoolId> {
-    if !tree.is_live(parent) {
-        return Err(Missing.into());
-    }
+    want_pool(tree, parent)?;
     Ok(tree.create(parent)?)
 }
 
 fn register(tree: &mut PoolTree<u8>, pool: PoolId, letter: u8) -> Result<()> {
-    if !tree.is_live(pool) {
-        return Err(Missing.into());
-    }
+    want_pool(tree, pool)?;
     match tree.register(pool, letter) {
         Ok(()) => Ok(()),
         Err((why, _)) => Err(why.into()),
@@ -43,7 +40,8 @@ pub(crate) fn pool_names_spent(rt: &HostRuntime) -> Result<()> {
 }
 
 fn show_destroyed(rt: &HostRuntime, tree: &mut PoolTree<u8>, pool: PoolId) -> Result<()> {
-    if !tree.is_live(pool) || pool == tree.root() {
+    want_pool(tree, pool)?;
+    if pool == tree.root() {
         return Err(Missing.into());
     }
     let ran = tree.destroy(pool)?;
@@ -69,9 +67,7 @@ pub(crate) fn destroy_run_order(rt: &HostRuntime) -> Result<()> {
 
 fn show_killed(rt: &HostRuntime, tree: &mut PoolTree<u8>, letter: u8) -> Result<()> {
     let root = tree.root();
-    if !tree.is_live(root) {
-        return Err(Missing.into());
-    }
+    want_pool(tree, root)?;
     let (told, letter) = match tree.kill(root, &letter) {
         Some(killed) => ("killed", killed),
         None => ("no", letter),
@@ -90,9 +86,7 @@ pub(crate) fn kills(rt: &HostRuntime) -> Result<()> {
     }
     show_killed(rt, &mut tree, b'a')?;
     show_killed(rt, &mut tree, b'z')?;
-    if !tree.is_live(root) {
-        return Err(Missing.into());
-    }
+    want_pool(&mut tree, root)?;
     let ran = tree.clear(root)?;
     show_ran(rt, ran.as_slice())
 }

@@ -3,7 +3,9 @@
 use crate::buckets::{self, Made};
 use crate::{cuts, reads, saves};
 use anyhow::Result;
+use brigade_ops::Stored;
 use bucket_kinds::Kind;
+use bucket_ring::RawRings;
 
 /// A row.
 #[derive(Clone, Copy)]
@@ -109,11 +111,11 @@ fn show_row(rt: &HostRuntime, row: Row) -> Result<()> {
         Row::Split(made, at) => buckets::show_split(rt, made, at),
         Row::Copy(made) => buckets::show_copy(rt, made),
         Row::Aside(made, is_ancestor) => buckets::show_aside(rt, made, is_ancestor),
-        Row::SplitIn(made, at) => cuts::show_split(rt, made, at),
-        Row::CopyIn(made) => cuts::show_copy(rt, made),
-        Row::AsideIn(made, below) => saves::show_aside(rt, made, below),
-        Row::Partition(made, point) => cuts::show_partition(rt, made, point),
-        Row::ReadIn(size, len) => cuts::show_read(rt, size, len),
+        Row::SplitIn(made, at) => cuts::show_split::<RawRings<Stored>>(rt, made, at),
+        Row::CopyIn(made) => cuts::show_copy::<RawRings<Stored>>(rt, made),
+        Row::AsideIn(made, below) => saves::show_aside::<RawRings<Stored>>(rt, made, below),
+        Row::Partition(made, point) => cuts::show_partition::<RawRings<Stored>>(rt, made, point),
+        Row::ReadIn(size, len) => cuts::show_read::<RawRings<Stored>>(rt, size, len),
         Row::Read(size, len) => reads::show_file(rt, size, len),
         Row::ReadMemory(kind) => reads::show_memory(rt, kind),
     }

@@ -5,13 +5,14 @@ ghost use Rattle.run_model.specs.Pools.{is_live};
 ghost use Rattle.pool_tree.specs.Tree.{map_of};
 ghost use Rattle.brigade_ops.specs.Store.{pool_of};
 
-use crate::brigades::{Store, put, show_brigade};
+use crate::brigades::{put, show_brigade};
 use crate::buckets::{Made, make};
 use crate::calls::Place;
 use crate::cuts::{filled, make_all};
 use crate::missing::Missing;
 use crate::pools::create;
 use crate::shown::Shown;
+use crate::there::{want_brigade, want_bucket, want_pool, want_two};
 use anyhow::Result;
 use brigade_ops::{BrigadeId, Brigades, Rings, Stored};
 use bucket_kinds::Bucket;
@@ -57,25 +58,28 @@ fn show_payloads(rt: &HostRuntime, tree: &PoolTree<Payload>, pool: PoolId) -> Re
 }
 
 /// Sets the one bucket of a brigade aside into a pool: the one under its home, or another.
-pub(crate) fn show_aside(rt: &HostRuntime, made: Made, below: bool) -> Result<()> {
+pub(crate) fn show_aside<R: Rings<Stored> + Drop>(
+    rt: &HostRuntime,
+    made: Made,
+    below: bool,
+) -> Result<()> {
     let mut pools = make_pools(rt.alloc())?;
     let pool = if below { pools.below } else { pools.beside };
     let bucket = make(rt.alloc(), made)?;
     print!(rt; "{}: ", Shown(&bucket))?;
-    let mut store = Store::new(rt.alloc(), 1);
+    let mut store: Brigades<R> = Brigades::new(rt.alloc(), 1);
     let brigade = store.loose()?;
     let id = put(&mut store, Place::Tail(brigade), bucket)?;
-    if store.ring_of(id).is_none() || !pools.tree.is_live(pool) {
-        return Err(Missing.into());
-    }
+    want_bucket(&mut store, id)?;
+    want_pool(&mut pools.tree, pool)?;
     store.aside(&mut pools.tree, id, pool)?;
-    show_brigade(rt, &store, brigade)?;
+    show_brigade(rt, &mut store, brigade)?;
     show_payloads(rt, &pools.tree, pool)
 }
 
 /// Saves a brigade into one on a pool.
-fn save_onto(
-    store: &mut Store,
+fn save_onto<R: Rings<Stored> + Drop>(
+    store: &mut Brigades<R>,
     tree: &mut PoolTree<Payload>,
     pool: PoolId,
     onto: BrigadeId,
@@ -84,34 +88,29 @@ fn save_onto(
     requires live { IsTrue (is_live (map_of tree.old) pool) }
     requires on { pool_of store.old onto ≡ Some pool }
 {
-    if onto == from || !store.has(onto) || !store.has(from) {
+    if onto == from {
         return Err(Missing.into());
     }
+    want_two(store, onto, from)?;
     store.save(tree, onto, from)?;
     Ok(())
 }
 
 /// Makes a brigade with a bucket on a pool, and saves another into it.
-fn save(
-    store: &mut Store,
+fn save<R: Rings<Stored> + Drop>(
+    store: &mut Brigades<R>,
     tree: &mut PoolTree<Payload>,
     pool: PoolId,
     first: Bucket,
     from: BrigadeId,
 ) -> Result<BrigadeId> {
-    if !tree.is_live(pool) {
-        return Err(Missing.into());
-    }
+    want_pool(tree, pool)?;
     let onto = store.create(tree, pool)?;
-    if !store.has(onto) {
-        return Err(Missing.into());
-    }
+    want_brigade(store, onto)?;
     if let Err((why, _)) = store.add_tail(onto, first) {
         return Err(why.into());
     }
-    if !tree.is_live(pool) {
-        return Err(Missing.into());
-    }
+    want_pool(tree, pool)?;
     save_onto(store, tree, pool, onto, from)?;
     Ok(onto)
 }
@@ -120,26 +119,24 @@ fn save(
 const SAVED: &[Made] = &[Made::Transient(3, b"a"), Made::Range(7, 5, 10), Made::Eos];
 
 /// The buckets of a brigade are set aside into the pool of another, and move to its tail.
-pub(crate) fn saves(rt: &HostRuntime) -> Result<()> {
+pub(crate) fn saves<R: Rings<Stored> + Drop>(rt: &HostRuntime) -> Result<()> {
     println!(rt; "a brigade is saved")?;
     let mut pools = make_pools(rt.alloc())?;
     let pool = pools.beside;
-    let (mut store, from) = filled(rt.alloc(), make_all(rt.alloc(), SAVED)?)?;
+    let (mut store, from) = filled::<R>(rt.alloc(), make_all(rt.alloc(), SAVED)?)?;
     let first = make(rt.alloc(), Made::Heap(b"x"))?;
     let onto = save(&mut store, &mut pools.tree, pool, first, from)?;
-    show_brigade(rt, &store, onto)?;
-    show_brigade(rt, &store, from)?;
+    show_brigade(rt, &mut store, onto)?;
+    show_brigade(rt, &mut store, from)?;
     show_payloads(rt, &pools.tree, pool)
 }
 
 /// A reference to a file stands with its pool.
-pub(crate) fn references(rt: &HostRuntime) -> Result<()> {
+pub(crate) fn references<R: Rings<Stored> + Drop>(rt: &HostRuntime) -> Result<()> {
     println!(rt; "a file is referred to")?;
     let mut pools = make_pools(rt.alloc())?;
-    let mut store = Store::new(rt.alloc(), 1);
-    if !pools.tree.is_live(pools.above) {
-        return Err(Missing.into());
-    }
+    let mut store: Brigades<R> = Brigades::new(rt.alloc(), 1);
+    want_pool(&mut pools.tree, pools.above)?;
     store.refer(&mut pools.tree, pools.above, 7)?;
     show_payloads(rt, &pools.tree, pools.above)
 }
@@ -158,9 +155,7 @@ pub(crate) fn clear<R: Rings<Stored> + Drop>(
     pool: PoolId,
     brigade: BrigadeId,
 ) -> Result<usize> {
-    if !tree.is_live(pool) {
-        return Err(Missing.into());
-    }
+    want_pool(tree, pool)?;
     let morphs = store.plan_morphs(&[brigade], pool, tree)?;
     let ran = tree.clear(pool)?;
     store.apply_morphs(morphs);
@@ -168,14 +163,14 @@ pub(crate) fn clear<R: Rings<Stored> + Drop>(
 }
 
 /// Bytes that lie under a pool that is cleared go to the heap, and homes under it end.
-pub(crate) fn clears_under_a_brigade(rt: &HostRuntime) -> Result<()> {
+pub(crate) fn clears_under_a_brigade<R: Rings<Stored> + Drop>(rt: &HostRuntime) -> Result<()> {
     println!(rt; "a pool is cleared under a brigade")?;
     let mut pools = make_pools(rt.alloc())?;
-    let (mut store, brigade) = filled(rt.alloc(), make_all(rt.alloc(), CLEARED)?)?;
-    show_brigade(rt, &store, brigade)?;
+    let (mut store, brigade) = filled::<R>(rt.alloc(), make_all(rt.alloc(), CLEARED)?)?;
+    show_brigade(rt, &mut store, brigade)?;
     let pool = pools.above;
     let ran = clear(&mut store, &mut pools.tree, pool, brigade)?;
-    show_brigade(rt, &store, brigade)?;
+    show_brigade(rt, &mut store, brigade)?;
     let is_live = pools.tree.is_live(pools.below);
     println!(rt; "{ran} ran, and pool 3 is live: {is_live}")?;
     Ok(())

@@ -51,6 +51,7 @@ impl<T: Drop> PoolTree<T> {
         ensures ran { result.items ≡ run_order (map_of self.old) pool }
         ensures ok { map_of self.new ≡ cleared pool (map_of self.old) }
         ensures formed { IsPoolMap (map_of self.new) }
+        ensures unasked { self.new.asked ≡ self.old.asked }
     {
         let mut ran = room.ran;
         take_pools(&mut self.records, room.found, &mut ran);
@@ -67,6 +68,7 @@ impl<T: Drop> PoolTree<T> {
         ensures ok { OnOk result (map_of self.new ≡ cleared pool (map_of self.old)) }
         ensures formed { IsPoolMap (map_of self.new) }
         ensures err { OnErr result (map_of self.new ≡ map_of self.old) }
+        ensures unasked { self.new.asked ≡ self.old.asked }
     {
         let room = self.room_to_clear(pool)?;
         Ok(self.clear_in(pool, room))
@@ -77,7 +79,8 @@ impl<T: Drop> PoolTree<T> {
         requires live { IsTrue (is_live (map_of self.old) pool) }
         requires childless { children (map_of self.old) pool ≡ [] }
         requires below { (map_of self.old).path pool ≢ pool ∷ [] }
-        ensures { map_of self.new ≡ destroyed pool (map_of self.old) }
+        ensures ok { map_of self.new ≡ destroyed pool (map_of self.old) }
+        ensures unasked { self.new.asked ≡ self.old.asked }
     {
         remove_leaf(&mut self.records, pool);
     }
@@ -91,6 +94,7 @@ impl<T: Drop> PoolTree<T> {
         ensures ran { result.items ≡ run_order (map_of self.old) pool }
         ensures ok { map_of self.new ≡ destroyed pool (map_of self.old) }
         ensures formed { IsPoolMap (map_of self.new) }
+        ensures unasked { self.new.asked ≡ self.old.asked }
     {
         let ran = self.clear_in(pool, room);
         self.remove(pool);
@@ -106,6 +110,7 @@ impl<T: Drop> PoolTree<T> {
         ensures ok { OnOk result (map_of self.new ≡ destroyed pool (map_of self.old)) }
         ensures formed { IsPoolMap (map_of self.new) }
         ensures err { OnErr result (map_of self.new ≡ map_of self.old) }
+        ensures unasked { self.new.asked ≡ self.old.asked }
     {
         let room = self.room_to_clear(pool)?;
         Ok(self.destroy_in(pool, room))

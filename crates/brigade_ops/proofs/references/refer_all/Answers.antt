@@ -1,18 +1,19 @@
 -- The references come from the first to the last.
-use Rattle.std.proofs.Common.{◌≡◌, ℕ, ◌+◌, ◌++◌, ◌∷◌, [], List, take, get_or, sym, ap, ◌∙◌, arith}
+use Rattle.std.proofs.Common.{◌≡◌, ℕ, ◌+◌, ◌++◌, ◌∷◌, [], List, take, get_or, refl, sym, ap, ◌∙◌, arith}
 use Rattle.std.proofs.lemmas.List.{take_more}
 use Rattle.run_model.specs.declared.payload.Payload.TheVariants.{FileRef}
 use Rattle.run_model.specs.Pools.{registered}
 use Rattle.run_model.specs.Steps.{all_referred}
 use Rattle.pool_tree.specs.Tree.{map_of}
 use Rattle.brigade_ops.specs.Files.{times_in}
-use Rattle.brigade_ops.specs.Numbers.{count_at}
+use Rattle.stored_rings.specs.Numbers.{count_at}
 use Rattle.brigade_ops.proofs.Referred.{referred_none, referred_more, times_none, counted_more, ok_of}
 use Rattle.brigade_ops.proofs.references.refer_all.Goals as goal
 
 pub loop-index-init : goal.loop-index-init
 loop-index-init c = record {
   live = c.requires;
+  asked = refl;
   so_far = sym (referred_none c.args.pool (map_of c.args.tree.now));
   counted = λ f. (let none = times_none f in omega (arith, none));
 }
@@ -26,6 +27,7 @@ loop-index-preserved c =
     let went = sym c.is_err.ensures.value ∙ c.if-is_err.false in
     record {
       live = c.refer.ensures.live;
+      asked = c.refer.ensures.tree_unasked ∙ c.loop-index.invariant.asked;
       so_far =
           ok_of c.refer.result _ went c.refer.ensures.ok
           ∙ (ap (registered c.args.pool (FileRef file)) c.loop-index.invariant.so_far

@@ -4,7 +4,7 @@ use Rattle.run_model.specs.Pools.{is_live}
 use Rattle.run_model.specs.Steps.{all_referred}
 use Rattle.pool_tree.specs.Tree.{map_of}
 use Rattle.brigade_ops.specs.Files.{times_in}
-use Rattle.brigade_ops.specs.Numbers.{count_at}
+use Rattle.stored_rings.specs.Numbers.{count_at}
 use Rattle.brigade_ops.proofs.references.refer_all.Given as goal
 
 abbrev pub invariant-loop-index : goal.invariant-loop-index
@@ -12,4 +12,5 @@ invariant-loop-index l = record {
   live : is_live (map_of l.tree) l.pool ≡ true;
   so_far : map_of l.tree ≡ all_referred l.pool (take l.index l.files) (map_of l.fn.tree);
   counted : (f : ℕ) → count_at l.counts f ≡ count_at l.fn.counts f + times_in f (take l.index l.files);
+  asked : l.tree.asked ≡ l.fn.tree.asked;
 }

@@ -6,7 +6,7 @@ use Rattle.run_model.specs.RunOrder.{killed}
 use Rattle.run_model.specs.Payloads.{payload_eq}
 use Rattle.run_model.specs.Steps.{all_referred}
 use Rattle.brigade_ops.specs.Files.{times_in}
-use Rattle.brigade_ops.specs.Numbers.{count_at}
+use Rattle.stored_rings.specs.Numbers.{count_at}
 use Rattle.brigade_ops.proofs.Referred.{referred_none, unreferred_one, times_none, counted_less, counted_some}
 use Rattle.brigade_ops.proofs.references.unrefer_all.Goals as goal
 
@@ -31,6 +31,7 @@ loop-index-preserved c =
     let more : take c.loop-index.index c.args.files.now ≡ take i c.args.files.now ++ file ∷ [] = last c.args.files.now c.loop-index.index i (omega arith) (omega arith) in
     record {
       live = c.unrefer.ensures.live;
+      asked = c.unrefer.ensures.tree_unasked ∙ c.loop-index.invariant.asked;
       left = λ ps was.
           c.unrefer.ensures.gone
           ∙ (ap (killed c.args.pool (λ other. payload_eq other (FileRef file))) (c.loop-index.invariant.left ps was ∙ ap (λ (xs : List ℕ). all_referred c.args.pool xs ps) more)

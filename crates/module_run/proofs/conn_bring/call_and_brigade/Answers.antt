@@ -3,7 +3,7 @@ use Rattle.std.proofs.Common.{ℕ, ◌+◌, map, ap, ◌∙◌}
 use Rattle.bucket_ring.specs.Lists.{numbered}
 use Rattle.run_model.specs.Pieces.{bucket_of}
 use Rattle.brigade_ops.specs.Store.{next_name}
-use Rattle.brigade_ops.proofs.Models.{lists_are_the_models}
+use Rattle.stored_rings.proofs.Models.{lists_are_the_models}
 use Rattle.module_run.proofs.conn_bring.call_and_brigade.Goals as goal
 
 pub returns-in-Ok-clause-rings : goal.returns-in-Ok-clause-rings

@@ -5,6 +5,7 @@ use Rattle.module_run.proofs.CallsLeave.{ends_unchanged}
 use Rattle.module_run.proofs.Executing.{none_there}
 use Rattle.module_run.proofs.Looking.{seen_next, stands_at}
 use Rattle.module_run.proofs.Neighbours.{unchanged}
+use Rattle.module_run.proofs.OnlyAsked.{ends_asked, leaves_asked, left_asked, on_top_asked}
 use Rattle.module_run.proofs.conn_step.step_watched.Goals as goal
 
 pub next_instr-next-requires : goal.next_instr-next-requires
@@ -20,26 +21,47 @@ fault_of-requires g c =
 pub returns-in-Some-clause-steps : goal.returns-in-Some-clause-steps
 returns-in-Some-clause-steps g c v f rest is =
     let d = g.F.Files.device c.args.files.now in
-    let looks = seen_next c.args.modules.now c.args.tree.now c.args.store.now d c.args.conn.now v f rest is c.next_instr-next.result c.next_instr-next.ensures in
-    (sym (c.fault_of.ensures d v f rest is looks) ∙ c.in-Some.is, looks.of, looks.pc, record { device = refl; left = is.stands.left })
+    let a = c.fault_of.ensures in
+    let looks = seen_next c.args.modules.now c.args.tree.now c.args.store.now d c.args.conn.now v f rest is c.next_instr-next.result c.next_instr-next.ensures in (
+      sym (a.value d v f rest is looks) ∙ c.in-Some.is,
+      looks.of,
+      looks.pc,
+      record { device = refl; left = left_asked c.args.modules.now d c.args.conn.now v c.args.tree.now c.fault_of.new.tree c.args.store.now c.fault_of.new.store a.tree_asked a.asked is.stands.left },
+    )
 
 pub returns-in-Some-clause-leaves : goal.returns-in-Some-clause-leaves
-returns-in-Some-clause-leaves g c = unchanged (map_of c.args.tree.now) c.args.store.now c.args.store.now c.args.conn.now c.args.conn.now (λ n. refl) refl (omega arith) (λ id there young. there) (λ k. refl)
+returns-in-Some-clause-leaves g c =
+    let s = c.fault_of.new.store in
+    leaves_asked c.args.conn.now c.args.conn.now c.args.tree.now c.fault_of.new.tree c.args.store.now s s c.fault_of.ensures.tree_asked c.fault_of.ensures.asked
+    (unchanged (map_of c.fault_of.new.tree) s s c.args.conn.now c.args.conn.now (λ n. refl) refl (omega arith) (λ id there young. there) (λ k. refl))
 
 pub returns-in-Some-clause-ended : goal.returns-in-Some-clause-ended
-returns-in-Some-clause-ended g c = ends_unchanged c.args.store.now c.args.store.now c.args.conn.now c.args.conn.now (λ k. refl)
+returns-in-Some-clause-ended g c =
+    let s = c.fault_of.new.store in
+    ends_asked c.args.conn.now c.args.conn.now c.args.store.now s s c.fault_of.ensures.asked (ends_unchanged s s c.args.conn.now c.args.conn.now (λ k. refl))
 
 pub execute_next-requires : goal.execute_next-requires
 execute_next-requires g c =
     let d = g.F.Files.device c.args.files.now in
     let p = c.requires.on_top in
+    let a = c.fault_of.ensures in
     let looks = seen_next c.args.modules.now c.args.tree.now c.args.store.now d c.args.conn.now p.0 p.1.0 p.1.1.0 p.1.1.1 c.next_instr-next.result c.next_instr-next.ensures in
+    let is = on_top_asked c.args.modules.now d c.args.conn.now p.0 p.1.0 p.1.1.0 c.args.tree.now c.fault_of.new.tree c.args.store.now c.fault_of.new.store a.tree_asked a.asked p.1.1.1 in
     let none = none_there c.fault_of.result c.in_default.not-Some in
-    record { on_top = (p.0, (p.1.0, (p.1.1.0, (record { is_top = p.1.1.1; faultless = sym (c.fault_of.ensures d p.0 p.1.0 p.1.1.0 p.1.1.1 looks) ∙ none }, looks)))) }
+    record { on_top = (p.0, (p.1.0, (p.1.1.0, (record { is_top = is; faultless = sym (a.value d p.0 p.1.0 p.1.1.0 p.1.1.1 looks) ∙ none }, looks)))) }
 
 pub returns-clause-steps : goal.returns-clause-steps
-returns-clause-steps g c v f rest is =
+returns-clause-steps g c v f rest before =
     let d = g.F.Files.device c.args.files.now in
-    let looks = seen_next c.args.modules.now c.args.tree.now c.args.store.now d c.args.conn.now v f rest is c.next_instr-next.result c.next_instr-next.ensures in
+    let a = c.fault_of.ensures in
+    let looks = seen_next c.args.modules.now c.args.tree.now c.args.store.now d c.args.conn.now v f rest before c.next_instr-next.result c.next_instr-next.ensures in
+    let is = on_top_asked c.args.modules.now d c.args.conn.now v f rest c.args.tree.now c.fault_of.new.tree c.args.store.now c.fault_of.new.store a.tree_asked a.asked before in
     let none = none_there c.fault_of.result c.in_default.not-Some in
-    c.execute_next.ensures.steps v f rest (record { is_top = is; faultless = sym (c.fault_of.ensures d v f rest is looks) ∙ none }) looks
+    c.execute_next.ensures.steps v f rest (record { is_top = is; faultless = sym (a.value d v f rest before looks) ∙ none }) looks
+
+pub returns-clause-leaves : goal.returns-clause-leaves
+returns-clause-leaves g c =
+    leaves_asked c.args.conn.now c.execute_next.new.conn c.args.tree.now c.fault_of.new.tree c.args.store.now c.fault_of.new.store c.execute_next.new.store c.fault_of.ensures.tree_asked c.fault_of.ensures.asked c.execute_next.ensures.leaves
+
+pub returns-clause-ended : goal.returns-clause-ended
+returns-clause-ended g c = ends_asked c.args.conn.now c.execute_next.new.conn c.args.store.now c.fault_of.new.store c.execute_next.new.store c.fault_of.ensures.asked c.execute_next.ensures.ended

@@ -6,20 +6,20 @@ use Rattle.bucket_ring.specs.Lists.{list_at, with_payload}
 use Rattle.run_model.specs.Cursors.{spot}
 use Rattle.run_model.specs.declared.bucket.NamedBucket.{NamedBucket}
 use Rattle.run_model.specs.Steps.{takes_reference}
-use Rattle.brigade_ops.specs.Items.{named_item}
-use Rattle.ring_run.specs.Seen.{seen_over, calls_in, item_in}
-use Rattle.ring_run.proofs.Quiet.{one_referred}
+use Rattle.stored_rings.specs.Items.{named_item}
+use Rattle.ring_calls.specs.Seen.{seen_over, calls_in, item_in}
+use Rattle.ring_calls.proofs.Quiet.{one_referred}
 use Rattle.ring_run.proofs.SetAside.{ref_shown}
 use Rattle.run_model.specs.Cutting.{set_aside}
 use Rattle.run_model.specs.Effects.{is_above}
 use Rattle.pool_tree.specs.Tree.{map_of}
 use Rattle.brigade_ops.specs.Store.{lists, brigade_of, pool_of, next_name, references}
-use Rattle.brigade_ops.proofs.Saves.{found_some}
+use Rattle.stored_rings.proofs.Saves.{found_some}
 use Rattle.brigade_ops.proofs.Stores.{kept, found_in, found_bucket}
-use Rattle.ring_run.proofs.LeftAlone.{rest_on, rest_same}
-use Rattle.ring_run.proofs.OpenFiles.{refs_one, refs_same}
-use Rattle.ring_run.proofs.Standing.{bucket_set, bucket_at, bucket_here, bucket_live, content_of_bucket}
-use Rattle.ring_run.proofs.Names.{held_kept, no_less, still_same, still_on, by_result}
+use Rattle.ring_calls.proofs.LeftAlone.{rest_on, rest_same}
+use Rattle.ring_calls.proofs.OpenFiles.{refs_one, refs_same}
+use Rattle.ring_calls.proofs.Standing.{bucket_set, bucket_at, bucket_here, bucket_live, content_of_bucket}
+use Rattle.ring_calls.proofs.Names.{held_kept, no_less, still_same, still_on, by_result}
 use Rattle.ring_run.proofs.Saved.{aside_within, aside_loose}
 use Rattle.ring_run.proofs.Trees.{over_pools, on_both, on_both_err, seen_kept}
 use Rattle.ring_run.proofs.aside_steps.aside.Goals as goal
@@ -80,8 +80,8 @@ returns-clause-left g c =
     let p = bucket_here c.args.store.now c.args.instance.now c.args.call.now c.args.c c.requires.held c.requires.stands c.bucket.result c.bucket.ensures in
     let rises = no_less (next_name s) (next_name c.aside.new.self) c.aside.ensures.next in
     by_result c.aside.result _ _
-    (λ out. rest_on s c.aside.new.self rises c.aside.ensures.names c.aside.ensures.pools p.ring (with_payload c.bucket.result (set_aside c.args.pool (is_above (map_of c.args.tree.now) c.args.pool p.bucket.home) p.bucket)) (λ m. out p.ring m p.bucket p.inside p.here) c.args.instance.now c.args.call.now p.ours)
-    (λ out. rest_same s c.aside.new.self rises c.aside.ensures.names (λ n. ap (λ (f : ℕ → Option ℕ). f n) c.aside.ensures.pools) out c.args.instance.now c.args.call.now)
+    (λ out. rest_on s c.aside.new.self rises c.aside.ensures.names c.aside.ensures.pools c.aside.ensures.unasked p.ring (with_payload c.bucket.result (set_aside c.args.pool (is_above (map_of c.args.tree.now) c.args.pool p.bucket.home) p.bucket)) (λ m. out p.ring m p.bucket p.inside p.here) c.args.instance.now c.args.call.now p.ours)
+    (λ out. rest_same s c.aside.new.self rises c.aside.ensures.names (λ n. ap (λ (f : ℕ → Option ℕ). f n) c.aside.ensures.pools) c.aside.ensures.unasked out c.args.instance.now c.args.call.now)
     c.aside.ensures.ok c.aside.ensures.err
 
 pub returns-clause-open : goal.returns-clause-open

@@ -1,10 +1,10 @@
 -- The bucket goes from the loose ones to its place.
 use Rattle.brigade_ops.specs.Store.{lists, brigade_of, pool_of, next_name}
 use Rattle.brigade_ops.proofs.Stores.{kept}
-use Rattle.ring_run.proofs.Names.{held_kept, no_less}
-use Rattle.ring_run.proofs.Standing.{loose_set, loose_at, loose_live, within_set, within_at, within_live}
+use Rattle.ring_calls.proofs.Names.{held_kept, no_less}
+use Rattle.ring_calls.proofs.Standing.{loose_set, loose_at, loose_live, within_set, within_at, within_live}
 use Rattle.ring_run.proofs.Steps.{before_step, before_still, before_off}
-use Rattle.ring_run.proofs.LeftAlone.{left_off, ours_slot, ours_loose}
+use Rattle.ring_calls.proofs.LeftAlone.{left_off, ours_slot, ours_loose}
 use Rattle.ring_run.proofs.bucket_steps.before.Goals as goal
 
 pub bucket-requires-clause-at : goal.bucket-requires-clause-at
@@ -38,7 +38,7 @@ pub returns-clause-left : goal.returns-clause-left
 returns-clause-left g c =
     let s = loose_at c.args.store.now c.args.instance.now c.args.call.now c.args.c c.requires.held c.requires.loose c.bucket-2.result c.bucket-2.ensures in
     let t = within_at c.args.store.now c.args.instance.now c.args.call.now c.args.d c.requires.held c.requires.within c.bucket.result c.bucket.ensures in
-    left_off c.args.store.now c.move_before.new.self (no_less (next_name c.args.store.now) (next_name c.move_before.new.self) c.move_before.ensures.next) c.move_before.ensures.names c.move_before.ensures.pools c.move_before.ensures.references t.inside.1.0 c.args.call.now.name
+    left_off c.args.store.now c.move_before.new.self (no_less (next_name c.args.store.now) (next_name c.move_before.new.self) c.move_before.ensures.next) c.move_before.ensures.names c.move_before.ensures.pools c.move_before.ensures.references c.move_before.ensures.unasked t.inside.1.0 c.args.call.now.name
     (before_still (brigade_of c.args.store.now) (lists c.args.store.now) (lists c.move_before.new.self) (pool_of c.args.store.now) (next_name c.args.store.now) (next_name c.move_before.new.self) (kept c.args.store.now) c.move_before.ensures.next c.bucket-2.result c.args.call.now.name t.inside.1.0 c.bucket.result s.inside t.inside.1.1.1 c.move_before.ensures.out)
     (before_off (brigade_of c.args.store.now) (lists c.args.store.now) (lists c.move_before.new.self) (pool_of c.args.store.now) (next_name c.args.store.now) (next_name c.move_before.new.self) (kept c.args.store.now) c.move_before.ensures.next c.bucket-2.result c.args.call.now.name t.inside.1.0 c.bucket.result s.inside t.inside.1.1.1 c.move_before.ensures.out)
     c.args.instance.now c.args.call.now (ours_slot c.args.instance.now c.args.call.now t.variable t.inside.1.0 t.inside.1.1.0) (ours_loose c.args.instance.now c.args.call.now)

@@ -3,10 +3,10 @@ use Rattle.std.proofs.Common.{inl, inr}
 use Rattle.brigade_ops.specs.Store.{lists, brigade_of, pool_of, next_name}
 use Rattle.brigade_ops.proofs.Stores.{kept}
 use Rattle.bucket_ring.specs.Lists as ring
-use Rattle.ring_run.proofs.Names.{held_kept, no_less, still_on}
-use Rattle.ring_run.proofs.Standing.{bucket_set, bucket_at, bucket_here, bucket_live}
+use Rattle.ring_calls.proofs.Names.{held_kept, no_less, still_on}
+use Rattle.ring_calls.proofs.Standing.{bucket_set, bucket_at, bucket_here, bucket_live}
 use Rattle.ring_run.proofs.Steps.{delete_step, delete_loose_step}
-use Rattle.ring_run.proofs.LeftAlone.{left_on}
+use Rattle.ring_calls.proofs.LeftAlone.{left_on}
 use Rattle.ring_run.proofs.bucket_steps.delete.Goals as goal
 
 pub bucket-requires-clause-at : goal.bucket-requires-clause-at
@@ -33,5 +33,5 @@ returns-clause-held g c =
 pub returns-clause-left : goal.returns-clause-left
 returns-clause-left g c =
     let s = bucket_here c.args.store.now c.args.instance.now c.args.call.now c.args.c c.requires.held c.requires.stands c.bucket.result c.bucket.ensures in
-    left_on c.args.store.now c.drop_bucket.new.self (no_less (next_name c.args.store.now) (next_name c.drop_bucket.new.self) c.drop_bucket.ensures.next) c.drop_bucket.ensures.names c.drop_bucket.ensures.pools c.drop_bucket.ensures.references s.ring (ring.without c.bucket.result) (λ m. c.drop_bucket.ensures.out s.ring m s.inside)
+    left_on c.args.store.now c.drop_bucket.new.self (no_less (next_name c.args.store.now) (next_name c.drop_bucket.new.self) c.drop_bucket.ensures.next) c.drop_bucket.ensures.names c.drop_bucket.ensures.pools c.drop_bucket.ensures.references c.drop_bucket.ensures.unasked s.ring (ring.without c.bucket.result) (λ m. c.drop_bucket.ensures.out s.ring m s.inside)
     c.args.instance.now c.args.call.now s.ours

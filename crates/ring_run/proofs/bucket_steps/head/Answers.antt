@@ -4,10 +4,10 @@ use Rattle.bucket_ring.specs.Lists as ring
 use Rattle.run_model.specs.BrigadeLists.{put_head}
 use Rattle.brigade_ops.specs.Store.{lists, brigade_of, pool_of, next_name}
 use Rattle.brigade_ops.proofs.Stores.{kept}
-use Rattle.ring_run.proofs.Names.{held_kept, no_less}
-use Rattle.ring_run.proofs.Standing.{loose_set, loose_at, loose_live}
+use Rattle.ring_calls.proofs.Names.{held_kept, no_less}
+use Rattle.ring_calls.proofs.Standing.{loose_set, loose_at, loose_live}
 use Rattle.ring_run.proofs.Steps.{put_step, moved_still, moved_off}
-use Rattle.ring_run.proofs.LeftAlone.{left_off, ours_slot, ours_loose}
+use Rattle.ring_calls.proofs.LeftAlone.{left_off, ours_slot, ours_loose}
 use Rattle.ring_run.proofs.bucket_steps.head.Goals as goal
 
 pub bucket-requires-clause-at : goal.bucket-requires-clause-at
@@ -32,7 +32,7 @@ returns-clause-held g c =
 pub returns-clause-left : goal.returns-clause-left
 returns-clause-left g c =
     let s = loose_at c.args.store.now c.args.instance.now c.args.call.now c.args.c c.requires.held c.requires.stands c.bucket.result c.bucket.ensures in
-    left_off c.args.store.now c.move_head.new.self (no_less (next_name c.args.store.now) (next_name c.move_head.new.self) c.move_head.ensures.next) c.move_head.ensures.names c.move_head.ensures.pools c.move_head.ensures.references c.brigade.result c.args.call.now.name
+    left_off c.args.store.now c.move_head.new.self (no_less (next_name c.args.store.now) (next_name c.move_head.new.self) c.move_head.ensures.next) c.move_head.ensures.names c.move_head.ensures.pools c.move_head.ensures.references c.move_head.ensures.unasked c.brigade.result c.args.call.now.name
     (moved_still (brigade_of c.args.store.now) (lists c.args.store.now) (lists c.move_head.new.self) (pool_of c.args.store.now) (next_name c.args.store.now) (next_name c.move_head.new.self) (kept c.args.store.now) c.move_head.ensures.next c.bucket.result c.args.call.now.name c.brigade.result (λ x. ring.put_head (c.bucket.result, x)) s.inside c.move_head.ensures.out)
     (moved_off (brigade_of c.args.store.now) (lists c.args.store.now) (lists c.move_head.new.self) (pool_of c.args.store.now) (next_name c.args.store.now) (next_name c.move_head.new.self) (kept c.args.store.now) c.move_head.ensures.next c.bucket.result c.args.call.now.name c.brigade.result (λ x. ring.put_head (c.bucket.result, x)) s.inside c.move_head.ensures.out)
     c.args.instance.now c.args.call.now (ours_slot c.args.instance.now c.args.call.now c.args.b c.brigade.result c.brigade.ensures.name) (ours_loose c.args.instance.now c.args.call.now)

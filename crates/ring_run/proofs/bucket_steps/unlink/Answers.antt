@@ -2,10 +2,10 @@
 use Rattle.bucket_ring.specs.Lists as ring
 use Rattle.brigade_ops.specs.Store.{lists, brigade_of, pool_of, next_name}
 use Rattle.brigade_ops.proofs.Stores.{kept}
-use Rattle.ring_run.proofs.Names.{held_kept, no_less}
-use Rattle.ring_run.proofs.Standing.{within_set, within_at, within_live}
+use Rattle.ring_calls.proofs.Names.{held_kept, no_less}
+use Rattle.ring_calls.proofs.Standing.{within_set, within_at, within_live}
 use Rattle.ring_run.proofs.Steps.{unlink_step, moved_still, moved_off}
-use Rattle.ring_run.proofs.LeftAlone.{left_off, ours_slot, ours_loose}
+use Rattle.ring_calls.proofs.LeftAlone.{left_off, ours_slot, ours_loose}
 use Rattle.ring_run.proofs.bucket_steps.unlink.Goals as goal
 
 pub bucket-requires-clause-at : goal.bucket-requires-clause-at
@@ -33,7 +33,7 @@ returns-clause-held g c =
 pub returns-clause-left : goal.returns-clause-left
 returns-clause-left g c =
     let s = within_at c.args.store.now c.args.instance.now c.args.call.now c.args.c c.requires.held c.requires.stands c.bucket.result c.bucket.ensures in
-    left_off c.args.store.now c.move_tail.new.self (no_less (next_name c.args.store.now) (next_name c.move_tail.new.self) c.move_tail.ensures.next) c.move_tail.ensures.names c.move_tail.ensures.pools c.move_tail.ensures.references c.args.call.now.name s.inside.1.0
+    left_off c.args.store.now c.move_tail.new.self (no_less (next_name c.args.store.now) (next_name c.move_tail.new.self) c.move_tail.ensures.next) c.move_tail.ensures.names c.move_tail.ensures.pools c.move_tail.ensures.references c.move_tail.ensures.unasked c.args.call.now.name s.inside.1.0
     (moved_still (brigade_of c.args.store.now) (lists c.args.store.now) (lists c.move_tail.new.self) (pool_of c.args.store.now) (next_name c.args.store.now) (next_name c.move_tail.new.self) (kept c.args.store.now) c.move_tail.ensures.next c.bucket.result s.inside.1.0 c.args.call.now.name (λ x. ring.put_tail (c.bucket.result, x)) s.inside.1.1.1 c.move_tail.ensures.out)
     (moved_off (brigade_of c.args.store.now) (lists c.args.store.now) (lists c.move_tail.new.self) (pool_of c.args.store.now) (next_name c.args.store.now) (next_name c.move_tail.new.self) (kept c.args.store.now) c.move_tail.ensures.next c.bucket.result s.inside.1.0 c.args.call.now.name (λ x. ring.put_tail (c.bucket.result, x)) s.inside.1.1.1 c.move_tail.ensures.out)
     c.args.instance.now c.args.call.now (ours_loose c.args.instance.now c.args.call.now) (ours_slot c.args.instance.now c.args.call.now s.variable s.inside.1.0 s.inside.1.1.0)

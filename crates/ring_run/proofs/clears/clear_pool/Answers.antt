@@ -6,7 +6,7 @@ use Rattle.run_model.specs.Effects.{files_let_go}
 use Rattle.run_model.specs.Pools.{Pools, is_under}
 use Rattle.run_model.specs.State.{with_pools}
 use Rattle.pool_tree.specs.Tree.{map_of}
-use Rattle.ring_run.specs.Seen.{seen, seen_over}
+use Rattle.ring_calls.specs.Seen.{seen, seen_over}
 use Rattle.ring_run.proofs.Cleared.{held_cleared, seen_cleared}
 use Rattle.ring_run.proofs.clears.clear_pool.Goals as goal
 

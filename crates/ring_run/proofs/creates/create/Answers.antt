@@ -7,11 +7,11 @@ use Rattle.run_model.specs.declared.payload.Payload.TheVariants as payload
 use Rattle.run_model.specs.Pools.{registered}
 use Rattle.pool_tree.specs.Tree.{map_of}
 use Rattle.brigade_ops.specs.Store.{lists, brigade_of, pool_of, next_name}
-use Rattle.ring_run.specs.declared.machine.Slot.TheVariants as slot
-use Rattle.ring_run.specs.Held.{HeldOver}
-use Rattle.ring_run.specs.Slots.{slot_at}
+use Rattle.ring_calls.specs.declared.machine.Slot.TheVariants as slot
+use Rattle.ring_calls.specs.Held.{HeldOver}
+use Rattle.ring_calls.specs.Slots.{slot_at}
 use Rattle.ring_run.proofs.CarriedOut.{names_made}
-use Rattle.ring_run.proofs.LeftAlone.{rest_made}
+use Rattle.ring_calls.proofs.LeftAlone.{rest_made}
 use Rattle.ring_run.proofs.NewBrigades.{created_step, created_held}
 use Rattle.ring_run.proofs.creates.create.Goals as goal
 
@@ -46,7 +46,7 @@ returns-clause-held g c =
 pub returns-clause-left : goal.returns-clause-left
 returns-clause-left g c =
     λ call.
-    rest_made c.args.store.now c.create.new.self c.in-Ok.ensures.names c.in-Ok.name c.args.pool c.in-Ok.ensures.name c.in-Ok.ensures.next c.in-Ok.ensures.ok c.in-Ok.ensures.on c.args.instance.now call
+    rest_made c.args.store.now c.create.new.self c.in-Ok.ensures.names c.create.ensures.unasked c.in-Ok.name c.args.pool c.in-Ok.ensures.name c.in-Ok.ensures.next c.in-Ok.ensures.ok c.in-Ok.ensures.on c.args.instance.now call
 
 pub returns-clause-slots : goal.returns-clause-slots
 returns-clause-slots g c =

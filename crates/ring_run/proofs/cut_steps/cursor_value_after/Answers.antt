@@ -6,10 +6,10 @@ use Rattle.bucket_ring.specs.Laws.{next_found}
 use Rattle.run_model.specs.declared.bucket.Cursor.TheVariants as cursor
 use Rattle.brigade_ops.specs.Store.{lists, brigade_of, next_name}
 use Rattle.brigade_ops.proofs.Stores.{kept, in_found, brigade_there}
-use Rattle.ring_run.specs.Held.{IsName}
-use Rattle.ring_run.specs.Seen.{shown_cursor}
-use Rattle.ring_run.proofs.Slots.{name_there, given_in}
-use Rattle.ring_run.proofs.Walks.{cursor_value_at, next_stands, next_ok, next_err, some_of, same_at}
+use Rattle.ring_calls.specs.Held.{IsName}
+use Rattle.ring_calls.specs.Seen.{shown_cursor}
+use Rattle.ring_calls.proofs.Slots.{name_there, given_in}
+use Rattle.ring_calls.proofs.Walks.{cursor_value_at, next_stands, next_ok, next_err, some_of, same_at}
 use Rattle.ring_run.proofs.cut_steps.cursor_value_after.Goals as goal
 
 pub returns-in-Ok-clause-place : goal.returns-in-Ok-clause-place

@@ -5,11 +5,11 @@ use Rattle.bucket_ring.specs.Lists.{list_at}
 use Rattle.bucket_ring.specs.Laws.{first_found}
 use Rattle.brigade_ops.specs.Store.{lists, brigade_of, next_name}
 use Rattle.brigade_ops.proofs.Stores.{kept, in_found}
-use Rattle.ring_run.specs.Held.{IsName}
-use Rattle.ring_run.specs.Seen.{shown_cursor}
-use Rattle.ring_run.specs.Slots.{slot_at}
-use Rattle.ring_run.proofs.Slots.{made_in, name_there}
-use Rattle.ring_run.proofs.Walks.{cursor_value_at, first_stands, same_at}
+use Rattle.ring_calls.specs.Held.{IsName}
+use Rattle.ring_calls.specs.Seen.{shown_cursor}
+use Rattle.ring_calls.specs.Slots.{slot_at}
+use Rattle.ring_calls.proofs.Slots.{made_in, name_there}
+use Rattle.ring_calls.proofs.Walks.{cursor_value_at, first_stands, same_at}
 use Rattle.ring_run.proofs.cut_steps.first_cursor_value.Goals as goal
 
 pub brigade-name-requires-clause-made : goal.brigade-name-requires-clause-made

@@ -6,10 +6,10 @@ use Rattle.run_model.specs.Cursors.{Place}
 use Rattle.run_model.specs.State.{set_cursor}
 use Rattle.run_model.specs.declared.bucket.Cursor.{Cursor}
 use Rattle.brigade_ops.specs.Store.{lists, brigade_of, pool_of, next_name}
-use Rattle.ring_run.specs.Seen.{seen_over}
-use Rattle.ring_run.proofs.Standing.{within_set, within_at, within_live}
-use Rattle.ring_run.proofs.Stands.{spot_within}
-use Rattle.ring_run.proofs.Walks.{held_cursor}
+use Rattle.ring_calls.specs.Seen.{seen_over}
+use Rattle.ring_calls.proofs.Standing.{within_set, within_at, within_live}
+use Rattle.ring_calls.proofs.Stands.{spot_within}
+use Rattle.ring_calls.proofs.Walks.{held_cursor}
 use Rattle.ring_run.proofs.cut_steps.next.Goals as goal
 
 pub bucket-requires-clause-at : goal.bucket-requires-clause-at

@@ -2,12 +2,12 @@
 use Rattle.std.proofs.Common.{[]}
 use Rattle.run_model.specs.declared.bucket.Mark.TheVariants.{Usable}
 use Rattle.brigade_ops.specs.Store.{lists, brigade_of, pool_of, next_name}
-use Rattle.ring_run.specs.Slots.{slot_at}
+use Rattle.ring_calls.specs.Slots.{slot_at}
 use Rattle.ring_run.proofs.CarriedOut.{names_marked}
-use Rattle.ring_run.proofs.Names.{apart_in, held_kept, no_less, still_on}
-use Rattle.ring_run.proofs.Vars.{cleaned_step, held_marked}
-use Rattle.ring_run.proofs.Slots.{made_in}
-use Rattle.ring_run.proofs.LeftAlone.{left_on, ours_slot}
+use Rattle.ring_calls.proofs.Names.{apart_in, held_kept, no_less, still_on}
+use Rattle.ring_calls.proofs.Vars.{cleaned_step, held_marked}
+use Rattle.ring_calls.proofs.Slots.{made_in}
+use Rattle.ring_calls.proofs.LeftAlone.{left_on, ours_slot}
 use Rattle.ring_run.proofs.effects.clean.Goals as goal
 
 pub brigade-name-requires-clause-made : goal.brigade-name-requires-clause-made
@@ -30,7 +30,7 @@ returns-clause-held g c =
 pub returns-clause-left : goal.returns-clause-left
 returns-clause-left g c =
     λ call.
-    left_on c.args.store.now c.clean.new.self (no_less (next_name c.args.store.now) (next_name c.clean.new.self) c.clean.ensures.next) c.clean.ensures.names c.clean.ensures.pools c.clean.ensures.references c.brigade-name.result (λ xs. []) c.clean.ensures.out c.args.instance.now call
+    left_on c.args.store.now c.clean.new.self (no_less (next_name c.args.store.now) (next_name c.clean.new.self) c.clean.ensures.next) c.clean.ensures.names c.clean.ensures.pools c.clean.ensures.references c.clean.ensures.unasked c.brigade-name.result (λ xs. []) c.clean.ensures.out c.args.instance.now call
     (ours_slot c.args.instance.now call c.args.b c.brigade-name.result c.brigade-name.ensures.name)
 
 pub returns-clause-slots : goal.returns-clause-slots

@@ -3,11 +3,11 @@ use Rattle.std.proofs.Common.{ℕ, Some, [], ◌++◌, ap, ◌∙◌}
 use Rattle.std.proofs.lemmas.Result.{on_ok_weaker}
 use Rattle.brigade_ops.specs.Store.{lists, brigade_of, pool_of, next_name}
 use Rattle.bucket_ring.specs.Lists.{list_at}
-use Rattle.ring_run.specs.Slots.{slot_at}
+use Rattle.ring_calls.specs.Slots.{slot_at}
 use Rattle.ring_run.proofs.Joins.{joined}
-use Rattle.ring_run.proofs.Names.{apart_in, held_kept, no_less, still_same, still_both, by_result}
-use Rattle.ring_run.proofs.LeftAlone.{left_same, left_both, ours_slot}
-use Rattle.ring_run.proofs.Slots.{made_in}
+use Rattle.ring_calls.proofs.Names.{apart_in, held_kept, no_less, still_same, still_both, by_result}
+use Rattle.ring_calls.proofs.LeftAlone.{left_same, left_both, ours_slot}
+use Rattle.ring_calls.proofs.Slots.{made_in}
 use Rattle.ring_run.proofs.effects.concat.Goals as goal
 
 pub brigade-from-requires-clause-made : goal.brigade-from-requires-clause-made
@@ -39,8 +39,8 @@ pub returns-clause-left : goal.returns-clause-left
 returns-clause-left g c =
     λ call.
     by_result c.concat.result _ _
-    (λ out. left_both c.args.store.now c.concat.new.self (no_less (next_name c.args.store.now) (next_name c.concat.new.self) c.concat.ensures.next) c.concat.ensures.names c.concat.ensures.pools c.concat.ensures.references c.brigade-to.result c.brigade-from.result (λ xs. xs ++ list_at (lists c.args.store.now) c.brigade-from.result) (λ xs. []) out c.args.instance.now call
+    (λ out. left_both c.args.store.now c.concat.new.self (no_less (next_name c.args.store.now) (next_name c.concat.new.self) c.concat.ensures.next) c.concat.ensures.names c.concat.ensures.pools c.concat.ensures.references c.concat.ensures.unasked c.brigade-to.result c.brigade-from.result (λ xs. xs ++ list_at (lists c.args.store.now) c.brigade-from.result) (λ xs. []) out c.args.instance.now call
     (ours_slot c.args.instance.now call c.args.a c.brigade-to.result c.brigade-to.ensures.name)
     (ours_slot c.args.instance.now call c.args.b c.brigade-from.result c.brigade-from.ensures.name))
-    (λ out. left_same c.args.store.now c.concat.new.self (no_less (next_name c.args.store.now) (next_name c.concat.new.self) c.concat.ensures.next) c.concat.ensures.names c.concat.ensures.pools c.concat.ensures.references out c.args.instance.now call)
+    (λ out. left_same c.args.store.now c.concat.new.self (no_less (next_name c.args.store.now) (next_name c.concat.new.self) c.concat.ensures.next) c.concat.ensures.names c.concat.ensures.pools c.concat.ensures.references c.concat.ensures.unasked out c.args.instance.now call)
     c.concat.ensures.ok c.concat.ensures.err

@@ -6,14 +6,14 @@ use Rattle.pool_tree.specs.Tree.{map_of}
 use Rattle.brigade_ops.specs.Store.{lists, next_name}
 use Rattle.ring_run.specs.Apart.{clears_pool, keeps_files}
 use Rattle.ring_run.specs.CarriedOut.{during}
-use Rattle.ring_run.specs.Seen.{seen_over}
-use Rattle.ring_run.specs.Setting.{in_setting}
+use Rattle.ring_calls.specs.Seen.{seen_over}
+use Rattle.ring_calls.specs.Setting.{in_setting}
 use Rattle.ring_run.proofs.Carried.{read_within}
 use Rattle.ring_run.proofs.CarriedOut.{carried_inside, carried_read, pools_same}
-use Rattle.ring_run.proofs.Faultless.{nowhere, wanted}
+use Rattle.ring_calls.proofs.Faultless.{nowhere, wanted}
 use Rattle.ring_run.proofs.Instructions.{files_kept, pool_cleared}
-use Rattle.ring_run.proofs.OpenFiles.{open_spot}
-use Rattle.ring_run.proofs.Standing.{stands}
+use Rattle.ring_calls.proofs.OpenFiles.{open_spot}
+use Rattle.ring_calls.proofs.Standing.{stands}
 use Rattle.ring_run.proofs.execute_instr.execute_instr.Goals as goal
 
 pub execute_clear-requires-clause-live : goal.execute_clear-requires-clause-live

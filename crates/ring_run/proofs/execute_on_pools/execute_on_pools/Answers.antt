@@ -15,16 +15,16 @@ use Rattle.pool_tree.specs.Tree.{map_of}
 use Rattle.pool_tree.proofs.Trees.{tree_formed}
 use Rattle.brigade_ops.specs.Store.{lists, next_name, pool_of, references}
 use Rattle.brigade_ops.proofs.Housed.{house_live}
-use Rattle.ring_run.specs.Seen.{seen_over}
-use Rattle.ring_run.specs.Setting.{in_setting}
-use Rattle.ring_run.specs.Slots.{name_in}
+use Rattle.ring_calls.specs.Seen.{seen_over}
+use Rattle.ring_calls.specs.Setting.{in_setting}
+use Rattle.ring_calls.specs.Slots.{name_in}
 use Rattle.ring_run.proofs.Carried.{pool_wanted}
 use Rattle.ring_run.proofs.CarriedOut.{names_kept}
-use Rattle.ring_run.proofs.LeftAlone.{rest_none}
-use Rattle.ring_run.proofs.OpenFiles.{open_items, open_spot, refs_same}
-use Rattle.ring_run.proofs.Faultless.{nowhere, usable_live, wanted}
-use Rattle.ring_run.proofs.Quiet.{grown_none}
-use Rattle.ring_run.proofs.Standing.{stands}
+use Rattle.ring_calls.proofs.LeftAlone.{rest_none}
+use Rattle.ring_calls.proofs.OpenFiles.{open_items, open_spot, refs_same}
+use Rattle.ring_calls.proofs.Faultless.{nowhere, usable_live, wanted}
+use Rattle.ring_calls.proofs.Quiet.{grown_none}
+use Rattle.ring_calls.proofs.Standing.{stands}
 use Rattle.ring_run.proofs.execute_on_pools.execute_on_pools.Goals as goal
 
 pub aside-requires-clause-stands : goal.aside-requires-clause-stands

@@ -1,9 +1,9 @@
 -- A live pool is named.
 use Rattle.std.proofs.Common.{None, sym, ◌∙◌}
 use Rattle.pool_tree.specs.Tree.{map_of}
-use Rattle.ring_run.specs.Seen.{seen_over}
-use Rattle.ring_run.specs.Setting.{in_setting}
-use Rattle.ring_run.proofs.Faultless.{nowhere}
+use Rattle.ring_calls.specs.Seen.{seen_over}
+use Rattle.ring_calls.specs.Setting.{in_setting}
+use Rattle.ring_calls.proofs.Faultless.{nowhere}
 use Rattle.ring_run.proofs.Carried.{named_live, named_some, no_call}
 use Rattle.ring_run.proofs.execute_on_pools.live_pool.Goals as goal
 

@@ -3,7 +3,7 @@ use Rattle.std.proofs.Common.{refl}
 use Rattle.run_model.specs.Cursors.{read_cursor}
 use Rattle.run_model.specs.Faults.{OnBucket}
 use Rattle.brigade_ops.specs.Store.{lists, next_name}
-use Rattle.ring_run.proofs.Standing.{stands}
+use Rattle.ring_calls.proofs.Standing.{stands}
 use Rattle.ring_run.proofs.execute_on_store.change_numbers.Goals as goal
 
 pub len-requires-clause-stands : goal.len-requires-clause-stands

@@ -6,11 +6,11 @@ use Rattle.run_model.specs.Faults.{InBrigade, InThis, WHomeAcross}
 use Rattle.run_model.specs.BucketSteps.{items_at, names_to_part}
 use Rattle.run_model.specs.Steps.{grows, step, value_of}
 use Rattle.brigade_ops.specs.Store.{lists, next_name}
-use Rattle.ring_run.specs.Outside.{with_outside}
-use Rattle.ring_run.specs.Seen.{seen_over}
-use Rattle.ring_run.proofs.Faultless.{nowhere, brigade_live, usable_live, wanted}
-use Rattle.ring_run.proofs.Quiet.{grown_none}
-use Rattle.ring_run.proofs.Standing.{stands}
+use Rattle.ring_calls.specs.Outside.{with_outside}
+use Rattle.ring_calls.specs.Seen.{seen_over}
+use Rattle.ring_calls.proofs.Faultless.{nowhere, brigade_live, usable_live, wanted}
+use Rattle.ring_calls.proofs.Quiet.{grown_none}
+use Rattle.ring_calls.proofs.Standing.{stands}
 use Rattle.ring_run.proofs.execute_on_store.cut_brigade.Goals as goal
 
 pub clean-requires-clause-live : goal.clean-requires-clause-live

@@ -5,9 +5,9 @@ use Rattle.module_code.specs.declared.instr.Instr.{Instr}
 use Rattle.run_model.specs.Faults.{WPool}
 use Rattle.run_model.specs.Steps.{step}
 use Rattle.brigade_ops.specs.Store.{lists, next_name}
-use Rattle.ring_run.specs.Outside.{with_outside}
-use Rattle.ring_run.specs.Seen.{seen_over}
-use Rattle.ring_run.proofs.Faultless.{nowhere, wanted}
+use Rattle.ring_calls.specs.Outside.{with_outside}
+use Rattle.ring_calls.specs.Seen.{seen_over}
+use Rattle.ring_calls.proofs.Faultless.{nowhere, wanted}
 use Rattle.ring_run.proofs.execute_on_store.make_bucket.Goals as goal
 
 pub make_in_pool-requires-clause-there : goal.make_in_pool-requires-clause-there

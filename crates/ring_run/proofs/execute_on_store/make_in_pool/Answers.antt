@@ -3,8 +3,8 @@ use Rattle.std.proofs.Common.{sym, ap, ◌∙◌, Option, ℕ}
 use Rattle.std.proofs.lemmas.Result.{on_ok_weaker}
 use Rattle.run_model.specs.BucketSteps.{do_poolb}
 use Rattle.brigade_ops.specs.Store.{lists, next_name}
-use Rattle.ring_run.specs.Outside.{with_outside}
-use Rattle.ring_run.specs.Seen.{seen_over}
+use Rattle.ring_calls.specs.Outside.{with_outside}
+use Rattle.ring_calls.specs.Seen.{seen_over}
 use Rattle.ring_run.proofs.Carried.{named_some}
 use Rattle.ring_run.proofs.execute_on_store.make_in_pool.Goals as goal
 

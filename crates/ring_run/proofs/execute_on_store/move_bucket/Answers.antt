@@ -7,10 +7,10 @@ use Rattle.run_model.specs.Cursors.{spot}
 use Rattle.run_model.specs.Faults.{InBrigade, OnBucket, OnLoose, WHome}
 use Rattle.run_model.specs.Steps.{step}
 use Rattle.brigade_ops.specs.Store.{lists, next_name}
-use Rattle.ring_run.specs.Outside.{with_outside}
-use Rattle.ring_run.specs.Seen.{seen_over}
-use Rattle.ring_run.proofs.Faultless.{nowhere, usable_live, wanted}
-use Rattle.ring_run.proofs.Standing.{stands}
+use Rattle.ring_calls.specs.Outside.{with_outside}
+use Rattle.ring_calls.specs.Seen.{seen_over}
+use Rattle.ring_calls.proofs.Faultless.{nowhere, usable_live, wanted}
+use Rattle.ring_calls.proofs.Standing.{stands}
 use Rattle.ring_run.proofs.execute_on_store.move_bucket.Goals as goal
 
 pub unlink-requires-clause-stands : goal.unlink-requires-clause-stands

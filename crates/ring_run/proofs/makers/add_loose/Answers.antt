@@ -1,11 +1,11 @@
 -- The bucket stands behind the loose ones.
 use Rattle.std.proofs.Common.{ℕ, ◌+◌, ◌≤◌, ap, ◌∙◌, arith}
 use Rattle.brigade_ops.specs.Store.{lists, brigade_of, pool_of, next_name}
-use Rattle.ring_run.specs.Seen.{seen_over}
-use Rattle.ring_run.proofs.Names.{apart_in, held_kept, no_less, still_same}
+use Rattle.ring_calls.specs.Seen.{seen_over}
+use Rattle.ring_calls.proofs.Names.{apart_in, held_kept, no_less, still_same}
 use Rattle.ring_run.proofs.Makes.{made, made_held}
 use Rattle.bucket_ring.specs.Lists.{put_tail}
-use Rattle.ring_run.proofs.LeftAlone.{left_on, left_same, ours_loose}
+use Rattle.ring_calls.proofs.LeftAlone.{left_on, left_same, ours_loose}
 use Rattle.ring_run.proofs.makers.add_loose.Goals as goal
 
 pub returns-clause-ok : goal.returns-clause-ok
@@ -33,9 +33,9 @@ pub returns-clause-left : goal.returns-clause-left
 returns-clause-left g c =
     λ i.
     let rises : next_name c.args.store.now ≤ next_name c.add_tail.new.self = let e = c.in-Ok.ensures.next in omega (arith, e) in
-    left_on c.args.store.now c.add_tail.new.self rises c.add_tail.ensures.names c.add_tail.ensures.pools c.add_tail.ensures.references c.args.call.now.name (put_tail (c.in-Ok.id, c.args.bucket)) c.in-Ok.ensures.ok i c.args.call.now (ours_loose i c.args.call.now)
+    left_on c.args.store.now c.add_tail.new.self rises c.add_tail.ensures.names c.add_tail.ensures.pools c.add_tail.ensures.references c.add_tail.ensures.unasked c.args.call.now.name (put_tail (c.in-Ok.id, c.args.bucket)) c.in-Ok.ensures.ok i c.args.call.now (ours_loose i c.args.call.now)
 
 pub returns-in_default-clause-left : goal.returns-in_default-clause-left
 returns-in_default-clause-left g c =
     λ i.
-    left_same c.args.store.now c.add_tail.new.self (no_less (next_name c.args.store.now) (next_name c.add_tail.new.self) c.in_default.ensures.next) c.add_tail.ensures.names c.add_tail.ensures.pools c.add_tail.ensures.references c.in_default.ensures.err i c.args.call.now
+    left_same c.args.store.now c.add_tail.new.self (no_less (next_name c.args.store.now) (next_name c.add_tail.new.self) c.in_default.ensures.next) c.add_tail.ensures.names c.add_tail.ensures.pools c.add_tail.ensures.references c.add_tail.ensures.unasked c.in_default.ensures.err i c.args.call.now

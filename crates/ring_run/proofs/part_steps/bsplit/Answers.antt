@@ -6,14 +6,14 @@ use Rattle.run_model.specs.BrigadeLists.{moves}
 use Rattle.run_model.specs.BucketSteps.{set_items, items_at, place_at}
 use Rattle.run_model.specs.Cursors.{spot}
 use Rattle.run_model.specs.declared.bucket.NamedBucket.{NamedBucket}
-use Rattle.brigade_ops.specs.Items.{before_place, from_place}
+use Rattle.stored_rings.specs.Items.{before_place, from_place}
 use Rattle.brigade_ops.specs.Store.{lists, brigade_of, pool_of, next_name}
-use Rattle.ring_run.specs.Seen.{seen_over, calls_in, shown}
-use Rattle.ring_run.specs.Slots.{slot_at}
+use Rattle.ring_calls.specs.Seen.{seen_over, calls_in, shown}
+use Rattle.ring_calls.specs.Slots.{slot_at}
 use Rattle.ring_run.proofs.Cuts.{parted}
-use Rattle.ring_run.proofs.Names.{apart_in, held_kept, no_less, still_same, still_both, by_result}
-use Rattle.ring_run.proofs.LeftAlone.{left_both, left_same, ours_slot}
-use Rattle.ring_run.proofs.Slots.{made_in}
+use Rattle.ring_calls.proofs.Names.{apart_in, held_kept, no_less, still_same, still_both, by_result}
+use Rattle.ring_calls.proofs.LeftAlone.{left_both, left_same, ours_slot}
+use Rattle.ring_calls.proofs.Slots.{made_in}
 use Rattle.ring_run.proofs.part_steps.bsplit.Goals as goal
 
 pub brigade-from-requires-clause-made : goal.brigade-from-requires-clause-made
@@ -44,8 +44,8 @@ returns-clause-held g c =
 pub returns-clause-left : goal.returns-clause-left
 returns-clause-left g c =
     by_result c.split_at.result _ _
-    (λ out. left_both c.args.store.now c.split_at.new.self (no_less (next_name c.args.store.now) (next_name c.split_at.new.self) c.split_at.ensures.next) c.split_at.ensures.names c.split_at.ensures.pools c.split_at.ensures.references c.brigade-to.result c.brigade-from.result (λ xs. from_place c.place_in-place.result (list_at (lists c.args.store.now) c.brigade-from.result)) (before_place c.place_in-place.result) out c.args.instance.now c.args.call.now
+    (λ out. left_both c.args.store.now c.split_at.new.self (no_less (next_name c.args.store.now) (next_name c.split_at.new.self) c.split_at.ensures.next) c.split_at.ensures.names c.split_at.ensures.pools c.split_at.ensures.references c.split_at.ensures.unasked c.brigade-to.result c.brigade-from.result (λ xs. from_place c.place_in-place.result (list_at (lists c.args.store.now) c.brigade-from.result)) (before_place c.place_in-place.result) out c.args.instance.now c.args.call.now
     (ours_slot c.args.instance.now c.args.call.now c.args.a c.brigade-to.result c.brigade-to.ensures.name)
     (ours_slot c.args.instance.now c.args.call.now c.args.b c.brigade-from.result c.brigade-from.ensures.name))
-    (λ out. left_same c.args.store.now c.split_at.new.self (no_less (next_name c.args.store.now) (next_name c.split_at.new.self) c.split_at.ensures.next) c.split_at.ensures.names c.split_at.ensures.pools c.split_at.ensures.references out c.args.instance.now c.args.call.now)
+    (λ out. left_same c.args.store.now c.split_at.new.self (no_less (next_name c.args.store.now) (next_name c.split_at.new.self) c.split_at.ensures.next) c.split_at.ensures.names c.split_at.ensures.pools c.split_at.ensures.references c.split_at.ensures.unasked out c.args.instance.now c.args.call.now)
     c.split_at.ensures.ok c.split_at.ensures.err

@@ -3,18 +3,18 @@ use Rattle.std.proofs.Common.{◌≡◌, false, is_some, sym, ap, ◌∙◌}
 use Rattle.bucket_ring.specs.Lists.{list_at}
 use Rattle.run_model.specs.BrigadeLists.{bucket_across}
 use Rattle.run_model.specs.BucketSteps.{items_at, names_to_part}
-use Rattle.brigade_ops.specs.Points.{point_in, is_inside}
+use Rattle.stored_rings.specs.Points.{point_in, is_inside}
 use Rattle.run_model.specs.State.{set_cursor}
 use Rattle.brigade_ops.specs.Store.{lists, brigade_of, pool_of, next_name}
-use Rattle.ring_run.specs.Seen.{seen, shown, calls_in, shown_cursor}
-use Rattle.ring_run.specs.Slots.{slot_at}
-use Rattle.ring_run.proofs.Items.{items_live}
-use Rattle.ring_run.proofs.Names.{held_kept, no_less}
+use Rattle.ring_calls.specs.Seen.{seen, shown, calls_in, shown_cursor}
+use Rattle.ring_calls.specs.Slots.{slot_at}
+use Rattle.ring_calls.proofs.Items.{items_live}
+use Rattle.ring_calls.proofs.Names.{held_kept, no_less}
 use Rattle.ring_run.proofs.Parts.{WasFound, same_ok, parted_step, parted_rises, parted_still, parted_given, parted_off}
-use Rattle.ring_run.proofs.Quiet.{cut_shown, names_none}
-use Rattle.ring_run.proofs.Walks.{held_cursor}
-use Rattle.ring_run.proofs.LeftAlone.{left_off, left_same, ours_slot}
-use Rattle.ring_run.proofs.Slots.{made_in}
+use Rattle.ring_calls.proofs.Quiet.{cut_shown, names_none}
+use Rattle.ring_calls.proofs.Walks.{held_cursor}
+use Rattle.ring_calls.proofs.LeftAlone.{left_off, left_same, ours_slot}
+use Rattle.ring_calls.proofs.Slots.{made_in}
 use Rattle.ring_run.proofs.part_steps.part.Goals as goal
 
 pub brigade-name-requires-clause-made : goal.brigade-name-requires-clause-made
@@ -44,14 +44,14 @@ returns-clause-left g c =
     let there = c.brigade-name.ensures.there (lists c.args.store.now) c.requires.live in
     let between : WasFound c.args.store.now c.partition.new.self c.brigade-name.result c.args.point c.in-Ok.cut = λ no. let h = c.in-Ok.ensures.between no in (same_ok c.in-Ok.cut _ h.0, h.1) in
     let ours = ours_slot c.args.instance.now c.args.call.now c.args.b c.brigade-name.result c.brigade-name.ensures.name in
-    left_off c.args.store.now c.partition.new.self (parted_rises c.args.store.now c.partition.new.self c.brigade-name.result c.args.point c.in-Ok.cut between c.in-Ok.ensures.inside c.in-Ok.ensures.next there) c.partition.ensures.names c.partition.ensures.pools c.partition.ensures.references c.brigade-name.result c.brigade-name.result
+    left_off c.args.store.now c.partition.new.self (parted_rises c.args.store.now c.partition.new.self c.brigade-name.result c.args.point c.in-Ok.cut between c.in-Ok.ensures.inside c.in-Ok.ensures.next there) c.partition.ensures.names c.partition.ensures.pools c.partition.ensures.references c.partition.ensures.unasked c.brigade-name.result c.brigade-name.result
     (parted_still c.args.store.now c.partition.new.self c.brigade-name.result c.args.point c.in-Ok.cut between c.in-Ok.ensures.inside c.in-Ok.ensures.next there)
     (parted_off c.args.store.now c.partition.new.self c.brigade-name.result c.args.point c.in-Ok.cut between c.in-Ok.ensures.inside c.in-Ok.ensures.next there)
     c.args.instance.now c.args.call.now ours ours
 
 pub returns-in_default-clause-left : goal.returns-in_default-clause-left
 returns-in_default-clause-left g c =
-    left_same c.args.store.now c.partition.new.self (no_less (next_name c.args.store.now) (next_name c.partition.new.self) c.in_default.ensures.next) c.partition.ensures.names c.partition.ensures.pools c.partition.ensures.references c.in_default.ensures.err c.args.instance.now c.args.call.now
+    left_same c.args.store.now c.partition.new.self (no_less (next_name c.args.store.now) (next_name c.partition.new.self) c.in_default.ensures.next) c.partition.ensures.names c.partition.ensures.pools c.partition.ensures.references c.partition.ensures.unasked c.in_default.ensures.err c.args.instance.now c.args.call.now
 
 pub returns-in_default-clause-sure : goal.returns-in_default-clause-sure
 returns-in_default-clause-sure g c around none =

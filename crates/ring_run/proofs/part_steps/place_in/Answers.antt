@@ -4,12 +4,12 @@ use Rattle.bucket_ring.specs.Lists.{list_at, front, rest}
 use Rattle.run_model.specs.BucketSteps.{place_at}
 use Rattle.brigade_ops.specs.Store.{lists, brigade_of, next_name}
 use Rattle.brigade_ops.proofs.Stores.{kept}
-use Rattle.ring_run.specs.Seen.{seen_over, calls_in, shown}
+use Rattle.ring_calls.specs.Seen.{seen_over, calls_in, shown}
 use Rattle.ring_run.proofs.Cuts.{before_shown, stays_at, moves_at, place_within}
-use Rattle.ring_run.proofs.Slots.{name_there, given_in}
-use Rattle.ring_run.proofs.Standing.{this_at, this_end, this_set}
-use Rattle.ring_run.proofs.Stands.{spot_end}
-use Rattle.ring_run.proofs.Walks.{from_shown}
+use Rattle.ring_calls.proofs.Slots.{name_there, given_in}
+use Rattle.ring_calls.proofs.Standing.{this_at, this_end, this_set}
+use Rattle.ring_calls.proofs.Stands.{spot_end}
+use Rattle.ring_calls.proofs.Walks.{from_shown}
 use Rattle.ring_run.proofs.part_steps.place_in.Goals as goal
 
 pub returns-in-At-clause-inside : goal.returns-in-At-clause-inside

@@ -8,13 +8,13 @@ use Rattle.run_model.specs.declared.bucket.PoolVar.TheVariants as poolvar
 use Rattle.run_model.specs.State.{name_in, named_at, pool_named}
 use Rattle.run_model.specs.Steps.{on_pool, pool_cleared, pool_destroyed, step}
 use Rattle.pool_tree.specs.Tree.{map_of}
-use Rattle.brigade_ops.specs.Items.{Items}
+use Rattle.stored_rings.specs.Items.{Items}
 use Rattle.brigade_ops.specs.Store.{lists, next_name}
-use Rattle.ring_run.specs.declared.machine.Instance.{Instance}
-use Rattle.ring_run.specs.declared.machine.Call.{Call}
-use Rattle.ring_run.specs.Around.{Around}
+use Rattle.ring_calls.specs.declared.machine.Instance.{Instance}
+use Rattle.ring_calls.specs.declared.machine.Call.{Call}
+use Rattle.ring_calls.specs.Around.{Around}
 use Rattle.ring_run.specs.Operands.{cleared_in}
-use Rattle.ring_run.specs.Seen.{seen_over}
+use Rattle.ring_calls.specs.Seen.{seen_over}
 use Rattle.ring_run.proofs.Trees.{over_pools}
 use Rattle.ring_run.proofs.pool_clears.clear_named.Goals as goal
 

@@ -12,7 +12,7 @@ use Rattle.pool_tree.specs.Tree.{map_of}
 use Rattle.pool_tree.specs.Payloads.{IsLastAt}
 use Rattle.brigade_ops.specs.House.{AreHoused}
 use Rattle.brigade_ops.proofs.Housed.{house_unlabelled}
-use Rattle.ring_run.specs.Seen.{seen_over}
+use Rattle.ring_calls.specs.Seen.{seen_over}
 use Rattle.ring_run.proofs.Killed.{killed_at, killed_none}
 use Rattle.ring_run.proofs.Trees.{over_pools}
 use Rattle.ring_run.proofs.pool_steps.unlabel.Goals as goal

@@ -9,21 +9,21 @@ use Rattle.run_model.specs.State.{set_cursor}
 use Rattle.run_model.specs.declared.bucket.Cursor.TheVariants as cursor
 use Rattle.run_model.specs.declared.bucket.Bucket.{Bucket}
 use Rattle.run_model.specs.declared.bucket.NamedBucket.{NamedBucket}
-use Rattle.brigade_ops.specs.declared.refusal.ReadRefusal.{ReadRefusal}
-use Rattle.brigade_ops.specs.declared.refusal.ReadRefusal.TheVariants as refusal
-use Rattle.brigade_ops.specs.Items.{named_item, replaced, rest_item}
+use Rattle.stored_rings.specs.declared.refusal.ReadRefusal.{ReadRefusal}
+use Rattle.stored_rings.specs.declared.refusal.ReadRefusal.TheVariants as refusal
+use Rattle.stored_rings.specs.Items.{named_item, replaced, rest_item}
 use Rattle.brigade_ops.specs.Store.{lists, brigade_of, pool_of, next_name}
-use Rattle.ring_run.specs.declared.machine.CursorValue.TheVariants as cursor_value
-use Rattle.ring_run.specs.Given.{WasRead}
-use Rattle.ring_run.specs.Held.{WasGiven}
-use Rattle.ring_run.specs.Seen.{seen_over, calls_in, item_in}
+use Rattle.ring_calls.specs.declared.machine.CursorValue.TheVariants as cursor_value
+use Rattle.ring_calls.specs.Given.{WasRead}
+use Rattle.ring_calls.specs.Held.{WasGiven}
+use Rattle.ring_calls.specs.Seen.{seen_over, calls_in, item_in}
 use Rattle.ring_run.proofs.BucketReads.{read_into, taken_of, none_given, is_wanted, told_none, told_some, done_read, rest_same, same_read, alive_at, next_is, next_rises, next_same, err_ok, name_later}
-use Rattle.ring_run.proofs.Changes.{seen_same}
-use Rattle.ring_run.proofs.LeftAlone.{left_on, left_same, ours_slot}
-use Rattle.ring_run.proofs.Names.{apart_in, held_kept, no_less, still_same, still_on}
-use Rattle.ring_run.proofs.Standing.{within_set, within_here, within_live}
-use Rattle.ring_run.proofs.Stands.{some_same}
-use Rattle.ring_run.proofs.Walks.{held_cursor, same_at}
+use Rattle.ring_calls.proofs.Changes.{seen_same}
+use Rattle.ring_calls.proofs.LeftAlone.{left_on, left_same, ours_slot}
+use Rattle.ring_calls.proofs.Names.{apart_in, held_kept, no_less, still_same, still_on}
+use Rattle.ring_calls.proofs.Standing.{within_set, within_here, within_live}
+use Rattle.ring_calls.proofs.Stands.{some_same}
+use Rattle.ring_calls.proofs.Walks.{held_cursor, same_at}
 use Rattle.ring_run.proofs.reads.read.Goals as goal
 
 pub bucket-id-requires-clause-at : goal.bucket-id-requires-clause-at
@@ -145,7 +145,7 @@ returns-in-Ok-clause-left g c =
     let s = within_here c.args.store.now c.args.instance.now c.args.call.now c.args.c c.requires.held c.requires.stands c.bucket-id.result c.bucket-id.ensures in
     let read = c.in-Ok.ensures.read s.bucket s.here in
     let gave = read.ok s.ring s.inside in
-    left_on c.args.store.now c.read.new.self (next_rises [] s.bucket (next_name c.args.store.now) (next_name c.read.new.self) read.names) c.read.ensures.names c.read.ensures.pools c.read.ensures.references
+    left_on c.args.store.now c.read.new.self (next_rises [] s.bucket (next_name c.args.store.now) (next_name c.read.new.self) read.names) c.read.ensures.names c.read.ensures.pools c.read.ensures.references c.read.ensures.unasked
     s.ring (replaced c.bucket-id.result (read_of gave.0 s.bucket).0 (rest_item c.in-Ok.field-0 (read_of gave.0 s.bucket).1)) gave.2 c.args.instance.now c.args.call.now (ours_slot c.args.instance.now c.args.call.now s.variable s.ring s.named)
 
 pub returns-in-Err-ReadFault-clause-left : goal.returns-in-Err-ReadFault-clause-left
@@ -153,21 +153,21 @@ returns-in-Err-ReadFault-clause-left g c =
     let s = within_here c.args.store.now c.args.instance.now c.args.call.now c.args.c c.requires.held c.requires.stands c.bucket-id.result c.bucket-id.ensures in
     let read = c.in-Err-ReadFault.ensures.read s.bucket s.here in
     let same = next_same (is_some (read_of [] s.bucket).1) (next_name c.args.store.now) (next_name c.read.new.self) read.names in
-    left_same c.args.store.now c.read.new.self (no_less (next_name c.args.store.now) (next_name c.read.new.self) same) c.read.ensures.names c.read.ensures.pools c.read.ensures.references c.in-Err-ReadFault.ensures.err c.args.instance.now c.args.call.now
+    left_same c.args.store.now c.read.new.self (no_less (next_name c.args.store.now) (next_name c.read.new.self) same) c.read.ensures.names c.read.ensures.pools c.read.ensures.references c.read.ensures.unasked c.in-Err-ReadFault.ensures.err c.args.instance.now c.args.call.now
 
 pub returns-in-Err-NoMemory-clause-left : goal.returns-in-Err-NoMemory-clause-left
 returns-in-Err-NoMemory-clause-left g c =
     let s = within_here c.args.store.now c.args.instance.now c.args.call.now c.args.c c.requires.held c.requires.stands c.bucket-id.result c.bucket-id.ensures in
     let read = c.in-Err-NoMemory.ensures.read s.bucket s.here in
     let same = next_same (is_some (read_of [] s.bucket).1) (next_name c.args.store.now) (next_name c.read.new.self) read.names in
-    left_same c.args.store.now c.read.new.self (no_less (next_name c.args.store.now) (next_name c.read.new.self) same) c.read.ensures.names c.read.ensures.pools c.read.ensures.references c.in-Err-NoMemory.ensures.err c.args.instance.now c.args.call.now
+    left_same c.args.store.now c.read.new.self (no_less (next_name c.args.store.now) (next_name c.read.new.self) same) c.read.ensures.names c.read.ensures.pools c.read.ensures.references c.read.ensures.unasked c.in-Err-NoMemory.ensures.err c.args.instance.now c.args.call.now
 
 pub returns-in-Err-NamesSpent-clause-left : goal.returns-in-Err-NamesSpent-clause-left
 returns-in-Err-NamesSpent-clause-left g c =
     let s = within_here c.args.store.now c.args.instance.now c.args.call.now c.args.c c.requires.held c.requires.stands c.bucket-id.result c.bucket-id.ensures in
     let read = c.in-Err-NamesSpent.ensures.read s.bucket s.here in
     let same = next_same (is_some (read_of [] s.bucket).1) (next_name c.args.store.now) (next_name c.read.new.self) read.names in
-    left_same c.args.store.now c.read.new.self (no_less (next_name c.args.store.now) (next_name c.read.new.self) same) c.read.ensures.names c.read.ensures.pools c.read.ensures.references c.in-Err-NamesSpent.ensures.err c.args.instance.now c.args.call.now
+    left_same c.args.store.now c.read.new.self (no_less (next_name c.args.store.now) (next_name c.read.new.self) same) c.read.ensures.names c.read.ensures.pools c.read.ensures.references c.read.ensures.unasked c.in-Err-NamesSpent.ensures.err c.args.instance.now c.args.call.now
 
 pub read-requires-clause-open : goal.read-requires-clause-open
 read-requires-clause-open g c =

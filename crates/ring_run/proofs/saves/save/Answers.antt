@@ -3,23 +3,23 @@ use Rattle.std.proofs.Common.{◌≡◌, ◌++◌, [], ℕ, Option, Some, None, 
 use Rattle.std.proofs.lemmas.Bool.{false≢true}
 use Rattle.bucket_ring.specs.Lists.{list_at}
 use Rattle.pool_tree.specs.Tree.{map_of}
-use Rattle.brigade_ops.specs.Items.{aside_item}
+use Rattle.stored_rings.specs.Items.{aside_item}
 use Rattle.brigade_ops.specs.Store.{lists, brigade_of, pool_of, next_name, references}
-use Rattle.ring_run.specs.declared.machine.Slot.TheVariants as slot
+use Rattle.ring_calls.specs.declared.machine.Slot.TheVariants as slot
 use Rattle.run_model.specs.declared.bucket.NamedBucket.{NamedBucket}
-use Rattle.ring_run.specs.Given.{RangeIsOpen}
+use Rattle.ring_calls.specs.Given.{RangeIsOpen}
 use Rattle.run_model.specs.BucketSteps.{items_at}
 use Rattle.run_model.specs.Effects.{made_on, new_ref}
 use Rattle.run_model.specs.Steps.{takes_reference}
-use Rattle.ring_run.specs.Seen.{seen_over, shown, calls_in}
-use Rattle.ring_run.specs.Slots.{slot_at, name_in}
-use Rattle.ring_run.proofs.Slots.{made_in, named_there}
-use Rattle.ring_run.proofs.Items.{items_live}
-use Rattle.ring_run.proofs.LeftAlone.{rest_both, rest_same, ours_slot}
-use Rattle.ring_run.proofs.OpenFiles.{refs_all, refs_same}
-use Rattle.ring_run.proofs.Names.{apart_in, held_kept, no_less, still_same, still_both, by_result}
+use Rattle.ring_calls.specs.Seen.{seen_over, shown, calls_in}
+use Rattle.ring_calls.specs.Slots.{slot_at, name_in}
+use Rattle.ring_calls.proofs.Slots.{made_in, named_there}
+use Rattle.ring_calls.proofs.Items.{items_live}
+use Rattle.ring_calls.proofs.LeftAlone.{rest_both, rest_same, ours_slot}
+use Rattle.ring_calls.proofs.OpenFiles.{refs_all, refs_same}
+use Rattle.ring_calls.proofs.Names.{apart_in, held_kept, no_less, still_same, still_both, by_result}
 use Rattle.ring_run.proofs.Saved.{made_loose, made_there, not_saved, saved}
-use Rattle.ring_run.proofs.Quiet.{none_referred}
+use Rattle.ring_calls.proofs.Quiet.{none_referred}
 use Rattle.ring_run.proofs.SetAside.{refs_shown}
 use Rattle.ring_run.proofs.Trees.{over_pools, on_both, on_both_err, seen_kept}
 use Rattle.ring_run.proofs.saves.save.Goals as goal
@@ -96,9 +96,9 @@ returns-clause-left g c =
     let lies : pool_of s c.in-Made.to ≡ Some on.0 = c.requires.on c.args.o c.in-Made.to (Some on.0) c.in-Made.field-2 (λ e. let first = c.requires.first in omega (arith, first, e)) is (named_there (lists s) (slot_at c.args.instance.now c.args.o) c.in-Made.to c.requires.live_into (ap name_in (sym c.in-Made.ensures))) in
     let rises = no_less (next_name s) (next_name c.save.new.self) c.save.ensures.next in
     by_result c.save.result _ _
-    (λ out. rest_both s c.save.new.self rises c.save.ensures.names c.save.ensures.pools c.in-Made.to c.brigade-from.result (λ xs. xs ++ map (aside_item ps on.0) (list_at (lists s) c.brigade-from.result)) (λ xs. []) (λ n. out on.0 n lies) i call
+    (λ out. rest_both s c.save.new.self rises c.save.ensures.names c.save.ensures.pools c.save.ensures.unasked c.in-Made.to c.brigade-from.result (λ xs. xs ++ map (aside_item ps on.0) (list_at (lists s) c.brigade-from.result)) (λ xs. []) (λ n. out on.0 n lies) i call
     (ours_slot i call c.args.o c.in-Made.to (ap name_in is)) (ours_slot i call c.args.b c.brigade-from.result c.brigade-from.ensures.name))
-    (λ out. rest_same s c.save.new.self rises c.save.ensures.names (λ n. ap (λ (f : ℕ → Option ℕ). f n) c.save.ensures.pools) out i call)
+    (λ out. rest_same s c.save.new.self rises c.save.ensures.names (λ n. ap (λ (f : ℕ → Option ℕ). f n) c.save.ensures.pools) c.save.ensures.unasked out i call)
     c.save.ensures.ok c.save.ensures.err
 
 pub returns-clause-open : goal.returns-clause-open

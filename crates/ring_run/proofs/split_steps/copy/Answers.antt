@@ -5,12 +5,12 @@ use Rattle.run_model.specs.BucketSteps.{copy_of, new_loose}
 use Rattle.run_model.specs.Faults.{home_fault}
 use Rattle.run_model.specs.declared.bucket.Bucket.{Bucket}
 use Rattle.run_model.specs.declared.bucket.NamedBucket.{NamedBucket}
-use Rattle.brigade_ops.specs.Items.{named_item}
+use Rattle.stored_rings.specs.Items.{named_item}
 use Rattle.brigade_ops.specs.Store.{lists, next_name}
 use Rattle.brigade_ops.proofs.Stores.{kept}
-use Rattle.ring_run.specs.Seen.{seen_over, calls_in, item_in}
-use Rattle.ring_run.proofs.Homes.{bucket_later, not_dead}
-use Rattle.ring_run.proofs.Standing.{bucket_set, bucket_here, bucket_live}
+use Rattle.ring_calls.specs.Seen.{seen_over, calls_in, item_in}
+use Rattle.ring_calls.proofs.Homes.{bucket_later, not_dead}
+use Rattle.ring_calls.proofs.Standing.{bucket_set, bucket_here, bucket_live}
 use Rattle.ring_run.proofs.split_steps.copy.Goals as goal
 
 pub bucket-id-requires-clause-at : goal.bucket-id-requires-clause-at

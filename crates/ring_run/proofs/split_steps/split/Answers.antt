@@ -7,17 +7,17 @@ use Rattle.run_model.specs.Cursors.{Place, bucket_at}
 use Rattle.run_model.specs.Cutting.{split_at, length_of}
 use Rattle.run_model.specs.Faults.{home_fault}
 use Rattle.run_model.specs.declared.bucket.NamedBucket.{NamedBucket}
-use Rattle.brigade_ops.specs.declared.refusal.SplitRefusal.TheVariants as refusal
-use Rattle.brigade_ops.specs.Items.{named_item, replaced}
+use Rattle.stored_rings.specs.declared.refusal.SplitRefusal.TheVariants as refusal
+use Rattle.stored_rings.specs.Items.{named_item, replaced}
 use Rattle.brigade_ops.specs.Store.{lists, brigade_of, pool_of, next_name}
-use Rattle.ring_run.specs.Seen.{seen_over, calls_in, item_in}
-use Rattle.ring_run.proofs.Changes.{seen_same}
-use Rattle.ring_run.proofs.Homes.{not_dead}
-use Rattle.ring_run.proofs.Names.{apart_in, held_kept, no_less, still_same, still_on}
-use Rattle.ring_run.proofs.Quiet.{refused_why, same_err, uncut}
+use Rattle.ring_calls.specs.Seen.{seen_over, calls_in, item_in}
+use Rattle.ring_calls.proofs.Changes.{seen_same}
+use Rattle.ring_calls.proofs.Homes.{not_dead}
+use Rattle.ring_calls.proofs.Names.{apart_in, held_kept, no_less, still_same, still_on}
+use Rattle.ring_calls.proofs.Quiet.{refused_why, same_err, uncut}
 use Rattle.ring_run.proofs.Splits.{split_into, not_refused, refused_data, refused_long, done_split, not_split, ok_data, ok_short, err_data, err_long}
-use Rattle.ring_run.proofs.Standing.{within_set, within_here, within_live}
-use Rattle.ring_run.proofs.LeftAlone.{left_on, left_same, ours_slot}
+use Rattle.ring_calls.proofs.Standing.{within_set, within_here, within_live}
+use Rattle.ring_calls.proofs.LeftAlone.{left_on, left_same, ours_slot}
 use Rattle.ring_run.proofs.split_steps.split.Goals as goal
 
 pub bucket-requires-clause-at : goal.bucket-requires-clause-at
@@ -100,19 +100,19 @@ pub returns-in-Ok-clause-left : goal.returns-in-Ok-clause-left
 returns-in-Ok-clause-left g c =
     let s = within_here c.args.store.now c.args.instance.now c.args.call.now c.args.c c.requires.held c.requires.stands c.bucket.result c.bucket.ensures in
     let rises : next_name c.args.store.now ≤ next_name c.split.new.self = let e = c.in-Ok.ensures.next in omega (arith, e) in
-    left_on c.args.store.now c.split.new.self rises c.split.ensures.names c.split.ensures.pools c.split.ensures.references s.ring (replaced c.bucket.result (split_at c.args.n s.bucket).0 ((c.in-Ok.field-0, (split_at c.args.n s.bucket).1) ∷ [])) (λ m. c.in-Ok.ensures.ok s.ring m s.bucket s.inside s.here) c.args.instance.now c.args.call.now (ours_slot c.args.instance.now c.args.call.now s.variable s.ring s.named)
+    left_on c.args.store.now c.split.new.self rises c.split.ensures.names c.split.ensures.pools c.split.ensures.references c.split.ensures.unasked s.ring (replaced c.bucket.result (split_at c.args.n s.bucket).0 ((c.in-Ok.field-0, (split_at c.args.n s.bucket).1) ∷ [])) (λ m. c.in-Ok.ensures.ok s.ring m s.bucket s.inside s.here) c.args.instance.now c.args.call.now (ours_slot c.args.instance.now c.args.call.now s.variable s.ring s.named)
 
 pub returns-in-Err-Metadata-clause-left : goal.returns-in-Err-Metadata-clause-left
-returns-in-Err-Metadata-clause-left g c = left_same c.args.store.now c.split.new.self (no_less (next_name c.args.store.now) (next_name c.split.new.self) c.in-Err-Metadata.ensures.next) c.split.ensures.names c.split.ensures.pools c.split.ensures.references c.in-Err-Metadata.ensures.err c.args.instance.now c.args.call.now
+returns-in-Err-Metadata-clause-left g c = left_same c.args.store.now c.split.new.self (no_less (next_name c.args.store.now) (next_name c.split.new.self) c.in-Err-Metadata.ensures.next) c.split.ensures.names c.split.ensures.pools c.split.ensures.references c.split.ensures.unasked c.in-Err-Metadata.ensures.err c.args.instance.now c.args.call.now
 
 pub returns-in-Err-TooLong-clause-left : goal.returns-in-Err-TooLong-clause-left
-returns-in-Err-TooLong-clause-left g c = left_same c.args.store.now c.split.new.self (no_less (next_name c.args.store.now) (next_name c.split.new.self) c.in-Err-TooLong.ensures.next) c.split.ensures.names c.split.ensures.pools c.split.ensures.references c.in-Err-TooLong.ensures.err c.args.instance.now c.args.call.now
+returns-in-Err-TooLong-clause-left g c = left_same c.args.store.now c.split.new.self (no_less (next_name c.args.store.now) (next_name c.split.new.self) c.in-Err-TooLong.ensures.next) c.split.ensures.names c.split.ensures.pools c.split.ensures.references c.split.ensures.unasked c.in-Err-TooLong.ensures.err c.args.instance.now c.args.call.now
 
 pub returns-in-Err-NoMemory-clause-left : goal.returns-in-Err-NoMemory-clause-left
-returns-in-Err-NoMemory-clause-left g c = left_same c.args.store.now c.split.new.self (no_less (next_name c.args.store.now) (next_name c.split.new.self) c.in-Err-NoMemory.ensures.next) c.split.ensures.names c.split.ensures.pools c.split.ensures.references c.in-Err-NoMemory.ensures.err c.args.instance.now c.args.call.now
+returns-in-Err-NoMemory-clause-left g c = left_same c.args.store.now c.split.new.self (no_less (next_name c.args.store.now) (next_name c.split.new.self) c.in-Err-NoMemory.ensures.next) c.split.ensures.names c.split.ensures.pools c.split.ensures.references c.split.ensures.unasked c.in-Err-NoMemory.ensures.err c.args.instance.now c.args.call.now
 
 pub returns-in-Err-NamesSpent-clause-left : goal.returns-in-Err-NamesSpent-clause-left
-returns-in-Err-NamesSpent-clause-left g c = left_same c.args.store.now c.split.new.self (no_less (next_name c.args.store.now) (next_name c.split.new.self) c.in-Err-NamesSpent.ensures.next) c.split.ensures.names c.split.ensures.pools c.split.ensures.references c.in-Err-NamesSpent.ensures.err c.args.instance.now c.args.call.now
+returns-in-Err-NamesSpent-clause-left g c = left_same c.args.store.now c.split.new.self (no_less (next_name c.args.store.now) (next_name c.split.new.self) c.in-Err-NamesSpent.ensures.next) c.split.ensures.names c.split.ensures.pools c.split.ensures.references c.split.ensures.unasked c.in-Err-NamesSpent.ensures.err c.args.instance.now c.args.call.now
 
 pub returns-in-Err-NoMemory-clause-sure : goal.returns-in-Err-NoMemory-clause-sure
 returns-in-Err-NoMemory-clause-sure g c around none =

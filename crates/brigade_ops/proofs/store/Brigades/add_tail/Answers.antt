@@ -1,9 +1,9 @@
 use Rattle.std.proofs.Common.{is_some, ap, ◌∙◌}
 use Rattle.run_model.specs.declared.bucket.Bucket.{Bucket}
 use Rattle.bucket_ring.specs.Lists.{on, put_tail}
-use Rattle.brigade_ops.specs.Shelf.{seen}
+use Rattle.stored_rings.specs.Shelf.{seen}
 use Rattle.brigade_ops.specs.Store.{lists}
-use Rattle.brigade_ops.proofs.Shown.{on_cong}
+use Rattle.stored_rings.proofs.Shown.{on_cong}
 use Rattle.brigade_ops.proofs.store.Brigades.add_tail.Goals as goal
 
 pub add_tail-requires-clause-there : goal.add_tail-requires-clause-there

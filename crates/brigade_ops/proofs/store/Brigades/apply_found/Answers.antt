@@ -3,15 +3,15 @@ use Rattle.std.specs.Option.{option_map}
 use Rattle.std.proofs.lemmas.List.{drop_more, drop_all}
 use Rattle.run_model.specs.declared.bucket.Home.TheVariants as home
 use Rattle.run_model.specs.declared.bucket.Kind.TheVariants as kind
-use Rattle.brigade_ops.specs.declared.morphs.Morph.{Morph}
-use Rattle.brigade_ops.specs.Morphs.{all_morphed}
+use Rattle.stored_rings.specs.declared.morph.Morph.{Morph}
+use Rattle.stored_rings.specs.Morphs.{all_morphed}
 use Rattle.bucket_ring.specs.Laws.{none_revived_twice}
 use Rattle.brigade_ops.specs.Store.{lists, brigade_of, next_name}
-use Rattle.brigade_ops.proofs.Cleared.{morphs_step, morphs_none}
+use Rattle.stored_rings.proofs.Cleared.{morphs_step, morphs_none}
 use Rattle.brigade_ops.proofs.store.Brigades.apply_found.Goals as goal
 
 pub loop-morph-init : goal.loop-morph-init
-loop-morph-init g c = record { out = λ n. refl; next = refl; names = λ id there young. there; pools = refl; references = refl }
+loop-morph-init g c = record { out = λ n. refl; next = refl; names = λ id there young. there; pools = refl; references = refl; asked = refl }
 
 pub loop-morph-preserved : goal.loop-morph-preserved
 loop-morph-preserved g c =
@@ -32,6 +32,7 @@ loop-morph-preserved g c =
           (omega (arith, c.loop-morph.invariant.next)) c.loop-morph.invariant.names c.apply_morph.ensures.names;
       pools = c.apply_morph.ensures.pools ∙ c.loop-morph.invariant.pools;
       references = c.apply_morph.ensures.references ∙ c.loop-morph.invariant.references;
+      asked = c.apply_morph.ensures.unasked ∙ c.loop-morph.invariant.asked;
     }
 
 pub returns-clause-out : goal.returns-clause-out

@@ -1,7 +1,7 @@
 -- What is left to do makes of the store what all of it makes of the store that was.
 use Rattle.std.proofs.Common.{◌≡◌, ℕ, drop}
 use Rattle.std.specs.Option.{option_map}
-use Rattle.brigade_ops.specs.Morphs.{all_morphed}
+use Rattle.stored_rings.specs.Morphs.{all_morphed}
 use Rattle.bucket_ring.specs.Kept.{NoneRevived}
 use Rattle.brigade_ops.specs.Store.{lists, brigade_of, pool_of, next_name, references}
 use Rattle.brigade_ops.proofs.store.Brigades.apply_found.Given as goal
@@ -13,4 +13,5 @@ invariant-loop-morph g l = record {
   names : NoneRevived (brigade_of l.initial.self) (brigade_of l.self) (next_name l.initial.self);
   pools : pool_of l.self ≡ pool_of l.initial.self;
   references : references l.self ≡ references l.initial.self;
+  asked : l.self.asked ≡ l.initial.self.asked;
 }

@@ -5,11 +5,11 @@ use Rattle.run_model.specs.Steps.{is_above}
 use Rattle.pool_tree.specs.Tree.{map_of}
 use Rattle.bucket_ring.specs.declared.names.BucketId.{BucketId}
 use Rattle.bucket_ring.specs.Lists.{on, list_at, with_payload}
-use Rattle.brigade_ops.specs.Items.{Items, count_for}
+use Rattle.stored_rings.specs.Items.{Items, count_for}
 use Rattle.brigade_ops.specs.Store.{lists, brigade_of, pool_of, references}
 use Rattle.brigade_ops.proofs.Housed.{house_stays, on_some}
-use Rattle.brigade_ops.proofs.Lists.{some_of}
-use Rattle.brigade_ops.proofs.Saves.{found_some}
+use Rattle.stored_rings.proofs.Lists.{some_of}
+use Rattle.stored_rings.proofs.Saves.{found_some}
 use Rattle.brigade_ops.proofs.Stores.{found_in, found_bucket}
 use Rattle.brigade_ops.proofs.store.Brigades.aside.Goals as goal
 

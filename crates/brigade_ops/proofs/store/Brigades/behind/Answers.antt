@@ -1,12 +1,12 @@
 use Rattle.std.proofs.Common.{◌∷◌, drop, sym, ap, ◌∙◌}
 use Rattle.bucket_ring.specs.Lists.{list_at, times, rest, first_of, found}
 use Rattle.bucket_ring.specs.Laws.{next_found}
-use Rattle.brigade_ops.specs.Items.{Item, Items}
+use Rattle.stored_rings.specs.Items.{Item, Items}
 use Rattle.brigade_ops.specs.Store.{lists, brigade_of, bucket_at}
-use Rattle.brigade_ops.proofs.Lists.{and_then_told, rest_head}
-use Rattle.brigade_ops.proofs.Walks.{once_listed, behind_some, behind_none, goes_on, goes_no_further}
-use Rattle.brigade_ops.specs.Shelf.{seen}
-use Rattle.brigade_ops.proofs.Shelves.{counted, in_found}
+use Rattle.stored_rings.proofs.Lists.{and_then_told, rest_head}
+use Rattle.stored_rings.proofs.Walks.{once_listed, behind_some, behind_none, goes_on, goes_no_further}
+use Rattle.stored_rings.specs.Shelf.{seen}
+use Rattle.stored_rings.proofs.Shelves.{counted, in_found}
 use Rattle.brigade_ops.proofs.store.Brigades.behind.Goals as goal
 
 pub returns-in-Ok-clause-next : goal.returns-in-Ok-clause-next

@@ -3,12 +3,12 @@ use Rattle.std.proofs.lemmas.Option.{same_Some}
 use Rattle.run_model.specs.declared.bucket.Bucket.{Bucket}
 use Rattle.bucket_ring.specs.Lists.{on, put_tail}
 use Rattle.bucket_kinds.specs.Stored.{shown}
-use Rattle.brigade_ops.specs.declared.regions.Regions.{Regions}
-use Rattle.brigade_ops.specs.Items.{Item}
-use Rattle.brigade_ops.specs.Regions.{look}
-use Rattle.brigade_ops.specs.Shelf.{seen}
+use Rattle.stored_rings.specs.declared.regions.Regions.{Regions}
+use Rattle.stored_rings.specs.Items.{Item}
+use Rattle.stored_rings.specs.Regions.{look}
+use Rattle.stored_rings.specs.Shelf.{seen}
 use Rattle.brigade_ops.specs.Store.{lists}
-use Rattle.brigade_ops.proofs.Shown.{on_cong}
+use Rattle.stored_rings.proofs.Shown.{on_cong}
 use Rattle.brigade_ops.proofs.store.Brigades.copy.Goals as goal
 
 pub add_tail-requires-clause-there : goal.add_tail-requires-clause-there

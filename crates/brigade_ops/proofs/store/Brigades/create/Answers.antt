@@ -9,12 +9,12 @@ use Rattle.pool_tree.specs.Tree.{map_of}
 use Rattle.pool_tree.proofs.Trees.{tree_formed}
 use Rattle.bucket_ring.specs.Lists.{upd}
 use Rattle.brigade_ops.specs.House.{AreHoused}
-use Rattle.brigade_ops.specs.Numbers.{number_at}
+use Rattle.stored_rings.specs.Numbers.{number_at}
 use Rattle.brigade_ops.specs.Store.{lists, pool_of, next_name, references}
 use Rattle.brigade_ops.proofs.Housed.{house_stays, house_made}
 use Rattle.brigade_ops.proofs.Stores.{brigades}
 use Rattle.brigade_ops.proofs.Undone.{killed_again, live_registered}
-use Rattle.brigade_ops.specs.Shelf.{seen}
+use Rattle.stored_rings.specs.Shelf.{seen}
 use Rattle.brigade_ops.proofs.store.Brigades.create.Goals as goal
 
 pub kill-killed-requires : goal.kill-killed-requires

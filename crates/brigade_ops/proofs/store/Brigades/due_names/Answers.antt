@@ -3,18 +3,19 @@ use Rattle.std.proofs.lemmas.Bool.{and_parts, false≢true}
 use Rattle.std.proofs.lemmas.List.{take_more, take_all}
 use Rattle.run_model.specs.Pools.{is_in}
 use Rattle.bucket_ring.specs.declared.names.BucketId.{BucketId}
-use Rattle.brigade_ops.specs.Dependents.{names_of, noted}
+use Rattle.stored_rings.specs.Dependents.{names_of, noted}
 use Rattle.run_model.specs.declared.bucket.Bucket.{Bucket}
 use Rattle.bucket_kinds.specs.Stored.{shown}
-use Rattle.brigade_ops.specs.Due.{depends, is_due, is_reached}
-use Rattle.brigade_ops.specs.Regions.{look}
-use Rattle.brigade_ops.specs.Shelf.{seen}
-use Rattle.brigade_ops.proofs.Shown.{found_stored}
-use Rattle.brigade_ops.specs.Morphs.{is_named}
+use Rattle.brigade_ops.specs.Due.{is_reached}
+use Rattle.stored_rings.specs.Due.{depends, is_due}
+use Rattle.stored_rings.specs.Regions.{look}
+use Rattle.stored_rings.specs.Shelf.{seen}
+use Rattle.stored_rings.proofs.Shown.{found_stored}
+use Rattle.stored_rings.specs.Morphs.{is_named}
 use Rattle.brigade_ops.specs.Store.{lists, brigade_of, bucket_at}
-use Rattle.brigade_ops.proofs.DueBuckets.{named_filtered, named_joined, either_named, first_named, second_named, in_pushed, due_parts, under_one}
-use Rattle.brigade_ops.proofs.Noted.{all_found}
-use Rattle.brigade_ops.specs.Noted.{is_noted}
+use Rattle.stored_rings.proofs.DueBuckets.{named_filtered, named_joined, either_named, first_named, second_named, in_pushed, due_parts, under_one}
+use Rattle.stored_rings.proofs.Noted.{all_found}
+use Rattle.stored_rings.specs.Noted.{is_noted}
 use Rattle.brigade_ops.proofs.Stores.{bucket_found}
 use Rattle.brigade_ops.proofs.store.Brigades.due_names.Goals as goal
 

@@ -70,6 +70,7 @@ loop-entry-preserved g c =
         plan = c.end_payload.ensures.others.plan ∙ c.loop-entry.invariant.others.plan;
       };
       next = c.end_payload.ensures.next ∙ c.loop-entry.invariant.next;
+      asked = c.end_payload.ensures.unasked ∙ c.loop-entry.invariant.asked;
       names = none_revived_twice (brigade_of c.args.self.now) (brigade_of c.loop-entry.self) (brigade_of c.end_payload.new.self) (next_name c.args.self.now) (next_name c.loop-entry.self)
           (omega (arith, c.loop-entry.invariant.next)) c.loop-entry.invariant.names c.end_payload.ensures.names;
     }

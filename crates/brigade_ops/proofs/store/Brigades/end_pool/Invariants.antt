@@ -20,4 +20,5 @@ invariant-loop-entry g l = record {
   others : SameButOpen (g.F.Files.device l.initial.files) (g.F.Files.device l.files);
   next : next_name l.self ≡ next_name l.initial.self;
   names : NoneRevived (brigade_of l.initial.self) (brigade_of l.self) (next_name l.initial.self);
+  asked : l.self.asked ≡ l.initial.self.asked;
 }

@@ -3,12 +3,12 @@ use Rattle.std.specs.List.{cons_option}
 use Rattle.run_model.specs.Steps.{new_ref}
 use Rattle.pool_tree.specs.Tree.{map_of}
 use Rattle.bucket_ring.specs.Lists.{list_at, rest}
-use Rattle.brigade_ops.specs.Items.{Items, named, from_place, file_for}
+use Rattle.stored_rings.specs.Items.{Items, named, from_place, file_for}
 use Rattle.brigade_ops.specs.Store.{lists, brigade_of, bucket_at}
-use Rattle.brigade_ops.proofs.Walks.{told_some, fewer_behind}
-use Rattle.brigade_ops.proofs.Saves.{found_some, files_step, here_at, none_put}
-use Rattle.brigade_ops.specs.Shelf.{seen}
-use Rattle.brigade_ops.proofs.Shelves.{found_in}
+use Rattle.stored_rings.proofs.Walks.{told_some, fewer_behind}
+use Rattle.stored_rings.proofs.Saves.{found_some, files_step, here_at, none_put}
+use Rattle.stored_rings.specs.Shelf.{seen}
+use Rattle.stored_rings.proofs.Shelves.{found_in}
 use Rattle.brigade_ops.proofs.store.Brigades.files_for.Goals as goal
 
 pub loop-place-smaller : goal.loop-place-smaller

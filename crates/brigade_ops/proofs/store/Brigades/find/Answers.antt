@@ -1,11 +1,11 @@
 use Rattle.std.proofs.Common.{◌≡◌, ◌-◌, ◌<◌, Some, drop, sym, ap, ◌∙◌}
 use Rattle.bucket_ring.specs.Lists.{list_at, rest}
 use Rattle.run_model.specs.Cutting.{length_of}
-use Rattle.brigade_ops.specs.Items.{Items, from_place}
-use Rattle.brigade_ops.specs.Points.{point_in}
+use Rattle.stored_rings.specs.Items.{Items, from_place}
+use Rattle.stored_rings.specs.Points.{point_in}
 use Rattle.brigade_ops.specs.Store.{lists, brigade_of}
-use Rattle.brigade_ops.proofs.Points.{before_first, inside_first, past_first, end_at, end_short}
-use Rattle.brigade_ops.proofs.Walks.{told_some}
+use Rattle.stored_rings.proofs.Points.{before_first, inside_first, past_first, end_at, end_short}
+use Rattle.stored_rings.proofs.Walks.{told_some}
 use Rattle.brigade_ops.proofs.store.Brigades.find.Goals as goal
 
 pub returns-then-left-eq0-clause-value : goal.returns-then-left-eq0-clause-value

@@ -1,8 +1,8 @@
 use Rattle.std.proofs.Common.{◌≡◌, Some, length}
 use Rattle.bucket_ring.specs.declared.names.BucketId.{BucketId}
 use Rattle.bucket_ring.specs.Lists.{list_at}
-use Rattle.brigade_ops.specs.Items.{from_place}
-use Rattle.brigade_ops.specs.Points.{point_in}
+use Rattle.stored_rings.specs.Items.{from_place}
+use Rattle.stored_rings.specs.Points.{point_in}
 use Rattle.brigade_ops.specs.Store.{lists, brigade_of}
 use Rattle.brigade_ops.proofs.store.Brigades.find.Given as goal
 

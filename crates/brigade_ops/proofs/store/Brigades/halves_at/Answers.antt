@@ -5,10 +5,10 @@ use Rattle.run_model.specs.Cutting.{split_at}
 use Rattle.bucket_kinds.specs.declared.stored.Stored.{Stored}
 use Rattle.bucket_kinds.specs.Stored.{shown}
 use Rattle.bucket_kinds.proofs.Places.{parts_shown}
-use Rattle.brigade_ops.specs.Regions.{look}
-use Rattle.brigade_ops.specs.Shown.{lies_right}
-use Rattle.brigade_ops.proofs.Lying.{front_lies, rest_lies}
-use Rattle.brigade_ops.proofs.Shown.{if_ok_and, if_ok_then}
+use Rattle.stored_rings.specs.Regions.{look}
+use Rattle.stored_rings.specs.Shown.{lies_right}
+use Rattle.stored_rings.proofs.Lying.{front_lies, rest_lies}
+use Rattle.stored_rings.proofs.Shown.{if_ok_and, if_ok_then}
 use Rattle.brigade_ops.proofs.store.Brigades.halves_at.Goals as goal
 
 pub returns-clause-rest : goal.returns-clause-rest

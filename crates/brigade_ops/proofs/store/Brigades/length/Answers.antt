@@ -1,9 +1,9 @@
 use Rattle.std.proofs.Common.{◌≡◌, ◌+◌, ◌*◌, ◌≤◌, Some, length, ap, arith}
 use Rattle.run_model.specs.BrigadeLists.{length_in}
 use Rattle.bucket_ring.specs.Lists.{list_at, rest}
-use Rattle.brigade_ops.specs.Items.{Items, named, from_place}
+use Rattle.stored_rings.specs.Items.{Items, named, from_place}
 use Rattle.brigade_ops.specs.Store.{lists, brigade_of}
-use Rattle.brigade_ops.proofs.Walks.{told_some, at_end}
+use Rattle.stored_rings.proofs.Walks.{told_some, at_end}
 use Rattle.brigade_ops.proofs.store.Brigades.length.Goals as goal
 
 pub overflow_add-total : goal.overflow_add-total

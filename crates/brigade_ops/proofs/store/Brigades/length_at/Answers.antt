@@ -1,12 +1,12 @@
 use Rattle.std.proofs.Common.{◌+◌, sym, ap, ◌∙◌, drop, add-one}
 use Rattle.run_model.specs.BrigadeLists.{length_in}
 use Rattle.bucket_ring.specs.Lists.{list_at, rest, found}
-use Rattle.brigade_ops.specs.Views.{bucket_of}
-use Rattle.brigade_ops.specs.Items.{named}
+use Rattle.stored_rings.specs.Views.{bucket_of}
+use Rattle.stored_rings.specs.Items.{named}
 use Rattle.brigade_ops.specs.Store.{lists, brigade_of, bucket_at}
-use Rattle.brigade_ops.proofs.Lists.{and_then_told, rest_head}
-use Rattle.brigade_ops.proofs.Walks.{length_head, count_head}
-use Rattle.brigade_ops.specs.Shelf.{seen}
+use Rattle.stored_rings.proofs.Lists.{and_then_told, rest_head}
+use Rattle.stored_rings.proofs.Walks.{length_head, count_head}
+use Rattle.stored_rings.specs.Shelf.{seen}
 use Rattle.brigade_ops.proofs.store.Brigades.length_at.Goals as goal
 
 pub returns-clause-one : goal.returns-clause-one

@@ -1,6 +1,6 @@
 use Rattle.std.proofs.Common.{ap, ◌∙◌}
 use Rattle.bucket_kinds.specs.Device.{Device}
-use Rattle.brigade_ops.specs.Numbers.{number_at}
+use Rattle.stored_rings.specs.Numbers.{number_at}
 use Rattle.brigade_ops.specs.Store.{references}
 use Rattle.brigade_ops.proofs.Ended.{closed_one}
 use Rattle.brigade_ops.proofs.store.Brigades.let_go.Goals as goal

@@ -3,13 +3,13 @@ use Rattle.std.proofs.Common.{◌≡◌, ◌<◌, true, false, Err, sym, ap, ◌
 use Rattle.run_model.specs.Buckets.{is_data_kind}
 use Rattle.run_model.specs.Cutting.{length_of}
 use Rattle.bucket_ring.specs.Lists.{list_at}
-use Rattle.brigade_ops.specs.declared.refusal.SplitRefusal.{SplitRefusal}
-use Rattle.brigade_ops.specs.Items.{Items}
+use Rattle.stored_rings.specs.declared.refusal.SplitRefusal.{SplitRefusal}
+use Rattle.stored_rings.specs.Items.{Items}
 use Rattle.brigade_ops.specs.Store.{lists, brigade_of}
-use Rattle.brigade_ops.proofs.Parts.{inside_short, bytes_are_data}
-use Rattle.brigade_ops.proofs.Saves.{found_some}
+use Rattle.stored_rings.proofs.Parts.{inside_short, bytes_are_data}
+use Rattle.stored_rings.proofs.Saves.{found_some}
 use Rattle.brigade_ops.proofs.Stores.{counted, found_in, found_bucket}
-use Rattle.brigade_ops.proofs.Walks.{once_listed}
+use Rattle.stored_rings.proofs.Walks.{once_listed}
 use Rattle.brigade_ops.proofs.store.Brigades.partition.Goals as goal
 
 pub unreachable-requires : goal.unreachable-requires

@@ -2,15 +2,15 @@ use Rattle.std.proofs.Common.{◌≡◌, ◌≢◌, ◌+◌, ℕ, true, false, c
 use Rattle.std.proofs.lemmas.List.{take_more, take_all}
 use Rattle.run_model.specs.declared.bucket.Bucket.{Bucket}
 use Rattle.run_model.specs.Pools.{is_in}
-use Rattle.brigade_ops.specs.declared.morphs.Morph.{Morph}
+use Rattle.stored_rings.specs.declared.morph.Morph.{Morph}
 use Rattle.brigade_ops.specs.Due.{is_reached}
-use Rattle.brigade_ops.specs.Morphs.{morphed, cleared_as}
+use Rattle.stored_rings.specs.Morphs.{morphed, cleared_as}
 use Rattle.brigade_ops.specs.Store.{lists, brigade_of}
-use Rattle.brigade_ops.proofs.Cleared.{morphed_none}
+use Rattle.stored_rings.proofs.Cleared.{morphed_none}
 use Rattle.brigade_ops.proofs.Plans.{as_it_was, ring_step, ring_made, bucket_in}
 use Rattle.brigade_ops.proofs.Stores.{counted, in_found, found_bucket, brigade_there}
-use Rattle.brigade_ops.proofs.Walks.{once_listed}
-use Rattle.brigade_ops.proofs.store.Brigades.plan_by_walk.Goals.{then-has+in_ok-plan_ring, else-has}
+use Rattle.stored_rings.proofs.Walks.{once_listed}
+use Rattle.brigade_ops.proofs.store.Brigades.plan_by_walk.Goals.{then-has_ring+in_ok-plan_ring, else-has_ring}
 use Rattle.brigade_ops.proofs.store.Brigades.plan_by_walk.Goals as goal
 
 pub loop-ring-init : goal.loop-ring-init
@@ -22,6 +22,7 @@ plan_ring-requires-clause-begun g c id x there =
     as_it_was (is_reached c.args.reached.now) c.loop-ring.found id x (is_in at.0 (take c.loop-ring.ring-index c.args.rings.now)) (c.loop-ring.invariant id at.0 x at.1 there)
 
 pub loop-ring-preserved : goal.loop-ring-preserved
+unfolding lists
 loop-ring-preserved g c id b x at there =
     let store = c.args.self.now in
     let rings = c.args.rings.now in
@@ -29,17 +30,17 @@ loop-ring-preserved g c id b x at there =
     let ring : ℕ = get_or rings i 0 in
     let done : Bucket = cleared_as (is_reached c.args.reached.now) x in
     let old = c.loop-ring.invariant id b x at there in
-    let step : (ring ≡ b → morphed c.if-has.found id x ≡ done) → (ring ≢ b → morphed c.if-has.found id x ≡ morphed c.loop-ring.found id x) → morphed c.if-has.found id x ≡ cond (is_in b (take (i + 1) rings)) done x
-    = λ here other. (ring_step b ring (take i rings) (morphed c.if-has.found id x) (morphed c.loop-ring.found id x) done x old here other
+    let step : (ring ≡ b → morphed c.if-has_ring.found id x ≡ done) → (ring ≢ b → morphed c.if-has_ring.found id x ≡ morphed c.loop-ring.found id x) → morphed c.if-has_ring.found id x ≡ cond (is_in b (take (i + 1) rings)) done x
+    = λ here other. (ring_step b ring (take i rings) (morphed c.if-has_ring.found id x) (morphed c.loop-ring.found id x) done x old here other
     ∙ ap (λ (names : List ℕ). cond (is_in b names) done x) (sym (take_more rings i 0 c.loop-ring-test.true))) in
-    elim c.if-has.branch [
-      | then-has+in_ok-plan_ring w ↦
+    elim c.if-has_ring.branch [
+      | then-has_ring+in_ok-plan_ring w ↦
           step
           (λ e. ap (λ (ms : List Morph). morphed ms id x) w.found-is ∙ w.in_ok-plan_ring.ensures.ready id x (at ∙ ap (λ (n : ℕ). Some n) (sym e)) there)
           (λ ne. ap (λ (ms : List Morph). morphed ms id x) w.found-is ∙ w.in_ok-plan_ring.ensures.others id b x at (λ e. ne (sym e)))
-      | else-has w ↦
+      | else-has_ring w ↦
           step
-          (λ e. absurd (let both : true ≡ false = sym (ap (λ (n : ℕ). is_some (lists store n)) e ∙ brigade_there store id b at) ∙ (sym c.has.ensures ∙ w.if-has.false) in cc))
+          (λ e. absurd (let both : true ≡ false = sym (ap (λ (n : ℕ). is_some (lists store n)) e ∙ brigade_there store id b at) ∙ (sym c.has_ring.ensures ∙ w.if-has_ring.false) in cc))
           (λ ne. ap (λ (ms : List Morph). morphed ms id x) w.found-is)
     ]
 

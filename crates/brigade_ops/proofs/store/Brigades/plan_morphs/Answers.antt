@@ -1,18 +1,16 @@
-use Rattle.std.proofs.Common.{◌≡◌, ◌&&◌, ℕ, Bool, true, cond, Some, is_some, List, sym, ap, subst, ◌∙◌}
+use Rattle.std.proofs.Common.{◌≡◌, ℕ, Bool, cond, is_some, List, sym, ap, subst, ◌∙◌}
 use Rattle.std.specs.Option.{option_map}
-use Rattle.std.specs.Result.{IfOk}
-use Rattle.run_model.specs.declared.bucket.Bucket.{Bucket}
 use Rattle.run_model.specs.Pools.{is_under, is_in}
 use Rattle.pool_tree.specs.Tree.{map_of}
 use Rattle.bucket_ring.specs.declared.names.BucketId.{BucketId}
-use Rattle.brigade_ops.specs.Due.{depends, is_reached}
+use Rattle.brigade_ops.specs.Due.{is_reached}
 use Rattle.brigade_ops.specs.House.{cleared_items}
-use Rattle.brigade_ops.specs.Morphs.{morphed, all_morphed, cleared_as, is_named}
+use Rattle.stored_rings.specs.Morphs.{all_morphed, cleared_as, is_named}
 use Rattle.brigade_ops.specs.Store.{lists, brigade_of, bucket_at}
-use Rattle.brigade_ops.proofs.DueBuckets.{due_made, due_is}
+use Rattle.stored_rings.proofs.DueBuckets.{due_made, due_is}
 use Rattle.brigade_ops.proofs.Plans.{ring_made}
 use Rattle.brigade_ops.proofs.Stores.{counted, in_found, found_bucket}
-use Rattle.brigade_ops.proofs.Walks.{once_listed}
+use Rattle.stored_rings.proofs.Walks.{once_listed}
 use Rattle.brigade_ops.proofs.store.Brigades.plan_morphs.Goals as goal
 
 pub returns-then-is_lost-clause-made : goal.returns-then-is_lost-clause-made

@@ -5,14 +5,14 @@ use Rattle.run_model.specs.Steps.{is_above}
 use Rattle.pool_tree.specs.Tree.{map_of}
 use Rattle.bucket_ring.specs.Laws.{none_revived_twice}
 use Rattle.bucket_ring.specs.Lists.{on, list_at, found, rest, with_payload}
-use Rattle.brigade_ops.specs.Views.{bucket_of}
-use Rattle.brigade_ops.specs.Items.{Items, from_place, aside_behind}
+use Rattle.stored_rings.specs.Views.{bucket_of}
+use Rattle.stored_rings.specs.Items.{Items, from_place, aside_behind}
 use Rattle.brigade_ops.specs.Store.{lists, brigade_of, bucket_at, next_name}
-use Rattle.brigade_ops.proofs.Lists.{and_then_told, found_set, list_on, on_after, on_same}
-use Rattle.brigade_ops.proofs.Walks.{told_some}
-use Rattle.brigade_ops.proofs.Saves.{aside_step, fewer_left, none_left}
-use Rattle.brigade_ops.specs.Shelf.{seen}
-use Rattle.brigade_ops.proofs.Shelves.{found_in, in_found, ring_there}
+use Rattle.stored_rings.proofs.Lists.{and_then_told, found_set, list_on, on_after, on_same}
+use Rattle.stored_rings.proofs.Walks.{told_some}
+use Rattle.stored_rings.proofs.Saves.{aside_step, fewer_left, none_left}
+use Rattle.stored_rings.specs.Shelf.{seen}
+use Rattle.stored_rings.proofs.Shelves.{found_in, in_found, ring_there}
 use Rattle.brigade_ops.proofs.store.Brigades.put_all_aside.Goals as goal
 use Rattle.brigade_ops.proofs.store.Brigades.put_all_aside.Goals.{After-put_aside}
 
@@ -90,6 +90,7 @@ loop-place-preserved g c =
           (omega (arith, c.loop-place.invariant.next)) c.loop-place.invariant.names c.put_aside.ensures.names;
       pools = c.put_aside.ensures.pools ∙ c.loop-place.invariant.pools;
       references = c.put_aside.ensures.references ∙ c.loop-place.invariant.references;
+      asked = c.put_aside.ensures.unasked ∙ c.loop-place.invariant.asked;
     }
 
 pub returns-clause-out : goal.returns-clause-out

@@ -4,7 +4,7 @@ use Rattle.pool_tree.specs.Tree.{map_of}
 use Rattle.bucket_ring.specs.declared.names.BucketId.{BucketId}
 use Rattle.bucket_ring.specs.Lists.{on, list_at}
 use Rattle.bucket_ring.specs.Kept.{NoneRevived}
-use Rattle.brigade_ops.specs.Items.{from_place, aside_behind}
+use Rattle.stored_rings.specs.Items.{from_place, aside_behind}
 use Rattle.brigade_ops.specs.Store.{lists, brigade_of, pool_of, next_name, references}
 use Rattle.brigade_ops.proofs.store.Brigades.put_all_aside.Given as goal
 
@@ -16,6 +16,7 @@ invariant-loop-place g l = record {
   names : NoneRevived (brigade_of l.initial.self) (brigade_of l.self) (next_name l.initial.self);
   pools : pool_of l.self ≡ pool_of l.initial.self;
   references : references l.self ≡ references l.initial.self;
+  asked : l.self.asked ≡ l.initial.self.asked;
 }
 
 abbrev pub decreases-loop-place : goal.decreases-loop-place

@@ -2,12 +2,12 @@ use Rattle.std.proofs.Common.{◌≡◌, is_some, None, ap, ◌∙◌, arith}
 use Rattle.bucket_ring.specs.Lists.{list_at, found, put_after, times}
 use Rattle.bucket_ring.specs.Kept.{once_in}
 use Rattle.bucket_kinds.specs.Stored.{shown}
-use Rattle.brigade_ops.specs.Items.{Item, Items}
-use Rattle.brigade_ops.specs.Regions.{look}
-use Rattle.brigade_ops.specs.Shelf.{seen}
+use Rattle.stored_rings.specs.Items.{Item, Items}
+use Rattle.stored_rings.specs.Regions.{look}
+use Rattle.stored_rings.specs.Shelf.{seen}
 use Rattle.brigade_ops.specs.Store.{lists, brigade_of}
-use Rattle.brigade_ops.proofs.Lists.{list_on, found_behind, found_put, not_some}
-use Rattle.brigade_ops.proofs.Shelves.{counted, found_in, in_found, ring_there, young}
+use Rattle.stored_rings.proofs.Lists.{list_on, found_behind, found_put, not_some}
+use Rattle.stored_rings.proofs.Shelves.{counted, found_in, in_found, ring_there, young}
 use Rattle.brigade_ops.proofs.store.Brigades.put_behind.Goals as goal
 
 pub returns-clause-still : goal.returns-clause-still

@@ -2,12 +2,12 @@ use Rattle.std.proofs.Common.{◌≡◌, ◌∷◌, [], Option, ap, ◌∙◌}
 use Rattle.run_model.specs.declared.bucket.Bucket.{Bucket}
 use Rattle.run_model.specs.Cutting.{read_of}
 use Rattle.bucket_ring.specs.Lists.{list_at, put_after, with_payload}
-use Rattle.brigade_ops.specs.Items.{Item, Items, replaced}
+use Rattle.stored_rings.specs.Items.{Item, Items, replaced}
 use Rattle.brigade_ops.specs.Store.{lists, brigade_of}
-use Rattle.brigade_ops.proofs.Lying.{read_told}
-use Rattle.brigade_ops.proofs.Lists.{still_in, set_behind, on_after}
-use Rattle.brigade_ops.specs.Shelf.{seen}
-use Rattle.brigade_ops.proofs.Shelves.{found_in}
+use Rattle.stored_rings.proofs.Lying.{read_told}
+use Rattle.stored_rings.proofs.Lists.{still_in, set_behind, on_after}
+use Rattle.stored_rings.specs.Shelf.{seen}
+use Rattle.stored_rings.proofs.Shelves.{found_in}
 use Rattle.brigade_ops.proofs.store.Brigades.read_front.Goals as goal
 
 pub set_own-requires-clause-lies : goal.set_own-requires-clause-lies

@@ -2,11 +2,11 @@ use Rattle.std.proofs.Common.{◌≡◌, [], ◌∷◌, Option, Some, refl, sym,
 use Rattle.run_model.specs.declared.bucket.Bucket.{Bucket}
 use Rattle.run_model.specs.Cutting.{read_of}
 use Rattle.bucket_ring.specs.Lists.{list_at}
-use Rattle.brigade_ops.specs.Items.{replaced, rest_item}
-use Rattle.brigade_ops.specs.Shelf.{seen}
+use Rattle.stored_rings.specs.Items.{replaced, rest_item}
+use Rattle.stored_rings.specs.Shelf.{seen}
 use Rattle.brigade_ops.specs.Store.{lists, brigade_of, references}
-use Rattle.brigade_ops.proofs.Lists.{on_after, on_same}
-use Rattle.brigade_ops.proofs.Lying.{left_lies}
+use Rattle.stored_rings.proofs.Lists.{on_after, on_same}
+use Rattle.stored_rings.proofs.Lying.{left_lies}
 use Rattle.brigade_ops.proofs.Unread.{rest_same}
 use Rattle.brigade_ops.proofs.store.Brigades.read_range.Goals as goal
 

@@ -3,14 +3,14 @@ use Rattle.run_model.specs.declared.bucket.Bucket.{Bucket}
 use Rattle.run_model.specs.Cutting.{split_at}
 use Rattle.bucket_ring.specs.Lists.{on, list_at, front, rest, put_after, with_payload}
 use Rattle.bucket_kinds.specs.Stored.{is_whole, shown}
-use Rattle.brigade_ops.specs.declared.regions.Regions.{Regions}
-use Rattle.brigade_ops.specs.Items.{Item, Items}
-use Rattle.brigade_ops.specs.Regions.{look}
-use Rattle.brigade_ops.specs.Shelf.{seen}
+use Rattle.stored_rings.specs.declared.regions.Regions.{Regions}
+use Rattle.stored_rings.specs.Items.{Item, Items}
+use Rattle.stored_rings.specs.Regions.{look}
+use Rattle.stored_rings.specs.Shelf.{seen}
 use Rattle.brigade_ops.specs.Store.{lists, brigade_of}
-use Rattle.brigade_ops.proofs.Lists.{still_in, set_behind, on_after}
-use Rattle.brigade_ops.proofs.Shelves.{found_in}
-use Rattle.brigade_ops.proofs.Shown.{on_cong}
+use Rattle.stored_rings.proofs.Lists.{still_in, set_behind, on_after}
+use Rattle.stored_rings.proofs.Shelves.{found_in}
+use Rattle.stored_rings.proofs.Shown.{on_cong}
 use Rattle.brigade_ops.proofs.store.Brigades.split.Goals as goal
 
 pub put_behind-new-requires-clause-whole : goal.put_behind-new-requires-clause-whole

@@ -3,12 +3,12 @@ use Rattle.bucket_ring.specs.declared.names.BucketId.{BucketId}
 use Rattle.bucket_ring.specs.Lists.{on, list_at, front, rest, times, payload_of}
 use Rattle.bucket_ring.specs.Kept.{once_in}
 use Rattle.bucket_ring.specs.Laws.{once_elsewhere}
-use Rattle.brigade_ops.specs.Items.{Items, before_place, from_place}
+use Rattle.stored_rings.specs.Items.{Items, before_place, from_place}
 use Rattle.brigade_ops.specs.Store.{lists, brigade_of}
-use Rattle.brigade_ops.proofs.Lists.{none_place, list_on, list_off, there_off, on_after, rest_append, rest_again}
-use Rattle.brigade_ops.proofs.Walks.{told_some}
-use Rattle.brigade_ops.specs.Shelf.{seen}
-use Rattle.brigade_ops.proofs.Shelves.{counted, found_in, in_found}
+use Rattle.stored_rings.proofs.Lists.{none_place, list_on, list_off, there_off, on_after, rest_append, rest_again}
+use Rattle.stored_rings.proofs.Walks.{told_some}
+use Rattle.stored_rings.specs.Shelf.{seen}
+use Rattle.stored_rings.proofs.Shelves.{counted, found_in, in_found}
 use Rattle.brigade_ops.proofs.store.Brigades.split_at.Goals as goal
 
 pub returns-in_default-clause-ok : goal.returns-in_default-clause-ok

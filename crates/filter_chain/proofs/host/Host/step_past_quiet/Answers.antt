@@ -3,6 +3,8 @@ use Rattle.std.proofs.Common.{◌≡◌, ℕ, Some, refl, sym, ◌∙◌, ap, su
 use Rattle.std.specs.Option.{option_copied_mut, IsSome}
 use Rattle.run_model.specs.Indexed.{upd}
 use Rattle.module_run.specs.declared.conn.Conn.{Conn}
+use Rattle.ring_wants.proofs.OnlyAsked.{tree_asked_nothing}
+use Rattle.module_run.proofs.OnlyAsked.{leaves_asked, stands_asked}
 use Rattle.filter_chain.specs.declared.conns.Conns.{Conns}
 use Rattle.filter_chain.specs.Hosted.{conn_at}
 use Rattle.filter_chain.specs.Hosting.{chain_of, budget_of}
@@ -36,9 +38,13 @@ step-answer-requires g c =
     let there = subst IsSome (sym at) refl in
     let table : Conn → Conns = λ x. record { by_number = c.get_mut.follows.lender x } in
     let holds : (x : Conn) (k : ℕ) → conn_at (table x) k ≡ upd (conn_at host.conns) c.args.number (Some x) k = λ x. written host.conns c.args.number x (table x) ((c.get_mut.follows.holds x).3 there).0 in
+    let on = stands_then g.F.Files.device c.args.number host table holds c.as_slice-modules.result.now c.as_slice-modules.ensures.value c.quiet_steps-made.result c.in-Some.conn.now c.quiet_steps-made.new.self at c.requires
+    (c.quiet_steps-made.ensures.steps host.tree (g.F.Files.device host.files)) in
     record {
-      stands = stands_then g.F.Files.device c.args.number host table holds c.as_slice-modules.result.now c.as_slice-modules.ensures.value c.quiet_steps-made.result c.in-Some.conn.now c.quiet_steps-made.new.self at c.requires
-          (c.quiet_steps-made.ensures.steps host.tree (g.F.Files.device host.files));
+      stands = (
+        on.0,
+        (stands_asked c.as_slice-modules.result.now (g.F.Files.device host.files) c.quiet_steps-made.new.self on.0 host.tree host.tree host.store c.quiet_steps-made.new.store (tree_asked_nothing host.tree) c.quiet_steps-made.ensures.asked on.1.0, on.1.1),
+      );
     }
 
 pub returns-in-Some-clause-steps : goal.returns-in-Some-clause-steps
@@ -51,7 +57,9 @@ returns-in-Some-clause-steps g c =
     let holds : (x : Conn) (k : ℕ) → conn_at (table x) k ≡ upd (conn_at host.conns) c.args.number (Some x) k = λ x. written host.conns c.args.number x (table x) ((c.get_mut.follows.holds x).3 there).0 in
     steps_past g.F.Files.device c.args.number host table holds c.as_slice-modules.result.now c.as_slice-modules.ensures.value c.quiet_steps-made.result c.in-Some.conn.now c.quiet_steps-made.new.self at c.requires
     (c.quiet_steps-made.ensures.steps host.tree (g.F.Files.device host.files))
-    (record host { conns = table c.step-answer.new.self; tree = c.step-answer.new.tree; store = c.step-answer.new.store; files = c.step-answer.new.files }) c.step-answer.new.self c.step-answer.result refl refl refl refl c.step-answer.ensures.leaves c.step-answer.ensures.steps
+    (record host { conns = table c.step-answer.new.self; tree = c.step-answer.new.tree; store = c.step-answer.new.store; files = c.step-answer.new.files }) c.step-answer.new.self c.step-answer.result refl refl refl refl
+    (leaves_asked c.quiet_steps-made.new.self c.step-answer.new.self host.tree host.tree host.store c.quiet_steps-made.new.store c.step-answer.new.store (tree_asked_nothing host.tree) c.quiet_steps-made.ensures.asked c.step-answer.ensures.leaves)
+    (λ v on bare. c.step-answer.ensures.steps v (stands_asked c.as_slice-modules.result.now (g.F.Files.device host.files) c.quiet_steps-made.new.self v host.tree host.tree host.store c.quiet_steps-made.new.store (tree_asked_nothing host.tree) c.quiet_steps-made.ensures.asked on) bare)
 
 pub returns-in-Some-clause-safe : goal.returns-in-Some-clause-safe
 unfolding conn_at chain_of budget_of
@@ -63,4 +71,6 @@ returns-in-Some-clause-safe g c =
     let holds : (x : Conn) (k : ℕ) → conn_at (table x) k ≡ upd (conn_at host.conns) c.args.number (Some x) k = λ x. written host.conns c.args.number x (table x) ((c.get_mut.follows.holds x).3 there).0 in
     past_well g.F.Files.device c.args.number host table holds c.as_slice-modules.result.now c.as_slice-modules.ensures.value c.quiet_steps-made.result c.in-Some.conn.now c.quiet_steps-made.new.self at c.requires
     (c.quiet_steps-made.ensures.steps host.tree (g.F.Files.device host.files))
-    (record host { conns = table c.step-answer.new.self; tree = c.step-answer.new.tree; store = c.step-answer.new.store; files = c.step-answer.new.files }) c.step-answer.new.self c.step-answer.result refl refl refl refl c.step-answer.ensures.leaves c.step-answer.ensures.steps
+    (record host { conns = table c.step-answer.new.self; tree = c.step-answer.new.tree; store = c.step-answer.new.store; files = c.step-answer.new.files }) c.step-answer.new.self c.step-answer.result refl refl refl refl
+    (leaves_asked c.quiet_steps-made.new.self c.step-answer.new.self host.tree host.tree host.store c.quiet_steps-made.new.store c.step-answer.new.store (tree_asked_nothing host.tree) c.quiet_steps-made.ensures.asked c.step-answer.ensures.leaves)
+    (λ v on bare. c.step-answer.ensures.steps v (stands_asked c.as_slice-modules.result.now (g.F.Files.device host.files) c.quiet_steps-made.new.self v host.tree host.tree host.store c.quiet_steps-made.new.store (tree_asked_nothing host.tree) c.quiet_steps-made.ensures.asked on) bare)

@@ -10,7 +10,7 @@ use Rattle.pool_tree.specs.Tree.{map_of}
 use Rattle.pool_tree.proofs.Trees.{tree_formed}
 use Rattle.brigade_ops.specs.Store.{lists, next_name}
 use Rattle.brigade_ops.proofs.Stores.{same_brigade}
-use Rattle.ring_run.proofs.Changes.{ring_here, ring_off}
+use Rattle.ring_calls.proofs.Changes.{ring_here, ring_off}
 use Rattle.module_run.specs.declared.conn.Filter.{Filter}
 use Rattle.module_run.specs.Conns.{filter_at, labels_handed}
 use Rattle.module_run.specs.Proceeding.{LeftAs}

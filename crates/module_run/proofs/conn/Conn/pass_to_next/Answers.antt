@@ -9,14 +9,14 @@ use Rattle.run_model.specs.Effects.{do_pass}
 use Rattle.run_model.specs.State.{set_brigade, fresh_call}
 use Rattle.brigade_ops.specs.Store.{lists, next_name}
 use Rattle.module_run.specs.declared.conn.Filter.{Filter}
-use Rattle.ring_run.specs.declared.machine.Call.{Call}
-use Rattle.ring_run.specs.declared.machine.Instance.{Instance}
-use Rattle.ring_run.specs.declared.machine.Slot.TheVariants as slot
+use Rattle.ring_calls.specs.declared.machine.Call.{Call}
+use Rattle.ring_calls.specs.declared.machine.Instance.{Instance}
+use Rattle.ring_calls.specs.declared.machine.Slot.TheVariants as slot
 use Rattle.module_run.specs.Conns.{filter_at, shown_call, top_of}
-use Rattle.ring_run.specs.Handed.{lent}
-use Rattle.ring_run.specs.Held.{IsHeld}
-use Rattle.ring_run.specs.Seen.{seen, calls_in, is_running, shown_slot}
-use Rattle.ring_run.specs.Slots.{live_in, marked, name_in, slot_at}
+use Rattle.ring_passes.specs.Handed.{lent}
+use Rattle.ring_calls.specs.Held.{IsHeld}
+use Rattle.ring_calls.specs.Seen.{seen, calls_in, is_running, shown_slot}
+use Rattle.ring_calls.specs.Slots.{live_in, marked, name_in, slot_at}
 use Rattle.module_run.specs.Stacked.{named_at}
 use Rattle.module_run.proofs.CanPass.{passer, passed_live, passed_variable, next_within, next_left, next_free, next_there, next_idle, next_alone, next_lacks}
 use Rattle.module_run.proofs.HandsOnBuilt.{on_err, pushed_ok, same_back, reads_next, reads_top, reads_behind, reads_again, written, built}

@@ -6,7 +6,7 @@ use Rattle.module_code.specs.declared.instr.Instr.TheVariants as instr
 use Rattle.run_model.specs.Chains.{module_at}
 use Rattle.run_model.specs.Passing.{handler_at}
 use Rattle.brigade_ops.specs.Store.{lists, next_name}
-use Rattle.ring_run.specs.Begun.{IsBegun}
+use Rattle.ring_passes.specs.Begun.{IsBegun}
 use Rattle.module_run.proofs.CallsLeave.{ends_unchanged, last_ends, last_leaves, turn_ends, turn_leaves}
 use Rattle.module_run.proofs.EndedLast.{EndsLast, parts}
 use Rattle.module_run.proofs.Ending.{ending}

@@ -17,9 +17,9 @@ invariant_of-self g c =
           c.args.self.now.linked (sym (tree_live c.args.self.now c.args.pool) ∙ c.requires.live) q.1 (childless c.args.self.now c.args.pool c.requires.childless) c.remove_leaf.ensures;
     }
 
-pub returns : goal.returns
+pub returns-clause-ok : goal.returns-clause-ok
 unfolding map_of
-returns g c =
+returns-clause-ok g c =
     let q = has_parent c.args.self.now c.args.pool c.requires.live c.requires.below in
     removed_map c.args.self.now.root c.args.self.now.next c.args.pool q.0 (record_of c.args.self.now.records) (record_of c.remove_leaf.new.records)
     c.args.self.now.linked (sym (tree_live c.args.self.now c.args.pool) ∙ c.requires.live) q.1 (childless c.args.self.now c.args.pool c.requires.childless) c.remove_leaf.ensures

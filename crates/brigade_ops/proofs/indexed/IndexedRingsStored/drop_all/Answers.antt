@@ -1,9 +1,0 @@
-use Rattle.brigade_ops.specs.Dependents.{noted}
-use Rattle.brigade_ops.specs.Noted.{is_noted}
-use Rattle.brigade_ops.proofs.Noted.{emptied}
-use Rattle.brigade_ops.proofs.indexed.IndexedRingsStored.drop_all.Goals as goal
-
-pub invariant_of-self-clause-indexed : goal.invariant_of-self-clause-indexed
-invariant_of-self-clause-indexed g c =
-    let s = c.args.self.now in
-    emptied (is_noted (noted s.dependents)) (g.R.Rings.lists s.rings) (g.R.Rings.lists c.drop_all.new.self) s.indexed c.args.ring c.drop_all.ensures.out

@@ -1,9 +1,0 @@
-use Rattle.brigade_ops.specs.Dependents.{noted}
-use Rattle.brigade_ops.specs.Noted.{is_noted}
-use Rattle.brigade_ops.proofs.Noted.{ended}
-use Rattle.brigade_ops.proofs.indexed.IndexedRingsStored.end_ring.Goals as goal
-
-pub invariant_of-self-clause-indexed : goal.invariant_of-self-clause-indexed
-invariant_of-self-clause-indexed g c =
-    let s = c.args.self.now in
-    ended (is_noted (noted s.dependents)) (g.R.Rings.lists s.rings) (g.R.Rings.lists c.end_ring.new.self) s.indexed c.args.ring c.end_ring.ensures.out

@@ -1,0 +1,19 @@
+-- The bucket in the cursor is where the cursor stands.
+use Rattle.std.proofs.Common.{refl}
+use Rattle.stored_rings.specs.Items.{named_item}
+use Rattle.stored_rings.specs.Views.{bucket_of}
+use Rattle.ring_calls.specs.Seen.{calls_in, item_in}
+use Rattle.ring_calls.proofs.Standing.{bucket_set, bucket_live, bucket_seen}
+use Rattle.ring_calls.proofs.asks.view_at.Goals as goal
+
+pub bucket-requires-clause-at : goal.bucket-requires-clause-at
+bucket-requires-clause-at g c = bucket_set c.args.store.now c.args.instance.now c.args.call.now c.args.c c.requires.held c.requires.stands
+
+pub payload-requires : goal.payload-requires
+payload-requires g c = bucket_live c.args.store.now c.args.instance.now c.args.call.now c.args.c c.requires.held c.requires.stands c.bucket.result c.bucket.ensures
+
+pub returns : goal.returns
+returns g c =
+    λ around.
+    let x = bucket_of c.payload.result in
+    (named_item (item_in (calls_in around c.args.call.now) (c.bucket.result, x)), (bucket_seen c.args.store.now c.args.instance.now c.args.call.now c.args.c c.requires.held c.requires.stands c.bucket.result c.bucket.ensures x c.payload.ensures around, refl, refl))

@@ -1,0 +1,14 @@
+-- The bucket that is seen there tells.
+use Rattle.std.proofs.Common.{sym, ap, ◌∙◌}
+use Rattle.run_model.specs.Cutting.{length_of}
+use Rattle.run_model.specs.Cursors.{spot}
+use Rattle.brigade_ops.specs.Store.{lists, next_name}
+use Rattle.ring_calls.specs.Seen.{seen_over}
+use Rattle.ring_calls.proofs.Standing.{content_of_bucket}
+use Rattle.ring_calls.proofs.bytes.length_at.Goals as goal
+
+pub returns : goal.returns
+returns g c =
+    λ around.
+    let v = c.view_at.ensures around in
+    c.len.ensures ∙ ap length_of (sym (content_of_bucket (spot (seen_over (lists c.args.store.now) (next_name c.args.store.now) around c.args.instance.now c.args.call.now) c.args.c) v.0 v.1.0 ∙ v.1.2))

@@ -1,0 +1,15 @@
+pub mod Around
+pub mod Slots
+pub mod Held
+pub mod Seen
+pub mod Places
+pub mod Ends
+pub mod Needs
+pub mod Outside
+pub mod Shown
+pub mod Tests
+pub mod Contents
+pub mod Asked
+pub mod Given
+pub mod LeftAlone
+pub mod Setting

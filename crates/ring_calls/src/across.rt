@@ -1,0 +1,36 @@
+//! The bucket of a brigade that a point lies inside.
+
+ghost use Rattle.std.specs.Prelude.{◌≡◌, ◌<◌, ℕ, Bool, true, is_some, IfSome};
+ghost use Rattle.bucket_ring.specs.Lists.{list_at};
+ghost use Rattle.run_model.specs.BrigadeLists.{bucket_across};
+ghost use Rattle.brigade_ops.specs.Store.{lists, brigade_of, bucket_at};
+ghost use Rattle.ring_calls.specs.Seen.{shown};
+ghost use Rattle.ring_calls.specs.Shown.{shown_at};
+
+use brigade_ops::{BrigadeId, Brigades, BucketId, Rings, Stored};
+
+/// The bucket that a point of a brigade lies inside.
+pub fn bucket_across<R: Rings<Stored> + Drop>(
+    store: &Brigades<R>,
+    b: BrigadeId,
+    point: u64,
+) -> Option<BucketId>
+    requires { is_some (lists store.now b) ≡ true }
+    ensures at { (runs : ℕ → Bool) → shown_at runs (bucket_at store.now) result ≡ bucket_across point (shown runs (list_at (lists store.now) b)) }
+    ensures there { IfSome result (λ id. is_some (brigade_of store.now id) ≡ true) }
+{
+    let mut left = point;
+    let mut place = store.start(b);
+    while let Some(id) = place {
+        if left == 0 {
+            return None;
+        }
+        let len = store.payload(id).content.len();
+        if left < len {
+            return Some(id);
+        }
+        left -= len;
+        place = store.behind(id);
+    }
+    None
+}

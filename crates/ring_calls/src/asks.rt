@@ -1,0 +1,294 @@
+//! What is asked of the state before an instruction runs: the tests that decide where it leads, and whether there are names enough.
+
+ghost use Rattle.std.specs.Prelude.{◌≡◌, ◌<◌, ◌≤◌, ℕ, None, Some, true, is_some, length};
+ghost use Rattle.module_code.specs.Program.{fits, is_variable};
+ghost use Rattle.run_model.specs.BrigadeLists.{is_short, split_refusal};
+ghost use Rattle.run_model.specs.BucketSteps.{has_rest, is_of_kind, is_unsplit, items_at, kind_is, names_to_part, names_to_read, names_to_split};
+ghost use Rattle.run_model.specs.Cursors.{bucket_at as model_bucket_at, is_end, spot};
+ghost use Rattle.run_model.specs.Faults.{Anywhere, InBrigade, OnBucket, fault};
+ghost use Rattle.run_model.specs.Pools.{is_empty};
+ghost use Rattle.run_model.specs.State.{items_of};
+ghost use Rattle.run_model.specs.Steps.{is_null, is_spent, lacks_names, names_of, pool_names_of, value_of};
+ghost use Rattle.run_model.specs.declared.bucket.NamedBucket.{NamedBucket};
+ghost use Rattle.pool_tree.specs.Tree.{map_of};
+ghost use Rattle.brigade_ops.specs.Store.{lists, next_name};
+ghost use Rattle.stored_rings.specs.Views.{content_of};
+ghost use Rattle.ring_calls.specs.declared.machine.Call.{Call};
+ghost use Rattle.ring_calls.specs.Around.{Around};
+ghost use Rattle.ring_calls.specs.Held.{IsHeld};
+ghost use Rattle.ring_calls.specs.Needs.{StandsAs};
+ghost use Rattle.ring_calls.specs.Outside.{with_outside};
+ghost use Rattle.ring_calls.specs.Seen.{seen};
+ghost use Rattle.ring_calls.specs.Slots.{live_in, slot_at};
+
+use crate::across::bucket_across;
+use crate::machine::{Call, CursorValue, Instance, Slot};
+use crate::outside::Outside;
+use crate::pool_names;
+use crate::values::value_of;
+use brigade_ops::{Brigades, ContentView, Kind, Rings, Stored, View};
+use run_model::{Instr, KindTest, Module, PoolVar, Value, VarRef};
+
+/// How many bytes a read takes from a file, at most.
+const READ_LIMIT: u64 = 8000;
+
+/// Whether a cursor stands at the end of a brigade.
+pub fn is_end<R: Rings<Stored> + Drop>(
+    instance: &Instance,
+    call: &Call,
+    store: &Brigades<R>,
+    c: u8,
+) -> bool
+    requires cursor { c < 9 }
+    requires held { IsHeld store.now instance.now call.now }
+    requires stands { StandsAs store.now instance.now call.now c Anywhere }
+    ensures { (around : Around) → result ≡ is_end (spot (seen store.now around instance.now call.now) c) }
+{
+    match call.cursor(c) {
+        CursorValue::End(_) => true,
+        CursorValue::At(_) => false,
+        CursorValue::Unset => false,
+    }
+}
+
+/// The bucket at which a cursor stands, as it is seen.
+pub fn view_at<'a, R: Rings<Stored> + Drop>(
+    instance: &Instance,
+    call: &Call,
+    store: &'a Brigades<R>,
+    c: u8,
+) -> View<'a>
+    requires cursor { c < 9 }
+    requires held { IsHeld store.now instance.now call.now }
+    requires stands { StandsAs store.now instance.now call.now c OnBucket }
+    ensures { (around : Around) → (y : NamedBucket) × ((model_bucket_at (spot (seen store.now around instance.now call.now) c) ≡ Some y) × (y.bucket.kind ≡ result.kind) × (y.bucket.content ≡ content_of result.content)) }
+{
+    store.payload(call.bucket(c))
+}
+
+fn is_of_kind(test: KindTest, kind: Kind) -> bool
+    ensures { result ≡ is_of_kind test kind }
+{
+    match test {
+        KindTest::Heap => matches!(kind, Kind::Heap),
+        KindTest::Transient => matches!(kind, Kind::Transient),
+        KindTest::Immortal => matches!(kind, Kind::Immortal),
+        KindTest::Pool => matches!(kind, Kind::Pool(_)),
+        KindTest::File => matches!(kind, Kind::File),
+        KindTest::Flush => matches!(kind, Kind::Flush),
+        KindTest::Eos => matches!(kind, Kind::Eos),
+        KindTest::Data => !matches!(kind, Kind::Flush | Kind::Eos),
+    }
+}
+
+/// Whether the bucket at a cursor is of a kind.
+pub fn kind_is<R: Rings<Stored> + Drop>(
+    instance: &Instance,
+    call: &Call,
+    store: &Brigades<R>,
+    test: KindTest,
+    c: u8,
+) -> bool
+    requires cursor { c < 9 }
+    requires held { IsHeld store.now instance.now call.now }
+    requires stands { StandsAs store.now instance.now call.now c OnBucket }
+    ensures { (around : Around) → result ≡ kind_is test (model_bucket_at (spot (seen store.now around instance.now call.now) c)) }
+{
+    is_of_kind(test, view_at(instance, call, store, c).kind)
+}
+
+/// Whether a split of a bucket at a place is refused: metadata is not split, nor is a bucket that is shorter.
+fn is_refused(bucket: View<'_>, n: u32) -> bool
+    ensures { (y : NamedBucket) → y.bucket.kind ≡ bucket.entry.kind → y.bucket.content ≡ content_of bucket.entry.content → result ≡ is_some (split_refusal n y) }
+{
+    matches!(bucket.kind, Kind::Flush | Kind::Eos) || bucket.content.len() < u64::from(n)
+}
+
+/// Whether a split at a cursor is refused.
+pub fn is_unsplit<R: Rings<Stored> + Drop>(
+    instance: &Instance,
+    call: &Call,
+    store: &Brigades<R>,
+    x: Value,
+    c: u8,
+) -> bool
+    requires cursor { c < 9 }
+    requires held { IsHeld store.now instance.now call.now }
+    requires stands { StandsAs store.now instance.now call.now c InBrigade }
+    ensures { (around : Around) → let r = seen store.now around instance.now call.now in result ≡ is_unsplit (value_of r x) (spot r c) }
+{
+    is_refused(view_at(instance, call, store, c), value_of(instance, x))
+}
+
+/// How many names a split takes.
+fn names_to_split<R: Rings<Stored> + Drop>(
+    instance: &Instance,
+    call: &Call,
+    store: &Brigades<R>,
+    x: Value,
+    c: u8,
+) -> u64
+    requires cursor { c < 9 }
+    requires held { IsHeld store.now instance.now call.now }
+    requires stands { StandsAs store.now instance.now call.now c InBrigade }
+    ensures { (around : Around) → let r = seen store.now around instance.now call.now in result ≡ names_to_split (value_of r x) (spot r c) }
+{
+    if is_unsplit(instance, call, store, x, c) {
+        0
+    } else {
+        1
+    }
+}
+
+/// Whether a read leaves a rest.
+fn has_rest(content: ContentView<'_>) -> bool
+    ensures { result ≡ has_rest (content_of content.entry) }
+{
+    match content {
+        ContentView::Range { len, .. } => len > READ_LIMIT,
+        ContentView::Bytes(_) | ContentView::Nothing => false,
+    }
+}
+
+/// How many names a read takes.
+pub fn names_to_read<R: Rings<Stored> + Drop>(
+    instance: &Instance,
+    call: &Call,
+    store: &Brigades<R>,
+    c: u8,
+) -> u64
+    requires cursor { c < 9 }
+    requires held { IsHeld store.now instance.now call.now }
+    requires stands { StandsAs store.now instance.now call.now c InBrigade }
+    ensures { (around : Around) → result ≡ names_to_read (spot (seen store.now around instance.now call.now) c) }
+{
+    if has_rest(view_at(instance, call, store, c).content) {
+        1
+    } else {
+        0
+    }
+}
+
+/// Whether a brigade has fewer bytes than a partition wants.
+pub fn is_incomplete<R: Rings<Stored> + Drop>(
+    instance: &Instance,
+    store: &Brigades<R>,
+    b: u8,
+    x: Value,
+) -> bool
+    requires slot { b < 9 }
+    requires live { is_some (live_in (lists store.now) (slot_at instance.now b)) ≡ true }
+    ensures { (around : Around) (call : Call) → let r = seen store.now around instance.now call in result ≡ is_short (value_of r x) (items_at r b) }
+{
+    let point = u128::from(value_of(instance, x));
+    store.length(instance.brigade(b)) < point
+}
+
+/// How many names a partition takes.
+fn names_to_part<R: Rings<Stored> + Drop>(
+    instance: &Instance,
+    store: &Brigades<R>,
+    b: u8,
+    x: Value,
+) -> u64
+    requires slot { b < 9 }
+    requires live { is_some (live_in (lists store.now) (slot_at instance.now b)) ≡ true }
+    ensures { (around : Around) (call : Call) → let r = seen store.now around instance.now call in result ≡ names_to_part (value_of r x) (items_at r b) }
+{
+    let point = u64::from(value_of(instance, x));
+    match bucket_across(store, instance.brigade(b), point) {
+        Some(_) => 1,
+        None => 0,
+    }
+}
+
+/// Whether a brigade has no buckets.
+pub fn is_empty<R: Rings<Stored> + Drop>(instance: &Instance, store: &Brigades<R>, b: u8) -> bool
+    requires slot { b < 9 }
+    requires live { is_some (live_in (lists store.now) (slot_at instance.now b)) ≡ true }
+    ensures { (around : Around) (call : Call) → result ≡ is_empty (items_of ((seen store.now around instance.now call).instance.brigades b)) }
+{
+    store.start(instance.brigade(b)).is_none()
+}
+
+/// Whether nothing was made in a variable.
+pub fn is_null<R: Rings<Stored> + Drop>(
+    code: &Module,
+    instance: &Instance,
+    store: &Brigades<R>,
+    var: VarRef,
+) -> bool
+    requires fit { is_variable code.now var ≡ true }
+    requires few { length code.now.brigades ≤ 8 }
+    ensures { (around : Around) (call : Call) → result ≡ is_null (seen store.now around instance.now call) var }
+{
+    match var {
+        VarRef::Pool(q) => matches!(pool_names::variable(instance, q), PoolVar::Null),
+        VarRef::Brigade(b) => matches!(instance.slot(b), Slot::Null),
+    }
+}
+
+/// How many names of buckets, brigades and calls an instruction gives out.
+fn names<R: Rings<Stored> + Drop>(
+    code: &Module,
+    instance: &Instance,
+    call: &Call,
+    store: &Brigades<R>,
+    instr: Instr,
+) -> u64
+    requires fit { fits code.now instr ≡ true }
+    requires few { length code.now.brigades ≤ 8 }
+    requires held { IsHeld store.now instance.now call.now }
+    requires faultless { (around : Around) × (fault code.now (seen store.now around instance.now call.now) instr ≡ None) }
+    ensures { (around : Around) → result ≡ names_of (seen store.now around instance.now call.now) instr }
+{
+    match instr {
+        Instr::BCreate(_)
+        | Instr::Heap(_, _)
+        | Instr::Immortal(_, _)
+        | Instr::FromBuf(_)
+        | Instr::Transient(_)
+        | Instr::PoolB(_, _)
+        | Instr::Flush(_)
+        | Instr::Eos(_)
+        | Instr::Copy(_, _) => 1,
+        Instr::BPart(b, x, _, _) => names_to_part(instance, store, b, x),
+        Instr::Split(c, x, _) => names_to_split(instance, call, store, x, c),
+        Instr::Read(c, _) => names_to_read(instance, call, store, c),
+        _ => 0,
+    }
+}
+
+/// How many names of pools an instruction gives out.
+fn pool_names(instr: Instr) -> u64
+    ensures { result ≡ pool_names_of instr }
+{
+    if let Instr::PCreate(_) = instr { 1 } else { 0 }
+}
+
+/// Whether so many names are not left, where this one is the next.
+#[tactic(auto, unfolding(run_model::specs::Steps::is_spent))]
+pub fn is_spent(next: u64, names: u64) -> bool
+    ensures { result ≡ is_spent next names }
+{
+    names > u64::MAX - next
+}
+
+/// Whether a name that an instruction that has no fault would have to give out is not there.
+pub fn lacks_names<R: Rings<Stored> + Drop>(
+    code: &Module,
+    instance: &Instance,
+    call: &Call,
+    outside: &Outside<'_>,
+    store: &Brigades<R>,
+    instr: Instr,
+) -> bool
+    requires fit { fits code.now instr ≡ true }
+    requires few { length code.now.brigades ≤ 8 }
+    requires held { IsHeld store.now instance.now call.now }
+    requires faultless { (around : Around) × (fault code.now (seen store.now around instance.now call.now) instr ≡ None) }
+    ensures { (around : Around) → result ≡ lacks_names (seen store.now (with_outside outside.now around) instance.now call.now) instr }
+{
+    let names = names(code, instance, call, store, instr);
+    is_spent(store.next_name(), names) || is_spent(outside.tree.next_name(), pool_names(instr))
+}

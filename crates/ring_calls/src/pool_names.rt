@@ -1,0 +1,56 @@
+//! Pool variables, and the pools that operands name.
+
+ghost use Rattle.std.specs.Prelude.{◌≡◌, ℕ, Option, slice_index_or};
+ghost use Rattle.run_model.specs.State.{name_in, is_named, pool_named};
+ghost use Rattle.stored_rings.specs.Items.{Items};
+ghost use Rattle.ring_calls.specs.declared.machine.Call.{Call};
+ghost use Rattle.ring_calls.specs.Around.{Around};
+ghost use Rattle.ring_calls.specs.Outside.{with_outside};
+ghost use Rattle.ring_calls.specs.Seen.{seen_over};
+
+use crate::machine::Instance;
+use crate::outside::Outside;
+use brigade_ops::PoolId;
+use run_model::{PoolRef, PoolVar};
+
+/// The pool variable of a number; beyond the last they are null.
+pub fn variable(instance: &Instance, q: u8) -> PoolVar
+    ensures { result ≡ slice_index_or instance.now.pools q PoolVar.Null }
+{
+    match instance.pools.get(usize::from(q)) {
+        Some(var) => *var,
+        None => PoolVar::Null,
+    }
+}
+
+/// The pool that a pool variable names.
+pub fn name_in(var: PoolVar) -> Option<PoolId>
+    ensures { result ≡ name_in var }
+{
+    match var {
+        PoolVar::Null => None,
+        PoolVar::Made(name) => Some(name),
+    }
+}
+
+/// Whether there is a name and it is this one.
+pub fn is_named(held: Option<PoolId>, name: PoolId) -> bool
+    ensures { result ≡ is_named held name }
+{
+    match held {
+        Some(other) => name == other,
+        None => false,
+    }
+}
+
+/// The pool that an operand or a declaration names.
+#[tactic(auto, unfolding(crate::specs::Seen::seen_over, run_model::specs::State::named_at))]
+pub fn pool_named(instance: &Instance, outside: &Outside<'_>, pool: PoolRef) -> Option<PoolId>
+    ensures { (rings : ℕ → Option Items) (next : ℕ) (around : Around) (call : Call) → result ≡ pool_named (seen_over rings next (with_outside outside.now around) instance.now call) pool }
+{
+    match pool {
+        PoolRef::Conn => Some(outside.conn),
+        PoolRef::Req => outside.req,
+        PoolRef::Own(q) => name_in(variable(instance, q)),
+    }
+}

@@ -1,0 +1,11 @@
+pub mod WellRead
+pub mod Delivering
+pub mod Buffers
+pub mod Returned
+pub mod Returns
+pub mod Begins
+pub mod Handed
+pub mod PassedOut
+pub mod Renamed
+pub mod LatePieces
+pub mod Spans

@@ -1,0 +1,152 @@
+-- One bucket after another.
+use Rattle.std.proofs.Common.{◌≡◌, true, false, ◌∷◌, ◌++◌, List, ℕ, length, take, drop, refl, sym, ap, subst, ◌∙◌, Some, [], rules}
+use Rattle.std.proofs.Math.Seq.{drop-append_seam, drop-length, take-append_seam}
+use Rattle.std.proofs.lemmas.List.{append-nil}
+use Rattle.bucket_kinds.specs.Device.{SomeWentWell}
+use Rattle.bucket_ring.specs.Lists.{list_at, rest}
+use Rattle.run_model.specs.Buckets.{is_eos_kind}
+use Rattle.run_model.specs.Steps.{has_bytes}
+use Rattle.stored_rings.specs.Items.{Items, from_place, named}
+use Rattle.brigade_ops.specs.Store.{lists, brigade_of}
+use Rattle.stored_rings.specs.Views.{bucket_of}
+use Rattle.stored_rings.proofs.Walks.{told_some}
+use Rattle.ring_passes.proofs.Buffers.{behind, both_parts}
+use Rattle.ring_passes.proofs.Delivering.{ItemsSoFar, items_none, items_end, items_eos, items_failed, items_more, items_left, place_end as none_left}
+use Rattle.ring_calls.proofs.Quiet.{quiet_more}
+use Rattle.ring_calls.proofs.Walked.{head_here, shorter}
+use Rattle.ring_passes.proofs.WellRead.{none_went, more_went, open_still, told_err}
+use Rattle.ring_passes.proofs.output.add_all.Goals as goal
+
+pub loop-place-init : goal.loop-place-init
+loop-place-init g c =
+    let xs = list_at (lists c.args.store.now) c.args.b in
+    let old = c.args.out.now in
+    record {
+      front = ap (take (length old)) (sym (append-nil old)) ∙ take-append_seam old [];
+      went = none_went (g.F.Files.device c.args.files.now);
+      open_files = refl;
+      read = items_none (g.F.Files.device c.args.files.now) xs (from_place c.start-place.result xs) _ c.start-place.ensures.whole (drop-length old);
+      quiet = λ none. ap (λ (ys : Items). has_bytes (named ys)) c.start-place.ensures.whole ∙ none;
+      inside = told_some (λ j. brigade_of c.args.store.now j ≡ Some c.args.b) c.start-place.result c.start-place.ensures.inside;
+    }
+
+pub returns-then-is_eos-clause-added : goal.returns-then-is_eos-clause-added
+returns-then-is_eos-clause-added g c =
+    let l = c.loop-place in
+    let s = c.args.store.now in
+    let d = g.F.Files.device c.args.files.now in
+    let xs = list_at (lists s) c.args.b in
+    let id = c.in-Some.id in
+    let x = bucket_of c.payload-bucket.result in
+    let ys : Items = drop 1 (rest id xs) in
+    let in_b = l.invariant.inside id c.in-Some.is in
+    let head : from_place l.place xs ≡ (id, x) ∷ ys = ap (λ p. from_place p xs) c.in-Some.is ∙ head_here s id c.args.b x in_b c.payload-bucket.ensures in
+    let eos : is_eos_kind x.kind ≡ true = sym c.is_eos.ensures ∙ c.if-is_eos.true in
+    let front = drop (length c.args.out.now) l.out in
+    record {
+      added = front;
+      grown = both_parts c.args.out.now l.out l.invariant.front;
+      taken_so = items_eos d xs (g.F.Files.device l.files) (from_place l.place xs) id x ys front l.invariant.read head eos;
+    }
+
+pub returns-then-not-branch-clause-added : goal.returns-then-not-branch-clause-added
+returns-then-not-branch-clause-added g c =
+    let l = c.loop-place in
+    let s = c.args.store.now in
+    let d = g.F.Files.device c.args.files.now in
+    let xs = list_at (lists s) c.args.b in
+    let id = c.in-Some.id in
+    let x = bucket_of c.payload-bucket.result in
+    let ys : Items = drop 1 (rest id xs) in
+    let in_b = l.invariant.inside id c.in-Some.is in
+    let head : from_place l.place xs ≡ (id, x) ∷ ys = ap (λ p. from_place p xs) c.in-Some.is ∙ head_here s id c.args.b x in_b c.payload-bucket.ensures in
+    let plain : is_eos_kind x.kind ≡ false = sym c.is_eos.ensures ∙ c.if-is_eos.false in
+    let e = g.F.Files.device c.add.new.files in
+    let whole = c.in_ok-add.field-0 in
+    let took = c.in_ok-add.ensures.added in
+    let front = drop (length c.args.out.now) l.out in
+    let failed : whole ≡ false = search rules in
+    record {
+      added = front ++ took.added;
+      grown = behind c.args.out.now l.out took.added c.add.new.out l.invariant.front took.grown;
+      taken_so = items_failed d xs (g.F.Files.device l.files) (from_place l.place xs) id x ys front l.invariant.read head e whole took.added plain took.taken_so failed;
+    }
+
+pub loop-place-preserved : goal.loop-place-preserved
+loop-place-preserved g c =
+    let l = c.loop-place in
+    let s = c.args.store.now in
+    let d = g.F.Files.device c.args.files.now in
+    let xs = list_at (lists s) c.args.b in
+    let id = c.in-Some.id in
+    let x = bucket_of c.payload-bucket.result in
+    let ys : Items = drop 1 (rest id xs) in
+    let in_b = l.invariant.inside id c.in-Some.is in
+    let head : from_place l.place xs ≡ (id, x) ∷ ys = ap (λ p. from_place p xs) c.in-Some.is ∙ head_here s id c.args.b x in_b c.payload-bucket.ensures in
+    let plain : is_eos_kind x.kind ≡ false = sym c.is_eos.ensures ∙ c.if-is_eos.false in
+    let e = g.F.Files.device c.add.new.files in
+    let whole = c.in_ok-add.field-0 in
+    let took = c.in_ok-add.ensures.added in
+    let old = c.args.out.now in
+    let front = drop (length old) l.out in
+    let went : whole ≡ true = search rules in
+    let all = behind old l.out took.added c.add.new.out l.invariant.front took.grown in
+    let on : from_place c.behind-place.result xs ≡ ys = c.behind-place.ensures.others c.args.b in_b in
+    let more = items_more d xs (g.F.Files.device l.files) (from_place l.place xs) id x ys front l.invariant.read head e whole took.added plain took.taken_so went in
+    record {
+      front = ap (take (length old)) all ∙ take-append_seam old (front ++ took.added);
+      went = more_went d (g.F.Files.device l.files) e l.invariant.went (took.taken_so.went went);
+      open_files = c.add.ensures.open_files ∙ l.invariant.open_files;
+      read = items_left d e xs ys (from_place c.behind-place.result xs) (drop (length old) c.add.new.out) on
+          (subst (λ (bytes : List ℕ). ItemsSoFar d e xs ys bytes) (sym (ap (drop (length old)) all ∙ drop-append_seam old (front ++ took.added))) more);
+      quiet = λ none. ap (λ (zs : Items). has_bytes (named zs)) on ∙ (quiet_more id x ys plain (sym (ap (λ (zs : Items). has_bytes (named zs)) head) ∙ l.invariant.quiet none)).1;
+      inside = told_some (λ j. brigade_of s j ≡ Some c.args.b) c.behind-place.result (c.behind-place.ensures.inside c.args.b in_b);
+    }
+
+pub loop-place-smaller : goal.loop-place-smaller
+loop-place-smaller g c =
+    let l = c.loop-place in
+    let s = c.args.store.now in
+    let xs = list_at (lists s) c.args.b in
+    let id = c.in-Some.id in
+    let x = bucket_of c.payload-bucket.result in
+    let in_b = l.invariant.inside id c.in-Some.is in
+    shorter xs (from_place c.behind-place.result xs) l.place id x c.in-Some.is (c.behind-place.ensures.head c.args.b x in_b c.payload-bucket.ensures)
+
+pub returns-clause-added : goal.returns-clause-added
+returns-clause-added g c =
+    let l = c.loop-place in
+    let xs = list_at (lists c.args.store.now) c.args.b in
+    let front = drop (length c.args.out.now) l.out in
+    record {
+      added = front;
+      grown = both_parts c.args.out.now l.out l.invariant.front;
+      taken_so = items_end (g.F.Files.device c.args.files.now) xs (g.F.Files.device l.files) (from_place l.place xs) front l.invariant.read (none_left l.place xs c.in_default.not-Some);
+    }
+
+pub returns-in_err-add-clause-sure : goal.returns-in_err-add-clause-sure
+returns-in_err-add-clause-sure g c none =
+    let l = c.loop-place in
+    let s = c.args.store.now in
+    let xs = list_at (lists s) c.args.b in
+    let id = c.in-Some.id in
+    let x = bucket_of c.payload-bucket.result in
+    let ys : Items = drop 1 (rest id xs) in
+    let in_b = l.invariant.inside id c.in-Some.is in
+    let head : from_place l.place xs ≡ (id, x) ∷ ys = ap (λ p. from_place p xs) c.in-Some.is ∙ head_here s id c.args.b x in_b c.payload-bucket.ensures in
+    let plain : is_eos_kind x.kind ≡ false = sym c.is_eos.ensures ∙ c.if-is_eos.false in
+    let sure = c.in_err-add.ensures.sure (quiet_more id x ys plain (sym (ap (λ (zs : Items). has_bytes (named zs)) head) ∙ l.invariant.quiet none)).0 in
+    absurd (cc sure)
+
+pub add-requires-clause-open : goal.add-requires-clause-open
+add-requires-clause-open g c =
+    let l = c.loop-place in
+    let id = c.in-Some.id in
+    let x = bucket_of c.payload-bucket.result in
+    open_still (g.F.Files.device c.args.files.now) (g.F.Files.device l.files) x.content l.invariant.open_files (c.requires.open id x (l.invariant.inside id c.in-Some.is) c.payload-bucket.ensures)
+
+pub returns-in_err-add-clause-read : goal.returns-in_err-add-clause-read
+returns-in_err-add-clause-read g c =
+    let d = g.F.Files.device c.args.files.now in
+    let e = g.F.Files.device c.add.new.files in
+    told_err c.from_residual.result (SomeWentWell d e) (more_went d (g.F.Files.device c.loop-place.files) e c.loop-place.invariant.went c.in_err-add.ensures.read)

@@ -1,0 +1,5 @@
+pub mod Delivery
+pub mod Begun
+pub mod Handed
+pub mod NamedBelow
+pub mod Pieces

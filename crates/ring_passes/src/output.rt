@@ -1,0 +1,240 @@
+//! The end of the chain, where the bytes of brigades become output.
+
+ghost use Rattle.std.specs.Prelude.{◌≡◌, ◌==◌, ◌⊎◌, ◌+◌, ◌<◌, ◌≤◌, ◌^◌, ◌*◌, ℕ, Bool, true, false, not, ◌&&◌, length, is_some, if◌then◌else◌, All, Some, IsOk, IfOk, OnOk, OnErr};
+ghost use Rattle.bucket_kinds.specs.Device.{SomeWentWell, counts, is_there};
+ghost use Rattle.bucket_kinds.specs.Reading.{IsOpenFor};
+ghost use Rattle.bucket_ring.specs.declared.names.BucketId.{BucketId};
+ghost use Rattle.bucket_ring.specs.Lists.{list_at};
+ghost use Rattle.run_model.specs.Buckets.{is_eos_kind};
+ghost use Rattle.run_model.specs.BrigadeLists.{length_in};
+ghost use Rattle.run_model.specs.State.{items_of};
+ghost use Rattle.run_model.specs.Steps.{do_pass, has_bytes};
+ghost use Rattle.run_model.specs.Cutting.{EndsInFile, length_of, read_limit};
+ghost use Rattle.run_model.specs.declared.bucket.Bucket.{Bucket};
+ghost use Rattle.stored_rings.specs.Items.{named};
+ghost use Rattle.brigade_ops.specs.Store.{lists, brigade_of, bucket_at};
+ghost use Rattle.stored_rings.specs.Views.{content_of};
+ghost use Rattle.ring_passes.specs.Delivery.{ContentAdded, HasFront, IsFetched, ItemsAdded, WasDelivered, out_of};
+ghost use Rattle.ring_calls.specs.declared.machine.Call.{Call};
+ghost use Rattle.ring_calls.specs.Around.{Around};
+ghost use Rattle.ring_calls.specs.Ends.{EndInFiles};
+ghost use Rattle.ring_calls.specs.Given.{RangeIsOpen};
+ghost use Rattle.ring_calls.specs.Held.{IsHeld};
+ghost use Rattle.ring_calls.specs.LeftAlone.{LeavesOthers};
+ghost use Rattle.ring_calls.specs.Slots.{live_in, marked, slot_at};
+ghost use Rattle.ring_calls.specs.Seen.{seen, shown};
+
+use crate::output_block::OutputBlock;
+use crate::passes::{hand_over, has_eos, is_eos};
+use brigade_ops::{BrigadeId, Brigades, Content, ContentView, FileNo, Files, Rings, Stored};
+use ring_calls::machine::Instance;
+use run_model::Mark;
+use std::alloc::AllocError;
+
+/// How many bytes a read takes from a file, at most.
+const READ_LIMIT: u64 = 8000;
+
+/// How many bytes are asked for at once of a device that does not count its calls: those of ten reads. So a file of 64 KiB takes one.
+const SPAN_LIMIT: u64 = 80_000;
+
+/// What became of bytes that were asked for.
+#[derive(Clone, Copy)]
+pub(crate) enum Fetched {
+    /// All of them were given.
+    All,
+    /// The file ends before the last of them.
+    Ended,
+    /// The device failed.
+    Failed,
+}
+
+/// Fills a buffer from a place of a file on, and tells what became of that.
+pub(crate) fn fetch<F: Files>(files: &mut F, file: FileNo, at: u64, buffer: &mut [u8]) -> Fetched
+    requires { is_there ((F.device files.old).numbered file) ≡ true }
+    ensures fetched { IsFetched (F.device files.old) (F.device files.new) file at (length buffer.old) buffer.new result }
+    ensures open_files { (F.device files.new).numbered ≡ (F.device files.old).numbered }
+    ensures len { length buffer.new ≡ length buffer.old }
+{
+    let count = buffer.len();
+    match files.read_at(file, at, buffer) {
+        Ok(filled) if filled == count => Fetched::All,
+        Ok(_) => Fetched::Ended,
+        Err(_) => Fetched::Failed,
+    }
+}
+
+/// How many bytes are asked for at once. A device that counts its calls is asked for those of each read alone, so that the read which is
+/// to fail does; another is after one call what it is after ten.
+fn span_limit<F: Files>(files: &F) -> u64
+    ensures { result ≡ (if counts (F.device files.now).plan then read_limit else 10 * read_limit) }
+{
+    if files.counts_calls() {
+        READ_LIMIT
+    } else {
+        SPAN_LIMIT
+    }
+}
+
+/// Adds a range to the output, up to a read that fails, and tells whether none did. Ten reads are made as one, but one by one where the
+/// device counts its calls, and where the file ends within them. Room is made for no more than is read next. Without memory some parts may have been added.
+fn add_range<F: Files>(
+    out: &mut OutputBlock,
+    files: &mut F,
+    file: FileNo,
+    start: u64,
+    len: u64,
+) -> Result<bool, AllocError>
+    requires open { is_there ((F.device files.old).numbered file) ≡ true }
+    requires ends { start + len < 2 ^ 64 }
+    ensures added { IfOk result (λ whole. ContentAdded (F.device files.old) (F.device files.new) (Content.Range file start len) whole out.old out.new) }
+    ensures front { HasFront out.old out.new }
+    ensures sure { len ≡ 0 → IsOk result }
+    ensures read { OnErr result (SomeWentWell (F.device files.old) (F.device files.new)) }
+    ensures open_files { (F.device files.new).numbered ≡ (F.device files.old).numbered }
+{
+    let mut count = 0;
+    let mut limit = span_limit(files);
+    while count < len {
+        let part = limit.min(len - count);
+        match out.add_span(files, file, start + count, part)? {
+            Fetched::All => count += part,
+            Fetched::Ended if part > READ_LIMIT => limit = READ_LIMIT,
+            _ => return Ok(false),
+        }
+    }
+    Ok(true)
+}
+
+/// Adds the bytes of a content to the output, up to a read that fails, and tells whether none did. Without memory some may have been added.
+fn add<F: Files>(
+    out: &mut OutputBlock,
+    files: &mut F,
+    content: ContentView<'_>,
+) -> Result<bool, AllocError>
+    requires ends { EndsInFile (content_of content) }
+    requires open { IsOpenFor (F.device files.old) (content_of content) }
+    ensures added { IfOk result (λ whole. ContentAdded (F.device files.old) (F.device files.new) (content_of content.entry) whole out.old out.new) }
+    ensures front { HasFront out.old out.new }
+    ensures sure { length_of (content_of content.entry) ≡ 0 → IsOk result }
+    ensures read { OnErr result (SomeWentWell (F.device files.old) (F.device files.new)) }
+    ensures open_files { (F.device files.new).numbered ≡ (F.device files.old).numbered }
+{
+    match content {
+        ContentView::Bytes(bytes) => {
+            out.extend(bytes)?;
+            Ok(true)
+        }
+        ContentView::Range { file, start, len } => add_range(out, files, file, start, len),
+        ContentView::Nothing => Ok(true),
+    }
+}
+
+/// Adds the bytes of a brigade before its first EOS to the output, up to a read that fails, and tells whether none did. Without memory some
+/// may have been added.
+fn add_all<R: Rings<Stored> + Drop, F: Files>(
+    out: &mut OutputBlock,
+    files: &mut F,
+    store: &Brigades<R>,
+    b: BrigadeId,
+) -> Result<bool, AllocError>
+    requires there { is_some (lists store.now b) ≡ true }
+    requires ends { (id : BucketId) (x : Bucket) → brigade_of store.now id ≡ Some b → bucket_at store.now id ≡ Some x → EndsInFile x.content }
+    requires open { (id : BucketId) (x : Bucket) → brigade_of store.now id ≡ Some b → bucket_at store.now id ≡ Some x → IsOpenFor (F.device files.old) x.content }
+    ensures added { IfOk result (λ whole. ItemsAdded (F.device files.old) (F.device files.new) (list_at (lists store.now) b) whole out.old out.new) }
+    ensures front { HasFront out.old out.new }
+    ensures sure { has_bytes (named (list_at (lists store.now) b)) ≡ false → IsOk result }
+    ensures read { OnErr result (SomeWentWell (F.device files.old) (F.device files.new)) }
+    ensures open_files { (F.device files.new).numbered ≡ (F.device files.old).numbered }
+{
+    let mut place = store.start(b);
+    while let Some(id) = place {
+        let bucket = store.payload(id);
+        if is_eos(bucket.kind) {
+            return Ok(true);
+        }
+        if !add(out, files, bucket.content)? {
+            return Ok(false);
+        }
+        place = store.behind(id);
+    }
+    Ok(true)
+}
+
+/// Adds the bytes of a brigade before its first EOS to the output, up to a read that fails, and tells whether none did. An EOS ends the
+/// output, also behind a read that failed, and what comes after it is ignored. Without memory nothing is changed; parts may have been read.
+pub fn add_brigade<R: Rings<Stored> + Drop, F: Files>(
+    store: &Brigades<R>,
+    files: &mut F,
+    b: BrigadeId,
+    out: &mut OutputBlock,
+    ended: &mut bool,
+) -> Result<bool, AllocError>
+    requires there { is_some (lists store.now b) ≡ true }
+    requires ends { (id : BucketId) (x : Bucket) → brigade_of store.now id ≡ Some b → bucket_at store.now id ≡ Some x → EndsInFile x.content }
+    requires open { (id : BucketId) (x : Bucket) → brigade_of store.now id ≡ Some b → bucket_at store.now id ≡ Some x → IsOpenFor (F.device files.old) x.content }
+    ensures ok { IfOk result (λ well. (runs : ℕ → Bool) → WasDelivered (F.device files.old) (F.device files.new) (out_of out.old ended.old) (shown runs (list_at (lists store.now) b)) (out_of out.new ended.new) well) }
+    ensures err { OnErr result (out_of out.new ended.new ≡ out_of out.old ended.old) }
+    ensures sure { (runs : ℕ → Bool) → (not ended.old && has_bytes (shown runs (list_at (lists store.now) b))) ≡ false → IsOk result }
+    ensures read { OnErr result (SomeWentWell (F.device files.old) (F.device files.new)) }
+    ensures open_files { (F.device files.new).numbered ≡ (F.device files.old).numbered }
+{
+    if *ended {
+        return Ok(true);
+    }
+    let len = out.len();
+    let Ok(whole) = add_all(out, files, store, b) else {
+        out.truncate(len);
+        return Err(AllocError);
+    };
+    *ended = has_eos(store, b);
+    Ok(whole)
+}
+
+/// The brigade of a variable was taken by the output: its buckets are destroyed, and the variable is marked passed. It is remembered where
+/// an EOS went with it.
+fn empty_passed<R: Rings<Stored> + Drop>(instance: &mut Instance, store: &mut Brigades<R>, b: u8)
+    requires slot { b < 9 }
+    requires live { is_some (live_in (lists store.old) (slot_at instance.old b)) ≡ true }
+    ensures seen { (around : Around) (call : Call) → IsHeld store.old instance.old call → seen store.new around instance.new call ≡ do_pass b (seen store.old around instance.old call) }
+    ensures held { (call : Call) → IsHeld store.old instance.old call → IsHeld store.new instance.new call }
+    ensures left { (call : Call) → LeavesOthers store.old store.new instance.old call }
+    ensures slots { (a : ℕ) → slot_at instance.new a ≡ (if a == b then marked Mark.Passed (slot_at instance.old b) else slot_at instance.old a) }
+    ensures unasked { store.new.asked ≡ store.old.asked }
+{
+    let name = instance.brigade(b);
+    hand_over(instance, store, b);
+    store.clean(name);
+}
+
+/// The last filter passes the brigade of a variable to the end of the chain, and it is told whether that went well. Without memory
+/// nothing is changed; parts may have been read.
+pub fn pass_out<R: Rings<Stored> + Drop, F: Files>(
+    instance: &mut Instance,
+    store: &mut Brigades<R>,
+    files: &mut F,
+    b: u8,
+    out: &mut OutputBlock,
+    ended: &mut bool,
+) -> Result<bool, AllocError>
+    requires slot { b < 9 }
+    requires live { is_some (live_in (lists store.old) (slot_at instance.old b)) ≡ true }
+    requires ends { EndInFiles store.old instance.old }
+    requires open { (around : Around) × (call : Call) × All (RangeIsOpen (F.device files.old)) (items_of ((seen store.old around instance.old call).instance.brigades b)) }
+    ensures delivered { IfOk result (λ well. (around : Around) (call : Call) → WasDelivered (F.device files.old) (F.device files.new) (out_of out.old ended.old) (items_of ((seen store.old around instance.old call).instance.brigades b)) (out_of out.new ended.new) well) }
+    ensures passed { OnOk result ((around : Around) (call : Call) → IsHeld store.old instance.old call → seen store.new around instance.new call ≡ do_pass b (seen store.old around instance.old call)) }
+    ensures held { (call : Call) → IsHeld store.old instance.old call → IsHeld store.new instance.new call }
+    ensures left { OnOk result ((call : Call) → LeavesOthers store.old store.new instance.old call) }
+    ensures err { OnErr result ((around : Around) (call : Call) → seen store.new around instance.new call ≡ seen store.old around instance.old call) }
+    ensures slots { OnOk result ((a : ℕ) → slot_at instance.new a ≡ (if a == b then marked Mark.Passed (slot_at instance.old b) else slot_at instance.old a)) }
+    ensures same { OnErr result ((instance.new ≡ instance.old) × (store.new ≡ store.old)) }
+    ensures kept { OnErr result (out_of out.new ended.new ≡ out_of out.old ended.old) }
+    ensures sure { (around : Around) (call : Call) → (not ended.old && has_bytes (items_of ((seen store.old around instance.old call).instance.brigades b))) ≡ false → IsOk result }
+    ensures read { OnErr result (SomeWentWell (F.device files.old) (F.device files.new)) }
+    ensures open_files { (F.device files.new).numbered ≡ (F.device files.old).numbered }
+    ensures unasked { store.new.asked ≡ store.old.asked }
+{
+    let name = instance.brigade(b);
+    let well = add_brigade(store, files, name, out, ended)?;
+    empty_passed(instance, store, b);
+    Ok(well)
+}

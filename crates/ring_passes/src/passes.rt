@@ -1,0 +1,78 @@
+//! A brigade is handed from one filter to the next.
+
+ghost use Rattle.std.specs.Prelude.{◌≡◌, ◌≢◌, ◌==◌, ◌<◌, ◌||◌, ℕ, Bool, Some, None, true, is_some, if◌then◌else◌};
+ghost use Rattle.bucket_ring.specs.Lists.{list_at};
+ghost use Rattle.run_model.specs.Buckets.{has_eos, is_eos_kind};
+ghost use Rattle.run_model.specs.State.{set_brigade};
+ghost use Rattle.run_model.specs.Steps.{do_pass};
+ghost use Rattle.brigade_ops.specs.Store.{lists};
+ghost use Rattle.ring_calls.specs.declared.machine.Call.{Call};
+ghost use Rattle.ring_calls.specs.Around.{Around};
+ghost use Rattle.ring_calls.specs.Contents.{contents};
+ghost use Rattle.ring_passes.specs.Handed.{lent};
+ghost use Rattle.ring_calls.specs.Held.{IsHeld};
+ghost use Rattle.ring_calls.specs.Seen.{seen, calls_in, shown, shown_slot};
+ghost use Rattle.ring_calls.specs.Slots.{live_in, marked, name_in, slot_at};
+
+use brigade_ops::{BrigadeId, Brigades, Rings, Stored};
+use ring_calls::machine::{Instance, Slot};
+use run_model::{Kind, Mark};
+
+/// Whether it is an EOS.
+pub(crate) fn is_eos(kind: Kind) -> bool
+    ensures { result ≡ is_eos_kind kind }
+{
+    matches!(kind, Kind::Eos)
+}
+
+/// Whether an EOS stands in a brigade.
+pub(crate) fn has_eos<R: Rings<Stored> + Drop>(store: &Brigades<R>, b: BrigadeId) -> bool
+    requires { is_some (lists store.now b) ≡ true }
+    ensures { (runs : ℕ → Bool) → result ≡ has_eos (shown runs (list_at (lists store.now) b)) }
+{
+    let mut place = store.start(b);
+    while let Some(id) = place {
+        if is_eos(store.payload(id).kind) {
+            return true;
+        }
+        place = store.behind(id);
+    }
+    false
+}
+
+/// Whether an EOS stands in the brigade of a variable.
+fn holds_eos<R: Rings<Stored> + Drop>(instance: &Instance, store: &Brigades<R>, b: u8) -> bool
+    requires slot { b < 9 }
+    requires live { is_some (live_in (lists store.now) (slot_at instance.now b)) ≡ true }
+    ensures { (runs : ℕ → Bool) → result ≡ has_eos (contents runs (lists store.now) (live_in (lists store.now) (slot_at instance.now b))) }
+{
+    has_eos(store, instance.brigade(b))
+}
+
+/// Hands a brigade over. What is in it stays where it is; the variable is marked passed, and it is remembered where an EOS went with it.
+/// Until the next filter returns it reads as empty (`lent`), and then as what that filter left.
+pub fn hand_over<R: Rings<Stored> + Drop>(instance: &mut Instance, store: &Brigades<R>, b: u8)
+    requires slot { b < 9 }
+    requires live { is_some (live_in (lists store.now) (slot_at instance.old b)) ≡ true }
+    ensures seen { (around : Around) (call : Call) → lent b (seen store.now around instance.new call) ≡ do_pass b (seen store.now around instance.old call) }
+    ensures held { (call : Call) → IsHeld store.now instance.old call → IsHeld store.now instance.new call }
+    ensures slots { (a : ℕ) → slot_at instance.new a ≡ (if a == b then marked Mark.Passed (slot_at instance.old b) else slot_at instance.old a) }
+{
+    let eos = holds_eos(instance, store, b);
+    instance.note_sent(eos);
+    instance.set_mark(b, Mark::Passed);
+}
+
+/// Takes a brigade that the filter before hands on, as `in`: it is usable, and on no pool. It is in no other variable of the instance.
+pub fn take_in<R: Rings<Stored> + Drop>(
+    instance: &mut Instance,
+    store: &Brigades<R>,
+    name: BrigadeId,
+)
+    requires { is_some (lists store.now name) ≡ true }
+    ensures seen { (around : Around) (call : Call) → seen store.now around instance.new call ≡ set_brigade 8 (shown_slot (calls_in around call) (lists store.now) (Slot.Made name None Mark.Usable)) (seen store.now around instance.old call) }
+    ensures slots { (a : ℕ) → slot_at instance.new a ≡ (if a == 8 then Slot.Made name None Mark.Usable else slot_at instance.old a) }
+    ensures held { (call : Call) → ((a : ℕ) → name_in (slot_at instance.old a) ≢ Some name) → name ≢ call.name → 0 < name → IsHeld store.now instance.old call → IsHeld store.now instance.new call }
+{
+    instance.set_slot(8, Slot::Made(name, None, Mark::Usable));
+}

@@ -1,0 +1,3 @@
+pub mod QuietRuns
+pub mod OnlyAsked
+pub mod FirstFault

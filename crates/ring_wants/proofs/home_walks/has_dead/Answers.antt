@@ -1,0 +1,48 @@
+-- The bucket at which the walk stands decides, or those behind it.
+use Rattle.std.proofs.Common.{is_some, Some, sym, ap, ◌∙◌}
+use Rattle.bucket_ring.specs.Lists.{list_at, rest}
+use Rattle.run_model.specs.Buckets.{is_dead, is_ended}
+use Rattle.stored_rings.specs.Items.{from_place}
+use Rattle.brigade_ops.specs.Store.{lists, brigade_of}
+use Rattle.stored_rings.proofs.Walks.{told_some}
+use Rattle.std.proofs.Common.{◌≡◌, drop}
+use Rattle.ring_calls.specs.Seen.{is_running}
+use Rattle.ring_calls.proofs.Running.{bucket_there}
+use Rattle.ring_calls.proofs.Walked.{head_here, shorter, any_stop, any_on}
+use Rattle.ring_wants.proofs.home_walks.has_dead.Goals as goal
+
+pub returns-then-is_ended : goal.returns-then-is_ended
+returns-then-is_ended g c =
+    let s = c.args.store.now in
+    let xs = list_at (lists s) c.args.b in
+    let id = c.in-Some.id in
+    let in_b = c.loop-place.invariant.inside id c.in-Some.is in
+    let x = bucket_there s id (ap is_some in_b) in
+    any_stop xs (drop 1 (rest id xs)) c.loop-place.place id x.0 c.in-Some.is (head_here s id c.args.b x.0 in_b x.1)
+    (is_running c.args.call.now.name c.args.setting.now.waits.now) is_dead
+    (ap is_ended (sym (c.home_of.ensures x.0 x.1)) ∙ (sym c.is_ended.ensures ∙ c.if-is_ended.true))
+    ∙ c.loop-place.invariant.left
+
+pub loop-place-smaller : goal.loop-place-smaller
+loop-place-smaller g c =
+    let s = c.args.store.now in
+    let xs = list_at (lists s) c.args.b in
+    let id = c.in-Some.id in
+    let in_b = c.loop-place.invariant.inside id c.in-Some.is in
+    let x = bucket_there s id (ap is_some in_b) in
+    shorter xs (from_place c.behind-place.result xs) c.loop-place.place id x.0 c.in-Some.is (c.behind-place.ensures.head c.args.b x.0 in_b x.1)
+
+pub loop-place-preserved : goal.loop-place-preserved
+loop-place-preserved g c =
+    let s = c.args.store.now in
+    let xs = list_at (lists s) c.args.b in
+    let id = c.in-Some.id in
+    let in_b = c.loop-place.invariant.inside id c.in-Some.is in
+    let x = bucket_there s id (ap is_some in_b) in
+    record {
+      left = any_on xs (from_place c.behind-place.result xs) c.loop-place.place id x.0 c.in-Some.is (c.behind-place.ensures.head c.args.b x.0 in_b x.1)
+          (is_running c.args.call.now.name c.args.setting.now.waits.now) is_dead
+          (ap is_ended (sym (c.home_of.ensures x.0 x.1)) ∙ (sym c.is_ended.ensures ∙ c.if-is_ended.false))
+          ∙ c.loop-place.invariant.left;
+      inside = told_some (λ j. brigade_of s j ≡ Some c.args.b) c.behind-place.result (c.behind-place.ensures.inside c.args.b in_b);
+    }

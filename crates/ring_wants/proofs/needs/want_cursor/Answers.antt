@@ -1,0 +1,22 @@
+-- The place of the cursor tells its fault.
+use Rattle.std.proofs.Common.{ap, ◌∙◌}
+use Rattle.brigade_ops.specs.Store.{lists, next_name}
+use Rattle.run_model.specs.Cursors.{spot}
+use Rattle.ring_calls.specs.Needs.{need_of, place_fault}
+use Rattle.ring_calls.specs.Places.{by_birth}
+use Rattle.ring_calls.specs.Seen.{seen_over}
+use Rattle.ring_wants.proofs.OnlyAsked.{asked_again, seen_same}
+use Rattle.ring_calls.proofs.Wanted.{fault_told}
+use Rattle.ring_wants.proofs.needs.want_cursor.Goals as goal
+
+pub returns-clause-value : goal.returns-clause-value
+returns-clause-value g c =
+    λ around.
+    let r = seen_over (lists c.args.store.now) (next_name c.args.store.now) around c.args.instance.now c.args.call.now in
+    let f = need_of c.args.need in
+    c.place_fault_at.ensures.value around
+    ∙ (ap (λ x. place_fault x f (by_birth c.place_of-spot.result)) (seen_same c.args.store.now c.place_of-spot.new.store around c.args.instance.now c.args.call.now c.place_of-spot.ensures.asked)
+    ∙ (ap (place_fault r f) (c.place_of-spot.ensures.at (next_name c.args.store.now) around) ∙ fault_told r f (spot r c.args.c)))
+
+pub returns-clause-asked : goal.returns-clause-asked
+returns-clause-asked g c = asked_again c.args.store.now c.place_of-spot.new.store c.place_fault_at.new.store c.place_of-spot.ensures.asked c.place_fault_at.ensures.asked

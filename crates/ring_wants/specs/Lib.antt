@@ -1,0 +1,2 @@
+pub mod QuietSteps
+pub mod OnlyAsked

@@ -1,0 +1,145 @@
+//! What instructions want of all buckets of a brigade: homes that are not dead, no data behind an EOS, nothing that does not outlast
+//! the call.
+
+ghost use Rattle.std.specs.Prelude.{◌≡◌, ◌<◌, true, is_some, IfSome};
+ghost use Rattle.run_model.specs.declared.payload.Payload.{Payload};
+ghost use Rattle.run_model.specs.Pools.{Pools};
+ghost use Rattle.run_model.specs.Faults.{WHomes, WHomeAcross, WSend, WReturn, fault_want, homes_fault, send_fault, keeps_stray};
+ghost use Rattle.brigade_ops.specs.Store.{lists};
+ghost use Rattle.ring_calls.specs.declared.machine.Call.{Call};
+ghost use Rattle.ring_calls.specs.Around.{Around};
+ghost use Rattle.ring_calls.specs.Contents.{contents};
+ghost use Rattle.ring_wants.specs.OnlyAsked.{OnlyAsked};
+ghost use Rattle.ring_calls.specs.Setting.{in_setting};
+ghost use Rattle.ring_calls.specs.Seen.{seen, is_running};
+ghost use Rattle.ring_calls.specs.Slots.{slot_at, live_in};
+
+use crate::home_walks::{has_dead, has_late_data, has_stray};
+use crate::home_wants::home_fault;
+use brigade_ops::{BrigadeId, Brigades, Rings, Stored};
+use ring_calls::across::bucket_across;
+use ring_calls::machine::{Call, Instance, Slot};
+use ring_calls::setting::Setting;
+use ring_calls::values::value_of;
+use run_model::{FaultKind, Mark, Value};
+
+/// The brigade of a variable, where it is there.
+fn live<R: Rings<Stored> + Drop>(
+    instance: &Instance,
+    store: &mut Brigades<R>,
+    b: u8,
+) -> Option<BrigadeId>
+    requires { b < 9 }
+    ensures value { result ≡ live_in (lists store.old) (slot_at instance.now b) }
+    ensures there { IfSome result (λ n. is_some (lists store.new n) ≡ true) }
+    ensures asked { OnlyAsked store.old store.new }
+{
+    let Slot::Made(name, _, _) = instance.slot(b) else {
+        return None;
+    };
+    if store.has(name) { Some(name) } else { None }
+}
+
+/// The fault of a brigade in which some bucket's home is dead.
+#[tactic(auto, using(ring_calls::proofs::Contents::homes_told, crate::proofs::OnlyAsked::lists_same))]
+pub(crate) fn want_homes<R: Rings<Stored> + Drop>(
+    instance: &Instance,
+    call: &Call,
+    setting: &Setting<'_>,
+    store: &mut Brigades<R>,
+    b: u8,
+) -> Option<FaultKind>
+    requires { b < 9 }
+    ensures value { (pools : Pools Payload) (around : Around) → result ≡ fault_want (seen store.old (in_setting setting.now pools around) instance.now call.now) (WHomes b) }
+    ensures asked { OnlyAsked store.old store.new }
+{
+    let Some(name) = live(instance, store, b) else {
+        return None;
+    };
+    if has_dead(call, setting, store, name) {
+        Some(FaultKind::F5)
+    } else {
+        None
+    }
+}
+
+/// The fault of a brigade in which the bucket that a point lies inside has a home that is dead.
+#[tactic(auto, using(ring_calls::proofs::Contents::across_told, ring_calls::proofs::Contents::none_across, crate::proofs::OnlyAsked::lists_same, crate::proofs::OnlyAsked::buckets_same))]
+pub(crate) fn want_home_across<R: Rings<Stored> + Drop>(
+    instance: &Instance,
+    call: &Call,
+    setting: &Setting<'_>,
+    store: &mut Brigades<R>,
+    b: u8,
+    point: Value,
+) -> Option<FaultKind>
+    requires { b < 9 }
+    ensures value { (pools : Pools Payload) (around : Around) → result ≡ fault_want (seen store.old (in_setting setting.now pools around) instance.now call.now) (WHomeAcross b point) }
+    ensures asked { OnlyAsked store.old store.new }
+{
+    let Some(name) = live(instance, store, b) else {
+        return None;
+    };
+    let across = bucket_across(store, name, u64::from(value_of(instance, point)));
+    home_fault(call, setting, store, across)
+}
+
+/// The fault of a brigade that may not be sent on: data stands behind an EOS of its own, or of the request.
+#[tactic(auto, using(ring_calls::proofs::Contents::send_told, crate::proofs::OnlyAsked::lists_same))]
+pub(crate) fn want_send<R: Rings<Stored> + Drop>(
+    instance: &Instance,
+    store: &mut Brigades<R>,
+    b: u8,
+) -> Option<FaultKind>
+    requires { b < 9 }
+    ensures value { (around : Around) (call : Call) → result ≡ fault_want (seen store.old around instance.now call) (WSend b) }
+    ensures asked { OnlyAsked store.old store.new }
+{
+    let Some(name) = live(instance, store, b) else {
+        return None;
+    };
+    if has_late_data(store, name, instance.sent) {
+        Some(FaultKind::F8)
+    } else {
+        None
+    }
+}
+
+/// Whether a variable is a usable brigade with a bucket that does not outlast the call.
+fn keeps_stray<R: Rings<Stored> + Drop>(
+    instance: &Instance,
+    call: &Call,
+    setting: &Setting<'_>,
+    store: &mut Brigades<R>,
+    b: u8,
+) -> bool
+    requires { b < 9 }
+    ensures value { (pools : Pools Payload) (around : Around) → let r = seen store.old (in_setting setting.now pools around) instance.now call.now in result ≡ keeps_stray r (r.instance.brigades b) }
+    ensures asked { OnlyAsked store.old store.new }
+{
+    let Slot::Made(name, _, mark) = instance.slot(b) else {
+        return false;
+    };
+    match mark {
+        Mark::Usable => store.has(name) && has_stray(instance, call, setting, store, name),
+        Mark::Passed => false,
+    }
+}
+
+/// The fault of a return that keeps a bucket which does not outlast the call.
+pub(crate) fn want_return<R: Rings<Stored> + Drop>(
+    instance: &Instance,
+    call: &Call,
+    setting: &Setting<'_>,
+    store: &mut Brigades<R>,
+) -> Option<FaultKind>
+    ensures value { (pools : Pools Payload) (around : Around) → result ≡ fault_want (seen store.old (in_setting setting.now pools around) instance.now call.now) WReturn }
+    ensures asked { OnlyAsked store.old store.new }
+{
+    for b in 0..8u8 {
+        if keeps_stray(instance, call, setting, store, b) {
+            return Some(FaultKind::F6);
+        }
+    }
+    None
+}

@@ -1,0 +1,136 @@
+//! The homes of buckets as they read while calls run, and the faults of those that are dead.
+
+ghost use Rattle.std.specs.Prelude.{◌≡◌, ◌==◌, ◌<◌, true, is_some, Some, IfSome};
+ghost use Rattle.std.specs.List.{list_any};
+ghost use Rattle.bucket_ring.specs.declared.names.BucketId.{BucketId};
+ghost use Rattle.run_model.specs.declared.payload.Payload.{Payload};
+ghost use Rattle.run_model.specs.Pools.{Pools};
+ghost use Rattle.run_model.specs.declared.bucket.Bucket.{Bucket};
+ghost use Rattle.run_model.specs.Buckets.{is_ended};
+ghost use Rattle.run_model.specs.Cursors.{bucket_at as model_bucket_at, spot};
+ghost use Rattle.run_model.specs.Faults.{WHome, fault_want, home_fault};
+ghost use Rattle.brigade_ops.specs.Store.{brigade_of, bucket_at};
+ghost use Rattle.ring_calls.specs.Around.{Around};
+ghost use Rattle.ring_calls.specs.Held.{IsHeld};
+ghost use Rattle.ring_wants.specs.OnlyAsked.{OnlyAsked};
+ghost use Rattle.ring_calls.specs.Setting.{in_setting};
+ghost use Rattle.ring_calls.specs.Seen.{seen, calls_in, home_in, is_running};
+ghost use Rattle.ring_calls.specs.Shown.{shown_at};
+
+use crate::places::place_of;
+use brigade_ops::{BrigadeId, Brigades, BucketId, Rings, Stored};
+use ring_calls::cursors::Place;
+use ring_calls::machine::{Call, Instance};
+use ring_calls::setting::Setting;
+use run_model::{FaultKind, Home};
+
+/// Whether a name is one of these.
+fn is_among(names: &[BrigadeId], n: BrigadeId) -> bool
+    ensures { result ≡ list_any (λ w. n == w) names.now }
+{
+    names.iter().any(|w| n == *w)
+}
+
+/// Whether a call runs: this one, or one that waits.
+#[tactic(auto, using(ring_calls::proofs::Running::running_none, ring_calls::proofs::Running::running_here, ring_calls::proofs::Running::running_waits))]
+fn is_running(call: &Call, setting: &Setting<'_>, n: BrigadeId) -> bool
+    ensures { result ≡ is_running call.now.name setting.now.waits.now n }
+{
+    if n == 0 {
+        return false;
+    }
+    n == call.name || is_among(setting.waits, n)
+}
+
+/// The home of a bucket of this birth.
+fn home_in(call: &Call, setting: &Setting<'_>, birth: u64, home: Home) -> Home
+    ensures { result ≡ home_in (is_running call.now.name setting.now.waits.now) birth home }
+{
+    match home {
+        Home::Call(n) => {
+            if is_running(call, setting, n) && n < birth {
+                home
+            } else {
+                Home::Ended
+            }
+        }
+        Home::Free | Home::Pool(_) | Home::Ended => home,
+    }
+}
+
+/// The home of a bucket.
+pub(crate) fn home_of<R: Rings<Stored> + Drop>(
+    call: &Call,
+    setting: &Setting<'_>,
+    store: &Brigades<R>,
+    id: BucketId,
+) -> Home
+    requires { is_some (brigade_of store.now id) ≡ true }
+    ensures { (x : Bucket) → bucket_at store.now id ≡ Some x → result ≡ home_in (is_running call.now.name setting.now.waits.now) id.birth x.home }
+{
+    home_in(call, setting, id.birth, store.payload(id).home)
+}
+
+/// Whether it is a dead home.
+pub(crate) fn is_ended(home: Home) -> bool
+    ensures { result ≡ is_ended home }
+{
+    matches!(home, Home::Ended)
+}
+
+/// The bucket that a cursor stands at.
+pub(crate) fn bucket_of<R: Rings<Stored> + Drop>(
+    instance: &Instance,
+    call: &Call,
+    store: &mut Brigades<R>,
+    c: u8,
+) -> Option<BucketId>
+    requires cursor { c < 9 }
+    requires held { IsHeld store.old instance.now call.now }
+    ensures at { (around : Around) → shown_at (calls_in around call.now) (bucket_at store.new) result ≡ model_bucket_at (spot (seen store.old around instance.now call.now) c) }
+    ensures there { IfSome result (λ id. is_some (brigade_of store.new id) ≡ true) }
+    ensures asked { OnlyAsked store.old store.new }
+{
+    match place_of(instance, call, store, c) {
+        Place::Within(_, id) => Some(id),
+        Place::Loose(id) => Some(id),
+        Place::Nowhere | Place::End(_) => None,
+    }
+}
+
+/// The fault of a bucket whose home is dead.
+pub(crate) fn home_fault<R: Rings<Stored> + Drop>(
+    call: &Call,
+    setting: &Setting<'_>,
+    store: &Brigades<R>,
+    bucket: Option<BucketId>,
+) -> Option<FaultKind>
+    requires { IfSome bucket (λ id. is_some (brigade_of store.now id) ≡ true) }
+    ensures { result ≡ home_fault (shown_at (is_running call.now.name setting.now.waits.now) (bucket_at store.now) bucket) }
+{
+    let Some(id) = bucket else {
+        return None;
+    };
+    if is_ended(home_of(call, setting, store, id)) {
+        Some(FaultKind::F5)
+    } else {
+        None
+    }
+}
+
+/// The fault of a cursor at a bucket whose home is dead.
+pub(crate) fn want_home<R: Rings<Stored> + Drop>(
+    instance: &Instance,
+    call: &Call,
+    setting: &Setting<'_>,
+    store: &mut Brigades<R>,
+    c: u8,
+) -> Option<FaultKind>
+    requires cursor { c < 9 }
+    requires held { IsHeld store.old instance.now call.now }
+    ensures value { (pools : Pools Payload) (around : Around) → result ≡ fault_want (seen store.old (in_setting setting.now pools around) instance.now call.now) (WHome c) }
+    ensures asked { OnlyAsked store.old store.new }
+{
+    let bucket = bucket_of(instance, call, store, c);
+    home_fault(call, setting, store, bucket)
+}

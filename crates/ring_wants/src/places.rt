@@ -1,0 +1,102 @@
+//! Where cursors stand (apr_buckets.h: a bucket, or the sentinel of a brigade, is the end of its ring).
+
+ghost use Rattle.std.specs.Prelude.{◌≡◌, ◌<◌, IfSome, ℕ};
+ghost use Rattle.run_model.specs.Cursors.{found_below, holder_of, bucket_spot, variable_of, spot};
+ghost use Rattle.run_model.specs.State.{is_named};
+ghost use Rattle.brigade_ops.specs.Store.{lists, brigade_of};
+ghost use Rattle.ring_calls.specs.Around.{Around};
+ghost use Rattle.ring_calls.specs.Slots.{slot_at, name_in};
+ghost use Rattle.ring_calls.specs.Held.{IsHeld, WasGiven};
+ghost use Rattle.ring_wants.specs.OnlyAsked.{OnlyAsked};
+ghost use Rattle.ring_calls.specs.Seen.{seen_over};
+ghost use Rattle.ring_calls.specs.Places.{by_birth, place_of, IsInBrigade};
+
+use brigade_ops::{BrigadeId, Brigades, BucketId, Rings, Stored};
+use ring_calls::cursors::Place;
+use ring_calls::machine::{Call, CursorValue, Instance, Slot};
+
+fn is_called(slot: Slot, name: BrigadeId) -> bool
+    ensures { result ≡ is_named (name_in slot) name }
+{
+    match slot {
+        Slot::Null => false,
+        Slot::Made(made, _, _) => made == name,
+    }
+}
+
+/// The variable that names a brigade.
+fn slot_of(instance: &Instance, name: BrigadeId) -> Option<u8>
+    ensures found { result ≡ found_below 9 (λ b. is_named (name_in (slot_at instance.now b)) name) }
+    ensures slot { IfSome result (λ b. b < 9) }
+{
+    for b in (0..9u8).rev() {
+        if is_called(instance.slot(b), name) {
+            return Some(b);
+        }
+    }
+    None
+}
+
+fn bucket_place<R: Rings<Stored> + Drop>(
+    instance: &Instance,
+    call: &Call,
+    store: &mut Brigades<R>,
+    id: BucketId,
+) -> Place
+    requires held { IsHeld store.old instance.now call.now }
+    requires given { WasGiven store.old id }
+    ensures at { (next : ℕ) (around : Around) → let r = seen_over (lists store.old) next around instance.now call.now in by_birth result ≡ place_of (bucket_spot r id.birth (holder_of r id.birth)) }
+    ensures inside { IsInBrigade (brigade_of store.new) instance.now call.now result }
+    ensures asked { OnlyAsked store.old store.new }
+{
+    let Some(ring) = store.ring_of(id) else {
+        return Place::Nowhere;
+    };
+    if ring == call.name {
+        return Place::Loose(id);
+    }
+    match slot_of(instance, ring) {
+        Some(b) => Place::Within(b, id),
+        None => Place::Nowhere,
+    }
+}
+
+/// The variable of a brigade, where it is there.
+fn end_place<R: Rings<Stored> + Drop>(
+    instance: &Instance,
+    store: &mut Brigades<R>,
+    b: BrigadeId,
+) -> Option<u8>
+    ensures at { (next : ℕ) (around : Around) (call : Call) → result ≡ variable_of (seen_over (lists store.old) next around instance.now call) b }
+    ensures slot { IfSome result (λ b. b < 9) }
+    ensures asked { OnlyAsked store.old store.new }
+{
+    if store.has(b) {
+        slot_of(instance, b)
+    } else {
+        None
+    }
+}
+
+/// Where a cursor stands.
+pub(crate) fn place_of<R: Rings<Stored> + Drop>(
+    instance: &Instance,
+    call: &Call,
+    store: &mut Brigades<R>,
+    c: u8,
+) -> Place
+    requires cursor { c < 9 }
+    requires held { IsHeld store.old instance.now call.now }
+    ensures at { (next : ℕ) (around : Around) → by_birth result ≡ place_of (spot (seen_over (lists store.old) next around instance.now call.now) c) }
+    ensures inside { IsInBrigade (brigade_of store.new) instance.now call.now result }
+    ensures asked { OnlyAsked store.old store.new }
+{
+    match call.cursor(c) {
+        CursorValue::Unset => Place::Nowhere,
+        CursorValue::At(id) => bucket_place(instance, call, store, id),
+        CursorValue::End(name) => match end_place(instance, store, name) {
+            Some(b) => Place::End(b),
+            None => Place::Nowhere,
+        },
+    }
+}

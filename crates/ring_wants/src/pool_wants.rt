@@ -1,0 +1,120 @@
+//! The faults where a pool is not there, or is there already.
+
+ghost use Rattle.std.specs.Prelude.{◌≡◌, ℕ, Option, slice_index_or};
+ghost use Rattle.run_model.specs.Faults.{WPool, WNewPool, fault_want, has_pool, is_live_named, is_stray};
+ghost use Rattle.run_model.specs.Indexed.{any_below};
+ghost use Rattle.run_model.specs.State.{name_in, is_named, is_own};
+ghost use Rattle.run_model.specs.declared.payload.Payload.{Payload};
+ghost use Rattle.run_model.specs.Pools.{Pools};
+ghost use Rattle.pool_tree.specs.Tree.{map_of};
+ghost use Rattle.stored_rings.specs.Items.{Items};
+ghost use Rattle.ring_calls.specs.declared.machine.Call.{Call};
+ghost use Rattle.ring_calls.specs.Around.{Around};
+ghost use Rattle.ring_wants.specs.OnlyAsked.{TreeOnlyAsked};
+ghost use Rattle.ring_calls.specs.Setting.{in_setting};
+ghost use Rattle.ring_calls.specs.Seen.{seen_over};
+
+use brigade_ops::{PoolId, PoolTree};
+use ring_calls::machine::Instance;
+use ring_calls::outside::Outside;
+use ring_calls::pool_names::{is_named, name_in, pool_named, variable};
+use ring_calls::setting::Setting;
+use run_model::{FaultKind, Home, Payload, PoolRef, PoolVar};
+
+/// Whether one of the eight pool variables names a pool.
+fn any_names(instance: &Instance, name: PoolId) -> bool
+    ensures { result ≡ any_below 8 (λ q. is_named (name_in (slice_index_or instance.now.pools q PoolVar.Null)) name) }
+{
+    for q in 0..8u8 {
+        if is_named(name_in(variable(instance, q)), name) {
+            return true;
+        }
+    }
+    false
+}
+
+/// Whether there is a name and it is that of a live pool.
+fn is_there(tree: &mut PoolTree<Payload>, name: Option<PoolId>) -> bool
+    ensures value { result ≡ is_live_named (map_of tree.old) name }
+    ensures asked { TreeOnlyAsked tree.old tree.new }
+{
+    match name {
+        Some(name) => tree.is_live(name),
+        None => false,
+    }
+}
+
+/// Whether an operand names a live pool.
+#[tactic(auto, unfolding(ring_calls::specs::Seen::seen_over, run_model::specs::Faults::has_pool_at))]
+fn has_pool(
+    instance: &Instance,
+    setting: &Setting<'_>,
+    tree: &mut PoolTree<Payload>,
+    pool: PoolRef,
+) -> bool
+    ensures value { (rings : ℕ → Option Items) (next : ℕ) (around : Around) (call : Call) → result ≡ has_pool (seen_over rings next (in_setting setting.now (map_of tree.old) around) instance.now call) pool }
+    ensures asked { TreeOnlyAsked tree.old tree.new }
+{
+    let outside = Outside {
+        tree,
+        conn: setting.conn,
+        req: setting.req,
+        waits: setting.waits,
+    };
+    let name = pool_named(instance, &outside, pool);
+    is_there(tree, name)
+}
+
+/// The fault of an operand that is to name a live pool.
+pub(crate) fn want_pool(
+    instance: &Instance,
+    setting: &Setting<'_>,
+    tree: &mut PoolTree<Payload>,
+    pool: PoolRef,
+) -> Option<FaultKind>
+    ensures value { (rings : ℕ → Option Items) (next : ℕ) (around : Around) (call : Call) → result ≡ fault_want (seen_over rings next (in_setting setting.now (map_of tree.old) around) instance.now call) (WPool pool) }
+    ensures asked { TreeOnlyAsked tree.old tree.new }
+{
+    if has_pool(instance, setting, tree, pool) {
+        None
+    } else {
+        Some(FaultKind::F1)
+    }
+}
+
+/// The fault of a variable that is to name no live pool.
+pub(crate) fn want_new_pool(
+    instance: &Instance,
+    setting: &Setting<'_>,
+    tree: &mut PoolTree<Payload>,
+    q: u8,
+) -> Option<FaultKind>
+    ensures value { (rings : ℕ → Option Items) (next : ℕ) (around : Around) (call : Call) → result ≡ fault_want (seen_over rings next (in_setting setting.now (map_of tree.old) around) instance.now call) (WNewPool q) }
+    ensures asked { TreeOnlyAsked tree.old tree.new }
+{
+    if has_pool(instance, setting, tree, PoolRef::Own(q)) {
+        Some(FaultKind::F10)
+    } else {
+        None
+    }
+}
+
+/// Whether a pool is one that a pool variable names, the connection's or the open request's.
+#[tactic(auto, unfolding(ring_calls::specs::Seen::seen_over, run_model::specs::State::is_own_at))]
+fn is_own(instance: &Instance, setting: &Setting<'_>, name: PoolId) -> bool
+    ensures { (rings : ℕ → Option Items) (next : ℕ) (pools : Pools Payload) (around : Around) (call : Call) → result ≡ is_own (seen_over rings next (in_setting setting.now pools around) instance.now call) name }
+{
+    any_names(instance, name) || name == setting.conn || is_named(setting.req, name)
+}
+
+/// Whether a home does not outlast the call, or lies in a pool of another filter.
+#[tactic(auto, unfolding(run_model::specs::Faults::is_stray, run_model::specs::State::is_own_at, ring_calls::specs::Seen::seen_over))]
+pub(crate) fn is_stray(instance: &Instance, setting: &Setting<'_>, home: Home) -> bool
+    ensures { (rings : ℕ → Option Items) (next : ℕ) (pools : Pools Payload) (around : Around) (call : Call) → result ≡ is_stray (seen_over rings next (in_setting setting.now pools around) instance.now call) home }
+{
+    match home {
+        Home::Call(_) => true,
+        Home::Pool(name) => !is_own(instance, setting, name),
+        Home::Free | Home::Ended => false,
+    }
+}

@@ -1,0 +1,15 @@
+pub mod Lists
+pub mod Walks
+pub mod Points
+pub mod Lying
+pub mod Models
+pub mod Parts
+pub mod Saves
+pub mod Cleared
+pub mod Noted
+pub mod DueBuckets
+pub mod Pruned
+pub mod Shown
+pub mod Shelves
+pub mod Kept
+pub mod Names

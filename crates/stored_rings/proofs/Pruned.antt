@@ -1,0 +1,81 @@
+-- Names of buckets that depend on a pool no more may be thrown out.
+use Rattle.std.proofs.Common.{◌≡◌, ◌≢◌, ◌==◌, ◌||◌, ℕ, Bool, true, cond, Option, None, Some, List, filter, is_some, ◌⊎◌, refl, sym, ap, ◌∙◌, inl, inr}
+use Rattle.std.proofs.lemmas.Bool.{cases_eq, eq-eqb, ne_eqb}
+use Rattle.bucket_kinds.specs.declared.stored.Stored.{Stored}
+use Rattle.run_model.specs.declared.bucket.Kind.{Kind}
+use Rattle.run_model.specs.declared.bucket.Kind.TheVariants as kind
+use Rattle.run_model.specs.declared.bucket.Home.{Home}
+use Rattle.run_model.specs.declared.bucket.Home.TheVariants as home
+use Rattle.bucket_ring.specs.declared.names.BucketId.{BucketId}
+use Rattle.bucket_ring.specs.Lists.{list_at, times}
+use Rattle.bucket_ring.specs.Kept.{IsKept}
+use Rattle.bucket_ring.specs.Laws.{in_found}
+use Rattle.stored_rings.specs.declared.dependents.Dependents.{Dependents}
+use Rattle.stored_rings.specs.Dependents.{names_of, noted, StayNoted}
+use Rattle.stored_rings.specs.Due.{kind_reached, home_reached}
+use Rattle.stored_rings.specs.Items.{StoredItems}
+use Rattle.stored_rings.specs.Morphs.{is_named}
+use Rattle.stored_rings.specs.Noted.{kind_under, home_under, place_under, place_of, place_reached, held_under, is_noted, AreNoted, bucket_named, still_under}
+use Rattle.stored_rings.proofs.DueBuckets.{named_filtered, either_named, first_named, second_named}
+use Rattle.stored_rings.proofs.Noted.{all_found, are_kept, listed_by_found, noted_item, noted_parts}
+use Rattle.stored_rings.proofs.Saves.{here_at}
+use Rattle.stored_rings.proofs.Walks.{once_listed}
+
+-- What a bucket depends on stays noted, so it stays noted under all of them.
+module _ (names more : ℕ → BucketId → Bool) (id : BucketId) (x : Stored) (kept : (p : ℕ) → held_under (λ q. q == p) x ≡ true → names p id ≡ true → more p id ≡ true) where
+  kind_stays : (k : Kind) → x.kind ≡ k → kind_under (λ p. names p id) k ≡ true → kind_under (λ p. more p id) k ≡ true
+  kind_stays kind.Heap is e = refl
+  kind_stays kind.Transient is e = refl
+  kind_stays kind.Immortal is e = refl
+  kind_stays (kind.Pool p) is e =
+      kept p (first_named (kind_reached (λ q. q == p) x.kind) (home_reached (λ q. q == p) x.home || place_reached (λ q. q == p) (place_of x.kept)) (ap (kind_reached (λ q. q == p)) is ∙ eq-eqb p p refl)) e
+  kind_stays kind.File is e = refl
+  kind_stays kind.Flush is e = refl
+  kind_stays kind.Eos is e = refl
+
+  home_stays : (h : Home) → x.home ≡ h → home_under (λ p. names p id) h ≡ true → home_under (λ p. more p id) h ≡ true
+  home_stays home.Free is e = refl
+  home_stays (home.Call n) is e = refl
+  home_stays (home.Pool p) is e =
+      kept p (second_named (kind_reached (λ q. q == p) x.kind) (home_reached (λ q. q == p) x.home || place_reached (λ q. q == p) (place_of x.kept))
+      (first_named (home_reached (λ q. q == p) x.home) (place_reached (λ q. q == p) (place_of x.kept)) (ap (home_reached (λ q. q == p)) is ∙ eq-eqb p p refl))) e
+  home_stays home.Ended is e = refl
+
+  place_stays : (o : Option ℕ) → place_of x.kept ≡ o → place_under (λ p. names p id) o ≡ true → place_under (λ p. more p id) o ≡ true
+  place_stays None is e = refl
+  place_stays (Some p) is e =
+      kept p (second_named (kind_reached (λ q. q == p) x.kind) (home_reached (λ q. q == p) x.home || place_reached (λ q. q == p) (place_of x.kept))
+      (second_named (home_reached (λ q. q == p) x.home) (place_reached (λ q. q == p) (place_of x.kept)) (ap (place_reached (λ q. q == p)) is ∙ eq-eqb p p refl))) e
+
+  item_stays : is_noted names (id, x) ≡ true → is_noted more (id, x) ≡ true
+  item_stays e =
+      let parts = noted_parts names id x e in
+      noted_item more id x (kind_stays x.kind refl parts.0) (home_stays x.home refl parts.1) (place_stays (place_of x.kept) refl parts.2)
+
+-- Names are thrown out from under one pool whose buckets are gone or depend on it no more.
+module _ (at : BucketId → Option ℕ) (lists : ℕ → Option StoredItems) (next : ℕ) (law : IsKept at lists next) (old new : Dependents) (pool : ℕ)
+    (out : (p : ℕ) → names_of new p ≡ cond (p == pool) (filter (λ i. still_under pool (bucket_named at lists i)) (names_of old p)) (names_of old p)) (still : new.lost ≡ old.lost) where
+  under_kept : (id : BucketId) (x : Stored) → bucket_named at lists id ≡ Some x → (p : ℕ) → held_under (λ q. q == p) x ≡ true → noted old p id ≡ true → noted new p id ≡ true
+  unfolding noted
+  under_kept id x there p on e = elim (either_named old.lost (is_named id (names_of old p)) e) [
+    | inl gone ↦ first_named new.lost (is_named id (names_of new p)) (still ∙ gone)
+    | inr named ↦ second_named new.lost (is_named id (names_of new p)) (ap (is_named id) (out p) ∙ by_pool (cases_eq p pool) named)
+  ] where
+    by_pool : (p ≡ pool) ⊎ (p ≢ pool) → is_named id (names_of old p) ≡ true → is_named id (cond (p == pool) (filter (λ i. still_under pool (bucket_named at lists i)) (names_of old p)) (names_of old p)) ≡ true
+    by_pool (inl here) named =
+        rw (eq-eqb p pool here) (named_filtered (λ i. still_under pool (bucket_named at lists i)) id (names_of old p)
+        ∙ rw (ap (still_under pool) there ∙ (ap (λ (q : ℕ). held_under (λ n. n == q) x) (sym here) ∙ on), named) refl)
+    by_pool (inr apart) named = rw (ne_eqb p pool apart) named
+
+  pub pruned : AreNoted (noted old) lists → AreNoted (noted new) lists
+  pruned are b =
+      listed_by_found (is_noted (noted new)) (list_at lists b) (λ i. once_listed b (at i) (times i (list_at lists b)) (law.counted i b))
+      (λ id x is.
+      let there = here_at (at id) lists id b x (in_found at lists next law id b (ap is_some is)) is in
+      item_stays (noted old) (noted new) id x (under_kept id x there) (all_found (is_noted (noted old)) id x (list_at lists b) (are b) is))
+
+-- Where the names under all pools are as they were, what was noted is noted.
+pub same_names : (old new : Dependents) → ((p : ℕ) → names_of new p ≡ names_of old p) → new.lost ≡ old.lost → StayNoted old new
+unfolding noted
+same_names old new names lost lists are = are_kept (noted old) (noted new)
+    (λ p id e. ap (λ (b : Bool). b || is_named id (names_of new p)) lost ∙ (ap (λ (ns : List BucketId). old.lost || is_named id ns) (names p) ∙ e)) lists are

@@ -1,0 +1,36 @@
+use Rattle.std.proofs.Common.{◌≡◌, ◌+◌, ℕ, Option, Some, is_some, [], sym, ap, ◌∙◌, arith}
+use Rattle.std.specs.Option.{option_map_or}
+use Rattle.bucket_ring.specs.Lists.{upd, list_at, times, found}
+use Rattle.stored_rings.specs.Dependents.{noted}
+use Rattle.stored_rings.specs.Items.{StoredItems}
+use Rattle.stored_rings.specs.Noted.{is_noted}
+use Rattle.stored_rings.proofs.Noted.{paired, are_kept, listed_by_found, list_now}
+use Rattle.stored_rings.proofs.Walks.{once_listed}
+use Rattle.stored_rings.proofs.indexed.IndexedRingsStored.new_pair.Goals as goal
+
+pub invariant_of-self-2-clause-indexed : goal.invariant_of-self-2-clause-indexed
+invariant_of-self-2-clause-indexed g c =
+    let s = c.args.self.now in
+    let names = noted c.note_ring.new.dependents in
+    let p = is_noted names in
+    let old = g.R.Rings.lists s.rings in
+    let rings = c.new_pair.new.self in
+    let new = g.R.Rings.lists rings in
+    let ok = c.in_ok-first.ensures.ok in
+    let bs : StoredItems = ok.0 in
+    let first = g.R.Rings.next_name s.rings in
+    let second : c.in_ok-first.second ≡ first + 1 = ap (λ (pair : ℕ × ℕ). pair.1) c.in_ok-first.ensures.name in
+    let list_is : (o : Option StoredItems) → o ≡ Some bs → option_map_or (λ (xs : StoredItems). xs) o [] ≡ bs = λ o e. ap (λ (q : Option StoredItems). option_map_or (λ (xs : StoredItems). xs) q []) e in
+    let whole : list_at new c.in_ok-first.second ≡ bs = list_is (new c.in_ok-first.second) (ap new second ∙ (ok.2 (first + 1) ∙ list_now (upd old first (Some [])) (first + 1) (Some bs))) in
+    paired p old new (are_kept (noted c.make_room_for_all.new.dependents) names c.note_ring.ensures.kept old (c.in_ok-make_room_for_all.ensures old s.indexed)) first (first + 1) bs
+    (listed_by_found p bs
+    (λ i. once_listed c.in_ok-first.second (g.R.Rings.ring_at rings i) (times i bs) (ap (times i) (sym whole) ∙ g.met.R.Rings.counted rings i c.in_ok-first.second))
+    (λ id x there. c.note_ring.ensures.here id x (ap (found id) whole ∙ there) (omega arith)))
+    ok.2
+
+pub note_ring-requires : goal.note_ring-requires
+note_ring-requires g c =
+    let first = g.R.Rings.next_name c.args.self.now.rings in
+    let second : c.in_ok-first.second ≡ first + 1 = ap (λ (pair : ℕ × ℕ). pair.1) c.in_ok-first.ensures.name in
+    let ok = c.in_ok-first.ensures.ok in
+    ap is_some (ap (g.R.Rings.lists c.new_pair.new.self) second ∙ (ok.2 (first + 1) ∙ list_now (upd (g.R.Rings.lists c.args.self.now.rings) first (Some [])) (first + 1) (Some ok.0)))

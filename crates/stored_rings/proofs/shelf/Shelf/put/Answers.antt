@@ -1,0 +1,48 @@
+use Rattle.std.proofs.Common.{◌≡◌, true}
+use Rattle.std.proofs.lemmas.Bool.{and_parts}
+use Rattle.bucket_ring.specs.Lists.{list_at, with_payload}
+use Rattle.stored_rings.specs.Regions.{look}
+use Rattle.stored_rings.specs.Shelf.{seen}
+use Rattle.stored_rings.specs.Shown.{held_item}
+use Rattle.bucket_kinds.specs.Stored.{shown}
+use Rattle.stored_rings.proofs.Lists.{some_of}
+use Rattle.stored_rings.proofs.Noted.{both, all_found, all_set, changed_at}
+use Rattle.stored_rings.proofs.Shown.{stored_found, on_seen, set_shown}
+use Rattle.stored_rings.proofs.shelf.Shelf.put.Goals as goal
+use Rattle.stored_rings.proofs.shelf.Shelf.put.Goals.{After-set_payload}
+
+pub invariant_of-self : goal.invariant_of-self
+invariant_of-self g c =
+    let s = c.args.self.now.rings in
+    let p = held_item (look c.args.self.now.regions) in
+    let old = g.R.Rings.lists s.rings in
+    let new = g.R.Rings.lists c.set_payload.new.self.rings in
+    record {
+      whole = changed_at p old new c.args.self.now.whole (g.R.Rings.ring_at s.rings) (g.R.Rings.next_name s.rings) s.kept c.args.id c.requires.there
+          (with_payload c.args.id c.args.bucket) (λ xs. all_set p c.args.id c.args.bucket xs (both c.requires.whole c.requires.lies)) c.set_payload.ensures.out;
+    }
+
+pub returns-clause-had : goal.returns-clause-had
+unfolding seen
+returns-clause-had g c r at = stored_found (look c.args.self.now.regions) (g.R.Rings.lists c.args.self.now.rings.rings) (g.R.Rings.lists c.args.self.now.rings.rings) r c.args.id c.set_payload.result (c.set_payload.ensures.had r at)
+
+had : (g : _) (c : After-set_payload g) → held_item (look c.args.self.now.regions) (c.args.id, c.set_payload.result) ≡ true
+had g c =
+    let s = c.args.self.now.rings in
+    let old = g.R.Rings.lists s.rings in
+    let q = some_of (g.R.Rings.ring_at s.rings c.args.id) c.requires.there in
+    all_found (held_item (look c.args.self.now.regions)) c.args.id c.set_payload.result (list_at old q.0) (c.args.self.now.whole q.0) (c.set_payload.ensures.had q.0 q.1)
+
+pub returns-clause-had_whole : goal.returns-clause-had_whole
+returns-clause-had_whole g c = (and_parts _ _ (had g (goal.at.returns-clause-had_whole g c).After-set_payload)).0
+
+pub returns-clause-had_right : goal.returns-clause-had_right
+returns-clause-had_right g c = (and_parts _ _ (had g (goal.at.returns-clause-had_right g c).After-set_payload)).1
+
+pub returns-clause-out : goal.returns-clause-out
+unfolding seen
+returns-clause-out g c =
+    let see = look c.args.self.now.regions in
+    let old = g.R.Rings.lists c.args.self.now.rings.rings in
+    let new = g.R.Rings.lists c.set_payload.new.self.rings in
+    λ r n at. on_seen see old new r (with_payload c.args.id c.args.bucket) (with_payload c.args.id (shown see c.args.bucket)) (set_shown see c.args.id c.args.bucket) (λ m. c.set_payload.ensures.out r m at) n
