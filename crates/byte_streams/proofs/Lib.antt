@@ -1,1 +1,3 @@
 pub mod AppendLaws
+pub mod PartLaws
+pub mod PutLaws

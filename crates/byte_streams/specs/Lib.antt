@@ -1,2 +1,3 @@
 pub mod Transfers
 pub mod Counted
+pub mod Texts

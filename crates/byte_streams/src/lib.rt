@@ -2,11 +2,13 @@
 #![tactic(auto)]
 
 mod counted;
+mod parts;
 mod sink;
 mod source;
 mod std_streams;
 
 pub use counted::{CountedFault, CountedSource, READ_BYTES, READS};
+pub use parts::Parts;
 pub use sink::{Sink, SinkFault, WriteAnswer};
 pub use source::{ReadAnswer, ReadFailed, Source};
 pub use std_streams::{StdSink, StdSource};

@@ -2,7 +2,10 @@
 
 ghost use Rattle.std.specs.Prelude.{◌≡◌, ℕ, ◌<◌, Bool, false, List, length, Option, Some, None, Err, refl};
 ghost use Rattle.std.specs.Vec.{VecUnchanged};
+ghost use Rattle.byte_streams.specs.Texts.{IsPut, joined};
 ghost use Rattle.byte_streams.specs.Transfers.{IsWritten, IsAllWritten};
+
+use crate::parts::Parts;
 
 /// What a write took.
 #[derive(Clone, Copy, Debug, PartialEq, Eq)]
@@ -45,6 +48,35 @@ pub trait Sink {
         ensures written { IsAllWritten (contents self.old) (contents self.new) (failed self.old) (failed self.new) text.now result }
         ensures unchanged { result ≡ Err SinkFault.NoMemory → unchanged self.old self.new };
 
+    /// As `write_all`; of an empty text the sink is not asked.
+    fn put(&mut self, text: &[u8]) -> Result<(), SinkFault>
+        ensures { IsPut (contents self.old) (contents self.new) (failed self.old) (failed self.new) text.now result }
+    {
+        if text.is_empty() {
+            return Ok(());
+        }
+        self.write_all(text)
+    }
+
+    /// Writes a front of a text in parts, in which there is one byte at least. After an error nothing of it was taken. A sink that can write
+    /// several parts in one call does so; any other writes the first in which there is something.
+    fn write_parts(&mut self, parts: Parts<'_>) -> Result<WriteAnswer, SinkFault>
+        requires { 0 < length (joined parts) }
+        ensures written { IsWritten (contents self.old) (contents self.new) (failed self.old) (failed self.new) (joined parts.entry) result }
+        ensures unchanged { result ≡ Err SinkFault.NoMemory → unchanged self.old self.new }
+    {
+        self.write(parts.front())
+    }
+
+    /// Writes all of a text in parts. `Failed`, `NoMemory`: a front of the text was taken, but not all of it.
+    fn put_parts(&mut self, parts: Parts<'_>) -> Result<(), SinkFault>
+        ensures { IsPut (contents self.old) (contents self.new) (failed self.old) (failed self.new) (joined parts.entry) result }
+    {
+        self.put(parts.first)?;
+        self.put(parts.second)?;
+        self.put(parts.third)
+    }
+
     ghost unchanged_self: { (s : Self) → unchanged s s };
 }
 
@@ -63,6 +95,14 @@ impl<W: Sink> Sink for &mut W {
 
     fn write_all(&mut self, text: &[u8]) -> Result<(), SinkFault> {
         Sink::write_all(&mut **self, text)
+    }
+
+    fn write_parts(&mut self, parts: Parts<'_>) -> Result<WriteAnswer, SinkFault> {
+        Sink::write_parts(&mut **self, parts)
+    }
+
+    fn put_parts(&mut self, parts: Parts<'_>) -> Result<(), SinkFault> {
+        Sink::put_parts(&mut **self, parts)
     }
 }
 

@@ -7,7 +7,6 @@ pub mod ServedLaws
 pub mod NextLaws
 pub mod Rows
 pub mod Parts
-pub mod PutLaws
 pub mod BlameLaws
 pub mod Stays
 pub mod FeedRows

@@ -22,7 +22,7 @@ use Rattle.http_front.specs.Turns.{IsCut, WantsMore, texts_of}
 use Rattle.http_front.specs.Stepping.{DoesStep, LacksAnswer}
 use Rattle.http_front.specs.Serving.{Goes, IsSinkKind, SoFar, Standing, Writes}
 use Rattle.http_front.specs.Talking.{Follows, IsNext, Lands, one_more, pending, to_do}
-use Rattle.http_front.specs.Texts.{AppendsFront}
+use Rattle.byte_streams.specs.Texts.{AppendsFront}
 use Rattle.http_front.specs.UnderWays.{LacksSlice, StepsFrom}
 use Rattle.http_front.proofs.TurnLaws.{on_ok}
 use Rattle.http_front.proofs.ServingLaws.{cut_by, cut_closes, cut_refused, cut_stays, far_closes, far_done, far_refused, far_stays}

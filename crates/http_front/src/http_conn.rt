@@ -6,7 +6,8 @@ ghost use Rattle.http_message.specs.Inboxes.{unread};
 ghost use Rattle.http_front.specs.UnderWays.{LacksSlice, StepsFrom, most_steps};
 ghost use Rattle.byte_streams.specs.Counted.{reads_left, source_of};
 ghost use Rattle.http_front.specs.Serving.{AddsBytes, BlamesSink, BlamesSource, IsSinkKind, Loses};
-ghost use Rattle.http_front.specs.Texts.{AppendsFront, text_of};
+ghost use Rattle.byte_streams.specs.Texts.{AppendsFront};
+ghost use Rattle.http_front.specs.Texts.{text_of};
 ghost use Rattle.http_front.specs.Sharing.{Passes};
 
 use crate::fault::FrontKind;
@@ -232,7 +233,7 @@ impl<T: Drop> HttpConn<T> {
         ensures kinds { IfErr result IsSinkKind }
         ensures sink { BlamesSink result (W.failed sink.old) (W.failed sink.new) }
     {
-        match sink.write(self.text.rest(self.sent)) {
+        match sink.write_parts(self.text.rest(self.sent)) {
             Ok(WriteAnswer::Bytes(count)) => {
                 self.sent += count;
                 if self.sent == self.size {

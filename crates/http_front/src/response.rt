@@ -1,10 +1,11 @@
 //! The text of a response, in the parts that are written.
 
-ghost use Rattle.std.specs.Prelude.{◌≡◌, ◌<◌, [], IfSome, None, length, drop};
-ghost use Rattle.http_front.specs.Texts.{BeginsWith, IsPut, text_of};
+ghost use Rattle.std.specs.Prelude.{◌≡◌, [], IfSome, None, length, drop};
+ghost use Rattle.byte_streams.specs.Texts.{IsPut, joined};
+ghost use Rattle.http_front.specs.Texts.{text_of};
 
 use crate::handler::Handler;
-use byte_streams::{Sink, SinkFault};
+use byte_streams::{Parts, Sink, SinkFault};
 use filter_chain::Seq;
 use std::alloc::Global;
 use std::mem;
@@ -12,8 +13,8 @@ use std::mem;
 /// How large a buffer is at most that a connection keeps while it has nothing to write.
 const KEPT_BYTES: usize = 4096;
 
-/// The text of a response, in parts that are written one after another. A body of more than 64 KiB lies as the handler gave it; with a
-/// smaller one the whole text lies in the first part. The buffers keep their room from one response to the next.
+/// The text of a response, in parts that are written together. A body of more than 2 KiB lies as the handler gave it; with a smaller one the
+/// whole text lies in the first part. The buffers keep their room from one response to the next.
 #[derive(Drop)]
 pub struct ResponseText {
     /// The head, and the line with the size of the chunk. Or the whole text.
@@ -22,26 +23,6 @@ pub struct ResponseText {
     pub body: Seq<u8>,
     /// What follows a large body: the end of its chunks.
     pub tail: Vec<u8>,
-}
-
-/// Writes a part. An empty one asks nothing of the sink.
-fn put_part<W: Sink>(sink: &mut W, part: &[u8]) -> Result<(), SinkFault>
-    ensures { IsPut (W.contents sink.old) (W.contents sink.new) (W.failed sink.old) (W.failed sink.new) part.now result }
-{
-    if part.is_empty() {
-        return Ok(());
-    }
-    sink.write_all(part)
-}
-
-/// What stands behind a place; nothing, where the part ends before it.
-fn behind(part: &[u8], at: usize) -> &[u8]
-    ensures { result.now ≡ drop at part.now }
-{
-    if at >= part.len() {
-        return &[];
-    }
-    &part[at..]
 }
 
 impl ResponseText {
@@ -88,30 +69,28 @@ impl ResponseText {
         Some(size)
     }
 
-    /// What follows a place, as far as it lies in one part.
-    pub(crate) fn rest(&self, at: usize) -> &[u8]
-        ensures front { BeginsWith (drop at (text_of self.now)) result.now }
-        ensures some { at < length (text_of self.now) → ¬ (result.now ≡ []) }
+    fn parts(&self) -> Parts<'_>
+        ensures { joined result ≡ text_of self.now }
     {
-        let head = self.head.as_slice();
-        if at < head.len() {
-            return behind(head, at);
+        Parts {
+            first: self.head.as_slice(),
+            second: self.body.as_slice(),
+            third: self.tail.as_slice(),
         }
-        let in_body = at - head.len();
-        let body = self.body.as_slice();
-        if in_body < body.len() {
-            return behind(body, in_body);
-        }
-        behind(self.tail.as_slice(), in_body - body.len())
     }
 
-    /// Writes the parts one after another. `Failed`, `NoMemory`: a front of the text is written, but not all of it.
+    /// What follows a place.
+    pub(crate) fn rest(&self, at: usize) -> Parts<'_>
+        ensures { joined result ≡ drop at (text_of self.now) }
+    {
+        self.parts().behind(at)
+    }
+
+    /// Writes all of it. `Failed`, `NoMemory`: a front of the text is written, but not all of it.
     pub fn write<W: Sink>(&self, sink: &mut W) -> Result<(), SinkFault>
         ensures { IsPut (W.contents sink.old) (W.contents sink.new) (W.failed sink.old) (W.failed sink.new) (text_of self.now) result }
     {
-        put_part(sink, self.head.as_slice())?;
-        put_part(sink, self.body.as_slice())?;
-        put_part(sink, self.tail.as_slice())
+        sink.put_parts(self.parts())
     }
 
     /// Gives a large body back to the handler that it is from, so that its room is used again.

@@ -14,7 +14,7 @@ use std::alloc::{AllocError, Global};
 use std::mem;
 
 /// How many bytes a body has at most that is copied behind its head.
-const JOINED_BYTES: usize = 65536;
+const JOINED_BYTES: usize = 2048;
 
 /// Replaces `text` by that of a response, with the Date line at a moment. A large body is taken out of the reply.
 fn put_text(

@@ -6,8 +6,9 @@ ghost use Rattle.http_front.specs.Driven.{IsAlive};
 use crate::head_reader::Deadline;
 use crate::request_log::{RequestLog, told_by};
 use crate::socket::Socket;
+use crate::socket_sink::SocketSink;
 use crate::system_clock::SystemClock;
-use byte_streams::{StdSink, StdSource};
+use byte_streams::StdSource;
 use filter_chain::{Files, Host};
 use http_front::{FrontFault, FrontKind, HttpConn, Next, RequestTask, Served, Site, Turned};
 use mio::net::TcpStream;
@@ -211,7 +212,7 @@ impl Client {
         let turned = self.conn.turn(
             shared.runtime.alloc(),
             &mut source,
-            &mut StdSink::polled(Socket::new(&self.stream)),
+            &mut SocketSink::polled(Socket::new(&self.stream)),
             shared.site,
             host,
             self.host_number,

@@ -1,9 +1,12 @@
 //! A connection's stream, with a deadline for each head.
 
 ghost use Rattle.std.specs.Prelude.{◌≡◌, ◌≤◌, IfOk, length};
+ghost use Rattle.byte_streams.specs.Texts.{joined};
 
+use crate::socket_sink::{WritesParts, slices};
+use byte_streams::Parts;
 use std::cell::Cell;
-use std::io::{self, ErrorKind, Read, Write};
+use std::io::{self, ErrorKind, Read};
 use std::net::TcpStream;
 use std::rt::Clock;
 use std::time::{Duration, Instant};
@@ -139,11 +142,12 @@ fn read_again(mut stream: &TcpStream, buf: &mut [u8]) -> io::Result<usize>
 }
 
 /// Writes to a stream. A write that is interrupted is made again.
-fn write_again(mut stream: &TcpStream, buf: &[u8]) -> io::Result<usize>
-    ensures { IfOk result (λ n. n ≤ length buf.now) }
+fn write_again(stream: &TcpStream, parts: Parts<'_>) -> io::Result<usize>
+    ensures { IfOk result (λ n. n ≤ length (joined parts.entry)) }
 {
+    let slices = slices(parts);
     for _ in 0..TRIES {
-        match stream.write(buf) {
+        match stream.write_vectored(&slices) {
             Err(error) if error.kind() == ErrorKind::Interrupted => {}
             given => return given,
         }
@@ -189,19 +193,15 @@ pub struct ReplyWriter<'a> {
     pub deadline: &'a Deadline,
 }
 
-impl Write for ReplyWriter<'_> {
-    fn write(&mut self, buf: &[u8]) -> io::Result<usize> {
+impl WritesParts for ReplyWriter<'_> {
+    fn write_parts(&mut self, parts: Parts<'_>) -> io::Result<usize> {
         self.deadline.renew();
-        let written = write_again(self.stream, buf);
+        let written = write_again(self.stream, parts);
         if let Err(error) = &written {
             if error.kind() == ErrorKind::WouldBlock {
                 self.deadline.pass();
             }
         }
         written
-    }
-
-    fn flush(&mut self) -> io::Result<()> {
-        Ok(())
     }
 }

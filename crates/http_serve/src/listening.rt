@@ -4,9 +4,10 @@ ghost use Rattle.http_front.specs.Driven.{IsAlive};
 
 use crate::head_reader::{Deadline, HeadReader, ReplyWriter};
 use crate::request_log::{RequestLog, tell_refused, tell_unready, told_by};
+use crate::socket_sink::SocketSink;
 use crate::system_clock::SystemClock;
 use crate::unclosed::UnclosedConns;
-use byte_streams::{CountedSource, READS, StdSink, StdSource};
+use byte_streams::{CountedSource, READS, StdSource};
 use filter_chain::{Files, Host};
 use http_front::{FrontFault, Served, Site, serve};
 use std::io::{self, Read};
@@ -78,7 +79,7 @@ pub fn serve_stream<R: Clock + Eprint + AllocGlobal, F: Files + Drop>(
     };
     let writer = ReplyWriter { stream, deadline };
     let mut source = CountedSource::new(StdSource::new(reader), READS);
-    let mut sink = StdSink::new(writer);
+    let mut sink = SocketSink::new(writer);
     let mut clock = SystemClock { runtime: rt, log };
     serve(rt.alloc(), &mut source, &mut sink, site, host, &mut clock)
 }

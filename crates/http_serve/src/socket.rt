@@ -1,9 +1,12 @@
 //! A socket that does not wait. A call that a signal interrupts is made again.
 
 ghost use Rattle.std.specs.Prelude.{◌≡◌, ◌≤◌, IfOk, length};
+ghost use Rattle.byte_streams.specs.Texts.{joined};
 
+use crate::socket_sink::{WritesParts, slices};
+use byte_streams::Parts;
 use mio::net::TcpStream;
-use std::io::{self, ErrorKind, Read, Write};
+use std::io::{self, ErrorKind, Read};
 
 /// How many times a call is made that a signal interrupts.
 const TRIES: u32 = 1000;
@@ -42,19 +45,15 @@ impl Read for Socket<'_> {
     }
 }
 
-impl Write for Socket<'_> {
-    fn write(&mut self, buf: &[u8]) -> io::Result<usize> {
-        let mut stream = self.stream;
+impl WritesParts for Socket<'_> {
+    fn write_parts(&mut self, parts: Parts<'_>) -> io::Result<usize> {
+        let slices = slices(parts);
         for _ in 0..TRIES {
-            match stream.write(buf) {
+            match self.stream.write_vectored(&slices) {
                 Err(error) if error.kind() == ErrorKind::Interrupted => {}
                 given => return given,
             }
         }
         Err(io::Error::from(ErrorKind::Interrupted))
-    }
-
-    fn flush(&mut self) -> io::Result<()> {
-        Ok(())
     }
 }

@@ -9,7 +9,7 @@ use crate::calls::{Call, Place};
 use crate::missing::Missing;
 use crate::rings::{listed, make_call, put};
 use anyhow::Result;
-use bucket_ring::{BucketId, PlainRings, RawRings, RingId, Rings};
+use bucket_ring::{BucketId, RingId, Rings};
 use std::alloc::{AllocError, Global};
 
 /// A command: which one, two of the four rings, the places of two buckets, and a letter.
@@ -163,28 +163,59 @@ fn sum_of(told: &[(u64, u8)], before: u64) -> u64 {
     sum
 }
 
-/// Plays the commands on rings of both kinds, and tells of how many the rings were equal afterwards, and the sum over all that was told.
-pub(crate) fn commands_alike(rt: &HostRuntime) -> Result<()> {
-    let alloc = rt.alloc();
-    let mut plain: Four<PlainRings<u8>> = Four::new(alloc)?;
-    let mut raw: Four<RawRings<u8>> = Four::new(alloc)?;
-    let mut number: u64 = 1;
-    let mut sum = 0;
-    let mut alike: u64 = 0;
-    for _ in 0..10_000 {
-        number = number
-            .wrapping_mul(6364136223846793005)
-            .wrapping_add(1442695040888963407);
-        let command = command_of(number >> 33);
-        plain.play(alloc, command)?;
-        raw.play(alloc, command)?;
-        let told = raw.told(alloc)?;
-        sum = sum_of(told.as_slice(), sum);
-        if plain.told(alloc)? == told {
-            alike = alike.saturating_add(1);
+/// The number of the next command.
+fn number_behind(number: u64) -> u64 {
+    number
+        .wrapping_mul(6364136223846793005)
+        .wrapping_add(1442695040888963407)
+}
+
+/// Rings of two kinds, and what was told of them: after how many commands they were equal, and the sum over all of the second.
+#[derive(Drop)]
+struct Pair<P, Q> {
+    plain: Four<P>,
+    raw: Four<Q>,
+    alike: u64,
+    sum: u64,
+}
+
+impl<P: Rings<u8> + Drop, Q: Rings<u8> + Drop> Pair<P, Q> {
+    /// Plays a command on both.
+    fn play(&mut self, alloc: Global, command: Command) -> Result<()> {
+        self.plain.play(alloc, command)?;
+        self.raw.play(alloc, command)?;
+        let told = self.raw.told(alloc)?;
+        self.sum = sum_of(told.as_slice(), self.sum);
+        if self.plain.told(alloc)? == told {
+            self.alike = self.alike.saturating_add(1);
         }
+        Ok(())
+    }
+}
+
+/// Plays the commands on rings of two kinds, and tells of how many the rings were equal afterwards, and the sum over all that was told.
+pub(crate) fn commands_alike<P: Rings<u8> + Drop, Q: Rings<u8> + Drop>(
+    rt: &HostRuntime,
+) -> Result<()> {
+    let alloc = rt.alloc();
+    let plain = Four::<P>::new(alloc)?;
+    let raw = Four::<Q>::new(alloc)?;
+    let (alike, sum) = (0, 0);
+    let mut pair = Pair {
+        plain,
+        raw,
+        alike,
+        sum,
+    };
+    let mut number = 1;
+    for _ in 0..10_000 {
+        number = number_behind(number);
+        pair.play(alloc, command_of(number >> 33))?;
     }
     println!(rt; "ten thousand commands on rings in a slab and in a raw block")?;
-    println!(rt; "equal after {alike} of them, and the sum is {sum}")?;
+    println!(rt;
+        "equal after {} of them, and the sum is {}",
+        pair.alike, pair.sum
+    )?;
     Ok(())
 }

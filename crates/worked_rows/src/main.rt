@@ -23,33 +23,49 @@ mod there;
 
 use anyhow::Result;
 use brigade_ops::Stored;
-use bucket_ring::{PlainRings, RawRings};
+use bucket_ring::{PlainRings, RawRings, Rings};
+
+fn of_rings(rt: &HostRuntime) -> Result<()> {
+    rings::ring_moves::<PlainRings<u8>>(rt, "in a slab")?;
+    rings::ring_moves::<RawRings<u8>>(rt, "in a raw block")?;
+    rings::ring_names_spent::<PlainRings<u8>>(rt, "in a slab")?;
+    rings::ring_names_spent::<RawRings<u8>>(rt, "in a raw block")?;
+    commands::commands_alike::<PlainRings<u8>, RawRings<u8>>(rt)?;
+    sizes::node_sizes(rt)
+}
+
+fn of_pools(rt: &HostRuntime) -> Result<()> {
+    regions::region_spans(rt)?;
+    pools::pool_names_spent(rt)?;
+    pools::destroy_run_order(rt)?;
+    pools::kills(rt)
+}
+
+fn of_brigades<R: Rings<Stored> + Drop>(rt: &HostRuntime) -> Result<()> {
+    brigades::brigade_moves::<R>(rt)?;
+    brigades::brigade_splits::<R>(rt)?;
+    brigades::brigades_at_once::<R>(rt)?;
+    brigades::brigade_names_spent::<R>(rt)?;
+    rows::show_rows::<R>(rt, rows::BUCKETS)?;
+    saves::saves::<R>(rt)?;
+    saves::references::<R>(rt)?;
+    saves::clears_under_a_brigade::<R>(rt)
+}
+
+fn of_files<R: Rings<Stored> + Drop>(rt: &HostRuntime) -> Result<()> {
+    rows::show_rows::<R>(rt, rows::READS)?;
+    reads::reads_that_fail(rt)?;
+    reads::openings_that_fail(rt)?;
+    disk::reads_of_a_disk(rt)?;
+    disk::failures_of_a_disk(rt)
+}
 
 fn main(rt: HostRuntime) -> Result<()> {
-    rings::ring_moves::<PlainRings<u8>>(&rt, "in a slab")?;
-    rings::ring_moves::<RawRings<u8>>(&rt, "in a raw block")?;
-    rings::ring_names_spent::<PlainRings<u8>>(&rt, "in a slab")?;
-    rings::ring_names_spent::<RawRings<u8>>(&rt, "in a raw block")?;
-    commands::commands_alike(&rt)?;
-    sizes::node_sizes(&rt)?;
-    regions::region_spans(&rt)?;
-    pools::pool_names_spent(&rt)?;
-    pools::destroy_run_order(&rt)?;
-    pools::kills(&rt)?;
-    brigades::brigade_moves::<RawRings<Stored>>(&rt)?;
-    brigades::brigade_splits::<RawRings<Stored>>(&rt)?;
-    brigades::brigades_at_once::<RawRings<Stored>>(&rt)?;
-    brigades::brigade_names_spent::<RawRings<Stored>>(&rt)?;
-    rows::show_rows(&rt, rows::BUCKETS)?;
-    saves::saves::<RawRings<Stored>>(&rt)?;
-    saves::references::<RawRings<Stored>>(&rt)?;
-    saves::clears_under_a_brigade::<RawRings<Stored>>(&rt)?;
+    of_rings(&rt)?;
+    of_pools(&rt)?;
+    of_brigades::<RawRings<Stored>>(&rt)?;
     pooled::pool_bucket_split_and_new_after_clear::<PlainRings<Stored>>(&rt, "in a slab")?;
     pooled::pool_bucket_split_and_new_after_clear::<RawRings<Stored>>(&rt, "in a raw block")?;
-    rows::show_rows(&rt, rows::READS)?;
-    reads::reads_that_fail(&rt)?;
-    reads::openings_that_fail(&rt)?;
-    disk::reads_of_a_disk(&rt)?;
-    disk::failures_of_a_disk(&rt)?;
+    of_files::<RawRings<Stored>>(&rt)?;
     certs::show_rows(&rt)
 }

@@ -5,7 +5,7 @@ use crate::{cuts, reads, saves};
 use anyhow::Result;
 use brigade_ops::Stored;
 use bucket_kinds::Kind;
-use bucket_ring::RawRings;
+use bucket_ring::Rings;
 
 /// A row.
 #[derive(Clone, Copy)]
@@ -105,26 +105,26 @@ fn say(rt: &HostRuntime, text: &str) -> Result<()> {
     Ok(())
 }
 
-fn show_row(rt: &HostRuntime, row: Row) -> Result<()> {
+fn show_row<R: Rings<Stored> + Drop>(rt: &HostRuntime, row: Row) -> Result<()> {
     match row {
         Row::Says(text) => say(rt, text),
         Row::Split(made, at) => buckets::show_split(rt, made, at),
         Row::Copy(made) => buckets::show_copy(rt, made),
         Row::Aside(made, is_ancestor) => buckets::show_aside(rt, made, is_ancestor),
-        Row::SplitIn(made, at) => cuts::show_split::<RawRings<Stored>>(rt, made, at),
-        Row::CopyIn(made) => cuts::show_copy::<RawRings<Stored>>(rt, made),
-        Row::AsideIn(made, below) => saves::show_aside::<RawRings<Stored>>(rt, made, below),
-        Row::Partition(made, point) => cuts::show_partition::<RawRings<Stored>>(rt, made, point),
-        Row::ReadIn(size, len) => cuts::show_read::<RawRings<Stored>>(rt, size, len),
+        Row::SplitIn(made, at) => cuts::show_split::<R>(rt, made, at),
+        Row::CopyIn(made) => cuts::show_copy::<R>(rt, made),
+        Row::AsideIn(made, below) => saves::show_aside::<R>(rt, made, below),
+        Row::Partition(made, point) => cuts::show_partition::<R>(rt, made, point),
+        Row::ReadIn(size, len) => cuts::show_read::<R>(rt, size, len),
         Row::Read(size, len) => reads::show_file(rt, size, len),
         Row::ReadMemory(kind) => reads::show_memory(rt, kind),
     }
 }
 
-/// Tells the rows one after another.
-pub(crate) fn show_rows(rt: &HostRuntime, rows: &[Row]) -> Result<()> {
+/// Tells the rows one after another. Brigades stand on rings of this kind.
+pub(crate) fn show_rows<R: Rings<Stored> + Drop>(rt: &HostRuntime, rows: &[Row]) -> Result<()> {
     for row in rows {
-        show_row(rt, *row)?;
+        show_row::<R>(rt, *row)?;
     }
     Ok(())
 }

@@ -11,7 +11,7 @@ returns-then-middle-gt-JOINED_BYTES c =
     let r = c.args.reply.now in
     let date = c.in_ok-put_opening.ensures in
     let tail = c.in_ok-extend_from_slice.ensures.items in
-    let whole = sent_whole r c.middle.result.now 65536 c.middle.ensures c.if-middle-gt-JOINED_BYTES.true in (
+    let whole = sent_whole r c.middle.result.now 2048 c.middle.ensures c.if-middle-gt-JOINED_BYTES.true in (
       date.0,
       date.1,
       rw (date.2, c.clear.ensures.head, c.replace.ensures.value, tail, c.clear.ensures.tail, c.as_bytes.ensures.value, c.closing.ensures)

@@ -6,7 +6,7 @@ use Rattle.std.proofs.KnownBytes.{Appends-trans}
 use Rattle.std.specs.Io.KnownBytes.{Appends}
 use Rattle.byte_streams.specs.declared.sink.SinkFault.{SinkFault}
 use Rattle.byte_streams.specs.declared.sink.SinkFault.TheVariants as fault
-use Rattle.http_front.specs.Texts.{AppendsFront, IsPut}
+use Rattle.byte_streams.specs.Texts.{AppendsFront, IsPut}
 
 -- a front of a text is one of a longer text
 front_longer : (a b : Option (List ℕ)) (x y : List ℕ) → AppendsFront a b x → AppendsFront a b (x ++ y)
