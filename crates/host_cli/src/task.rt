@@ -1,7 +1,7 @@
 //! What the program is called for.
 
-use crate::serve_words::{front_of, serve_command};
-use clap::{Arg, ArgAction, Command, Error};
+use crate::serve_words::{flag, front_of, serve_command};
+use clap::{Arg, ArgMatches, Command, Error};
 use http_serve::ServeOptions;
 use std::alloc::{AllocError, Global};
 
@@ -47,10 +47,12 @@ pub enum Task<'a> {
 }
 
 fn explain_flag<'a>(alloc: Global, help: &'a str) -> Arg<'a> {
-    Arg::new(alloc, "explain")
-        .long("explain")
-        .action(ArgAction::SetTrue)
-        .help(help)
+    flag(alloc, "explain", help)
+}
+
+/// A file that must be named.
+fn file<'a>(alloc: Global, name: &'a str) -> Arg<'a> {
+    Arg::new(alloc, name).required(true)
 }
 
 fn play_command<'a>(alloc: Global) -> Result<Command<'a>, AllocError> {
@@ -59,57 +61,58 @@ fn play_command<'a>(alloc: Global) -> Result<Command<'a>, AllocError> {
         .arg(explain_flag(alloc, EXPLAINS_PLAYS))
 }
 
+fn new_command<'a>(alloc: Global) -> Command<'a> {
+    Command::new(alloc, "new").about(
+        "Prints a module to begin with, which is accepted as it stands",
+    )
+}
+
+fn assemble_command<'a>(alloc: Global) -> Result<Command<'a>, AllocError> {
+    Command::new(alloc, "assemble")
+        .about("Prints a module, or the first fault of its text")
+        .arg(file(alloc, "FILE"))
+}
+
 fn certify_command<'a>(alloc: Global) -> Result<Command<'a>, AllocError> {
-    let slim = Arg::new(alloc, "slim")
-        .long("slim")
-        .action(ArgAction::SetTrue)
-        .help(SLIM);
     Command::new(alloc, "certify")
         .about(
             "Makes a certificate of a module, or tells why there is none; of standard input with no file",
         )
         .arg(Arg::new(alloc, "FILE"))?
-        .arg(slim)?
+        .arg(flag(alloc, "slim", SLIM))?
         .arg(explain_flag(alloc, EXPLAINS_MODULES))
 }
 
 fn check_command<'a>(alloc: Global) -> Result<Command<'a>, AllocError> {
     Command::new(alloc, "check")
         .about("Checks a certificate of a module")
-        .arg(Arg::new(alloc, "FILE").required(true))?
-        .arg(Arg::new(alloc, "CERT").required(true))?
+        .arg(file(alloc, "FILE"))?
+        .arg(file(alloc, "CERT"))?
         .arg(explain_flag(alloc, EXPLAINS_MODULES))
 }
 
-/// What these words ask for, of which the first is the program's name. `Error`: they are no words of the program, they ask for
-/// help, or there was no memory.
-pub fn task_of<'a>(alloc: Global, words: &'a [String]) -> Result<Task<'a>, Error> {
-    let file = Arg::new(alloc, "FILE").required(true);
-    let assemble = Command::new(alloc, "assemble")
-        .about("Prints a module, or the first fault of its text")
-        .arg(file)?;
-    let new = Command::new(alloc, "new").about(
-        "Prints a module to begin with, which is accepted as it stands",
-    );
-    let program = Command::new(alloc, "host_cli")
-        .about("A host of output filters")
+fn with_tools<'a>(alloc: Global, program: Command<'a>) -> Result<Command<'a>, AllocError> {
+    program
         .subcommand(play_command(alloc)?)?
-        .subcommand(new)?
-        .subcommand(assemble)?
+        .subcommand(new_command(alloc))?
+        .subcommand(assemble_command(alloc)?)
+}
+
+/// The program, with its commands.
+fn program<'a>(alloc: Global) -> Result<Command<'a>, AllocError> {
+    let program = Command::new(alloc, "host_cli").about("A host of output filters");
+    with_tools(alloc, program)?
         .subcommand(certify_command(alloc)?)?
         .subcommand(check_command(alloc)?)?
-        .subcommand(serve_command(alloc)?)?;
-    let matches = program.try_get_matches_from(words)?;
-    let Some((name, given)) = matches.subcommand() else {
-        return Ok(Task::Play { explains: false });
-    };
-    if name == "serve" {
-        return Ok(Task::Serve(front_of(alloc, given)?));
-    }
+        .subcommand(serve_command(alloc)?)
+}
+
+/// What a command is called for that judges or plays.
+fn tool_of<'a>(name: &str, given: &ArgMatches<'a>) -> Task<'a> {
     let given_file = given.get_str("FILE");
     let file = given_file.unwrap_or("");
     let explains = given.get_flag("explain");
-    Ok(match name {
+    match name {
         "new" => Task::New,
         "assemble" => Task::Assemble { file },
         "certify" => Task::Certify {
@@ -123,5 +126,16 @@ pub fn task_of<'a>(alloc: Global, words: &'a [String]) -> Result<Task<'a>, Error
             explains,
         },
         _ => Task::Play { explains },
-    })
+    }
+}
+
+/// What these words ask for, of which the first is the program's name. `Error`: they are no words of the program, they ask for
+/// help, or there was no memory.
+pub fn task_of<'a>(alloc: Global, words: &'a [String]) -> Result<Task<'a>, Error> {
+    let matches = program(alloc)?.try_get_matches_from(words)?;
+    match matches.subcommand() {
+        None => Ok(Task::Play { explains: false }),
+        Some(("serve", given)) => Ok(Task::Serve(front_of(alloc, given)?)),
+        Some((name, given)) => Ok(tool_of(name, given)),
+    }
 }
