@@ -184,12 +184,17 @@ impl<P: Rings<u8> + Drop, Q: Rings<u8> + Drop> Pair<P, Q> {
     fn play(&mut self, alloc: Global, command: Command) -> Result<()> {
         self.plain.play(alloc, command)?;
         self.raw.play(alloc, command)?;
-        let told = self.raw.told(alloc)?;
-        self.sum = sum_of(told.as_slice(), self.sum);
-        if self.plain.told(alloc)? == told {
+        let plain = self.plain.told(alloc)?;
+        let raw = self.raw.told(alloc)?;
+        self.note(plain.as_slice(), raw.as_slice());
+        Ok(())
+    }
+
+    fn note(&mut self, plain: &[(u64, u8)], raw: &[(u64, u8)]) {
+        self.sum = sum_of(raw, self.sum);
+        if plain == raw {
             self.alike = self.alike.saturating_add(1);
         }
-        Ok(())
     }
 }
 

@@ -25,12 +25,15 @@ use anyhow::Result;
 use brigade_ops::Stored;
 use bucket_ring::{PlainRings, RawRings, Rings};
 
-fn of_rings(rt: &HostRuntime) -> Result<()> {
-    rings::ring_moves::<PlainRings<u8>>(rt, "in a slab")?;
-    rings::ring_moves::<RawRings<u8>>(rt, "in a raw block")?;
-    rings::ring_names_spent::<PlainRings<u8>>(rt, "in a slab")?;
-    rings::ring_names_spent::<RawRings<u8>>(rt, "in a raw block")?;
-    commands::commands_alike::<PlainRings<u8>, RawRings<u8>>(rt)?;
+fn of_kind<R: Rings<u8> + Drop>(rt: &HostRuntime, kind: &str) -> Result<()> {
+    rings::ring_moves::<R>(rt, kind)?;
+    rings::ring_names_spent::<R>(rt, kind)
+}
+
+fn of_rings<P: Rings<u8> + Drop, R: Rings<u8> + Drop>(rt: &HostRuntime) -> Result<()> {
+    of_kind::<P>(rt, "in a slab")?;
+    of_kind::<R>(rt, "in a raw block")?;
+    commands::commands_alike::<P, R>(rt)?;
     sizes::node_sizes(rt)
 }
 
@@ -60,12 +63,16 @@ fn of_files<R: Rings<Stored> + Drop>(rt: &HostRuntime) -> Result<()> {
     disk::failures_of_a_disk(rt)
 }
 
+fn of_stores<P: Rings<Stored> + Drop, R: Rings<Stored> + Drop>(rt: &HostRuntime) -> Result<()> {
+    of_brigades::<R>(rt)?;
+    pooled::pool_bucket_split_and_new_after_clear::<P>(rt, "in a slab")?;
+    pooled::pool_bucket_split_and_new_after_clear::<R>(rt, "in a raw block")?;
+    of_files::<R>(rt)
+}
+
 fn main(rt: HostRuntime) -> Result<()> {
-    of_rings(&rt)?;
+    of_rings::<PlainRings<u8>, RawRings<u8>>(&rt)?;
     of_pools(&rt)?;
-    of_brigades::<RawRings<Stored>>(&rt)?;
-    pooled::pool_bucket_split_and_new_after_clear::<PlainRings<Stored>>(&rt, "in a slab")?;
-    pooled::pool_bucket_split_and_new_after_clear::<RawRings<Stored>>(&rt, "in a raw block")?;
-    of_files::<RawRings<Stored>>(&rt)?;
+    of_stores::<PlainRings<Stored>, RawRings<Stored>>(&rt)?;
     certs::show_rows(&rt)
 }
