@@ -7,11 +7,14 @@ use std::io::{self, Write};
 /// A line of more bytes is shown by their number, and by the first of them.
 const LONGEST: usize = 100;
 
-/// What stands in a line before its end, and that end as it is shown.
+/// How a CR is shown.
+const CR: &str = "\\r";
+
+/// What stands in a line before its CR, and that CR as it is shown.
 fn parted(line: &[u8]) -> (&[u8], &'static str) {
-    match line {
-        [text @ .., b'\r'] => (text, "\\r"),
-        text => (text, ""),
+    match line.split_last() {
+        Some((b'\r', text)) => (text, CR),
+        _ => (line, ""),
     }
 }
 
