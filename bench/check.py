@@ -1,5 +1,5 @@
 #!/usr/bin/env python3
-"""Measures `certify` and `check` on modules of growing size.
+"""Measures `certify` and `check` on modules of growing size, and `check` with the slim form of the certificate.
 
     python3 bench/check.py [PROGRAM]
 
@@ -74,9 +74,13 @@ def measure(name, body, folder):
         with open(text + '.cert', 'wb') as file:
             file.write(certificate)
         check, check_memory, _ = run(['check', text, text + '.cert'])
-        print('%-28s %5d instructions: certify %6.1f ms, %5.1f MiB; check %5.1f ms, %5.1f MiB; certificate of %d bytes'
+        slim = run(['certify', '--slim', text])[2]
+        with open(text + '.slim', 'wb') as file:
+            file.write(slim)
+        slimly, _, _ = run(['check', text, text + '.slim'])
+        print('%-28s %5d instructions: certify %6.1f ms, %5.1f MiB; check %5.1f ms, %5.1f MiB; certificate of %d bytes; slim: check %5.1f ms, %d bytes'
               % (name, count, 1000 * (certify - base), certify_memory / 1024, 1000 * (check - base), check_memory / 1024,
-                 len(certificate)))
+                 len(certificate), 1000 * (slimly - base), len(slim)))
 
 
 def main():

@@ -191,14 +191,15 @@ fn cannot_listen(alloc: Global) -> StartError {
     told(alloc, format!(in alloc; "cannot listen\n"))
 }
 
+fn too_few_line(alloc: Global, at_once: u32, there: u64) -> Result<String, AllocError> {
+    format!(in alloc; "cannot serve {at_once} at once: {there} descriptors\n")
+}
+
 /// Stops where the descriptors are too few to serve so many connections at once.
 fn unless_too_few(alloc: Global, at_once: u32) -> Result<(), StartError> {
     match too_few(at_once) {
         None => Ok(()),
-        Some(there) => Err(told(
-            alloc,
-            format!(in alloc; "cannot serve {at_once} at once: {there} descriptors\n"),
-        )),
+        Some(there) => Err(told(alloc, too_few_line(alloc, at_once, there))),
     }
 }
 
@@ -232,13 +233,21 @@ where
     }
 }
 
+fn is_put<R: Print>(rt: &R, line: &[u8]) -> bool {
+    put_all(&mut io::writer(rt), line).is_ok()
+}
+
+fn is_told<R: Print>(rt: &R, fault: PlayFault) -> bool {
+    rt.println(fault).is_ok()
+}
+
 /// Ends with a line on the standard output, or with that of a fault there.
 fn tell_stop<R: Print + Eprint>(rt: &R, stop: StartError) -> ExitCode {
-    let is_told = match stop {
-        StartError::Told(line) => put_all(&mut io::writer(rt), line.as_slice()).is_ok(),
-        StartError::NoMemory => rt.println(PlayFault::NoMemory).is_ok(),
+    let told = match stop {
+        StartError::Told(line) => is_put(rt, line.as_slice()),
+        StartError::NoMemory => is_told(rt, PlayFault::NoMemory),
     };
-    if !is_told {
+    if !told {
         let _ = rt.eprintln(PlayFault::Write);
     }
     ExitCode::FAILURE

@@ -64,7 +64,7 @@ const IN_THIS: [Sort; 3] = [Sort::Unset, Sort::Loose, Sort::Elsewhere];
 const READ: [Sort; 3] = [Sort::Unread, Sort::Unread, Sort::Unread];
 
 // What instructions want, in the order of their rules' tests. One that has no row wants nothing.
-const NEEDS: [Need; 59] = [
+static NEEDS: [Need; 59] = [
     Need {
         word: "pcreate",
         object: Object::Parent,
@@ -425,10 +425,14 @@ fn first_of(state: &State, sorts: [Sort; 3], of: u8, other: u8) -> Option<Doubt>
     None
 }
 
+fn needs() -> &'static [Need] {
+    &NEEDS
+}
+
 /// The first that an instruction may find in a state against its rule, in the order of the rule's tests.
 pub fn doubt_of(code: &Module, instr: Instr, state: &State) -> Option<Doubt> {
     let (op, args) = parts(instr);
-    for need in &NEEDS {
+    for need in needs() {
         if need.word.as_bytes() == op.text() {
             if let Some(of) = object_of(code, state, args, need.object) {
                 let doubt = first_of(state, need.sorts, of, args.first.index());

@@ -284,6 +284,35 @@ fn tell_rest(told: &mut Page, source: Source, seen: Vec<usize>) -> Result<(), Al
     Ok(())
 }
 
+/// How many tests may fail in the module of a source; none where it is no module.
+fn failures_of(alloc: Global, source: &Source) -> Result<usize, AllocError> {
+    match study_of(alloc, source)? {
+        Some(study) => Ok(study.judged.failures),
+        None => Ok(0),
+    }
+}
+
+/// What stands against a module that would be accepted with the certificate that is made of it.
+const NOTHING: &str =
+    "  write: nothing; `certify` makes a certificate with which the module is accepted\n";
+
+/// Tells of the refusals of a module, of which this is the first.
+fn tell_from(
+    told: &mut Page,
+    source: Source,
+    module: (&Module, &Cert),
+    refusal: FlowRefusal,
+) -> Result<(), AllocError> {
+    let now = failures_of(told.alloc, &source)?;
+    let mut seen = Vec::new(told.alloc);
+    let mended = tell(told, &source, module, refusal, now, &mut seen)?;
+    if now == 0 {
+        told.push(NOTHING);
+        return Ok(());
+    }
+    tell_rest(told, mended.unwrap_or(source), seen)
+}
+
 /// Tells why an instruction of a module is refused in these states, and why others are that do not follow from it.
 pub fn tell_refusals(
     told: &mut Page,
@@ -292,24 +321,9 @@ pub fn tell_refusals(
     states: &Cert,
     pc: usize,
 ) -> Result<(), AllocError> {
-    let Some(refusal) = refusal_of(code, states, pc, None) else {
-        return Ok(());
-    };
-    let now = match study_of(told.alloc, &source)? {
-        Some(study) => study.judged.failures,
-        None => 0,
-    };
-    let mut seen = Vec::new(told.alloc);
-    let mended = tell(told, &source, (code, states), refusal, now, &mut seen)?;
-    if now == 0 {
-        let form =
-            "  write: nothing; `certify` makes a certificate with which the module is accepted\n";
-        told.push(form);
-        return Ok(());
-    }
-    match mended {
-        Some(mended) => tell_rest(told, mended, seen),
-        None => tell_rest(told, source, seen),
+    match refusal_of(code, states, pc, None) {
+        Some(refusal) => tell_from(told, source, (code, states), refusal),
+        None => Ok(()),
     }
 }
 
