@@ -25,14 +25,11 @@ use anyhow::Result;
 use brigade_ops::Stored;
 use bucket_ring::{PlainRings, RawRings, Rings};
 
-fn of_kind<R: Rings<u8> + Drop>(rt: &HostRuntime, kind: &str) -> Result<()> {
-    rings::ring_moves::<R>(rt, kind)?;
-    rings::ring_names_spent::<R>(rt, kind)
-}
-
 fn of_rings<P: Rings<u8> + Drop, R: Rings<u8> + Drop>(rt: &HostRuntime) -> Result<()> {
-    of_kind::<P>(rt, "in a slab")?;
-    of_kind::<R>(rt, "in a raw block")?;
+    rings::ring_moves::<P>(rt, "in a slab")?;
+    rings::ring_moves::<R>(rt, "in a raw block")?;
+    rings::ring_names_spent::<P>(rt, "in a slab")?;
+    rings::ring_names_spent::<R>(rt, "in a raw block")?;
     commands::commands_alike::<P, R>(rt)?;
     sizes::node_sizes(rt)
 }
