@@ -126,7 +126,7 @@ def request(target=b'/a', method=b'GET', version=b'1.1', fields=(b'Host: h',), e
     return b''.join(line + end for line in (method + b' ' + target + b' HTTP/' + version, *fields, b''))
 
 
-FILES = {b'/a': b'hi', b'/e': b'', b'/l': b'x' * 65537, b'/j': b'y' * 65536, b'/p/q-._~': b'p', b'/\xc3\xa9': None}
+FILES = {b'/a': b'hi', b'/e': b'', b'/l': b'x' * 65537, b'/j': b'y' * 65536, b'/c': b'c' * 2048, b'/o': b'o' * 2049, b'/p/q-._~': b'p', b'/\xc3\xa9': None}
 FILES = {path: data for path, data in FILES.items() if data is not None}
 GET = request()
 

@@ -1,6 +1,7 @@
 //! Sockets that are written to: a text in parts goes out in one call of the system.
 
-ghost use Rattle.std.specs.Prelude.{◌≡◌, ◌≢◌, ◌≤◌, IfOk, None, Err, length, refl};
+ghost use Rattle.std.specs.Prelude.{◌≡◌, ◌≢◌, ◌≤◌, ℕ, List, Option, IfOk, None, Err, true, false, length, refl};
+ghost use Rattle.std.specs.Io.KnownBytes.{WriteAppends};
 ghost use Rattle.std.specs.Io.Slices.{io_slices_bytes};
 ghost use Rattle.byte_streams.specs.Texts.{IsPut, joined};
 
@@ -9,9 +10,13 @@ use std::io::{self, ErrorKind, IoSlice};
 
 /// What writes a front of a text in parts in one call of the system.
 pub trait WritesParts {
-    /// Writes, and tells how many bytes were taken.
+    // The bytes that it holds, where they are known.
+    ghost contents: { Self → Option (List ℕ) } = { λ _. None };
+
+    /// Writes, and tells how many bytes were taken. After an error none was.
     fn write_parts(&mut self, parts: Parts<'_>) -> io::Result<usize>
-        ensures { IfOk result (λ n. n ≤ length (joined parts.entry)) };
+        ensures bound { IfOk result (λ n. n ≤ length (joined parts.entry)) }
+        ensures bytes { WriteAppends (contents self.old) (contents self.new) result (joined parts.entry) };
 }
 
 /// A socket as a sink. It remembers whether a write failed: it answered an error, or took nothing of some bytes.
@@ -24,7 +29,11 @@ pub struct SocketSink<W> {
 
 impl<W> SocketSink<W> {
     /// A socket whose writes wait. One that answers `WouldBlock` has failed: its time is over.
-    pub fn new(writer: W) -> SocketSink<W> {
+    pub fn new(writer: W) -> SocketSink<W>
+        ensures writer { result.writer ≡ writer }
+        ensures waits { result.is_polled ≡ false }
+        ensures sound { result.has_failed ≡ false }
+    {
         SocketSink {
             writer,
             is_polled: false,
@@ -33,7 +42,11 @@ impl<W> SocketSink<W> {
     }
 
     /// A socket whose writes do not wait: `WouldBlock` is `NotNow`.
-    pub fn polled(writer: W) -> SocketSink<W> {
+    pub fn polled(writer: W) -> SocketSink<W>
+        ensures writer { result.writer ≡ writer }
+        ensures polled { result.is_polled ≡ true }
+        ensures sound { result.has_failed ≡ false }
+    {
         SocketSink {
             writer,
             is_polled: true,
@@ -54,6 +67,8 @@ fn whole(text: &[u8]) -> Parts<'_>
 }
 
 impl<W: WritesParts> Sink for SocketSink<W> {
+    ghost contents = { λ s. W.contents s.writer };
+
     ghost failed = { λ s. s.has_failed };
 
     ghost unchanged = { λ a b. b ≡ a };
@@ -82,7 +97,7 @@ impl<W: WritesParts> Sink for SocketSink<W> {
     }
 
     fn put_parts(&mut self, parts: Parts<'_>) -> Result<(), SinkFault>
-        ensures put { IsPut None None self.old.has_failed self.new.has_failed (joined parts.entry) result }
+        ensures put { IsPut (W.contents self.old.writer) (W.contents self.new.writer) self.old.has_failed self.new.has_failed (joined parts.entry) result }
         ensures known { result ≢ Err SinkFault.NoMemory }
     {
         let mut rest = parts;
@@ -101,7 +116,7 @@ impl<W: WritesParts> Sink for SocketSink<W> {
 
 /// The parts as the system takes them.
 pub fn slices(parts: Parts<'_>) -> [IoSlice<'_>; 3]
-    ensures { length (io_slices_bytes result) ≡ length (joined parts.entry) }
+    ensures { io_slices_bytes result ≡ joined parts.entry }
 {
     [
         IoSlice::new(parts.first),
