@@ -149,7 +149,7 @@ def streams():
     yield 'a pipeline', request(b'/a') + request(b'/b') + request(b'/e') + request(method=b'HEAD') + request(method=b'POST') + GET
     yield 'a large file', request(b'/l') + GET
     yield 'a large file of an old client', request(b'/l', version=b'1.0', fields=())
-    yield 'large files and others', request(b'/l') + request(b'/j') + request(b'/l', method=b'HEAD') + request(b'/b') + request(b'/l') * 2 + request(b'/e') + GET
+    yield 'large files and others', request(b'/l') + request(b'/c') + request(b'/o') + request(b'/j') + request(b'/l', method=b'HEAD') + request(b'/b') + request(b'/l') * 2 + request(b'/e') + GET
     # the table of checks
     yield 'no host', request(fields=())
     yield 'no host in 1.0', request(version=b'1.0', fields=())
