@@ -31,7 +31,7 @@ impl<'a> Parts<'a> {
     }
 
     /// The first part in which there is something; nothing, where there is nothing in any.
-    pub fn front(self) -> &'a [u8]
+    pub(crate) fn front(self) -> &'a [u8]
         ensures front { BeginsWith (joined self.entry) result.now }
         ensures some { 0 < length (joined self.entry) → 0 < length result.now }
     {

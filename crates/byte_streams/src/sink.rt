@@ -48,7 +48,7 @@ pub trait Sink {
         ensures written { IsAllWritten (contents self.old) (contents self.new) (failed self.old) (failed self.new) text.now result }
         ensures unchanged { result ≡ Err SinkFault.NoMemory → unchanged self.old self.new };
 
-    /// As `write_all`; of an empty text the sink is not asked.
+    /// Writes all of a text. `Failed`, `NoMemory`: a front of the text was taken, but not all of it. Of an empty text a sink is not asked.
     fn put(&mut self, text: &[u8]) -> Result<(), SinkFault>
         ensures { IsPut (contents self.old) (contents self.new) (failed self.old) (failed self.new) text.now result }
     {
@@ -95,6 +95,10 @@ impl<W: Sink> Sink for &mut W {
 
     fn write_all(&mut self, text: &[u8]) -> Result<(), SinkFault> {
         Sink::write_all(&mut **self, text)
+    }
+
+    fn put(&mut self, text: &[u8]) -> Result<(), SinkFault> {
+        Sink::put(&mut **self, text)
     }
 
     fn write_parts(&mut self, parts: Parts<'_>) -> Result<WriteAnswer, SinkFault> {

@@ -84,8 +84,6 @@ impl<R: Read> Source for StdSource<R> {
 pub struct StdSink<W> {
     /// The writer.
     pub writer: W,
-    /// Whether `WouldBlock` to a write is no failure, but means that nothing can be taken now.
-    pub is_polled: bool,
     /// Whether a write failed.
     pub has_failed: bool,
 }
@@ -98,19 +96,6 @@ impl<W> StdSink<W> {
     {
         StdSink {
             writer,
-            is_polled: false,
-            has_failed: false,
-        }
-    }
-
-    /// A writer whose writes do not wait, as a socket in an event loop: `WouldBlock` is `NotNow`.
-    pub fn polled(writer: W) -> StdSink<W>
-        ensures writer { result.writer ≡ writer }
-        ensures sound { result.has_failed ≡ false }
-    {
-        StdSink {
-            writer,
-            is_polled: true,
             has_failed: false,
         }
     }
@@ -128,9 +113,6 @@ impl<W: Write> Sink for StdSink<W> {
     fn write(&mut self, bytes: &[u8]) -> Result<WriteAnswer, SinkFault> {
         match self.writer.write(bytes) {
             Ok(count) if count > 0 => Ok(WriteAnswer::Bytes(count)),
-            Err(e) if self.is_polled && e.kind() == ErrorKind::WouldBlock => {
-                Ok(WriteAnswer::NotNow)
-            }
             _ => {
                 self.has_failed = true;
                 Err(SinkFault::Failed)

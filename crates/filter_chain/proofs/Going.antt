@@ -1,5 +1,5 @@
 -- Steps that go on, one after another, and the last of them.
-use Rattle.std.proofs.Common.{◌≡◌, ℕ, suc, ◌+◌, ◌≤◌, List, Result, Ok, refl, subst, sym, ◌∙◌, arith}
+use Rattle.std.proofs.Common.{◌≡◌, ℕ, suc, List, Result, Ok, refl, subst, sym, ◌∙◌, arith}
 use Rattle.module_code.specs.Program.{Program}
 use Rattle.run_model.specs.declared.event.Event.TheVariants as event
 use Rattle.run_model.specs.declared.event.Refusal.{Refusal}
@@ -10,11 +10,11 @@ use Rattle.life_check.specs.ChainTheorem.{ChainNeverFaults}
 use Rattle.filter_chain.specs.declared.host.Host.{Host}
 use Rattle.filter_chain.specs.Hosting.{budget_of, chain_of, files_of, step_answer}
 use Rattle.filter_chain.specs.Led.{IsAlive, Refines}
-use Rattle.filter_chain.specs.Running.{HostGoesOn, StepsBefore, StepsToEnd, StepsOn}
+use Rattle.filter_chain.specs.Running.{HostGoesOn, StepsToEnd, StepsOn}
 use Rattle.filter_chain.specs.Safe.{IsSafe}
 use Rattle.filter_chain.specs.HostViews.{HostView, Answers, host_view}
-use Rattle.filter_chain.proofs.Driving.{Happened, by_event, alive_then, leads_on, leads_still}
-use Rattle.filter_chain.proofs.StepCounts.{goes_few, goes_join, goes_more}
+use Rattle.filter_chain.proofs.Driving.{Happened, by_event, alive_then, leads_on}
+use Rattle.filter_chain.proofs.StepCounts.{goes_few, goes_more}
 
 -- So many steps went on.
 pub record IsGoing {F : Type 0} (device : F → Device) (old now : Host F) (number made : ℕ) : Type 0 where
@@ -26,10 +26,6 @@ pub safe_still : {F : Type 0} (old now : Host F) → chain_of now ≡ chain_of o
 safe_still old now chain safe = subst ChainNeverFaults (sym chain) safe
 
 module _ {F : Type 0} (device : F → Device) (number : ℕ) where
-  pub going_begins : (host : Host F) → IsAlive device host → IsGoing device host host number 0
-  unfolding HostGoesOn
-  going_begins host alive = record { alive = alive; chain = refl; goes = leads_still device host (λ b c s t. HostGoesOn b c number 0 s t) (λ b c s. refl) }
-
   module _ (old now new : Host F) (made : ℕ) (so : IsGoing device old now number made) (answer : Result Stepped Refusal) (step : Happened device now new number event.Step (step_answer answer)) where
     pub going_on : answer ≡ Ok stepped.Went → IsGoing device old new number (suc made)
     going_on went =
@@ -40,22 +36,6 @@ module _ {F : Type 0} (device : F → Device) (number : ℕ) where
           goes = leads_on device old now new (λ b c s t. HostGoesOn b c number made s t) (λ b c s t. Answers b c number event.Step s (step_answer answer) t) (λ b c s t. HostGoesOn b c number (suc made) s t)
               (λ b c s m t g a. goes_more b c number made s m t g (subst (λ (x : Result Stepped Refusal). Answers b c number event.Step m (step_answer x) t) went a)) so.goes one;
         }
-
-  module _ (old now new : Host F) (made : ℕ) (so : IsGoing device old now number made) (n : ℕ) (answer : Result Stepped Refusal) (steps : Refines device now new (λ b c s t. StepsBefore b c number n s answer t)) where
-    -- some more, and one
-    pub past_on : answer ≡ Ok stepped.Went → IsGoing device old new number (suc (made + n))
-    past_on went = record {
-      alive = alive_then device now new (λ b c s t. StepsBefore b c number n s answer t) so.alive steps;
-      chain = (steps so.alive.0 so.alive.1).chain ∙ so.chain;
-      goes = leads_on device old now new (λ b c s t. HostGoesOn b c number made s t) (λ b c s t. StepsBefore b c number n s answer t) (λ b c s t. HostGoesOn b c number (suc (made + n)) s t)
-          (λ b c s m t g a. goes_more b c number (made + n) s a.before t (goes_join b c number made n s m a.before g a.goes) (subst (λ (x : Result Stepped Refusal). Answers b c number event.Step a.before (step_answer x) t) went a.last)) so.goes steps;
-    }
-
-    -- and the last of them, by its answer
-    pub past_ends : (more : ℕ) → made + n ≤ more → (answer ≡ Ok stepped.Went → made + n ≡ more) → Refines device old new (λ b c s t. StepsOn b c number more s answer t)
-    past_ends more few stops =
-        leads_on device old now new (λ b c s t. HostGoesOn b c number made s t) (λ b c s t. StepsBefore b c number n s answer t) (λ b c s t. StepsOn b c number more s answer t)
-        (λ b c s m t g a. record { count = made + n; before = a.before; few = few; goes = goes_join b c number made n s m a.before g a.goes; last = a.last; stops = stops }) so.goes steps
 
 -- As many went as the budget, so that one more does not go on.
 steps_run : (budget : ℕ) (chain : List Program) (number : ℕ) (s t : HostView) (answer : Result Stepped Refusal) → StepsOn budget chain number budget s answer t → StepsToEnd budget chain number s answer t

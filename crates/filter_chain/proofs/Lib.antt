@@ -1,4 +1,5 @@
 -- Lemmas.
+pub mod ConnGoing
 pub mod FilesSpared
 pub mod MayFail
 pub mod FileNumbers
@@ -18,4 +19,3 @@ pub mod HostCloses
 pub mod StepCounts
 pub mod Driving
 pub mod Going
-pub mod QuietGoing

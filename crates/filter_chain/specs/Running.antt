@@ -15,12 +15,6 @@ module _ (budget : ℕ) (chain : List Program) (number : ℕ) where
   HostGoesOn zero old new = new ≡ old
   HostGoesOn (suc n) old new = (mid : HostView) × Answers budget chain number event.Step old (Step stepped.Went) mid × HostGoesOn n mid new
 
-  -- So many steps go on, and then one answers this.
-  pub record StepsBefore (count : ℕ) (old : HostView) (answer : Result Stepped Refusal) (new : HostView) : Type 0 where
-    pub before : HostView
-    pub goes : HostGoesOn count old before
-    pub last : Answers budget chain number event.Step before (step_answer answer) new
-
   -- Steps are made until one answers something else than that it went, and at most one more than `more`. The last of them answers so.
   pub record StepsOn (more : ℕ) (old : HostView) (answer : Result Stepped Refusal) (new : HostView) : Type 0 where
     pub count : ℕ

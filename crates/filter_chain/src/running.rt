@@ -1,6 +1,6 @@
 //! Steps, one after another.
 
-ghost use Rattle.std.specs.Prelude.{◌≡◌, ◌↔◌, ◌≤◌, ◌-◌, ℕ, IsTrue, List, Ok};
+ghost use Rattle.std.specs.Prelude.{◌-◌, ℕ, List};
 ghost use Rattle.module_code.specs.Program.{Program};
 ghost use Rattle.filter_chain.specs.HostViews.{HostView};
 
@@ -8,58 +8,29 @@ use crate::host::Host;
 use bucket_kinds::Files;
 use run_model::{Refusal, Stepped};
 
-fn went(answer: &Result<Stepped, Refusal>) -> bool
-    ensures { IsTrue result ↔ answer.now ≡ Ok Stepped.Went }
-{
-    matches!(answer, Ok(Stepped::Went))
-}
-
 impl<F: Files + Drop> Host<F> {
     ghost use Rattle.filter_chain.specs.Led.{IsAlive, Refines};
-    ghost use Rattle.filter_chain.specs.Running.{StepsBefore, StepsToEnd, StepsOn};
+    ghost use Rattle.filter_chain.specs.Running.{StepsToEnd, StepsOn};
     ghost use Rattle.filter_chain.specs.Safe.{GoesWell, IsSafe};
 
-    /// Makes steps while they go on and touch no store, tree or device, `most` at most, and then one more step. Tells how many went before that one,
-    /// and what it answers.
-    fn step_past_quiet(&mut self, number: u64, most: u64) -> (u64, Result<Stepped, Refusal>)
-        requires { IsAlive F.device self.old }
-        ensures few { result.0 ≤ most }
-        ensures steps { Refines F.device self.old self.new (λ (b : ℕ) (c : List Program) (s t : HostView). StepsBefore b c number result.0 s result.1 t) }
-        ensures safe { IsSafe self.old → GoesWell result.1 }
-    {
-        let chain = &self.chain;
-        match self.conns.by_number.get_mut(&number) {
-            None => (0, Err(Refusal::NoSuchConn)),
-            Some(conn) => {
-                let modules = chain.modules.as_slice();
-                let made = conn.quiet_steps(modules, self.budget, &mut self.store, most);
-                let answer = conn.step(
-                    modules,
-                    self.budget,
-                    chain.bare,
-                    &mut self.tree,
-                    &mut self.store,
-                    &mut self.files,
-                );
-                (made, answer)
-            }
-        }
-    }
-
-    /// Makes a step, and up to so many more while each of them goes.
+    /// Makes a step, and up to so many more while each of them goes, by one look for the connection.
     fn step_on(&mut self, number: u64, more: u64) -> Result<Stepped, Refusal>
         requires { IsAlive F.device self.old }
         ensures steps { Refines F.device self.old self.new (λ (b : ℕ) (c : List Program) (s t : HostView). StepsOn b c number more s result t) }
         ensures safe { IsSafe self.old → GoesWell result }
     {
-        let mut left = more;
-        loop {
-            let (made, answer) = self.step_past_quiet(number, left);
-            left -= made;
-            if !went(&answer) || left == 0 {
-                return answer;
-            }
-            left -= 1;
+        let chain = &self.chain;
+        match self.conns.by_number.get_mut(&number) {
+            None => Err(Refusal::NoSuchConn),
+            Some(conn) => conn.step_on(
+                chain.modules.as_slice(),
+                self.budget,
+                chain.bare,
+                more,
+                &mut self.tree,
+                &mut self.store,
+                &mut self.files,
+            ),
         }
     }
 

@@ -60,6 +60,7 @@ pub mod HandedRefs
 pub mod Neighbours
 pub mod NeighboursLeft
 pub mod CallsLeave
+pub mod ConnRuns
 pub mod Leaving
 pub mod QuietGoes
 pub mod OnlyAsked

@@ -13,3 +13,4 @@ pub mod Opening
 pub mod Destroyed
 pub mod OpenedFile
 pub mod StepsGo
+pub mod ConnRuns

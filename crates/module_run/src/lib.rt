@@ -17,6 +17,7 @@ mod conn_quiet;
 mod conn_return_last;
 mod conn_return_to_caller;
 mod conn_rings;
+mod conn_run;
 mod conn_step;
 mod conn_take;
 mod filter_calls;

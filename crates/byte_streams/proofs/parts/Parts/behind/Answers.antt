@@ -1,4 +1,4 @@
-use Rattle.std.proofs.Common.{◌≡◌, ◌-◌, ℕ, List, ◌++◌, length, drop, sym, ap, ◌∙◌}
+use Rattle.std.proofs.Common.{◌≡◌, ◌-◌, ℕ, length, drop, sym, ap, ◌∙◌}
 use Rattle.byte_streams.proofs.PartLaws.{drop_three}
 use Rattle.byte_streams.proofs.parts.Parts.behind.Goals as goal
 

@@ -1,4 +1,4 @@
-use Rattle.std.proofs.Common.{◌≡◌, ℕ, List, ◌++◌, Err, refl, ap, sym, ◌∙◌}
+use Rattle.std.proofs.Common.{◌++◌, Err, refl, ap, sym, ◌∙◌}
 use Rattle.std.proofs.KnownBytes.{Appends-trans}
 use Rattle.std.proofs.lemmas.Result.{err_from_is_err_and}
 use Rattle.byte_streams.proofs.PutLaws.{put_first, put_is, put_next}

@@ -1,36 +1,48 @@
-use Rattle.std.proofs.Common.{◌≡◌, suc, ◌+◌, true, false, sym, ◌∙◌, Ok, arith}
-use Rattle.run_model.specs.declared.event.Stepped.TheVariants as stepped
-use Rattle.filter_chain.proofs.Going.{going_begins, past_ends, past_on, safe_still}
+-- By the connection of the number, as it was found and as it is put back.
+use Rattle.std.proofs.Common.{◌≡◌, ℕ, Some, refl, sym, ◌∙◌, ap, subst}
+use Rattle.std.specs.Option.{option_copied_mut, IsSome}
+use Rattle.run_model.specs.Indexed.{upd}
+use Rattle.module_run.specs.declared.conn.Conn.{Conn}
+use Rattle.filter_chain.specs.declared.conns.Conns.{Conns}
+use Rattle.filter_chain.specs.Hosted.{conn_at}
+use Rattle.filter_chain.specs.Hosting.{chain_of, budget_of}
+use Rattle.filter_chain.proofs.HostsLeft.{written}
+use Rattle.filter_chain.proofs.ConnGoing.{can_go, end_well, none_on, steps_end}
 use Rattle.filter_chain.proofs.host.Host.step_on.Goals as goal
-use Rattle.filter_chain.proofs.host.Host.step_on.Goals.{then-not-went-via-then-not-went, then-not-went-via-else-not-went+then-left-eq0}
 
-pub loop-answer-init : goal.loop-answer-init
-loop-answer-init g c = (0, going_begins g.F.Files.device c.args.number c.args.self.now c.requires, omega arith)
+pub returns-in-None-clause-steps : goal.returns-in-None-clause-steps
+unfolding conn_at
+returns-in-None-clause-steps g c =
+    none_on g.F.Files.device c.args.number c.args.more c.args.self.now (record { by_number = c.get_mut.follows.lender-at-none }) c.get_mut.follows.holds-at-none (sym c.get_mut.ensures.value ∙ ap option_copied_mut c.in-None.is)
 
-pub loop-answer-preserved : goal.loop-answer-preserved
-loop-answer-preserved g c =
-    let so = c.loop-answer.invariant in
-    let past = c.step_past_quiet-made.result in
-    let went : past.1 ≡ Ok stepped.Went = c.went.ensures.0 c.if-not-went.false in
-    let all = so.2 in
-    let few = c.step_past_quiet-made.ensures.few in
-    let some = c.if-left-eq0.false in (
-      suc (so.0 + past.0),
-      past_on g.F.Files.device c.args.number c.args.self.now c.loop-answer.self c.step_past_quiet-made.new.self so.0 so.1 past.0 past.1 c.step_past_quiet-made.ensures.steps went,
-      omega (arith, all, few, some),
-    )
+pub step_on-requires : goal.step_on-requires
+unfolding conn_at chain_of budget_of
+step_on-requires g c =
+    let host = c.args.self.now in
+    let at = sym c.get_mut.ensures.value ∙ ap option_copied_mut c.in-Some.is in
+    let there = subst IsSome (sym at) refl in
+    let table : Conn → Conns = λ x. record { by_number = c.get_mut.follows.lender x } in
+    let holds : (x : Conn) (k : ℕ) → conn_at (table x) k ≡ upd (conn_at host.conns) c.args.number (Some x) k = λ x. written host.conns c.args.number x (table x) ((c.get_mut.follows.holds x).3 there).0 in
+    record { can = can_go g.F.Files.device c.args.number host table holds c.in-Some.conn.now at c.requires c.as_slice.result.now c.as_slice.ensures.value }
 
-pub returns-then-not-went-clause-steps : goal.returns-then-not-went-clause-steps
-returns-then-not-went-clause-steps g c =
-    let so = c.loop-answer.invariant in
-    let past = c.step_past_quiet-made.result in
-    let all = so.2 in
-    let few = c.step_past_quiet-made.ensures.few in
-    past_ends g.F.Files.device c.args.number c.args.self.now c.loop-answer.self c.step_past_quiet-made.new.self so.0 so.1 past.0 past.1 c.step_past_quiet-made.ensures.steps c.args.more (omega (arith, all, few))
-    (λ h. elim c.then-not-went.branch [
-      | then-not-went-via-then-not-went v ↦ absurd (let clash : true ≡ false = sym (c.went.ensures.1 h) ∙ v.if-not-went.true in cc)
-      | then-not-went-via-else-not-went+then-left-eq0 v ↦ (let none = v.if-left-eq0.true in omega (arith, all, few, none))
-    ])
+pub returns-in-Some-clause-steps : goal.returns-in-Some-clause-steps
+unfolding conn_at chain_of budget_of
+returns-in-Some-clause-steps g c =
+    let host = c.args.self.now in
+    let at = sym c.get_mut.ensures.value ∙ ap option_copied_mut c.in-Some.is in
+    let there = subst IsSome (sym at) refl in
+    let table : Conn → Conns = λ x. record { by_number = c.get_mut.follows.lender x } in
+    let holds : (x : Conn) (k : ℕ) → conn_at (table x) k ≡ upd (conn_at host.conns) c.args.number (Some x) k = λ x. written host.conns c.args.number x (table x) ((c.get_mut.follows.holds x).3 there).0 in
+    steps_end g.F.Files.device c.args.number host table holds c.in-Some.conn.now at c.requires c.as_slice.result.now c.as_slice.ensures.value c.args.more
+    (record { conn = c.step_on.new.self; tree = c.step_on.new.tree; store = c.step_on.new.store; files = c.step_on.new.files }) c.step_on.result c.step_on.ensures.steps
 
-pub returns-then-not-went-clause-safe : goal.returns-then-not-went-clause-safe
-returns-then-not-went-clause-safe g c safe = c.step_past_quiet-made.ensures.safe (safe_still c.args.self.now c.loop-answer.self c.loop-answer.invariant.1.chain safe)
+pub returns-in-Some-clause-safe : goal.returns-in-Some-clause-safe
+unfolding conn_at chain_of budget_of
+returns-in-Some-clause-safe g c =
+    let host = c.args.self.now in
+    let at = sym c.get_mut.ensures.value ∙ ap option_copied_mut c.in-Some.is in
+    let there = subst IsSome (sym at) refl in
+    let table : Conn → Conns = λ x. record { by_number = c.get_mut.follows.lender x } in
+    let holds : (x : Conn) (k : ℕ) → conn_at (table x) k ≡ upd (conn_at host.conns) c.args.number (Some x) k = λ x. written host.conns c.args.number x (table x) ((c.get_mut.follows.holds x).3 there).0 in
+    end_well g.F.Files.device c.args.number host table holds c.in-Some.conn.now at c.requires c.as_slice.result.now c.as_slice.ensures.value c.args.more
+    (record { conn = c.step_on.new.self; tree = c.step_on.new.tree; store = c.step_on.new.store; files = c.step_on.new.files }) c.step_on.result c.step_on.ensures.steps
