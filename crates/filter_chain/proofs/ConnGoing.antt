@@ -1,5 +1,5 @@
 -- Steps of one connection, one after another, are steps of its host.
-use Rattle.std.proofs.Common.{◌≡◌, ℕ, zero, suc, ◌+◌, true, List, Option, Some, None, Result, Ok, Err, refl, sym, ◌∙◌, ap, subst, inl, inr, arith}
+use Rattle.std.proofs.Common.{◌≡◌, ℕ, zero, suc, ◌+◌, List, Option, Some, None, Result, Ok, Err, refl, sym, ◌∙◌, ap, subst, inl, inr, arith}
 use Rattle.std.proofs.Math.Path.{fun_ext}
 use Rattle.module_code.specs.Program.{Program}
 use Rattle.run_model.specs.declared.event.Event.TheVariants as event
@@ -11,6 +11,9 @@ use Rattle.run_model.specs.Indexed.{upd}
 use Rattle.run_model.specs.Worlds.{World, Refused}
 use Rattle.run_model.proofs.Updates.{upd_at, upd_either}
 use Rattle.bucket_kinds.specs.Device.{Device}
+use Rattle.bucket_kinds.specs.declared.stored.Stored.{Stored}
+use Rattle.bucket_ring.specs.declared.rings.Rings.{Ghosts}
+use Rattle.brigade_ops.specs.declared.store.Brigades.{Brigades}
 use Rattle.module_run.specs.declared.conn.Conn.{Conn}
 use Rattle.module_run.specs.ConnRuns.{CanGoOn, ConnView, StepAnswers, StepsEnd, StepsGoOn, conn_view}
 use Rattle.filter_chain.specs.declared.conns.Conns.{Conns}
@@ -41,12 +44,18 @@ over_written f g h i x y is too k = elim (upd_either f i k y) [
 written_same : {X : Type 0} (f : ℕ → X) (i : ℕ) (x : X) → f i ≡ x → (k : ℕ) → f k ≡ upd f i x k
 written_same f i x is k = elim (upd_either f i k x) [ inl p ↦ ap f p.0 ∙ (is ∙ sym p.1) | inr p ↦ sym p.1 ]
 
+abbrev view_on : {R : Type 0} {g : Ghosts R Stored} → Brigades R g → Type 0 → Type 0
+view_on {R = R} {g = g} store F = ConnView R g F
+
 -- table: the connections once this one is at the number
 module _ {F : Type 0} (device : F → Device) (number : ℕ) (host : Host F) (table : Conn → Conns) (holds : (x : Conn) (k : ℕ) → conn_at (table x) k ≡ upd (conn_at host.conns) number (Some x) k) where
-  abbrev pub with_view : ConnView _ _ F → Host F
+  abbrev View : Type 0
+  View = view_on host.store F
+
+  abbrev pub with_view : View → Host F
   with_view a = record host { conns = table a.conn; tree = a.tree; store = a.store; files = a.files }
 
-  abbrev pub begun_with : Conn → ConnView _ _ F
+  abbrev pub begun_with : Conn → View
   begun_with x = conn_view x host.tree host.store host.files
 
   found_there : (x : Conn) → conn_at (table x) number ≡ Some x
@@ -55,13 +64,13 @@ module _ {F : Type 0} (device : F → Device) (number : ℕ) (host : Host F) (ta
   put_again : (x y : Conn) (k : ℕ) → conn_at (table y) k ≡ upd (conn_at (table x)) number (Some y) k
   put_again x y = over_written (conn_at host.conns) (conn_at (table x)) (conn_at (table y)) number (Some x) (Some y) (holds x) (holds y)
 
-  abbrev OneStep : ConnView _ _ F → Result Stepped Refusal → ConnView _ _ F → Type 0
+  abbrev OneStep : View → Result Stepped Refusal → View → Type 0
   OneStep = StepAnswers device (budget_of host) (chain_of host) host.chain.bare
 
-  abbrev GoOn : ℕ → ConnView _ _ F → ConnView _ _ F → Type 0
+  abbrev GoOn : ℕ → View → View → Type 0
   GoOn = StepsGoOn device (budget_of host) (chain_of host) host.chain.bare
 
-  one_step : (a b : ConnView _ _ F) (answer : Result Stepped Refusal) → OneStep a answer b → Happened device (with_view a) (with_view b) number event.Step (step_answer answer)
+  one_step : (a b : View) (answer : Result Stepped Refusal) → OneStep a answer b → Happened device (with_view a) (with_view b) number event.Step (step_answer answer)
   unfolding chain_of budget_of
   one_step a b answer x w hosts =
       served_on (device a.files) (device b.files) (with_view a) (with_view b) number w hosts refl refl refl event.Step (step_answer answer) a.conn b.conn (found_there a.conn) (put_again a.conn b.conn) x.leaves
@@ -81,15 +90,15 @@ module _ {F : Type 0} (device : F → Device) (number : ℕ) (host : Host F) (ta
     there w hosts =
         subst (λ (f : ℕ → Option Conn). HoldsWorld (budget_of host) (chain_of host) (device host.files) host.tree host.store host.last f w) (fun_ext (λ k. written_same (conn_at host.conns) number (Some x) at k ∙ sym (holds x k))) hosts
 
-  many_go : (n made : ℕ) (a b : ConnView _ _ F) → GoOn n a b → IsGoing device host (with_view a) number made → IsGoing device host (with_view b) number (made + n)
+  many_go : (n made : ℕ) (a b : View) → GoOn n a b → IsGoing device host (with_view a) number made → IsGoing device host (with_view b) number (made + n)
   unfolding StepsGoOn
-  many_go zero made a b same so = subst (λ (n : ℕ). IsGoing device host (with_view b) number n) (let e : made ≡ made + 0 = omega arith in e) (subst (λ (z : ConnView _ _ F). IsGoing device host (with_view z) number made) (sym same) so)
+  many_go zero made a b same so = subst (λ (n : ℕ). IsGoing device host (with_view b) number n) (let e : made ≡ made + 0 = omega arith in e) (subst (λ (z : View). IsGoing device host (with_view z) number made) (sym same) so)
   many_go (suc n) made a b (mid, (first, more)) so =
       subst (λ (m : ℕ). IsGoing device host (with_view b) number m) (let e : suc made + n ≡ made + suc n = omega arith in e)
       (many_go n (suc made) mid b more (going_on device number host (with_view a) (with_view mid) made so (Ok stepped.Went) (one_step a mid (Ok stepped.Went) first) refl))
 
   module _ (x : Conn) (at : conn_at host.conns number ≡ Some x) (alive : IsAlive device host) where
-    went_on : (n : ℕ) (b : ConnView _ _ F) → GoOn n (begun_with x) b → IsGoing device host (with_view b) number n
+    went_on : (n : ℕ) (b : View) → GoOn n (begun_with x) b → IsGoing device host (with_view b) number n
     went_on n b goes = subst (λ (m : ℕ). IsGoing device host (with_view b) number m) (let e : 0 + n ≡ n = omega arith in e) (many_go n 0 (begun_with x) b goes (begins x at alive))
 
     -- By these modules, which are the chain.
@@ -101,7 +110,7 @@ module _ {F : Type 0} (device : F → Device) (number : ℕ) (host : Host F) (ta
           let can = can_step (device b.files) (with_view b) number on.alive.0 on.alive.1 modules same b.conn (found_there b.conn) in
           (can.0, record { stands = can.1.0; faultless = can.1.1 })
 
-      module _ (more : ℕ) (b : ConnView _ _ F) (answer : Result Stepped Refusal) (end : StepsEnd device (budget_of host) modules host.chain.bare more (begun_with x) answer b) where
+      module _ (more : ℕ) (b : View) (answer : Result Stepped Refusal) (end : StepsEnd device (budget_of host) modules host.chain.bare more (begun_with x) answer b) where
         goes : GoOn end.count (begun_with x) end.before
         goes = subst (λ (m : List Program). StepsGoOn device (budget_of host) m host.chain.bare end.count (begun_with x) end.before) same end.goes
 

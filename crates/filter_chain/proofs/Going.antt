@@ -1,5 +1,5 @@
 -- Steps that go on, one after another, and the last of them.
-use Rattle.std.proofs.Common.{◌≡◌, ℕ, suc, List, Result, Ok, refl, subst, sym, ◌∙◌, arith}
+use Rattle.std.proofs.Common.{◌≡◌, ℕ, suc, List, Result, Ok, subst, sym, ◌∙◌, arith}
 use Rattle.module_code.specs.Program.{Program}
 use Rattle.run_model.specs.declared.event.Event.TheVariants as event
 use Rattle.run_model.specs.declared.event.Refusal.{Refusal}

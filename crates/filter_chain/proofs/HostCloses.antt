@@ -1,7 +1,6 @@
 -- A connection of a host is closed.
-use Rattle.std.proofs.Common.{◌≡◌, ◌≢◌, ◌<◌, ◌≤◌, ℕ, true, false, ◌&&◌, not, List, Option, Some, None, refl, sym, ◌∙◌, ap, subst, arith, inl, inr}
+use Rattle.std.proofs.Common.{◌≡◌, ◌≤◌, ℕ, true, false, List, Option, Some, None, sym, ◌∙◌, ap, subst, arith, inl, inr}
 use Rattle.std.specs.Prelude.{if◌then◌else◌}
-use Rattle.std.specs.List.{list_any}
 use Rattle.std.proofs.Math.Path.{fun_ext}
 use Rattle.module_code.specs.Program.{Program}
 use Rattle.bucket_kinds.specs.Device.{Device, Missing}
@@ -10,17 +9,15 @@ use Rattle.run_model.specs.declared.event.Event.TheVariants as event
 use Rattle.run_model.specs.declared.event.Refusal.TheVariants as refusal
 use Rattle.run_model.specs.declared.payload.Payload.{Payload}
 use Rattle.run_model.specs.Chains.{Connection, Linked, configuration, pools_of}
-use Rattle.run_model.specs.Files.{is_referred}
 use Rattle.run_model.specs.Indexed.{upd}
-use Rattle.run_model.specs.Payloads.{is_file_ref}
 use Rattle.run_model.specs.Pools.{Pools, destroyed, is_under}
-use Rattle.run_model.specs.RunOrder.{IsPoolMap, run_order}
+use Rattle.run_model.specs.RunOrder.{run_order}
 use Rattle.run_model.specs.Turns.{closing_labels}
 use Rattle.run_model.specs.Worlds.{World, Refused, Labels, happens, happens_on, put_conn, tree_of}
 use Rattle.run_model.proofs.Formed.{destroyed_formed}
 use Rattle.run_model.proofs.Updates.{upd_at, upd_either, upd_upd}
 use Rattle.model_laws.specs.Parts.{part, HasPart, Destroyed}
-use Rattle.model_laws.specs.PartSteps.{OwnFiles, linked_in_part}
+use Rattle.model_laws.specs.PartSteps.{OwnFiles}
 use Rattle.model_laws.specs.Reached.{IsReached}
 use Rattle.model_laws.specs.SharedPools.{over}
 use Rattle.model_laws.proofs.chains.EventTurns.{Same}
@@ -41,7 +38,7 @@ use Rattle.brigade_ops.specs.House.{AreOpen, IsHouse}
 use Rattle.brigade_ops.specs.Store.{lists, next_name, references}
 use Rattle.ring_run.specs.CarriedOut.{ClosedWith, WereLetGo}
 use Rattle.module_run.specs.declared.conn.Conn.{Conn}
-use Rattle.module_run.specs.Neighbours.{Holds, LeavesOthers}
+use Rattle.module_run.specs.Neighbours.{LeavesOthers}
 use Rattle.module_run.specs.Proceeding.{LeftAs, StandsFor}
 use Rattle.filter_chain.specs.declared.conns.Conns.{Conns}
 use Rattle.filter_chain.specs.declared.host.Host.{Host}

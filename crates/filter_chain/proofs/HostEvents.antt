@@ -1,5 +1,5 @@
 -- An event of a host: what is answered, and what the host stands for then.
-use Rattle.std.proofs.Common.{◌≡◌, ◌≢◌, ℕ, ◌≤◌, Bool, true, List, Option, Some, None, refl, sym, ◌∙◌, ap, subst}
+use Rattle.std.proofs.Common.{◌≡◌, ℕ, ◌≤◌, Bool, true, List, Option, Some, None, refl, sym, ◌∙◌, ap, subst}
 use Rattle.module_code.specs.Program.{Program}
 use Rattle.run_model.specs.declared.event.Event.{Event}
 use Rattle.run_model.specs.declared.event.Event.TheVariants as event
@@ -37,7 +37,7 @@ use Rattle.filter_chain.specs.Spared.{Spares}
 use Rattle.module_run.specs.OpenedFile.{IsAfterOpening}
 use Rattle.module_run.proofs.OpeningsTold.{may_tell_unasked, unasked}
 use Rattle.filter_chain.proofs.Hosts.{found, known, missing, stands_for}
-use Rattle.filter_chain.proofs.HostsLeft.{holds_put, same_conns, IsWritten, written}
+use Rattle.filter_chain.proofs.HostsLeft.{holds_put, same_conns}
 
 abbrev pub AnyLength : ℕ → Type 0
 AnyLength n = Unit {0}

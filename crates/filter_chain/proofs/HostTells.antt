@@ -1,5 +1,5 @@
 -- What a host tells of one connection.
-use Rattle.std.proofs.Common.{◌≡◌, ℕ, true, List, [], Option, Some, None, Result, Ok, Err, refl, sym, ◌∙◌, ap, subst, arith, inl}
+use Rattle.std.proofs.Common.{◌≡◌, ℕ, true, List, Option, Some, None, Result, Ok, Err, refl, sym, ◌∙◌, ap, subst, arith}
 use Rattle.std.specs.Global.{Vec}
 use Rattle.std.specs.Prelude.{slice_get}
 use Rattle.module_code.specs.Program.{Program}
@@ -10,7 +10,7 @@ use Rattle.run_model.specs.declared.event.Refusal.{Refusal}
 use Rattle.run_model.specs.declared.event.Refusal.TheVariants as refusal
 use Rattle.run_model.specs.declared.payload.Payload.{Payload}
 use Rattle.run_model.specs.Pools.{Pools}
-use Rattle.run_model.specs.Chains.{Connection, Linked}
+use Rattle.run_model.specs.Chains.{Connection}
 use Rattle.run_model.specs.Worlds.{World, Labels, Output, happens_on}
 use Rattle.model_laws.specs.SharedPools.{over}
 use Rattle.pool_tree.specs.Tree.{map_of}

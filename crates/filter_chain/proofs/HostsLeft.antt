@@ -11,7 +11,7 @@ use Rattle.run_model.specs.declared.payload.Payload.{Payload}
 use Rattle.run_model.specs.Chains.{Connection, Linked, pools_of}
 use Rattle.run_model.specs.Indexed.{upd}
 use Rattle.run_model.specs.Pools.{Pools}
-use Rattle.run_model.specs.Worlds.{World, put_conn, tree_of}
+use Rattle.run_model.specs.Worlds.{World, put_conn}
 use Rattle.model_laws.specs.PartSteps.{linked_in_part}
 use Rattle.model_laws.specs.Reached.{IsReached}
 use Rattle.model_laws.specs.SharedPools.{over}
@@ -25,12 +25,11 @@ use Rattle.bucket_kinds.specs.declared.stored.Stored.{Stored}
 use Rattle.brigade_ops.specs.declared.store.Brigades.{Brigades}
 use Rattle.brigade_ops.specs.House.{IsHouse}
 use Rattle.stored_rings.specs.Items.{Items}
-use Rattle.brigade_ops.specs.Store.{lists, next_name, pool_of}
+use Rattle.brigade_ops.specs.Store.{lists, pool_of}
 use Rattle.module_run.specs.declared.conn.Conn.{Conn}
 use Rattle.module_run.specs.Conns.{conn_of}
 use Rattle.module_run.specs.Neighbours.{Holds, IsForeign, LeavesOthers}
 use Rattle.module_run.specs.Proceeding.{HasOpen, LeftAs, MayHold}
-use Rattle.module_run.specs.Stacked.{IsStacked}
 use Rattle.module_run.proofs.Neighbours.{shows_same, stacked_same}
 use Rattle.filter_chain.specs.declared.conns.Conns.{Conns}
 use Rattle.filter_chain.specs.Hosted.{conn_at, IsHosted}

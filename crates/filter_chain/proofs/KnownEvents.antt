@@ -15,7 +15,6 @@ use Rattle.run_model.specs.Chains.{Common, Connection, Linked, pools_of}
 use Rattle.run_model.specs.Passing.{Reads}
 use Rattle.run_model.specs.Pools.{Pools, is_under}
 use Rattle.run_model.specs.RunOrder.{IsPoolMap}
-use Rattle.run_model.specs.Files.{is_referred}
 use Rattle.run_model.specs.Holding.{refers}
 use Rattle.run_model.specs.Turns.{unless_refused, begun, begins, brought, brings, ended, ends, steps}
 use Rattle.run_model.specs.Worlds.{World, Refused, Output, put_conn, happens_on, answered, step_answered}
@@ -23,7 +22,7 @@ use Rattle.run_model.proofs.Updates.{upd_either}
 use Rattle.model_laws.specs.ChainFiles.{TellsLengths, IsShortLength}
 use Rattle.model_laws.specs.Parts.{part}
 use Rattle.model_laws.specs.PartSteps.{linked_in_part}
-use Rattle.model_laws.specs.SharedPools.{LiesOver, over, seen_in}
+use Rattle.model_laws.specs.SharedPools.{over, seen_in}
 use Rattle.model_laws.proofs.chains.EventTurns.{Turn, Drained, begins_turn, brings_turn, ends_turn, steps_turn}
 use Rattle.std.proofs.lemmas.Bool.{false_from_ne_true}
 use Rattle.model_laws.proofs.chains.LeftTree.{Stands, turn_within}

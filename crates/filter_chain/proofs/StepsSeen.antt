@@ -1,12 +1,11 @@
 -- What an event tells and closes over the tree of all it tells and closes in the connection's part.
-use Rattle.std.proofs.Common.{◌≡◌, ℕ, Bool, true, false, ◌&&◌, not, cond, nat_le, List, [], ◌∷◌, Option, Some, None, Result, Ok, Err, OnOk, refl, sym, ◌∙◌, ap, subst}
+use Rattle.std.proofs.Common.{◌≡◌, ℕ, Bool, true, false, cond, nat_le, List, [], ◌∷◌, Option, Some, None, Result, Ok, Err, refl, sym, ◌∙◌, ap, subst}
 use Rattle.std.specs.Prelude.{if◌then◌else◌}
-use Rattle.std.specs.List.{list_any}
 use Rattle.module_code.specs.declared.instr.Instr.{Instr}
 use Rattle.module_code.specs.declared.instr.Instr.TheVariants as instr
 use Rattle.module_code.specs.declared.instr.PoolRef.TheVariants as pool
 use Rattle.module_code.specs.Program.{Program}
-use Rattle.bucket_kinds.specs.Device.{Device, Held, Missing}
+use Rattle.bucket_kinds.specs.Device.{Device, Missing}
 use Rattle.run_model.specs.declared.event.Cause.{Cause}
 use Rattle.run_model.specs.declared.event.Cause.TheVariants as cause
 use Rattle.run_model.specs.declared.event.Refusal.{Refusal}
@@ -19,21 +18,21 @@ use Rattle.run_model.specs.Cursors.{spot_of, holder_of, variable_of}
 use Rattle.run_model.specs.Faults.{fault}
 use Rattle.run_model.specs.Pools.{Pools, is_under}
 use Rattle.run_model.specs.RunOrder.{IsPoolMap, run_order}
-use Rattle.run_model.specs.State.{Configuration, named_at, pool_named}
+use Rattle.run_model.specs.State.{named_at, pool_named}
 use Rattle.run_model.specs.Steps.{current}
 use Rattle.run_model.specs.Chains.{Frame, Connection, Common, Linked, configuration, module_at, pools_of}
 use Rattle.run_model.specs.Passing.{Reads}
 use Rattle.run_model.specs.Turns.{broken_by, executed, step_top, step_unless, steps, unless_fault, watched}
 use Rattle.run_model.specs.Worlds.{World}
-use Rattle.model_laws.specs.Parts.{part, HasPart}
-use Rattle.model_laws.specs.PartSteps.{LiesIn, OwnFiles, linked_in_part}
+use Rattle.model_laws.specs.Parts.{part}
+use Rattle.model_laws.specs.PartSteps.{LiesIn, linked_in_part}
 use Rattle.model_laws.specs.SharedPools.{LiesOver, over}
 use Rattle.model_laws.proofs.StepPools.{wanted_pool}
-use Rattle.model_laws.proofs.chains.EventTurns.{Turn, steps_turn}
+use Rattle.model_laws.proofs.chains.EventTurns.{steps_turn}
 use Rattle.model_laws.proofs.chains.LeftTree.{Stands, turn_within}
 use Rattle.model_laws.proofs.chains.PutBack.{looking}
 use Rattle.model_laws.proofs.chains.WorldKept.{AnyLength}
-use Rattle.model_laws.proofs.parts.LetGo.{lets_go, lets_go_alike}
+use Rattle.model_laws.proofs.parts.LetGo.{lets_go_alike}
 use Rattle.model_laws.proofs.parts.Seen.{its_part}
 use Rattle.model_laws.proofs.parts.Steps.{wanted_under}
 use Rattle.model_laws.proofs.parts.Within.{StaysWithin}

@@ -1,9 +1,8 @@
 -- By the connection of the number, as it was found and as it is put back.
-use Rattle.std.proofs.Common.{◌≡◌, refl, sym, ◌∙◌, ap, subst}
+use Rattle.std.proofs.Common.{refl, sym, ◌∙◌, ap, subst}
 use Rattle.std.specs.Option.{option_copied_mut, IsSome}
-use Rattle.module_code.specs.Program.{Program}
 use Rattle.run_model.specs.declared.event.Event.TheVariants as event
-use Rattle.module_run.specs.Happened.{Happened, lasted, refusal_of}
+use Rattle.module_run.specs.Happened.{lasted, refusal_of}
 use Rattle.filter_chain.specs.declared.conns.Conns.{Conns}
 use Rattle.filter_chain.specs.Hosted.{conn_at}
 use Rattle.filter_chain.specs.Hosting.{chain_of, budget_of, done_answer}

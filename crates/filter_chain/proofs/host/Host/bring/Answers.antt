@@ -1,7 +1,6 @@
 -- By the connection of the number, as it was found and as it is put back.
-use Rattle.std.proofs.Common.{◌≡◌, refl, sym, ◌∙◌, ap, subst}
+use Rattle.std.proofs.Common.{refl, sym, ◌∙◌, ap, subst}
 use Rattle.std.specs.Option.{option_copied_mut, IsSome}
-use Rattle.module_code.specs.Program.{Program}
 use Rattle.run_model.specs.declared.event.Event.TheVariants as event
 use Rattle.module_run.specs.Happened.{lasted, refusal_of}
 use Rattle.pool_tree.specs.Tree.{map_of}

@@ -1,5 +1,5 @@
 -- By the connection of the number, as it was found and as it is put back.
-use Rattle.std.proofs.Common.{◌≡◌, ℕ, Ok, refl, sym, ◌∙◌, ap, subst}
+use Rattle.std.proofs.Common.{ℕ, refl, sym, ◌∙◌, ap, subst}
 use Rattle.std.specs.Prelude.{List, Result}
 use Rattle.std.specs.Option.{option_copied_mut, IsSome}
 use Rattle.run_model.specs.declared.event.Refusal.{Refusal}

@@ -8,7 +8,6 @@ use Rattle.run_model.specs.Worlds.{Refused}
 use Rattle.module_run.specs.declared.conn.Conn.{Conn}
 use Rattle.module_run.specs.Conns.{labels_handed}
 use Rattle.filter_chain.specs.declared.conns.Conns.{Conns}
-use Rattle.filter_chain.specs.declared.host.Host.{Host}
 use Rattle.filter_chain.specs.Hosted.{conn_at}
 use Rattle.filter_chain.specs.Hosting.{chain_of, budget_of}
 use Rattle.filter_chain.proofs.HostCloses.{close_serves, closed_on, taken_is}

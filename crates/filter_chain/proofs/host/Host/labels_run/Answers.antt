@@ -1,5 +1,5 @@
 -- By the connection of the number.
-use Rattle.std.proofs.Common.{◌≡◌, refl, sym, ◌∙◌, ap}
+use Rattle.std.proofs.Common.{refl, sym, ◌∙◌, ap}
 use Rattle.std.specs.Option.{option_copied}
 use Rattle.run_model.specs.declared.event.Event.TheVariants as event
 use Rattle.module_run.specs.Conns.{labels_handed}

@@ -1,5 +1,5 @@
 -- By the names that are left, and by the connection that is put.
-use Rattle.std.proofs.Common.{◌≡◌, ℕ, ◌+◌, ◌<◌, ◌||◌, Option, List, length, refl, sym, ◌∙◌, ap, subst, arith}
+use Rattle.std.proofs.Common.{ℕ, ◌+◌, ◌<◌, ◌||◌, Option, List, length, refl, sym, ◌∙◌, subst, arith}
 use Rattle.std.proofs.Math.Path.{fun_ext}
 use Rattle.module_code.specs.Program.{Program}
 use Rattle.run_model.specs.Steps.{is_spent}

@@ -1,9 +1,8 @@
 -- By the tree, which is the world's.
-use Rattle.std.proofs.Common.{◌≡◌, ℕ, OnOk, [], ◌∷◌, sym, ◌∙◌, ap, subst}
+use Rattle.std.proofs.Common.{OnOk, ◌∙◌, ap, subst}
 use Rattle.std.specs.Io.KnownBytes.{Appends}
 use Rattle.run_model.specs.declared.payload.Payload.{Payload}
 use Rattle.run_model.specs.Pools.{Pools}
-use Rattle.run_model.specs.Worlds.{tree_of}
 use Rattle.model_laws.proofs.chains.TreeParts.{reached_tree}
 use Rattle.pool_tree.specs.Printed.{payload_text, printed}
 use Rattle.filter_chain.specs.Hosting.{IsHosting, budget_of, chain_of}
