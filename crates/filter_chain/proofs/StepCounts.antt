@@ -110,6 +110,12 @@ module _ (budget : ℕ) (chain : List Program) (number : ℕ) where
   goes_more zero old mid new g a = (new, subst (λ (s : HostView). Answers budget chain number event.Step s (Step stepped.Went) new) g a, refl)
   goes_more (suc n) old mid new (next, first, g) a = (next, first, goes_more n next mid new g a)
 
+  -- so many and then so many
+  pub goes_join : (m n : ℕ) (old mid new : HostView) → HostGoesOn budget chain number m old mid → HostGoesOn budget chain number n mid new → HostGoesOn budget chain number (m + n) old new
+  unfolding HostGoesOn
+  goes_join zero n old mid new g h = subst (λ (k : ℕ). HostGoesOn budget chain number k old new) (let e : n ≡ 0 + n = omega arith in e) (subst (λ (s : HostView). HostGoesOn budget chain number n s new) g h)
+  goes_join (suc m) n old mid new (next, first, g) h = subst (λ (k : ℕ). HostGoesOn budget chain number k old new) (let e : suc (m + n) ≡ suc m + n = omega arith in e) (next, first, goes_join m n next mid new g h)
+
   few_from : (n k : ℕ) (old mid new : HostView) (c : Connection) → old.world.conns number ≡ Some c → k ≤ c.count → HostGoesOn budget chain number n old mid → Answers budget chain number event.Step mid (Step stepped.Went) new → k + n < budget
   unfolding HostGoesOn
   few_from zero k old mid new c at le g a =

@@ -1,5 +1,5 @@
 -- By the filter on top, and the one whose turn is next.
-use Rattle.std.proofs.Common.{◌≡◌, ◌≢◌, ◌∙◌, ℕ, ◌+◌, ◌<◌, List, [], Some, length, false, refl, sym, ap, subst, arith}
+use Rattle.std.proofs.Common.{◌≡◌, ◌≢◌, ◌∙◌, ℕ, ◌+◌, ◌<◌, [], Some, length, false, refl, sym, ap, subst, arith}
 use Rattle.std.specs.Global.{Vec}
 use Rattle.std.specs.Vec.{with_item}
 use Rattle.std.proofs.lemmas.List.{length-set}
