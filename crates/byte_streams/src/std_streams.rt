@@ -2,7 +2,7 @@
 
 ghost use Rattle.std.specs.Prelude.{◌≡◌, ◌≢◌, ◌<◌, false, refl, length};
 ghost use Rattle.byte_streams.specs.Counted.{reads_left, source_of};
-ghost use Rattle.byte_streams.specs.Transfers.{IsRead};
+ghost use Rattle.byte_streams.specs.Transfers.{IsRead, IsWritten};
 
 use crate::counted::{CountedSource, READS};
 use crate::sink::{Sink, SinkFault, WriteAnswer};
@@ -110,7 +110,12 @@ impl<W: Write> Sink for StdSink<W> {
 
     ghost unchanged_self = { λ _. refl };
 
-    fn write(&mut self, bytes: &[u8]) -> Result<WriteAnswer, SinkFault> {
+    fn write(&mut self, bytes: &[u8]) -> Result<WriteAnswer, SinkFault>
+        requires { 0 < length bytes.now }
+        ensures written { IsWritten (W.contents self.old.writer) (W.contents self.new.writer) self.old.has_failed self.new.has_failed bytes.now result }
+        ensures waits { result ≢ Ok WriteAnswer.NotNow }
+        ensures known { result ≢ Err SinkFault.NoMemory }
+    {
         match self.writer.write(bytes) {
             Ok(count) if count > 0 => Ok(WriteAnswer::Bytes(count)),
             _ => {

@@ -15,7 +15,7 @@ use Rattle.bucket_kinds.specs.declared.stored.Stored.{Stored}
 use Rattle.bucket_ring.specs.declared.rings.Rings.{Ghosts}
 use Rattle.brigade_ops.specs.declared.store.Brigades.{Brigades}
 use Rattle.module_run.specs.declared.conn.Conn.{Conn}
-use Rattle.module_run.specs.ConnRuns.{CanGoOn, ConnView, StepAnswers, StepsEnd, StepsGoOn, conn_view}
+use Rattle.module_run.specs.ConnRuns.{CanGoOn, ConnGoesOn, ConnStepsOn, ConnView, StepAnswers, conn_view}
 use Rattle.filter_chain.specs.declared.conns.Conns.{Conns}
 use Rattle.filter_chain.specs.declared.host.Host.{Host}
 use Rattle.filter_chain.specs.Hosted.{conn_at}
@@ -68,7 +68,7 @@ module _ {F : Type 0} (device : F → Device) (number : ℕ) (host : Host F) (ta
   OneStep = StepAnswers device (budget_of host) (chain_of host) host.chain.bare
 
   abbrev GoOn : ℕ → View → View → Type 0
-  GoOn = StepsGoOn device (budget_of host) (chain_of host) host.chain.bare
+  GoOn = ConnGoesOn device (budget_of host) (chain_of host) host.chain.bare
 
   one_step : (a b : View) (answer : Result Stepped Refusal) → OneStep a answer b → Happened device (with_view a) (with_view b) number event.Step (step_answer answer)
   unfolding chain_of budget_of
@@ -91,7 +91,7 @@ module _ {F : Type 0} (device : F → Device) (number : ℕ) (host : Host F) (ta
         subst (λ (f : ℕ → Option Conn). HoldsWorld (budget_of host) (chain_of host) (device host.files) host.tree host.store host.last f w) (fun_ext (λ k. written_same (conn_at host.conns) number (Some x) at k ∙ sym (holds x k))) hosts
 
   many_go : (n made : ℕ) (a b : View) → GoOn n a b → IsGoing device host (with_view a) number made → IsGoing device host (with_view b) number (made + n)
-  unfolding StepsGoOn
+  unfolding ConnGoesOn
   many_go zero made a b same so = subst (λ (n : ℕ). IsGoing device host (with_view b) number n) (let e : made ≡ made + 0 = omega arith in e) (subst (λ (z : View). IsGoing device host (with_view z) number made) (sym same) so)
   many_go (suc n) made a b (mid, (first, more)) so =
       subst (λ (m : ℕ). IsGoing device host (with_view b) number m) (let e : suc made + n ≡ made + suc n = omega arith in e)
@@ -106,13 +106,13 @@ module _ {F : Type 0} (device : F → Device) (number : ℕ) (host : Host F) (ta
       pub can_go : CanGoOn device (budget_of host) modules host.chain.bare (begun_with x)
       unfolding chain_of budget_of
       can_go n b goes =
-          let on = went_on n b (subst (λ (m : List Program). StepsGoOn device (budget_of host) m host.chain.bare n (begun_with x) b) same goes) in
+          let on = went_on n b (subst (λ (m : List Program). ConnGoesOn device (budget_of host) m host.chain.bare n (begun_with x) b) same goes) in
           let can = can_step (device b.files) (with_view b) number on.alive.0 on.alive.1 modules same b.conn (found_there b.conn) in
           (can.0, record { stands = can.1.0; faultless = can.1.1 })
 
-      module _ (more : ℕ) (b : View) (answer : Result Stepped Refusal) (end : StepsEnd device (budget_of host) modules host.chain.bare more (begun_with x) answer b) where
+      module _ (more : ℕ) (b : View) (answer : Result Stepped Refusal) (end : ConnStepsOn device (budget_of host) modules host.chain.bare more (begun_with x) answer b) where
         goes : GoOn end.count (begun_with x) end.before
-        goes = subst (λ (m : List Program). StepsGoOn device (budget_of host) m host.chain.bare end.count (begun_with x) end.before) same end.goes
+        goes = subst (λ (m : List Program). ConnGoesOn device (budget_of host) m host.chain.bare end.count (begun_with x) end.before) same end.goes
 
         last : Happened device (with_view end.before) (with_view b) number event.Step (step_answer answer)
         last = one_step end.before b answer (subst (λ (m : List Program). StepAnswers device (budget_of host) m host.chain.bare end.before answer b) same end.last)

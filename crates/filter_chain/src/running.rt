@@ -13,7 +13,7 @@ impl<F: Files + Drop> Host<F> {
     ghost use Rattle.filter_chain.specs.Running.{StepsToEnd, StepsOn};
     ghost use Rattle.filter_chain.specs.Safe.{GoesWell, IsSafe};
 
-    /// Makes a step, and up to so many more while each of them goes, by one look for the connection.
+    /// Makes a step, and up to `more` others while each goes on. The connection is looked up once.
     fn step_on(&mut self, number: u64, more: u64) -> Result<Stepped, Refusal>
         requires { IsAlive F.device self.old }
         ensures steps { Refines F.device self.old self.new (λ (b : ℕ) (c : List Program) (s t : HostView). StepsOn b c number more s result t) }
