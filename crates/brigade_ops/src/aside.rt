@@ -89,7 +89,8 @@ impl<R: Rings<Stored> + Drop> Brigades<R> {
     /// Sets a bucket aside, where its file has a reference.
     pub(crate) fn put_aside(&mut self, id: BucketId, pool: PoolId, above: bool)
         requires { is_some (brigade_of self.old id) ≡ true }
-        ensures out { (b m : ℕ) (x : Bucket) → brigade_of self.old id ≡ Some b → bucket_at self.old id ≡ Some x → lists self.new m ≡ on b (with_payload id (set_aside pool above x)) (lists self.old) m }
+        ensures out { (b m : ℕ) (x : Bucket) → brigade_of self.old id ≡ Some b → bucket_at self.old id ≡ Some x
+            → lists self.new m ≡ on b (with_payload id (set_aside pool above x)) (lists self.old) m }
         ensures next { next_name self.new ≡ next_name self.old }
         ensures names { NoneRevived (brigade_of self.old) (brigade_of self.new) (next_name self.old) }
         ensures pools { pool_of self.new ≡ pool_of self.old }

@@ -178,7 +178,8 @@ impl<R: Rings<Stored> + Drop> Brigades<R> {
     pub fn move_tail(&mut self, b: BrigadeId, id: BucketId)
         requires brigade { is_some (lists self.old b) ≡ true }
         requires bucket { is_some (brigade_of self.old id) ≡ true }
-        ensures out { (q n : ℕ) (x : Bucket) → brigade_of self.old id ≡ Some q → found id (list_at (lists self.old) q) ≡ Some x → lists self.new n ≡ on b (put_tail (id, x)) (on q (without id) (lists self.old)) n }
+        ensures out { (q n : ℕ) (x : Bucket) → brigade_of self.old id ≡ Some q → found id (list_at (lists self.old) q) ≡ Some x
+            → lists self.new n ≡ on b (put_tail (id, x)) (on q (without id) (lists self.old)) n }
         ensures next { next_name self.new ≡ next_name self.old }
         ensures names { NoneRevived (brigade_of self.old) (brigade_of self.new) (next_name self.old) }
         ensures pools { pool_of self.new ≡ pool_of self.old }
@@ -192,7 +193,8 @@ impl<R: Rings<Stored> + Drop> Brigades<R> {
     pub fn move_head(&mut self, b: BrigadeId, id: BucketId)
         requires brigade { is_some (lists self.old b) ≡ true }
         requires bucket { is_some (brigade_of self.old id) ≡ true }
-        ensures out { (q n : ℕ) (x : Bucket) → brigade_of self.old id ≡ Some q → found id (list_at (lists self.old) q) ≡ Some x → lists self.new n ≡ on b (put_head (id, x)) (on q (without id) (lists self.old)) n }
+        ensures out { (q n : ℕ) (x : Bucket) → brigade_of self.old id ≡ Some q → found id (list_at (lists self.old) q) ≡ Some x
+            → lists self.new n ≡ on b (put_head (id, x)) (on q (without id) (lists self.old)) n }
         ensures next { next_name self.new ≡ next_name self.old }
         ensures names { NoneRevived (brigade_of self.old) (brigade_of self.new) (next_name self.old) }
         ensures pools { pool_of self.new ≡ pool_of self.old }
@@ -206,7 +208,9 @@ impl<R: Rings<Stored> + Drop> Brigades<R> {
     pub fn move_before(&mut self, at: BucketId, id: BucketId)
         requires place { is_some (brigade_of self.old at) ≡ true }
         requires bucket { is_some (brigade_of self.old id) ≡ true }
-        ensures out { (b q n : ℕ) (x : Bucket) → brigade_of self.old at ≡ Some b → brigade_of self.old id ≡ Some q → found id (list_at (lists self.old) q) ≡ Some x → lists self.new n ≡ (if same at id then lists self.old n else on b (put_before at (id, x)) (on q (without id) (lists self.old)) n) }
+        ensures out { (b q n : ℕ) (x : Bucket) → brigade_of self.old at ≡ Some b → brigade_of self.old id ≡ Some q
+            → found id (list_at (lists self.old) q) ≡ Some x
+            → lists self.new n ≡ (if same at id then lists self.old n else on b (put_before at (id, x)) (on q (without id) (lists self.old)) n) }
         ensures next { next_name self.new ≡ next_name self.old }
         ensures names { NoneRevived (brigade_of self.old) (brigade_of self.new) (next_name self.old) }
         ensures pools { pool_of self.new ≡ pool_of self.old }

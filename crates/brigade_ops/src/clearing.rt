@@ -95,7 +95,8 @@ impl<R: Rings<Stored> + Drop> Brigades<R> {
 
     /// Makes ready what a clear of a pool makes of the buckets of these brigades, in a walk along each.
     fn plan_by_walk(&self, rings: &[BrigadeId], reached: &Reached) -> Result<Morphs, AllocError>
-        ensures { IfOk result (λ morphs. (n : ℕ) → option_map (all_morphed morphs.found) (lists self.now n) ≡ option_map (cleared_items (is_reached reached.now) (is_in n rings.now)) (lists self.now n)) }
+        ensures { IfOk result (λ morphs. (n : ℕ)
+            → option_map (all_morphed morphs.found) (lists self.now n) ≡ option_map (cleared_items (is_reached reached.now) (is_in n rings.now)) (lists self.now n)) }
     {
         let mut found = Seq::new(self.alloc);
         for ring in rings {
@@ -122,7 +123,9 @@ impl<R: Rings<Stored> + Drop> Brigades<R> {
     ) -> Result<Morphs, AllocError>
         requires { IsTrue (is_live (map_of tree.now) pool) }
         ensures reached { IfOk result (λ morphs. (p : ℕ) → is_under (map_of tree.now) pool p ≡ true → is_in p morphs.pools.items ≡ true) }
-        ensures made { IfOk result (λ morphs. (n : ℕ) → option_map (all_morphed morphs.found) (lists self.now n) ≡ option_map (cleared_items (is_under (map_of tree.now) pool) (is_in n rings.now)) (lists self.now n)) }
+        ensures made { IfOk result (λ morphs. (n : ℕ)
+            → option_map (all_morphed morphs.found) (lists self.now n)
+            ≡ option_map (cleared_items (is_under (map_of tree.now) pool) (is_in n rings.now)) (lists self.now n)) }
     {
         let reached = Reached::new(tree, pool)?;
         if self.held.rings.dependents.is_lost() {

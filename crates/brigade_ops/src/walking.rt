@@ -35,7 +35,8 @@ impl<R: Rings<Stored> + Drop> Brigades<R> {
     pub fn behind(&self, id: BucketId) -> Option<BucketId>
         requires { is_some (brigade_of self.now id) ≡ true }
         ensures next { (b : ℕ) → brigade_of self.now id ≡ Some b → result ≡ first_of (drop 1 (rest id (list_at (lists self.now) b))) }
-        ensures head { (b : ℕ) (x : Bucket) → brigade_of self.now id ≡ Some b → bucket_at self.now id ≡ Some x → from_place (Some id) (list_at (lists self.now) b) ≡ (id, x) ∷ from_place result (list_at (lists self.now) b) }
+        ensures head { (b : ℕ) (x : Bucket) → brigade_of self.now id ≡ Some b → bucket_at self.now id ≡ Some x
+            → from_place (Some id) (list_at (lists self.now) b) ≡ (id, x) ∷ from_place result (list_at (lists self.now) b) }
         ensures others { (b : ℕ) → brigade_of self.now id ≡ Some b → from_place result (list_at (lists self.now) b) ≡ drop 1 (rest id (list_at (lists self.now) b)) }
         ensures inside { (b : ℕ) → brigade_of self.now id ≡ Some b → IfSome result (λ j. brigade_of self.now j ≡ Some b) }
     {
@@ -48,9 +49,11 @@ impl<R: Rings<Stored> + Drop> Brigades<R> {
     /// The length of a bucket, where a walk along its brigade comes to it.
     pub(crate) fn length_at(&self, id: BucketId) -> u64
         requires { is_some (brigade_of self.now id) ≡ true }
-        ensures head { (b : ℕ) → brigade_of self.now id ≡ Some b → (x : Bucket) × (rest id (list_at (lists self.now) b) ≡ (id, x) ∷ drop 1 (rest id (list_at (lists self.now) b))) × (result ≡ length_of x.content) }
+        ensures head { (b : ℕ) → brigade_of self.now id ≡ Some b → (x : Bucket)
+            × (rest id (list_at (lists self.now) b) ≡ (id, x) ∷ drop 1 (rest id (list_at (lists self.now) b))) × (result ≡ length_of x.content) }
         ensures one { (b : ℕ) → brigade_of self.now id ≡ Some b → length (rest id (list_at (lists self.now) b)) ≡ length (drop 1 (rest id (list_at (lists self.now) b))) + 1 }
-        ensures sum { (b : ℕ) → brigade_of self.now id ≡ Some b → length_in (named (rest id (list_at (lists self.now) b))) ≡ result + length_in (named (drop 1 (rest id (list_at (lists self.now) b)))) }
+        ensures sum { (b : ℕ) → brigade_of self.now id ≡ Some b
+            → length_in (named (rest id (list_at (lists self.now) b))) ≡ result + length_in (named (drop 1 (rest id (list_at (lists self.now) b)))) }
     {
         let bucket = self.payload(id);
         bucket.content.len()
@@ -89,7 +92,8 @@ impl<R: Rings<Stored> + Drop> Brigades<R> {
         requires there { is_some (lists self.old b) ≡ true }
         requires fits { (id : BucketId) (x : Bucket) → brigade_of self.old id ≡ Some b → bucket_at self.old id ≡ Some x → form_of x.content ≡ form_of_kind x.kind }
         requires ends { (id : BucketId) (x : Bucket) → brigade_of self.old id ≡ Some b → bucket_at self.old id ≡ Some x → EndsInFile x.content }
-        ensures between { is_inside (point_in point (list_at (lists self.old) b)) ≡ false → (result ≡ Ok (cut_at (point_in point (list_at (lists self.old) b)))) × ((m : ℕ) → lists self.new m ≡ lists self.old m) }
+        ensures between { is_inside (point_in point (list_at (lists self.old) b)) ≡ false
+            → (result ≡ Ok (cut_at (point_in point (list_at (lists self.old) b)))) × ((m : ℕ) → lists self.new m ≡ lists self.old m) }
         ensures inside { (id : BucketId) (n : ℕ) (x : Bucket) → point_in point (list_at (lists self.old) b) ≡ Point.Inside id n → bucket_at self.old id ≡ Some x
             → IfOk result (λ cut. (new : BucketId) × (cut ≡ Cut.Found new) × (new.birth ≡ next_name self.old)
             × ((m : ℕ) → lists self.new m ≡ on b (replaced id (split_at n x).0 ((new, (split_at n x).1) ∷ [])) (lists self.old) m)) }

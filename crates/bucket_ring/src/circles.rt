@@ -79,7 +79,8 @@ impl<T: Drop, S: Slots<T> + Drop> Links<T, S> {
         requires position { IsSpot (λ j. if same id j then None else ring_at self.old j) ring position }
         requires few { (next : ℕ) × IsKept (ring_at self.old) (lists_of self.old) next }
         ensures linked { AreLinked self.new }
-        ensures lists { (n : ℕ) (x : T) → found id (list_at (lists_of self.old) from) ≡ Some x → lists_of self.new n ≡ on ring (placed position ((id, x) ∷ [])) (on from (without id) (lists_of self.old)) n }
+        ensures lists { (n : ℕ) (x : T) → found id (list_at (lists_of self.old) from) ≡ Some x
+            → lists_of self.new n ≡ on ring (placed position ((id, x) ∷ [])) (on from (without id) (lists_of self.old)) n }
         ensures places { (j : _) → ring_at self.new j ≡ (if same id j then Some ring else ring_at self.old j) }
     {
         let old = self.head(from);

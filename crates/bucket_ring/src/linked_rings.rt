@@ -170,7 +170,8 @@ impl<T: Drop, S: Slots<T> + Drop> LinkedRings<T, S> {
         requires ring { is_some (lists_of self.old.links ring) ≡ true }
         requires bucket { is_some (ring_at self.old.links id) ≡ true }
         requires position { IsSpot (λ j. if same id j then None else ring_at self.old.links j) ring position }
-        ensures out { (q n : ℕ) (x : T) → ring_at self.old.links id ≡ Some q → found id (list_at (lists_of self.old.links) q) ≡ Some x → lists_of self.new.links n ≡ on ring (placed position ((id, x) ∷ [])) (on q (without id) (lists_of self.old.links)) n }
+        ensures out { (q n : ℕ) (x : T) → ring_at self.old.links id ≡ Some q → found id (list_at (lists_of self.old.links) q) ≡ Some x
+            → lists_of self.new.links n ≡ on ring (placed position ((id, x) ∷ [])) (on q (without id) (lists_of self.old.links)) n }
         ensures next { self.new.next ≡ self.old.next }
         ensures names { (j : BucketId) → is_some (ring_at self.new.links j) ≡ true → is_some (ring_at self.old.links j) ≡ true }
     {
@@ -233,7 +234,8 @@ impl<T: Drop, S: Slots<T> + Drop> Rings<T> for LinkedRings<T, S> {
 
     fn add_all(&mut self, ring: RingId, given: Vec<T>) -> Result<(), RingRefusal>
         requires { is_some (lists_of self.old.links ring) ≡ true }
-        ensures ok { OnOk result ((bs : List (BucketId × T)) × (by_birth bs ≡ numbered self.old.next given.items) × ((n : ℕ) → lists_of self.new.links n ≡ on ring (λ xs. xs ++ bs) (lists_of self.old.links) n)) }
+        ensures ok { OnOk result ((bs : List (BucketId × T)) × (by_birth bs ≡ numbered self.old.next given.items)
+            × ((n : ℕ) → lists_of self.new.links n ≡ on ring (λ xs. xs ++ bs) (lists_of self.old.links) n)) }
         ensures next { self.new.next ≡ (if is_ok result then self.old.next + length given.items else self.old.next) }
         ensures names { NoneRevived (ring_at self.old.links) (ring_at self.new.links) self.old.next }
         ensures spent { (result ≡ Err RingRefusal.NamesSpent) ↔ (u64.MAX < self.old.next + length given.items) }

@@ -69,7 +69,8 @@ pub trait Slots<T> {
     /// Puts a bucket of a ring into a node.
     fn fill(&mut self, slot: usize, ring: RingId, birth: u64, payload: T)
         requires { is_some (node self.old slot) ≡ true }
-        ensures at { (v : Node T) → node self.old slot ≡ Some v → (k : ℕ) → node self.new k ≡ upd (node self.old) slot (Some (record v { ring = ring; load = Bucket (record { birth = birth; payload = payload }) })) k }
+        ensures at { (v : Node T) → node self.old slot ≡ Some v → (k : ℕ)
+            → node self.new k ≡ upd (node self.old) slot (Some (record v { ring = ring; load = Bucket (record { birth = birth; payload = payload }) })) k }
         ensures room { room self.old ≤ room self.new };
 
     /// Takes the bucket out of a node, which stays.

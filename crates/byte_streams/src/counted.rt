@@ -60,7 +60,8 @@ impl<R: Source> CountedSource<R> {
     /// no read was left, and the source was not asked.
     pub fn read(&mut self, buffer: &mut [u8]) -> Result<ReadAnswer, CountedFault>
         requires { 0 < length buffer.old }
-        ensures { IsCounted (reads_left self.old) (reads_left self.new) (R.remaining (source_of self.old)) (R.remaining (source_of self.new)) (R.failed (source_of self.old)) (R.failed (source_of self.new)) buffer.new result }
+        ensures { IsCounted (reads_left self.old) (reads_left self.new) (R.remaining (source_of self.old)) (R.remaining (source_of self.new)) (R.failed
+            (source_of self.old)) (R.failed (source_of self.new)) buffer.new result }
     {
         if self.left == 0 {
             return Err(CountedFault::TooManyReads);

@@ -71,7 +71,8 @@ close_answer (Err r) = Refused r
 -- number that was given last. pools: the tree is the world's. names, files: the names that are given next; a device may have used up numbers
 -- of files that no opening told. house, open_files: the brigades stand on the pools of the tree, and files that these refer to are open. none: no
 -- brigade has the name 0. apart: no brigade is held by two connections.
-pub record HoldsWorld {R : Type 0} {g : Ghosts R Stored} (budget : ℕ) (chain : List Program) (d : Device) (tree : PoolTree Payload) (store : Brigades R g) (last : ℕ) (at : ℕ → Option Conn) (w : World) : Type 0 where
+pub record HoldsWorld {R : Type 0} {g : Ghosts R Stored} (budget : ℕ) (chain : List Program) (d : Device) (tree : PoolTree Payload) (store : Brigades R g)
+    (last : ℕ) (at : ℕ → Option Conn) (w : World) : Type 0 where
   pub chained : IsChain chain
   pub reached : IsReached budget chain w
   pub last_is : w.last ≡ last

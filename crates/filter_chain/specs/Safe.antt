@@ -28,4 +28,5 @@ ReachedWorldsAnswerNoFault = (budget : ℕ) (chain : List Program) (number : ℕ
 
 -- There the next instruction of a call that is to be stepped has no fault.
 abbrev pub ReachedCallsAreFaultless : Type 0
-ReachedCallsAreFaultless = (budget : ℕ) (chain : List Program) (w : World) (number : ℕ) (c : Connection) → ChainNeverFaults chain → IsReached budget chain w → w.conns number ≡ Some c → NextIsFaultless budget chain (w.common, c)
+ReachedCallsAreFaultless = (budget : ℕ) (chain : List Program) (w : World) (number : ℕ) (c : Connection) → ChainNeverFaults chain → IsReached budget chain w
+    → w.conns number ≡ Some c → NextIsFaultless budget chain (w.common, c)

@@ -16,7 +16,8 @@ impl<F: Files + Drop> Host<F> {
     /// `labels_run` has them, those of its own pool last. Refused, nothing is changed: `NoSuchConn`; `NoMemory`.
     pub fn close(&mut self, number: u64) -> Result<Vec<LabelsRun>, Refusal>
         requires { (w : World) × IsHosting (F.device (files_of self.old)) self.old w }
-        ensures event { (w : World) → IsHosting (F.device (files_of self.old)) self.old w → Happens (F.device (files_of self.old)) (F.device (files_of self.new)) self.old self.new number Close (close_answer result) w }
+        ensures event { (w : World) → IsHosting (F.device (files_of self.old)) self.old w
+            → Happens (F.device (files_of self.old)) (F.device (files_of self.new)) self.old self.new number Close (close_answer result) w }
     {
         let Some(conn) = self.conns.by_number.get_mut(&number) else {
             return Err(Refusal::NoSuchConn);

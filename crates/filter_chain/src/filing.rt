@@ -16,7 +16,8 @@ impl<F: Files + Drop> Host<F> {
     /// failed; `NamesSpent`; `NoMemory`.
     pub fn open_file(&mut self, number: u64, name: &[u8]) -> Result<(FileNo, u64), Refusal>
         requires { (w : World) × IsHosting (F.device (files_of self.old)) self.old w }
-        ensures event { (w : World) → IsHosting (F.device (files_of self.old)) self.old w → Happens (F.device (files_of self.old)) (F.device (files_of self.new)) self.old self.new number (OpenFile name.now) (file_answer result) w }
+        ensures event { (w : World) → IsHosting (F.device (files_of self.old)) self.old w
+            → Happens (F.device (files_of self.old)) (F.device (files_of self.new)) self.old self.new number (OpenFile name.now) (file_answer result) w }
     {
         match self.conns.by_number.get_mut(&number) {
             None => Err(Refusal::NoSuchConn),
@@ -33,7 +34,8 @@ impl Host<MemFiles> {
     /// Adds a file. `Taken` is told where there is a file of that name, and `NoMemory` only where there is none. Refused, nothing is
     /// changed.
     pub fn add_file(&mut self, name: &[u8], bytes: Vec<u8>) -> Result<(), AddRefusal>
-        ensures { (w : World) → IsHosting (mem_device (files_of self.old)) self.old w → TriesToAdd (mem_device (files_of self.old)) (mem_device (files_of self.new)) self.old self.new name.now bytes.items result w }
+        ensures { (w : World) → IsHosting (mem_device (files_of self.old)) self.old w
+            → TriesToAdd (mem_device (files_of self.old)) (mem_device (files_of self.new)) self.old self.new name.now bytes.items result w }
     {
         self.files.add(name, bytes)
     }

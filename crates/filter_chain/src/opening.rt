@@ -37,7 +37,8 @@ impl<F: Files + Drop> Host<F> {
     /// is changed: `NamesSpent`; `NoMemory`.
     pub fn open_conn(&mut self) -> Result<u64, Refusal>
         requires { (w : World) × IsHosting (F.device (files_of self.old)) self.old w }
-        ensures event { (w : World) → IsHosting (F.device (files_of self.old)) self.old w → Happens (F.device (files_of self.old)) (F.device (files_of self.new)) self.old self.new 0 Open (open_answer result) w }
+        ensures event { (w : World) → IsHosting (F.device (files_of self.old)) self.old w
+            → Happens (F.device (files_of self.old)) (F.device (files_of self.new)) self.old self.new 0 Open (open_answer result) w }
         ensures files { files_of self.new ≡ files_of self.old }
     {
         if self.lacks_names() {

@@ -17,7 +17,8 @@ impl<F: Files + Drop> Host<F> {
     /// stack in proportion to the depth of the pools.
     pub fn print_pools<W: Write>(&self, out: &mut W) -> Result<(), WriteFault>
         requires { (w : World) × IsHosting (F.device (files_of self.now)) self.now w }
-        ensures { (w : World) → IsHosting (F.device (files_of self.now)) self.now w → OnOk result (Appends (W.contents out.old) (W.contents out.new) (printed payload_text (tree_of w) 0 w.common.root)) }
+        ensures { (w : World) → IsHosting (F.device (files_of self.now)) self.now w
+            → OnOk result (Appends (W.contents out.old) (W.contents out.new) (printed payload_text (tree_of w) 0 w.common.root)) }
     {
         self.tree.print(out)
     }

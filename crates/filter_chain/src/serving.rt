@@ -16,7 +16,8 @@ impl<F: Files + Drop> Host<F> {
     /// `NoSuchConn`; `Broken`; `Busy`; `InRequest`; `NamesSpent`; `NoMemory`.
     pub fn begin(&mut self, number: u64) -> Result<(), Refusal>
         requires { (w : World) × IsHosting (F.device (files_of self.old)) self.old w }
-        ensures event { (w : World) → IsHosting (F.device (files_of self.old)) self.old w → Happens (F.device (files_of self.old)) (F.device (files_of self.new)) self.old self.new number Begin (done_answer (refusal_of result)) w }
+        ensures event { (w : World) → IsHosting (F.device (files_of self.old)) self.old w
+            → Happens (F.device (files_of self.old)) (F.device (files_of self.new)) self.old self.new number Begin (done_answer (refusal_of result)) w }
         ensures files { files_of self.new ≡ files_of self.old }
     {
         let chain = &self.chain;
@@ -30,7 +31,8 @@ impl<F: Files + Drop> Host<F> {
     /// `Broken`; `Busy`; `NotInRequest`; `DataAfterEos`; `NoFile`; `NamesSpent`; `NoMemory`.
     pub fn bring(&mut self, number: u64, pieces: Seq<Piece>) -> Result<(), Refusal>
         requires { (w : World) × IsHosting (F.device (files_of self.old)) self.old w }
-        ensures event { (w : World) → IsHosting (F.device (files_of self.old)) self.old w → Happens (F.device (files_of self.old)) (F.device (files_of self.new)) self.old self.new number (Bring pieces) (done_answer (refusal_of result)) w }
+        ensures event { (w : World) → IsHosting (F.device (files_of self.old)) self.old w
+            → Happens (F.device (files_of self.old)) (F.device (files_of self.new)) self.old self.new number (Bring pieces) (done_answer (refusal_of result)) w }
         ensures files { files_of self.new ≡ files_of self.old }
     {
         let chain = &self.chain;
@@ -43,7 +45,8 @@ impl<F: Files + Drop> Host<F> {
     /// The request ends: its pool is destroyed. Refused, nothing is changed: `NoSuchConn`; `Broken`; `Busy`; `NotInRequest`; `NoMemory`.
     pub fn end_request(&mut self, number: u64) -> Result<(), Refusal>
         requires { (w : World) × IsHosting (F.device (files_of self.old)) self.old w }
-        ensures event { (w : World) → IsHosting (F.device (files_of self.old)) self.old w → Happens (F.device (files_of self.old)) (F.device (files_of self.new)) self.old self.new number End (done_answer (refusal_of result)) w }
+        ensures event { (w : World) → IsHosting (F.device (files_of self.old)) self.old w
+            → Happens (F.device (files_of self.old)) (F.device (files_of self.new)) self.old self.new number End (done_answer (refusal_of result)) w }
     {
         match self.conns.by_number.get_mut(&number) {
             None => Err(Refusal::NoSuchConn),

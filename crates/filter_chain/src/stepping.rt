@@ -16,7 +16,8 @@ impl<F: Files + Drop> Host<F> {
     /// nothing is changed: `NoSuchConn`; `Idle`.
     pub fn step(&mut self, number: u64) -> Result<Stepped, Refusal>
         requires { (w : World) × IsHosting (F.device (files_of self.old)) self.old w }
-        ensures event { (w : World) → IsHosting (F.device (files_of self.old)) self.old w → Happens (F.device (files_of self.old)) (F.device (files_of self.new)) self.old self.new number Step (step_answer result) w }
+        ensures event { (w : World) → IsHosting (F.device (files_of self.old)) self.old w
+            → Happens (F.device (files_of self.old)) (F.device (files_of self.new)) self.old self.new number Step (step_answer result) w }
         ensures safe { IsSafe self.old → GoesWell result }
     {
         let chain = &self.chain;

@@ -28,7 +28,8 @@ impl<F: Files + Drop> Host<F> {
     /// Empties the output, and keeps its room for what comes: what `output` lends is taken. It takes no memory. Refused: `NoSuchConn`.
     pub fn clear_output(&mut self, number: u64) -> Result<(), Refusal>
         requires { (w : World) × IsHosting (F.device (files_of self.old)) self.old w }
-        ensures event { (w : World) → IsHosting (F.device (files_of self.old)) self.old w → Happens (F.device (files_of self.old)) (F.device (files_of self.new)) self.old self.new number TakeOutput (output_answer (output_in (w.conns number))) w }
+        ensures event { (w : World) → IsHosting (F.device (files_of self.old)) self.old w
+            → Happens (F.device (files_of self.old)) (F.device (files_of self.new)) self.old self.new number TakeOutput (output_answer (output_in (w.conns number))) w }
         ensures told { (w : World) → IsHosting (F.device (files_of self.old)) self.old w → refusal_of result ≡ refusal_of (output_in (w.conns number)) }
         ensures files { files_of self.new ≡ files_of self.old }
     {
@@ -45,7 +46,8 @@ impl<F: Files + Drop> Host<F> {
     /// there is one. It takes no memory. Refused: `NoSuchConn`.
     pub fn take_output(&mut self, number: u64) -> Result<Seq<u8>, Refusal>
         requires { (w : World) × IsHosting (F.device (files_of self.old)) self.old w }
-        ensures event { (w : World) → IsHosting (F.device (files_of self.old)) self.old w → Happens (F.device (files_of self.old)) (F.device (files_of self.new)) self.old self.new number TakeOutput (output_answer result) w }
+        ensures event { (w : World) → IsHosting (F.device (files_of self.old)) self.old w
+            → Happens (F.device (files_of self.old)) (F.device (files_of self.new)) self.old self.new number TakeOutput (output_answer result) w }
         ensures files { files_of self.new ≡ files_of self.old }
     {
         match self.conns.by_number.get_mut(&number) {
@@ -65,8 +67,10 @@ impl<F: Files + Drop> Host<F> {
     /// The labels of the connection that ran so far, each with its pool, in a list for each clear that ran any, the oldest first. Refused:
     /// `NoSuchConn`.
     pub fn labels_run(&self, number: u64) -> Result<&[LabelsRun], Refusal>
-        ensures told { IfOk result (λ labels. (w : World) → IsHosting (F.device (files_of self.now)) self.now w → Happens (F.device (files_of self.now)) (F.device (files_of self.now)) self.now self.now number TellLabels (Labels (labels_handed labels.now)) w) }
-        ensures missing { IfErr result (λ why. (w : World) → IsHosting (F.device (files_of self.now)) self.now w → Happens (F.device (files_of self.now)) (F.device (files_of self.now)) self.now self.now number TellLabels (Refused why) w) }
+        ensures told { IfOk result (λ labels. (w : World) → IsHosting (F.device (files_of self.now)) self.now w
+            → Happens (F.device (files_of self.now)) (F.device (files_of self.now)) self.now self.now number TellLabels (Labels (labels_handed labels.now)) w) }
+        ensures missing { IfErr result (λ why. (w : World) → IsHosting (F.device (files_of self.now)) self.now w
+            → Happens (F.device (files_of self.now)) (F.device (files_of self.now)) self.now self.now number TellLabels (Refused why) w) }
     {
         match self.conns.get(number) {
             None => Err(Refusal::NoSuchConn),

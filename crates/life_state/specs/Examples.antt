@@ -18,7 +18,8 @@ use Rattle.life_state.specs.Rules.{Edges, first_need, rule, after_next, after_bd
 abbrev pub identity : Program
 identity =
     program [] [] []
-    (instr.Ret status.Success ∷ (instr.Ret status.Success ∷ (instr.JSent 5 ∷ (instr.Pass 8 7 ∷ (instr.Ret status.Success ∷ (instr.BClean 8 ∷ (instr.Ret status.Success ∷ (instr.Ret status.Fail ∷ []))))))))
+    (instr.Ret status.Success ∷ (instr.Ret status.Success
+    ∷ (instr.JSent 5 ∷ (instr.Pass 8 7 ∷ (instr.Ret status.Success ∷ (instr.BClean 8 ∷ (instr.Ret status.Success ∷ (instr.Ret status.Fail ∷ []))))))))
     1 2
 
 -- between calls: no EOS was passed, or one may have been

@@ -178,7 +178,8 @@ impl State {
     fn put_in(mut self, content: Contents, b: u8, c: u8) -> State
         requires first { c < 9 }
         requires second { b < 9 }
-        ensures { seen result ≡ move_bucket c (In b (classes_of ((seen self).cursors c))) (set_brigade b (holds content (both_homes ((seen self).brigades b).homes (homes_at (seen self) ((seen self).cursors c)))) (seen self)) }
+        ensures { seen result ≡ move_bucket c (In b (classes_of ((seen self).cursors c))) (set_brigade b (holds content (both_homes
+            ((seen self).brigades b).homes (homes_at (seen self) ((seen self).cursors c)))) (seen self)) }
     {
         let cursor = self.cursor(c);
         let homes = self.homes(b).both(&self.homes_at(cursor));

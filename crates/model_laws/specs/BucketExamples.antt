@@ -248,7 +248,8 @@ keeps_loose = record { pools = []; brigades = []; texts = (97 ∷ []) ∷ []; co
 
 -- Runs.
 pub record CursorRuns : Type 0 where
-  pub moved : answers 1000000 moves_on (saving ++ event.Bring (piece.Heap (97 ∷ []) ∷ piece.Eos ∷ []) ∷ three_steps ++ three_steps ++ three_steps ++ three_steps ++ three_steps ++ event.TakeOutput ∷ [])
+  pub moved : answers 1000000 moves_on (saving ++ event.Bring (piece.Heap (97 ∷ []) ∷ piece.Eos ∷ []) ∷ three_steps ++ three_steps ++ three_steps
+      ++ three_steps ++ three_steps ++ event.TakeOutput ∷ [])
       ≡ saving_well ++ Done ∷ went ∷ went ∷ went ∷ went ∷ went ∷ went ∷ went ∷ went ∷ went ∷ went ∷ went ∷ went ∷ went ∷ went ∷ step_ok ∷ Output (97 ∷ []) ∷ []
   -- what is loose at a return goes, and so do the cursors
   pub forgotten : answers 1000000 keeps_loose (event.Open ∷ event.Step ∷ event.Step ∷ event.Begin ∷ event.Step ∷ []) ≡ Connected 1 ∷ went ∷ step_ok ∷ Done ∷ Step (stepped.Fault F3 0 2) ∷ []

@@ -23,5 +23,6 @@ MadePoolsAreOwn = (chain : List Program) (g : Common) (c : Connection) (j q p : 
 
 -- So no brigade of another module goes with an instruction. It keeps its name, pool and mark.
 abbrev pub OthersKeepBrigades : Type 0
-OthersKeepBrigades = (chain : List Program) (g : Common) (c : Connection) (f : Frame) (i : Instr) (k b : ℕ) (v : Brigade) → IsChain chain → ChainSound chain g c → k ≢ f.of → (c.instances k).brigades b ≡ var.Live v
+OthersKeepBrigades = (chain : List Program) (g : Common) (c : Connection) (f : Frame) (i : Instr) (k b : ℕ) (v : Brigade) → IsChain chain
+    → ChainSound chain g c → k ≢ f.of → (c.instances k).brigades b ≡ var.Live v
     → touched_var (configuration g c f) i (var.Live v) ≡ var.Live (record v { items = map (touched_bucket (configuration g c f) i) v.items })

@@ -58,7 +58,8 @@ uses_passed = record {
 abbrev pub FaultInSecond : Type 0
 FaultInSecond = answers_from bare 100 (identity ∷ uses_passed ∷ []) (new_world 1)
     ((1, event.Open) ∷ (stepping 3 1 ++ ((1, event.Begin) ∷ (stepping 2 1 ++ (brings 1 ++ (stepping 7 1 ++ ((1, event.TakeOutput) ∷ (stepping 1 1))))))))
-    ≡ Connected 1 ∷ (wents 2 ++ (ended ++ (Done ∷ (wents 1 ++ (ended ++ (Done ∷ (wents 6 ++ (Step (stepped.Fault fault_kind.F7 1 7) ∷ (Output [] ∷ (Refused (refusal.Broken cause.Faulted) ∷ []))))))))))
+    ≡ Connected 1 ∷ (wents 2 ++ (ended
+    ++ (Done ∷ (wents 1 ++ (ended ++ (Done ∷ (wents 6 ++ (Step (stepped.Fault fault_kind.F7 1 7) ∷ (Output [] ∷ (Refused (refusal.Broken cause.Faulted) ∷ []))))))))))
 
 -- One of two connections is closed in the middle of a call. The other goes on.
 abbrev pub InterleavedClose : Type 0
@@ -66,7 +67,10 @@ InterleavedClose = answers_from bare 100 (identity ∷ []) (new_world 1)
     ((1, event.Open) ∷ (1, event.Step) ∷ (2, event.Open) ∷ (2, event.Step) ∷ (1, event.Begin) ∷ (1, event.Step) ∷ (2, event.Begin) ∷ (2, event.Step)
     ∷ (1, event.Bring (piece.Heap (120 ∷ []) ∷ piece.Eos ∷ [])) ∷ (2, event.Bring (piece.Heap (121 ∷ []) ∷ piece.Eos ∷ []))
     ∷ (1, event.Step) ∷ (2, event.Step) ∷ (1, event.Close) ∷ (1, event.Step) ∷ (2, event.Step) ∷ (2, event.Step) ∷ (2, event.TakeOutput) ∷ [])
-    ≡ Connected 1 ∷ (ended ++ (Connected 2 ∷ (ended ++ (Done ∷ (ended ++ (Done ∷ (ended ++ (Done ∷ Done ∷ Step stepped.Went ∷ Step stepped.Went ∷ Labels [] ∷ Refused refusal.NoSuchConn ∷ Step stepped.Went ∷ Step (stepped.CallEnded Success) ∷ Output (121 ∷ []) ∷ []))))))))
+    ≡ Connected 1 ∷ (ended ++ (Connected 2
+    ∷ (ended ++ (Done ∷ (ended ++ (Done
+    ∷ (ended ++ (Done ∷ Done ∷ Step stepped.Went ∷ Step stepped.Went ∷ Labels [] ∷ Refused refusal.NoSuchConn ∷ Step stepped.Went
+    ∷ Step (stepped.CallEnded Success) ∷ Output (121 ∷ []) ∷ []))))))))
 
 -- The budget is met by one connection and not by the other: its count is its own.
 abbrev pub BudgetIsItsOwn : Type 0
@@ -108,7 +112,8 @@ clears_its_pool = record {
   texts = [];
   init = 3;
   main = 4;
-  code = instr.PCreate 0 ∷ instr.BCreate 0 ∷ instr.Ret Success ∷ instr.Ret Success ∷ instr.ClearBuf ∷ instr.PoolB 0 (pool.Own 0) ∷ instr.Tail 0 0 ∷ instr.Pass 0 8 ∷ instr.PClear 0 ∷ instr.Ret Success ∷ [];
+  code = instr.PCreate 0 ∷ instr.BCreate 0 ∷ instr.Ret Success ∷ instr.Ret Success ∷ instr.ClearBuf ∷ instr.PoolB 0 (pool.Own 0) ∷ instr.Tail 0 0
+      ∷ instr.Pass 0 8 ∷ instr.PClear 0 ∷ instr.Ret Success ∷ [];
 }
 
 -- `brigade b0 conn`; open: `bcreate b0` `ret ok`; main: `bconcat b0 in` `ret ok`: it keeps what comes

@@ -58,14 +58,16 @@ RisingKeepsSound = (chain : List Program) (g new : Common) (c : Connection) → 
 
 -- Each event keeps each connection sound, and so each whole run leads to a sound one.
 abbrev pub EventKeepsWorld : Type 0
-EventKeepsWorld = (memory : Bool) (budget : ℕ) (chain : List Program) (told : Told) (k : ℕ) (e : Event) (w : World) → IsChain chain → WorldSound chain w → WorldSound chain (happens memory budget chain told k e w).1
+EventKeepsWorld = (memory : Bool) (budget : ℕ) (chain : List Program) (told : Told) (k : ℕ) (e : Event) (w : World) → IsChain chain → WorldSound chain w
+    → WorldSound chain (happens memory budget chain told k e w).1
 
 abbrev pub RunKeepsWorld : Type 0
 RunKeepsWorld = (budget : ℕ) (chain : List Program) (es : List (ℕ × Event)) (answers : List Answer) (w : World) → IsChain chain → IsWholeRun budget chain es answers w → WorldSound chain w
 
 -- An event of one connection leaves every other exactly as it was.
 abbrev pub OthersStay : Type 0
-OthersStay = (memory : Bool) (budget : ℕ) (chain : List Program) (told : Told) (k j : ℕ) (e : Event) (w : World) → e ≢ event.Open → j ≢ k → (happens memory budget chain told k e w).1.conns j ≡ w.conns j
+OthersStay = (memory : Bool) (budget : ℕ) (chain : List Program) (told : Told) (k j : ℕ) (e : Event) (w : World) → e ≢ event.Open → j ≢ k
+    → (happens memory budget chain told k e w).1.conns j ≡ w.conns j
 
 -- An opening leaves all that were there, but that of the number which it gives out.
 abbrev pub OpeningStays : Type 0

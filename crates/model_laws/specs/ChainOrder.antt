@@ -22,7 +22,8 @@ WorldOrder budget w = (k : ℕ) (c : Connection) → w.conns k ≡ Some c → Ch
 
 -- Each event keeps it, and so it is true of each world that a run reaches.
 abbrev pub EventKeepsWorldOrder : Type 0
-EventKeepsWorldOrder = (memory : Bool) (budget : ℕ) (chain : List Program) (told : Told) (k : ℕ) (e : Event) (w : World) → IsChain chain → WorldOrder budget w → WorldOrder budget (happens memory budget chain told k e w).1
+EventKeepsWorldOrder = (memory : Bool) (budget : ℕ) (chain : List Program) (told : Told) (k : ℕ) (e : Event) (w : World) → IsChain chain
+    → WorldOrder budget w → WorldOrder budget (happens memory budget chain told k e w).1
 
 abbrev pub RunKeepsWorldOrder : Type 0
 RunKeepsWorldOrder = (budget : ℕ) (chain : List Program) (es : List (ℕ × Event)) (answers : List Answer) (w : World) → IsChain chain → IsWholeRun budget chain es answers w → WorldOrder budget w

@@ -57,11 +57,13 @@ IsRunOfBytes budget chain old (e ∷ es) [] new = ⊥
 
 -- it is a run
 abbrev pub RunsOfBytesAreRuns : Type 0
-RunsOfBytesAreRuns = (budget : ℕ) (chain : List Program) (es : List (ℕ × Event)) (answers : List Answer) (old new : World) → IsRunOfBytes budget chain old es answers new → IsRun budget chain old es answers new
+RunsOfBytesAreRuns = (budget : ℕ) (chain : List Program) (es : List (ℕ × Event)) (answers : List Answer) (old new : World)
+    → IsRunOfBytes budget chain old es answers new → IsRun budget chain old es answers new
 
 -- So it is true of each world that such a run reaches.
 abbrev pub RunIsInRangeWorld : Type 0
-RunIsInRangeWorld = (first budget : ℕ) (chain : List Program) (es : List (ℕ × Event)) (answers : List Answer) (w : World) → IsChain chain → IsRunOfBytes budget chain (new_world first) es answers w → WorldInRange w
+RunIsInRangeWorld = (first budget : ℕ) (chain : List Program) (es : List (ℕ × Event)) (answers : List Answer) (w : World) → IsChain chain
+    → IsRunOfBytes budget chain (new_world first) es answers w → WorldInRange w
 
 -- Ranges.
 

@@ -61,7 +61,8 @@ JoinedIsPoolMap = (root : ℕ) (c : Connection) (ps : Pools Payload) → MayJoin
 
 -- In a world that is reached each connection's part is joined to those before it.
 abbrev pub ReachedPartsJoin : Type 0
-ReachedPartsJoin = (budget : ℕ) (chain : List Program) (w : World) (k : ℕ) (c : Connection) → IsChain chain → IsReached budget chain w → w.conns (suc k) ≡ Some c → MayJoin w.common.root c (tree_up_to k w)
+ReachedPartsJoin = (budget : ℕ) (chain : List Program) (w : World) (k : ℕ) (c : Connection) → IsChain chain → IsReached budget chain w
+    → w.conns (suc k) ≡ Some c → MayJoin w.common.root c (tree_up_to k w)
 
 -- So in a world that is reached each connection has its part of the tree, and each pool but the root is one of a connection's.
 abbrev pub ReachedTreeIsOfAll : Type 0

@@ -121,7 +121,8 @@ SplitsInOrder = (p : Program) (choice : Choice) (c : ℕ) (n : Value) (l b : ℕ
 
 -- One that is refused jumps, and changes nothing.
 abbrev pub RefusedSplitJumps : Type 0
-RefusedSplitJumps = (p : Program) (choice : Choice) (c : ℕ) (n : Value) (l b : ℕ) (x : NamedBucket) (k : SplitRefusal) (r : Configuration) → spot r c ≡ Within b x → split_refusal (value_of r n) x ≡ Some k
+RefusedSplitJumps = (p : Program) (choice : Choice) (c : ℕ) (n : Value) (l b : ℕ) (x : NamedBucket) (k : SplitRefusal) (r : Configuration)
+    → spot r c ≡ Within b x → split_refusal (value_of r n) x ≡ Some k
     → step p choice (instr.Split c n l) r ≡ record { exit = Jump; state = r }
 
 -- A split of the brigade of b (apr_brigade_split_ex): what stood before the cursor c stays in b, and what stood from there

@@ -108,7 +108,15 @@ passes_on = with_main (instr.Pass 8 4 ∷ instr.Ret Success ∷ instr.Ret Fail �
 
 -- `brigade b0 req`; init: `bcreate b0`, `ret ok`; main: `bconcat b0 in`, `pass b0 bad`, `:bad` `bclean b0`, `ret ok`
 abbrev pub gathers : Program
-gathers = record { pools = []; brigades = pool.Req ∷ []; texts = []; code = instr.Ret Success ∷ instr.BCreate 0 ∷ instr.Ret Success ∷ instr.BConcat 0 8 ∷ instr.Pass 0 5 ∷ instr.BClean 0 ∷ instr.Ret Success ∷ []; init = 1; main = 3 }
+gathers = record {
+  pools = [];
+  brigades = pool.Req ∷ [];
+  texts = [];
+  code = instr.Ret Success ∷ instr.BCreate 0 ∷ instr.Ret Success ∷ instr.BConcat 0 8
+      ∷ instr.Pass 0 5 ∷ instr.BClean 0 ∷ instr.Ret Success ∷ [];
+  init = 1;
+  main = 3;
+}
 
 -- `brigade b0 conn`; init: `bcreate b0`, `ret ok`; main: `ret ok`
 abbrev pub creates_each_time : Program
@@ -116,7 +124,15 @@ creates_each_time = record { pools = []; brigades = pool.Conn ∷ []; texts = []
 
 -- `pool p0 conn`, `brigade b0 p0`; init: `bcreate b0`, `ret ok`; main: `bclean b0`, `ret ok`
 abbrev pub lacks_its_pool : Program
-lacks_its_pool = record { pools = pool.Conn ∷ []; brigades = pool.Own 0 ∷ []; texts = []; code = instr.Ret Success ∷ instr.BCreate 0 ∷ instr.Ret Success ∷ instr.BClean 0 ∷ instr.Ret Success ∷ []; init = 1; main = 3 }
+lacks_its_pool = record {
+  pools = pool.Conn ∷ [];
+  brigades = pool.Own 0 ∷ [];
+  texts = [];
+  code = instr.Ret Success ∷ instr.BCreate 0 ∷ instr.Ret Success
+      ∷ instr.BClean 0 ∷ instr.Ret Success ∷ [];
+  init = 1;
+  main = 3;
+}
 
 -- `brigade b0 conn`; main: `bclean b0`, `ret ok`
 abbrev pub never_creates : Program
@@ -156,7 +172,14 @@ just_opened p = world_after p (event.Open ∷ [])
 
 -- a module with these variables and texts whose `open` is this, and whose `init` and `main` succeed at once
 abbrev pub with_open : List PoolRef → List PoolRef → List (List ℕ) → List Instr → Program
-with_open pools brigades texts first = record { pools = pools; brigades = brigades; texts = texts; code = first ++ instr.Ret Success ∷ instr.Ret Success ∷ []; init = length first; main = length first + 1 }
+with_open pools brigades texts first = record {
+  pools = pools;
+  brigades = brigades;
+  texts = texts;
+  code = first ++ instr.Ret Success ∷ instr.Ret Success ∷ [];
+  init = length first;
+  main = length first + 1;
+}
 
 -- `pool p0 conn`, `pool p1 p0`; open: `pcreate p0`, `label p0 "1"`, `label p0 "2"`, `pcreate p1`, `label p1 "3"`,
 -- `pclear p0`, `ret ok`
@@ -204,7 +227,15 @@ keeper = gathers_by (instr.BConcat 0 8)
 
 -- `brigade b0 conn`; open: `bcreate b0`, `ret ok`; init: `ret ok`; main: `bconcat b0 in`, `pass b0 bad`, `:bad` `ret ok`
 abbrev pub never_cleans : Program
-never_cleans = record { pools = []; brigades = pool.Conn ∷ []; texts = []; code = instr.BCreate 0 ∷ instr.Ret Success ∷ instr.Ret Success ∷ instr.BConcat 0 8 ∷ instr.Pass 0 5 ∷ instr.Ret Success ∷ []; init = 2; main = 3 }
+never_cleans = record {
+  pools = [];
+  brigades = pool.Conn ∷ [];
+  texts = [];
+  code = instr.BCreate 0 ∷ instr.Ret Success ∷ instr.Ret Success ∷ instr.BConcat 0 8
+      ∷ instr.Pass 0 5 ∷ instr.Ret Success ∷ [];
+  init = 2;
+  main = 3;
+}
 
 abbrev pub saving : List Event
 saving = event.Open ∷ event.Step ∷ event.Step ∷ event.Begin ∷ event.Step ∷ []
@@ -249,7 +280,9 @@ pub record PassRuns : Type 0 where
   pub next_request : answers 1000000 identity (beginning ++ a_last_heap (97 ∷ []) ∷ three_steps ++ event.End ∷ event.Begin ∷ event.Step ∷ a_heap (98 ∷ []) ∷ three_steps ++ event.TakeOutput ∷ [])
       ≡ begun_well ++ Done ∷ went ∷ went ∷ step_ok ∷ Done ∷ Done ∷ step_ok ∷ Done ∷ went ∷ went ∷ step_ok ∷ Output (97 ∷ 98 ∷ []) ∷ []
   -- a brigade on the request's pool goes with it, and may be made again
-  pub gathered : answers 1000000 gathers (event.Open ∷ (event.Step ∷ event.Begin ∷ event.Step ∷ event.Step ∷ a_heap (97 ∷ []) ∷ three_steps ++ event.Step ∷ event.End ∷ event.Begin ∷ event.Step ∷ event.Step ∷ event.TakeOutput ∷ []))
+  pub gathered : answers 1000000 gathers (event.Open
+      ∷ (event.Step ∷ event.Begin ∷ event.Step ∷ event.Step ∷ a_heap (97 ∷ []) ∷ three_steps ++ event.Step ∷ event.End ∷ event.Begin ∷ event.Step
+      ∷ event.Step ∷ event.TakeOutput ∷ []))
       ≡ Connected 1 ∷ step_ok ∷ Done ∷ went ∷ step_ok ∷ Done ∷ went ∷ went ∷ went ∷ step_ok ∷ Done ∷ Done ∷ went ∷ step_ok ∷ Output (97 ∷ []) ∷ []
 
 -- what the first pool that the module made, of name 3, holds after so many steps of `open`
@@ -260,9 +293,11 @@ held_after steps p = (tree_of (world_after p (event.Open ∷ replicate steps eve
 pub record PoolRuns : Type 0 where
   -- subpools first, last in first out
   pub order : answers 1000000 cleans_up (opening 7 (event.TellLabels ∷ event.Close ∷ event.TellLabels ∷ []))
-      ≡ Connected 1 ∷ went ∷ went ∷ went ∷ went ∷ went ∷ went ∷ step_ok ∷ Labels ((51 ∷ []) ∷ (50 ∷ []) ∷ (49 ∷ []) ∷ []) ∷ Labels ((51 ∷ []) ∷ (50 ∷ []) ∷ (49 ∷ []) ∷ []) ∷ Refused refusal.NoSuchConn ∷ []
+      ≡ Connected 1 ∷ went ∷ went ∷ went ∷ went ∷ went ∷ went ∷ step_ok ∷ Labels ((51 ∷ []) ∷ (50 ∷ []) ∷ (49 ∷ []) ∷ [])
+      ∷ Labels ((51 ∷ []) ∷ (50 ∷ []) ∷ (49 ∷ []) ∷ []) ∷ Refused refusal.NoSuchConn ∷ []
   -- of two equal labels the newer one is killed; what is left runs at the close
-  pub killed : answers 1000000 (one_pool (instr.PCreate 0 ∷ instr.Label (pool.Own 0) 0 ∷ instr.Label pool.Conn 1 ∷ instr.Label (pool.Own 0) 1 ∷ instr.Label (pool.Own 0) 0 ∷ instr.Unlabel (pool.Own 0) 0 ∷ []))
+  pub killed : answers 1000000 (one_pool (instr.PCreate 0 ∷ instr.Label (pool.Own 0) 0 ∷ instr.Label pool.Conn 1 ∷ instr.Label (pool.Own 0) 1
+      ∷ instr.Label (pool.Own 0) 0 ∷ instr.Unlabel (pool.Own 0) 0 ∷ []))
       (opening 7 (event.TellLabels ∷ event.Close ∷ [])) ≡ Connected 1 ∷ went ∷ went ∷ went ∷ went ∷ went ∷ went ∷ step_ok ∷ Labels [] ∷ Labels ((98 ∷ []) ∷ (97 ∷ []) ∷ (98 ∷ []) ∷ []) ∷ []
   -- a label that was not registered last is killed too
   pub killed_below : answers 1000000 (one_pool (instr.PCreate 0 ∷ instr.Label (pool.Own 0) 0 ∷ instr.Label (pool.Own 0) 1 ∷ instr.Unlabel (pool.Own 0) 0 ∷ instr.PClear 0 ∷ []))
@@ -278,7 +313,8 @@ pub record PoolRuns : Type 0 where
   pub over_live : answers 1000000 (one_pool (instr.PCreate 0 ∷ instr.PCreate 0 ∷ [])) (opening 2 (event.TellLabels ∷ event.Begin ∷ event.Close ∷ []))
       ≡ Connected 1 ∷ went ∷ Step (stepped.Fault fault_kind.F10 0 1) ∷ Labels [] ∷ broken_by cause.Faulted ∷ Labels [] ∷ []
   -- a dead variable is not null
-  pub nulls : answers 1000000 (one_pool (instr.JNull (varref.Pool 0) 2 ∷ instr.PClear 0 ∷ instr.PCreate 0 ∷ instr.PDestroy 0 ∷ instr.JNull (varref.Pool 0) 1 ∷ instr.JNull (varref.Brigade 0) 7 ∷ instr.PClear 0 ∷ []))
+  pub nulls : answers 1000000 (one_pool (instr.JNull (varref.Pool 0) 2 ∷ instr.PClear 0 ∷ instr.PCreate 0 ∷ instr.PDestroy 0 ∷ instr.JNull (varref.Pool 0) 1
+      ∷ instr.JNull (varref.Brigade 0) 7 ∷ instr.PClear 0 ∷ []))
       (opening 6 []) ≡ Connected 1 ∷ went ∷ went ∷ went ∷ went ∷ went ∷ step_ok ∷ []
   pub pool_names : (happening true (one_pool (instr.PCreate 0 ∷ [])) event.Step (with_names (2 ^ 64 - 1) 4 (just_opened (one_pool (instr.PCreate 0 ∷ []))))).0 ≡ broken_by cause.NamesSpent
   pub last_pool_name : (happening true (one_pool (instr.PCreate 0 ∷ [])) event.Step (with_names (2 ^ 64 - 2) 4 (just_opened (one_pool (instr.PCreate 0 ∷ []))))).0 ≡ went
@@ -298,7 +334,8 @@ pub record KindRuns : Type 0 where
   pub kept : answers 1000000 keeper (saving ++ event.Bring (piece.Transient (97 ∷ []) ∷ []) ∷ three_steps)
       ≡ saving_well ++ Done ∷ went ∷ went ∷ Step (stepped.Fault fault_kind.F6 0 5) ∷ []
   -- a file that is saved outlasts its request
-  pub file_saved : answers_with (one_file (120 ∷ 121 ∷ 122 ∷ []) (λ k. Some (121 ∷ 122 ∷ []))) saver (event.AddFile (102 ∷ []) (120 ∷ 121 ∷ 122 ∷ []) ∷ saving ++ event.OpenFile (102 ∷ []) ∷ event.Bring (piece.File 1 1 2 ∷ []) ∷ three_steps
+  pub file_saved : answers_with (one_file (120 ∷ 121 ∷ 122 ∷ []) (λ k. Some (121 ∷ 122 ∷ []))) saver (event.AddFile (102 ∷ []) (120 ∷ 121 ∷ 122 ∷ [])
+      ∷ saving ++ event.OpenFile (102 ∷ []) ∷ event.Bring (piece.File 1 1 2 ∷ []) ∷ three_steps
       ++ event.End ∷ event.Begin ∷ event.Step ∷ event.Bring [] ∷ three_steps ++ event.Step ∷ event.TakeOutput ∷ [])
       ≡ Done ∷ saving_well ++ Opened 1 3 ∷ Done ∷ went ∷ went ∷ step_ok ∷ Done ∷ Done ∷ step_ok ∷ Done ∷ went ∷ went ∷ went ∷ step_ok ∷ Output (121 ∷ 122 ∷ []) ∷ []
   -- and one that is only kept does not
@@ -306,19 +343,24 @@ pub record KindRuns : Type 0 where
       ++ event.End ∷ event.Begin ∷ event.Step ∷ event.Bring [] ∷ event.Step ∷ event.Step ∷ [])
       ≡ Done ∷ saving_well ++ Opened 1 1 ∷ Done ∷ went ∷ went ∷ step_ok ∷ Done ∷ Done ∷ step_ok ∷ Done ∷ went ∷ Step (stepped.Fault fault_kind.F5 0 6) ∷ []
   -- bytes in the request's pool are kept when it goes
-  pub pool_bytes : answers 1000000 keeper (saving ++ event.Bring (piece.Pool (97 ∷ []) ∷ []) ∷ three_steps ++ event.End ∷ event.Begin ∷ event.Step ∷ event.Bring [] ∷ three_steps ++ event.Step ∷ event.TakeOutput ∷ [])
+  pub pool_bytes : answers 1000000 keeper (saving ++ event.Bring (piece.Pool (97 ∷ []) ∷ []) ∷ three_steps ++ event.End ∷ event.Begin ∷ event.Step
+      ∷ event.Bring [] ∷ three_steps ++ event.Step ∷ event.TakeOutput ∷ [])
       ≡ saving_well ++ Done ∷ went ∷ went ∷ step_ok ∷ Done ∷ Done ∷ step_ok ∷ Done ∷ went ∷ went ∷ went ∷ step_ok ∷ Output (97 ∷ []) ∷ []
   pub metadata : answers 1000000 identity (beginning ++ event.Bring (piece.Flush ∷ piece.Immortal (97 ∷ []) ∷ piece.Eos ∷ piece.Flush ∷ []) ∷ three_steps ++ event.TakeOutput ∷ [])
       ≡ begun_well ++ Done ∷ went ∷ went ∷ step_ok ∷ Output (97 ∷ []) ∷ []
   -- the first of the reads fails: the pass answers Fail, and an EOS counts
   pub read_fails : answers_with (one_file (120 ∷ []) first_unread) identity
-      (beginning ++ event.OpenFile (102 ∷ []) ∷ event.Bring (piece.Heap (97 ∷ []) ∷ piece.File 1 0 1 ∷ piece.Heap (98 ∷ []) ∷ piece.Eos ∷ []) ∷ three_steps ++ event.TakeOutput ∷ event.Bring [] ∷ three_steps)
+      (beginning ++ event.OpenFile (102 ∷ []) ∷ event.Bring (piece.Heap (97 ∷ []) ∷ piece.File 1 0 1 ∷ piece.Heap (98 ∷ []) ∷ piece.Eos ∷ []) ∷ three_steps
+      ++ event.TakeOutput ∷ event.Bring [] ∷ three_steps)
       ≡ begun_well ++ Opened 1 1 ∷ Done ∷ went ∷ went ∷ Step (stepped.CallEnded Fail) ∷ Output (97 ∷ []) ∷ Done ∷ went ∷ went ∷ step_ok ∷ []
-  pub no_file : answers_with (one_file (120 ∷ []) unread) identity (event.AddFile (102 ∷ []) (120 ∷ []) ∷ event.Open ∷ event.Step ∷ event.OpenFile (102 ∷ []) ∷ event.Begin ∷ event.OpenFile (102 ∷ []) ∷ event.Step ∷ event.OpenFile (103 ∷ [])
+  pub no_file : answers_with (one_file (120 ∷ []) unread) identity (event.AddFile (102 ∷ []) (120 ∷ []) ∷ event.Open ∷ event.Step ∷ event.OpenFile (102 ∷ [])
+      ∷ event.Begin ∷ event.OpenFile (102 ∷ []) ∷ event.Step ∷ event.OpenFile (103 ∷ [])
       ∷ event.OpenFile (102 ∷ []) ∷ event.Bring (piece.File 1 0 2 ∷ []) ∷ event.Bring (piece.File 2 0 0 ∷ []) ∷ event.Bring (piece.File 1 1 0 ∷ []) ∷ [])
-      ≡ Done ∷ Connected 1 ∷ step_ok ∷ Refused refusal.NotInRequest ∷ Done ∷ Refused refusal.Busy ∷ step_ok ∷ Refused refusal.NoFile ∷ Opened 1 1 ∷ Refused refusal.NoFile ∷ Refused refusal.NoFile ∷ Done ∷ []
+      ≡ Done ∷ Connected 1 ∷ step_ok ∷ Refused refusal.NotInRequest ∷ Done ∷ Refused refusal.Busy ∷ step_ok ∷ Refused refusal.NoFile ∷ Opened 1 1
+      ∷ Refused refusal.NoFile ∷ Refused refusal.NoFile ∷ Done ∷ []
   -- a file of the last request is not open in this one
-  pub next_request : answers_with (one_file (120 ∷ []) unread) identity (event.AddFile (102 ∷ []) (120 ∷ []) ∷ beginning ++ event.OpenFile (102 ∷ []) ∷ event.End ∷ event.Begin ∷ event.Step ∷ event.Bring (piece.File 1 0 1 ∷ []) ∷ event.OpenFile (102 ∷ []) ∷ [])
+  pub next_request : answers_with (one_file (120 ∷ []) unread) identity (event.AddFile (102 ∷ []) (120 ∷ []) ∷ beginning ++ event.OpenFile (102 ∷ [])
+      ∷ event.End ∷ event.Begin ∷ event.Step ∷ event.Bring (piece.File 1 0 1 ∷ []) ∷ event.OpenFile (102 ∷ []) ∷ [])
       ≡ Done ∷ begun_well ++ Opened 1 1 ∷ Done ∷ Done ∷ step_ok ∷ Refused refusal.NoFile ∷ Opened 2 1 ∷ []
   -- numbers stop at 0 and at 4294967295, and only a byte is put into the buffer
   pub numbers : answers 1000000 counts (opening 8 []) ≡ Connected 1 ∷ went ∷ went ∷ went ∷ went ∷ went ∷ went ∷ went ∷ step_ok ∷ []
@@ -335,7 +377,8 @@ pub record PoolEnds : Type 0 where
   pub other_pool : answers 1000000 (one_pool (instr.PCreate 0 ∷ instr.Label pool.Conn 0 ∷ instr.Unlabel (pool.Own 0) 0 ∷ instr.Unlabel pool.Conn 1 ∷ [])) (opening 5 (event.Close ∷ []))
       ≡ Connected 1 ∷ went ∷ went ∷ went ∷ went ∷ step_ok ∷ Labels ((97 ∷ []) ∷ []) ∷ []
   -- the labels of a request's pools run where it ends
-  pub request_labels : answers 1000000 (request_pools (instr.Label pool.Req 0 ∷ [])) (event.Open ∷ event.Step ∷ event.Begin ∷ event.Step ∷ event.Step ∷ event.TellLabels ∷ event.End ∷ event.TellLabels ∷ event.Close ∷ [])
+  pub request_labels : answers 1000000 (request_pools (instr.Label pool.Req 0 ∷ [])) (event.Open ∷ event.Step ∷ event.Begin ∷ event.Step ∷ event.Step
+      ∷ event.TellLabels ∷ event.End ∷ event.TellLabels ∷ event.Close ∷ [])
       ≡ Connected 1 ∷ step_ok ∷ Done ∷ went ∷ step_ok ∷ Labels [] ∷ Done ∷ Labels ((97 ∷ []) ∷ []) ∷ Labels ((97 ∷ []) ∷ []) ∷ []
   -- they and their brigades may be made again in the next request
   pub next_request : answers 1000000 (request_pools (instr.PCreate 0 ∷ instr.PCreate 1 ∷ instr.BCreate 0 ∷ []))
@@ -375,7 +418,8 @@ pub record BreakRuns : Type 0 where
   pub three_are_enough : answers 3 identity (beginning ++ event.Bring [] ∷ three_steps)
       ≡ begun_well ++ Done ∷ went ∷ went ∷ step_ok ∷ []
   pub two_are_not : answers 2 identity (beginning ++ a_last_heap (97 ∷ 98 ∷ []) ∷ three_steps ++ event.Step ∷ event.End ∷ event.Begin ∷ event.Bring [] ∷ event.TakeOutput ∷ [])
-      ≡ begun_well ++ Done ∷ went ∷ went ∷ broken_by cause.OutOfSteps ∷ broken_by cause.OutOfSteps ∷ broken_by cause.OutOfSteps ∷ broken_by cause.OutOfSteps ∷ broken_by cause.OutOfSteps ∷ Output (97 ∷ 98 ∷ []) ∷ []
+      ≡ begun_well ++ Done ∷ went ∷ went ∷ broken_by cause.OutOfSteps ∷ broken_by cause.OutOfSteps ∷ broken_by cause.OutOfSteps ∷ broken_by cause.OutOfSteps
+      ∷ broken_by cause.OutOfSteps ∷ Output (97 ∷ 98 ∷ []) ∷ []
   pub none : answers 0 identity (event.Open ∷ event.Step ∷ []) ≡ Connected 1 ∷ broken_by cause.OutOfSteps ∷ []
   pub for_ever : answers 2 loops (beginning ++ event.Bring [] ∷ three_steps) ≡ begun_well ++ Done ∷ went ∷ went ∷ broken_by cause.OutOfSteps ∷ []
   -- a brigade wants memory, a return wants none
@@ -475,5 +519,6 @@ pub record HeldChanges : Type 0 where
   pub returned : items_of ((do_return (holding 0 Usable (a_bucket kind.Transient (home.Call 1) ∷ a_bucket kind.Transient (home.Call 9) ∷ a_bucket kind.File (home.Pool 3) ∷ []))).instance.brigades 0)
       ≡ a_bucket kind.Transient home.Ended ∷ a_bucket kind.Transient (home.Call 9) ∷ a_bucket kind.File (home.Pool 3) ∷ []
   pub in_goes : (do_return (holding 8 Usable (a_bucket kind.Heap home.Free ∷ []))).instance.brigades 8 ≡ var.Null
-  pub request_ended : items_of (((request_over 3 (between_calls (in_request (a_bucket kind.File (home.Pool 3) ∷ a_bucket kind.File (home.Pool 2) ∷ a_bucket (kind.Pool 3) home.Free ∷ a_bucket (kind.Pool 2) home.Free ∷ [])))).1.instances 0).brigades 0)
+  pub request_ended : items_of (((request_over 3 (between_calls (in_request (a_bucket kind.File (home.Pool 3) ∷ a_bucket kind.File (home.Pool 2)
+      ∷ a_bucket (kind.Pool 3) home.Free ∷ a_bucket (kind.Pool 2) home.Free ∷ [])))).1.instances 0).brigades 0)
       ≡ a_bucket kind.File home.Ended ∷ a_bucket kind.File (home.Pool 2) ∷ a_bucket kind.Heap home.Free ∷ a_bucket (kind.Pool 2) home.Free ∷ []

@@ -25,7 +25,8 @@ new_call g k pc = record { of = k; call = fresh_call g.next; pc = pc }
 -- An opening begins a call of the first module at `open`, a request at `init`, and a brigade at `main`; no other call is there.
 abbrev pub CallsBegin : Type 0
 CallsBegin = (chain : List Program) (pieces : List Piece) (req : ℕ) (g : Common) (c : Connection)
-    → ((opened chain g).1.stack ≡ new_call g 0 0 ∷ []) × ((begun chain (g, c)).1.stack ≡ new_call g 0 (module_at chain 0).init ∷ []) × ((brought_in chain pieces req (g, c)).1.stack ≡ new_call g 0 (module_at chain 0).main ∷ [])
+    → ((opened chain g).1.stack ≡ new_call g 0 0 ∷ []) × ((begun chain (g, c)).1.stack ≡ new_call g 0 (module_at chain 0).init ∷ [])
+    × ((brought_in chain pieces req (g, c)).1.stack ≡ new_call g 0 (module_at chain 0).main ∷ [])
 
 -- A call goes on: it is the same one, and stands in the handler in which it stood.
 pub record GoesOnIn (chain : List Program) (old new : Frame) : Type 0 where

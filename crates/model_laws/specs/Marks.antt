@@ -94,7 +94,8 @@ PassedIsNotUsed = (p : Program) (b : ℕ) (r : Configuration) (i : Instr) → us
 
 -- So after a pass no instruction that uses the brigade goes on.
 abbrev pub UseAfterPassFaults : Type 0
-UseAfterPassFaults = (p : Program) (choice : Choice) (b l : ℕ) (r : Configuration) (i : Instr) → uses p (step p choice (instr.Pass b l) r).state i b ≡ true → fault p (step p choice (instr.Pass b l) r).state i ≡ None → ⊥
+UseAfterPassFaults = (p : Program) (choice : Choice) (b l : ℕ) (r : Configuration) (i : Instr) → uses p (step p choice (instr.Pass b l) r).state i b ≡ true
+    → fault p (step p choice (instr.Pass b l) r).state i ≡ None → ⊥
 
 -- whether an instruction lets go of a passed brigade: a clean of it, and of `in` a return
 abbrev pub lets_go : Instr → ℕ → Bool

@@ -69,7 +69,8 @@ ChangesSpareTheRoot = (change : Change) (c p : ℕ) (ps : Pools Payload) (h : Ha
 
 -- A pool that is made under the root, on which nothing is registered, is a part of its own: that of an only connection.
 abbrev pub NewPartIsPlanted : Type 0
-NewPartIsPlanted = (root : ℕ) (ps : Pools Payload) → IsPoolMap ps → ps.path root ≡ root ∷ [] → ps.payloads root ≡ [] → part ps.next (created root ps) ≡ created root (record (planted root) { next = ps.next })
+NewPartIsPlanted = (root : ℕ) (ps : Pools Payload) → IsPoolMap ps → ps.path root ≡ root ∷ [] → ps.payloads root ≡ []
+    → part ps.next (created root ps) ≡ created root (record (planted root) { next = ps.next })
 
 -- Of other parts it changes the next name alone.
 abbrev pub NewPartSparesOthers : Type 0

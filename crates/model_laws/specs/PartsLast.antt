@@ -35,7 +35,8 @@ PartsLast = (change : Change) (c d p : ℕ) (ps : Pools Payload) → HasPart ps 
 
 -- A name that was given out and stands under d, where it is live, does so afterwards.
 abbrev pub OldPoolsLast : Type 0
-OldPoolsLast = (change : Change) (d p n : ℕ) (ps : Pools Payload) → n < ps.next → (is_live ps n ≡ true → is_under ps d n ≡ true) → is_live (changed change p ps) n ≡ true → is_under (changed change p ps) d n ≡ true
+OldPoolsLast = (change : Change) (d p n : ℕ) (ps : Pools Payload) → n < ps.next → (is_live ps n ≡ true → is_under ps d n ≡ true)
+    → is_live (changed change p ps) n ≡ true → is_under (changed change p ps) d n ≡ true
 
 -- a reference that is registered is to a file of c alone, or to a new one
 abbrev pub IsOwnChange : Change → ℕ → Pools Payload → Type 0

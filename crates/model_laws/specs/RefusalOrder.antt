@@ -202,7 +202,8 @@ pub record IsFirstRefusal (t : Tests) (r : Refusal) : Type 0 where
 -- An event but a step is refused exactly by the refusal that is due.
 abbrev pub FirstIsTold : Type 0
 FirstIsTold = (memory : Bool) (budget : ℕ) (chain : List Program) (told : Told) (k : ℕ) (e : Event) (w : World) (r : Refusal) → e ≢ event.Step
-    → ((happens memory budget chain told k e w).0 ≡ Refused r → IsFirstRefusal (tests memory told e (w.conns k) w) r) × (IsFirstRefusal (tests memory told e (w.conns k) w) r → (happens memory budget chain told k e w).0 ≡ Refused r)
+    → ((happens memory budget chain told k e w).0 ≡ Refused r → IsFirstRefusal (tests memory told e (w.conns k) w) r)
+    × (IsFirstRefusal (tests memory told e (w.conns k) w) r → (happens memory budget chain told k e w).0 ≡ Refused r)
 
 -- Where no connection is there, this is told before all else.
 abbrev pub NoConnectionIsTold : Type 0
@@ -225,7 +226,8 @@ fault_of chain (g, c) f = fault (module_at chain f.of) (configuration g c f) (cu
 -- name is not there, and else where memory is not; made: else the step is made.
 pub record StepTells (memory : Bool) (budget : ℕ) (chain : List Program) (told : Told) (c : Connection) (w : World) : Type 0 where
   pub refused : (r : Refusal) → IsFirstRefusal (tests memory told event.Step (Some c) w) r → steps memory budget chain told.reads (w.common, c) ≡ (Err r, (w.common, c))
-  pub out_of_steps : (f : Frame) (rest : List Frame) → c.broken ≡ None → c.stack ≡ f ∷ rest → budget ≤ c.count → steps memory budget chain told.reads (w.common, c) ≡ broken_by cause.OutOfSteps (w.common, c)
+  pub out_of_steps : (f : Frame) (rest : List Frame) → c.broken ≡ None → c.stack ≡ f ∷ rest → budget ≤ c.count
+      → steps memory budget chain told.reads (w.common, c) ≡ broken_by cause.OutOfSteps (w.common, c)
   pub faulted : (f : Frame) (rest : List Frame) (k : FaultKind) → c.broken ≡ None → c.stack ≡ f ∷ rest → c.count < budget → fault_of chain (w.common, c) f ≡ Some k
       → steps memory budget chain told.reads (w.common, c) ≡ (Ok (stepped.Fault k f.of f.pc), breaks cause.Faulted (w.common, c))
   pub no_name : (f : Frame) (rest : List Frame) → c.broken ≡ None → c.stack ≡ f ∷ rest → c.count < budget → fault_of chain (w.common, c) f ≡ None → lacks_for chain (w.common, c) f rest ≡ true
@@ -233,7 +235,8 @@ pub record StepTells (memory : Bool) (budget : ℕ) (chain : List Program) (told
   pub no_memory : (f : Frame) (rest : List Frame) → c.broken ≡ None → c.stack ≡ f ∷ rest → c.count < budget → fault_of chain (w.common, c) f ≡ None → lacks_for chain (w.common, c) f rest ≡ false
       → memory ≡ false → grows_for chain (w.common, c) f rest ≡ true → steps memory budget chain told.reads (w.common, c) ≡ broken_by cause.NoMemory (w.common, c)
   pub made : (f : Frame) (rest : List Frame) → c.broken ≡ None → c.stack ≡ f ∷ rest → c.count < budget → fault_of chain (w.common, c) f ≡ None → lacks_for chain (w.common, c) f rest ≡ false
-      → (memory || not (grows_for chain (w.common, c) f rest)) ≡ true → steps memory budget chain told.reads (w.common, c) ≡ counted (proceeds chain told.reads (current (module_at chain f.of) f.pc) f rest (w.common, c))
+      → (memory || not (grows_for chain (w.common, c) f rest)) ≡ true
+      → steps memory budget chain told.reads (w.common, c) ≡ counted (proceeds chain told.reads (current (module_at chain f.of) f.pc) f rest (w.common, c))
 
 abbrev pub StepsTell : Type 0
 StepsTell = (memory : Bool) (budget : ℕ) (chain : List Program) (told : Told) (c : Connection) (w : World) → StepTells memory budget chain told c w

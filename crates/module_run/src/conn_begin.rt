@@ -89,7 +89,8 @@ impl Conn {
     ) -> Result<(), Refusal>
         requires stands { (d : Device) × Stands modules.now tree.old store.old d self.old }
         ensures leaves { LeavesOthers (map_of tree.old) store.old store.new self.old self.new }
-        ensures happened { (d : Device) (v : Linked) → StandsFor modules.now tree.old store.old d self.old v → Happened modules.now tree.new store.new d self.new (refusal_of result) (begins (lasted result) modules.now v) }
+        ensures happened { (d : Device) (v : Linked) → StandsFor modules.now tree.old store.old d self.old v
+            → Happened modules.now tree.new store.new d self.new (refusal_of result) (begins (lasted result) modules.now v) }
     {
         if let Some(why) = self.refusal_to_begin(tree, store) {
             return Err(why);

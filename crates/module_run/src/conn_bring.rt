@@ -129,7 +129,8 @@ impl Conn {
     ) -> Result<(), Refusal>
         requires stands { (tree : PoolTree Payload) × ((d : Device) × Stands modules.now tree store.old d self.old) }
         ensures leaves { (ps : Pools Payload) → LeavesOthers ps store.old store.new self.old self.new }
-        ensures happened { (tree : PoolTree Payload) (d : Device) (v : Linked) → StandsFor modules.now tree store.old d self.old v → Happened modules.now tree store.new d self.new (refusal_of result) (brings (lasted result) modules.now pieces v) }
+        ensures happened { (tree : PoolTree Payload) (d : Device) (v : Linked) → StandsFor modules.now tree store.old d self.old v
+            → Happened modules.now tree store.new d self.new (refusal_of result) (brings (lasted result) modules.now pieces v) }
     {
         let req = match self.pool_to_bring(store, pieces.as_slice()) {
             Ok(pool) => pool,

@@ -84,20 +84,23 @@ impl Conn {
         files: &mut F,
     ) -> Result<(), AllocError>
         requires stands { (chain : List Program) × Stands chain tree.old store.old (F.device files.old) self.old }
-        ensures labels { OnOk result ((chain : List Program) (v : Linked) → StandsFor chain tree.old store.old (F.device files.old) self.old v → labels_handed self.new.labels.items ≡ closing_labels v) }
+        ensures labels { OnOk result ((chain : List Program) (v : Linked) → StandsFor chain tree.old store.old (F.device files.old) self.old v
+            → labels_handed self.new.labels.items ≡ closing_labels v) }
         ensures pools { OnOk result (map_of tree.new ≡ destroyed self.old.conn (map_of tree.old)) }
         ensures gone { OnOk result ((n : ℕ) → Holds self.old n → lists store.new n ≡ None) }
         ensures next { next_name store.new ≡ next_name store.old }
         ensures closed { OnOk result ((file : ℕ) → (F.device files.new).numbered file
             ≡ (if list_any (λ x. is_file_ref file x.1) (run_order (map_of tree.old) self.old.conn) && not (is_referred (map_of tree.new) file) then Missing else (F.device files.old).numbered file)) }
-        ensures unreferred { (file : ℕ) → ((p : ℕ) → is_under (map_of tree.old) self.old.conn p ≡ true → refers (map_of tree.old) p file ≡ false) → (F.device files.new).numbered file ≡ (F.device files.old).numbered file }
+        ensures unreferred { (file : ℕ) → ((p : ℕ) → is_under (map_of tree.old) self.old.conn p ≡ true → refers (map_of tree.old) p file ≡ false)
+            → (F.device files.new).numbered file ≡ (F.device files.old).numbered file }
         ensures others { SameButOpen (F.device files.old) (F.device files.new) }
         ensures leaves { LeavesOthers (map_of tree.old) store.old store.new self.old self.new }
         ensures none { lists store.new 0 ≡ None }
         ensures house { IsHouse store.new (map_of tree.new) }
         ensures references { AreOpen (references store.new) (F.device files.new) }
         ensures rest { self.new ≡ record self.old { labels = self.new.labels } }
-        ensures err { OnErr result ((chain : List Program) (v : Linked) → LeftAs chain tree.old store.old (F.device files.old) self.old v → LeftAs chain tree.new store.new (F.device files.new) self.new v) }
+        ensures err { OnErr result ((chain : List Program) (v : Linked) → LeftAs chain tree.old store.old (F.device files.old) self.old v
+            → LeftAs chain tree.new store.new (F.device files.new) self.new v) }
         ensures unread { OnErr result (F.device files.new ≡ F.device files.old) }
     {
         self.labels.reserve(1)?;
@@ -120,20 +123,23 @@ impl Conn {
         files: &mut F,
     ) -> Result<(), AllocError>
         requires stands { (chain : List Program) × Stands chain tree.old store.old (F.device files.old) self.old }
-        ensures labels { OnOk result ((chain : List Program) (v : Linked) → StandsFor chain tree.old store.old (F.device files.old) self.old v → labels_handed self.new.labels.items ≡ closing_labels v) }
+        ensures labels { OnOk result ((chain : List Program) (v : Linked) → StandsFor chain tree.old store.old (F.device files.old) self.old v
+            → labels_handed self.new.labels.items ≡ closing_labels v) }
         ensures pools { OnOk result (map_of tree.new ≡ destroyed self.old.conn (map_of tree.old)) }
         ensures gone { OnOk result ((n : ℕ) → Holds self.old n → lists store.new n ≡ None) }
         ensures next { next_name store.new ≡ next_name store.old }
         ensures closed { OnOk result ((file : ℕ) → (F.device files.new).numbered file
             ≡ (if list_any (λ x. is_file_ref file x.1) (run_order (map_of tree.old) self.old.conn) && not (is_referred (map_of tree.new) file) then Missing else (F.device files.old).numbered file)) }
-        ensures unreferred { (file : ℕ) → ((p : ℕ) → is_under (map_of tree.old) self.old.conn p ≡ true → refers (map_of tree.old) p file ≡ false) → (F.device files.new).numbered file ≡ (F.device files.old).numbered file }
+        ensures unreferred { (file : ℕ) → ((p : ℕ) → is_under (map_of tree.old) self.old.conn p ≡ true → refers (map_of tree.old) p file ≡ false)
+            → (F.device files.new).numbered file ≡ (F.device files.old).numbered file }
         ensures others { SameButOpen (F.device files.old) (F.device files.new) }
         ensures leaves { LeavesOthers (map_of tree.old) store.old store.new self.old self.new }
         ensures none { lists store.new 0 ≡ None }
         ensures house { IsHouse store.new (map_of tree.new) }
         ensures references { AreOpen (references store.new) (F.device files.new) }
         ensures rest { self.new ≡ record self.old { labels = self.new.labels } }
-        ensures err { OnErr result ((chain : List Program) (v : Linked) → LeftAs chain tree.old store.old (F.device files.old) self.old v → LeftAs chain tree.new store.new (F.device files.new) self.new v) }
+        ensures err { OnErr result ((chain : List Program) (v : Linked) → LeftAs chain tree.old store.old (F.device files.old) self.old v
+            → LeftAs chain tree.new store.new (F.device files.new) self.new v) }
         ensures unread { OnErr result (F.device files.new ≡ F.device files.old) }
     {
         let mut pools = tree.pools_under(self.conn)?;

@@ -78,7 +78,8 @@ impl Conn {
         ensures kept { OnErr result (map_of tree.new ≡ map_of tree.old) }
         ensures unread { OnErr result (F.device files.new ≡ F.device files.old) }
         ensures others { SameButOpen (F.device files.old) (F.device files.new) }
-        ensures unreferred { (file : ℕ) → ((p : ℕ) → is_under (map_of tree.old) pool p ≡ true → refers (map_of tree.old) p file ≡ false) → (F.device files.new).numbered file ≡ (F.device files.old).numbered file }
+        ensures unreferred { (file : ℕ) → ((p : ℕ) → is_under (map_of tree.old) pool p ≡ true → refers (map_of tree.old) p file ≡ false)
+            → (F.device files.new).numbered file ≡ (F.device files.old).numbered file }
     {
         let rings = self.rings()?;
         self.labels.reserve(1)?;
@@ -108,11 +109,13 @@ impl Conn {
         files: &mut F,
     ) -> Result<(), Refusal>
         requires stands { (chain : List Program) × Stands chain tree.old store.old (F.device files.old) self.old }
-        ensures ends { (chain : List Program) (v : Linked) → StandsFor chain tree.old store.old (F.device files.old) self.old v → Happened chain tree.new store.new (F.device files.new) self.new (refusal_of result) (ends (lasted result) v) }
+        ensures ends { (chain : List Program) (v : Linked) → StandsFor chain tree.old store.old (F.device files.old) self.old v
+            → Happened chain tree.new store.new (F.device files.new) self.new (refusal_of result) (ends (lasted result) v) }
         ensures closed { OnOk result (ClosedWith (F.device files.old) (F.device files.new) self.old.req (map_of tree.old) (map_of tree.new)) }
         ensures unread { OnErr result (F.device files.new ≡ F.device files.old) }
         ensures others { SameButOpen (F.device files.old) (F.device files.new) }
-        ensures unreferred { (file : ℕ) → ((p : ℕ) → is_under (map_of tree.old) self.old.conn p ≡ true → refers (map_of tree.old) p file ≡ false) → (F.device files.new).numbered file ≡ (F.device files.old).numbered file }
+        ensures unreferred { (file : ℕ) → ((p : ℕ) → is_under (map_of tree.old) self.old.conn p ≡ true → refers (map_of tree.old) p file ≡ false)
+            → (F.device files.new).numbered file ≡ (F.device files.old).numbered file }
         ensures leaves { LeavesOthers (map_of tree.old) store.old store.new self.old self.new }
     {
         let pool = match self.request() {

@@ -81,7 +81,8 @@ impl Conn {
     ) -> Result<Conn, StepRefusal>
         requires some { 0 < length modules.now }
         requires can { CanOpen tree.old store.old }
-        ensures opened { IfOk result (λ conn. (d : Device) (g : Common) → AreOpen (references store.old) d → g.pools ≡ (map_of tree.old).next → g.next ≡ next_name store.old → LeftAs modules.now tree.new store.new d conn (over (map_of tree.new) (opened modules.now g))) }
+        ensures opened { IfOk result (λ conn. (d : Device) (g : Common) → AreOpen (references store.old) d → g.pools ≡ (map_of tree.old).next
+            → g.next ≡ next_name store.old → LeftAs modules.now tree.new store.new d conn (over (map_of tree.new) (opened modules.now g))) }
         ensures pools { OnOk result ((root : ℕ) → (map_of tree.old).path root ≡ root ∷ [] → map_of tree.new ≡ created root (map_of tree.old)) }
         ensures beside { IfOk result (λ conn. ComesBeside store.old store.new conn) }
         ensures spent { IsErrOf result StepRefusal.NamesSpent ↔ ((is_spent (map_of tree.old).next 1 || is_spent (next_name store.old) 1) ≡ true) }

@@ -91,7 +91,9 @@ impl Conn {
     ) -> Result<(), AllocError>
         requires last { is_last modules.now (top_of self.old) ≡ false }
         requires ready { (d : Device) × CanPass modules.now b store.old d self.old }
-        ensures ok { OnOk result ((tree : PoolTree Payload) (d : Device) (l : ℕ) (v : Linked) (f : Frame) (rest : List Frame) → IsReady modules.now (Instr.Pass b l) tree store.old d self.old v f rest → RefinesStep modules.now (Instr.Pass b l) d d v f rest tree store.new self.new Stepped.Went) }
+        ensures ok { OnOk result ((tree : PoolTree Payload) (d : Device) (l : ℕ) (v : Linked) (f : Frame) (rest : List Frame)
+            → IsReady modules.now (Instr.Pass b l) tree store.old d self.old v f rest
+            → RefinesStep modules.now (Instr.Pass b l) d d v f rest tree store.new self.new Stepped.Went) }
         ensures err { OnErr result ((tree : PoolTree Payload) (d : Device) (v : Linked) → LeftAs modules.now tree store.old d self.old v → LeftAs modules.now tree store.new d self.new v) }
         ensures leaves { (ps : Pools Payload) → LeavesOthers ps store.old store.new self.old self.new }
         ensures ended { EndsLoose store.old store.new self.old self.new }

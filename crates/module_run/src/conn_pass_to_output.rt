@@ -30,9 +30,14 @@ impl Conn {
         target: u16,
     ) -> Result<(), AllocError>
         requires ready { (chain : List Program) × (tree : PoolTree Payload) × CanProceed chain (Instr.Pass b target) tree store.old (F.device files.old) self.old }
-        ensures ok { OnOk result ((chain : List Program) (tree : PoolTree Payload) (v : Linked) (f : Frame) (rest : List Frame) → is_last chain (top_of self.old) ≡ true → IsReady chain (Instr.Pass b target) tree store.old (F.device files.old) self.old v f rest → RefinesStep chain (Instr.Pass b target) (F.device files.old) (F.device files.new) v f rest tree store.new self.new Stepped.Went) }
-        ensures err { OnErr result ((chain : List Program) (tree : PoolTree Payload) (v : Linked) → LeftAs chain tree store.old (F.device files.old) self.old v → LeftAs chain tree store.new (F.device files.new) self.new v) }
-        ensures sure { (chain : List Program) (tree : PoolTree Payload) (v : Linked) (f : Frame) (rest : List Frame) → IsReady chain (Instr.Pass b target) tree store.old (F.device files.old) self.old v f rest → grows (configuration v.0 v.1 f) (Instr.Pass b target) ≡ false → IsOk result }
+        ensures ok { OnOk result ((chain : List Program) (tree : PoolTree Payload) (v : Linked) (f : Frame) (rest : List Frame)
+            → is_last chain (top_of self.old) ≡ true → IsReady chain (Instr.Pass b target) tree store.old (F.device files.old) self.old v f rest
+            → RefinesStep chain (Instr.Pass b target) (F.device files.old) (F.device files.new) v f rest tree store.new self.new Stepped.Went) }
+        ensures err { OnErr result ((chain : List Program) (tree : PoolTree Payload) (v : Linked)
+            → LeftAs chain tree store.old (F.device files.old) self.old v → LeftAs chain tree store.new (F.device files.new) self.new v) }
+        ensures sure { (chain : List Program) (tree : PoolTree Payload) (v : Linked) (f : Frame) (rest : List Frame)
+            → IsReady chain (Instr.Pass b target) tree store.old (F.device files.old) self.old v f rest
+            → grows (configuration v.0 v.1 f) (Instr.Pass b target) ≡ false → IsOk result }
         ensures lacked { OnErr result (SomeWentWell (F.device files.old) (F.device files.new)) }
         ensures leaves { (ps : Pools Payload) → LeavesOthers ps store.old store.new self.old self.new }
         ensures ended { EndsLoose store.old store.new self.old self.new }

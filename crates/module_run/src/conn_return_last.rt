@@ -36,7 +36,8 @@ impl Conn {
     ) -> Result<Stepped, AllocError>
         requires alone { waiting self.old ≡ 0 }
         requires ready { (tree : PoolTree Payload) × (d : Device) × CanProceed modules.now (Instr.Ret status) tree store.old d self.old }
-        ensures leads { IfOk result (λ answer. (tree : PoolTree Payload) (d : Device) (v : Linked) (f : Frame) (rest : List Frame) → IsReady modules.now (Instr.Ret status) tree store.old d self.old v f rest
+        ensures leads { IfOk result (λ answer. (tree : PoolTree Payload) (d : Device) (v : Linked) (f : Frame) (rest : List Frame)
+            → IsReady modules.now (Instr.Ret status) tree store.old d self.old v f rest
             → RefinesStep modules.now (Instr.Ret status) d d v f rest tree store.new self.new answer) }
         ensures err { OnErr result ((tree : PoolTree Payload) (d : Device) (v : Linked) → LeftAs modules.now tree store.old d self.old v → LeftAs modules.now tree store.new d self.new v) }
         ensures sure { (tree : PoolTree Payload) (d : Device) (v : Linked) (f : Frame) (rest : List Frame) → IsReady modules.now (Instr.Ret status) tree store.old d self.old v f rest

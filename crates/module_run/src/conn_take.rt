@@ -27,8 +27,10 @@ impl Conn {
     /// Empties the output, and keeps its room. It takes no memory, and serves in any state.
     #[tactic(auto, unfolding(crate::specs::Conns::conn_of, crate::specs::Conns::filter_at))]
     pub fn clear_output(&mut self)
-        ensures cleared { (ps : Pools Payload) (rings : ℕ → Option Items) (opened : ℕ → Option (List ℕ)) → let c = conn_of ps rings opened self.old in conn_of ps rings opened self.new ≡ record c { out = record c.out { bytes = [] } } }
-        ensures stacked { (chain : List Program) (at : BucketId → Option ℕ) (rings : ℕ → Option Items) (pools : ℕ → Option ℕ) (next : ℕ) → StackedOver chain at rings pools next self.old → StackedOver chain at rings pools next self.new }
+        ensures cleared { (ps : Pools Payload) (rings : ℕ → Option Items) (opened : ℕ → Option (List ℕ)) → let c = conn_of ps rings opened self.old in
+            conn_of ps rings opened self.new ≡ record c { out = record c.out { bytes = [] } } }
+        ensures stacked { (chain : List Program) (at : BucketId → Option ℕ) (rings : ℕ → Option Items) (pools : ℕ → Option ℕ) (next : ℕ)
+            → StackedOver chain at rings pools next self.old → StackedOver chain at rings pools next self.new }
         ensures filters { self.new.filters ≡ self.old.filters }
     {
         self.out.clear();
@@ -39,8 +41,10 @@ impl Conn {
     #[tactic(auto, using(crate::proofs::Alongside::stacked_beside, crate::proofs::RequestEnds::request_left_as), unfolding(crate::specs::Conns::conn_of, crate::specs::Conns::filter_at))]
     pub fn take_output(&mut self, room: Seq<u8>) -> Seq<u8>
         ensures bytes { (ps : Pools Payload) (rings : ℕ → Option Items) (opened : ℕ → Option (List ℕ)) → result ≡ (conn_of ps rings opened self.old).out.bytes }
-        ensures taken { (ps : Pools Payload) (rings : ℕ → Option Items) (opened : ℕ → Option (List ℕ)) → let c = conn_of ps rings opened self.old in conn_of ps rings opened self.new ≡ record c { out = record c.out { bytes = [] } } }
-        ensures stacked { (chain : List Program) (at : BucketId → Option ℕ) (rings : ℕ → Option Items) (pools : ℕ → Option ℕ) (next : ℕ) → StackedOver chain at rings pools next self.old → StackedOver chain at rings pools next self.new }
+        ensures taken { (ps : Pools Payload) (rings : ℕ → Option Items) (opened : ℕ → Option (List ℕ)) → let c = conn_of ps rings opened self.old in
+            conn_of ps rings opened self.new ≡ record c { out = record c.out { bytes = [] } } }
+        ensures stacked { (chain : List Program) (at : BucketId → Option ℕ) (rings : ℕ → Option Items) (pools : ℕ → Option ℕ) (next : ℕ)
+            → StackedOver chain at rings pools next self.old → StackedOver chain at rings pools next self.new }
         ensures filters { self.new.filters ≡ self.old.filters }
     {
         mem::replace(&mut self.out, OutputBlock::over(room)).into_seq()

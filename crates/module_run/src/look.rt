@@ -52,7 +52,8 @@ impl Conn {
         next: NextInstr,
     ) -> Option<FaultKind>
         requires on_top { (d : Device) × ((v : Linked) × ((f : Frame) × ((rest : List Frame) × (IsOnTop modules.now tree.old store.old d self.now v f rest × IsNextInstr modules.now f next)))) }
-        ensures value { (d : Device) (v : Linked) (f : Frame) (rest : List Frame) → IsOnTop modules.now tree.old store.old d self.now v f rest → IsNextInstr modules.now f next → result ≡ next_fault modules.now v f }
+        ensures value { (d : Device) (v : Linked) (f : Frame) (rest : List Frame) → IsOnTop modules.now tree.old store.old d self.now v f rest
+            → IsNextInstr modules.now f next → result ≡ next_fault modules.now v f }
         ensures tree_asked { TreeOnlyAsked tree.old tree.new }
         ensures asked { OnlyAsked store.old store.new }
     {
@@ -99,8 +100,12 @@ impl Conn {
         store: &Brigades<R>,
         next: NextInstr,
     ) -> bool
-        requires on_top { (d : Device) × ((v : Linked) × ((f : Frame) × ((rest : List Frame) × (IsOnTop modules.now tree.now store.now d self.now v f rest × IsNextInstr modules.now f next × (next_fault modules.now v f ≡ None))))) }
-        ensures { (d : Device) (v : Linked) (f : Frame) (rest : List Frame) → IsOnTop modules.now tree.now store.now d self.now v f rest → IsNextInstr modules.now f next → result ≡ step_lacks_names modules.now v f rest next }
+        requires on_top { (d : Device)
+            × ((v : Linked) × ((f : Frame)
+            × ((rest : List Frame) × (IsOnTop modules.now tree.now store.now d self.now v f rest × IsNextInstr modules.now f next
+            × (next_fault modules.now v f ≡ None))))) }
+        ensures { (d : Device) (v : Linked) (f : Frame) (rest : List Frame) → IsOnTop modules.now tree.now store.now d self.now v f rest
+            → IsNextInstr modules.now f next → result ≡ step_lacks_names modules.now v f rest next }
     {
         let of = self.top();
         let (Some(filter), Some(code)) = (self.filters.get(of), modules.get(of)) else {

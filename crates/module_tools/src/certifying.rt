@@ -89,7 +89,8 @@ pub fn run_certify<R: Source, W: Sink>(
 ) -> Result<Ended, PlayFault>
     requires { reads_left reader.old ≡ READS }
     ensures ok { IfOk result (λ e. Writes (R.remaining (source_of reader.old)) (W.contents writer.old) (W.contents writer.new) (λ text out. IsCertified is_slim text out e)) }
-    ensures write { result ≡ Err PlayFault.Write → Writes (R.remaining (source_of reader.old)) (W.contents writer.old) (W.contents writer.new) (λ text out. IsOutputFront (IsCertified is_slim text) out) }
+    ensures write { result ≡ Err PlayFault.Write
+        → Writes (R.remaining (source_of reader.old)) (W.contents writer.old) (W.contents writer.new) (λ text out. IsOutputFront (IsCertified is_slim text) out) }
     ensures silent { IfErr result (λ f. f ≢ PlayFault.Write → W.unchanged writer.old writer.new) }
     ensures reader { TellsOfReader (R.failed (source_of reader.old)) (R.failed (source_of reader.new)) (reads_left reader.new) result }
     ensures writer { TellsOfWriter (W.failed writer.old) (W.failed writer.new) result }

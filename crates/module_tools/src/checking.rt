@@ -96,10 +96,14 @@ pub fn run_check<R: Source, S: Source, W: Sink>(
 ) -> Result<Ended, PlayFault>
     requires reads { reads_left reader.old ≡ READS }
     requires cert_reads { reads_left cert.old ≡ READS }
-    ensures ok { IfOk result (λ e. IfSome (S.remaining (source_of cert.old)) (λ certificate. Writes (R.remaining (source_of reader.old)) (W.contents writer.old) (W.contents writer.new) (λ text out. IsCheckOutput certificate text out e))) }
-    ensures write { result ≡ Err PlayFault.Write → IfSome (S.remaining (source_of cert.old)) (λ certificate. Writes (R.remaining (source_of reader.old)) (W.contents writer.old) (W.contents writer.new) (λ text out. IsOutputFront (IsCheckOutput certificate text) out)) }
+    ensures ok { IfOk result (λ e. IfSome (S.remaining (source_of cert.old)) (λ certificate. Writes (R.remaining (source_of reader.old))
+        (W.contents writer.old) (W.contents writer.new) (λ text out. IsCheckOutput certificate text out e))) }
+    ensures write { result ≡ Err PlayFault.Write
+        → IfSome (S.remaining (source_of cert.old)) (λ certificate. Writes (R.remaining (source_of reader.old)) (W.contents writer.old)
+        (W.contents writer.new) (λ text out. IsOutputFront (IsCheckOutput certificate text) out)) }
     ensures silent { IfErr result (λ f. f ≢ PlayFault.Write → W.unchanged writer.old writer.new) }
-    ensures readers { TellsOfReaders (R.failed (source_of reader.old)) (R.failed (source_of reader.new)) (reads_left reader.new) (S.failed (source_of cert.old)) (S.failed (source_of cert.new)) (reads_left cert.new) result }
+    ensures readers { TellsOfReaders (R.failed (source_of reader.old)) (R.failed (source_of reader.new)) (reads_left reader.new) (S.failed
+        (source_of cert.old)) (S.failed (source_of cert.new)) (reads_left cert.new) result }
     ensures writer { TellsOfWriter (W.failed writer.old) (W.failed writer.new) result }
 {
     let text = read_all(alloc, reader)?;

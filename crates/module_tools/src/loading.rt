@@ -79,7 +79,8 @@ pub fn load_part<R: Source, S: Source>(
 ) -> Result<Loaded, PlayFault>
     ensures ok { IfOk result (λ l. IfSome (R.remaining (source_of reader.old)) (λ text. IfSome (S.remaining (source_of cert.old)) (λ certificate. IsLoaded text certificate l))) }
     ensures fault { IfErr result (λ f. f ≢ PlayFault.Write) }
-    ensures readers { TellsOfReaders (R.failed (source_of reader.old)) (R.failed (source_of reader.new)) (reads_left reader.new) (S.failed (source_of cert.old)) (S.failed (source_of cert.new)) (reads_left cert.new) result }
+    ensures readers { TellsOfReaders (R.failed (source_of reader.old)) (R.failed (source_of reader.new)) (reads_left reader.new) (S.failed
+        (source_of cert.old)) (S.failed (source_of cert.new)) (reads_left cert.new) result }
 {
     let text = read_all(alloc, reader)?;
     load_text(alloc, text.as_slice(), cert)

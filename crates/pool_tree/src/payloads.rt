@@ -18,7 +18,8 @@ pub(crate) fn push<T: Drop>(
     item: T,
 ) -> Result<(), AllocFailed<T>>
     requires { is_some (record_of records.old name) ≡ true }
-    ensures items { IsRefilled name (if is_ok result then payloads_of (record_of records.old) name ++ item ∷ [] else payloads_of (record_of records.old) name) (record_of records.old) (record_of records.new) }
+    ensures items { IsRefilled name (if is_ok result then payloads_of (record_of records.old) name ++ item
+        ∷ [] else payloads_of (record_of records.old) name) (record_of records.old) (record_of records.new) }
     ensures back { IfErr result (λ failed. failed.value ≡ item) }
 {
     match records.by_name.get_mut(&name) {

@@ -61,7 +61,9 @@ pub fn view_at<'a, R: Rings<Stored> + Drop>(
     requires cursor { c < 9 }
     requires held { IsHeld store.now instance.now call.now }
     requires stands { StandsAs store.now instance.now call.now c OnBucket }
-    ensures { (around : Around) → (y : NamedBucket) × ((model_bucket_at (spot (seen store.now around instance.now call.now) c) ≡ Some y) × (y.bucket.kind ≡ result.kind) × (y.bucket.content ≡ content_of result.content)) }
+    ensures { (around : Around) → (y : NamedBucket)
+        × ((model_bucket_at (spot (seen store.now around instance.now call.now) c) ≡ Some y) × (y.bucket.kind ≡ result.kind)
+        × (y.bucket.content ≡ content_of result.content)) }
 {
     store.payload(call.bucket(c))
 }

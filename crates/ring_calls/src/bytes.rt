@@ -45,14 +45,16 @@ pub fn is_full(instance: &Instance, call: &Call, x: Value) -> bool
 
 /// Appends a byte to the buffer, where it is one and fits: only then it takes memory. Without it nothing is changed.
 pub fn put(instance: &Instance, call: &mut Call, x: Value) -> Result<(), AllocError>
-    ensures ok { OnOk result ((rings : ℕ → Option Items) (next : ℕ) (around : Around) → seen_over rings next around instance.now call.new ≡ do_put x (seen_over rings next around instance.now call.old)) }
+    ensures ok { OnOk result ((rings : ℕ → Option Items) (next : ℕ) (around : Around)
+        → seen_over rings next around instance.now call.new ≡ do_put x (seen_over rings next around instance.now call.old)) }
     ensures sure { (rings : ℕ → Option Items) (next : ℕ) (around : Around) → is_full (seen_over rings next around instance.now call.old) x ≡ true → IsOk result }
     ensures err { OnErr result ((rings : ℕ → Option Items) (next : ℕ) (around : Around) → seen_over rings next around instance.now call.new ≡ seen_over rings next around instance.now call.old) }
     ensures cursors { (c : ℕ) → cursor_at call.new c ≡ cursor_at call.old c }
     ensures same { OnErr result (call.new ≡ call.old) }
     ensures pc { call.new.pc ≡ call.old.pc }
     ensures name { call.new.name ≡ call.old.name }
-    ensures held { (at : BucketId → Option ℕ) (rings : ℕ → Option Items) (pools : ℕ → Option ℕ) (next : ℕ) → HeldOver at rings pools next instance.now call.old → HeldOver at rings pools next instance.now call.new }
+    ensures held { (at : BucketId → Option ℕ) (rings : ℕ → Option Items) (pools : ℕ → Option ℕ) (next : ℕ)
+        → HeldOver at rings pools next instance.now call.old → HeldOver at rings pools next instance.now call.new }
 {
     let number = value_of(instance, x);
     if has_no_room(number, call.buffer.len()) {
@@ -134,7 +136,8 @@ pub fn get<R: Rings<Stored> + Drop>(
     requires number { n < 8 }
     requires held { IsHeld store.now instance.old call.now }
     requires stands { StandsAs store.now instance.old call.now read_cursor OnBucket }
-    ensures new { (around : Around) → let r = seen store.now around instance.old call.now in seen store.now around instance.new call.now ≡ got n (byte_of (value_of r x) (content_at (spot r read_cursor))) r }
+    ensures new { (around : Around) → let r = seen store.now around instance.old call.now in
+        seen store.now around instance.new call.now ≡ got n (byte_of (value_of r x) (content_at (spot r read_cursor))) r }
     ensures slots { (b : ℕ) → slot_at instance.new b ≡ slot_at instance.old b }
     ensures held { IsHeld store.now instance.new call.now }
 {

@@ -153,7 +153,8 @@ impl Call {
     pub fn none(alloc: Global) -> Self
         ensures cursors { (c : ℕ) → cursor_at result c ≡ CursorValue.Unset }
         ensures name { result.name ≡ 0 }
-        ensures held { (at : BucketId → Option ℕ) (rings : ℕ → Option Items) (pools : ℕ → Option ℕ) (next : ℕ) (i : Instance) → ((b : ℕ) → slot_at i b ≡ Slot.Null) → 0 < next → pools 0 ≡ None → HeldOver at rings pools next i result }
+        ensures held { (at : BucketId → Option ℕ) (rings : ℕ → Option Items) (pools : ℕ → Option ℕ) (next : ℕ) (i : Instance)
+            → ((b : ℕ) → slot_at i b ≡ Slot.Null) → 0 < next → pools 0 ≡ None → HeldOver at rings pools next i result }
     {
         Call {
             name: 0,
@@ -188,7 +189,8 @@ impl Call {
     #[tactic(auto, unfolding(crate::specs::Seen::seen_over, crate::specs::Slots::cursor_at, run_model::specs::State::set_cursor, run_model::specs::Indexed::upd))]
     pub fn set_cursor(&mut self, c: u8, cursor_value: CursorValue)
         requires { c < 9 }
-        ensures seen { (rings : ℕ → Option Items) (next : ℕ) (around : Around) (i : Instance) → seen_over rings next around i self.new ≡ set_cursor c (shown_cursor cursor_value) (seen_over rings next around i self.old) }
+        ensures seen { (rings : ℕ → Option Items) (next : ℕ) (around : Around) (i : Instance)
+            → seen_over rings next around i self.new ≡ set_cursor c (shown_cursor cursor_value) (seen_over rings next around i self.old) }
         ensures cursors { (d : ℕ) → cursor_at self.new d ≡ (if d == c then cursor_value else cursor_at self.old d) }
         ensures name { self.new.name ≡ self.old.name }
     {

@@ -29,7 +29,8 @@ impl Instance {
     /// Sets the number in a variable.
     pub fn set_number(&mut self, n: u8, number: u32)
         requires { n < 8 }
-        ensures new { (rings : ℕ → Option Items) (next : ℕ) (around : Around) (call : Call) → seen_over rings next around self.new call ≡ set_number n number (seen_over rings next around self.old call) }
+        ensures new { (rings : ℕ → Option Items) (next : ℕ) (around : Around) (call : Call)
+            → seen_over rings next around self.new call ≡ set_number n number (seen_over rings next around self.old call) }
         ensures slots { (b : ℕ) → slot_at self.new b ≡ slot_at self.old b }
     {
         self.numbers[usize::from(n)] = number;
@@ -40,7 +41,8 @@ impl Instance {
 impl Call {
     /// Appends a byte to the buffer. Without memory nothing is changed.
     pub fn buffer_byte(&mut self, byte: u8) -> Result<(), AllocError>
-        ensures ok { OnOk result ((rings : ℕ → Option Items) (next : ℕ) (around : Around) (i : Instance) → let r = seen_over rings next around i self.old in seen_over rings next around i self.new ≡ record r { call = record r.call { buffer = r.call.buffer ++ byte ∷ [] } }) }
+        ensures ok { OnOk result ((rings : ℕ → Option Items) (next : ℕ) (around : Around) (i : Instance) → let r = seen_over rings next around i self.old in
+            seen_over rings next around i self.new ≡ record r { call = record r.call { buffer = r.call.buffer ++ byte ∷ [] } }) }
         ensures err { OnErr result ((rings : ℕ → Option Items) (next : ℕ) (around : Around) (i : Instance) → seen_over rings next around i self.new ≡ seen_over rings next around i self.old) }
         ensures same { OnErr result (self.new ≡ self.old) }
         ensures pc { self.new.pc ≡ self.old.pc }
@@ -74,7 +76,8 @@ pub fn value_of(instance: &Instance, x: Value) -> u32
 /// Sets a number.
 pub fn set(instance: &mut Instance, n: u8, x: Value)
     requires { n < 8 }
-    ensures new { (rings : ℕ → Option Items) (next : ℕ) (around : Around) (call : Call) → let r = seen_over rings next around instance.old call in seen_over rings next around instance.new call ≡ set_number n (value_of r x) r }
+    ensures new { (rings : ℕ → Option Items) (next : ℕ) (around : Around) (call : Call) → let r = seen_over rings next around instance.old call in
+        seen_over rings next around instance.new call ≡ set_number n (value_of r x) r }
     ensures slots { (b : ℕ) → slot_at instance.new b ≡ slot_at instance.old b }
 {
     let number = value_of(instance, x);
@@ -84,7 +87,8 @@ pub fn set(instance: &mut Instance, n: u8, x: Value)
 /// Adds to a number, at most up to 4294967295.
 pub fn add(instance: &mut Instance, n: u8, x: Value)
     requires { n < 8 }
-    ensures new { (rings : ℕ → Option Items) (next : ℕ) (around : Around) (call : Call) → let r = seen_over rings next around instance.old call in seen_over rings next around instance.new call ≡ set_number n (min last_value (r.instance.numbers n + value_of r x)) r }
+    ensures new { (rings : ℕ → Option Items) (next : ℕ) (around : Around) (call : Call) → let r = seen_over rings next around instance.old call in
+        seen_over rings next around instance.new call ≡ set_number n (min last_value (r.instance.numbers n + value_of r x)) r }
     ensures slots { (b : ℕ) → slot_at instance.new b ≡ slot_at instance.old b }
 {
     let sum = instance.number(n).saturating_add(value_of(instance, x));
@@ -94,7 +98,8 @@ pub fn add(instance: &mut Instance, n: u8, x: Value)
 /// Takes from a number, at least down to 0.
 pub fn sub(instance: &mut Instance, n: u8, x: Value)
     requires { n < 8 }
-    ensures new { (rings : ℕ → Option Items) (next : ℕ) (around : Around) (call : Call) → let r = seen_over rings next around instance.old call in seen_over rings next around instance.new call ≡ set_number n (r.instance.numbers n - value_of r x) r }
+    ensures new { (rings : ℕ → Option Items) (next : ℕ) (around : Around) (call : Call) → let r = seen_over rings next around instance.old call in
+        seen_over rings next around instance.new call ≡ set_number n (r.instance.numbers n - value_of r x) r }
     ensures slots { (b : ℕ) → slot_at instance.new b ≡ slot_at instance.old b }
 {
     let left = instance.number(n).saturating_sub(value_of(instance, x));

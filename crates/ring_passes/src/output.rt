@@ -172,7 +172,8 @@ pub fn add_brigade<R: Rings<Stored> + Drop, F: Files>(
     requires there { is_some (lists store.now b) ≡ true }
     requires ends { (id : BucketId) (x : Bucket) → brigade_of store.now id ≡ Some b → bucket_at store.now id ≡ Some x → EndsInFile x.content }
     requires open { (id : BucketId) (x : Bucket) → brigade_of store.now id ≡ Some b → bucket_at store.now id ≡ Some x → IsOpenFor (F.device files.old) x.content }
-    ensures ok { IfOk result (λ well. (runs : ℕ → Bool) → WasDelivered (F.device files.old) (F.device files.new) (out_of out.old ended.old) (shown runs (list_at (lists store.now) b)) (out_of out.new ended.new) well) }
+    ensures ok { IfOk result (λ well. (runs : ℕ → Bool)
+        → WasDelivered (F.device files.old) (F.device files.new) (out_of out.old ended.old) (shown runs (list_at (lists store.now) b)) (out_of out.new ended.new) well) }
     ensures err { OnErr result (out_of out.new ended.new ≡ out_of out.old ended.old) }
     ensures sure { (runs : ℕ → Bool) → (not ended.old && has_bytes (shown runs (list_at (lists store.now) b))) ≡ false → IsOk result }
     ensures read { OnErr result (SomeWentWell (F.device files.old) (F.device files.new)) }
@@ -220,8 +221,11 @@ pub fn pass_out<R: Rings<Stored> + Drop, F: Files>(
     requires live { is_some (live_in (lists store.old) (slot_at instance.old b)) ≡ true }
     requires ends { EndInFiles store.old instance.old }
     requires open { (around : Around) × (call : Call) × All (RangeIsOpen (F.device files.old)) (items_of ((seen store.old around instance.old call).instance.brigades b)) }
-    ensures delivered { IfOk result (λ well. (around : Around) (call : Call) → WasDelivered (F.device files.old) (F.device files.new) (out_of out.old ended.old) (items_of ((seen store.old around instance.old call).instance.brigades b)) (out_of out.new ended.new) well) }
-    ensures passed { OnOk result ((around : Around) (call : Call) → IsHeld store.old instance.old call → seen store.new around instance.new call ≡ do_pass b (seen store.old around instance.old call)) }
+    ensures delivered { IfOk result (λ well. (around : Around) (call : Call)
+        → WasDelivered (F.device files.old) (F.device files.new) (out_of out.old ended.old) (items_of
+        ((seen store.old around instance.old call).instance.brigades b)) (out_of out.new ended.new) well) }
+    ensures passed { OnOk result ((around : Around) (call : Call) → IsHeld store.old instance.old call
+        → seen store.new around instance.new call ≡ do_pass b (seen store.old around instance.old call)) }
     ensures held { (call : Call) → IsHeld store.old instance.old call → IsHeld store.new instance.new call }
     ensures left { OnOk result ((call : Call) → LeavesOthers store.old store.new instance.old call) }
     ensures err { OnErr result ((around : Around) (call : Call) → seen store.new around instance.new call ≡ seen store.old around instance.old call) }

@@ -70,7 +70,9 @@ pub fn take_in<R: Rings<Stored> + Drop>(
     name: BrigadeId,
 )
     requires { is_some (lists store.now name) ≡ true }
-    ensures seen { (around : Around) (call : Call) → seen store.now around instance.new call ≡ set_brigade 8 (shown_slot (calls_in around call) (lists store.now) (Slot.Made name None Mark.Usable)) (seen store.now around instance.old call) }
+    ensures seen { (around : Around) (call : Call)
+        → seen store.now around instance.new call
+        ≡ set_brigade 8 (shown_slot (calls_in around call) (lists store.now) (Slot.Made name None Mark.Usable)) (seen store.now around instance.old call) }
     ensures slots { (a : ℕ) → slot_at instance.new a ≡ (if a == 8 then Slot.Made name None Mark.Usable else slot_at instance.old a) }
     ensures held { (call : Call) → ((a : ℕ) → name_in (slot_at instance.old a) ≢ Some name) → name ≢ call.name → 0 < name → IsHeld store.now instance.old call → IsHeld store.now instance.new call }
 {

@@ -37,7 +37,8 @@ pub(crate) fn aside<R: Rings<Stored> + Drop>(
     requires stands { StandsAs store.old instance.now call.now c OnBucket }
     ensures ok { OnOk result ((around : Around) → let r = seen store.old (record around { pools = map_of tree.old }) instance.now call.now in
         seen store.new (record around { pools = map_of tree.new }) instance.now call.now ≡ do_aside (spot r c) (Some pool) r) }
-    ensures sure { (around : Around) → let r = seen store.old (record around { pools = map_of tree.old }) instance.now call.now in takes_reference (map_of tree.old) (Some pool) (option_to_list (bucket_at (spot r c))) ≡ false → IsOk result }
+    ensures sure { (around : Around) → let r = seen store.old (record around { pools = map_of tree.old }) instance.now call.now in
+        takes_reference (map_of tree.old) (Some pool) (option_to_list (bucket_at (spot r c))) ≡ false → IsOk result }
     ensures err { OnErr result ((around : Around)
         → seen store.new (record around { pools = map_of tree.new }) instance.now call.now ≡ seen store.old (record around { pools = map_of tree.old }) instance.now call.now) }
     ensures held { IsHeld store.new instance.now call.now }

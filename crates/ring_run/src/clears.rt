@@ -41,7 +41,9 @@ pub fn clear_pool<R: Rings<Stored> + Drop, F: Files>(
     requires looks { LooksAt rings.now (is_under (map_of tree.old) pool) (pool_of store.old) instance.now call.now }
     ensures ran { IfOk result (λ ran. ran.items ≡ run_order (map_of tree.old) pool) }
     ensures tree { OnOk result (map_of tree.new ≡ cleared pool (map_of tree.old)) }
-    ensures seen { OnOk result ((around : Around) → seen store.new (around_cleared pool (map_of tree.old) (map_of tree.new) around) instance.now call.now ≡ pool_cleared pool (seen store.old (record around { pools = map_of tree.old }) instance.now call.now)) }
+    ensures seen { OnOk result ((around : Around)
+        → seen store.new (around_cleared pool (map_of tree.old) (map_of tree.new) around) instance.now call.now
+        ≡ pool_cleared pool (seen store.old (record around { pools = map_of tree.old }) instance.now call.now)) }
     ensures out { OnOk result ((n : ℕ) → lists store.new n ≡ cleared_ring (is_under (map_of tree.old) pool) (is_in n rings.now) (pool_of store.old n) (lists store.old n)) }
     ensures off { OnOk result ((n : ℕ) → pool_of store.new n ≡ pool_left (is_under (map_of tree.old) pool) (pool_of store.old n)) }
     ensures house { IsHouse store.new (map_of tree.new) }
@@ -82,7 +84,9 @@ pub fn destroy_pool<R: Rings<Stored> + Drop, F: Files>(
     requires looks { LooksAt rings.now (is_under (map_of tree.old) pool) (pool_of store.old) instance.now call.now }
     ensures ran { IfOk result (λ ran. ran.items ≡ run_order (map_of tree.old) pool) }
     ensures tree { OnOk result (map_of tree.new ≡ destroyed pool (map_of tree.old)) }
-    ensures seen { OnOk result ((around : Around) → seen store.new (around_cleared pool (map_of tree.old) (map_of tree.new) around) instance.now call.now ≡ pool_destroyed pool (seen store.old (record around { pools = map_of tree.old }) instance.now call.now)) }
+    ensures seen { OnOk result ((around : Around)
+        → seen store.new (around_cleared pool (map_of tree.old) (map_of tree.new) around) instance.now call.now
+        ≡ pool_destroyed pool (seen store.old (record around { pools = map_of tree.old }) instance.now call.now)) }
     ensures out { OnOk result ((n : ℕ) → lists store.new n ≡ cleared_ring (is_under (map_of tree.old) pool) (is_in n rings.now) (pool_of store.old n) (lists store.old n)) }
     ensures off { OnOk result ((n : ℕ) → pool_of store.new n ≡ pool_left (is_under (map_of tree.old) pool) (pool_of store.old n)) }
     ensures house { IsHouse store.new (map_of tree.new) }

@@ -28,7 +28,8 @@ pub(crate) fn concat<R: Rings<Stored> + Drop>(
     requires live_first { is_some (live_in (lists store.old) (slot_at instance.now a)) ≡ true }
     requires live_second { is_some (live_in (lists store.old) (slot_at instance.now b)) ≡ true }
     requires held { VariablesApart instance.now }
-    ensures ok { OnOk result ((around : Around) (call : Call) → IsHeld store.old instance.now call → seen store.new around instance.now call ≡ do_concat a b (seen store.old around instance.now call)) }
+    ensures ok { OnOk result ((around : Around) (call : Call) → IsHeld store.old instance.now call
+        → seen store.new around instance.now call ≡ do_concat a b (seen store.old around instance.now call)) }
     ensures sure { IsOk result }
     ensures err { OnErr result ((around : Around) (call : Call) → seen store.new around instance.now call ≡ seen store.old around instance.now call) }
     ensures held { (call : Call) → IsHeld store.old instance.now call → IsHeld store.new instance.now call }

@@ -72,13 +72,17 @@ fn execute_without_files<R: Rings<Stored> + Drop>(
     requires fits { FitKinds store.old instance.old }
     requires ends { EndInFiles store.old instance.old }
     requires faultless { (around : Around) → fault code.now (seen store.old (in_setting setting.now (map_of tree.old) around) instance.old call.old) instr ≡ None }
-    ensures ok { IfOk result (λ exit. (around : Around) (choice : Choice) → let went = step code.now choice instr (seen store.old (in_setting setting.now (map_of tree.old) around) instance.old call.old) in
+    ensures ok { IfOk result (λ exit. (around : Around) (choice : Choice)
+        → let went = step code.now choice instr (seen store.old (in_setting setting.now (map_of tree.old) around) instance.old call.old) in
         (exit ≡ went.exit) × (seen store.new (in_setting setting.now (map_of tree.new) around) instance.new call.new ≡ went.state)) }
-    ensures err { OnErr result ((around : Around) → seen store.new (record around { pools = map_of tree.new }) instance.new call.new ≡ seen store.old (record around { pools = map_of tree.old }) instance.old call.old) }
+    ensures err { OnErr result ((around : Around)
+        → seen store.new (record around { pools = map_of tree.new }) instance.new call.new
+        ≡ seen store.old (record around { pools = map_of tree.old }) instance.old call.old) }
     ensures sure { (around : Around) → let r = seen store.old (in_setting setting.now (map_of tree.old) around) instance.old call.old in grows r instr ≡ false → IsOk result }
     ensures held { IsHeld store.new instance.new call.new }
     ensures house { IsHouse store.new (map_of tree.new) }
-    ensures open { (d : Device) → ((around : Around) → RangesOpen d (seen store.old (in_setting setting.now (map_of tree.old) around) instance.old call.old)) → AreOpen (references store.old) d → AreOpen (references store.new) d }
+    ensures open { (d : Device) → ((around : Around) → RangesOpen d (seen store.old (in_setting setting.now (map_of tree.old) around) instance.old call.old))
+        → AreOpen (references store.old) d → AreOpen (references store.new) d }
     ensures name { call.new.name ≡ call.old.name }
     ensures slots { KeepNames (next_name store.old) (next_name store.new) instance.old instance.new }
     ensures left { LeavesRest store.old store.new instance.old call.old }
@@ -117,8 +121,13 @@ fn execute_clear<R: Rings<Stored> + Drop, F: Files>(
     requires live { (pool : ℕ) × (cleared_in instance.now instr ≡ Some pool) × IsTrue (is_live (map_of tree.old) pool) }
     requires below { (pool : ℕ) → cleared_in instance.now instr ≡ Some pool → (map_of tree.old).path pool ≢ pool ∷ [] }
     requires looks { (pool : ℕ) → cleared_in instance.now instr ≡ Some pool → LooksAt setting.now.rings.now (is_under (map_of tree.old) pool) (pool_of store.old) instance.now call.now }
-    ensures ok { IfOk result (λ exit. (code : Program) (around : Around) → WasCarriedOut (F.device files.old) (F.device files.new) code instr (seen store.old (during setting.now (map_of tree.old) handed.old.items around) instance.now call.now) exit (λ fs. seen store.new (with_files fs (during setting.now (map_of tree.new) handed.new.items around)) instance.now call.now)) }
-    ensures err { OnErr result ((around : Around) → seen store.new (during setting.now (map_of tree.new) handed.new.items around) instance.now call.now ≡ seen store.old (during setting.now (map_of tree.old) handed.old.items around) instance.now call.now) }
+    ensures ok { IfOk result (λ exit. (code : Program) (around : Around)
+        → WasCarriedOut (F.device files.old) (F.device files.new) code instr (seen store.old (during setting.now
+        (map_of tree.old) handed.old.items around) instance.now call.now) exit (λ fs. seen store.new (with_files fs (during setting.now
+        (map_of tree.new) handed.new.items around)) instance.now call.now)) }
+    ensures err { OnErr result ((around : Around)
+        → seen store.new (during setting.now (map_of tree.new) handed.new.items around) instance.now call.now
+        ≡ seen store.old (during setting.now (map_of tree.old) handed.old.items around) instance.now call.now) }
     ensures kept { OnErr result (map_of tree.new ≡ map_of tree.old) }
     ensures unread { OnErr result (F.device files.new ≡ F.device files.old) }
     ensures unmoved { OnErr result (LeavesRest store.old store.new instance.now call.now) }
@@ -177,8 +186,13 @@ pub fn execute_instr<R: Rings<Stored> + Drop, F: Files>(
     requires faultless { (around : Around) → fault code.now (seen store.old (in_setting setting.now (map_of tree.old) around) instance.old call.old) instr ≡ None }
     requires below { (pool : ℕ) → cleared_in instance.old instr ≡ Some pool → (map_of tree.old).path pool ≢ pool ∷ [] }
     requires looks { (pool : ℕ) → cleared_in instance.old instr ≡ Some pool → LooksAt setting.now.rings.now (is_under (map_of tree.old) pool) (pool_of store.old) instance.old call.old }
-    ensures ok { IfOk result (λ exit. (around : Around) → WasCarriedOut (F.device files.old) (F.device files.new) code.now instr (seen store.old (during setting.now (map_of tree.old) handed.old.items around) instance.old call.old) exit (λ fs. seen store.new (with_files fs (during setting.now (map_of tree.new) handed.new.items around)) instance.new call.new)) }
-    ensures err { OnErr result ((around : Around) → seen store.new (during setting.now (map_of tree.new) handed.new.items around) instance.new call.new ≡ seen store.old (during setting.now (map_of tree.old) handed.old.items around) instance.old call.old) }
+    ensures ok { IfOk result (λ exit. (around : Around)
+        → WasCarriedOut (F.device files.old) (F.device files.new) code.now instr (seen store.old (during setting.now
+        (map_of tree.old) handed.old.items around) instance.old call.old) exit (λ fs. seen store.new (with_files fs (during setting.now
+        (map_of tree.new) handed.new.items around)) instance.new call.new)) }
+    ensures err { OnErr result ((around : Around)
+        → seen store.new (during setting.now (map_of tree.new) handed.new.items around) instance.new call.new
+        ≡ seen store.old (during setting.now (map_of tree.old) handed.old.items around) instance.old call.old) }
     ensures kept { OnErr result (map_of tree.new ≡ map_of tree.old) }
     ensures unread { OnErr result (F.device files.new ≡ F.device files.old) }
     ensures unmoved { OnErr result (LeavesRest store.old store.new instance.old call.old) }

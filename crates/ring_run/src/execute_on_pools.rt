@@ -40,8 +40,10 @@ fn live_pool(
     setting: &Setting<'_>,
     pool: PoolRef,
 ) -> PoolId
-    requires there { (rings : ℕ → Option Items) (next : ℕ) (around : Around) (call : Call) → fault_want (seen_over rings next (in_setting setting.now (map_of tree.now) around) instance.now call) (WPool pool) ≡ None }
-    ensures named { (rings : ℕ → Option Items) (next : ℕ) (around : Around) (call : Call) → pool_named (seen_over rings next (in_setting setting.now (map_of tree.now) around) instance.now call) pool ≡ Some result }
+    requires there { (rings : ℕ → Option Items) (next : ℕ) (around : Around) (call : Call)
+        → fault_want (seen_over rings next (in_setting setting.now (map_of tree.now) around) instance.now call) (WPool pool) ≡ None }
+    ensures named { (rings : ℕ → Option Items) (next : ℕ) (around : Around) (call : Call)
+        → pool_named (seen_over rings next (in_setting setting.now (map_of tree.now) around) instance.now call) pool ≡ Some result }
     ensures live { IsTrue (is_live (map_of tree.now) result) }
 {
     let outside = Outside {
@@ -75,12 +77,17 @@ pub(crate) fn execute_on_pools<R: Rings<Stored> + Drop>(
     requires held { IsHeld store.old instance.old call.now }
     requires house { IsHouse store.old (map_of tree.old) }
     requires faultless { (around : Around) → fault code.now (seen store.old (in_setting setting.now (map_of tree.old) around) instance.old call.now) instr ≡ None }
-    ensures ok { OnOk result ((around : Around) (choice : Choice) → let r = seen store.old (in_setting setting.now (map_of tree.old) around) instance.old call.now in seen store.new (in_setting setting.now (map_of tree.new) around) instance.new call.now ≡ (step code.now choice instr r).state) }
-    ensures err { OnErr result ((around : Around) → seen store.new (record around { pools = map_of tree.new }) instance.new call.now ≡ seen store.old (record around { pools = map_of tree.old }) instance.old call.now) }
+    ensures ok { OnOk result ((around : Around) (choice : Choice)
+        → let r = seen store.old (in_setting setting.now (map_of tree.old) around) instance.old call.now in
+        seen store.new (in_setting setting.now (map_of tree.new) around) instance.new call.now ≡ (step code.now choice instr r).state) }
+    ensures err { OnErr result ((around : Around)
+        → seen store.new (record around { pools = map_of tree.new }) instance.new call.now
+        ≡ seen store.old (record around { pools = map_of tree.old }) instance.old call.now) }
     ensures sure { (around : Around) → let r = seen store.old (in_setting setting.now (map_of tree.old) around) instance.old call.now in grows r instr ≡ false → IsOk result }
     ensures held { IsHeld store.new instance.new call.now }
     ensures house { IsHouse store.new (map_of tree.new) }
-    ensures open { (d : Device) → ((around : Around) → RangesOpen d (seen store.old (in_setting setting.now (map_of tree.old) around) instance.old call.now)) → AreOpen (references store.old) d → AreOpen (references store.new) d }
+    ensures open { (d : Device) → ((around : Around) → RangesOpen d (seen store.old (in_setting setting.now (map_of tree.old) around) instance.old call.now))
+        → AreOpen (references store.old) d → AreOpen (references store.new) d }
     ensures slots { KeepNames (next_name store.old) (next_name store.new) instance.old instance.new }
     ensures left { LeavesRest store.old store.new instance.old call.now }
     ensures tree_unasked { tree.new.asked ≡ tree.old.asked }

@@ -73,7 +73,8 @@ fn make_in_pool<R: Rings<Stored> + Drop>(
     requires held { IsHeld store.old instance.now call.old }
     requires runs { 0 < call.old.name }
     requires there { (around : Around) × (fault_want (seen store.old (with_outside outside.now around) instance.now call.old) (WPool pool) ≡ None) }
-    ensures ok { OnOk result ((around : Around) → let r = seen store.old (with_outside outside.now around) instance.now call.old in seen store.new (with_outside outside.now around) instance.now call.new ≡ do_poolb c (pool_named r pool) r) }
+    ensures ok { OnOk result ((around : Around) → let r = seen store.old (with_outside outside.now around) instance.now call.old in
+        seen store.new (with_outside outside.now around) instance.now call.new ≡ do_poolb c (pool_named r pool) r) }
     ensures err { OnErr result ((around : Around) → seen store.new around instance.now call.new ≡ seen store.old around instance.now call.old) }
     ensures held { IsHeld store.new instance.now call.new }
     ensures name { call.new.name ≡ call.old.name }
@@ -100,7 +101,9 @@ fn make_bucket<R: Rings<Stored> + Drop>(
     requires held { IsHeld store.old instance.now call.old }
     requires runs { 0 < call.old.name }
     requires faultless { (around : Around) → fault code.now (seen store.old (with_outside outside.now around) instance.now call.old) instr ≡ None }
-    ensures ok { OnOk result ((around : Around) (choice : Choice) → seen store.new (with_outside outside.now around) instance.now call.new ≡ (step code.now choice instr (seen store.old (with_outside outside.now around) instance.now call.old)).state) }
+    ensures ok { OnOk result ((around : Around) (choice : Choice)
+        → seen store.new (with_outside outside.now around) instance.now call.new
+        ≡ (step code.now choice instr (seen store.old (with_outside outside.now around) instance.now call.old)).state) }
     ensures err { OnErr result ((around : Around) → seen store.new around instance.now call.new ≡ seen store.old around instance.now call.old) }
     ensures held { IsHeld store.new instance.now call.new }
     ensures name { call.new.name ≡ call.old.name }
@@ -134,7 +137,8 @@ fn move_bucket<R: Rings<Stored> + Drop>(
     requires runs { 0 < call.old.name }
     requires ends { EndInFiles store.old instance.now }
     requires faultless { (around : Around) → fault code.now (seen store.old (with_outside outside.now around) instance.now call.old) instr ≡ None }
-    ensures ok { OnOk result ((around : Around) (choice : Choice) → let r = seen store.old (with_outside outside.now around) instance.now call.old in seen store.new (with_outside outside.now around) instance.now call.new ≡ (step code.now choice instr r).state) }
+    ensures ok { OnOk result ((around : Around) (choice : Choice) → let r = seen store.old (with_outside outside.now around) instance.now call.old in
+        seen store.new (with_outside outside.now around) instance.now call.new ≡ (step code.now choice instr r).state) }
     ensures err { OnErr result ((around : Around) → seen store.new around instance.now call.new ≡ seen store.old around instance.now call.old) }
     ensures sure { (around : Around) → let r = seen store.old (with_outside outside.now around) instance.now call.old in grows r instr ≡ false → IsOk result }
     ensures held { IsHeld store.new instance.now call.new }
@@ -172,7 +176,8 @@ fn cut_brigade<R: Rings<Stored> + Drop>(
     requires fits { FitKinds store.old instance.old }
     requires ends { EndInFiles store.old instance.old }
     requires faultless { (around : Around) → fault code.now (seen store.old (with_outside outside.now around) instance.old call.old) instr ≡ None }
-    ensures ok { OnOk result ((around : Around) (choice : Choice) → let r = seen store.old (with_outside outside.now around) instance.old call.old in seen store.new (with_outside outside.now around) instance.new call.new ≡ (step code.now choice instr r).state) }
+    ensures ok { OnOk result ((around : Around) (choice : Choice) → let r = seen store.old (with_outside outside.now around) instance.old call.old in
+        seen store.new (with_outside outside.now around) instance.new call.new ≡ (step code.now choice instr r).state) }
     ensures err { OnErr result ((around : Around) → seen store.new around instance.new call.new ≡ seen store.old around instance.old call.old) }
     ensures sure { (around : Around) → let r = seen store.old (with_outside outside.now around) instance.old call.old in grows r instr ≡ false → IsOk result }
     ensures held { IsHeld store.new instance.new call.new }
@@ -210,7 +215,8 @@ pub(crate) fn execute_on_store<R: Rings<Stored> + Drop>(
     requires fits { FitKinds store.old instance.old }
     requires ends { EndInFiles store.old instance.old }
     requires faultless { (around : Around) → fault code.now (seen store.old (with_outside outside.now around) instance.old call.old) instr ≡ None }
-    ensures ok { OnOk result ((around : Around) (choice : Choice) → let r = seen store.old (with_outside outside.now around) instance.old call.old in seen store.new (with_outside outside.now around) instance.new call.new ≡ (step code.now choice instr r).state) }
+    ensures ok { OnOk result ((around : Around) (choice : Choice) → let r = seen store.old (with_outside outside.now around) instance.old call.old in
+        seen store.new (with_outside outside.now around) instance.new call.new ≡ (step code.now choice instr r).state) }
     ensures err { OnErr result ((around : Around) → seen store.new around instance.new call.new ≡ seen store.old around instance.old call.old) }
     ensures sure { (around : Around) → let r = seen store.old (with_outside outside.now around) instance.old call.old in grows r instr ≡ false → IsOk result }
     ensures held { IsHeld store.new instance.new call.new }

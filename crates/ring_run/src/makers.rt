@@ -61,7 +61,8 @@ pub(crate) fn heap<R: Rings<Stored> + Drop>(
     requires cursor { c < 9 }
     requires declared { t < length code.now.texts }
     requires there { is_some (lists store.old call.old.name) ≡ true }
-    ensures ok { OnOk result ((around : Around) (i : Instance) → IsHeld store.old i call.old → seen store.new around i call.new ≡ new_loose c (heap_bucket (text_of code.now t)) (seen store.old around i call.old)) }
+    ensures ok { OnOk result ((around : Around) (i : Instance) → IsHeld store.old i call.old
+        → seen store.new around i call.new ≡ new_loose c (heap_bucket (text_of code.now t)) (seen store.old around i call.old)) }
     ensures err { OnErr result ((around : Around) (i : Instance) → seen store.new around i call.new ≡ seen store.old around i call.old) }
     ensures held { (i : Instance) → IsHeld store.old i call.old → IsHeld store.new i call.new }
     ensures name { call.new.name ≡ call.old.name }
@@ -87,7 +88,8 @@ pub(crate) fn immortal<R: Rings<Stored> + Drop>(
     requires cursor { c < 9 }
     requires declared { t < length code.now.texts }
     requires there { is_some (lists store.old call.old.name) ≡ true }
-    ensures ok { OnOk result ((around : Around) (i : Instance) → IsHeld store.old i call.old → seen store.new around i call.new ≡ new_loose c (immortal_bucket (text_of code.now t)) (seen store.old around i call.old)) }
+    ensures ok { OnOk result ((around : Around) (i : Instance) → IsHeld store.old i call.old
+        → seen store.new around i call.new ≡ new_loose c (immortal_bucket (text_of code.now t)) (seen store.old around i call.old)) }
     ensures err { OnErr result ((around : Around) (i : Instance) → seen store.new around i call.new ≡ seen store.old around i call.old) }
     ensures held { (i : Instance) → IsHeld store.old i call.old → IsHeld store.new i call.new }
     ensures name { call.new.name ≡ call.old.name }
@@ -119,7 +121,8 @@ pub(crate) fn from_buffer<R: Rings<Stored> + Drop>(
 ) -> Result<(), AllocError>
     requires cursor { c < 9 }
     requires there { is_some (lists store.old call.old.name) ≡ true }
-    ensures ok { OnOk result ((around : Around) (i : Instance) → IsHeld store.old i call.old → seen store.new around i call.new ≡ new_loose c (heap_bucket call.old.buffer) (seen store.old around i call.old)) }
+    ensures ok { OnOk result ((around : Around) (i : Instance) → IsHeld store.old i call.old
+        → seen store.new around i call.new ≡ new_loose c (heap_bucket call.old.buffer) (seen store.old around i call.old)) }
     ensures err { OnErr result ((around : Around) (i : Instance) → seen store.new around i call.new ≡ seen store.old around i call.old) }
     ensures held { (i : Instance) → IsHeld store.old i call.old → IsHeld store.new i call.new }
     ensures name { call.new.name ≡ call.old.name }
@@ -143,7 +146,8 @@ pub(crate) fn transient<R: Rings<Stored> + Drop>(
     requires cursor { c < 9 }
     requires runs { 0 < call.old.name }
     requires there { is_some (lists store.old call.old.name) ≡ true }
-    ensures ok { OnOk result ((around : Around) (i : Instance) → IsHeld store.old i call.old → seen store.new around i call.new ≡ new_loose c (transient_bucket call.old.name call.old.buffer) (seen store.old around i call.old)) }
+    ensures ok { OnOk result ((around : Around) (i : Instance) → IsHeld store.old i call.old
+        → seen store.new around i call.new ≡ new_loose c (transient_bucket call.old.name call.old.buffer) (seen store.old around i call.old)) }
     ensures err { OnErr result ((around : Around) (i : Instance) → seen store.new around i call.new ≡ seen store.old around i call.old) }
     ensures held { (i : Instance) → IsHeld store.old i call.old → IsHeld store.new i call.new }
     ensures name { call.new.name ≡ call.old.name }
@@ -167,7 +171,8 @@ pub(crate) fn pool<R: Rings<Stored> + Drop>(
 ) -> Result<(), AllocError>
     requires cursor { c < 9 }
     requires there { is_some (lists store.old call.old.name) ≡ true }
-    ensures ok { OnOk result ((around : Around) (i : Instance) → IsHeld store.old i call.old → seen store.new around i call.new ≡ new_loose c (pool_bucket call.old.buffer pool) (seen store.old around i call.old)) }
+    ensures ok { OnOk result ((around : Around) (i : Instance) → IsHeld store.old i call.old
+        → seen store.new around i call.new ≡ new_loose c (pool_bucket call.old.buffer pool) (seen store.old around i call.old)) }
     ensures err { OnErr result ((around : Around) (i : Instance) → seen store.new around i call.new ≡ seen store.old around i call.old) }
     ensures held { (i : Instance) → IsHeld store.old i call.old → IsHeld store.new i call.new }
     ensures name { call.new.name ≡ call.old.name }

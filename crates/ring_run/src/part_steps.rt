@@ -38,8 +38,10 @@ fn place_in<R: Rings<Stored> + Drop>(
     requires named { name_in (slot_at instance.now b) ≡ Some name }
     requires stands { StandsAs store.now instance.now call.now c (InThis b) }
     ensures inside { IfSome result (λ id. brigade_of store.now id ≡ Some name) }
-    ensures stays { (around : Around) → let r = seen store.now around instance.now call.now in shown (calls_in around call.now) (before_place result (list_at (lists store.now) name)) ≡ stays (place_at (spot r c)) (items_at r b) }
-    ensures moves { (around : Around) → let r = seen store.now around instance.now call.now in shown (calls_in around call.now) (from_place result (list_at (lists store.now) name)) ≡ moves (place_at (spot r c)) (items_at r b) }
+    ensures stays { (around : Around) → let r = seen store.now around instance.now call.now in
+        shown (calls_in around call.now) (before_place result (list_at (lists store.now) name)) ≡ stays (place_at (spot r c)) (items_at r b) }
+    ensures moves { (around : Around) → let r = seen store.now around instance.now call.now in
+        shown (calls_in around call.now) (from_place result (list_at (lists store.now) name)) ≡ moves (place_at (spot r c)) (items_at r b) }
 {
     match call.cursor(c) {
         CursorValue::At(id) => Some(id),
@@ -103,7 +105,8 @@ fn part<R: Rings<Stored> + Drop>(
     requires fits { FitKinds store.old instance.now }
     requires ends { EndInFiles store.old instance.now }
     requires held { IsHeld store.old instance.now call.old }
-    ensures ok { OnOk result ((around : Around) → let r = seen store.old around instance.now call.old in home_fault (bucket_across point (items_at r b)) ≡ None → seen store.new around instance.now call.new ≡ do_bpart b point c r) }
+    ensures ok { OnOk result ((around : Around) → let r = seen store.old around instance.now call.old in
+        home_fault (bucket_across point (items_at r b)) ≡ None → seen store.new around instance.now call.new ≡ do_bpart b point c r) }
     ensures sure { (around : Around) → let r = seen store.old around instance.now call.old in names_to_part point (items_at r b) ≡ 0 → IsOk result }
     ensures err { OnErr result ((around : Around) → seen store.new around instance.now call.new ≡ seen store.old around instance.now call.old) }
     ensures held { IsHeld store.new instance.now call.new }
@@ -134,7 +137,8 @@ pub(crate) fn bpart<R: Rings<Stored> + Drop>(
     requires fits { FitKinds store.old instance.now }
     requires ends { EndInFiles store.old instance.now }
     requires held { IsHeld store.old instance.now call.old }
-    ensures ok { OnOk result ((around : Around) → let r = seen store.old around instance.now call.old in home_fault (bucket_across (value_of r x) (items_at r b)) ≡ None → seen store.new around instance.now call.new ≡ do_bpart b (value_of r x) c r) }
+    ensures ok { OnOk result ((around : Around) → let r = seen store.old around instance.now call.old in
+        home_fault (bucket_across (value_of r x) (items_at r b)) ≡ None → seen store.new around instance.now call.new ≡ do_bpart b (value_of r x) c r) }
     ensures sure { (around : Around) → let r = seen store.old around instance.now call.old in names_to_part (value_of r x) (items_at r b) ≡ 0 → IsOk result }
     ensures err { OnErr result ((around : Around) → seen store.new around instance.now call.new ≡ seen store.old around instance.now call.old) }
     ensures held { IsHeld store.new instance.now call.new }

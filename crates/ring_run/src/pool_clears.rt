@@ -58,7 +58,9 @@ pub(crate) fn clear_named<R: Rings<Stored> + Drop, F: Files>(
     requires held { IsHeld store.old instance.now call.now }
     requires looks { LooksAt rings.now (is_under (map_of tree.old) pool) (pool_of store.old) instance.now call.now }
     ensures ran { IfOk result (λ ran. ran.items ≡ run_order (map_of tree.old) pool) }
-    ensures ok { OnOk result ((code : Program) (around : Around) (choice : Choice) → seen store.new (around_cleared pool (map_of tree.old) (map_of tree.new) around) instance.now call.now ≡ (step code choice instr (seen store.old (record around { pools = map_of tree.old }) instance.now call.now)).state) }
+    ensures ok { OnOk result ((code : Program) (around : Around) (choice : Choice)
+        → seen store.new (around_cleared pool (map_of tree.old) (map_of tree.new) around) instance.now call.now
+        ≡ (step code choice instr (seen store.old (record around { pools = map_of tree.old }) instance.now call.now)).state) }
     ensures out { OnOk result ((n : ℕ) → lists store.new n ≡ cleared_ring (is_under (map_of tree.old) pool) (is_in n rings.now) (pool_of store.old n) (lists store.old n)) }
     ensures off { OnOk result ((n : ℕ) → pool_of store.new n ≡ pool_left (is_under (map_of tree.old) pool) (pool_of store.old n)) }
     ensures house { IsHouse store.new (map_of tree.new) }

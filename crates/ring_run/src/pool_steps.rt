@@ -59,7 +59,8 @@ pub(crate) fn label(
     requires declared { t < length code.now.texts }
     requires live { IsTrue (is_live (map_of tree.old) pool) }
     ensures ok { OnOk result ((rings : ℕ → Option Items) (next : ℕ) (around : Around) (i : Instance) (call : Call)
-        → seen_over rings next (record around { pools = map_of tree.new }) i call ≡ on_pool (label_registered (text_of code.now t)) (Some pool) (seen_over rings next (record around { pools = map_of tree.old }) i call)) }
+        → seen_over rings next (record around { pools = map_of tree.new }) i call
+        ≡ on_pool (label_registered (text_of code.now t)) (Some pool) (seen_over rings next (record around { pools = map_of tree.old }) i call)) }
     ensures err { OnErr result ((rings : ℕ → Option Items) (next : ℕ) (around : Around) (i : Instance) (call : Call)
         → seen_over rings next (record around { pools = map_of tree.new }) i call ≡ seen_over rings next (record around { pools = map_of tree.old }) i call) }
     ensures house { (rings : ℕ → Option Items) (pools : ℕ → Option ℕ) (references : ℕ → ℕ) → AreHoused rings pools references (map_of tree.old) → AreHoused rings pools references (map_of tree.new) }
@@ -77,7 +78,8 @@ pub(crate) fn unlabel(code: &Module, tree: &mut PoolTree<Payload>, pool: PoolId,
     requires declared { t < length code.now.texts }
     requires live { IsTrue (is_live (map_of tree.old) pool) }
     ensures new { (rings : ℕ → Option Items) (next : ℕ) (around : Around) (i : Instance) (call : Call)
-        → seen_over rings next (record around { pools = map_of tree.new }) i call ≡ on_pool (label_killed (text_of code.now t)) (Some pool) (seen_over rings next (record around { pools = map_of tree.old }) i call) }
+        → seen_over rings next (record around { pools = map_of tree.new }) i call
+        ≡ on_pool (label_killed (text_of code.now t)) (Some pool) (seen_over rings next (record around { pools = map_of tree.old }) i call) }
     ensures house { (rings : ℕ → Option Items) (pools : ℕ → Option ℕ) (references : ℕ → ℕ) → AreHoused rings pools references (map_of tree.old) → AreHoused rings pools references (map_of tree.new) }
     ensures tree_unasked { tree.new.asked ≡ tree.old.asked }
 {

@@ -41,7 +41,8 @@ pub(crate) fn save<R: Rings<Stored> + Drop>(
     requires live { (n p : ℕ) → live_in (lists store.old) (slot_at instance.now o) ≡ Some n → pool_of store.old n ≡ Some p → IsTrue (is_live (map_of tree.old) p) }
     ensures ok { OnOk result ((around : Around) (call : Call) → IsHeld store.old instance.now call
         → seen store.new (record around { pools = map_of tree.new }) instance.now call ≡ do_save o b (seen store.old (record around { pools = map_of tree.old }) instance.now call)) }
-    ensures sure { (around : Around) (call : Call) → let r = seen store.old (record around { pools = map_of tree.old }) instance.now call in takes_reference (map_of tree.old) (made_on (r.instance.brigades o)) (items_at r b) ≡ false → IsOk result }
+    ensures sure { (around : Around) (call : Call) → let r = seen store.old (record around { pools = map_of tree.old }) instance.now call in
+        takes_reference (map_of tree.old) (made_on (r.instance.brigades o)) (items_at r b) ≡ false → IsOk result }
     ensures err { OnErr result ((around : Around) (call : Call)
         → seen store.new (record around { pools = map_of tree.new }) instance.now call ≡ seen store.old (record around { pools = map_of tree.old }) instance.now call) }
     ensures held { (call : Call) → IsHeld store.old instance.now call → IsHeld store.new instance.now call }

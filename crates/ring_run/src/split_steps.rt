@@ -31,7 +31,8 @@ pub(crate) fn split<R: Rings<Stored> + Drop>(
     requires held { IsHeld store.old instance.now call.now }
     requires stands { StandsAs store.old instance.now call.now c InBrigade }
     requires ends { EndInFiles store.old instance.now }
-    ensures ok { OnOk result ((around : Around) → let r = seen store.old around instance.now call.now in home_fault (model_bucket_at (spot r c)) ≡ None → seen store.new around instance.now call.now ≡ do_split n (spot r c) r) }
+    ensures ok { OnOk result ((around : Around) → let r = seen store.old around instance.now call.now in home_fault (model_bucket_at (spot r c)) ≡ None
+        → seen store.new around instance.now call.now ≡ do_split n (spot r c) r) }
     ensures sure { (around : Around) → let r = seen store.old around instance.now call.now in names_to_split n (spot r c) ≡ 0 → IsOk result }
     ensures err { OnErr result ((around : Around) → seen store.new around instance.now call.now ≡ seen store.old around instance.now call.now) }
     ensures held { IsHeld store.new instance.now call.now }
@@ -83,7 +84,8 @@ pub(crate) fn copy<R: Rings<Stored> + Drop>(
     requires runs { 0 < call.old.name }
     requires held { IsHeld store.old instance.now call.old }
     requires stands { StandsAs store.old instance.now call.old c OnBucket }
-    ensures ok { OnOk result ((around : Around) → let r = seen store.old around instance.now call.old in home_fault (model_bucket_at (spot r c)) ≡ None → seen store.new around instance.now call.new ≡ do_copy d (spot r c) r) }
+    ensures ok { OnOk result ((around : Around) → let r = seen store.old around instance.now call.old in home_fault (model_bucket_at (spot r c)) ≡ None
+        → seen store.new around instance.now call.new ≡ do_copy d (spot r c) r) }
     ensures err { OnErr result ((around : Around) → seen store.new around instance.now call.new ≡ seen store.old around instance.now call.old) }
     ensures held { IsHeld store.new instance.now call.new }
     ensures name { call.new.name ≡ call.old.name }

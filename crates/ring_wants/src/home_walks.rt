@@ -49,7 +49,9 @@ pub(crate) fn has_stray<R: Rings<Stored> + Drop>(
     b: BrigadeId,
 ) -> bool
     requires { is_some (lists store.now b) ≡ true }
-    ensures { (pools : Pools Payload) (around : Around) → result ≡ list_any (λ b. is_stray (seen store.now (in_setting setting.now pools around) instance.now call.now) b.bucket.home) (shown (is_running call.now.name setting.now.waits.now) (list_at (lists store.now) b)) }
+    ensures { (pools : Pools Payload) (around : Around)
+        → result ≡ list_any (λ b. is_stray (seen store.now (in_setting setting.now pools around) instance.now call.now) b.bucket.home) (shown
+        (is_running call.now.name setting.now.waits.now) (list_at (lists store.now) b)) }
 {
     let mut place = store.start(b);
     while let Some(id) = place {

@@ -52,7 +52,8 @@ fn has_pool(
     tree: &mut PoolTree<Payload>,
     pool: PoolRef,
 ) -> bool
-    ensures value { (rings : ℕ → Option Items) (next : ℕ) (around : Around) (call : Call) → result ≡ has_pool (seen_over rings next (in_setting setting.now (map_of tree.old) around) instance.now call) pool }
+    ensures value { (rings : ℕ → Option Items) (next : ℕ) (around : Around) (call : Call)
+        → result ≡ has_pool (seen_over rings next (in_setting setting.now (map_of tree.old) around) instance.now call) pool }
     ensures asked { TreeOnlyAsked tree.old tree.new }
 {
     let outside = Outside {
@@ -72,7 +73,8 @@ pub(crate) fn want_pool(
     tree: &mut PoolTree<Payload>,
     pool: PoolRef,
 ) -> Option<FaultKind>
-    ensures value { (rings : ℕ → Option Items) (next : ℕ) (around : Around) (call : Call) → result ≡ fault_want (seen_over rings next (in_setting setting.now (map_of tree.old) around) instance.now call) (WPool pool) }
+    ensures value { (rings : ℕ → Option Items) (next : ℕ) (around : Around) (call : Call)
+        → result ≡ fault_want (seen_over rings next (in_setting setting.now (map_of tree.old) around) instance.now call) (WPool pool) }
     ensures asked { TreeOnlyAsked tree.old tree.new }
 {
     if has_pool(instance, setting, tree, pool) {
@@ -89,7 +91,8 @@ pub(crate) fn want_new_pool(
     tree: &mut PoolTree<Payload>,
     q: u8,
 ) -> Option<FaultKind>
-    ensures value { (rings : ℕ → Option Items) (next : ℕ) (around : Around) (call : Call) → result ≡ fault_want (seen_over rings next (in_setting setting.now (map_of tree.old) around) instance.now call) (WNewPool q) }
+    ensures value { (rings : ℕ → Option Items) (next : ℕ) (around : Around) (call : Call)
+        → result ≡ fault_want (seen_over rings next (in_setting setting.now (map_of tree.old) around) instance.now call) (WNewPool q) }
     ensures asked { TreeOnlyAsked tree.old tree.new }
 {
     if has_pool(instance, setting, tree, PoolRef::Own(q)) {
@@ -102,7 +105,8 @@ pub(crate) fn want_new_pool(
 /// Whether a pool is one that a pool variable names, the connection's or the open request's.
 #[tactic(auto, unfolding(ring_calls::specs::Seen::seen_over, run_model::specs::State::is_own_at))]
 fn is_own(instance: &Instance, setting: &Setting<'_>, name: PoolId) -> bool
-    ensures { (rings : ℕ → Option Items) (next : ℕ) (pools : Pools Payload) (around : Around) (call : Call) → result ≡ is_own (seen_over rings next (in_setting setting.now pools around) instance.now call) name }
+    ensures { (rings : ℕ → Option Items) (next : ℕ) (pools : Pools Payload) (around : Around) (call : Call)
+        → result ≡ is_own (seen_over rings next (in_setting setting.now pools around) instance.now call) name }
 {
     any_names(instance, name) || name == setting.conn || is_named(setting.req, name)
 }
@@ -110,7 +114,8 @@ fn is_own(instance: &Instance, setting: &Setting<'_>, name: PoolId) -> bool
 /// Whether a home does not outlast the call, or lies in a pool of another filter.
 #[tactic(auto, unfolding(run_model::specs::Faults::is_stray, run_model::specs::State::is_own_at, ring_calls::specs::Seen::seen_over))]
 pub(crate) fn is_stray(instance: &Instance, setting: &Setting<'_>, home: Home) -> bool
-    ensures { (rings : ℕ → Option Items) (next : ℕ) (pools : Pools Payload) (around : Around) (call : Call) → result ≡ is_stray (seen_over rings next (in_setting setting.now pools around) instance.now call) home }
+    ensures { (rings : ℕ → Option Items) (next : ℕ) (pools : Pools Payload) (around : Around) (call : Call)
+        → result ≡ is_stray (seen_over rings next (in_setting setting.now pools around) instance.now call) home }
 {
     match home {
         Home::Call(_) => true,

@@ -88,7 +88,8 @@ impl Player {
         out: &mut Vec<u8>,
     ) -> Result<(), AllocError>
         requires begun { (s : ModelStage) × IsAt self.old s × HasBegun s }
-        ensures ok { (s : ModelStage) → IsAt self.old s → HasBegun s → OnOk result (Leaves self.new out.old.items out.new.items (λ told t. TakesAt self.old.lines (record { text = text.now; ended = ended }) s told t)) }
+        ensures ok { (s : ModelStage) → IsAt self.old s → HasBegun s
+            → OnOk result (Leaves self.new out.old.items out.new.items (λ told t. TakesAt self.old.lines (record { text = text.now; ended = ended }) s told t)) }
         ensures err { OnErr result (out.new.items ≡ out.old.items) }
         ensures lines { self.new.lines ≡ self.old.lines }
     {
@@ -105,7 +106,8 @@ impl Player {
     fn take_line(&mut self, text: &[u8], ended: bool, out: &mut Vec<u8>) -> Result<(), AllocError>
         requires at { (s : ModelStage) × IsAt self.old s }
         requires few { self.old.lines < 2 ^ 62 }
-        ensures ok { (s : ModelStage) → IsAt self.old s → OnOk result (Leaves self.new out.old.items out.new.items (λ told t. PlaysLine (self.old.lines + 1) (record { text = text.now; ended = ended }) s told t)) }
+        ensures ok { (s : ModelStage) → IsAt self.old s
+            → OnOk result (Leaves self.new out.old.items out.new.items (λ told t. PlaysLine (self.old.lines + 1) (record { text = text.now; ended = ended }) s told t)) }
         ensures err { OnErr result (out.new.items ≡ out.old.items) }
         ensures lines { self.new.lines ≡ self.old.lines + 1 }
     {
@@ -132,7 +134,9 @@ impl Player {
         requires at { (s : ModelStage) × IsAt self.old s }
         requires few { self.old.lines + length lines.now < 2 ^ 62 }
         ensures ok { (s : ModelStage) → IsAt self.old s → OnOk result (TakesOn self.old self.new out.old.items out.new.items (lines_of lines.now) s) }
-        ensures err { (s : ModelStage) → IsAt self.old s → OnErr result ((n : ℕ) × (told : List ℕ) × (last : ModelStage) × TakesAll (self.old.lines + 1) (take n (lines_of lines.now)) s told last × (out.new.items ≡ out.old.items ++ told)) }
+        ensures err { (s : ModelStage) → IsAt self.old s
+            → OnErr result ((n : ℕ) × (told : List ℕ) × (last : ModelStage) × TakesAll (self.old.lines + 1) (take n (lines_of lines.now)) s told last
+            × (out.new.items ≡ out.old.items ++ told)) }
     {
         let mut rest = lines;
         while !rest.is_empty() && !self.is_over() {

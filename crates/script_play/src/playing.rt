@@ -121,9 +121,15 @@ pub fn run_play<R: Source, W: Sink>(
 ) -> Result<Ended, PlayFault>
     requires { reads_left reader.old ≡ READS }
     ensures ok { IfOk result (λ e. Writes (R.remaining (source_of reader.old)) (W.contents writer.old) (W.contents writer.new) (λ script text. IsWrittenFor script text e)) }
-    ensures read { result ≡ Err PlayFault.Read → Writes (R.remaining (source_of reader.old)) (W.contents writer.old) (W.contents writer.new) (λ script text. AnswersLinesRead script text (R.remaining (source_of reader.new))) }
-    ensures memory { result ≡ Err PlayFault.NoMemory → Writes (R.remaining (source_of reader.old)) (W.contents writer.old) (W.contents writer.new) (λ script text. IsFrontOf script text (R.remaining (source_of reader.new))) }
-    ensures write { result ≡ Err PlayFault.Write → Writes (R.remaining (source_of reader.old)) (W.contents writer.old) (W.contents writer.new) (λ script text. IsCutOf script text (R.remaining (source_of reader.new))) }
+    ensures read { result ≡ Err PlayFault.Read
+        → Writes (R.remaining (source_of reader.old)) (W.contents writer.old) (W.contents writer.new) (λ script text. AnswersLinesRead script text
+        (R.remaining (source_of reader.new))) }
+    ensures memory { result ≡ Err PlayFault.NoMemory
+        → Writes (R.remaining (source_of reader.old)) (W.contents writer.old) (W.contents writer.new) (λ script text. IsFrontOf script text (R.remaining
+        (source_of reader.new))) }
+    ensures write { result ≡ Err PlayFault.Write
+        → Writes (R.remaining (source_of reader.old)) (W.contents writer.old) (W.contents writer.new) (λ script text. IsCutOf script text (R.remaining
+        (source_of reader.new))) }
     ensures reader { TellsOfReader (R.failed (source_of reader.old)) (R.failed (source_of reader.new)) (reads_left reader.new) result }
     ensures writer { TellsOfWriter (W.failed writer.old) (W.failed writer.new) result }
 {

@@ -38,7 +38,8 @@ impl Session {
     ) -> Result<Result<Session, Refused>, AllocError>
         requires some { 0 < length parts.items }
         requires few { length parts.items ≤ 16 }
-        ensures accepted { IfOk result (λ r. IfOk r (λ s. (refused_in (map seen_part parts.items) ≡ None) × IsHosted s (record { chain = codes_of (map seen_part parts.items); budget = budget; is_checked = true; host_view = first_view }))) }
+        ensures accepted { IfOk result (λ r. IfOk r (λ s. (refused_in (map seen_part parts.items) ≡ None)
+            × IsHosted s (record { chain = codes_of (map seen_part parts.items); budget = budget; is_checked = true; host_view = first_view }))) }
         ensures refused { IfOk result (λ r. IfErr r (λ at. refused_in (map seen_part parts.items) ≡ Some (at.index, at.refusal))) }
     {
         match accept_parts(alloc, parts)? {

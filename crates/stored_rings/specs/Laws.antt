@@ -40,7 +40,8 @@ pub record ListsAreTheModels : Type 0 where
   pub split : (id new : BucketId) (n : ℕ) (x : Bucket) (xs : Items) → IsGiven id xs → found id xs ≡ Some x
       → named (replaced id (split_at n x).0 ((new, (split_at n x).1) ∷ []) xs) ≡ model.bucket_split new.birth id.birth n (named xs)
   pub aside : (ps : Pools Payload) (pool : ℕ) (xs : Items) → named (map (aside_item ps pool) xs) ≡ map (aside_named ps pool) (named xs)
-  pub cleared : (reached : ℕ → Bool) (ms : List Morph) (xs : Items) → AllByRecursion (λ (x : Item). morphed ms x.0 x.1 ≡ cleared_as reached x.1) xs → named (all_morphed ms xs) ≡ map (cleared_bucket reached) (named xs)
+  pub cleared : (reached : ℕ → Bool) (ms : List Morph) (xs : Items) → AllByRecursion (λ (x : Item). morphed ms x.0 x.1 ≡ cleared_as reached x.1) xs
+      → named (all_morphed ms xs) ≡ map (cleared_bucket reached) (named xs)
   pub brought : (make : Piece → Bucket) (next : ℕ) (pieces : List Piece) (xs : Items) → by_birth xs ≡ numbered next (map make pieces) → named xs ≡ named_from make next pieces
 
 abbrev pub place_cut : Option BucketId → model.Cut

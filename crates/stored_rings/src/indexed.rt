@@ -102,7 +102,8 @@ impl<R: Rings<Stored> + Drop> Rings<Stored> for Indexed<R> {
 
     fn add_all(&mut self, ring: RingId, given: Vec<Stored>) -> Result<(), RingRefusal>
         requires { is_some (R.lists self.old.rings ring) ≡ true }
-        ensures ok { OnOk result ((bs : StoredItems) × (by_birth bs ≡ numbered (R.next_name self.old.rings) given.items) × ((n : ℕ) → R.lists self.new.rings n ≡ on ring (λ xs. xs ++ bs) (R.lists self.old.rings) n)) }
+        ensures ok { OnOk result ((bs : StoredItems) × (by_birth bs ≡ numbered (R.next_name self.old.rings) given.items)
+            × ((n : ℕ) → R.lists self.new.rings n ≡ on ring (λ xs. xs ++ bs) (R.lists self.old.rings) n)) }
         ensures next { R.next_name self.new.rings ≡ (if is_ok result then R.next_name self.old.rings + length given.items else R.next_name self.old.rings) }
         ensures names { NoneRevived (R.ring_at self.old.rings) (R.ring_at self.new.rings) (R.next_name self.old.rings) }
         ensures spent { (result ≡ Err RingRefusal.NamesSpent) ↔ (u64.MAX < R.next_name self.old.rings + length given.items) }

@@ -64,7 +64,7 @@ impl<R: Rings<Stored> + Drop> Shelf<R> {
         }
     }
 
-    /// As the calls of `Rings`.
+    /// Makes room for one more ring or bucket. Nothing that is seen of the rings changes, also where it is refused.
     pub fn make_room(&mut self) -> Result<(), AllocError>
         ensures room { OnOk result (R.has_room self.new.rings.rings) }
         ensures next { R.next_name self.new.rings.rings ≡ R.next_name self.old.rings.rings }
@@ -75,6 +75,7 @@ impl<R: Rings<Stored> + Drop> Shelf<R> {
         self.rings.make_room()
     }
 
+    /// Makes an empty ring. `NamesSpent`: the next name is `u64::MAX`.
     pub fn new_ring(&mut self) -> Result<RingId, RingRefusal>
         ensures ok { IfOk result (λ r. (n : ℕ) → seen self.new n ≡ upd (seen self.old) r (Some []) n) }
         ensures name { IfOk result (λ r. r ≡ R.next_name self.old.rings.rings) }
@@ -86,6 +87,7 @@ impl<R: Rings<Stored> + Drop> Shelf<R> {
     {
         self.rings.new_ring()
     }
+
     /// Puts a bucket whose bytes are placed at the tail of a ring. A name and room for it are there.
     pub fn add_tail(&mut self, ring: RingId, bucket: Stored) -> BucketId
         requires there { is_some (seen self.old ring) ≡ true }
@@ -162,6 +164,8 @@ impl<R: Rings<Stored> + Drop> Shelf<R> {
         }
     }
 
+    /// Puts new buckets before the sentinel of a ring, in this order: all, or none. `NamesSpent`: so many names are not left. Refused, nothing
+    /// is changed, and no name is spent.
     pub fn add_all(&mut self, ring: RingId, given: Vec<Bucket>) -> Result<(), RingRefusal>
         requires { is_some (seen self.old ring) ≡ true }
         ensures ok { OnOk result ((xs : Items) × (by_birth xs ≡ numbered (R.next_name self.old.rings.rings) given.items) × ((n : ℕ) → seen self.new n ≡ on ring (λ ys. ys ++ xs) (seen self.old) n)) }
@@ -177,6 +181,8 @@ impl<R: Rings<Stored> + Drop> Shelf<R> {
         self.rings.add_all(ring, kept)
     }
 
+    /// Makes two rings, the first empty, the second with new buckets in this order: all, or none. The rings have the next two names, the
+    /// buckets those behind them. `NamesSpent`: so many names are not left. Refused, nothing is changed, and no name is spent.
     pub fn new_pair(&mut self, given: Vec<Bucket>) -> Result<(RingId, RingId), RingRefusal>
         ensures ok { OnOk result ((xs : Items) × (by_birth xs ≡ numbered (R.next_name self.old.rings.rings + 2) given.items)
             × ((n : ℕ) → seen self.new n ≡ upd (upd (seen self.old) (R.next_name self.old.rings.rings) (Some [])) (R.next_name self.old.rings.rings + 1) (Some xs) n)) }
@@ -194,36 +200,44 @@ impl<R: Rings<Stored> + Drop> Shelf<R> {
         self.rings.new_pair(kept)
     }
 
+    /// Takes a bucket out and puts it before the sentinel of a ring, which may be its own.
     pub fn move_tail(&mut self, ring: RingId, id: BucketId)
         requires ring { is_some (seen self.old ring) ≡ true }
         requires bucket { is_some (R.ring_at self.old.rings.rings id) ≡ true }
-        ensures out { (q n : ℕ) (x : Bucket) → R.ring_at self.old.rings.rings id ≡ Some q → found id (list_at (seen self.old) q) ≡ Some x → seen self.new n ≡ on ring (put_tail (id, x)) (on q (without id) (seen self.old)) n }
+        ensures out { (q n : ℕ) (x : Bucket) → R.ring_at self.old.rings.rings id ≡ Some q → found id (list_at (seen self.old) q) ≡ Some x
+            → seen self.new n ≡ on ring (put_tail (id, x)) (on q (without id) (seen self.old)) n }
         ensures next { R.next_name self.new.rings.rings ≡ R.next_name self.old.rings.rings }
         ensures names { NoneRevived (R.ring_at self.old.rings.rings) (R.ring_at self.new.rings.rings) (R.next_name self.old.rings.rings) }
     {
         self.rings.move_tail(ring, id);
     }
 
+    /// Takes a bucket out and puts it behind the sentinel of a ring, which may be its own.
     pub fn move_head(&mut self, ring: RingId, id: BucketId)
         requires ring { is_some (seen self.old ring) ≡ true }
         requires bucket { is_some (R.ring_at self.old.rings.rings id) ≡ true }
-        ensures out { (q n : ℕ) (x : Bucket) → R.ring_at self.old.rings.rings id ≡ Some q → found id (list_at (seen self.old) q) ≡ Some x → seen self.new n ≡ on ring (put_head (id, x)) (on q (without id) (seen self.old)) n }
+        ensures out { (q n : ℕ) (x : Bucket) → R.ring_at self.old.rings.rings id ≡ Some q → found id (list_at (seen self.old) q) ≡ Some x
+            → seen self.new n ≡ on ring (put_head (id, x)) (on q (without id) (seen self.old)) n }
         ensures next { R.next_name self.new.rings.rings ≡ R.next_name self.old.rings.rings }
         ensures names { NoneRevived (R.ring_at self.old.rings.rings) (R.ring_at self.new.rings.rings) (R.next_name self.old.rings.rings) }
     {
         self.rings.move_head(ring, id);
     }
 
+    /// Takes a bucket out and puts it before another; before itself, nothing is changed.
     pub fn move_before(&mut self, at: BucketId, id: BucketId)
         requires place { is_some (R.ring_at self.old.rings.rings at) ≡ true }
         requires bucket { is_some (R.ring_at self.old.rings.rings id) ≡ true }
-        ensures out { (r q n : ℕ) (x : Bucket) → R.ring_at self.old.rings.rings at ≡ Some r → R.ring_at self.old.rings.rings id ≡ Some q → found id (list_at (seen self.old) q) ≡ Some x → seen self.new n ≡ (if same at id then seen self.old n else on r (put_before at (id, x)) (on q (without id) (seen self.old)) n) }
+        ensures out { (r q n : ℕ) (x : Bucket) → R.ring_at self.old.rings.rings at ≡ Some r → R.ring_at self.old.rings.rings id ≡ Some q
+            → found id (list_at (seen self.old) q) ≡ Some x
+            → seen self.new n ≡ (if same at id then seen self.old n else on r (put_before at (id, x)) (on q (without id) (seen self.old)) n) }
         ensures next { R.next_name self.new.rings.rings ≡ R.next_name self.old.rings.rings }
         ensures names { NoneRevived (R.ring_at self.old.rings.rings) (R.ring_at self.new.rings.rings) (R.next_name self.old.rings.rings) }
     {
         self.rings.move_before(at, id);
     }
 
+    /// Moves all buckets of `from` before the sentinel of `ring`; onto itself, nothing is changed.
     pub fn splice_tail(&mut self, ring: RingId, from: RingId)
         requires ring { is_some (seen self.old ring) ≡ true }
         requires from { is_some (seen self.old from) ≡ true }
@@ -234,6 +248,7 @@ impl<R: Rings<Stored> + Drop> Shelf<R> {
         self.rings.splice_tail(ring, from);
     }
 
+    /// Moves a bucket and those behind it before the sentinel of a ring; of its own ring, nothing is changed.
     pub fn splice_from(&mut self, id: BucketId, ring: RingId)
         requires bucket { is_some (R.ring_at self.old.rings.rings id) ≡ true }
         requires ring { is_some (seen self.old ring) ≡ true }
@@ -244,6 +259,7 @@ impl<R: Rings<Stored> + Drop> Shelf<R> {
         self.rings.splice_from(id, ring);
     }
 
+    /// Destroys a bucket.
     pub fn drop_bucket(&mut self, id: BucketId)
         requires { is_some (R.ring_at self.old.rings.rings id) ≡ true }
         ensures out { (q n : ℕ) → R.ring_at self.old.rings.rings id ≡ Some q → seen self.new n ≡ on q (without id) (seen self.old) n }
@@ -253,6 +269,7 @@ impl<R: Rings<Stored> + Drop> Shelf<R> {
         self.rings.drop_bucket(id);
     }
 
+    /// Destroys the buckets of a ring, which stays.
     pub fn drop_all(&mut self, ring: RingId)
         requires { is_some (seen self.old ring) ≡ true }
         ensures out { (n : ℕ) → seen self.new n ≡ on ring (λ bs. []) (seen self.old) n }
@@ -262,6 +279,7 @@ impl<R: Rings<Stored> + Drop> Shelf<R> {
         self.rings.drop_all(ring);
     }
 
+    /// Ends a ring, and destroys its buckets.
     pub fn end_ring(&mut self, ring: RingId)
         requires { is_some (seen self.old ring) ≡ true }
         ensures out { (n : ℕ) → seen self.new n ≡ upd (seen self.old) ring None n }
@@ -271,12 +289,14 @@ impl<R: Rings<Stored> + Drop> Shelf<R> {
         self.rings.end_ring(ring);
     }
 
+    /// The next name, which no ring and no bucket has yet.
     pub fn next_name(&self) -> u64
         ensures { result ≡ R.next_name self.now.rings.rings }
     {
         self.rings.next_name()
     }
 
+    /// Sets the next name to this or a later one: those between were given by others.
     pub fn set_next(&mut self, next: u64)
         requires { R.next_name self.old.rings.rings ≤ next }
         ensures next { R.next_name self.new.rings.rings ≡ next }
@@ -286,12 +306,14 @@ impl<R: Rings<Stored> + Drop> Shelf<R> {
         self.rings.set_next(next);
     }
 
+    /// Whether there is such a ring.
     pub fn has_ring(&self, ring: RingId) -> bool
         ensures { result ≡ is_some (seen self.now ring) }
     {
         self.rings.has_ring(ring)
     }
 
+    /// The first bucket of a ring; `None` where its sentinel is first.
     pub fn first(&self, ring: RingId) -> Option<BucketId>
         requires { is_some (seen self.now ring) ≡ true }
         ensures { result ≡ first_of (list_at (seen self.now) ring) }
@@ -299,6 +321,7 @@ impl<R: Rings<Stored> + Drop> Shelf<R> {
         self.rings.first(ring)
     }
 
+    /// The bucket behind another; the ring where its sentinel is behind it.
     pub fn next(&self, id: BucketId) -> Result<BucketId, RingId>
         requires { is_some (R.ring_at self.now.rings.rings id) ≡ true }
         ensures { (r : ℕ) → R.ring_at self.now.rings.rings id ≡ Some r → result ≡ next_in r id (list_at (seen self.now) r) }
@@ -306,6 +329,7 @@ impl<R: Rings<Stored> + Drop> Shelf<R> {
         self.rings.next(id)
     }
 
+    /// The ring that a bucket is in; `None` where it was destroyed.
     pub fn ring_of(&self, id: BucketId) -> Option<RingId>
         ensures { result ≡ R.ring_at self.now.rings.rings id }
     {

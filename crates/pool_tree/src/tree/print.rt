@@ -62,7 +62,8 @@ impl<T: Drop + PoolText> PoolTree<T> {
 
     /// The child of a pool that was made first.
     fn oldest_child(&self, pool: PoolId) -> Option<PoolId>
-        ensures { MatchOption result (newest_of (record_of self.now.records) pool ≡ None) (λ c. (parent_of (record_of self.now.records) c ≡ Some pool) × (older_of (record_of self.now.records) c ≡ None)) }
+        ensures { MatchOption result (newest_of (record_of self.now.records) pool ≡ None) (λ c. (parent_of (record_of self.now.records) c ≡ Some pool)
+            × (older_of (record_of self.now.records) c ≡ None)) }
     {
         let mut oldest = match self.records.newest(pool) {
             Some(newest) => newest,
