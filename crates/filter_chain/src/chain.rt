@@ -6,8 +6,8 @@ ghost use Rattle.filter_chain.specs.Facts.{checked_is_a_fact};
 
 use run_model::Module;
 
-/// The modules of each connection's filters, in their order. Where it is bare it was checked: no run of it answers a fault, and a step looks
-/// for none.
+/// The modules of each connection's filters, in their order. Where it is bare it was checked: no run of it answers a fault, and its steps are
+/// bare ones (`step_bare` of `module_run`).
 #[derive(Drop)]
 pub(crate) struct Chain {
     pub(crate) modules: Vec<Module>,

@@ -76,8 +76,8 @@ impl<F: Files + Drop> Host<F> {
         Host::begun_at(alloc, files, modules, limits, first, false)
     }
 
-    /// No connection, on a chain that was checked: no call answers a fault, and no step looks for one. Names begin with 1. Refused where there is
-    /// no memory for the root of the pools.
+    /// No connection, on a chain that was checked: no call answers a fault, and its steps are bare. Names begin with 1. Refused where there is no
+    /// memory for the root of the pools.
     pub fn checked(
         alloc: Global,
         files: F,
