@@ -86,7 +86,7 @@ def split(script):
     """The texts with the lines `budget` and `checked`, and the commands, as lists of lines."""
     lines = script.split(b'\n')[:-1]
     first, word = 0, b'module'
-    while word in (b'module', b'cert'):
+    while word in (b'module', b'cert', b'slim'):
         first = next((i + 1 for i in range(first, len(lines)) if lines[i].strip(b' ') == b'end'), len(lines))
         word = next((line.split()[0] for line in lines[first:] if line.strip() and not line.lstrip().startswith(b'#')), b'')
     for word in (b'budget ', b'checked'):
