@@ -55,7 +55,7 @@ module _ {T : Type 0} where
   abbrev pub as_read : Ghosts (ℕ → Option (Node T)) T
   as_read = record { node = λ f k. f k; room = λ f. 0 }
 
-target_as : (f g : ℕ → ℕ) (h : RingHead) (position : Position) → ((i : ℕ) → g i ≡ f i) → target g h position ≡ target f h position
+pub target_as : (f g : ℕ → ℕ) (h : RingHead) (position : Position) → ((i : ℕ) → g i ≡ f i) → target g h position ≡ target f h position
 target_as f g h Tail e = refl
 target_as f g h AtHead e = e h.sentinel
 target_as f g h (Before id) e = refl
@@ -78,18 +78,25 @@ module _ {T N : Type 0} {g : Ghosts N T} where
     pub heads : (n : ℕ) → head_of new n ≡ upd (head_of old) r (Some head) n
     pub room : KeepsRoom old new
 
-  pub is_turned : (s s1 s2 : Links T N g) (k a r m : ℕ) (h : RingHead) → head_of s r ≡ Some h → ((j : ℕ) → behind_of s1 j ≡ turned (behind_of s) (before_of s) a k j) → ((j : ℕ) → before_of s1 j ≡ turned (before_of s) (behind_of s) k a j)
+  pub is_turned : (s s1 s2 : Links T N g) (k a r m : ℕ) (h : RingHead) → ((j : ℕ) → behind_of s1 j ≡ turned (behind_of s) (before_of s) a k j) → ((j : ℕ) → before_of s1 j ≡ turned (before_of s) (behind_of s) k a j)
       → KeepsBuckets s s1 → KeepsRoom s s1 → s1.heads ≡ s.heads
-      → ((q : RingHead) → head_of s1 r ≡ Some q → (n : ℕ) → head_of s2 n ≡ upd (head_of s1) r (Some (record { sentinel = q.sentinel; count = m })) n) → s2.nodes ≡ s1.nodes → IsTurned s s2 k a r (record { sentinel = h.sentinel; count = m })
-  is_turned s s1 s2 k a r m h head behind before buckets room heads resized nodes =
+      → ((n : ℕ) → head_of s2 n ≡ upd (head_of s1) r (Some (record { sentinel = h.sentinel; count = m })) n) → s2.nodes ≡ s1.nodes → IsTurned s s2 k a r (record { sentinel = h.sentinel; count = m })
+  is_turned s s1 s2 k a r m h behind before buckets room heads resized nodes =
       let last = nodes_same s1 s2 nodes in
       record {
         behind = λ j. last.0.behind j ∙ behind j;
         before = λ j. last.0.before j ∙ before j;
         buckets = record { mark = λ j. last.1.mark j ∙ buckets.mark j; at = λ j. last.1.at j ∙ buckets.at j; bucket = λ j. last.1.bucket j ∙ buckets.bucket j };
-        heads = λ n. resized h (heads_same s s1 heads r ∙ head) n ∙ upd_as r (Some (record { sentinel = h.sentinel; count = m })) n (head_of s1) (head_of s) (heads_same s s1 heads);
+        heads = λ n. resized n ∙ upd_as r (Some (record { sentinel = h.sentinel; count = m })) n (head_of s1) (head_of s) (heads_same s s1 heads);
         room = room_twice s s1 s2 room last.2;
       }
+
+  -- a slot has come to another place, over whatever heads
+  pub record IsWoven (old new : Links T N g) (k a : ℕ) : Type 0 where
+    pub behind : (j : ℕ) → behind_of new j ≡ turned (behind_of old) (before_of old) a k j
+    pub before : (j : ℕ) → before_of new j ≡ turned (before_of old) (behind_of old) k a j
+    pub buckets : KeepsBuckets old new
+    pub room : KeepsRoom old new
 
   -- the bucket's slot has left its circle
   module _ (s s2 : Links T N g) (from : ℕ) (id : BucketId) (h : RingHead) (linked : AreLinked s) (in_from : ring_at s id ≡ Some from) (head : head_of s from ≡ Some h) (left : IsTurned s s2 id.slot id.slot from (record { sentinel = h.sentinel; count = h.count - 1 })) where
@@ -205,8 +212,8 @@ module _ {T N : Type 0} {g : Ghosts N T} where
           ap (λ (k : ℕ). is_some (g.node s2.nodes k)) (e ∙ sym (target_as (behind_of s2) (behind_of mid) h2 position mid_behind)) ∙ sym (mid_there (target (behind_of mid) h2 position))
           ∙ spot_there mid mid_linked ring h2 position head_mid is_mid
 
-      module _ (s3 t : Links T N g) (bucket3 : (j : ℕ) → bucket_of s3 j ≡ bucket_of s2 j) (at3 : (j : ℕ) → at_of s3 j ≡ upd (at_of s2) id.slot (Some ring) j) (mark3 : (j : ℕ) → mark_of s3 j ≡ mark_of s2 j) (links3 : KeepsLinks s2 s3) (room3 : KeepsRoom s2 s3) (heads3 : s3.heads ≡ s2.heads)
-          (entered : IsTurned s3 t id.slot (target (behind_of s2) h2 position) ring (record { sentinel = h2.sentinel; count = h2.count + 1 })) where
+      module _ (s3 t : Links T N g) (bucket3 : (j : ℕ) → bucket_of s3 j ≡ bucket_of s2 j) (at3 : (j : ℕ) → at_of s3 j ≡ upd (at_of s2) id.slot (Some ring) j) (mark3 : (j : ℕ) → mark_of s3 j ≡ mark_of s2 j) (links3 : KeepsLinks s2 s3) (room3 : KeepsRoom s2 s3)
+          (entered : IsWoven s3 t id.slot (target (behind_of s2) h2 position)) (heads_in : (n : ℕ) → head_of t n ≡ upd (head_of s2) ring (Some (record { sentinel = h2.sentinel; count = h2.count + 1 })) n) where
         change_in : Changed mid (read_of t) id.slot (target (behind_of s2) h2 position) ring (Some (id_of id.slot id.birth, place.0.1)) (Some ring) (record { sentinel = h2.sentinel; count = h2.count + 1 })
         unfolding behind_of before_of mark_of at_of bucket_of head_of
         change_in =
@@ -216,7 +223,7 @@ module _ {T N : Type 0} {g : Ghosts N T} where
               bucket_new = λ j. entered.buckets.bucket j ∙ bucket3 j ∙ upd_back (bucket_of s2) (bucket_of mid) id.slot (Some (id_of id.slot id.birth, place.0.1)) None (left.buckets.bucket id.slot ∙ had) mid_bucket j;
               at = λ j. entered.buckets.at j ∙ at3 j ∙ upd_over (at_of s2) (at_of mid) id.slot (Some ring) None mid_at j;
               mark = λ j ne. entered.buckets.mark j ∙ mark3 j ∙ sym (mid_mark j ne);
-              heads = λ n. entered.heads n ∙ upd_as ring (Some (record { sentinel = h2.sentinel; count = h2.count + 1 })) n (head_of s3) (head_of s2) (heads_same s2 s3 heads3);
+              heads = heads_in;
               room = record { there = λ j. entered.room.there j ∙ room3.there j ∙ sym (mid_there j); room = λ n e. e };
             }
 

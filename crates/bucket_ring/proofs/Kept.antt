@@ -105,27 +105,30 @@ module _ {T N : Type 0} {g : Ghosts N T} where
     record { there = λ j. rw e refl; room = λ n h. rw e h },
   )
 
-  -- a bucket is written, the links are turned, and the count is written
-  module _ (s s1 s2 s3 : Links T N g) (k a r m : ℕ) (w : Option (BucketId × T)) (v : Option ℕ) (h : RingHead) (bucket : (j : ℕ) → bucket_of s1 j ≡ upd (bucket_of s) k w j) (at : (j : ℕ) → at_of s1 j ≡ upd (at_of s) k v j) (mark : (j : ℕ) → j ≢ k → mark_of s1 j ≡ mark_of s j)
-      (links : KeepsLinks s s1) (room : KeepsRoom s s1) (heads : s1.heads ≡ s.heads) where
+  -- the count is written, then a bucket, and the links are turned
+  module _ (s s0 s1 t : Links T N g) (k a r : ℕ) (w : Option (BucketId × T)) (v : Option ℕ) (h : RingHead) (nodes : s0.nodes ≡ s.nodes) (heads : (n : ℕ) → head_of s0 n ≡ upd (head_of s) r (Some h) n)
+      (bucket : (j : ℕ) → bucket_of s1 j ≡ upd (bucket_of s0) k w j) (at : (j : ℕ) → at_of s1 j ≡ upd (at_of s0) k v j) (mark : (j : ℕ) → j ≢ k → mark_of s1 j ≡ mark_of s0 j) (links : KeepsLinks s0 s1) (room : KeepsRoom s0 s1) (heads1 : s1.heads ≡ s0.heads) where
+    pub links_stay : KeepsLinks s s1
+    links_stay = let counted = nodes_same s s0 nodes in record { behind = λ j. links.behind j ∙ counted.0.behind j; before = λ j. links.before j ∙ counted.0.before j }
+
+    pub room_stays : KeepsRoom s s1
+    room_stays = room_twice s s0 s1 (nodes_same s s0 nodes).2 room
+
     pub changed_back : AreLinked s → (j : ℕ) → before_of s1 (behind_of s1 j) ≡ j
-    changed_back linked j = links.before (behind_of s1 j) ∙ ap (before_of s) (links.behind j) ∙ linked.back j
+    changed_back linked j = links_stay.before (behind_of s1 j) ∙ ap (before_of s) (links_stay.behind j) ∙ linked.back j
 
     pub changed_forth : AreLinked s → (j : ℕ) → behind_of s1 (before_of s1 j) ≡ j
-    changed_forth linked j = links.behind (before_of s1 j) ∙ ap (behind_of s) (links.before j) ∙ linked.forth j
+    changed_forth linked j = links_stay.behind (before_of s1 j) ∙ ap (behind_of s) (links_stay.before j) ∙ linked.forth j
 
-    pub changed : head_of s r ≡ Some h → ((j : ℕ) → behind_of s2 j ≡ turned (behind_of s1) (before_of s1) a k j) → ((j : ℕ) → before_of s2 j ≡ turned (before_of s1) (behind_of s1) k a j)
-        → KeepsBuckets s1 s2 → KeepsRoom s1 s2 → s2.heads ≡ s1.heads
-        → ((g : RingHead) → head_of s2 r ≡ Some g → (n : ℕ) → head_of s3 n ≡ upd (head_of s2) r (Some (record { sentinel = g.sentinel; count = m })) n) → s3.nodes ≡ s2.nodes → Changed s s3 k a r w v (record { sentinel = h.sentinel; count = m })
-    changed head behind2 before2 buckets2 room2 heads2 resized nodes3 =
-        let last = nodes_same s2 s3 nodes3 in
-        let all = λ (n : ℕ). heads_same s1 s2 heads2 n ∙ heads_same s s1 heads n in
+    pub changed : ((j : ℕ) → behind_of t j ≡ turned (behind_of s1) (before_of s1) a k j) → ((j : ℕ) → before_of t j ≡ turned (before_of s1) (behind_of s1) k a j) → KeepsBuckets s1 t → KeepsRoom s1 t → t.heads ≡ s1.heads → Changed s t k a r w v h
+    changed behind2 before2 buckets2 room2 heads2 =
+        let counted = nodes_same s s0 nodes in
         record {
-          behind = λ j. last.0.behind j ∙ behind2 j ∙ turned_same (behind_of s) (behind_of s1) (before_of s) (before_of s1) a k j links.behind links.before;
-          before = λ j. last.0.before j ∙ before2 j ∙ turned_same (before_of s) (before_of s1) (behind_of s) (behind_of s1) k a j links.before links.behind;
-          bucket_new = λ j. last.1.bucket j ∙ buckets2.bucket j ∙ bucket j;
-          at = λ j. last.1.at j ∙ buckets2.at j ∙ at j;
-          mark = λ j ne. last.1.mark j ∙ buckets2.mark j ∙ mark j ne;
-          heads = λ n. resized h (all r ∙ head) n ∙ upd_as r (Some (record { sentinel = h.sentinel; count = m })) n (head_of s2) (head_of s) all;
-          room = room_twice s s2 s3 (room_twice s s1 s2 room room2) last.2;
+          behind = λ j. behind2 j ∙ turned_same (behind_of s) (behind_of s1) (before_of s) (before_of s1) a k j links_stay.behind links_stay.before;
+          before = λ j. before2 j ∙ turned_same (before_of s) (before_of s1) (behind_of s) (behind_of s1) k a j links_stay.before links_stay.behind;
+          bucket_new = λ j. buckets2.bucket j ∙ bucket j ∙ upd_as k w j (bucket_of s0) (bucket_of s) counted.1.bucket;
+          at = λ j. buckets2.at j ∙ at j ∙ upd_as k v j (at_of s0) (at_of s) counted.1.at;
+          mark = λ j ne. buckets2.mark j ∙ mark j ne ∙ counted.1.mark j;
+          heads = λ n. heads_same s1 t heads2 n ∙ heads_same s0 s1 heads1 n ∙ heads n;
+          room = room_twice s s1 t room_stays room2;
         }

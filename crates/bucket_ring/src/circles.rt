@@ -39,10 +39,9 @@ impl<T: Drop, S: Slots<T> + Drop> Links<T, S> {
         ensures places { (j : _) → ring_at self.new j ≡ (if same id j then None else ring_at self.old j) }
         ensures room { KeepsRoom self.old self.new }
     {
-        let head = self.head(ring);
+        self.shrink(ring);
         let bucket = self.empty(id.slot);
         self.turn(id.slot, id.slot);
-        self.resize(ring, head.count - 1);
         bucket
     }
 
@@ -64,11 +63,10 @@ impl<T: Drop, S: Slots<T> + Drop> Links<T, S> {
         ensures places { (j : _) → ring_at self.new j ≡ (if same (id_of slot bucket.birth) j then Some ring else ring_at self.old j) }
         ensures room { KeepsRoom self.old self.new }
     {
-        let head = self.head(ring);
+        let head = self.grow(ring);
         let at = self.target(head, position);
         self.fill(slot, ring, bucket);
         self.turn(slot, at);
-        self.resize(ring, head.count + 1);
     }
 
     /// Moves a bucket to a spot in a ring. It stays in its slot.
@@ -83,14 +81,12 @@ impl<T: Drop, S: Slots<T> + Drop> Links<T, S> {
             → lists_of self.new n ≡ on ring (placed position ((id, x) ∷ [])) (on from (without id) (lists_of self.old)) n }
         ensures places { (j : _) → ring_at self.new j ≡ (if same id j then Some ring else ring_at self.old j) }
     {
-        let old = self.head(from);
         self.turn(id.slot, id.slot);
-        self.resize(from, old.count - 1);
-        let head = self.head(ring);
+        self.shrink(from);
+        let head = self.grow(ring);
         let at = self.target(head, position);
         self.set_ring(id.slot, ring);
         self.turn(id.slot, at);
-        self.resize(ring, head.count + 1);
     }
 
     /// Makes an empty ring, where there is room.

@@ -1,6 +1,6 @@
 //! The slots of all rings, each with the slots before and behind it.
 
-ghost use Rattle.std.specs.Prelude.{◌≡◌, ◌≢◌, ℕ, ◌+◌, ◌<◌, ◌≤◌, ◌==◌, if◌then◌else◌, Some, None, true, is_some, IsOk, OnOk};
+ghost use Rattle.std.specs.Prelude.{◌≡◌, ◌≢◌, ℕ, ◌+◌, ◌-◌, ◌^◌, ◌<◌, ◌≤◌, ◌==◌, if◌then◌else◌, Some, None, true, is_some, IsOk, OnOk};
 ghost use Rattle.std.specs.Option.{option_map};
 ghost use Rattle.std.specs.HashMap.{spare};
 ghost use Rattle.bucket_ring.specs.Lists.{upd};
@@ -284,13 +284,39 @@ impl<T: Drop, S: Slots<T> + Drop> Links<T, S> {
         self.nodes.remove(slot);
     }
 
-    /// Writes how many buckets a ring has.
-    pub(crate) fn resize(&mut self, ring: RingId, count: usize)
-        ensures head { (h : RingHead) → head_of self.old ring ≡ Some h → (n : ℕ) → head_of self.new n ≡ upd (head_of self.old) ring (Some (record { sentinel = h.sentinel; count = count })) n }
+    /// A ring has a bucket less. Answers its head as it was.
+    pub(crate) fn shrink(&mut self, ring: RingId) -> RingHead
+        requires there { is_some (head_of self.old ring) ≡ true }
+        requires some { (h : RingHead) → head_of self.old ring ≡ Some h → 1 ≤ h.count }
+        ensures was { head_of self.old ring ≡ Some result }
+        ensures heads { (n : ℕ) → head_of self.new n ≡ upd (head_of self.old) ring (Some (record { sentinel = result.sentinel; count = result.count - 1 })) n }
         ensures nodes { self.new.nodes ≡ self.old.nodes }
     {
-        if let Some(head) = self.heads.get_mut(&ring) {
-            head.count = count;
+        match self.heads.get_mut(&ring) {
+            Some(head) => {
+                let was = *head;
+                head.count -= 1;
+                was
+            }
+            None => unreachable!(),
+        }
+    }
+
+    /// A ring has a bucket more. Answers its head as it was.
+    pub(crate) fn grow(&mut self, ring: RingId) -> RingHead
+        requires there { is_some (head_of self.old ring) ≡ true }
+        requires few { (h : RingHead) → head_of self.old ring ≡ Some h → h.count + 1 < 2 ^ 64 }
+        ensures was { head_of self.old ring ≡ Some result }
+        ensures heads { (n : ℕ) → head_of self.new n ≡ upd (head_of self.old) ring (Some (record { sentinel = result.sentinel; count = result.count + 1 })) n }
+        ensures nodes { self.new.nodes ≡ self.old.nodes }
+    {
+        match self.heads.get_mut(&ring) {
+            Some(head) => {
+                let was = *head;
+                head.count += 1;
+                was
+            }
+            None => unreachable!(),
         }
     }
 
