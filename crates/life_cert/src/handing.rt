@@ -8,7 +8,6 @@ ghost use Rattle.life_cert.specs.Fitting.{is_inside, IsDeclared, IsFit, IsOf};
 ghost use Rattle.life_cert.specs.SeenGrowth.{seen_arrivals, seen_growth};
 
 use crate::growth::{Arrival, Growth, StatePlace};
-use life_check::target;
 use life_state::{State, Successors, after, at_end_of_request, at_main, at_return};
 use module_code::{Instr, Module};
 use std::alloc::{AllocError, Global};
@@ -58,7 +57,7 @@ fn hand_edges(
     ensures { OnOk result (seen_arrivals arrivals.new.items ≡ seen_arrivals arrivals.old.items ++ edges_arriving pc instr (seen_edges edges.now)) }
 {
     hand(arrivals, StatePlace::At(pc + 1), edges.next)?;
-    hand(arrivals, StatePlace::At(target(instr)), edges.jump)
+    hand(arrivals, StatePlace::At(instr.target()), edges.jump)
 }
 
 // An instruction hands on the states on its edges, and what it leaves behind. One that refuses hands on nothing.

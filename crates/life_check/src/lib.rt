@@ -14,6 +14,5 @@ mod slim;
 pub use cert::Cert;
 pub use chain::{CheckedChain, accept_chain};
 pub use checked::check;
-pub use lines::target;
 pub use refusal::{ChainRefusal, CheckRefusal, Rule};
 pub use slim::heads;

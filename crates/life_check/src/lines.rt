@@ -15,29 +15,6 @@ use crate::refusal::{CheckRefusal, Rule};
 use life_state::{State, Successors, after, at_return};
 use module_code::{Instr, Module};
 
-/// The instruction that an instruction names as its target; 0 where it names none.
-pub fn target(instr: Instr) -> usize
-    ensures { result ≡ unwrap_or (target instr) 0 }
-{
-    match instr {
-        Instr::BPart(_, _, _, target)
-        | Instr::Pass(_, target)
-        | Instr::JEmpty(_, target)
-        | Instr::JEnd(_, target)
-        | Instr::JKind(_, _, target)
-        | Instr::Split(_, _, target)
-        | Instr::Read(_, target)
-        | Instr::Get(_, _, target)
-        | Instr::Put(_, target)
-        | Instr::JLt(_, _, target)
-        | Instr::JEq(_, _, target)
-        | Instr::JNull(_, target)
-        | Instr::JSent(target)
-        | Instr::Jump(target) => usize::from(target),
-        _ => 0,
-    }
-}
-
 fn left_by(code: &Module, cert: &Cert, pc: usize) -> Option<State>
     ensures { seen_some result ≡ left_by code.now (meant code.now cert.now) pc }
 {
@@ -82,7 +59,7 @@ fn leads_on(code: &Module, cert: &Cert, pc: usize, edges: &Successors, next: Opt
     requires next { seen_some next ≡ (meant code.now cert.now).at (pc + 1) }
     ensures { (i : instr.Instr) → slice_get code.now.code pc ≡ Some i → result ≡ leads_on (meant code.now cert.now) pc i (seen_edges edges.now) }
 {
-    let jump = cert.state(target(code.at(pc)));
+    let jump = cert.state(code.at(pc).target());
     flows(edges.next, next) & flows(edges.jump, jump)
 }
 

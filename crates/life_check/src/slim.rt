@@ -4,7 +4,6 @@ ghost use Rattle.std.specs.Prelude.{◌≡◌, ◌<◌, ◌≤◌, ℕ, true, fa
 ghost use Rattle.run_model.specs.Indexed.{upd};
 ghost use Rattle.life_check.specs.Slim.{is_first, AreHeads};
 
-use crate::lines::target;
 use module_code::Module;
 
 fn mark(heads: &mut [bool; 1025], pc: usize)
@@ -33,7 +32,7 @@ pub fn heads(code: &Module) -> [bool; 1025]
     let count = code.len();
     let mut heads = firsts(code);
     for pc in 0..count {
-        mark(&mut heads, target(code.at(pc)));
+        mark(&mut heads, code.at(pc).target());
     }
     heads
 }

@@ -3,7 +3,7 @@
 use crate::doubt::Doubt;
 use crate::needs::doubt_of;
 use life_cert::{Arrival, Growth, StatePlace, round_count};
-use life_check::{Cert, heads, target};
+use life_check::{Cert, heads};
 use life_state::{State, Successors, after, at_end_of_request, at_main, at_return};
 use module_code::{Instr, Module};
 use run_model::FaultKind;
@@ -162,7 +162,7 @@ fn add_ways_of_line(
     };
     let from = StatePlace::At(pc);
     add_way(ways, from, StatePlace::At(pc.saturating_add(1)), led.next)?;
-    add_way(ways, from, StatePlace::At(target(instr)), led.jump)?;
+    add_way(ways, from, StatePlace::At(instr.target()), led.jump)?;
     if let (Some(_), Some(last)) = (led.jump, ways.last_mut()) {
         last.jumps = true;
     }

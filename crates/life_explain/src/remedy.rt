@@ -9,7 +9,7 @@ use crate::source::{Edit, NONE, Source};
 use crate::trail::Trail;
 use byte_text::{after_token, begins, is_text, tail, token};
 use life_cert::StatePlace;
-use life_check::{Cert, target};
+use life_check::Cert;
 use life_state::{Classes, CursorState};
 use line_help::{Page, last_word, stands_in, text_of};
 use module_code::parts::parts;
@@ -264,7 +264,7 @@ impl<'s> Case<'s> {
             return false;
         };
         for step in 0..4usize {
-            match instr_at(self.code, target(instr).saturating_add(step)) {
+            match instr_at(self.code, instr.target().saturating_add(step)) {
                 Some(Instr::BClean(_)) => {}
                 Some(Instr::Ret(Status::Success)) => return true,
                 _ => return false,

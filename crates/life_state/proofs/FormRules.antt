@@ -119,8 +119,6 @@ module _ (p : Program) (call : Bool) (s : State) (m : IsModule p) (f : IsFormedI
   edges_formed (instr.PCreate q) a h = (pool_formed p call s q only_live f (own_pool s q f (a.first.0)) refl, tt)
   edges_formed (instr.PClear q) a h = (cleared_own q (a.first.0), tt)
   edges_formed (instr.PDestroy q) a h = (destroyed q (a.first.0), tt)
-  edges_formed (instr.Label q t) a h = (f, tt)
-  edges_formed (instr.Unlabel q t) a h = (f, tt)
   edges_formed (instr.BCreate o) a h = (bcreate_formed p call s o f (own_brigade o (a.first.0)), tt)
   edges_formed (instr.BClean b) a h = (bclean_formed p call s b f (live_there (s.brigades b) (h.0)), tt)
   edges_formed (instr.BConcat b d) a h =
@@ -156,19 +154,15 @@ module _ (p : Program) (call : Bool) (s : State) (m : IsModule p) (f : IsFormedI
   edges_formed (instr.Aside c q) a h = (aside_formed p call s c q (s.cursors c) f (cursor_number c (a.first.0)) (home_named s q (place_there s q f.formed (h.1.0))) (f.formed.cursors c), tt)
   edges_formed (instr.Read c l) a h =
       (set_cursor_formed p call s 8 (s.cursors c) (known s c) f (omega arith) (f.formed.cursors c), set_cursor_formed p call s 8 Unset no_other f (omega arith) tt)
-  edges_formed (instr.Len n c) a h = (f, tt)
   edges_formed (instr.Get n x l) a h = (f, f)
   edges_formed (instr.Put x l) a h = (f, f)
-  edges_formed instr.ClearBuf a h = (f, tt)
-  edges_formed (instr.Set n x) a h = (f, tt)
-  edges_formed (instr.Add n x) a h = (f, tt)
-  edges_formed (instr.Sub n x) a h = (f, tt)
   edges_formed (instr.JLt n x l) a h = (f, f)
   edges_formed (instr.JEq n x l) a h = (f, f)
   edges_formed (instr.JNull v l) a h = null_edges v (a.first.0)
   edges_formed (instr.JSent l) a h = (sent_formed p call s false f, if_reached s.sent s (λ e. f))
   edges_formed (instr.Jump l) a h = (tt, f)
   edges_formed (instr.Ret t) a h = (tt, tt)
+  edges_formed i a h = (f, tt)
 
 pub rules_keep_form : RulesKeepForm
 rules_keep_form p call i s e m fit f h = subst (λ r. IfOk r (AreFormed p call s m f)) h (answered (first_need s (wants p i)) refl)

@@ -273,56 +273,13 @@ module _ (p : Program) (s t : State) (w : Within s t) where
   homed (instr.Copy d c) h = (there OnBucket (t.cursors c) (h.0), tt)
   homed (instr.Aside c q) h = (there OnBucket (t.cursors c) (h.0), tt)
   homed (instr.Read c l) h = (there InBrigade (t.cursors c) (h.0), tt)
-  homed (instr.PCreate q) h = tt
-  homed (instr.PClear q) h = tt
-  homed (instr.PDestroy q) h = tt
-  homed (instr.Label q u) h = tt
-  homed (instr.Unlabel q u) h = tt
-  homed (instr.BCreate o) h = tt
-  homed (instr.BClean b) h = tt
-  homed (instr.BConcat a b) h = tt
-  homed (instr.BSplit b c a) h = tt
-  homed (instr.BPart b x c l) h = tt
-  homed (instr.BSave o b) h = tt
-  homed (instr.JEmpty b l) h = tt
-  homed (instr.Pass b l) h = tt
-  homed (instr.First c b) h = tt
-  homed (instr.Next d c) h = tt
-  homed (instr.JEnd c l) h = tt
-  homed (instr.JKind c k l) h = tt
-  homed (instr.Unlink c) h = tt
-  homed (instr.BDelete c) h = tt
-  homed (instr.Tail b c) h = tt
-  homed (instr.Head b c) h = tt
-  homed (instr.Before c d) h = tt
-  homed (instr.Heap c u) h = tt
-  homed (instr.Immortal c u) h = tt
-  homed (instr.FromBuf c) h = tt
-  homed (instr.Transient c) h = tt
-  homed (instr.PoolB c q) h = tt
-  homed (instr.Flush c) h = tt
-  homed (instr.Eos c) h = tt
-  homed (instr.Len n c) h = tt
-  homed (instr.Get n x l) h = tt
-  homed (instr.Put x l) h = tt
-  homed instr.ClearBuf h = tt
-  homed (instr.Set n x) h = tt
-  homed (instr.Add n x) h = tt
-  homed (instr.Sub n x) h = tt
-  homed (instr.JLt n x l) h = tt
-  homed (instr.JEq n x l) h = tt
-  homed (instr.JNull v l) h = tt
-  homed (instr.JSent l) h = tt
-  homed (instr.Jump l) h = tt
-  homed (instr.Ret u) h = tt
+  homed i h = tt
 
   edges_within : (i : Instr) → Met t (wants p i) → EdgesWithin (edges p i s) (edges p i t)
   unfolding Met
   edges_within (instr.PCreate q) h = (pool_within s t q only_live only_live w (pool_same only_live), tt)
   edges_within (instr.PClear q) h = (cleared_both (pool.Own q), tt)
   edges_within (instr.PDestroy q) h = (destroyed q, tt)
-  edges_within (instr.Label q u) h = (w, tt)
-  edges_within (instr.Unlabel q u) h = (w, tt)
   edges_within (instr.BCreate o) h = (emptied_at o, tt)
   edges_within (instr.BClean b) h = (cleaned b, tt)
   edges_within (instr.BConcat a b) h =
@@ -356,19 +313,15 @@ module _ (p : Program) (s t : State) (w : Within s t) where
       (new d (classes_of (s.cursors c)) (classes_of (t.cursors c)) (homes_at s (s.cursors c)) (homes_at t (t.cursors c)) (classes_there c set) (homes_there c set), tt)
   edges_within (instr.Aside c q) h = (asides c q (s.cursors c) (t.cursors c) (w.cursors c) (h.0), tt)
   edges_within (instr.Read c l) h = reads c
-  edges_within (instr.Len n c) h = (w, tt)
   edges_within (instr.Get n x l) h = (w, w)
   edges_within (instr.Put x l) h = (w, w)
-  edges_within instr.ClearBuf h = (w, tt)
-  edges_within (instr.Set n x) h = (w, tt)
-  edges_within (instr.Add n x) h = (w, tt)
-  edges_within (instr.Sub n x) h = (w, tt)
   edges_within (instr.JLt n x l) h = (w, w)
   edges_within (instr.JEq n x l) h = (w, w)
   edges_within (instr.JNull v l) h = nulls v
   edges_within (instr.JSent l) h = (sent_within s t false false w (λ h. h), if_within s.sent t.sent s t w.sent w)
   edges_within (instr.Jump l) h = (tt, w)
   edges_within (instr.Ret u) h = (tt, tt)
+  edges_within i h = (w, tt)
 
 edge_below : (x y : Option State) → EdgeWithin x y → edge_le x y ≡ true
 edge_below None y h = refl

@@ -1,80 +1,30 @@
 //! What instructions need of a state: one test for each want.
 
-ghost use Rattle.std.specs.Prelude.{◌≡◌, ◌≤◌, ◌<◌, true, length};
+ghost use Rattle.std.specs.Prelude.{◌≡◌, true};
 ghost use Rattle.module_code.specs.Program.{fits};
-ghost use Rattle.run_model.specs.Indexed.{any_below};
-ghost use Rattle.run_model.specs.Faults.{Anywhere, OnBucket, OnLoose, InBrigade, InThis, WPool, WBrigade, WUsable, WNew, WNewPool, WCursor, WHomes, WHome, WSend, WReturn, or_else, wants};
+ghost use Rattle.run_model.specs.Faults.{WNew, WNewPool, WReturn, wants};
+ghost use Rattle.run_model.specs.Wants.{need_of, want_of};
 ghost use Rattle.life_state.specs.Rules.{cursor_need, pool_need, brigade_need, usable_need, homes_need, homes_at, send_need, keeps_call, need, first_need};
 ghost use Rattle.life_state.specs.Seen.{seen, seen_homes, seen_brigade, seen_cursor};
 
 use crate::parts::{BrigadeState, Contents, CursorState, HomeSet};
 use crate::state::State;
 use module_code::{Instr, Module, PoolRef};
-use run_model::FaultKind;
-
-fn or_else(first: Option<FaultKind>, second: Option<FaultKind>) -> Option<FaultKind>
-    ensures { result ≡ or_else first second }
-{
-    match first {
-        Some(kind) => Some(kind),
-        None => second,
-    }
-}
+use run_model::{FaultKind, Need, Want, wants};
 
 impl CursorState {
-    fn need_anywhere(&self) -> Option<FaultKind>
-        ensures { result ≡ cursor_need Anywhere (seen_cursor self.now) }
+    fn need(&self, need: Need) -> Option<FaultKind>
+        ensures { result ≡ cursor_need (need_of need) (seen_cursor self.now) }
     {
         match self {
             CursorState::Unset => Some(FaultKind::F3),
-            CursorState::Loose(_, _)
-            | CursorState::In(_, _)
-            | CursorState::End(_)
-            | CursorState::InOrEnd(_, _) => None,
-        }
-    }
-
-    fn need_bucket(&self) -> Option<FaultKind>
-        ensures { result ≡ cursor_need OnBucket (seen_cursor self.now) }
-    {
-        match self {
-            CursorState::Unset => Some(FaultKind::F3),
-            CursorState::End(_) | CursorState::InOrEnd(_, _) => Some(FaultKind::F4),
-            CursorState::Loose(_, _) | CursorState::In(_, _) => None,
-        }
-    }
-
-    fn need_loose(&self) -> Option<FaultKind>
-        ensures { result ≡ cursor_need OnLoose (seen_cursor self.now) }
-    {
-        match self {
-            CursorState::Unset => Some(FaultKind::F3),
-            CursorState::End(_) | CursorState::InOrEnd(_, _) => Some(FaultKind::F4),
-            CursorState::In(_, _) => Some(FaultKind::F9),
-            CursorState::Loose(_, _) => None,
-        }
-    }
-
-    fn need_in_brigade(&self) -> Option<FaultKind>
-        ensures { result ≡ cursor_need InBrigade (seen_cursor self.now) }
-    {
-        match self {
-            CursorState::Unset => Some(FaultKind::F3),
-            CursorState::End(_) | CursorState::InOrEnd(_, _) => Some(FaultKind::F4),
-            CursorState::Loose(_, _) => Some(FaultKind::F9),
-            CursorState::In(_, _) => None,
-        }
-    }
-
-    fn need_in_this(&self, b: u8) -> Option<FaultKind>
-        ensures { result ≡ cursor_need (InThis b) (seen_cursor self.now) }
-    {
-        match self {
-            CursorState::Unset => Some(FaultKind::F3),
-            CursorState::Loose(_, _) => Some(FaultKind::F9),
-            CursorState::In(a, _) | CursorState::End(a) | CursorState::InOrEnd(a, _) => {
-                if *a == b { None } else { Some(FaultKind::F9) }
-            }
+            CursorState::Loose(_, _) => need.loose_fault(),
+            CursorState::In(b, _) => need.within_fault(*b),
+            CursorState::End(b) => need.end_fault(*b),
+            CursorState::InOrEnd(b, _) => match need.end_fault(*b) {
+                Some(kind) => Some(kind),
+                None => need.within_fault(*b),
+            },
         }
     }
 }
@@ -142,18 +92,6 @@ impl State {
         }
     }
 
-    fn need_live(&self, b: u8) -> Option<FaultKind>
-        ensures { result ≡ brigade_need ((seen self.now).brigades b) }
-    {
-        self.brigade(b).need_live()
-    }
-
-    fn need_usable(&self, b: u8) -> Option<FaultKind>
-        ensures { result ≡ usable_need ((seen self.now).brigades b) }
-    {
-        self.brigade(b).need_usable()
-    }
-
     fn need_new(&self, b: u8) -> Option<FaultKind>
         ensures { result ≡ need (seen self.now) (WNew b) }
     {
@@ -172,18 +110,6 @@ impl State {
         } else {
             None
         }
-    }
-
-    fn need_homes(&self, b: u8) -> Option<FaultKind>
-        ensures { result ≡ homes_need ((seen self.now).brigades b).homes }
-    {
-        self.homes(b).need_alive()
-    }
-
-    fn need_home(&self, c: u8) -> Option<FaultKind>
-        ensures { result ≡ homes_need (homes_at (seen self.now) ((seen self.now).cursors c)) }
-    {
-        self.homes_at(self.cursor(c)).need_alive()
     }
 
     fn need_send(&self, b: u8) -> Option<FaultKind>
@@ -214,34 +140,22 @@ impl State {
         None
     }
 
-    fn need_anywhere(&self, c: u8) -> Option<FaultKind>
-        ensures { result ≡ cursor_need Anywhere ((seen self.now).cursors c) }
+    /// The fault of a want that the state does not meet.
+    fn need(&self, want: Want) -> Option<FaultKind>
+        ensures { result ≡ need (seen self.now) (want_of want) }
     {
-        self.cursor(c).need_anywhere()
-    }
-
-    fn need_bucket(&self, c: u8) -> Option<FaultKind>
-        ensures { result ≡ cursor_need OnBucket ((seen self.now).cursors c) }
-    {
-        self.cursor(c).need_bucket()
-    }
-
-    fn need_loose(&self, c: u8) -> Option<FaultKind>
-        ensures { result ≡ cursor_need OnLoose ((seen self.now).cursors c) }
-    {
-        self.cursor(c).need_loose()
-    }
-
-    fn need_in_brigade(&self, c: u8) -> Option<FaultKind>
-        ensures { result ≡ cursor_need InBrigade ((seen self.now).cursors c) }
-    {
-        self.cursor(c).need_in_brigade()
-    }
-
-    fn need_in_this(&self, c: u8, b: u8) -> Option<FaultKind>
-        ensures { result ≡ cursor_need (InThis b) ((seen self.now).cursors c) }
-    {
-        self.cursor(c).need_in_this(b)
+        match want {
+            Want::Pool(pool) => self.need_pool(pool),
+            Want::Brigade(b) => self.brigade(b).need_live(),
+            Want::Usable(b) => self.brigade(b).need_usable(),
+            Want::New(b) => self.need_new(b),
+            Want::NewPool(q) => self.need_new_pool(q),
+            Want::Cursor(c, need) => self.cursor(c).need(need),
+            Want::Homes(b) | Want::HomeAcross(b, _) => self.homes(b).need_alive(),
+            Want::Home(c) => self.homes_at(self.cursor(c)).need_alive(),
+            Want::Send(b) => self.need_send(b),
+            Want::Return => self.need_return(),
+        }
     }
 
     /// The first need of an instruction that the state does not meet.
@@ -249,72 +163,22 @@ impl State {
         requires fit { fits code.now instr ≡ true }
         ensures { result ≡ first_need (seen self.now) (wants code.now instr) }
     {
-        match instr {
-            Instr::PCreate(q) => or_else(
-                self.need_pool(code.pool_parent(q)),
-                self.need_new_pool(q),
-            ),
-            Instr::PClear(q) | Instr::PDestroy(q) => self.need_pool(PoolRef::Own(q)),
-            Instr::Label(p, _) | Instr::Unlabel(p, _) | Instr::PoolB(_, p) => self.need_pool(p),
-            Instr::BCreate(o) => or_else(self.need_pool(code.brigade_pool(o)), self.need_new(o)),
-            Instr::BClean(b) => self.need_live(b),
-            Instr::BConcat(a, b) => or_else(self.need_usable(a), self.need_usable(b)),
-            Instr::BSplit(b, c, a) => {
-                or_else(
-                    self.need_usable(b),
-                    or_else(self.need_in_this(c, b), self.need_usable(a)),
-                )
-            }
-            Instr::BPart(b, _, _, _) => or_else(self.need_usable(b), self.need_homes(b)),
-            Instr::BSave(o, b) => {
-                or_else(
-                    self.need_usable(o),
-                    or_else(self.need_usable(b), self.need_homes(b)),
-                )
-            }
-            Instr::JEmpty(b, _) | Instr::First(_, b) => self.need_usable(b),
-            Instr::Pass(b, _) => {
-                or_else(
-                    self.need_usable(b),
-                    or_else(self.need_homes(b), self.need_send(b)),
-                )
-            }
-            Instr::JEnd(c, _) => self.need_anywhere(c),
-            Instr::Next(_, c) | Instr::Unlink(c) => self.need_in_brigade(c),
-            Instr::JKind(c, _, _) | Instr::BDelete(c) | Instr::Len(_, c) => self.need_bucket(c),
-            Instr::Get(_, _, _) => self.need_bucket(8),
-            Instr::Tail(b, c) | Instr::Head(b, c) => or_else(
-                self.need_usable(b),
-                self.need_loose(c),
-            ),
-            Instr::Before(c, d) => or_else(self.need_loose(c), self.need_in_brigade(d)),
-            Instr::Split(c, _, _) | Instr::Read(c, _) => {
-                or_else(self.need_in_brigade(c), self.need_home(c))
-            }
-            Instr::Copy(_, c) => or_else(self.need_bucket(c), self.need_home(c)),
-            Instr::Aside(c, p) => {
-                or_else(
-                    self.need_bucket(c),
-                    or_else(self.need_pool(p), self.need_home(c)),
-                )
-            }
-            Instr::Ret(_) => self.need_return(),
-            Instr::Heap(_, _)
-            | Instr::Immortal(_, _)
-            | Instr::FromBuf(_)
-            | Instr::Transient(_)
-            | Instr::Flush(_)
-            | Instr::Eos(_)
-            | Instr::Put(_, _)
-            | Instr::ClearBuf
-            | Instr::Set(_, _)
-            | Instr::Add(_, _)
-            | Instr::Sub(_, _)
-            | Instr::JLt(_, _, _)
-            | Instr::JEq(_, _, _)
-            | Instr::JNull(_, _)
-            | Instr::JSent(_)
-            | Instr::Jump(_) => None,
+        let wanted = wants(code, instr);
+        let Some(first) = wanted.first else {
+            return None;
+        };
+        if let Some(kind) = self.need(first) {
+            return Some(kind);
+        }
+        let Some(second) = wanted.second else {
+            return None;
+        };
+        if let Some(kind) = self.need(second) {
+            return Some(kind);
+        }
+        match wanted.third {
+            Some(third) => self.need(third),
+            None => None,
         }
     }
 }

@@ -23,6 +23,7 @@ use Rattle.run_model.specs.Cutting.{set_aside}
 use Rattle.run_model.specs.State.{Configuration, items_of, set_pool, with_pools, set_brigade, set_loose, pool_named}
 use Rattle.run_model.specs.Cursors.{Place, Nowhere, AtLoose, Within, AtEndOf, spot}
 use Rattle.run_model.specs.BucketSteps.{aside_into, changed_at, items_at}
+use Rattle.run_model.specs.EffectOf.{effect_of}
 use Rattle.run_model.specs.Steps.{Choice, step, aside_named, cleaned, do_concat, do_return, handed_over, is_above, label_killed, label_registered, made_on, pool_cleared, pool_destroyed, returned_var, saved_into, text_of, with_items}
 use Rattle.model_laws.proofs.NamedPools.{on_named, made_under_named}
 use Rattle.run_model.proofs.Updates.{upd_either}
@@ -132,7 +133,7 @@ module _ (C : Content → Type 0) where
     left b true = none
     left b false = returned_contents r.call.name (r.instance.brigades b) (h.brigades b)
 
-  pub step_contents : (p : Program) (choice : Choice) (i : Instr) (r : Configuration) → PassesParts Of → ((b : Bucket) → Makes p choice r i b → Of b) → Holds Of r → Holds Of (step p choice i r).state
+  pub step_contents : (p : Program) (choice : Choice) (i : Instr) (r : Configuration) → PassesParts Of → ((b : Bucket) → Makes p choice r (effect_of i) b → Of b) → Holds Of r → Holds Of (step p choice i r).state
   unfolding set_brigade with_pools set_pool
   step_contents p choice (instr.PCreate q) r on made h = made_under_named (Holds Of) p q r h (λ parent e. record { brigades = h.brigades; loose = h.loose })
   step_contents p choice (instr.PClear q) r on made h = on_named (Holds Of) pool_cleared (pool_named r (pool.Own q)) r h (λ n e. cleared_holds n r h)

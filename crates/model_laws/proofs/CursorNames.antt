@@ -2,7 +2,6 @@
 use Rattle.std.proofs.Common.{◌≡◌, ℕ, ◌+◌, ◌<◌, ◌≤◌, Bool, true, false, ◌==◌, cond, List, [], ◌∷◌, ◌++◌, drop, Option, Some, None, inl, inr, refl, sym, ◌∙◌, ap, subst, arith, eq-eqb}
 use Rattle.std.proofs.lemmas.Bool.{cases_lt}
 use Rattle.module_code.specs.declared.instr.PoolRef.TheVariants as pool
-use Rattle.module_code.specs.declared.instr.Instr.TheVariants as instr
 use Rattle.run_model.specs.declared.bucket.Bucket.{Bucket}
 use Rattle.run_model.specs.declared.bucket.NamedBucket.{NamedBucket}
 use Rattle.run_model.specs.declared.bucket.BrigadeVar.{BrigadeVar}
@@ -12,9 +11,12 @@ use Rattle.run_model.specs.declared.bucket.Cursor.TheVariants as cursor
 use Rattle.run_model.specs.Clearing.{run_down}
 use Rattle.run_model.specs.State.{Configuration, items_of, set_brigade, set_loose, set_cursor, set_number, set_pool, with_pools, pool_named}
 use Rattle.run_model.specs.BrigadeLists.{buckets_from, bucket_named, taken_out, first_place, next_place, stays, partition_answer, partitioned, place_of, place_before, front_to, back_from, is_short, Incomplete}
-use Rattle.run_model.specs.Cursors.{Place, Within, spot, bucket_at, read_cursor}
-use Rattle.run_model.specs.BucketSteps.{items_at, cursor_at, set_place, set_items, do_first, do_next, names_given, new_loose, pool_bucket, copy_of, read_given, read_within, do_read, names_to_part, do_bpart}
-use Rattle.run_model.specs.Steps.{do_create, do_clean, do_concat, do_pass, pool_cleared, pool_destroyed, label_registered, label_killed, text_of, saved_into, made_on, value_of}
+use Rattle.run_model.specs.Cursors.{Place, Within, spot, read_cursor}
+use Rattle.run_model.specs.BucketSteps.{items_at, cursor_at, set_place, set_items, do_first, do_next, names_given, new_loose, do_make, read_given, read_within, do_read, names_to_part, do_bpart}
+use Rattle.run_model.specs.EffectOf.{Effect, EMakePool, EClearPool, EDestroyPool, ERegister, EKill, EMakeBrigade, EClean, EConcat, EPartBrigade, ESave, EPass, EFirst, ENext, EMake, ERead, EReturn, effect_of}
+use Rattle.module_code.specs.Program.{Program}
+use Rattle.run_model.specs.declared.bucket.Bucket.{Bucket}
+use Rattle.run_model.specs.Steps.{Choice, do_effect, made_of, do_create, do_clean, do_concat, do_pass, pool_cleared, pool_destroyed, label_registered, label_killed, text_of, saved_into, made_on, value_of}
 use Rattle.run_model.specs.Sound.{SoundNames, brigade_name, sum_below, count_named, count}
 use Rattle.model_laws.specs.CursorLaws.{name_held, SoundCursors, StepKeepsCursors}
 use Rattle.run_model.proofs.Updates.{upd_either}
@@ -24,7 +26,7 @@ use Rattle.model_laws.proofs.BrigadeLists.{brigade_splits_in_order, moves_keep_n
 use Rattle.run_model.proofs.Spots.{Stands, stands}
 use Rattle.model_laws.proofs.SlotNames.{Rises, slot_carried, part_rises}
 use Rattle.model_laws.proofs.NamedPools.{on_named, made_under_named}
-use Rattle.model_laws.proofs.BucketFrame.{IsFrame, framed_step}
+use Rattle.model_laws.proofs.BucketFrame.{IsFrame, SetsAsideAlive, alive_aside, framed}
 
 -- A bucket that is in a list has a name that was given out.
 
@@ -112,9 +114,9 @@ next_held : (d : ℕ) (at : Place) (r : Configuration) → SoundNames r → Soun
 next_held d (Within b x) r names s = place_held d b (next_place x.name (items_at r b)) r (λ k is. given_out b k r names (next_there x.name k (items_at r b) is)) (names.given b) s
 next_held d at r names s = s
 
-copy_held : (d : ℕ) (o : Option NamedBucket) (r : Configuration) → SoundCursors r → SoundCursors (copy_of d o r)
-copy_held d None r s = s
-copy_held d (Some x) r s = new_held d x.bucket r s
+make_held : (c : ℕ) (o : Option Bucket) (r : Configuration) → SoundCursors r → SoundCursors (do_make c o r)
+make_held c None r s = s
+make_held c (Some b) r s = new_held c b r s
 
 read_held : (given : Option (List ℕ)) (at : Place) (r : Configuration) → Stands r at → SoundNames r → SoundCursors r → SoundCursors (do_read given at r)
 unfolding set_brigade
@@ -148,29 +150,25 @@ bpart_held b point c r names s =
 stay_held : (r new : Configuration) → new.call.cursors ≡ r.call.cursors → r.shared.next ≤ new.shared.next → SoundCursors r → SoundCursors new
 stay_held r new cursors rises s = record { given = λ c n e. (let lt : n < r.shared.next = s.given c n (ap (λ (g : ℕ → Cursor). name_held (g c)) (sym cursors) ∙ e) in omega arith) }
 
-pub step_cursors : StepKeepsCursors
+effect_cursors : (p : Program) (choice : Choice) (e : Effect) (r : Configuration) → SetsAsideAlive r e → SoundNames r → SoundCursors r → SoundCursors (do_effect p choice e r)
 unfolding set_brigade set_pool with_pools run_down
-step_cursors p choice (instr.PCreate q) r may names s = made_under_named SoundCursors p q r s (λ parent e. stay_held r _ refl (omega arith) s)
-step_cursors p choice (instr.PClear q) r may names s = on_named SoundCursors pool_cleared (pool_named r (pool.Own q)) r s (λ n e. stay_held r (pool_cleared n r) refl (omega arith) s)
-step_cursors p choice (instr.PDestroy q) r may names s = on_named SoundCursors pool_destroyed (pool_named r (pool.Own q)) r s (λ n e. stay_held r (pool_destroyed n r) refl (omega arith) s)
-step_cursors p choice (instr.Label q t) r may names s = on_named SoundCursors (label_registered (text_of p t)) (pool_named r q) r s (λ n e. stay_held r _ refl (omega arith) s)
-step_cursors p choice (instr.Unlabel q t) r may names s = on_named SoundCursors (label_killed (text_of p t)) (pool_named r q) r s (λ n e. stay_held r _ refl (omega arith) s)
-step_cursors p choice (instr.BCreate o) r may names s = stay_held r (do_create p o r) refl (omega arith) s
-step_cursors p choice (instr.BClean b) r may names s = stay_held r (do_clean b r) refl (omega arith) s
-step_cursors p choice (instr.BConcat a b) r may names s = stay_held r (do_concat a b r) refl (omega arith) s
-step_cursors p choice (instr.BSave o b) r may names s = on_named SoundCursors (saved_into o b) (made_on (r.instance.brigades o)) r s (λ target e. stay_held r (saved_into o b target r) refl (omega arith) s)
-step_cursors p choice (instr.Pass b l) r may names s = stay_held r (do_pass b r) refl (omega arith) s
-step_cursors p choice (instr.Ret st) r may names s = record { given = λ c n e. absurd (cc) }
-step_cursors p choice (instr.First c b) r may names s = first_held c b r names s
-step_cursors p choice (instr.Next d c) r may names s = next_held d (spot r c) r names s
-step_cursors p choice (instr.BPart b x c l) r may names s = bpart_held b (value_of r x) c r names s
-step_cursors p choice (instr.Heap c t) r may names s = new_held c _ r s
-step_cursors p choice (instr.Immortal c t) r may names s = new_held c _ r s
-step_cursors p choice (instr.FromBuf c) r may names s = new_held c _ r s
-step_cursors p choice (instr.Transient c) r may names s = new_held c _ r s
-step_cursors p choice (instr.PoolB c q) r may names s = on_named SoundCursors (λ n. new_loose c (pool_bucket r.call.buffer n)) (pool_named r q) r s (λ n e. new_held c _ r s)
-step_cursors p choice (instr.Flush c) r may names s = new_held c _ r s
-step_cursors p choice (instr.Eos c) r may names s = new_held c _ r s
-step_cursors p choice (instr.Copy d c) r may names s = copy_held d (bucket_at (spot r c)) r s
-step_cursors p choice (instr.Read c l) r may names s = read_held choice.given (spot r c) r (stands r (r.call.cursors c)) names s
-step_cursors p choice i r may names s = framed_step SoundCursors held_frame p choice i r refl refl may s
+effect_cursors p choice (EMakePool q) r alive names s = made_under_named SoundCursors p q r s (λ parent is. stay_held r _ refl (omega arith) s)
+effect_cursors p choice (EClearPool q) r alive names s = on_named SoundCursors pool_cleared (pool_named r (pool.Own q)) r s (λ n is. stay_held r (pool_cleared n r) refl (omega arith) s)
+effect_cursors p choice (EDestroyPool q) r alive names s = on_named SoundCursors pool_destroyed (pool_named r (pool.Own q)) r s (λ n is. stay_held r (pool_destroyed n r) refl (omega arith) s)
+effect_cursors p choice (ERegister q t) r alive names s = on_named SoundCursors (label_registered (text_of p t)) (pool_named r q) r s (λ n is. stay_held r _ refl (omega arith) s)
+effect_cursors p choice (EKill q t) r alive names s = on_named SoundCursors (label_killed (text_of p t)) (pool_named r q) r s (λ n is. stay_held r _ refl (omega arith) s)
+effect_cursors p choice (EMakeBrigade o) r alive names s = stay_held r (do_create p o r) refl (omega arith) s
+effect_cursors p choice (EClean b) r alive names s = stay_held r (do_clean b r) refl (omega arith) s
+effect_cursors p choice (EConcat a b) r alive names s = stay_held r (do_concat a b r) refl (omega arith) s
+effect_cursors p choice (ESave o b) r alive names s = on_named SoundCursors (saved_into o b) (made_on (r.instance.brigades o)) r s (λ target is. stay_held r (saved_into o b target r) refl (omega arith) s)
+effect_cursors p choice (EPass b) r alive names s = stay_held r (do_pass b r) refl (omega arith) s
+effect_cursors p choice EReturn r alive names s = record { given = λ c n is. absurd (cc) }
+effect_cursors p choice (EFirst c b) r alive names s = first_held c b r names s
+effect_cursors p choice (ENext d c) r alive names s = next_held d (spot r c) r names s
+effect_cursors p choice (EPartBrigade b x c) r alive names s = bpart_held b (value_of r x) c r names s
+effect_cursors p choice (EMake c source) r alive names s = make_held c (made_of p r source) r s
+effect_cursors p choice (ERead c) r alive names s = read_held choice.given (spot r c) r (stands r (r.call.cursors c)) names s
+effect_cursors p choice e r alive names s = framed SoundCursors held_frame p choice e r refl refl alive s
+
+pub step_cursors : StepKeepsCursors
+step_cursors p choice i r may names s = effect_cursors p choice (effect_of i) r (alive_aside p i r may) names s

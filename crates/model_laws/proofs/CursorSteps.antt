@@ -9,17 +9,18 @@ use Rattle.run_model.specs.declared.bucket.BrigadeVar.{BrigadeVar}
 use Rattle.run_model.specs.declared.bucket.BrigadeVar.TheVariants as var
 use Rattle.run_model.specs.declared.bucket.Cursor.TheVariants as cursor
 use Rattle.run_model.specs.Indexed.{upd}
-use Rattle.run_model.specs.State.{Configuration, pool_named, items_of, set_brigade, set_loose, set_cursor}
+use Rattle.run_model.specs.State.{Configuration, items_of, set_brigade, set_loose, set_cursor}
 use Rattle.run_model.specs.Faults.{brigade_fault, usable_fault, cursor_fault, InThis}
 use Rattle.run_model.specs.BrigadeLists.{buckets_before, buckets_from, first_bucket, bucket_named, is_there, put_tail, stays, moves, SplitRefusal, split_refusal, first_bytes, rest_as, first_split, bucket_split, length_in, all_bytes, Cut, Incomplete, bucket_across, front_to, back_from, place_before, partition_answer, partitioned, place_of}
 use Rattle.model_laws.specs.BrigadeLaws.{may_split, SameBytes, PartedAt, SplitsThere}
 use Rattle.run_model.specs.Cutting.{length_of}
 use Rattle.run_model.specs.Effects.{with_items}
 use Rattle.run_model.specs.Cursors.{Place, Nowhere, AtLoose, Within, AtEndOf, found_below, holder_of, loose_spot, bucket_spot, spot_of, spot}
-use Rattle.run_model.specs.BucketSteps.{items_at, cursor_at, end_called, set_items, name_given, names_given, new_loose, do_poolb, copy_of, is_unsplit, split_there, do_split, place_at, is_incomplete, names_if, names_to_part, do_bsplit, do_bpart}
-use Rattle.run_model.specs.Steps.{Outcome, jumps_if, value_of}
+use Rattle.run_model.specs.BucketSteps.{items_at, cursor_at, end_called, set_items, name_given, names_given, new_loose, do_make, is_unsplit, split_there, do_split, place_at, is_incomplete, names_if, names_to_part, do_bsplit, do_bpart}
+use Rattle.run_model.specs.EffectOf.{Effect}
+use Rattle.run_model.specs.Steps.{do_effect, Outcome, jumps_if, value_of}
 use Rattle.run_model.specs.Sound.{SoundNames, brigade_name, count_named, count}
-use Rattle.model_laws.specs.CursorLaws.{BucketOnce, BrigadeOnce, MakesLoose, makes_in, MadeAreNew, CopiesAreNew, SplitsBucket, SplitsInOrder, RefusedSplitJumps, BrigadesSplitInOrder, IsPlaceIn, PartsBrigade, PartitionsInOrder, IsPastEnd, PastEndJumps}
+use Rattle.model_laws.specs.CursorLaws.{BucketOnce, BrigadeOnce, MakesLoose, MadeAreNew, SplitsBucket, SplitsInOrder, RefusedSplitJumps, BrigadesSplitInOrder, IsPlaceIn, PartsBrigade, PartitionsInOrder, IsPastEnd, PastEndJumps}
 use Rattle.run_model.proofs.Updates.{upd_at, upd_off, upd_same}
 use Rattle.model_laws.proofs.Marks.{first_none, second_none}
 use Rattle.model_laws.proofs.Operands.{split_brigades}
@@ -61,28 +62,9 @@ makes_loose c b r s = record {
   found : bucket_named r.shared.next (put_tail (record { name = r.shared.next; bucket = b }) r.call.loose) ≡ Some (record { name = r.shared.next; bucket = b })
   found = ap first_bucket (at_seam r.call.loose (record { name = r.shared.next; bucket = b }) [] (omega (arith, unused))).1
 
-pair_is : (x y : ℕ × Bucket) → Some x ≡ Some y → x ≡ y
-pair_is x y e = cc
-
-made_as : (c d : ℕ) (b m : Bucket) (r : Configuration) → SoundNames r → ◌≡◌ {A = Option (ℕ × Bucket)} (Some (c, b)) (Some (d, m)) → MakesLoose d m r (new_loose c b r)
-made_as c d b m r s is = subst (λ (x : ℕ × Bucket). MakesLoose x.0 x.1 r (new_loose c b r)) (pair_is (c, b) (d, m) is) (makes_loose c b r s)
-
-made_in_pool : (c d : ℕ) (m : Bucket) (o : Option ℕ) (r : Configuration) → SoundNames r → makes_in c r.call.buffer o ≡ Some (d, m) → MakesLoose d m r (do_poolb c o r)
-made_in_pool c d m None r s is = absurd (cc)
-made_in_pool c d m (Some n) r s is = made_as c d _ m r s is
-
 pub made_are_new : MadeAreNew
-made_are_new p choice (instr.Heap c t) d m r s is = made_as c d _ m r s is
-made_are_new p choice (instr.Immortal c t) d m r s is = made_as c d _ m r s is
-made_are_new p choice (instr.FromBuf c) d m r s is = made_as c d _ m r s is
-made_are_new p choice (instr.Transient c) d m r s is = made_as c d _ m r s is
-made_are_new p choice (instr.PoolB c q) d m r s is = made_in_pool c d m (pool_named r q) r s is
-made_are_new p choice (instr.Flush c) d m r s is = made_as c d _ m r s is
-made_are_new p choice (instr.Eos c) d m r s is = made_as c d _ m r s is
-made_are_new p choice i d m r s is = absurd (cc)
-
-pub copies_are_new : CopiesAreNew
-copies_are_new p choice d c x r s is = subst (λ (o : Option NamedBucket). MakesLoose d x.bucket r (copy_of d o r)) (sym is) (makes_loose d x.bucket r s)
+made_are_new p choice i c source b r s does is =
+    subst (λ (e : Effect). MakesLoose c b r (do_effect p choice e r)) (sym does) (subst (λ (o : Option Bucket). MakesLoose c b r (do_make c o r)) (sym is) (makes_loose c b r s))
 
 -- Brigades that are there.
 

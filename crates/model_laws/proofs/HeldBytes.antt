@@ -4,7 +4,6 @@ use Rattle.std.proofs.lemmas.Bool.{cases_lt}
 use Rattle.std.proofs.lemmas.List.{get_or_past}
 use Rattle.std.proofs.lemmas.List.Elements.{All-nil, All-cons, All-head, All-tail, All-take, All-drop, All-get_or}
 use Rattle.module_code.specs.declared.instr.Instr.{Instr}
-use Rattle.module_code.specs.declared.instr.Instr.TheVariants as instr
 use Rattle.module_code.specs.Program.{Program, IsModule}
 use Rattle.run_model.specs.declared.bucket.Content.{Content}
 use Rattle.run_model.specs.declared.bucket.Content.TheVariants as content
@@ -16,12 +15,13 @@ use Rattle.run_model.specs.Cutting.{front_of, rest_of}
 use Rattle.run_model.specs.State.{Configuration}
 use Rattle.run_model.specs.Cursors.{Place, Nowhere, AtLoose, Within, AtEndOf, spot}
 use Rattle.run_model.specs.BucketSteps.{content_at, first_of, byte_of, items_at, read_given}
+use Rattle.run_model.specs.EffectOf.{Effect, MadeFrom, HeapText, ImmortalText, HeapBuffer, TransientBuffer, PoolBuffer, CopyAt, EMake, ERead, effect_of}
 use Rattle.run_model.specs.Steps.{Choice, step, text_of}
 use Rattle.run_model.specs.Pieces.{bucket_of, named_from}
 use Rattle.model_laws.specs.Ranges.{AreBytes, HoldsBytes, GivesBytes, IsOfBytes}
 use Rattle.run_model.proofs.EachBucket.{of_named}
 use Rattle.run_model.proofs.Spots.{Stands, stands}
-use Rattle.model_laws.proofs.Origins.{Each, PassesParts, Holds, Makes}
+use Rattle.model_laws.proofs.Origins.{Each, PassesParts, Holds, FromSource, Makes}
 use Rattle.model_laws.proofs.Contents.{step_contents}
 
 -- The bytes that a bucket holds are bytes.
@@ -66,19 +66,22 @@ given_bytes choice gives (content.Range file start len) bytes is = by_length (le
   by_length false is = gives bytes is
 given_bytes choice gives content.Nothing bytes is = let none_given : bytes ≡ [] = cc in subst AreBytes (sym none_given) (All-nil (λ b. b ≤ 255))
 
-made_bytes : (p : Program) (choice : Choice) (r : Configuration) → IsModule p → GivesBytes choice → AreBytes r.call.buffer → (i : Instr) (b : Bucket) → Makes p choice r i b → OfBytes b
-made_bytes p choice r m gives buffer (instr.Heap c t) b is = subst OfBytes (sym is) (text_bytes p m t)
-made_bytes p choice r m gives buffer (instr.Immortal c t) b is = subst OfBytes (sym is) (text_bytes p m t)
-made_bytes p choice r m gives buffer (instr.FromBuf c) b is = subst OfBytes (sym is) buffer
-made_bytes p choice r m gives buffer (instr.Transient c) b is = subst OfBytes (sym is) buffer
-made_bytes p choice r m gives buffer (instr.PoolB c q) b is = subst OfBytes (sym is.1) buffer
-made_bytes p choice r m gives buffer (instr.Flush c) b is = subst OfBytes (sym is) tt
-made_bytes p choice r m gives buffer (instr.Eos c) b is = subst OfBytes (sym is) tt
-made_bytes p choice r m gives buffer (instr.Read c l) b is = subst OfBytes (sym is.1.1.1) (given_bytes choice gives is.0 is.1.0 is.1.1.0)
-made_bytes p choice r m gives buffer i b is = absurd is
+from_bytes : (p : Program) (r : Configuration) → IsModule p → AreBytes r.call.buffer → (source : MadeFrom) (b : Bucket) → FromSource p r source b → OfBytes b
+from_bytes p r m buffer (HeapText t) b is = subst OfBytes (sym is) (text_bytes p m t)
+from_bytes p r m buffer (ImmortalText t) b is = subst OfBytes (sym is) (text_bytes p m t)
+from_bytes p r m buffer HeapBuffer b is = subst OfBytes (sym is) buffer
+from_bytes p r m buffer TransientBuffer b is = subst OfBytes (sym is) buffer
+from_bytes p r m buffer (PoolBuffer q) b is = subst OfBytes (sym is.1) buffer
+from_bytes p r m buffer (CopyAt c) b is = absurd is
+from_bytes p r m buffer source b is = subst OfBytes (sym is) tt
+
+made_bytes : (p : Program) (choice : Choice) (r : Configuration) → IsModule p → GivesBytes choice → AreBytes r.call.buffer → (e : Effect) (b : Bucket) → Makes p choice r e b → OfBytes b
+made_bytes p choice r m gives buffer (EMake c source) b is = from_bytes p r m buffer source b is
+made_bytes p choice r m gives buffer (ERead c) b is = subst OfBytes (sym is.1.1.1) (given_bytes choice gives is.0 is.1.0 is.1.1.0)
+made_bytes p choice r m gives buffer e b is = absurd is
 
 pub step_holds : (p : Program) (choice : Choice) (i : Instr) (r : Configuration) → IsModule p → GivesBytes choice → AreBytes r.call.buffer → Holds OfBytes r → Holds OfBytes (step p choice i r).state
-step_holds p choice i r m gives buffer h = step_contents HoldsBytes p choice i r parts (made_bytes p choice r m gives buffer i) h
+step_holds p choice i r m gives buffer h = step_contents HoldsBytes p choice i r parts (made_bytes p choice r m gives buffer (effect_of i)) h
 
 -- Bytes that are asked for.
 

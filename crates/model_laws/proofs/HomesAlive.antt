@@ -27,6 +27,7 @@ use Rattle.run_model.specs.Faults.{WCursor, OnBucket, fault_want, homes_fault, h
 use Rattle.run_model.specs.BrigadeLists.{bucket_named}
 use Rattle.run_model.specs.Cursors.{Place, Nowhere, AtLoose, Within, AtEndOf, bucket_at, spot}
 use Rattle.run_model.specs.BucketSteps.{items_at, changed_at, aside_into}
+use Rattle.run_model.specs.EffectOf.{effect_of}
 use Rattle.run_model.specs.Steps.{all_referred, do_create, do_pass, do_return, do_clean, cleaned, handed_over, with_items, returned_var, made_on, new_ref, aside_named, saved_into, pool_cleared, pool_destroyed, label_registered, label_killed, text_of}
 use Rattle.run_model.specs.Sound.{SoundPools, Sound, brigade_pool, count_named}
 use Rattle.model_laws.specs.Laws.{MatchHome, is_return, changes_pools, ChangesOnly}
@@ -231,7 +232,7 @@ alive_on r named = record {
   };
 }
 
-quiet_homes : (i : Instr) (r new : Configuration) → changes_pools i ≡ false → is_return i ≡ false → ChangesOnly i r new → Holds (AliveBucket r) new → HomesAlive r → HomesAlive new
+quiet_homes : (i : Instr) (r new : Configuration) → changes_pools i ≡ false → is_return i ≡ false → ChangesOnly (effect_of i) r new → Holds (AliveBucket r) new → HomesAlive r → HomesAlive new
 quiet_homes i r new tree on only h s =
     kept r new (home_stays r new (only.call_name on) (λ n live. subst (λ (ps : Pools Payload). is_live ps n ≡ true) (sym (only.tree tree)) live)) h.brigades h.loose only.names s
 

@@ -20,11 +20,12 @@ use Rattle.run_model.specs.Files.{Files, is_referred, let_go}
 use Rattle.run_model.specs.State.{Configuration, with_pools, set_number, pool_named}
 use Rattle.run_model.specs.Cursors.{spot, read_cursor}
 use Rattle.run_model.specs.BucketSteps.{byte_of, content_at, got}
-use Rattle.run_model.specs.Steps.{Choice, step, do_put, pool_cleared, pool_destroyed, value_of, is_full, last_value}
+use Rattle.run_model.specs.EffectOf.{Effect, ENumber, LengthAt, ByteRead, ValueGiven, Plus, Minus, effect_of}
+use Rattle.run_model.specs.Steps.{do_effect, Choice, step, do_put, pool_cleared, pool_destroyed, value_of, is_full, last_value}
 use Rattle.model_laws.specs.Ranges.{AreBytes, FileBytes, BufferInRange, InRange, StepKeepsInRange, StepKeepsBuffer}
 use Rattle.run_model.proofs.Updates.{upd_either}
 use Rattle.model_laws.proofs.NamedPools.{on_named, with_buffer}
-use Rattle.model_laws.proofs.Unchanged.{step_changes_only}
+use Rattle.model_laws.proofs.Unchanged.{effect_changes_only, step_changes_only}
 use Rattle.model_laws.proofs.Origins.{Holds}
 use Rattle.model_laws.proofs.StepFiles.{neither}
 use Rattle.model_laws.proofs.HeldBytes.{OfBytes, step_holds, byte_there}
@@ -79,13 +80,22 @@ got_range : (n : ℕ) (o : Option ℕ) (r : Configuration) → ((v : ℕ) → o 
 got_range n None r small s = s
 got_range n (Some v) r small s = number_set n v r (let le : v ≤ 255 = small v refl in omega arith) s
 
+-- an effect that gives a number this value
+abbrev gives_value : Effect → Bool
+gives_value (ENumber n (ValueGiven x)) = true
+gives_value e = false
+
+effect_numbers : (p : Program) (choice : Choice) (e : Effect) (r : Configuration) → gives_value e ≡ false → Holds OfBytes r → ((k : ℕ) → r.instance.numbers k ≤ 4294967295) → (k : ℕ) → (do_effect p choice e r).instance.numbers k ≤ 4294967295
+effect_numbers p choice (ENumber n (LengthAt c)) r other held s = number_set n _ r (least _) s
+effect_numbers p choice (ENumber n (ByteRead x)) r other held s = got_range n (byte_of (value_of r x) (content_at (spot r read_cursor))) r (λ v is. byte_there r read_cursor (value_of r x) v held is) s
+effect_numbers p choice (ENumber n (Plus x)) r other held s = number_set n _ r (least (r.instance.numbers n + value_of r x)) s
+effect_numbers p choice (ENumber n (Minus x)) r other held s = number_set n _ r (let le : r.instance.numbers n ≤ 4294967295 = s n in omega arith) s
+effect_numbers p choice (ENumber n (ValueGiven x)) r other held s = absurd (cc)
+effect_numbers p choice e r other held s = λ k. subst (λ (v : ℕ). v ≤ 4294967295) (sym ((effect_changes_only p choice e r).numbers k refl)) (s k)
+
 step_numbers : (p : Program) (choice : Choice) (i : Instr) (r : Configuration) → fits p i ≡ true → Holds OfBytes r → ((k : ℕ) → r.instance.numbers k ≤ 4294967295) → (k : ℕ) → (step p choice i r).state.instance.numbers k ≤ 4294967295
-step_numbers p choice (instr.Len n c) r fit held s = number_set n _ r (least _) s
-step_numbers p choice (instr.Get n x l) r fit held s = got_range n (byte_of (value_of r x) (content_at (spot r read_cursor))) r (λ v is. byte_there r read_cursor (value_of r x) v held is) s
 step_numbers p choice (instr.Set n x) r fit held s = number_set n (value_of r x) r (value_range x r (second (nat_lt n 8) (is_value x) fit) s) s
-step_numbers p choice (instr.Add n x) r fit held s = number_set n _ r (least (r.instance.numbers n + value_of r x)) s
-step_numbers p choice (instr.Sub n x) r fit held s = number_set n _ r (let le : r.instance.numbers n ≤ 4294967295 = s n in omega arith) s
-step_numbers p choice i r fit held s = λ k. subst (λ (v : ℕ). v ≤ 4294967295) (sym ((step_changes_only p choice i r).numbers k refl)) (s k)
+step_numbers p choice i r fit held s = effect_numbers p choice (effect_of i) r refl held s
 
 -- Files.
 

@@ -4,7 +4,6 @@ use Rattle.std.proofs.Common.{◌≡◌, ℕ, zero, suc, ◌+◌, ◌-◌, ◌�
 use Rattle.std.proofs.lemmas.Bool.Decides.{nat_tests}
 use Rattle.std.proofs.lemmas.List.Elements.{All-nil, All-cons, All-head, All-tail, All-append}
 use Rattle.module_code.specs.declared.instr.Instr.{Instr}
-use Rattle.module_code.specs.declared.instr.Instr.TheVariants as instr
 use Rattle.module_code.specs.Program.{Program}
 use Rattle.run_model.specs.declared.bucket.Kind.TheVariants as kind
 use Rattle.run_model.specs.declared.bucket.Content.{Content}
@@ -19,10 +18,11 @@ use Rattle.run_model.specs.Buckets.{is_data}
 use Rattle.run_model.specs.Cutting.{FitsKind, length_of, front_of, rest_of, split_at, read_limit, read_as}
 use Rattle.run_model.specs.BrigadeLists.{buckets_before, buckets_from, first_bucket, taken_out, put_head, put_tail, put_before, stays, moves, TooLong, Metadata, split_refusal, first_bytes, rest_as, first_split, front_to, back_from, is_short, partitioned}
 use Rattle.run_model.specs.State.{Configuration, items_of, set_brigade, set_number, set_cursor, set_loose, pool_named}
-use Rattle.run_model.specs.Cursors.{Place, AtLoose, Within, spot, read_cursor}
-use Rattle.run_model.specs.BucketSteps.{items_at, set_items, do_next, do_unlink, do_delete, put_into, do_before, name_given, names_given, names_to_part, new_loose, heap_bucket, immortal_bucket, transient_bucket, pool_bucket, metadata, do_copy, split_there, do_split, rest_named, first_read, read_given, read_within, do_read, place_at, do_bsplit, do_bpart, byte_of, content_at, got}
-use Rattle.run_model.specs.Steps.{Choice, step, with_items, text_of, value_of}
-use Rattle.model_laws.proofs.NamedPools.{with_buffer, on_named, put_keeps}
+use Rattle.run_model.specs.Cursors.{bucket_at, Place, AtLoose, Within, spot, read_cursor}
+use Rattle.run_model.specs.BucketSteps.{items_at, set_items, do_next, do_unlink, do_delete, put_into, do_before, name_given, names_given, names_to_part, new_loose, heap_bucket, immortal_bucket, transient_bucket, pool_bucket, metadata, copied_bucket, pooled_bucket, do_make, split_there, do_split, rest_named, first_read, read_given, read_within, do_read, place_at, do_bsplit, do_bpart, got}
+use Rattle.run_model.specs.EffectOf.{Effect, MadeFrom, HeapText, ImmortalText, HeapBuffer, TransientBuffer, PoolBuffer, FlushBucket, EosBucket, CopyAt, Side, AtTail, AtHead, ENothing, EMakePool, EClearPool, EDestroyPool, ERegister, EKill, EMakeBrigade, EClean, EConcat, ESplitBrigade, EPartBrigade, ESave, EPass, EFirst, ENext, EUnlink, EDelete, EInsert, EBefore, EMake, ESplit, EAside, ERead, ENumber, EPut, EClearBuffer, EReturn, effect_of}
+use Rattle.run_model.specs.Steps.{do_effect, made_of, number_of, put_at, Choice, step, with_items, text_of, value_of}
+use Rattle.model_laws.proofs.NamedPools.{with_buffer, put_keeps}
 use Rattle.run_model.proofs.Updates.{upd_either}
 use Rattle.run_model.proofs.Spots.{Stands, stands}
 use Rattle.run_model.proofs.EachBucket.{each_before, each_from, of_named, each_taken_out, each_put_head, each_put_tail, each_put_before}
@@ -182,10 +182,14 @@ module _ (T : NamedBucket → Type 0) (r : Configuration) (on : Descends r.share
   new_holds : (c : ℕ) (b : Bucket) → T (record { name = r.shared.next; bucket = b }) → HoldsNamed T (new_loose c b r)
   new_holds c b new = cursor_holds T c _ _ (loose_hold T _ (name_given r) (each_put_tail T (record { name = r.shared.next; bucket = b }) r.call.loose new h.loose) (names_hold T 1 r h))
 
-  copy_holds : (d : ℕ) (s : Place) → Stands r s → HoldsNamed T (do_copy d s r)
-  copy_holds d (Within b x) there = new_holds d x.bucket (on.copy x (within_of b x there))
-  copy_holds d (AtLoose x) there = new_holds d x.bucket (on.copy x (loose_of x there))
-  copy_holds d s there = h
+  make_holds : (c : ℕ) (o : Option Bucket) → ((b : Bucket) → o ≡ Some b → T (record { name = r.shared.next; bucket = b })) → HoldsNamed T (do_make c o r)
+  make_holds c None new = h
+  make_holds c (Some b) new = new_holds c b (new b refl)
+
+  copy_is : (s : Place) → Stands r s → (b : Bucket) → copied_bucket (bucket_at s) ≡ Some b → T (record { name = r.shared.next; bucket = b })
+  copy_is (Within k x) there b is = let same : x.bucket ≡ b = cc in subst (λ (z : Bucket). T (record { name = r.shared.next; bucket = z })) same (on.copy x (within_of k x there))
+  copy_is (AtLoose x) there b is = let same : x.bucket ≡ b = cc in subst (λ (z : Bucket). T (record { name = r.shared.next; bucket = z })) same (on.copy x (loose_of x there))
+  copy_is s there b is = absurd (cc)
 
   -- Buckets that are cut.
 
@@ -294,100 +298,115 @@ module _ (T : NamedBucket → Type 0) (r : Configuration) (on : Descends r.share
         (each_before T x.name (items_at r b) (h.brigades b)) (read_first bytes (made x.bucket.content bytes is) (buckets_from x.name (items_at r b)) (each_from T x.name (items_at r b) (h.brigades b)))) (names_hold T _ r h))
   read_holds given s made = h
 
--- whether an instruction neither changes pools nor brigades as a whole, nor ends a call, nor sets buckets aside
-abbrev pub is_quiet : Instr → Bool
-is_quiet (instr.PCreate q) = false
-is_quiet (instr.PClear q) = false
-is_quiet (instr.PDestroy q) = false
-is_quiet (instr.Label q t) = false
-is_quiet (instr.Unlabel q t) = false
-is_quiet (instr.BCreate o) = false
-is_quiet (instr.BClean b) = false
-is_quiet (instr.BConcat a b) = false
-is_quiet (instr.BSave o b) = false
-is_quiet (instr.Pass b l) = false
-is_quiet (instr.Aside c q) = false
-is_quiet (instr.Ret s) = false
-is_quiet i = true
+-- whether an effect neither changes pools nor brigades as a whole, nor ends a call, nor sets buckets aside
+abbrev pub is_quiet : Effect → Bool
+is_quiet (EMakePool q) = false
+is_quiet (EClearPool q) = false
+is_quiet (EDestroyPool q) = false
+is_quiet (ERegister q t) = false
+is_quiet (EKill q t) = false
+is_quiet (EMakeBrigade o) = false
+is_quiet (EClean b) = false
+is_quiet (EConcat a b) = false
+is_quiet (ESave o b) = false
+is_quiet (EPass b) = false
+is_quiet (EAside c q) = false
+is_quiet EReturn = false
+is_quiet e = true
 
--- the buckets that an instruction makes
-abbrev pub Makes : Program → Choice → Configuration → Instr → Bucket → Type 0
-Makes p choice r (instr.Heap c t) b = b ≡ heap_bucket (text_of p t)
-Makes p choice r (instr.Immortal c t) b = b ≡ immortal_bucket (text_of p t)
-Makes p choice r (instr.FromBuf c) b = b ≡ heap_bucket r.call.buffer
-Makes p choice r (instr.Transient c) b = b ≡ transient_bucket r.call.name r.call.buffer
-Makes p choice r (instr.PoolB c q) b = (n : ℕ) × (b ≡ pool_bucket r.call.buffer n)
-Makes p choice r (instr.Flush c) b = b ≡ metadata kind.Flush
-Makes p choice r (instr.Eos c) b = b ≡ metadata kind.Eos
-Makes p choice r (instr.Read c l) b = (x : Content) × ((bytes : List ℕ) × ((read_given choice.given x ≡ Some bytes) × (b ≡ heap_bucket bytes)))
-Makes p choice r i b = ⊥
+-- the bucket that is made of a source, if it is no copy
+abbrev pub FromSource : Program → Configuration → MadeFrom → Bucket → Type 0
+FromSource p r (HeapText t) b = b ≡ heap_bucket (text_of p t)
+FromSource p r (ImmortalText t) b = b ≡ immortal_bucket (text_of p t)
+FromSource p r HeapBuffer b = b ≡ heap_bucket r.call.buffer
+FromSource p r TransientBuffer b = b ≡ transient_bucket r.call.name r.call.buffer
+FromSource p r (PoolBuffer q) b = (n : ℕ) × (b ≡ pool_bucket r.call.buffer n)
+FromSource p r FlushBucket b = b ≡ metadata kind.Flush
+FromSource p r EosBucket b = b ≡ metadata kind.Eos
+FromSource p r (CopyAt c) b = ⊥
 
--- whether an instruction reads a bucket
+-- the buckets that an effect makes
+abbrev pub Makes : Program → Choice → Configuration → Effect → Bucket → Type 0
+Makes p choice r (EMake c source) b = FromSource p r source b
+Makes p choice r (ERead c) b = (x : Content) × ((bytes : List ℕ) × ((read_given choice.given x ≡ Some bytes) × (b ≡ heap_bucket bytes)))
+Makes p choice r e b = ⊥
+
+-- whether an effect reads a bucket
+abbrev pub reads_bucket : Effect → Bool
+reads_bucket (ERead c) = true
+reads_bucket e = false
+
 abbrev pub is_read : Instr → Bool
-is_read (instr.Read c l) = true
-is_read i = false
+is_read i = reads_bucket (effect_of i)
 
--- What is true of each bucket, under its name, of what comes of it and of what is made, is true of each that such an instruction leaves.
-pub named_leaves : (T : NamedBucket → Type 0) (p : Program) (choice : Choice) (i : Instr) (r : Configuration) → is_quiet i ≡ true → Descends r.shared.next T → ((b : Bucket) → is_read i ≡ false → Makes p choice r i b → T (record { name = r.shared.next; bucket = b }))
+-- What is true of each bucket, under its name, of what comes of it and of what is made, is true of each that such an effect leaves.
+module _ (T : NamedBucket → Type 0) (p : Program) (choice : Choice) (r : Configuration) (on : Descends r.shared.next T) where
+  made_holds : (source : MadeFrom) → ((b : Bucket) → FromSource p r source b → T (record { name = r.shared.next; bucket = b })) → HoldsNamed T r
+      → (b : Bucket) → made_of p r source ≡ Some b → T (record { name = r.shared.next; bucket = b })
+  made_holds (HeapText t) made h b is = made b cc
+  made_holds (ImmortalText t) made h b is = made b cc
+  made_holds HeapBuffer made h b is = made b cc
+  made_holds TransientBuffer made h b is = made b cc
+  made_holds (PoolBuffer q) made h b is = made b (in_pool (pool_named r q) is) where
+    in_pool : (o : Option ℕ) → pooled_bucket r.call.buffer o ≡ Some b → (n : ℕ) × (b ≡ pool_bucket r.call.buffer n)
+    in_pool None is = absurd (cc)
+    in_pool (Some n) is = (n, cc)
+  made_holds FlushBucket made h b is = made b cc
+  made_holds EosBucket made h b is = made b cc
+  made_holds (CopyAt c) made h b is = copy_is T r on h (spot r c) (stands r (r.call.cursors c)) b is
+
+  insert_holds : (side : Side) (b c : ℕ) → HoldsNamed T r → HoldsNamed T (put_into (put_at side) b (spot r c) r)
+  insert_holds AtTail b c h = put_holds T r on h put_tail (each_put_tail T) b (spot r c) (stands r (r.call.cursors c))
+  insert_holds AtHead b c h = put_holds T r on h put_head (each_put_head T) b (spot r c) (stands r (r.call.cursors c))
+
+  leaves : (e : Effect) → is_quiet e ≡ true → ((b : Bucket) → reads_bucket e ≡ false → Makes p choice r e b → T (record { name = r.shared.next; bucket = b }))
+      → ((c : Content) (bytes : List ℕ) → reads_bucket e ≡ true → read_given choice.given c ≡ Some bytes → (x : NamedBucket) → T x → T (record x { bucket = heap_bucket bytes }))
+      → HoldsNamed T r → HoldsNamed T (do_effect p choice e r)
+  leaves ENothing quiet made reads h = h
+  leaves (ESplitBrigade b c a) quiet made reads h = bsplit_holds T r on h b (spot r c) a
+  leaves (EPartBrigade b x c) quiet made reads h = part_holds T r on h b (value_of r x) c
+  leaves (EFirst c b) quiet made reads h = cursor_holds T c _ r h
+  leaves (ENext d c) quiet made reads h = next_holds T r on h d (spot r c)
+  leaves (EUnlink c) quiet made reads h = unlink_holds T r on h (spot r c) (stands r (r.call.cursors c))
+  leaves (EDelete c) quiet made reads h = delete_holds T r on h (spot r c)
+  leaves (EInsert side b c) quiet made reads h = insert_holds side b c h
+  leaves (EBefore c d) quiet made reads h = before_holds T r on h (spot r c) (spot r d) (stands r (r.call.cursors c))
+  leaves (EMake c source) quiet made reads h = make_holds T r on h c (made_of p r source) (made_holds source (λ b from. made b refl from) h)
+  leaves (ESplit c x) quiet made reads h = split_holds T r on h (value_of r x) (spot r c) (stands r (r.call.cursors c))
+  leaves (ERead c) quiet made reads h = read_holds T r on h choice.given (spot r c) (λ k bytes is. reads k bytes refl is)
+  leaves (ENumber n number) quiet made reads h = got_holds T r on h n (number_of r n number)
+  leaves (EPut x) quiet made reads h = put_keeps (HoldsNamed T) x r h (λ buffer. buffer_holds T buffer r h)
+  leaves EClearBuffer quiet made reads h = buffer_holds T [] r h
+  leaves e quiet made reads h = absurd (cc)
+
+pub named_leaves : (T : NamedBucket → Type 0) (p : Program) (choice : Choice) (i : Instr) (r : Configuration) → is_quiet (effect_of i) ≡ true → Descends r.shared.next T
+    → ((b : Bucket) → is_read i ≡ false → Makes p choice r (effect_of i) b → T (record { name = r.shared.next; bucket = b }))
     → ((c : Content) (bytes : List ℕ) → is_read i ≡ true → read_given choice.given c ≡ Some bytes → (x : NamedBucket) → T x → T (record x { bucket = heap_bucket bytes })) → HoldsNamed T r → HoldsNamed T (step p choice i r).state
-named_leaves T p choice (instr.PCreate q) r quiet on made reads h = absurd (cc)
-named_leaves T p choice (instr.PClear q) r quiet on made reads h = absurd (cc)
-named_leaves T p choice (instr.PDestroy q) r quiet on made reads h = absurd (cc)
-named_leaves T p choice (instr.Label q t) r quiet on made reads h = absurd (cc)
-named_leaves T p choice (instr.Unlabel q t) r quiet on made reads h = absurd (cc)
-named_leaves T p choice (instr.BCreate o) r quiet on made reads h = absurd (cc)
-named_leaves T p choice (instr.BClean b) r quiet on made reads h = absurd (cc)
-named_leaves T p choice (instr.BConcat a b) r quiet on made reads h = absurd (cc)
-named_leaves T p choice (instr.BSave o b) r quiet on made reads h = absurd (cc)
-named_leaves T p choice (instr.Pass b l) r quiet on made reads h = absurd (cc)
-named_leaves T p choice (instr.Aside c q) r quiet on made reads h = absurd (cc)
-named_leaves T p choice (instr.Ret s) r quiet on made reads h = absurd (cc)
-named_leaves T p choice (instr.BSplit b c a) r quiet on made reads h = bsplit_holds T r on h b (spot r c) a
-named_leaves T p choice (instr.BPart b x c l) r quiet on made reads h = part_holds T r on h b (value_of r x) c
-named_leaves T p choice (instr.First c b) r quiet on made reads h = cursor_holds T c _ r h
-named_leaves T p choice (instr.Next d c) r quiet on made reads h = next_holds T r on h d (spot r c)
-named_leaves T p choice (instr.Unlink c) r quiet on made reads h = unlink_holds T r on h (spot r c) (stands r (r.call.cursors c))
-named_leaves T p choice (instr.BDelete c) r quiet on made reads h = delete_holds T r on h (spot r c)
-named_leaves T p choice (instr.Tail b c) r quiet on made reads h = put_holds T r on h put_tail (each_put_tail T) b (spot r c) (stands r (r.call.cursors c))
-named_leaves T p choice (instr.Head b c) r quiet on made reads h = put_holds T r on h put_head (each_put_head T) b (spot r c) (stands r (r.call.cursors c))
-named_leaves T p choice (instr.Before c d) r quiet on made reads h = before_holds T r on h (spot r c) (spot r d) (stands r (r.call.cursors c))
-named_leaves T p choice (instr.Heap c t) r quiet on made reads h = new_holds T r on h c _ (made _ refl refl)
-named_leaves T p choice (instr.Immortal c t) r quiet on made reads h = new_holds T r on h c _ (made _ refl refl)
-named_leaves T p choice (instr.FromBuf c) r quiet on made reads h = new_holds T r on h c _ (made _ refl refl)
-named_leaves T p choice (instr.Transient c) r quiet on made reads h = new_holds T r on h c _ (made _ refl refl)
-named_leaves T p choice (instr.PoolB c q) r quiet on made reads h =
-    on_named (HoldsNamed T) (λ n. new_loose c (pool_bucket r.call.buffer n)) (pool_named r q) r h (λ n e. new_holds T r on h c _ (made _ refl (n, refl)))
-named_leaves T p choice (instr.Flush c) r quiet on made reads h = new_holds T r on h c _ (made _ refl refl)
-named_leaves T p choice (instr.Eos c) r quiet on made reads h = new_holds T r on h c _ (made _ refl refl)
-named_leaves T p choice (instr.Split c x l) r quiet on made reads h = split_holds T r on h (value_of r x) (spot r c) (stands r (r.call.cursors c))
-named_leaves T p choice (instr.Copy d c) r quiet on made reads h = copy_holds T r on h d (spot r c) (stands r (r.call.cursors c))
-named_leaves T p choice (instr.Read c l) r quiet on made reads h = read_holds T r on h choice.given (spot r c) (λ c bytes is. reads c bytes refl is)
-named_leaves T p choice (instr.Len n c) r quiet on made reads h = number_holds T n _ r h
-named_leaves T p choice (instr.Get n x l) r quiet on made reads h = got_holds T r on h n (byte_of (value_of r x) (content_at (spot r read_cursor)))
-named_leaves T p choice (instr.Put x l) r quiet on made reads h = put_keeps (HoldsNamed T) x r h (λ buffer. buffer_holds T buffer r h)
-named_leaves T p choice instr.ClearBuf r quiet on made reads h = buffer_holds T [] r h
-named_leaves T p choice (instr.Set n x) r quiet on made reads h = number_holds T n _ r h
-named_leaves T p choice (instr.Add n x) r quiet on made reads h = number_holds T n _ r h
-named_leaves T p choice (instr.Sub n x) r quiet on made reads h = number_holds T n _ r h
-named_leaves T p choice i r quiet on made reads h = h
+named_leaves T p choice i r quiet on made reads h = leaves T p choice r on (effect_of i) quiet made reads h
 
-pub parted_leaves : (T : Bucket → Type 0) (p : Program) (choice : Choice) (i : Instr) (r : Configuration) → is_quiet i ≡ true → PassesParts T → ((b : Bucket) → Makes p choice r i b → T b) → Holds T r → Holds T (step p choice i r).state
+pub parted_leaves : (T : Bucket → Type 0) (p : Program) (choice : Choice) (i : Instr) (r : Configuration) → is_quiet (effect_of i) ≡ true → PassesParts T
+    → ((b : Bucket) → Makes p choice r (effect_of i) b → T b) → Holds T r → Holds T (step p choice i r).state
 parted_leaves T p choice i r quiet on made h =
-    named_leaves (λ x. T x.bucket) p choice i r quiet (record { front = λ n x le old. on.front n x.bucket le old; rest = λ n x le old. on.rest n x.bucket le old; copy = λ x old. old }) (λ b other is. made b is) (λ c bytes reads is x old. made (heap_bucket bytes) (read_makes p choice r i c bytes reads is)) h where
-      read_makes : (p : Program) (choice : Choice) (r : Configuration) (i : Instr) (c : Content) (bytes : List ℕ) → is_read i ≡ true → read_given choice.given c ≡ Some bytes → Makes p choice r i (heap_bucket bytes)
-      read_makes p choice r (instr.Read d l) c bytes reads is = (c, (bytes, (is, refl)))
-      read_makes p choice r i c bytes reads is = absurd (cc)
+    named_leaves (λ x. T x.bucket) p choice i r quiet (record { front = λ n x le old. on.front n x.bucket le old; rest = λ n x le old. on.rest n x.bucket le old; copy = λ x old. old }) (λ b other is. made b is)
+    (λ c bytes reads is x old. made (heap_bucket bytes) (read_makes (effect_of i) c bytes reads is)) h where
+      read_makes : (e : Effect) (c : Content) (bytes : List ℕ) → reads_bucket e ≡ true → read_given choice.given c ≡ Some bytes → Makes p choice r e (heap_bucket bytes)
+      read_makes (ERead d) c bytes reads is = (c, (bytes, (is, refl)))
+      read_makes e c bytes reads is = absurd (cc)
 
-made_so : (p : Program) (choice : Choice) (r : Configuration) (i : Instr) (b : Bucket) → Makes p choice r i b → IsMade r b
-made_so p choice r (instr.Heap c t) b is = subst (IsMade r) (sym is) (made_heap r (text_of p t))
-made_so p choice r (instr.Immortal c t) b is = subst (IsMade r) (sym is) (made_immortal r (text_of p t))
-made_so p choice r (instr.FromBuf c) b is = subst (IsMade r) (sym is) (made_heap r r.call.buffer)
-made_so p choice r (instr.Transient c) b is = subst (IsMade r) (sym is) (made_transient r r.call.buffer)
-made_so p choice r (instr.PoolB c q) b is = subst (IsMade r) (sym is.1) (made_pooled r r.call.buffer is.0)
-made_so p choice r (instr.Flush c) b is = subst (IsMade r) (sym is) (made_flush r)
-made_so p choice r (instr.Eos c) b is = subst (IsMade r) (sym is) (made_eos r)
-made_so p choice r (instr.Read c l) b is = subst (IsMade r) (sym is.1.1.1) (made_heap r is.1.0)
-made_so p choice r i b is = absurd is
+from_so : (p : Program) (r : Configuration) (source : MadeFrom) (b : Bucket) → FromSource p r source b → IsMade r b
+from_so p r (HeapText t) b is = subst (IsMade r) (sym is) (made_heap r (text_of p t))
+from_so p r (ImmortalText t) b is = subst (IsMade r) (sym is) (made_immortal r (text_of p t))
+from_so p r HeapBuffer b is = subst (IsMade r) (sym is) (made_heap r r.call.buffer)
+from_so p r TransientBuffer b is = subst (IsMade r) (sym is) (made_transient r r.call.buffer)
+from_so p r (PoolBuffer q) b is = subst (IsMade r) (sym is.1) (made_pooled r r.call.buffer is.0)
+from_so p r FlushBucket b is = subst (IsMade r) (sym is) (made_flush r)
+from_so p r EosBucket b is = subst (IsMade r) (sym is) (made_eos r)
+from_so p r (CopyAt c) b is = absurd is
 
-pub quiet_leaves : (T : Bucket → Type 0) (p : Program) (choice : Choice) (i : Instr) (r : Configuration) → is_quiet i ≡ true → PassesOn r T → Holds T r → Holds T (step p choice i r).state
-quiet_leaves T p choice i r quiet on h = parted_leaves T p choice i r quiet on.parts (λ b is. on.made b (made_so p choice r i b is)) h
+made_so : (p : Program) (choice : Choice) (r : Configuration) (e : Effect) (b : Bucket) → Makes p choice r e b → IsMade r b
+made_so p choice r (EMake c source) b is = from_so p r source b is
+made_so p choice r (ERead c) b is = subst (IsMade r) (sym is.1.1.1) (made_heap r is.1.0)
+made_so p choice r e b is = absurd is
+
+pub quiet_leaves : (T : Bucket → Type 0) (p : Program) (choice : Choice) (i : Instr) (r : Configuration) → is_quiet (effect_of i) ≡ true → PassesOn r T → Holds T r → Holds T (step p choice i r).state
+quiet_leaves T p choice i r quiet on h = parted_leaves T p choice i r quiet on.parts (λ b is. on.made b (made_so p choice r (effect_of i) b is)) h

@@ -17,6 +17,7 @@ use Rattle.run_model.specs.Clearing.{is_reached, cleared_var, run_down}
 use Rattle.run_model.specs.State.{Configuration, is_passed, set_brigade, with_pools, pool_named}
 use Rattle.run_model.specs.Cursors.{Place, Nowhere, AtLoose, Within, AtEndOf, spot}
 use Rattle.run_model.specs.Faults.{Need, Anywhere, OnBucket, OnLoose, InBrigade, InThis, Want, WPool, WUsable, WCursor, wants, usable_fault, passed_fault, loose_fault, within_fault, end_fault, cursor_fault, new_fault, fault_want, first_fault, fault, or_else}
+use Rattle.run_model.specs.EffectOf.{effect_of}
 use Rattle.run_model.specs.Steps.{Choice, step, do_pass, handed_over, returned_var, pool_cleared, pool_destroyed}
 use Rattle.run_model.specs.Sound.{brigade_name}
 use Rattle.model_laws.specs.Laws.{is_within, may_change}
@@ -232,9 +233,9 @@ still_at : (v w : BrigadeVar) → w ≡ v → HoldsPassed v → StaysPassed v w
 still_at v w is h = subst (λ (x : BrigadeVar). StaysPassed v x) (sym is) (still v h)
 
 -- what a step does not change stays
-kept_unless : (p : Program) (choice : Choice) (i : Instr) (b : ℕ) (r : Configuration) → (may_change r i b ≡ true → ⊥) → HoldsPassed (r.instance.brigades b) → StaysPassed (r.instance.brigades b) ((step p choice i r).state.instance.brigades b)
+kept_unless : (p : Program) (choice : Choice) (i : Instr) (b : ℕ) (r : Configuration) → (may_change r (effect_of i) b ≡ true → ⊥) → HoldsPassed (r.instance.brigades b) → StaysPassed (r.instance.brigades b) ((step p choice i r).state.instance.brigades b)
 kept_unless p choice i b r never h =
-    still_at (r.instance.brigades b) ((step p choice i r).state.instance.brigades b) ((step_changes_only p choice i r).brigades b (false_from_ne_true (may_change r i b) never)) h
+    still_at (r.instance.brigades b) ((step p choice i r).state.instance.brigades b) ((step_changes_only p choice i r).brigades b (false_from_ne_true (may_change r (effect_of i) b) never)) h
 
 live_not_new : (v : BrigadeVar) → HoldsPassed v → new_fault v ≡ None → ⊥
 live_not_new var.Null h none = h
@@ -266,7 +267,7 @@ both false true c h = refl
 both false false c h = absurd (cc)
 
 -- what an instruction changes, but for those of pools, for a new brigade and a clean, and for a return, it uses
-changed_used : (p : Program) (r : Configuration) (i : Instr) (k : ℕ) → is_remade i ≡ false → may_change r i k ≡ true → uses p r i k ≡ true
+changed_used : (p : Program) (r : Configuration) (i : Instr) (k : ℕ) → is_remade i ≡ false → may_change r (effect_of i) k ≡ true → uses p r i k ≡ true
 changed_used p r (instr.BConcat a b) k plain h = both (k == a) (k == b) false h
 changed_used p r (instr.BSplit b c a) k plain h = split_used (k == b) (k == a) (is_at (spot r c) k) h where
   split_used : (x y z : Bool) → (x || y) ≡ true → (x || (z || (y || false))) ≡ true

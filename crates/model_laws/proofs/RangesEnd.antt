@@ -3,8 +3,6 @@ use Rattle.std.proofs.Common.{◌≡◌, ℕ, ◌+◌, ◌^◌, ◌<◌, ◌≤�
 use Rattle.std.specs.List.{list_any}
 use Rattle.std.proofs.lemmas.Bool.Decides.{nat_tests}
 use Rattle.std.proofs.lemmas.List.Elements.{All-nil, All-cons, All-head, All-tail}
-use Rattle.module_code.specs.declared.instr.Instr.{Instr}
-use Rattle.module_code.specs.declared.instr.Instr.TheVariants as instr
 use Rattle.module_code.specs.Program.{Program}
 use Rattle.run_model.specs.declared.bucket.Content.{Content}
 use Rattle.run_model.specs.declared.bucket.Content.TheVariants as content
@@ -13,12 +11,13 @@ use Rattle.run_model.specs.declared.event.Piece.{Piece}
 use Rattle.run_model.specs.declared.event.Piece.TheVariants as piece
 use Rattle.run_model.specs.Cutting.{EndsInFile, length_of, front_of, rest_of}
 use Rattle.run_model.specs.State.{Configuration}
+use Rattle.run_model.specs.EffectOf.{Effect, MadeFrom, PoolBuffer, CopyAt, EMake, ERead, effect_of}
 use Rattle.run_model.specs.Steps.{Choice}
 use Rattle.run_model.specs.Pieces.{bucket_of, named_from, has_range, lacks_file}
 use Rattle.model_laws.specs.RangesEnd.{RangesEnd, StepKeepsEnds, PieceEnds, LengthsEnd}
 use Rattle.model_laws.proofs.StepFiles.{neither}
 use Rattle.run_model.proofs.References.{one_of}
-use Rattle.model_laws.proofs.Origins.{Each, PassesParts, Holds, Makes}
+use Rattle.model_laws.proofs.Origins.{Each, PassesParts, Holds, FromSource, Makes}
 use Rattle.model_laws.proofs.Contents.{step_contents}
 
 -- Parts of a bucket, and buckets that are made.
@@ -39,16 +38,15 @@ rest_ends n content.Nothing le h = tt
 parts : PassesParts Ends
 parts = record { front = λ n b le h. front_ends n b.content le h; rest = λ n b le h. rest_ends n b.content le h }
 
-made_ends : (p : Program) (choice : Choice) (r : Configuration) (i : Instr) (b : Bucket) → Makes p choice r i b → Ends b
-made_ends p choice r (instr.Heap c t) b is = subst Ends (sym is) tt
-made_ends p choice r (instr.Immortal c t) b is = subst Ends (sym is) tt
-made_ends p choice r (instr.FromBuf c) b is = subst Ends (sym is) tt
-made_ends p choice r (instr.Transient c) b is = subst Ends (sym is) tt
-made_ends p choice r (instr.PoolB c q) b is = subst Ends (sym is.1) tt
-made_ends p choice r (instr.Flush c) b is = subst Ends (sym is) tt
-made_ends p choice r (instr.Eos c) b is = subst Ends (sym is) tt
-made_ends p choice r (instr.Read c l) b is = subst Ends (sym is.1.1.1) tt
-made_ends p choice r i b is = absurd is
+from_ends : (p : Program) (r : Configuration) (source : MadeFrom) (b : Bucket) → FromSource p r source b → Ends b
+from_ends p r (PoolBuffer q) b is = subst Ends (sym is.1) tt
+from_ends p r (CopyAt c) b is = absurd is
+from_ends p r source b is = subst Ends (sym is) tt
+
+made_ends : (p : Program) (choice : Choice) (r : Configuration) (e : Effect) (b : Bucket) → Makes p choice r e b → Ends b
+made_ends p choice r (EMake c source) b is = from_ends p r source b is
+made_ends p choice r (ERead c) b is = subst Ends (sym is.1.1.1) tt
+made_ends p choice r e b is = absurd is
 
 -- Steps.
 
@@ -56,7 +54,7 @@ held : (r : Configuration) → RangesEnd r → Holds Ends r
 held r s = record { brigades = s.brigades; loose = s.loose }
 
 pub step_ends : StepKeepsEnds
-step_ends p choice i r s = let left = step_contents EndsInFile p choice i r parts (made_ends p choice r i) (held r s) in record { brigades = left.brigades; loose = left.loose }
+step_ends p choice i r s = let left = step_contents EndsInFile p choice i r parts (made_ends p choice r (effect_of i)) (held r s) in record { brigades = left.brigades; loose = left.loose }
 
 -- What is brought.
 

@@ -14,8 +14,10 @@ use Rattle.run_model.specs.BrigadeLists.{buckets_before, buckets_from, first_buc
 use Rattle.model_laws.specs.BrigadeLaws.{SameBytes, may_split}
 use Rattle.run_model.specs.State.{Configuration, items_of, set_brigade, set_loose, set_cursor, with_pools}
 use Rattle.run_model.specs.Effects.{with_items, aside_named}
-use Rattle.run_model.specs.Cursors.{Place, AtLoose, Within, bucket_at, read_cursor}
-use Rattle.run_model.specs.BucketSteps.{set_items, items_at, do_unlink, do_delete, put_into, do_tail, do_head, do_before, name_given, names_given, new_loose, copy_of, do_copy, names_to_split, split_there, do_split, changed_at, aside_into, read_given, rest_named, first_read, bucket_read, has_rest, names_if, names_to_read, read_within, do_read, place_at, do_bsplit, names_to_part, do_bpart}
+use Rattle.run_model.specs.Cursors.{Place, AtLoose, Within, read_cursor}
+use Rattle.run_model.specs.EffectOf.{Side, AtTail, AtHead}
+use Rattle.run_model.specs.Steps.{put_at}
+use Rattle.run_model.specs.BucketSteps.{set_items, items_at, do_unlink, do_delete, put_into, do_before, name_given, names_given, new_loose, do_make, names_to_split, split_there, do_split, changed_at, aside_into, read_given, rest_named, first_read, bucket_read, has_rest, names_if, names_to_read, read_within, do_read, place_at, do_bsplit, names_to_part, do_bpart}
 use Rattle.run_model.specs.Sound.{NamesStep, sum_below, count_named, count}
 use Rattle.run_model.proofs.Sums.{sum_below_upd}
 use Rattle.run_model.proofs.Names.{count_none, count_append, count_cons, count_map, Carried, carried_same, filled_carried, filled_items, at_each}
@@ -116,11 +118,9 @@ put_names insert b (AtLoose x) r adds lt at limit = rising_names r _ (slot_carri
       omega (arith, slot, taken_counts n x r.call.loose at, adds x (items_at r b) n)
 put_names insert b s r adds lt at limit = rising_names r r (all_carried r) (omega arith) limit (λ n. no_more _ _ n _ _ (omega arith))
 
-pub tail_names : (b : ℕ) (s : Place) (r : Configuration) → b < 9 → Stands r s → r.shared.next < 2 ^ 64 → NamesStep r (do_tail b s r)
-tail_names b s r lt at limit = put_names put_tail b s r tail_counts lt at limit
-
-pub head_names : (b : ℕ) (s : Place) (r : Configuration) → b < 9 → Stands r s → r.shared.next < 2 ^ 64 → NamesStep r (do_head b s r)
-head_names b s r lt at limit = put_names put_head b s r head_counts lt at limit
+pub insert_names : (side : Side) (b : ℕ) (s : Place) (r : Configuration) → b < 9 → Stands r s → r.shared.next < 2 ^ 64 → NamesStep r (put_into (put_at side) b s r)
+insert_names AtTail b s r lt at limit = put_names put_tail b s r tail_counts lt at limit
+insert_names AtHead b s r lt at limit = put_names put_head b s r head_counts lt at limit
 
 pub before_names : (s t : Place) (r : Configuration) → Stands r s → Stands r t → r.shared.next < 2 ^ 64 → NamesStep r (do_before s t r)
 before_names s (Within b y) r at there limit = put_names (put_before y.name) b s r (before_counts y.name) there.0 at limit
@@ -252,11 +252,10 @@ new_names c b r limit = cursor_names c (cursor.At r.shared.next) r _ (rising_nam
         | inr p ↦ no_more _ _ n _ _ (let other : ◌≡◌ {A = ℕ} (cond (r.shared.next == n) 1 0) 0 = ap (λ (c : Bool). cond c 1 0) (ne_eqb r.shared.next n (λ e. p.1 (sym e))) in omega (arith, all, other))
       ]
 
-pub copy_names : (d : ℕ) (s : Place) (r : Configuration) → r.shared.next + 1 < 2 ^ 64 → NamesStep r (do_copy d s r)
-copy_names d s r limit = of_bucket (bucket_at s) where
-  of_bucket : (o : Option NamedBucket) → NamesStep r (copy_of d o r)
-  of_bucket None = rising_names r r (all_carried r) (omega arith) (omega arith) (λ n. no_more _ _ n _ _ (omega arith))
-  of_bucket (Some x) = new_names d x.bucket r limit
+-- a bucket that is made, where it is
+pub make_names : (c : ℕ) (o : Option Bucket) (r : Configuration) → r.shared.next + 1 < 2 ^ 64 → NamesStep r (do_make c o r)
+make_names c None r limit = rising_names r r (all_carried r) (omega arith) (omega arith) (λ n. no_more _ _ n _ _ (omega arith))
+make_names c (Some b) r limit = new_names c b r limit
 
 -- a change of one bucket that leaves its name
 changed_counts : (at n : ℕ) (change : NamedBucket → NamedBucket) → ((x : NamedBucket) → (change x).name ≡ x.name) → (bs : List NamedBucket) → count_named n (changed_at at change bs) ≡ count_named n bs

@@ -31,6 +31,7 @@ use Rattle.run_model.specs.Files.{Files}
 use Rattle.run_model.specs.Clearing.{is_reached, cleared_var, run_down}
 use Rattle.run_model.specs.State.{Configuration, items_of, set_pool, with_pools, set_brigade, set_loose, pool_named}
 use Rattle.run_model.specs.Faults.{WPool, WCursor, OnBucket, usable_fault, homes_fault, home_fault, or_else, fault_want}
+use Rattle.run_model.specs.EffectOf.{effect_of}
 use Rattle.run_model.specs.Steps.{with_brigade, do_create, do_clean, do_concat, do_pass, do_return, cleaned, with_items, handed_over, returned_var, pool_cleared, pool_destroyed, files_let_go, label_registered, label_killed, text_of, is_above, aside_named, file_of, new_ref, all_referred, saved_into, made_on}
 use Rattle.run_model.specs.Pieces.{has_range}
 use Rattle.run_model.specs.Sound.{SoundPools, SoundBuckets, Sound, count_named}
@@ -414,7 +415,7 @@ held_on ps r = record {
   };
 }
 
-quiet_files : (files : List (ℕ × ℕ)) (i : Instr) (r new : Configuration) → changes_pools i ≡ false → is_clear i ≡ false → ChangesOnly i r new → Holds (HeldBucket r.shared.pools) new → SoundFiles files r → SoundFiles files new
+quiet_files : (files : List (ℕ × ℕ)) (i : Instr) (r new : Configuration) → changes_pools i ≡ false → is_clear i ≡ false → ChangesOnly (effect_of i) r new → Holds (HeldBucket r.shared.pools) new → SoundFiles files r → SoundFiles files new
 quiet_files files i r new tree clear only h s = same_files files r new (only.tree tree) (ap (λ (fs : Files). fs.opened) (only.files clear)) only.req h.brigades h.loose s
 
 pub step_files : StepKeepsFiles

@@ -14,9 +14,10 @@ use Rattle.run_model.specs.Indexed.{upd}
 use Rattle.run_model.specs.Pools.{is_under, created}
 use Rattle.run_model.specs.State.{Configuration, items_of, set_pool, with_pools, set_brigade, set_number, pool_named}
 use Rattle.run_model.specs.Clearing.{run_down}
-use Rattle.run_model.specs.Cursors.{Place, Within, spot, read_cursor}
-use Rattle.run_model.specs.BucketSteps.{do_next, new_loose, pool_bucket, aside_into, byte_of, content_at, got}
-use Rattle.run_model.specs.Steps.{value_of, step, do_create, do_clean, do_concat, do_pass, do_return, cleaned, with_items, handed_over, returned_var, do_pcreate, pool_cleared, pool_destroyed, label_registered, label_killed, text_of, aside_named, saved_into, made_on, names_of, pool_names_of, is_spent, lacks_names}
+use Rattle.run_model.specs.Cursors.{Place, Within, spot}
+use Rattle.run_model.specs.BucketSteps.{do_next, aside_into, got}
+use Rattle.run_model.specs.EffectOf.{Effect, AtTail, AtHead, ENothing, EMakePool, EClearPool, EDestroyPool, ERegister, EKill, EMakeBrigade, EClean, EConcat, ESplitBrigade, EPartBrigade, ESave, EPass, EFirst, ENext, EUnlink, EDelete, EInsert, EBefore, EMake, ESplit, EAside, ERead, ENumber, EPut, EClearBuffer, EReturn, effect_of}
+use Rattle.run_model.specs.Steps.{Choice, do_effect, made_of, number_of, names_for, value_of, step, do_create, do_clean, do_concat, do_pass, do_return, cleaned, with_items, handed_over, returned_var, do_pcreate, pool_cleared, pool_destroyed, label_registered, label_killed, text_of, aside_named, saved_into, made_on, names_of, pool_names_of, is_spent, lacks_names}
 use Rattle.run_model.specs.Sound.{NamesStep, sum_below, count_named}
 use Rattle.model_laws.specs.Laws.{StepGivesNames, StepKeepsNames}
 use Rattle.run_model.proofs.Updates.{upd_off}
@@ -25,7 +26,7 @@ use Rattle.model_laws.proofs.Operands.{created_below, TwoBrigades, two_brigades,
 use Rattle.model_laws.proofs.NamesStay.{names_stay, keeps_names, keeps_slots, went_names, placed_names}
 use Rattle.run_model.proofs.Names.{count_none, count_append, count_map, Carried, Fewer, carried_same, fewer_same, fewer_none, cleaned_fewer, handed_fewer, returned_fewer, filled_carried, filled_items, at_each, at_two}
 use Rattle.run_model.proofs.Spots.{stands}
-use Rattle.model_laws.proofs.SlotNames.{cursor_names, unlink_names, delete_names, tail_names, head_names, before_names, bsplit_names, bpart_names, split_names, read_names, new_names, copy_names, aside_names}
+use Rattle.model_laws.proofs.SlotNames.{cursor_names, unlink_names, delete_names, insert_names, before_names, bsplit_names, bpart_names, split_names, read_names, make_names, aside_names}
 use Rattle.model_laws.proofs.NamedPools.{on_named, made_under_named, put_keeps}
 
 -- names that are not spent stay below the limit
@@ -127,57 +128,61 @@ unfolding set_number
 got_names n None r limit = same_slots r r refl refl refl limit
 got_names n (Some byte) r limit = same_slots r (set_number n byte r) refl refl refl limit
 
-pub step_gives : StepGivesNames
+-- the effects that write into a brigade which an operand names
+abbrev names_brigade : Effect → Bool
+names_brigade (EMakeBrigade o) = true
+names_brigade (EConcat a b) = true
+names_brigade (ESave o b) = true
+names_brigade (ESplitBrigade b c a) = true
+names_brigade (EPartBrigade b x c) = true
+names_brigade (EInsert side b c) = true
+names_brigade e = false
+
+start : (next names : ℕ) → next + names < 2 ^ 64 → next < 2 ^ 64
+start next names last = omega (arith, last)
+
+gives : (p : Program) (choice : Choice) (e : Effect) (r : Configuration) → names_brigade e ≡ false → r.shared.next + names_for r e < 2 ^ 64 → NamesStep r (do_effect p choice e r)
 unfolding set_number with_pools
+gives p choice ENothing r other last = same_slots r r refl refl refl (start r.shared.next 0 last)
+gives p choice (EMakePool q) r other last = pcreate_names p q r (start r.shared.next 0 last)
+gives p choice (EClearPool q) r other last =
+    let limit = start r.shared.next 0 last in on_named (NamesStep r) pool_cleared (pool_named r (pool.Own q)) r (same_slots r r refl refl refl limit) (λ n is. cleared_names n r limit)
+gives p choice (EDestroyPool q) r other last =
+    let limit = start r.shared.next 0 last in on_named (NamesStep r) pool_destroyed (pool_named r (pool.Own q)) r (same_slots r r refl refl refl limit) (λ n is. destroyed_names n r limit)
+gives p choice (ERegister q t) r other last =
+    let limit = start r.shared.next 0 last in on_named (NamesStep r) (label_registered (text_of p t)) (pool_named r q) r (same_slots r r refl refl refl limit) (λ n is. same_slots r _ refl refl refl limit)
+gives p choice (EKill q t) r other last =
+    let limit = start r.shared.next 0 last in on_named (NamesStep r) (label_killed (text_of p t)) (pool_named r q) r (same_slots r r refl refl refl limit) (λ n is. same_slots r _ refl refl refl limit)
+gives p choice (EClean b) r other last = clean_names b r (start r.shared.next 0 last)
+gives p choice (EPass b) r other last = pass_names b r (start r.shared.next 0 last)
+gives p choice (EFirst c b) r other last = cursor_names c _ r r (same_slots r r refl refl refl (start r.shared.next 0 last))
+gives p choice (ENext d c) r other last = next_names d (spot r c) r (start r.shared.next 0 last)
+gives p choice (EUnlink c) r other last = unlink_names (spot r c) r (stands r (r.call.cursors c)) (start r.shared.next 0 last)
+gives p choice (EDelete c) r other last = delete_names (spot r c) r (stands r (r.call.cursors c)) (start r.shared.next 0 last)
+gives p choice (EBefore c d) r other last = before_names (spot r c) (spot r d) r (stands r (r.call.cursors c)) (stands r (r.call.cursors d)) (start r.shared.next 0 last)
+gives p choice (EMake c source) r other last = make_names c (made_of p r source) r last
+gives p choice (ESplit c x) r other last = split_names (value_of r x) (spot r c) r (stands r (r.call.cursors c)) last
+gives p choice (EAside c q) r other last =
+    let limit = start r.shared.next 0 last in
+    on_named (NamesStep r) (aside_into (spot r c)) (pool_named r q) r (same_slots r r refl refl refl limit) (λ n is. aside_names (spot r c) n r (stands r (r.call.cursors c)) limit)
+gives p choice (ERead c) r other last = read_names choice.given (spot r c) r (stands r (r.call.cursors c)) last
+gives p choice (ENumber n number) r other last = got_names n (number_of r n number) r (start r.shared.next 0 last)
+gives p choice (EPut x) r other last = let limit = start r.shared.next 0 last in put_keeps (NamesStep r) x r (same_slots r r refl refl refl limit) (λ buffer. same_slots r _ refl refl refl limit)
+gives p choice EClearBuffer r other last = same_slots r _ refl refl refl (start r.shared.next 0 last)
+gives p choice EReturn r other last = return_names r (start r.shared.next 0 last)
+gives p choice e r other last = absurd (cc)
+
+pub step_gives : StepGivesNames
 step_gives p choice (instr.BCreate o) r may = create_names p o r (created_below p may.proper o may.fit) (lasting r (instr.BCreate o) may.names_last)
-step_gives p choice (instr.PCreate q) r may = pcreate_names p q r (below_limit r (instr.PCreate q) may.names_last)
-step_gives p choice (instr.PClear q) r may =
-    let limit = below_limit r (instr.PClear q) may.names_last in
-    on_named (NamesStep r) pool_cleared (pool_named r (pool.Own q)) r (same_slots r r refl refl refl limit) (λ n e. cleared_names n r limit)
-step_gives p choice (instr.PDestroy q) r may =
-    let limit = below_limit r (instr.PDestroy q) may.names_last in
-    on_named (NamesStep r) pool_destroyed (pool_named r (pool.Own q)) r (same_slots r r refl refl refl limit) (λ n e. destroyed_names n r limit)
-step_gives p choice (instr.Label q t) r may =
-    let limit = below_limit r (instr.Label q t) may.names_last in
-    on_named (NamesStep r) (label_registered (text_of p t)) (pool_named r q) r (same_slots r r refl refl refl limit) (λ n e. same_slots r _ refl refl refl limit)
-step_gives p choice (instr.Unlabel q t) r may =
-    let limit = below_limit r (instr.Unlabel q t) may.names_last in
-    on_named (NamesStep r) (label_killed (text_of p t)) (pool_named r q) r (same_slots r r refl refl refl limit) (λ n e. same_slots r _ refl refl refl limit)
-step_gives p choice (instr.BClean b) r may = clean_names b r (below_limit r (instr.BClean b) may.names_last)
 step_gives p choice (instr.BConcat a b) r may = concat_names a b r (two_brigades p may.proper a b may.fit) (below_limit r (instr.BConcat a b) may.names_last)
 step_gives p choice (instr.BSave o b) r may =
     let limit = below_limit r (instr.BSave o b) may.names_last in
-    on_named (NamesStep r) (saved_into o b) (made_on (r.instance.brigades o)) r (same_slots r r refl refl refl limit) (λ target e. save_names o b target r (saved_brigades p may.proper o b may.fit) limit)
+    on_named (NamesStep r) (saved_into o b) (made_on (r.instance.brigades o)) r (same_slots r r refl refl refl limit) (λ target is. save_names o b target r (saved_brigades p may.proper o b may.fit) limit)
 step_gives p choice (instr.BSplit b c a) r may = (let two = split_brigades p may.proper b c a may.fit in bsplit_names b (spot r c) a r two.first two.second (below_limit r (instr.BSplit b c a) may.names_last))
 step_gives p choice (instr.BPart b x c l) r may = bpart_names b (value_of r x) c r (parted_below p may.proper b x c l may.fit) (lasting r (instr.BPart b x c l) may.names_last)
-step_gives p choice (instr.First c b) r may = cursor_names c _ r r (same_slots r r refl refl refl (below_limit r (instr.First c b) may.names_last))
-step_gives p choice (instr.Next d c) r may = next_names d (spot r c) r (below_limit r (instr.Next d c) may.names_last)
-step_gives p choice (instr.Unlink c) r may = unlink_names (spot r c) r (stands r (r.call.cursors c)) (below_limit r (instr.Unlink c) may.names_last)
-step_gives p choice (instr.BDelete c) r may = delete_names (spot r c) r (stands r (r.call.cursors c)) (below_limit r (instr.BDelete c) may.names_last)
-step_gives p choice (instr.Tail b c) r may = tail_names b (spot r c) r (source_below p may.proper b _ may.fit) (stands r (r.call.cursors c)) (below_limit r (instr.Tail b c) may.names_last)
-step_gives p choice (instr.Head b c) r may = head_names b (spot r c) r (source_below p may.proper b _ may.fit) (stands r (r.call.cursors c)) (below_limit r (instr.Head b c) may.names_last)
-step_gives p choice (instr.Before c d) r may = before_names (spot r c) (spot r d) r (stands r (r.call.cursors c)) (stands r (r.call.cursors d)) (below_limit r (instr.Before c d) may.names_last)
-step_gives p choice (instr.Heap c t) r may = new_names c _ r (lasting r (instr.Heap c t) may.names_last)
-step_gives p choice (instr.Immortal c t) r may = new_names c _ r (lasting r (instr.Immortal c t) may.names_last)
-step_gives p choice (instr.FromBuf c) r may = new_names c _ r (lasting r (instr.FromBuf c) may.names_last)
-step_gives p choice (instr.Transient c) r may = new_names c _ r (lasting r (instr.Transient c) may.names_last)
-step_gives p choice (instr.PoolB c q) r may =
-    on_named (NamesStep r) (λ n. new_loose c (pool_bucket r.call.buffer n)) (pool_named r q) r (same_slots r r refl refl refl (below_limit r (instr.PoolB c q) may.names_last)) (λ n e. new_names c _ r (lasting r (instr.PoolB c q) may.names_last))
-step_gives p choice (instr.Flush c) r may = new_names c _ r (lasting r (instr.Flush c) may.names_last)
-step_gives p choice (instr.Eos c) r may = new_names c _ r (lasting r (instr.Eos c) may.names_last)
-step_gives p choice (instr.Split c x l) r may = split_names (value_of r x) (spot r c) r (stands r (r.call.cursors c)) (lasting r (instr.Split c x l) may.names_last)
-step_gives p choice (instr.Copy d c) r may = copy_names d (spot r c) r (lasting r (instr.Copy d c) may.names_last)
-step_gives p choice (instr.Aside c q) r may =
-    let limit = below_limit r (instr.Aside c q) may.names_last in
-    on_named (NamesStep r) (aside_into (spot r c)) (pool_named r q) r (same_slots r r refl refl refl limit) (λ n e. aside_names (spot r c) n r (stands r (r.call.cursors c)) limit)
-step_gives p choice (instr.Read c l) r may = read_names choice.given (spot r c) r (stands r (r.call.cursors c)) (lasting r (instr.Read c l) may.names_last)
-step_gives p choice (instr.Get n x l) r may = got_names n (byte_of (value_of r x) (content_at (spot r read_cursor))) r (below_limit r (instr.Get n x l) may.names_last)
-step_gives p choice (instr.Pass b l) r may = pass_names b r (below_limit r (instr.Pass b l) may.names_last)
-step_gives p choice (instr.Put x l) r may =
-    let limit = below_limit r (instr.Put x l) may.names_last in
-    put_keeps (NamesStep r) x r (same_slots r r refl refl refl limit) (λ buffer. same_slots r _ refl refl refl limit)
-step_gives p choice (instr.Ret st) r may = return_names r (below_limit r (instr.Ret st) may.names_last)
-step_gives p choice i r may = same_slots r _ refl refl refl (below_limit r i may.names_last)
+step_gives p choice (instr.Tail b c) r may = insert_names AtTail b (spot r c) r (source_below p may.proper b _ may.fit) (stands r (r.call.cursors c)) (below_limit r (instr.Tail b c) may.names_last)
+step_gives p choice (instr.Head b c) r may = insert_names AtHead b (spot r c) r (source_below p may.proper b _ may.fit) (stands r (r.call.cursors c)) (below_limit r (instr.Head b c) may.names_last)
+step_gives p choice i r may = gives p choice (effect_of i) r refl (lasting r i may.names_last)
 
 pub step_names : StepKeepsNames
 step_names p choice i r may s = names_stay r (step p choice i r).state (step_gives p choice i r may) s

@@ -27,6 +27,7 @@ use Rattle.run_model.specs.Files.{Files}
 use Rattle.run_model.specs.Clearing.{is_reached, cleared_var, run_down}
 use Rattle.run_model.specs.State.{Configuration, items_of, set_pool, with_pools, set_brigade, set_loose, pool_named}
 use Rattle.run_model.specs.Faults.{usable_fault, homes_fault, home_fault}
+use Rattle.run_model.specs.EffectOf.{effect_of}
 use Rattle.run_model.specs.Steps.{do_create, do_clean, do_concat, do_pass, do_return, cleaned, with_items, handed_over, returned_var, pool_cleared, pool_destroyed, files_let_go, label_registered, label_killed, text_of, aside_named, new_ref, saved_into, made_on}
 use Rattle.run_model.specs.Pieces.{has_range}
 use Rattle.run_model.specs.Sound.{SoundPools, SoundBuckets, Sound, count_named}
@@ -313,7 +314,7 @@ lies_on fs r = record {
   long : (n : ℕ) (c : Content) (file start len : ℕ) → c ≡ content.Range file start len → n ≤ length_of c → n ≤ len
   long n c file start len is le = subst (λ (k : Content). n ≤ length_of k) is le
 
-quiet_ranges : (files : List (ℕ × ℕ)) (i : Instr) (r new : Configuration) → changes_pools i ≡ false → is_clear i ≡ false → ChangesOnly i r new → Holds (LiesBucket r.shared.files) new
+quiet_ranges : (files : List (ℕ × ℕ)) (i : Instr) (r new : Configuration) → changes_pools i ≡ false → is_clear i ≡ false → ChangesOnly (effect_of i) r new → Holds (LiesBucket r.shared.files) new
     → SoundFiles files new → SoundRanges files r → SoundRanges files new
 quiet_ranges files i r new tree clear only h held s =
     kept_ranges files r new held (λ p file h. ap (λ (fs : Files). fs.opened file) (only.files clear)) h.brigades h.loose

@@ -2,12 +2,9 @@
 use Rattle.std.proofs.Common.{◌≡◌, ◌≢◌, ℕ, ◌≤◌, Bool, true, false, cond, ◌||◌, ◌==◌, List, Option, Some, None, refl, sym, ◌∙◌, ap, eq-eqb, arith}
 use Rattle.std.proofs.lemmas.Bool.{or_left, or_right}
 use Rattle.module_code.specs.declared.instr.PoolRef.TheVariants as pool
-use Rattle.module_code.specs.declared.instr.Instr.{Instr}
-use Rattle.module_code.specs.declared.instr.Instr.TheVariants as instr
 use Rattle.module_code.specs.Program.{Program, pool_of_brigade}
 use Rattle.run_model.specs.declared.bucket.Bucket.{Bucket}
 use Rattle.run_model.specs.declared.bucket.Cursor.{Cursor}
-use Rattle.run_model.specs.declared.bucket.Kind.TheVariants as kind
 use Rattle.run_model.specs.declared.bucket.NamedBucket.{NamedBucket}
 use Rattle.run_model.specs.declared.bucket.BrigadeVar.{BrigadeVar}
 use Rattle.run_model.specs.declared.bucket.PoolVar.{PoolVar}
@@ -15,11 +12,12 @@ use Rattle.run_model.specs.declared.payload.Payload.{Payload}
 use Rattle.run_model.specs.Pools.{Pools}
 use Rattle.run_model.specs.State.{Configuration, set_pool, with_pools, set_brigade, set_number, set_cursor, set_loose, pool_named}
 use Rattle.run_model.specs.Clearing.{run_down}
-use Rattle.run_model.specs.Cursors.{Place, Nowhere, AtLoose, Within, AtEndOf, spot, bucket_at, read_cursor}
-use Rattle.run_model.specs.BrigadeLists.{put_head, put_tail, put_before}
-use Rattle.run_model.specs.BucketSteps.{aside_into, byte_of, content_at, copy_of, do_before, do_delete, do_next, do_read, do_split, do_unlink, got, has_rest, heap_bucket, immortal_bucket, is_unsplit, items_at, metadata, name_given, names_given, names_if, names_to_part, names_to_read, names_to_split, new_loose, pool_bucket, put_into, read_given, read_within, split_there, transient_bucket}
-use Rattle.run_model.specs.Steps.{with_brigade, do_create, pool_cleared, pool_destroyed, label_registered, label_killed, text_of, made_on, saved_into, value_of, do_pass, names_of}
-use Rattle.model_laws.specs.Laws.{is_within, is_loose, may_change, may_change_pool, may_change_number, may_change_cursor, may_change_loose, may_change_buffer, changes_pools, ChangesOnly, StepChangesOnly}
+use Rattle.run_model.specs.Cursors.{Place, Nowhere, AtLoose, Within, AtEndOf, spot, read_cursor}
+use Rattle.run_model.specs.BrigadeLists.{put_before}
+use Rattle.run_model.specs.BucketSteps.{aside_into, do_make, do_before, do_delete, do_next, do_read, do_split, do_unlink, got, has_rest, is_unsplit, items_at, name_given, names_given, names_if, names_to_part, names_to_read, names_to_split, new_loose, put_into, read_given, read_within, split_there}
+use Rattle.run_model.specs.EffectOf.{Effect, ENothing, EMakePool, EClearPool, EDestroyPool, ERegister, EKill, EMakeBrigade, EClean, EConcat, ESplitBrigade, EPartBrigade, ESave, EPass, EFirst, ENext, EUnlink, EDelete, EInsert, EBefore, EMake, ESplit, EAside, ERead, ENumber, EPut, EClearBuffer, EReturn, effect_of}
+use Rattle.run_model.specs.Steps.{Choice, do_effect, made_of, number_of, put_at, names_for, with_brigade, do_create, pool_cleared, pool_destroyed, label_registered, label_killed, text_of, made_on, saved_into, value_of, do_pass}
+use Rattle.model_laws.specs.Laws.{is_within, is_loose, may_change, may_change_pool, may_change_number, may_change_cursor, may_change_loose, may_change_buffer, may_change_tree, ChangesOnly, StepChangesOnly}
 use Rattle.run_model.proofs.Updates.{upd_off}
 use Rattle.model_laws.proofs.NamedPools.{on_named, made_under_named, put_keeps}
 
@@ -31,128 +29,128 @@ itself : (k : ℕ) → (k == k) ≡ true
 itself k = eq-eqb k k refl
 
 -- where only numbers and tests are read
-nothing : (i : Instr) (r : Configuration) → ChangesOnly i r r
-nothing i r = record { brigades = λ k h. refl; pools = λ k h. refl; numbers = λ k h. refl; sent = λ h. refl; cursors = λ k h. refl; loose = λ h. refl; buffer = λ h. refl; tree = λ h. refl; conn = refl; req = refl; labels = λ h. refl; files = λ h. refl; names = omega arith; names_last = omega arith; output = refl; pc = refl; call_name = λ h. refl }
+nothing : (e : Effect) (r : Configuration) → ChangesOnly e r r
+nothing e r = record { brigades = λ k h. refl; pools = λ k h. refl; numbers = λ k h. refl; sent = λ h. refl; cursors = λ k h. refl; loose = λ h. refl; buffer = λ h. refl; tree = λ h. refl; conn = refl; req = refl; labels = λ h. refl; files = λ h. refl; names = omega arith; names_last = omega arith; output = refl; pc = refl; call_name = λ h. refl }
 
 -- One change more, of something that the instruction may change.
 
-by_brigade : (i : Instr) (r x : Configuration) (b : ℕ) (v : BrigadeVar) → may_change r i b ≡ true → ChangesOnly i r x → ChangesOnly i r (set_brigade b v x)
+by_brigade : (e : Effect) (r x : Configuration) (b : ℕ) (v : BrigadeVar) → may_change r e b ≡ true → ChangesOnly e r x → ChangesOnly e r (set_brigade b v x)
 unfolding set_brigade
-by_brigade i r x b v may s = record { brigades = λ k h. upd_off x.instance.brigades b k v (apart (may_change r i) k b h may) ∙ s.brigades k h; pools = s.pools; numbers = s.numbers; sent = s.sent; cursors = s.cursors; loose = s.loose; buffer = s.buffer; tree = s.tree; conn = s.conn; req = s.req; labels = s.labels; files = s.files; names = s.names; names_last = s.names_last; output = s.output; pc = s.pc; call_name = s.call_name }
+by_brigade e r x b v may s = record { brigades = λ k h. upd_off x.instance.brigades b k v (apart (may_change r e) k b h may) ∙ s.brigades k h; pools = s.pools; numbers = s.numbers; sent = s.sent; cursors = s.cursors; loose = s.loose; buffer = s.buffer; tree = s.tree; conn = s.conn; req = s.req; labels = s.labels; files = s.files; names = s.names; names_last = s.names_last; output = s.output; pc = s.pc; call_name = s.call_name }
 
-by_pool : (i : Instr) (r x : Configuration) (q : ℕ) (v : PoolVar) → may_change_pool i q ≡ true → ChangesOnly i r x → ChangesOnly i r (set_pool q v x)
+by_pool : (e : Effect) (r x : Configuration) (q : ℕ) (v : PoolVar) → may_change_pool e q ≡ true → ChangesOnly e r x → ChangesOnly e r (set_pool q v x)
 unfolding set_pool
-by_pool i r x q v may s = record { brigades = s.brigades; pools = λ k h. upd_off x.instance.pools q k v (apart (may_change_pool i) k q h may) ∙ s.pools k h; numbers = s.numbers; sent = s.sent; cursors = s.cursors; loose = s.loose; buffer = s.buffer; tree = s.tree; conn = s.conn; req = s.req; labels = s.labels; files = s.files; names = s.names; names_last = s.names_last; output = s.output; pc = s.pc; call_name = s.call_name }
+by_pool e r x q v may s = record { brigades = s.brigades; pools = λ k h. upd_off x.instance.pools q k v (apart (may_change_pool e) k q h may) ∙ s.pools k h; numbers = s.numbers; sent = s.sent; cursors = s.cursors; loose = s.loose; buffer = s.buffer; tree = s.tree; conn = s.conn; req = s.req; labels = s.labels; files = s.files; names = s.names; names_last = s.names_last; output = s.output; pc = s.pc; call_name = s.call_name }
 
-by_number : (i : Instr) (r x : Configuration) (n v : ℕ) → may_change_number i n ≡ true → ChangesOnly i r x → ChangesOnly i r (set_number n v x)
+by_number : (e : Effect) (r x : Configuration) (n v : ℕ) → may_change_number e n ≡ true → ChangesOnly e r x → ChangesOnly e r (set_number n v x)
 unfolding set_number
-by_number i r x n v may s = record { brigades = s.brigades; pools = s.pools; numbers = λ k h. upd_off x.instance.numbers n k v (apart (may_change_number i) k n h may) ∙ s.numbers k h; sent = s.sent; cursors = s.cursors; loose = s.loose; buffer = s.buffer; tree = s.tree; conn = s.conn; req = s.req; labels = s.labels; files = s.files; names = s.names; names_last = s.names_last; output = s.output; pc = s.pc; call_name = s.call_name }
+by_number e r x n v may s = record { brigades = s.brigades; pools = s.pools; numbers = λ k h. upd_off x.instance.numbers n k v (apart (may_change_number e) k n h may) ∙ s.numbers k h; sent = s.sent; cursors = s.cursors; loose = s.loose; buffer = s.buffer; tree = s.tree; conn = s.conn; req = s.req; labels = s.labels; files = s.files; names = s.names; names_last = s.names_last; output = s.output; pc = s.pc; call_name = s.call_name }
 
-by_cursor : (i : Instr) (r x : Configuration) (c : ℕ) (v : Cursor) → may_change_cursor i c ≡ true → ChangesOnly i r x → ChangesOnly i r (set_cursor c v x)
+by_cursor : (e : Effect) (r x : Configuration) (c : ℕ) (v : Cursor) → may_change_cursor e c ≡ true → ChangesOnly e r x → ChangesOnly e r (set_cursor c v x)
 unfolding set_cursor
-by_cursor i r x c v may s = record { brigades = s.brigades; pools = s.pools; numbers = s.numbers; sent = s.sent; cursors = λ k h. upd_off x.call.cursors c k v (apart (may_change_cursor i) k c h may) ∙ s.cursors k h; loose = s.loose; buffer = s.buffer; tree = s.tree; conn = s.conn; req = s.req; labels = s.labels; files = s.files; names = s.names; names_last = s.names_last; output = s.output; pc = s.pc; call_name = s.call_name }
+by_cursor e r x c v may s = record { brigades = s.brigades; pools = s.pools; numbers = s.numbers; sent = s.sent; cursors = λ k h. upd_off x.call.cursors c k v (apart (may_change_cursor e) k c h may) ∙ s.cursors k h; loose = s.loose; buffer = s.buffer; tree = s.tree; conn = s.conn; req = s.req; labels = s.labels; files = s.files; names = s.names; names_last = s.names_last; output = s.output; pc = s.pc; call_name = s.call_name }
 
-by_loose : (i : Instr) (r x : Configuration) (items : List NamedBucket) → may_change_loose r i ≡ true → ChangesOnly i r x → ChangesOnly i r (set_loose items x)
+by_loose : (e : Effect) (r x : Configuration) (items : List NamedBucket) → may_change_loose r e ≡ true → ChangesOnly e r x → ChangesOnly e r (set_loose items x)
 unfolding set_loose
-by_loose i r x items may s = record { brigades = s.brigades; pools = s.pools; numbers = s.numbers; sent = s.sent; cursors = s.cursors; loose = λ h. absurd (let both : true ≡ false = sym may ∙ h in cc); buffer = s.buffer; tree = s.tree; conn = s.conn; req = s.req; labels = s.labels; files = s.files; names = s.names; names_last = s.names_last; output = s.output; pc = s.pc; call_name = s.call_name }
+by_loose e r x items may s = record { brigades = s.brigades; pools = s.pools; numbers = s.numbers; sent = s.sent; cursors = s.cursors; loose = λ h. absurd (let both : true ≡ false = sym may ∙ h in cc); buffer = s.buffer; tree = s.tree; conn = s.conn; req = s.req; labels = s.labels; files = s.files; names = s.names; names_last = s.names_last; output = s.output; pc = s.pc; call_name = s.call_name }
 
-by_tree : (i : Instr) (r x : Configuration) (ps : Pools Payload) → changes_pools i ≡ true → ChangesOnly i r x → ChangesOnly i r (with_pools ps x)
+by_tree : (e : Effect) (r x : Configuration) (ps : Pools Payload) → may_change_tree e ≡ true → ChangesOnly e r x → ChangesOnly e r (with_pools ps x)
 unfolding with_pools
-by_tree i r x ps may s = record { brigades = s.brigades; pools = s.pools; numbers = s.numbers; sent = s.sent; cursors = s.cursors; loose = s.loose; buffer = s.buffer; tree = λ h. absurd (let both : true ≡ false = sym may ∙ h in cc); conn = s.conn; req = s.req; labels = s.labels; files = s.files; names = s.names; names_last = s.names_last; output = s.output; pc = s.pc; call_name = s.call_name }
+by_tree e r x ps may s = record { brigades = s.brigades; pools = s.pools; numbers = s.numbers; sent = s.sent; cursors = s.cursors; loose = s.loose; buffer = s.buffer; tree = λ h. absurd (let both : true ≡ false = sym may ∙ h in cc); conn = s.conn; req = s.req; labels = s.labels; files = s.files; names = s.names; names_last = s.names_last; output = s.output; pc = s.pc; call_name = s.call_name }
 
 -- names that it wants are given out
-by_names : (i : Instr) (n : ℕ) (r : Configuration) → n ≤ names_of r i → ChangesOnly i r (names_given n r)
-by_names i n r le = record { brigades = λ k h. refl; pools = λ k h. refl; numbers = λ k h. refl; sent = λ h. refl; cursors = λ k h. refl; loose = λ h. refl; buffer = λ h. refl; tree = λ h. refl; conn = refl; req = refl; labels = λ h. refl; files = λ h. refl; names = omega arith; names_last = omega arith; output = refl; pc = refl; call_name = λ h. refl }
+by_names : (e : Effect) (n : ℕ) (r : Configuration) → n ≤ names_for r e → ChangesOnly e r (names_given n r)
+by_names e n r le = record { brigades = λ k h. refl; pools = λ k h. refl; numbers = λ k h. refl; sent = λ h. refl; cursors = λ k h. refl; loose = λ h. refl; buffer = λ h. refl; tree = λ h. refl; conn = refl; req = refl; labels = λ h. refl; files = λ h. refl; names = omega arith; names_last = omega arith; output = refl; pc = refl; call_name = λ h. refl }
 
-by_buffer : (i : Instr) (r : Configuration) (buffer : List ℕ) → may_change_buffer i ≡ true → ChangesOnly i r (record r { call = record r.call { buffer = buffer } })
-by_buffer i r buffer may = record { brigades = λ k h. refl; pools = λ k h. refl; numbers = λ k h. refl; sent = λ h. refl; cursors = λ k h. refl; loose = λ h. refl; buffer = λ h. absurd (let both : true ≡ false = sym may ∙ h in cc); tree = λ h. refl; conn = refl; req = refl; labels = λ h. refl; files = λ h. refl; names = omega arith; names_last = omega arith; output = refl; pc = refl; call_name = λ h. refl }
+by_buffer : (e : Effect) (r : Configuration) (buffer : List ℕ) → may_change_buffer e ≡ true → ChangesOnly e r (record r { call = record r.call { buffer = buffer } })
+by_buffer e r buffer may = record { brigades = λ k h. refl; pools = λ k h. refl; numbers = λ k h. refl; sent = λ h. refl; cursors = λ k h. refl; loose = λ h. refl; buffer = λ h. absurd (let both : true ≡ false = sym may ∙ h in cc); tree = λ h. refl; conn = refl; req = refl; labels = λ h. refl; files = λ h. refl; names = omega arith; names_last = omega arith; output = refl; pc = refl; call_name = λ h. refl }
 
 -- Clears, a pass and a return.
 
-cleared_changes : (q n : ℕ) (r : Configuration) → ChangesOnly (instr.PClear q) r (pool_cleared n r)
+cleared_changes : (q n : ℕ) (r : Configuration) → ChangesOnly (EClearPool q) r (pool_cleared n r)
 unfolding with_pools run_down
 cleared_changes q n r = record { brigades = λ k h. absurd (cc); pools = λ k h. refl; numbers = λ k h. refl; sent = λ h. refl; cursors = λ k h. refl; loose = λ h. absurd (cc); buffer = λ h. refl; tree = λ h. absurd (cc); conn = refl; req = refl; labels = λ h. absurd (cc); files = λ h. absurd (cc); names = omega arith; names_last = omega arith; output = refl; pc = refl; call_name = λ h. refl }
 
-destroyed_changes : (q n : ℕ) (r : Configuration) → ChangesOnly (instr.PDestroy q) r (pool_destroyed n r)
+destroyed_changes : (q n : ℕ) (r : Configuration) → ChangesOnly (EDestroyPool q) r (pool_destroyed n r)
 unfolding with_pools run_down
 destroyed_changes q n r = record { brigades = λ k h. absurd (cc); pools = λ k h. refl; numbers = λ k h. refl; sent = λ h. refl; cursors = λ k h. refl; loose = λ h. absurd (cc); buffer = λ h. refl; tree = λ h. absurd (cc); conn = refl; req = refl; labels = λ h. absurd (cc); files = λ h. absurd (cc); names = omega arith; names_last = omega arith; output = refl; pc = refl; call_name = λ h. refl }
 
-passed_changes : (b l : ℕ) (r : Configuration) → ChangesOnly (instr.Pass b l) r (do_pass b r)
+passed_changes : (b : ℕ) (r : Configuration) → ChangesOnly (EPass b) r (do_pass b r)
 unfolding set_brigade
-passed_changes b l r = record { brigades = λ k h. upd_off r.instance.brigades b k _ (apart (may_change r (instr.Pass b l)) k b h (itself b)); pools = λ k h. refl; numbers = λ k h. refl; sent = λ h. absurd (cc); cursors = λ k h. refl; loose = λ h. refl; buffer = λ h. refl; tree = λ h. refl; conn = refl; req = refl; labels = λ h. refl; files = λ h. refl; names = omega arith; names_last = omega arith; output = refl; pc = refl; call_name = λ h. refl }
+passed_changes b r = record { brigades = λ k h. upd_off r.instance.brigades b k _ (apart (may_change r (EPass b)) k b h (itself b)); pools = λ k h. refl; numbers = λ k h. refl; sent = λ h. absurd (cc); cursors = λ k h. refl; loose = λ h. refl; buffer = λ h. refl; tree = λ h. refl; conn = refl; req = refl; labels = λ h. refl; files = λ h. refl; names = omega arith; names_last = omega arith; output = refl; pc = refl; call_name = λ h. refl }
 
 -- One bucket.
 
 -- a new loose bucket, where a name and this cursor may be set
-new_changes : (i : Instr) (r : Configuration) (c : ℕ) (b : Bucket) → 1 ≤ names_of r i → may_change_cursor i c ≡ true → may_change_loose r i ≡ true → ChangesOnly i r (new_loose c b r)
-new_changes i r c b name cursor loose = by_cursor i r _ c _ cursor (by_loose i r (name_given r) _ loose (by_names i 1 r name))
+new_changes : (e : Effect) (r : Configuration) (c : ℕ) (b : Bucket) → 1 ≤ names_for r e → may_change_cursor e c ≡ true → may_change_loose r e ≡ true → ChangesOnly e r (new_loose c b r)
+new_changes e r c b name cursor loose = by_cursor e r _ c _ cursor (by_loose e r (name_given r) _ loose (by_names e 1 r name))
 
-next_changes : (i : Instr) (r : Configuration) (d : ℕ) (s : Place) → may_change_cursor i d ≡ true → ChangesOnly i r (do_next d s r)
-next_changes i r d Nowhere may = nothing i r
-next_changes i r d (AtLoose x) may = nothing i r
-next_changes i r d (Within b x) may = by_cursor i r r d _ may (nothing i r)
-next_changes i r d (AtEndOf b) may = nothing i r
+next_changes : (e : Effect) (r : Configuration) (d : ℕ) (s : Place) → may_change_cursor e d ≡ true → ChangesOnly e r (do_next d s r)
+next_changes e r d Nowhere may = nothing e r
+next_changes e r d (AtLoose x) may = nothing e r
+next_changes e r d (Within b x) may = by_cursor e r r d _ may (nothing e r)
+next_changes e r d (AtEndOf b) may = nothing e r
 
-unlink_changes : (i : Instr) (r : Configuration) (s : Place) → ((k : ℕ) → is_within s k ≡ true → may_change r i k ≡ true) → may_change_loose r i ≡ true → ChangesOnly i r (do_unlink s r)
-unlink_changes i r Nowhere within loose = nothing i r
-unlink_changes i r (AtLoose x) within loose = nothing i r
-unlink_changes i r (Within b x) within loose = by_loose i r _ _ loose (by_brigade i r r b _ (within b (itself b)) (nothing i r))
-unlink_changes i r (AtEndOf b) within loose = nothing i r
+unlink_changes : (e : Effect) (r : Configuration) (s : Place) → ((k : ℕ) → is_within s k ≡ true → may_change r e k ≡ true) → may_change_loose r e ≡ true → ChangesOnly e r (do_unlink s r)
+unlink_changes e r Nowhere within loose = nothing e r
+unlink_changes e r (AtLoose x) within loose = nothing e r
+unlink_changes e r (Within b x) within loose = by_loose e r _ _ loose (by_brigade e r r b _ (within b (itself b)) (nothing e r))
+unlink_changes e r (AtEndOf b) within loose = nothing e r
 
-delete_changes : (i : Instr) (r : Configuration) (s : Place) → ((k : ℕ) → is_within s k ≡ true → may_change r i k ≡ true) → (is_loose s ≡ true → may_change_loose r i ≡ true) → ChangesOnly i r (do_delete s r)
-delete_changes i r Nowhere within loose = nothing i r
-delete_changes i r (AtLoose x) within loose = by_loose i r r _ (loose refl) (nothing i r)
-delete_changes i r (Within b x) within loose = by_brigade i r r b _ (within b (itself b)) (nothing i r)
-delete_changes i r (AtEndOf b) within loose = nothing i r
+delete_changes : (e : Effect) (r : Configuration) (s : Place) → ((k : ℕ) → is_within s k ≡ true → may_change r e k ≡ true) → (is_loose s ≡ true → may_change_loose r e ≡ true) → ChangesOnly e r (do_delete s r)
+delete_changes e r Nowhere within loose = nothing e r
+delete_changes e r (AtLoose x) within loose = by_loose e r r _ (loose refl) (nothing e r)
+delete_changes e r (Within b x) within loose = by_brigade e r r b _ (within b (itself b)) (nothing e r)
+delete_changes e r (AtEndOf b) within loose = nothing e r
 
-put_into_changes : (i : Instr) (r : Configuration) (insert : NamedBucket → List NamedBucket → List NamedBucket) (b : ℕ) (s : Place) → may_change r i b ≡ true → may_change_loose r i ≡ true → ChangesOnly i r (put_into insert b s r)
-put_into_changes i r insert b Nowhere may loose = nothing i r
-put_into_changes i r insert b (AtLoose x) may loose = by_brigade i r _ b _ may (by_loose i r r _ loose (nothing i r))
-put_into_changes i r insert b (Within a x) may loose = nothing i r
-put_into_changes i r insert b (AtEndOf a) may loose = nothing i r
+put_into_changes : (e : Effect) (r : Configuration) (insert : NamedBucket → List NamedBucket → List NamedBucket) (b : ℕ) (s : Place) → may_change r e b ≡ true → may_change_loose r e ≡ true → ChangesOnly e r (put_into insert b s r)
+put_into_changes e r insert b Nowhere may loose = nothing e r
+put_into_changes e r insert b (AtLoose x) may loose = by_brigade e r _ b _ may (by_loose e r r _ loose (nothing e r))
+put_into_changes e r insert b (Within a x) may loose = nothing e r
+put_into_changes e r insert b (AtEndOf a) may loose = nothing e r
 
-before_changes : (i : Instr) (r : Configuration) (s t : Place) → ((k : ℕ) → is_within t k ≡ true → may_change r i k ≡ true) → may_change_loose r i ≡ true → ChangesOnly i r (do_before s t r)
-before_changes i r s Nowhere within loose = nothing i r
-before_changes i r s (AtLoose y) within loose = nothing i r
-before_changes i r s (Within b y) within loose = put_into_changes i r (put_before y.name) b s (within b (itself b)) loose
-before_changes i r s (AtEndOf b) within loose = nothing i r
+before_changes : (e : Effect) (r : Configuration) (s t : Place) → ((k : ℕ) → is_within t k ≡ true → may_change r e k ≡ true) → may_change_loose r e ≡ true → ChangesOnly e r (do_before s t r)
+before_changes e r s Nowhere within loose = nothing e r
+before_changes e r s (AtLoose y) within loose = nothing e r
+before_changes e r s (Within b y) within loose = put_into_changes e r (put_before y.name) b s (within b (itself b)) loose
+before_changes e r s (AtEndOf b) within loose = nothing e r
 
-copy_changes : (i : Instr) (r : Configuration) (d : ℕ) (o : Option NamedBucket) → 1 ≤ names_of r i → may_change_cursor i d ≡ true → may_change_loose r i ≡ true → ChangesOnly i r (copy_of d o r)
-copy_changes i r d None name cursor loose = nothing i r
-copy_changes i r d (Some x) name cursor loose = new_changes i r d x.bucket name cursor loose
+make_changes : (e : Effect) (r : Configuration) (c : ℕ) (o : Option Bucket) → 1 ≤ names_for r e → may_change_cursor e c ≡ true → may_change_loose r e ≡ true → ChangesOnly e r (do_make c o r)
+make_changes e r c None name cursor loose = nothing e r
+make_changes e r c (Some b) name cursor loose = new_changes e r c b name cursor loose
 
-split_changes : (i : Instr) (r : Configuration) (n : ℕ) (s : Place) → ((k : ℕ) → is_within s k ≡ true → may_change r i k ≡ true) → names_to_split n s ≤ names_of r i → ChangesOnly i r (do_split n s r)
-split_changes i r n s within names = by_refusal (is_unsplit n s) names where
-  there : (t : Place) → ((k : ℕ) → is_within t k ≡ true → may_change r i k ≡ true) → 1 ≤ names_of r i → ChangesOnly i r (split_there n t r)
-  there Nowhere may one = nothing i r
-  there (AtLoose x) may one = nothing i r
-  there (Within b x) may one = by_brigade i r _ b _ (may b (itself b)) (by_names i 1 r one)
-  there (AtEndOf b) may one = nothing i r
+split_changes : (e : Effect) (r : Configuration) (n : ℕ) (s : Place) → ((k : ℕ) → is_within s k ≡ true → may_change r e k ≡ true) → names_to_split n s ≤ names_for r e → ChangesOnly e r (do_split n s r)
+split_changes e r n s within names = by_refusal (is_unsplit n s) names where
+  there : (t : Place) → ((k : ℕ) → is_within t k ≡ true → may_change r e k ≡ true) → 1 ≤ names_for r e → ChangesOnly e r (split_there n t r)
+  there Nowhere may one = nothing e r
+  there (AtLoose x) may one = nothing e r
+  there (Within b x) may one = by_brigade e r _ b _ (may b (itself b)) (by_names e 1 r one)
+  there (AtEndOf b) may one = nothing e r
 
-  by_refusal : (t : Bool) → cond t 0 1 ≤ names_of r i → ChangesOnly i r (cond t r (split_there n s r))
-  by_refusal true none = nothing i r
+  by_refusal : (t : Bool) → cond t 0 1 ≤ names_for r e → ChangesOnly e r (cond t r (split_there n s r))
+  by_refusal true none = nothing e r
   by_refusal false one = there s within one
 
-aside_changes : (i : Instr) (r : Configuration) (s : Place) (target : ℕ) → ((k : ℕ) → is_within s k ≡ true → may_change r i k ≡ true) → (is_loose s ≡ true → may_change_loose r i ≡ true) → changes_pools i ≡ true
-    → ChangesOnly i r (aside_into s target r)
-aside_changes i r Nowhere target within loose tree = nothing i r
-aside_changes i r (AtLoose x) target within loose tree = by_loose i r _ _ (loose refl) (by_tree i r r _ tree (nothing i r))
-aside_changes i r (Within b x) target within loose tree = by_brigade i r _ b _ (within b (itself b)) (by_tree i r r _ tree (nothing i r))
-aside_changes i r (AtEndOf b) target within loose tree = nothing i r
+aside_changes : (e : Effect) (r : Configuration) (s : Place) (target : ℕ) → ((k : ℕ) → is_within s k ≡ true → may_change r e k ≡ true) → (is_loose s ≡ true → may_change_loose r e ≡ true) → may_change_tree e ≡ true
+    → ChangesOnly e r (aside_into s target r)
+aside_changes e r Nowhere target within loose tree = nothing e r
+aside_changes e r (AtLoose x) target within loose tree = by_loose e r _ _ (loose refl) (by_tree e r r _ tree (nothing e r))
+aside_changes e r (Within b x) target within loose tree = by_brigade e r _ b _ (within b (itself b)) (by_tree e r r _ tree (nothing e r))
+aside_changes e r (AtEndOf b) target within loose tree = nothing e r
 
-read_changes : (i : Instr) (r : Configuration) (given : Option (List ℕ)) (s : Place) → ((k : ℕ) → is_within s k ≡ true → may_change r i k ≡ true) → names_to_read s ≤ names_of r i → may_change_cursor i read_cursor ≡ true
-    → ChangesOnly i r (do_read given s r)
-read_changes i r given Nowhere within names cursor = nothing i r
-read_changes i r given (AtLoose x) within names cursor = nothing i r
-read_changes i r given (AtEndOf b) within names cursor = nothing i r
-read_changes i r given (Within b x) within names cursor = by_given (read_given given x.bucket.content) where
-  by_given : (o : Option (List ℕ)) → ChangesOnly i r (read_within b x o r)
-  by_given None = by_cursor i r r read_cursor _ cursor (nothing i r)
-  by_given (Some bytes) = by_cursor i r _ read_cursor _ cursor (by_brigade i r _ b _ (within b (itself b)) (by_names i (names_if (has_rest x.bucket.content)) r names))
+read_changes : (e : Effect) (r : Configuration) (given : Option (List ℕ)) (s : Place) → ((k : ℕ) → is_within s k ≡ true → may_change r e k ≡ true) → names_to_read s ≤ names_for r e → may_change_cursor e read_cursor ≡ true
+    → ChangesOnly e r (do_read given s r)
+read_changes e r given Nowhere within names cursor = nothing e r
+read_changes e r given (AtLoose x) within names cursor = nothing e r
+read_changes e r given (AtEndOf b) within names cursor = nothing e r
+read_changes e r given (Within b x) within names cursor = by_given (read_given given x.bucket.content) where
+  by_given : (o : Option (List ℕ)) → ChangesOnly e r (read_within b x o r)
+  by_given None = by_cursor e r r read_cursor _ cursor (nothing e r)
+  by_given (Some bytes) = by_cursor e r _ read_cursor _ cursor (by_brigade e r _ b _ (within b (itself b)) (by_names e (names_if (has_rest x.bucket.content)) r names))
 
-got_changes : (i : Instr) (r : Configuration) (n : ℕ) (o : Option ℕ) → may_change_number i n ≡ true → ChangesOnly i r (got n o r)
-got_changes i r n None may = nothing i r
-got_changes i r n (Some byte) may = by_number i r r n byte may (nothing i r)
+got_changes : (e : Effect) (r : Configuration) (n : ℕ) (o : Option ℕ) → may_change_number e n ≡ true → ChangesOnly e r (got n o r)
+got_changes e r n None may = nothing e r
+got_changes e r n (Some byte) may = by_number e r r n byte may (nothing e r)
 
 -- two brigades
 first_of : (a b : ℕ) → (a == a || a == b) ≡ true
@@ -161,53 +159,43 @@ first_of a b = or_left (a == a) (a == b) (itself a)
 second_of : (a b : ℕ) → (b == a || b == b) ≡ true
 second_of a b = or_right (b == a) (b == b) (itself b)
 
-created_changes : (p : Program) (o : ℕ) (r : Configuration) → ChangesOnly (instr.BCreate o) r (do_create p o r)
+created_changes : (p : Program) (o : ℕ) (r : Configuration) → ChangesOnly (EMakeBrigade o) r (do_create p o r)
 unfolding with_pools
 created_changes p o r =
-    let i = instr.BCreate o in
-    by_brigade i r (with_pools (with_brigade (pool_named r (pool_of_brigade p o)) r.shared.next r.shared.pools) (name_given r)) o _ (itself o) (by_tree i r (name_given r) _ refl (by_names i 1 r (omega arith)))
+    let e = EMakeBrigade o in
+    by_brigade e r (with_pools (with_brigade (pool_named r (pool_of_brigade p o)) r.shared.next r.shared.pools) (name_given r)) o _ (itself o) (by_tree e r (name_given r) _ refl (by_names e 1 r (omega arith)))
+
+pub effect_changes_only : (p : Program) (choice : Choice) (e : Effect) (r : Configuration) → ChangesOnly e r (do_effect p choice e r)
+effect_changes_only p choice ENothing r = nothing ENothing r
+effect_changes_only p choice (EMakePool q) r = let e = EMakePool q in made_under_named (ChangesOnly e r) p q r (nothing e r) (λ parent is. by_pool e r _ q _ (itself q) (by_tree e r r _ refl (nothing e r)))
+effect_changes_only p choice (EClearPool q) r = on_named (ChangesOnly (EClearPool q) r) pool_cleared (pool_named r (pool.Own q)) r (nothing (EClearPool q) r) (λ n is. cleared_changes q n r)
+effect_changes_only p choice (EDestroyPool q) r = on_named (ChangesOnly (EDestroyPool q) r) pool_destroyed (pool_named r (pool.Own q)) r (nothing (EDestroyPool q) r) (λ n is. destroyed_changes q n r)
+effect_changes_only p choice (ERegister q t) r = let e = ERegister q t in on_named (ChangesOnly e r) (label_registered (text_of p t)) (pool_named r q) r (nothing e r) (λ n is. by_tree e r r _ refl (nothing e r))
+effect_changes_only p choice (EKill q t) r = let e = EKill q t in on_named (ChangesOnly e r) (label_killed (text_of p t)) (pool_named r q) r (nothing e r) (λ n is. by_tree e r r _ refl (nothing e r))
+effect_changes_only p choice (EMakeBrigade o) r = created_changes p o r
+effect_changes_only p choice (EClean b) r = by_brigade (EClean b) r r b _ (itself b) (nothing (EClean b) r)
+effect_changes_only p choice (EConcat a b) r = let e = EConcat a b in by_brigade e r _ a _ (first_of a b) (by_brigade e r r b _ (second_of a b) (nothing e r))
+effect_changes_only p choice (ESplitBrigade b c a) r = let e = ESplitBrigade b c a in by_brigade e r _ a _ (second_of b a) (by_brigade e r r b _ (first_of b a) (nothing e r))
+effect_changes_only p choice (EPartBrigade b x c) r =
+    let e = EPartBrigade b x c in by_cursor e r _ c _ (itself c) (by_brigade e r _ b _ (itself b) (by_names e (names_to_part (value_of r x) (items_at r b)) r (omega arith)))
+effect_changes_only p choice (ESave o b) r =
+    let e = ESave o b in on_named (ChangesOnly e r) (saved_into o b) (made_on (r.instance.brigades o)) r (nothing e r) (λ target is. by_brigade e r _ o _ (first_of o b) (by_brigade e r _ b _ (second_of o b) (by_tree e r r _ refl (nothing e r))))
+effect_changes_only p choice (EPass b) r = passed_changes b r
+effect_changes_only p choice (EFirst c b) r = by_cursor (EFirst c b) r r c _ (itself c) (nothing (EFirst c b) r)
+effect_changes_only p choice (ENext d c) r = next_changes (ENext d c) r d (spot r c) (itself d)
+effect_changes_only p choice (EUnlink c) r = unlink_changes (EUnlink c) r (spot r c) (λ k h. h) refl
+effect_changes_only p choice (EDelete c) r = delete_changes (EDelete c) r (spot r c) (λ k h. h) (λ h. h)
+effect_changes_only p choice (EInsert side b c) r = put_into_changes (EInsert side b c) r (put_at side) b (spot r c) (itself b) refl
+effect_changes_only p choice (EBefore c d) r = before_changes (EBefore c d) r (spot r c) (spot r d) (λ k h. h) refl
+effect_changes_only p choice (EMake c source) r = make_changes (EMake c source) r c (made_of p r source) (omega arith) (itself c) refl
+effect_changes_only p choice (ESplit c x) r = split_changes (ESplit c x) r (value_of r x) (spot r c) (λ k h. h) (omega arith)
+effect_changes_only p choice (EAside c q) r =
+    let e = EAside c q in on_named (ChangesOnly e r) (aside_into (spot r c)) (pool_named r q) r (nothing e r) (λ target is. aside_changes e r (spot r c) target (λ k h. h) (λ h. h) refl)
+effect_changes_only p choice (ERead c) r = read_changes (ERead c) r choice.given (spot r c) (λ k h. h) (omega arith) refl
+effect_changes_only p choice (ENumber n number) r = got_changes (ENumber n number) r n (number_of r n number) (itself n)
+effect_changes_only p choice (EPut x) r = put_keeps (ChangesOnly (EPut x) r) x r (nothing (EPut x) r) (λ buffer. by_buffer (EPut x) r buffer refl)
+effect_changes_only p choice EClearBuffer r = by_buffer EClearBuffer r _ refl
+effect_changes_only p choice EReturn r = record { brigades = λ k h. absurd (cc); pools = λ k h. refl; numbers = λ k h. refl; sent = λ h. refl; cursors = λ k h. absurd (cc); loose = λ h. absurd (cc); buffer = λ h. absurd (cc); tree = λ h. refl; conn = refl; req = refl; labels = λ h. refl; files = λ h. refl; names = omega arith; names_last = omega arith; output = refl; pc = refl; call_name = λ h. absurd (cc) }
 
 pub step_changes_only : StepChangesOnly
-step_changes_only p choice (instr.PCreate q) r = let i = instr.PCreate q in made_under_named (ChangesOnly i r) p q r (nothing i r) (λ parent e. by_pool i r _ q _ (itself q) (by_tree i r r _ refl (nothing i r)))
-step_changes_only p choice (instr.PClear q) r = on_named (ChangesOnly (instr.PClear q) r) pool_cleared (pool_named r (pool.Own q)) r (nothing (instr.PClear q) r) (λ n e. cleared_changes q n r)
-step_changes_only p choice (instr.PDestroy q) r = on_named (ChangesOnly (instr.PDestroy q) r) pool_destroyed (pool_named r (pool.Own q)) r (nothing (instr.PDestroy q) r) (λ n e. destroyed_changes q n r)
-step_changes_only p choice (instr.Label q t) r = let i = instr.Label q t in on_named (ChangesOnly i r) (label_registered (text_of p t)) (pool_named r q) r (nothing i r) (λ n e. by_tree i r r _ refl (nothing i r))
-step_changes_only p choice (instr.Unlabel q t) r = let i = instr.Unlabel q t in on_named (ChangesOnly i r) (label_killed (text_of p t)) (pool_named r q) r (nothing i r) (λ n e. by_tree i r r _ refl (nothing i r))
-step_changes_only p choice (instr.BCreate o) r = created_changes p o r
-step_changes_only p choice (instr.BClean b) r = by_brigade (instr.BClean b) r r b _ (itself b) (nothing (instr.BClean b) r)
-step_changes_only p choice (instr.BConcat a b) r = let i = instr.BConcat a b in by_brigade i r _ a _ (first_of a b) (by_brigade i r r b _ (second_of a b) (nothing i r))
-step_changes_only p choice (instr.BSplit b c a) r = let i = instr.BSplit b c a in by_brigade i r _ a _ (second_of b a) (by_brigade i r r b _ (first_of b a) (nothing i r))
-step_changes_only p choice (instr.BPart b x c l) r =
-    let i = instr.BPart b x c l in by_cursor i r _ c _ (itself c) (by_brigade i r _ b _ (itself b) (by_names i (names_to_part (value_of r x) (items_at r b)) r (omega arith)))
-step_changes_only p choice (instr.BSave o b) r =
-    let i = instr.BSave o b in on_named (ChangesOnly i r) (saved_into o b) (made_on (r.instance.brigades o)) r (nothing i r) (λ target e. by_brigade i r _ o _ (first_of o b) (by_brigade i r _ b _ (second_of o b) (by_tree i r r _ refl (nothing i r))))
-step_changes_only p choice (instr.Pass b l) r = passed_changes b l r
-step_changes_only p choice (instr.First c b) r = by_cursor (instr.First c b) r r c _ (itself c) (nothing (instr.First c b) r)
-step_changes_only p choice (instr.Next d c) r = next_changes (instr.Next d c) r d (spot r c) (itself d)
-step_changes_only p choice (instr.Unlink c) r = unlink_changes (instr.Unlink c) r (spot r c) (λ k h. h) refl
-step_changes_only p choice (instr.BDelete c) r = delete_changes (instr.BDelete c) r (spot r c) (λ k h. h) (λ h. h)
-step_changes_only p choice (instr.Tail b c) r = put_into_changes (instr.Tail b c) r put_tail b (spot r c) (itself b) refl
-step_changes_only p choice (instr.Head b c) r = put_into_changes (instr.Head b c) r put_head b (spot r c) (itself b) refl
-step_changes_only p choice (instr.Before c d) r = before_changes (instr.Before c d) r (spot r c) (spot r d) (λ k h. h) refl
-step_changes_only p choice (instr.Heap c t) r = new_changes (instr.Heap c t) r c (heap_bucket (text_of p t)) (omega arith) (itself c) refl
-step_changes_only p choice (instr.Immortal c t) r = new_changes (instr.Immortal c t) r c (immortal_bucket (text_of p t)) (omega arith) (itself c) refl
-step_changes_only p choice (instr.FromBuf c) r = new_changes (instr.FromBuf c) r c (heap_bucket r.call.buffer) (omega arith) (itself c) refl
-step_changes_only p choice (instr.Transient c) r = new_changes (instr.Transient c) r c (transient_bucket r.call.name r.call.buffer) (omega arith) (itself c) refl
-step_changes_only p choice (instr.PoolB c q) r =
-    let i = instr.PoolB c q in on_named (ChangesOnly i r) (λ n. new_loose c (pool_bucket r.call.buffer n)) (pool_named r q) r (nothing i r) (λ n e. new_changes i r c (pool_bucket r.call.buffer n) (omega arith) (itself c) refl)
-step_changes_only p choice (instr.Flush c) r = new_changes (instr.Flush c) r c (metadata kind.Flush) (omega arith) (itself c) refl
-step_changes_only p choice (instr.Eos c) r = new_changes (instr.Eos c) r c (metadata kind.Eos) (omega arith) (itself c) refl
-step_changes_only p choice (instr.Split c x l) r = split_changes (instr.Split c x l) r (value_of r x) (spot r c) (λ k h. h) (omega arith)
-step_changes_only p choice (instr.Copy d c) r = copy_changes (instr.Copy d c) r d (bucket_at (spot r c)) (omega arith) (itself d) refl
-step_changes_only p choice (instr.Aside c q) r =
-    let i = instr.Aside c q in on_named (ChangesOnly i r) (aside_into (spot r c)) (pool_named r q) r (nothing i r) (λ target e. aside_changes i r (spot r c) target (λ k h. h) (λ h. h) refl)
-step_changes_only p choice (instr.Read c l) r = read_changes (instr.Read c l) r choice.given (spot r c) (λ k h. h) (omega arith) refl
-step_changes_only p choice (instr.Len n c) r = by_number (instr.Len n c) r r n _ (itself n) (nothing (instr.Len n c) r)
-step_changes_only p choice (instr.Get n x l) r = got_changes (instr.Get n x l) r n (byte_of (value_of r x) (content_at (spot r read_cursor))) (itself n)
-step_changes_only p choice (instr.Put x l) r = put_keeps (ChangesOnly (instr.Put x l) r) x r (nothing (instr.Put x l) r) (λ buffer. by_buffer (instr.Put x l) r buffer refl)
-step_changes_only p choice instr.ClearBuf r = by_buffer instr.ClearBuf r _ refl
-step_changes_only p choice (instr.Set n x) r = by_number (instr.Set n x) r r n _ (itself n) (nothing (instr.Set n x) r)
-step_changes_only p choice (instr.Add n x) r = by_number (instr.Add n x) r r n _ (itself n) (nothing (instr.Add n x) r)
-step_changes_only p choice (instr.Sub n x) r = by_number (instr.Sub n x) r r n _ (itself n) (nothing (instr.Sub n x) r)
-step_changes_only p choice (instr.Ret st) r = record { brigades = λ k h. absurd (cc); pools = λ k h. refl; numbers = λ k h. refl; sent = λ h. refl; cursors = λ k h. absurd (cc); loose = λ h. absurd (cc); buffer = λ h. absurd (cc); tree = λ h. refl; conn = refl; req = refl; labels = λ h. refl; files = λ h. refl; names = omega arith; names_last = omega arith; output = refl; pc = refl; call_name = λ h. absurd (cc) }
-step_changes_only p choice i r = nothing i r
+step_changes_only p choice i r = effect_changes_only p choice (effect_of i) r

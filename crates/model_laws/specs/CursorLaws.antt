@@ -11,11 +11,11 @@ use Rattle.run_model.specs.declared.event.Exit.TheVariants.{GoOn, Jump}
 use Rattle.run_model.specs.declared.bucket.NamedBucket.{NamedBucket}
 use Rattle.run_model.specs.BrigadeLists.{bucket_named, buckets_before, buckets_from, put_tail, stays, moves, SplitRefusal, split_refusal, first_bytes, rest_as, length_in, all_bytes}
 use Rattle.model_laws.specs.BrigadeLaws.{SplitBytes}
-use Rattle.run_model.specs.declared.bucket.Kind.TheVariants as kind
-use Rattle.run_model.specs.State.{Configuration, pool_named}
-use Rattle.run_model.specs.Cursors.{Place, Nowhere, AtLoose, Within, AtEndOf, spot, spot_of, bucket_at}
-use Rattle.run_model.specs.BucketSteps.{items_at, place_at, heap_bucket, immortal_bucket, transient_bucket, pool_bucket, metadata}
-use Rattle.run_model.specs.Steps.{Choice, Outcome, step, text_of, value_of}
+use Rattle.run_model.specs.State.{Configuration}
+use Rattle.run_model.specs.Cursors.{Place, Nowhere, AtLoose, Within, AtEndOf, spot, spot_of}
+use Rattle.run_model.specs.BucketSteps.{items_at, place_at}
+use Rattle.run_model.specs.EffectOf.{MadeFrom, EMake, effect_of}
+use Rattle.run_model.specs.Steps.{Choice, Outcome, step, made_of, value_of}
 use Rattle.run_model.specs.Sound.{SoundNames, brigade_name, count_named, count}
 use Rattle.model_laws.specs.Laws.{MayExecute}
 
@@ -83,28 +83,11 @@ pub record MakesLoose (c : ℕ) (b : Bucket) (r new : Configuration) : Type 0 wh
   pub brigades : new.instance.brigades ≡ r.instance.brigades
   pub cursor : spot new c ≡ AtLoose (record { name = r.shared.next; bucket = b })
 
-abbrev pub makes_in : ℕ → List ℕ → Option ℕ → Option (ℕ × Bucket)
-makes_in c bytes None = None
-makes_in c bytes (Some n) = Some (c, pool_bucket bytes n)
-
--- the cursor at which an instruction makes a bucket, and that bucket
-abbrev pub makes : Program → Configuration → Instr → Option (ℕ × Bucket)
-makes p r (instr.Heap c t) = Some (c, heap_bucket (text_of p t))
-makes p r (instr.Immortal c t) = Some (c, immortal_bucket (text_of p t))
-makes p r (instr.FromBuf c) = Some (c, heap_bucket r.call.buffer)
-makes p r (instr.Transient c) = Some (c, transient_bucket r.call.name r.call.buffer)
-makes p r (instr.PoolB c q) = makes_in c r.call.buffer (pool_named r q)
-makes p r (instr.Flush c) = Some (c, metadata kind.Flush)
-makes p r (instr.Eos c) = Some (c, metadata kind.Eos)
-makes p r i = None
-
+-- So is each that an instruction makes, also a copy, which is of the same kind, content and home (apr_bucket_copy). What is made from what,
+-- `made_of` says, and BucketExamples shows of each.
 abbrev pub MadeAreNew : Type 0
-MadeAreNew = (p : Program) (choice : Choice) (i : Instr) (c : ℕ) (b : Bucket) (r : Configuration) → SoundNames r → makes p r i ≡ Some (c, b) → MakesLoose c b r (step p choice i r).state
-
--- So is a copy, of the same kind, content and home (apr_bucket_copy).
-abbrev pub CopiesAreNew : Type 0
-CopiesAreNew = (p : Program) (choice : Choice) (d c : ℕ) (x : NamedBucket) (r : Configuration) → SoundNames r → bucket_at (spot r c) ≡ Some x
-    → MakesLoose d x.bucket r (step p choice (instr.Copy d c) r).state
+MadeAreNew = (p : Program) (choice : Choice) (i : Instr) (c : ℕ) (source : MadeFrom) (b : Bucket) (r : Configuration) → SoundNames r
+    → effect_of i ≡ EMake c source → made_of p r source ≡ Some b → MakesLoose c b r (step p choice i r).state
 
 -- A split at n of the bucket x in the brigade of b (apr_bucket_split): its first n bytes keep its name and place, and the
 -- others follow under a name that no bucket had, so that the bytes of the brigade are the same, in order. It goes on.

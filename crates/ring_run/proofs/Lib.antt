@@ -2,6 +2,7 @@ pub mod Joins
 pub mod Moves
 pub mod Steps
 pub mod Makes
+pub mod Making
 pub mod Splits
 pub mod Cuts
 pub mod Parts

@@ -1,7 +1,8 @@
 //! What instructions do to buckets: they are taken out, put in and destroyed (apr_buckets.h).
 
 ghost use Rattle.std.specs.Prelude.{◌≡◌, ◌<◌, is_some, true};
-ghost use Rattle.run_model.specs.BucketSteps.{do_before, do_delete, do_head, do_tail, do_unlink};
+ghost use Rattle.run_model.specs.BucketSteps.{do_before, do_delete, do_unlink, put_into};
+ghost use Rattle.run_model.specs.BrigadeLists.{put_head, put_tail};
 ghost use Rattle.run_model.specs.Cursors.{spot};
 ghost use Rattle.run_model.specs.Faults.{InBrigade, OnBucket, OnLoose};
 ghost use Rattle.brigade_ops.specs.Store.{lists};
@@ -63,7 +64,7 @@ pub(crate) fn tail<R: Rings<Stored> + Drop>(
     requires held { IsHeld store.old instance.now call.now }
     requires live { is_some (live_in (lists store.old) (slot_at instance.now b)) ≡ true }
     requires stands { StandsAs store.old instance.now call.now c OnLoose }
-    ensures new { (around : Around) → let r = seen store.old around instance.now call.now in seen store.new around instance.now call.now ≡ do_tail b (spot r c) r }
+    ensures new { (around : Around) → let r = seen store.old around instance.now call.now in seen store.new around instance.now call.now ≡ put_into put_tail b (spot r c) r }
     ensures held { IsHeld store.new instance.now call.now }
     ensures left { LeavesOthers store.old store.new instance.now call.now }
 {
@@ -83,7 +84,7 @@ pub(crate) fn head<R: Rings<Stored> + Drop>(
     requires held { IsHeld store.old instance.now call.now }
     requires live { is_some (live_in (lists store.old) (slot_at instance.now b)) ≡ true }
     requires stands { StandsAs store.old instance.now call.now c OnLoose }
-    ensures new { (around : Around) → let r = seen store.old around instance.now call.now in seen store.new around instance.now call.now ≡ do_head b (spot r c) r }
+    ensures new { (around : Around) → let r = seen store.old around instance.now call.now in seen store.new around instance.now call.now ≡ put_into put_head b (spot r c) r }
     ensures held { IsHeld store.new instance.now call.now }
     ensures left { LeavesOthers store.old store.new instance.now call.now }
 {

@@ -2,7 +2,7 @@
 
 ghost use Rattle.std.specs.Prelude.{◌≡◌, ◌<◌, ◌≤◌, ℕ, None, true, false, length, IsOk, OnOk, OnErr};
 ghost use Rattle.module_code.specs.Program.{fits};
-ghost use Rattle.run_model.specs.BucketSteps.{do_poolb};
+ghost use Rattle.run_model.specs.BucketSteps.{pooled_bucket, do_make};
 ghost use Rattle.run_model.specs.Faults.{WPool, fault, fault_want};
 ghost use Rattle.run_model.specs.State.{pool_named};
 ghost use Rattle.run_model.specs.Steps.{Choice, grows, step};
@@ -15,14 +15,14 @@ ghost use Rattle.ring_calls.specs.Outside.{with_outside};
 ghost use Rattle.ring_calls.specs.Seen.{seen};
 ghost use Rattle.ring_calls.specs.Slots.{name_in, slot_at};
 
+use crate::touched::{Touched, touched_by};
 use crate::{bucket_steps, cut_steps, effects, makers, part_steps, split_steps};
-use brigade_ops::{Brigades, Kind, Rings, Stored};
+use brigade_ops::{Brigades, Rings, Stored};
 use ring_calls::machine::{Call, Instance};
 use ring_calls::outside::Outside;
-use ring_calls::pool_names::pool_named;
 use ring_calls::values::value_of;
 use ring_calls::{bytes, values};
-use run_model::{Instr, Module, PoolRef};
+use run_model::{Instr, Module};
 use std::alloc::{AllocError, Global};
 
 /// Changes a number, or the buffer. Without memory nothing is changed.
@@ -58,35 +58,7 @@ fn change_numbers<R: Rings<Stored> + Drop>(
     Ok(())
 }
 
-/// Makes a POOL bucket of the buffer's bytes in the pool that an operand names. Without memory, and where the names are spent,
-/// nothing is changed.
-fn make_in_pool<R: Rings<Stored> + Drop>(
-    alloc: Global,
-    instance: &Instance,
-    call: &mut Call,
-    outside: &Outside<'_>,
-    store: &mut Brigades<R>,
-    c: u8,
-    pool: PoolRef,
-) -> Result<(), AllocError>
-    requires cursor { c < 9 }
-    requires held { IsHeld store.old instance.now call.old }
-    requires runs { 0 < call.old.name }
-    requires there { (around : Around) × (fault_want (seen store.old (with_outside outside.now around) instance.now call.old) (WPool pool) ≡ None) }
-    ensures ok { OnOk result ((around : Around) → let r = seen store.old (with_outside outside.now around) instance.now call.old in
-        seen store.new (with_outside outside.now around) instance.now call.new ≡ do_poolb c (pool_named r pool) r) }
-    ensures err { OnErr result ((around : Around) → seen store.new around instance.now call.new ≡ seen store.old around instance.now call.old) }
-    ensures held { IsHeld store.new instance.now call.new }
-    ensures name { call.new.name ≡ call.old.name }
-    ensures left { LeavesOthers store.old store.new instance.now call.old }
-{
-    match pool_named(instance, outside, pool) {
-        Some(name) => makers::pool(alloc, call, store, c, name),
-        None => unreachable!(),
-    }
-}
-
-/// Makes a bucket, which is loose, by an instruction that has no fault. Without memory, and where the names are spent, nothing is changed.
+/// Makes or copies a bucket, which is loose, by an instruction that has no fault. Without memory, and where the names are spent, nothing is changed.
 fn make_bucket<R: Rings<Stored> + Drop>(
     alloc: Global,
     code: &Module,
@@ -109,19 +81,14 @@ fn make_bucket<R: Rings<Stored> + Drop>(
     ensures name { call.new.name ≡ call.old.name }
     ensures left { LeavesOthers store.old store.new instance.now call.old }
 {
-    match instr {
-        Instr::Heap(c, text) => makers::heap(alloc, code, call, store, c, text),
-        Instr::Immortal(c, text) => makers::immortal(alloc, code, call, store, c, text),
-        Instr::FromBuf(c) => makers::from_buffer(alloc, call, store, c),
-        Instr::Transient(c) => makers::transient(alloc, call, store, c),
-        Instr::PoolB(c, pool) => make_in_pool(alloc, instance, call, outside, store, c, pool),
-        Instr::Flush(c) => makers::mark(call, store, c, Kind::Flush),
-        Instr::Eos(c) => makers::mark(call, store, c, Kind::Eos),
-        _ => unreachable!(),
+    if let Instr::Copy(d, c) = instr {
+        return split_steps::copy(instance, call, store, d, c);
     }
+    let bucket = makers::new_bucket(alloc, code, instance, call, outside, instr)?;
+    makers::add_loose(call, store, makers::made_at(instr), bucket)
 }
 
-/// Moves, destroys, splits or copies the bucket of a cursor. Without memory, and where the names are spent, nothing is changed.
+/// Moves, destroys or splits the bucket of a cursor. Without memory, and where the names are spent, nothing is changed.
 fn move_bucket<R: Rings<Stored> + Drop>(
     code: &Module,
     instance: &Instance,
@@ -155,7 +122,6 @@ fn move_bucket<R: Rings<Stored> + Drop>(
             let n = u64::from(value_of(instance, x));
             split_steps::split(instance, call, store, c, n)
         }
-        Instr::Copy(d, c) => split_steps::copy(instance, call, store, d, c),
         _ => unreachable!(),
     }
 }
@@ -224,42 +190,12 @@ pub(crate) fn execute_on_store<R: Rings<Stored> + Drop>(
     ensures slots { (b : ℕ) → name_in (slot_at instance.new b) ≡ name_in (slot_at instance.old b) }
     ensures left { LeavesOthers store.old store.new instance.old call.old }
 {
-    match instr {
-        Instr::BClean(_)
-        | Instr::BConcat(_, _)
-        | Instr::BSplit(_, _, _)
-        | Instr::BPart(_, _, _, _)
-        | Instr::First(_, _)
-        | Instr::Next(_, _) => cut_brigade(code, instance, call, outside, store, instr),
-        Instr::Unlink(_)
-        | Instr::BDelete(_)
-        | Instr::Tail(_, _)
-        | Instr::Head(_, _)
-        | Instr::Before(_, _)
-        | Instr::Split(_, _, _)
-        | Instr::Copy(_, _) => move_bucket(code, instance, call, outside, store, instr),
-        Instr::Heap(_, _)
-        | Instr::Immortal(_, _)
-        | Instr::FromBuf(_)
-        | Instr::Transient(_)
-        | Instr::PoolB(_, _)
-        | Instr::Flush(_)
-        | Instr::Eos(_) => make_bucket(alloc, code, instance, call, outside, store, instr),
-        Instr::Len(_, _)
-        | Instr::Get(_, _, _)
-        | Instr::Put(_, _)
-        | Instr::ClearBuf
-        | Instr::Set(_, _)
-        | Instr::Add(_, _)
-        | Instr::Sub(_, _) => change_numbers(code, instance, call, store, instr),
-        Instr::JEmpty(_, _)
-        | Instr::JEnd(_, _)
-        | Instr::JKind(_, _, _)
-        | Instr::JNull(_, _)
-        | Instr::JLt(_, _, _)
-        | Instr::JEq(_, _, _)
-        | Instr::JSent(_)
-        | Instr::Jump(_) => Ok(()),
-        _ => unreachable!(),
+    match touched_by(instr) {
+        Touched::Nothing => Ok(()),
+        Touched::Numbers => change_numbers(code, instance, call, store, instr),
+        Touched::NewBucket => make_bucket(alloc, code, instance, call, outside, store, instr),
+        Touched::Bucket => move_bucket(code, instance, call, outside, store, instr),
+        Touched::Brigade => cut_brigade(code, instance, call, outside, store, instr),
+        Touched::Others => unreachable!(),
     }
 }

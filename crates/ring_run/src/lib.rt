@@ -20,5 +20,6 @@ mod pool_steps;
 mod reads;
 mod saves;
 mod split_steps;
+mod touched;
 
 pub use labels_run::LabelsRun;

@@ -1,7 +1,7 @@
 //! What instructions do to buckets that are split and copied (apr_buckets.h).
 
 ghost use Rattle.std.specs.Prelude.{◌≡◌, ◌<◌, ℕ, None, Some, true, is_some, IsOk, OnOk, OnErr};
-ghost use Rattle.run_model.specs.BucketSteps.{do_copy, do_split, names_to_split, new_loose};
+ghost use Rattle.run_model.specs.BucketSteps.{copied_bucket, do_make, do_split, names_to_split, new_loose};
 ghost use Rattle.run_model.specs.Cursors.{bucket_at as model_bucket_at, spot};
 ghost use Rattle.run_model.specs.Faults.{InBrigade, OnBucket, home_fault};
 ghost use Rattle.run_model.specs.declared.bucket.Bucket.{Bucket};
@@ -85,7 +85,7 @@ pub(crate) fn copy<R: Rings<Stored> + Drop>(
     requires held { IsHeld store.old instance.now call.old }
     requires stands { StandsAs store.old instance.now call.old c OnBucket }
     ensures ok { OnOk result ((around : Around) → let r = seen store.old around instance.now call.old in home_fault (model_bucket_at (spot r c)) ≡ None
-        → seen store.new around instance.now call.new ≡ do_copy d (spot r c) r) }
+        → seen store.new around instance.now call.new ≡ do_make d (copied_bucket (model_bucket_at (spot r c))) r) }
     ensures err { OnErr result ((around : Around) → seen store.new around instance.now call.new ≡ seen store.old around instance.now call.old) }
     ensures held { IsHeld store.new instance.now call.new }
     ensures name { call.new.name ≡ call.old.name }

@@ -11,9 +11,11 @@ pub mod Holding
 pub mod State
 pub mod Clearing
 pub mod Faults
+pub mod Wants
 pub mod Effects
 pub mod Cursors
 pub mod BucketSteps
+pub mod EffectOf
 pub mod Steps
 pub mod Refusals
 pub mod Pieces

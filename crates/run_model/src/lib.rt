@@ -6,6 +6,7 @@ mod bucket;
 mod event;
 mod fault;
 mod payload;
+mod want;
 
 pub use bucket::{
     Brigade, BrigadeVar, Bucket, Content, Cursor, Home, Kind, Mark, NamedBucket, PoolVar,
@@ -14,3 +15,4 @@ pub use event::{Cause, Event, Exit, Piece, Refusal, StepRefusal, Stepped};
 pub use fault::FaultKind;
 pub use module_code::{Instr, KindTest, Module, PoolRef, Seq, Status, Value, VarRef};
 pub use payload::Payload;
+pub use want::{Need, Want, Wanted, wants};

@@ -16,6 +16,7 @@ use Rattle.run_model.specs.Pools.{is_in}
 use Rattle.run_model.specs.State.{Configuration, pool_view, set_brigade}
 use Rattle.run_model.specs.Steps.{Choice, Outcome, step, current}
 use Rattle.run_model.proofs.Updates.{upd_at}
+use Rattle.run_model.specs.EffectOf.{effect_of}
 use Rattle.model_laws.specs.Laws.{ChangesOnly, is_return}
 use Rattle.model_laws.specs.OpenRuns.{Phase, Rests, Runs, none_lasts, Standing, Told, IsHarmless, executed, Attempts, Executes, StandsSound}
 use Rattle.model_laws.proofs.Handlers.{Leads}
@@ -64,7 +65,7 @@ module _ (p : Program) (m : Certificate) (proper : IsModule p) (bounded : AllBou
     abbrev after : Configuration
     after = record stepped.state { pc = led_to stepped.exit i s.now.pc }
 
-    changes : ChangesOnly i s.now (step p chosen i s.now).state
+    changes : ChangesOnly (effect_of i) s.now (step p chosen i s.now).state
     changes = step_changes_only p chosen i s.now
 
     module _ (on : is_return i ≡ false) where

@@ -6,6 +6,7 @@ use Rattle.run_model.specs.declared.bucket.Home.TheVariants as home
 use Rattle.run_model.specs.declared.bucket.NamedBucket.{NamedBucket}
 use Rattle.run_model.specs.declared.event.Exit.{Exit}
 use Rattle.run_model.specs.declared.event.Exit.TheVariants.{GoOn, Jump, Return}
+use Rattle.run_model.specs.EffectOf.{effect_of}
 use Rattle.model_laws.specs.Laws.{ChangesOnly, is_return}
 use Rattle.run_model.specs.Pools.{is_in}
 use Rattle.run_model.specs.State.{Instance, Configuration, Out, PoolView, pool_view}
@@ -100,7 +101,7 @@ module _ (chain : List Program) (certs : ℕ → Certificate) (g : Common) (c : 
   ready : MeetsNeeds (Lives c f rest) (module_at chain f.of) (next_of chain f) (configuration g c f) met.state
   ready = top_ready chain certs g c f rest proper sound (sound_top chain g c f rest on_top sound) last met
 
-  changes : ChangesOnly (next_of chain f) (configuration g c f) stepped.state
+  changes : ChangesOnly (effect_of (next_of chain f)) (configuration g c f) stepped.state
   changes = step_changes_only (module_at chain f.of) choice (next_of chain f) (configuration g c f)
 
   touches : Touches (touched_var (configuration g c f) (next_of chain f)) (touched_bucket (configuration g c f) (next_of chain f)) (configuration g c f) stepped.state

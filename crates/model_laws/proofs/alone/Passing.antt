@@ -1,5 +1,5 @@
 -- What an instance passes may be brought to another.
-use Rattle.std.proofs.Common.{◌≡◌, ℕ, Bool, true, false, ◌||◌, ◌&&◌, cond, List, Option, Some, None, refl, sym, ◌∙◌, ap, subst}
+use Rattle.std.proofs.Common.{◌≡◌, ℕ, Bool, true, false, ◌||◌, ◌&&◌, cond, List, Option, Some, None, refl, ap, subst}
 use Rattle.std.specs.List.{list_any}
 use Rattle.module_code.specs.declared.instr.Instr.{Instr}
 use Rattle.module_code.specs.declared.instr.Instr.TheVariants as instr
@@ -11,7 +11,7 @@ use Rattle.run_model.specs.Buckets.{has_data, data_after_eos, is_dead}
 use Rattle.run_model.specs.Faults.{usable_fault, homes_fault, send_fault, fault}
 use Rattle.run_model.specs.State.{items_of}
 use Rattle.run_model.specs.Steps.{current}
-use Rattle.model_laws.specs.OpenRuns.{Standing, Told, Passes, Faults, executed, Attempts, IsMove, PassedMayBeBrought}
+use Rattle.model_laws.specs.OpenRuns.{Standing, Told, Passes, executed, Attempts, IsMove, PassedMayBeBrought}
 use Rattle.model_laws.proofs.Marks.{first_none, second_none}
 use Rattle.model_laws.proofs.StepFiles.{no_dead}
 

@@ -33,6 +33,7 @@ use Rattle.run_model.specs.Passing.{Reads, passed_to, returned_to, delivered, de
 use Rattle.run_model.specs.Indexed.{upd}
 use Rattle.run_model.specs.Pools.{is_live}
 use Rattle.run_model.specs.State.{Configuration, items_of, set_brigade, set_cursor, Instance, fresh_call}
+use Rattle.run_model.specs.EffectOf.{effect_of}
 use Rattle.run_model.specs.Steps.{Choice, answer_to, current, step, with_items}
 use Rattle.run_model.specs.Turns.{opened, begun, all_called}
 use Rattle.run_model.proofs.EachBucket.{of_named}
@@ -144,7 +145,7 @@ not_last k h = ne_eqb 8 k (λ e. absurd (let lt : k < 8 = below k h in omega (ar
   below : (k : ℕ) → nat_lt k 8 ≡ true → k < 8
   below k h = grind (arith, nat_tests)
 
-pub read_is : (p : Program) (i : Instr) → fits p i ≡ true → is_return i ≡ false → is_read i ≡ false → may_change_cursor i read_cursor ≡ false
+pub read_is : (p : Program) (i : Instr) → fits p i ≡ true → is_return i ≡ false → is_read i ≡ false → may_change_cursor (effect_of i) read_cursor ≡ false
 read_is p (instr.BPart b x k l) fit on other = not_last k (second_true (is_brigade p b && is_value x) (nat_lt k 8) fit)
 read_is p (instr.First k b) fit on other = not_last k (first_true (nat_lt k 8) (is_brigade p b) fit)
 read_is p (instr.Next d k) fit on other = not_last d (first_true (nat_lt d 8) (nat_lt k 8) fit)

@@ -1,20 +1,21 @@
 -- Instructions that leave the pools as they are do the same over any pools.
-use Rattle.std.proofs.Common.{◌≡◌, ℕ, Bool, true, false, cond, Option, Some, None, refl, ap, List, [], ◌∷◌, ◌++◌}
+use Rattle.run_model.specs.declared.bucket.Bucket.{Bucket}
+use Rattle.std.proofs.Common.{◌≡◌, ◌∙◌, ℕ, Bool, true, false, cond, Option, Some, None, refl, ap, List, [], ◌∷◌, ◌++◌}
 use Rattle.module_code.specs.declared.instr.Instr.{Instr}
 use Rattle.module_code.specs.declared.instr.Instr.TheVariants as instr
 use Rattle.module_code.specs.declared.instr.Value.{Value}
 use Rattle.module_code.specs.Program.{Program}
 use Rattle.run_model.specs.declared.bucket.NamedBucket.{NamedBucket}
 use Rattle.run_model.specs.declared.event.Exit.{Exit}
-use Rattle.run_model.specs.declared.event.Exit.TheVariants.{GoOn}
 use Rattle.run_model.specs.declared.payload.Payload.{Payload}
 use Rattle.run_model.specs.Pools.{Pools}
-use Rattle.run_model.specs.State.{Configuration, named_at, pool_named, set_brigade, set_loose, set_number, set_cursor}
-use Rattle.run_model.specs.Cursors.{Place, AtLoose, Within, spot, spot_of, holder_of, variable_of, bucket_at, read_cursor}
-use Rattle.run_model.specs.BucketSteps.{do_next, do_unlink, do_delete, put_into, do_before, do_poolb, do_split, split_there, is_unsplit, copy_of, do_read, read_within, read_given, got, byte_of, content_at, is_unread}
-use Rattle.run_model.specs.BrigadeLists.{put_tail, put_head, put_before}
+use Rattle.run_model.specs.State.{Configuration, named_at, set_brigade, set_loose, set_number, set_cursor}
+use Rattle.run_model.specs.Cursors.{Place, AtLoose, Within, spot, spot_of, holder_of, variable_of}
+use Rattle.run_model.specs.BucketSteps.{do_next, do_unlink, do_delete, put_into, do_before, do_make, do_split, split_there, is_unsplit, do_read, read_within, read_given, got}
+use Rattle.run_model.specs.BrigadeLists.{put_before}
 use Rattle.model_laws.proofs.NamedPools.{with_buffer}
-use Rattle.run_model.specs.Steps.{Choice, Outcome, step, jumps_if, value_of, is_full, do_put}
+use Rattle.run_model.specs.EffectOf.{Effect, MadeFrom, NewNumber, ENothing, EMakePool, EClearPool, EDestroyPool, ERegister, EKill, EMakeBrigade, EClean, EConcat, ESplitBrigade, EPartBrigade, ESave, EPass, EFirst, ENext, EUnlink, EDelete, EInsert, EBefore, EMake, ESplit, EAside, ERead, ENumber, EPut, EClearBuffer, EReturn, effect_of}
+use Rattle.run_model.specs.Steps.{exit_of, do_effect, made_of, number_of, put_at, Choice, Outcome, step, value_of, is_full, do_put}
 
 -- r with its pools changed
 abbrev pub amended : (Pools Payload → Pools Payload) → Configuration → Configuration
@@ -26,17 +27,17 @@ amended_outcome change o = record o { state = amended change o.state }
 abbrev pub went : Exit → Configuration → Outcome
 went e r = record { exit = e; state = r }
 
--- whether an instruction may change pools, or asks how they stand
-abbrev pub minds_pools : Instr → Bool
-minds_pools (instr.PCreate q) = true
-minds_pools (instr.PClear q) = true
-minds_pools (instr.PDestroy q) = true
-minds_pools (instr.Label q t) = true
-minds_pools (instr.Unlabel q t) = true
-minds_pools (instr.BCreate o) = true
-minds_pools (instr.BSave o b) = true
-minds_pools (instr.Aside c q) = true
-minds_pools i = false
+-- whether an effect may change pools, or asks how they stand
+abbrev pub minds_pools : Effect → Bool
+minds_pools (EMakePool q) = true
+minds_pools (EClearPool q) = true
+minds_pools (EDestroyPool q) = true
+minds_pools (ERegister q t) = true
+minds_pools (EKill q t) = true
+minds_pools (EMakeBrigade o) = true
+minds_pools (ESave o b) = true
+minds_pools (EAside c q) = true
+minds_pools e = false
 
 module _ (change : Pools Payload → Pools Payload) where
   next_alike : (d : ℕ) (s : Place) (r : Configuration) → do_next d s (amended change r) ≡ amended change (do_next d s r)
@@ -63,11 +64,6 @@ module _ (change : Pools Payload → Pools Payload) where
   before_alike s (Within b y) r = put_alike (put_before y.name) b s r
   before_alike s t r = refl
 
-  poolb_alike : (c : ℕ) (pool : Option ℕ) (r : Configuration) → do_poolb c pool (amended change r) ≡ amended change (do_poolb c pool r)
-  unfolding set_cursor set_loose
-  poolb_alike c None r = refl
-  poolb_alike c (Some n) r = refl
-
   split_alike : (n : ℕ) (s : Place) (r : Configuration) → do_split n s (amended change r) ≡ amended change (do_split n s r)
   unfolding set_brigade
   split_alike n s r = by_test s (is_unsplit n s) where
@@ -76,10 +72,10 @@ module _ (change : Pools Payload → Pools Payload) where
     by_test (Within b x) false = refl
     by_test s false = refl
 
-  copy_alike : (d : ℕ) (x : Option NamedBucket) (r : Configuration) → copy_of d x (amended change r) ≡ amended change (copy_of d x r)
+  make_alike : (c : ℕ) (o : Option Bucket) (r : Configuration) → do_make c o (amended change r) ≡ amended change (do_make c o r)
   unfolding set_cursor set_loose
-  copy_alike d None r = refl
-  copy_alike d (Some x) r = refl
+  make_alike c None r = refl
+  make_alike c (Some b) r = refl
 
   within_alike : (b : ℕ) (x : NamedBucket) (given : Option (List ℕ)) (r : Configuration) → read_within b x given (amended change r) ≡ amended change (read_within b x given r)
   unfolding set_cursor set_brigade
@@ -101,26 +97,42 @@ module _ (change : Pools Payload → Pools Payload) where
     by_test true = refl
     by_test false = refl
 
-  pub quiet_alike : (p : Program) (choice : Choice) (i : Instr) (r : Configuration) → minds_pools i ≡ false → step p choice i (amended change r) ≡ amended_outcome change (step p choice i r)
+  made_alike : (p : Program) (source : MadeFrom) (r : Configuration) → made_of p (amended change r) source ≡ made_of p r source
+  unfolding spot_of holder_of variable_of named_at
+  made_alike p source r = refl
+
+  number_alike : (n : ℕ) (number : NewNumber) (r : Configuration) → number_of (amended change r) n number ≡ number_of r n number
+  unfolding spot_of holder_of variable_of
+  number_alike n number r = refl
+
+  exit_alike : (choice : Choice) (i : Instr) (r : Configuration) → exit_of choice i (amended change r) ≡ exit_of choice i r
+  unfolding spot_of holder_of variable_of
+  exit_alike choice (instr.Jump l) r = refl
+  exit_alike choice i r = refl
+
+  run_alike : (p : Program) (choice : Choice) (e : Effect) (r : Configuration) → minds_pools e ≡ false → do_effect p choice e (amended change r) ≡ amended change (do_effect p choice e r)
   unfolding set_brigade set_loose set_number set_cursor spot_of holder_of variable_of named_at
-  quiet_alike p choice (instr.PCreate q) r quiet = absurd (cc)
-  quiet_alike p choice (instr.PClear q) r quiet = absurd (cc)
-  quiet_alike p choice (instr.PDestroy q) r quiet = absurd (cc)
-  quiet_alike p choice (instr.Label q t) r quiet = absurd (cc)
-  quiet_alike p choice (instr.Unlabel q t) r quiet = absurd (cc)
-  quiet_alike p choice (instr.BCreate o) r quiet = absurd (cc)
-  quiet_alike p choice (instr.BSave o b) r quiet = absurd (cc)
-  quiet_alike p choice (instr.Aside c q) r quiet = absurd (cc)
-  quiet_alike p choice (instr.Next d c) r quiet = ap (went GoOn) (next_alike d (spot r c) r)
-  quiet_alike p choice (instr.Unlink c) r quiet = ap (went GoOn) (unlink_alike (spot r c) r)
-  quiet_alike p choice (instr.BDelete c) r quiet = ap (went GoOn) (delete_alike (spot r c) r)
-  quiet_alike p choice (instr.Tail b c) r quiet = ap (went GoOn) (put_alike put_tail b (spot r c) r)
-  quiet_alike p choice (instr.Head b c) r quiet = ap (went GoOn) (put_alike put_head b (spot r c) r)
-  quiet_alike p choice (instr.Before c d) r quiet = ap (went GoOn) (before_alike (spot r c) (spot r d) r)
-  quiet_alike p choice (instr.PoolB c q) r quiet = ap (went GoOn) (poolb_alike c (pool_named r q) r)
-  quiet_alike p choice (instr.Split c x l) r quiet = ap (went (jumps_if (is_unsplit (value_of r x) (spot r c)))) (split_alike (value_of r x) (spot r c) r)
-  quiet_alike p choice (instr.Copy d c) r quiet = ap (went GoOn) (copy_alike d (bucket_at (spot r c)) r)
-  quiet_alike p choice (instr.Read c l) r quiet = ap (went (jumps_if (is_unread choice.given (spot r c)))) (read_alike choice.given (spot r c) r)
-  quiet_alike p choice (instr.Get n x l) r quiet = ap (went (step p choice (instr.Get n x l) r).exit) (got_alike n (byte_of (value_of r x) (content_at (spot r read_cursor))) r)
-  quiet_alike p choice (instr.Put x l) r quiet = ap (went (jumps_if (is_full r x))) (into_alike x r)
-  quiet_alike p choice i r quiet = refl
+  run_alike p choice ENothing r quiet = refl
+  run_alike p choice (EClean b) r quiet = refl
+  run_alike p choice (EConcat a b) r quiet = refl
+  run_alike p choice (ESplitBrigade b c a) r quiet = refl
+  run_alike p choice (EPartBrigade b x c) r quiet = refl
+  run_alike p choice (EPass b) r quiet = refl
+  run_alike p choice (EFirst c b) r quiet = refl
+  run_alike p choice (ENext d c) r quiet = next_alike d (spot r c) r
+  run_alike p choice (EUnlink c) r quiet = unlink_alike (spot r c) r
+  run_alike p choice (EDelete c) r quiet = delete_alike (spot r c) r
+  run_alike p choice (EInsert side b c) r quiet = put_alike (put_at side) b (spot r c) r
+  run_alike p choice (EBefore c d) r quiet = before_alike (spot r c) (spot r d) r
+  run_alike p choice (EMake c source) r quiet = ap (λ (o : Option Bucket). do_make c o (amended change r)) (made_alike p source r) ∙ make_alike c (made_of p r source) r
+  run_alike p choice (ESplit c x) r quiet = split_alike (value_of r x) (spot r c) r
+  run_alike p choice (ERead c) r quiet = read_alike choice.given (spot r c) r
+  run_alike p choice (ENumber n number) r quiet = ap (λ (o : Option ℕ). got n o (amended change r)) (number_alike n number r) ∙ got_alike n (number_of r n number) r
+  run_alike p choice (EPut x) r quiet = into_alike x r
+  run_alike p choice EClearBuffer r quiet = refl
+  run_alike p choice EReturn r quiet = refl
+  run_alike p choice e r quiet = absurd (cc)
+
+  pub quiet_alike : (p : Program) (choice : Choice) (i : Instr) (r : Configuration) → minds_pools (effect_of i) ≡ false → step p choice i (amended change r) ≡ amended_outcome change (step p choice i r)
+  quiet_alike p choice i r quiet =
+      ap (λ (e : Exit). went e (do_effect p choice (effect_of i) (amended change r))) (exit_alike choice i r) ∙ ap (went (exit_of choice i r)) (run_alike p choice (effect_of i) r quiet)

@@ -1,68 +1,50 @@
--- What each maker makes.
+-- What is made stands at the cursor, as the effect has it.
 use Rattle.std.proofs.Common.{refl, sym, ap, ◌∙◌}
 use Rattle.std.proofs.lemmas.Result.{on_ok_weaker}
 use Rattle.module_code.specs.declared.instr.Instr.{Instr}
-use Rattle.run_model.specs.Faults.{WPool}
-use Rattle.run_model.specs.Steps.{step}
+use Rattle.run_model.specs.EffectOf.{effect_of}
+use Rattle.run_model.specs.Faults.{OnBucket, WHome}
+use Rattle.run_model.specs.Steps.{do_effect}
 use Rattle.brigade_ops.specs.Store.{lists, next_name}
 use Rattle.ring_calls.specs.Outside.{with_outside}
-use Rattle.ring_calls.specs.Seen.{seen_over}
+use Rattle.ring_calls.specs.Seen.{bucket_in, calls_in, seen_over}
 use Rattle.ring_calls.proofs.Faultless.{nowhere, wanted}
+use Rattle.ring_calls.proofs.Standing.{stands}
+use Rattle.ring_run.proofs.Making.{make_runs, new_unless}
 use Rattle.ring_run.proofs.execute_on_store.make_bucket.Goals as goal
 
-pub make_in_pool-requires-clause-there : goal.make_in_pool-requires-clause-there
-make_in_pool-requires-clause-there g c = (nowhere, wanted c.args.code.now (lists c.args.store.now) (next_name c.args.store.now) (with_outside c.args.outside.now nowhere) c.args.instance.now c.args.call.now c.args.instr _ c.in-PoolB.is (c.requires.faultless nowhere) 0 (WPool c.in-PoolB.pool) refl)
+pub copy-requires-clause-stands : goal.copy-requires-clause-stands
+copy-requires-clause-stands g c = stands c.args.code.now (lists c.args.store.now) (next_name c.args.store.now) (with_outside c.args.outside.now nowhere) c.args.instance.now c.args.call.now c.args.instr _ c.in-Copy.is (c.requires.faultless nowhere) 0 c.in-Copy.c OnBucket refl
 
-pub returns-in-Heap-clause-held : goal.returns-in-Heap-clause-held
-returns-in-Heap-clause-held g c = c.heap.ensures.held c.args.instance.now c.requires.held
-
-pub returns-in-Immortal-clause-held : goal.returns-in-Immortal-clause-held
-returns-in-Immortal-clause-held g c = c.immortal.ensures.held c.args.instance.now c.requires.held
-
-pub returns-in-FromBuf-clause-ok : goal.returns-in-FromBuf-clause-ok
-unfolding seen_over
-returns-in-FromBuf-clause-ok g c =
-    on_ok_weaker c.from_buffer.result (λ made around choice.
+pub returns-in-Copy-clause-ok : goal.returns-in-Copy-clause-ok
+returns-in-Copy-clause-ok g c =
+    on_ok_weaker c.copy.result (λ out around choice.
     let over = with_outside c.args.outside.now around in
-    made over c.args.instance.now c.requires.held
-    ∙ ap (λ (i : Instr). (step c.args.code.now choice i (seen_over (lists c.args.store.now) (next_name c.args.store.now) over c.args.instance.now c.args.call.now)).state) (sym c.in-FromBuf.is))
-    c.from_buffer.ensures.ok
+    let r = seen_over (lists c.args.store.now) (next_name c.args.store.now) over c.args.instance.now c.args.call.now in
+    out over (wanted c.args.code.now (lists c.args.store.now) (next_name c.args.store.now) over c.args.instance.now c.args.call.now c.args.instr _ c.in-Copy.is (c.requires.faultless around) 1 (WHome c.in-Copy.c) refl)
+    ∙ ap (λ (i : Instr). do_effect c.args.code.now choice (effect_of i) r) (sym c.in-Copy.is))
+    c.copy.ensures.ok
 
-pub returns-in-FromBuf-clause-held : goal.returns-in-FromBuf-clause-held
-returns-in-FromBuf-clause-held g c = c.from_buffer.ensures.held c.args.instance.now c.requires.held
+pub new_bucket-requires : goal.new_bucket-requires
+new_bucket-requires g c = record {
+  fit = c.requires.fit;
+  kind = new_unless c.args.instr c.requires.kind c.in_default.not-Copy;
+  runs = c.requires.runs;
+  faultless = (lists c.args.store.now, (next_name c.args.store.now, (nowhere, c.requires.faultless nowhere)));
+}
 
-pub returns-in-Transient-clause-ok : goal.returns-in-Transient-clause-ok
-unfolding seen_over
-returns-in-Transient-clause-ok g c =
-    on_ok_weaker c.transient.result (λ made around choice.
+pub returns-clause-ok : goal.returns-clause-ok
+returns-clause-ok g c =
+    on_ok_weaker c.add_loose.result (λ done around choice.
     let over = with_outside c.args.outside.now around in
-    made over c.args.instance.now c.requires.held
-    ∙ ap (λ (i : Instr). (step c.args.code.now choice i (seen_over (lists c.args.store.now) (next_name c.args.store.now) over c.args.instance.now c.args.call.now)).state) (sym c.in-Transient.is))
-    c.transient.ensures.ok
+    let r = seen_over (lists c.args.store.now) (next_name c.args.store.now) over c.args.instance.now c.args.call.now in
+    done over c.args.instance.now c.requires.held
+    ∙ make_runs c.args.code.now choice (effect_of c.args.instr) r c.made_at.result (bucket_in (calls_in over c.args.call.now) (next_name c.args.store.now) c.in_ok-bucket.bucket) c.requires.kind c.made_at.ensures.cursor
+    (c.in_ok-bucket.ensures (lists c.args.store.now) (next_name c.args.store.now) over c.requires.held.called))
+    c.add_loose.ensures.ok
 
-pub returns-in-Transient-clause-held : goal.returns-in-Transient-clause-held
-returns-in-Transient-clause-held g c = c.transient.ensures.held c.args.instance.now c.requires.held
+pub returns-clause-held : goal.returns-clause-held
+returns-clause-held g c = c.add_loose.ensures.held c.args.instance.now c.requires.held
 
-pub returns-in-Flush-clause-held : goal.returns-in-Flush-clause-held
-returns-in-Flush-clause-held g c = c.mark.ensures.held c.args.instance.now c.requires.held
-
-pub returns-in-Eos-clause-held : goal.returns-in-Eos-clause-held
-returns-in-Eos-clause-held g c = c.mark-in-Eos.ensures.held c.args.instance.now c.requires.held
-
-pub returns-in-Heap-clause-left : goal.returns-in-Heap-clause-left
-returns-in-Heap-clause-left g c = c.heap.ensures.left c.args.instance.now
-
-pub returns-in-Immortal-clause-left : goal.returns-in-Immortal-clause-left
-returns-in-Immortal-clause-left g c = c.immortal.ensures.left c.args.instance.now
-
-pub returns-in-FromBuf-clause-left : goal.returns-in-FromBuf-clause-left
-returns-in-FromBuf-clause-left g c = c.from_buffer.ensures.left c.args.instance.now
-
-pub returns-in-Transient-clause-left : goal.returns-in-Transient-clause-left
-returns-in-Transient-clause-left g c = c.transient.ensures.left c.args.instance.now
-
-pub returns-in-Flush-clause-left : goal.returns-in-Flush-clause-left
-returns-in-Flush-clause-left g c = c.mark.ensures.left c.args.instance.now
-
-pub returns-in-Eos-clause-left : goal.returns-in-Eos-clause-left
-returns-in-Eos-clause-left g c = c.mark-in-Eos.ensures.left c.args.instance.now
+pub returns-clause-left : goal.returns-clause-left
+returns-clause-left g c = c.add_loose.ensures.left c.args.instance.now

@@ -40,9 +40,6 @@ before-requires-clause-within g c = stands c.args.code.now (lists c.args.store.n
 pub split-requires-clause-stands : goal.split-requires-clause-stands
 split-requires-clause-stands g c = stands c.args.code.now (lists c.args.store.now) (next_name c.args.store.now) (with_outside c.args.outside.now nowhere) c.args.instance.now c.args.call.now c.args.instr _ c.in-Split.is (c.requires.faultless nowhere) 0 c.in-Split.c InBrigade refl
 
-pub copy-requires-clause-stands : goal.copy-requires-clause-stands
-copy-requires-clause-stands g c = stands c.args.code.now (lists c.args.store.now) (next_name c.args.store.now) (with_outside c.args.outside.now nowhere) c.args.instance.now c.args.call.now c.args.instr _ c.in-Copy.is (c.requires.faultless nowhere) 0 c.in-Copy.c OnBucket refl
-
 pub returns-in-Split-clause-ok : goal.returns-in-Split-clause-ok
 returns-in-Split-clause-ok g c =
     on_ok_weaker c.split.result (λ out around choice.
@@ -51,11 +48,3 @@ returns-in-Split-clause-ok g c =
     out over (wanted c.args.code.now (lists c.args.store.now) (next_name c.args.store.now) over c.args.instance.now c.args.call.now c.args.instr _ c.in-Split.is (c.requires.faultless around) 1 (WHome c.in-Split.c) refl)
     ∙ (ap (λ (n : ℕ). do_split n (spot r c.in-Split.c) r) (c.from-n.ensures ∙ c.value_of.ensures (lists c.args.store.now) (next_name c.args.store.now) over c.args.call.now) ∙ ap (λ (i : Instr). (step c.args.code.now choice i r).state) (sym c.in-Split.is)))
     c.split.ensures.ok
-
-pub returns-in-Copy-clause-ok : goal.returns-in-Copy-clause-ok
-returns-in-Copy-clause-ok g c =
-    on_ok_weaker c.copy.result (λ out around choice.
-    let over = with_outside c.args.outside.now around in
-    let r = seen_over (lists c.args.store.now) (next_name c.args.store.now) over c.args.instance.now c.args.call.now in
-    out over (wanted c.args.code.now (lists c.args.store.now) (next_name c.args.store.now) over c.args.instance.now c.args.call.now c.args.instr _ c.in-Copy.is (c.requires.faultless around) 1 (WHome c.in-Copy.c) refl) ∙ ap (λ (i : Instr). (step c.args.code.now choice i r).state) (sym c.in-Copy.is))
-    c.copy.ensures.ok

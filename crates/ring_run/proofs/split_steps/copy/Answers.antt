@@ -1,7 +1,7 @@
 -- The bucket of the cursor is copied, whose home has not ended.
 use Rattle.std.proofs.Common.{◌≤◌, Option, sym, ap, ◌∙◌, arith}
 use Rattle.std.proofs.lemmas.Result.{on_ok_weaker}
-use Rattle.run_model.specs.BucketSteps.{copy_of, new_loose}
+use Rattle.run_model.specs.BucketSteps.{copied_bucket, do_make, new_loose}
 use Rattle.run_model.specs.Faults.{home_fault}
 use Rattle.run_model.specs.declared.bucket.Bucket.{Bucket}
 use Rattle.run_model.specs.declared.bucket.NamedBucket.{NamedBucket}
@@ -30,7 +30,7 @@ returns-clause-ok g c =
     let young : birth ≤ next_name c.args.store.now = let y = (kept c.args.store.now).young c.bucket-id.result (bucket_live c.args.store.now c.args.instance.now c.args.call.now c.args.c c.requires.held c.requires.stands c.bucket-id.result c.bucket-id.ensures) in omega (arith, y) in
     out around c.args.instance.now s.bucket c.requires.held s.here
     ∙ (ap (λ (y : Bucket). new_loose c.args.d y r) (bucket_later runs birth (next_name c.args.store.now) s.bucket (not_dead (named_item (item_in runs (c.bucket-id.result, s.bucket))) (sym (ap home_fault (s.at around)) ∙ alive)) young)
-    ∙ ap (λ (o : Option NamedBucket). copy_of c.args.d o r) (sym (s.at around))))
+    ∙ ap (λ (o : Option NamedBucket). do_make c.args.d (copied_bucket o) r) (sym (s.at around))))
     c.add_copy.ensures.ok
 
 pub returns-clause-held : goal.returns-clause-held

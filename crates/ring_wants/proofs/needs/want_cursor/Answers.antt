@@ -2,7 +2,8 @@
 use Rattle.std.proofs.Common.{ap, ◌∙◌}
 use Rattle.brigade_ops.specs.Store.{lists, next_name}
 use Rattle.run_model.specs.Cursors.{spot}
-use Rattle.ring_calls.specs.Needs.{need_of, place_fault}
+use Rattle.run_model.specs.Wants.{need_of}
+use Rattle.ring_calls.specs.Needs.{place_fault}
 use Rattle.ring_calls.specs.Places.{by_birth}
 use Rattle.ring_calls.specs.Seen.{seen_over}
 use Rattle.ring_wants.proofs.OnlyAsked.{asked_again, seen_same}
