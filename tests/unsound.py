@@ -1,13 +1,13 @@
 #!/usr/bin/env python3
 """Makes each rule of the checker unsound, and asks the prover for the law of that instruction, which it must refuse.
 
-    python3 tests/unsound.py                    # all 46, in four groups: some three minutes
+    python3 tests/unsound.py                    # all 46, the most in four groups: some minutes
     python3 tests/unsound.py pass ret           # the rules of these instructions, each alone
 
 The rules are definitions in crates/life_state/specs; their laws are proved in crates/life_check/proofs. Each change is made in a copy
 of these crates, in which life_state is read as source and none of its functions is proved: the rule alone is wrong, not the code.
 In a group several rules are wrong at once. None of them is part of another instruction's rule, so the laws of these instructions
-must be refused, and all others proved. Two rules that others share (ALONE) are tried by themselves.
+must be refused, and all others proved. The rules that others share, and those of one law (ALONE), are tried by themselves.
 module_code, run_model and model_laws must be built (rt check in crates/life_check builds them). Each line that is printed is a row of the table in
 the README of life_check.
 """
@@ -22,6 +22,7 @@ TOP = os.path.dirname(os.path.dirname(os.path.abspath(__file__)))
 RULES = 'Rules.antt'
 FACT = 'record s { facts = λ c d. true }'
 FORGETS = 'record s { sent = false }'
+NUMBER = 'after p (effect.Number n number) s = s'
 
 # The instruction, what is wrong in plain words, the old text of the rule and the new one.
 WRONG = [
@@ -32,9 +33,9 @@ WRONG = [
     ('pdestroy', 'the pool itself stays live',
      'set_pool q (ended_pool (s.pools q)) (after_pclear p q s)', 'after_pclear p q s'),
     ('label', 'that an EOS was passed is forgotten',
-     '(instr.Label q t) s = goes_on_with s', '(instr.Label q t) s = goes_on_with (%s)' % FORGETS),
+     'after p (effect.Register q t) s = s', 'after p (effect.Register q t) s = %s' % FORGETS),
     ('unlabel', 'all cursors are said to differ',
-     '(instr.Unlabel q t) s = goes_on_with s', '(instr.Unlabel q t) s = goes_on_with (%s)' % FACT),
+     'after p (effect.Kill q t) s = s', 'after p (effect.Kill q t) s = %s' % FACT),
     ('bcreate', 'the new brigade is said to be null',
      'after_bcreate b s = set_brigade b (holds Empty no_homes) s', 'after_bcreate b s = set_brigade b never_made s'),
     ('bclean', 'cursors at destroyed buckets are kept',
@@ -44,7 +45,8 @@ WRONG = [
     ('bsplit', 'the homes of the buckets that are cut off are lost',
      'holds Empty no_homes else holds v.content v.homes', 'holds Empty no_homes else holds v.content no_homes'),
     ('bpart', 'the cursor is said to differ from all others',
-     'record { next = Some (after_first c b s); jump', 'record { next = Some (set_cursor c (bucket_or_end b (s.brigades b).content) all_others s); jump'),
+     'after p (effect.PartBrigade b x c) s = after_first c b s',
+     'after p (effect.PartBrigade b x c) s = set_cursor c (bucket_or_end b (s.brigades b).content) all_others s'),
     ('bsave', 'that buckets live in the pool of the target is lost',
      'after_join o b (both_homes (s.brigades o).homes (home_in (pool_of_brigade p o))) s', 'after_join o b (s.brigades o).homes s'),
     ('jempty', 'a brigade with buckets is said to be empty',
@@ -71,56 +73,75 @@ WRONG = [
     ('before', 'an EOS before data is not noted',
      'before_eos b = if content_le b Flushes then NoLateData else Any', 'before_eos b = NoLateData'),
     ('heap', 'the new bucket is said to be a FLUSH',
-     '(instr.Heap c t) s = goes_on_with (made c only_bytes no_homes s)', '(instr.Heap c t) s = goes_on_with (made c only_flush no_homes s)'),
+     'after_make c (HeapText t) s = made c only_bytes no_homes s', 'after_make c (HeapText t) s = made c only_flush no_homes s'),
     ('immortal', 'the cursor is said to be where it was',
-     '(instr.Immortal c t) s = goes_on_with (made c only_bytes no_homes s)', '(instr.Immortal c t) s = goes_on_with s'),
+     'after_make c (ImmortalText t) s = made c only_bytes no_homes s', 'after_make c (ImmortalText t) s = s'),
     ('frombuf', 'the new bucket is said to be an EOS',
-     '(instr.FromBuf c) s = goes_on_with (made c only_bytes no_homes s)', '(instr.FromBuf c) s = goes_on_with (made c only_eos no_homes s)'),
+     'after_make c HeapBuffer s = made c only_bytes no_homes s', 'after_make c HeapBuffer s = made c only_eos no_homes s'),
     ('transient', 'that the bucket lives through this call alone is lost',
-     '(instr.Transient c) s = goes_on_with (made c only_bytes only_call s)', '(instr.Transient c) s = goes_on_with (made c only_bytes no_homes s)'),
+     'after_make c TransientBuffer s = made c only_bytes only_call s', 'after_make c TransientBuffer s = made c only_bytes no_homes s'),
     ('poolb', 'the new bucket is said to be a FLUSH',
-     '(instr.PoolB c q) s = goes_on_with (made c only_bytes no_homes s)', '(instr.PoolB c q) s = goes_on_with (made c only_flush no_homes s)'),
+     'after_make c (PoolBuffer q) s = made c only_bytes no_homes s', 'after_make c (PoolBuffer q) s = made c only_flush no_homes s'),
     ('flush', 'the new bucket is said to have bytes',
-     '(instr.Flush c) s = goes_on_with (made c only_flush no_homes s)', '(instr.Flush c) s = goes_on_with (made c only_bytes no_homes s)'),
+     'after_make c FlushBucket s = made c only_flush no_homes s', 'after_make c FlushBucket s = made c only_bytes no_homes s'),
     ('eos', 'the new bucket is said to be a FLUSH',
-     '(instr.Eos c) s = goes_on_with (made c only_eos no_homes s)', '(instr.Eos c) s = goes_on_with (made c only_flush no_homes s)'),
+     'after_make c EosBucket s = made c only_eos no_homes s', 'after_make c EosBucket s = made c only_flush no_homes s'),
     ('split', 'that a split may be refused is lost',
-     '(instr.Split c x l) s = both_with s', '(instr.Split c x l) s = goes_on_with s'),
+     'on_condition (condition.NoSplit c x) s t = both_with t', 'on_condition (condition.NoSplit c x) s t = goes_on_with t'),
     ('copy', 'the homes of the copy are lost',
      'after_copy d c s = made d (classes_of (s.cursors c)) (homes_at s (s.cursors c)) s', 'after_copy d c s = made d (classes_of (s.cursors c)) no_homes s'),
     ('aside', 'that the bucket lives in the pool is lost',
      'after_aside c p (Loose t h) s = move_bucket c (Loose t (home_in p)) s', 'after_aside c p (Loose t h) s = move_bucket c (Loose t no_homes) s'),
     ('read', 'the read cursor is said to differ from all others',
-     'Some (set_cursor 8 (s.cursors c) (known s c) s); jump', 'Some (set_cursor 8 (s.cursors c) all_others s); jump'),
+     'after_read c s = set_cursor 8 (s.cursors c) (known s c) s', 'after_read c s = set_cursor 8 (s.cursors c) all_others s'),
     ('len', 'all cursors are said to differ',
-     '(instr.Len n c) s = goes_on_with s', '(instr.Len n c) s = goes_on_with (%s)' % FACT),
+     NUMBER, 'after p (effect.Number n number) s = %s' % FACT),
     ('get', 'that there may be no byte is lost',
-     '(instr.Get n x l) s = both_with s', '(instr.Get n x l) s = goes_on_with s'),
+     'on_condition (condition.NoByte x) s t = both_with t', 'on_condition (condition.NoByte x) s t = goes_on_with t'),
     ('put', 'that the buffer may be full is lost',
-     '(instr.Put x l) s = both_with s', '(instr.Put x l) s = goes_on_with s'),
+     'on_condition (condition.NoRoom x) s t = both_with t', 'on_condition (condition.NoRoom x) s t = goes_on_with t'),
     ('clearbuf', 'that an EOS was passed is forgotten',
-     'instr.ClearBuf s = goes_on_with s', 'instr.ClearBuf s = goes_on_with (%s)' % FORGETS),
-    ('set', 'all cursors are said to differ',
-     '(instr.Set n x) s = goes_on_with s', '(instr.Set n x) s = goes_on_with (%s)' % FACT),
+     'after p effect.ClearBuffer s = s', 'after p effect.ClearBuffer s = %s' % FORGETS),
+    ('set', 'the first pool is said to be null',
+     NUMBER, 'after p (effect.Number n number) s = set_pool 0 only_null s'),
     ('add', 'that an EOS was passed is forgotten',
-     '(instr.Add n x) s = goes_on_with s', '(instr.Add n x) s = goes_on_with (%s)' % FORGETS),
-    ('sub', 'the next instruction is said not to be reached',
-     '(instr.Sub n x) s = goes_on_with s', '(instr.Sub n x) s = record { next = None; jump = Some s }'),
+     NUMBER, 'after p (effect.Number n number) s = %s' % FORGETS),
+    ('sub', 'the first brigade is said to be null',
+     NUMBER, 'after p (effect.Number n number) s = set_brigade 0 never_made s'),
     ('jlt', 'the jump is lost',
-     '(instr.JLt n x l) s = both_with s', '(instr.JLt n x l) s = goes_on_with s'),
+     'on_condition (condition.Less n x) s t = both_with t', 'on_condition (condition.Less n x) s t = goes_on_with t'),
     ('jeq', 'the next instruction is said not to be reached',
-     '(instr.JEq n x l) s = both_with s', '(instr.JEq n x l) s = record { next = None; jump = Some s }'),
+     'on_condition (condition.Equal n x) s t = both_with t', 'on_condition (condition.Equal n x) s t = record { next = None; jump = Some t }'),
     ('jnull', 'a pool that is gone is said to be null',
      'some_if ((s.pools q).gone || (s.pools q).live)', 'some_if (s.pools q).live'),
     ('jsent', 'where an EOS was passed, that is forgotten',
      'jump = some_if s.sent s', 'jump = some_if s.sent (%s)' % FORGETS),
     ('jump', 'that an EOS was passed is forgotten',
-     '(instr.Jump l) s = record { next = None; jump = Some s }', '(instr.Jump l) s = record { next = None; jump = Some (%s) }' % FORGETS),
+     'led JumpAlways s t = record { next = None; jump = Some t }', 'led JumpAlways s t = record { next = None; jump = Some (record t { sent = false }) }'),
     ('ret', 'a usable brigade may keep a bucket of the call: the need is dropped',
      'need s WReturn = if any_below 8 (λ b. keeps_call (s.brigades b)) then Some F6 else None', 'need s WReturn = None'),
 ]
-# Rules that are wrong in a part that other instructions share: theirs may be refused too.
-ALONE = ('pclear', 'first')
+# The instructions that one law serves (law_unasked), with their operands.
+UNASKED = {
+    'heap': ('(c t : ℕ)', '(instr.Heap c t)'),
+    'immortal': ('(c t : ℕ)', '(instr.Immortal c t)'),
+    'frombuf': ('(c : ℕ)', '(instr.FromBuf c)'),
+    'transient': ('(c : ℕ)', '(instr.Transient c)'),
+    'flush': ('(c : ℕ)', '(instr.Flush c)'),
+    'eos': ('(c : ℕ)', '(instr.Eos c)'),
+    'len': ('(n c : ℕ)', '(instr.Len n c)'),
+    'get': ('(n : ℕ) (x : Value) (l : ℕ)', '(instr.Get n x l)'),
+    'put': ('(x : Value) (l : ℕ)', '(instr.Put x l)'),
+    'clearbuf': ('', 'instr.ClearBuf'),
+    'set': ('(n : ℕ) (x : Value)', '(instr.Set n x)'),
+    'add': ('(n : ℕ) (x : Value)', '(instr.Add n x)'),
+    'sub': ('(n : ℕ) (x : Value)', '(instr.Sub n x)'),
+    'jlt': ('(n : ℕ) (x : Value) (l : ℕ)', '(instr.JLt n x l)'),
+    'jeq': ('(n : ℕ) (x : Value) (l : ℕ)', '(instr.JEq n x l)'),
+    'jump': ('(l : ℕ)', '(instr.Jump l)'),
+}
+# Rules that are wrong in a part that other instructions share, and those of one law: others may be refused too.
+ALONE = ('pclear', 'first') + tuple(UNASKED)
 GROUPS = 4
 LAW = re.compile(r'^ *pub (law_(\w+)) : (?:\{lives : Home → Type 0\} )?(?:(\(.*?) )?→ LawOf lives (\(instr\.[^)]*\)|instr\.\w+)$', re.M)
 DECLARED = re.compile(r'^ *(?:pub )?([a-z]\w*) : ')
@@ -145,14 +166,19 @@ def write(path, text):
 class Law:
     """The law of an instruction: the file of its proof, the operands, and the instruction with them."""
 
-    def __init__(self, file, source, found):
-        self.file, self.name, self.word = file, found[1], found[2]
-        self.operands, self.instruction = found[3] or '', found[4]
+    def __init__(self, file, source, word, operands, instruction, proof=''):
+        self.file, self.word, self.name = file, word, 'law_' + word
+        self.operands, self.instruction = operands, instruction
+        self.proof = proof or self.name
         self.types = set(re.findall(r'\b[A-Z]\w*', self.operands))
         self.imports = [re.search(r'^use \S+\.\{[^}]*\b%s\b[^}]*\}' % name, source, re.M)[0] for name in sorted(self.types)]
 
     def names(self):
         return ' '.join(re.findall(r'\(([^:]*) :', self.operands))
+
+    def given(self):
+        """What its proof is given: the operands, or the instruction and that none of its needs is used."""
+        return self.names() if self.proof == self.name else self.instruction + ' tt tt'
 
     def statement(self):
         """As a definition."""
@@ -163,10 +189,10 @@ class Law:
     def answer(self):
         """The proof file of the function that has the law for its contract."""
         names = ('lives ' + self.names()).strip()
-        return ('use Rattle.life_check.specs.Soundness.{LivesByTest}\nuse Rattle.life_check.proofs.%s.{%s}\n'
+        return ('use Rattle.module_code.specs.declared.instr.Instr.TheVariants as instr\nuse Rattle.life_check.specs.Soundness.{LivesByTest}\nuse Rattle.life_check.proofs.%s.{%s}\n'
                 'use Rattle.life_check.proofs.laws.%s.Goals as goal\n\npub returns : goal.returns\n'
                 'returns c = λ %s. %s {lives = LivesByTest lives} %s\n') % (
-            self.file, self.name, self.name, names, self.name, self.names())
+            self.file, self.proof, self.name, names, self.proof, self.given())
 
 
 def laws(proofs):
@@ -176,7 +202,9 @@ def laws(proofs):
         if name.endswith('.antt'):
             source = text_of(os.path.join(proofs, name))
             for law in LAW.finditer(source):
-                found[law[2]] = Law(name[:-len('.antt')], source, law)
+                found[law[2]] = Law(name[:-len('.antt')], source, law[2], law[3] or '', law[4])
+            if name == 'Unasked.antt':
+                found.update((word, Law('Unasked', source, word, *row, 'law_unasked')) for word, row in UNASKED.items())
     return found
 
 
@@ -261,10 +289,10 @@ class Copy:
 
     def tell(self, law, told):
         """Where a law is refused, in words. told: what a check of it printed, and maybe of others."""
-        reached = self.proofs.reached_from((law.file, law.name))
+        reached = self.proofs.reached_from((law.file, law.proof))
         refused = dict.fromkeys((path[len('proofs/'):-len('.antt')], name) for path, name in ERROR.findall(told))
         places = [place for place in refused if place in reached]
-        nearest = [place for place in places if place == (law.file, law.name)] or [place for place in places if place[0] == law.file] or places
+        nearest = [place for place in places if place == (law.file, law.proof)] or [place for place in places if place[0] == law.file] or places
         names = ['`%s`%s' % (name, '' if file == law.file else ' of `%s`' % file) for file, name in nearest]
         return '`%s`: %s' % (law.file, ', '.join(names or ['?']))
 

@@ -12,7 +12,10 @@ use Rattle.run_model.specs.declared.payload.Payload.{Payload}
 use Rattle.run_model.specs.Payloads.{is_brigade, is_file_ref}
 use Rattle.run_model.specs.Pools.{Pools, is_live, is_under}
 use Rattle.run_model.specs.RunOrder.{IsPoolMap, run_order}
-use Rattle.run_model.proofs.References.{Emptied}
+use Rattle.run_model.proofs.References.{Emptied, cleared_emptied, destroyed_emptied}
+use Rattle.pool_tree.specs.declared.tree.clear.ClearKind.{ClearKind}
+use Rattle.pool_tree.specs.declared.tree.clear.ClearKind.TheVariants.{Clear, Destroy}
+use Rattle.pool_tree.specs.Clears.{emptied}
 use Rattle.stored_rings.specs.declared.morph.Morph.{Morph}
 use Rattle.brigade_ops.specs.Files.{refs_in, is_let_go}
 use Rattle.brigade_ops.specs.House.{all_refs, AreHoused, AreOpen, cleared_items, cleared_ring, pool_left}
@@ -58,6 +61,11 @@ left_there reached named p (Some q) (Some xs) there kept = by_test (reached q) k
   by_test : (b : Bool) → cond b None (Some q) ≡ Some p → is_some (cond b None (Some (cleared_items reached named xs))) ≡ true
   by_test true e = absurd (cc)
   by_test false e = refl
+
+-- what stood under a pool goes, whether it is cleared or destroyed
+pub pool_emptied : (kind : ClearKind) (n : ℕ) (ps : Pools Payload) → Emptied n ps (emptied kind n ps)
+pool_emptied Clear n ps = cleared_emptied n ps
+pool_emptied Destroy n ps = destroyed_emptied n ps
 
 -- A pool was cleared or destroyed: what stood under it went, and `handed` is what that handed on.
 module _ (pool : ℕ) (ps new : Pools Payload) (formed : IsPoolMap ps) (live : is_live ps pool ≡ true) (gone : Emptied pool ps new)

@@ -6,8 +6,10 @@ ghost use Rattle.std.specs.Option.{option_map};
 ghost use Rattle.run_model.specs.Buckets.{to_heap, end_pools};
 ghost use Rattle.run_model.specs.Files.{is_referred};
 ghost use Rattle.run_model.specs.Payloads.{is_brigade, is_file_ref};
-ghost use Rattle.run_model.specs.Pools.{is_live, is_under, is_in, cleared, destroyed};
+ghost use Rattle.run_model.specs.Pools.{is_live, is_under, is_in};
 ghost use Rattle.run_model.specs.RunOrder.{run_order, IsPoolMap};
+ghost use Rattle.pool_tree.specs.declared.tree.clear.ClearKind.TheVariants.{Destroy};
+ghost use Rattle.pool_tree.specs.Clears.{emptied};
 ghost use Rattle.pool_tree.specs.Tree.{map_of};
 ghost use Rattle.bucket_kinds.specs.Device.{Missing, is_there};
 ghost use Rattle.bucket_ring.specs.Kept.{NoneRevived};
@@ -23,7 +25,7 @@ use crate::saving::push_some;
 use crate::store::{BrigadeId, Brigades};
 use bucket_kinds::{Files, Stored};
 use bucket_ring::{BucketId, Rings};
-use pool_tree::{PoolId, PoolTree};
+use pool_tree::{ClearKind, PoolId, PoolTree};
 use run_model::{Bucket, Home, Kind, Payload, Seq};
 use std::alloc::AllocError;
 use stored_rings::Morph;
@@ -166,19 +168,22 @@ impl<R: Rings<Stored> + Drop> Brigades<R> {
 
     /// Clears a pool (`apr_pool_clear`): all pools under it go, and its own payloads. With them go the brigades that are on them, and the
     /// references, the last of which closes its file. In the brigades that are named, POOL bytes that lie under the pool go to the heap, and
-    /// homes under it end; no other brigade is looked at. Answers what was handed on, in the run order. Without memory nothing is changed.
+    /// homes under it end; no other brigade is looked at. Or destroys a pool other than the root (`apr_pool_destroy`): then it goes too.
+    /// Answers what was handed on, in the run order. Without memory nothing is changed.
     pub fn clear<F: Files>(
         &mut self,
+        kind: ClearKind,
         rings: &[BrigadeId],
         tree: &mut PoolTree<Payload>,
         files: &mut F,
         pool: PoolId,
     ) -> Result<Vec<(PoolId, Payload)>, AllocError>
         requires live { IsTrue (is_live (map_of tree.old) pool) }
+        requires below { kind ≡ Destroy → (map_of tree.old).path pool ≢ pool ∷ [] }
         requires house { IsHouse self.old (map_of tree.old) }
         requires open { AreOpen (references self.old) (F.device files.old) }
         ensures ran { IfOk result (λ ran. ran.items ≡ run_order (map_of tree.old) pool) }
-        ensures ok { OnOk result (map_of tree.new ≡ cleared pool (map_of tree.old)) }
+        ensures ok { OnOk result (map_of tree.new ≡ emptied kind pool (map_of tree.old)) }
         ensures out { OnOk result ((n : ℕ) → lists self.new n ≡ cleared_ring (is_under (map_of tree.old) pool) (is_in n rings.now) (pool_of self.old n) (lists self.old n)) }
         ensures off { OnOk result ((n : ℕ) → pool_of self.new n ≡ pool_left (is_under (map_of tree.old) pool) (pool_of self.old n)) }
         ensures closed { OnOk result ((f : ℕ) → (F.device files.new).numbered f
@@ -199,46 +204,7 @@ impl<R: Rings<Stored> + Drop> Brigades<R> {
         ensures tree_unasked { tree.new.asked ≡ tree.old.asked }
     {
         let morphs = self.plan_morphs(rings, pool, tree)?;
-        let ran = tree.clear(pool)?;
-        self.run_down(files, morphs, ran.as_slice());
-        Ok(ran)
-    }
-
-    /// Destroys a pool other than the root (`apr_pool_destroy`): as `clear`, and the pool itself goes too.
-    pub fn destroy<F: Files>(
-        &mut self,
-        rings: &[BrigadeId],
-        tree: &mut PoolTree<Payload>,
-        files: &mut F,
-        pool: PoolId,
-    ) -> Result<Vec<(PoolId, Payload)>, AllocError>
-        requires live { IsTrue (is_live (map_of tree.old) pool) }
-        requires below { (map_of tree.old).path pool ≢ pool ∷ [] }
-        requires house { IsHouse self.old (map_of tree.old) }
-        requires open { AreOpen (references self.old) (F.device files.old) }
-        ensures ran { IfOk result (λ ran. ran.items ≡ run_order (map_of tree.old) pool) }
-        ensures ok { OnOk result (map_of tree.new ≡ destroyed pool (map_of tree.old)) }
-        ensures out { OnOk result ((n : ℕ) → lists self.new n ≡ cleared_ring (is_under (map_of tree.old) pool) (is_in n rings.now) (pool_of self.old n) (lists self.old n)) }
-        ensures off { OnOk result ((n : ℕ) → pool_of self.new n ≡ pool_left (is_under (map_of tree.old) pool) (pool_of self.old n)) }
-        ensures closed { OnOk result ((f : ℕ) → (F.device files.new).numbered f
-            ≡ (if list_any (λ x. is_file_ref f x.1) (run_order (map_of tree.old) pool) && not (is_referred (map_of tree.new) f) then Missing else (F.device files.old).numbered f)) }
-        ensures freed { OnOk result ((p : ℕ) → is_under (map_of tree.old) pool p ≡ true → IsFreed self.new p) }
-        ensures house { IsHouse self.new (map_of tree.new) }
-        ensures open { AreOpen (references self.new) (F.device files.new) }
-        ensures others { SameButOpen (F.device files.old) (F.device files.new) }
-        ensures next { next_name self.new ≡ next_name self.old }
-        ensures names { NoneRevived (brigade_of self.old) (brigade_of self.new) (next_name self.old) }
-        ensures formed { IsPoolMap (map_of tree.new) }
-        ensures err { OnErr result ((n : ℕ) → lists self.new n ≡ lists self.old n) }
-        ensures pools { OnErr result (pool_of self.new ≡ pool_of self.old) }
-        ensures uncounted { OnErr result (references self.new ≡ references self.old) }
-        ensures kept { OnErr result (map_of tree.new ≡ map_of tree.old) }
-        ensures unread { OnErr result (F.device files.new ≡ F.device files.old) }
-        ensures unasked { self.new.asked ≡ self.old.asked }
-        ensures tree_unasked { tree.new.asked ≡ tree.old.asked }
-    {
-        let morphs = self.plan_morphs(rings, pool, tree)?;
-        let ran = tree.destroy(pool)?;
+        let ran = tree.empty(kind, pool)?;
         self.run_down(files, morphs, ran.as_slice());
         Ok(ran)
     }

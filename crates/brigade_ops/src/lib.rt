@@ -19,7 +19,7 @@ mod walking;
 pub use bucket_kinds::{FileNo, Files, Stored};
 pub use bucket_ring::{BucketId, PlainRings, RawRings, RingRefusal, Rings};
 pub use morphs::Morphs;
-pub use pool_tree::{PoolId, PoolTree};
+pub use pool_tree::{ClearKind, PoolId, PoolTree};
 pub use run_model::{Bucket, Content, Home, Kind, Payload, Seq};
 pub use store::{BrigadeId, Brigades};
 pub use stored_rings::{

@@ -14,10 +14,10 @@ use Rattle.bucket_ring.specs.Kept.{IsKept}
 use Rattle.bucket_ring.specs.Laws.{same_name}
 use Rattle.bucket_ring.specs.Spots.{placed}
 use Rattle.bucket_ring.specs.Walks.{id_of, turned}
-use Rattle.bucket_ring.specs.Links.{sentinel_ring, bucket_ring, named_in, IsSpot, target, behind_of, before_of, mark_of, at_of, bucket_of, head_of, ring_at, lists_of, AreLinked, IsLooseSlot, KeepsLinks, KeepsBuckets, KeepsRoom, Changed}
+use Rattle.bucket_ring.specs.Links.{sentinel_ring, bucket_ring, named_in, IsSpot, target, behind_of, before_of, mark_of, at_of, bucket_of, head_of, ring_at, lists_of, AreLinked, IsLooseSlot, Relinked, Refilled, Changed}
 use Rattle.bucket_ring.proofs.Counted.{upd_on, upd_off}
 use Rattle.bucket_ring.proofs.Shown.{some_is}
-use Rattle.bucket_ring.proofs.Kept.{upd_as, turned_same, room_twice, there_at, lists_there, length_of, heads_same, nodes_same}
+use Rattle.bucket_ring.proofs.Kept.{upd_as, there_at, lists_there, length_of, changed}
 use Rattle.bucket_ring.proofs.Read.{place_of, spot_there}
 use Rattle.bucket_ring.proofs.Linked.{some_count}
 use Rattle.bucket_ring.proofs.Changes.{pair_is, on_some, shifted, links_counted}
@@ -25,14 +25,7 @@ use Rattle.bucket_ring.proofs.Short.{short_with}
 use Rattle.bucket_ring.proofs.Rewritten.{link_kept, read_new, read_off, there_kept}
 use Rattle.bucket_ring.proofs.Taken.{taken_linked, taken_lists, taken_places, taken_loose, taken_payload, put_linked, put_lists, put_places}
 
--- a value that comes back to where it was
-upd_back : {X : Type 0} (f f2 : ℕ → X) (k : ℕ) (x y : X) → f k ≡ x → ((i : ℕ) → f2 i ≡ upd f k y i) → (j : ℕ) → f j ≡ upd f2 k x j
-upd_back f f2 k x y was e j =
-    elim (cases_eq j k) [
-      | inl here ↦ rw here (was ∙ sym (upd_on f2 k x))
-      | inr ne ↦ sym (upd_off f2 k x j ne ∙ e j ∙ upd_off f k y j ne)
-    ]
-
+-- a value that is put back
 upd_over : {X : Type 0} (f f2 : ℕ → X) (k : ℕ) (x y : X) → ((i : ℕ) → f2 i ≡ upd f k y i) → (j : ℕ) → upd f k x j ≡ upd f2 k x j
 upd_over f f2 k x y e j =
     elim (cases_eq j k) [
@@ -70,47 +63,26 @@ module _ {T N : Type 0} {g : Ghosts N T} where
   abbrev pub without_bucket : Links T N g → ℕ → Node T → Links T (ℕ → Option (Node T)) as_read
   without_bucket s k v = record { nodes = upd (λ j. g.node s.nodes j) k (Some (record v { ring = 0; load = Sentinel })); mark = s.mark; heads = s.heads; slots = λ k. refl }
 
-  -- slot k is turned to come before slot a, and ring r has another count
-  pub record IsTurned (old new : Links T N g) (k a r : ℕ) (head : RingHead) : Type 0 where
-    pub behind : (j : ℕ) → behind_of new j ≡ turned (behind_of old) (before_of old) a k j
-    pub before : (j : ℕ) → before_of new j ≡ turned (before_of old) (behind_of old) k a j
-    pub buckets : KeepsBuckets old new
-    pub heads : (n : ℕ) → head_of new n ≡ upd (head_of old) r (Some head) n
-    pub room : KeepsRoom old new
+  -- a bucket's slot has left its circle, and the ring has a bucket less
+  pub record IsGone (s s2 : Links T N g) (from : ℕ) (id : BucketId) (h : RingHead) : Type 0 where
+    pub linked : AreLinked s
+    pub in_from : ring_at s id ≡ Some from
+    pub head : head_of s from ≡ Some h
+    pub links : Relinked s s2 (turned (behind_of s) (before_of s) id.slot id.slot) (turned (before_of s) (behind_of s) id.slot id.slot)
+    pub heads : (n : ℕ) → head_of s2 n ≡ upd (head_of s) from (Some (record { sentinel = h.sentinel; count = h.count - 1 })) n
 
-  pub is_turned : (s s1 s2 : Links T N g) (k a r m : ℕ) (h : RingHead) → ((j : ℕ) → behind_of s1 j ≡ turned (behind_of s) (before_of s) a k j) → ((j : ℕ) → before_of s1 j ≡ turned (before_of s) (behind_of s) k a j)
-      → KeepsBuckets s s1 → KeepsRoom s s1 → s1.heads ≡ s.heads
-      → ((n : ℕ) → head_of s2 n ≡ upd (head_of s1) r (Some (record { sentinel = h.sentinel; count = m })) n) → s2.nodes ≡ s1.nodes → IsTurned s s2 k a r (record { sentinel = h.sentinel; count = m })
-  is_turned s s1 s2 k a r m h behind before buckets room heads resized nodes =
-      let last = nodes_same s1 s2 nodes in
-      record {
-        behind = λ j. last.0.behind j ∙ behind j;
-        before = λ j. last.0.before j ∙ before j;
-        buckets = record { mark = λ j. last.1.mark j ∙ buckets.mark j; at = λ j. last.1.at j ∙ buckets.at j; bucket = λ j. last.1.bucket j ∙ buckets.bucket j };
-        heads = λ n. resized n ∙ upd_as r (Some (record { sentinel = h.sentinel; count = m })) n (head_of s1) (head_of s) (heads_same s s1 heads);
-        room = room_twice s s1 s2 room last.2;
-      }
-
-  -- a slot has come to another place, over whatever heads
-  pub record IsWoven (old new : Links T N g) (k a : ℕ) : Type 0 where
-    pub behind : (j : ℕ) → behind_of new j ≡ turned (behind_of old) (before_of old) a k j
-    pub before : (j : ℕ) → before_of new j ≡ turned (before_of old) (behind_of old) k a j
-    pub buckets : KeepsBuckets old new
-    pub room : KeepsRoom old new
-
-  -- the bucket's slot has left its circle
-  module _ (s s2 : Links T N g) (from : ℕ) (id : BucketId) (h : RingHead) (linked : AreLinked s) (in_from : ring_at s id ≡ Some from) (head : head_of s from ≡ Some h) (left : IsTurned s s2 id.slot id.slot from (record { sentinel = h.sentinel; count = h.count - 1 })) where
+  module _ (s s2 : Links T N g) (from : ℕ) (id : BucketId) (h : RingHead) (gone : IsGone s s2 from id h) where
     place : (b : BucketId × T) × (bucket_of s id.slot ≡ Some b) × (same b.0 id ≡ true) × (at_of s id.slot ≡ Some from)
-    place = place_of s linked id from in_from
+    place = place_of s gone.linked id from gone.in_from
 
     had : bucket_of s id.slot ≡ Some (id_of id.slot id.birth, place.0.1)
     had = place.1 ∙ ap Some (pair_is place.0 id place.0.1 (same_name place.0.0 id place.2) refl)
 
     pub still_there : is_some (g.node s2.nodes id.slot) ≡ true
-    still_there = left.room.there id.slot ∙ there_at s id.slot from place.3
+    still_there = gone.links.room.there id.slot ∙ there_at s id.slot from place.3
 
     pub still_full : is_some (bucket_of s2 id.slot) ≡ true
-    still_full = ap is_some (left.buckets.bucket id.slot ∙ place.1)
+    still_full = ap is_some (gone.links.buckets.bucket id.slot ∙ place.1)
 
     held : (v : Node T) × (g.node s2.nodes id.slot ≡ Some v)
     held = some_is (g.node s2.nodes id.slot) still_there
@@ -148,37 +120,37 @@ module _ {T N : Type 0} {g : Ghosts N T} where
     change : Changed (read_of s) mid id.slot id.slot from None None (record { sentinel = h.sentinel; count = h.count - 1 })
     unfolding behind_of before_of mark_of at_of bucket_of head_of
     change = record {
-      behind = λ j. mid_behind j ∙ left.behind j;
-      before = λ j. mid_before j ∙ left.before j;
-      bucket_new = λ j. mid_bucket j ∙ upd_as id.slot None j (bucket_of s2) (bucket_of s) left.buckets.bucket;
-      at = λ j. mid_at j ∙ upd_as id.slot None j (at_of s2) (at_of s) left.buckets.at;
-      mark = λ j ne. mid_mark j ne ∙ left.buckets.mark j;
-      heads = left.heads;
-      room = record { there = λ j. mid_there j ∙ left.room.there j; room = λ n e. e };
+      behind = λ j. mid_behind j ∙ gone.links.behind j;
+      before = λ j. mid_before j ∙ gone.links.before j;
+      bucket_new = λ j. mid_bucket j ∙ upd_as id.slot None j (bucket_of s2) (bucket_of s) gone.links.buckets.bucket;
+      at = λ j. mid_at j ∙ upd_as id.slot None j (at_of s2) (at_of s) gone.links.buckets.at;
+      mark = λ j ne. mid_mark j ne ∙ gone.links.buckets.mark j;
+      heads = gone.heads;
+      room = record { there = λ j. mid_there j ∙ gone.links.room.there j; room = λ n e. e };
     }
 
     less : h.count - 1 + 1 ≡ h.count
-    less = let some : 1 ≤ h.count = some_count (behind_of s) (before_of s) (mark_of s) (at_of s) (head_of s) linked id.slot from h head place.3 in omega arith
+    less = let some : 1 ≤ h.count = some_count (behind_of s) (before_of s) (mark_of s) (at_of s) (head_of s) gone.linked id.slot from h gone.head place.3 in omega arith
 
     mid_linked : AreLinked mid
     unfolding behind_of before_of mark_of at_of bucket_of head_of ring_at
-    mid_linked = taken_linked (read_of s) mid from (h.count - 1) id id.birth place.0.1 h linked in_from head less had change
+    mid_linked = taken_linked (read_of s) mid from (h.count - 1) id id.birth place.0.1 h gone.linked gone.in_from gone.head less had change
 
     mid_lists : (n : ℕ) → lists_of mid n ≡ on from (without id) (lists_of s) n
     unfolding behind_of before_of mark_of at_of bucket_of head_of ring_at lists_of
-    mid_lists = taken_lists (read_of s) mid from (h.count - 1) id id.birth place.0.1 h linked in_from head less had change
+    mid_lists = taken_lists (read_of s) mid from (h.count - 1) id id.birth place.0.1 h gone.linked gone.in_from gone.head less had change
 
     mid_places : (j : BucketId) → ring_at mid j ≡ (if same id j then None else ring_at s j)
     unfolding behind_of before_of mark_of at_of bucket_of head_of ring_at
-    mid_places = taken_places (read_of s) mid from (h.count - 1) id id.birth place.0.1 h linked in_from head less had change
+    mid_places = taken_places (read_of s) mid from (h.count - 1) id id.birth place.0.1 h gone.linked gone.in_from gone.head less had change
 
     mid_loose : IsLooseSlot mid id.slot
     unfolding behind_of before_of mark_of at_of bucket_of head_of ring_at
-    mid_loose = taken_loose (read_of s) mid from (h.count - 1) id id.birth place.0.1 h linked in_from head less had change
+    mid_loose = taken_loose (read_of s) mid from (h.count - 1) id id.birth place.0.1 h gone.linked gone.in_from gone.head less had change
 
     mid_payload : found id (list_at (lists_of s) from) ≡ Some place.0.1
     unfolding behind_of before_of mark_of at_of bucket_of head_of ring_at lists_of
-    mid_payload = taken_payload (read_of s) mid from (h.count - 1) id id.birth place.0.1 h linked in_from head less had change
+    mid_payload = taken_payload (read_of s) mid from (h.count - 1) id id.birth place.0.1 h gone.linked gone.in_from gone.head less had change
 
     pub still_forth : (j : ℕ) → behind_of s2 (before_of s2 j) ≡ j
     still_forth j = sym (mid_behind (before_of s2 j)) ∙ ap (behind_of mid) (sym (mid_before j)) ∙ mid_linked.forth j
@@ -201,7 +173,8 @@ module _ {T N : Type 0} {g : Ghosts N T} where
 
       few : length (list_at (lists_of mid) ring) + 1 < 2 ^ 64
       few =
-          let most : length (list_at (lists_of mid) ring) + 1 ≤ next = short_with (ring_at s) (ring_at mid) (lists_of s) (lists_of mid) next ring id place.0.1 kept (ap is_some in_from) mid_places (λ j. links_counted mid mid_linked j ring) in
+          let most : length (list_at (lists_of mid) ring) + 1 ≤ next = short_with (ring_at s) (ring_at mid) (lists_of s)
+          (lists_of mid) next ring id place.0.1 kept (ap is_some gone.in_from) mid_places (λ j. links_counted mid mid_linked j ring) in
           omega (arith, most, kept.limit)
 
       pub one_fits : h2.count + 1 < 2 ^ 64
@@ -212,36 +185,50 @@ module _ {T N : Type 0} {g : Ghosts N T} where
           ap (λ (k : ℕ). is_some (g.node s2.nodes k)) (e ∙ sym (target_as (behind_of s2) (behind_of mid) h2 position mid_behind)) ∙ sym (mid_there (target (behind_of mid) h2 position))
           ∙ spot_there mid mid_linked ring h2 position head_mid is_mid
 
-      module _ (s3 t : Links T N g) (bucket3 : (j : ℕ) → bucket_of s3 j ≡ bucket_of s2 j) (at3 : (j : ℕ) → at_of s3 j ≡ upd (at_of s2) id.slot (Some ring) j) (mark3 : (j : ℕ) → mark_of s3 j ≡ mark_of s2 j) (links3 : KeepsLinks s2 s3) (room3 : KeepsRoom s2 s3)
-          (entered : IsWoven s3 t id.slot (target (behind_of s2) h2 position)) (heads_in : (n : ℕ) → head_of t n ≡ upd (head_of s2) ring (Some (record { sentinel = h2.sentinel; count = h2.count + 1 })) n) where
-        change_in : Changed mid (read_of t) id.slot (target (behind_of s2) h2 position) ring (Some (id_of id.slot id.birth, place.0.1)) (Some ring) (record { sentinel = h2.sentinel; count = h2.count + 1 })
+      module _ (s3 t : Links T N g) (renamed : Refilled s2 s3 id.slot (bucket_of s2 id.slot) (Some ring)) (a : ℕ) (a_is : a ≡ target (behind_of s2) h2 position)
+          (entered : Relinked s3 t (turned (behind_of s3) (before_of s3) a id.slot) (turned (before_of s3) (behind_of s3) id.slot a))
+          (heads_in : (n : ℕ) → head_of t n ≡ upd (head_of s2) ring (Some (record { sentinel = h2.sentinel; count = h2.count + 1 })) n) where
+        change_in : Changed mid (read_of t) id.slot a ring (Some (id_of id.slot id.birth, place.0.1)) (Some ring) (record { sentinel = h2.sentinel; count = h2.count + 1 })
         unfolding behind_of before_of mark_of at_of bucket_of head_of
-        change_in =
-            let a = target (behind_of s2) h2 position in record {
-              behind = λ j. entered.behind j ∙ turned_same (behind_of mid) (behind_of s3) (before_of mid) (before_of s3) a id.slot j (λ i. links3.behind i ∙ sym (mid_behind i)) (λ i. links3.before i ∙ sym (mid_before i));
-              before = λ j. entered.before j ∙ turned_same (before_of mid) (before_of s3) (behind_of mid) (behind_of s3) id.slot a j (λ i. links3.before i ∙ sym (mid_before i)) (λ i. links3.behind i ∙ sym (mid_behind i));
-              bucket_new = λ j. entered.buckets.bucket j ∙ bucket3 j ∙ upd_back (bucket_of s2) (bucket_of mid) id.slot (Some (id_of id.slot id.birth, place.0.1)) None (left.buckets.bucket id.slot ∙ had) mid_bucket j;
-              at = λ j. entered.buckets.at j ∙ at3 j ∙ upd_over (at_of s2) (at_of mid) id.slot (Some ring) None mid_at j;
-              mark = λ j ne. entered.buckets.mark j ∙ mark3 j ∙ sym (mid_mark j ne);
-              heads = heads_in;
-              room = record { there = λ j. entered.room.there j ∙ room3.there j ∙ sym (mid_there j); room = λ n e. e };
-            }
+        change_in = changed mid (read_of s3) (read_of t) id.slot a ring (Some (id_of id.slot id.birth, place.0.1)) (Some ring) (record { sentinel = h2.sentinel; count = h2.count + 1 })
+            (record {
+              bucket_new = λ j. renamed.bucket_new j
+                  ∙ ap (λ (o : Option (BucketId × T)). upd (bucket_of s2) id.slot o j) (gone.links.buckets.bucket id.slot ∙ had)
+                  ∙ upd_over (bucket_of s2) (bucket_of mid) id.slot (Some (id_of id.slot id.birth, place.0.1)) None mid_bucket j;
+              at = λ j. renamed.at j ∙ upd_over (at_of s2) (at_of mid) id.slot (Some ring) None mid_at j;
+              mark = λ j ne. renamed.mark j ne ∙ sym (mid_mark j ne);
+              links = record { behind = λ j. renamed.links.behind j ∙ sym (mid_behind j); before = λ j. renamed.links.before j ∙ sym (mid_before j) };
+              room = record { there = λ j. renamed.room.there j ∙ sym (mid_there j); room = λ n e. e };
+            })
+            (record {
+              behind = entered.behind;
+              before = entered.before;
+              buckets = record { mark = entered.buckets.mark; at = entered.buckets.at; bucket = entered.buckets.bucket };
+              room = record { there = entered.room.there; room = λ n e. e };
+            })
+            heads_in
 
         all_in : Changed mid (read_of t) id.slot (target (behind_of mid) h2 position) ring (Some (id_of id.slot id.birth, place.0.1)) (Some ring) (record { sentinel = h2.sentinel; count = h2.count + 1 })
-        all_in = subst (λ (a : ℕ). Changed mid (read_of t) id.slot a ring (Some (id_of id.slot id.birth, place.0.1)) (Some ring) (record { sentinel = h2.sentinel; count = h2.count + 1 })) (sym (target_as (behind_of s2) (behind_of mid) h2 position mid_behind)) change_in
+        all_in = subst (λ (k : ℕ). Changed mid (read_of t) id.slot k ring (Some (id_of id.slot id.birth, place.0.1)) (Some ring)
+            (record { sentinel = h2.sentinel; count = h2.count + 1 }))
+            (a_is ∙ sym (target_as (behind_of s2) (behind_of mid) h2 position mid_behind)) change_in
 
-        pub carried_linked : AreLinked t
+        carried_linked : AreLinked t
         unfolding behind_of before_of mark_of at_of head_of
         carried_linked = put_linked mid (read_of t) id.slot ring position id.birth place.0.1 h2 mid_linked mid_loose is_mid head_mid few all_in
 
-        pub carried_lists : (n : ℕ) (x : T) → found id (list_at (lists_of s) from) ≡ Some x → lists_of t n ≡ on ring (placed position ((id, x) ∷ [])) (on from (without id) (lists_of s)) n
+        carried_lists : (n : ℕ) (x : T) → found id (list_at (lists_of s) from) ≡ Some x → lists_of t n ≡ on ring (placed position ((id, x) ∷ [])) (on from (without id) (lists_of s)) n
         unfolding behind_of bucket_of head_of lists_of
         carried_lists n x is_x =
             shifted (lists_of s) (lists_of mid) (lists_of t) from ring n position id x place.0.1 id.birth refl mid_payload is_x mid_lists
             (put_lists mid (read_of t) id.slot ring position id.birth place.0.1 h2 mid_linked mid_loose is_mid head_mid few all_in)
 
-        pub carried_places : (j : BucketId) → ring_at t j ≡ (if same id j then Some ring else ring_at s j)
+        carried_places : (j : BucketId) → ring_at t j ≡ (if same id j then Some ring else ring_at s j)
         unfolding bucket_of at_of ring_at
         carried_places j =
             put_places mid (read_of t) id.slot ring position id.birth place.0.1 h2 mid_linked mid_loose is_mid head_mid few all_in j
             ∙ ap (λ (o : Option ℕ). if same id j then Some ring else o) (mid_places j) ∙ twice (same id j) (Some ring) None (ring_at s j)
+
+        pub carried : AreLinked t × ((n : ℕ) (x : T) → found id (list_at (lists_of s) from) ≡ Some x → lists_of t n ≡ on ring (placed position ((id, x) ∷ [])) (on from (without id) (lists_of s)) n)
+            × ((j : BucketId) → ring_at t j ≡ (if same id j then Some ring else ring_at s j))
+        carried = (carried_linked, carried_lists, carried_places)

@@ -1,5 +1,5 @@
 -- What a bucket that is put into a ring or taken out changes.
-use Rattle.std.proofs.Common.{◌≡◌, ◌≢◌, ℕ, ◌==◌, true, if◌then◌else◌, Option, None, Some, is_some, length, refl, ap, sym, ◌∙◌, inl, inr}
+use Rattle.std.proofs.Common.{◌≡◌, ℕ, ◌==◌, true, if◌then◌else◌, Option, None, Some, is_some, length, refl, ap, sym, ◌∙◌, inl, inr}
 use Rattle.std.specs.Option.{option_map, option_map_or, option_and_then}
 use Rattle.std.proofs.lemmas.Bool.{cases_eq}
 use Rattle.std.proofs.lemmas.Option.{same_Some}
@@ -12,9 +12,10 @@ use Rattle.bucket_ring.specs.declared.links.Links.{Links}
 use Rattle.bucket_ring.specs.declared.slots.Slots.{Ghosts}
 use Rattle.bucket_ring.specs.Lists.{upd, list_at}
 use Rattle.bucket_ring.specs.Walks.{slots, turned}
-use Rattle.bucket_ring.specs.Links.{listed, IsShown, with_name, named_in, sentinel_ring, bucket_ring, behind_of, before_of, mark_of, at_of, bucket_of, head_of, lists_of, AreLinked, Changed, KeepsLinks, KeepsBuckets, KeepsRoom}
+use Rattle.bucket_ring.specs.Links.{listed, IsShown, with_name, named_in, sentinel_ring, bucket_ring, behind_of, before_of, mark_of, at_of, bucket_of, head_of, lists_of, AreLinked, Changed, KeepsLinks, KeepsBuckets, KeepsRoom, Relinked, Refilled}
 use Rattle.bucket_ring.proofs.Counted.{upd_on, upd_off}
 use Rattle.bucket_ring.proofs.Shown.{ring_length}
+use Rattle.bucket_ring.proofs.Rewritten.{read_there}
 
 pub upd_as : {X : Type 0} (r : ℕ) (x : X) (n : ℕ) (f g : ℕ → X) → ((i : ℕ) → f i ≡ g i) → upd f r x n ≡ upd g r x n
 upd_as r x n f g e =
@@ -33,6 +34,9 @@ module _ {T N : Type 0} {g : Ghosts N T} where
     there = λ j. second.there j ∙ first.there j;
     room = λ n h. second.room n (first.room n h);
   }
+
+  pub buckets_twice : (a b c : Links T N g) → KeepsBuckets a b → KeepsBuckets b c → KeepsBuckets a c
+  buckets_twice a b c first second = record { mark = λ j. second.mark j ∙ first.mark j; at = λ j. second.at j ∙ first.at j; bucket = λ j. second.bucket j ∙ first.bucket j }
 
   -- what a slot says of its bucket
   pub shown_of : (s : Links T N g) → IsShown (mark_of s) (at_of s) (bucket_of s)
@@ -69,17 +73,11 @@ module _ {T N : Type 0} {g : Ghosts N T} where
   -- a slot that has a bucket or is a sentinel is there
   pub there_at : (s : Links T N g) (k r : ℕ) → at_of s k ≡ Some r → is_some (g.node s.nodes k) ≡ true
   unfolding at_of
-  there_at s k r e = go (g.node s.nodes k) e where
-    go : (o : Option (Node T)) → option_and_then bucket_ring o ≡ Some r → is_some o ≡ true
-    go None e = cc
-    go (Some v) e = refl
+  there_at s k r e = read_there bucket_ring (g.node s.nodes k) (ap is_some e)
 
   pub there_mark : (s : Links T N g) (k r : ℕ) → mark_of s k ≡ Some r → is_some (g.node s.nodes k) ≡ true
   unfolding mark_of
-  there_mark s k r e = go (g.node s.nodes k) e where
-    go : (o : Option (Node T)) → option_and_then sentinel_ring o ≡ Some r → is_some o ≡ true
-    go None e = cc
-    go (Some v) e = refl
+  there_mark s k r e = read_there sentinel_ring (g.node s.nodes k) (ap is_some e)
 
   -- a ring is there where its head is
   pub lists_there : (s : Links T N g) (r : ℕ) → is_some (lists_of s r) ≡ is_some (head_of s r)
@@ -105,30 +103,45 @@ module _ {T N : Type 0} {g : Ghosts N T} where
     record { there = λ j. rw e refl; room = λ n h. rw e h },
   )
 
-  -- the count is written, then a bucket, and the links are turned
-  module _ (s s0 s1 t : Links T N g) (k a r : ℕ) (w : Option (BucketId × T)) (v : Option ℕ) (h : RingHead) (nodes : s0.nodes ≡ s.nodes) (heads : (n : ℕ) → head_of s0 n ≡ upd (head_of s) r (Some h) n)
-      (bucket : (j : ℕ) → bucket_of s1 j ≡ upd (bucket_of s0) k w j) (at : (j : ℕ) → at_of s1 j ≡ upd (at_of s0) k v j) (mark : (j : ℕ) → j ≢ k → mark_of s1 j ≡ mark_of s0 j) (links : KeepsLinks s0 s1) (room : KeepsRoom s0 s1) (heads1 : s1.heads ≡ s0.heads) where
-    pub links_stay : KeepsLinks s s1
-    links_stay = let counted = nodes_same s s0 nodes in record { behind = λ j. links.behind j ∙ counted.0.behind j; before = λ j. links.before j ∙ counted.0.before j }
+  -- links that are the same still undo each other
+  pub forth_kept : {s t : Links T N g} → KeepsLinks s t → ((j : ℕ) → behind_of s (before_of s j) ≡ j) → (j : ℕ) → behind_of t (before_of t j) ≡ j
+  forth_kept {s = s} {t = t} links forth j = links.behind (before_of t j) ∙ ap (behind_of s) (links.before j) ∙ forth j
 
-    pub room_stays : KeepsRoom s s1
-    room_stays = room_twice s s0 s1 (nodes_same s s0 nodes).2 room
+  pub back_kept : {s t : Links T N g} → KeepsLinks s t → ((j : ℕ) → before_of s (behind_of s j) ≡ j) → (j : ℕ) → before_of t (behind_of t j) ≡ j
+  back_kept {s = s} {t = t} links back j = links.before (behind_of t j) ∙ ap (before_of s) (links.behind j) ∙ back j
 
-    pub changed_back : AreLinked s → (j : ℕ) → before_of s1 (behind_of s1 j) ≡ j
-    changed_back linked j = links_stay.before (behind_of s1 j) ∙ ap (before_of s) (links_stay.behind j) ∙ linked.back j
+  -- the count of a ring is written before, or after
+  pub refilled_since : (s s0 t : Links T N g) (k : ℕ) (w : Option (BucketId × T)) (v : Option ℕ) → s0.nodes ≡ s.nodes → Refilled s0 t k w v → Refilled s t k w v
+  refilled_since s s0 t k w v nodes filled =
+      let counted = nodes_same s s0 nodes in
+      record {
+        bucket_new = λ j. filled.bucket_new j ∙ upd_as k w j (bucket_of s0) (bucket_of s) counted.1.bucket;
+        at = λ j. filled.at j ∙ upd_as k v j (at_of s0) (at_of s) counted.1.at;
+        mark = λ j ne. filled.mark j ne ∙ counted.1.mark j;
+        links = record { behind = λ j. filled.links.behind j ∙ counted.0.behind j; before = λ j. filled.links.before j ∙ counted.0.before j };
+        room = room_twice s s0 t counted.2 filled.room;
+      }
 
-    pub changed_forth : AreLinked s → (j : ℕ) → behind_of s1 (before_of s1 j) ≡ j
-    changed_forth linked j = links_stay.behind (before_of s1 j) ∙ ap (behind_of s) (links_stay.before j) ∙ linked.forth j
+  pub relinked_until : (s s1 t : Links T N g) (f b : ℕ → ℕ) → t.nodes ≡ s1.nodes → Relinked s s1 f b → Relinked s t f b
+  relinked_until s s1 t f b nodes linked =
+      let counted = nodes_same s1 t nodes in
+      record {
+        behind = λ j. counted.0.behind j ∙ linked.behind j;
+        before = λ j. counted.0.before j ∙ linked.before j;
+        buckets = buckets_twice s s1 t linked.buckets counted.1;
+        room = room_twice s s1 t linked.room counted.2;
+      }
 
-    pub changed : ((j : ℕ) → behind_of t j ≡ turned (behind_of s1) (before_of s1) a k j) → ((j : ℕ) → before_of t j ≡ turned (before_of s1) (behind_of s1) k a j) → KeepsBuckets s1 t → KeepsRoom s1 t → t.heads ≡ s1.heads → Changed s t k a r w v h
-    changed behind2 before2 buckets2 room2 heads2 =
-        let counted = nodes_same s s0 nodes in
-        record {
-          behind = λ j. behind2 j ∙ turned_same (behind_of s) (behind_of s1) (before_of s) (before_of s1) a k j links_stay.behind links_stay.before;
-          before = λ j. before2 j ∙ turned_same (before_of s) (before_of s1) (behind_of s) (behind_of s1) k a j links_stay.before links_stay.behind;
-          bucket_new = λ j. buckets2.bucket j ∙ bucket j ∙ upd_as k w j (bucket_of s0) (bucket_of s) counted.1.bucket;
-          at = λ j. buckets2.at j ∙ at j ∙ upd_as k v j (at_of s0) (at_of s) counted.1.at;
-          mark = λ j ne. buckets2.mark j ∙ mark j ne ∙ counted.1.mark j;
-          heads = λ n. heads_same s1 t heads2 n ∙ heads_same s0 s1 heads1 n ∙ heads n;
-          room = room_twice s s1 t room_stays room2;
-        }
+  -- a slot has another bucket, and is turned to another place
+  pub changed : (s s1 t : Links T N g) (k a r : ℕ) (w : Option (BucketId × T)) (v : Option ℕ) (h : RingHead) → Refilled s s1 k w v
+      → Relinked s1 t (turned (behind_of s1) (before_of s1) a k) (turned (before_of s1) (behind_of s1) k a)
+      → ((n : ℕ) → head_of t n ≡ upd (head_of s) r (Some h) n) → Changed s t k a r w v h
+  changed s s1 t k a r w v h filled linked heads = record {
+    behind = λ j. linked.behind j ∙ turned_same (behind_of s) (behind_of s1) (before_of s) (before_of s1) a k j filled.links.behind filled.links.before;
+    before = λ j. linked.before j ∙ turned_same (before_of s) (before_of s1) (behind_of s) (behind_of s1) k a j filled.links.before filled.links.behind;
+    bucket_new = λ j. linked.buckets.bucket j ∙ filled.bucket_new j;
+    at = λ j. linked.buckets.at j ∙ filled.at j;
+    mark = λ j ne. linked.buckets.mark j ∙ filled.mark j ne;
+    heads = heads;
+    room = room_twice s s1 t filled.room linked.room;
+  }

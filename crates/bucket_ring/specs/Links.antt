@@ -108,6 +108,21 @@ module _ {T N : Type 0} {g : Ghosts N T} where
     pub there : (j : ℕ) → is_some (g.node new.nodes j) ≡ is_some (g.node old.nodes j)
     pub room : (n : ℕ) → n ≤ g.room old.nodes → n ≤ g.room new.nodes
 
+  -- the same slots, with these links
+  pub record Relinked (old new : Links T N g) (to_behind to_before : ℕ → ℕ) : Type 0 where
+    pub behind : (j : ℕ) → behind_of new j ≡ to_behind j
+    pub before : (j : ℕ) → before_of new j ≡ to_before j
+    pub buckets : KeepsBuckets old new
+    pub room : KeepsRoom old new
+
+  -- slot k has this bucket, in this ring
+  pub record Refilled (old new : Links T N g) (k : ℕ) (bucket : Option (BucketId × T)) (ring : Option ℕ) : Type 0 where
+    pub bucket_new : (j : ℕ) → bucket_of new j ≡ upd (bucket_of old) k bucket j
+    pub at : (j : ℕ) → at_of new j ≡ upd (at_of old) k ring j
+    pub mark : (j : ℕ) → j ≢ k → mark_of new j ≡ mark_of old j
+    pub links : KeepsLinks old new
+    pub room : KeepsRoom old new
+
   -- the ring that a bucket is in
   unfoldable pub ring_at : Links T N g → BucketId → Option ℕ
   ring_at links = ring_named (bucket_of links) (at_of links)

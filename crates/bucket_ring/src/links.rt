@@ -44,7 +44,7 @@ pub(crate) struct Links<T, S: Slots<T>> {
 
 #[tactic(auto, unfolding(crate::specs::Links::behind_of, crate::specs::Links::before_of, crate::specs::Links::mark_of, crate::specs::Links::at_of, crate::specs::Links::bucket_of, crate::specs::Links::head_of, crate::specs::Links::ring_at, crate::specs::Lists::upd))]
 impl<T: Drop, S: Slots<T> + Drop> Links<T, S> {
-    ghost use Rattle.bucket_ring.specs.Links.{behind_of, before_of, mark_of, at_of, bucket_of, head_of, ring_at, KeepsLinks, KeepsBuckets, KeepsRoom};
+    ghost use Rattle.bucket_ring.specs.Links.{behind_of, before_of, mark_of, at_of, bucket_of, head_of, ring_at, KeepsLinks, KeepsBuckets, Relinked, Refilled};
 
     /// No slot, and no ring.
     pub(crate) fn new(alloc: Global) -> Self
@@ -171,10 +171,7 @@ impl<T: Drop, S: Slots<T> + Drop> Links<T, S> {
     /// Writes the slot behind one.
     fn set_behind(&mut self, slot: usize, to: usize)
         requires { is_some (S.node self.old.nodes slot) ≡ true }
-        ensures behind { (j : ℕ) → behind_of self.new j ≡ (if j == slot then to else behind_of self.old j) }
-        ensures before { (j : ℕ) → before_of self.new j ≡ before_of self.old j }
-        ensures buckets { KeepsBuckets self.old self.new }
-        ensures room { KeepsRoom self.old self.new }
+        ensures links { Relinked self.old self.new (λ j. if j == slot then to else behind_of self.old j) (before_of self.old) }
         ensures heads { self.new.heads ≡ self.old.heads }
     {
         self.nodes.set_behind(slot, to);
@@ -183,10 +180,7 @@ impl<T: Drop, S: Slots<T> + Drop> Links<T, S> {
     /// Writes the slot before one.
     fn set_before(&mut self, slot: usize, to: usize)
         requires { is_some (S.node self.old.nodes slot) ≡ true }
-        ensures before { (j : ℕ) → before_of self.new j ≡ (if j == slot then to else before_of self.old j) }
-        ensures behind { (j : ℕ) → behind_of self.new j ≡ behind_of self.old j }
-        ensures buckets { KeepsBuckets self.old self.new }
-        ensures room { KeepsRoom self.old self.new }
+        ensures links { Relinked self.old self.new (behind_of self.old) (λ j. if j == slot then to else before_of self.old j) }
         ensures heads { self.new.heads ≡ self.old.heads }
     {
         self.nodes.set_before(slot, to);
@@ -195,11 +189,7 @@ impl<T: Drop, S: Slots<T> + Drop> Links<T, S> {
     /// Puts a bucket of a ring into a slot.
     pub(crate) fn fill(&mut self, slot: usize, ring: RingId, bucket: SlotBucket<T>)
         requires { is_some (S.node self.old.nodes slot) ≡ true }
-        ensures bucket { (j : ℕ) → bucket_of self.new j ≡ upd (bucket_of self.old) slot (Some (id_of slot bucket.birth, bucket.payload)) j }
-        ensures at { (j : ℕ) → at_of self.new j ≡ upd (at_of self.old) slot (Some ring) j }
-        ensures mark { (j : ℕ) → j ≢ slot → mark_of self.new j ≡ mark_of self.old j }
-        ensures links { KeepsLinks self.old self.new }
-        ensures room { KeepsRoom self.old self.new }
+        ensures filled { Refilled self.old self.new slot (Some (id_of slot bucket.birth, bucket.payload)) (Some ring) }
         ensures heads { self.new.heads ≡ self.old.heads }
     {
         self.nodes.fill(slot, ring, bucket.birth, bucket.payload);
@@ -208,11 +198,7 @@ impl<T: Drop, S: Slots<T> + Drop> Links<T, S> {
     /// Writes the ring of the bucket in a slot.
     pub(crate) fn set_ring(&mut self, slot: usize, ring: RingId)
         requires { is_some (bucket_of self.old slot) ≡ true }
-        ensures bucket { (j : ℕ) → bucket_of self.new j ≡ bucket_of self.old j }
-        ensures at { (j : ℕ) → at_of self.new j ≡ upd (at_of self.old) slot (Some ring) j }
-        ensures mark { (j : ℕ) → mark_of self.new j ≡ mark_of self.old j }
-        ensures links { KeepsLinks self.old self.new }
-        ensures room { KeepsRoom self.old self.new }
+        ensures filled { Refilled self.old self.new slot (bucket_of self.old slot) (Some ring) }
         ensures heads { self.new.heads ≡ self.old.heads }
     {
         self.nodes.set_ring(slot, ring);
@@ -222,11 +208,7 @@ impl<T: Drop, S: Slots<T> + Drop> Links<T, S> {
     pub(crate) fn empty(&mut self, slot: usize) -> SlotBucket<T>
         requires { is_some (bucket_of self.old slot) ≡ true }
         ensures had { bucket_of self.old slot ≡ Some (id_of slot result.birth, result.payload) }
-        ensures bucket { (j : ℕ) → bucket_of self.new j ≡ upd (bucket_of self.old) slot None j }
-        ensures at { (j : ℕ) → at_of self.new j ≡ upd (at_of self.old) slot None j }
-        ensures mark { (j : ℕ) → j ≢ slot → mark_of self.new j ≡ mark_of self.old j }
-        ensures links { KeepsLinks self.old self.new }
-        ensures room { KeepsRoom self.old self.new }
+        ensures filled { Refilled self.old self.new slot None None }
         ensures heads { self.new.heads ≡ self.old.heads }
     {
         self.nodes.empty(slot)
@@ -326,10 +308,7 @@ impl<T: Drop, S: Slots<T> + Drop> Links<T, S> {
         requires back { (j : ℕ) → before_of self.old (behind_of self.old j) ≡ j }
         requires slot { is_some (S.node self.old.nodes slot) ≡ true }
         requires at { is_some (S.node self.old.nodes at) ≡ true }
-        ensures behind { (j : ℕ) → behind_of self.new j ≡ turned (behind_of self.old) (before_of self.old) at slot j }
-        ensures before { (j : ℕ) → before_of self.new j ≡ turned (before_of self.old) (behind_of self.old) slot at j }
-        ensures buckets { KeepsBuckets self.old self.new }
-        ensures room { KeepsRoom self.old self.new }
+        ensures links { Relinked self.old self.new (turned (behind_of self.old) (before_of self.old) at slot) (turned (before_of self.old) (behind_of self.old) slot at) }
         ensures heads { self.new.heads ≡ self.old.heads }
     {
         let before = self.before(at);

@@ -7,6 +7,7 @@ use Rattle.run_model.specs.declared.bucket.Cursor.{Cursor}
 use Rattle.run_model.specs.declared.bucket.Cursor.TheVariants as cursor
 use Rattle.run_model.specs.declared.bucket.Home.{Home}
 use Rattle.run_model.specs.declared.bucket.NamedBucket.{NamedBucket}
+use Rattle.run_model.specs.declared.effect.Condition.TheVariants as condition
 use Rattle.run_model.specs.declared.fault.FaultKind.{FaultKind}
 use Rattle.run_model.specs.BrigadeLists.{SplitRefusal, split_refusal, bucket_split}
 use Rattle.run_model.specs.BucketSteps.{items_at, set_items, bucket_read, read_given, read_within, has_rest, names_if, names_given, do_read, is_unread, is_unsplit, split_there}
@@ -20,7 +21,7 @@ use Rattle.run_model.proofs.EachBucket.{of_named}
 use Rattle.model_laws.proofs.StepNames.{step_names}
 use Rattle.life_state.specs.Facts.{known}
 use Rattle.life_state.specs.declared.parts.Classes.{Classes}
-use Rattle.life_state.specs.Rules.{cursor_need, both_with, edges_read, no_other}
+use Rattle.life_state.specs.Rules.{cursor_need, both_with, after_read, on_condition, no_other}
 use Rattle.life_state.specs.States.{Homes, CursorKnown, Unset, Loose, In, End, InOrEnd, State}
 use Rattle.life_check.specs.Meaning.{Covers, Differ, IsAtBucketOf, FitsCursor, Fits}
 use Rattle.life_check.specs.Soundness.{Lands, LawOf}
@@ -59,7 +60,7 @@ unfolding set_cursor
 names_before c v r s = record { once = s.once; fresh = s.fresh; apart = s.apart; given = s.given; limit = s.limit; slots = s.slots }
 
 abbrev ReadLands : (Home → Type 0) → Program → Configuration → State → ℕ → Bool → Configuration → Type 0
-ReadLands lives p r s c unread left = Lands lives p (edges_read c s) s (jumps_if unread) left
+ReadLands lives p r s c unread left = Lands lives p (on_condition (condition.ReadFailed c) s (after_read c s)) s (jumps_if unread) left
 
 -- a bucket that a cursor is at fits its kind
 each_kind : {r : Configuration} {v : Cursor} {t : Classes} → Sound r → (b : ℕ) → (at : IsAtBucketOf r v b t) → FitsKind at.bucket.bucket

@@ -1,17 +1,26 @@
 -- Where edges lead, and that states keep their variables.
-use Rattle.std.proofs.Common.{◌≡◌, ℕ, Bool, true, false, not, ◌||◌, nat_lt, if◌then◌else◌, Option, Some, None, Ok, refl}
+use Rattle.std.proofs.Common.{◌≡◌, ℕ, Bool, true, false, not, ◌||◌, nat_lt, if◌then◌else◌, Option, Some, None, Ok, refl, ◌∙◌}
 use Rattle.module_code.specs.declared.instr.Instr.{Instr}
 use Rattle.module_code.specs.declared.instr.Instr.TheVariants as instr
 use Rattle.module_code.specs.declared.instr.PoolRef.{PoolRef}
 use Rattle.module_code.specs.declared.instr.VarRef.{VarRef}
 use Rattle.module_code.specs.declared.instr.VarRef.TheVariants as variable
 use Rattle.module_code.specs.Program.{Program, goes_on}
+use Rattle.run_model.specs.declared.effect.Condition.{Condition}
+use Rattle.run_model.specs.declared.effect.Condition.TheVariants as condition
+use Rattle.run_model.specs.declared.effect.Effect.{Effect}
+use Rattle.run_model.specs.declared.effect.Effect.TheVariants as effect
+use Rattle.run_model.specs.declared.effect.Flow.{Flow}
+use Rattle.run_model.specs.declared.effect.Flow.TheVariants.{ToNext, JumpIf, JumpAlways, EndCall}
+use Rattle.run_model.specs.declared.effect.MadeFrom.{MadeFrom}
+use Rattle.run_model.specs.declared.effect.MadeFrom.TheVariants.{CopyAt}
+use Rattle.run_model.specs.EffectOf.{effect_of, flow_of}
 use Rattle.run_model.specs.declared.fault.FaultKind.{FaultKind}
 use Rattle.run_model.specs.Faults.{wants}
 use Rattle.life_state.specs.declared.parts.Classes.{Classes}
 use Rattle.life_state.specs.States.{State, CursorKnown, Loose, In, End, InOrEnd, home_in, both_homes, with_homes, only_null, never_made, set_pool, set_brigade}
 use Rattle.life_state.specs.Facts.{moved, set_cursor}
-use Rattle.life_state.specs.Rules.{Edges, some_if, cleared_under, after_next, if_brigade, put_in, before_content, after_before, after_aside, is_empty, edges_jend, of_kind, not_of_kind, some_class, with_classes, classes_of, told, told_classes, pool_not_null, brigade_not_null, edges_jnull, edges, first_need, need_or, rule}
+use Rattle.life_state.specs.Rules.{Edges, some_if, cleared_under, after_next, if_brigade, put_in, before_content, after_before, after_aside, is_empty, edges_jend, of_kind, not_of_kind, some_class, with_classes, classes_of, told, told_classes, pool_not_null, brigade_not_null, edges_jnull, after_make, after, on_condition, led, edges, first_need, need_or, rule}
 
 -- of the same variables
 pub record AreAlike (s t : State) : Type 0 where
@@ -69,28 +78,49 @@ told_alike : (c : ℕ) (t : Classes) (s : State) → SomeAlike s (told_classes c
 unfolding moved
 told_alike c t s = some_if_alike (some_class t) s (told c (with_classes t (s.cursors c)) s) (record { pools = refl; brigades = refl })
 
+make_alike : (c : ℕ) (from : MadeFrom) (s : State) → AreAlike s (after_make c from s)
+unfolding set_cursor
+make_alike c (CopyAt d) s = record { pools = refl; brigades = refl }
+make_alike c from s = record { pools = refl; brigades = refl }
+
+-- what an effect makes of a state is of the same variables
+after_alike : (p : Program) (e : Effect) (s : State) → AreAlike s (after p e s)
+unfolding moved set_cursor cleared_under
+after_alike p (effect.Next d c) s = next_alike d c (s.cursors c) s
+after_alike p (effect.Before c d) s = before_alike c (s.cursors d) s
+after_alike p (effect.Make c from) s = make_alike c from s
+after_alike p (effect.Aside c q) s = aside_alike c q (s.cursors c) s
+after_alike p e s = record { pools = refl; brigades = refl }
+
+-- t is of the variables of s
+module _ (s t : State) (h : AreAlike s t) where
+  some_past : (o : Option State) → SomeAlike t o → SomeAlike s o
+  some_past None g = tt
+  some_past (Some x) g = record { pools = g.pools ∙ h.pools; brigades = g.brigades ∙ h.brigades }
+
+  past : (e : Edges) → EdgesAlike t e → EdgesAlike s e
+  past e g = record { next = some_past e.next g.next; jump = some_past e.jump g.jump }
+
+  condition_alike : (when : Condition) → EdgesAlike s (on_condition when s t)
+  unfolding set_cursor
+  condition_alike (condition.TooShort b x c) = record { next = h; jump = record { pools = refl; brigades = refl } }
+  condition_alike (condition.NoBucket b) = past _ (record { next = some_if_alike (not (is_empty (t.brigades b).content)) t t (record { pools = refl; brigades = refl }); jump = record { pools = refl; brigades = refl } })
+  condition_alike (condition.AtEnd c) = past _ (jend_alike c (t.cursors c) t)
+  condition_alike (condition.OfKind c k) = past _ (record { next = told_alike c (not_of_kind k (classes_of (t.cursors c))) t; jump = told_alike c (of_kind k (classes_of (t.cursors c))) t })
+  condition_alike (condition.ReadFailed c) = record { next = h; jump = record { pools = refl; brigades = refl } }
+  condition_alike (condition.IsNull v) = past _ (jnull_alike v t)
+  condition_alike condition.WasSent = past _ (record { next = record { pools = refl; brigades = refl }; jump = some_if_alike t.sent t t (record { pools = refl; brigades = refl }) })
+  condition_alike when = record { next = h; jump = h }
+
+  led_alike : (flow : Flow) → EdgesAlike s (led flow s t)
+  led_alike ToNext = record { next = h; jump = tt }
+  led_alike (JumpIf when) = condition_alike when
+  led_alike JumpAlways = record { next = tt; jump = h }
+  led_alike EndCall = record { next = tt; jump = tt }
+
 -- each state that an instruction leads to is of the same variables
 pub edges_alike : (p : Program) (i : Instr) (s : State) → EdgesAlike s (edges p i s)
-unfolding moved set_cursor cleared_under
-edges_alike p (instr.BPart b x c l) s = record { next = record { pools = refl; brigades = refl }; jump = record { pools = refl; brigades = refl } }
-edges_alike p (instr.JEmpty b l) s = record { next = some_if_alike (not (is_empty (s.brigades b).content)) s s (record { pools = refl; brigades = refl }); jump = record { pools = refl; brigades = refl } }
-edges_alike p (instr.Pass b l) s = record { next = record { pools = refl; brigades = refl }; jump = record { pools = refl; brigades = refl } }
-edges_alike p (instr.Next d c) s = record { next = next_alike d c (s.cursors c) s; jump = tt }
-edges_alike p (instr.JEnd c l) s = jend_alike c (s.cursors c) s
-edges_alike p (instr.JKind c k l) s = record { next = told_alike c (not_of_kind k (classes_of (s.cursors c))) s; jump = told_alike c (of_kind k (classes_of (s.cursors c))) s }
-edges_alike p (instr.Before c d) s = record { next = before_alike c (s.cursors d) s; jump = tt }
-edges_alike p (instr.Split c x l) s = record { next = record { pools = refl; brigades = refl }; jump = record { pools = refl; brigades = refl } }
-edges_alike p (instr.Aside c q) s = record { next = aside_alike c q (s.cursors c) s; jump = tt }
-edges_alike p (instr.Read c l) s = record { next = record { pools = refl; brigades = refl }; jump = record { pools = refl; brigades = refl } }
-edges_alike p (instr.Get n x l) s = record { next = record { pools = refl; brigades = refl }; jump = record { pools = refl; brigades = refl } }
-edges_alike p (instr.Put x l) s = record { next = record { pools = refl; brigades = refl }; jump = record { pools = refl; brigades = refl } }
-edges_alike p (instr.JLt n x l) s = record { next = record { pools = refl; brigades = refl }; jump = record { pools = refl; brigades = refl } }
-edges_alike p (instr.JEq n x l) s = record { next = record { pools = refl; brigades = refl }; jump = record { pools = refl; brigades = refl } }
-edges_alike p (instr.JNull v l) s = jnull_alike v s
-edges_alike p (instr.JSent l) s = record { next = record { pools = refl; brigades = refl }; jump = some_if_alike s.sent s s (record { pools = refl; brigades = refl }) }
-edges_alike p (instr.Jump l) s = record { next = tt; jump = record { pools = refl; brigades = refl } }
-edges_alike p (instr.Ret t) s = record { next = tt; jump = tt }
-edges_alike p _ s = record { next = record { pools = refl; brigades = refl }; jump = tt }
+edges_alike p i s = led_alike s (after p (effect_of i) s) (after_alike p (effect_of i) s) (flow_of i)
 
 -- the next instruction is led to by those alone behind which control goes on
 pub goes_on_next : (p : Program) (i : Instr) (s t : State) → (edges p i s).next ≡ Some t → goes_on i ≡ true

@@ -6,18 +6,19 @@ use Rattle.life_check.proofs.Asides.{law_aside}
 use Rattle.life_check.proofs.Brigades.{law_bclean, law_bconcat, law_bcreate}
 use Rattle.life_check.proofs.Cleared.{law_pclear, law_pdestroy}
 use Rattle.life_check.proofs.Cuts.{law_read, law_split}
-use Rattle.life_check.proofs.Makers.{law_copy, law_eos, law_flush, law_frombuf, law_heap, law_immortal, law_poolb, law_transient}
+use Rattle.life_check.proofs.Makers.{law_copy, law_poolb}
 use Rattle.life_check.proofs.Partitions.{law_bpart}
 use Rattle.life_check.proofs.Passes.{law_pass, law_ret}
 use Rattle.life_check.proofs.Places.{law_first, law_next}
-use Rattle.life_check.proofs.Plain.{law_add, law_clearbuf, law_get, law_jempty, law_jend, law_jeq, law_jkind, law_jlt, law_jnull, law_jsent, law_jump, law_len, law_put, law_set, law_sub}
+use Rattle.life_check.proofs.Plain.{law_jempty, law_jend, law_jkind, law_jnull, law_jsent}
 use Rattle.life_check.proofs.Pools.{law_label, law_pcreate, law_unlabel}
 use Rattle.life_check.proofs.Puts.{law_before, law_head, law_tail}
 use Rattle.life_check.proofs.Saved.{law_bsave}
 use Rattle.life_check.proofs.Splits.{law_bsplit}
 use Rattle.life_check.proofs.Takes.{law_bdelete, law_unlink}
+use Rattle.life_check.proofs.Unasked.{law_unasked}
 
--- a row for each instruction
+-- a row for each instruction of whose needs something is used, or whose flow tells of a state
 pub step_lands : (lives : Home → Type 0) → StepLands lives
 step_lands lives (instr.PCreate q) = law_pcreate {lives = lives} q
 step_lands lives (instr.PClear q) = law_pclear {lives = lives} q
@@ -41,27 +42,12 @@ step_lands lives (instr.BDelete c) = law_bdelete {lives = lives} c
 step_lands lives (instr.Tail b c) = law_tail {lives = lives} b c
 step_lands lives (instr.Head b c) = law_head {lives = lives} b c
 step_lands lives (instr.Before c d) = law_before {lives = lives} c d
-step_lands lives (instr.Heap c t) = law_heap {lives = lives} c t
-step_lands lives (instr.Immortal c t) = law_immortal {lives = lives} c t
-step_lands lives (instr.FromBuf c) = law_frombuf {lives = lives} c
-step_lands lives (instr.Transient c) = law_transient {lives = lives} c
 step_lands lives (instr.PoolB c q) = law_poolb {lives = lives} c q
-step_lands lives (instr.Flush c) = law_flush {lives = lives} c
-step_lands lives (instr.Eos c) = law_eos {lives = lives} c
 step_lands lives (instr.Split c x l) = law_split {lives = lives} c l x
 step_lands lives (instr.Copy d c) = law_copy {lives = lives} d c
 step_lands lives (instr.Aside c q) = law_aside {lives = lives} c q
 step_lands lives (instr.Read c l) = law_read {lives = lives} c l
-step_lands lives (instr.Len n c) = law_len {lives = lives} n c
-step_lands lives (instr.Get n x l) = law_get {lives = lives} n x l
-step_lands lives (instr.Put x l) = law_put {lives = lives} x l
-step_lands lives instr.ClearBuf = law_clearbuf {lives = lives}
-step_lands lives (instr.Set n x) = law_set {lives = lives} n x
-step_lands lives (instr.Add n x) = law_add {lives = lives} n x
-step_lands lives (instr.Sub n x) = law_sub {lives = lives} n x
-step_lands lives (instr.JLt n x l) = law_jlt {lives = lives} n x l
-step_lands lives (instr.JEq n x l) = law_jeq {lives = lives} n x l
 step_lands lives (instr.JNull v l) = law_jnull {lives = lives} v l
 step_lands lives (instr.JSent l) = law_jsent {lives = lives} l
-step_lands lives (instr.Jump l) = law_jump {lives = lives} l
 step_lands lives (instr.Ret t) = law_ret {lives = lives} t
+step_lands lives i = law_unasked {lives = lives} i tt tt

@@ -39,4 +39,5 @@ pub mod Takes
 pub mod Targets
 pub mod Tree
 pub mod TypedLaws
+pub mod Unasked
 pub mod Wants

@@ -15,9 +15,9 @@ use Rattle.run_model.specs.Sound.{SoundNames, count}
 use Rattle.run_model.specs.State.{Configuration, pool_view, pool_named, set_cursor, set_loose}
 use Rattle.model_laws.proofs.Marks.{first_none}
 use Rattle.life_state.specs.declared.parts.Classes.{Classes}
-use Rattle.life_state.specs.States.{Homes, no_homes, only_call, CursorKnown, Loose, In, State}
+use Rattle.life_state.specs.States.{Homes, no_homes, CursorKnown, Loose, In, State}
 use Rattle.life_state.specs.Facts.{is_set}
-use Rattle.life_state.specs.Rules.{cursor_need, classes_of, homes_at, all_others, only_bytes, only_flush, only_eos, made}
+use Rattle.life_state.specs.Rules.{cursor_need, classes_of, homes_at, all_others, only_bytes, made}
 use Rattle.life_check.specs.Meaning.{class_has, Covers, IsAtBucketOf, IsAtLoose, FitsCursor, Differ, Fits}
 use Rattle.life_check.specs.Soundness.{LawOf}
 use Rattle.life_check.proofs.Lists.{each_named, named_put_tail, new_put_tail}
@@ -51,31 +51,7 @@ made_fits C r s names f c t h b classed covered =
           let none : count r n ≡ 0 = ap (count r) (sym same) ∙ unused in
           absurd (omega (arith, none, set_there C r names (s.cursors k) (r.call.cursors k) n too set (f.cursors k)))
 
--- Each maker.
-
-pub law_heap : {lives : Home → Type 0} (c t : ℕ) → LawOf lives (instr.Heap c t)
-unfolding set_cursor set_loose
-law_heap {lives = lives} c t p choice r s ready = made_fits (Covers p (pool_view r) lives) r s ready.sound.names ready.fits c only_bytes no_homes _ refl tt
-
-pub law_immortal : {lives : Home → Type 0} (c t : ℕ) → LawOf lives (instr.Immortal c t)
-unfolding set_cursor set_loose
-law_immortal {lives = lives} c t p choice r s ready = made_fits (Covers p (pool_view r) lives) r s ready.sound.names ready.fits c only_bytes no_homes _ refl tt
-
-pub law_frombuf : {lives : Home → Type 0} (c : ℕ) → LawOf lives (instr.FromBuf c)
-unfolding set_cursor set_loose
-law_frombuf {lives = lives} c p choice r s ready = made_fits (Covers p (pool_view r) lives) r s ready.sound.names ready.fits c only_bytes no_homes _ refl tt
-
-pub law_transient : {lives : Home → Type 0} (c : ℕ) → LawOf lives (instr.Transient c)
-unfolding set_cursor set_loose
-law_transient {lives = lives} c p choice r s ready = made_fits (Covers p (pool_view r) lives) r s ready.sound.names ready.fits c only_bytes only_call _ refl (refl, ready.outside.this)
-
-pub law_flush : {lives : Home → Type 0} (c : ℕ) → LawOf lives (instr.Flush c)
-unfolding set_cursor set_loose
-law_flush {lives = lives} c p choice r s ready = made_fits (Covers p (pool_view r) lives) r s ready.sound.names ready.fits c only_flush no_homes _ refl tt
-
-pub law_eos : {lives : Home → Type 0} (c : ℕ) → LawOf lives (instr.Eos c)
-unfolding set_cursor set_loose
-law_eos {lives = lives} c p choice r s ready = made_fits (Covers p (pool_view r) lives) r s ready.sound.names ready.fits c only_eos no_homes _ refl tt
+-- The makers of whose needs something is used.
 
 -- an operand that names no pool has a fault
 unnamed_fault : (r : Configuration) (q : PoolRef) → pool_named r q ≡ None → cond (has_pool r q) None (Some F1) ≡ None → ⊥

@@ -1,5 +1,5 @@
 -- Where an instruction leads, and what it may want.
-use Rattle.std.proofs.Common.{◌≡◌, ℕ, suc, ◌<◌, ◌≤◌, Bool, true, false, ◌&&◌, ◌||◌, not, nat_lt, ◌==◌, cond, List, [], ◌∷◌, Option, Some, None, is_some, is_none, Result, Ok, refl, sym, ap, arith}
+use Rattle.std.proofs.Common.{◌≡◌, ℕ, suc, ◌<◌, ◌≤◌, Bool, true, false, ◌&&◌, ◌||◌, not, nat_lt, cond, List, [], ◌∷◌, Option, Some, None, is_some, Result, Ok, refl, sym, ap, arith}
 use Rattle.std.proofs.lemmas.Bool.Decides.{nat_tests}
 use Rattle.module_code.specs.Args.{op_of}
 use Rattle.module_code.specs.Tables.{misplaced, touches_req, any_touches_req, has_main_only, is_main, under_req}
@@ -15,15 +15,14 @@ use Rattle.run_model.specs.declared.event.Exit.TheVariants.{GoOn, Jump, Return}
 use Rattle.run_model.specs.declared.event.Refusal.{Refusal}
 use Rattle.run_model.specs.declared.event.Stepped.{Stepped}
 use Rattle.run_model.specs.declared.event.Stepped.TheVariants as stepped
+use Rattle.run_model.specs.declared.effect.Flow.{Flow}
+use Rattle.run_model.specs.declared.effect.Flow.TheVariants.{ToNext, JumpIf, JumpAlways, EndCall}
 use Rattle.run_model.specs.declared.fault.FaultKind.{FaultKind}
-use Rattle.run_model.specs.BrigadeLists.{partition_answer}
-use Rattle.run_model.specs.BucketSteps.{byte_of, content_at, is_incomplete, is_unread, is_unsplit, items_at, kind_is}
-use Rattle.run_model.specs.Cursors.{spot, bucket_at, is_end, read_cursor}
+use Rattle.run_model.specs.EffectOf.{flow_of}
 use Rattle.run_model.specs.Faults.{Want, WPool, wants}
 use Rattle.model_laws.specs.Laws.{is_return}
-use Rattle.run_model.specs.Pools.{is_empty}
-use Rattle.run_model.specs.State.{Configuration, items_of}
-use Rattle.run_model.specs.Steps.{Choice, step, jumps_if, is_null, is_fail, is_full, value_of}
+use Rattle.run_model.specs.State.{Configuration}
+use Rattle.run_model.specs.Steps.{Choice, step, jumps_if, exit_by, holds}
 use Rattle.life_state.specs.Rules.{Edges, need_or}
 use Rattle.life_check.specs.Certificates.{Certificate}
 use Rattle.life_check.specs.Soundness.{wants_request}
@@ -78,22 +77,18 @@ jumps_on true = tt
 jumps_on false = tt
 
 -- only a return returns
+flow_onward : (choice : Choice) (flow : Flow) (r : Configuration) → (flow ≡ EndCall → ⊥) → IsOnward (exit_by choice flow r)
+flow_onward choice ToNext r on = tt
+flow_onward choice (JumpIf when) r on = jumps_on (holds choice when r)
+flow_onward choice JumpAlways r on = tt
+flow_onward choice EndCall r on = absurd (on refl)
+
+goes_on_by : (i : Instr) → is_return i ≡ false → flow_of i ≡ EndCall → ⊥
+goes_on_by (instr.Ret s) on ends = cc
+goes_on_by i on ends = cc
+
 pub goes_onward : (p : Program) (choice : Choice) (i : Instr) (r : Configuration) → is_return i ≡ false → IsOnward (step p choice i r).exit
-goes_onward p choice (instr.BPart b x c l) r on = jumps_on (is_incomplete (partition_answer r.shared.next (value_of r x) (items_at r b)))
-goes_onward p choice (instr.JEmpty b l) r on = jumps_on (is_empty (items_of (r.instance.brigades b)))
-goes_onward p choice (instr.Pass b l) r on = jumps_on (is_fail choice.answer)
-goes_onward p choice (instr.JEnd c l) r on = jumps_on (is_end (spot r c))
-goes_onward p choice (instr.JKind c k l) r on = jumps_on (kind_is k (bucket_at (spot r c)))
-goes_onward p choice (instr.Split c x l) r on = jumps_on (is_unsplit (value_of r x) (spot r c))
-goes_onward p choice (instr.Read c l) r on = jumps_on (is_unread choice.given (spot r c))
-goes_onward p choice (instr.Get n x l) r on = jumps_on (is_none (byte_of (value_of r x) (content_at (spot r read_cursor))))
-goes_onward p choice (instr.Put x l) r on = jumps_on (is_full r x)
-goes_onward p choice (instr.JLt n x l) r on = jumps_on (nat_lt (r.instance.numbers n) (value_of r x))
-goes_onward p choice (instr.JEq n x l) r on = jumps_on (r.instance.numbers n == value_of r x)
-goes_onward p choice (instr.JNull v l) r on = jumps_on (is_null r v)
-goes_onward p choice (instr.JSent l) r on = jumps_on r.instance.sent
-goes_onward p choice (instr.Ret s) r on = cc
-goes_onward p choice i r on = tt
+goes_onward p choice i r on = flow_onward choice (flow_of i) r (goes_on_by i on)
 
 -- What is met, and where it leads.
 

@@ -8,6 +8,7 @@ use Rattle.run_model.specs.declared.bucket.BrigadeVar.TheVariants as var
 use Rattle.run_model.specs.declared.bucket.Cursor.{Cursor}
 use Rattle.run_model.specs.declared.bucket.Home.{Home}
 use Rattle.run_model.specs.declared.bucket.NamedBucket.{NamedBucket}
+use Rattle.run_model.specs.declared.effect.Condition.TheVariants as condition
 use Rattle.run_model.specs.BrigadeLists.{partitioned, Cut, Found, AtEnd, Incomplete, partition_answer, place_of}
 use Rattle.run_model.specs.BucketSteps.{items_at, set_items, set_place, cursor_at, names_given, names_to_part, is_incomplete}
 use Rattle.run_model.specs.Cutting.{FitsKind}
@@ -21,7 +22,7 @@ use Rattle.model_laws.proofs.Marks.{first_none}
 use Rattle.model_laws.proofs.StepNames.{step_names}
 use Rattle.run_model.proofs.Updates.{upd_at}
 use Rattle.life_state.specs.States.{Homes, End, State}
-use Rattle.life_state.specs.Rules.{no_other, edges_bpart}
+use Rattle.life_state.specs.Rules.{no_other, after_first, on_condition}
 use Rattle.life_check.specs.Meaning.{Covers, IsEndOf, Fits}
 use Rattle.life_check.specs.Soundness.{LawOf, Lands}
 use Rattle.life_check.proofs.Filled.{filled_items, filled_usable}
@@ -68,17 +69,17 @@ module _ (p : Program) (lives : Home → Type 0) (r : Configuration) (s : State)
   part_stands n is =
       subst (λ (xs : List NamedBucket). 1 ≤ count_named n xs) (sym (ap items_of (upd_at r.instance.brigades b now) ∙ filled_items parts (r.instance.brigades b) usable)) (part_there r.shared.next point n (items_at r b) is)
 
-  part_lands : SoundNames mid → (answer : Cut) → partition_answer r.shared.next point (items_at r b) ≡ answer
-      → Lands lives p (edges_bpart b c s) s (jumps_if (is_incomplete answer)) (set_place c b (place_of answer) mid)
+  part_lands : (x : Value) → SoundNames mid → (answer : Cut) → partition_answer r.shared.next point (items_at r b) ≡ answer
+      → Lands lives p (on_condition (condition.TooShort b x c) s (after_first c b s)) s (jumps_if (is_incomplete answer)) (set_place c b (place_of answer) mid)
   unfolding set_brigade set_cursor
-  part_lands named Incomplete is =
+  part_lands x named Incomplete is =
       set_fits C mid s c (End b) (cursor_at (mid.instance.brigades b) None) no_other named mid_fits (end_is mid b (mid.instance.brigades b) refl mid_usable) (λ k differ set told. absurd (cc))
-  part_lands named AtEnd is = placed_fits C mid s named mid_fits c b None no_other mid_usable (λ n e. absurd (cc)) (λ k differ set told. absurd (cc))
-  part_lands named (Found m) is = placed_fits C mid s named mid_fits c b (Some m) no_other mid_usable (λ n e. part_stands n (ap place_of is ∙ e)) (λ k differ set told. absurd (cc))
+  part_lands x named AtEnd is = placed_fits C mid s named mid_fits c b None no_other mid_usable (λ n e. absurd (cc)) (λ k differ set told. absurd (cc))
+  part_lands x named (Found m) is = placed_fits C mid s named mid_fits c b (Some m) no_other mid_usable (λ n e. part_stands n (ap place_of is ∙ e)) (λ k differ set told. absurd (cc))
 
 -- apr_brigade_partition
 pub law_bpart : {lives : Home → Type 0} (b : ℕ) (x : Value) (c l : ℕ) → LawOf lives (instr.BPart b x c l)
 law_bpart {lives = lives} b x c l p choice r s ready =
-    part_lands p lives r s b (value_of r x) c ready.sound.names (ready.sound.buckets.brigades b) ready.fits (first_none (usable_fault (r.instance.brigades b)) _ ready.may.faultless)
+    part_lands p lives r s b (value_of r x) c ready.sound.names (ready.sound.buckets.brigades b) ready.fits (first_none (usable_fault (r.instance.brigades b)) _ ready.may.faultless) x
     (names_unset c _ (set_items b (partitioned r.shared.next (value_of r x) (items_at r b)) (names_given (names_to_part (value_of r x) (items_at r b)) r)) (step_names p choice (instr.BPart b x c l) r ready.may ready.sound.names))
     (partition_answer r.shared.next (value_of r x) (items_at r b)) refl

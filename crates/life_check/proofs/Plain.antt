@@ -1,16 +1,13 @@
--- Laws of the instructions that leave brigades and pools as they are: jumps, numbers, the buffer, and tests of one variable or
--- bucket.
-use Rattle.std.proofs.Common.{◌≡◌, ℕ, Bool, true, false, ◌||◌, ◌==◌, nat_lt, min, not, cond, List, [], ◌∷◌, ◌++◌, ◌+◌, ◌-◌, is_none, Option, Some, None, inl, inr, refl, ap, sym, ◌∙◌, subst}
+-- Laws of the jumps that test what a state speaks of: one variable, one bucket, whether an EOS was passed.
+use Rattle.std.proofs.Common.{◌≡◌, ℕ, Bool, true, false, ◌||◌, not, cond, List, [], ◌∷◌, Some, None, inl, inr, refl, sym, subst}
 use Rattle.module_code.specs.declared.instr.Instr.TheVariants as instr
 use Rattle.module_code.specs.declared.instr.KindTest.{KindTest}
 use Rattle.module_code.specs.declared.instr.KindTest.TheVariants as test
-use Rattle.module_code.specs.declared.instr.Value.{Value}
 use Rattle.module_code.specs.declared.instr.VarRef.{VarRef}
 use Rattle.module_code.specs.declared.instr.VarRef.TheVariants as variable
 use Rattle.module_code.specs.Program.{Program}
 use Rattle.run_model.specs.declared.bucket.BrigadeVar.{BrigadeVar}
 use Rattle.run_model.specs.declared.bucket.BrigadeVar.TheVariants as var
-use Rattle.run_model.specs.declared.bucket.Cursor.{Cursor}
 use Rattle.run_model.specs.declared.bucket.Home.{Home}
 use Rattle.run_model.specs.declared.bucket.Kind.{Kind}
 use Rattle.run_model.specs.declared.bucket.Kind.TheVariants as kind
@@ -19,76 +16,29 @@ use Rattle.run_model.specs.declared.bucket.Mark.TheVariants.{Usable, Passed}
 use Rattle.run_model.specs.declared.bucket.NamedBucket.{NamedBucket}
 use Rattle.run_model.specs.declared.bucket.PoolVar.{PoolVar}
 use Rattle.run_model.specs.declared.bucket.PoolVar.TheVariants as poolvar
-use Rattle.run_model.specs.declared.payload.Payload.{Payload}
 use Rattle.run_model.specs.declared.fault.FaultKind.TheVariants.{F7}
 use Rattle.run_model.specs.Indexed.{upd}
-use Rattle.run_model.specs.BrigadeLists.{bucket_named}
-use Rattle.run_model.specs.BucketSteps.{items_at, is_of_kind, kind_is, got, byte_of, content_at}
-use Rattle.run_model.specs.Cutting.{length_of}
-use Rattle.run_model.specs.Cursors.{spot, is_end, bucket_at, read_cursor}
+use Rattle.run_model.specs.BucketSteps.{is_of_kind, kind_is}
+use Rattle.run_model.specs.Cursors.{spot, is_end, bucket_at}
 use Rattle.run_model.specs.Faults.{Anywhere, OnBucket, usable_fault}
-use Rattle.run_model.specs.Pools.{Pools, is_live, is_empty}
-use Rattle.run_model.specs.Sound.{SoundNames, Sound, brigade_name}
-use Rattle.run_model.specs.State.{Configuration, pool_view, set_number, items_of, is_passed}
-use Rattle.run_model.specs.Steps.{jumps_if, value_of, last_value, do_clearbuf, is_full, is_null_pool, is_null_brigade}
+use Rattle.run_model.specs.Pools.{is_live, is_empty}
+use Rattle.run_model.specs.Sound.{SoundNames, Sound}
+use Rattle.run_model.specs.State.{Configuration, pool_view, items_of, is_passed}
+use Rattle.run_model.specs.Steps.{jumps_if, is_null_pool, is_null_brigade}
 use Rattle.life_state.specs.declared.parts.Classes.{Classes}
 use Rattle.life_state.specs.declared.parts.Contents.{Contents}
 use Rattle.life_state.specs.declared.parts.Contents.TheVariants.{Empty}
 use Rattle.life_state.specs.declared.parts.PoolState.{PoolState}
 use Rattle.life_state.specs.Facts.{moved}
-use Rattle.life_state.specs.Rules.{Edges, cursor_need, told, of_kind, not_of_kind, some_class, with_classes, classes_of, edges_jend, pool_not_null, brigade_not_null, edges_jsent, edges_jnull, edges_jempty, both_with, goes_on_with, some_if, is_empty as holds_none}
+use Rattle.life_state.specs.Rules.{Edges, cursor_need, told, of_kind, not_of_kind, some_class, with_classes, classes_of, edges_jend, pool_not_null, brigade_not_null, edges_jsent, edges_jnull, edges_jempty, goes_on_with, some_if, is_empty as holds_none}
 use Rattle.life_state.proofs.Tests.{or_left, or_right}
 use Rattle.life_state.specs.States.{Homes, no_homes, only_null, BrigadeKnown, never_made, holds, CursorKnown, Unset, Loose, In, End, InOrEnd, State, set_pool, set_brigade}
 use Rattle.life_check.proofs.Orders.{never}
 use Rattle.life_check.proofs.Lists.{each_none}
-use Rattle.life_check.proofs.Standing.{cursor_stays, finds_same, upd_first, moved_facts, spot_loose, spot_in, spot_end}
+use Rattle.life_check.proofs.Standing.{upd_first, moved_facts, spot_loose, spot_in, spot_end}
 use Rattle.life_check.proofs.Wants.{both_none, usable_items}
-use Rattle.life_check.specs.Meaning.{Differ, class_has, Covers, HoldsContents, FitsPool, FitsMark, FitsBrigade, FitsCursor, Fits}
+use Rattle.life_check.specs.Meaning.{class_has, Covers, HoldsContents, FitsPool, FitsMark, FitsBrigade, FitsCursor, Fits}
 use Rattle.life_check.specs.Soundness.{FitsSome, Lands, LawOf}
-
--- What a state says of is as it was.
-pub record SameSeen (r new : Configuration) : Type 0 where
-  pub sent : new.instance.sent ≡ r.instance.sent
-  pub vars : new.instance.pools ≡ r.instance.pools
-  pub pools : new.shared.pools ≡ r.shared.pools
-  pub brigades : new.instance.brigades ≡ r.instance.brigades
-  pub loose : new.call.loose ≡ r.call.loose
-  pub cursors : new.call.cursors ≡ r.call.cursors
-
-cursor_same : (C : Homes → Home → Type 0) (r new : Configuration) (k : CursorKnown) (v : Cursor) → SameSeen r new → FitsCursor C r k v → FitsCursor C new k v
-cursor_same C r new k v same e =
-    cursor_stays C C r new v (record {
-      loose = λ n at. finds_same C C n r.call.loose new.call.loose (λ h x c. c) (ap (bucket_named n) same.loose);
-      within = λ b n at. finds_same C C n (items_at r b) (items_at new b) (λ h x c. c) (ap (λ (g : ℕ → BrigadeVar). bucket_named n (items_of (g b))) same.brigades);
-      names = λ b. ap (λ (g : ℕ → BrigadeVar). brigade_name (g b)) same.brigades;
-      usable = λ b h. ap (λ (g : ℕ → BrigadeVar). usable_fault (g b)) same.brigades ∙ h;
-    }) k e
-
-fits_same : (C : Homes → Home → Type 0) (s : State) (r new : Configuration) → SameSeen r new → Fits C s r → Fits C s new
-fits_same C s r new same f = record {
-  sent = λ h. f.sent (sym same.sent ∙ h);
-  pools = λ q. subst (λ (ps : Pools Payload). FitsPool ps (s.pools q) (new.instance.pools q)) (sym same.pools)
-      (subst (λ (g : ℕ → PoolVar). FitsPool r.shared.pools (s.pools q) (g q)) (sym same.vars) (f.pools q));
-  brigades = λ b. subst (λ (g : ℕ → BrigadeVar). FitsBrigade C (s.brigades b) (g b)) (sym same.brigades) (f.brigades b);
-  cursors = λ c. subst (λ (g : ℕ → Cursor). FitsCursor C new (s.cursors c) (g c)) (sym same.cursors) (cursor_same C r new (s.cursors c) (r.call.cursors c) same (f.cursors c));
-  facts = λ c d h. subst (λ (g : ℕ → Cursor). Differ (g c) (g d)) (sym same.cursors) (f.facts c d h);
-}
-
--- Both edges lead on with one state.
-pub lands_both : (lives : Home → Type 0) (p : Program) (s t : State) (r : Configuration) (jumps : Bool) → Fits (Covers p (pool_view r) lives) t r → Lands lives p (both_with t) s (jumps_if jumps) r
-lands_both lives p s t r true f = f
-lands_both lives p s t r false f = f
-
--- Jumps.
-
-pub law_jlt : {lives : Home → Type 0} (n : ℕ) (x : Value) (l : ℕ) → LawOf lives (instr.JLt n x l)
-law_jlt {lives = lives} n x l p choice r s ready = lands_both lives p s s r (nat_lt (r.instance.numbers n) (value_of r x)) ready.fits
-
-pub law_jeq : {lives : Home → Type 0} (n : ℕ) (x : Value) (l : ℕ) → LawOf lives (instr.JEq n x l)
-law_jeq {lives = lives} n x l p choice r s ready = lands_both lives p s s r (r.instance.numbers n == value_of r x) ready.fits
-
-pub law_jump : {lives : Home → Type 0} (l : ℕ) → LawOf lives (instr.Jump l)
-law_jump l p choice r s ready = ready.fits
 
 -- whether an EOS was passed
 pub law_jsent : {lives : Home → Type 0} (l : ℕ) → LawOf lives (instr.JSent l)
@@ -102,49 +52,6 @@ law_jsent {lives = lives} l p choice r s ready = by_sent r.instance.sent refl wh
     cursors = ready.fits.cursors;
     facts = ready.fits.facts;
   }
-
--- Numbers and the buffer.
-
-same_numbers : (n v : ℕ) (r : Configuration) → SameSeen r (set_number n v r)
-unfolding set_number
-same_numbers n v r = record { sent = refl; vars = refl; pools = refl; brigades = refl; loose = refl; cursors = refl }
-
-number_law : (lives : Home → Type 0) (p : Program) (s : State) (n v : ℕ) (r : Configuration) → Fits (Covers p (pool_view r) lives) s r
-    → Fits (Covers p (pool_view (set_number n v r)) lives) s (set_number n v r)
-unfolding set_number
-number_law lives p s n v r f = fits_same (Covers p (pool_view r) lives) s r (set_number n v r) (same_numbers n v r) f
-
-pub law_set : {lives : Home → Type 0} (n : ℕ) (x : Value) → LawOf lives (instr.Set n x)
-law_set {lives = lives} n x p choice r s ready = number_law lives p s n (value_of r x) r ready.fits
-
-pub law_add : {lives : Home → Type 0} (n : ℕ) (x : Value) → LawOf lives (instr.Add n x)
-law_add {lives = lives} n x p choice r s ready = number_law lives p s n (min last_value (r.instance.numbers n + value_of r x)) r ready.fits
-
-pub law_sub : {lives : Home → Type 0} (n : ℕ) (x : Value) → LawOf lives (instr.Sub n x)
-law_sub {lives = lives} n x p choice r s ready = number_law lives p s n (r.instance.numbers n - value_of r x) r ready.fits
-
-pub law_len : {lives : Home → Type 0} (n c : ℕ) → LawOf lives (instr.Len n c)
-law_len {lives = lives} n c p choice r s ready = number_law lives p s n (min last_value (length_of (content_at (spot r c)))) r ready.fits
-
-pub law_get : {lives : Home → Type 0} (n : ℕ) (x : Value) (l : ℕ) → LawOf lives (instr.Get n x l)
-law_get {lives = lives} n x l p choice r s ready = by_byte (byte_of (value_of r x) (content_at (spot r read_cursor))) where
-  by_byte : (o : Option ℕ) → Lands lives p (both_with s) s (jumps_if (is_none o)) (got n o r)
-  by_byte None = ready.fits
-  by_byte (Some b) = number_law lives p s n b r ready.fits
-
--- one more byte in the buffer
-abbrev with_byte : Value → Configuration → Configuration
-with_byte x r = record r { call = record r.call { buffer = r.call.buffer ++ value_of r x ∷ [] } }
-
-pub law_put : {lives : Home → Type 0} (x : Value) (l : ℕ) → LawOf lives (instr.Put x l)
-law_put {lives = lives} x l p choice r s ready = by_room (is_full r x) where
-  by_room : (b : Bool) → Lands lives p (both_with s) s (jumps_if b) (cond b r (with_byte x r))
-  by_room true = ready.fits
-  by_room false = fits_same (Covers p (pool_view r) lives) s r (with_byte x r) (record { sent = refl; vars = refl; pools = refl; brigades = refl; loose = refl; cursors = refl }) ready.fits
-
-pub law_clearbuf : {lives : Home → Type 0} → LawOf lives instr.ClearBuf
-law_clearbuf {lives = lives} p choice r s ready =
-    fits_same (Covers p (pool_view r) lives) s r (do_clearbuf r) (record { sent = refl; vars = refl; pools = refl; brigades = refl; loose = refl; cursors = refl }) ready.fits
 
 -- Tests of one variable.
 

@@ -1,4 +1,4 @@
--- The rules, instruction by instruction.
+-- What the rules lead to is in form.
 use Rattle.std.proofs.Common.{◌≡◌, ℕ, ◌<◌, ◌≤◌, Bool, true, false, ◌||◌, not, nat_lt, length, List, [], ◌∷◌, Option, Some, None, IfSome, IfOk, refl, ap, sym, subst, ◌∙◌, inl, ⊎_elim, arith, slice_index_or}
 use Rattle.std.proofs.lemmas.Option.{slice_get-get_or}
 use Rattle.std.proofs.lemmas.Bool.{ltb-true, lt-ltb, cases_lt}
@@ -11,12 +11,17 @@ use Rattle.module_code.specs.Args.{args}
 use Rattle.module_code.specs.Tables.{place_is_declared}
 use Rattle.module_code.specs.Program.{Program, IsModule, is_variable, pool_of_brigade}
 use Rattle.module_code.proofs.FitLaws.{AreFit, fits_parts}
+use Rattle.run_model.specs.declared.effect.Condition.{Condition}
+use Rattle.run_model.specs.declared.effect.Condition.TheVariants as condition
+use Rattle.run_model.specs.declared.effect.Flow.{Flow}
+use Rattle.run_model.specs.declared.effect.Flow.TheVariants.{ToNext, JumpIf, JumpAlways, EndCall}
+use Rattle.run_model.specs.EffectOf.{effect_of, flow_of}
 use Rattle.run_model.specs.declared.fault.FaultKind.{FaultKind}
 use Rattle.run_model.specs.Faults.{Want, WUsable, wants}
 use Rattle.life_state.specs.declared.parts.Classes.{Classes}
 use Rattle.life_state.specs.States.{no_homes, only_call, home_in, both_homes, only_null, only_live, ended_pool, BrigadeKnown, never_made, is_live_brigade, CursorKnown, Unset, Loose, In, End, InOrEnd, State, set_pool, set_brigade}
 use Rattle.life_state.specs.Facts.{known}
-use Rattle.life_state.specs.Rules.{need, first_need, Edges, goes_on_with, some_if, some_class, told, with_classes, classes_of, told_classes, no_other, only_bytes, only_flush, only_eos, tail_content, head_content, edges_jend, edges_jnull, edges, need_or, made, is_empty, after_pclear, after_pdestroy, pool_not_null, brigade_not_null, of_kind, not_of_kind}
+use Rattle.life_state.specs.Rules.{need, first_need, Edges, some_if, some_class, told, with_classes, classes_of, told_classes, no_other, only_bytes, only_flush, only_eos, tail_content, head_content, edges_jend, edges_jnull, after, on_condition, led, edges, need_or, made, is_empty, after_pclear, after_pdestroy, pool_not_null, brigade_not_null, of_kind, not_of_kind}
 use Rattle.life_state.specs.Form.{NamesDeclared, AtHand, FormedCursor}
 use Rattle.life_state.specs.FormLaws.{IsFormedIn, RulesKeepForm}
 use Rattle.life_state.proofs.FormParts.{no_named, call_named, both_named, home_named, ended_some, never_formed, not_null_formed, hand_not_null}
@@ -70,8 +75,8 @@ module _ (p : Program) (call : Bool) (s : State) (m : IsModule p) (f : IsFormedI
   own_pool : (t : State) (q : ℕ) → IsFormedIn p call t → nat_lt q (length p.pools) ≡ true → q < t.pool_count
   own_pool t q g h = subst (λ (n : ℕ). q < n) (sym g.pools) (ltb-true q (length p.pools) h)
 
-  own_brigade : (b : ℕ) → nat_lt b (length p.brigades) ≡ true → b < s.brigade_count
-  own_brigade b h = subst (λ (n : ℕ). b < n) (sym f.brigades) (ltb-true b (length p.brigades) h)
+  own_brigade : (t : State) (b : ℕ) → IsFormedIn p call t → nat_lt b (length p.brigades) ≡ true → b < t.brigade_count
+  own_brigade t b g h = subst (λ (n : ℕ). b < n) (sym g.brigades) (ltb-true b (length p.brigades) h)
 
   -- a pool variable that is cleared, and then destroyed
   cleared_own : (q : ℕ) → nat_lt q (length p.pools) ≡ true → IsFormedIn p call (after_pclear p q s)
@@ -86,83 +91,109 @@ module _ (p : Program) (call : Bool) (s : State) (m : IsModule p) (f : IsFormedI
   brigades_home o = home_named s (pool_of_brigade p o) (subst (λ (n : ℕ). place_is_declared n (pool_of_brigade p o) ≡ true) (sym f.pools) (brigade_declared p o m))
 
   -- a new bucket without a home
-  fresh : (c : ℕ) (t : Classes) → some_class t ≡ true → nat_lt c 8 ≡ true → AreFormed (goes_on_with (made c t no_homes s))
-  fresh c t some h = (made_formed p call s c t no_homes f (cursor_number c h) some (no_named s), tt)
+  fresh : (c : ℕ) (t : Classes) → some_class t ≡ true → nat_lt c 8 ≡ true → IsFormedIn p call (made c t no_homes s)
+  fresh c t some h = made_formed p call s c t no_homes f (cursor_number c h) some (no_named s)
 
-  end_edges : (c : ℕ) (x : CursorKnown) → c < 9 → FormedCursor s x → AreFormed (edges_jend c x s)
-  end_edges c (End b) inside here = (tt, f)
-  end_edges c (InOrEnd b t) inside here = (told_formed p call s c (In b t) f inside here, told_formed p call s c (End b) f inside (here.1))
-  end_edges c Unset inside here = (f, tt)
-  end_edges c (Loose t h) inside here = (f, tt)
-  end_edges c (In b t) inside here = (f, tt)
+  end_edges : (s : State) → IsFormedIn p call s → (c : ℕ) (x : CursorKnown) → c < 9 → FormedCursor s x → AreFormed (edges_jend c x s)
+  end_edges s f c (End b) inside here = (tt, f)
+  end_edges s f c (InOrEnd b t) inside here = (told_formed p call s c (In b t) f inside here, told_formed p call s c (End b) f inside (here.1))
+  end_edges s f c Unset inside here = (f, tt)
+  end_edges s f c (Loose t h) inside here = (f, tt)
+  end_edges s f c (In b t) inside here = (f, tt)
 
-  told_of : (c : ℕ) (t : Classes) → c < 9 → IfSome (told_classes c t s) (IsFormedIn p call)
-  told_of c t inside =
+  told_of : (s : State) → IsFormedIn p call s → (c : ℕ) (t : Classes) → c < 9 → IfSome (told_classes c t s) (IsFormedIn p call)
+  told_of s f c t inside =
       if_reached (some_class t) (told c (with_classes t (s.cursors c)) s)
       (λ e. told_formed p call s c (with_classes t (s.cursors c)) f inside (classes_formed s t (s.cursors c) e (f.formed.cursors c)))
 
-  null_edges : (v : VarRef) → is_variable p v ≡ true → AreFormed (edges_jnull v s)
-  null_edges (variable.Pool q) h = (
+  null_edges : (s : State) → IsFormedIn p call s → (v : VarRef) → is_variable p v ≡ true → AreFormed (edges_jnull v s)
+  null_edges s f (variable.Pool q) h = (
     if_reached ((s.pools q).gone || (s.pools q).live) (set_pool q (pool_not_null (s.pools q)) s) (λ e. pool_formed p call s q (pool_not_null (s.pools q)) f (own_pool s q f h) e),
     if_reached (s.pools q).null (set_pool q only_null s) (λ e. pool_formed p call s q only_null f (own_pool s q f h) refl),
   )
-  null_edges (variable.Brigade b) h =
+  null_edges s f (variable.Brigade b) h =
       let v = s.brigades b in (
         if_reached (v.gone || v.live) (set_brigade b (brigade_not_null v) s)
-            (λ e. brigade_formed p call s b (brigade_not_null v) f (inl (own_brigade b h)) (not_null_formed v e (f.formed.brigades b)) (f.formed.homes b) (hand_not_null v)),
+            (λ e. brigade_formed p call s b (brigade_not_null v) f (inl (own_brigade s b f h)) (not_null_formed v e (f.formed.brigades b)) (f.formed.homes b) (hand_not_null v)),
         if_reached v.null (set_brigade b never_made s)
-            (λ e. brigade_formed p call s b never_made f (inl (own_brigade b h)) never_formed (no_named s) (λ k. absurd (not_null v e (live_not_null v (hand_live v k))))),
+            (λ e. brigade_formed p call s b never_made f (inl (own_brigade s b f h)) never_formed (no_named s) (λ k. absurd (not_null v e (live_not_null v (hand_live v k))))),
       )
 
-  edges_formed : (i : Instr) → AreFit p (args i) → Met (wants p i) → AreFormed (edges p i s)
+  -- what the effect of an instruction leaves; most leave the state as it is
+  after_formed : (i : Instr) → AreFit p (args i) → Met (wants p i) → IsFormedIn p call (after p (effect_of i) s)
   unfolding Met
-  edges_formed (instr.PCreate q) a h = (pool_formed p call s q only_live f (own_pool s q f (a.first.0)) refl, tt)
-  edges_formed (instr.PClear q) a h = (cleared_own q (a.first.0), tt)
-  edges_formed (instr.PDestroy q) a h = (destroyed q (a.first.0), tt)
-  edges_formed (instr.BCreate o) a h = (bcreate_formed p call s o f (own_brigade o (a.first.0)), tt)
-  edges_formed (instr.BClean b) a h = (bclean_formed p call s b f (live_there (s.brigades b) (h.0)), tt)
-  edges_formed (instr.BConcat b d) a h =
-      (join_formed p call s b d (both_homes (s.brigades b).homes (s.brigades d).homes) f (hand b (h.0)) (live d (h.1.0)) (both_named s (s.brigades b).homes (s.brigades d).homes (f.formed.homes b) (f.formed.homes d)), tt)
-  edges_formed (instr.BSplit b c d) a h = (bsplit_formed p call s b c d f (hand d (h.1.1.0)), tt)
-  edges_formed (instr.BPart b x c l) a h =
-      (first_formed p call s c b f (cursor_number c (a.third.0)) (hand b (h.0)), set_cursor_formed p call s c (End b) no_other f (cursor_number c (a.third.0)) (hand b (h.0)))
-  edges_formed (instr.BSave o b) a h = (
-    join_formed p call s o b (both_homes (s.brigades o).homes (home_in (pool_of_brigade p o))) f (hand o (h.0)) (live b (h.1.0))
-        (both_named s (s.brigades o).homes (home_in (pool_of_brigade p o)) (f.formed.homes o) (brigades_home o)),
-    tt,
-  )
-  edges_formed (instr.JEmpty b l) a h = (if_reached (not (is_empty (s.brigades b).content)) s (λ e. f), emptied_at p call s b f (live b (h.0)))
-  edges_formed (instr.Pass b l) a h = let g = pass_formed p call s b f (live b (h.0)) in (g, g)
-  edges_formed (instr.First c b) a h = (first_formed p call s c b f (cursor_number c (a.first.0)) (hand b (h.0)), tt)
-  edges_formed (instr.Next d c) a h = (next_formed p call s d c (s.cursors c) f (cursor_number d (a.first.0)) (f.formed.cursors c), tt)
-  edges_formed (instr.JEnd c l) a h = end_edges c (s.cursors c) (cursor_number c (a.first.0)) (f.formed.cursors c)
-  edges_formed (instr.JKind c k l) a h = (told_of c (not_of_kind k (classes_of (s.cursors c))) (cursor_number c (a.first.0)), told_of c (of_kind k (classes_of (s.cursors c))) (cursor_number c (a.first.0)))
-  edges_formed (instr.Unlink c) a h = (unlink_formed p call s c f (cursor_number c (a.first.0)) (in_brigade (s.cursors c) (h.0)), tt)
-  edges_formed (instr.BDelete c) a h = (bdelete_formed p call s c f (cursor_number c (a.first.0)), tt)
-  edges_formed (instr.Tail b c) a h = (put_formed p call tail_content s b c f (cursor_number c (a.second.0)) (hand b (h.0)) (on_loose (s.cursors c) (h.1.0)), tt)
-  edges_formed (instr.Head b c) a h = (put_formed p call head_content s b c f (cursor_number c (a.second.0)) (hand b (h.0)) (on_loose (s.cursors c) (h.1.0)), tt)
-  edges_formed (instr.Before c d) a h = (before_formed p call s c (s.cursors d) f (cursor_number c (a.first.0)) (on_loose (s.cursors c) (h.0)) (f.formed.cursors d), tt)
-  edges_formed (instr.Heap c t) a h = fresh c only_bytes refl (a.first.0)
-  edges_formed (instr.Immortal c t) a h = fresh c only_bytes refl (a.first.0)
-  edges_formed (instr.FromBuf c) a h = fresh c only_bytes refl (a.first.0)
-  edges_formed (instr.Transient c) a h = (made_formed p call s c only_bytes only_call f (cursor_number c (a.first.0)) refl (call_named s), tt)
-  edges_formed (instr.PoolB c q) a h = fresh c only_bytes refl (a.first.0)
-  edges_formed (instr.Flush c) a h = fresh c only_flush refl (a.first.0)
-  edges_formed (instr.Eos c) a h = fresh c only_eos refl (a.first.0)
-  edges_formed (instr.Split c x l) a h = (f, f)
-  edges_formed (instr.Copy d c) a h = (copy_formed p call s d c f (cursor_number d (a.first.0)) (on_bucket (s.cursors c) (h.0)), tt)
-  edges_formed (instr.Aside c q) a h = (aside_formed p call s c q (s.cursors c) f (cursor_number c (a.first.0)) (home_named s q (place_there s q f.formed (h.1.0))) (f.formed.cursors c), tt)
-  edges_formed (instr.Read c l) a h =
-      (set_cursor_formed p call s 8 (s.cursors c) (known s c) f (omega arith) (f.formed.cursors c), set_cursor_formed p call s 8 Unset no_other f (omega arith) tt)
-  edges_formed (instr.Get n x l) a h = (f, f)
-  edges_formed (instr.Put x l) a h = (f, f)
-  edges_formed (instr.JLt n x l) a h = (f, f)
-  edges_formed (instr.JEq n x l) a h = (f, f)
-  edges_formed (instr.JNull v l) a h = null_edges v (a.first.0)
-  edges_formed (instr.JSent l) a h = (sent_formed p call s false f, if_reached s.sent s (λ e. f))
-  edges_formed (instr.Jump l) a h = (tt, f)
-  edges_formed (instr.Ret t) a h = (tt, tt)
-  edges_formed i a h = (f, tt)
+  after_formed (instr.PCreate q) a h = pool_formed p call s q only_live f (own_pool s q f (a.first.0)) refl
+  after_formed (instr.PClear q) a h = cleared_own q (a.first.0)
+  after_formed (instr.PDestroy q) a h = destroyed q (a.first.0)
+  after_formed (instr.BCreate o) a h = bcreate_formed p call s o f (own_brigade s o f (a.first.0))
+  after_formed (instr.BClean b) a h = bclean_formed p call s b f (live_there (s.brigades b) (h.0))
+  after_formed (instr.BConcat b d) a h =
+      join_formed p call s b d (both_homes (s.brigades b).homes (s.brigades d).homes) f (hand b (h.0)) (live d (h.1.0)) (both_named s (s.brigades b).homes (s.brigades d).homes (f.formed.homes b) (f.formed.homes d))
+  after_formed (instr.BSplit b c d) a h = bsplit_formed p call s b c d f (hand d (h.1.1.0))
+  after_formed (instr.BPart b x c l) a h = first_formed p call s c b f (cursor_number c (a.third.0)) (hand b (h.0))
+  after_formed (instr.BSave o b) a h =
+      join_formed p call s o b (both_homes (s.brigades o).homes (home_in (pool_of_brigade p o))) f (hand o (h.0)) (live b (h.1.0))
+      (both_named s (s.brigades o).homes (home_in (pool_of_brigade p o)) (f.formed.homes o) (brigades_home o))
+  after_formed (instr.Pass b l) a h = pass_formed p call s b f (live b (h.0))
+  after_formed (instr.First c b) a h = first_formed p call s c b f (cursor_number c (a.first.0)) (hand b (h.0))
+  after_formed (instr.Next d c) a h = next_formed p call s d c (s.cursors c) f (cursor_number d (a.first.0)) (f.formed.cursors c)
+  after_formed (instr.Unlink c) a h = unlink_formed p call s c f (cursor_number c (a.first.0)) (in_brigade (s.cursors c) (h.0))
+  after_formed (instr.BDelete c) a h = bdelete_formed p call s c f (cursor_number c (a.first.0))
+  after_formed (instr.Tail b c) a h = put_formed p call tail_content s b c f (cursor_number c (a.second.0)) (hand b (h.0)) (on_loose (s.cursors c) (h.1.0))
+  after_formed (instr.Head b c) a h = put_formed p call head_content s b c f (cursor_number c (a.second.0)) (hand b (h.0)) (on_loose (s.cursors c) (h.1.0))
+  after_formed (instr.Before c d) a h = before_formed p call s c (s.cursors d) f (cursor_number c (a.first.0)) (on_loose (s.cursors c) (h.0)) (f.formed.cursors d)
+  after_formed (instr.Heap c t) a h = fresh c only_bytes refl (a.first.0)
+  after_formed (instr.Immortal c t) a h = fresh c only_bytes refl (a.first.0)
+  after_formed (instr.FromBuf c) a h = fresh c only_bytes refl (a.first.0)
+  after_formed (instr.Transient c) a h = made_formed p call s c only_bytes only_call f (cursor_number c (a.first.0)) refl (call_named s)
+  after_formed (instr.PoolB c q) a h = fresh c only_bytes refl (a.first.0)
+  after_formed (instr.Flush c) a h = fresh c only_flush refl (a.first.0)
+  after_formed (instr.Eos c) a h = fresh c only_eos refl (a.first.0)
+  after_formed (instr.Copy d c) a h = copy_formed p call s d c f (cursor_number d (a.first.0)) (on_bucket (s.cursors c) (h.0))
+  after_formed (instr.Aside c q) a h = aside_formed p call s c q (s.cursors c) f (cursor_number c (a.first.0)) (home_named s q (place_there s q f.formed (h.1.0))) (f.formed.cursors c)
+  after_formed (instr.Read c l) a h = set_cursor_formed p call s 8 (s.cursors c) (known s c) f (omega arith) (f.formed.cursors c)
+  after_formed i a h = f
+
+  -- what is used of operands and needs where an instruction leads on from a state, by its flow
+  FlowTakes : State → Flow → Type 0
+  FlowTakes t (JumpIf (condition.TooShort b x c)) = (c < 9) × AtHand s b
+  FlowTakes t (JumpIf (condition.NoBucket b)) = is_live_brigade (t.brigades b) ≡ true
+  FlowTakes t (JumpIf (condition.AtEnd c)) = c < 9
+  FlowTakes t (JumpIf (condition.OfKind c k)) = c < 9
+  FlowTakes t (JumpIf (condition.IsNull v)) = is_variable p v ≡ true
+  FlowTakes t when = Unit {0}
+
+  leads : (i : Instr) → AreFit p (args i) → Met (wants p i) → FlowTakes (after p (effect_of i) s) (flow_of i)
+  unfolding Met FlowTakes
+  leads (instr.BPart b x c l) a h = (cursor_number c (a.third.0), hand b (h.0))
+  leads (instr.JEmpty b l) a h = live b (h.0)
+  leads (instr.JEnd c l) a h = cursor_number c (a.first.0)
+  leads (instr.JKind c k l) a h = cursor_number c (a.first.0)
+  leads (instr.JNull v l) a h = a.first.0
+  leads i a h = tt
+
+  -- t is what an effect makes of s
+  module _ (t : State) (g : IsFormedIn p call t) where
+    on_condition_formed : (when : Condition) → FlowTakes t (JumpIf when) → AreFormed (on_condition when s t)
+    unfolding FlowTakes
+    on_condition_formed (condition.TooShort b x c) h = (g, set_cursor_formed p call s c (End b) no_other f (h.0) (h.1))
+    on_condition_formed (condition.NoBucket b) h = (if_reached (not (is_empty (t.brigades b).content)) t (λ e. g), emptied_at p call t b g h)
+    on_condition_formed (condition.AtEnd c) h = end_edges t g c (t.cursors c) h (g.formed.cursors c)
+    on_condition_formed (condition.OfKind c k) h = (told_of t g c (not_of_kind k (classes_of (t.cursors c))) h, told_of t g c (of_kind k (classes_of (t.cursors c))) h)
+    on_condition_formed (condition.ReadFailed c) h = (g, set_cursor_formed p call s 8 Unset no_other f (omega arith) tt)
+    on_condition_formed (condition.IsNull v) h = null_edges t g v h
+    on_condition_formed condition.WasSent h = (sent_formed p call t false g, if_reached t.sent t (λ e. g))
+    on_condition_formed when h = (g, g)
+
+    led_formed : (flow : Flow) → FlowTakes t flow → AreFormed (led flow s t)
+    unfolding FlowTakes
+    led_formed ToNext h = (g, tt)
+    led_formed (JumpIf when) h = on_condition_formed when h
+    led_formed JumpAlways h = (tt, g)
+    led_formed EndCall h = (tt, tt)
+
+  edges_formed : (i : Instr) → AreFit p (args i) → Met (wants p i) → AreFormed (edges p i s)
+  edges_formed i a h = led_formed (after p (effect_of i) s) (after_formed i a h) (flow_of i) (leads i a h)
 
 pub rules_keep_form : RulesKeepForm
 rules_keep_form p call i s e m fit f h = subst (λ r. IfOk r (AreFormed p call s m f)) h (answered (first_need s (wants p i)) refl)

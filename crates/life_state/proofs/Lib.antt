@@ -13,6 +13,7 @@ pub mod FormNeeds
 pub mod FormOrder
 pub mod FormParts
 pub mod FormPasses
+pub mod InStateLaws
 pub mod FormRules
 pub mod FormSteps
 pub mod JoinAbove

@@ -9,6 +9,17 @@ use Rattle.module_code.specs.declared.instr.PoolRef.TheVariants as pool
 use Rattle.module_code.specs.declared.instr.VarRef.{VarRef}
 use Rattle.module_code.specs.declared.instr.VarRef.TheVariants as variable
 use Rattle.module_code.specs.Program.{Program, pool_of_brigade}
+use Rattle.run_model.specs.declared.effect.Effect.{Effect}
+use Rattle.run_model.specs.declared.effect.Effect.TheVariants as effect
+use Rattle.run_model.specs.declared.effect.MadeFrom.{MadeFrom}
+use Rattle.run_model.specs.declared.effect.MadeFrom.TheVariants.{TransientBuffer, FlushBucket, EosBucket, CopyAt}
+use Rattle.run_model.specs.declared.effect.Side.{Side}
+use Rattle.run_model.specs.declared.effect.Side.TheVariants.{AtTail, AtHead}
+use Rattle.run_model.specs.declared.effect.Condition.{Condition}
+use Rattle.run_model.specs.declared.effect.Condition.TheVariants as condition
+use Rattle.run_model.specs.declared.effect.Flow.{Flow}
+use Rattle.run_model.specs.declared.effect.Flow.TheVariants.{ToNext, JumpIf, JumpAlways, EndCall}
+use Rattle.run_model.specs.EffectOf.{effect_of, flow_of}
 use Rattle.run_model.specs.declared.fault.FaultKind.{FaultKind}
 use Rattle.run_model.specs.Faults.{OnBucket, OnLoose, InBrigade, Anywhere, wants}
 use Rattle.life_state.specs.declared.parts.Contents.{Contents}
@@ -18,7 +29,7 @@ use Rattle.life_state.specs.States.{Homes, no_homes, only_call, home_in, both_ho
 use Rattle.life_state.specs.Facts.{is_set, known, set_cursor}
 use Rattle.life_state.specs.Order.{implies, classes_le, homes_le, pool_le, brigade_le, cursor_le}
 use Rattle.life_state.specs.PoolOrder.{is_under}
-use Rattle.life_state.specs.Rules.{homes_at, cursor_need, first_need, joined_content, tail_content, head_content, before_content, emptied, left, carried, split_off, lies_under, is_subpool, cleared_pool, cleared_brigade, cleared_cursors, with_cleared, cleared_under, cleared, Edges, goes_on_with, some_if, no_other, all_others, after_pclear, after_pdestroy, after_bclean, after_join, after_bsplit, split_part, bucket_or_end, after_first, after_next, is_empty, edges_jempty, told, edges_jend, of_kind, not_of_kind, some_class, with_classes, classes_of, told_classes, edges_jkind, after_unlink, put_in, if_brigade, after_before, only_bytes, only_flush, only_eos, made, after_aside, edges_read, may_end, after_pass, pool_not_null, brigade_not_null, edges_jnull, edges, need_or, at_main, at_return, at_end_of_request}
+use Rattle.life_state.specs.Rules.{homes_at, cursor_need, first_need, joined_content, before_content, emptied, left, carried, split_off, lies_under, is_subpool, cleared_pool, cleared_brigade, cleared_cursors, with_cleared, cleared_under, cleared, Edges, some_if, no_other, all_others, after_pclear, after_pdestroy, after_bclean, after_join, after_bsplit, split_part, bucket_or_end, after_first, after_next, is_empty, edges_jempty, told, edges_jend, of_kind, not_of_kind, some_class, with_classes, classes_of, told_classes, edges_jkind, after_unlink, put_in, if_brigade, after_before, only_bytes, only_flush, only_eos, made, after_make, side_content, after_aside, after_read, may_end, after_pass, pool_not_null, brigade_not_null, edges_jnull, after, on_condition, led, edges, need_or, at_main, at_return, at_end_of_request}
 use Rattle.life_state.specs.Monotone.{edge_le, LeadsBelow, RulesAreMonotone, EntriesAreMonotone}
 use Rattle.life_state.proofs.Tests.{split2, and2, split3, or_either, or_left, or_right, implies_says}
 use Rattle.life_state.proofs.PartsOrder.{pool_same, brigade_same, homes_same, classes_same, cursor_same}
@@ -34,6 +45,12 @@ EdgeWithin (Some a) (Some b) = Within a b
 
 abbrev pub EdgesWithin : Edges → Edges → Type 0
 EdgesWithin d e = EdgeWithin d.next e.next × EdgeWithin d.jump e.jump
+
+-- what is used of the needs where an instruction leads on from a state, by its flow
+abbrev FlowNeeds : State → Flow → Type 0
+FlowNeeds b (JumpIf (condition.AtEnd c)) = cursor_need Anywhere (b.cursors c) ≡ None
+FlowNeeds b (JumpIf (condition.OfKind c k)) = cursor_need OnBucket (b.cursors c) ≡ None
+FlowNeeds b f = Unit {0}
 
 clash : false ≡ true → ⊥
 clash e = cc
@@ -226,8 +243,8 @@ module _ (p : Program) (s t : State) (w : Within s t) where
   new : (c : ℕ) (u v : Classes) (h k : Homes) → classes_le u v ≡ true → homes_le h k ≡ true → Within (made c u h s) (made c v k t)
   new c u v h k p q = set_within s t c (Loose u h) (Loose v k) all_others all_others w (and2 (classes_le u v) (homes_le h k) p q) (λ i e. e)
 
-  fresh : (c : ℕ) (u : Classes) (h : Homes) → EdgesWithin (goes_on_with (made c u h s)) (goes_on_with (made c u h t))
-  fresh c u h = (new c u u h h (classes_same u) (homes_same h), tt)
+  fresh : (c : ℕ) (u : Classes) (h : Homes) → Within (made c u h s) (made c u h t)
+  fresh c u h = new c u u h h (classes_same u) (homes_same h)
 
   asides : (c : ℕ) (q : PoolRef) (x y : CursorKnown) → cursor_le x y ≡ true → cursor_need OnBucket y ≡ None → Within (after_aside c q x s) (after_aside c q y t)
   asides c q (Loose u k) (Loose v l) p h =
@@ -244,8 +261,11 @@ module _ (p : Program) (s t : State) (w : Within s t) where
   asides c q x (End n) p h = cc
   asides c q x (InOrEnd n v) p h = cc
 
-  reads : (c : ℕ) → EdgesWithin (edges_read c s) (edges_read c t)
-  reads c = (set_within s t 8 (s.cursors c) (t.cursors c) (known s c) (known t c) w (w.cursors c) (known_within s t w c), set_within s t 8 Unset Unset no_other no_other w refl (λ k h. h))
+  reads : (c : ℕ) → Within (after_read c s) (after_read c t)
+  reads c = set_within s t 8 (s.cursors c) (t.cursors c) (known s c) (known t c) w (w.cursors c) (known_within s t w c)
+
+  unread : Within (set_cursor 8 Unset no_other s) (set_cursor 8 Unset no_other t)
+  unread = set_within s t 8 Unset Unset no_other no_other w refl (λ k h. h)
 
   or_more : (a b c d : Bool) → implies a c ≡ true → implies b d ≡ true → (a || b) ≡ true → (c || d) ≡ true
   or_more a b c d p q h = elim (or_either a b h) [ inl e ↦ or_left c d (implies_says a c p e) | inr e ↦ or_right c d (implies_says b d q e) ]
@@ -275,53 +295,95 @@ module _ (p : Program) (s t : State) (w : Within s t) where
   homed (instr.Read c l) h = (there InBrigade (t.cursors c) (h.0), tt)
   homed i h = tt
 
-  edges_within : (i : Instr) → Met t (wants p i) → EdgesWithin (edges p i s) (edges p i t)
+  -- what is used of the needs, by effects
+  EffectNeeds : Effect → Type 0
+  EffectNeeds (effect.Next d c) = cursor_need InBrigade (t.cursors c) ≡ None
+  EffectNeeds (effect.Unlink c) = cursor_need InBrigade (t.cursors c) ≡ None
+  EffectNeeds (effect.Insert side b c) = cursor_need OnLoose (t.cursors c) ≡ None
+  EffectNeeds (effect.Before c d) = (cursor_need OnLoose (t.cursors c) ≡ None) × (cursor_need InBrigade (t.cursors d) ≡ None)
+  EffectNeeds (effect.Make c (CopyAt d)) = cursor_need OnBucket (t.cursors d) ≡ None
+  EffectNeeds (effect.Aside c q) = cursor_need OnBucket (t.cursors c) ≡ None
+  EffectNeeds e = Unit {0}
+
+  asked : (i : Instr) → Met t (wants p i) → EffectNeeds (effect_of i)
+  unfolding Met EffectNeeds
+  asked (instr.Next d c) h = h.0
+  asked (instr.Unlink c) h = h.0
+  asked (instr.Tail b c) h = h.1.0
+  asked (instr.Head b c) h = h.1.0
+  asked (instr.Before c d) h = (h.0, h.1.0)
+  asked (instr.Copy d c) h = h.0
+  asked (instr.Aside c q) h = h.0
+  asked i h = tt
+
+  leads : (i : Instr) → Met t (wants p i) → FlowNeeds (after p (effect_of i) t) (flow_of i)
   unfolding Met
-  edges_within (instr.PCreate q) h = (pool_within s t q only_live only_live w (pool_same only_live), tt)
-  edges_within (instr.PClear q) h = (cleared_both (pool.Own q), tt)
-  edges_within (instr.PDestroy q) h = (destroyed q, tt)
-  edges_within (instr.BCreate o) h = (emptied_at o, tt)
-  edges_within (instr.BClean b) h = (cleaned b, tt)
-  edges_within (instr.BConcat a b) h =
-      (joined a b (both_homes (s.brigades a).homes (s.brigades b).homes) (both_homes (t.brigades a).homes (t.brigades b).homes) (homes_joined (s.brigades a).homes (s.brigades b).homes (t.brigades a).homes (t.brigades b).homes (of a).homes (of b).homes), tt)
-  edges_within (instr.BSplit b c a) h = (split_at b c a, tt)
-  edges_within (instr.BPart b x c l) h = (firsts c b, ends c b)
-  edges_within (instr.BSave o b) h =
+  leads (instr.JEnd c l) h = h.0
+  leads (instr.JKind c k l) h = h.0
+  leads i h = tt
+
+  makes : (c : ℕ) (from : MadeFrom) → EffectNeeds (effect.Make c from) → Within (after_make c from s) (after_make c from t)
+  unfolding EffectNeeds
+  makes c TransientBuffer h = fresh c only_bytes only_call
+  makes c FlushBucket h = fresh c only_flush no_homes
+  makes c EosBucket h = fresh c only_eos no_homes
+  makes c (CopyAt d) h =
+      let set = there OnBucket (t.cursors d) h in
+      new c (classes_of (s.cursors d)) (classes_of (t.cursors d)) (homes_at s (s.cursors d)) (homes_at t (t.cursors d)) (classes_there d set) (homes_there d set)
+  makes c from h = fresh c only_bytes no_homes
+
+  inserts : (side : Side) → Rises (side_content side)
+  inserts AtTail = tail_rises
+  inserts AtHead = head_rises
+
+  after_within : (e : Effect) → EffectNeeds e → Within (after p e s) (after p e t)
+  unfolding EffectNeeds
+  after_within (effect.MakePool q) h = pool_within s t q only_live only_live w (pool_same only_live)
+  after_within (effect.ClearPool q) h = cleared_both (pool.Own q)
+  after_within (effect.DestroyPool q) h = destroyed q
+  after_within (effect.MakeBrigade o) h = emptied_at o
+  after_within (effect.Clean b) h = cleaned b
+  after_within (effect.Concat a b) h =
+      joined a b (both_homes (s.brigades a).homes (s.brigades b).homes) (both_homes (t.brigades a).homes (t.brigades b).homes) (homes_joined (s.brigades a).homes (s.brigades b).homes (t.brigades a).homes (t.brigades b).homes (of a).homes (of b).homes)
+  after_within (effect.SplitBrigade b c a) h = split_at b c a
+  after_within (effect.PartBrigade b x c) h = firsts c b
+  after_within (effect.Save o b) h =
       let home = home_in (pool_of_brigade p o) in
-      (joined o b (both_homes (s.brigades o).homes home) (both_homes (t.brigades o).homes home) (homes_joined (s.brigades o).homes home (t.brigades o).homes home (of o).homes (homes_same home)), tt)
-  edges_within (instr.JEmpty b l) h = emptiness b
-  edges_within (instr.Pass b l) h = (passed b, passed b)
-  edges_within (instr.First c b) h = (firsts c b, tt)
-  edges_within (instr.Next d c) h = (nexts d c (s.cursors c) (t.cursors c) (w.cursors c) (h.0), tt)
-  edges_within (instr.JEnd c l) h = at_end c (s.cursors c) (t.cursors c) refl (w.cursors c) (h.0)
-  edges_within (instr.JKind c k l) h = kinds c k (there OnBucket (t.cursors c) (h.0))
-  edges_within (instr.Unlink c) h = (unlinked c (there InBrigade (t.cursors c) (h.0)), tt)
-  edges_within (instr.BDelete c) h = (move_within s t c Unset Unset w refl, tt)
-  edges_within (instr.Tail b c) h = (put_both tail_content tail_rises b c (there OnLoose (t.cursors c) (h.1.0)), tt)
-  edges_within (instr.Head b c) h = (put_both head_content head_rises b c (there OnLoose (t.cursors c) (h.1.0)), tt)
-  edges_within (instr.Before c d) h = (befores c (s.cursors d) (t.cursors d) (there OnLoose (t.cursors c) (h.0)) (w.cursors d) (h.1.0), tt)
-  edges_within (instr.Heap c u) h = fresh c only_bytes no_homes
-  edges_within (instr.Immortal c u) h = fresh c only_bytes no_homes
-  edges_within (instr.FromBuf c) h = fresh c only_bytes no_homes
-  edges_within (instr.Transient c) h = fresh c only_bytes only_call
-  edges_within (instr.PoolB c q) h = fresh c only_bytes no_homes
-  edges_within (instr.Flush c) h = fresh c only_flush no_homes
-  edges_within (instr.Eos c) h = fresh c only_eos no_homes
-  edges_within (instr.Split c x l) h = (w, w)
-  edges_within (instr.Copy d c) h =
-      let set = there OnBucket (t.cursors c) (h.0) in
-      (new d (classes_of (s.cursors c)) (classes_of (t.cursors c)) (homes_at s (s.cursors c)) (homes_at t (t.cursors c)) (classes_there c set) (homes_there c set), tt)
-  edges_within (instr.Aside c q) h = (asides c q (s.cursors c) (t.cursors c) (w.cursors c) (h.0), tt)
-  edges_within (instr.Read c l) h = reads c
-  edges_within (instr.Get n x l) h = (w, w)
-  edges_within (instr.Put x l) h = (w, w)
-  edges_within (instr.JLt n x l) h = (w, w)
-  edges_within (instr.JEq n x l) h = (w, w)
-  edges_within (instr.JNull v l) h = nulls v
-  edges_within (instr.JSent l) h = (sent_within s t false false w (λ h. h), if_within s.sent t.sent s t w.sent w)
-  edges_within (instr.Jump l) h = (tt, w)
-  edges_within (instr.Ret u) h = (tt, tt)
-  edges_within i h = (w, tt)
+      joined o b (both_homes (s.brigades o).homes home) (both_homes (t.brigades o).homes home) (homes_joined (s.brigades o).homes home (t.brigades o).homes home (of o).homes (homes_same home))
+  after_within (effect.Pass b) h = passed b
+  after_within (effect.First c b) h = firsts c b
+  after_within (effect.Next d c) h = nexts d c (s.cursors c) (t.cursors c) (w.cursors c) h
+  after_within (effect.Unlink c) h = unlinked c (there InBrigade (t.cursors c) h)
+  after_within (effect.Delete c) h = move_within s t c Unset Unset w refl
+  after_within (effect.Insert side b c) h = put_both (side_content side) (inserts side) b c (there OnLoose (t.cursors c) h)
+  after_within (effect.Before c d) h = befores c (s.cursors d) (t.cursors d) (there OnLoose (t.cursors c) (h.0)) (w.cursors d) (h.1)
+  after_within (effect.Make c from) h = makes c from h
+  after_within (effect.Aside c q) h = asides c q (s.cursors c) (t.cursors c) (w.cursors c) h
+  after_within (effect.Read c) h = reads c
+  after_within e h = w
+
+-- a and b are what an effect makes of s and t
+module _ (p : Program) (s t : State) (w : Within s t) (a b : State) (v : Within a b) where
+  on_condition_within : (when : Condition) → FlowNeeds b (JumpIf when) → EdgesWithin (on_condition when s a) (on_condition when t b)
+  on_condition_within (condition.TooShort n x c) h = (v, ends p s t w c n)
+  on_condition_within (condition.NoBucket n) h = emptiness p a b v n
+  on_condition_within (condition.AtEnd c) h = at_end p a b v c (a.cursors c) (b.cursors c) refl (v.cursors c) h
+  on_condition_within (condition.OfKind c k) h = kinds p a b v c k (there OnBucket (b.cursors c) h)
+  on_condition_within (condition.ReadFailed c) h = (v, unread p s t w)
+  on_condition_within (condition.IsNull x) h = nulls p a b v x
+  on_condition_within condition.WasSent h = (sent_within a b false false v (λ h. h), if_within a.sent b.sent a b v.sent v)
+  on_condition_within when h = (v, v)
+
+  led_within : (f : Flow) → FlowNeeds b f → EdgesWithin (led f s a) (led f t b)
+  led_within ToNext h = (v, tt)
+  led_within (JumpIf when) h = on_condition_within when h
+  led_within JumpAlways h = (tt, v)
+  led_within EndCall h = (tt, tt)
+
+edges_within : (p : Program) (s t : State) → Within s t → (i : Instr) → Met t (wants p i) → EdgesWithin (edges p i s) (edges p i t)
+edges_within p s t w i h =
+    let v = after_within p s t w (effect_of i) (asked p s t w i h) in
+    led_within p s t w (after p (effect_of i) s) (after p (effect_of i) t) v (flow_of i) (leads p s t w i h)
 
 edge_below : (x y : Option State) → EdgeWithin x y → edge_le x y ≡ true
 edge_below None y h = refl

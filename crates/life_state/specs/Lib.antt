@@ -6,6 +6,7 @@ pub mod Facts
 pub mod Order
 pub mod PoolOrder
 pub mod Rules
+pub mod InState
 pub mod Seen
 pub mod Examples
 pub mod Build

@@ -1,7 +1,6 @@
--- The rules: what each instruction needs of a state, and the states that it leads to.
+-- The rules: what each instruction needs of a state, what its effect makes of it, and the states that it leads to.
 use Rattle.std.specs.Prelude.{ℕ, Bool, true, false, ◌&&◌, ◌||◌, not, ◌==◌, nat_lt, if◌then◌else◌, List, [], ◌∷◌, Option, Some, None, Result, Ok, Err}
 use Rattle.module_code.specs.declared.instr.Instr.{Instr}
-use Rattle.module_code.specs.declared.instr.Instr.TheVariants as instr
 use Rattle.module_code.specs.declared.instr.KindTest.{KindTest}
 use Rattle.module_code.specs.declared.instr.KindTest.TheVariants as test
 use Rattle.module_code.specs.declared.instr.PoolRef.{PoolRef}
@@ -11,6 +10,17 @@ use Rattle.module_code.specs.declared.instr.VarRef.TheVariants as variable
 use Rattle.module_code.specs.Program.{Program, pool_of_brigade}
 use Rattle.run_model.specs.declared.fault.FaultKind.{FaultKind}
 use Rattle.run_model.specs.declared.fault.FaultKind.TheVariants.{F1, F2, F3, F5, F6, F7, F8, F10}
+use Rattle.run_model.specs.declared.effect.Effect.{Effect}
+use Rattle.run_model.specs.declared.effect.Effect.TheVariants as effect
+use Rattle.run_model.specs.declared.effect.MadeFrom.{MadeFrom}
+use Rattle.run_model.specs.declared.effect.MadeFrom.TheVariants.{HeapText, ImmortalText, HeapBuffer, TransientBuffer, PoolBuffer, FlushBucket, EosBucket, CopyAt}
+use Rattle.run_model.specs.declared.effect.Side.{Side}
+use Rattle.run_model.specs.declared.effect.Side.TheVariants.{AtTail, AtHead}
+use Rattle.run_model.specs.declared.effect.Condition.{Condition}
+use Rattle.run_model.specs.declared.effect.Condition.TheVariants as condition
+use Rattle.run_model.specs.declared.effect.Flow.{Flow}
+use Rattle.run_model.specs.declared.effect.Flow.TheVariants.{ToNext, JumpIf, JumpAlways, EndCall}
+use Rattle.run_model.specs.EffectOf.{effect_of, flow_of}
 use Rattle.run_model.specs.Indexed.{upd, any_below}
 use Rattle.run_model.specs.Faults.{Need, Want, WPool, WBrigade, WUsable, WNew, WNewPool, WCursor, WHomes, WHome, WHomeAcross, WSend, WReturn, wants, loose_fault, within_fault, end_fault, or_else}
 use Rattle.life_state.specs.declared.parts.Contents.{Contents}
@@ -185,7 +195,7 @@ cleared_under p under top s = moved (cleared_cursors p under s) (with_cleared p 
 abbrev pub cleared : Program → PoolRef → State → State
 cleared p top s = cleared_under p (is_under p top) top s
 
--- What each instruction leads to.
+-- What each effect makes of a state, and the edges of an instruction.
 
 -- the states at the next instruction and at the one that is named, where these can be reached
 pub record Edges : Type 0 where
@@ -259,10 +269,6 @@ after_first c b s = set_cursor c (bucket_or_end b (s.brigades b).content) no_oth
 abbrev pub after_next : ℕ → ℕ → CursorKnown → State → State
 after_next d c (In b t) s = set_cursor d (bucket_or_end b (s.brigades b).content) (λ k. k == c) s
 after_next d c _ s = s
-
--- apr_brigade_partition
-abbrev pub edges_bpart : ℕ → ℕ → State → Edges
-edges_bpart b c s = record { next = Some (after_first c b s); jump = Some (set_cursor c (End b) no_other s) }
 
 -- APR_BRIGADE_EMPTY
 abbrev pub is_empty : Contents → Bool
@@ -344,6 +350,11 @@ put_in content b c s =
     move_bucket c (In b (classes_of (s.cursors c)))
     (set_brigade b (holds (content (s.brigades b).content (classes_of (s.cursors c))) (both_homes (s.brigades b).homes (homes_at s (s.cursors c)))) s)
 
+-- at the tail, at the head
+abbrev pub side_content : Side → Contents → Classes → Contents
+side_content AtTail = tail_content
+side_content AtHead = head_content
+
 -- there are nine brigades
 abbrev pub if_brigade : ℕ → State → State → State
 if_brigade b changed s = if nat_lt b 9 then changed else s
@@ -369,15 +380,26 @@ made c classes homes s = set_cursor c (Loose classes homes) all_others s
 abbrev pub after_copy : ℕ → ℕ → State → State
 after_copy d c s = made d (classes_of (s.cursors c)) (homes_at s (s.cursors c)) s
 
+-- a new bucket, by what it is made from
+abbrev pub after_make : ℕ → MadeFrom → State → State
+after_make c (HeapText t) s = made c only_bytes no_homes s
+after_make c (ImmortalText t) s = made c only_bytes no_homes s
+after_make c HeapBuffer s = made c only_bytes no_homes s
+after_make c TransientBuffer s = made c only_bytes only_call s
+after_make c (PoolBuffer q) s = made c only_bytes no_homes s
+after_make c FlushBucket s = made c only_flush no_homes s
+after_make c EosBucket s = made c only_eos no_homes s
+after_make c (CopyAt d) s = after_copy c d s
+
 -- apr_bucket_setaside
 abbrev pub after_aside : ℕ → PoolRef → CursorKnown → State → State
 after_aside c p (Loose t h) s = move_bucket c (Loose t (home_in p)) s
 after_aside c p (In b t) s = if_brigade b (set_brigade b (with_homes (both_homes (home_in p)) (s.brigades b)) s) s
 after_aside c p _ s = s
 
--- apr_bucket_read: `rd` is c's bucket, or unset
-abbrev pub edges_read : ℕ → State → Edges
-edges_read c s = record { next = Some (set_cursor 8 (s.cursors c) (known s c) s); jump = Some (set_cursor 8 Unset no_other s) }
+-- apr_bucket_read: `rd` is c's bucket
+abbrev pub after_read : ℕ → State → State
+after_read c s = set_cursor 8 (s.cursors c) (known s c) s
 
 -- ap_pass_brigade
 abbrev pub may_end : Contents → Bool
@@ -410,54 +432,63 @@ edges_jnull (variable.Brigade b) s = record {
 abbrev pub edges_jsent : State → Edges
 edges_jsent s = record { next = Some (record s { sent = false }); jump = some_if s.sent s }
 
+-- what an effect makes of a state
+abbrev pub after : Program → Effect → State → State
+after p effect.Nothing s = s
+after p (effect.MakePool q) s = after_pcreate q s
+after p (effect.ClearPool q) s = after_pclear p q s
+after p (effect.DestroyPool q) s = after_pdestroy p q s
+after p (effect.Register q t) s = s
+after p (effect.Kill q t) s = s
+after p (effect.MakeBrigade o) s = after_bcreate o s
+after p (effect.Clean b) s = after_bclean b s
+after p (effect.Concat a b) s = after_bconcat a b s
+after p (effect.SplitBrigade b c a) s = after_bsplit b c a s
+after p (effect.PartBrigade b x c) s = after_first c b s
+after p (effect.Save o b) s = after_bsave p o b s
+after p (effect.Pass b) s = after_pass b s
+after p (effect.First c b) s = after_first c b s
+after p (effect.Next d c) s = after_next d c (s.cursors c) s
+after p (effect.Unlink c) s = after_unlink c s
+after p (effect.Delete c) s = after_bdelete c s
+after p (effect.Insert side b c) s = put_in (side_content side) b c s
+after p (effect.Before c d) s = after_before c (s.cursors d) s
+after p (effect.Make c from) s = after_make c from s
+after p (effect.Split c x) s = s
+after p (effect.Aside c q) s = after_aside c q (s.cursors c) s
+after p (effect.Read c) s = after_read c s
+after p (effect.Number n number) s = s
+after p (effect.Put x) s = s
+after p effect.ClearBuffer s = s
+after p effect.Return s = s
+
+-- The two edges, by what decides between them: s is the state before the instruction, t the one that its effect makes of it. Where a
+-- brigade is too short, its cursor is at the end, and where a read fails, `rd` is unset. What no state speaks of leaves t on both.
+abbrev pub on_condition : Condition → State → State → Edges
+on_condition (condition.TooShort b x c) s t = record { next = Some t; jump = Some (set_cursor c (End b) no_other s) }
+on_condition (condition.NoBucket b) s t = edges_jempty b t
+on_condition condition.PassFailed s t = both_with t
+on_condition (condition.AtEnd c) s t = edges_jend c (t.cursors c) t
+on_condition (condition.OfKind c k) s t = edges_jkind c k t
+on_condition (condition.NoSplit c x) s t = both_with t
+on_condition (condition.ReadFailed c) s t = record { next = Some t; jump = Some (set_cursor 8 Unset no_other s) }
+on_condition (condition.NoByte x) s t = both_with t
+on_condition (condition.NoRoom x) s t = both_with t
+on_condition (condition.Less n x) s t = both_with t
+on_condition (condition.Equal n x) s t = both_with t
+on_condition (condition.IsNull v) s t = edges_jnull v t
+on_condition condition.WasSent s t = edges_jsent t
+
+-- the edges, by where an instruction may lead
+abbrev pub led : Flow → State → State → Edges
+led ToNext s t = goes_on_with t
+led (JumpIf when) s t = on_condition when s t
+led JumpAlways s t = record { next = None; jump = Some t }
+led EndCall s t = record { next = None; jump = None }
+
 -- the edges of an instruction whose needs are met
 abbrev pub edges : Program → Instr → State → Edges
-edges p (instr.PCreate q) s = goes_on_with (after_pcreate q s)
-edges p (instr.PClear q) s = goes_on_with (after_pclear p q s)
-edges p (instr.PDestroy q) s = goes_on_with (after_pdestroy p q s)
-edges p (instr.Label q t) s = goes_on_with s
-edges p (instr.Unlabel q t) s = goes_on_with s
-edges p (instr.BCreate o) s = goes_on_with (after_bcreate o s)
-edges p (instr.BClean b) s = goes_on_with (after_bclean b s)
-edges p (instr.BConcat a b) s = goes_on_with (after_bconcat a b s)
-edges p (instr.BSplit b c a) s = goes_on_with (after_bsplit b c a s)
-edges p (instr.BPart b x c l) s = edges_bpart b c s
-edges p (instr.BSave o b) s = goes_on_with (after_bsave p o b s)
-edges p (instr.JEmpty b l) s = edges_jempty b s
-edges p (instr.Pass b l) s = both_with (after_pass b s)
-edges p (instr.First c b) s = goes_on_with (after_first c b s)
-edges p (instr.Next d c) s = goes_on_with (after_next d c (s.cursors c) s)
-edges p (instr.JEnd c l) s = edges_jend c (s.cursors c) s
-edges p (instr.JKind c k l) s = edges_jkind c k s
-edges p (instr.Unlink c) s = goes_on_with (after_unlink c s)
-edges p (instr.BDelete c) s = goes_on_with (after_bdelete c s)
-edges p (instr.Tail b c) s = goes_on_with (put_in tail_content b c s)
-edges p (instr.Head b c) s = goes_on_with (put_in head_content b c s)
-edges p (instr.Before c d) s = goes_on_with (after_before c (s.cursors d) s)
-edges p (instr.Heap c t) s = goes_on_with (made c only_bytes no_homes s)
-edges p (instr.Immortal c t) s = goes_on_with (made c only_bytes no_homes s)
-edges p (instr.FromBuf c) s = goes_on_with (made c only_bytes no_homes s)
-edges p (instr.Transient c) s = goes_on_with (made c only_bytes only_call s)
-edges p (instr.PoolB c q) s = goes_on_with (made c only_bytes no_homes s)
-edges p (instr.Flush c) s = goes_on_with (made c only_flush no_homes s)
-edges p (instr.Eos c) s = goes_on_with (made c only_eos no_homes s)
-edges p (instr.Split c x l) s = both_with s
-edges p (instr.Copy d c) s = goes_on_with (after_copy d c s)
-edges p (instr.Aside c q) s = goes_on_with (after_aside c q (s.cursors c) s)
-edges p (instr.Read c l) s = edges_read c s
-edges p (instr.Len n c) s = goes_on_with s
-edges p (instr.Get n x l) s = both_with s
-edges p (instr.Put x l) s = both_with s
-edges p instr.ClearBuf s = goes_on_with s
-edges p (instr.Set n x) s = goes_on_with s
-edges p (instr.Add n x) s = goes_on_with s
-edges p (instr.Sub n x) s = goes_on_with s
-edges p (instr.JLt n x l) s = both_with s
-edges p (instr.JEq n x l) s = both_with s
-edges p (instr.JNull v l) s = edges_jnull v s
-edges p (instr.JSent l) s = edges_jsent s
-edges p (instr.Jump l) s = record { next = None; jump = Some s }
-edges p (instr.Ret t) s = record { next = None; jump = None }
+edges p i s = led (flow_of i) s (after p (effect_of i) s)
 
 abbrev pub need_or : Option FaultKind → Edges → Result Edges FaultKind
 need_or None e = Ok e

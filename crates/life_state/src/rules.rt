@@ -1,21 +1,21 @@
-//! The rules: what each instruction needs of a state, and the states that it leads to.
+//! The rules: what each effect makes of a state, and the states that an instruction leads to.
 
 ghost use Rattle.std.specs.Prelude.{◌≡◌, ◌<◌, ◌≤◌, true, length, Some, slice_get};
 ghost use Rattle.module_code.specs.declared.instr.Instr as instr;
 ghost use Rattle.module_code.specs.declared.instr.VarRef.TheVariants as variable;
 ghost use Rattle.module_code.specs.Program.{fits};
-ghost use Rattle.life_state.specs.Facts.{known, set_cursor};
-ghost use Rattle.life_state.specs.States.{no_homes, only_call, set_pool, set_brigade};
-ghost use Rattle.life_state.specs.Rules.{no_other, made, only_bytes, after_bsave, edges_bpart, edges_jempty, edges_jend, told_classes, edges_jkind, edges_read, edges_jnull, edges_jsent, edges, rule};
+ghost use Rattle.life_state.specs.Facts.{set_cursor};
+ghost use Rattle.life_state.specs.States.{set_pool, set_brigade};
+ghost use Rattle.life_state.specs.InState.{effect_fits, condition_fits};
+ghost use Rattle.life_state.specs.Rules.{no_other, edges_jempty, edges_jend, told_classes, edges_jkind, after_read, after_make, edges_jnull, edges_jsent, after, on_condition, edges, rule};
 ghost use Rattle.life_state.specs.Seen.{seen, seen_brigade, seen_cursor, seen_some, seen_edges, seen_answer};
 
-use crate::clears::pool_of_brigade;
 use crate::facts::Others;
 use crate::parts::{BrigadeState, Classes, CursorState, HomeSet, PoolState};
 use crate::state::State;
 use crate::successors::{Successors, some_if};
 use module_code::{Instr, KindTest, Module, VarRef};
-use run_model::FaultKind;
+use run_model::{Condition, Effect, FaultKind, Flow, MadeFrom, effect_of, flow_of};
 
 #[tactic(auto)]
 impl State {
@@ -25,16 +25,6 @@ impl State {
     {
         self.set_cursor(c, cursor, Others::Nobody);
         self
-    }
-
-    fn bpart(self, b: u8, c: u8) -> Successors
-        requires { c < 9 }
-        ensures { seen_edges result ≡ edges_bpart b c (seen self) }
-    {
-        Successors {
-            next: Some(self.first(c, b)),
-            jump: Some(self.placed(c, CursorState::End(b))),
-        }
     }
 
     fn jempty(self, b: u8) -> Successors
@@ -85,21 +75,12 @@ impl State {
         }
     }
 
-    fn read_at(mut self, c: u8) -> State
-        ensures { seen result ≡ set_cursor 8 ((seen self).cursors c) (known (seen self) c) (seen self) }
+    fn read(mut self, c: u8) -> State
+        ensures { seen result ≡ after_read c (seen self) }
     {
         let cursor = self.cursor(c);
         self.set_cursor(8, cursor, Others::As(c));
         self
-    }
-
-    fn read(self, c: u8) -> Successors
-        ensures { seen_edges result ≡ edges_read c (seen self) }
-    {
-        Successors {
-            next: Some(self.read_at(c)),
-            jump: Some(self.placed(8, CursorState::Unset)),
-        }
     }
 
     fn with_pool(mut self, q: u8, pool: PoolState) -> State
@@ -163,31 +144,89 @@ impl State {
         }
     }
 
-    fn fresh(self, c: u8, classes: Classes) -> State
+    fn make(self, c: u8, from: MadeFrom) -> State
         requires { c < 9 }
-        ensures { seen result ≡ made c classes no_homes (seen self) }
+        ensures { seen result ≡ after_make c from (seen self) }
     {
-        self.made(c, classes, HomeSet::none())
+        match from {
+            MadeFrom::HeapText(_)
+            | MadeFrom::ImmortalText(_)
+            | MadeFrom::HeapBuffer
+            | MadeFrom::PoolBuffer(_) => self.made(c, Classes::BYTES, HomeSet::none()),
+            MadeFrom::TransientBuffer => self.made(c, Classes::BYTES, HomeSet::only_call()),
+            MadeFrom::FlushBucket => self.made(c, Classes::FLUSH, HomeSet::none()),
+            MadeFrom::EosBucket => self.made(c, Classes::EOS, HomeSet::none()),
+            MadeFrom::CopyAt(d) => self.copy(c, d),
+        }
     }
 
-    fn transient(self, c: u8) -> State
-        requires { c < 9 }
-        ensures { seen result ≡ made c only_bytes only_call (seen self) }
-    {
-        self.made(c, Classes::BYTES, HomeSet::only_call())
-    }
-
-    #[tactic(auto, unfolding(crate::specs::Seen::seen))]
-    fn saved(self, code: &Module, o: u8, b: u8) -> State
-        requires own { o < length code.now.brigades }
-        requires few { length code.now.brigades ≤ 8 }
-        requires other { b < 9 }
+    fn after_effect(self, code: &Module, effect: Effect) -> State
+        requires fit { effect_fits effect ≡ true }
+        requires pools { (seen self).pool_count ≡ length code.now.pools }
         requires brigades { (seen self).brigade_count ≡ length code.now.brigades }
-        ensures { seen result ≡ after_bsave code.now o b (seen self) }
+        requires few { length code.now.pools ≤ 8 }
+        ensures { seen result ≡ after code.now effect (seen self) }
     {
-        self.bsave(pool_of_brigade(code, self.brigade_count, o), o, b)
+        match effect {
+            Effect::MakePool(q) => self.pcreate(q),
+            Effect::ClearPool(q) => self.pclear(code, q),
+            Effect::DestroyPool(q) => self.pdestroy(code, q),
+            Effect::MakeBrigade(o) => self.bcreate(o),
+            Effect::Clean(b) => self.bclean(b),
+            Effect::Concat(a, b) => self.bconcat(a, b),
+            Effect::SplitBrigade(b, c, a) => self.bsplit(b, c, a),
+            Effect::PartBrigade(b, _, c) => self.first(c, b),
+            Effect::Save(o, b) => self.bsave(code, o, b),
+            Effect::Pass(b) => self.pass(b),
+            Effect::First(c, b) => self.first(c, b),
+            Effect::Next(d, c) => self.next(d, c, self.cursor(c)),
+            Effect::Unlink(c) => self.unlink(c),
+            Effect::Delete(c) => self.bdelete(c),
+            Effect::Insert(side, b, c) => self.insert(side, b, c),
+            Effect::Before(c, d) => self.before(c, self.cursor(d)),
+            Effect::Make(c, from) => self.make(c, from),
+            Effect::Aside(c, pool) => self.aside(c, pool, self.cursor(c)),
+            Effect::Read(c) => self.read(c),
+            Effect::Nothing
+            | Effect::Register(_, _)
+            | Effect::Kill(_, _)
+            | Effect::Split(_, _)
+            | Effect::Number(_, _)
+            | Effect::Put(_)
+            | Effect::ClearBuffer
+            | Effect::Return => self,
+        }
     }
 
+    fn on_condition(self, condition: Condition, after: State) -> Successors
+        requires fit { condition_fits condition ≡ true }
+        ensures { seen_edges result ≡ on_condition condition (seen self) (seen after) }
+    {
+        match condition {
+            Condition::TooShort(b, _, c) => Successors {
+                next: Some(after),
+                jump: Some(self.placed(c, CursorState::End(b))),
+            },
+            Condition::NoBucket(b) => after.jempty(b),
+            Condition::AtEnd(c) => after.jend(c, after.cursor(c)),
+            Condition::OfKind(c, test) => after.jkind(c, test),
+            Condition::ReadFailed(_) => Successors {
+                next: Some(after),
+                jump: Some(self.placed(8, CursorState::Unset)),
+            },
+            Condition::IsNull(VarRef::Pool(q)) => after.jnull_pool(q),
+            Condition::IsNull(VarRef::Brigade(b)) => after.jnull_brigade(b),
+            Condition::WasSent => after.jsent(),
+            Condition::PassFailed
+            | Condition::NoSplit(_, _)
+            | Condition::NoByte(_)
+            | Condition::NoRoom(_)
+            | Condition::Less(_, _)
+            | Condition::Equal(_, _) => Successors::both(after),
+        }
+    }
+
+    #[tactic(auto, using(crate::proofs::InStateLaws::effects_fit, crate::proofs::InStateLaws::flows_fit))]
     fn edges(self, code: &Module, instr: Instr) -> Successors
         requires fit { fits code.now instr ≡ true }
         requires pools { (seen self).pool_count ≡ length code.now.pools }
@@ -196,56 +235,15 @@ impl State {
         requires few { length code.now.brigades ≤ 8 }
         ensures { seen_edges result ≡ edges code.now instr (seen self) }
     {
-        match instr {
-            Instr::PCreate(q) => Successors::goes_on(self.pcreate(q)),
-            Instr::PClear(q) => Successors::goes_on(self.pclear(code, q)),
-            Instr::PDestroy(q) => Successors::goes_on(self.pdestroy(code, q)),
-            Instr::BCreate(o) => Successors::goes_on(self.bcreate(o)),
-            Instr::BClean(b) => Successors::goes_on(self.bclean(b)),
-            Instr::BConcat(a, b) => Successors::goes_on(self.bconcat(a, b)),
-            Instr::BSplit(b, c, a) => Successors::goes_on(self.bsplit(b, c, a)),
-            Instr::BSave(o, b) => Successors::goes_on(self.saved(code, o, b)),
-            Instr::BPart(b, _, c, _) => self.bpart(b, c),
-            Instr::JEmpty(b, _) => self.jempty(b),
-            Instr::Pass(b, _) => Successors::both(self.pass(b)),
-            Instr::First(c, b) => Successors::goes_on(self.first(c, b)),
-            Instr::Next(d, c) => Successors::goes_on(self.next(d, c, self.cursor(c))),
-            Instr::JEnd(c, _) => self.jend(c, self.cursor(c)),
-            Instr::JKind(c, test, _) => self.jkind(c, test),
-            Instr::Unlink(c) => Successors::goes_on(self.unlink(c)),
-            Instr::BDelete(c) => Successors::goes_on(self.bdelete(c)),
-            Instr::Tail(b, c) => Successors::goes_on(self.tail(b, c)),
-            Instr::Head(b, c) => Successors::goes_on(self.head(b, c)),
-            Instr::Before(c, d) => Successors::goes_on(self.before(c, self.cursor(d))),
-            Instr::Heap(c, _) | Instr::Immortal(c, _) | Instr::FromBuf(c) | Instr::PoolB(c, _) => {
-                Successors::goes_on(self.fresh(c, Classes::BYTES))
-            }
-            Instr::Transient(c) => Successors::goes_on(self.transient(c)),
-            Instr::Flush(c) => Successors::goes_on(self.fresh(c, Classes::FLUSH)),
-            Instr::Eos(c) => Successors::goes_on(self.fresh(c, Classes::EOS)),
-            Instr::Copy(d, c) => Successors::goes_on(self.copy(d, c)),
-            Instr::Aside(c, pool) => Successors::goes_on(self.aside(c, pool, self.cursor(c))),
-            Instr::Read(c, _) => self.read(c),
-            Instr::JNull(VarRef::Pool(q), _) => self.jnull_pool(q),
-            Instr::JNull(VarRef::Brigade(b), _) => self.jnull_brigade(b),
-            Instr::JSent(_) => self.jsent(),
-            Instr::Label(_, _)
-            | Instr::Unlabel(_, _)
-            | Instr::Len(_, _)
-            | Instr::ClearBuf
-            | Instr::Set(_, _)
-            | Instr::Add(_, _)
-            | Instr::Sub(_, _) => Successors::goes_on(self),
-            Instr::Split(_, _, _)
-            | Instr::Get(_, _, _)
-            | Instr::Put(_, _)
-            | Instr::JLt(_, _, _)
-            | Instr::JEq(_, _, _) => Successors::both(self),
-            Instr::Jump(_) => Successors {
+        let after = self.after_effect(code, effect_of(instr));
+        match flow_of(instr) {
+            Flow::ToNext => Successors::goes_on(after),
+            Flow::JumpIf(condition) => self.on_condition(condition, after),
+            Flow::JumpAlways => Successors {
                 next: None,
-                jump: Some(self),
+                jump: Some(after),
             },
-            Instr::Ret(_) => Successors {
+            Flow::EndCall => Successors {
                 next: None,
                 jump: None,
             },

@@ -1,16 +1,18 @@
-//! What instructions make of a state.
+//! What effects make of a state.
 
 ghost use Rattle.std.specs.Prelude.{◌≡◌, ◌<◌, ◌≤◌, ◌==◌, true, length};
 ghost use Rattle.life_state.specs.States.{set_brigade, holds, home_in, both_homes, with_homes, In, Loose};
 ghost use Rattle.life_state.specs.Facts.{set_cursor, move_bucket};
-ghost use Rattle.life_state.specs.Rules.{joined_content, bucket_or_end, classes_of, homes_at, after_pcreate, after_pclear, after_pdestroy, after_bcreate, after_bclean, after_join, after_bconcat, split_part, after_bsplit, after_first, after_next, told, after_unlink, after_bdelete, tail_content, head_content, before_content, put_in, after_before, made, after_copy, after_aside, after_pass};
+ghost use Rattle.life_state.specs.Rules.{joined_content, bucket_or_end, classes_of, homes_at, after_pcreate, after_pclear, after_pdestroy, after_bcreate, after_bclean, after_join, after_bconcat, after_bsave, split_part, after_bsplit, after_first, after_next, told, after_unlink, after_bdelete, side_content, before_content, put_in, after_before, made, after_copy, after_aside, after_pass};
 ghost use Rattle.life_state.specs.Seen.{seen, seen_homes, seen_brigade, seen_cursor};
 
+use crate::clears::pool_of_brigade;
 use crate::facts::Others;
 use crate::motions::Motion;
 use crate::parts::{BrigadeState, Classes, Contents, CursorState, HomeSet, PoolState};
 use crate::state::State;
 use module_code::{Module, PoolRef};
+use run_model::Side;
 
 #[tactic(auto)]
 impl State {
@@ -90,11 +92,13 @@ impl State {
         self.join_brigades(a, b, self.homes(a).both(&self.homes(b)))
     }
 
-    pub(crate) fn bsave(self, pool: PoolRef, o: u8, b: u8) -> State
+    pub(crate) fn bsave(self, code: &Module, o: u8, b: u8) -> State
         requires first { o < 9 }
         requires second { b < 9 }
-        ensures { seen result ≡ after_join o b (both_homes ((seen self).brigades o).homes (home_in pool)) (seen self) }
+        requires brigades { (seen self).brigade_count ≡ length code.now.brigades }
+        ensures { seen result ≡ after_bsave code.now o b (seen self) }
     {
+        let pool = pool_of_brigade(code, self.brigade_count(), o);
         self.join_brigades(o, b, self.homes(o).both(&HomeSet::in_pool(pool)))
     }
 
@@ -188,20 +192,16 @@ impl State {
         self
     }
 
-    pub(crate) fn tail(self, b: u8, c: u8) -> State
+    pub(crate) fn insert(self, side: Side, b: u8, c: u8) -> State
         requires first { c < 9 }
         requires second { b < 9 }
-        ensures { seen result ≡ put_in tail_content b c (seen self) }
+        ensures { seen result ≡ put_in (side_content side) b c (seen self) }
     {
-        self.put_in(self.content(b).with_tail(self.cursor(c).classes()), b, c)
-    }
-
-    pub(crate) fn head(self, b: u8, c: u8) -> State
-        requires first { c < 9 }
-        requires second { b < 9 }
-        ensures { seen result ≡ put_in head_content b c (seen self) }
-    {
-        self.put_in(self.content(b).with_head(self.cursor(c).classes()), b, c)
+        let classes = self.cursor(c).classes();
+        match side {
+            Side::AtTail => self.put_in(self.content(b).with_tail(classes), b, c),
+            Side::AtHead => self.put_in(self.content(b).with_head(classes), b, c),
+        }
     }
 
     fn inner(self, b: u8, c: u8) -> State

@@ -7,7 +7,6 @@ use Rattle.module_code.specs.declared.instr.PoolRef.TheVariants as pool
 use Rattle.module_code.specs.declared.instr.Instr.TheVariants as instr
 use Rattle.module_code.specs.Program.{Program, IsModule, fits, pool_of_brigade, pool_of_pool}
 use Rattle.run_model.specs.declared.bucket.Mark.TheVariants.{Usable}
-use Rattle.run_model.specs.declared.bucket.NamedBucket.{NamedBucket}
 use Rattle.run_model.specs.declared.bucket.Brigade.{Brigade}
 use Rattle.run_model.specs.declared.bucket.BrigadeVar.{BrigadeVar}
 use Rattle.run_model.specs.declared.bucket.BrigadeVar.TheVariants as var
@@ -17,19 +16,20 @@ use Rattle.run_model.specs.declared.bucket.Cursor.{Cursor}
 use Rattle.run_model.specs.declared.fault.FaultKind.TheVariants.{F1, F10}
 use Rattle.run_model.specs.declared.payload.Payload.{Payload}
 use Rattle.run_model.specs.Indexed.{upd}
-use Rattle.run_model.specs.Pools.{Pools, is_empty, is_live, is_in, is_under, created, cleared, destroyed, registered}
+use Rattle.run_model.specs.Pools.{Pools, is_empty, is_live, is_in, is_under, created, registered}
 use Rattle.run_model.specs.RunOrder.{IsPoolMap, killed}
 use Rattle.run_model.specs.Buckets.{cleared_bucket}
 use Rattle.run_model.specs.Clearing.{is_reached, cleared_var, run_down}
 use Rattle.run_model.specs.State.{named_at, Configuration, items_of, set_pool, with_pools, set_brigade, set_loose, set_cursor, set_number, name_in, pool_named}
 use Rattle.run_model.specs.Faults.{has_pool_at, is_live_named, has_pool, or_else}
-use Rattle.run_model.specs.Steps.{with_brigade, do_create, do_pass, do_return, do_clean, cleaned, handed_over, with_items, returned_var, made_on, new_ref, saved_into, pool_cleared, pool_destroyed, label_registered, label_killed, text_of}
+use Rattle.run_model.specs.Steps.{with_brigade, do_create, do_pass, do_return, do_clean, made_on, new_ref, saved_into, label_registered, label_killed, text_of}
 use Rattle.run_model.specs.Sound.{SoundPools}
 use Rattle.model_laws.specs.AsDeclared.{AsDeclared, StepKeepsDeclared}
 use Rattle.run_model.proofs.Updates.{upd_off, upd_either}
+use Rattle.model_laws.proofs.BrigadePools.{KeepsOn, KeepsPool, same_on, clean_on, pass_on, fill_on, move_on, return_on}
+use Rattle.model_laws.proofs.PoolsGone.{Emptying, pool_emptied, on_emptied}
 use Rattle.model_laws.proofs.Marks.{first_none, second_none}
-use Rattle.run_model.proofs.Names.{at_each, at_two}
-use Rattle.run_model.proofs.PoolMap.{live_path, created_lives, created_kept, created_at, destroyed_apart, destroyed_under, cleared_apart, cleared_itself, cleared_under, not_under}
+use Rattle.run_model.proofs.PoolMap.{live_path, created_lives, created_kept, created_at, not_under}
 use Rattle.run_model.proofs.Formed.{formed_older}
 use Rattle.model_laws.proofs.NamedPools.{on_named, made_under_named}
 use Rattle.model_laws.proofs.BucketFrame.{IsFrame, placed_step}
@@ -47,10 +47,6 @@ unfolding named_at
 named_same r new own conn req pool.Conn = ap (λ (n : ℕ). Some n) conn
 named_same r new own conn req pool.Req = req
 named_same r new own conn req (pool.Own q) = ap (λ (g : ℕ → PoolVar). name_in (g q)) own
-
--- what a brigade that is left lies on
-abbrev pub KeepsOn : (ℕ → Type 0) → BrigadeVar → BrigadeVar → Type 0
-KeepsOn Stays old new = (w : Brigade) → new ≡ var.Live w → (v : Brigade) × (old ≡ var.Live v) × (w.on ≡ v.on) × ((m : ℕ) → v.on ≡ Some m → Stays m)
 
 -- What is left is as it was: pools that stay keep their paths, names name the same, brigades lie where they lay.
 pub record IsCarried (r new : Configuration) : Type 0 where
@@ -89,37 +85,6 @@ carried p r new c s = record {
       subst (Lies new (pool_of_brigade p b)) (sym old.2) (still_lies r new (pool_of_brigade p b) old.0.on old.3 (λ m. c.named (pool_of_brigade p b) m) lies);
   incoming = λ w e. (let old = c.brigades 8 w e in old.2 ∙ s.incoming old.0 old.1);
 }
-
--- Where no pool goes.
-
-abbrev pub KeepsPool : BrigadeVar → BrigadeVar → Type 0
-KeepsPool old new = KeepsOn (λ m. Unit {0}) old new
-
-pub same_on : (v : BrigadeVar) → KeepsPool v v
-same_on v w e = (w, e, refl, λ m at. tt)
-
-changed_on : (v w x : Brigade) → x.on ≡ v.on → var.Live x ≡ var.Live w → (y : Brigade) × (var.Live v ≡ var.Live y) × (w.on ≡ y.on) × ((m : ℕ) → y.on ≡ Some m → Unit {0})
-changed_on v w x same e = (let is : x ≡ w = cc in (v, refl, sym (ap (λ (y : Brigade). y.on) is) ∙ same, λ m at. tt))
-
-cleaned_on : (v : BrigadeVar) → KeepsPool v (cleaned v)
-cleaned_on var.Null w e = absurd (cc)
-cleaned_on var.Gone w e = absurd (cc)
-cleaned_on (var.Live v) w e = changed_on v w _ refl e
-
-pub handed_on : (v : BrigadeVar) → KeepsPool v (handed_over v)
-handed_on var.Null w e = absurd (cc)
-handed_on var.Gone w e = absurd (cc)
-handed_on (var.Live v) w e = changed_on v w _ refl e
-
-pub filled_on : (items : List NamedBucket) (v : BrigadeVar) → KeepsPool v (with_items items v)
-filled_on items var.Null w e = absurd (cc)
-filled_on items var.Gone w e = absurd (cc)
-filled_on items (var.Live v) w e = changed_on v w _ refl e
-
-pub returned_on : (call : ℕ) (v : BrigadeVar) → KeepsPool v (returned_var call v)
-returned_on call var.Null w e = absurd (cc)
-returned_on call var.Gone w e = absurd (cc)
-returned_on call (var.Live v) w e = changed_on v w _ refl e
 
 -- what changes no path, no name and no brigade's pool
 pub kept : (p : Program) (r new : Configuration) → new.instance.pools ≡ r.instance.pools → new.shared.conn ≡ r.shared.conn → new.shared.req ≡ r.shared.req → new.shared.pools.path ≡ r.shared.pools.path
@@ -190,25 +155,10 @@ went p c r new formed own apart left named brigades s =
 pub not_live : (ps : Pools Payload) (n : ℕ) → ps.path n ≡ [] → is_live ps n ≡ true → ⊥
 not_live ps n gone live = live_path ps n live gone
 
-cleared_declared : (p : Program) (c : ℕ) (r : Configuration) → IsPoolMap r.shared.pools → AsDeclared p r → AsDeclared p (pool_cleared c r)
+emptied_declared : (p : Program) (c : ℕ) (left : Pools Payload) (r : Configuration) → IsPoolMap r.shared.pools → Emptying c r.shared.pools left → AsDeclared p r → AsDeclared p (pool_emptied left c r)
 unfolding run_down with_pools
-cleared_declared p c r formed s =
-    went p c r (pool_cleared c r) formed refl (λ k off. (cleared_apart c r.shared.pools k off).0) left (λ d m e live stays. named_same r (pool_cleared c r) refl refl refl d ∙ e) (λ b. refl) s where
-      left : (k : ℕ) → is_under r.shared.pools c k ≡ true → is_live (cleared c r.shared.pools) k ≡ true → (k ≡ c) × ((cleared c r.shared.pools).path k ≡ r.shared.pools.path k)
-      left k under live = elim (cases_eq k c) [
-        | inl is ↦ (is, subst (λ (x : ℕ). (cleared c r.shared.pools).path x ≡ r.shared.pools.path x) (sym is) (cleared_itself c r.shared.pools))
-        | inr ne ↦ absurd (not_live (cleared c r.shared.pools) k (cleared_under c r.shared.pools k under ne) live)
-      ]
-
-destroyed_declared : (p : Program) (c : ℕ) (r : Configuration) → IsPoolMap r.shared.pools → AsDeclared p r → AsDeclared p (pool_destroyed c r)
-unfolding run_down with_pools
-destroyed_declared p c r formed s =
-    went p c r (pool_destroyed c r) formed refl (λ k off. (destroyed_apart c r.shared.pools k off).0)
-    (λ k under live. absurd (not_live (destroyed c r.shared.pools) k (destroyed_under c r.shared.pools k under).0 live))
-    (λ d m e live stays. named_same r (pool_destroyed c r) refl refl refl d ∙ e) (λ b. refl) s
-
-pub some_same : (a b : ℕ) → Some a ≡ Some b → a ≡ b
-some_same a b e = cc
+emptied_declared p c left r formed so s =
+    went p c r (pool_emptied left c r) formed refl so.apart so.stays (λ d m e live stays. named_same r (pool_emptied left c r) refl refl refl d ∙ e) (λ b. refl) s
 
 -- Pools and brigades that are made.
 
@@ -326,7 +276,7 @@ saved_declared : (p : Program) (o b target : ℕ) (r : Configuration) → AsDecl
 unfolding set_brigade with_pools
 saved_declared p o b target r s =
     kept p r (saved_into o b target r) refl refl refl (referred_path target (filter_map (new_ref r.shared.pools target) (items_of (r.instance.brigades b))) r.shared.pools)
-    (at_two KeepsPool r.instance.brigades b o (with_items [] (r.instance.brigades b)) (with_items _ (r.instance.brigades o)) (filled_on [] (r.instance.brigades b)) (filled_on _ (r.instance.brigades o)) same_on) s
+    (move_on r.instance.brigades o b _) s
 
 created_declared : (p : Program) (o : ℕ) (r : Configuration) → o ≢ 8 → has_pool r (pool_of_brigade p o) ≡ true → AsDeclared p r → AsDeclared p (do_create p o r)
 unfolding has_pool_at
@@ -338,15 +288,12 @@ created_declared p o r ne lives s =
     (kept p r next refl refl refl (brigade_path on r.shared.next r.shared.pools) (same_vars r) s)
 
 returned_declared : (p : Program) (r : Configuration) → AsDeclared p r → AsDeclared p (do_return r)
-returned_declared p r s = kept p r (do_return r) refl refl refl refl (λ b. left b (b == 8)) s where
-  left : (b : ℕ) (is_in : Bool) → KeepsPool (r.instance.brigades b) (cond is_in var.Null (returned_var r.call.name (r.instance.brigades b)))
-  left b true w e = absurd (cc)
-  left b false w e = returned_on r.call.name (r.instance.brigades b) w e
+returned_declared p r s = kept p r (do_return r) refl refl refl refl (return_on r.instance.brigades r.call.name) s
 
 declared_frame : (p : Program) → IsFrame (AsDeclared p)
 unfolding set_brigade set_loose set_number with_pools
 declared_frame p = record {
-  items = λ b xs r s. kept p r _ refl refl refl refl (at_each KeepsPool r.instance.brigades b (with_items xs (r.instance.brigades b)) (filled_on xs (r.instance.brigades b)) same_on) s;
+  items = λ b xs r s. kept p r _ refl refl refl refl (fill_on r.instance.brigades b xs) s;
   loose = λ xs r s. kept p r _ refl refl refl refl (same_vars r) s;
   numbers = λ n v r s. kept p r _ refl refl refl refl (same_vars r) s;
   buffer = λ bytes r s. kept p r _ refl refl refl refl (same_vars r) s;
@@ -363,17 +310,16 @@ unfolding set_brigade with_pools registered killed
 step_declared p choice (instr.PCreate q) r may sound s =
     made_under_named (AsDeclared p) p q r s
     (λ parent e. made_declared p parent q r (pool_below p may.proper q may.fit) (no_live_pool r (pool_of_pool p q) q may.faultless) e (named_lives r (pool_of_pool p q) parent (wanted_pool r (pool_of_pool p q) _ may.faultless) e) sound.pools s)
-step_declared p choice (instr.PClear q) r may sound s = on_named (AsDeclared p) pool_cleared (pool_named r (pool.Own q)) r s (λ n e. cleared_declared p n r sound.pools.formed s)
-step_declared p choice (instr.PDestroy q) r may sound s = on_named (AsDeclared p) pool_destroyed (pool_named r (pool.Own q)) r s (λ n e. destroyed_declared p n r sound.pools.formed s)
+step_declared p choice (instr.PClear q) r may sound s = (on_emptied (AsDeclared p) q r s (λ n left e so. emptied_declared p n left r sound.pools.formed so s)).0
+step_declared p choice (instr.PDestroy q) r may sound s = (on_emptied (AsDeclared p) q r s (λ n left e so. emptied_declared p n left r sound.pools.formed so s)).1
 step_declared p choice (instr.Label q t) r may sound s = on_named (AsDeclared p) (label_registered (text_of p t)) (pool_named r q) r s (λ n e. kept p r _ refl refl refl refl (same_vars r) s)
 step_declared p choice (instr.Unlabel q t) r may sound s = on_named (AsDeclared p) (label_killed (text_of p t)) (pool_named r q) r s (λ n e. kept p r _ refl refl refl refl (same_vars r) s)
 step_declared p choice (instr.BCreate o) r may sound s = created_declared p o r (brigade_not_in p may.proper o may.fit) (wanted_pool r (pool_of_brigade p o) _ may.faultless) s
-step_declared p choice (instr.BClean b) r may sound s = kept p r (do_clean b r) refl refl refl refl (at_each KeepsPool r.instance.brigades b (cleaned (r.instance.brigades b)) (cleaned_on (r.instance.brigades b)) same_on) s
+step_declared p choice (instr.BClean b) r may sound s = kept p r (do_clean b r) refl refl refl refl (clean_on r.instance.brigades b) s
 step_declared p choice (instr.BConcat a b) r may sound s =
     kept p r _ refl refl refl refl
-    (at_two KeepsPool r.instance.brigades b a (with_items [] (r.instance.brigades b)) (with_items (items_of (r.instance.brigades a) ++ items_of (r.instance.brigades b)) (r.instance.brigades a)) (filled_on [] (r.instance.brigades b))
-    (filled_on (items_of (r.instance.brigades a) ++ items_of (r.instance.brigades b)) (r.instance.brigades a)) same_on) s
+    (move_on r.instance.brigades a b (items_of (r.instance.brigades a) ++ items_of (r.instance.brigades b))) s
 step_declared p choice (instr.BSave o b) r may sound s = on_named (AsDeclared p) (saved_into o b) (made_on (r.instance.brigades o)) r s (λ target e. saved_declared p o b target r s)
-step_declared p choice (instr.Pass b l) r may sound s = kept p r (do_pass b r) refl refl refl refl (at_each KeepsPool r.instance.brigades b (handed_over (r.instance.brigades b)) (handed_on (r.instance.brigades b)) same_on) s
+step_declared p choice (instr.Pass b l) r may sound s = kept p r (do_pass b r) refl refl refl refl (pass_on r.instance.brigades b) s
 step_declared p choice (instr.Ret st) r may sound s = returned_declared p r s
 step_declared p choice i r may sound s = placed_step (AsDeclared p) (declared_frame p) (declared_placed p) p choice i r refl may s

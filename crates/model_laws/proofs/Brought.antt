@@ -19,35 +19,26 @@ use Rattle.model_laws.specs.Bringing.{LateDataIsRefused, BroughtEndsOnce}
 use Rattle.model_laws.proofs.EventAnswers.{none_first, none_if}
 use Rattle.run_model.proofs.Updates.{upd_at}
 
--- metadata or data, whatever the call and the request
-data_piece : (call req : ℕ) (x : Piece) → is_data_kind (bucket_of call req x).kind ≡ is_data_piece x
-data_piece call req (piece.Heap bytes) = refl
-data_piece call req (piece.Transient bytes) = refl
-data_piece call req (piece.Immortal bytes) = refl
-data_piece call req (piece.Pool bytes) = refl
-data_piece call req (piece.File file start len) = refl
-data_piece call req piece.Flush = refl
-data_piece call req piece.Eos = refl
-
-eos_piece : (call req : ℕ) (x : Piece) → is_eos_kind (bucket_of call req x).kind ≡ is_eos_piece x
-eos_piece call req (piece.Heap bytes) = refl
-eos_piece call req (piece.Transient bytes) = refl
-eos_piece call req (piece.Immortal bytes) = refl
-eos_piece call req (piece.Pool bytes) = refl
-eos_piece call req (piece.File file start len) = refl
-eos_piece call req piece.Flush = refl
-eos_piece call req piece.Eos = refl
+-- data or an EOS or neither, whatever the call and the request
+same_piece : (call req : ℕ) (x : Piece) → (is_data_kind (bucket_of call req x).kind ≡ is_data_piece x) × (is_eos_kind (bucket_of call req x).kind ≡ is_eos_piece x)
+same_piece call req (piece.Heap bytes) = (refl, refl)
+same_piece call req (piece.Transient bytes) = (refl, refl)
+same_piece call req (piece.Immortal bytes) = (refl, refl)
+same_piece call req (piece.Pool bytes) = (refl, refl)
+same_piece call req (piece.File file start len) = (refl, refl)
+same_piece call req piece.Flush = (refl, refl)
+same_piece call req piece.Eos = (refl, refl)
 
 same_data : (call req n : ℕ) (xs : List Piece) → has_data (named_from (bucket_of call req) n xs) ≡ list_any is_data_piece xs
 same_data call req n [] = refl
 same_data call req n (x ∷ xs) =
-    ap (λ (b : Bool). b || has_data (named_from (bucket_of call req) (n + 1) xs)) (data_piece call req x)
+    ap (λ (b : Bool). b || has_data (named_from (bucket_of call req) (n + 1) xs)) (same_piece call req x).0
     ∙ ap (λ (b : Bool). is_data_piece x || b) (same_data call req (n + 1) xs)
 
 pub buckets_as_pieces : BucketsAsPieces
 buckets_as_pieces call req n [] = refl
 buckets_as_pieces call req n (x ∷ xs) =
-    ap (λ (b : Bool). (b && has_data (named_from (bucket_of call req) (n + 1) xs)) || data_after_eos (named_from (bucket_of call req) (n + 1) xs)) (eos_piece call req x)
+    ap (λ (b : Bool). (b && has_data (named_from (bucket_of call req) (n + 1) xs)) || data_after_eos (named_from (bucket_of call req) (n + 1) xs)) (same_piece call req x).1
     ∙ (ap (λ (b : Bool). (is_eos_piece x && b) || data_after_eos (named_from (bucket_of call req) (n + 1) xs)) (same_data call req (n + 1) xs)
     ∙ ap (λ (b : Bool). (is_eos_piece x && list_any is_data_piece xs) || b) (buckets_as_pieces call req (n + 1) xs))
 

@@ -15,7 +15,10 @@ use Rattle.run_model.specs.BrigadeLists.{put_before}
 use Rattle.run_model.specs.Effects.{all_referred, value_of}
 use Rattle.run_model.specs.Cursors.{Place, AtLoose, Within, spot, read_cursor}
 use Rattle.run_model.specs.BucketSteps.{set_items, do_next, do_unlink, do_delete, put_into, do_before, names_given, new_loose, do_make, is_unsplit, split_there, do_split, aside_into, read_given, read_within, do_read, got}
-use Rattle.run_model.specs.EffectOf.{Effect, ENothing, EMakePool, EClearPool, EDestroyPool, ERegister, EKill, EMakeBrigade, EClean, EConcat, ESplitBrigade, EPartBrigade, ESave, EPass, EFirst, ENext, EUnlink, EDelete, EInsert, EBefore, EMake, ESplit, EAside, ERead, ENumber, EPut, EClearBuffer, EReturn, effect_of}
+use Rattle.run_model.specs.declared.effect.Effect.{Effect}
+use Rattle.run_model.specs.declared.effect.Effect.TheVariants as effect
+use Rattle.run_model.specs.EffectOf.{effect_of}
+use Rattle.run_model.specs.Changes.{extent, is_wide}
 use Rattle.run_model.specs.Steps.{do_effect, made_of, number_of, put_at, Choice, step}
 use Rattle.model_laws.specs.Laws.{MayExecute}
 use Rattle.model_laws.proofs.NamedPools.{with_buffer, put_keeps, on_named}
@@ -33,31 +36,20 @@ pub record IsFrame (P : Configuration → Type 0) : Type 0 where
 
 -- the effects that change more than that
 abbrev pub changes_frame : Effect → Bool
-changes_frame (EMakePool q) = true
-changes_frame (EClearPool q) = true
-changes_frame (EDestroyPool q) = true
-changes_frame (ERegister q t) = true
-changes_frame (EKill q t) = true
-changes_frame (EMakeBrigade o) = true
-changes_frame (EClean b) = true
-changes_frame (EConcat a b) = true
-changes_frame (ESave o b) = true
-changes_frame (EPass b) = true
-changes_frame EReturn = true
-changes_frame e = false
+changes_frame e = is_wide (extent e)
 
 -- the effects that set a cursor
 abbrev pub sets_cursor : Effect → Bool
-sets_cursor (EPartBrigade b x c) = true
-sets_cursor (EFirst c b) = true
-sets_cursor (ENext d c) = true
-sets_cursor (EMake c source) = true
-sets_cursor (ERead c) = true
+sets_cursor (effect.PartBrigade b x c) = true
+sets_cursor (effect.First c b) = true
+sets_cursor (effect.Next d c) = true
+sets_cursor (effect.Make c source) = true
+sets_cursor (effect.Read c) = true
 sets_cursor e = false
 
 -- the pool into which a bucket is set aside is live
 abbrev pub SetsAsideAlive : Configuration → Effect → Type 0
-SetsAsideAlive r e = (c : ℕ) (q : PoolRef) (n : ℕ) → e ≡ EAside c q → pool_named r q ≡ Some n → is_live r.shared.pools n ≡ true
+SetsAsideAlive r e = (c : ℕ) (q : PoolRef) (n : ℕ) → e ≡ effect.Aside c q → pool_named r q ≡ Some n → is_live r.shared.pools n ≡ true
 
 aside_lives : (p : Program) (c : ℕ) (q : PoolRef) (n : ℕ) (r : Configuration) → MayExecute p r (instr.Aside c q) → pool_named r q ≡ Some n → is_live r.shared.pools n ≡ true
 unfolding has_pool_at
@@ -108,17 +100,17 @@ module _ (P : Configuration → Type 0) (f : IsFrame P) where
   got_framed n (Some byte) r h = f.numbers n byte r h
 
   pub framed : (p : Program) (choice : Choice) (e : Effect) (r : Configuration) → changes_frame e ≡ false → sets_cursor e ≡ false → SetsAsideAlive r e → P r → P (do_effect p choice e r)
-  framed p choice ENothing r plain unset alive h = h
-  framed p choice (ESplitBrigade b c a) r plain unset alive h = f.items a _ _ (f.items b _ r h)
-  framed p choice (EUnlink c) r plain unset alive h = unlink_framed (spot r c) r h
-  framed p choice (EDelete c) r plain unset alive h = delete_framed (spot r c) r h
-  framed p choice (EInsert side b c) r plain unset alive h = put_framed (put_at side) b (spot r c) r h
-  framed p choice (EBefore c d) r plain unset alive h = before_framed (spot r c) (spot r d) r h
-  framed p choice (ESplit c x) r plain unset alive h = split_framed (value_of r x) (spot r c) r h
-  framed p choice (EAside c q) r plain unset alive h = on_named P (aside_into (spot r c)) (pool_named r q) r h (λ n is. aside_framed (spot r c) n r (alive c q n refl is) h)
-  framed p choice (ENumber n number) r plain unset alive h = got_framed n (number_of r n number) r h
-  framed p choice (EPut x) r plain unset alive h = put_keeps P x r h (λ bytes. f.buffer bytes r h)
-  framed p choice EClearBuffer r plain unset alive h = f.buffer [] r h
+  framed p choice effect.Nothing r plain unset alive h = h
+  framed p choice (effect.SplitBrigade b c a) r plain unset alive h = f.items a _ _ (f.items b _ r h)
+  framed p choice (effect.Unlink c) r plain unset alive h = unlink_framed (spot r c) r h
+  framed p choice (effect.Delete c) r plain unset alive h = delete_framed (spot r c) r h
+  framed p choice (effect.Insert side b c) r plain unset alive h = put_framed (put_at side) b (spot r c) r h
+  framed p choice (effect.Before c d) r plain unset alive h = before_framed (spot r c) (spot r d) r h
+  framed p choice (effect.Split c x) r plain unset alive h = split_framed (value_of r x) (spot r c) r h
+  framed p choice (effect.Aside c q) r plain unset alive h = on_named P (aside_into (spot r c)) (pool_named r q) r h (λ n is. aside_framed (spot r c) n r (alive c q n refl is) h)
+  framed p choice (effect.Number n number) r plain unset alive h = got_framed n (number_of r n number) r h
+  framed p choice (effect.Put x) r plain unset alive h = put_keeps P x r h (λ bytes. f.buffer bytes r h)
+  framed p choice effect.ClearBuffer r plain unset alive h = f.buffer [] r h
   framed p choice e r plain unset alive h = absurd (cc)
 
   pub framed_step : (p : Program) (choice : Choice) (i : Instr) (r : Configuration) → changes_frame (effect_of i) ≡ false → sets_cursor (effect_of i) ≡ false → MayExecute p r i → P r → P (step p choice i r).state
@@ -145,11 +137,11 @@ module _ (P : Configuration → Type 0) (f : IsFrame P) (set : (c : ℕ) (v : Cu
   read_placed given s r h = h
 
   placed : (p : Program) (choice : Choice) (e : Effect) (r : Configuration) → changes_frame e ≡ false → SetsAsideAlive r e → P r → P (do_effect p choice e r)
-  placed p choice (EPartBrigade b x c) r plain alive h = set c _ _ (f.items b _ _ (f.names _ r h))
-  placed p choice (EFirst c b) r plain alive h = set c _ r h
-  placed p choice (ENext d c) r plain alive h = next_placed d (spot r c) r h
-  placed p choice (EMake c source) r plain alive h = make_placed c (made_of p r source) r h
-  placed p choice (ERead c) r plain alive h = read_placed choice.given (spot r c) r h
+  placed p choice (effect.PartBrigade b x c) r plain alive h = set c _ _ (f.items b _ _ (f.names _ r h))
+  placed p choice (effect.First c b) r plain alive h = set c _ r h
+  placed p choice (effect.Next d c) r plain alive h = next_placed d (spot r c) r h
+  placed p choice (effect.Make c source) r plain alive h = make_placed c (made_of p r source) r h
+  placed p choice (effect.Read c) r plain alive h = read_placed choice.given (spot r c) r h
   placed p choice e r plain alive h = framed P f p choice e r plain refl alive h
 
   pub placed_step : (p : Program) (choice : Choice) (i : Instr) (r : Configuration) → changes_frame (effect_of i) ≡ false → MayExecute p r i → P r → P (step p choice i r).state

@@ -1,5 +1,6 @@
 -- A cursor that is set holds a name that was given out.
 use Rattle.std.proofs.Common.{◌≡◌, ℕ, ◌+◌, ◌<◌, ◌≤◌, Bool, true, false, ◌==◌, cond, List, [], ◌∷◌, ◌++◌, drop, Option, Some, None, inl, inr, refl, sym, ◌∙◌, ap, subst, arith, eq-eqb}
+use Rattle.std.proofs.lemmas.Option.{same_Some}
 use Rattle.std.proofs.lemmas.Bool.{cases_lt}
 use Rattle.module_code.specs.declared.instr.PoolRef.TheVariants as pool
 use Rattle.run_model.specs.declared.bucket.Bucket.{Bucket}
@@ -13,7 +14,9 @@ use Rattle.run_model.specs.State.{Configuration, items_of, set_brigade, set_loos
 use Rattle.run_model.specs.BrigadeLists.{buckets_from, bucket_named, taken_out, first_place, next_place, stays, partition_answer, partitioned, place_of, place_before, front_to, back_from, is_short, Incomplete}
 use Rattle.run_model.specs.Cursors.{Place, Within, spot, read_cursor}
 use Rattle.run_model.specs.BucketSteps.{items_at, cursor_at, set_place, set_items, do_first, do_next, names_given, new_loose, do_make, read_given, read_within, do_read, names_to_part, do_bpart}
-use Rattle.run_model.specs.EffectOf.{Effect, EMakePool, EClearPool, EDestroyPool, ERegister, EKill, EMakeBrigade, EClean, EConcat, EPartBrigade, ESave, EPass, EFirst, ENext, EMake, ERead, EReturn, effect_of}
+use Rattle.run_model.specs.declared.effect.Effect.{Effect}
+use Rattle.run_model.specs.declared.effect.Effect.TheVariants as effect
+use Rattle.run_model.specs.EffectOf.{effect_of}
 use Rattle.module_code.specs.Program.{Program}
 use Rattle.run_model.specs.declared.bucket.Bucket.{Bucket}
 use Rattle.run_model.specs.Steps.{Choice, do_effect, made_of, do_create, do_clean, do_concat, do_pass, pool_cleared, pool_destroyed, label_registered, label_killed, text_of, saved_into, made_on, value_of}
@@ -78,9 +81,6 @@ set_held : (c : ℕ) (v : Cursor) (r : Configuration) → ((n : ℕ) → name_he
 unfolding set_cursor
 set_held c v r held s = record { given = λ k n e. elim (upd_either r.call.cursors c k v) [ inl p ↦ held n (sym (ap name_held p.1) ∙ e) | inr p ↦ s.given k n (sym (ap name_held p.1) ∙ e) ] }
 
-some_is : (a b : ℕ) → Some a ≡ Some b → a ≡ b
-some_is a b e = cc
-
 end_held : (v : BrigadeVar) (n : ℕ) → name_held (cursor_at v None) ≡ Some n → brigade_name v ≡ Some n
 end_held var.Null n e = absurd (cc)
 end_held var.Gone n e = absurd (cc)
@@ -105,7 +105,7 @@ held_frame = record {
 
 new_held : (c : ℕ) (b : Bucket) (r : Configuration) → SoundCursors r → SoundCursors (new_loose c b r)
 unfolding set_loose
-new_held c b r s = set_held c (cursor.At r.shared.next) _ (λ n e. (let is : r.shared.next ≡ n = some_is r.shared.next n e in omega arith)) (held_frame.loose _ _ (held_frame.names 1 r s))
+new_held c b r s = set_held c (cursor.At r.shared.next) _ (λ n e. (let is : r.shared.next ≡ n = same_Some r.shared.next n e in omega arith)) (held_frame.loose _ _ (held_frame.names 1 r s))
 
 first_held : (c b : ℕ) (r : Configuration) → SoundNames r → SoundCursors r → SoundCursors (do_first c b r)
 first_held c b r names s = place_held c b (first_place (items_at r b)) r (λ k is. given_out b k r names (first_there k (items_at r b) is)) (names.given b) s
@@ -126,7 +126,9 @@ read_held given (Within b x) r there names s = by_given (read_given given x.buck
 
   by_given : (o : Option (List ℕ)) → SoundCursors (read_within b x o r)
   by_given None = set_held read_cursor cursor.Unset r (λ n e. absurd (cc)) s
-  by_given (Some bytes) = set_held read_cursor (cursor.At x.name) _ (λ n e. (let is : x.name ≡ n = some_is x.name n e in let below : x.name < r.shared.next = lt in omega arith)) (held_frame.items b _ _ (held_frame.names _ r s))
+  by_given (Some bytes) =
+      set_held read_cursor (cursor.At x.name) _ (λ n e. (let is : x.name ≡ n = same_Some x.name n e in let below : x.name < r.shared.next = lt in omega arith))
+      (held_frame.items b _ _ (held_frame.names _ r s))
 read_held given at r there names s = s
 
 bpart_held : (b point c : ℕ) (r : Configuration) → SoundNames r → SoundCursors r → SoundCursors (do_bpart b point c r)
@@ -152,22 +154,22 @@ stay_held r new cursors rises s = record { given = λ c n e. (let lt : n < r.sha
 
 effect_cursors : (p : Program) (choice : Choice) (e : Effect) (r : Configuration) → SetsAsideAlive r e → SoundNames r → SoundCursors r → SoundCursors (do_effect p choice e r)
 unfolding set_brigade set_pool with_pools run_down
-effect_cursors p choice (EMakePool q) r alive names s = made_under_named SoundCursors p q r s (λ parent is. stay_held r _ refl (omega arith) s)
-effect_cursors p choice (EClearPool q) r alive names s = on_named SoundCursors pool_cleared (pool_named r (pool.Own q)) r s (λ n is. stay_held r (pool_cleared n r) refl (omega arith) s)
-effect_cursors p choice (EDestroyPool q) r alive names s = on_named SoundCursors pool_destroyed (pool_named r (pool.Own q)) r s (λ n is. stay_held r (pool_destroyed n r) refl (omega arith) s)
-effect_cursors p choice (ERegister q t) r alive names s = on_named SoundCursors (label_registered (text_of p t)) (pool_named r q) r s (λ n is. stay_held r _ refl (omega arith) s)
-effect_cursors p choice (EKill q t) r alive names s = on_named SoundCursors (label_killed (text_of p t)) (pool_named r q) r s (λ n is. stay_held r _ refl (omega arith) s)
-effect_cursors p choice (EMakeBrigade o) r alive names s = stay_held r (do_create p o r) refl (omega arith) s
-effect_cursors p choice (EClean b) r alive names s = stay_held r (do_clean b r) refl (omega arith) s
-effect_cursors p choice (EConcat a b) r alive names s = stay_held r (do_concat a b r) refl (omega arith) s
-effect_cursors p choice (ESave o b) r alive names s = on_named SoundCursors (saved_into o b) (made_on (r.instance.brigades o)) r s (λ target is. stay_held r (saved_into o b target r) refl (omega arith) s)
-effect_cursors p choice (EPass b) r alive names s = stay_held r (do_pass b r) refl (omega arith) s
-effect_cursors p choice EReturn r alive names s = record { given = λ c n is. absurd (cc) }
-effect_cursors p choice (EFirst c b) r alive names s = first_held c b r names s
-effect_cursors p choice (ENext d c) r alive names s = next_held d (spot r c) r names s
-effect_cursors p choice (EPartBrigade b x c) r alive names s = bpart_held b (value_of r x) c r names s
-effect_cursors p choice (EMake c source) r alive names s = make_held c (made_of p r source) r s
-effect_cursors p choice (ERead c) r alive names s = read_held choice.given (spot r c) r (stands r (r.call.cursors c)) names s
+effect_cursors p choice (effect.MakePool q) r alive names s = made_under_named SoundCursors p q r s (λ parent is. stay_held r _ refl (omega arith) s)
+effect_cursors p choice (effect.ClearPool q) r alive names s = on_named SoundCursors pool_cleared (pool_named r (pool.Own q)) r s (λ n is. stay_held r (pool_cleared n r) refl (omega arith) s)
+effect_cursors p choice (effect.DestroyPool q) r alive names s = on_named SoundCursors pool_destroyed (pool_named r (pool.Own q)) r s (λ n is. stay_held r (pool_destroyed n r) refl (omega arith) s)
+effect_cursors p choice (effect.Register q t) r alive names s = on_named SoundCursors (label_registered (text_of p t)) (pool_named r q) r s (λ n is. stay_held r _ refl (omega arith) s)
+effect_cursors p choice (effect.Kill q t) r alive names s = on_named SoundCursors (label_killed (text_of p t)) (pool_named r q) r s (λ n is. stay_held r _ refl (omega arith) s)
+effect_cursors p choice (effect.MakeBrigade o) r alive names s = stay_held r (do_create p o r) refl (omega arith) s
+effect_cursors p choice (effect.Clean b) r alive names s = stay_held r (do_clean b r) refl (omega arith) s
+effect_cursors p choice (effect.Concat a b) r alive names s = stay_held r (do_concat a b r) refl (omega arith) s
+effect_cursors p choice (effect.Save o b) r alive names s = on_named SoundCursors (saved_into o b) (made_on (r.instance.brigades o)) r s (λ target is. stay_held r (saved_into o b target r) refl (omega arith) s)
+effect_cursors p choice (effect.Pass b) r alive names s = stay_held r (do_pass b r) refl (omega arith) s
+effect_cursors p choice effect.Return r alive names s = record { given = λ c n is. absurd (cc) }
+effect_cursors p choice (effect.First c b) r alive names s = first_held c b r names s
+effect_cursors p choice (effect.Next d c) r alive names s = next_held d (spot r c) r names s
+effect_cursors p choice (effect.PartBrigade b x c) r alive names s = bpart_held b (value_of r x) c r names s
+effect_cursors p choice (effect.Make c source) r alive names s = make_held c (made_of p r source) r s
+effect_cursors p choice (effect.Read c) r alive names s = read_held choice.given (spot r c) r (stands r (r.call.cursors c)) names s
 effect_cursors p choice e r alive names s = framed SoundCursors held_frame p choice e r refl refl alive s
 
 pub step_cursors : StepKeepsCursors

@@ -17,7 +17,7 @@ use Rattle.run_model.specs.Cutting.{length_of}
 use Rattle.run_model.specs.Effects.{with_items}
 use Rattle.run_model.specs.Cursors.{Place, Nowhere, AtLoose, Within, AtEndOf, found_below, holder_of, loose_spot, bucket_spot, spot_of, spot}
 use Rattle.run_model.specs.BucketSteps.{items_at, cursor_at, end_called, set_items, name_given, names_given, new_loose, do_make, is_unsplit, split_there, do_split, place_at, is_incomplete, names_if, names_to_part, do_bsplit, do_bpart}
-use Rattle.run_model.specs.EffectOf.{Effect}
+use Rattle.run_model.specs.declared.effect.Effect.{Effect}
 use Rattle.run_model.specs.Steps.{do_effect, Outcome, jumps_if, value_of}
 use Rattle.run_model.specs.Sound.{SoundNames, brigade_name, count_named, count}
 use Rattle.model_laws.specs.CursorLaws.{BucketOnce, BrigadeOnce, MakesLoose, MadeAreNew, SplitsBucket, SplitsInOrder, RefusedSplitJumps, BrigadesSplitInOrder, IsPlaceIn, PartsBrigade, PartitionsInOrder, IsPastEnd, PastEndJumps}

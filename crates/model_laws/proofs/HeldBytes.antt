@@ -15,7 +15,11 @@ use Rattle.run_model.specs.Cutting.{front_of, rest_of}
 use Rattle.run_model.specs.State.{Configuration}
 use Rattle.run_model.specs.Cursors.{Place, Nowhere, AtLoose, Within, AtEndOf, spot}
 use Rattle.run_model.specs.BucketSteps.{content_at, first_of, byte_of, items_at, read_given}
-use Rattle.run_model.specs.EffectOf.{Effect, MadeFrom, HeapText, ImmortalText, HeapBuffer, TransientBuffer, PoolBuffer, CopyAt, EMake, ERead, effect_of}
+use Rattle.run_model.specs.declared.effect.Effect.{Effect}
+use Rattle.run_model.specs.declared.effect.Effect.TheVariants as effect
+use Rattle.run_model.specs.declared.effect.MadeFrom.{MadeFrom}
+use Rattle.run_model.specs.declared.effect.MadeFrom.TheVariants.{HeapText, ImmortalText, HeapBuffer, TransientBuffer, PoolBuffer, CopyAt}
+use Rattle.run_model.specs.EffectOf.{effect_of}
 use Rattle.run_model.specs.Steps.{Choice, step, text_of}
 use Rattle.run_model.specs.Pieces.{bucket_of, named_from}
 use Rattle.model_laws.specs.Ranges.{AreBytes, HoldsBytes, GivesBytes, IsOfBytes}
@@ -76,8 +80,8 @@ from_bytes p r m buffer (CopyAt c) b is = absurd is
 from_bytes p r m buffer source b is = subst OfBytes (sym is) tt
 
 made_bytes : (p : Program) (choice : Choice) (r : Configuration) → IsModule p → GivesBytes choice → AreBytes r.call.buffer → (e : Effect) (b : Bucket) → Makes p choice r e b → OfBytes b
-made_bytes p choice r m gives buffer (EMake c source) b is = from_bytes p r m buffer source b is
-made_bytes p choice r m gives buffer (ERead c) b is = subst OfBytes (sym is.1.1.1) (given_bytes choice gives is.0 is.1.0 is.1.1.0)
+made_bytes p choice r m gives buffer (effect.Make c source) b is = from_bytes p r m buffer source b is
+made_bytes p choice r m gives buffer (effect.Read c) b is = subst OfBytes (sym is.1.1.1) (given_bytes choice gives is.0 is.1.0 is.1.1.0)
 made_bytes p choice r m gives buffer e b is = absurd is
 
 pub step_holds : (p : Program) (choice : Choice) (i : Instr) (r : Configuration) → IsModule p → GivesBytes choice → AreBytes r.call.buffer → Holds OfBytes r → Holds OfBytes (step p choice i r).state

@@ -5,7 +5,6 @@ use Rattle.std.proofs.lemmas.Bool.Decides.{nat_tests}
 use Rattle.std.proofs.lemmas.List.Elements.{All-nil, All-cons, All-append}
 use Rattle.std.proofs.lemmas.List.{length-append}
 use Rattle.module_code.specs.Args.{is_value}
-use Rattle.module_code.specs.declared.instr.PoolRef.TheVariants as pool
 use Rattle.module_code.specs.declared.instr.Value.{Value}
 use Rattle.module_code.specs.declared.instr.Value.TheVariants as value
 use Rattle.module_code.specs.declared.instr.Instr.{Instr}
@@ -17,14 +16,18 @@ use Rattle.run_model.specs.RunOrder.{run_order}
 use Rattle.run_model.specs.Payloads.{is_file_ref}
 use Rattle.run_model.specs.declared.payload.Payload.{Payload}
 use Rattle.run_model.specs.Files.{Files, is_referred, let_go}
-use Rattle.run_model.specs.State.{Configuration, with_pools, set_number, pool_named}
+use Rattle.run_model.specs.State.{Configuration, with_pools, set_number}
 use Rattle.run_model.specs.Cursors.{spot, read_cursor}
 use Rattle.run_model.specs.BucketSteps.{byte_of, content_at, got}
-use Rattle.run_model.specs.EffectOf.{Effect, ENumber, LengthAt, ByteRead, ValueGiven, Plus, Minus, effect_of}
-use Rattle.run_model.specs.Steps.{do_effect, Choice, step, do_put, pool_cleared, pool_destroyed, value_of, is_full, last_value}
+use Rattle.run_model.specs.declared.effect.Effect.{Effect}
+use Rattle.run_model.specs.declared.effect.Effect.TheVariants as effect
+use Rattle.run_model.specs.declared.effect.NewNumber.TheVariants.{LengthAt, ByteRead, ValueGiven, Plus, Minus}
+use Rattle.run_model.specs.EffectOf.{effect_of}
+use Rattle.run_model.specs.Steps.{do_effect, Choice, step, do_put, value_of, is_full, last_value}
 use Rattle.model_laws.specs.Ranges.{AreBytes, FileBytes, BufferInRange, InRange, StepKeepsInRange, StepKeepsBuffer}
 use Rattle.run_model.proofs.Updates.{upd_either}
-use Rattle.model_laws.proofs.NamedPools.{on_named, with_buffer}
+use Rattle.model_laws.proofs.PoolsGone.{pool_emptied, on_emptied}
+use Rattle.model_laws.proofs.NamedPools.{with_buffer}
 use Rattle.model_laws.proofs.Unchanged.{effect_changes_only, step_changes_only}
 use Rattle.model_laws.proofs.Origins.{Holds}
 use Rattle.model_laws.proofs.StepFiles.{neither}
@@ -82,15 +85,15 @@ got_range n (Some v) r small s = number_set n v r (let le : v ≤ 255 = small v 
 
 -- an effect that gives a number this value
 abbrev gives_value : Effect → Bool
-gives_value (ENumber n (ValueGiven x)) = true
+gives_value (effect.Number n (ValueGiven x)) = true
 gives_value e = false
 
 effect_numbers : (p : Program) (choice : Choice) (e : Effect) (r : Configuration) → gives_value e ≡ false → Holds OfBytes r → ((k : ℕ) → r.instance.numbers k ≤ 4294967295) → (k : ℕ) → (do_effect p choice e r).instance.numbers k ≤ 4294967295
-effect_numbers p choice (ENumber n (LengthAt c)) r other held s = number_set n _ r (least _) s
-effect_numbers p choice (ENumber n (ByteRead x)) r other held s = got_range n (byte_of (value_of r x) (content_at (spot r read_cursor))) r (λ v is. byte_there r read_cursor (value_of r x) v held is) s
-effect_numbers p choice (ENumber n (Plus x)) r other held s = number_set n _ r (least (r.instance.numbers n + value_of r x)) s
-effect_numbers p choice (ENumber n (Minus x)) r other held s = number_set n _ r (let le : r.instance.numbers n ≤ 4294967295 = s n in omega arith) s
-effect_numbers p choice (ENumber n (ValueGiven x)) r other held s = absurd (cc)
+effect_numbers p choice (effect.Number n (LengthAt c)) r other held s = number_set n _ r (least _) s
+effect_numbers p choice (effect.Number n (ByteRead x)) r other held s = got_range n (byte_of (value_of r x) (content_at (spot r read_cursor))) r (λ v is. byte_there r read_cursor (value_of r x) v held is) s
+effect_numbers p choice (effect.Number n (Plus x)) r other held s = number_set n _ r (least (r.instance.numbers n + value_of r x)) s
+effect_numbers p choice (effect.Number n (Minus x)) r other held s = number_set n _ r (let le : r.instance.numbers n ≤ 4294967295 = s n in omega arith) s
+effect_numbers p choice (effect.Number n (ValueGiven x)) r other held s = absurd (cc)
 effect_numbers p choice e r other held s = λ k. subst (λ (v : ℕ). v ≤ 4294967295) (sym ((effect_changes_only p choice e r).numbers k refl)) (s k)
 
 step_numbers : (p : Program) (choice : Choice) (i : Instr) (r : Configuration) → fits p i ≡ true → Holds OfBytes r → ((k : ℕ) → r.instance.numbers k ≤ 4294967295) → (k : ℕ) → (step p choice i r).state.instance.numbers k ≤ 4294967295
@@ -105,17 +108,13 @@ gone_files handed ps fs s = record { named = s.named; opened = λ file bytes is.
   by_test file bytes true is = absurd (cc)
   by_test file bytes false is = s.opened file bytes is
 
-pub destroyed_files : (n : ℕ) (r : Configuration) → FileBytes r.shared.files → FileBytes (pool_destroyed n r).shared.files
+pub emptied_files : (left : Pools Payload) (n : ℕ) (r : Configuration) → FileBytes r.shared.files → FileBytes (pool_emptied left n r).shared.files
 unfolding with_pools run_down
-destroyed_files n r s = gone_files (run_order r.shared.pools n) (pool_destroyed n r).shared.pools r.shared.files s
-
-cleared_files : (n : ℕ) (r : Configuration) → FileBytes r.shared.files → FileBytes (pool_cleared n r).shared.files
-unfolding with_pools run_down
-cleared_files n r s = gone_files (run_order r.shared.pools n) (pool_cleared n r).shared.pools r.shared.files s
+emptied_files left n r s = gone_files (run_order r.shared.pools n) left r.shared.files s
 
 step_files : (p : Program) (choice : Choice) (i : Instr) (r : Configuration) → FileBytes r.shared.files → FileBytes (step p choice i r).state.shared.files
-step_files p choice (instr.PClear q) r s = on_named (λ x. FileBytes x.shared.files) pool_cleared (pool_named r (pool.Own q)) r s (λ n e. cleared_files n r s)
-step_files p choice (instr.PDestroy q) r s = on_named (λ x. FileBytes x.shared.files) pool_destroyed (pool_named r (pool.Own q)) r s (λ n e. destroyed_files n r s)
+step_files p choice (instr.PClear q) r s = (on_emptied (λ x. FileBytes x.shared.files) q r s (λ n left e so. emptied_files left n r s)).0
+step_files p choice (instr.PDestroy q) r s = (on_emptied (λ x. FileBytes x.shared.files) q r s (λ n left e so. emptied_files left n r s)).1
 step_files p choice i r s = subst FileBytes (sym ((step_changes_only p choice i r).files refl)) s
 
 -- Steps.

@@ -4,8 +4,12 @@ pub mod Operands
 pub mod NamesStay
 pub mod StepNames
 pub mod Origins
+pub mod EachItem
+pub mod EachStep
 pub mod StepBuckets
 pub mod NamedPools
+pub mod PoolsGone
+pub mod BrigadePools
 pub mod PoolsKept
 pub mod StepPools
 pub mod EventAnswers

@@ -3,12 +3,15 @@ use Rattle.std.proofs.Common.{◌≡◌, ℕ, ◌<◌, Bool, true, false, cond, 
 use Rattle.module_code.specs.declared.instr.PoolRef.TheVariants as pool
 use Rattle.module_code.specs.declared.instr.Value.{Value}
 use Rattle.module_code.specs.Program.{Program, pool_of_pool}
+use Rattle.run_model.specs.declared.bucket.Brigade.{Brigade}
+use Rattle.run_model.specs.declared.bucket.BrigadeVar.{BrigadeVar}
+use Rattle.run_model.specs.declared.bucket.BrigadeVar.TheVariants as var
 use Rattle.run_model.specs.declared.bucket.PoolVar.{PoolVar}
 use Rattle.run_model.specs.declared.bucket.PoolVar.TheVariants as poolvar
 use Rattle.run_model.specs.Pools.{created}
 use Rattle.run_model.specs.State.{named_at, Configuration, set_pool, with_pools, name_in, pool_named}
-use Rattle.run_model.specs.Steps.{on_pool, do_pcreate, value_of, is_full, do_put}
-use Rattle.run_model.specs.Sound.{SoundPools}
+use Rattle.run_model.specs.Steps.{made_on, on_pool, do_pcreate, value_of, is_full, do_put}
+use Rattle.run_model.specs.Sound.{SoundPools, brigade_pool}
 use Rattle.run_model.proofs.Formed.{path_live}
 
 -- what holds where no pool is named, and where one is, of what is done to it
@@ -53,3 +56,18 @@ conn_given r s = s.formed.named r.shared.conn s.conn
 
 pub req_given : (r : Configuration) (m : ℕ) → r.shared.req ≡ Some m → SoundPools r → m < r.shared.pools.next
 req_given r m is s = s.formed.named m (path_live r.shared.pools m m (r.shared.pools.path r.shared.conn) (s.req m is).0)
+
+-- the pool of a brigade, as a step reads it
+pub made_is : (v : BrigadeVar) → made_on v ≡ brigade_pool v
+made_is var.Null = refl
+made_is var.Gone = refl
+made_is (var.Live v) = refl
+
+-- a brigade that lies on a pool is live
+pub live_pool : (v : BrigadeVar) (n : ℕ) → brigade_pool v ≡ Some n → (w : Brigade) × (v ≡ var.Live w) × (w.on ≡ Some n)
+live_pool var.Null n e = absurd (cc)
+live_pool var.Gone n e = absurd (cc)
+live_pool (var.Live w) n e = (w, refl, e)
+
+pub not_both : (o : Option ℕ) (n : ℕ) → o ≡ None → o ≡ Some n → ⊥
+not_both o n none some = cc

@@ -1,5 +1,6 @@
 -- Changes that keep each name one bucket's, and new names new.
 use Rattle.std.proofs.Common.{◌≡◌, ℕ, ◌+◌, ◌^◌, ◌<◌, ◌≤◌, Bool, map, Some, ◌⊎◌, inl, inr, refl, sym, ◌∙◌, ap, subst, arith}
+use Rattle.std.proofs.lemmas.Option.{same_Some}
 use Rattle.std.proofs.lemmas.Bool.{cases_lt}
 use Rattle.run_model.specs.declared.bucket.Brigade.{Brigade}
 use Rattle.run_model.specs.declared.bucket.BrigadeVar.{BrigadeVar}
@@ -72,9 +73,6 @@ went_names reached r new brigades loose next limit =
     (λ b. subst (λ v. Fewer (r.instance.brigades b) v) (sym (brigades b)) (cleared_fewer reached (r.instance.brigades b)))
     (omega arith) (subst (λ (k : ℕ). k < 2 ^ 64) (sym next) limit)
 
-some_is : (a b : ℕ) → Some a ≡ Some b → a ≡ b
-some_is a b e = cc
-
 -- A new brigade in a variable: its name and its buckets' are among those that were not given out.
 pub placed_names : (r new : Configuration) (o : ℕ) (v : Brigade)
     → o < 9
@@ -112,6 +110,6 @@ placed_names r new o v in_range is loose above below limit old_names once behind
   named b n h =
       let at_b : new.instance.brigades b ≡ upd r.instance.brigades o (var.Live v) b = ap (λ (g : ℕ → BrigadeVar). g b) is in
       elim (upd_either r.instance.brigades o b (var.Live v)) [
-        | inl p ↦ inl (p.0, some_is v.name n (ap brigade_name (sym (at_b ∙ p.1)) ∙ h))
+        | inl p ↦ inl (p.0, same_Some v.name n (ap brigade_name (sym (at_b ∙ p.1)) ∙ h))
         | inr p ↦ inr (ap brigade_name (sym (at_b ∙ p.1)) ∙ h)
       ]

@@ -1,6 +1,6 @@
 -- What an instruction on cursors and buckets leaves: what was true of each bucket is true of each, also of those that are
 -- made, cut and read.
-use Rattle.std.proofs.Common.{◌≡◌, ℕ, zero, suc, ◌+◌, ◌-◌, ◌≤◌, ◌⊎◌, Bool, true, false, cond, nat_lt, nat_le, List, [], ◌∷◌, ◌++◌, Option, Some, None, is_some, All, inl, inr, refl, sym, subst, arith}
+use Rattle.std.proofs.Common.{◌≡◌, ℕ, zero, suc, ◌+◌, ◌-◌, ◌≤◌, ◌⊎◌, Bool, true, false, cond, not, ◌||◌, nat_lt, nat_le, List, [], ◌∷◌, ◌++◌, Option, Some, None, is_some, All, inl, inr, refl, sym, subst, arith}
 use Rattle.std.proofs.lemmas.Bool.Decides.{nat_tests}
 use Rattle.std.proofs.lemmas.List.Elements.{All-nil, All-cons, All-head, All-tail, All-append}
 use Rattle.module_code.specs.declared.instr.Instr.{Instr}
@@ -20,7 +20,14 @@ use Rattle.run_model.specs.BrigadeLists.{buckets_before, buckets_from, first_buc
 use Rattle.run_model.specs.State.{Configuration, items_of, set_brigade, set_number, set_cursor, set_loose, pool_named}
 use Rattle.run_model.specs.Cursors.{bucket_at, Place, AtLoose, Within, spot, read_cursor}
 use Rattle.run_model.specs.BucketSteps.{items_at, set_items, do_next, do_unlink, do_delete, put_into, do_before, name_given, names_given, names_to_part, new_loose, heap_bucket, immortal_bucket, transient_bucket, pool_bucket, metadata, copied_bucket, pooled_bucket, do_make, split_there, do_split, rest_named, first_read, read_given, read_within, do_read, place_at, do_bsplit, do_bpart, got}
-use Rattle.run_model.specs.EffectOf.{Effect, MadeFrom, HeapText, ImmortalText, HeapBuffer, TransientBuffer, PoolBuffer, FlushBucket, EosBucket, CopyAt, Side, AtTail, AtHead, ENothing, EMakePool, EClearPool, EDestroyPool, ERegister, EKill, EMakeBrigade, EClean, EConcat, ESplitBrigade, EPartBrigade, ESave, EPass, EFirst, ENext, EUnlink, EDelete, EInsert, EBefore, EMake, ESplit, EAside, ERead, ENumber, EPut, EClearBuffer, EReturn, effect_of}
+use Rattle.run_model.specs.declared.effect.Effect.{Effect}
+use Rattle.run_model.specs.declared.effect.Effect.TheVariants as effect
+use Rattle.run_model.specs.declared.effect.MadeFrom.{MadeFrom}
+use Rattle.run_model.specs.declared.effect.MadeFrom.TheVariants.{HeapText, ImmortalText, HeapBuffer, TransientBuffer, PoolBuffer, FlushBucket, EosBucket, CopyAt}
+use Rattle.run_model.specs.declared.effect.Side.{Side}
+use Rattle.run_model.specs.declared.effect.Side.TheVariants.{AtTail, AtHead}
+use Rattle.run_model.specs.EffectOf.{effect_of}
+use Rattle.run_model.specs.Changes.{extent, has_pools, is_wide}
 use Rattle.run_model.specs.Steps.{do_effect, made_of, number_of, put_at, Choice, step, with_items, text_of, value_of}
 use Rattle.model_laws.proofs.NamedPools.{with_buffer, put_keeps}
 use Rattle.run_model.proofs.Updates.{upd_either}
@@ -300,19 +307,7 @@ module _ (T : NamedBucket → Type 0) (r : Configuration) (on : Descends r.share
 
 -- whether an effect neither changes pools nor brigades as a whole, nor ends a call, nor sets buckets aside
 abbrev pub is_quiet : Effect → Bool
-is_quiet (EMakePool q) = false
-is_quiet (EClearPool q) = false
-is_quiet (EDestroyPool q) = false
-is_quiet (ERegister q t) = false
-is_quiet (EKill q t) = false
-is_quiet (EMakeBrigade o) = false
-is_quiet (EClean b) = false
-is_quiet (EConcat a b) = false
-is_quiet (ESave o b) = false
-is_quiet (EPass b) = false
-is_quiet (EAside c q) = false
-is_quiet EReturn = false
-is_quiet e = true
+is_quiet e = not (is_wide (extent e) || has_pools (extent e))
 
 -- the bucket that is made of a source, if it is no copy
 abbrev pub FromSource : Program → Configuration → MadeFrom → Bucket → Type 0
@@ -327,13 +322,13 @@ FromSource p r (CopyAt c) b = ⊥
 
 -- the buckets that an effect makes
 abbrev pub Makes : Program → Choice → Configuration → Effect → Bucket → Type 0
-Makes p choice r (EMake c source) b = FromSource p r source b
-Makes p choice r (ERead c) b = (x : Content) × ((bytes : List ℕ) × ((read_given choice.given x ≡ Some bytes) × (b ≡ heap_bucket bytes)))
+Makes p choice r (effect.Make c source) b = FromSource p r source b
+Makes p choice r (effect.Read c) b = (x : Content) × ((bytes : List ℕ) × ((read_given choice.given x ≡ Some bytes) × (b ≡ heap_bucket bytes)))
 Makes p choice r e b = ⊥
 
 -- whether an effect reads a bucket
 abbrev pub reads_bucket : Effect → Bool
-reads_bucket (ERead c) = true
+reads_bucket (effect.Read c) = true
 reads_bucket e = false
 
 abbrev pub is_read : Instr → Bool
@@ -362,21 +357,21 @@ module _ (T : NamedBucket → Type 0) (p : Program) (choice : Choice) (r : Confi
   leaves : (e : Effect) → is_quiet e ≡ true → ((b : Bucket) → reads_bucket e ≡ false → Makes p choice r e b → T (record { name = r.shared.next; bucket = b }))
       → ((c : Content) (bytes : List ℕ) → reads_bucket e ≡ true → read_given choice.given c ≡ Some bytes → (x : NamedBucket) → T x → T (record x { bucket = heap_bucket bytes }))
       → HoldsNamed T r → HoldsNamed T (do_effect p choice e r)
-  leaves ENothing quiet made reads h = h
-  leaves (ESplitBrigade b c a) quiet made reads h = bsplit_holds T r on h b (spot r c) a
-  leaves (EPartBrigade b x c) quiet made reads h = part_holds T r on h b (value_of r x) c
-  leaves (EFirst c b) quiet made reads h = cursor_holds T c _ r h
-  leaves (ENext d c) quiet made reads h = next_holds T r on h d (spot r c)
-  leaves (EUnlink c) quiet made reads h = unlink_holds T r on h (spot r c) (stands r (r.call.cursors c))
-  leaves (EDelete c) quiet made reads h = delete_holds T r on h (spot r c)
-  leaves (EInsert side b c) quiet made reads h = insert_holds side b c h
-  leaves (EBefore c d) quiet made reads h = before_holds T r on h (spot r c) (spot r d) (stands r (r.call.cursors c))
-  leaves (EMake c source) quiet made reads h = make_holds T r on h c (made_of p r source) (made_holds source (λ b from. made b refl from) h)
-  leaves (ESplit c x) quiet made reads h = split_holds T r on h (value_of r x) (spot r c) (stands r (r.call.cursors c))
-  leaves (ERead c) quiet made reads h = read_holds T r on h choice.given (spot r c) (λ k bytes is. reads k bytes refl is)
-  leaves (ENumber n number) quiet made reads h = got_holds T r on h n (number_of r n number)
-  leaves (EPut x) quiet made reads h = put_keeps (HoldsNamed T) x r h (λ buffer. buffer_holds T buffer r h)
-  leaves EClearBuffer quiet made reads h = buffer_holds T [] r h
+  leaves effect.Nothing quiet made reads h = h
+  leaves (effect.SplitBrigade b c a) quiet made reads h = bsplit_holds T r on h b (spot r c) a
+  leaves (effect.PartBrigade b x c) quiet made reads h = part_holds T r on h b (value_of r x) c
+  leaves (effect.First c b) quiet made reads h = cursor_holds T c _ r h
+  leaves (effect.Next d c) quiet made reads h = next_holds T r on h d (spot r c)
+  leaves (effect.Unlink c) quiet made reads h = unlink_holds T r on h (spot r c) (stands r (r.call.cursors c))
+  leaves (effect.Delete c) quiet made reads h = delete_holds T r on h (spot r c)
+  leaves (effect.Insert side b c) quiet made reads h = insert_holds side b c h
+  leaves (effect.Before c d) quiet made reads h = before_holds T r on h (spot r c) (spot r d) (stands r (r.call.cursors c))
+  leaves (effect.Make c source) quiet made reads h = make_holds T r on h c (made_of p r source) (made_holds source (λ b from. made b refl from) h)
+  leaves (effect.Split c x) quiet made reads h = split_holds T r on h (value_of r x) (spot r c) (stands r (r.call.cursors c))
+  leaves (effect.Read c) quiet made reads h = read_holds T r on h choice.given (spot r c) (λ k bytes is. reads k bytes refl is)
+  leaves (effect.Number n number) quiet made reads h = got_holds T r on h n (number_of r n number)
+  leaves (effect.Put x) quiet made reads h = put_keeps (HoldsNamed T) x r h (λ buffer. buffer_holds T buffer r h)
+  leaves effect.ClearBuffer quiet made reads h = buffer_holds T [] r h
   leaves e quiet made reads h = absurd (cc)
 
 pub named_leaves : (T : NamedBucket → Type 0) (p : Program) (choice : Choice) (i : Instr) (r : Configuration) → is_quiet (effect_of i) ≡ true → Descends r.shared.next T
@@ -384,14 +379,15 @@ pub named_leaves : (T : NamedBucket → Type 0) (p : Program) (choice : Choice) 
     → ((c : Content) (bytes : List ℕ) → is_read i ≡ true → read_given choice.given c ≡ Some bytes → (x : NamedBucket) → T x → T (record x { bucket = heap_bucket bytes })) → HoldsNamed T r → HoldsNamed T (step p choice i r).state
 named_leaves T p choice i r quiet on made reads h = leaves T p choice r on (effect_of i) quiet made reads h
 
-pub parted_leaves : (T : Bucket → Type 0) (p : Program) (choice : Choice) (i : Instr) (r : Configuration) → is_quiet (effect_of i) ≡ true → PassesParts T
-    → ((b : Bucket) → Makes p choice r (effect_of i) b → T b) → Holds T r → Holds T (step p choice i r).state
-parted_leaves T p choice i r quiet on made h =
-    named_leaves (λ x. T x.bucket) p choice i r quiet (record { front = λ n x le old. on.front n x.bucket le old; rest = λ n x le old. on.rest n x.bucket le old; copy = λ x old. old }) (λ b other is. made b is)
-    (λ c bytes reads is x old. made (heap_bucket bytes) (read_makes (effect_of i) c bytes reads is)) h where
-      read_makes : (e : Effect) (c : Content) (bytes : List ℕ) → reads_bucket e ≡ true → read_given choice.given c ≡ Some bytes → Makes p choice r e (heap_bucket bytes)
-      read_makes (ERead d) c bytes reads is = (c, (bytes, (is, refl)))
-      read_makes e c bytes reads is = absurd (cc)
+-- the parts of a bucket, and a copy
+pub parts_descend : (T : Bucket → Type 0) (next : ℕ) → PassesParts T → Descends next (λ x. T x.bucket)
+parts_descend T next on = record { front = λ n x le old. on.front n x.bucket le old; rest = λ n x le old. on.rest n x.bucket le old; copy = λ x old. old }
+
+-- what was read is made
+pub read_makes : (p : Program) (choice : Choice) (r : Configuration) (e : Effect) (c : Content) (bytes : List ℕ) → reads_bucket e ≡ true
+    → read_given choice.given c ≡ Some bytes → Makes p choice r e (heap_bucket bytes)
+read_makes p choice r (effect.Read d) c bytes reads is = (c, (bytes, (is, refl)))
+read_makes p choice r e c bytes reads is = absurd (cc)
 
 from_so : (p : Program) (r : Configuration) (source : MadeFrom) (b : Bucket) → FromSource p r source b → IsMade r b
 from_so p r (HeapText t) b is = subst (IsMade r) (sym is) (made_heap r (text_of p t))
@@ -403,10 +399,12 @@ from_so p r FlushBucket b is = subst (IsMade r) (sym is) (made_flush r)
 from_so p r EosBucket b is = subst (IsMade r) (sym is) (made_eos r)
 from_so p r (CopyAt c) b is = absurd is
 
-made_so : (p : Program) (choice : Choice) (r : Configuration) (e : Effect) (b : Bucket) → Makes p choice r e b → IsMade r b
-made_so p choice r (EMake c source) b is = from_so p r source b is
-made_so p choice r (ERead c) b is = subst (IsMade r) (sym is.1.1.1) (made_heap r is.1.0)
+pub made_so : (p : Program) (choice : Choice) (r : Configuration) (e : Effect) (b : Bucket) → Makes p choice r e b → IsMade r b
+made_so p choice r (effect.Make c source) b is = from_so p r source b is
+made_so p choice r (effect.Read c) b is = subst (IsMade r) (sym is.1.1.1) (made_heap r is.1.0)
 made_so p choice r e b is = absurd is
 
 pub quiet_leaves : (T : Bucket → Type 0) (p : Program) (choice : Choice) (i : Instr) (r : Configuration) → is_quiet (effect_of i) ≡ true → PassesOn r T → Holds T r → Holds T (step p choice i r).state
-quiet_leaves T p choice i r quiet on h = parted_leaves T p choice i r quiet on.parts (λ b is. on.made b (made_so p choice r (effect_of i) b is)) h
+quiet_leaves T p choice i r quiet on h =
+    named_leaves (λ x. T x.bucket) p choice i r quiet (parts_descend T r.shared.next on.parts) (λ b other is. on.made b (made_so p choice r (effect_of i) b is))
+    (λ c bytes reads is x old. on.made (heap_bucket bytes) (made_so p choice r (effect_of i) _ (read_makes p choice r (effect_of i) c bytes reads is))) h

@@ -11,7 +11,11 @@ use Rattle.run_model.specs.declared.event.Piece.{Piece}
 use Rattle.run_model.specs.declared.event.Piece.TheVariants as piece
 use Rattle.run_model.specs.Cutting.{EndsInFile, length_of, front_of, rest_of}
 use Rattle.run_model.specs.State.{Configuration}
-use Rattle.run_model.specs.EffectOf.{Effect, MadeFrom, PoolBuffer, CopyAt, EMake, ERead, effect_of}
+use Rattle.run_model.specs.declared.effect.Effect.{Effect}
+use Rattle.run_model.specs.declared.effect.Effect.TheVariants as effect
+use Rattle.run_model.specs.declared.effect.MadeFrom.{MadeFrom}
+use Rattle.run_model.specs.declared.effect.MadeFrom.TheVariants.{PoolBuffer, CopyAt}
+use Rattle.run_model.specs.EffectOf.{effect_of}
 use Rattle.run_model.specs.Steps.{Choice}
 use Rattle.run_model.specs.Pieces.{bucket_of, named_from, has_range, lacks_file}
 use Rattle.model_laws.specs.RangesEnd.{RangesEnd, StepKeepsEnds, PieceEnds, LengthsEnd}
@@ -44,8 +48,8 @@ from_ends p r (CopyAt c) b is = absurd is
 from_ends p r source b is = subst Ends (sym is) tt
 
 made_ends : (p : Program) (choice : Choice) (r : Configuration) (e : Effect) (b : Bucket) → Makes p choice r e b → Ends b
-made_ends p choice r (EMake c source) b is = from_ends p r source b is
-made_ends p choice r (ERead c) b is = subst Ends (sym is.1.1.1) tt
+made_ends p choice r (effect.Make c source) b is = from_ends p r source b is
+made_ends p choice r (effect.Read c) b is = subst Ends (sym is.1.1.1) tt
 made_ends p choice r e b is = absurd is
 
 -- Steps.

@@ -1,5 +1,6 @@
 -- The first refusal whose test holds is the one that is told.
 use Rattle.std.proofs.Common.{◌≡◌, ◌≢◌, ℕ, ◌+◌, ◌<◌, ◌≤◌, Bool, true, false, ◌||◌, not, cond, List, [], ◌∷◌, length, get_or, Option, Some, None, is_some, Result, Err, nat_le, inl, inr, refl, sym, ◌∙◌, ap, subst, arith}
+use Rattle.std.proofs.lemmas.Option.{same_Some}
 use Rattle.std.specs.List.{list_any}
 use Rattle.std.proofs.lemmas.Bool.{cases_eq, cases_lt}
 use Rattle.std.proofs.lemmas.Bool.Decides.{nat_tests}
@@ -350,16 +351,13 @@ due_refused memory budget chain told c w r first =
       none_is : (a : Refusal) → None ≡ Some a → ⊥
       none_is a e = cc
 
-      some_is : (a b : Refusal) → Some a ≡ Some b → a ≡ b
-      some_is a b e = cc
-
       by_stack : (fs : List Frame) → first_refusal (refused_if (not (is_busy fs)) refusal.Idle ∷ []) ≡ Some r → step_top memory budget chain told.reads fs (w.common, c) ≡ (Err r, (w.common, c))
-      by_stack [] e = ap (λ (x : Refusal). (Err x, (w.common, c))) (some_is refusal.Idle r e)
+      by_stack [] e = ap (λ (x : Refusal). (Err x, (w.common, c))) (same_Some refusal.Idle r e)
       by_stack (f ∷ fs) e = absurd (none_is r e)
 
       by_broken : (b : Option Cause) → first_refusal (if_broken b ∷ refused_if (not (is_busy c.stack)) refusal.Idle ∷ []) ≡ Some r → step_unless b memory budget chain told.reads (w.common, c) ≡ (Err r, (w.common, c))
       by_broken None e = by_stack c.stack e
-      by_broken (Some k) e = ap (λ (x : Refusal). (Err x, (w.common, c))) (some_is (refusal.Broken k) r e)
+      by_broken (Some k) e = ap (λ (x : Refusal). (Err x, (w.common, c))) (same_Some (refusal.Broken k) r e)
 
 pub steps_tell : StepsTell
 steps_tell memory budget chain told c w = record {

@@ -1,5 +1,6 @@
 -- Each step keeps brigades registered with their pools, those of its instance and of others.
 use Rattle.std.proofs.Common.{◌≡◌, ◌≢◌, ◌⊎◌, ℕ, ◌+◌, ◌<◌, Bool, true, false, ◌==◌, cond, List, [], ◌∷◌, ◌++◌, map, filter_map, Option, Some, None, inl, inr, refl, sym, ◌∙◌, ap, subst, arith, ne_eqb, eq-eqb}
+use Rattle.std.proofs.lemmas.Option.{same_Some}
 use Rattle.std.specs.Prelude.{count_by}
 use Rattle.std.specs.List.{list_any, sum_by}
 use Rattle.std.proofs.lemmas.Bool.{cases_eq, cases_lt}
@@ -276,9 +277,6 @@ module _ (Others : ℕ → ℕ → Type 0) where
     made : BrigadeVar
     made = var.Live (record { name = r.shared.next; on = pool_named r (pool_of_brigade p o); mark = Usable; items = [] })
 
-    some_same : (a b : ℕ) → Some a ≡ Some b → a ≡ b
-    some_same a b e = cc
-
     new : (q : ℕ) → times_held r.shared.pools r.shared.next q ≡ 0
     new q = not_held r names given s q
 
@@ -289,7 +287,7 @@ module _ (Others : ℕ → ℕ → Type 0) where
     once : (name q : ℕ) → IsMadeOr Others (do_create p o r).instance name q → times_held (with_brigade (pool_named r (pool_of_brigade p o)) r.shared.next r.shared.pools) name q ≡ 1
     once name q (inr m) = older name q (given name q m) (inr m)
     once name q (inl m) = elim (upd_either r.instance.brigades o m.0 made) [
-      | inl at ↦ (let is : r.shared.next ≡ name = some_same r.shared.next name (sym (ap brigade_name at.1) ∙ m.1) in
+      | inl at ↦ (let is : r.shared.next ≡ name = same_Some r.shared.next name (sym (ap brigade_name at.1) ∙ m.1) in
           let there : pool_named r (pool_of_brigade p o) ≡ Some q = sym (ap brigade_pool at.1) ∙ m.2 in
           subst (λ (k : ℕ). times_held (with_brigade (pool_named r (pool_of_brigade p o)) r.shared.next r.shared.pools) k q ≡ 1) is
           (subst (λ (k : Option ℕ). times_held (with_brigade k r.shared.next r.shared.pools) r.shared.next q ≡ 1) (sym there) (held_itself q r new)))
@@ -391,23 +389,21 @@ module _ (Others : ℕ → ℕ → Type 0) where
         left name q (inl m) = (let old = (made_spared (is_under r.shared.pools n) r.instance new.instance brigades name q).1 m in (inl old.0, old.1))
         left name q (inr o) = (inr o.0, o.1)
 
-  cleared_registered : (o : Option ℕ) (r : Configuration) → With r → Left (is_under_named r.shared.pools o) (on_pool pool_cleared o r)
-  unfolding Left run_down with_pools
-  cleared_registered None r s = all_left r.instance r.shared.pools s
-  cleared_registered (Some n) r s = went n r (pool_cleared n r) (cleared_emptied n r.shared.pools) (λ b. spared (is_under r.shared.pools n) (r.instance.brigades b)) s
-
-  destroyed_registered : (o : Option ℕ) (r : Configuration) → With r → Left (is_under_named r.shared.pools o) (on_pool pool_destroyed o r)
-  unfolding Left run_down with_pools
-  destroyed_registered None r s = all_left r.instance r.shared.pools s
-  destroyed_registered (Some n) r s = went n r (pool_destroyed n r) (destroyed_emptied n r.shared.pools) (λ b. spared (is_under r.shared.pools n) (r.instance.brigades b)) s
+  gone_registered : (gone : ℕ → Configuration → Configuration) (o : Option ℕ) (r : Configuration) → ((n : ℕ) → Emptied n r.shared.pools (gone n r).shared.pools)
+      → ((n b : ℕ) → Spared (is_under r.shared.pools n) (r.instance.brigades b) ((gone n r).instance.brigades b)) → With r → Left (is_under_named r.shared.pools o) (on_pool gone o r)
+  unfolding Left
+  gone_registered gone None r e left s = all_left r.instance r.shared.pools s
+  gone_registered gone (Some n) r e left s = went n r (gone n r) (e n) (left n) s
 
 -- What a step leaves, where others hold brigades whose names were given out.
 pub step_leaves : (Others : ℕ → ℕ → Type 0) (p : Program) (choice : Choice) (i : Instr) (r : Configuration) → MayExecute p r i → Sound r → AsDeclared p r → ((name q : ℕ) → Others name q → name < r.shared.next)
     → AreRegistered (IsMadeOr Others r.instance) r.shared.pools
     → (let s = (step p choice i r).state in AreRegistered (IsMadeOr (λ name q. Others name q × (takes_from r i q ≡ false)) s.instance) s.shared.pools)
-unfolding Left
-step_leaves Others p choice (instr.PClear q) r may sound d given s = cleared_registered Others (pool_named r (pool.Own q)) r s
-step_leaves Others p choice (instr.PDestroy q) r may sound d given s = destroyed_registered Others (pool_named r (pool.Own q)) r s
+unfolding Left run_down with_pools
+step_leaves Others p choice (instr.PClear q) r may sound d given s =
+    gone_registered Others pool_cleared (pool_named r (pool.Own q)) r (λ n. cleared_emptied n r.shared.pools) (λ n b. spared (is_under r.shared.pools n) (r.instance.brigades b)) s
+step_leaves Others p choice (instr.PDestroy q) r may sound d given s =
+    gone_registered Others pool_destroyed (pool_named r (pool.Own q)) r (λ n. destroyed_emptied n r.shared.pools) (λ n b. spared (is_under r.shared.pools n) (r.instance.brigades b)) s
 step_leaves Others p choice i r may sound d given s = (let t = (step p choice i r).state in all_left Others t.instance t.shared.pools (stays_registered Others p choice i r refl may sound d given s))
 
 -- Other instances.

@@ -15,7 +15,8 @@ use Rattle.model_laws.specs.BrigadeLaws.{SameBytes, may_split}
 use Rattle.run_model.specs.State.{Configuration, items_of, set_brigade, set_loose, set_cursor, with_pools}
 use Rattle.run_model.specs.Effects.{with_items, aside_named}
 use Rattle.run_model.specs.Cursors.{Place, AtLoose, Within, read_cursor}
-use Rattle.run_model.specs.EffectOf.{Side, AtTail, AtHead}
+use Rattle.run_model.specs.declared.effect.Side.{Side}
+use Rattle.run_model.specs.declared.effect.Side.TheVariants.{AtTail, AtHead}
 use Rattle.run_model.specs.Steps.{put_at}
 use Rattle.run_model.specs.BucketSteps.{set_items, items_at, do_unlink, do_delete, put_into, do_before, name_given, names_given, new_loose, do_make, names_to_split, split_there, do_split, changed_at, aside_into, read_given, rest_named, first_read, bucket_read, has_rest, names_if, names_to_read, read_within, do_read, place_at, do_bsplit, names_to_part, do_bpart}
 use Rattle.run_model.specs.Sound.{NamesStep, sum_below, count_named, count}
@@ -89,22 +90,22 @@ head_counts x bs n = count_cons n x bs
 before_counts : (at : ℕ) → AddsOne (put_before at)
 before_counts at x bs n = moves_keep_names.before at x bs n ∙ count_cons n x bs
 
+-- a bucket is taken out of its brigade
+slot_taken : (n b : ℕ) (x : NamedBucket) (r : Configuration) → Stands r (Within b x) → count (set_items b (taken_out x.name (items_at r b)) r) n + cond (x.name == n) 1 0 ≤ count r n
+slot_taken n b x r at =
+    let slot : count (set_items b (taken_out x.name (items_at r b)) r) n + count_named n (items_at r b) ≤ count r n + count_named n
+    (taken_out x.name (items_at r b)) = slot_counts b (taken_out x.name (items_at r b)) r n at.0 in
+    omega (arith, slot, taken_counts n x (items_at r b) at.1)
+
 pub unlink_names : (s : Place) (r : Configuration) → Stands r s → r.shared.next < 2 ^ 64 → NamesStep r (do_unlink s r)
 unfolding set_brigade set_loose
-unlink_names (Within b x) r at limit = rising_names r _ (slot_carried b (taken_out x.name (items_at r b)) r) (omega arith) limit (λ n. no_more _ _ n _ _ (fewer n)) where
-  fewer : (n : ℕ) → count (do_unlink (Within b x) r) n ≤ count r n
-  fewer n =
-      let slot : count (set_items b (taken_out x.name (items_at r b)) r) n + count_named n (items_at r b) ≤ count r n + count_named n (taken_out x.name (items_at r b)) = slot_counts b (taken_out x.name (items_at r b)) r n at.0 in
-      omega (arith, slot, taken_counts n x (items_at r b) at.1, tail_counts x r.call.loose n)
+unlink_names (Within b x) r at limit =
+    rising_names r _ (slot_carried b (taken_out x.name (items_at r b)) r) (omega arith) limit (λ n. no_more _ _ n _ _ (omega (arith, slot_taken n b x r at, tail_counts x r.call.loose n)))
 unlink_names s r at limit = rising_names r r (all_carried r) (omega arith) limit (λ n. no_more _ _ n _ _ (omega arith))
 
 pub delete_names : (s : Place) (r : Configuration) → Stands r s → r.shared.next < 2 ^ 64 → NamesStep r (do_delete s r)
 unfolding set_brigade set_loose
-delete_names (Within b x) r at limit = rising_names r _ (slot_carried b (taken_out x.name (items_at r b)) r) (omega arith) limit (λ n. no_more _ _ n _ _ (fewer n)) where
-  fewer : (n : ℕ) → count (do_delete (Within b x) r) n ≤ count r n
-  fewer n =
-      let slot : count (set_items b (taken_out x.name (items_at r b)) r) n + count_named n (items_at r b) ≤ count r n + count_named n (taken_out x.name (items_at r b)) = slot_counts b (taken_out x.name (items_at r b)) r n at.0 in
-      omega (arith, slot, taken_counts n x (items_at r b) at.1)
+delete_names (Within b x) r at limit = rising_names r _ (slot_carried b (taken_out x.name (items_at r b)) r) (omega arith) limit (λ n. no_more _ _ n _ _ (omega (arith, slot_taken n b x r at)))
 delete_names (AtLoose x) r at limit = rising_names r _ (all_carried r) (omega arith) limit (λ n. no_more _ _ n _ _ (omega (arith, taken_counts n x r.call.loose at)))
 delete_names s r at limit = rising_names r r (all_carried r) (omega arith) limit (λ n. no_more _ _ n _ _ (omega arith))
 

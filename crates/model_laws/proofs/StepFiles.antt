@@ -1,9 +1,9 @@
 -- A step keeps the files of FILE buckets open.
-use Rattle.std.proofs.Common.{◌≡◌, ℕ, ◌<◌, ◌⊎◌, arith, eqb-true, Bool, true, false, ◌||◌, ◌==◌, cond, List, [], ◌≤◌, ◌∷◌, ◌++◌, map, filter_map, Option, Some, None, is_some, All, inl, inr, refl, sym, ◌∙◌, ap, subst}
+use Rattle.std.proofs.Common.{◌≡◌, ℕ, ◌<◌, ◌⊎◌, arith, eqb-true, Bool, true, false, ◌||◌, ◌==◌, cond, List, [], ◌≤◌, ◌∷◌, map, filter_map, Option, Some, None, is_some, All, inl, inr, refl, sym, ◌∙◌, ap, subst}
 use Rattle.std.specs.List.{cons_option}
 use Rattle.std.specs.List.{list_any}
 use Rattle.std.proofs.lemmas.Bool.Decides.{nat_tests}
-use Rattle.std.proofs.lemmas.List.Elements.{All-nil, All-cons, All-head, All-tail, All-append, All-map}
+use Rattle.std.proofs.lemmas.List.Elements.{All-nil, All-cons, All-head, All-tail}
 use Rattle.module_code.specs.declared.instr.PoolRef.{PoolRef}
 use Rattle.module_code.specs.declared.instr.PoolRef.TheVariants as pool
 use Rattle.module_code.specs.declared.instr.Instr.{Instr}
@@ -20,19 +20,18 @@ use Rattle.run_model.specs.declared.bucket.Bucket.{Bucket}
 use Rattle.run_model.specs.declared.bucket.NamedBucket.{NamedBucket}
 use Rattle.run_model.specs.declared.bucket.PoolVar.TheVariants as poolvar
 use Rattle.run_model.specs.declared.bucket.BrigadeVar.{BrigadeVar}
-use Rattle.run_model.specs.declared.bucket.BrigadeVar.TheVariants as var
 use Rattle.run_model.specs.declared.payload.Payload.{Payload}
 use Rattle.run_model.specs.declared.payload.Payload.TheVariants.{Label}
 use Rattle.run_model.specs.Indexed.{upd}
-use Rattle.run_model.specs.Pools.{Pools, is_under, created, cleared, destroyed}
+use Rattle.run_model.specs.Pools.{Pools, is_under, created, registered}
 use Rattle.run_model.specs.Buckets.{is_dead, is_ended, end_call, end_pools, returned_bucket, cleared_bucket}
 use Rattle.run_model.specs.Cutting.{set_aside, FitsKind, LivesAs}
 use Rattle.run_model.specs.Files.{Files}
-use Rattle.run_model.specs.Clearing.{is_reached, cleared_var, run_down}
+use Rattle.run_model.specs.Clearing.{run_down}
 use Rattle.run_model.specs.State.{Configuration, items_of, set_pool, with_pools, set_brigade, set_loose, pool_named}
 use Rattle.run_model.specs.Faults.{WPool, WCursor, OnBucket, usable_fault, homes_fault, home_fault, or_else, fault_want}
 use Rattle.run_model.specs.EffectOf.{effect_of}
-use Rattle.run_model.specs.Steps.{with_brigade, do_create, do_clean, do_concat, do_pass, do_return, cleaned, with_items, handed_over, returned_var, pool_cleared, pool_destroyed, files_let_go, label_registered, label_killed, text_of, is_above, aside_named, file_of, new_ref, all_referred, saved_into, made_on}
+use Rattle.run_model.specs.Steps.{on_pool, with_brigade, do_create, do_clean, do_concat, do_pass, do_return, cleaned, handed_over, pool_cleared, pool_destroyed, files_let_go, label_registered, label_killed, text_of, is_above, aside_named, file_of, new_ref, all_referred, saved_into, made_on}
 use Rattle.run_model.specs.Pieces.{has_range}
 use Rattle.run_model.specs.Sound.{SoundPools, SoundBuckets, Sound, count_named}
 use Rattle.run_model.specs.BrigadeLists.{bucket_named}
@@ -40,43 +39,26 @@ use Rattle.run_model.specs.Cursors.{Place, Nowhere, AtLoose, Within, AtEndOf, bu
 use Rattle.run_model.specs.BucketSteps.{items_at, changed_at, aside_into}
 use Rattle.model_laws.specs.Laws.{changes_pools, is_clear, ChangesOnly, HasReference, SoundFiles, StepKeepsFiles}
 use Rattle.run_model.specs.Holding.{refers}
-use Rattle.run_model.proofs.Updates.{upd_either}
+use Rattle.model_laws.proofs.PoolsGone.{on_emptied}
 use Rattle.model_laws.proofs.NamedPools.{on_named, made_under_named, own_named}
 use Rattle.run_model.proofs.Spots.{Stands, stands}
 use Rattle.run_model.proofs.EachBucket.{of_named, each_changed, only_one, loose_once, brigade_once}
 use Rattle.model_laws.proofs.Origins.{PassesOn, Holds, front_back, rest_back, made_apart, quiet_leaves}
 use Rattle.model_laws.proofs.Unchanged.{step_changes_only}
 use Rattle.model_laws.proofs.PoolsKept.{req_apart}
+use Rattle.model_laws.proofs.EachItem.{none, cleaned_each, handed_over_each, written_each, items_each, moved_each, mapped_each, cleared_each, left_each}
 use Rattle.model_laws.proofs.Marks.{first_none, second_none}
 use Rattle.model_laws.proofs.Kept.{files_go}
 use Rattle.model_laws.proofs.MadeBrigades.{brigade_refers, brigade_back}
-use Rattle.run_model.proofs.References.{one_of, or_left, or_right, refers_given, referred_at, created_refers, created_back, registered_refers, registered_back, all_grow, all_there, all_back, killed_refers, Emptied, emptied_refers, emptied_back, cleared_emptied, destroyed_emptied}
+use Rattle.run_model.proofs.References.{one_of, or_left, or_right, refers_given, referred_at, created_refers, created_back, registered_refers, registered_back, all_grow, all_there, all_back, killed_refers, Emptied, emptied_refers, emptied_back}
 
 -- Lists and variables.
 
 abbrev pub HeldList : Pools Payload → List NamedBucket → Type 0
 HeldList ps xs = All (HasReference ps) xs
 
-pub none_held : (ps : Pools Payload) → HeldList ps []
-none_held ps = All-nil (HasReference ps)
-
 pub weaker : (ps new : Pools Payload) → ((p file : ℕ) → refers ps p file ≡ true → refers new p file ≡ true) → (xs : List NamedBucket) → HeldList ps xs → HeldList new xs
 weaker ps new grow xs h = λ k d lt. λ file start len p c at. grow p file (h k d lt file start len p c at)
-
-cleaned_held : (ps : Pools Payload) (v : BrigadeVar) → HeldList ps (items_of (cleaned v))
-cleaned_held ps var.Null = none_held ps
-cleaned_held ps var.Gone = none_held ps
-cleaned_held ps (var.Live v) = none_held ps
-
-handed_held : (ps : Pools Payload) (v : BrigadeVar) → HeldList ps (items_of (handed_over v))
-handed_held ps var.Null = none_held ps
-handed_held ps var.Gone = none_held ps
-handed_held ps (var.Live v) = none_held ps
-
-filled_held : (ps : Pools Payload) (items : List NamedBucket) (v : BrigadeVar) → HeldList ps items → HeldList ps (items_of (with_items items v))
-filled_held ps items var.Null h = none_held ps
-filled_held ps items var.Gone h = none_held ps
-filled_held ps items (var.Live v) h = h
 
 -- a home that a return leaves alive
 pub left_home : (call : ℕ) (h : Home) (p : ℕ) → end_call call h ≡ home.Pool p → h ≡ home.Pool p
@@ -88,11 +70,8 @@ left_home call (home.Call n) p e = by_test (n == call) e where
 left_home call (home.Pool n) p e = e
 left_home call home.Ended p e = e
 
-returned_held : (ps : Pools Payload) (call : ℕ) (v : BrigadeVar) → HeldList ps (items_of v) → HeldList ps (items_of (returned_var call v))
-returned_held ps call var.Null h = none_held ps
-returned_held ps call var.Gone h = none_held ps
-returned_held ps call (var.Live v) h =
-    All-map (HasReference ps) (returned_bucket call) v.items (λ k d lt. λ file start len p c at. h k d lt file start len p c (left_home call _ p at))
+pub returned_held : (call : ℕ) (ps : Pools Payload) (x : NamedBucket) → HasReference ps x → HasReference ps (returned_bucket call x)
+returned_held call ps x h = λ file start len p c at. h file start len p c (left_home call _ p at)
 
 -- a home that a clear leaves alive
 pub spared_home : (reached : ℕ → Bool) (h : Home) (p : ℕ) → end_pools reached h ≡ home.Pool p → (h ≡ home.Pool p) × (reached p ≡ false)
@@ -104,21 +83,10 @@ spared_home reached (home.Pool n) p e = by_test (reached n) refl e where
   by_test false is e = (e, let same : n ≡ p = cc in sym (ap reached same) ∙ is)
 spared_home reached home.Ended p e = absurd (cc)
 
-spared_list : (n : ℕ) (ps new : Pools Payload) → Emptied n ps new → (xs : List NamedBucket) → HeldList ps xs → HeldList new (map (cleared_bucket (is_under ps n)) xs)
-spared_list n ps new e xs h =
-    All-map (HasReference new) (cleared_bucket (is_under ps n)) xs (λ k d lt. λ file start len p c at.
-    let old = spared_home (is_under ps n) _ p at in emptied_refers n ps new e p file old.1 (h k d lt file start len p c old.0))
-
-spared_var : (n : ℕ) (ps new : Pools Payload) → Emptied n ps new → (v : BrigadeVar) → HeldList ps (items_of v) → HeldList new (items_of (cleared_var (is_under ps n) v))
-spared_var n ps new e var.Null h = none_held new
-spared_var n ps new e var.Gone h = none_held new
-spared_var n ps new e (var.Live v) h = by_test (is_reached (is_under ps n) v.on) where
-  by_test : (b : Bool) → HeldList new (items_of (cond b var.Gone (var.Live (record v { items = map (cleared_bucket (is_under ps n)) v.items }))))
-  by_test true = none_held new
-  by_test false = spared_list n ps new e v.items h
-
-pub written : (P : BrigadeVar → Type 0) (g : ℕ → BrigadeVar) (i : ℕ) (w : BrigadeVar) → P w → ((k : ℕ) → P (g k)) → (k : ℕ) → P (upd g i w k)
-written P g i w here there k = elim (upd_either g i k w) [ inl q ↦ subst P (sym q.1) here | inr q ↦ subst P (sym q.1) (there k) ]
+-- a bucket that a clear reaches
+pub cleared_held : (reached : ℕ → Bool) (ps new : Pools Payload) → ((p file : ℕ) → reached p ≡ false → refers ps p file ≡ true → refers new p file ≡ true) → (x : NamedBucket) → HasReference ps x
+    → HasReference new (cleared_bucket reached x)
+cleared_held reached ps new keeps x h = λ file start len p c at. let old = spared_home reached _ p at in keeps p file old.1 (h file start len p c old.0)
 
 -- Runs.
 
@@ -159,10 +127,12 @@ went_and files n r ps e pools request old s = record {
       let lt = refers_given r.shared.pools p file pools.formed old.1 in
       let there = referred_at ps p file (subst (λ (k : ℕ). p < k) (sym e.next) lt) h in
       ap is_some ((files_go n r ps).stays file there) ∙ s.lasts p file old.1;
-  brigades = λ b. spared_var n r.shared.pools ps e (r.instance.brigades b) (s.brigades b);
-  loose = spared_list n r.shared.pools ps e r.call.loose s.loose;
+  brigades = λ b. cleared_each (HasReference r.shared.pools) (HasReference ps) (is_under r.shared.pools n) spared (r.instance.brigades b) (s.brigades b);
+  loose = mapped_each (HasReference r.shared.pools) (HasReference ps) (cleared_bucket (is_under r.shared.pools n)) spared r.call.loose s.loose;
   request = request;
-}
+} where
+  spared : (x : NamedBucket) → HasReference r.shared.pools x → HasReference ps (cleared_bucket (is_under r.shared.pools n) x)
+  spared = cleared_held (is_under r.shared.pools n) r.shared.pools ps (λ p file off there. emptied_refers n r.shared.pools ps e p file off there)
 
 -- the same where the request's pool stays
 went_files : (files : List (ℕ × ℕ)) (n : ℕ) (r : Configuration) (ps : Pools Payload) → Emptied n r.shared.pools ps → SoundPools r
@@ -173,19 +143,24 @@ went_files files n r ps e pools req s = went_and files n r ps e pools (λ file e
 pub own_apart : (q n : ℕ) (r : Configuration) → r.instance.pools q ≡ poolvar.Made n → SoundPools r → (m : ℕ) → r.shared.req ≡ Some m → is_under r.shared.pools n m ≡ false
 own_apart q n r is s m req = let own = s.own q n is in req_apart n m r own.0 (λ same. own.2 (req ∙ ap (λ (k : ℕ). Some k) same)) req s
 
+emptied_files : (files : List (ℕ × ℕ)) (q : ℕ) (r : Configuration) → SoundPools r → SoundFiles files r
+    → SoundFiles files (on_pool pool_cleared (pool_named r (pool.Own q)) r) × SoundFiles files (on_pool pool_destroyed (pool_named r (pool.Own q)) r)
+emptied_files files q r s held = on_emptied (SoundFiles files) q r held (λ n left e so. went_files files n r left so.payloads s (own_apart q n r (own_named q n r e) s) held)
+
 made_files : (files : List (ℕ × ℕ)) (parent q : ℕ) (r : Configuration) → SoundPools r → SoundFiles files r → SoundFiles files (set_pool q (poolvar.Made r.shared.pools.next) (with_pools (created parent r.shared.pools) r))
 unfolding set_pool with_pools
 made_files files parent q r pools s =
     refilled_files files r (set_pool q (poolvar.Made r.shared.pools.next) (with_pools (created parent r.shared.pools) r))
     (λ p file h. created_refers parent r.shared.pools p file pools.formed h) (λ p file h. created_back parent r.shared.pools p file h) refl refl refl refl s
 
+-- a label is no reference
+pub label_back : (n : ℕ) (text : List ℕ) (ps : Pools Payload) (p file : ℕ) → refers (registered n (Label text) ps) p file ≡ true → refers ps p file ≡ true
+label_back n text ps p file there = elim (registered_back n (Label text) ps p file there) [ inl h ↦ h | inr e ↦ absurd (cc) ]
+
 labelled_files : (files : List (ℕ × ℕ)) (text : List ℕ) (n : ℕ) (r : Configuration) → SoundFiles files r → SoundFiles files (label_registered text n r)
 unfolding with_pools
 labelled_files files text n r s =
-    refilled_files files r (label_registered text n r) (λ p file h. registered_refers n (Label text) r.shared.pools p file h) (λ p file h. back p file (registered_back n (Label text) r.shared.pools p file h)) refl refl refl refl s where
-      back : (p file : ℕ) → (refers r.shared.pools p file ≡ true) ⊎ (false ≡ true) → refers r.shared.pools p file ≡ true
-      back p file (inl h) = h
-      back p file (inr e) = absurd (cc)
+    refilled_files files r (label_registered text n r) (λ p file h. registered_refers n (Label text) r.shared.pools p file h) (label_back n text r.shared.pools) refl refl refl refl s
 
 unlabelled_files : (files : List (ℕ × ℕ)) (text : List ℕ) (n : ℕ) (r : Configuration) → SoundFiles files r → SoundFiles files (label_killed text n r)
 unfolding with_pools
@@ -260,7 +235,7 @@ aside_one ps new target name grow k c h above is held asked = λ file start len 
 
 aside_held : (ps new : Pools Payload) (target : ℕ) → ((p file : ℕ) → refers ps p file ≡ true → refers new p file ≡ true) → (xs : List NamedBucket) → HeldList ps xs
     → ((file : ℕ) → list_any (λ g. g == file) (filter_map (new_ref ps target) xs) ≡ true → refers new target file ≡ true) → HeldList new (map (aside_named ps target) xs)
-aside_held ps new target grow [] held asked = none_held new
+aside_held ps new target grow [] held asked = none (HasReference new)
 aside_held ps new target grow (x ∷ xs) held asked =
     All-cons (HasReference new) (aside_named ps target x) (map (aside_named ps target) xs)
     (aside_one ps new target x.name grow x.bucket.kind x.bucket.content x.bucket.home (is_above ps target x.bucket.home) refl (All-head (HasReference ps) x xs held)
@@ -281,10 +256,7 @@ save_files files o b target r buckets live s =
       | inl old ↦ s.lasts p file old
       | inr asked ↦ refs_open ps target file (λ (n : ℕ). is_some (r.shared.files.opened n) ≡ true) s.lasts items (buckets.brigades b) live (s.brigades b) asked
     ])
-    (λ k. written (λ v. HeldList new (items_of v)) (upd r.instance.brigades b (with_items [] (r.instance.brigades b))) o _
-    (filled_held new (items_of (r.instance.brigades o) ++ map (aside_named ps target) items) (r.instance.brigades o)
-    (All-append (HasReference new) (items_of (r.instance.brigades o)) (map (aside_named ps target) items) (weaker ps new grow (items_of (r.instance.brigades o)) (s.brigades o)) held))
-    (written (λ v. HeldList new (items_of v)) r.instance.brigades b (with_items [] (r.instance.brigades b)) (filled_held new [] (r.instance.brigades b) (none_held new)) (λ j. weaker ps new grow (items_of (r.instance.brigades j)) (s.brigades j))) k)
+    (moved_each (HasReference new) r.instance.brigades o b (map (aside_named ps target) items) held (λ j. weaker ps new grow (items_of (r.instance.brigades j)) (s.brigades j)))
     (weaker ps new grow r.call.loose s.loose) refl s
 
 -- Brigades.
@@ -292,19 +264,14 @@ save_files files o b target r buckets live s =
 concat_files : (files : List (ℕ × ℕ)) (a b : ℕ) (r : Configuration) → SoundFiles files r → SoundFiles files (do_concat a b r)
 unfolding set_brigade
 concat_files files a b r s =
-    let ps = r.shared.pools in
-    same_files files r (do_concat a b r) refl refl refl
-    (λ k. written (λ v. HeldList ps (items_of v)) (upd r.instance.brigades b (with_items [] (r.instance.brigades b))) a _
-    (filled_held ps (items_of (r.instance.brigades a) ++ items_of (r.instance.brigades b)) (r.instance.brigades a) (All-append (HasReference ps) (items_of (r.instance.brigades a)) (items_of (r.instance.brigades b)) (s.brigades a) (s.brigades b)))
-    (written (λ v. HeldList ps (items_of v)) r.instance.brigades b (with_items [] (r.instance.brigades b)) (filled_held ps [] (r.instance.brigades b) (none_held ps)) s.brigades) k)
-    s.loose s
+    same_files files r (do_concat a b r) refl refl refl (moved_each (HasReference r.shared.pools) r.instance.brigades a b (items_of (r.instance.brigades b)) (s.brigades b) s.brigades) s.loose s
 
 -- one variable is written
 pub written_files : (files : List (ℕ × ℕ)) (r new : Configuration) (i : ℕ) (w : BrigadeVar) → new.instance.brigades ≡ upd r.instance.brigades i w → HeldList r.shared.pools (items_of w)
     → new.shared.pools ≡ r.shared.pools → new.shared.files.opened ≡ r.shared.files.opened → new.shared.req ≡ r.shared.req → HeldList r.shared.pools new.call.loose → SoundFiles files r → SoundFiles files new
 written_files files r new i w brigades held pools opened req loose s =
     same_files files r new pools opened req
-    (λ k. subst (λ (g : ℕ → BrigadeVar). HeldList r.shared.pools (items_of (g k))) (sym brigades) (written (λ v. HeldList r.shared.pools (items_of v)) r.instance.brigades i w held s.brigades k)) loose s
+    (λ k. subst (λ (g : ℕ → BrigadeVar). HeldList r.shared.pools (items_of (g k))) (sym brigades) (written_each (HasReference r.shared.pools) r.instance.brigades i w held s.brigades k)) loose s
 
 create_files : (files : List (ℕ × ℕ)) (p : Program) (o : ℕ) (r : Configuration) → SoundFiles files r → SoundFiles files (do_create p o r)
 unfolding set_brigade
@@ -314,22 +281,22 @@ create_files files p o r s =
     let new : Pools Payload = with_brigade on r.shared.next ps in
     let grow : ((p file : ℕ) → refers ps p file ≡ true → refers new p file ≡ true) = λ p file h. brigade_refers on r.shared.next ps p file h in
     kept_files files r (do_create p o r) grow (λ p file h. s.lasts p file (brigade_back on r.shared.next ps p file h))
-    (λ k. written (λ v. HeldList new (items_of v)) r.instance.brigades o _ (none_held new) (λ j. weaker ps new grow (items_of (r.instance.brigades j)) (s.brigades j)) k)
+    (written_each (HasReference new) r.instance.brigades o _ (none (HasReference new)) (λ j. weaker ps new grow (items_of (r.instance.brigades j)) (s.brigades j)))
     (weaker ps new grow r.call.loose s.loose) refl s
 
 clean_files : (files : List (ℕ × ℕ)) (b : ℕ) (r : Configuration) → SoundFiles files r → SoundFiles files (do_clean b r)
 unfolding set_brigade
-clean_files files b r s = written_files files r (do_clean b r) b (cleaned (r.instance.brigades b)) refl (cleaned_held r.shared.pools (r.instance.brigades b)) refl refl refl s.loose s
+clean_files files b r s = written_files files r (do_clean b r) b (cleaned (r.instance.brigades b)) refl (cleaned_each (HasReference r.shared.pools) (r.instance.brigades b)) refl refl refl s.loose s
 
 pass_files : (files : List (ℕ × ℕ)) (b : ℕ) (r : Configuration) → SoundFiles files r → SoundFiles files (do_pass b r)
 unfolding set_brigade
-pass_files files b r s = written_files files r (do_pass b r) b (handed_over (r.instance.brigades b)) refl (handed_held r.shared.pools (r.instance.brigades b)) refl refl refl s.loose s
+pass_files files b r s =
+    written_files files r (do_pass b r) b (handed_over (r.instance.brigades b)) refl (handed_over_each (HasReference r.shared.pools) (r.instance.brigades b)) refl refl refl s.loose s
 
 return_files : (files : List (ℕ × ℕ)) (r : Configuration) → SoundFiles files r → SoundFiles files (do_return r)
-return_files files r s = same_files files r (do_return r) refl refl refl (λ b. left b (b == 8)) (none_held r.shared.pools) s where
-  left : (b : ℕ) (is_in : Bool) → HeldList r.shared.pools (items_of (cond is_in var.Null (returned_var r.call.name (r.instance.brigades b))))
-  left b true = none_held r.shared.pools
-  left b false = returned_held r.shared.pools r.call.name (r.instance.brigades b) (s.brigades b)
+return_files files r s =
+    let T : NamedBucket → Type 0 = HasReference r.shared.pools in
+    same_files files r (do_return r) refl refl refl (left_each T T r.call.name (returned_held r.call.name r.shared.pools) r.instance.brigades s.brigades) (none T) s
 
 pub no_dead : (items : List NamedBucket) → homes_fault items ≡ None → list_any is_dead items ≡ false
 no_dead items h = by_test (list_any is_dead items) h where
@@ -360,7 +327,8 @@ aside_in ps target x xs there once held =
     let new : Pools Payload = refs_with ps target x in
     let grow : ((p file : ℕ) → refers ps p file ≡ true → refers new p file ≡ true) = λ p file h. all_grow target refs ps p file h in
     let old : HasReference ps x = of_named (HasReference ps) x.name x xs there held in
-    let kept : HeldList new (map (aside_named ps target) (x ∷ [])) = aside_held ps new target grow (x ∷ []) (All-cons (HasReference ps) x [] old (none_held ps)) (λ file h. all_there target refs ps file h) in
+    let kept : HeldList new (map (aside_named ps target) (x ∷ [])) = aside_held ps new target grow (x ∷ [])
+    (All-cons (HasReference ps) x [] old (none (HasReference ps))) (λ file h. all_there target refs ps file h) in
     each_changed (HasReference ps) (HasReference new) x.name (aside_named ps target) xs (λ y h. λ file start len p c at. grow p file (h file start len p c at))
     (λ k d lt. λ same h. subst (λ (y : NamedBucket). HasReference new (aside_named ps target y)) (sym (only_one x.name x xs there once k d lt same)) (All-head (HasReference new) (aside_named ps target x) [] kept)) held
 
@@ -369,7 +337,8 @@ pub aside_refs : (ps : Pools Payload) (target : ℕ) (x : NamedBucket) (Q : ℕ 
     → (p file : ℕ) → refers (refs_with ps target x) p file ≡ true → Q file
 aside_refs ps target x Q each fit live held p file h = elim (all_back target (filter_map (new_ref ps target) (x ∷ [])) ps p file h) [
   | inl old ↦ each p file old
-  | inr asked ↦ refs_open ps target file Q each (x ∷ []) (All-cons (λ y. FitsKind y.bucket) x [] fit (All-nil (λ y. FitsKind y.bucket))) (one_dead x live) (All-cons (HasReference ps) x [] held (none_held ps)) asked
+  | inr asked ↦ refs_open ps target file Q each (x ∷ []) (All-cons (λ y. FitsKind y.bucket) x [] fit (All-nil (λ y. FitsKind y.bucket))) (one_dead x live)
+      (All-cons (HasReference ps) x [] held (none (HasReference ps))) asked
 ]
 
 aside_files : (files : List (ℕ × ℕ)) (s : Place) (target : ℕ) (r : Configuration) → Stands r s → home_fault (bucket_at s) ≡ None → Sound r → SoundFiles files r → SoundFiles files (aside_into s target r)
@@ -390,9 +359,8 @@ aside_files files (Within b x) target r there live sound held =
     kept_files files r (aside_into (Within b x) target r) grow
     (λ p file h. aside_refs ps target x (λ (n : ℕ). is_some (r.shared.files.opened n) ≡ true) held.lasts (of_named (λ y. FitsKind y.bucket) x.name x (items_at r b) there.1 (sound.buckets.brigades b)) (not_dead x live)
     (of_named (HasReference ps) x.name x (items_at r b) there.1 (held.brigades b)) p file h)
-    (λ k. written (λ v. HeldList new (items_of v)) r.instance.brigades b (with_items (changed_at x.name (aside_named ps target) (items_at r b)) (r.instance.brigades b))
-    (filled_held new (changed_at x.name (aside_named ps target) (items_at r b)) (r.instance.brigades b) (aside_in ps target x (items_at r b) there.1 (brigade_once r b x.name there.0 sound.names) (held.brigades b)))
-    (λ j. weaker ps new grow (items_at r j) (held.brigades j)) k)
+    (items_each (HasReference new) r.instance.brigades b _ (aside_in ps target x (items_at r b) there.1 (brigade_once r b x.name there.0 sound.names)
+    (held.brigades b)) (λ j. weaker ps new grow (items_at r j) (held.brigades j)))
     (weaker ps new grow r.call.loose held.loose) refl held
 aside_files files (AtEndOf b) target r there live sound held = held
 
@@ -420,10 +388,8 @@ quiet_files files i r new tree clear only h s = same_files files r new (only.tre
 
 pub step_files : StepKeepsFiles
 step_files p choice (instr.PCreate q) files r may s held = made_under_named (SoundFiles files) p q r held (λ parent e. made_files files parent q r s.pools held)
-step_files p choice (instr.PClear q) files r may s held = on_named (SoundFiles files) pool_cleared (pool_named r (pool.Own q)) r held (λ n e.
-    went_files files n r (cleared n r.shared.pools) (cleared_emptied n r.shared.pools) s.pools (own_apart q n r (own_named q n r e) s.pools) held)
-step_files p choice (instr.PDestroy q) files r may s held = on_named (SoundFiles files) pool_destroyed (pool_named r (pool.Own q)) r held (λ n e.
-    went_files files n r (destroyed n r.shared.pools) (destroyed_emptied n r.shared.pools) s.pools (own_apart q n r (own_named q n r e) s.pools) held)
+step_files p choice (instr.PClear q) files r may s held = (emptied_files files q r s.pools held).0
+step_files p choice (instr.PDestroy q) files r may s held = (emptied_files files q r s.pools held).1
 step_files p choice (instr.Label q t) files r may s held = on_named (SoundFiles files) (label_registered (text_of p t)) (pool_named r q) r held (λ n e. labelled_files files (text_of p t) n r held)
 step_files p choice (instr.Unlabel q t) files r may s held = on_named (SoundFiles files) (label_killed (text_of p t)) (pool_named r q) r held (λ n e. unlabelled_files files (text_of p t) n r held)
 step_files p choice (instr.BCreate o) files r may s held = create_files files p o r held

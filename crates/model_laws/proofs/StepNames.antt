@@ -1,7 +1,6 @@
 -- A step without a fault keeps names.
 use Rattle.std.proofs.Common.{◌≡◌, ℕ, ◌+◌, ◌^◌, ◌<◌, ◌≤◌, Bool, true, false, ◌||◌, ◌==◌, cond, List, [], ◌++◌, map, Option, Some, None, refl, sym, ap, subst, arith}
 use Rattle.std.proofs.lemmas.Bool.Decides.{nat_tests}
-use Rattle.module_code.specs.declared.instr.PoolRef.TheVariants as pool
 use Rattle.module_code.specs.declared.instr.Instr.{Instr}
 use Rattle.module_code.specs.declared.instr.Instr.TheVariants as instr
 use Rattle.module_code.specs.Program.{Program, pool_of_brigade}
@@ -11,17 +10,22 @@ use Rattle.run_model.specs.declared.bucket.PoolVar.TheVariants as poolvar
 use Rattle.run_model.specs.declared.bucket.BrigadeVar.{BrigadeVar}
 use Rattle.run_model.specs.declared.bucket.BrigadeVar.TheVariants as var
 use Rattle.run_model.specs.Indexed.{upd}
-use Rattle.run_model.specs.Pools.{is_under, created}
+use Rattle.run_model.specs.declared.payload.Payload.{Payload}
+use Rattle.run_model.specs.Pools.{Pools, is_under, created}
 use Rattle.run_model.specs.State.{Configuration, items_of, set_pool, with_pools, set_brigade, set_number, pool_named}
 use Rattle.run_model.specs.Clearing.{run_down}
 use Rattle.run_model.specs.Cursors.{Place, Within, spot}
 use Rattle.run_model.specs.BucketSteps.{do_next, aside_into, got}
-use Rattle.run_model.specs.EffectOf.{Effect, AtTail, AtHead, ENothing, EMakePool, EClearPool, EDestroyPool, ERegister, EKill, EMakeBrigade, EClean, EConcat, ESplitBrigade, EPartBrigade, ESave, EPass, EFirst, ENext, EUnlink, EDelete, EInsert, EBefore, EMake, ESplit, EAside, ERead, ENumber, EPut, EClearBuffer, EReturn, effect_of}
-use Rattle.run_model.specs.Steps.{Choice, do_effect, made_of, number_of, names_for, value_of, step, do_create, do_clean, do_concat, do_pass, do_return, cleaned, with_items, handed_over, returned_var, do_pcreate, pool_cleared, pool_destroyed, label_registered, label_killed, text_of, aside_named, saved_into, made_on, names_of, pool_names_of, is_spent, lacks_names}
+use Rattle.run_model.specs.declared.effect.Effect.{Effect}
+use Rattle.run_model.specs.declared.effect.Effect.TheVariants as effect
+use Rattle.run_model.specs.declared.effect.Side.TheVariants.{AtTail, AtHead}
+use Rattle.run_model.specs.EffectOf.{effect_of}
+use Rattle.run_model.specs.Steps.{Choice, do_effect, made_of, number_of, names_for, value_of, step, do_create, do_clean, do_concat, do_pass, do_return, cleaned, with_items, handed_over, returned_var, do_pcreate, label_registered, label_killed, text_of, aside_named, saved_into, made_on, names_of, pool_names_of, is_spent, lacks_names}
 use Rattle.run_model.specs.Sound.{NamesStep, sum_below, count_named}
 use Rattle.model_laws.specs.Laws.{StepGivesNames, StepKeepsNames}
 use Rattle.run_model.proofs.Updates.{upd_off}
 use Rattle.run_model.proofs.Sums.{sum_below_upd}
+use Rattle.model_laws.proofs.PoolsGone.{pool_emptied, on_emptied}
 use Rattle.model_laws.proofs.Operands.{created_below, TwoBrigades, two_brigades, saved_brigades, split_brigades, parted_below, source_below}
 use Rattle.model_laws.proofs.NamesStay.{names_stay, keeps_names, keeps_slots, went_names, placed_names}
 use Rattle.run_model.proofs.Names.{count_none, count_append, count_map, Carried, Fewer, carried_same, fewer_same, fewer_none, cleaned_fewer, handed_fewer, returned_fewer, filled_carried, filled_items, at_each, at_two}
@@ -111,13 +115,9 @@ pcreate_names : (p : Program) (q : ℕ) (r : Configuration) → r.shared.next < 
 unfolding set_pool with_pools
 pcreate_names p q r limit = made_under_named (NamesStep r) p q r (same_slots r r refl refl refl limit) (λ parent e. same_slots r (set_pool q (poolvar.Made r.shared.pools.next) (with_pools (created parent r.shared.pools) r)) refl refl refl limit)
 
-cleared_names : (n : ℕ) (r : Configuration) → r.shared.next < 2 ^ 64 → NamesStep r (pool_cleared n r)
+emptied_names : (left : Pools Payload) (n : ℕ) (r : Configuration) → r.shared.next < 2 ^ 64 → NamesStep r (pool_emptied left n r)
 unfolding run_down with_pools
-cleared_names n r limit = went_names (is_under r.shared.pools n) r (pool_cleared n r) (λ b. refl) refl refl limit
-
-destroyed_names : (n : ℕ) (r : Configuration) → r.shared.next < 2 ^ 64 → NamesStep r (pool_destroyed n r)
-unfolding run_down with_pools
-destroyed_names n r limit = went_names (is_under r.shared.pools n) r (pool_destroyed n r) (λ b. refl) refl refl limit
+emptied_names left n r limit = went_names (is_under r.shared.pools n) r (pool_emptied left n r) (λ b. refl) refl refl limit
 
 next_names : (d : ℕ) (s : Place) (r : Configuration) → r.shared.next < 2 ^ 64 → NamesStep r (do_next d s r)
 next_names d (Within b x) r limit = cursor_names d _ r r (same_slots r r refl refl refl limit)
@@ -130,12 +130,12 @@ got_names n (Some byte) r limit = same_slots r (set_number n byte r) refl refl r
 
 -- the effects that write into a brigade which an operand names
 abbrev names_brigade : Effect → Bool
-names_brigade (EMakeBrigade o) = true
-names_brigade (EConcat a b) = true
-names_brigade (ESave o b) = true
-names_brigade (ESplitBrigade b c a) = true
-names_brigade (EPartBrigade b x c) = true
-names_brigade (EInsert side b c) = true
+names_brigade (effect.MakeBrigade o) = true
+names_brigade (effect.Concat a b) = true
+names_brigade (effect.Save o b) = true
+names_brigade (effect.SplitBrigade b c a) = true
+names_brigade (effect.PartBrigade b x c) = true
+names_brigade (effect.Insert side b c) = true
 names_brigade e = false
 
 start : (next names : ℕ) → next + names < 2 ^ 64 → next < 2 ^ 64
@@ -143,33 +143,33 @@ start next names last = omega (arith, last)
 
 gives : (p : Program) (choice : Choice) (e : Effect) (r : Configuration) → names_brigade e ≡ false → r.shared.next + names_for r e < 2 ^ 64 → NamesStep r (do_effect p choice e r)
 unfolding set_number with_pools
-gives p choice ENothing r other last = same_slots r r refl refl refl (start r.shared.next 0 last)
-gives p choice (EMakePool q) r other last = pcreate_names p q r (start r.shared.next 0 last)
-gives p choice (EClearPool q) r other last =
-    let limit = start r.shared.next 0 last in on_named (NamesStep r) pool_cleared (pool_named r (pool.Own q)) r (same_slots r r refl refl refl limit) (λ n is. cleared_names n r limit)
-gives p choice (EDestroyPool q) r other last =
-    let limit = start r.shared.next 0 last in on_named (NamesStep r) pool_destroyed (pool_named r (pool.Own q)) r (same_slots r r refl refl refl limit) (λ n is. destroyed_names n r limit)
-gives p choice (ERegister q t) r other last =
+gives p choice effect.Nothing r other last = same_slots r r refl refl refl (start r.shared.next 0 last)
+gives p choice (effect.MakePool q) r other last = pcreate_names p q r (start r.shared.next 0 last)
+gives p choice (effect.ClearPool q) r other last =
+    let limit = start r.shared.next 0 last in (on_emptied (NamesStep r) q r (same_slots r r refl refl refl limit) (λ n left is so. emptied_names left n r limit)).0
+gives p choice (effect.DestroyPool q) r other last =
+    let limit = start r.shared.next 0 last in (on_emptied (NamesStep r) q r (same_slots r r refl refl refl limit) (λ n left is so. emptied_names left n r limit)).1
+gives p choice (effect.Register q t) r other last =
     let limit = start r.shared.next 0 last in on_named (NamesStep r) (label_registered (text_of p t)) (pool_named r q) r (same_slots r r refl refl refl limit) (λ n is. same_slots r _ refl refl refl limit)
-gives p choice (EKill q t) r other last =
+gives p choice (effect.Kill q t) r other last =
     let limit = start r.shared.next 0 last in on_named (NamesStep r) (label_killed (text_of p t)) (pool_named r q) r (same_slots r r refl refl refl limit) (λ n is. same_slots r _ refl refl refl limit)
-gives p choice (EClean b) r other last = clean_names b r (start r.shared.next 0 last)
-gives p choice (EPass b) r other last = pass_names b r (start r.shared.next 0 last)
-gives p choice (EFirst c b) r other last = cursor_names c _ r r (same_slots r r refl refl refl (start r.shared.next 0 last))
-gives p choice (ENext d c) r other last = next_names d (spot r c) r (start r.shared.next 0 last)
-gives p choice (EUnlink c) r other last = unlink_names (spot r c) r (stands r (r.call.cursors c)) (start r.shared.next 0 last)
-gives p choice (EDelete c) r other last = delete_names (spot r c) r (stands r (r.call.cursors c)) (start r.shared.next 0 last)
-gives p choice (EBefore c d) r other last = before_names (spot r c) (spot r d) r (stands r (r.call.cursors c)) (stands r (r.call.cursors d)) (start r.shared.next 0 last)
-gives p choice (EMake c source) r other last = make_names c (made_of p r source) r last
-gives p choice (ESplit c x) r other last = split_names (value_of r x) (spot r c) r (stands r (r.call.cursors c)) last
-gives p choice (EAside c q) r other last =
+gives p choice (effect.Clean b) r other last = clean_names b r (start r.shared.next 0 last)
+gives p choice (effect.Pass b) r other last = pass_names b r (start r.shared.next 0 last)
+gives p choice (effect.First c b) r other last = cursor_names c _ r r (same_slots r r refl refl refl (start r.shared.next 0 last))
+gives p choice (effect.Next d c) r other last = next_names d (spot r c) r (start r.shared.next 0 last)
+gives p choice (effect.Unlink c) r other last = unlink_names (spot r c) r (stands r (r.call.cursors c)) (start r.shared.next 0 last)
+gives p choice (effect.Delete c) r other last = delete_names (spot r c) r (stands r (r.call.cursors c)) (start r.shared.next 0 last)
+gives p choice (effect.Before c d) r other last = before_names (spot r c) (spot r d) r (stands r (r.call.cursors c)) (stands r (r.call.cursors d)) (start r.shared.next 0 last)
+gives p choice (effect.Make c source) r other last = make_names c (made_of p r source) r last
+gives p choice (effect.Split c x) r other last = split_names (value_of r x) (spot r c) r (stands r (r.call.cursors c)) last
+gives p choice (effect.Aside c q) r other last =
     let limit = start r.shared.next 0 last in
     on_named (NamesStep r) (aside_into (spot r c)) (pool_named r q) r (same_slots r r refl refl refl limit) (λ n is. aside_names (spot r c) n r (stands r (r.call.cursors c)) limit)
-gives p choice (ERead c) r other last = read_names choice.given (spot r c) r (stands r (r.call.cursors c)) last
-gives p choice (ENumber n number) r other last = got_names n (number_of r n number) r (start r.shared.next 0 last)
-gives p choice (EPut x) r other last = let limit = start r.shared.next 0 last in put_keeps (NamesStep r) x r (same_slots r r refl refl refl limit) (λ buffer. same_slots r _ refl refl refl limit)
-gives p choice EClearBuffer r other last = same_slots r _ refl refl refl (start r.shared.next 0 last)
-gives p choice EReturn r other last = return_names r (start r.shared.next 0 last)
+gives p choice (effect.Read c) r other last = read_names choice.given (spot r c) r (stands r (r.call.cursors c)) last
+gives p choice (effect.Number n number) r other last = got_names n (number_of r n number) r (start r.shared.next 0 last)
+gives p choice (effect.Put x) r other last = let limit = start r.shared.next 0 last in put_keeps (NamesStep r) x r (same_slots r r refl refl refl limit) (λ buffer. same_slots r _ refl refl refl limit)
+gives p choice effect.ClearBuffer r other last = same_slots r _ refl refl refl (start r.shared.next 0 last)
+gives p choice effect.Return r other last = return_names r (start r.shared.next 0 last)
 gives p choice e r other last = absurd (cc)
 
 pub step_gives : StepGivesNames

@@ -1,17 +1,14 @@
 -- Steps keep each brigade on a live pool.
-use Rattle.std.proofs.Common.{◌≡◌, ℕ, ◌+◌, ◌^◌, ◌<◌, inl, inr, Bool, true, false, ◌||◌, ◌==◌, cond, List, [], ◌∷◌, ◌++◌, filter_map, Option, Some, None, refl, sym, ◌∙◌, ap, subst, arith}
+use Rattle.std.proofs.Common.{◌≡◌, ℕ, ◌+◌, ◌^◌, ◌<◌, inl, inr, Bool, true, false, ◌||◌, cond, List, [], ◌∷◌, ◌++◌, filter_map, Option, Some, None, refl, sym, ◌∙◌, ap, subst, arith}
 use Rattle.module_code.specs.declared.instr.PoolRef.{PoolRef}
-use Rattle.module_code.specs.declared.instr.PoolRef.TheVariants as pool
 use Rattle.module_code.specs.declared.instr.Instr.{Instr}
 use Rattle.module_code.specs.declared.instr.Instr.TheVariants as instr
 use Rattle.module_code.specs.Program.{Program, pool_of_brigade, pool_of_pool}
 use Rattle.run_model.specs.declared.fault.FaultKind.{FaultKind}
 use Rattle.run_model.specs.declared.fault.FaultKind.TheVariants.{F1}
-use Rattle.run_model.specs.declared.bucket.NamedBucket.{NamedBucket}
 use Rattle.run_model.specs.declared.bucket.Mark.TheVariants.{Usable}
 use Rattle.run_model.specs.declared.bucket.PoolVar.TheVariants as poolvar
 use Rattle.run_model.specs.declared.bucket.Cursor.{Cursor}
-use Rattle.run_model.specs.declared.bucket.BrigadeVar.{BrigadeVar}
 use Rattle.run_model.specs.declared.bucket.BrigadeVar.TheVariants as var
 use Rattle.run_model.specs.declared.payload.Payload.{Payload}
 use Rattle.run_model.specs.declared.payload.Payload.TheVariants.{Label, FileRef}
@@ -22,51 +19,27 @@ use Rattle.run_model.specs.RunOrder.{IsPoolMap, killed}
 use Rattle.run_model.specs.State.{Configuration, items_of, set_pool, with_pools, set_brigade, set_loose, set_cursor, set_number, pool_named}
 use Rattle.run_model.specs.Clearing.{run_down}
 use Rattle.run_model.specs.Faults.{has_pool_at, has_pool, is_live_named, or_else}
-use Rattle.run_model.specs.Steps.{do_create, do_clean, do_concat, do_pass, do_return, cleaned, with_items, handed_over, returned_var, do_pcreate, pool_cleared, pool_destroyed, label_registered, label_killed, text_of, new_ref, all_referred, saved_into, made_on, names_of, pool_names_of, is_spent, lacks_names}
+use Rattle.run_model.specs.Steps.{do_create, do_clean, do_concat, do_pass, do_return, do_pcreate, label_registered, label_killed, text_of, new_ref, all_referred, saved_into, made_on, names_of, pool_names_of, is_spent, lacks_names}
 use Rattle.run_model.specs.Sound.{brigade_pool, SoundPools}
+use Rattle.run_model.specs.Cursors.{Place, Nowhere, AtLoose, Within, AtEndOf}
+use Rattle.run_model.specs.BucketSteps.{aside_into}
 use Rattle.model_laws.specs.Laws.{StepKeepsPools}
 use Rattle.run_model.proofs.Updates.{upd_either}
-use Rattle.run_model.proofs.PoolMap.{created_lives, created_next, created_kept, cleared_apart, cleared_next, destroyed_apart, destroyed_next}
-use Rattle.run_model.proofs.Names.{at_each, at_two}
+use Rattle.run_model.proofs.PoolMap.{created_lives, created_next, created_kept}
+use Rattle.model_laws.proofs.BrigadePools.{KeepsPool, pool_kept, clean_on, pass_on, fill_on, move_on, return_on}
+use Rattle.model_laws.proofs.PoolsGone.{Emptying, pool_emptied, on_emptied}
 use Rattle.model_laws.proofs.StepNames.{not_spent}
-use Rattle.run_model.proofs.Formed.{created_formed, cleared_formed, destroyed_formed, registered_formed, killed_formed}
-use Rattle.model_laws.proofs.NamedPools.{on_named, made_under_named, own_named, conn_given, req_given}
+use Rattle.run_model.proofs.Formed.{created_formed, registered_formed, killed_formed}
+use Rattle.model_laws.proofs.NamedPools.{made_is, on_named, made_under_named, own_named, conn_given, req_given}
 use Rattle.model_laws.proofs.BucketFrame.{IsFrame, placed_step}
 use Rattle.model_laws.proofs.PoolsKept.{keeps_paths, keeps_pools, went_pools}
 use Rattle.model_laws.proofs.MadeBrigades.{brigade_path, brigade_next, brigade_formed}
-
--- What a change of a variable does to the pool of its brigade: it stays, or the brigade goes.
-abbrev pub KeepsPool : BrigadeVar → BrigadeVar → Type 0
-KeepsPool v w = (n : ℕ) → brigade_pool w ≡ Some n → brigade_pool v ≡ Some n
-
-same_pool : (v : BrigadeVar) → KeepsPool v v
-same_pool v n h = h
-
-cleaned_pool : (v : BrigadeVar) → KeepsPool v (cleaned v)
-cleaned_pool var.Null n h = h
-cleaned_pool var.Gone n h = h
-cleaned_pool (var.Live v) n h = h
-
-handed_pool : (v : BrigadeVar) → KeepsPool v (handed_over v)
-handed_pool var.Null n h = h
-handed_pool var.Gone n h = h
-handed_pool (var.Live v) n h = h
-
-filled_pool : (items : List NamedBucket) (v : BrigadeVar) → KeepsPool v (with_items items v)
-filled_pool items var.Null n h = h
-filled_pool items var.Gone n h = h
-filled_pool items (var.Live v) n h = h
-
-returned_pool : (call : ℕ) (v : BrigadeVar) → KeepsPool v (returned_var call v)
-returned_pool call var.Null n h = h
-returned_pool call var.Gone n h = h
-returned_pool call (var.Live v) n h = h
 
 -- each brigade keeps its pool, or goes
 keeps_slots : (r new : Configuration) → new.shared.pools ≡ r.shared.pools → new.shared.conn ≡ r.shared.conn → new.shared.req ≡ r.shared.req → new.instance.pools ≡ r.instance.pools
     → ((b : ℕ) → KeepsPool (r.instance.brigades b) (new.instance.brigades b))
     → SoundPools r → SoundPools new
-keeps_slots r new pools conn req own slots s = keeps_pools r new pools conn req own (λ b n e. s.brigades b n (slots b n e)) s
+keeps_slots r new pools conn req own slots s = keeps_pools r new pools conn req own (λ b n e. s.brigades b n (pool_kept (r.instance.brigades b) (new.instance.brigades b) (slots b) n e)) s
 
 -- a declared pool that has no fault is live
 pub wanted_pool : (r : Configuration) (d : PoolRef) (rest : Option FaultKind) → or_else (cond (has_pool r d) None (Some F1)) rest ≡ None → has_pool r d ≡ true
@@ -93,19 +66,15 @@ create_pools p o r lives s = keeps_paths r (do_create p o r) (brigade_formed on 
 
 clean_pools : (b : ℕ) (r : Configuration) → SoundPools r → SoundPools (do_clean b r)
 unfolding set_brigade
-clean_pools b r s = keeps_slots r (do_clean b r) refl refl refl refl (at_each KeepsPool r.instance.brigades b (cleaned (r.instance.brigades b)) (cleaned_pool (r.instance.brigades b)) same_pool) s
+clean_pools b r s = keeps_slots r (do_clean b r) refl refl refl refl (clean_on r.instance.brigades b) s
 
 pass_pools : (b : ℕ) (r : Configuration) → SoundPools r → SoundPools (do_pass b r)
 unfolding set_brigade
-pass_pools b r s = keeps_slots r (do_pass b r) refl refl refl refl (at_each KeepsPool r.instance.brigades b (handed_over (r.instance.brigades b)) (handed_pool (r.instance.brigades b)) same_pool) s
+pass_pools b r s = keeps_slots r (do_pass b r) refl refl refl refl (pass_on r.instance.brigades b) s
 
 concat_pools : (a b : ℕ) (r : Configuration) → SoundPools r → SoundPools (do_concat a b r)
 unfolding set_brigade
-concat_pools a b r s =
-    keeps_slots r (do_concat a b r) refl refl refl refl
-    (at_two KeepsPool r.instance.brigades b a (with_items [] (r.instance.brigades b)) (with_items (items_of (r.instance.brigades a) ++ items_of (r.instance.brigades b)) (r.instance.brigades a))
-    (filled_pool [] (r.instance.brigades b)) (filled_pool (items_of (r.instance.brigades a) ++ items_of (r.instance.brigades b)) (r.instance.brigades a)) same_pool)
-    s
+concat_pools a b r s = keeps_slots r (do_concat a b r) refl refl refl refl (move_on r.instance.brigades a b (items_of (r.instance.brigades a) ++ items_of (r.instance.brigades b))) s
 
 -- references to files are registered on a live pool
 pub referred_path : (target : ℕ) (files : List ℕ) (ps : Pools Payload) → (all_referred target files ps).path ≡ ps.path
@@ -127,24 +96,28 @@ unfolding all_referred
 referred_formed target [] ps lives f = f
 referred_formed target (file ∷ files) ps lives f = referred_formed target files (registered target (FileRef file) ps) (still_live target target (FileRef file) ps lives) (registered_formed target (FileRef file) ps lives f)
 
+-- setting aside registers these, if any
+pub aside_pools : (s : Place) (target : ℕ) (r : Configuration) → (files : List ℕ) × ((aside_into s target r).shared.pools ≡ all_referred target files r.shared.pools)
+unfolding set_brigade set_loose with_pools all_referred
+aside_pools Nowhere target r = ([], refl)
+aside_pools (AtLoose x) target r = (filter_map (new_ref r.shared.pools target) (x ∷ []), refl)
+aside_pools (Within b x) target r = (filter_map (new_ref r.shared.pools target) (x ∷ []), refl)
+aside_pools (AtEndOf b) target r = ([], refl)
+
+pub aside_path : (s : Place) (target : ℕ) (r : Configuration) → (aside_into s target r).shared.pools.path ≡ r.shared.pools.path
+aside_path s target r = (let left = aside_pools s target r in ap (λ (ps : Pools Payload). ps.path) left.1 ∙ referred_path target left.0 r.shared.pools)
+
 save_pools : (o b target : ℕ) (r : Configuration) → made_on (r.instance.brigades o) ≡ Some target → SoundPools r → SoundPools (saved_into o b target r)
 unfolding set_brigade with_pools
 save_pools o b target r on s =
     let refs : List ℕ = filter_map (new_ref r.shared.pools target) (items_of (r.instance.brigades b)) in
-    keeps_paths r (saved_into o b target r) (referred_formed target refs r.shared.pools (s.brigades o target (made_pool (r.instance.brigades o) target on)) s.formed)
+    keeps_paths r (saved_into o b target r) (referred_formed target refs r.shared.pools (s.brigades o target (sym (made_is (r.instance.brigades o)) ∙ on)) s.formed)
     (referred_path target refs r.shared.pools) (referred_next target refs r.shared.pools) refl refl refl
-    (λ k n e. s.brigades k n (at_two KeepsPool r.instance.brigades b o (with_items [] (r.instance.brigades b)) (with_items _ (r.instance.brigades o)) (filled_pool [] (r.instance.brigades b)) (filled_pool _ (r.instance.brigades o)) same_pool k n e))
-    s where
-      made_pool : (v : BrigadeVar) (n : ℕ) → made_on v ≡ Some n → brigade_pool v ≡ Some n
-      made_pool var.Null n e = e
-      made_pool var.Gone n e = e
-      made_pool (var.Live v) n e = e
+    (λ k n e. s.brigades k n (pool_kept (r.instance.brigades k) ((saved_into o b target r).instance.brigades k) (move_on r.instance.brigades o b _ k) n e))
+    s
 
 return_pools : (r : Configuration) → SoundPools r → SoundPools (do_return r)
-return_pools r s = keeps_slots r (do_return r) refl refl refl refl (λ b. left b (b == 8)) s where
-  left : (b : ℕ) (is_in : Bool) → KeepsPool (r.instance.brigades b) (cond is_in var.Null (returned_var r.call.name (r.instance.brigades b)))
-  left b true n h = absurd (cc)
-  left b false n h = returned_pool r.call.name (r.instance.brigades b) n h
+return_pools r s = keeps_slots r (do_return r) refl refl refl refl (return_on r.instance.brigades r.call.name) s
 
 -- A pool is made, cleared or destroyed, or its labels change.
 
@@ -178,19 +151,11 @@ made_pools parent q r limit lives s = record {
 pcreate_pools : (p : Program) (q : ℕ) (r : Configuration) → r.shared.pools.next + 1 < 2 ^ 64 → has_pool r (pool_of_pool p q) ≡ true → SoundPools r → SoundPools (do_pcreate p q r)
 pcreate_pools p q r limit lives s = made_under_named SoundPools p q r s (λ parent e. made_pools parent q r limit (named_lives r (pool_of_pool p q) parent lives e) s)
 
-cleared_pools : (q n : ℕ) (r : Configuration) → r.instance.pools q ≡ poolvar.Made n → SoundPools r → SoundPools (pool_cleared n r)
+emptied_pools : (q n : ℕ) (left : Pools Payload) (r : Configuration) → r.instance.pools q ≡ poolvar.Made n → Emptying n r.shared.pools left → SoundPools r → SoundPools (pool_emptied left n r)
 unfolding run_down with_pools
-cleared_pools q n r is s =
+emptied_pools q n left r is so s =
     let own = s.own q n is in
-    went_pools n r (pool_cleared n r) (cleared_next n r.shared.pools) (cleared_formed n r.shared.pools s.formed) (λ k apart. (cleared_apart n r.shared.pools k apart).0)
-    refl (λ m e. (e, λ same. own.2 (e ∙ ap (λ (k : ℕ). Some k) same))) refl (λ b. refl) own.0 s
-
-destroyed_pools : (q n : ℕ) (r : Configuration) → r.instance.pools q ≡ poolvar.Made n → SoundPools r → SoundPools (pool_destroyed n r)
-unfolding run_down with_pools
-destroyed_pools q n r is s =
-    let own = s.own q n is in
-    went_pools n r (pool_destroyed n r) (destroyed_next n r.shared.pools) (destroyed_formed n r.shared.pools s.formed) (λ k apart. (destroyed_apart n r.shared.pools k apart).0)
-    refl (λ m e. (e, λ same. own.2 (e ∙ ap (λ (k : ℕ). Some k) same))) refl (λ b. refl) own.0 s
+    went_pools n r (pool_emptied left n r) so.payloads.next (so.formed s.formed) so.apart refl (λ m e. (e, λ same. own.2 (e ∙ ap (λ (k : ℕ). Some k) same))) refl (λ b. refl) own.0 s
 
 labelled_pools : (text : List ℕ) (n : ℕ) (r : Configuration) → is_live r.shared.pools n ≡ true → SoundPools r → SoundPools (label_registered text n r)
 unfolding registered with_pools
@@ -204,7 +169,7 @@ unlabelled_pools text n r s = keeps_paths r (label_killed text n r) (killed_form
 pools_frame : IsFrame SoundPools
 unfolding set_brigade set_loose set_number with_pools
 pools_frame = record {
-  items = λ b xs r s. keeps_slots r _ refl refl refl refl (at_each KeepsPool r.instance.brigades b (with_items xs (r.instance.brigades b)) (filled_pool xs (r.instance.brigades b)) same_pool) s;
+  items = λ b xs r s. keeps_slots r _ refl refl refl refl (fill_on r.instance.brigades b xs) s;
   loose = λ xs r s. keeps_pools r _ refl refl refl refl s.brigades s;
   numbers = λ n v r s. keeps_pools r _ refl refl refl refl s.brigades s;
   buffer = λ bytes r s. keeps_pools r _ refl refl refl refl s.brigades s;
@@ -218,8 +183,8 @@ pools_placed c v r s = keeps_pools r _ refl refl refl refl s.brigades s
 
 pub step_pools : StepKeepsPools
 step_pools p choice (instr.PCreate q) r may s = pcreate_pools p q r (lasting_pool r (instr.PCreate q) may.names_last) (wanted_pool r (pool_of_pool p q) _ may.faultless) s
-step_pools p choice (instr.PClear q) r may s = on_named SoundPools pool_cleared (pool_named r (pool.Own q)) r s (λ n e. cleared_pools q n r (own_named q n r e) s)
-step_pools p choice (instr.PDestroy q) r may s = on_named SoundPools pool_destroyed (pool_named r (pool.Own q)) r s (λ n e. destroyed_pools q n r (own_named q n r e) s)
+step_pools p choice (instr.PClear q) r may s = (on_emptied SoundPools q r s (λ n left e so. emptied_pools q n left r (own_named q n r e) so s)).0
+step_pools p choice (instr.PDestroy q) r may s = (on_emptied SoundPools q r s (λ n left e so. emptied_pools q n left r (own_named q n r e) so s)).1
 step_pools p choice (instr.Label q t) r may s = on_named SoundPools (label_registered (text_of p t)) (pool_named r q) r s (λ n e. labelled_pools (text_of p t) n r (named_lives r q n (wanted_pool r q None may.faultless) e) s)
 step_pools p choice (instr.Unlabel q t) r may s = on_named SoundPools (label_killed (text_of p t)) (pool_named r q) r s (λ n e. unlabelled_pools (text_of p t) n r s)
 step_pools p choice (instr.BCreate o) r may s = create_pools p o r (wanted_pool r (pool_of_brigade p o) _ may.faultless) s

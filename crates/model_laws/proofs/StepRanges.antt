@@ -1,9 +1,8 @@
 -- A step keeps ranges in their files.
-use Rattle.std.proofs.Common.{◌≡◌, ℕ, ◌+◌, ◌-◌, ◌<◌, ◌≤◌, ◌⊎◌, arith, Bool, true, false, ◌&&◌, ◌==◌, nat_le, cond, List, [], ◌∷◌, ◌++◌, map, filter_map, length, Some, None, All, inl, inr, refl, sym, ◌∙◌, ap, subst}
+use Rattle.std.proofs.Common.{◌≡◌, ℕ, ◌+◌, ◌-◌, ◌<◌, ◌≤◌, arith, Bool, true, false, ◌&&◌, ◌==◌, nat_le, List, [], ◌∷◌, map, filter_map, length, Some, None, All, inl, inr, refl, sym, ◌∙◌, ap, subst}
 use Rattle.std.specs.List.{list_any}
 use Rattle.std.proofs.lemmas.Bool.Decides.{nat_tests}
-use Rattle.std.proofs.lemmas.List.Elements.{All-nil, All-cons, All-head, All-tail, All-append, All-map}
-use Rattle.module_code.specs.declared.instr.PoolRef.TheVariants as pool
+use Rattle.std.proofs.lemmas.List.Elements.{All-nil, All-cons, All-head, All-tail}
 use Rattle.module_code.specs.declared.instr.Instr.{Instr}
 use Rattle.module_code.specs.declared.instr.Instr.TheVariants as instr
 use Rattle.module_code.specs.Program.{Program, pool_of_brigade}
@@ -16,19 +15,15 @@ use Rattle.run_model.specs.declared.bucket.Home.TheVariants as home
 use Rattle.run_model.specs.declared.bucket.Bucket.{Bucket}
 use Rattle.run_model.specs.declared.bucket.NamedBucket.{NamedBucket}
 use Rattle.run_model.specs.declared.bucket.PoolVar.TheVariants as poolvar
-use Rattle.run_model.specs.declared.bucket.BrigadeVar.{BrigadeVar}
-use Rattle.run_model.specs.declared.bucket.BrigadeVar.TheVariants as var
 use Rattle.run_model.specs.declared.payload.Payload.{Payload}
-use Rattle.run_model.specs.declared.payload.Payload.TheVariants.{Label}
-use Rattle.run_model.specs.Indexed.{upd}
-use Rattle.run_model.specs.Pools.{Pools, is_under, created, cleared, destroyed}
+use Rattle.run_model.specs.Pools.{Pools, is_under, created}
 use Rattle.run_model.specs.Buckets.{is_dead, is_ended, returned_bucket, cleared_bucket}
 use Rattle.run_model.specs.Files.{Files}
-use Rattle.run_model.specs.Clearing.{is_reached, cleared_var, run_down}
+use Rattle.run_model.specs.Clearing.{run_down}
 use Rattle.run_model.specs.State.{Configuration, items_of, set_pool, with_pools, set_brigade, set_loose, pool_named}
 use Rattle.run_model.specs.Faults.{usable_fault, homes_fault, home_fault}
 use Rattle.run_model.specs.EffectOf.{effect_of}
-use Rattle.run_model.specs.Steps.{do_create, do_clean, do_concat, do_pass, do_return, cleaned, with_items, handed_over, returned_var, pool_cleared, pool_destroyed, files_let_go, label_registered, label_killed, text_of, aside_named, new_ref, saved_into, made_on}
+use Rattle.run_model.specs.Steps.{do_create, do_clean, do_concat, do_pass, do_return, files_let_go, label_registered, label_killed, text_of, aside_named, new_ref, saved_into, made_on}
 use Rattle.run_model.specs.Pieces.{has_range}
 use Rattle.run_model.specs.Sound.{SoundPools, SoundBuckets, Sound, count_named}
 use Rattle.run_model.specs.BrigadeLists.{bucket_named}
@@ -38,6 +33,7 @@ use Rattle.run_model.specs.Cutting.{FitsKind, LivesAs, length_of, OpenFile, form
 use Rattle.model_laws.specs.Laws.{changes_pools, is_clear, ChangesOnly, HasReference, KeptAside, SoundFiles}
 use Rattle.run_model.specs.Holding.{refers}
 use Rattle.model_laws.specs.Ranges.{Reaches, LiesInFile, HasLength, SoundRanges, StepKeepsRanges}
+use Rattle.model_laws.proofs.PoolsGone.{on_emptied}
 use Rattle.model_laws.proofs.NamedPools.{on_named, made_under_named}
 use Rattle.run_model.proofs.Spots.{Stands, stands}
 use Rattle.run_model.proofs.EachBucket.{of_named, each_changed, only_one, loose_once, brigade_once}
@@ -45,50 +41,21 @@ use Rattle.model_laws.proofs.Origins.{PassesOn, Holds, front_back, rest_back, ma
 use Rattle.model_laws.proofs.Unchanged.{step_changes_only}
 use Rattle.model_laws.proofs.Marks.{first_none, second_none}
 use Rattle.model_laws.proofs.Kept.{aside_lasts, files_go}
-use Rattle.run_model.proofs.References.{or_left, or_right, refers_given, referred_at, created_back, registered_back, all_back, killed_refers, Emptied, emptied_back, cleared_emptied, destroyed_emptied}
+use Rattle.run_model.proofs.References.{or_left, or_right, refers_given, referred_at, created_back, all_back, killed_refers, Emptied, emptied_back}
 use Rattle.model_laws.proofs.MadeBrigades.{brigade_back}
-use Rattle.model_laws.proofs.StepFiles.{left_home, spared_home, written, neither, refs_open, no_dead, not_dead, aside_refs, aside_live, step_files}
+use Rattle.model_laws.proofs.EachItem.{none, cleaned_each, handed_over_each, written_each, items_each, moved_each, mapped_each, cleared_each, left_each}
+use Rattle.model_laws.proofs.StepFiles.{label_back, left_home, spared_home, neither, refs_open, no_dead, not_dead, aside_refs, aside_live, step_files}
 
 -- Lists and variables.
 
 abbrev pub LieList : Files → List NamedBucket → Type 0
 LieList fs xs = All (LiesInFile fs) xs
 
-pub none_lie : (fs : Files) → LieList fs []
-none_lie fs = All-nil (LiesInFile fs)
+returned_lies : (fs : Files) (call : ℕ) (x : NamedBucket) → LiesInFile fs x → LiesInFile fs (returned_bucket call x)
+returned_lies fs call x h = λ file start len p c at. h file start len p c (left_home call _ p at)
 
-cleaned_lie : (fs : Files) (v : BrigadeVar) → LieList fs (items_of (cleaned v))
-cleaned_lie fs var.Null = none_lie fs
-cleaned_lie fs var.Gone = none_lie fs
-cleaned_lie fs (var.Live v) = none_lie fs
-
-handed_lie : (fs : Files) (v : BrigadeVar) → LieList fs (items_of (handed_over v))
-handed_lie fs var.Null = none_lie fs
-handed_lie fs var.Gone = none_lie fs
-handed_lie fs (var.Live v) = none_lie fs
-
-filled_lie : (fs : Files) (items : List NamedBucket) (v : BrigadeVar) → LieList fs items → LieList fs (items_of (with_items items v))
-filled_lie fs items var.Null h = none_lie fs
-filled_lie fs items var.Gone h = none_lie fs
-filled_lie fs items (var.Live v) h = h
-
-returned_lie : (fs : Files) (call : ℕ) (v : BrigadeVar) → LieList fs (items_of v) → LieList fs (items_of (returned_var call v))
-returned_lie fs call var.Null h = none_lie fs
-returned_lie fs call var.Gone h = none_lie fs
-returned_lie fs call (var.Live v) h =
-    All-map (LiesInFile fs) (returned_bucket call) v.items (λ k d lt. λ file start len p c at. h k d lt file start len p c (left_home call _ p at))
-
-pub spared_lie : (fs : Files) (reached : ℕ → Bool) (xs : List NamedBucket) → LieList fs xs → LieList fs (map (cleared_bucket reached) xs)
-spared_lie fs reached xs h =
-    All-map (LiesInFile fs) (cleared_bucket reached) xs (λ k d lt. λ file start len p c at. h k d lt file start len p c (spared_home reached _ p at).0)
-
-pub spared_var_lie : (fs : Files) (reached : ℕ → Bool) (v : BrigadeVar) → LieList fs (items_of v) → LieList fs (items_of (cleared_var reached v))
-spared_var_lie fs reached var.Null h = none_lie fs
-spared_var_lie fs reached var.Gone h = none_lie fs
-spared_var_lie fs reached (var.Live v) h = by_test (is_reached reached v.on) where
-  by_test : (b : Bool) → LieList fs (items_of (cond b var.Gone (var.Live (record v { items = map (cleared_bucket reached) v.items }))))
-  by_test true = none_lie fs
-  by_test false = spared_lie fs reached v.items h
+cleared_lies : (fs : Files) (reached : ℕ → Bool) (x : NamedBucket) → LiesInFile fs x → LiesInFile fs (cleared_bucket reached x)
+cleared_lies fs reached x h = λ file start len p c at. h file start len p c (spared_home reached _ p at).0
 
 -- Files that have a reference are as they were.
 
@@ -139,9 +106,11 @@ went_ranges : (files : List (ℕ × ℕ)) (n : ℕ) (r : Configuration) (ps : Po
     → SoundFiles files (files_let_go n r (with_pools ps (run_down n r))) → SoundRanges files (files_let_go n r (with_pools ps (run_down n r)))
 unfolding with_pools run_down
 went_ranges files n r ps e pools s held =
+    let reached : ℕ → Bool = is_under r.shared.pools n in
+    let T : NamedBucket → Type 0 = LiesInFile r.shared.files in
     kept_ranges files r (files_let_go n r (with_pools ps (run_down n r))) held (went_same n r ps e pools)
-    (λ b. spared_var_lie r.shared.files (is_under r.shared.pools n) (r.instance.brigades b) (s.brigades b))
-    (spared_lie r.shared.files (is_under r.shared.pools n) r.call.loose s.loose)
+    (λ b. cleared_each T T reached (cleared_lies r.shared.files reached) (r.instance.brigades b) (s.brigades b))
+    (mapped_each T T (cleared_bucket reached) (cleared_lies r.shared.files reached) r.call.loose s.loose)
     (λ p file h. s.given p file (emptied_back n r.shared.pools ps e p file h).1) refl s
 
 made_ranges : (files : List (ℕ × ℕ)) (parent q : ℕ) (r : Configuration) → SoundRanges files r → SoundRanges files (set_pool q (poolvar.Made r.shared.pools.next) (with_pools (created parent r.shared.pools) r))
@@ -151,10 +120,7 @@ made_ranges files parent q r s = record { brigades = s.brigades; loose = s.loose
 labelled_ranges : (files : List (ℕ × ℕ)) (text : List ℕ) (n : ℕ) (r : Configuration) → SoundRanges files r → SoundRanges files (label_registered text n r)
 unfolding with_pools
 labelled_ranges files text n r s =
-    record { brigades = s.brigades; loose = s.loose; told = s.told; given = λ p file h. s.given p file (back p file (registered_back n (Label text) r.shared.pools p file h)) } where
-      back : (p file : ℕ) → (refers r.shared.pools p file ≡ true) ⊎ (false ≡ true) → refers r.shared.pools p file ≡ true
-      back p file (inl h) = h
-      back p file (inr e) = absurd (cc)
+    record { brigades = s.brigades; loose = s.loose; told = s.told; given = λ p file h. s.given p file (label_back n text r.shared.pools p file h) }
 
 unlabelled_ranges : (files : List (ℕ × ℕ)) (text : List ℕ) (n : ℕ) (r : Configuration) → SoundRanges files r → SoundRanges files (label_killed text n r)
 unfolding with_pools
@@ -180,7 +146,7 @@ aside_lies fs ps target x proper live lies file start len p e at =
     lies file start len old.0 was old.1
 
 aside_lie : (fs : Files) (ps : Pools Payload) (target : ℕ) (xs : List NamedBucket) → All (λ x. FitsKind x.bucket) xs → list_any is_dead xs ≡ false → LieList fs xs → LieList fs (map (aside_named ps target) xs)
-aside_lie fs ps target [] proper live h = none_lie fs
+aside_lie fs ps target [] proper live h = none (LiesInFile fs)
 aside_lie fs ps target (x ∷ xs) proper live h =
     let alive = neither (is_dead x) (list_any is_dead xs) live in
     All-cons (LiesInFile fs) (aside_named ps target x) (map (aside_named ps target) xs)
@@ -195,10 +161,7 @@ save_ranges files o b target r buckets live held s =
     let fs = r.shared.files in
     let items : List NamedBucket = items_of (r.instance.brigades b) in
     record {
-      brigades = λ k. written (λ v. LieList fs (items_of v)) (upd r.instance.brigades b (with_items [] (r.instance.brigades b))) o _
-          (filled_lie fs (items_of (r.instance.brigades o) ++ map (aside_named ps target) items) (r.instance.brigades o)
-          (All-append (LiesInFile fs) (items_of (r.instance.brigades o)) (map (aside_named ps target) items) (s.brigades o) (aside_lie fs ps target items (buckets.brigades b) live (s.brigades b))))
-          (written (λ v. LieList fs (items_of v)) r.instance.brigades b (with_items [] (r.instance.brigades b)) (filled_lie fs [] (r.instance.brigades b) (none_lie fs)) s.brigades) k;
+      brigades = moved_each (LiesInFile fs) r.instance.brigades o b _ (aside_lie fs ps target items (buckets.brigades b) live (s.brigades b)) s.brigades;
       loose = s.loose;
       told = s.told;
       given = λ p file h. elim (all_back target (filter_map (new_ref ps target) items) ps p file h) [
@@ -212,24 +175,12 @@ save_ranges files o b target r buckets live held s =
 concat_ranges : (files : List (ℕ × ℕ)) (a b : ℕ) (r : Configuration) → SoundRanges files r → SoundRanges files (do_concat a b r)
 unfolding set_brigade
 concat_ranges files a b r s =
-    let fs = r.shared.files in
-    record {
-      brigades = λ k. written (λ v. LieList fs (items_of v)) (upd r.instance.brigades b (with_items [] (r.instance.brigades b))) a _
-          (filled_lie fs (items_of (r.instance.brigades a) ++ items_of (r.instance.brigades b)) (r.instance.brigades a) (All-append (LiesInFile fs) (items_of (r.instance.brigades a)) (items_of (r.instance.brigades b)) (s.brigades a) (s.brigades b)))
-          (written (λ v. LieList fs (items_of v)) r.instance.brigades b (with_items [] (r.instance.brigades b)) (filled_lie fs [] (r.instance.brigades b) (none_lie fs)) s.brigades) k;
-      loose = s.loose;
-      told = s.told;
-      given = s.given;
-    }
-
--- one variable is written
-one_written : (fs : Files) (r : Configuration) (i : ℕ) (w : BrigadeVar) → LieList fs (items_of w) → ((b : ℕ) → LieList fs (items_of (r.instance.brigades b))) → (b : ℕ) → LieList fs (items_of (upd r.instance.brigades i w b))
-one_written fs r i w here there b = written (λ v. LieList fs (items_of v)) r.instance.brigades i w here there b
+    record { brigades = moved_each (LiesInFile r.shared.files) r.instance.brigades a b (items_of (r.instance.brigades b)) (s.brigades b) s.brigades; loose = s.loose; told = s.told; given = s.given }
 
 create_ranges : (files : List (ℕ × ℕ)) (p : Program) (o : ℕ) (r : Configuration) → SoundRanges files r → SoundRanges files (do_create p o r)
 unfolding set_brigade
 create_ranges files p o r s = record {
-  brigades = one_written r.shared.files r o _ (none_lie r.shared.files) s.brigades;
+  brigades = written_each (LiesInFile r.shared.files) r.instance.brigades o _ (none (LiesInFile r.shared.files)) s.brigades;
   loose = s.loose;
   told = s.told;
   given = λ q file h. s.given q file (brigade_back (pool_named r (pool_of_brigade p o)) r.shared.next r.shared.pools q file h);
@@ -237,17 +188,20 @@ create_ranges files p o r s = record {
 
 clean_ranges : (files : List (ℕ × ℕ)) (b : ℕ) (r : Configuration) → SoundRanges files r → SoundRanges files (do_clean b r)
 unfolding set_brigade
-clean_ranges files b r s = record { brigades = one_written r.shared.files r b _ (cleaned_lie r.shared.files (r.instance.brigades b)) s.brigades; loose = s.loose; told = s.told; given = s.given }
+clean_ranges files b r s =
+    let T : NamedBucket → Type 0 = LiesInFile r.shared.files in
+    record { brigades = written_each T r.instance.brigades b _ (cleaned_each T (r.instance.brigades b)) s.brigades; loose = s.loose; told = s.told; given = s.given }
 
 pass_ranges : (files : List (ℕ × ℕ)) (b : ℕ) (r : Configuration) → SoundRanges files r → SoundRanges files (do_pass b r)
 unfolding set_brigade
-pass_ranges files b r s = record { brigades = one_written r.shared.files r b _ (handed_lie r.shared.files (r.instance.brigades b)) s.brigades; loose = s.loose; told = s.told; given = s.given }
+pass_ranges files b r s =
+    let T : NamedBucket → Type 0 = LiesInFile r.shared.files in
+    record { brigades = written_each T r.instance.brigades b _ (handed_over_each T (r.instance.brigades b)) s.brigades; loose = s.loose; told = s.told; given = s.given }
 
 return_ranges : (files : List (ℕ × ℕ)) (r : Configuration) → SoundRanges files r → SoundRanges files (do_return r)
-return_ranges files r s = record { brigades = λ b. left b (b == 8); loose = none_lie r.shared.files; told = s.told; given = s.given } where
-  left : (b : ℕ) (is_in : Bool) → LieList r.shared.files (items_of (cond is_in var.Null (returned_var r.call.name (r.instance.brigades b))))
-  left b true = none_lie r.shared.files
-  left b false = returned_lie r.shared.files r.call.name (r.instance.brigades b) (s.brigades b)
+return_ranges files r s =
+    let T : NamedBucket → Type 0 = LiesInFile r.shared.files in
+    record { brigades = left_each T T r.call.name (returned_lies r.shared.files r.call.name) r.instance.brigades s.brigades; loose = none T; told = s.told; given = s.given }
 
 -- A bucket is set aside.
 
@@ -275,9 +229,8 @@ aside_ranges files (Within b x) target r there live sound held s =
     let ps = r.shared.pools in
     let fs = r.shared.files in
     record {
-      brigades = one_written fs r b (with_items (changed_at x.name (aside_named ps target) (items_at r b)) (r.instance.brigades b))
-          (filled_lie fs (changed_at x.name (aside_named ps target) (items_at r b)) (r.instance.brigades b)
-          (aside_lie_in fs ps target x (items_at r b) there.1 (brigade_once r b x.name there.0 sound.names) (sound.buckets.brigades b) (not_dead x live) (s.brigades b))) s.brigades;
+      brigades = items_each (LiesInFile fs) r.instance.brigades b _
+          (aside_lie_in fs ps target x (items_at r b) there.1 (brigade_once r b x.name there.0 sound.names) (sound.buckets.brigades b) (not_dead x live) (s.brigades b)) s.brigades;
       loose = s.loose;
       told = s.told;
       given = λ p file h. aside_refs ps target x (λ (k : ℕ). k < fs.next) s.given (of_named (λ y. FitsKind y.bucket) x.name x (items_at r b) there.1 (sound.buckets.brigades b)) (not_dead x live)
@@ -327,11 +280,9 @@ IfHeld files new = SoundFiles files new → SoundRanges files new
 pub step_ranges : StepKeepsRanges
 step_ranges p choice (instr.PCreate q) files r may sound held s = made_under_named (SoundRanges files) p q r s (λ parent e. made_ranges files parent q r s)
 step_ranges p choice (instr.PClear q) files r may sound held s =
-    on_named (IfHeld files) pool_cleared (pool_named r (pool.Own q)) r (λ h. s) (λ n e. went_ranges files n r (cleared n r.shared.pools) (cleared_emptied n r.shared.pools) sound.pools s)
-    (step_files p choice (instr.PClear q) files r may sound held)
+    (on_emptied (IfHeld files) q r (λ h. s) (λ n left e so. went_ranges files n r left so.payloads sound.pools s)).0 (step_files p choice (instr.PClear q) files r may sound held)
 step_ranges p choice (instr.PDestroy q) files r may sound held s =
-    on_named (IfHeld files) pool_destroyed (pool_named r (pool.Own q)) r (λ h. s) (λ n e. went_ranges files n r (destroyed n r.shared.pools) (destroyed_emptied n r.shared.pools) sound.pools s)
-    (step_files p choice (instr.PDestroy q) files r may sound held)
+    (on_emptied (IfHeld files) q r (λ h. s) (λ n left e so. went_ranges files n r left so.payloads sound.pools s)).1 (step_files p choice (instr.PDestroy q) files r may sound held)
 step_ranges p choice (instr.Label q t) files r may sound held s = on_named (SoundRanges files) (label_registered (text_of p t)) (pool_named r q) r s (λ n e. labelled_ranges files (text_of p t) n r s)
 step_ranges p choice (instr.Unlabel q t) files r may sound held s = on_named (SoundRanges files) (label_killed (text_of p t)) (pool_named r q) r s (λ n e. unlabelled_ranges files (text_of p t) n r s)
 step_ranges p choice (instr.BCreate o) files r may sound held s = create_ranges files p o r s

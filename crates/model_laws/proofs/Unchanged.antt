@@ -1,7 +1,6 @@
 -- A step changes nothing but what it names.
 use Rattle.std.proofs.Common.{◌≡◌, ◌≢◌, ℕ, ◌≤◌, Bool, true, false, cond, ◌||◌, ◌==◌, List, Option, Some, None, refl, sym, ◌∙◌, ap, eq-eqb, arith}
 use Rattle.std.proofs.lemmas.Bool.{or_left, or_right}
-use Rattle.module_code.specs.declared.instr.PoolRef.TheVariants as pool
 use Rattle.module_code.specs.Program.{Program, pool_of_brigade}
 use Rattle.run_model.specs.declared.bucket.Bucket.{Bucket}
 use Rattle.run_model.specs.declared.bucket.Cursor.{Cursor}
@@ -15,10 +14,13 @@ use Rattle.run_model.specs.Clearing.{run_down}
 use Rattle.run_model.specs.Cursors.{Place, Nowhere, AtLoose, Within, AtEndOf, spot, read_cursor}
 use Rattle.run_model.specs.BrigadeLists.{put_before}
 use Rattle.run_model.specs.BucketSteps.{aside_into, do_make, do_before, do_delete, do_next, do_read, do_split, do_unlink, got, has_rest, is_unsplit, items_at, name_given, names_given, names_if, names_to_part, names_to_read, names_to_split, new_loose, put_into, read_given, read_within, split_there}
-use Rattle.run_model.specs.EffectOf.{Effect, ENothing, EMakePool, EClearPool, EDestroyPool, ERegister, EKill, EMakeBrigade, EClean, EConcat, ESplitBrigade, EPartBrigade, ESave, EPass, EFirst, ENext, EUnlink, EDelete, EInsert, EBefore, EMake, ESplit, EAside, ERead, ENumber, EPut, EClearBuffer, EReturn, effect_of}
-use Rattle.run_model.specs.Steps.{Choice, do_effect, made_of, number_of, put_at, names_for, with_brigade, do_create, pool_cleared, pool_destroyed, label_registered, label_killed, text_of, made_on, saved_into, value_of, do_pass}
-use Rattle.model_laws.specs.Laws.{is_within, is_loose, may_change, may_change_pool, may_change_number, may_change_cursor, may_change_loose, may_change_buffer, may_change_tree, ChangesOnly, StepChangesOnly}
+use Rattle.run_model.specs.declared.effect.Effect.{Effect}
+use Rattle.run_model.specs.declared.effect.Effect.TheVariants as effect
+use Rattle.run_model.specs.EffectOf.{effect_of}
+use Rattle.run_model.specs.Steps.{Choice, do_effect, made_of, number_of, put_at, names_for, with_brigade, do_create, label_registered, label_killed, text_of, made_on, saved_into, value_of, do_pass}
+use Rattle.model_laws.specs.Laws.{is_within, is_loose, may_change, may_change_pool, may_change_number, may_change_cursor, may_change_loose, may_change_buffer, may_change_tree, may_change_labels, ChangesOnly, StepChangesOnly}
 use Rattle.run_model.proofs.Updates.{upd_off}
+use Rattle.model_laws.proofs.PoolsGone.{pool_emptied, on_emptied}
 use Rattle.model_laws.proofs.NamedPools.{on_named, made_under_named, put_keeps}
 
 -- a number that may not change is another than one that may
@@ -67,17 +69,35 @@ by_buffer e r buffer may = record { brigades = λ k h. refl; pools = λ k h. ref
 
 -- Clears, a pass and a return.
 
-cleared_changes : (q n : ℕ) (r : Configuration) → ChangesOnly (EClearPool q) r (pool_cleared n r)
+-- a pool goes, or what it holds
+emptied_changes : (e : Effect) (left : Pools Payload) (n : ℕ) (r : Configuration) → ((k : ℕ) → may_change r e k ≡ true) → may_change_loose r e ≡ true
+    → may_change_tree e ≡ true → may_change_labels e ≡ true → ChangesOnly e r (pool_emptied left n r)
 unfolding with_pools run_down
-cleared_changes q n r = record { brigades = λ k h. absurd (cc); pools = λ k h. refl; numbers = λ k h. refl; sent = λ h. refl; cursors = λ k h. refl; loose = λ h. absurd (cc); buffer = λ h. refl; tree = λ h. absurd (cc); conn = refl; req = refl; labels = λ h. absurd (cc); files = λ h. absurd (cc); names = omega arith; names_last = omega arith; output = refl; pc = refl; call_name = λ h. refl }
+emptied_changes e left n r any loose tree labels = record {
+  brigades = λ k h. absurd (not_both (any k) h);
+  pools = λ k h. refl;
+  numbers = λ k h. refl;
+  sent = λ h. refl;
+  cursors = λ k h. refl;
+  loose = λ h. absurd (not_both loose h);
+  buffer = λ h. refl;
+  tree = λ h. absurd (not_both tree h);
+  conn = refl;
+  req = refl;
+  labels = λ h. absurd (not_both labels h);
+  files = λ h. absurd (not_both labels h);
+  names = omega arith;
+  names_last = omega arith;
+  output = refl;
+  pc = refl;
+  call_name = λ h. refl;
+} where
+  not_both : {b : Bool} → b ≡ true → b ≡ false → ⊥
+  not_both on off = (let both : true ≡ false = sym on ∙ off in cc)
 
-destroyed_changes : (q n : ℕ) (r : Configuration) → ChangesOnly (EDestroyPool q) r (pool_destroyed n r)
-unfolding with_pools run_down
-destroyed_changes q n r = record { brigades = λ k h. absurd (cc); pools = λ k h. refl; numbers = λ k h. refl; sent = λ h. refl; cursors = λ k h. refl; loose = λ h. absurd (cc); buffer = λ h. refl; tree = λ h. absurd (cc); conn = refl; req = refl; labels = λ h. absurd (cc); files = λ h. absurd (cc); names = omega arith; names_last = omega arith; output = refl; pc = refl; call_name = λ h. refl }
-
-passed_changes : (b : ℕ) (r : Configuration) → ChangesOnly (EPass b) r (do_pass b r)
+passed_changes : (b : ℕ) (r : Configuration) → ChangesOnly (effect.Pass b) r (do_pass b r)
 unfolding set_brigade
-passed_changes b r = record { brigades = λ k h. upd_off r.instance.brigades b k _ (apart (may_change r (EPass b)) k b h (itself b)); pools = λ k h. refl; numbers = λ k h. refl; sent = λ h. absurd (cc); cursors = λ k h. refl; loose = λ h. refl; buffer = λ h. refl; tree = λ h. refl; conn = refl; req = refl; labels = λ h. refl; files = λ h. refl; names = omega arith; names_last = omega arith; output = refl; pc = refl; call_name = λ h. refl }
+passed_changes b r = record { brigades = λ k h. upd_off r.instance.brigades b k _ (apart (may_change r (effect.Pass b)) k b h (itself b)); pools = λ k h. refl; numbers = λ k h. refl; sent = λ h. absurd (cc); cursors = λ k h. refl; loose = λ h. refl; buffer = λ h. refl; tree = λ h. refl; conn = refl; req = refl; labels = λ h. refl; files = λ h. refl; names = omega arith; names_last = omega arith; output = refl; pc = refl; call_name = λ h. refl }
 
 -- One bucket.
 
@@ -159,43 +179,45 @@ first_of a b = or_left (a == a) (a == b) (itself a)
 second_of : (a b : ℕ) → (b == a || b == b) ≡ true
 second_of a b = or_right (b == a) (b == b) (itself b)
 
-created_changes : (p : Program) (o : ℕ) (r : Configuration) → ChangesOnly (EMakeBrigade o) r (do_create p o r)
+created_changes : (p : Program) (o : ℕ) (r : Configuration) → ChangesOnly (effect.MakeBrigade o) r (do_create p o r)
 unfolding with_pools
 created_changes p o r =
-    let e = EMakeBrigade o in
+    let e = effect.MakeBrigade o in
     by_brigade e r (with_pools (with_brigade (pool_named r (pool_of_brigade p o)) r.shared.next r.shared.pools) (name_given r)) o _ (itself o) (by_tree e r (name_given r) _ refl (by_names e 1 r (omega arith)))
 
 pub effect_changes_only : (p : Program) (choice : Choice) (e : Effect) (r : Configuration) → ChangesOnly e r (do_effect p choice e r)
-effect_changes_only p choice ENothing r = nothing ENothing r
-effect_changes_only p choice (EMakePool q) r = let e = EMakePool q in made_under_named (ChangesOnly e r) p q r (nothing e r) (λ parent is. by_pool e r _ q _ (itself q) (by_tree e r r _ refl (nothing e r)))
-effect_changes_only p choice (EClearPool q) r = on_named (ChangesOnly (EClearPool q) r) pool_cleared (pool_named r (pool.Own q)) r (nothing (EClearPool q) r) (λ n is. cleared_changes q n r)
-effect_changes_only p choice (EDestroyPool q) r = on_named (ChangesOnly (EDestroyPool q) r) pool_destroyed (pool_named r (pool.Own q)) r (nothing (EDestroyPool q) r) (λ n is. destroyed_changes q n r)
-effect_changes_only p choice (ERegister q t) r = let e = ERegister q t in on_named (ChangesOnly e r) (label_registered (text_of p t)) (pool_named r q) r (nothing e r) (λ n is. by_tree e r r _ refl (nothing e r))
-effect_changes_only p choice (EKill q t) r = let e = EKill q t in on_named (ChangesOnly e r) (label_killed (text_of p t)) (pool_named r q) r (nothing e r) (λ n is. by_tree e r r _ refl (nothing e r))
-effect_changes_only p choice (EMakeBrigade o) r = created_changes p o r
-effect_changes_only p choice (EClean b) r = by_brigade (EClean b) r r b _ (itself b) (nothing (EClean b) r)
-effect_changes_only p choice (EConcat a b) r = let e = EConcat a b in by_brigade e r _ a _ (first_of a b) (by_brigade e r r b _ (second_of a b) (nothing e r))
-effect_changes_only p choice (ESplitBrigade b c a) r = let e = ESplitBrigade b c a in by_brigade e r _ a _ (second_of b a) (by_brigade e r r b _ (first_of b a) (nothing e r))
-effect_changes_only p choice (EPartBrigade b x c) r =
-    let e = EPartBrigade b x c in by_cursor e r _ c _ (itself c) (by_brigade e r _ b _ (itself b) (by_names e (names_to_part (value_of r x) (items_at r b)) r (omega arith)))
-effect_changes_only p choice (ESave o b) r =
-    let e = ESave o b in on_named (ChangesOnly e r) (saved_into o b) (made_on (r.instance.brigades o)) r (nothing e r) (λ target is. by_brigade e r _ o _ (first_of o b) (by_brigade e r _ b _ (second_of o b) (by_tree e r r _ refl (nothing e r))))
-effect_changes_only p choice (EPass b) r = passed_changes b r
-effect_changes_only p choice (EFirst c b) r = by_cursor (EFirst c b) r r c _ (itself c) (nothing (EFirst c b) r)
-effect_changes_only p choice (ENext d c) r = next_changes (ENext d c) r d (spot r c) (itself d)
-effect_changes_only p choice (EUnlink c) r = unlink_changes (EUnlink c) r (spot r c) (λ k h. h) refl
-effect_changes_only p choice (EDelete c) r = delete_changes (EDelete c) r (spot r c) (λ k h. h) (λ h. h)
-effect_changes_only p choice (EInsert side b c) r = put_into_changes (EInsert side b c) r (put_at side) b (spot r c) (itself b) refl
-effect_changes_only p choice (EBefore c d) r = before_changes (EBefore c d) r (spot r c) (spot r d) (λ k h. h) refl
-effect_changes_only p choice (EMake c source) r = make_changes (EMake c source) r c (made_of p r source) (omega arith) (itself c) refl
-effect_changes_only p choice (ESplit c x) r = split_changes (ESplit c x) r (value_of r x) (spot r c) (λ k h. h) (omega arith)
-effect_changes_only p choice (EAside c q) r =
-    let e = EAside c q in on_named (ChangesOnly e r) (aside_into (spot r c)) (pool_named r q) r (nothing e r) (λ target is. aside_changes e r (spot r c) target (λ k h. h) (λ h. h) refl)
-effect_changes_only p choice (ERead c) r = read_changes (ERead c) r choice.given (spot r c) (λ k h. h) (omega arith) refl
-effect_changes_only p choice (ENumber n number) r = got_changes (ENumber n number) r n (number_of r n number) (itself n)
-effect_changes_only p choice (EPut x) r = put_keeps (ChangesOnly (EPut x) r) x r (nothing (EPut x) r) (λ buffer. by_buffer (EPut x) r buffer refl)
-effect_changes_only p choice EClearBuffer r = by_buffer EClearBuffer r _ refl
-effect_changes_only p choice EReturn r = record { brigades = λ k h. absurd (cc); pools = λ k h. refl; numbers = λ k h. refl; sent = λ h. refl; cursors = λ k h. absurd (cc); loose = λ h. absurd (cc); buffer = λ h. absurd (cc); tree = λ h. refl; conn = refl; req = refl; labels = λ h. refl; files = λ h. refl; names = omega arith; names_last = omega arith; output = refl; pc = refl; call_name = λ h. absurd (cc) }
+effect_changes_only p choice effect.Nothing r = nothing effect.Nothing r
+effect_changes_only p choice (effect.MakePool q) r = let e = effect.MakePool q in made_under_named (ChangesOnly e r) p q r (nothing e r) (λ parent is. by_pool e r _ q _ (itself q) (by_tree e r r _ refl (nothing e r)))
+effect_changes_only p choice (effect.ClearPool q) r =
+    let e = effect.ClearPool q in (on_emptied (ChangesOnly e r) q r (nothing e r) (λ n left is so. emptied_changes e left n r (λ k. refl) refl refl refl)).0
+effect_changes_only p choice (effect.DestroyPool q) r =
+    let e = effect.DestroyPool q in (on_emptied (ChangesOnly e r) q r (nothing e r) (λ n left is so. emptied_changes e left n r (λ k. refl) refl refl refl)).1
+effect_changes_only p choice (effect.Register q t) r = let e = effect.Register q t in on_named (ChangesOnly e r) (label_registered (text_of p t)) (pool_named r q) r (nothing e r) (λ n is. by_tree e r r _ refl (nothing e r))
+effect_changes_only p choice (effect.Kill q t) r = let e = effect.Kill q t in on_named (ChangesOnly e r) (label_killed (text_of p t)) (pool_named r q) r (nothing e r) (λ n is. by_tree e r r _ refl (nothing e r))
+effect_changes_only p choice (effect.MakeBrigade o) r = created_changes p o r
+effect_changes_only p choice (effect.Clean b) r = by_brigade (effect.Clean b) r r b _ (itself b) (nothing (effect.Clean b) r)
+effect_changes_only p choice (effect.Concat a b) r = let e = effect.Concat a b in by_brigade e r _ a _ (first_of a b) (by_brigade e r r b _ (second_of a b) (nothing e r))
+effect_changes_only p choice (effect.SplitBrigade b c a) r = let e = effect.SplitBrigade b c a in by_brigade e r _ a _ (second_of b a) (by_brigade e r r b _ (first_of b a) (nothing e r))
+effect_changes_only p choice (effect.PartBrigade b x c) r =
+    let e = effect.PartBrigade b x c in by_cursor e r _ c _ (itself c) (by_brigade e r _ b _ (itself b) (by_names e (names_to_part (value_of r x) (items_at r b)) r (omega arith)))
+effect_changes_only p choice (effect.Save o b) r =
+    let e = effect.Save o b in on_named (ChangesOnly e r) (saved_into o b) (made_on (r.instance.brigades o)) r (nothing e r) (λ target is. by_brigade e r _ o _ (first_of o b) (by_brigade e r _ b _ (second_of o b) (by_tree e r r _ refl (nothing e r))))
+effect_changes_only p choice (effect.Pass b) r = passed_changes b r
+effect_changes_only p choice (effect.First c b) r = by_cursor (effect.First c b) r r c _ (itself c) (nothing (effect.First c b) r)
+effect_changes_only p choice (effect.Next d c) r = next_changes (effect.Next d c) r d (spot r c) (itself d)
+effect_changes_only p choice (effect.Unlink c) r = unlink_changes (effect.Unlink c) r (spot r c) (λ k h. h) refl
+effect_changes_only p choice (effect.Delete c) r = delete_changes (effect.Delete c) r (spot r c) (λ k h. h) (λ h. h)
+effect_changes_only p choice (effect.Insert side b c) r = put_into_changes (effect.Insert side b c) r (put_at side) b (spot r c) (itself b) refl
+effect_changes_only p choice (effect.Before c d) r = before_changes (effect.Before c d) r (spot r c) (spot r d) (λ k h. h) refl
+effect_changes_only p choice (effect.Make c source) r = make_changes (effect.Make c source) r c (made_of p r source) (omega arith) (itself c) refl
+effect_changes_only p choice (effect.Split c x) r = split_changes (effect.Split c x) r (value_of r x) (spot r c) (λ k h. h) (omega arith)
+effect_changes_only p choice (effect.Aside c q) r =
+    let e = effect.Aside c q in on_named (ChangesOnly e r) (aside_into (spot r c)) (pool_named r q) r (nothing e r) (λ target is. aside_changes e r (spot r c) target (λ k h. h) (λ h. h) refl)
+effect_changes_only p choice (effect.Read c) r = read_changes (effect.Read c) r choice.given (spot r c) (λ k h. h) (omega arith) refl
+effect_changes_only p choice (effect.Number n number) r = got_changes (effect.Number n number) r n (number_of r n number) (itself n)
+effect_changes_only p choice (effect.Put x) r = put_keeps (ChangesOnly (effect.Put x) r) x r (nothing (effect.Put x) r) (λ buffer. by_buffer (effect.Put x) r buffer refl)
+effect_changes_only p choice effect.ClearBuffer r = by_buffer effect.ClearBuffer r _ refl
+effect_changes_only p choice effect.Return r = record { brigades = λ k h. absurd (cc); pools = λ k h. refl; numbers = λ k h. refl; sent = λ h. refl; cursors = λ k h. absurd (cc); loose = λ h. absurd (cc); buffer = λ h. absurd (cc); tree = λ h. refl; conn = refl; req = refl; labels = λ h. refl; files = λ h. refl; names = omega arith; names_last = omega arith; output = refl; pc = refl; call_name = λ h. absurd (cc) }
 
 pub step_changes_only : StepChangesOnly
 step_changes_only p choice i r = effect_changes_only p choice (effect_of i) r

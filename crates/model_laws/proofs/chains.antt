@@ -22,6 +22,7 @@ pub mod EventPools
 pub mod EventCalls
 pub mod Others
 pub mod EventTurns
+pub mod EventCases
 pub mod TurnsSound
 pub mod WorldKept
 pub mod EachBucket

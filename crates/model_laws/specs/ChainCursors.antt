@@ -1,5 +1,5 @@
 -- Cursors hold names that were given out, and what they name is in one place, in every run of a chain.
-use Rattle.std.specs.Prelude.{◌≡◌, ℕ, ◌<◌, Bool, List, ◌∷◌, ◌++◌, length, Some, All}
+use Rattle.std.specs.Prelude.{◌≡◌, ℕ, ◌<◌, List, ◌∷◌, ◌++◌, length, Some, All}
 use Rattle.module_code.specs.Program.{Program}
 use Rattle.run_model.specs.declared.bucket.Cursor.{Cursor}
 use Rattle.run_model.specs.declared.event.Event.{Event}
@@ -7,8 +7,9 @@ use Rattle.run_model.specs.Cursors.{spot_of}
 use Rattle.run_model.specs.State.{Call, fresh_call}
 use Rattle.model_laws.specs.CursorLaws.{name_held, StandsOnce}
 use Rattle.run_model.specs.Chains.{Frame, Connection, Common, configuration, IsChain}
-use Rattle.run_model.specs.Worlds.{World, Told, Answer, happens, IsWholeRun}
+use Rattle.run_model.specs.Worlds.{World, Answer, IsWholeRun}
 use Rattle.model_laws.specs.ChainSound.{WorldSound}
+use Rattle.model_laws.specs.KeptInRuns.{OfConnections}
 
 -- A cursor of a call that is set holds a name that was given out, where this is the next.
 pub record HoldsGiven (next : ℕ) (call : Call) : Type 0 where
@@ -19,15 +20,7 @@ abbrev pub CursorsGiven : Common → Connection → Type 0
 CursorsGiven g c = All (λ f. HoldsGiven g.next f.call) c.stack
 
 abbrev pub WorldCursors : World → Type 0
-WorldCursors w = (k : ℕ) (c : Connection) → w.conns k ≡ Some c → CursorsGiven w.common c
-
--- Each event keeps it, and so it is true of each world that a run reaches.
-abbrev pub EventKeepsWorldCursors : Type 0
-EventKeepsWorldCursors = (memory : Bool) (budget : ℕ) (chain : List Program) (told : Told) (k : ℕ) (e : Event) (w : World)
-    → IsChain chain → WorldSound chain w → WorldCursors w → WorldCursors (happens memory budget chain told k e w).1
-
-abbrev pub RunKeepsWorldCursors : Type 0
-RunKeepsWorldCursors = (budget : ℕ) (chain : List Program) (es : List (ℕ × Event)) (answers : List Answer) (w : World) → IsChain chain → IsWholeRun budget chain es answers w → WorldCursors w
+WorldCursors = OfConnections CursorsGiven
 
 -- Of each call, whether it runs or waits: a bucket that a cursor names is in exactly one list of what the call sees, once, in one
 -- brigade or loose, and it is nowhere only where no list has it. The same is true of a brigade at whose end a cursor is.
@@ -40,7 +33,7 @@ InstancesStandOnce chain g c = (k : ℕ) (v : Cursor) → k < length chain
     → (let r = configuration g c (record { of = k; call = fresh_call 0; pc = 0 }) in StandsOnce r v (spot_of r v))
 
 abbrev pub WorldStandsOnce : List Program → World → Type 0
-WorldStandsOnce chain w = (k : ℕ) (c : Connection) → w.conns k ≡ Some c → CallsStandOnce w.common c × InstancesStandOnce chain w.common c
+WorldStandsOnce chain = OfConnections (λ g c. CallsStandOnce g c × InstancesStandOnce chain g c)
 
 -- It is so in each world that is sound, and so in each that a run reaches.
 abbrev pub SoundWorldStandsOnce : Type 0

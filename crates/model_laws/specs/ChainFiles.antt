@@ -17,6 +17,7 @@ use Rattle.run_model.specs.Passing.{Reads}
 use Rattle.run_model.specs.Turns.{steps, brought_in}
 use Rattle.run_model.specs.Worlds.{World, Told, Answer, Opened, happens, IsWholeRun}
 use Rattle.model_laws.specs.ChainSound.{WorldSound}
+use Rattle.model_laws.specs.KeptInRuns.{OfConnections}
 
 -- This is true of each bucket of a connection: in the brigades of its instances, and loose in its calls.
 pub record OfEachBucket (T : NamedBucket → Type 0) (c : Connection) : Type 0 where
@@ -83,15 +84,7 @@ pub record ChainFiles (g : Common) (c : Connection) : Type 0 where
   pub between : c.req ≡ None → c.files ≡ []
 
 abbrev pub WorldFiles : World → Type 0
-WorldFiles w = (k : ℕ) (c : Connection) → w.conns k ≡ Some c → ChainFiles w.common c
-
--- Each event keeps it, and so it is true of each world that a run reaches.
-abbrev pub EventKeepsWorldFiles : Type 0
-EventKeepsWorldFiles = (memory : Bool) (budget : ℕ) (chain : List Program) (told : Told) (k : ℕ) (e : Event) (w : World)
-    → IsChain chain → WorldSound chain w → WorldFiles w → WorldFiles (happens memory budget chain told k e w).1
-
-abbrev pub RunKeepsWorldFiles : Type 0
-RunKeepsWorldFiles = (budget : ℕ) (chain : List Program) (es : List (ℕ × Event)) (answers : List Answer) (w : World) → IsChain chain → IsWholeRun budget chain es answers w → WorldFiles w
+WorldFiles = OfConnections ChainFiles
 
 -- Whose files they are.
 
@@ -104,6 +97,3 @@ pub record WorldFilesApart (w : World) : Type 0 where
 abbrev pub EventKeepsFilesApart : Type 0
 EventKeepsFilesApart = (memory : Bool) (budget : ℕ) (chain : List Program) (told : Told) (k : ℕ) (e : Event) (w : World)
     → IsChain chain → WorldFilesApart w → WorldFilesApart (happens memory budget chain told k e w).1
-
-abbrev pub RunKeepsFilesApart : Type 0
-RunKeepsFilesApart = (budget : ℕ) (chain : List Program) (es : List (ℕ × Event)) (answers : List Answer) (w : World) → IsChain chain → IsWholeRun budget chain es answers w → WorldFilesApart w

@@ -1,13 +1,11 @@
 -- Homes of buckets that have not ended are alive in each connection with a chain, in every run.
-use Rattle.std.specs.Prelude.{◌≡◌, ◌⊎◌, ℕ, Bool, true, List, [], ◌∷◌, Some}
-use Rattle.module_code.specs.Program.{Program}
+use Rattle.std.specs.Prelude.{◌≡◌, ◌⊎◌, ℕ, true, List, [], ◌∷◌}
 use Rattle.run_model.specs.declared.bucket.NamedBucket.{NamedBucket}
-use Rattle.run_model.specs.declared.event.Event.{Event}
 use Rattle.run_model.specs.Pools.{is_live}
 use Rattle.model_laws.specs.Laws.{MatchHome}
-use Rattle.run_model.specs.Chains.{Frame, Connection, Common, pools_of, IsChain}
-use Rattle.run_model.specs.Worlds.{World, Told, Answer, happens, IsWholeRun}
-use Rattle.model_laws.specs.ChainSound.{WorldSound}
+use Rattle.run_model.specs.Chains.{Frame, Connection, Common, pools_of}
+use Rattle.run_model.specs.Worlds.{World}
+use Rattle.model_laws.specs.KeptInRuns.{OfConnections}
 use Rattle.model_laws.specs.ChainFiles.{OfEachBucket}
 
 -- the call of this name runs or waits
@@ -24,12 +22,4 @@ abbrev pub ChainHomes : Common → Connection → Type 0
 ChainHomes g c = OfEachBucket (HomeIsAlive g c) c
 
 abbrev pub WorldHomes : World → Type 0
-WorldHomes w = (k : ℕ) (c : Connection) → w.conns k ≡ Some c → ChainHomes w.common c
-
--- Each event keeps it, and so it is true of each world that a run reaches.
-abbrev pub EventKeepsWorldHomes : Type 0
-EventKeepsWorldHomes = (memory : Bool) (budget : ℕ) (chain : List Program) (told : Told) (k : ℕ) (e : Event) (w : World)
-    → IsChain chain → WorldSound chain w → WorldHomes w → WorldHomes (happens memory budget chain told k e w).1
-
-abbrev pub RunKeepsWorldHomes : Type 0
-RunKeepsWorldHomes = (budget : ℕ) (chain : List Program) (es : List (ℕ × Event)) (answers : List Answer) (w : World) → IsChain chain → IsWholeRun budget chain es answers w → WorldHomes w
+WorldHomes = OfConnections ChainHomes

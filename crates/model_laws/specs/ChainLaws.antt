@@ -31,26 +31,27 @@ pub record Rises (g new : Common) : Type 0 where
   pub pools_limit : new.pools < 2 ^ 64
   pub root : new.root ≡ g.root
 
--- The instruction of the call on top keeps what is sound, and names rise.
+-- What the instruction of the call on top leaves of a sound connection.
+abbrev pub TopLeaves : (List Program → Common → Linked → Type 0) → Type 0
+TopLeaves Q =
+    (chain : List Program) (reads : Reads) (g : Common) (c : Connection) (f : Frame)
+    (rest : List Frame) → MayProceed chain g c f rest → ChainSound chain g c → Q chain g (after_top chain reads g c f rest)
+
+-- It keeps what is sound, and names rise.
 abbrev pub TopKeepsNames : Type 0
-TopKeepsNames = (chain : List Program) (reads : Reads) (g : Common) (c : Connection) (f : Frame) (rest : List Frame) → MayProceed chain g c f rest → ChainSound chain g c
-    → ChainNames chain (after_top chain reads g c f rest).0 (after_top chain reads g c f rest).1
+TopKeepsNames = TopLeaves (λ chain g v. ChainNames chain v.0 v.1)
 
 abbrev pub TopKeepsBuckets : Type 0
-TopKeepsBuckets = (chain : List Program) (reads : Reads) (g : Common) (c : Connection) (f : Frame) (rest : List Frame) → MayProceed chain g c f rest → ChainSound chain g c
-    → ChainBuckets (after_top chain reads g c f rest).1
+TopKeepsBuckets = TopLeaves (λ chain g v. ChainBuckets v.1)
 
 abbrev pub TopKeepsPools : Type 0
-TopKeepsPools = (chain : List Program) (reads : Reads) (g : Common) (c : Connection) (f : Frame) (rest : List Frame) → MayProceed chain g c f rest → ChainSound chain g c
-    → ChainPools chain (after_top chain reads g c f rest).0 (after_top chain reads g c f rest).1
+TopKeepsPools = TopLeaves (λ chain g v. ChainPools chain v.0 v.1)
 
 abbrev pub TopKeepsCalls : Type 0
-TopKeepsCalls = (chain : List Program) (reads : Reads) (g : Common) (c : Connection) (f : Frame) (rest : List Frame) → MayProceed chain g c f rest → ChainSound chain g c
-    → ChainCalls chain (after_top chain reads g c f rest).0 (after_top chain reads g c f rest).1
+TopKeepsCalls = TopLeaves (λ chain g v. ChainCalls chain v.0 v.1)
 
 abbrev pub TopRaisesNames : Type 0
-TopRaisesNames = (chain : List Program) (reads : Reads) (g : Common) (c : Connection) (f : Frame) (rest : List Frame) → MayProceed chain g c f rest → ChainSound chain g c
-    → Rises g (after_top chain reads g c f rest).0
+TopRaisesNames = TopLeaves (λ chain g v. Rises g v.0)
 
 -- names that others take change nothing
 abbrev pub RisingKeepsSound : Type 0

@@ -8,6 +8,7 @@ use Rattle.run_model.specs.Chains.{Connection, Common, pools_of, files_of, IsCha
 use Rattle.run_model.specs.Turns.{Found}
 use Rattle.run_model.specs.Worlds.{World, Told, Answer, new_world, happens, IsRun, IsWholeRun}
 use Rattle.model_laws.specs.ChainSound.{WorldSound}
+use Rattle.model_laws.specs.KeptInRuns.{OfConnections}
 use Rattle.model_laws.specs.ChainFiles.{OfEachBucket, WorldFiles}
 
 -- Numbers and bytes.
@@ -75,12 +76,9 @@ pub record ChainRanges (g : Common) (c : Connection) : Type 0 where
   pub given : (p file : ℕ) → refers (pools_of g c) p file ≡ true → file < g.file
 
 abbrev pub WorldRanges : World → Type 0
-WorldRanges w = (k : ℕ) (c : Connection) → w.conns k ≡ Some c → ChainRanges w.common c
+WorldRanges = OfConnections ChainRanges
 
 -- Each event keeps it, and so it is true of each world that a run reaches.
 abbrev pub EventKeepsWorldRanges : Type 0
 EventKeepsWorldRanges = (memory : Bool) (budget : ℕ) (chain : List Program) (told : Told) (k : ℕ) (e : Event) (w : World)
     → IsChain chain → WorldSound chain w → WorldFiles w → WorldRanges w → WorldRanges (happens memory budget chain told k e w).1
-
-abbrev pub RunKeepsWorldRanges : Type 0
-RunKeepsWorldRanges = (budget : ℕ) (chain : List Program) (es : List (ℕ × Event)) (answers : List Answer) (w : World) → IsChain chain → IsWholeRun budget chain es answers w → WorldRanges w

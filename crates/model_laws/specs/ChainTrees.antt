@@ -8,7 +8,7 @@ use Rattle.run_model.specs.declared.payload.Payload.{Payload}
 use Rattle.run_model.specs.Pools.{Pools, is_in, planted}
 use Rattle.run_model.specs.RunOrder.{is_child, IsPoolMap}
 use Rattle.run_model.specs.Chains.{Connection, IsChain}
-use Rattle.run_model.specs.Worlds.{World, Told, Answer, happens, tree_below, tree_of, with_part, IsWholeRun}
+use Rattle.run_model.specs.Worlds.{World, Told, happens, tree_below, tree_of, with_part}
 use Rattle.model_laws.specs.ChainSound.{WorldSound}
 use Rattle.model_laws.specs.ChainNumbers.{WorldNumbers}
 use Rattle.model_laws.specs.JoinedParts.{ArePoolsOf}
@@ -31,9 +31,6 @@ pub record WorldPoolsApart (w : World) : Type 0 where
 abbrev pub EventKeepsPoolsApart : Type 0
 EventKeepsPoolsApart = (memory : Bool) (budget : ℕ) (chain : List Program) (told : Told) (k : ℕ) (e : Event) (w : World)
     → IsChain chain → WorldSound chain w → WorldNumbers w → WorldPoolsApart w → WorldPoolsApart (happens memory budget chain told k e w).1
-
-abbrev pub RunKeepsPoolsApart : Type 0
-RunKeepsPoolsApart = (budget : ℕ) (chain : List Program) (es : List (ℕ × Event)) (answers : List Answer) (w : World) → IsChain chain → IsWholeRun budget chain es answers w → WorldPoolsApart w
 
 -- A connection's part, with the next name of these pools.
 abbrev pub joining : Connection → Pools Payload → Pools Payload

@@ -14,7 +14,9 @@ use Rattle.model_laws.specs.BrigadeLaws.{SplitBytes}
 use Rattle.run_model.specs.State.{Configuration}
 use Rattle.run_model.specs.Cursors.{Place, Nowhere, AtLoose, Within, AtEndOf, spot, spot_of}
 use Rattle.run_model.specs.BucketSteps.{items_at, place_at}
-use Rattle.run_model.specs.EffectOf.{MadeFrom, EMake, effect_of}
+use Rattle.run_model.specs.declared.effect.Effect.TheVariants as effect
+use Rattle.run_model.specs.declared.effect.MadeFrom.{MadeFrom}
+use Rattle.run_model.specs.EffectOf.{effect_of}
 use Rattle.run_model.specs.Steps.{Choice, Outcome, step, made_of, value_of}
 use Rattle.run_model.specs.Sound.{SoundNames, brigade_name, count_named, count}
 use Rattle.model_laws.specs.Laws.{MayExecute}
@@ -87,7 +89,7 @@ pub record MakesLoose (c : ℕ) (b : Bucket) (r new : Configuration) : Type 0 wh
 -- `made_of` says, and BucketExamples shows of each.
 abbrev pub MadeAreNew : Type 0
 MadeAreNew = (p : Program) (choice : Choice) (i : Instr) (c : ℕ) (source : MadeFrom) (b : Bucket) (r : Configuration) → SoundNames r
-    → effect_of i ≡ EMake c source → made_of p r source ≡ Some b → MakesLoose c b r (step p choice i r).state
+    → effect_of i ≡ effect.Make c source → made_of p r source ≡ Some b → MakesLoose c b r (step p choice i r).state
 
 -- A split at n of the bucket x in the brigade of b (apr_bucket_split): its first n bytes keep its name and place, and the
 -- others follow under a name that no bucket had, so that the bytes of the brigade are the same, in order. It goes on.

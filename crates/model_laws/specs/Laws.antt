@@ -16,7 +16,10 @@ use Rattle.run_model.specs.Cutting.{FitsKind, wanted, read_of}
 use Rattle.run_model.specs.State.{Configuration, items_of}
 use Rattle.run_model.specs.Cursors.{Place, Nowhere, AtLoose, Within, AtEndOf, spot, read_cursor}
 use Rattle.run_model.specs.Faults.{fault, send_fault, or_else}
-use Rattle.run_model.specs.EffectOf.{Effect, EMakePool, EClearPool, EDestroyPool, ERegister, EKill, EMakeBrigade, EClean, EConcat, ESplitBrigade, EPartBrigade, ESave, EPass, EFirst, ENext, EUnlink, EDelete, EInsert, EBefore, EMake, ESplit, EAside, ERead, ENumber, EPut, EClearBuffer, EReturn, effect_of}
+use Rattle.run_model.specs.declared.effect.Effect.{Effect}
+use Rattle.run_model.specs.declared.effect.Effect.TheVariants as effect
+use Rattle.run_model.specs.EffectOf.{effect_of}
+use Rattle.run_model.specs.Changes.{extent, has_pools, has_all_under}
 use Rattle.run_model.specs.Steps.{Choice, step, aside_named, lacks_names, names_for, pool_cleared, pool_destroyed}
 use Rattle.run_model.specs.Pieces.{bucket_of, named_from, data_behind_eos, has_range}
 use Rattle.run_model.specs.Sound.{NamesStep, SoundNames, SoundBuckets, SoundPools, Sound, brigade_pool}
@@ -76,90 +79,82 @@ is_loose (AtEndOf b) = false
 
 -- the brigade variables that an effect may change
 abbrev pub may_change : Configuration → Effect → ℕ → Bool
-may_change r (EClearPool q) k = true
-may_change r (EDestroyPool q) k = true
-may_change r (EMakeBrigade o) k = k == o
-may_change r (EClean b) k = k == b
-may_change r (EConcat a b) k = k == a || k == b
-may_change r (ESplitBrigade b c a) k = k == b || k == a
-may_change r (EPartBrigade b x c) k = k == b
-may_change r (ESave o b) k = k == o || k == b
-may_change r (EPass b) k = k == b
-may_change r (EUnlink c) k = is_within (spot r c) k
-may_change r (EDelete c) k = is_within (spot r c) k
-may_change r (EInsert side b c) k = k == b
-may_change r (EBefore c d) k = is_within (spot r d) k
-may_change r (ESplit c x) k = is_within (spot r c) k
-may_change r (EAside c q) k = is_within (spot r c) k
-may_change r (ERead c) k = is_within (spot r c) k
-may_change r EReturn k = true
+may_change r (effect.ClearPool q) k = true
+may_change r (effect.DestroyPool q) k = true
+may_change r (effect.MakeBrigade o) k = k == o
+may_change r (effect.Clean b) k = k == b
+may_change r (effect.Concat a b) k = k == a || k == b
+may_change r (effect.SplitBrigade b c a) k = k == b || k == a
+may_change r (effect.PartBrigade b x c) k = k == b
+may_change r (effect.Save o b) k = k == o || k == b
+may_change r (effect.Pass b) k = k == b
+may_change r (effect.Unlink c) k = is_within (spot r c) k
+may_change r (effect.Delete c) k = is_within (spot r c) k
+may_change r (effect.Insert side b c) k = k == b
+may_change r (effect.Before c d) k = is_within (spot r d) k
+may_change r (effect.Split c x) k = is_within (spot r c) k
+may_change r (effect.Aside c q) k = is_within (spot r c) k
+may_change r (effect.Read c) k = is_within (spot r c) k
+may_change r effect.Return k = true
 may_change r e k = false
 
 -- the pool variables that it may change
 abbrev pub may_change_pool : Effect → ℕ → Bool
-may_change_pool (EMakePool q) k = k == q
+may_change_pool (effect.MakePool q) k = k == q
 may_change_pool e k = false
 
 -- the number variables that it may change
 abbrev pub may_change_number : Effect → ℕ → Bool
-may_change_number (ENumber n number) k = k == n
+may_change_number (effect.Number n number) k = k == n
 may_change_number e k = false
 
 -- the cursors that it may change
 abbrev pub may_change_cursor : Effect → ℕ → Bool
-may_change_cursor (EPartBrigade b x c) k = k == c
-may_change_cursor (EFirst c b) k = k == c
-may_change_cursor (ENext d c) k = k == d
-may_change_cursor (EMake c source) k = k == c
-may_change_cursor (ERead c) k = k == read_cursor
-may_change_cursor EReturn k = true
+may_change_cursor (effect.PartBrigade b x c) k = k == c
+may_change_cursor (effect.First c b) k = k == c
+may_change_cursor (effect.Next d c) k = k == d
+may_change_cursor (effect.Make c source) k = k == c
+may_change_cursor (effect.Read c) k = k == read_cursor
+may_change_cursor effect.Return k = true
 may_change_cursor e k = false
 
 -- whether it may change which buckets are loose, or one of them
 abbrev pub may_change_loose : Configuration → Effect → Bool
-may_change_loose r (EClearPool q) = true
-may_change_loose r (EDestroyPool q) = true
-may_change_loose r (EUnlink c) = true
-may_change_loose r (EDelete c) = is_loose (spot r c)
-may_change_loose r (EInsert side b c) = true
-may_change_loose r (EBefore c d) = true
-may_change_loose r (EMake c source) = true
-may_change_loose r (EAside c q) = is_loose (spot r c)
-may_change_loose r EReturn = true
+may_change_loose r (effect.ClearPool q) = true
+may_change_loose r (effect.DestroyPool q) = true
+may_change_loose r (effect.Unlink c) = true
+may_change_loose r (effect.Delete c) = is_loose (spot r c)
+may_change_loose r (effect.Insert side b c) = true
+may_change_loose r (effect.Before c d) = true
+may_change_loose r (effect.Make c source) = true
+may_change_loose r (effect.Aside c q) = is_loose (spot r c)
+may_change_loose r effect.Return = true
 may_change_loose r e = false
 
 -- whether it may change the call's buffer
 abbrev pub may_change_buffer : Effect → Bool
-may_change_buffer (EPut x) = true
-may_change_buffer EClearBuffer = true
-may_change_buffer EReturn = true
+may_change_buffer (effect.Put x) = true
+may_change_buffer effect.ClearBuffer = true
+may_change_buffer effect.Return = true
 may_change_buffer e = false
 
 -- whether it may change whether an EOS was passed
 abbrev pub may_change_sent : Effect → Bool
-may_change_sent (EPass b) = true
+may_change_sent (effect.Pass b) = true
 may_change_sent e = false
 
 -- whether it may change the call's name
 abbrev pub may_change_call_name : Effect → Bool
-may_change_call_name EReturn = true
+may_change_call_name effect.Return = true
 may_change_call_name e = false
 
 -- whether labels may be run by it, and files closed
 abbrev pub may_change_labels : Effect → Bool
-may_change_labels (EClearPool q) = true
-may_change_labels (EDestroyPool q) = true
-may_change_labels e = false
+may_change_labels e = has_all_under (extent e)
 
 -- whether it may change the pool map
 abbrev pub may_change_tree : Effect → Bool
-may_change_tree (EMakePool q) = true
-may_change_tree (ERegister q t) = true
-may_change_tree (EKill q t) = true
-may_change_tree (EMakeBrigade o) = true
-may_change_tree (ESave o b) = true
-may_change_tree (EAside c q) = true
-may_change_tree e = may_change_labels e
+may_change_tree e = has_pools (extent e)
 
 abbrev pub is_return : Instr → Bool
 is_return i = may_change_call_name (effect_of i)

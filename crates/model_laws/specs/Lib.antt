@@ -14,6 +14,7 @@ pub mod CursorLaws
 pub mod RefusalOrder
 pub mod Bringing
 pub mod ChainSound
+pub mod KeptInRuns
 pub mod ChainLaws
 pub mod ChainCursors
 pub mod CallLaws

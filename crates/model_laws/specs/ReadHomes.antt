@@ -11,6 +11,7 @@ use Rattle.run_model.specs.Cursors.{spot, bucket_at, read_cursor}
 use Rattle.run_model.specs.Faults.{WHome, fault_want}
 use Rattle.run_model.specs.Worlds.{World, Answer, IsWholeRun}
 use Rattle.model_laws.specs.ChainHomes.{IsCalled}
+use Rattle.model_laws.specs.KeptInRuns.{OfConnections, RunKeeps}
 
 -- no pool, and no call that returned: none, or one of these calls
 abbrev pub IsNoPool : (ℕ → Type 0) → Home → Type 0
@@ -27,8 +28,7 @@ ReadsLast g c = (above below : List Frame) (f : Frame) (x : NamedBucket) → c.s
 
 -- It is so in each world that a run reaches.
 abbrev pub RunKeepsReads : Type 0
-RunKeepsReads = (budget : ℕ) (chain : List Program) (es : List (ℕ × Event)) (answers : List Answer) (w : World) → IsChain chain → IsWholeRun budget chain es answers w
-    → (k : ℕ) (c : Connection) → w.conns k ≡ Some c → ReadsLast w.common c
+RunKeepsReads = RunKeeps (OfConnections ReadsLast)
 
 -- There the test of the home of what was read (F5) would find nothing, in no call.
 abbrev pub ReadsPassTheTest : Type 0

@@ -5,33 +5,34 @@ ghost use Rattle.model_laws.specs.ChainExamples.{ChainRuns};
 ghost use Rattle.model_laws.specs.Laws.{CreatesKeepOthers, KillsTheNewest, KillsOneLabel, EachStandsOnce, DepthDoesNotMatter, StepGivesNames, NamesStaySingle, StepKeepsNames, StepKeepsBuckets, StepKeepsPools, StepChangesOnly, BucketsAsPieces, FaultOfCuts, ClearsKeepOthers, ClearsTakeAlong, AsideLasts, ReadsDropNothing, FilesCloseLast, StepKeepsFiles};
 ghost use Rattle.model_laws.specs.AsDeclared.{StepKeepsDeclared};
 ghost use Rattle.model_laws.specs.Registered.{StepKeepsRegistered};
-ghost use Rattle.model_laws.specs.ChainRegistered.{EventKeepsWorldRegistered, RunKeepsWorldRegistered};
+ghost use Rattle.model_laws.specs.KeptInRuns.{KeptInRuns, RunKeeps};
+ghost use Rattle.model_laws.specs.ChainRegistered.{WorldRegistered};
 ghost use Rattle.model_laws.specs.HomesAlive.{StepKeepsHomes};
 ghost use Rattle.model_laws.specs.BucketReads.{ReadKeepsBytes, StepReadGivesTheFile};
 ghost use Rattle.model_laws.specs.ChainBodies.{OutputOfCuts, ReadsGiveTheFile, TopReadGivesTheFile};
 ghost use Rattle.model_laws.specs.Handlers.{CallsBegin, StepStaysInHandler, RunPlacesCalls};
 ghost use Rattle.model_laws.specs.Bringing.{LateDataIsRefused, BroughtEndsOnce};
-ghost use Rattle.model_laws.specs.CallLaws.{EventKeepsCalls, RunKeepsCalls};
+ghost use Rattle.model_laws.specs.CallLaws.{WorldCalls};
 ghost use Rattle.model_laws.specs.StepRuns.{StepsGoOn, StepsAreARun, EndedStepsAreARun};
-ghost use Rattle.model_laws.specs.ChainCursors.{EventKeepsWorldCursors, RunKeepsWorldCursors, SoundWorldStandsOnce, WorldRunStandsOnce};
+ghost use Rattle.model_laws.specs.ChainCursors.{WorldCursors, SoundWorldStandsOnce, WorldRunStandsOnce};
 ghost use Rattle.model_laws.specs.RefusalOrder.{RefusedChangesNothing, RefusedStepBreaks, FaultBreaks, BrokenStaysBroken, FirstIsTold, NoConnectionIsTold, StepsTell, BusyDoesNotEnd, OnlyMemoryRefusesClose};
 ghost use Rattle.model_laws.specs.Marks.{PassesMark, PassedIsNotUsed, UseAfterPassFaults, StepKeepsPassed, ReturnEndsIn, EventKeepsPassed, CleanedIsUsable};
 ghost use Rattle.model_laws.specs.BucketExamples.{CursorRows, MovingRows, MakerRows, CutRows, BrigadeCutRows, CursorFaults, FirstFaults, CursorRuns};
 ghost use Rattle.model_laws.specs.Ranges.{StepKeepsInRange, StepKeepsBuffer, StepKeepsRanges};
-ghost use Rattle.model_laws.specs.ChainRanges.{EventKeepsBuffers, RunKeepsBuffers, EventKeepsWorldInRange, RunsOfBytesAreRuns, RunIsInRangeWorld, EventKeepsWorldRanges, RunKeepsWorldRanges};
+ghost use Rattle.model_laws.specs.ChainRanges.{EventKeepsBuffers, RunKeepsBuffers, EventKeepsWorldInRange, RunsOfBytesAreRuns, RunIsInRangeWorld, EventKeepsWorldRanges, WorldRanges};
 ghost use Rattle.model_laws.specs.RangesEnd.{StepKeepsEnds};
 ghost use Rattle.model_laws.specs.BrigadeLaws.{BrigadeSplitsInOrder, MovesKeepNames, BucketSplitsInOrder, SplitKeepsBytes, PartsAtPoint, ShortIsIncomplete, PartitionKeepsBytes, UnsplitIsUnchanged, MetadataIsNotSplit, PlaceIsBehindFront, PartitionRows, BrigadeSplitRows, BucketSplitRows, MoveRows};
 ghost use Rattle.model_laws.specs.ChainLaws.{TopKeepsNames, TopKeepsBuckets, TopKeepsPools, TopKeepsCalls, TopRaisesNames, RisingKeepsSound, EventKeepsWorld, RunKeepsWorld, OthersStay, OpeningStays};
-ghost use Rattle.model_laws.specs.ChainFiles.{ConnectionStepKeepsEnds, BringKeepsEnds, EventKeepsBucketsEnd, EventKeepsWorldEnds, RunEndsWorld, EventKeepsWorldFiles, RunKeepsWorldFiles, EventKeepsFilesApart, RunKeepsFilesApart};
-ghost use Rattle.model_laws.specs.ChainHomes.{EventKeepsWorldHomes, RunKeepsWorldHomes};
+ghost use Rattle.model_laws.specs.ChainFiles.{ConnectionStepKeepsEnds, BringKeepsEnds, EventKeepsBucketsEnd, EventKeepsWorldEnds, RunEndsWorld, WorldFiles, EventKeepsFilesApart, WorldFilesApart};
+ghost use Rattle.model_laws.specs.ChainHomes.{WorldHomes};
 ghost use Rattle.model_laws.specs.ChainOrder.{EventKeepsWorldOrder, RunKeepsWorldOrder};
-ghost use Rattle.model_laws.specs.ChainPaths.{EventKeepsWorldPaths, RunKeepsWorldPaths};
+ghost use Rattle.model_laws.specs.ChainPaths.{WorldPaths};
 ghost use Rattle.model_laws.specs.OpenRuns.{OpenRunsStaySound, PassedMayBeBrought};
 ghost use Rattle.model_laws.specs.ReadHomes.{RunKeepsReads, ReadsPassTheTest};
 ghost use Rattle.model_laws.specs.ChainNumbers.{EventKeepsNumbers, RunKeepsNumbers};
 ghost use Rattle.model_laws.specs.Reached.{NewIsReached, EventReaches, WorldRunGoesOn, ReachedHolds};
 ghost use Rattle.model_laws.specs.ChainClears.{MadePoolsAreOwn, OthersKeepBrigades};
-ghost use Rattle.model_laws.specs.ChainTrees.{EventKeepsPoolsApart, RunKeepsPoolsApart, JoinedIsPoolMap, ReachedPartsJoin, ReachedTreeIsOfAll};
+ghost use Rattle.model_laws.specs.ChainTrees.{EventKeepsPoolsApart, WorldPoolsApart, JoinedIsPoolMap, ReachedPartsJoin, ReachedTreeIsOfAll};
 ghost use Rattle.model_laws.specs.CursorLaws.{StepKeepsCursors, CursorsStandOnce, MadeAreNew, SplitsInOrder, RefusedSplitJumps, BrigadesSplitInOrder, PartitionsInOrder, PastEndJumps};
 ghost use Rattle.model_laws.specs.Parts.{PartIsPoolMap, OwnPartChanges, OtherPartsStay, ChangesSpareTheRoot, NewPartIsPlanted, NewPartSparesOthers, PartReadsAlike};
 ghost use Rattle.model_laws.specs.PartSteps.{StepsStayInPart, TopStaysInPart, FaultsAlike, NamesAlike, StepsSpareOthers};
@@ -190,7 +191,7 @@ pub fn numbers_stay_in_range()
 pub fn ranges_lie_in_their_files()
     ensures step { StepKeepsRanges }
     ensures event { EventKeepsWorldRanges }
-    ensures run { RunKeepsWorldRanges }
+    ensures run { RunKeeps WorldRanges }
 {}
 
 /// In each run of a chain whose opened files have fewer than 2^64 bytes each range of a bucket ends below 2^64: in the brigades of every
@@ -216,8 +217,7 @@ pub fn variables_stand_as_declared()
 /// other brigade stands with a pool. A step keeps it, whatever brigades other instances have, and so does each event.
 pub fn brigades_are_registered()
     ensures step { StepKeepsRegistered }
-    ensures event { EventKeepsWorldRegistered }
-    ensures run { RunKeepsWorldRegistered }
+    ensures chains { KeptInRuns WorldRegistered }
 {}
 
 /// A step of a call keeps each home that has not ended alive: it is the call that runs, which has a name, or a live pool.
@@ -312,36 +312,32 @@ pub fn worlds_are_sound()
 /// bucket whose home has not ended is open, and that home holds a reference to it: in the brigades of every instance, and loose in
 /// every call. Each event keeps it.
 pub fn files_of_chains_stay_open()
-    ensures event { EventKeepsWorldFiles }
-    ensures run { RunKeepsWorldFiles }
+    ensures { KeptInRuns WorldFiles }
 {}
 
 /// In each run of a chain a file that is open is open on one connection, under a number that was given out. Each event keeps it.
 pub fn files_of_chains_are_apart()
     ensures event { EventKeepsFilesApart }
-    ensures run { RunKeepsFilesApart }
+    ensures run { RunKeeps WorldFilesApart }
 {}
 
 /// In each run of a chain each live pool of a connection's part lies under the connection's pool, but for the root, and so does each
 /// live pool that a variable names. Each event keeps it.
 pub fn pools_of_chains_stay_in_their_connection()
-    ensures event { EventKeepsWorldPaths }
-    ensures run { RunKeepsWorldPaths }
+    ensures { KeptInRuns WorldPaths }
 {}
 
 /// In each run of a chain the home of a bucket that has not ended is a call that runs or waits, or a live pool: in the brigades of every
 /// instance, and loose in every call. Each event keeps it.
 pub fn homes_of_chains_are_alive_or_ended()
-    ensures event { EventKeepsWorldHomes }
-    ensures run { RunKeepsWorldHomes }
+    ensures { KeptInRuns WorldHomes }
 {}
 
 /// In each world that is sound, and so in each run of a chain, what a cursor of a call names is in one place of what that call sees,
 /// whether it runs or waits: a bucket is in exactly one list, once, in one brigade or loose, and nowhere only where no list has it; so
 /// is the brigade at whose end a cursor is. The same is true of what an instance has where no call is. In each run a cursor that is set holds a name that was given out. Each event keeps it.
 pub fn cursors_of_chains_stand_once()
-    ensures event { EventKeepsWorldCursors }
-    ensures given { RunKeepsWorldCursors }
+    ensures given { KeptInRuns WorldCursors }
     ensures sound { SoundWorldStandsOnce }
     ensures run { WorldRunStandsOnce }
 {}
@@ -349,8 +345,7 @@ pub fn cursors_of_chains_stand_once()
 /// In each run of a chain the buffer of each call, whether it runs or waits, holds at most 8000 bytes, each of them at most 255, and its
 /// cursors hold names that were given out, whatever is brought and read. Each event keeps it.
 pub fn calls_of_chains_stay_sound()
-    ensures event { EventKeepsCalls }
-    ensures run { RunKeepsCalls }
+    ensures { KeptInRuns WorldCalls }
 {}
 
 /// An event of one connection leaves every other exactly as it was; an opening leaves all, but that of the number which it gives out.
@@ -396,7 +391,7 @@ pub fn modules_clear_what_is_theirs()
 /// the root is a connection's.
 pub fn pools_of_connections_are_their_own()
     ensures event { EventKeepsPoolsApart }
-    ensures run { RunKeepsPoolsApart }
+    ensures run { RunKeeps WorldPoolsApart }
     ensures formed { JoinedIsPoolMap }
     ensures joins { ReachedPartsJoin }
     ensures tree { ReachedTreeIsOfAll }

@@ -62,5 +62,7 @@ pub mod NeighboursLeft
 pub mod CallsLeave
 pub mod ConnRuns
 pub mod Leaving
+pub mod Alone
+pub mod InStore
 pub mod QuietGoes
 pub mod OnlyAsked

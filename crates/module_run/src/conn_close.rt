@@ -25,7 +25,7 @@ ghost use Rattle.module_run.specs.Proceeding.{LeftAs, StandsFor};
 ghost use Rattle.module_run.specs.Stacked.{named_at};
 
 use crate::conn::{Conn, Filter};
-use brigade_ops::{BrigadeId, Brigades, Files, PoolTree, Rings, Stored};
+use brigade_ops::{BrigadeId, Brigades, ClearKind, Files, PoolTree, Rings, Stored};
 use ring_calls::machine::Slot;
 use ring_run::labels::add_labels;
 use run_model::Payload;
@@ -104,7 +104,7 @@ impl Conn {
         ensures unread { OnErr result (F.device files.new ≡ F.device files.old) }
     {
         self.labels.reserve(1)?;
-        let ran = store.destroy(&[], tree, files, self.conn)?;
+        let ran = store.clear(ClearKind::Destroy, &[], tree, files, self.conn)?;
         add_labels(&mut self.labels, ran);
         self.end_calls(store);
         if let Some(name) = self.filters[self.first].incoming() {

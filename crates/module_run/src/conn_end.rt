@@ -23,7 +23,7 @@ ghost use Rattle.module_run.specs.Proceeding.{StandsFor};
 ghost use Rattle.module_run.specs.Refused.{request_tests};
 
 use crate::conn::{Conn, Filter};
-use brigade_ops::{Brigades, Files, PoolId, PoolTree, Rings, Stored};
+use brigade_ops::{Brigades, ClearKind, Files, PoolId, PoolTree, Rings, Stored};
 use ring_run::labels::add_labels;
 use run_model::{Payload, Refusal};
 use std::alloc::AllocError;
@@ -83,7 +83,7 @@ impl Conn {
     {
         let rings = self.rings()?;
         self.labels.reserve(1)?;
-        let ran = store.destroy(rings.as_slice(), tree, files, pool)?;
+        let ran = store.clear(ClearKind::Destroy, rings.as_slice(), tree, files, pool)?;
         add_labels(&mut self.labels, ran);
         Ok(())
     }

@@ -6,4 +6,5 @@ pub mod Printed
 pub mod Left
 pub mod Room
 pub mod Tree
+pub mod Clears
 pub mod Names

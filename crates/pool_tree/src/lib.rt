@@ -13,4 +13,4 @@ mod tree;
 pub use byte_text::WriteFault;
 pub use refusal::PoolError;
 pub use text::PoolText;
-pub use tree::{PoolId, PoolTree, Room};
+pub use tree::{ClearKind, PoolId, PoolTree, Room};

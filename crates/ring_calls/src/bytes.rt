@@ -3,7 +3,7 @@
 ghost use Rattle.std.specs.Prelude.{◌≡◌, ◌<◌, ◌||◌, ℕ, Option, nat_lt, nat_le, true, IsOk, OnOk, OnErr};
 ghost use Rattle.bucket_ring.specs.declared.names.BucketId.{BucketId};
 ghost use Rattle.run_model.specs.BucketSteps.{byte_of, content_at, got};
-ghost use Rattle.run_model.specs.EffectOf.{LengthAt};
+ghost use Rattle.run_model.specs.declared.effect.NewNumber.TheVariants.{LengthAt};
 ghost use Rattle.run_model.specs.Cursors.{spot, read_cursor};
 ghost use Rattle.run_model.specs.Cutting.{length_of};
 ghost use Rattle.run_model.specs.Faults.{OnBucket};

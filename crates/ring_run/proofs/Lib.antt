@@ -2,7 +2,7 @@ pub mod Joins
 pub mod Moves
 pub mod Steps
 pub mod Makes
-pub mod Making
+pub mod Needed
 pub mod Splits
 pub mod Cuts
 pub mod Parts
@@ -17,3 +17,4 @@ pub mod Carried
 pub mod CarriedOut
 pub mod LabelsKept
 pub mod Instructions
+pub mod InStore

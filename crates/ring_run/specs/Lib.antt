@@ -1,6 +1,8 @@
 pub mod Cleared
 pub mod Apart
+pub mod InStore
 pub mod Making
+pub mod Needs
 pub mod Operands
 pub mod CarriedOut
 pub mod LabelsKept

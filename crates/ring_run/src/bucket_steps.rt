@@ -1,11 +1,15 @@
 //! What instructions do to buckets: they are taken out, put in and destroyed (apr_buckets.h).
 
-ghost use Rattle.std.specs.Prelude.{◌≡◌, ◌<◌, is_some, true};
+ghost use Rattle.std.specs.Prelude.{◌≡◌, ◌<◌, ℕ, Some, is_some, true};
+ghost use Rattle.bucket_ring.specs.Kept.{NoneRevived};
+ghost use Rattle.bucket_ring.specs.Lists.{found, list_at, on, without};
 ghost use Rattle.run_model.specs.BucketSteps.{do_before, do_delete, do_unlink, put_into};
-ghost use Rattle.run_model.specs.BrigadeLists.{put_head, put_tail};
 ghost use Rattle.run_model.specs.Cursors.{spot};
 ghost use Rattle.run_model.specs.Faults.{InBrigade, OnBucket, OnLoose};
-ghost use Rattle.brigade_ops.specs.Store.{lists};
+ghost use Rattle.run_model.specs.Steps.{put_at};
+ghost use Rattle.run_model.specs.declared.bucket.Bucket.{Bucket};
+ghost use Rattle.brigade_ops.specs.Store.{lists, brigade_of, pool_of, references, next_name};
+ghost use Rattle.ring_run.specs.Making.{put_item};
 ghost use Rattle.ring_calls.specs.Around.{Around};
 ghost use Rattle.ring_calls.specs.Held.{IsHeld};
 ghost use Rattle.ring_calls.specs.LeftAlone.{LeavesOthers};
@@ -13,8 +17,9 @@ ghost use Rattle.ring_calls.specs.Needs.{StandsAs};
 ghost use Rattle.ring_calls.specs.Seen.{seen};
 ghost use Rattle.ring_calls.specs.Slots.{live_in, slot_at};
 
-use brigade_ops::{Brigades, Rings, Stored};
+use brigade_ops::{BrigadeId, Brigades, BucketId, Rings, Stored};
 use ring_calls::machine::{Call, Instance};
+use run_model::Side;
 
 /// Takes the bucket of a cursor out of its brigade; it is loose then. It takes no memory.
 pub(crate) fn unlink<R: Rings<Stored> + Drop>(
@@ -51,31 +56,30 @@ pub(crate) fn delete<R: Rings<Stored> + Drop>(
     store.drop_bucket(call.bucket(c));
 }
 
-/// Puts the loose bucket of a cursor at the tail of a brigade. It takes no memory.
-pub(crate) fn tail<R: Rings<Stored> + Drop>(
-    instance: &Instance,
-    call: &Call,
-    store: &mut Brigades<R>,
-    b: u8,
-    c: u8,
-)
-    requires slot { b < 9 }
-    requires cursor { c < 9 }
-    requires held { IsHeld store.old instance.now call.now }
-    requires live { is_some (live_in (lists store.old) (slot_at instance.now b)) ≡ true }
-    requires stands { StandsAs store.old instance.now call.now c OnLoose }
-    ensures new { (around : Around) → let r = seen store.old around instance.now call.now in seen store.new around instance.now call.now ≡ put_into put_tail b (spot r c) r }
-    ensures held { IsHeld store.new instance.now call.now }
-    ensures left { LeavesOthers store.old store.new instance.now call.now }
+/// Moves a bucket to the tail or the head of a brigade.
+fn move_to<R: Rings<Stored> + Drop>(store: &mut Brigades<R>, side: Side, b: BrigadeId, id: BucketId)
+    requires brigade { is_some (lists store.old b) ≡ true }
+    requires bucket { is_some (brigade_of store.old id) ≡ true }
+    ensures out { (q n : ℕ) (x : Bucket) → brigade_of store.old id ≡ Some q → found id (list_at (lists store.old) q) ≡ Some x
+        → lists store.new n ≡ on b (put_item side (id, x)) (on q (without id) (lists store.old)) n }
+    ensures next { next_name store.new ≡ next_name store.old }
+    ensures names { NoneRevived (brigade_of store.old) (brigade_of store.new) (next_name store.old) }
+    ensures pools { pool_of store.new ≡ pool_of store.old }
+    ensures references { references store.new ≡ references store.old }
+    ensures unasked { store.new.asked ≡ store.old.asked }
 {
-    store.move_tail(instance.brigade(b), call.bucket(c));
+    match side {
+        Side::AtTail => store.move_tail(b, id),
+        Side::AtHead => store.move_head(b, id),
+    }
 }
 
-/// Puts the loose bucket of a cursor at the head of a brigade. It takes no memory.
-pub(crate) fn head<R: Rings<Stored> + Drop>(
+/// Puts the loose bucket of a cursor at the tail or the head of a brigade. It takes no memory.
+pub(crate) fn insert<R: Rings<Stored> + Drop>(
     instance: &Instance,
     call: &Call,
     store: &mut Brigades<R>,
+    side: Side,
     b: u8,
     c: u8,
 )
@@ -84,11 +88,11 @@ pub(crate) fn head<R: Rings<Stored> + Drop>(
     requires held { IsHeld store.old instance.now call.now }
     requires live { is_some (live_in (lists store.old) (slot_at instance.now b)) ≡ true }
     requires stands { StandsAs store.old instance.now call.now c OnLoose }
-    ensures new { (around : Around) → let r = seen store.old around instance.now call.now in seen store.new around instance.now call.now ≡ put_into put_head b (spot r c) r }
+    ensures new { (around : Around) → let r = seen store.old around instance.now call.now in seen store.new around instance.now call.now ≡ put_into (put_at side) b (spot r c) r }
     ensures held { IsHeld store.new instance.now call.now }
     ensures left { LeavesOthers store.old store.new instance.now call.now }
 {
-    store.move_head(instance.brigade(b), call.bucket(c));
+    move_to(store, side, instance.brigade(b), call.bucket(c));
 }
 
 /// Puts the loose bucket of a cursor before that of another, which is in a brigade. It takes no memory.

@@ -1,110 +1,92 @@
-//! Pools are cleared and destroyed.
+//! Pools are cleared and destroyed (apr_pool_clear, apr_pool_destroy).
 
-ghost use Rattle.std.specs.Prelude.{◌≡◌, ◌≢◌, ◌∷◌, ◌&&◌, not, if◌then◌else◌, [], ℕ, IsTrue, IfOk, OnOk, OnErr};
-ghost use Rattle.std.specs.List.{list_any};
-ghost use Rattle.bucket_kinds.specs.Device.{Missing};
+ghost use Rattle.std.specs.Prelude.{◌≡◌, ◌≢◌, ◌∷◌, [], ℕ, Some, IsTrue, OnOk, OnErr};
+ghost use Rattle.module_code.specs.Program.{Program};
 ghost use Rattle.bucket_ring.specs.Kept.{NoneRevived};
-ghost use Rattle.run_model.specs.Files.{is_referred};
-ghost use Rattle.run_model.specs.Payloads.{is_file_ref};
-ghost use Rattle.brigade_ops.specs.Files.{SameButOpen};
-ghost use Rattle.run_model.specs.Pools.{cleared, destroyed, is_in, is_live, is_under};
-ghost use Rattle.run_model.specs.RunOrder.{run_order, IsPoolMap};
-ghost use Rattle.run_model.specs.Steps.{pool_cleared, pool_destroyed};
+ghost use Rattle.run_model.specs.Pools.{is_live, is_under};
 ghost use Rattle.pool_tree.specs.Tree.{map_of};
-ghost use Rattle.brigade_ops.specs.House.{IsHouse, AreOpen, cleared_ring, pool_left};
-ghost use Rattle.brigade_ops.specs.Store.{lists, brigade_of, pool_of, references, next_name};
+ghost use Rattle.brigade_ops.specs.House.{IsHouse, AreOpen};
+ghost use Rattle.brigade_ops.specs.Store.{brigade_of, pool_of, references, next_name};
 ghost use Rattle.ring_calls.specs.Around.{Around};
-ghost use Rattle.ring_run.specs.Cleared.{around_cleared, LooksAt};
 ghost use Rattle.ring_calls.specs.Held.{IsHeld};
+ghost use Rattle.ring_calls.specs.LeftAlone.{LeavesRest, LeavesUncleared};
 ghost use Rattle.ring_calls.specs.Seen.{seen};
+ghost use Rattle.ring_run.specs.CarriedOut.{WasDone, during, with_files};
+ghost use Rattle.ring_run.specs.Cleared.{LooksAt};
+ghost use Rattle.ring_run.specs.Operands.{clear_kind, cleared_by};
 
-use brigade_ops::{BrigadeId, Brigades, Files, PoolId, PoolTree, Rings, Stored};
+use crate::labels::add_labels;
+use crate::labels_run::LabelsRun;
+use brigade_ops::{Brigades, ClearKind, Files, PoolId, PoolTree, Rings, Stored};
 use ring_calls::machine::{Call, Instance};
-use run_model::Payload;
+use ring_calls::pool_names::{name_in, variable};
+use ring_calls::setting::Setting;
+use run_model::{Effect, Payload};
 use std::alloc::AllocError;
 
-/// Clears a pool (`apr_pool_clear`), looking at these brigades: those of the connection, in all its filters, and the loose buckets of all its
-/// calls. Answers what the pools handed on, in the run order. Without memory nothing is changed.
-pub fn clear_pool<R: Rings<Stored> + Drop, F: Files>(
-    instance: &Instance,
-    call: &Call,
-    rings: &[BrigadeId],
-    tree: &mut PoolTree<Payload>,
-    store: &mut Brigades<R>,
-    files: &mut F,
-    pool: PoolId,
-) -> Result<Vec<(PoolId, Payload)>, AllocError>
-    requires live { IsTrue (is_live (map_of tree.old) pool) }
-    requires house { IsHouse store.old (map_of tree.old) }
-    requires open { AreOpen (references store.old) (F.device files.old) }
-    requires held { IsHeld store.old instance.now call.now }
-    requires looks { LooksAt rings.now (is_under (map_of tree.old) pool) (pool_of store.old) instance.now call.now }
-    ensures ran { IfOk result (λ ran. ran.items ≡ run_order (map_of tree.old) pool) }
-    ensures tree { OnOk result (map_of tree.new ≡ cleared pool (map_of tree.old)) }
-    ensures seen { OnOk result ((around : Around)
-        → seen store.new (around_cleared pool (map_of tree.old) (map_of tree.new) around) instance.now call.now
-        ≡ pool_cleared pool (seen store.old (record around { pools = map_of tree.old }) instance.now call.now)) }
-    ensures out { OnOk result ((n : ℕ) → lists store.new n ≡ cleared_ring (is_under (map_of tree.old) pool) (is_in n rings.now) (pool_of store.old n) (lists store.old n)) }
-    ensures off { OnOk result ((n : ℕ) → pool_of store.new n ≡ pool_left (is_under (map_of tree.old) pool) (pool_of store.old n)) }
-    ensures house { IsHouse store.new (map_of tree.new) }
-    ensures closed { OnOk result ((f : ℕ) → (F.device files.new).numbered f
-        ≡ (if list_any (λ x. is_file_ref f x.1) (run_order (map_of tree.old) pool) && not (is_referred (map_of tree.new) f) then Missing else (F.device files.old).numbered f)) }
-    ensures open { AreOpen (references store.new) (F.device files.new) }
-    ensures others { SameButOpen (F.device files.old) (F.device files.new) }
-    ensures next { next_name store.new ≡ next_name store.old }
-    ensures names { NoneRevived (brigade_of store.old) (brigade_of store.new) (next_name store.old) }
-    ensures formed { IsPoolMap (map_of tree.new) }
-    ensures held { OnOk result (IsHeld store.new instance.now call.now) }
-    ensures err { OnErr result ((n : ℕ) → lists store.new n ≡ lists store.old n) }
-    ensures pools { OnErr result (pool_of store.new ≡ pool_of store.old) }
-    ensures kept { OnErr result (map_of tree.new ≡ map_of tree.old) }
-    ensures unread { OnErr result (F.device files.new ≡ F.device files.old) }
-    ensures unasked { store.new.asked ≡ store.old.asked }
-    ensures tree_unasked { tree.new.asked ≡ tree.old.asked }
+/// The pool that an effect clears or destroys.
+fn cleared_by(instance: &Instance, effect: Effect) -> Option<PoolId>
+    ensures { result ≡ cleared_by instance.now effect }
 {
-    let ran = store.clear(rings, tree, files, pool)?;
-    Ok(ran)
+    match effect {
+        Effect::ClearPool(q) | Effect::DestroyPool(q) => name_in(variable(instance, q)),
+        _ => None,
+    }
 }
 
-/// Destroys a pool (`apr_pool_destroy`) that is not the root, else as `clear_pool`.
-pub fn destroy_pool<R: Rings<Stored> + Drop, F: Files>(
+/// Whether it destroys it.
+fn clear_kind(effect: Effect) -> ClearKind
+    ensures { result ≡ clear_kind effect }
+{
+    match effect {
+        Effect::DestroyPool(_) => ClearKind::Destroy,
+        _ => ClearKind::Clear,
+    }
+}
+
+/// Clears or destroys a pool, looking at the brigades of the connection, in all its filters, and the loose buckets of all its calls. The
+/// labels that it runs are added to those of earlier clears, in the run order. Without memory nothing is changed.
+pub(crate) fn clear_pool<R: Rings<Stored> + Drop, F: Files>(
     instance: &Instance,
     call: &Call,
-    rings: &[BrigadeId],
+    setting: &Setting<'_>,
+    handed: &mut Vec<LabelsRun>,
     tree: &mut PoolTree<Payload>,
     store: &mut Brigades<R>,
     files: &mut F,
-    pool: PoolId,
-) -> Result<Vec<(PoolId, Payload)>, AllocError>
-    requires below { (map_of tree.old).path pool ≢ pool ∷ [] }
-    requires live { IsTrue (is_live (map_of tree.old) pool) }
+    effect: Effect,
+) -> Result<(), AllocError>
+    requires held { IsHeld store.old instance.now call.now }
     requires house { IsHouse store.old (map_of tree.old) }
     requires open { AreOpen (references store.old) (F.device files.old) }
-    requires held { IsHeld store.old instance.now call.now }
-    requires looks { LooksAt rings.now (is_under (map_of tree.old) pool) (pool_of store.old) instance.now call.now }
-    ensures ran { IfOk result (λ ran. ran.items ≡ run_order (map_of tree.old) pool) }
-    ensures tree { OnOk result (map_of tree.new ≡ destroyed pool (map_of tree.old)) }
-    ensures seen { OnOk result ((around : Around)
-        → seen store.new (around_cleared pool (map_of tree.old) (map_of tree.new) around) instance.now call.now
-        ≡ pool_destroyed pool (seen store.old (record around { pools = map_of tree.old }) instance.now call.now)) }
-    ensures out { OnOk result ((n : ℕ) → lists store.new n ≡ cleared_ring (is_under (map_of tree.old) pool) (is_in n rings.now) (pool_of store.old n) (lists store.old n)) }
-    ensures off { OnOk result ((n : ℕ) → pool_of store.new n ≡ pool_left (is_under (map_of tree.old) pool) (pool_of store.old n)) }
-    ensures house { IsHouse store.new (map_of tree.new) }
-    ensures closed { OnOk result ((f : ℕ) → (F.device files.new).numbered f
-        ≡ (if list_any (λ x. is_file_ref f x.1) (run_order (map_of tree.old) pool) && not (is_referred (map_of tree.new) f) then Missing else (F.device files.old).numbered f)) }
-    ensures open { AreOpen (references store.new) (F.device files.new) }
-    ensures others { SameButOpen (F.device files.old) (F.device files.new) }
-    ensures next { next_name store.new ≡ next_name store.old }
-    ensures names { NoneRevived (brigade_of store.old) (brigade_of store.new) (next_name store.old) }
-    ensures formed { IsPoolMap (map_of tree.new) }
-    ensures held { OnOk result (IsHeld store.new instance.now call.now) }
-    ensures err { OnErr result ((n : ℕ) → lists store.new n ≡ lists store.old n) }
-    ensures pools { OnErr result (pool_of store.new ≡ pool_of store.old) }
+    requires live { (pool : ℕ) × (cleared_by instance.now effect ≡ Some pool) × IsTrue (is_live (map_of tree.old) pool) }
+    requires below { (pool : ℕ) → cleared_by instance.now effect ≡ Some pool → (map_of tree.old).path pool ≢ pool ∷ [] }
+    requires looks { (pool : ℕ) → cleared_by instance.now effect ≡ Some pool → LooksAt setting.now.rings.now (is_under (map_of tree.old) pool) (pool_of store.old) instance.now call.now }
+    ensures ok { OnOk result ((code : Program) (around : Around)
+        → WasDone (F.device files.old) (F.device files.new) code effect (seen store.old (during setting.now
+        (map_of tree.old) handed.old.items around) instance.now call.now) (λ fs. seen store.new (with_files fs (during setting.now
+        (map_of tree.new) handed.new.items around)) instance.now call.now)) }
+    ensures err { OnErr result ((around : Around)
+        → seen store.new (during setting.now (map_of tree.new) handed.new.items around) instance.now call.now
+        ≡ seen store.old (during setting.now (map_of tree.old) handed.old.items around) instance.now call.now) }
     ensures kept { OnErr result (map_of tree.new ≡ map_of tree.old) }
     ensures unread { OnErr result (F.device files.new ≡ F.device files.old) }
+    ensures unmoved { OnErr result (LeavesRest store.old store.new instance.now call.now) }
+    ensures held { IsHeld store.new instance.now call.now }
+    ensures house { IsHouse store.new (map_of tree.new) }
+    ensures open { AreOpen (references store.new) (F.device files.new) }
+    ensures next { next_name store.new ≡ next_name store.old }
+    ensures names { NoneRevived (brigade_of store.old) (brigade_of store.new) (next_name store.old) }
+    ensures cleared { OnOk result ((pool : ℕ) → cleared_by instance.now effect ≡ Some pool → LeavesUncleared (is_under (map_of tree.old) pool) setting.now.rings.now store.old store.new) }
     ensures unasked { store.new.asked ≡ store.old.asked }
     ensures tree_unasked { tree.new.asked ≡ tree.old.asked }
 {
-    let ran = store.destroy(rings, tree, files, pool)?;
-    Ok(ran)
+    let Some(pool) = cleared_by(instance, effect) else {
+        unreachable!()
+    };
+    handed.reserve(1)?;
+    let kind = clear_kind(effect);
+    let ran = store.clear(kind, setting.rings, tree, files, pool)?;
+    add_labels(handed, ran);
+    Ok(())
 }

@@ -6,7 +6,6 @@ ghost use Rattle.run_model.specs.BrigadeLists.{bucket_across, moves, stays};
 ghost use Rattle.run_model.specs.BucketSteps.{do_bpart, do_bsplit, items_at, names_to_part, place_at};
 ghost use Rattle.run_model.specs.Cursors.{spot};
 ghost use Rattle.run_model.specs.Faults.{InThis, home_fault};
-ghost use Rattle.run_model.specs.Steps.{value_of};
 ghost use Rattle.stored_rings.specs.Items.{before_place, from_place};
 ghost use Rattle.brigade_ops.specs.Store.{lists, brigade_of};
 ghost use Rattle.ring_calls.specs.Around.{Around};
@@ -20,8 +19,6 @@ ghost use Rattle.ring_calls.specs.Seen.{seen, shown, calls_in};
 
 use brigade_ops::{BrigadeId, Brigades, BucketId, Cut, Rings, Stored};
 use ring_calls::machine::{Call, CursorValue, Instance};
-use ring_calls::values::value_of;
-use run_model::Value;
 use std::alloc::AllocError;
 
 /// The bucket of a cursor that stands in the brigade of a variable; none where it stands at its end.
@@ -90,8 +87,9 @@ fn cursor_value_of(b: BrigadeId, cut: Cut) -> CursorValue
     }
 }
 
-/// Parts a brigade at a point, as `bpart`.
-fn part<R: Rings<Stored> + Drop>(
+/// Parts a brigade at a point and sets a cursor to the place behind it; a bucket that the point lies inside is split. Where the brigade
+/// is shorter the place is its end. Only a bucket that is split takes memory. Without it, and where the names are spent, nothing is changed.
+pub(crate) fn bpart<R: Rings<Stored> + Drop>(
     instance: &Instance,
     call: &mut Call,
     store: &mut Brigades<R>,
@@ -119,32 +117,4 @@ fn part<R: Rings<Stored> + Drop>(
     };
     call.set_cursor(c, cursor_value_of(name, cut));
     Ok(())
-}
-
-/// Parts a brigade at a point and sets a cursor to the place behind it; a bucket that the point lies inside is split. Where the brigade
-/// is shorter the place is its end. Only a bucket that is split takes memory. Without it, and where the names are spent, nothing is changed.
-pub(crate) fn bpart<R: Rings<Stored> + Drop>(
-    instance: &Instance,
-    call: &mut Call,
-    store: &mut Brigades<R>,
-    b: u8,
-    x: Value,
-    c: u8,
-) -> Result<(), AllocError>
-    requires slot { b < 9 }
-    requires cursor { c < 9 }
-    requires live { is_some (live_in (lists store.old) (slot_at instance.now b)) ≡ true }
-    requires fits { FitKinds store.old instance.now }
-    requires ends { EndInFiles store.old instance.now }
-    requires held { IsHeld store.old instance.now call.old }
-    ensures ok { OnOk result ((around : Around) → let r = seen store.old around instance.now call.old in
-        home_fault (bucket_across (value_of r x) (items_at r b)) ≡ None → seen store.new around instance.now call.new ≡ do_bpart b (value_of r x) c r) }
-    ensures sure { (around : Around) → let r = seen store.old around instance.now call.old in names_to_part (value_of r x) (items_at r b) ≡ 0 → IsOk result }
-    ensures err { OnErr result ((around : Around) → seen store.new around instance.now call.new ≡ seen store.old around instance.now call.old) }
-    ensures held { IsHeld store.new instance.now call.new }
-    ensures name { call.new.name ≡ call.old.name }
-    ensures left { LeavesOthers store.old store.new instance.now call.old }
-{
-    let point = u64::from(value_of(instance, x));
-    part(instance, call, store, b, point, c)
 }

@@ -57,7 +57,6 @@ pub(crate) fn read<R: Rings<Stored> + Drop, F: Files>(
             call.set_cursor(READ_CURSOR, CursorValue::Unset);
             Ok(false)
         }
-        Err(ReadRefusal::NoMemory) => Err(AllocError),
-        Err(ReadRefusal::NamesSpent) => Err(AllocError),
+        Err(_) => Err(AllocError),
     }
 }

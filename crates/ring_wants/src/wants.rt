@@ -23,6 +23,7 @@ use run_model::{FaultKind, Instr, Module, Payload, Want, wants};
 
 /// The fault of a want, if it is not so.
 #[tactic(auto, using(crate::proofs::OnlyAsked::asked_nothing, crate::proofs::OnlyAsked::tree_asked_nothing))]
+#[inline(always)]
 fn fault_of<R: Rings<Stored> + Drop>(
     instance: &Instance,
     call: &Call,

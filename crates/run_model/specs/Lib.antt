@@ -16,6 +16,7 @@ pub mod Effects
 pub mod Cursors
 pub mod BucketSteps
 pub mod EffectOf
+pub mod Changes
 pub mod Steps
 pub mod Refusals
 pub mod Pieces

@@ -3,6 +3,7 @@
 #![tactic(auto)]
 
 mod bucket;
+mod effect;
 mod event;
 mod fault;
 mod payload;
@@ -11,6 +12,7 @@ mod want;
 pub use bucket::{
     Brigade, BrigadeVar, Bucket, Content, Cursor, Home, Kind, Mark, NamedBucket, PoolVar,
 };
+pub use effect::{Condition, Effect, Flow, MadeFrom, NewNumber, Side, effect_of, flow_of};
 pub use event::{Cause, Event, Exit, Piece, Refusal, StepRefusal, Stepped};
 pub use fault::FaultKind;
 pub use module_code::{Instr, KindTest, Module, PoolRef, Seq, Status, Value, VarRef};

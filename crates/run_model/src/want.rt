@@ -96,6 +96,7 @@ pub struct Wanted {
 /// The number of the read cursor `rd`.
 const READ_CURSOR: u8 = 8;
 
+#[inline(always)]
 fn nothing() -> Wanted
     ensures { result ≡ wanted None None None }
 {
@@ -106,6 +107,7 @@ fn nothing() -> Wanted
     }
 }
 
+#[inline(always)]
 fn one(first: Want) -> Wanted
     ensures { result ≡ wanted (Some first) None None }
 {
@@ -116,6 +118,7 @@ fn one(first: Want) -> Wanted
     }
 }
 
+#[inline(always)]
 fn two(first: Want, second: Want) -> Wanted
     ensures { result ≡ wanted (Some first) (Some second) None }
 {
@@ -126,6 +129,7 @@ fn two(first: Want, second: Want) -> Wanted
     }
 }
 
+#[inline(always)]
 fn three(first: Want, second: Want, third: Want) -> Wanted
     ensures { result ≡ wanted (Some first) (Some second) (Some third) }
 {
@@ -138,6 +142,7 @@ fn three(first: Want, second: Want, third: Want) -> Wanted
 
 /// What an instruction wants: its operands from left to right (for `pcreate` and `bcreate` the declared pool first), then what is made
 /// anew, then homes, then what may be sent on.
+#[inline(always)]
 pub fn wants(code: &Module, instr: Instr) -> Wanted
     requires { fits code.now instr ≡ true }
     ensures listed { listed result ≡ wants code.now instr }

@@ -16,7 +16,7 @@ use Rattle.run_model.specs.Pools.{is_in}
 use Rattle.bucket_ring.specs.declared.names.BucketId.{BucketId}
 use Rattle.bucket_ring.specs.Lists.{same}
 use Rattle.bucket_ring.specs.Laws.{same_name}
-use Rattle.stored_rings.specs.Due.{kind_reached, home_reached, depends, is_due}
+use Rattle.stored_rings.specs.Due.{kind_pool, home_pool, place_reached, kind_reached, home_reached, depends, is_due}
 use Rattle.stored_rings.specs.Morphs.{cleared_as, is_named}
 use Rattle.stored_rings.specs.Noted.{kind_under, home_under, place_under, place_of, is_noted}
 
@@ -26,28 +26,17 @@ other_part false b none some = some
 
 -- A bucket that depends on a pool of these is under one of them.
 module _ (reached : ℕ → Bool) (names : ℕ → BucketId → Bool) (id : BucketId) where
-  by_kind : (k : Kind) → kind_under (λ p. names p id) k ≡ true → kind_reached reached k ≡ true → (p : ℕ) × (reached p ≡ true) × (names p id ≡ true)
-  by_kind kind.Heap under is = absurd (false≢true is)
-  by_kind kind.Transient under is = absurd (false≢true is)
-  by_kind kind.Immortal under is = absurd (false≢true is)
-  by_kind (kind.Pool p) under is = (p, is, under)
-  by_kind kind.File under is = absurd (false≢true is)
-  by_kind kind.Flush under is = absurd (false≢true is)
-  by_kind kind.Eos under is = absurd (false≢true is)
-
-  by_home : (h : Home) → home_under (λ p. names p id) h ≡ true → home_reached reached h ≡ true → (p : ℕ) × (reached p ≡ true) × (names p id ≡ true)
-  by_home home.Free under is = absurd (false≢true is)
-  by_home (home.Call n) under is = absurd (false≢true is)
-  by_home (home.Pool p) under is = (p, is, under)
-  by_home home.Ended under is = absurd (false≢true is)
+  by_pool : (q : Option ℕ) → place_under (λ p. names p id) q ≡ true → place_reached reached q ≡ true → (p : ℕ) × (reached p ≡ true) × (names p id ≡ true)
+  by_pool None under is = absurd (false≢true is)
+  by_pool (Some p) under is = (p, is, under)
 
   pub under_one : (x : Stored) → is_noted names (id, x) ≡ true → (kind_reached reached x.kind || home_reached reached x.home) ≡ true → (p : ℕ) × (reached p ≡ true) × (names p id ≡ true)
   under_one x noted is =
       let one = and_parts (kind_under (λ p. names p id) x.kind) (home_under (λ p. names p id) x.home && place_under (λ p. names p id) (place_of x.kept)) noted in
       let two = and_parts (home_under (λ p. names p id) x.home) (place_under (λ p. names p id) (place_of x.kept)) one.1 in
       elim (cases_Bool (kind_reached reached x.kind)) [
-        | inl lies ↦ by_kind x.kind one.0 lies
-        | inr apart ↦ by_home x.home two.0 (other_part (kind_reached reached x.kind) (home_reached reached x.home) apart is)
+        | inl lies ↦ by_pool (kind_pool x.kind) one.0 lies
+        | inr apart ↦ by_pool (home_pool x.home) two.0 (other_part (kind_reached reached x.kind) (home_reached reached x.home) apart is)
       ]
 
 -- A bucket that depends on none of them stays as it is.

@@ -7,9 +7,11 @@ pub mod Parts
 pub mod Saves
 pub mod Cleared
 pub mod Noted
+pub mod Passing
 pub mod DueBuckets
 pub mod Pruned
 pub mod Shown
+pub mod Seen
 pub mod Shelves
 pub mod Kept
 pub mod Names

@@ -1,6 +1,5 @@
 -- Buckets are noted under the pools that they depend on, whatever is done to the lists that they stand in.
-use Rattle.std.proofs.Common.{◌≡◌, ◌≤◌, ◌+◌, ℕ, suc, Bool, true, false, cond, ◌&&◌, ◌||◌, ltb, Option, None, Some, is_some, Result, Ok, Err, List, [], ◌∷◌, ◌++◌, take, drop, refl, sym, ap, ◌∙◌, arith, inl, inr}
-use Rattle.std.specs.Prelude.{IfOk, OnOk, OnErr, if◌then◌else◌}
+use Rattle.std.proofs.Common.{◌≡◌, ◌≤◌, ◌+◌, ℕ, suc, Bool, true, false, cond, ◌&&◌, ◌||◌, ltb, Option, None, Some, is_some, List, [], ◌∷◌, ◌++◌, take, drop, refl, sym, ap, ◌∙◌, arith, inl, inr}
 use Rattle.std.specs.List.{list_all}
 use Rattle.std.specs.Option.{option_map, option_map_or}
 use Rattle.std.proofs.lemmas.Bool.{cases_Bool, cases_eq, eq-eqb, ne_eqb, and_parts, le-ltb, ltb-false}
@@ -13,24 +12,14 @@ use Rattle.run_model.specs.declared.bucket.Home.{Home}
 use Rattle.run_model.specs.declared.bucket.Home.TheVariants as home
 use Rattle.bucket_ring.specs.declared.names.BucketId.{BucketId}
 use Rattle.bucket_ring.specs.Lists.{upd, on, list_at, same, times, by_birth, numbered, front, rest, found, put_tail, put_head, put_before, put_after, without, with_payload}
-use Rattle.bucket_ring.specs.Kept.{IsKept}
-use Rattle.bucket_ring.specs.Laws.{found_in, found_times, same_self}
+use Rattle.bucket_ring.specs.Laws.{found_times, same_self}
 use Rattle.stored_rings.specs.Items.{StoredItem, StoredItems}
+use Rattle.stored_rings.specs.Due.{kind_pool, home_pool}
 use Rattle.stored_rings.specs.Noted.{kind_under, home_under, place_under, place_of, is_noted, AreNoted}
-use Rattle.stored_rings.proofs.Lists.{front_rest, rest_head, some_of}
-use Rattle.stored_rings.proofs.Saves.{found_some}
+use Rattle.stored_rings.proofs.Lists.{front_rest, rest_head}
 
--- what follows from either answer
 pub both : {a b : Bool} → a ≡ true → b ≡ true → (a && b) ≡ true
 both e f = rw (e, f) refl
-
-pub by_result : {A E X : Type 0} (P Q : Type 0) (r : Result A E) → OnOk r P → OnErr r Q → (P → X) → (Q → X) → X
-by_result P Q (Ok a) ok err f g = f ok
-by_result P Q (Err e) ok err f g = g err
-
-pub made : {A E X : Type 0} (P : A → Type 0) (Q : Type 0) (r : Result A E) → IfOk r P → OnErr r Q → ((a : A) → P a → X) → (Q → X) → X
-made P Q (Ok a) ok err f g = f a ok
-made P Q (Err e) ok err f g = g err
 
 module _ (p : StoredItem → Bool) where
   -- all items of a list pass
@@ -123,29 +112,14 @@ noted_parts names id x e =
 
 -- More names are noted.
 module _ (names more : ℕ → BucketId → Bool) (kept : (p : ℕ) (j : BucketId) → names p j ≡ true → more p j ≡ true) where
-  kind_kept : (id : BucketId) (k : Kind) → kind_under (λ p. names p id) k ≡ true → kind_under (λ p. more p id) k ≡ true
-  kind_kept id kind.Heap e = refl
-  kind_kept id kind.Transient e = refl
-  kind_kept id kind.Immortal e = refl
-  kind_kept id (kind.Pool p) e = kept p id e
-  kind_kept id kind.File e = refl
-  kind_kept id kind.Flush e = refl
-  kind_kept id kind.Eos e = refl
-
-  home_kept : (id : BucketId) (h : Home) → home_under (λ p. names p id) h ≡ true → home_under (λ p. more p id) h ≡ true
-  home_kept id home.Free e = refl
-  home_kept id (home.Call n) e = refl
-  home_kept id (home.Pool p) e = kept p id e
-  home_kept id home.Ended e = refl
-
-  place_kept : (id : BucketId) (q : Option ℕ) → place_under (λ p. names p id) q ≡ true → place_under (λ p. more p id) q ≡ true
-  place_kept id None e = refl
-  place_kept id (Some p) e = kept p id e
+  pool_kept : (id : BucketId) (q : Option ℕ) → place_under (λ p. names p id) q ≡ true → place_under (λ p. more p id) q ≡ true
+  pool_kept id None e = refl
+  pool_kept id (Some p) e = kept p id e
 
   pub item_kept : (x : StoredItem) → is_noted names x ≡ true → is_noted more x ≡ true
   item_kept x e =
       let parts = noted_parts names x.0 x.1 e in
-      rw (kind_kept x.0 x.1.kind parts.0, home_kept x.0 x.1.home parts.1, place_kept x.0 (place_of x.1.kept) parts.2) refl
+      rw (pool_kept x.0 (kind_pool x.1.kind) parts.0, pool_kept x.0 (home_pool x.1.home) parts.1, pool_kept x.0 (place_of x.1.kept) parts.2) refl
 
   all_kept : (xs : StoredItems) → list_all (is_noted names) xs ≡ true → list_all (is_noted more) xs ≡ true
   all_kept [] a = refl
@@ -159,79 +133,6 @@ module _ (names more : ℕ → BucketId → Bool) (kept : (p : ℕ) (j : BucketI
 pub noted_item : (names : ℕ → BucketId → Bool) (id : BucketId) (x : Stored) → kind_under (λ p. names p id) x.kind ≡ true → home_under (λ p. names p id) x.home ≡ true
     → place_under (λ p. names p id) (place_of x.kept) ≡ true → is_noted names (id, x) ≡ true
 noted_item names id x k h q = rw (k, h, q) refl
-
--- What is done to rings leaves items that pass.
-module _ (p : StoredItem → Bool) (old new : ℕ → Option StoredItems) (all : (n : ℕ) → list_all p (list_at old n) ≡ true) where
-  pub put_in : (put : StoredItem → StoredItems → StoredItems) (ring : ℕ) (x : StoredItem) → ((y : StoredItem) (xs : StoredItems) → p y ≡ true → list_all p xs ≡ true → list_all p (put y xs) ≡ true) → p x ≡ true
-      → ((n : ℕ) → new n ≡ on ring (put x) old n) → (n : ℕ) → list_all p (list_at new n) ≡ true
-  put_in put ring x puts e change = same_lists p (on ring (put x) old) (one_changed p old all ring (put x) (puts x (list_at old ring) e)) new change
-
-  -- a ring without buckets, or none
-  pub emptied : (ring : ℕ) → ((n : ℕ) → new n ≡ on ring (λ xs. []) old n) → (n : ℕ) → list_all p (list_at new n) ≡ true
-  emptied ring change = same_lists p (on ring (λ xs. []) old) (one_changed p old all ring (λ xs. []) (λ a. refl)) new change
-
-  pub ended : (ring : ℕ) → ((n : ℕ) → new n ≡ upd old ring None n) → (n : ℕ) → list_all p (list_at new n) ≡ true
-  ended ring change = same_lists p (upd old ring None) (one_other p old all ring None refl) new change
-
-  pub begun : (ring : ℕ) → ((n : ℕ) → new n ≡ upd old ring (Some []) n) → (n : ℕ) → list_all p (list_at new n) ≡ true
-  begun ring change = same_lists p (upd old ring (Some [])) (one_other p old all ring (Some []) refl) new change
-
-  -- more behind the buckets of a ring
-  pub joined_in : (ring : ℕ) (bs : StoredItems) → list_all p bs ≡ true → ((n : ℕ) → new n ≡ on ring (λ xs. xs ++ bs) old n) → (n : ℕ) → list_all p (list_at new n) ≡ true
-  joined_in ring bs b change = same_lists p (on ring (λ xs. xs ++ bs) old) (one_changed p old all ring (λ xs. xs ++ bs) (λ a. all_joined p (list_at old ring) bs a b)) new change
-
-  pub paired : (first second : ℕ) (bs : StoredItems) → list_all p bs ≡ true → ((n : ℕ) → new n ≡ upd (upd old first (Some [])) second (Some bs) n) → (n : ℕ) → list_all p (list_at new n) ≡ true
-  paired first second bs b change =
-      same_lists p (upd (upd old first (Some [])) second (Some bs)) (one_other p (upd old first (Some [])) (one_other p old all first (Some []) refl) second (Some bs) b) new change
-
-  -- all buckets of a ring go to another
-  pub spliced : (ring from : ℕ) → ((n : ℕ) → new n ≡ on ring (λ xs. xs ++ list_at old from) (on from (λ xs. []) old) n) → (n : ℕ) → list_all p (list_at new n) ≡ true
-  spliced ring from change =
-      let left = on from (λ xs. []) old in
-      same_lists p (on ring (λ xs. xs ++ list_at old from) left) (one_changed p left (one_changed p old all from (λ xs. []) (λ a. refl)) ring (λ xs. xs ++ list_at old from) (λ a. all_joined p (list_at left ring) (list_at old from) a (all from))) new change
-
-  -- What is done at a bucket that is there.
-  module _ (at : BucketId → Option ℕ) (next : ℕ) (kept : IsKept at old next) (id : BucketId) (there : is_some (at id) ≡ true) where
-    pub moved : (put : StoredItem → StoredItems → StoredItems) (ring : ℕ) → ((y : StoredItem) (xs : StoredItems) → p y ≡ true → list_all p xs ≡ true → list_all p (put y xs) ≡ true)
-        → ((q n : ℕ) (x : Stored) → at id ≡ Some q → found id (list_at old q) ≡ Some x → new n ≡ on ring (put (id, x)) (on q (without id) old) n) → (n : ℕ) → list_all p (list_at new n) ≡ true
-    moved put ring puts change =
-        let q = some_of (at id) there in
-        let x = found_some id (list_at old q.0) (found_in at old next kept id q.0 q.1) in
-        let left = on q.0 (without id) old in
-        same_lists p (on ring (put (id, x.0)) left)
-        (one_changed p left (one_changed p old all q.0 (without id) (all_without p id (list_at old q.0))) ring (put (id, x.0)) (puts (id, x.0) (list_at left ring) (all_found p id x.0 (list_at old q.0) (all q.0) x.1)))
-        new (λ n. change q.0 n x.0 q.1 x.1)
-
-    pub changed_at : (f : StoredItems → StoredItems) → ((xs : StoredItems) → list_all p xs ≡ true → list_all p (f xs) ≡ true) → ((q n : ℕ) → at id ≡ Some q → new n ≡ on q f old n) → (n : ℕ) → list_all p (list_at new n) ≡ true
-    changed_at f step change =
-        let q = some_of (at id) there in
-        same_lists p (on q.0 f old) (one_changed p old all q.0 f (step (list_at old q.0))) new (λ n. change q.0 n q.1)
-
-    pub spliced_from : (ring : ℕ) → ((q n : ℕ) → at id ≡ Some q → new n ≡ on ring (λ xs. xs ++ rest id (list_at old q)) (on q (front id) old) n) → (n : ℕ) → list_all p (list_at new n) ≡ true
-    spliced_from ring change =
-        let q = some_of (at id) there in
-        let left = on q.0 (front id) old in
-        same_lists p (on ring (λ xs. xs ++ rest id (list_at old q.0)) left)
-        (one_changed p left (one_changed p old all q.0 (front id) (all_front p id (list_at old q.0))) ring (λ xs. xs ++ rest id (list_at old q.0))
-        (λ a. all_joined p (list_at left ring) (rest id (list_at old q.0)) a (all_rest p id (list_at old q.0) (all q.0))))
-        new (λ n. change q.0 n q.1)
-
-    pub moved_before : (place : BucketId) → is_some (at place) ≡ true
-        → ((r q n : ℕ) (x : Stored) → at place ≡ Some r → at id ≡ Some q → found id (list_at old q) ≡ Some x → new n ≡ (if same place id then old n else on r (put_before place (id, x)) (on q (without id) old) n))
-        → (n : ℕ) → list_all p (list_at new n) ≡ true
-    moved_before place placed change = by_test (same place id) refl where
-      r : (b : ℕ) × (at place ≡ Some b)
-      r = some_of (at place) placed
-
-      q : (b : ℕ) × (at id ≡ Some b)
-      q = some_of (at id) there
-
-      x : (y : Stored) × (found id (list_at old q.0) ≡ Some y)
-      x = found_some id (list_at old q.0) (found_in at old next kept id q.0 q.1)
-
-      by_test : (s : Bool) → same place id ≡ s → (n : ℕ) → list_all p (list_at new n) ≡ true
-      by_test true hit = same_lists p old all new (λ n. change r.0 q.0 n x.0 r.1 q.1 x.1 ∙ rw hit refl)
-      by_test false miss = moved (put_before place) r.0 (all_before p place) (λ b n y in_b is. change r.0 b n y r.1 in_b is ∙ rw miss refl)
 
 few : (s : Bool) (n : ℕ) → cond s (suc n) n ≤ 1 → n ≤ 1
 few true n le = omega arith

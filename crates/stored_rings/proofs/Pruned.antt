@@ -12,10 +12,10 @@ use Rattle.bucket_ring.specs.Kept.{IsKept}
 use Rattle.bucket_ring.specs.Laws.{in_found}
 use Rattle.stored_rings.specs.declared.dependents.Dependents.{Dependents}
 use Rattle.stored_rings.specs.Dependents.{names_of, noted, StayNoted}
-use Rattle.stored_rings.specs.Due.{kind_reached, home_reached}
+use Rattle.stored_rings.specs.Due.{kind_pool, home_pool, place_reached, kind_reached, home_reached}
 use Rattle.stored_rings.specs.Items.{StoredItems}
 use Rattle.stored_rings.specs.Morphs.{is_named}
-use Rattle.stored_rings.specs.Noted.{kind_under, home_under, place_under, place_of, place_reached, held_under, is_noted, AreNoted, bucket_named, still_under}
+use Rattle.stored_rings.specs.Noted.{kind_under, home_under, place_under, place_of, held_under, is_noted, AreNoted, bucket_named, still_under}
 use Rattle.stored_rings.proofs.DueBuckets.{named_filtered, either_named, first_named, second_named}
 use Rattle.stored_rings.proofs.Noted.{all_found, are_kept, listed_by_found, noted_item, noted_parts}
 use Rattle.stored_rings.proofs.Saves.{here_at}
@@ -23,34 +23,21 @@ use Rattle.stored_rings.proofs.Walks.{once_listed}
 
 -- What a bucket depends on stays noted, so it stays noted under all of them.
 module _ (names more : ℕ → BucketId → Bool) (id : BucketId) (x : Stored) (kept : (p : ℕ) → held_under (λ q. q == p) x ≡ true → names p id ≡ true → more p id ≡ true) where
-  kind_stays : (k : Kind) → x.kind ≡ k → kind_under (λ p. names p id) k ≡ true → kind_under (λ p. more p id) k ≡ true
-  kind_stays kind.Heap is e = refl
-  kind_stays kind.Transient is e = refl
-  kind_stays kind.Immortal is e = refl
-  kind_stays (kind.Pool p) is e =
-      kept p (first_named (kind_reached (λ q. q == p) x.kind) (home_reached (λ q. q == p) x.home || place_reached (λ q. q == p) (place_of x.kept)) (ap (kind_reached (λ q. q == p)) is ∙ eq-eqb p p refl)) e
-  kind_stays kind.File is e = refl
-  kind_stays kind.Flush is e = refl
-  kind_stays kind.Eos is e = refl
-
-  home_stays : (h : Home) → x.home ≡ h → home_under (λ p. names p id) h ≡ true → home_under (λ p. more p id) h ≡ true
-  home_stays home.Free is e = refl
-  home_stays (home.Call n) is e = refl
-  home_stays (home.Pool p) is e =
-      kept p (second_named (kind_reached (λ q. q == p) x.kind) (home_reached (λ q. q == p) x.home || place_reached (λ q. q == p) (place_of x.kept))
-      (first_named (home_reached (λ q. q == p) x.home) (place_reached (λ q. q == p) (place_of x.kept)) (ap (home_reached (λ q. q == p)) is ∙ eq-eqb p p refl))) e
-  home_stays home.Ended is e = refl
-
-  place_stays : (o : Option ℕ) → place_of x.kept ≡ o → place_under (λ p. names p id) o ≡ true → place_under (λ p. more p id) o ≡ true
-  place_stays None is e = refl
-  place_stays (Some p) is e =
-      kept p (second_named (kind_reached (λ q. q == p) x.kind) (home_reached (λ q. q == p) x.home || place_reached (λ q. q == p) (place_of x.kept))
-      (second_named (home_reached (λ q. q == p) x.home) (place_reached (λ q. q == p) (place_of x.kept)) (ap (place_reached (λ q. q == p)) is ∙ eq-eqb p p refl))) e
+  stays : (q : Option ℕ) → ((p : ℕ) → q ≡ Some p → held_under (λ r. r == p) x ≡ true) → place_under (λ p. names p id) q ≡ true → place_under (λ p. more p id) q ≡ true
+  stays None held e = refl
+  stays (Some p) held e = kept p (held p refl) e
 
   item_stays : is_noted names (id, x) ≡ true → is_noted more (id, x) ≡ true
   item_stays e =
       let parts = noted_parts names id x e in
-      noted_item more id x (kind_stays x.kind refl parts.0) (home_stays x.home refl parts.1) (place_stays (place_of x.kept) refl parts.2)
+      let is_it : (q : Option ℕ) (p : ℕ) → q ≡ Some p → place_reached (λ r. r == p) q ≡ true = λ q p is. ap (place_reached (λ r. r == p)) is ∙ eq-eqb p p refl in
+      let by_other : (p : ℕ) → (home_reached (λ r. r == p) x.home || place_reached (λ r. r == p) (place_of x.kept)) ≡ true → held_under (λ r. r == p) x ≡ true =
+      λ p. second_named (kind_reached (λ r. r == p) x.kind) (home_reached (λ r. r == p) x.home || place_reached (λ r. r == p) (place_of x.kept)) in
+      noted_item more id x
+      (stays (kind_pool x.kind) (λ p is. first_named (kind_reached (λ r. r == p) x.kind)
+      (home_reached (λ r. r == p) x.home || place_reached (λ r. r == p) (place_of x.kept)) (is_it (kind_pool x.kind) p is)) parts.0)
+      (stays (home_pool x.home) (λ p is. by_other p (first_named (home_reached (λ r. r == p) x.home) (place_reached (λ r. r == p) (place_of x.kept)) (is_it (home_pool x.home) p is))) parts.1)
+      (stays (place_of x.kept) (λ p is. by_other p (second_named (home_reached (λ r. r == p) x.home) (place_reached (λ r. r == p) (place_of x.kept)) (is_it (place_of x.kept) p is))) parts.2)
 
 -- Names are thrown out from under one pool whose buckets are gone or depend on it no more.
 module _ (at : BucketId → Option ℕ) (lists : ℕ → Option StoredItems) (next : ℕ) (law : IsKept at lists next) (old new : Dependents) (pool : ℕ)

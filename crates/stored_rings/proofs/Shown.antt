@@ -12,7 +12,7 @@ use Rattle.bucket_ring.specs.Kept.{IsKept}
 use Rattle.run_model.specs.declared.bucket.Bucket.{Bucket}
 use Rattle.bucket_kinds.specs.declared.stored.Stored.{Stored}
 use Rattle.bucket_kinds.specs.Stored.{Look, shown}
-use Rattle.stored_rings.specs.Items.{Item, Items, StoredItem, StoredItems}
+use Rattle.stored_rings.specs.Items.{Items, StoredItem, StoredItems}
 use Rattle.stored_rings.specs.Shown.{shown_item, shown_items, all_shown, is_held, held_item}
 
 -- what is done in one ring and then in another
@@ -68,7 +68,7 @@ module _ (look : Look) where
   pub next_shown : (r : ℕ) (id : BucketId) (xs : StoredItems) → next_in r id xs ≡ next_in r id (shown_items look xs)
   next_shown r id xs = ap (or_end r) (sym (first_shown (drop 1 (rest id xs))) ∙ ap first_of (behind_shown id xs))
 
-  append_shown : (xs ys : StoredItems) → shown_items look (xs ++ ys) ≡ shown_items look xs ++ shown_items look ys
+  pub append_shown : (xs ys : StoredItems) → shown_items look (xs ++ ys) ≡ shown_items look xs ++ shown_items look ys
   append_shown xs ys = map-append (shown_item look) xs ys
 
   pub tail_shown : (x : StoredItem) (xs : StoredItems) → shown_items look (put_tail x xs) ≡ put_tail (shown_item look x) (shown_items look xs)
@@ -142,23 +142,6 @@ module _ (look : Look) where
     go None = refl
     go (Some xs) = ap (λ ys. Some ys) (e xs)
 
-  -- Rings that were changed, seen as the buckets that they show.
-  module _ (old new : ℕ → Option StoredItems) where
-    pub same_seen : ((n : ℕ) → new n ≡ old n) → (n : ℕ) → all_shown look new n ≡ all_shown look old n
-    same_seen e n = ap (option_map (shown_items look)) (e n)
-
-    pub on_seen : (r : ℕ) (f : StoredItems → StoredItems) (h : Items → Items) → ((xs : StoredItems) → shown_items look (f xs) ≡ h (shown_items look xs)) → ((n : ℕ) → new n ≡ on r f old n)
-        → (n : ℕ) → all_shown look new n ≡ on r h (all_shown look old) n
-    on_seen r f h e change n = ap (option_map (shown_items look)) (change n) ∙ on_shown r f h e old n
-
-    pub upd_seen : (r : ℕ) (o : Option StoredItems) → ((n : ℕ) → new n ≡ upd old r o n) → (n : ℕ) → all_shown look new n ≡ upd (all_shown look old) r (option_map (shown_items look) o) n
-    upd_seen r o change n = ap (option_map (shown_items look)) (change n) ∙ upd_shown old r o n
-
-    pub twice_seen : (r q : ℕ) (f k : StoredItems → StoredItems) (h m : Items → Items) → ((xs : StoredItems) → shown_items look (f xs) ≡ h (shown_items look xs)) → ((xs : StoredItems) → shown_items look (k xs) ≡ m (shown_items look xs))
-        → ((n : ℕ) → new n ≡ on r f (on q k old) n) → (n : ℕ) → all_shown look new n ≡ on r h (on q m (all_shown look old)) n
-    twice_seen r q f k h m e d change n =
-        ap (option_map (shown_items look)) (change n) ∙ (on_shown r f h e (on q k old) n ∙ on_cong r h (all_shown look (on q k old)) (on q m (all_shown look old)) (on_shown q k m d old) n)
-
   -- what is true of rings is true of what they show
   pub kept_shown : (at : BucketId → Option ℕ) (lists : ℕ → Option StoredItems) (next : ℕ) → IsKept at lists next → IsKept at (all_shown look lists) next
   kept_shown at lists next law = record {
@@ -174,48 +157,13 @@ mapped_some : {A B : Type 0} (f : A → B) (o : Option A) (x : B) → option_map
 mapped_some f None x e = cc
 mapped_some f (Some y) x e = (y, refl, cc)
 
--- A bucket that is moved, as it is seen.
+-- A bucket that is found, as it is seen.
 module _ (look : Look) (old new : ℕ → Option StoredItems) where
   pub found_stored : (q : ℕ) (id : BucketId) (x : Bucket) → found id (list_at (all_shown look old) q) ≡ Some x → (y : Stored) × (found id (list_at old q) ≡ Some y) × (shown look y ≡ x)
   found_stored q id x is = mapped_some (shown look) (found id (list_at old q)) x (sym (found_shown look id (list_at old q)) ∙ (ap (found id) (sym (list_shown look old q)) ∙ is))
 
   pub stored_found : (q : ℕ) (id : BucketId) (y : Stored) → found id (list_at old q) ≡ Some y → found id (list_at (all_shown look old) q) ≡ Some (shown look y)
   stored_found q id y is = ap (found id) (list_shown look old q) ∙ (found_shown look id (list_at old q) ∙ ap (option_map (shown look)) is)
-
-  pub moved_seen : (put : StoredItem → StoredItems → StoredItems) (place : Item → Items → Items) → ((x : StoredItem) (xs : StoredItems) → shown_items look (put x xs) ≡ place (shown_item look x) (shown_items look xs))
-      → (r q n : ℕ) (id : BucketId) (x : Bucket) → found id (list_at (all_shown look old) q) ≡ Some x → ((m : ℕ) (y : Stored) → found id (list_at old q) ≡ Some y → new m ≡ on r (put (id, y)) (on q (without id) old) m)
-      → all_shown look new n ≡ on r (place (id, x)) (on q (without id) (all_shown look old)) n
-  moved_seen put place same_put r q n id x is change =
-      let y = found_stored q id x is in
-      twice_seen look old new r q (put (id, y.0)) (without id) (place (id, shown look y.0)) (without id) (same_put (id, y.0)) (without_shown look id) (λ m. change m y.0 y.1) n
-      ∙ ap (λ (z : Bucket). on r (place (id, z)) (on q (without id) (all_shown look old)) n) y.2
-
-  pub before_seen : (at : BucketId) (r q n : ℕ) (id : BucketId) (x : Bucket) → found id (list_at (all_shown look old) q) ≡ Some x
-      → ((m : ℕ) (y : Stored) → found id (list_at old q) ≡ Some y → new m ≡ (if same at id then old m else on r (put_before at (id, y)) (on q (without id) old) m))
-      → all_shown look new n ≡ (if same at id then all_shown look old n else on r (put_before at (id, x)) (on q (without id) (all_shown look old)) n)
-  before_seen at r q n id x is change = go (same at id) refl where
-    go : (s : Bool) → same at id ≡ s → all_shown look new n ≡ (if same at id then all_shown look old n else on r (put_before at (id, x)) (on q (without id) (all_shown look old)) n)
-    go true hit = let y = found_stored q id x is in rw hit (ap (option_map (shown_items look)) (change n y.0 y.1 ∙ rw hit refl))
-    go false miss = rw miss (moved_seen (put_before at) (put_before at) (before_shown look at) r q n id x is (λ m y here. change m y here ∙ rw miss refl))
-
-  pub spliced_seen : (r from : ℕ) → ((n : ℕ) → new n ≡ on r (λ xs. xs ++ list_at old from) (on from (λ xs. []) old) n)
-      → (n : ℕ) → all_shown look new n ≡ on r (λ xs. xs ++ list_at (all_shown look old) from) (on from (λ xs. []) (all_shown look old)) n
-  spliced_seen r from change =
-      twice_seen look old new r from (λ xs. xs ++ list_at old from) (λ xs. []) (λ xs. xs ++ list_at (all_shown look old) from) (λ xs. [])
-      (λ xs. append_shown look xs (list_at old from) ∙ ap (λ ys. shown_items look xs ++ ys) (sym (list_shown look old from))) (λ xs. refl) change
-
-  pub cut_seen : (r q : ℕ) (id : BucketId) → ((n : ℕ) → new n ≡ on r (λ xs. xs ++ rest id (list_at old q)) (on q (front id) old) n)
-      → (n : ℕ) → all_shown look new n ≡ on r (λ xs. xs ++ rest id (list_at (all_shown look old) q)) (on q (front id) (all_shown look old)) n
-  cut_seen r q id change =
-      twice_seen look old new r q (λ xs. xs ++ rest id (list_at old q)) (front id) (λ xs. xs ++ rest id (list_at (all_shown look old) q)) (front id)
-      (λ xs. append_shown look xs (rest id (list_at old q)) ∙ ap (λ ys. shown_items look xs ++ ys) (rest_shown look id (list_at old q) ∙ ap (rest id) (sym (list_shown look old q)))) (front_shown look id) change
-
-  pub joined_seen : (r : ℕ) (bs : StoredItems) → ((n : ℕ) → new n ≡ on r (λ xs. xs ++ bs) old n) → (n : ℕ) → all_shown look new n ≡ on r (λ xs. xs ++ shown_items look bs) (all_shown look old) n
-  joined_seen r bs change = on_seen look old new r (λ xs. xs ++ bs) (λ xs. xs ++ shown_items look bs) (λ xs. append_shown look xs bs) change
-
-  pub paired_seen : (a b : ℕ) (bs : StoredItems) → ((n : ℕ) → new n ≡ upd (upd old a (Some [])) b (Some bs) n) → (n : ℕ) → all_shown look new n ≡ upd (upd (all_shown look old) a (Some [])) b (Some (shown_items look bs)) n
-  paired_seen a b bs change n =
-      ap (option_map (shown_items look)) (change n) ∙ (upd_shown look (upd old a (Some [])) b (Some bs) n ∙ upd_cong b (Some (shown_items look bs)) (all_shown look (upd old a (Some []))) (upd (all_shown look old) a (Some [])) (upd_shown look old a (Some [])) n)
 
 pub ok_then : {A E : Type 0} (P Q : Type 0) (r : Result A E) → OnOk r P → (P → Q) → OnOk r Q
 ok_then P Q (Ok a) ok f = f ok

@@ -7,22 +7,33 @@ use Rattle.run_model.specs.declared.bucket.Home.{Home}
 use Rattle.run_model.specs.declared.bucket.Home.TheVariants as home
 use Rattle.run_model.specs.Pools.{is_in}
 
--- whether bytes lie in one of these pools,
-abbrev pub kind_reached : (ℕ → Bool) → Kind → Bool
-kind_reached reached kind.Heap = false
-kind_reached reached kind.Transient = false
-kind_reached reached kind.Immortal = false
-kind_reached reached (kind.Pool p) = reached p
-kind_reached reached kind.File = false
-kind_reached reached kind.Flush = false
-kind_reached reached kind.Eos = false
+-- the pool that bytes lie in, if they lie in one,
+abbrev pub kind_pool : Kind → Option ℕ
+kind_pool kind.Heap = None
+kind_pool kind.Transient = None
+kind_pool kind.Immortal = None
+kind_pool (kind.Pool p) = Some p
+kind_pool kind.File = None
+kind_pool kind.Flush = None
+kind_pool kind.Eos = None
 
--- and whether a home is one
+-- and the pool that a home is
+abbrev pub home_pool : Home → Option ℕ
+home_pool home.Free = None
+home_pool (home.Call n) = None
+home_pool (home.Pool p) = Some p
+home_pool home.Ended = None
+
+-- whether it is one of these
+abbrev pub place_reached : (ℕ → Bool) → Option ℕ → Bool
+place_reached reached None = false
+place_reached reached (Some p) = reached p
+
+abbrev pub kind_reached : (ℕ → Bool) → Kind → Bool
+kind_reached reached k = place_reached reached (kind_pool k)
+
 abbrev pub home_reached : (ℕ → Bool) → Home → Bool
-home_reached reached home.Free = false
-home_reached reached (home.Call n) = false
-home_reached reached (home.Pool p) = reached p
-home_reached reached home.Ended = false
+home_reached reached h = place_reached reached (home_pool h)
 
 abbrev pub depends : (ℕ → Bool) → Bucket → Bool
 depends reached x = kind_reached reached x.kind || home_reached reached x.home

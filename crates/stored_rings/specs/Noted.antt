@@ -6,12 +6,10 @@ use Rattle.bucket_kinds.specs.declared.stored.Kept.{Kept}
 use Rattle.bucket_kinds.specs.declared.stored.Kept.TheVariants as kept
 use Rattle.bucket_kinds.specs.declared.stored.Stored.{Stored}
 use Rattle.run_model.specs.declared.bucket.Kind.{Kind}
-use Rattle.run_model.specs.declared.bucket.Kind.TheVariants as kind
 use Rattle.run_model.specs.declared.bucket.Home.{Home}
-use Rattle.run_model.specs.declared.bucket.Home.TheVariants as home
 use Rattle.bucket_ring.specs.declared.names.BucketId.{BucketId}
 use Rattle.bucket_ring.specs.Lists.{list_at, found}
-use Rattle.stored_rings.specs.Due.{kind_reached, home_reached}
+use Rattle.stored_rings.specs.Due.{kind_pool, home_pool, place_reached, kind_reached, home_reached}
 use Rattle.stored_rings.specs.Items.{StoredItem, StoredItems}
 
 -- the bucket of a name, by what stands in each brigade
@@ -23,10 +21,6 @@ abbrev pub place_of : Kept → Option ℕ
 place_of (kept.Own c) = None
 place_of (kept.Placed p) = Some p.pool
 
-abbrev pub place_reached : (ℕ → Bool) → Option ℕ → Bool
-place_reached reached None = false
-place_reached reached (Some p) = reached p
-
 -- whether a stored bucket depends on one of these pools
 abbrev pub held_under : (ℕ → Bool) → Stored → Bool
 held_under reached x = kind_reached reached x.kind || (home_reached reached x.home || place_reached reached (place_of x.kept))
@@ -36,27 +30,18 @@ abbrev pub still_under : ℕ → Option Stored → Bool
 still_under p None = false
 still_under p (Some x) = held_under (λ q. q == p) x
 
--- whether the pool that bytes lie in passes a test, where they lie in one,
-abbrev pub kind_under : (ℕ → Bool) → Kind → Bool
-kind_under test kind.Heap = true
-kind_under test kind.Transient = true
-kind_under test kind.Immortal = true
-kind_under test (kind.Pool p) = test p
-kind_under test kind.File = true
-kind_under test kind.Flush = true
-kind_under test kind.Eos = true
-
--- and so for a home
-abbrev pub home_under : (ℕ → Bool) → Home → Bool
-home_under test home.Free = true
-home_under test (home.Call n) = true
-home_under test (home.Pool p) = test p
-home_under test home.Ended = true
-
--- and so for the region that bytes lie in
+-- whether a pool passes a test, if there is one,
 abbrev pub place_under : (ℕ → Bool) → Option ℕ → Bool
 place_under test None = true
 place_under test (Some p) = test p
+
+-- as the one that bytes lie in,
+abbrev pub kind_under : (ℕ → Bool) → Kind → Bool
+kind_under test k = place_under test (kind_pool k)
+
+-- and the one that is a home
+abbrev pub home_under : (ℕ → Bool) → Home → Bool
+home_under test h = place_under test (home_pool h)
 
 -- whether a bucket has its name under each pool that it depends on
 abbrev pub is_noted : (ℕ → BucketId → Bool) → StoredItem → Bool

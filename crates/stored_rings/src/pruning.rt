@@ -2,8 +2,8 @@
 
 ghost use Rattle.std.specs.Prelude.{◌≡◌, ◌≢◌, ◌==◌, ℕ, Bool, true, filter, if◌then◌else◌};
 ghost use Rattle.stored_rings.specs.Dependents.{names_of, noted};
-ghost use Rattle.stored_rings.specs.Due.{kind_reached, home_reached};
-ghost use Rattle.stored_rings.specs.Noted.{bucket_named, kind_under, home_under, place_under, place_of, place_reached, still_under, AreNoted};
+ghost use Rattle.stored_rings.specs.Due.{place_reached, kind_reached, home_reached};
+ghost use Rattle.stored_rings.specs.Noted.{bucket_named, kind_under, home_under, place_under, place_of, still_under, AreNoted};
 
 use crate::dependents::{Dependents, FIRST_LIMIT};
 use bucket_kinds::{Kept, Stored};

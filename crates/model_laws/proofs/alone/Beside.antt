@@ -1,5 +1,6 @@
 -- Other filters go on, and other connections: what the instance sees stays sound.
 use Rattle.std.proofs.Common.{◌≡◌, ◌⊎◌, ℕ, zero, suc, ◌^◌, ◌<◌, ◌≤◌, Bool, true, false, ◌||◌, ◌==◌, List, ◌∷◌, map, Option, Some, None, inl, inr, refl, sym, ◌∙◌, ap, subst, arith, eq-eqb}
+use Rattle.std.proofs.lemmas.Option.{same_Some}
 use Rattle.std.proofs.lemmas.Bool.{cases_eq, cases_lt}
 use Rattle.std.proofs.lemmas.List.Elements.{All-map}
 use Rattle.module_code.specs.declared.instr.PoolRef.{PoolRef}
@@ -54,9 +55,7 @@ pub named_own : (p : Program) (r : Configuration) → AsDeclared p r → (k : Po
 unfolding named_at is_own_at
 named_own p r d pool.Conn n e =
     or_left (any_below 8 (λ q. is_named (name_in (r.instance.pools q)) n) || (n == r.shared.conn)) (is_named r.shared.req n)
-    (or_right (any_below 8 (λ q. is_named (name_in (r.instance.pools q)) n)) (n == r.shared.conn) (eq-eqb n r.shared.conn (some_is n r.shared.conn (sym e)))) where
-      some_is : (a b : ℕ) → Some a ≡ Some b → a ≡ b
-      some_is a b h = cc
+    (or_right (any_below 8 (λ q. is_named (name_in (r.instance.pools q)) n)) (n == r.shared.conn) (eq-eqb n r.shared.conn (same_Some n r.shared.conn (sym e))))
 named_own p r d pool.Req n e =
     or_right (any_below 8 (λ q. is_named (name_in (r.instance.pools q)) n) || (n == r.shared.conn)) (is_named r.shared.req n) (ap (λ (o : Option ℕ). is_named o n) e ∙ eq-eqb n n refl)
 named_own p r d (pool.Own q) n e = elim (cases_lt q 8) [

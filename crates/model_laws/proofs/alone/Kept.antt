@@ -1,5 +1,6 @@
 -- Each move of an open run keeps what is sound.
 use Rattle.std.proofs.Common.{◌≡◌, ℕ, ◌+◌, ◌^◌, ◌<◌, true, false, List, [], ◌∷◌, Option, Some, None, refl, sym, ◌∙◌, ap, subst, arith}
+use Rattle.std.proofs.lemmas.Option.{none-some}
 use Rattle.std.proofs.lemmas.Bool.Decides.{nat_tests}
 use Rattle.module_code.specs.declared.instr.Instr.{Instr}
 use Rattle.module_code.specs.declared.instr.Instr.TheVariants as instr
@@ -153,9 +154,6 @@ module _ (p : Program) (s new : Standing) (k : StandsSound p s) where
 
 -- The first standing.
 
-none_some : (n : ℕ) → None ≡ Some n → ⊥
-none_some n e = cc
-
 abbrev pub fresh_in : Configuration → Configuration
 fresh_in r = record r { instance = fresh_instance; call = fresh_call 0 }
 
@@ -170,8 +168,8 @@ fresh_sound r o = record {
   names = record {
     once = λ n. (let none = fresh_counted r n in omega arith);
     fresh = λ n le. fresh_counted r n;
-    apart = λ b c n hb hc. absurd (none_some n hb);
-    given = λ b n h. absurd (none_some n h);
+    apart = λ b c n hb hc. absurd (none-some n hb);
+    given = λ b n h. absurd (none-some n h);
     limit = o.limits.0;
     slots = λ b le. refl;
   };
@@ -180,9 +178,9 @@ fresh_sound r o = record {
     limit = o.limits.1;
     formed = o.pools;
     conn = o.conn;
-    req = λ n e. absurd (none_some n (sym o.req ∙ e));
+    req = λ n e. absurd (none-some n (sym o.req ∙ e));
     own = λ q n e. absurd (cc);
-    brigades = λ b n e. absurd (none_some n e);
+    brigades = λ b n e. absurd (none-some n e);
   };
 }
 

@@ -1,5 +1,6 @@
 -- What the instance does to its own pools spares those of others.
 use Rattle.std.proofs.Common.{◌≡◌, ◌⊎◌, ℕ, ◌<◌, Bool, false, ◌||◌, List, [], Some, inl, inr, refl, sym, ◌∙◌, ap, subst, arith, ne_eqb}
+use Rattle.std.proofs.lemmas.Option.{same_Some}
 use Rattle.module_code.specs.declared.instr.Instr.{Instr}
 use Rattle.module_code.specs.declared.instr.Instr.TheVariants as instr
 use Rattle.module_code.specs.declared.instr.PoolRef.{PoolRef}
@@ -21,9 +22,6 @@ use Rattle.model_laws.proofs.AsDeclared.{same_live, named_same}
 use Rattle.model_laws.proofs.NamedPools.{on_named, made_under_named, own_named, conn_given, req_given}
 use Rattle.model_laws.proofs.chains.QuietSteps.{IsQuiet, quiet_step}
 
-some_is : (a b : ℕ) → Some a ≡ Some b → a ≡ b
-some_is a b e = cc
-
 made_is : (a b : ℕ) → poolvar.Made a ≡ poolvar.Made b → a ≡ b
 made_is a b e = cc
 
@@ -42,7 +40,7 @@ module _ (r : Configuration) (s : Sound r) (m : ℕ) (o : IsOthers r m) where
   -- a pool is made
   named_given : (k : PoolRef) (n : ℕ) → pool_named r k ≡ Some n → n < r.shared.pools.next
   unfolding named_at
-  named_given pool.Conn n e = (let lt = conn_given r s.pools in let is : r.shared.conn ≡ n = some_is r.shared.conn n e in omega arith)
+  named_given pool.Conn n e = (let lt = conn_given r s.pools in let is : r.shared.conn ≡ n = same_Some r.shared.conn n e in omega arith)
   named_given pool.Req n e = req_given r n e s.pools
   named_given (pool.Own q) n e = (s.pools.own q n (own_named q n r e)).1
 
@@ -68,7 +66,7 @@ module _ (r : Configuration) (s : Sound r) (m : ℕ) (o : IsOthers r m) where
         by_ref same new pool.Conn n e = same pool.Conn n e
         by_ref same new pool.Req n e = same pool.Req n e
         by_ref same new (pool.Own j) n e = elim (upd_either r.instance.pools q j (poolvar.Made r.shared.pools.next)) [
-          | inl here ↦ subst (λ (x : ℕ). is_under (created parent r.shared.pools) m x ≡ false) (some_is r.shared.pools.next n (sym (ap name_in here.1) ∙ e)) new
+          | inl here ↦ subst (λ (x : ℕ). is_under (created parent r.shared.pools) m x ≡ false) (same_Some r.shared.pools.next n (sym (ap name_in here.1) ∙ e)) new
           | inr there ↦ same (pool.Own j) n (sym (ap name_in there.1) ∙ e)
         ]
 

@@ -1,5 +1,6 @@
 -- Calls that begin and passes that are answered, requests that begin and end: what the instance sees stays sound.
 use Rattle.std.proofs.Common.{◌≡◌, ◌≢◌, ◌⊎◌, ℕ, ◌+◌, ◌^◌, ◌<◌, ◌≤◌, true, List, Some, None, inl, inr, refl, sym, ◌∙◌, ap, subst, arith}
+use Rattle.std.proofs.lemmas.Option.{none-some, same_Some}
 use Rattle.module_code.specs.Program.{Program}
 use Rattle.run_model.specs.declared.bucket.Brigade.{Brigade}
 use Rattle.run_model.specs.declared.bucket.BrigadeVar.{BrigadeVar}
@@ -21,10 +22,12 @@ use Rattle.run_model.proofs.Sums.{sum_written}
 use Rattle.run_model.proofs.Updates.{upd_either}
 use Rattle.model_laws.specs.AsDeclared.{AsDeclared}
 use Rattle.model_laws.specs.OpenRuns.{Come, called, request_begun, request_ended}
-use Rattle.model_laws.proofs.AsDeclared.{kept, went, written_declared, same_vars, KeepsPool, same_on, filled_on, not_live}
+use Rattle.model_laws.proofs.AsDeclared.{kept, went, written_declared, same_vars, not_live}
+use Rattle.model_laws.proofs.BrigadePools.{KeepsPool, same_on, filled_on}
 use Rattle.model_laws.proofs.NamesStay.{names_stay, keeps_slots, went_names}
 use Rattle.model_laws.proofs.PoolsKept.{keeps_pools, went_pools}
-use Rattle.model_laws.proofs.StepBuckets.{ProperList, none_proper, filled_proper, same_buckets, destroyed_buckets}
+use Rattle.model_laws.proofs.EachItem.{filled_each}
+use Rattle.model_laws.proofs.StepBuckets.{IsProper, ProperList, none_proper, same_buckets, destroyed_buckets}
 use Rattle.model_laws.proofs.chains.EventPools.{begun_sound, begun_declared, over_named}
 
 -- A call begins.
@@ -96,20 +99,14 @@ module _ (r : Configuration) (b next : ℕ) (v : BrigadeVar) (items : List Named
       | inr e ↦ s.pools.brigades k n (sym (ap brigade_pool e.1) ∙ h)
     ]
 
-none_some : (n : ℕ) → None ≡ Some n → ⊥
-none_some n e = cc
-
-some_is : (a b : ℕ) → Some a ≡ Some b → a ≡ b
-some_is a b e = cc
-
 -- `main` is called.
 pub main_sound : (r : Configuration) (name next pc : ℕ) (made : Brigade) → Come r next made.items → r.shared.next ≤ next → next < 2 ^ 64 → made.on ≡ None → made.name < next
     → ((b : ℕ) → brigade_name (r.instance.brigades b) ≡ Some made.name → ⊥) → Sound r → Sound (called name next pc (record r { instance = set_in (var.Live made) r.instance }))
 main_sound r name next pc made come rises limit on given apart s =
     called_sound (filled r 8 next (var.Live made) made.items come rises limit (λ n. omega arith) come.kinds (λ le none. absurd (omega arith)) named s) name next pc (omega arith) limit
-    (filled_sound r 8 next (var.Live made) made.items come rises limit (λ n. omega arith) come.kinds (λ le none. absurd (omega arith)) named s (λ n e. absurd (none_some n (sym on ∙ e)))) where
+    (filled_sound r 8 next (var.Live made) made.items come rises limit (λ n. omega arith) come.kinds (λ le none. absurd (omega arith)) named s (λ n e. absurd (none-some n (sym on ∙ e)))) where
       named : (n : ℕ) → Some made.name ≡ Some n → (n < next) × ((k : ℕ) → k ≢ 8 → brigade_name (r.instance.brigades k) ≡ Some n → ⊥)
-      named n e = (let is : made.name ≡ n = some_is made.name n e in (omega (arith, is), λ k off h. apart k (h ∙ ap (λ (m : ℕ). Some m) (sym is))))
+      named n e = (let is : made.name ≡ n = same_Some made.name n e in (omega (arith, is), λ k off h. apart k (h ∙ ap (λ (m : ℕ). Some m) (sym is))))
 
 pub main_declared : (p : Program) (r : Configuration) (name next pc : ℕ) (made : Brigade) → made.on ≡ None → AsDeclared p r → AsDeclared p (called name next pc (record r { instance = set_in (var.Live made) r.instance }))
 unfolding set_brigade
@@ -118,7 +115,8 @@ main_declared p r name next pc made on d = called_declared p (set_brigade 8 (var
 -- A pass is answered.
 pub given_sound : (r : Configuration) (b pc : ℕ) (items : List NamedBucket) → Come r r.shared.next items → Sound r → Sound (record r { instance = given_back b items r.instance; pc = pc })
 given_sound r b pc items come s =
-    moved (filled_sound r b r.shared.next (with_items items (r.instance.brigades b)) items come (omega arith) s.names.limit (λ n. filled_items n items (r.instance.brigades b)) (filled_proper items (r.instance.brigades b) come.kinds) (λ le none. carried.null none) named s
+    moved (filled_sound r b r.shared.next (with_items items (r.instance.brigades b)) items come (omega arith) s.names.limit
+    (λ n. filled_items n items (r.instance.brigades b)) (filled_each IsProper items (r.instance.brigades b) come.kinds) (λ le none. carried.null none) named s
     (λ n e. same_on_pool (r.instance.brigades b) n e)) where
       carried : Carried (r.instance.brigades b) (with_items items (r.instance.brigades b))
       carried = filled_carried items (r.instance.brigades b)
@@ -161,7 +159,9 @@ module _ (r : Configuration) (req : ℕ) (is : r.shared.req ≡ Some req) (s : S
   request_ended_sound = record {
     names = names_stay r (request_ended req r) (went_names (is_under r.shared.pools req) r (request_ended req r) (λ b. refl) refl refl s.names.limit) s.names;
     buckets = same_buckets (pool_destroyed req r) (request_ended req r) refl refl (destroyed_buckets req r s.buckets);
-    pools = went_pools req r (request_ended req r) (destroyed_next req r.shared.pools) (destroyed_formed req r.shared.pools s.pools.formed) (λ k apart. (destroyed_apart req r.shared.pools k apart).0) refl (λ m e. absurd (none_some m e)) refl (λ b. refl)
+    pools =
+        went_pools req r (request_ended req r) (destroyed_next req r.shared.pools) (destroyed_formed req r.shared.pools s.pools.formed)
+        (λ k apart. (destroyed_apart req r.shared.pools k apart).0) refl (λ m e. absurd (none-some m e)) refl (λ b. refl)
         (s.pools.req req is).1 s.pools;
   }
 

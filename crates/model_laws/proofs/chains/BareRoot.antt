@@ -1,24 +1,20 @@
 -- Nothing is registered on the root.
-use Rattle.std.proofs.Common.{◌≡◌, ℕ, ◌<◌, ◌≤◌, Bool, true, false, cond, List, [], ◌∷◌, filter_map, Option, Some, None, inl, inr, refl, sym, ◌∙◌, ap, arith}
+use Rattle.std.proofs.Common.{subst, ◌≡◌, ℕ, ◌<◌, ◌≤◌, Bool, List, [], ◌∷◌, filter_map, Option, Some, None, inl, inr, refl, sym, ◌∙◌, ap, arith}
 use Rattle.std.proofs.lemmas.Bool.Decides.{eqb_tells}
 use Rattle.module_code.specs.declared.instr.Instr.{Instr}
 use Rattle.module_code.specs.declared.instr.Instr.TheVariants as instr
 use Rattle.module_code.specs.declared.instr.PoolRef.{PoolRef}
-use Rattle.module_code.specs.declared.instr.PoolRef.TheVariants as pool
 use Rattle.module_code.specs.Program.{Program, pool_of_brigade}
-use Rattle.run_model.specs.declared.bucket.Brigade.{Brigade}
-use Rattle.run_model.specs.declared.bucket.BrigadeVar.{BrigadeVar}
-use Rattle.run_model.specs.declared.bucket.BrigadeVar.TheVariants as var
 use Rattle.run_model.specs.declared.payload.Payload.{Payload}
 use Rattle.run_model.specs.declared.payload.Payload.TheVariants.{FileRef}
-use Rattle.run_model.specs.Pools.{Pools, is_under, cleared, created, destroyed, registered}
+use Rattle.run_model.specs.Pools.{Pools, is_under, created, destroyed, registered}
 use Rattle.run_model.specs.RunOrder.{killed}
 use Rattle.run_model.specs.Clearing.{run_down}
-use Rattle.run_model.specs.Cursors.{Place, Nowhere, AtLoose, Within, AtEndOf, spot}
-use Rattle.run_model.specs.Effects.{all_referred, label_killed, label_registered, made_on, new_ref, pool_cleared, pool_destroyed, saved_into, text_of, with_brigade}
+use Rattle.run_model.specs.Cursors.{Place, spot}
+use Rattle.run_model.specs.Effects.{all_referred, label_killed, label_registered, made_on, new_ref, saved_into, text_of, with_brigade}
 use Rattle.run_model.specs.BucketSteps.{aside_into}
 use Rattle.run_model.specs.Sound.{SoundPools}
-use Rattle.run_model.specs.State.{Configuration, items_of, pool_named, set_brigade, set_loose, set_pool, with_pools}
+use Rattle.run_model.specs.State.{Configuration, items_of, pool_named, set_brigade, set_pool, with_pools}
 use Rattle.run_model.specs.Steps.{Choice, current, step}
 use Rattle.run_model.specs.Chains.{Frame, Connection, Common, Linked, configuration, module_at, pools_of}
 use Rattle.run_model.specs.Passing.{Reads}
@@ -27,30 +23,24 @@ use Rattle.model_laws.specs.AsDeclared.{AsDeclared}
 use Rattle.model_laws.specs.ChainSound.{ChainSound}
 use Rattle.model_laws.specs.ChainLaws.{after_top}
 use Rattle.run_model.proofs.Updates.{upd_off}
-use Rattle.model_laws.proofs.NamedPools.{conn_given, made_under_named, on_named}
+use Rattle.std.proofs.lemmas.Bool.{cases_Bool}
+use Rattle.run_model.proofs.References.{Emptied, destroyed_emptied}
+use Rattle.model_laws.proofs.StepPools.{aside_pools}
+use Rattle.model_laws.proofs.PoolsGone.{on_emptied}
+use Rattle.model_laws.proofs.NamedPools.{conn_given, live_pool, made_is, made_under_named, not_both, on_named}
 use Rattle.model_laws.proofs.Unchanged.{step_changes_only}
-use Rattle.model_laws.proofs.chains.EventTurns.{Turn, Same, Drained, Broke, Faulted, Went, Begun, Brought, FileTaken, Ended}
+use Rattle.model_laws.proofs.chains.EventTurns.{Turn, Stood, Went, Begun, Brought, FileTaken, Ended}
 use Rattle.model_laws.proofs.chains.Paths.{named_newer}
 use Rattle.model_laws.proofs.chains.Proceeds.{proceeds_so}
 use Rattle.model_laws.proofs.chains.PutBack.{looking}
 use Rattle.model_laws.proofs.chains.WorldKept.{AnyLength}
 
--- Where a brigade lies.
-
-live_on : (v : BrigadeVar) (n : ℕ) → made_on v ≡ Some n → (w : Brigade) × (v ≡ var.Live w) × (w.on ≡ Some n)
-live_on var.Null n e = absurd (cc)
-live_on var.Gone n e = absurd (cc)
-live_on (var.Live w) n e = (w, refl, e)
-
-none_some : (o : Option ℕ) (n : ℕ) → o ≡ None → o ≡ Some n → ⊥
-none_some o n none some = cc
-
 -- A brigade lies on no older pool than its connection's.
 pub brigade_newer : (p : Program) (r : Configuration) → SoundPools r → AsDeclared p r → (b n : ℕ) → made_on (r.instance.brigades b) ≡ Some n → r.shared.conn ≤ n
 brigade_newer p r s d b n is =
-    let held = live_on (r.instance.brigades b) n is in
+    let held = live_pool (r.instance.brigades b) n (sym (made_is (r.instance.brigades b)) ∙ is) in
     elim (eqb_tells b 8) [
-      | inl came ↦ absurd (none_some held.0.on n (d.incoming held.0 (ap r.instance.brigades (sym came.1) ∙ held.1)) held.2)
+      | inl came ↦ absurd (not_both held.0.on n (d.incoming held.0 (ap r.instance.brigades (sym came.1) ∙ held.1)) held.2)
       | inr own ↦ named_newer r (pool_of_brigade p b) n s (sym (d.brigades b held.0 own.1 held.1).0 ∙ held.2)
     ]
 
@@ -72,17 +62,8 @@ module _ (root : ℕ) where
   unfolding killed
   killed_bare p test ps newer bare = upd_off ps.payloads p root _ (λ same. absurd (omega (arith, same))) ∙ bare
 
-  gone_bare : (t : Bool) (xs : List Payload) → xs ≡ [] → cond t [] xs ≡ []
-  gone_bare true xs bare = refl
-  gone_bare false xs bare = bare
-
-  cleared_bare : (p : ℕ) (ps : Pools Payload) → IsBare ps → IsBare (cleared p ps)
-  unfolding cleared
-  cleared_bare p ps bare = gone_bare (is_under ps p root) (ps.payloads root) bare
-
-  destroyed_bare : (p : ℕ) (ps : Pools Payload) → IsBare ps → IsBare (destroyed p ps)
-  unfolding destroyed
-  destroyed_bare p ps bare = gone_bare (is_under ps p root) (ps.payloads root) bare
+  emptied_bare : (p : ℕ) (ps left : Pools Payload) → Emptied p ps left → IsBare ps → IsBare left
+  emptied_bare p ps left e bare = elim (cases_Bool (is_under ps p root)) [ inl under ↦ e.gone root under | inr off ↦ e.kept root off ∙ bare ]
 
   referred_bare : (target : ℕ) (files : List ℕ) (ps : Pools Payload) → root < target → IsBare ps → IsBare (all_referred target files ps)
   unfolding all_referred
@@ -100,11 +81,7 @@ module _ (root : ℕ) where
   with_brigade_bare (Some n) name ps newer bare = registered_bare n _ ps (newer n refl) bare
 
   aside_bare : (s : Place) (target : ℕ) (r : Configuration) → root < target → Bares r → Bares (aside_into s target r)
-  unfolding set_brigade set_loose with_pools
-  aside_bare Nowhere target r newer bare = bare
-  aside_bare (AtLoose x) target r newer bare = referred_bare target (filter_map (new_ref r.shared.pools target) (x ∷ [])) r.shared.pools newer bare
-  aside_bare (Within b x) target r newer bare = referred_bare target (filter_map (new_ref r.shared.pools target) (x ∷ [])) r.shared.pools newer bare
-  aside_bare (AtEndOf b) target r newer bare = bare
+  aside_bare s target r newer bare = (let left = aside_pools s target r in subst IsBare (sym left.1) (referred_bare target left.0 r.shared.pools newer bare))
 
   module _ (p : Program) (r : Configuration) (s : SoundPools r) (d : AsDeclared p r) (newer : root < r.shared.conn) where
     named_after : (o : PoolRef) (n : ℕ) → pool_named r o ≡ Some n → root < n
@@ -113,8 +90,8 @@ module _ (root : ℕ) where
     pub step_bare : (choice : Choice) (i : Instr) → Bares r → Bares (step p choice i r).state
     unfolding with_pools set_pool run_down set_brigade
     step_bare choice (instr.PCreate q) bare = made_under_named Bares p q r bare (λ parent is. created_bare parent r.shared.pools (let lt = conn_given r s in omega arith) bare)
-    step_bare choice (instr.PClear q) bare = on_named Bares pool_cleared (pool_named r (pool.Own q)) r bare (λ n is. cleared_bare n r.shared.pools bare)
-    step_bare choice (instr.PDestroy q) bare = on_named Bares pool_destroyed (pool_named r (pool.Own q)) r bare (λ n is. destroyed_bare n r.shared.pools bare)
+    step_bare choice (instr.PClear q) bare = (on_emptied Bares q r bare (λ n left is so. emptied_bare n r.shared.pools left so.payloads bare)).0
+    step_bare choice (instr.PDestroy q) bare = (on_emptied Bares q r bare (λ n left is so. emptied_bare n r.shared.pools left so.payloads bare)).1
     step_bare choice (instr.Label q t) bare = on_named Bares (label_registered (text_of p t)) (pool_named r q) r bare (λ n is. registered_bare n _ r.shared.pools (named_after q n is) bare)
     step_bare choice (instr.Unlabel q t) bare = on_named Bares (label_killed (text_of p t)) (pool_named r q) r bare (λ n is. killed_bare n _ r.shared.pools (named_after q n is) bare)
     step_bare choice (instr.BCreate o) bare = with_brigade_bare (pool_named r (pool_of_brigade p o)) r.shared.next r.shared.pools (λ n is. named_after (pool_of_brigade p o) n is) bare
@@ -134,13 +111,10 @@ module _ (root : ℕ) where
 
   pub turn_bare : (chain : List Program) (g : Common) (c : Connection) (v : Linked) → Turn chain AnyLength g c v → ChainSound chain g c → root < c.conn → c.payloads root ≡ [] → v.1.payloads root ≡ []
   unfolding begun all_called configuration run_down with_pools
-  turn_bare chain g c v Same s newer bare = bare
-  turn_bare chain g c v Drained s newer bare = bare
-  turn_bare chain g c v (Broke k other) s newer bare = bare
-  turn_bare chain g c v (Faulted f rest k whole top is) s newer bare = bare
+  turn_bare chain g c v (Stood out broken) s newer bare = bare
   turn_bare chain g c v (Went reads f rest whole may) s newer bare = went_bare chain reads f rest g c s newer bare
   turn_bare chain g c v (Begun whole idle none pools next) s newer bare = created_bare c.conn (pools_of g c) (let lt = conn_given (configuration g c (looking 0)) (s.pools.sound (looking 0)) in omega arith) bare
   turn_bare chain g c v (Brought pieces req whole idle is there next) s newer bare = bare
   turn_bare chain g c v (FileTaken req file bytes whole idle is short newest last) s newer bare =
       registered_bare req (FileRef file) (pools_of g c) (let lt = ((s.pools.sound (looking 0)).req req is).1 in omega arith) bare
-  turn_bare chain g c v (Ended req whole idle is) s newer bare = destroyed_bare req (pools_of g c) bare
+  turn_bare chain g c v (Ended req whole idle is) s newer bare = emptied_bare req (pools_of g c) (destroyed req (pools_of g c)) (destroyed_emptied req (pools_of g c)) bare

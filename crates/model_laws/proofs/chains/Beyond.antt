@@ -29,7 +29,7 @@ use Rattle.model_laws.proofs.CursorNames.{found_there}
 use Rattle.model_laws.specs.ChainFiles.{OfEachBucket}
 use Rattle.model_laws.specs.ChainSound.{count_at, count_loose, count_in, ChainNames, ChainSound, IsFramePlaced}
 use Rattle.model_laws.proofs.chains.EachBucket.{LooseOf, no_calls, one_call}
-use Rattle.model_laws.proofs.chains.EventTurns.{Turn, Same, Drained, Broke, Faulted, Went, Begun, Brought, FileTaken, Ended}
+use Rattle.model_laws.proofs.chains.EventTurns.{Turn, Stood, Went, Begun, Brought, FileTaken, Ended}
 use Rattle.model_laws.proofs.chains.Modules.{next_in_chain}
 use Rattle.model_laws.proofs.chains.Names.{left_either}
 use Rattle.model_laws.proofs.chains.WorldKept.{AnyLength}
@@ -155,10 +155,7 @@ module _ (chain : List Program) (g : Common) (c : Connection) (f : Frame) (beyon
 
 pub turn_beyond : (chain : List Program) (g : Common) (c : Connection) (v : Linked) → 0 < length chain → Turn chain AnyLength g c v → ChainSound chain g c → NoneBeyond chain c → NoneBeyond chain v.1
 unfolding begun all_called
-turn_beyond chain g c v some Same s h = h
-turn_beyond chain g c v some Drained s h = h
-turn_beyond chain g c v some (Broke k other) s h = h
-turn_beyond chain g c v some (Faulted f rest k whole top is) s h = h
+turn_beyond chain g c v some (Stood out broken) s h = h
 turn_beyond chain g c v some (Went reads f rest whole may) s h = proceeds_beyond chain g c f h (placed.of) reads _ rest (λ w more e. (waits w more e).of) where
   all : All (IsFramePlaced chain c.req) (f ∷ rest)
   all = subst (λ (fs : List Frame). All (IsFramePlaced chain c.req) fs) may.on_top s.calls.placed

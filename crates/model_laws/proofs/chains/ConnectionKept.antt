@@ -1,5 +1,6 @@
 -- What each event keeps of its connection, whatever else is there, is so of every connection, in every run.
-use Rattle.std.proofs.Common.{◌≡◌, ℕ, Bool, List, [], Some, None}
+use Rattle.std.proofs.Common.{◌≡◌, ℕ, Bool, List, [], Some}
+use Rattle.std.proofs.lemmas.Option.{none-some}
 use Rattle.module_code.specs.Program.{Program}
 use Rattle.run_model.specs.declared.event.Event.{Event}
 use Rattle.run_model.specs.declared.event.Piece.{Piece}
@@ -7,7 +8,8 @@ use Rattle.run_model.specs.Chains.{Connection, Common, Linked}
 use Rattle.run_model.specs.Passing.{Reads}
 use Rattle.run_model.specs.Turns.{Opening, steps, opened, begins, opens_file, brings, ends}
 use Rattle.run_model.specs.Worlds.{World, Told, Answer, new_world, happens, IsWholeRun}
-use Rattle.model_laws.proofs.chains.EachConnection.{Made, OnOpening, OnBegin, OnBring, OnStep, OnEnd, OnTake, event_each, run_each}
+use Rattle.model_laws.proofs.chains.EventCases.{Made, OnOpening, OnBegin, OnBring, OnStep, OnEnd, OnTake, run_each}
+use Rattle.model_laws.proofs.chains.EachConnection.{event_each}
 
 -- A property of connections that an opening makes and each event keeps.
 pub record EventsKeep (budget : ℕ) (chain : List Program) (P : Connection → Type 0) : Type 0 where
@@ -21,9 +23,6 @@ pub record EventsKeep (budget : ℕ) (chain : List Program) (P : Connection → 
 
 abbrev pub OfEach : (Connection → Type 0) → World → Type 0
 OfEach P w = (k : ℕ) (c : Connection) → w.conns k ≡ Some c → P c
-
-none_some : (c : Connection) → None ≡ Some c → ⊥
-none_some c e = cc
 
 module _ (budget : ℕ) (chain : List Program) (P : Connection → Type 0) (keeps : EventsKeep budget chain P) where
   made_so : (memory : Bool) (told : Told) (g : Common) (c : Connection) (e : Event) (v : Linked) → P c → Made memory budget chain told g c e v → P v.1
@@ -43,4 +42,4 @@ module _ (budget : ℕ) (chain : List Program) (P : Connection → Type 0) (keep
   })
 
   pub run_so : (es : List (ℕ × Event)) (answers : List Answer) (w : World) → IsWholeRun budget chain es answers w → OfEach P w
-  run_so es answers w run = run_each (OfEach P) budget chain event_so es answers (new_world run.first) w run.run (λ k c e. absurd (none_some c e))
+  run_so es answers w run = run_each (OfEach P) budget chain event_so es answers (new_world run.first) w run.run (λ k c e. absurd (none-some c e))

@@ -1,28 +1,24 @@
 -- A cursor holds a name that was given out, and what it names is in one place, in each world that is sound.
 use Rattle.std.proofs.Common.{arith}
 use Rattle.run_model.specs.State.{fresh_call}
-use Rattle.model_laws.specs.ChainCursors.{HoldsGiven, CursorsGiven, EventKeepsWorldCursors, RunKeepsWorldCursors, SoundWorldStandsOnce, WorldRunStandsOnce}
+use Rattle.model_laws.specs.ChainCursors.{HoldsGiven, CursorsGiven, WorldCursors, SoundWorldStandsOnce, WorldRunStandsOnce}
+use Rattle.model_laws.specs.KeptInRuns.{KeptInRuns}
 use Rattle.run_model.specs.Chains.{configuration}
 use Rattle.model_laws.proofs.CursorNames.{step_cursors}
 use Rattle.model_laws.proofs.CursorSpots.{cursors_stand_once}
 use Rattle.model_laws.proofs.chains.Views.{sound_of, sound_resting}
-use Rattle.model_laws.proofs.chains.EachCall.{KeepsCall, each_call_kept}
-use Rattle.model_laws.proofs.chains.WorldKept.{run_keeps_world, event_kept, whole_run_kept, AnyLength, any_length, any_lengths}
+use Rattle.model_laws.proofs.chains.EachCall.{MayGo, KeepsCall, each_call_kept}
+use Rattle.model_laws.proofs.chains.WorldKept.{run_keeps_world, turns_in_runs}
 
-pub cursors_keep : KeepsCall HoldsGiven
+pub cursors_keep : KeepsCall MayGo HoldsGiven
 cursors_keep = record {
   fresh = λ n name. record { given = λ c m e. absurd (cc) };
   risen = λ n m call items le h. record { given = λ c k e. (let lt = h.given c k e in omega arith) };
-  stepped = λ p choice i r may sound h. (let left = step_cursors p choice i r may sound.names (record { given = h.given }) in record { given = left.given });
+  stepped = λ p choice i r ready h. (let left = step_cursors p choice i r ready.0 ready.1.names (record { given = h.given }) in record { given = left.given });
 }
 
-pub event_keeps_cursors : EventKeepsWorldCursors
-event_keeps_cursors memory budget chain told k e w chained s h =
-    (event_kept chain chained AnyLength CursorsGiven (each_call_kept HoldsGiven cursors_keep chain) memory budget told k e w (any_length _) (record { sound = s; kept = h })).kept
-
-pub run_keeps_cursors : RunKeepsWorldCursors
-run_keeps_cursors budget chain es answers w chained run =
-    (whole_run_kept chain chained AnyLength CursorsGiven (each_call_kept HoldsGiven cursors_keep chain) budget es answers w run (any_lengths answers)).kept
+pub cursors_in_runs : KeptInRuns WorldCursors
+cursors_in_runs = turns_in_runs CursorsGiven (each_call_kept HoldsGiven cursors_keep)
 
 pub sound_world_stands_once : SoundWorldStandsOnce
 sound_world_stands_once chain w sound k c at = (

@@ -1,6 +1,6 @@
 -- What is true of each bucket of a connection, through what the instruction of the call on top does. It may speak of the pools.
-use Rattle.std.proofs.Common.{◌≡◌, ℕ, ◌+◌, Bool, true, false, cond, List, [], ◌∷◌, map, get_or, None, All, inl, inr, sym, subst}
-use Rattle.std.proofs.lemmas.List.Elements.{All-nil, All-cons, All-head, All-tail, All-append, All-map}
+use Rattle.std.proofs.Common.{◌≡◌, ℕ, ◌+◌, Bool, true, false, cond, List, [], ◌∷◌, map, None, All, inl, inr, sym, subst, refl}
+use Rattle.std.proofs.lemmas.List.Elements.{All-nil, All-cons, All-head, All-tail, All-append}
 use Rattle.module_code.specs.declared.instr.Instr.{Instr}
 use Rattle.module_code.specs.declared.instr.Instr.TheVariants as instr
 use Rattle.module_code.specs.declared.instr.Status.{Status}
@@ -11,30 +11,24 @@ use Rattle.run_model.specs.declared.bucket.BrigadeVar.TheVariants as var
 use Rattle.run_model.specs.declared.payload.Payload.{Payload}
 use Rattle.run_model.specs.Indexed.{upd}
 use Rattle.run_model.specs.Pools.{Pools}
-use Rattle.run_model.specs.Buckets.{returned_bucket, cleared_bucket}
-use Rattle.run_model.specs.Clearing.{is_reached, cleared_var}
+use Rattle.run_model.specs.Buckets.{cleared_bucket, returned_bucket}
 use Rattle.run_model.specs.State.{Instance, Configuration, items_of, set_brigade}
-use Rattle.run_model.specs.Effects.{do_pass, do_return, handed_over, returned_var, with_items}
+use Rattle.run_model.specs.Effects.{do_pass, do_return, handed_over}
 use Rattle.run_model.specs.Steps.{Choice, answer_to, current, step}
 use Rattle.run_model.specs.Chains.{Frame, Connection, Common, Linked, module_at, is_last, configuration, pools_of, touched_var, touched_bucket, touched_instance, touched_frame, cleared_by, led_to, put_back, stepped_in}
 use Rattle.run_model.specs.Passing.{Reads, handed_in, set_in, passed_to, passed_by, given_back, returned_to, called, delivered, delivered_by, next_called, returned_from, proceeds}
+use Rattle.model_laws.specs.Laws.{is_return}
 use Rattle.model_laws.specs.ChainFiles.{OfEachBucket}
 use Rattle.run_model.proofs.Updates.{upd_either}
+use Rattle.model_laws.proofs.Origins.{HoldsNamed}
+use Rattle.model_laws.proofs.EachItem.{none, handed_over_each, written_each, items_each, mapped_each, each_so, cleared_each, returned_each}
 use Rattle.model_laws.proofs.chains.Names.{left_either}
 
 abbrev pub LooseOf : (NamedBucket → Type 0) → List Frame → Type 0
 LooseOf T fs = All (λ f. All T f.call.loose) fs
 
--- the same of what a call sees
-pub record Holding (T : NamedBucket → Type 0) (r : Configuration) : Type 0 where
-  pub brigades : (b : ℕ) → All T (items_of (r.instance.brigades b))
-  pub loose : All T r.call.loose
-
 -- One property, where nothing changes.
 module _ (T : NamedBucket → Type 0) where
-  pub none : All T []
-  none = All-nil T
-
   pub no_calls : LooseOf T []
   no_calls = All-nil (λ (f : Frame). All T f.call.loose)
 
@@ -42,7 +36,7 @@ module _ (T : NamedBucket → Type 0) where
   one_call f fs h hs = All-cons (λ w. All T w.call.loose) f fs h hs
 
   -- what the call on top sees
-  pub seen_each : (g : Common) (c : Connection) (f : Frame) (rest : List Frame) → c.stack ≡ f ∷ rest → OfEachBucket T c → Holding T (configuration g c f)
+  pub seen_each : (g : Common) (c : Connection) (f : Frame) (rest : List Frame) → c.stack ≡ f ∷ rest → OfEachBucket T c → HoldsNamed T (configuration g c f)
   unfolding configuration
   seen_each g c f rest is h = record { brigades = h.brigades f.of; loose = All-head (λ w. All T w.call.loose) f rest (subst (LooseOf T) is h.loose) }
 
@@ -57,23 +51,6 @@ module _ (T : NamedBucket → Type 0) where
     | inr p ↦ subst (λ (x : Instance). All T (items_of (x.brigades b))) (sym p.1) (all k b)
   ]
 
-  -- a brigade of it is written
-  pub written_variable : (i : Instance) (a : ℕ) (v : BrigadeVar) → ((b : ℕ) → All T (items_of (i.brigades b))) → All T (items_of v) → (b : ℕ) → All T (items_of (upd i.brigades a v b))
-  written_variable i a v all new b = elim (upd_either i.brigades a b v) [
-    | inl p ↦ subst (λ (w : BrigadeVar). All T (items_of w)) (sym p.1) new
-    | inr p ↦ subst (λ (w : BrigadeVar). All T (items_of w)) (sym p.1) (all b)
-  ]
-
-  pub filled_each : (items : List NamedBucket) (v : BrigadeVar) → All T items → All T (items_of (with_items items v))
-  filled_each items var.Null h = none
-  filled_each items var.Gone h = none
-  filled_each items (var.Live v) h = h
-
-  pub handed_over_each : (v : BrigadeVar) → All T (items_of (handed_over v))
-  handed_over_each var.Null = none
-  handed_over_each var.Gone = none
-  handed_over_each (var.Live v) = none
-
   handed_in_each : (v : BrigadeVar) → All T (items_of v) → All T (items_of (handed_in v))
   handed_in_each var.Null h = h
   handed_in_each var.Gone h = h
@@ -81,68 +58,59 @@ module _ (T : NamedBucket → Type 0) where
 
   -- The call of a handler begins, and no other is there.
   pub called_each : (chain : List Program) (k : ℕ) (queue : List ℕ) (g : Common) (c : Connection) → OfEachBucket T c → OfEachBucket T (called chain k queue (g, c)).1
-  called_each chain k queue g c h = record { brigades = h.brigades; loose = one_call _ [] none no_calls }
+  called_each chain k queue g c h = record { brigades = h.brigades; loose = one_call _ [] (none T) no_calls }
 
   pub passed_to_each : (callee : Program) (b : ℕ) (f : Frame) (rest : List Frame) (g : Common) (c : Connection) → c.stack ≡ f ∷ rest → OfEachBucket T c → OfEachBucket T (passed_to callee b f rest (g, c)).1
   unfolding passed_to configuration set_brigade
   passed_to_each callee b f rest g c is h = record {
     brigades = written_instances here (f.of + 1) (set_in (handed_in ((c.instances f.of).brigades b)) (here (f.of + 1))) in_here
-        (written_variable (here (f.of + 1)) 8 (handed_in ((c.instances f.of).brigades b)) (in_here (f.of + 1)) (handed_in_each ((c.instances f.of).brigades b) (h.brigades f.of b)));
-    loose = one_call _ (f ∷ rest) none (subst (LooseOf T) is h.loose);
+        (written_each T (here (f.of + 1)).brigades 8 (handed_in ((c.instances f.of).brigades b)) (handed_in_each ((c.instances f.of).brigades b) (h.brigades f.of b)) (in_here (f.of + 1)));
+    loose = one_call _ (f ∷ rest) (none T) (subst (LooseOf T) is h.loose);
   } where
     here : ℕ → Instance
     here = upd c.instances f.of (do_pass b (configuration g c f)).instance
 
     in_here : (k d : ℕ) → All T (items_of ((here k).brigades d))
     in_here = written_instances c.instances f.of (do_pass b (configuration g c f)).instance h.brigades
-        (written_variable (c.instances f.of) b (handed_over ((c.instances f.of).brigades b)) (h.brigades f.of) (handed_over_each ((c.instances f.of).brigades b)))
+        (written_each T (c.instances f.of).brigades b (handed_over ((c.instances f.of).brigades b)) (handed_over_each T ((c.instances f.of).brigades b)) (h.brigades f.of))
 
   -- what the callee left is the caller's again
   pub given_each : (at : ℕ) (left : List NamedBucket) (k : ℕ) (h : ℕ → Instance) → ((j b : ℕ) → All T (items_of ((h j).brigades b))) → All T left
       → (j b : ℕ) → All T (items_of ((upd h k (given_back at left (h k)) j).brigades b))
-  given_each at left k h all there = written_instances h k (given_back at left (h k)) all (written_variable (h k) at (with_items left ((h k).brigades at)) (all k) (filled_each left ((h k).brigades at) there))
+  given_each at left k h all there = written_instances h k (given_back at left (h k)) all (items_each T (h k).brigades at left there (all k))
+
+-- what an instruction does to a bucket that its call does not see
+pub touched_so : (T : NamedBucket → Type 0) (r : Configuration) (i : Instr)
+    → ((reached : ℕ → Bool) (x : NamedBucket) → T x → T (cleared_bucket reached x)) → (is_return i ≡ true → (x : NamedBucket) → T x → T (returned_bucket r.call.name x))
+    → (x : NamedBucket) → T x → T (touched_bucket r i x)
+touched_so T r (instr.PClear q) cleared returned x t = cleared (cleared_by r q) x t
+touched_so T r (instr.PDestroy q) cleared returned x t = cleared (cleared_by r q) x t
+touched_so T r (instr.Ret s) cleared returned x t = returned refl x t
+touched_so T r i cleared returned x t = t
 
 -- One property before, and one after.
 module _ (Old New : NamedBucket → Type 0) where
-  pub mapped_each : (change : NamedBucket → NamedBucket) → ((x : NamedBucket) → Old x → New (change x)) → (xs : List NamedBucket) → All Old xs → All New (map change xs)
-  mapped_each change keeps xs h = All-map New change xs (λ k d lt. keeps (get_or xs k d) (h k d lt))
-
-  pub each_so : ((x : NamedBucket) → Old x → New x) → (xs : List NamedBucket) → All Old xs → All New xs
-  each_so keeps xs h = λ k d lt. keeps (get_or xs k d) (h k d lt)
-
   pub loose_so : ((x : NamedBucket) → Old x → New x) → (fs : List Frame) → LooseOf Old fs → LooseOf New fs
   loose_so keeps [] h = no_calls New
-  loose_so keeps (f ∷ fs) h = one_call New f fs (each_so keeps f.call.loose (All-head (λ w. All Old w.call.loose) f fs h)) (loose_so keeps fs (All-tail (λ w. All Old w.call.loose) f fs h))
+  loose_so keeps (f ∷ fs) h = one_call New f fs (each_so Old New keeps f.call.loose (All-head (λ w. All Old w.call.loose) f fs h)) (loose_so keeps fs (All-tail (λ w. All Old w.call.loose) f fs h))
 
   pub each_bucket_so : ((x : NamedBucket) → Old x → New x) → (c : Connection) → OfEachBucket Old c → OfEachBucket New c
-  each_bucket_so keeps c h = record { brigades = λ k b. each_so keeps (items_of ((c.instances k).brigades b)) (h.brigades k b); loose = loose_so keeps c.stack h.loose }
-
-  pub cleared_each : (reached : ℕ → Bool) → ((x : NamedBucket) → Old x → New (cleared_bucket reached x)) → (v : BrigadeVar) → All Old (items_of v) → All New (items_of (cleared_var reached v))
-  cleared_each reached keeps var.Null h = none New
-  cleared_each reached keeps var.Gone h = none New
-  cleared_each reached keeps (var.Live v) h = by_test (is_reached reached v.on) where
-    by_test : (b : Bool) → All New (items_of (cond b var.Gone (var.Live (record v { items = map (cleared_bucket reached) v.items }))))
-    by_test true = none New
-    by_test false = mapped_each (cleared_bucket reached) keeps v.items h
-
-  pub returned_each : (call : ℕ) → ((x : NamedBucket) → Old x → New (returned_bucket call x)) → (v : BrigadeVar) → All Old (items_of v) → All New (items_of (returned_var call v))
-  returned_each call keeps var.Null h = none New
-  returned_each call keeps var.Gone h = none New
-  returned_each call keeps (var.Live v) h = mapped_each (returned_bucket call) keeps v.items h
+  each_bucket_so keeps c h = record { brigades = λ k b. each_so Old New keeps (items_of ((c.instances k).brigades b)) (h.brigades k b); loose = loose_so keeps c.stack h.loose }
 
   touched_each : (r : Configuration) (i : Instr) → ((x : NamedBucket) → Old x → New (touched_bucket r i x)) → (v : BrigadeVar) → All Old (items_of v) → All New (items_of (touched_var r i v))
-  touched_each r (instr.PClear q) keeps v h = cleared_each (cleared_by r q) keeps v h
-  touched_each r (instr.PDestroy q) keeps v h = cleared_each (cleared_by r q) keeps v h
-  touched_each r (instr.Ret s) keeps v h = returned_each r.call.name keeps v h
-  touched_each r i keeps v h = each_so keeps (items_of v) h
+  touched_each r (instr.PClear q) keeps v h = cleared_each Old New (cleared_by r q) keeps v h
+  touched_each r (instr.PDestroy q) keeps v h = cleared_each Old New (cleared_by r q) keeps v h
+  touched_each r (instr.Ret s) keeps v h = returned_each Old New r.call.name keeps v h
+  touched_each r i keeps v h = each_so Old New keeps (items_of v) h
 
   touched_loose : (change : NamedBucket → NamedBucket) → ((x : NamedBucket) → Old x → New (change x)) → (fs : List Frame) → LooseOf Old fs → LooseOf New (map (touched_frame change) fs)
   touched_loose change keeps [] h = no_calls New
   touched_loose change keeps (f ∷ fs) h =
-      one_call New (touched_frame change f) (map (touched_frame change) fs) (mapped_each change keeps f.call.loose (All-head (λ w. All Old w.call.loose) f fs h)) (touched_loose change keeps fs (All-tail (λ w. All Old w.call.loose) f fs h))
+      one_call New (touched_frame change f) (map (touched_frame change) fs) (mapped_each Old New change keeps f.call.loose
+      (All-head (λ w. All Old w.call.loose) f fs h)) (touched_loose change keeps fs (All-tail (λ w. All Old w.call.loose) f fs h))
 
   pub put_back_each : (i : Instr) (f : Frame) (s : Configuration) (top rest : List Frame) (g : Common) (c : Connection) → c.stack ≡ f ∷ rest
-      → ((x : NamedBucket) → Old x → New (touched_bucket (configuration g c f) i x)) → Holding New s → LooseOf New top → OfEachBucket Old c → OfEachBucket New (put_back i f s top rest (g, c)).1
+      → ((x : NamedBucket) → Old x → New (touched_bucket (configuration g c f) i x)) → HoldsNamed New s → LooseOf New top → OfEachBucket Old c → OfEachBucket New (put_back i f s top rest (g, c)).1
   unfolding put_back
   put_back_each i f s top rest g c is keeps left tops old = record {
     brigades = λ k b. elim (left_either f.of s.instance (touched_instance (touched_var (configuration g c f) i)) c.instances k) [
@@ -157,7 +125,7 @@ module _ (Old New : NamedBucket → Type 0) where
 module _ (T U : Pools Payload → NamedBucket → Type 0) (chain : List Program) (g : Common) (c : Connection) (f : Frame) where
   -- what the instruction does to buckets that the call sees, and to others
   pub record Steps (i : Instr) : Type 0 where
-    pub held : (choice : Choice) → (let s = (step (module_at chain f.of) choice i (configuration g c f)).state in Holding (U s.shared.pools) s)
+    pub held : (choice : Choice) → (let s = (step (module_at chain f.of) choice i (configuration g c f)).state in HoldsNamed (U s.shared.pools) s)
     pub touched : (choice : Choice) (x : NamedBucket) → T (pools_of g c) x → U (step (module_at chain f.of) choice i (configuration g c f)).state.shared.pools (touched_bucket (configuration g c f) i x)
 
   abbrev Left : Linked → Type 0

@@ -14,7 +14,8 @@ use Rattle.run_model.specs.Chains.{Connection, Common, pools_of}
 use Rattle.run_model.specs.Passing.{set_in}
 use Rattle.run_model.specs.Turns.{all_called, with_pools, fresh_connection, opened, begun, brought_in, request_over}
 use Rattle.model_laws.specs.ChainFiles.{OfEachBucket}
-use Rattle.model_laws.proofs.chains.EachBucket.{LooseOf, none, no_calls, one_call, called_each, written_instances, written_variable, cleared_each}
+use Rattle.model_laws.proofs.EachItem.{none, written_each, cleared_each}
+use Rattle.model_laws.proofs.chains.EachBucket.{LooseOf, no_calls, one_call, called_each, written_instances}
 
 module _ (T : NamedBucket → Type 0) where
   all_called_each : (chain : List Program) (ps : Pools Payload) (g : Common) (c : Connection) → OfEachBucket T c → OfEachBucket T (all_called chain (with_pools ps (g, c))).1
@@ -33,7 +34,7 @@ module _ (T : NamedBucket → Type 0) where
   pub brought_in_each : (chain : List Program) (pieces : List Piece) (req : ℕ) (g : Common) (c : Connection) → All T (named_from (bucket_of g.next req) (g.next + 2) pieces) → OfEachBucket T c
       → OfEachBucket T (brought_in chain pieces req (g, c)).1
   brought_in_each chain pieces req g c new h = record {
-    brigades = written_instances T c.instances 0 (set_in there (c.instances 0)) h.brigades (written_variable T (c.instances 0) 8 there (h.brigades 0) new);
+    brigades = written_instances T c.instances 0 (set_in there (c.instances 0)) h.brigades (written_each T (c.instances 0).brigades 8 there new (h.brigades 0));
     loose = one_call T _ [] (none T) (no_calls T);
   } where
     there : BrigadeVar

@@ -1,52 +1,41 @@
 -- Events keep home and content of each bucket as its kind has them, and names rise.
-use Rattle.std.proofs.Common.{◌≡◌, ℕ, ◌+◌, ◌^◌, ◌<◌, List, [], length, Some, None, All, refl, sym, subst, arith}
-use Rattle.std.proofs.lemmas.List.Elements.{All-cons}
+use Rattle.std.proofs.Common.{◌≡◌, ℕ, ◌+◌, ◌^◌, ◌<◌, List, length, All, refl, sym, subst, arith}
 use Rattle.module_code.specs.Program.{Program}
-use Rattle.run_model.specs.declared.bucket.BrigadeVar.{BrigadeVar}
-use Rattle.run_model.specs.declared.bucket.BrigadeVar.TheVariants as var
-use Rattle.run_model.specs.declared.bucket.Mark.TheVariants.{Usable}
 use Rattle.run_model.specs.declared.event.Piece.{Piece}
-use Rattle.run_model.specs.declared.payload.Payload.{Payload}
-use Rattle.run_model.specs.Pools.{Pools, created, destroyed, is_under}
+use Rattle.run_model.specs.Pools.{created, destroyed, is_under}
 use Rattle.run_model.specs.Clearing.{run_down}
 use Rattle.run_model.specs.State as state
-use Rattle.run_model.specs.Pieces.{bucket_of, named_from}
 use Rattle.run_model.specs.Chains.{Frame, Connection, Common, configuration, pools_of}
-use Rattle.run_model.specs.Passing.{set_in}
-use Rattle.run_model.specs.Turns.{all_called, with_pools, fresh_connection, opened, begun, brought_in, file_taken, request_over}
+use Rattle.run_model.specs.Turns.{all_called, opened, begun, brought_in, file_taken, request_over}
 use Rattle.model_laws.specs.ChainSound.{ChainBuckets}
 use Rattle.model_laws.specs.ChainLaws.{Rises}
-use Rattle.model_laws.proofs.StepBuckets.{ProperList, none_proper, named_proper, cleared_list}
-use Rattle.model_laws.proofs.chains.Buckets.{no_calls, written_instances, written_variable, called_buckets}
+use Rattle.model_laws.proofs.EachItem.{cleared_each}
+use Rattle.model_laws.proofs.StepBuckets.{IsProper, ProperList, named_proper, cleared_proper}
+use Rattle.model_laws.proofs.chains.Buckets.{each_proper, chain_buckets}
+use Rattle.model_laws.proofs.chains.EachEvent.{opened_each, begun_each, brought_in_each}
 
 -- Buckets.
 
-all_called_buckets : (chain : List Program) (ps : Pools Payload) (g : Common) (c : Connection) → ChainBuckets c → ChainBuckets (all_called chain (with_pools ps (g, c))).1
-unfolding all_called
-all_called_buckets chain ps g c s = called_buckets chain 0 _ (with_pools ps (g, c)).0 (record (with_pools ps (g, c)).1 { count = 0 }) (record { brigades = s.brigades; loose = s.loose })
-
 pub opened_buckets : (chain : List Program) (g : Common) → ChainBuckets (opened chain g).1
-unfolding opened
-opened_buckets chain g = all_called_buckets chain (created g.root (pools_of g (fresh_connection g))) g (fresh_connection g) (record { brigades = λ k b. none_proper; loose = no_calls })
+opened_buckets chain g = chain_buckets _ (opened_each IsProper chain g)
 
 pub begun_buckets : (chain : List Program) (g : Common) (c : Connection) → ChainBuckets c → ChainBuckets (begun chain (g, c)).1
-unfolding begun
-begun_buckets chain g c s = all_called_buckets chain (created c.conn (pools_of g c)) g (record c { req = Some g.pools }) (record { brigades = s.brigades; loose = s.loose })
+begun_buckets chain g c s = chain_buckets _ (begun_each IsProper chain g c (each_proper c s))
 
 pub brought_in_buckets : (chain : List Program) (pieces : List Piece) (req : ℕ) (g : Common) (c : Connection) → ChainBuckets c → ChainBuckets (brought_in chain pieces req (g, c)).1
-brought_in_buckets chain pieces req g c s = record {
-  brigades = written_instances c.instances 0 (set_in there (c.instances 0)) s.brigades (written_variable (c.instances 0) 8 there (s.brigades 0) (named_proper g.next req (g.next + 2) pieces));
-  loose = All-cons (λ w. ProperList w.call.loose) _ [] none_proper no_calls;
-} where
-  there : BrigadeVar
-  there = var.Live (record { name = g.next + 1; on = None; mark = Usable; items = named_from (bucket_of g.next req) (g.next + 2) pieces })
+brought_in_buckets chain pieces req g c s = chain_buckets _ (brought_in_each IsProper chain pieces req g c (named_proper g.next req (g.next + 2) pieces) (each_proper c s))
 
 pub file_taken_buckets : (req file : ℕ) (bytes : List ℕ) (g : Common) (c : Connection) → ChainBuckets c → ChainBuckets (file_taken req file bytes (g, c)).1
 file_taken_buckets req file bytes g c s = record { brigades = s.brigades; loose = s.loose }
 
 -- between calls
 pub request_over_buckets : (req : ℕ) (g : Common) (c : Connection) → ChainBuckets c → ChainBuckets (request_over req (g, c)).1
-request_over_buckets req g c s = record { brigades = λ k b. cleared_list (is_under (pools_of g c) req) ((c.instances k).brigades b) (s.brigades k b); loose = s.loose }
+request_over_buckets req g c s =
+    record {
+      brigades = λ k b. cleared_each IsProper IsProper (is_under (pools_of g c) req) (cleared_proper (is_under (pools_of g c) req))
+          ((c.instances k).brigades b) (s.brigades k b);
+      loose = s.loose;
+    }
 
 -- output, count and cause change
 pub same_chain_buckets : (c new : Connection) → new.instances ≡ c.instances → new.stack ≡ c.stack → ChainBuckets c → ChainBuckets new

@@ -1,5 +1,6 @@
 -- What happens around a chain's steps keeps its pools sound.
 use Rattle.std.proofs.Common.{◌≡◌, ℕ, ◌+◌, ◌^◌, ◌<◌, ◌≤◌, true, List, [], ◌∷◌, Some, None, inr, refl, sym, ◌∙◌, ap, subst, arith}
+use Rattle.std.proofs.lemmas.Option.{none-some, same_Some}
 use Rattle.module_code.specs.declared.instr.PoolRef.{PoolRef}
 use Rattle.module_code.specs.declared.instr.PoolRef.TheVariants as pool
 use Rattle.module_code.specs.Program.{Program}
@@ -25,7 +26,7 @@ use Rattle.run_model.proofs.Formed.{path_live, planted_live, planted_formed, cre
 use Rattle.run_model.proofs.RunOrderLaws.{under_itself}
 use Rattle.model_laws.proofs.NamedPools.{conn_given}
 use Rattle.model_laws.proofs.PoolsKept.{keeps_paths, went_pools}
-use Rattle.model_laws.proofs.AsDeclared.{carried, kept, same_vars, went, not_live, some_same}
+use Rattle.model_laws.proofs.AsDeclared.{carried, kept, same_vars, went, not_live}
 use Rattle.model_laws.proofs.chains.Instances.{one_instance, same_instances, one_brigade}
 use Rattle.model_laws.proofs.chains.PutBack.{same_sound, same_declared}
 use Rattle.model_laws.proofs.chains.TopPools.{LinkedPools}
@@ -99,12 +100,12 @@ begun_sound r limit s =
       formed = created_formed r.shared.conn r.shared.pools s.conn s.formed;
       conn = created_lives r.shared.conn r.shared.pools r.shared.conn s.conn;
       req = λ n e.
-          (let is : r.shared.pools.next ≡ n = some_same r.shared.pools.next n e in (
+          (let is : r.shared.pools.next ≡ n = same_Some r.shared.pools.next n e in (
             subst (λ (k : ℕ). (created r.shared.conn r.shared.pools).path k ≡ k ∷ (created r.shared.conn r.shared.pools).path r.shared.conn) is
                 (created_at r.shared.conn r.shared.pools ∙ ap (λ (path : List ℕ). r.shared.pools.next ∷ path) (sym (created_kept r.shared.conn r.shared.pools r.shared.conn given))),
             omega (arith, is),
           ));
-      own = λ q n e. (let old = s.own q n e in (old.0, omega (arith, old.1), λ again. absurd (let is : r.shared.pools.next ≡ n = some_same r.shared.pools.next n again in omega (arith, is, old.1))));
+      own = λ q n e. (let old = s.own q n e in (old.0, omega (arith, old.1), λ again. absurd (let is : r.shared.pools.next ≡ n = same_Some r.shared.pools.next n again in omega (arith, is, old.1))));
       brigades = λ b n e. created_lives r.shared.conn r.shared.pools n (s.brigades b n e);
     }
 
@@ -118,13 +119,10 @@ begun_declared p r none s d =
       named = λ k m e live same. named k m e;
       brigades = λ b w e. (w, e, refl, λ m at. stays m (s.formed.named m (s.brigades b m (ap brigade_pool e ∙ at))));
     }) d where
-      none_some : (m : ℕ) → None ≡ Some m → ⊥
-      none_some m e = cc
-
       named : (k : PoolRef) (m : ℕ) → pool_named r k ≡ Some m → pool_named (request_begun r) k ≡ Some m
       named pool.Conn m e = e
       named (pool.Own q) m e = e
-      named pool.Req m e = absurd (none_some m (sym none ∙ e))
+      named pool.Req m e = absurd (none-some m (sym none ∙ e))
 
 pub begun_pools : (chain : List Program) (g : Common) (c : Connection) → c.req ≡ None → g.pools + 1 < 2 ^ 64 → ChainPools chain g c → LinkedPools chain (begun chain (g, c))
 unfolding begun configuration created
@@ -161,7 +159,7 @@ unfolding named_at
 over_named r new req own conn is gone pool.Conn m e live stays = ap (λ (k : ℕ). Some k) conn ∙ e
 over_named r new req own conn is gone (pool.Own q) m e live stays = ap (λ (g : ℕ → PoolVar). name_in (g q)) own ∙ e
 over_named r new req own conn is gone pool.Req m e live stays =
-    let same : req ≡ m = some_same req m (sym is ∙ e) in
+    let same : req ≡ m = same_Some req m (sym is ∙ e) in
     absurd (live_path r.shared.pools m live (sym stays ∙ subst (λ (k : ℕ). new.shared.pools.path k ≡ []) same gone))
 
 pub request_over_pools : (chain : List Program) (req : ℕ) (g : Common) (c : Connection) → c.req ≡ Some req → ChainPools chain g c → LinkedPools chain (request_over req (g, c))

@@ -1,5 +1,5 @@
 -- What an event makes of its connection: one of a few turns, each with what is known where it is taken.
-use Rattle.std.proofs.Common.{◌≡◌, ◌≢◌, ℕ, ◌+◌, ◌^◌, ◌<◌, ◌≤◌, Bool, false, ◌||◌, not, List, [], ◌∷◌, length, Option, Some, None, is_some, Result, Ok, Err, refl, arith}
+use Rattle.std.proofs.Common.{◌≡◌, ℕ, ◌+◌, ◌^◌, ◌<◌, ◌≤◌, Bool, false, ◌||◌, not, List, [], ◌∷◌, length, Option, Some, None, is_some, Result, Ok, Err, refl, arith}
 use Rattle.std.specs.List.{list_any}
 use Rattle.module_code.specs.Program.{Program}
 use Rattle.run_model.specs.declared.event.Cause.{Cause}
@@ -7,18 +7,17 @@ use Rattle.run_model.specs.declared.event.Cause.TheVariants as cause
 use Rattle.run_model.specs.declared.event.Piece.{Piece}
 use Rattle.run_model.specs.declared.event.Refusal.{Refusal}
 use Rattle.run_model.specs.declared.event.Refusal.TheVariants as refusal
-use Rattle.run_model.specs.declared.fault.FaultKind.{FaultKind}
-use Rattle.run_model.specs.Faults.{fault}
-use Rattle.run_model.specs.Steps.{current, is_spent}
+use Rattle.run_model.specs.Steps.{is_spent}
 use Rattle.run_model.specs.Refusals.{first_refusal, if_broken}
 use Rattle.run_model.specs.Pieces.{data_behind_eos, lacks_file}
-use Rattle.run_model.specs.Chains.{Frame, Connection, Common, Linked, module_at, configuration, IsChain}
+use Rattle.run_model.specs.State.{Out}
+use Rattle.run_model.specs.Chains.{Frame, Connection, Common, Linked, IsChain}
 use Rattle.run_model.specs.Passing.{Reads}
 use Rattle.run_model.specs.Turns.{Opening, Found, Missing, Failing, is_missing, is_failing, number_given, steps, unless_refused, is_busy, begun, begins, file_taken, file_answer, opens_file, brought_in, brought, brings, request_over, ended, ends}
 use Rattle.model_laws.specs.ChainLaws.{MayProceed, after_top}
 use Rattle.model_laws.proofs.StepNames.{not_spent}
 use Rattle.model_laws.proofs.StepFiles.{neither}
-use Rattle.model_laws.proofs.EventAnswers.{none_first, none_if}
+use Rattle.model_laws.proofs.EventAnswers.{unless_so, none_first, none_if}
 use Rattle.model_laws.proofs.chains.StepCases.{step_cases}
 
 -- a file that was opened has one of these lengths
@@ -28,15 +27,8 @@ OpensAs Lengths (Err r) = Unit {0}
 
 -- Lengths: which lengths an opened file may have.
 pub data Turn (chain : List Program) (Lengths : ℕ → Type 0) (g : Common) (c : Connection) : Linked → Type 0 where
-  -- nothing changes
-  Same : Turn chain Lengths g c (g, c)
-  -- the output is taken
-  Drained : Turn chain Lengths g c (g, record c { out = record c.out { bytes = [] } })
-  -- a step lacks something
-  Broke : (k : Cause) → k ≢ cause.Faulted → Turn chain Lengths g c (g, record c { broken = Some k })
-  -- a step has a fault
-  Faulted : (f : Frame) (rest : List Frame) (k : FaultKind) → c.broken ≡ None → c.stack ≡ f ∷ rest → fault (module_at chain f.of) (configuration g c f) (current (module_at chain f.of) f.pc) ≡ Some k
-      → Turn chain Lengths g c (g, record c { broken = Some cause.Faulted })
+  -- nothing changes but the output, or why the connection is broken
+  Stood : (out : Out) (broken : Option Cause) → Turn chain Lengths g c (g, record c { out = out; broken = broken })
   -- the instruction of the call on top
   Went : (reads : Reads) (f : Frame) (rest : List Frame) → c.broken ≡ None → MayProceed chain g c f rest
       → Turn chain Lengths g c ((after_top chain reads g c f rest).0, record (after_top chain reads g c f rest).1 { count = (after_top chain reads g c f rest).1.count + 1 })
@@ -48,6 +40,13 @@ pub data Turn (chain : List Program) (Lengths : ℕ → Type 0) (g : Common) (c 
   FileTaken : (req file : ℕ) (bytes : List ℕ) → c.broken ≡ None → c.stack ≡ [] → c.req ≡ Some req → Lengths (length bytes) → g.file ≤ file → is_spent file 1 ≡ false → Turn chain Lengths g c (file_taken req file bytes (g, c))
   -- a request ends
   Ended : (req : ℕ) → c.broken ≡ None → c.stack ≡ [] → c.req ≡ Some req → Turn chain Lengths g c (request_over req (g, c))
+
+pub Same : {chain : List Program} {Lengths : ℕ → Type 0} {g : Common} {c : Connection} → Turn chain Lengths g c (g, c)
+Same {c = c} = Stood c.out c.broken
+
+-- the output is taken
+pub Drained : {chain : List Program} {Lengths : ℕ → Type 0} {g : Common} {c : Connection} → Turn chain Lengths g c (g, record c { out = record c.out { bytes = [] } })
+Drained {c = c} = Stood (record c.out { bytes = [] }) c.broken
 
 pub not_broken : (b : Option Cause) (ts : List (Option Refusal)) → first_refusal (if_broken b ∷ ts) ≡ None → b ≡ None
 not_broken None ts h = refl
@@ -63,8 +62,7 @@ no_request (Some n) h = absurd (cc)
 
 module _ (chain : List Program) (Lengths : ℕ → Type 0) (g : Common) (c : Connection) where
   unless : (o : Option Refusal) (new : Linked) → (o ≡ None → Turn chain Lengths g c new) → Turn chain Lengths g c (unless_refused o (g, c) new).1
-  unless None new h = h refl
-  unless (Some r) new h = Same
+  unless o new made = unless_so (Turn chain Lengths g c) o (g, c) new Same made
 
   pub begins_turn : (memory : Bool) → Turn chain Lengths g c (begins memory chain (g, c)).1
   unfolding begins
@@ -122,5 +120,6 @@ module _ (chain : List Program) (Lengths : ℕ → Type 0) (g : Common) (c : Con
       ended_turn c.req refl (not_broken c.broken _ none) (not_busy c.stack b.0))
 
   pub steps_turn : IsChain chain → (memory : Bool) (budget : ℕ) (reads : Reads) → Turn chain Lengths g c (steps memory budget chain reads (g, c)).1
-  steps_turn chained memory budget reads = step_cases (Turn chain Lengths g c) memory budget chain reads g c Same Broke Faulted
+  steps_turn chained memory budget reads =
+      step_cases (Turn chain Lengths g c) memory budget chain reads g c Same (λ k other. Stood c.out (Some k)) (λ f rest k whole top is. Stood c.out (Some cause.Faulted))
       (λ f rest whole few ready. Went reads f rest whole (record { chained = chained; on_top = ready.on_top; faultless = ready.faultless; names_last = ready.names_last; calls_last = ready.calls_last }))

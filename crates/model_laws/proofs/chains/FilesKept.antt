@@ -1,5 +1,6 @@
 -- The files of FILE buckets stay open in each connection with a chain.
 use Rattle.std.proofs.Common.{◌≡◌, ◌⊎◌, ℕ, ◌+◌, Bool, true, false, ◌&&◌, ◌||◌, ◌==◌, List, [], ◌∷◌, length, nat_le, filter_map, Option, Some, None, is_some, inl, inr, refl, sym, ◌∙◌, ap, subst, eqb-true}
+use Rattle.std.proofs.lemmas.Option.{none-some, same_Some}
 use Rattle.std.proofs.lemmas.List.Folds.{list_any-append}
 use Rattle.module_code.specs.declared.instr.PoolRef.TheVariants as pool
 use Rattle.module_code.specs.declared.instr.Instr.{Instr}
@@ -9,13 +10,13 @@ use Rattle.run_model.specs.declared.bucket.NamedBucket.{NamedBucket}
 use Rattle.run_model.specs.declared.payload.Payload.{Payload}
 use Rattle.run_model.specs.declared.payload.Payload.TheVariants.{FileRef, Label}
 use Rattle.run_model.specs.Indexed.{upd}
-use Rattle.run_model.specs.Pools.{Pools, is_under, planted, created, registered, cleared, destroyed}
+use Rattle.run_model.specs.Pools.{Pools, is_under, planted, created, registered, destroyed}
 use Rattle.run_model.specs.RunOrder.{IsPoolMap, killed}
 use Rattle.run_model.specs.Payloads.{is_label}
-use Rattle.run_model.specs.Buckets.{cleared_bucket, returned_bucket}
+use Rattle.run_model.specs.Buckets.{cleared_bucket}
 use Rattle.run_model.specs.Clearing.{run_down}
-use Rattle.run_model.specs.State.{Configuration, items_of, pool_named, set_pool, with_pools, set_brigade, set_loose}
-use Rattle.run_model.specs.Cursors.{Place, Nowhere, AtLoose, Within, AtEndOf, spot}
+use Rattle.run_model.specs.State.{Configuration, items_of, pool_named, set_pool, with_pools, set_brigade}
+use Rattle.run_model.specs.Cursors.{Place, spot}
 use Rattle.run_model.specs.BucketSteps.{aside_into}
 use Rattle.run_model.specs.Steps.{Choice, with_brigade, all_referred, step, current, on_pool, label_registered, label_killed, text_of, saved_into, made_on, new_ref, pool_cleared, pool_destroyed}
 use Rattle.run_model.specs.Pieces.{has_range}
@@ -26,12 +27,15 @@ use Rattle.run_model.specs.Passing.{Reads, proceeds}
 use Rattle.run_model.specs.Turns.{all_called, fresh_connection, opened, begun, file_taken, request_over}
 use Rattle.model_laws.specs.ChainSound.{ChainSound}
 use Rattle.model_laws.specs.ChainLaws.{MayProceed, after_top}
-use Rattle.model_laws.specs.ChainFiles.{OfEachBucket, IsOpen, ChainFiles, EventKeepsWorldFiles, RunKeepsWorldFiles}
+use Rattle.model_laws.specs.ChainFiles.{OfEachBucket, IsOpen, ChainFiles, WorldFiles}
+use Rattle.model_laws.specs.KeptInRuns.{KeptInRuns}
 use Rattle.run_model.proofs.Updates.{upd_either}
+use Rattle.model_laws.proofs.StepPools.{aside_pools}
 use Rattle.model_laws.proofs.NamedPools.{on_named, made_under_named}
 use Rattle.model_laws.proofs.MadeBrigades.{brigade_refers}
-use Rattle.run_model.proofs.References.{one_of, created_refers, created_back, registered_refers, registered_back, registered_itself, all_grow, killed_refers, emptied_refers, cleared_emptied, destroyed_emptied}
-use Rattle.model_laws.proofs.StepFiles.{left_home, spared_home, none_held, went_and, step_files}
+use Rattle.run_model.proofs.References.{Emptied, one_of, created_refers, created_back, registered_refers, registered_back, registered_itself, all_grow, killed_refers, emptied_refers, cleared_emptied, destroyed_emptied}
+use Rattle.model_laws.proofs.StepFiles.{cleared_held, returned_held, went_and, step_files}
+use Rattle.model_laws.proofs.EachItem.{none}
 use Rattle.model_laws.proofs.PieceFiles.{pieces_held}
 use Rattle.model_laws.proofs.Unchanged.{step_changes_only}
 use Rattle.model_laws.proofs.chains.PutBack.{looking}
@@ -39,9 +43,9 @@ use Rattle.model_laws.proofs.chains.Views.{sound_top}
 use Rattle.model_laws.proofs.chains.TopSteps.{may_step}
 use Rattle.model_laws.proofs.chains.EachBucket.{seen_each, each_bucket_so, proceeds_each}
 use Rattle.model_laws.proofs.chains.EachEvent.{opened_each, begun_each, brought_in_each, request_over_each}
-use Rattle.model_laws.proofs.chains.EventTurns.{Turn, Same, Drained, Broke, Faulted, Went, Begun, Brought, FileTaken, Ended}
+use Rattle.model_laws.proofs.chains.EventTurns.{Turn, Stood, Went, Begun, Brought, FileTaken, Ended}
 use Rattle.model_laws.proofs.chains.Proceeds.{proceeds_files, proceeds_so}
-use Rattle.model_laws.proofs.chains.WorldKept.{TurnsKeep, event_kept, whole_run_kept, AnyLength, any_length, any_lengths}
+use Rattle.model_laws.proofs.chains.WorldKept.{TurnsKeep, AnyLength, turns_in_runs}
 
 -- What an instruction leaves of the references in pools.
 
@@ -52,34 +56,21 @@ held_so : (ps new : Pools Payload) → Grows ps new → (x : NamedBucket) → Ha
 held_so ps new grow x h = λ file start len p c at. grow p file (h file start len p c at)
 
 aside_grows : (s : Place) (target : ℕ) (r : Configuration) → Grows r.shared.pools (aside_into s target r).shared.pools
-unfolding set_brigade set_loose with_pools
-aside_grows Nowhere target r p file h = h
-aside_grows (AtLoose x) target r p file h = all_grow target (filter_map (new_ref r.shared.pools target) (x ∷ [])) r.shared.pools p file h
-aside_grows (Within b x) target r p file h = all_grow target (filter_map (new_ref r.shared.pools target) (x ∷ [])) r.shared.pools p file h
-aside_grows (AtEndOf b) target r p file h = h
-
--- a bucket that a clear reaches
-cleared_held : (reached : ℕ → Bool) (ps new : Pools Payload) → ((p file : ℕ) → reached p ≡ false → refers ps p file ≡ true → refers new p file ≡ true) → (x : NamedBucket) → HasReference ps x
-    → HasReference new (cleared_bucket reached x)
-cleared_held reached ps new keeps x h = λ file start len p c at. let old = spared_home reached _ p at in keeps p file old.1 (h file start len p c old.0)
-
-returned_held : (call : ℕ) (ps : Pools Payload) (x : NamedBucket) → HasReference ps x → HasReference ps (returned_bucket call x)
-returned_held call ps x h = λ file start len p c at. h file start len p c (left_home call _ p at)
+aside_grows s target r p file h = (let left = aside_pools s target r in subst (λ (ps : Pools Payload). refers ps p file ≡ true) (sym left.1) (all_grow target left.0 r.shared.pools p file h))
 
 -- a bucket that the call does not see is held as it was
 abbrev Leaves : Configuration → NamedBucket → Configuration → Type 0
 Leaves r x s = HasReference s.shared.pools x
 
+gone_held : (gone : ℕ → Configuration → Configuration) (o : Option ℕ) (r : Configuration) → ((n : ℕ) → Emptied n r.shared.pools (gone n r).shared.pools)
+    → (x : NamedBucket) → HasReference r.shared.pools x → HasReference (on_pool gone o r).shared.pools (cleared_bucket (is_under_named r.shared.pools o) x)
+gone_held gone None r e x h = cleared_held (λ m. false) r.shared.pools r.shared.pools (λ m file off there. there) x h
+gone_held gone (Some n) r e x h = cleared_held (is_under r.shared.pools n) r.shared.pools (gone n r).shared.pools (λ m file off there. emptied_refers n r.shared.pools _ (e n) m file off there) x h
+
 touched_held : (p : Program) (choice : Choice) (i : Instr) (r : Configuration) → IsPoolMap r.shared.pools → (x : NamedBucket) → HasReference r.shared.pools x → HasReference (step p choice i r).state.shared.pools (touched_bucket r i x)
 unfolding with_pools set_pool run_down set_brigade
-touched_held p choice (instr.PClear q) r formed x h = by_named (pool_named r (pool.Own q)) where
-  by_named : (o : Option ℕ) → HasReference (on_pool pool_cleared o r).shared.pools (cleared_bucket (is_under_named r.shared.pools o) x)
-  by_named None = cleared_held (λ m. false) r.shared.pools r.shared.pools (λ m file off there. there) x h
-  by_named (Some n) = cleared_held (is_under r.shared.pools n) r.shared.pools (cleared n r.shared.pools) (λ m file off there. emptied_refers n r.shared.pools _ (cleared_emptied n r.shared.pools) m file off there) x h
-touched_held p choice (instr.PDestroy q) r formed x h = by_named (pool_named r (pool.Own q)) where
-  by_named : (o : Option ℕ) → HasReference (on_pool pool_destroyed o r).shared.pools (cleared_bucket (is_under_named r.shared.pools o) x)
-  by_named None = cleared_held (λ m. false) r.shared.pools r.shared.pools (λ m file off there. there) x h
-  by_named (Some n) = cleared_held (is_under r.shared.pools n) r.shared.pools (destroyed n r.shared.pools) (λ m file off there. emptied_refers n r.shared.pools _ (destroyed_emptied n r.shared.pools) m file off there) x h
+touched_held p choice (instr.PClear q) r formed x h = gone_held pool_cleared (pool_named r (pool.Own q)) r (λ n. cleared_emptied n r.shared.pools) x h
+touched_held p choice (instr.PDestroy q) r formed x h = gone_held pool_destroyed (pool_named r (pool.Own q)) r (λ n. destroyed_emptied n r.shared.pools) x h
 touched_held p choice (instr.Ret s) r formed x h = returned_held r.call.name r.shared.pools x h
 touched_held p choice (instr.PCreate q) r formed x h = made_under_named (Leaves r x) p q r h (λ parent e. held_so r.shared.pools (created parent r.shared.pools) (λ m file there. created_refers parent r.shared.pools m file formed there) x h)
 touched_held p choice (instr.Label q t) r formed x h =
@@ -195,17 +186,11 @@ taken_files req new_file bytes g c is h =
       request = λ file end q has at. elim (one_of (has_range c.files file end) (has_range ((new_file, length bytes) ∷ []) file end)
           (sym (list_any-append (λ (f : ℕ × ℕ). f.0 == file && nat_le end f.1) c.files ((new_file, length bytes) ∷ [])) ∙ has)) [
             | inl old ↦ grow q file (h.request file end q old at)
-            | inr last ↦ (let same : req ≡ q = some_same req q (sym is ∙ at) in
+            | inr last ↦ (let same : req ≡ q = same_Some req q (sym is ∙ at) in
                 subst (λ (k : ℕ). refers new k file ≡ true) same (subst (λ (k : ℕ). refers new req k ≡ true) (eqb-true new_file file (first_of (new_file == file) (nat_le end (length bytes)) last)) (registered_itself req new_file ps)))
           ];
-      between = λ none. absurd (none_some req (sym none ∙ is));
+      between = λ none. absurd (none-some req (sym none ∙ is));
     } where
-      none_some : (n : ℕ) → None ≡ Some n → ⊥
-      none_some n e = cc
-
-      some_same : (a b : ℕ) → Some a ≡ Some b → a ≡ b
-      some_same a b e = cc
-
       first_of : (a b : Bool) → ((a && b) || false) ≡ true → a ≡ true
       first_of true b e = refl
       first_of false b e = absurd (cc)
@@ -215,7 +200,7 @@ unfolding configuration run_down with_pools
 over_files chain req g c idle s h =
     let ps : Pools Payload = pools_of g c in
     let r : Configuration = configuration g c (looking 0) in
-    let seen : SoundFiles c.files r = record { lasts = h.lasts; brigades = h.held.brigades 0; loose = none_held ps; request = h.request } in
+    let seen : SoundFiles c.files r = record { lasts = h.lasts; brigades = h.held.brigades 0; loose = none (HasReference ps); request = h.request } in
     let gone = went_and [] req r (destroyed req ps) (destroyed_emptied req ps) (s.pools.sound (looking 0)) (λ file end q has is. absurd (cc)) c.files seen in
     record {
       lasts = gone.lasts;
@@ -227,10 +212,7 @@ over_files chain req g c idle s h =
 
 turn_files : (chain : List Program) (g : Common) (c : Connection) (v : Linked) → Turn chain AnyLength g c v → ChainSound chain g c → Kept g c → Kept v.0 v.1
 unfolding configuration
-turn_files chain g c v Same s h = h
-turn_files chain g c v Drained s h = record { lasts = h.lasts; held = record { brigades = h.held.brigades; loose = h.held.loose }; request = h.request; between = h.between }
-turn_files chain g c v (Broke k other) s h = record { lasts = h.lasts; held = record { brigades = h.held.brigades; loose = h.held.loose }; request = h.request; between = h.between }
-turn_files chain g c v (Faulted f rest k whole top is) s h = record { lasts = h.lasts; held = record { brigades = h.held.brigades; loose = h.held.loose }; request = h.request; between = h.between }
+turn_files chain g c v (Stood out broken) s h = record { lasts = h.lasts; held = record { brigades = h.held.brigades; loose = h.held.loose }; request = h.request; between = h.between }
 turn_files chain g c v (Went reads f rest whole may) s h =
     let left = went_files chain reads f rest g c may s h in
     record { lasts = left.lasts; held = record { brigades = left.held.brigades; loose = left.held.loose }; request = left.request; between = left.between }
@@ -258,10 +240,5 @@ files_kept chain = record {
   turns = λ g c v has t s new h. with_open v.0 v.1 (turn_files chain g c v t s (kept_of g c h));
 }
 
-pub event_keeps_files : EventKeepsWorldFiles
-event_keeps_files memory budget chain told k e w chained s h =
-    (event_kept chain chained AnyLength ChainFiles (files_kept chain) memory budget told k e w (any_length _) (record { sound = s; kept = h })).kept
-
-pub run_keeps_files : RunKeepsWorldFiles
-run_keeps_files budget chain es answers w chained run =
-    (whole_run_kept chain chained AnyLength ChainFiles (files_kept chain) budget es answers w run (any_lengths answers)).kept
+pub files_in_runs : KeptInRuns WorldFiles
+files_in_runs = turns_in_runs ChainFiles files_kept

@@ -21,18 +21,22 @@ use Rattle.run_model.specs.Turns.{all_called, opened, begun, brought_in, request
 use Rattle.model_laws.specs.ChainSound.{ChainSound}
 use Rattle.model_laws.specs.ChainLaws.{MayProceed, after_top}
 use Rattle.model_laws.specs.ChainFiles.{OfEachBucket}
-use Rattle.model_laws.specs.ChainHomes.{IsCalled, HomeIsAlive, ChainHomes, EventKeepsWorldHomes, RunKeepsWorldHomes}
+use Rattle.model_laws.specs.ChainHomes.{IsCalled, HomeIsAlive, ChainHomes, WorldHomes}
+use Rattle.model_laws.specs.KeptInRuns.{KeptInRuns}
 use Rattle.run_model.proofs.Formed.{path_live}
 use Rattle.run_model.proofs.PoolMap.{created_lives}
+use Rattle.model_laws.proofs.PoolsGone.{destroyed_so, apart_lives}
 use Rattle.model_laws.proofs.Unchanged.{step_changes_only}
 use Rattle.model_laws.proofs.chains.PutBack.{looking}
 use Rattle.model_laws.proofs.chains.Views.{sound_top}
 use Rattle.model_laws.proofs.chains.TopSteps.{may_step}
-use Rattle.model_laws.proofs.chains.EachBucket.{Steps, Holding, none, seen_each, each_so, each_bucket_so, proceeds_each}
+use Rattle.model_laws.proofs.Origins.{HoldsNamed}
+use Rattle.model_laws.proofs.EachItem.{none, each_so}
+use Rattle.model_laws.proofs.chains.EachBucket.{Steps, seen_each, each_bucket_so, proceeds_each}
 use Rattle.model_laws.proofs.chains.EachEvent.{opened_each, begun_each, brought_in_each, request_over_each}
-use Rattle.model_laws.proofs.chains.EventTurns.{Turn, Same, Drained, Broke, Faulted, Went, Begun, Brought, FileTaken, Ended}
-use Rattle.model_laws.proofs.chains.StepHomes.{AliveHome, AliveAs, home_so, cleared_home, destroyed_lasts, touched_alive, step_alive, returned_alive, return_alive}
-use Rattle.model_laws.proofs.chains.WorldKept.{TurnsKeep, event_kept, whole_run_kept, AnyLength, any_length, any_lengths}
+use Rattle.model_laws.proofs.chains.EventTurns.{Turn, Stood, Went, Begun, Brought, FileTaken, Ended}
+use Rattle.model_laws.proofs.chains.StepHomes.{AliveHome, AliveAs, home_so, cleared_home, touched_alive, step_alive, returned_alive, return_alive}
+use Rattle.model_laws.proofs.chains.WorldKept.{TurnsKeep, AnyLength, turns_in_runs}
 
 -- The stack that an instruction leaves.
 
@@ -80,7 +84,8 @@ module _ (chain : List Program) (g : Common) (c : Connection) (f : Frame) (rest 
   weaker : (ps : Pools Payload) → ((n : ℕ) → C n → D n) → (x : NamedBucket) → AliveAs C ps x → AliveAs D ps x
   weaker ps calls x a = home_so C D ps ps calls (λ n live. live) x.bucket.home a
 
-  going_on : (i : Instr) → is_return i ≡ false → ((n : ℕ) → C n → D n) → MayExecute (module_at chain f.of) (configuration g c f) i → Sound (configuration g c f) → Holding (AliveAs C (pools_of g c)) (configuration g c f)
+  going_on : (i : Instr) → is_return i ≡ false → ((n : ℕ) → C n → D n) → MayExecute (module_at chain f.of) (configuration g c f) i
+      → Sound (configuration g c f) → HoldsNamed (AliveAs C (pools_of g c)) (configuration g c f)
       → Steps (AliveAs C) (AliveAs D) chain g c f i
   unfolding configuration IsCalled
   going_on i on calls may sound h = record {
@@ -94,14 +99,16 @@ module _ (chain : List Program) (g : Common) (c : Connection) (f : Frame) (rest 
     touched = λ choice x a. weaker (step (module_at chain f.of) choice i (configuration g c f)).state.shared.pools calls (touched_bucket (configuration g c f) i x) (touched_alive C (module_at chain f.of) choice i (configuration g c f) on x a);
   }
 
-  homes_step : (i : Instr) → ((n : ℕ) → C n → (is_return i ≡ true → n ≢ f.call.name) → D n) → MayExecute (module_at chain f.of) (configuration g c f) i → Sound (configuration g c f) → Holding (AliveAs C (pools_of g c)) (configuration g c f)
+  homes_step : (i : Instr) → ((n : ℕ) → C n → (is_return i ≡ true → n ≢ f.call.name) → D n)
+      → MayExecute (module_at chain f.of) (configuration g c f) i → Sound (configuration g c f) → HoldsNamed (AliveAs C (pools_of g c)) (configuration g c f)
       → Steps (AliveAs C) (AliveAs D) chain g c f i
   unfolding configuration
   homes_step i others may sound h = by_return (is_return i) refl where
     by_return : (b : Bool) → is_return i ≡ b → Steps (AliveAs C) (AliveAs D) chain g c f i
     by_return false on = going_on i on (λ n there. others n there (λ yes. absurd (cc))) may sound h
     by_return true on = at_return i on others may h where
-      at_return : (i : Instr) → is_return i ≡ true → ((n : ℕ) → C n → (is_return i ≡ true → n ≢ f.call.name) → D n) → MayExecute (module_at chain f.of) (configuration g c f) i → Holding (AliveAs C (pools_of g c)) (configuration g c f)
+      at_return : (i : Instr) → is_return i ≡ true → ((n : ℕ) → C n → (is_return i ≡ true → n ≢ f.call.name) → D n)
+          → MayExecute (module_at chain f.of) (configuration g c f) i → HoldsNamed (AliveAs C (pools_of g c)) (configuration g c f)
           → Steps (AliveAs C) (AliveAs D) chain g c f i
       at_return (instr.Ret s) on others may h = record {
         held = λ choice. return_alive C D (configuration g c f) (λ n there ne. others n there (λ yes. ne)) h;
@@ -154,14 +161,12 @@ over_homes : (req : ℕ) (g : Common) (c : Connection) → c.stack ≡ [] → Ch
 unfolding configuration run_down with_pools
 over_homes req g c idle h =
     request_over_each (HomeIsAlive g c) (AliveAs (IsCalled c.stack) (destroyed req (pools_of g c))) req g c idle
-    (λ x a. cleared_home (IsCalled c.stack) (pools_of g c) (destroyed req (pools_of g c)) (is_under (pools_of g c) req) (destroyed_lasts req (pools_of g c)) x.bucket.home a) h
+    (λ x a. cleared_home (IsCalled c.stack) (pools_of g c) (destroyed req (pools_of g c)) (is_under (pools_of g c) req)
+    (apart_lives req (pools_of g c) (destroyed req (pools_of g c)) (destroyed_so req (pools_of g c))) x.bucket.home a) h
 
 turn_homes : (chain : List Program) (g : Common) (c : Connection) (v : Linked) → Turn chain AnyLength g c v → ChainSound chain g c → ChainHomes g c → ChainHomes v.0 v.1
 unfolding configuration is_live registered
-turn_homes chain g c v Same s h = h
-turn_homes chain g c v Drained s h = record { brigades = h.brigades; loose = h.loose }
-turn_homes chain g c v (Broke k other) s h = record { brigades = h.brigades; loose = h.loose }
-turn_homes chain g c v (Faulted f rest k whole top is) s h = record { brigades = h.brigades; loose = h.loose }
+turn_homes chain g c v (Stood out broken) s h = record { brigades = h.brigades; loose = h.loose }
 turn_homes chain g c v (Went reads f rest whole may) s h = (let left = went_homes chain reads f rest g c may s h in record { brigades = left.brigades; loose = left.loose })
 turn_homes chain g c v (Begun whole idle no_request pools next) s h = begun_homes chain g c idle h
 turn_homes chain g c v (Brought pieces req whole idle is there next) s h = brought_homes chain pieces req g c idle (path_live (pools_of g c) req req _ ((s.pools.sound (looking 0)).req req is).0) h
@@ -180,10 +185,5 @@ homes_kept chain = record {
   turns = λ g c v has t s new h. turn_homes chain g c v t s h;
 }
 
-pub event_keeps_homes : EventKeepsWorldHomes
-event_keeps_homes memory budget chain told k e w chained s h =
-    (event_kept chain chained AnyLength ChainHomes (homes_kept chain) memory budget told k e w (any_length _) (record { sound = s; kept = h })).kept
-
-pub run_keeps_homes : RunKeepsWorldHomes
-run_keeps_homes budget chain es answers w chained run =
-    (whole_run_kept chain chained AnyLength ChainHomes (homes_kept chain) budget es answers w run (any_lengths answers)).kept
+pub homes_in_runs : KeptInRuns WorldHomes
+homes_in_runs = turns_in_runs ChainHomes homes_kept

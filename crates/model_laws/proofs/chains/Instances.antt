@@ -1,5 +1,5 @@
 -- Where instances change and the pools stay: brigades stay on their pools, or one comes in that lies on none.
-use Rattle.std.proofs.Common.{◌≡◌, ◌≢◌, ◌⊎◌, ℕ, true, List, Option, Some, None, inl, inr, refl, sym, ◌∙◌, ap, subst}
+use Rattle.std.proofs.Common.{◌≡◌, ◌≢◌, ◌⊎◌, ℕ, true, List, Some, None, inl, inr, refl, sym, ◌∙◌, ap, subst}
 use Rattle.module_code.specs.declared.instr.PoolRef.{PoolRef}
 use Rattle.module_code.specs.Program.{Program, pool_of_brigade}
 use Rattle.run_model.specs.declared.bucket.Brigade.{Brigade}
@@ -17,7 +17,9 @@ use Rattle.run_model.specs.Chains.{Connection, Common, module_at, configuration,
 use Rattle.model_laws.specs.ChainSound.{ChainPools}
 use Rattle.run_model.proofs.Updates.{upd_either}
 use Rattle.model_laws.proofs.PoolsKept.{keeps_pools}
-use Rattle.model_laws.proofs.AsDeclared.{KeepsPool, same_on, named_same}
+use Rattle.model_laws.proofs.NamedPools.{live_pool, not_both}
+use Rattle.model_laws.proofs.AsDeclared.{named_same}
+use Rattle.model_laws.proofs.BrigadePools.{KeepsPool, same_on}
 use Rattle.model_laws.proofs.chains.PutBack.{same_sound, same_declared}
 
 -- A brigade stays on its pool, or it is `in` and lies on none.
@@ -30,14 +32,6 @@ pub record StaysInstance (old new : Instance) : Type 0 where
 
 pub same_instance : (x : Instance) → StaysInstance x x
 same_instance x = record { own = refl; brigades = λ b. inl (same_on (x.brigades b)) }
-
-live_pool : (v : BrigadeVar) (n : ℕ) → brigade_pool v ≡ Some n → (w : Brigade) × (v ≡ var.Live w) × (w.on ≡ Some n)
-live_pool var.Null n e = absurd (cc)
-live_pool var.Gone n e = absurd (cc)
-live_pool (var.Live w) n e = (w, refl, e)
-
-not_both : (o : Option ℕ) (n : ℕ) → o ≡ None → o ≡ Some n → ⊥
-not_both o n none some = cc
 
 changed_sound : (r : Configuration) (x : Instance) → StaysInstance r.instance x → SoundPools r → SoundPools (record r { instance = x })
 changed_sound r x t s = keeps_pools r (record r { instance = x }) refl refl refl t.own (λ b n e. by_brigade b n (live_pool (x.brigades b) n e) (t.brigades b)) s where

@@ -1,5 +1,6 @@
 -- What an event leaves of the tree of its world is the tree of the world that it leaves.
-use Rattle.std.proofs.Common.{◌≡◌, ◌≢◌, ℕ, suc, ◌<◌, true, false, not, nat_lt, List, [], ◌∷◌, Some, Result, Ok, Err, inl, inr, refl, sym, ◌∙◌, ap, subst}
+use Rattle.std.proofs.Common.{Option, ◌≡◌, ◌≢◌, ℕ, suc, ◌<◌, true, false, not, nat_lt, List, [], ◌∷◌, Some, Result, Ok, Err, inl, inr, refl, sym, ◌∙◌, ap, subst}
+use Rattle.std.proofs.lemmas.Option.{same_Some}
 use Rattle.std.proofs.lemmas.Bool.{cases_Bool, both_ways, false_from_ne_true, ltb-true, ltb-false}
 use Rattle.module_code.specs.Program.{Program}
 use Rattle.module_code.specs.declared.instr.Instr.{Instr}
@@ -24,7 +25,7 @@ use Rattle.model_laws.specs.SharedPools.{LiesOver, over, seen_in}
 use Rattle.model_laws.specs.SharedTree.{BeginsLeaveTheTree, BringsLeaveTheTree, EndsLeaveTheTree, OpenFilesLeaveTheTree, StepsLeaveTheTree}
 use Rattle.run_model.specs.RunOrder.{IsPoolMap}
 use Rattle.run_model.proofs.Updates.{upd_at, upd_either, upd_off}
-use Rattle.model_laws.proofs.chains.EventTurns.{Turn, Same, Drained, Broke, Faulted, Went, Begun, Brought, FileTaken, Ended, OpensAs, begins_turn, brings_turn, ends_turn, opens_file_turn, steps_turn}
+use Rattle.model_laws.proofs.chains.EventTurns.{Turn, Stood, Went, Begun, Brought, FileTaken, Ended, OpensAs, begins_turn, brings_turn, ends_turn, opens_file_turn, steps_turn}
 use Rattle.model_laws.proofs.chains.OverTree.{reached_lies_over}
 use Rattle.model_laws.proofs.chains.PoolsApart.{run_keeps_pools_apart}
 use Rattle.model_laws.proofs.chains.Proceeds.{proceeds_conn, proceeds_so}
@@ -63,10 +64,7 @@ module _ (chain : List Program) (ps : Pools Payload) (g : Common) (c : Connectio
 
   pub turn_within : (v : Linked) → Turn chain AnyLength g all v → StaysWithin c.conn whole (pools_of v.0 v.1)
   unfolding begun all_called configuration run_down with_pools registered
-  turn_within v Same = unturned v refl refl refl
-  turn_within v Drained = unturned v refl refl refl
-  turn_within v (Broke k other) = unturned v refl refl refl
-  turn_within v (Faulted f rest k sane top is) = unturned v refl refl refl
+  turn_within v (Stood out broken) = unturned v refl refl refl
   turn_within v (Went reads f rest sane may) =
       let i : Instr = current (module_at chain f.of) f.pc in
       let left = proceeds_so (λ new files next req. StaysWithin c.conn whole new) chain reads i f rest g all (λ choice. step_within c.conn (module_at chain f.of) (configuration g all f) (l.lies f) choice i may.faultless) (unturned (g, all) refl refl refl) in
@@ -78,10 +76,7 @@ module _ (chain : List Program) (ps : Pools Payload) (g : Common) (c : Connectio
 
   turn_conn : (v : Linked) → Turn chain AnyLength g all v → v.1.conn ≡ c.conn
   unfolding begun all_called configuration run_down with_pools
-  turn_conn v Same = refl
-  turn_conn v Drained = refl
-  turn_conn v (Broke k other) = refl
-  turn_conn v (Faulted f rest k sane top is) = refl
+  turn_conn v (Stood out broken) = refl
   turn_conn v (Went reads f rest sane may) = proceeds_conn chain reads (current (module_at chain f.of) f.pc) f rest g all
   turn_conn v (Begun sane idle none pools next) = refl
   turn_conn v (Brought pieces req sane idle is there next) = refl
@@ -95,10 +90,7 @@ module _ (chain : List Program) (ps : Pools Payload) (g : Common) (c : Connectio
 
     turn_spares : (v : Linked) → Turn chain AnyLength g all v → Spares v
     unfolding begun all_called configuration run_down with_pools registered
-    turn_spares v Same = same_next d whole whole refl
-    turn_spares v Drained = same_next d whole whole refl
-    turn_spares v (Broke k sane) = same_next d whole whole refl
-    turn_spares v (Faulted f rest k sane top is) = same_next d whole whole refl
+    turn_spares v (Stood out broken) = same_next d whole whole refl
     turn_spares v (Went reads f rest sane may) = top_spares d chain reads (current (module_at chain f.of) f.pc) f rest g all (l.lies f) other ne may.faultless
     turn_spares v (Begun sane idle none pools next) = others_stay Made c.conn d c.conn whole has other ne (part_under whole c.conn has)
     turn_spares v (Brought pieces req sane idle is there next) = same_next d whole whole refl
@@ -106,9 +98,6 @@ module _ (chain : List Program) (ps : Pools Payload) (g : Common) (c : Connectio
     turn_spares v (Ended req sane idle is) = others_stay Destroyed c.conn d req whole has other ne (request req is)
 
 -- The world that it leaves.
-
-some_is : (a b : Connection) → Some a ≡ Some b → a ≡ b
-some_is a b e = cc
 
 -- What is known of a world and its tree, at the connection k.
 pub record Stands (chain : List Program) (w : World) (ps : Pools Payload) (k : ℕ) (c : Connection) : Type 0 where
@@ -121,6 +110,21 @@ pub record Stands (chain : List Program) (w : World) (ps : Pools Payload) (k : �
   pub tops : (j : ℕ) (d : Connection) → w.conns j ≡ Some d → HasPart ps d.conn
   pub differ : (j : ℕ) (d : Connection) → w.conns j ≡ Some d → j ≢ k → c.conn ≢ d.conn
   pub lies : LiesOver ps w.common c
+
+-- a pool that stood under another connection's goes on doing so, whatever comes of this one
+pub stands_on : (chain : List Program) (w : World) (ps : Pools Payload) (k : ℕ) (c : Connection) → Stands chain w ps k c
+    → (x : Option Connection) (left : World) → left.conns ≡ upd w.conns k x → left.last ≡ w.last
+    → (now : Pools Payload) (n : ℕ) → is_under ps c.conn n ≡ false → now.path n ≡ ps.path n → StandsWith w ps n → StandsWith left now n
+unfolding is_under
+stands_on chain w ps k c s x left conns last now n apart same o = record {
+  number = o.number;
+  conn = o.conn;
+  given = subst (λ (m : ℕ). o.number < m) (sym last) o.given;
+  there = ap (λ (h : ℕ → Option Connection). h (suc o.number)) conns ∙ upd_off w.conns k (suc o.number) x other ∙ o.there;
+  under = ap (is_in o.conn.conn) same ∙ o.under;
+} where
+  other : suc o.number ≢ k
+  other is = both_ways (is_in c.conn (ps.path n)) apart (ap (λ (y : Connection). is_in y.conn (ps.path n)) (same_Some c o.conn (sym s.here ∙ ap w.conns (sym is) ∙ o.there)) ∙ o.under)
 
 module _ (chain : List Program) (w : World) (ps : Pools Payload) (k : ℕ) (c : Connection) (s : Stands chain w ps k c) (v : Linked) (t : Turn chain AnyLength w.common (over ps c) v) where
   abbrev left : World
@@ -158,7 +162,7 @@ module _ (chain : List Program) (w : World) (ps : Pools Payload) (k : ℕ) (c : 
 
   parts_then : (j : ℕ) (d : Connection) → left.conns j ≡ Some d → HasItsPart now d
   parts_then j d at = elim (upd_either w.conns k j (Some (linked_in_part c.conn v).1)) [
-    | inl here ↦ subst (λ (x : Connection). HasItsPart now x) (some_is (linked_in_part c.conn v).1 d (sym here.1 ∙ at)) its_own
+    | inl here ↦ subst (λ (x : Connection). HasItsPart now x) (same_Some (linked_in_part c.conn v).1 d (sym here.1 ∙ at)) its_own
     | inr off ↦ others_part j d (sym off.1 ∙ at) off.0
   ]
 
@@ -174,9 +178,7 @@ module _ (chain : List Program) (w : World) (ps : Pools Payload) (k : ℕ) (c : 
   -- a pool that stood under another's
   another : (n : ℕ) → is_under (pools_of w.common (over ps c)) c.conn n ≡ false → now.path n ≡ ps.path n → StandsWith w ps n → StandsWith left now n
   unfolding is_under
-  another n apart same o = record { number = o.number; conn = o.conn; given = o.given; there = upd_off w.conns k (suc o.number) _ other ∙ o.there; under = ap (is_in o.conn.conn) same ∙ o.under } where
-    other : suc o.number ≢ k
-    other is = both_ways (is_in c.conn (ps.path n)) apart (ap (λ (x : Connection). is_in x.conn (ps.path n)) (some_is c o.conn (sym s.here ∙ ap w.conns (sym is) ∙ o.there)) ∙ o.under)
+  another n apart same o = stands_on chain w ps k c s (Some (linked_in_part c.conn v).1) left refl refl now n apart same o
 
   covered : (n : ℕ) → is_live now n ≡ true → n ≢ w.common.root → StandsWith left now n
   unfolding is_live

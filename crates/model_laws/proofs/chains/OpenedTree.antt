@@ -1,5 +1,6 @@
 -- What opens has a new pool right under the root, and with what closes its pool goes.
-use Rattle.std.proofs.Common.{◌≡◌, ◌≢◌, ℕ, suc, ◌+◌, ◌<◌, ◌==◌, true, false, not, List, [], ◌∷◌, Some, None, inl, inr, refl, sym, ◌∙◌, ap, subst, arith, eq-eqb}
+use Rattle.std.proofs.Common.{◌≡◌, ◌≢◌, ℕ, suc, ◌+◌, ◌<◌, ◌==◌, true, not, List, [], ◌∷◌, Some, None, inl, inr, refl, sym, ◌∙◌, ap, subst, arith, eq-eqb}
+use Rattle.std.proofs.lemmas.Option.{none-some, same_Some}
 use Rattle.std.proofs.lemmas.Bool.{cases_Bool, both_ways, false_from_ne_true}
 use Rattle.module_code.specs.Program.{Program}
 use Rattle.run_model.specs.declared.payload.Payload.{Payload}
@@ -17,18 +18,12 @@ use Rattle.run_model.proofs.PoolMap.{created_at, created_kept, destroyed_apart, 
 use Rattle.run_model.proofs.References.{or_left}
 use Rattle.run_model.proofs.Updates.{upd_at, upd_either, upd_off}
 use Rattle.model_laws.proofs.chains.BareRoot.{created_bare}
-use Rattle.model_laws.proofs.chains.LeftTree.{Stands, laws, pools_apart, reached_stands}
+use Rattle.model_laws.proofs.chains.LeftTree.{Stands, stands_on, laws, pools_apart, reached_stands}
 use Rattle.model_laws.proofs.chains.TreeParts.{reached_tree, top_in}
 use Rattle.model_laws.proofs.parts.Joined.{parts_whole}
 use Rattle.model_laws.proofs.parts.Order.{new_planted}
 use Rattle.model_laws.proofs.parts.Others.{new_spares, others_stay}
 use Rattle.model_laws.proofs.parts.Paths.{part_under, top_apart}
-
-some_is : (a b : Connection) → Some a ≡ Some b → a ≡ b
-some_is a b e = cc
-
-none_some : (a : Connection) → None ≡ Some a → ⊥
-none_some a e = cc
 
 -- A connection is closed.
 module _ (chain : List Program) (w : World) (ps : Pools Payload) (k : ℕ) (c : Connection) (s : Stands chain w ps k c) where
@@ -46,7 +41,7 @@ module _ (chain : List Program) (w : World) (ps : Pools Payload) (k : ℕ) (c : 
 
   -- who is there then was there before, and is another
   was : (j : ℕ) (d : Connection) → closed.conns j ≡ Some d → (w.conns j ≡ Some d) × (j ≢ k)
-  was j d at = elim (upd_either w.conns k j None) [ inl here ↦ absurd (none_some d (sym here.1 ∙ at)) | inr off ↦ (sym off.1 ∙ at, off.0) ]
+  was j d at = elim (upd_either w.conns k j None) [ inl here ↦ absurd (none-some d (sym here.1 ∙ at)) | inr off ↦ (sym off.1 ∙ at, off.0) ]
 
   part_then : (j : ℕ) (d : Connection) → closed.conns j ≡ Some d → HasItsPart gone d
   part_then j d at =
@@ -55,17 +50,12 @@ module _ (chain : List Program) (w : World) (ps : Pools Payload) (k : ℕ) (c : 
       let old = s.pools.parts j d there.0 in
       record { path = old.path ∙ sym (ap (λ (qs : Pools Payload). qs.path) still); payloads = old.payloads ∙ sym (ap (λ (qs : Pools Payload). qs.payloads) still) }
 
-  another : (n : ℕ) → is_under ps c.conn n ≡ false → gone.path n ≡ ps.path n → StandsWith w ps n → StandsWith closed gone n
-  unfolding is_under
-  another n apart same o = record { number = o.number; conn = o.conn; given = o.given; there = upd_off w.conns k (suc o.number) None other ∙ o.there; under = ap (is_in o.conn.conn) same ∙ o.under } where
-    other : suc o.number ≢ k
-    other is = both_ways (is_in c.conn (ps.path n)) apart (ap (λ (x : Connection). is_in x.conn (ps.path n)) (some_is c o.conn (sym s.here ∙ ap w.conns (sym is) ∙ o.there)) ∙ o.under)
-
   covered : (n : ℕ) → is_live gone n ≡ true → n ≢ w.common.root → StandsWith closed gone n
   unfolding is_live
   covered n live other = elim (cases_Bool (is_under ps c.conn n)) [
     | inl under ↦ absurd (live_path gone n live (destroyed_under c.conn ps n under).0)
-    | inr apart ↦ (let same : gone.path n ≡ ps.path n = (destroyed_apart c.conn ps n apart).0 in another n apart same (s.pools.covered n (ap (λ (path : List ℕ). not (is_empty path)) (sym same) ∙ live) other))
+    | inr apart ↦ (let same : gone.path n ≡ ps.path n = (destroyed_apart c.conn ps n apart).0 in
+        stands_on chain w ps k c s None closed refl refl gone n apart same (s.pools.covered n (ap (λ (path : List ℕ). not (is_empty path)) (sym same) ∙ live) other))
   ]
 
   closed_tree : tree_of (record w { conns = upd w.conns k None }) ≡ destroyed c.conn ps
@@ -129,7 +119,7 @@ module _ (budget : ℕ) (chain : List Program) (w : World) (chained : IsChain ch
 
   parts_then : (j : ℕ) (d : Connection) → more.conns j ≡ Some d → HasItsPart now d
   parts_then j d at = elim (upd_either w.conns (w.last + 1) j (Some fresh)) [
-    | inl here ↦ subst (HasItsPart now) (some_is fresh d (sym here.1 ∙ at)) fresh_part
+    | inl here ↦ subst (HasItsPart now) (same_Some fresh d (sym here.1 ∙ at)) fresh_part
     | inr off ↦ old_part j d (sym off.1 ∙ at)
   ]
 

@@ -1,5 +1,5 @@
 -- Counts stay within the budget, and a module of which no call runs or waits has nothing brought.
-use Rattle.std.proofs.Common.{◌≡◌, ◌≢◌, ℕ, ◌+◌, ◌≤◌, Bool, true, false, ◌||◌, ◌==◌, cond, List, [], ◌∷◌, map, Option, None, Some, Result, Ok, Err, inl, inr, refl, sym, ◌∙◌, ap, subst, arith, eq-eqb, ne_eqb}
+use Rattle.std.proofs.Common.{◌≡◌, ◌≢◌, ℕ, ◌+◌, ◌≤◌, Bool, true, false, ◌||◌, ◌==◌, cond, List, [], ◌∷◌, map, Option, None, Some, inl, inr, refl, sym, ◌∙◌, ap, subst, arith, eq-eqb, ne_eqb}
 use Rattle.module_code.specs.Program.{Program}
 use Rattle.module_code.specs.declared.instr.Instr.{Instr}
 use Rattle.module_code.specs.declared.instr.Instr.TheVariants as instr
@@ -8,7 +8,6 @@ use Rattle.run_model.specs.declared.bucket.BrigadeVar.{BrigadeVar}
 use Rattle.run_model.specs.declared.bucket.BrigadeVar.TheVariants as var
 use Rattle.module_code.specs.declared.instr.Status.{Status}
 use Rattle.run_model.specs.declared.event.Piece.{Piece}
-use Rattle.run_model.specs.declared.event.Refusal.{Refusal}
 use Rattle.run_model.specs.Pools.{is_under}
 use Rattle.run_model.specs.Clearing.{cleared_var}
 use Rattle.run_model.specs.State.{Instance, Configuration, items_of}
@@ -16,12 +15,14 @@ use Rattle.run_model.specs.Effects.{do_return, returned_var}
 use Rattle.run_model.specs.Steps.{Choice, answer_to, current, step}
 use Rattle.run_model.specs.Chains.{Frame, Connection, Common, Linked, module_at, is_last, configuration, pools_of, touched_var, touched_bucket, cleared_by, led_to, touched_instance, touched_frame, put_back, stepped_in, IsChain}
 use Rattle.run_model.specs.Passing.{Reads, delivered, delivered_by, passed_to, after_pass, returned_to, next_called, returned_from, proceeds}
-use Rattle.run_model.specs.Turns.{Opening, Found, Missing, Failing, unless_refused, all_called, opened, begun, begins, file_answer, opens_file, brought, brings, ended, ends, steps}
+use Rattle.run_model.specs.Turns.{Opening, all_called, opened, begun, begins, opens_file, brought, brings, ended, ends, steps}
 use Rattle.model_laws.specs.ChainOrder.{has_call, ChainOrder, EventKeepsWorldOrder, RunKeepsWorldOrder}
+use Rattle.model_laws.proofs.EventAnswers.{unless_so, answer_so}
+use Rattle.model_laws.proofs.chains.EachConnection.{opening_turn}
 use Rattle.model_laws.proofs.StepFiles.{neither}
 use Rattle.run_model.proofs.Updates.{upd_off}
 use Rattle.model_laws.proofs.chains.Names.{left_either}
-use Rattle.model_laws.proofs.chains.EventTurns.{OpensAs, Turn, Same, Drained, Broke, Faulted, Went, Begun, Brought, FileTaken, Ended, begins_turn, brings_turn, opens_file_turn, ends_turn, steps_turn}
+use Rattle.model_laws.proofs.chains.EventTurns.{Turn, Stood, Went, Begun, Brought, FileTaken, Ended, begins_turn, brings_turn, ends_turn, steps_turn}
 use Rattle.model_laws.proofs.chains.Proceeds.{proceeds_count}
 use Rattle.model_laws.proofs.chains.StepCases.{steps_so}
 use Rattle.model_laws.proofs.chains.ConnectionKept.{EventsKeep, event_so, run_so}
@@ -118,10 +119,7 @@ idle_vacant c idle h k = h k (subst (λ (fs : List Frame). has_call fs k ≡ fal
 
 turn_vacant : (chain : List Program) (g : Common) (c : Connection) (v : Linked) → Turn chain AnyLength g c v → Vacant c → Vacant v.1
 unfolding begun all_called
-turn_vacant chain g c v Same h = h
-turn_vacant chain g c v Drained h = h
-turn_vacant chain g c v (Broke k other) h = h
-turn_vacant chain g c v (Faulted f rest k whole top is) h = h
+turn_vacant chain g c v (Stood out broken) h = h
 turn_vacant chain g c v (Went reads f rest whole may) h = proceeds_vacant chain reads (current (module_at chain f.of) f.pc) f rest g c may.on_top h
 turn_vacant chain g c v (Begun whole idle none pools next) h = λ k free. idle_vacant c idle h k
 turn_vacant chain g c v (Brought pieces req whole idle is there next) h = λ k free. (let parts = others_free _ _ k free in ap (λ (x : Instance). x.brigades 8) (upd_off c.instances 0 k _ parts.0) ∙ idle_vacant c idle h k)
@@ -130,39 +128,31 @@ turn_vacant chain g c v (Ended req whole idle is) h = λ k free. ap (cleared_var
 
 -- Counts.
 
-unless_few : (budget : ℕ) (o : Option Refusal) (old new : Linked) → old.1.count ≤ budget → new.1.count ≤ budget → (unless_refused o old new).1.1.count ≤ budget
-unless_few budget None old new h few = few
-unless_few budget (Some r) old new h few = h
-
-file_few : (budget : ℕ) (o : Option Refusal) (req : Option ℕ) (opening : Opening) (w : Linked) → w.1.count ≤ budget → (file_answer o req opening w).1.1.count ≤ budget
-file_few budget (Some r) req opening w h = h
-file_few budget None None opening w h = h
-file_few budget None (Some req) Missing w h = h
-file_few budget None (Some req) Failing w h = h
-file_few budget None (Some req) (Found skipped bytes) w h = h
+abbrev WithinBudget : ℕ → Linked → Type 0
+WithinBudget budget v = v.1.count ≤ budget
 
 module _ (budget : ℕ) (chain : List Program) (chained : IsChain chain) where
   begins_few : (memory : Bool) (g : Common) (c : Connection) → c.count ≤ budget → (begins memory chain (g, c)).1.1.count ≤ budget
   unfolding begins begun all_called
-  begins_few memory g c h = unless_few budget _ (g, c) (begun chain (g, c)) h (omega arith)
+  begins_few memory g c h = unless_so (WithinBudget budget) _ (g, c) (begun chain (g, c)) h (λ none. omega arith)
 
   brings_few : (memory : Bool) (pieces : List Piece) (g : Common) (c : Connection) → c.count ≤ budget → (brings memory chain pieces (g, c)).1.1.count ≤ budget
   unfolding brings
-  brings_few memory pieces g c h = unless_few budget _ (g, c) (brought chain pieces c.req (g, c)) h (by_request c.req) where
+  brings_few memory pieces g c h = unless_so (WithinBudget budget) _ (g, c) (brought chain pieces c.req (g, c)) h (λ none. by_request c.req) where
     by_request : (req : Option ℕ) → (brought chain pieces req (g, c)).1.count ≤ budget
     by_request None = h
     by_request (Some req) = omega arith
 
   ends_few : (memory : Bool) (g : Common) (c : Connection) → c.count ≤ budget → (ends memory (g, c)).1.1.count ≤ budget
   unfolding ends
-  ends_few memory g c h = unless_few budget _ (g, c) (ended c.req (g, c)) h (by_request c.req) where
+  ends_few memory g c h = unless_so (WithinBudget budget) _ (g, c) (ended c.req (g, c)) h (λ none. by_request c.req) where
     by_request : (req : Option ℕ) → (ended req (g, c)).1.count ≤ budget
     by_request None = h
     by_request (Some req) = h
 
   opens_file_few : (memory : Bool) (opening : Opening) (g : Common) (c : Connection) → c.count ≤ budget → (opens_file memory opening (g, c)).1.1.count ≤ budget
   unfolding opens_file
-  opens_file_few memory opening g c h = file_few budget _ c.req opening (g, c) h
+  opens_file_few memory opening g c h = answer_so (WithinBudget budget) _ c.req opening (g, c) h (λ n skipped bytes is. h)
 
   steps_few : (memory : Bool) (reads : Reads) (g : Common) (c : Connection) → c.count ≤ budget → (steps memory budget chain reads (g, c)).1.1.count ≤ budget
   steps_few memory reads g c h =
@@ -174,7 +164,8 @@ module _ (budget : ℕ) (chain : List Program) (chained : IsChain chain) where
   order_events = record {
     opening = λ g. opened_order g;
     begin = λ memory g c h. record { nothing_brought = turn_vacant chain g c _ (begins_turn chain AnyLength g c memory) h.nothing_brought; spent = begins_few memory g c h.spent };
-    open_file = λ memory opening g c h. record { nothing_brought = turn_vacant chain g c _ (opens_file_turn chain AnyLength g c memory opening (any_opens _)) h.nothing_brought; spent = opens_file_few memory opening g c h.spent };
+    open_file =
+        λ memory opening g c h. record { nothing_brought = turn_vacant chain g c _ (opening_turn chain g c memory opening) h.nothing_brought; spent = opens_file_few memory opening g c h.spent };
     bring = λ memory pieces g c h. record { nothing_brought = turn_vacant chain g c _ (brings_turn chain AnyLength g c memory pieces) h.nothing_brought; spent = brings_few memory pieces g c h.spent };
     step = λ memory reads g c h. record { nothing_brought = turn_vacant chain g c _ (steps_turn chain AnyLength g c chained memory budget reads) h.nothing_brought; spent = steps_few memory reads g c h.spent };
     end = λ memory g c h. record { nothing_brought = turn_vacant chain g c _ (ends_turn chain AnyLength g c memory) h.nothing_brought; spent = ends_few memory g c h.spent };
@@ -182,10 +173,6 @@ module _ (budget : ℕ) (chain : List Program) (chained : IsChain chain) where
   } where
     opened_order : (g : Common) → ChainOrder budget (opened chain g).1
     opened_order g = record { nothing_brought = λ k free. refl; spent = omega arith }
-
-    any_opens : (a : Result (ℕ × ℕ) Refusal) → OpensAs AnyLength a
-    any_opens (Ok f) = tt
-    any_opens (Err r) = tt
 
 pub event_keeps_order : EventKeepsWorldOrder
 event_keeps_order memory budget chain told k e w chained h = event_so budget chain (ChainOrder budget) (order_events budget chain chained) memory told k e w h

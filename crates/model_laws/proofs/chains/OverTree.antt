@@ -22,8 +22,8 @@ use Rattle.model_laws.specs.SharedPools.{LiesOver, over}
 use Rattle.model_laws.specs.SharedTree.{ReachedLiesOver}
 use Rattle.run_model.proofs.PoolMap.{live_path}
 use Rattle.run_model.proofs.References.{or_right}
+use Rattle.model_laws.proofs.NamedPools.{made_is}
 use Rattle.model_laws.proofs.parts.Paths.{top_apart}
-use Rattle.model_laws.proofs.parts.Steps.{made_is}
 use Rattle.model_laws.proofs.chains.BareRoot.{brigade_newer}
 use Rattle.model_laws.proofs.chains.PoolsApart.{run_keeps_pools_apart}
 use Rattle.model_laws.proofs.chains.PutBack.{looking}

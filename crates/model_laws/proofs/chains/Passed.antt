@@ -23,7 +23,7 @@ use Rattle.run_model.specs.Steps.{Choice, answer_to, current, step}
 use Rattle.run_model.specs.Refusals.{if_broken}
 use Rattle.run_model.specs.Chains.{Frame, Connection, Common, Linked, module_at, is_last, configuration, pools_of, touched_var, cleared_by, touched_instance, put_back, stepped_in, IsChain}
 use Rattle.run_model.specs.Passing.{Reads, set_in, handed_in, delivered, delivered_by, passed_to, given_back, passed_by, returned_to, next_called, returned_from, proceeds}
-use Rattle.run_model.specs.Turns.{Opening, Found, Missing, Failing, unless_refused, is_busy, all_called, begun, begins, file_answer, opens_file, brought, brings, ended, ends, steps}
+use Rattle.run_model.specs.Turns.{Opening, is_busy, all_called, begun, begins, opens_file, brought, brings, ended, ends, steps}
 use Rattle.run_model.specs.Worlds.{World, Told, put_conn, answered, file_answered, step_answered, closes, adds_file, happens_on, happens}
 use Rattle.model_laws.specs.ChainSound.{IsNested, IsNestedStack}
 use Rattle.model_laws.specs.ChainNumbers.{WorldNumbers}
@@ -31,7 +31,7 @@ use Rattle.model_laws.specs.ChainOrder.{has_call, ChainOrder}
 use Rattle.model_laws.specs.Marks.{HoldsPassed, StaysPassed, StaysPassedIn, lets_go, top_lets_go, event_lets_go, EventKeepsPassed}
 use Rattle.run_model.proofs.Updates.{upd_at, upd_either}
 use Rattle.model_laws.proofs.Passed.{still, cleared_stays, returned_stays, step_keeps_passed}
-use Rattle.model_laws.proofs.EventAnswers.{none_first, none_if}
+use Rattle.model_laws.proofs.EventAnswers.{unless_so, answer_so, none_first, none_if}
 use Rattle.model_laws.proofs.chains.Names.{left_either}
 use Rattle.model_laws.proofs.chains.EventTurns.{not_busy}
 use Rattle.model_laws.proofs.chains.StepCases.{steps_so}
@@ -166,17 +166,13 @@ module _ (budget : ℕ) (chain : List Program) (chained : IsChain chain) (g : Co
   unchanged : StaysPassed ((c.instances j).brigades b) ((c.instances j).brigades b)
   unchanged = still ((c.instances j).brigades b) h
 
-  unless_stays : (o : Option Refusal) (new : Linked) → (o ≡ None → Kept new) → Kept (unless_refused o (g, c) new).1
-  unless_stays None new made = made refl
-  unless_stays (Some r) new made = unchanged
-
   begins_stays : (memory : Bool) → Kept (begins memory chain (g, c)).1
   unfolding begins begun all_called
-  begins_stays memory = unless_stays _ (begun chain (g, c)) (λ none. unchanged)
+  begins_stays memory = unless_so Kept _ (g, c) (begun chain (g, c)) unchanged (λ none. unchanged)
 
   brings_stays : (memory : Bool) (pieces : List Piece) → Kept (brings memory chain pieces (g, c)).1
   unfolding brings has_call
-  brings_stays memory pieces = unless_stays _ (brought chain pieces c.req (g, c)) (λ none.
+  brings_stays memory pieces = unless_so Kept _ (g, c) (brought chain pieces c.req (g, c)) unchanged (λ none.
       let idle = none_if (is_busy c.stack) refusal.Busy _ (none_first (if_broken c.broken) _ none) in
       by_request c.req (order.nothing_brought 0 (subst (λ (fs : List Frame). has_call fs 0 ≡ false) (sym (not_busy c.stack idle.0)) refl))) where
         written : (v : BrigadeVar) → (c.instances 0).brigades 8 ≡ var.Null → Kept (g, record c { instances = upd c.instances 0 (set_in v (c.instances 0)) })
@@ -194,17 +190,11 @@ module _ (budget : ℕ) (chain : List Program) (chained : IsChain chain) (g : Co
 
   opens_file_stays : (memory : Bool) (opening : Opening) → Kept (opens_file memory opening (g, c)).1
   unfolding opens_file
-  opens_file_stays memory opening = by_answer _ c.req opening where
-    by_answer : (o : Option Refusal) (req : Option ℕ) (opening : Opening) → Kept (file_answer o req opening (g, c)).1
-    by_answer (Some r) req opening = unchanged
-    by_answer None None opening = unchanged
-    by_answer None (Some req) Missing = unchanged
-    by_answer None (Some req) Failing = unchanged
-    by_answer None (Some req) (Found skipped bytes) = unchanged
+  opens_file_stays memory opening = answer_so Kept _ c.req opening (g, c) unchanged (λ n skipped bytes is. unchanged)
 
   ends_stays : (memory : Bool) → Kept (ends memory (g, c)).1
   unfolding ends
-  ends_stays memory = unless_stays _ (ended c.req (g, c)) (λ none. by_request c.req) where
+  ends_stays memory = unless_so Kept _ (g, c) (ended c.req (g, c)) unchanged (λ none. by_request c.req) where
     by_request : (req : Option ℕ) → Kept (ended req (g, c))
     by_request None = unchanged
     by_request (Some req) = cleared_stays (is_under (pools_of g c) req) ((c.instances j).brigades b) h

@@ -9,8 +9,8 @@ use Rattle.run_model.specs.declared.payload.Payload.{Payload}
 use Rattle.run_model.specs.Pools.{Pools, is_live, is_under, is_in, is_empty, planted, created, registered}
 use Rattle.run_model.specs.RunOrder.{killed}
 use Rattle.run_model.specs.Clearing.{run_down}
-use Rattle.run_model.specs.State.{Configuration, items_of, named_at, pool_named, set_pool, with_pools, set_brigade, set_loose}
-use Rattle.run_model.specs.Cursors.{Place, Nowhere, AtLoose, Within, AtEndOf, spot}
+use Rattle.run_model.specs.State.{Configuration, items_of, named_at, pool_named, set_pool, with_pools, set_brigade}
+use Rattle.run_model.specs.Cursors.{spot}
 use Rattle.run_model.specs.BucketSteps.{aside_into}
 use Rattle.run_model.specs.Steps.{Choice, step, current, label_registered, label_killed, text_of, saved_into, made_on, new_ref, pool_cleared, pool_destroyed}
 use Rattle.run_model.specs.Sound.{SoundPools}
@@ -20,20 +20,21 @@ use Rattle.run_model.specs.Passing.{Reads, proceeds}
 use Rattle.run_model.specs.Turns.{all_called, fresh_connection, opened, begun, request_over}
 use Rattle.model_laws.specs.ChainSound.{ChainPools, ChainSound}
 use Rattle.model_laws.specs.ChainLaws.{MayProceed, Rises, after_top}
-use Rattle.model_laws.specs.ChainPaths.{LieUnder, ChainPaths, EventKeepsWorldPaths, RunKeepsWorldPaths}
+use Rattle.model_laws.specs.ChainPaths.{LieUnder, ChainPaths, WorldPaths}
+use Rattle.model_laws.specs.KeptInRuns.{KeptInRuns}
 use Rattle.run_model.proofs.Updates.{upd_either}
 use Rattle.run_model.proofs.RunOrderLaws.{under_itself}
 use Rattle.run_model.proofs.PoolMap.{live_path, cleared_path, destroyed_path}
 use Rattle.model_laws.proofs.NamedPools.{on_named, made_under_named, own_named}
 use Rattle.run_model.proofs.References.{or_left, or_right}
 use Rattle.model_laws.proofs.MadeBrigades.{brigade_path}
-use Rattle.model_laws.proofs.StepPools.{wanted_pool, named_lives, referred_path}
+use Rattle.model_laws.proofs.StepPools.{aside_path, wanted_pool, named_lives, referred_path}
 use Rattle.model_laws.proofs.Unchanged.{step_changes_only}
 use Rattle.model_laws.proofs.chains.PutBack.{looking}
 use Rattle.model_laws.proofs.chains.TopSteps.{may_step}
-use Rattle.model_laws.proofs.chains.EventTurns.{Turn, Same, Drained, Broke, Faulted, Went, Begun, Brought, FileTaken, Ended}
+use Rattle.model_laws.proofs.chains.EventTurns.{Turn, Stood, Went, Begun, Brought, FileTaken, Ended}
 use Rattle.model_laws.proofs.chains.Proceeds.{proceeds_conn, proceeds_so}
-use Rattle.model_laws.proofs.chains.WorldKept.{TurnsKeep, event_kept, whole_run_kept, AnyLength, any_length, any_lengths}
+use Rattle.model_laws.proofs.chains.WorldKept.{TurnsKeep, AnyLength, turns_in_runs}
 use Rattle.model_laws.proofs.chains.Raised.{top_raises_names}
 
 -- Pool maps.
@@ -69,13 +70,6 @@ named_newer r (pool.Own q) m s e = (let there = (s.own q m (own_named q m r e)).
 -- what the instruction leaves of the pools
 abbrev Stays : ℕ → Configuration → Configuration → Type 0
 Stays root r s = LieUnder root r.shared.conn s.shared.pools
-
-pub aside_path : (s : Place) (target : ℕ) (r : Configuration) → (aside_into s target r).shared.pools.path ≡ r.shared.pools.path
-unfolding set_brigade set_loose with_pools
-aside_path Nowhere target r = refl
-aside_path (AtLoose x) target r = referred_path target (filter_map (new_ref r.shared.pools target) (x ∷ [])) r.shared.pools
-aside_path (Within b x) target r = referred_path target (filter_map (new_ref r.shared.pools target) (x ∷ [])) r.shared.pools
-aside_path (AtEndOf b) target r = refl
 
 pub step_under : (root : ℕ) (p : Program) (choice : Choice) (i : Instr) (r : Configuration) → MayExecute p r i → SoundPools r → root < r.shared.conn → LieUnder root r.shared.conn r.shared.pools → Stays root r (step p choice i r).state
 unfolding with_pools set_pool run_down registered killed set_brigade
@@ -149,10 +143,7 @@ went_under chain reads f rest g c may s h =
 
 turn_under : (chain : List Program) (g : Common) (c : Connection) (v : Linked) → Turn chain AnyLength g c v → ChainSound chain g c → Under g c → Under v.0 v.1
 unfolding is_live is_under registered
-turn_under chain g c v Same s h = h
-turn_under chain g c v Drained s h = record { newer = h.newer; pools = h.pools }
-turn_under chain g c v (Broke k other) s h = record { newer = h.newer; pools = h.pools }
-turn_under chain g c v (Faulted f rest k whole top is) s h = record { newer = h.newer; pools = h.pools }
+turn_under chain g c v (Stood out broken) s h = record { newer = h.newer; pools = h.pools }
 turn_under chain g c v (Went reads f rest whole may) s h = (let left = went_under chain reads f rest g c may s h in record { newer = left.newer; pools = left.pools })
 turn_under chain g c v (Begun whole idle none pools next) s h = begun_under chain g c s.pools h
 turn_under chain g c v (Brought pieces req whole idle is there next) s h = record { newer = h.newer; pools = h.pools }
@@ -175,10 +166,5 @@ paths_kept chain = record {
   turns = λ g c v has t s new h. with_named chain v.0 v.1 new.pools (turn_under chain g c v t s (record { newer = h.newer; pools = h.pools }));
 }
 
-pub event_keeps_paths : EventKeepsWorldPaths
-event_keeps_paths memory budget chain told k e w chained s h =
-    (event_kept chain chained AnyLength ChainPaths (paths_kept chain) memory budget told k e w (any_length _) (record { sound = s; kept = h })).kept
-
-pub run_keeps_paths : RunKeepsWorldPaths
-run_keeps_paths budget chain es answers w chained run =
-    (whole_run_kept chain chained AnyLength ChainPaths (paths_kept chain) budget es answers w run (any_lengths answers)).kept
+pub paths_in_runs : KeptInRuns WorldPaths
+paths_in_runs = turns_in_runs ChainPaths paths_kept

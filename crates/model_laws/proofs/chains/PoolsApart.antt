@@ -1,16 +1,12 @@
 -- No pool is two connections', no variable names one of another connection, and the pool of a later connection is newer.
-use Rattle.std.proofs.Common.{◌≡◌, ◌⊎◌, ℕ, ◌+◌, ◌<◌, ◌≤◌, ◌==◌, Bool, true, false, ◌||◌, not, List, [], ◌∷◌, filter_map, Option, Some, None, Result, Ok, Err, inl, inr, refl, sym, ◌∙◌, ap, subst, arith, eqb-true}
+use Rattle.std.proofs.Common.{◌≡◌, ◌⊎◌, ℕ, ◌+◌, ◌<◌, ◌≤◌, ◌==◌, true, false, not, List, [], ◌∷◌, filter_map, Some, None, inl, inr, refl, sym, ◌∙◌, ap, subst, arith, eqb-true}
+use Rattle.std.proofs.lemmas.Option.{same_Some}
 use Rattle.std.proofs.lemmas.Bool.{or_cases}
 use Rattle.module_code.specs.declared.instr.PoolRef.TheVariants as pool
 use Rattle.module_code.specs.declared.instr.Instr.{Instr}
 use Rattle.module_code.specs.declared.instr.Instr.TheVariants as instr
 use Rattle.module_code.specs.Program.{Program, pool_of_brigade}
 use Rattle.run_model.specs.declared.bucket.PoolVar.TheVariants as poolvar
-use Rattle.run_model.specs.declared.event.Event.{Event}
-use Rattle.run_model.specs.declared.event.Event.TheVariants as event
-use Rattle.run_model.specs.declared.event.Refusal.{Refusal}
-use Rattle.run_model.specs.declared.event.Refusal.TheVariants as refusal
-use Rattle.run_model.specs.declared.event.Stepped.{Stepped}
 use Rattle.run_model.specs.declared.payload.Payload.{Payload}
 use Rattle.run_model.specs.Pools.{Pools, is_empty, is_in, is_live, planted, created, registered}
 use Rattle.run_model.specs.RunOrder.{killed}
@@ -18,31 +14,32 @@ use Rattle.run_model.specs.Clearing.{run_down}
 use Rattle.run_model.specs.State.{Configuration, items_of, pool_named, set_pool, with_pools, set_brigade}
 use Rattle.run_model.specs.Cursors.{spot}
 use Rattle.run_model.specs.BucketSteps.{aside_into}
-use Rattle.run_model.specs.Steps.{Choice, step, current, is_spent, label_registered, label_killed, text_of, saved_into, made_on, new_ref, pool_cleared, pool_destroyed}
-use Rattle.run_model.specs.Refusals.{first_refusal, refused_if}
+use Rattle.run_model.specs.Steps.{Choice, step, current, label_registered, label_killed, text_of, saved_into, made_on, new_ref, pool_cleared, pool_destroyed}
 use Rattle.run_model.specs.Sound.{SoundPools}
 use Rattle.run_model.specs.Chains.{Frame, Connection, Common, Linked, module_at, configuration, pools_of, IsChain}
 use Rattle.run_model.specs.Passing.{Reads}
-use Rattle.run_model.specs.Turns.{Opening, all_called, fresh_connection, opened, opens_file, begun}
-use Rattle.run_model.specs.Worlds.{World, Told, Answer, new_world, put_conn, answered, file_answered, step_answered, closes, opens_if, opens, adds_file, happens_on, happens, IsRun}
+use Rattle.run_model.specs.Turns.{all_called, fresh_connection, opened, begun}
+use Rattle.run_model.specs.Worlds.{World, put_conn}
 use Rattle.model_laws.specs.ChainSound.{ChainSound, WorldSound}
 use Rattle.model_laws.specs.ChainLaws.{Rises, after_top}
 use Rattle.model_laws.specs.ChainNumbers.{WorldNumbers}
-use Rattle.model_laws.specs.ChainTrees.{is_own, WorldPoolsApart, EventKeepsPoolsApart, RunKeepsPoolsApart}
+use Rattle.model_laws.specs.ChainTrees.{is_own, WorldPoolsApart, EventKeepsPoolsApart}
+use Rattle.model_laws.specs.KeptInRuns.{RunKeeps}
 use Rattle.run_model.proofs.Updates.{upd_either}
 use Rattle.run_model.proofs.PoolMap.{live_path, created_at, cleared_path, destroyed_path}
+use Rattle.model_laws.proofs.chains.EventCases.{stays_there, event_cases}
+use Rattle.model_laws.proofs.chains.EachConnection.{made_turn}
 use Rattle.model_laws.proofs.NamedPools.{on_named, made_under_named}
 use Rattle.model_laws.proofs.MadeBrigades.{brigade_path}
-use Rattle.model_laws.proofs.StepPools.{referred_path}
+use Rattle.model_laws.proofs.StepPools.{aside_path, referred_path}
 use Rattle.model_laws.proofs.Unchanged.{step_changes_only}
 use Rattle.model_laws.proofs.chains.PutBack.{looking}
-use Rattle.model_laws.proofs.chains.EventTurns.{Turn, Same, Drained, Broke, Faulted, Went, Begun, Brought, FileTaken, Ended, OpensAs, begins_turn, brings_turn, opens_file_turn, ends_turn, steps_turn}
+use Rattle.model_laws.proofs.chains.EventTurns.{Turn, Stood, Went, Begun, Brought, FileTaken, Ended}
 use Rattle.model_laws.proofs.chains.TurnsSound.{turn_sound, turn_rises}
 use Rattle.model_laws.proofs.chains.Proceeds.{proceeds_conn, proceeds_so}
-use Rattle.model_laws.proofs.chains.Paths.{aside_path}
 use Rattle.model_laws.proofs.chains.OwnNames.{turn_names}
 use Rattle.model_laws.proofs.chains.BareRoot.{created_bare, turn_bare}
-use Rattle.model_laws.proofs.chains.WorldKept.{AnyLength, new_sound, event_keeps_world}
+use Rattle.model_laws.proofs.chains.WorldKept.{beside_in_runs, AnyLength}
 use Rattle.model_laws.proofs.chains.Numbers.{event_keeps_numbers, new_numbered_world}
 
 -- What an instruction leaves of paths.
@@ -103,10 +100,7 @@ went_from chain reads f rest g c =
 
 turn_from : (chain : List Program) (g : Common) (c : Connection) (v : Linked) → Turn chain AnyLength g c v → TurnsFrom g c v
 unfolding begun all_called configuration run_down with_pools registered
-turn_from chain g c v Same = unturned g c v refl refl
-turn_from chain g c v Drained = unturned g c v refl refl
-turn_from chain g c v (Broke k other) = unturned g c v refl refl
-turn_from chain g c v (Faulted f rest k whole top is) = unturned g c v refl refl
+turn_from chain g c v (Stood out broken) = unturned g c v refl refl
 turn_from chain g c v (Went reads f rest whole may) = (let left = went_from chain reads f rest g c in record { conn = left.conn; from = left.from })
 turn_from chain g c v (Begun whole idle none pools next) = record { conn = refl; from = created_from c.conn (pools_of g c) }
 turn_from chain g c v (Brought pieces req whole idle is there next) = unturned g c v refl refl
@@ -147,9 +141,6 @@ record PutsNew (k : ℕ) (w : World) (v : Linked) : Type 0 where
   earlier : (j : ℕ) (c : Connection) → w.conns j ≡ Some c → j < k → c.conn < v.1.conn
   later : (j : ℕ) (c : Connection) → w.conns j ≡ Some c → k < j → v.1.conn < c.conn
 
-some_is : (a b : Connection) → Some a ≡ Some b → a ≡ b
-some_is a b e = cc
-
 module _ (chain : List Program) (k : ℕ) (w : World) (v : Linked) (sound : WorldSound chain w) (new : PutsNew k w v) (h : WorldPoolsApart w) where
   given : (j n : ℕ) (c : Connection) → w.conns j ≡ Some c → is_own c n ≡ true → n < w.common.pools
   given j n c at own = own_given chain w.common c (sound.conns j c at) n own
@@ -160,7 +151,7 @@ module _ (chain : List Program) (k : ℕ) (w : World) (v : Linked) (sound : Worl
   comes : (j n : ℕ) (x : Connection) → (put_conn k v w).conns j ≡ Some x → is_own x n ≡ true → Comes j n
   unfolding Comes
   comes j n x e own = elim (upd_either w.conns k j (Some v.1)) [
-    | inl at ↦ (let same : v.1 ≡ x = some_is v.1 x (sym at.1 ∙ e) in elim (new.from n (subst (λ (y : Connection). is_own y n ≡ true) (sym same) own)) [
+    | inl at ↦ (let same : v.1 ≡ x = same_Some v.1 x (sym at.1 ∙ e) in elim (new.from n (subst (λ (y : Connection). is_own y n ≡ true) (sym same) own)) [
       | inl fresh ↦ inl (at.0, fresh.0, fresh.1)
       | inr old ↦ inr (old.0, ap w.conns at.0 ∙ old.1, old.2)
     ])
@@ -186,7 +177,7 @@ module _ (chain : List Program) (k : ℕ) (w : World) (v : Linked) (sound : Worl
   names_come : (j i q n : ℕ) (x : Connection) → (put_conn k v w).conns j ≡ Some x → (x.instances i).pools q ≡ poolvar.Made n → Named j i q n
   unfolding Named
   names_come j i q n x e made = elim (upd_either w.conns k j (Some v.1)) [
-    | inl at ↦ (let same : v.1 ≡ x = some_is v.1 x (sym at.1 ∙ e) in elim (new.names i q n (subst (λ (y : Connection). (y.instances i).pools q ≡ poolvar.Made n) (sym same) made)) [
+    | inl at ↦ (let same : v.1 ≡ x = same_Some v.1 x (sym at.1 ∙ e) in elim (new.names i q n (subst (λ (y : Connection). (y.instances i).pools q ≡ poolvar.Made n) (sym same) made)) [
       | inl fresh ↦ inl (at.0, fresh)
       | inr old ↦ inr (old.0, ap w.conns at.0 ∙ old.1, old.2)
     ])
@@ -203,7 +194,7 @@ module _ (chain : List Program) (k : ℕ) (w : World) (v : Linked) (sound : Worl
   -- it is the one that is put, or was there
   which : (j : ℕ) (x : Connection) → (put_conn k v w).conns j ≡ Some x → ((j ≡ k) × (v.1 ≡ x)) ⊎ (w.conns j ≡ Some x)
   which j x e = elim (upd_either w.conns k j (Some v.1)) [
-    | inl at ↦ inl (at.0, some_is v.1 x (sym at.1 ∙ e))
+    | inl at ↦ inl (at.0, same_Some v.1 x (sym at.1 ∙ e))
     | inr off ↦ inr (sym off.1 ∙ e)
   ]
 
@@ -268,43 +259,6 @@ module _ (chain : List Program) (chained : IsChain chain) (k : ℕ) (c : Connect
     after : (j : ℕ) (x : Connection) → w.conns j ≡ Some x → k < j → v.1.conn < x.conn
     after j x at lt = subst (λ (m : ℕ). m < x.conn) (sym turns.conn) (h.rising k j c x here at lt)
 
-  answered_apart : (a : Option Refusal × Linked) → Turn chain AnyLength w.common c a.1 → WorldPoolsApart (answered k w a).1
-  answered_apart (None, v) t = turned_apart v t
-  answered_apart (Some r, v) t = h
-
-  file_apart : (a : Result (ℕ × ℕ) Refusal × Linked) → Turn chain AnyLength w.common c a.1 → WorldPoolsApart (file_answered k w a).1
-  file_apart (Ok f, v) t = turned_apart v t
-  file_apart (Err r, v) t = h
-
-  step_apart : (a : Result Stepped Refusal × Linked) → Turn chain AnyLength w.common c a.1 → WorldPoolsApart (step_answered k w a).1
-  step_apart (Ok s, v) t = turned_apart v t
-  step_apart (Err r, v) t = turned_apart v t
-
-  closed_apart : (memory : Bool) → WorldPoolsApart (closes memory k c w).1
-  closed_apart false = h
-  closed_apart true = record {
-    top = λ j x e. h.top j x (there j x e);
-    own = λ i j n x y at_i at_j own_x own_y. h.own i j n x y (there i x at_i) (there j y at_j) own_x own_y;
-    named = λ l j i q n x y at_l at_j made own_y. h.named l j i q n x y (there l x at_l) (there j y at_j) made own_y;
-    bare = λ j x e. h.bare j x (there j x e);
-    rising = λ i j x y at_i at_j lt. h.rising i j x y (there i x at_i) (there j y at_j) lt;
-  } where
-    none_some : (x : Connection) → None ≡ Some x → ⊥
-    none_some x e = cc
-
-    there : (j : ℕ) (x : Connection) → (closes true k c w).1.conns j ≡ Some x → w.conns j ≡ Some x
-    there j x e = elim (upd_either w.conns k j None) [ inl at ↦ absurd (none_some x (sym at.1 ∙ e)) | inr off ↦ sym off.1 ∙ e ]
-
-  opening_apart : (memory : Bool) (opening : Opening) → WorldPoolsApart (file_answered k w (opens_file memory opening (w.common, c))).1
-  opening_apart memory opening = file_apart _ (opens_file_turn chain AnyLength w.common c memory opening (any _)) where
-    any : (a : Result (ℕ × ℕ) Refusal) → OpensAs AnyLength a
-    any (Ok f) = tt
-    any (Err r) = tt
-
-added_apart : (memory : Bool) (w : World) → WorldPoolsApart w → WorldPoolsApart (adds_file memory w).1
-added_apart false w h = h
-added_apart true w h = h
-
 -- A connection is opened.
 module _ (chain : List Program) (w : World) (sound : WorldSound chain w) (numbers : WorldNumbers w) (h : WorldPoolsApart w) where
   opened_path : (opened chain w.common).1.path ≡ (created w.common.root (pools_of w.common (fresh_connection w.common))).path
@@ -360,53 +314,38 @@ module _ (chain : List Program) (w : World) (sound : WorldSound chain w) (number
   unfolding opened all_called planted
   opened_bare = created_bare w.common.root w.common.root (pools_of w.common (fresh_connection w.common)) sound.names.pools.0 refl
 
-  opens_apart : (memory : Bool) → WorldPoolsApart (opens memory chain w).1
-  unfolding opens
-  opens_apart memory = by_refusal _ refl where
-    by_refusal : (o : Option Refusal) → first_refusal (refused_if (is_spent (w.last + 1) 1 || (is_spent w.common.pools 1 || is_spent w.common.next 1)) refusal.NamesSpent ∷ (refused_if (not memory) refusal.NoMemory ∷ [])) ≡ o → WorldPoolsApart (opens_if o chain w).1
-    by_refusal (Some r) is = h
-    by_refusal None is = put_apart chain (w.last + 1) (record w { last = w.last + 1 }) (opened chain w.common) (record { names = sound.names; conns = sound.conns }) (record {
-      root = opened_root;
-      rises = (let next : (opened chain w.common).0.pools ≡ w.common.pools + 1 = opened_next in omega (arith, next));
-      top = opened_top;
-      from = λ n own. inl (opened_own n own);
-      names = λ i q n made. absurd (opened_names i q n made);
-      bare = opened_bare;
-      earlier = λ j x at lt. (let is : (opened chain w.common).1.conn ≡ w.common.pools = opened_conn in let below : x.conn < w.common.pools = (conn_there chain w.common x (sound.conns j x at)).1 in omega (arith, is, below));
-      later = λ j x at lt. absurd (let none : None ≡ Some x = sym (numbers.later j (omega (arith, lt))) ∙ at in cc);
-    }) (record { top = h.top; own = h.own; named = h.named; bare = h.bare; rising = h.rising })
-
-on_apart : (memory : Bool) (budget : ℕ) (chain : List Program) (told : Told) (e : Event) (k : ℕ) (o : Option Connection) (w : World) → w.conns k ≡ o → IsChain chain → WorldSound chain w → WorldNumbers w → WorldPoolsApart w
-    → WorldPoolsApart (happens_on memory budget chain told e k o w).1
-unfolding happens_on
-on_apart memory budget chain told event.Open k o w at chained s numbers h = opens_apart chain w s numbers h memory
-on_apart memory budget chain told (event.AddFile name bytes) k o w at chained s numbers h = added_apart memory w h
-on_apart memory budget chain told event.TellPools k o w at chained s numbers h = h
-on_apart memory budget chain told (event.OpenFile name) k (Some c) w at chained s numbers h = opening_apart chain chained k c w at s h memory told.opening
-on_apart memory budget chain told event.Begin k (Some c) w at chained s numbers h = answered_apart chain chained k c w at s h _ (begins_turn chain AnyLength w.common c memory)
-on_apart memory budget chain told (event.Bring pieces) k (Some c) w at chained s numbers h = answered_apart chain chained k c w at s h _ (brings_turn chain AnyLength w.common c memory pieces)
-on_apart memory budget chain told event.Step k (Some c) w at chained s numbers h = step_apart chain chained k c w at s h _ (steps_turn chain AnyLength w.common c chained memory budget told.reads)
-on_apart memory budget chain told event.End k (Some c) w at chained s numbers h = answered_apart chain chained k c w at s h _ (ends_turn chain AnyLength w.common c memory)
-on_apart memory budget chain told event.TakeOutput k (Some c) w at chained s numbers h = turned_apart chain chained k c w at s h _ Drained
-on_apart memory budget chain told event.TellLabels k (Some c) w at chained s numbers h = h
-on_apart memory budget chain told event.Close k (Some c) w at chained s numbers h = closed_apart chain chained k c w at s h memory
-on_apart memory budget chain told e k None w at chained s numbers h = h
+  opens_apart : WorldPoolsApart (put_conn (w.last + 1) (opened chain w.common) (record w { last = w.last + 1 }))
+  opens_apart = put_apart chain (w.last + 1) (record w { last = w.last + 1 }) (opened chain w.common) (record { names = sound.names; conns = sound.conns }) (record {
+    root = opened_root;
+    rises = (let next : (opened chain w.common).0.pools ≡ w.common.pools + 1 = opened_next in omega (arith, next));
+    top = opened_top;
+    from = λ n own. inl (opened_own n own);
+    names = λ i q n made. absurd (opened_names i q n made);
+    bare = opened_bare;
+    earlier = λ j x at lt. (let is : (opened chain w.common).1.conn ≡ w.common.pools = opened_conn in
+        let below : x.conn < w.common.pools = (conn_there chain w.common x (sound.conns j x at)).1 in omega (arith, is, below));
+    later = λ j x at lt. absurd (let none : None ≡ Some x = sym (numbers.later j (omega (arith, lt))) ∙ at in cc);
+  }) (record { top = h.top; own = h.own; named = h.named; bare = h.bare; rising = h.rising })
 
 pub event_keeps_pools_apart : EventKeepsPoolsApart
-event_keeps_pools_apart memory budget chain told k e w chained s numbers h = on_apart memory budget chain told e k (w.conns k) w refl chained s numbers h
+event_keeps_pools_apart memory budget chain told k e w chained s numbers h = event_cases WorldPoolsApart memory budget chain told k w h e (record {
+  made = λ c v at made. turned_apart chain chained k c w at s h v (made_turn memory budget chain told w.common c e v chained made);
+  opening = λ last pools next. opens_apart chain w s numbers h;
+  closing = λ c at. record {
+    top = λ j x there. h.top j x (stays_there k w j x there);
+    own = λ i j n x y at_i at_j own_x own_y. h.own i j n x y (stays_there k w i x at_i) (stays_there k w j y at_j) own_x own_y;
+    named = λ l j i q n x y at_l at_j made own_y. h.named l j i q n x y (stays_there k w l x at_l) (stays_there k w j y at_j) made own_y;
+    bare = λ j x there. h.bare j x (stays_there k w j x there);
+    rising = λ i j x y at_i at_j lt. h.rising i j x y (stays_there k w i x at_i) (stays_there k w j y at_j) lt;
+  };
+})
 
-run_apart : (budget : ℕ) (chain : List Program) (es : List (ℕ × Event)) (answers : List Answer) (old new : World) → IsChain chain → IsRun budget chain old es answers new → WorldSound chain old → WorldNumbers old → WorldPoolsApart old → WorldPoolsApart new
-unfolding IsRun
-run_apart budget chain [] [] old new chained run s numbers h = subst WorldPoolsApart (sym run) h
-run_apart budget chain [] (a ∷ answers) old new chained run s numbers h = absurd run
-run_apart budget chain (e ∷ es) [] old new chained run s numbers h = absurd run
-run_apart budget chain (e ∷ es) (a ∷ answers) old new chained run s numbers h = run_apart budget chain es answers run.2 new chained run.4
-    (led (WorldSound chain) (event_keeps_world run.0 budget chain run.1 e.0 e.1 old chained s))
-    (led WorldNumbers (event_keeps_numbers run.0 budget chain run.1 e.0 e.1 old numbers))
-    (led WorldPoolsApart (event_keeps_pools_apart run.0 budget chain run.1 e.0 e.1 old chained s numbers h)) where
-      led : (P : World → Type 0) → P (happens run.0 budget chain run.1 e.0 e.1 old).1 → P run.2
-      led P p = subst P (ap (λ (x : Answer × World). x.1) run.3) p
-
-pub run_keeps_pools_apart : RunKeepsPoolsApart
-run_keeps_pools_apart budget chain es answers w chained run =
-    run_apart budget chain es answers (new_world run.first) w chained run.run (new_sound chain run.first run.named run.given) (new_numbered_world run.first) (record { top = λ k c at. absurd (cc); own = λ j k n c d at. absurd (cc); named = λ j k i q n c d at. absurd (cc); bare = λ k c at. absurd (cc); rising = λ j k c d at. absurd (cc) })
+pub run_keeps_pools_apart : RunKeeps WorldPoolsApart
+run_keeps_pools_apart = beside_in_runs WorldNumbers WorldPoolsApart (λ memory budget chain told k e w chained s numbers. event_keeps_numbers memory budget chain told k e w numbers)
+    event_keeps_pools_apart new_numbered_world (λ first. record {
+      top = λ k c at. absurd (cc);
+      own = λ j k n c d at. absurd (cc);
+      named = λ j k i q n c d at. absurd (cc);
+      bare = λ k c at. absurd (cc);
+      rising = λ j k c d at. absurd (cc);
+    })

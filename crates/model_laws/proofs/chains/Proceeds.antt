@@ -1,5 +1,5 @@
 -- What the instruction of the call on top leaves beside brigades and calls.
-use Rattle.std.proofs.Common.{◌≡◌, ℕ, ◌+◌, Bool, true, false, cond, List, [], ◌∷◌, Option, None, refl}
+use Rattle.std.proofs.Common.{◌≡◌, ℕ, ◌+◌, Bool, true, false, cond, List, [], ◌∷◌, Option, None, refl, ap}
 use Rattle.module_code.specs.declared.instr.Instr.{Instr}
 use Rattle.module_code.specs.declared.instr.Instr.TheVariants as instr
 use Rattle.module_code.specs.Program.{Program}
@@ -11,33 +11,32 @@ use Rattle.run_model.specs.Steps.{Choice, answer_to, step}
 use Rattle.run_model.specs.Chains.{Frame, Connection, Common, Linked, module_at, is_last, configuration, pools_of, put_back, stepped_in}
 use Rattle.run_model.specs.Passing.{Reads, passed_to, returned_to, delivered, delivered_by, next_called, returned_from, proceeds}
 
--- It opens no file for the request.
-pub proceeds_files : (chain : List Program) (reads : Reads) (i : Instr) (f : Frame) (rest : List Frame) (g : Common) (c : Connection) → (proceeds chain reads i f rest (g, c)).1.1.files ≡ c.files
-unfolding proceeds delivered_by passed_to returned_from returned_to put_back stepped_in
-proceeds_files chain reads (instr.Pass b l) f rest g c = by_last (is_last chain f.of) where
-  by_last : (t : Bool) → (cond t (delivered_by (module_at chain f.of) reads b (instr.Pass b l) f rest (g, c)) (passed_to (module_at chain (f.of + 1)) b f rest (g, c))).1.files ≡ c.files
-  by_last true = refl
-  by_last false = refl
-proceeds_files chain reads (instr.Ret s) f [] g c = by_queue c.queue where
-  by_queue : (queue : List ℕ) → (next_called chain s queue (put_back (instr.Ret s) f (do_return (configuration g c f)) [] [] (g, c))).1.1.files ≡ c.files
-  by_queue [] = refl
-  by_queue (k ∷ ks) = refl
-proceeds_files chain reads (instr.Ret s) f (w ∷ rest) g c = refl
-proceeds_files chain reads i f rest g c = refl
+-- what it leaves as it was: the files of the request, which pool is the connection's, and how many instructions were counted
+abbrev left_alone : Connection → List (ℕ × ℕ) × ℕ × ℕ
+left_alone c = (c.files, c.conn, c.count)
 
--- nor does it change which pool is the connection's
-pub proceeds_conn : (chain : List Program) (reads : Reads) (i : Instr) (f : Frame) (rest : List Frame) (g : Common) (c : Connection) → (proceeds chain reads i f rest (g, c)).1.1.conn ≡ c.conn
+proceeds_leaves : (chain : List Program) (reads : Reads) (i : Instr) (f : Frame) (rest : List Frame) (g : Common) (c : Connection)
+    → left_alone (proceeds chain reads i f rest (g, c)).1.1 ≡ left_alone c
 unfolding proceeds delivered_by passed_to returned_from returned_to put_back stepped_in
-proceeds_conn chain reads (instr.Pass b l) f rest g c = by_last (is_last chain f.of) where
-  by_last : (t : Bool) → (cond t (delivered_by (module_at chain f.of) reads b (instr.Pass b l) f rest (g, c)) (passed_to (module_at chain (f.of + 1)) b f rest (g, c))).1.conn ≡ c.conn
+proceeds_leaves chain reads (instr.Pass b l) f rest g c = by_last (is_last chain f.of) where
+  by_last : (t : Bool) → left_alone (cond t (delivered_by (module_at chain f.of) reads b (instr.Pass b l) f rest (g, c)) (passed_to (module_at chain (f.of + 1)) b f rest (g, c))).1 ≡ left_alone c
   by_last true = refl
   by_last false = refl
-proceeds_conn chain reads (instr.Ret s) f [] g c = by_queue c.queue where
-  by_queue : (queue : List ℕ) → (next_called chain s queue (put_back (instr.Ret s) f (do_return (configuration g c f)) [] [] (g, c))).1.1.conn ≡ c.conn
+proceeds_leaves chain reads (instr.Ret s) f [] g c = by_queue c.queue where
+  by_queue : (queue : List ℕ) → left_alone (next_called chain s queue (put_back (instr.Ret s) f (do_return (configuration g c f)) [] [] (g, c))).1.1 ≡ left_alone c
   by_queue [] = refl
   by_queue (k ∷ ks) = refl
-proceeds_conn chain reads (instr.Ret s) f (w ∷ rest) g c = refl
-proceeds_conn chain reads i f rest g c = refl
+proceeds_leaves chain reads (instr.Ret s) f (w ∷ rest) g c = refl
+proceeds_leaves chain reads i f rest g c = refl
+
+pub proceeds_files : (chain : List Program) (reads : Reads) (i : Instr) (f : Frame) (rest : List Frame) (g : Common) (c : Connection) → (proceeds chain reads i f rest (g, c)).1.1.files ≡ c.files
+proceeds_files chain reads i f rest g c = ap (λ (x : List (ℕ × ℕ) × ℕ × ℕ). x.0) (proceeds_leaves chain reads i f rest g c)
+
+pub proceeds_conn : (chain : List Program) (reads : Reads) (i : Instr) (f : Frame) (rest : List Frame) (g : Common) (c : Connection) → (proceeds chain reads i f rest (g, c)).1.1.conn ≡ c.conn
+proceeds_conn chain reads i f rest g c = ap (λ (x : List (ℕ × ℕ) × ℕ × ℕ). x.1) (proceeds_leaves chain reads i f rest g c)
+
+pub proceeds_count : (chain : List Program) (reads : Reads) (i : Instr) (f : Frame) (rest : List Frame) (g : Common) (c : Connection) → (proceeds chain reads i f rest (g, c)).1.1.count ≡ c.count
+proceeds_count chain reads i f rest g c = ap (λ (x : List (ℕ × ℕ) × ℕ × ℕ). x.2) (proceeds_leaves chain reads i f rest g c)
 
 -- What is true of pools, open files, the next number of a file and the request, as the instruction alone leaves them, is true of the connection's.
 module _ (P : Pools Payload → (ℕ → Option (List ℕ)) → ℕ → Option ℕ → Type 0) (chain : List Program) (i : Instr) (f : Frame) (g : Common) (c : Connection)
@@ -67,17 +66,3 @@ proceeds_so P chain reads (instr.Ret s) f [] g c stepped here = by_queue c.queue
   by_queue (k ∷ ks) = here
 proceeds_so P chain reads (instr.Ret s) f (w ∷ rest) g c stepped here = here
 proceeds_so P chain reads i f rest g c stepped here = stepped_so P chain i f g c stepped here _ rest
-
--- Nor does it count itself.
-pub proceeds_count : (chain : List Program) (reads : Reads) (i : Instr) (f : Frame) (rest : List Frame) (g : Common) (c : Connection) → (proceeds chain reads i f rest (g, c)).1.1.count ≡ c.count
-unfolding proceeds delivered_by passed_to returned_from returned_to put_back stepped_in
-proceeds_count chain reads (instr.Pass b l) f rest g c = by_last (is_last chain f.of) where
-  by_last : (t : Bool) → (cond t (delivered_by (module_at chain f.of) reads b (instr.Pass b l) f rest (g, c)) (passed_to (module_at chain (f.of + 1)) b f rest (g, c))).1.count ≡ c.count
-  by_last true = refl
-  by_last false = refl
-proceeds_count chain reads (instr.Ret s) f [] g c = by_queue c.queue where
-  by_queue : (queue : List ℕ) → (next_called chain s queue (put_back (instr.Ret s) f (do_return (configuration g c f)) [] [] (g, c))).1.1.count ≡ c.count
-  by_queue [] = refl
-  by_queue (k ∷ ks) = refl
-proceeds_count chain reads (instr.Ret s) f (w ∷ rest) g c = refl
-proceeds_count chain reads i f rest g c = refl

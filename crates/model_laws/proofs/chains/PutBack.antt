@@ -12,7 +12,8 @@ use Rattle.run_model.specs.Sound.{brigade_pool, SoundPools}
 use Rattle.model_laws.specs.AsDeclared.{AsDeclared}
 use Rattle.run_model.specs.Chains.{Frame, Connection, Common, Linked, module_at, configuration, put_back, touched_var, touched_instance}
 use Rattle.model_laws.specs.ChainSound.{ChainPools}
-use Rattle.model_laws.proofs.AsDeclared.{KeepsOn, KeepsPool, kept, same_on}
+use Rattle.model_laws.proofs.AsDeclared.{kept}
+use Rattle.model_laws.proofs.BrigadePools.{KeepsOn, KeepsPool, same_on}
 use Rattle.model_laws.proofs.PoolsKept.{keeps_pools}
 use Rattle.model_laws.proofs.chains.Spared.{IsSpared, spared_sound, spared_declared}
 

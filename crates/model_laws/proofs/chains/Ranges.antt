@@ -11,7 +11,6 @@ use Rattle.run_model.specs.declared.bucket.Content.TheVariants as content
 use Rattle.run_model.specs.declared.bucket.Home.TheVariants as home
 use Rattle.run_model.specs.declared.bucket.NamedBucket.{NamedBucket}
 use Rattle.run_model.specs.declared.event.Piece.{Piece}
-use Rattle.run_model.specs.declared.event.Piece.TheVariants as piece
 use Rattle.run_model.specs.declared.payload.Payload.{Payload}
 use Rattle.run_model.specs.declared.payload.Payload.TheVariants.{FileRef}
 use Rattle.run_model.specs.Indexed.{upd}
@@ -27,32 +26,32 @@ use Rattle.run_model.specs.Pieces.{bucket_of, named_from, has_range, lacks_file}
 use Rattle.run_model.specs.Holding.{refers}
 use Rattle.model_laws.specs.Laws.{HasReference, SoundFiles}
 use Rattle.model_laws.specs.Ranges.{Reaches, LiesInFile, HasLength, SoundRanges}
-use Rattle.run_model.specs.Chains.{Frame, Connection, Common, Linked, module_at, configuration, pools_of, files_of, touched_bucket, cleared_by}
+use Rattle.run_model.specs.Chains.{Frame, Connection, Common, Linked, module_at, configuration, pools_of, files_of, touched_bucket}
 use Rattle.run_model.specs.Passing.{Reads}
 use Rattle.run_model.specs.Turns.{all_called, fresh_connection, opened, begun, file_taken, request_over}
-use Rattle.run_model.specs.Worlds.{World, new_world}
-use Rattle.model_laws.specs.ChainSound.{ChainSound, WorldSound}
+use Rattle.model_laws.specs.ChainSound.{ChainSound}
 use Rattle.model_laws.specs.ChainLaws.{MayProceed, after_top}
 use Rattle.model_laws.specs.ChainFiles.{OfEachBucket, IsOpen, ChainFiles, WorldFiles}
-use Rattle.model_laws.specs.ChainRanges.{ChainRanges, WorldRanges, EventKeepsWorldRanges, RunKeepsWorldRanges}
+use Rattle.model_laws.specs.ChainRanges.{ChainRanges, WorldRanges, EventKeepsWorldRanges}
+use Rattle.model_laws.specs.KeptInRuns.{RunKeeps}
 use Rattle.run_model.proofs.Updates.{upd_at, upd_off}
 use Rattle.model_laws.proofs.NamedPools.{on_named}
 use Rattle.run_model.proofs.References.{one_of, created_back, registered_back, emptied_back, destroyed_emptied}
-use Rattle.model_laws.proofs.PieceFiles.{no_range, pieces_each}
+use Rattle.model_laws.proofs.PieceFiles.{pieces_ranges}
 use Rattle.model_laws.proofs.StepFiles.{left_home, spared_home}
 use Rattle.model_laws.proofs.StepRanges.{LieList, still_told, step_ranges}
 use Rattle.model_laws.proofs.Unchanged.{step_changes_only}
 use Rattle.model_laws.proofs.chains.Views.{sound_top}
 use Rattle.model_laws.proofs.chains.TopSteps.{may_step}
-use Rattle.model_laws.proofs.chains.EachBucket.{seen_each, each_bucket_so, proceeds_each}
+use Rattle.model_laws.proofs.chains.EachBucket.{touched_so, seen_each, each_bucket_so, proceeds_each}
 use Rattle.model_laws.proofs.chains.EachEvent.{opened_each, begun_each, brought_in_each, request_over_each}
-use Rattle.model_laws.proofs.chains.EachConnection.{made_turn, event_each, run_each}
-use Rattle.model_laws.proofs.chains.EventTurns.{Turn, Same, Drained, Broke, Faulted, Went, Begun, Brought, FileTaken, Ended}
+use Rattle.model_laws.proofs.chains.EachConnection.{made_turn, event_each}
+use Rattle.model_laws.proofs.chains.EventTurns.{Turn, Stood, Went, Begun, Brought, FileTaken, Ended}
 use Rattle.model_laws.proofs.chains.FilesApart.{turn_opens}
-use Rattle.model_laws.proofs.chains.FilesKept.{files_kept, event_keeps_files}
+use Rattle.model_laws.proofs.chains.FilesKept.{files_kept, files_in_runs}
 use Rattle.model_laws.proofs.chains.Proceeds.{proceeds_files, proceeds_so}
 use Rattle.model_laws.proofs.chains.TurnsSound.{turn_sound}
-use Rattle.model_laws.proofs.chains.WorldKept.{AnyLength, new_sound, event_keeps_world}
+use Rattle.model_laws.proofs.chains.WorldKept.{beside_in_runs, AnyLength}
 
 -- What is brought.
 
@@ -74,13 +73,7 @@ reach_told fs (f ∷ rest) file end h has = elim (one_of (f.0 == file && nat_le 
 
 pieces_lie : (fs : Files) (files : List (ℕ × ℕ)) (call req n : ℕ) (xs : List Piece) → list_any (lacks_file files) xs ≡ false → All (HasLength fs) files → LieList fs (named_from (bucket_of call req) n xs)
 pieces_lie fs files call req n xs there lengths =
-    pieces_each (LiesInFile fs) files call req lies (λ x off. λ file start len p e at. absurd (no_range x.bucket.content file start len off e)) n xs there where
-      lies : (m f st l : ℕ) → has_range files f (st + l) ≡ true → LiesInFile fs (record { name = m; bucket = bucket_of call req (piece.File f st l) })
-      lies m f st l has file start len p e at =
-          let same_file : f ≡ file = cc in
-          let same_start : st ≡ start = cc in
-          let same_len : l ≡ len = cc in
-          subst (λ (k : ℕ). Reaches fs k (start + len)) same_file (subst (λ (k : ℕ). Reaches fs f (start + k)) same_len (subst (λ (k : ℕ). Reaches fs f (k + l)) same_start (reach_told fs files f (st + l) lengths has)))
+    pieces_ranges (λ file start len p. Reaches fs file (start + len)) files call req (λ file start len has. reach_told fs files file (start + len) lengths has) n xs there
 
 -- What an instruction leaves: a file that is open then held the same before.
 
@@ -110,10 +103,7 @@ cleared_lies : (files : ℕ → Option (List ℕ)) (reached : ℕ → Bool) (x :
 cleared_lies files reached x h file start len p e at = h file start len p e (spared_home reached _ p at).0
 
 touched_lies : (files : ℕ → Option (List ℕ)) (r : Configuration) (i : Instr) (x : NamedBucket) → LiesIn files x → LiesIn files (touched_bucket r i x)
-touched_lies files r (instr.PClear q) x h = cleared_lies files (cleared_by r q) x h
-touched_lies files r (instr.PDestroy q) x h = cleared_lies files (cleared_by r q) x h
-touched_lies files r (instr.Ret s) x h = λ file start len p e at. h file start len p e (left_home r.call.name _ p at)
-touched_lies files r i x h = h
+touched_lies files r i x h = touched_so (LiesIn files) r i (cleared_lies files) (λ on y there. λ file start len p e at. there file start len p e (left_home r.call.name _ p at)) x h
 
 lay_before : (old : ℕ → Option (List ℕ)) (fs : Files) → Closes old fs.opened → (xs : List NamedBucket) → LieList fs xs → All (LiesIn old) xs
 lay_before old fs closes xs h = λ k d lt. λ file start len p e at. (let there = h k d lt file start len p e at in (there.0, closes file there.0 there.1, there.2))
@@ -223,10 +213,7 @@ opened_ranges chain g = record {
 }
 
 turn_ranges : (chain : List Program) (g : Common) (c : Connection) (v : Linked) → Turn chain AnyLength g c v → ChainSound chain g c → ChainFiles g c → ChainFiles v.0 v.1 → ChainRanges g c → ChainRanges v.0 v.1
-turn_ranges chain g c v Same s held left h = h
-turn_ranges chain g c v Drained s held left h = record { lie = record { brigades = h.lie.brigades; loose = h.lie.loose }; told = h.told; given = h.given }
-turn_ranges chain g c v (Broke k other) s held left h = record { lie = record { brigades = h.lie.brigades; loose = h.lie.loose }; told = h.told; given = h.given }
-turn_ranges chain g c v (Faulted f rest k whole top is) s held left h = record { lie = record { brigades = h.lie.brigades; loose = h.lie.loose }; told = h.told; given = h.given }
+turn_ranges chain g c v (Stood out broken) s held left h = record { lie = record { brigades = h.lie.brigades; loose = h.lie.loose }; told = h.told; given = h.given }
 turn_ranges chain g c v (Went reads f rest whole may) s held left h =
     let files : ChainFiles (after_top chain reads g c f rest).0 (after_top chain reads g c f rest).1 = record {
       lasts = left.lasts;
@@ -270,11 +257,5 @@ event_keeps_ranges memory budget chain told k e w chained s held h = event_each 
   unopened = λ x there. unopened_ranges chain w.common x there;
 })
 
-abbrev Kept : List Program → World → Type 0
-Kept chain w = WorldSound chain w × WorldFiles w × WorldRanges w
-
-pub run_keeps_ranges : RunKeepsWorldRanges
-run_keeps_ranges budget chain es answers w chained run =
-    (run_each (Kept chain) budget chain
-    (λ memory told k e v h. (event_keeps_world memory budget chain told k e v chained h.0, event_keeps_files memory budget chain told k e v chained h.0 h.1, event_keeps_ranges memory budget chain told k e v chained h.0 h.1 h.2))
-    es answers (new_world run.first) w run.run (new_sound chain run.first run.named run.given, λ k c e. absurd (cc), λ k c e. absurd (cc))).2
+pub run_keeps_ranges : RunKeeps WorldRanges
+run_keeps_ranges = beside_in_runs WorldFiles WorldRanges files_in_runs.event event_keeps_ranges (λ first k c e. absurd (cc)) (λ first k c e. absurd (cc))

@@ -20,9 +20,10 @@ use Rattle.model_laws.specs.ChainFiles.{OfEachBucket, IsShortLength, BucketsEnd,
 use Rattle.model_laws.proofs.RangesEnd.{pieces_end, told_end, step_ends}
 use Rattle.model_laws.proofs.chains.EachBucket.{Steps, seen_each, proceeds_each}
 use Rattle.model_laws.proofs.chains.EachEvent.{opened_each, begun_each, brought_in_each, request_over_each}
-use Rattle.model_laws.proofs.chains.EachConnection.{Made, OnOpening, OnBegin, OnBring, OnStep, OnEnd, OnTake, opening_turn, event_each}
+use Rattle.model_laws.proofs.chains.EventCases.{Made, OnOpening, OnBegin, OnBring, OnStep, OnEnd, OnTake}
+use Rattle.model_laws.proofs.chains.EachConnection.{opening_turn, event_each}
 use Rattle.model_laws.proofs.chains.StepCases.{steps_so}
-use Rattle.model_laws.proofs.chains.EventTurns.{Turn, Same, Drained, Broke, Faulted, Went, Begun, Brought, FileTaken, Ended, begins_turn, brings_turn, ends_turn}
+use Rattle.model_laws.proofs.chains.EventTurns.{Turn, Drained, Stood, Went, Begun, Brought, FileTaken, Ended, begins_turn, brings_turn, ends_turn}
 use Rattle.model_laws.proofs.chains.Proceeds.{proceeds_files}
 use Rattle.model_laws.proofs.chains.WorldKept.{AnyLength, TurnsKeep, event_kept, whole_run_kept}
 
@@ -65,10 +66,7 @@ unfolding opened all_called
 no_lengths chain g = All-nil (λ f. IsShortLength f.1)
 
 turn_ends : (chain : List Program) (Lengths : ℕ → Type 0) (g : Common) (c : Connection) (v : Linked) → Turn chain Lengths g c v → ChainEnds c → BucketsEnd v.1
-turn_ends chain Lengths g c v Same h = h.ends
-turn_ends chain Lengths g c v Drained h = record { brigades = h.ends.brigades; loose = h.ends.loose }
-turn_ends chain Lengths g c v (Broke k other) h = record { brigades = h.ends.brigades; loose = h.ends.loose }
-turn_ends chain Lengths g c v (Faulted f rest k whole top is) h = record { brigades = h.ends.brigades; loose = h.ends.loose }
+turn_ends chain Lengths g c v (Stood out broken) h = record { brigades = h.ends.brigades; loose = h.ends.loose }
 turn_ends chain Lengths g c v (Went reads f rest whole may) h = (let left = proceeds_end chain reads f rest (current (module_at chain f.of) f.pc) g c may.on_top h.ends in record { brigades = left.brigades; loose = left.loose })
 turn_ends chain Lengths g c v (Begun whole idle none pools next) h = begun_each (λ x. EndsInFile x.bucket.content) chain g c h.ends
 turn_ends chain Lengths g c v (Brought pieces req whole idle is there next) h = bring_ends chain pieces req g c (told_end c.files pieces h.lengths there) h.ends
@@ -77,10 +75,7 @@ turn_ends chain Lengths g c v (Ended req whole idle is) h = request_over_each (�
 
 turn_lengths : (chain : List Program) (g : Common) (c : Connection) (v : Linked) → Turn chain IsShortLength g c v → LengthsEnd c.files → LengthsEnd v.1.files
 unfolding begun all_called
-turn_lengths chain g c v Same h = h
-turn_lengths chain g c v Drained h = h
-turn_lengths chain g c v (Broke k other) h = h
-turn_lengths chain g c v (Faulted f rest k whole top is) h = h
+turn_lengths chain g c v (Stood out broken) h = h
 turn_lengths chain g c v (Went reads f rest whole may) h = subst LengthsEnd (sym (proceeds_files chain reads (current (module_at chain f.of) f.pc) f rest g c)) h
 turn_lengths chain g c v (Begun whole idle none pools next) h = h
 turn_lengths chain g c v (Brought pieces req whole idle is there next) h = h

@@ -6,12 +6,12 @@ use Rattle.model_laws.specs.ChainFiles.{TellsLengths, IsShortLength}
 use Rattle.model_laws.specs.Reached.{NewIsReached, EventReaches, WorldRunGoesOn, ReachedHolds}
 use Rattle.model_laws.proofs.chains.WorldKept.{run_keeps_world}
 use Rattle.model_laws.proofs.chains.RangesEnd.{run_ends_world}
-use Rattle.model_laws.proofs.chains.FilesKept.{run_keeps_files}
+use Rattle.model_laws.proofs.chains.FilesKept.{files_in_runs}
 use Rattle.model_laws.proofs.chains.FilesApart.{run_keeps_files_apart}
-use Rattle.model_laws.proofs.chains.Paths.{run_keeps_paths}
-use Rattle.model_laws.proofs.chains.Homes.{run_keeps_homes}
+use Rattle.model_laws.proofs.chains.Paths.{paths_in_runs}
+use Rattle.model_laws.proofs.chains.Homes.{homes_in_runs}
 use Rattle.model_laws.proofs.chains.Numbers.{run_keeps_numbers}
-use Rattle.model_laws.proofs.chains.Registered.{run_keeps_registered}
+use Rattle.model_laws.proofs.chains.Registered.{registered_in_runs}
 
 pub new_is_reached : NewIsReached
 unfolding IsRun
@@ -38,9 +38,9 @@ reached_holds budget chain w chained r = record {
   sound = run_keeps_world budget chain r.events r.answers w chained r.run;
   numbers = run_keeps_numbers budget chain r.events r.answers w r.run;
   ends = run_ends_world budget chain r.events r.answers w chained r.run r.short;
-  files = run_keeps_files budget chain r.events r.answers w chained r.run;
+  files = files_in_runs.run budget chain r.events r.answers w chained r.run;
   apart = run_keeps_files_apart budget chain r.events r.answers w chained r.run;
-  paths = run_keeps_paths budget chain r.events r.answers w chained r.run;
-  homes = run_keeps_homes budget chain r.events r.answers w chained r.run;
-  registered = run_keeps_registered budget chain r.events r.answers w chained r.run;
+  paths = paths_in_runs.run budget chain r.events r.answers w chained r.run;
+  homes = homes_in_runs.run budget chain r.events r.answers w chained r.run;
+  registered = registered_in_runs.run budget chain r.events r.answers w chained r.run;
 }

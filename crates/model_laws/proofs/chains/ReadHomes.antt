@@ -1,5 +1,6 @@
 -- What a call read has a home that lasts as long as the call, in every run of a chain.
 use Rattle.std.proofs.Common.{◌≡◌, ◌≢◌, ℕ, ◌+◌, ◌<◌, Bool, true, false, ◌&&◌, ◌==◌, cond, nat_lt, List, [], ◌∷◌, ◌++◌, map, length, Option, Some, None, All, inl, inr, refl, sym, ◌∙◌, ap, subst, arith, eq-eqb, ne_eqb}
+use Rattle.std.proofs.lemmas.Option.{}
 use Rattle.std.proofs.lemmas.List.Elements.{All-head, All-tail}
 use Rattle.module_code.specs.declared.instr.Instr.{Instr}
 use Rattle.module_code.specs.declared.instr.Instr.TheVariants as instr
@@ -48,14 +49,14 @@ use Rattle.model_laws.specs.Laws.{MayExecute, MatchHome, is_return, may_change_c
 use Rattle.model_laws.specs.CursorLaws.{name_held}
 use Rattle.model_laws.specs.ReadHomes.{IsNoPool, ReadsLast, RunKeepsReads, ReadsPassTheTest}
 use Rattle.model_laws.proofs.Marks.{first_none, second_none}
-use Rattle.model_laws.proofs.Origins.{is_read}
+use Rattle.model_laws.proofs.Origins.{HoldsNamed, is_read}
 use Rattle.model_laws.proofs.StepFiles.{not_dead}
 use Rattle.model_laws.proofs.Unchanged.{step_changes_only}
 use Rattle.model_laws.proofs.chains.Beyond.{NoneBeyond, only_here, turn_beyond}
 use Rattle.model_laws.proofs.chains.Cursors.{cursors_keep}
-use Rattle.model_laws.proofs.chains.EachBucket.{Holding, Steps, LooseOf, seen_each, each_bucket_so, proceeds_each}
+use Rattle.model_laws.proofs.chains.EachBucket.{Steps, LooseOf, seen_each, each_bucket_so, proceeds_each}
 use Rattle.model_laws.proofs.chains.EachCall.{each_call_kept}
-use Rattle.model_laws.proofs.chains.EventTurns.{Turn, Same, Drained, Broke, Faulted, Went, Begun, Brought, FileTaken, Ended}
+use Rattle.model_laws.proofs.chains.EventTurns.{Turn, Stood, Went, Begun, Brought, FileTaken, Ended}
 use Rattle.model_laws.proofs.chains.Homes.{homes_kept}
 use Rattle.model_laws.proofs.chains.ReadSteps.{Lasts, NamedLasts, lasts_more, step_lasts, touched_lasts}
 use Rattle.model_laws.proofs.chains.TopNames.{top_keeps_names}
@@ -221,12 +222,12 @@ module _ (chain : List Program) (reads : Reads) (g : Common) (c : Connection) (f
   carry : (n : ℕ) (C : ℕ → Type 0) → n < g.next → (is_return i ≡ true → C f.call.name → ⊥) → OfEachBucket (NamedLasts n C) c → OfEachBucket (NamedLasts n C) left.1
   unfolding configuration
   carry n C lt away old = proceeds_each (λ ps. NamedLasts n C) (λ ps. NamedLasts n C) chain g c f reads i rest top steps old where
-    seen : Holding (NamedLasts n C) (configuration g c f)
+    seen : HoldsNamed (NamedLasts n C) (configuration g c f)
     seen = seen_each (NamedLasts n C) g c f rest top old
 
     steps : Steps (λ ps. NamedLasts n C) (λ ps. NamedLasts n C) chain g c f i
     steps = record {
-      held = λ choice. (let h = step_lasts n C (module_at chain f.of) choice (configuration g c f) lt (record { brigades = seen.brigades; loose = seen.loose }) i away in record { brigades = h.brigades; loose = h.loose });
+      held = λ choice. step_lasts n C (module_at chain f.of) choice (configuration g c f) lt seen i away;
       touched = λ choice x t. touched_lasts n C (configuration g c f) i away x t;
     }
 
@@ -454,10 +455,7 @@ fresh_reads d v unset = (λ n e. absurd (unset_at n (v.call.cursors read_cursor)
 
 turn_reads : (chain : List Program) (g : Common) (c : Connection) (v : Linked) → Turn chain AnyLength g c v → ChainSound chain g c → NoneBeyond chain v.1 → ReadsKept chain g c → StackReads v.1 v.1.stack
 unfolding begun all_called
-turn_reads chain g c v Same s none h = h.reads
-turn_reads chain g c v Drained s none h = same_reads c _ refl refl c.stack h.reads
-turn_reads chain g c v (Broke k other) s none h = same_reads c _ refl refl c.stack h.reads
-turn_reads chain g c v (Faulted f rest k whole top is) s none h = same_reads c _ refl refl c.stack h.reads
+turn_reads chain g c v (Stood out broken) s none h = same_reads c _ refl refl c.stack h.reads
 turn_reads chain g c v (Went reads f rest whole may) s none h =
     let left : Linked = after_top chain reads g c f rest in
     same_reads left.1 _ refl refl left.1.stack
@@ -488,9 +486,6 @@ below_of : (c : Connection) (above : List Frame) (f : Frame) (below : List Frame
 unfolding StackReads
 below_of c [] f below h = h.0
 below_of c (w ∷ above) f below h = below_of c above f below h.1
-
-some_is : (x y : NamedBucket) → Some x ≡ Some y → x ≡ y
-some_is x y e = cc
 
 none_is : (x : NamedBucket) → None ≡ Some x → ⊥
 none_is x e = cc

@@ -30,7 +30,8 @@ use Rattle.run_model.specs.Chains.{Frame, Connection, Common, Linked, module_at,
 use Rattle.run_model.specs.Passing.{Reads, delivered, delivered_by, handed_in, set_in, passed_to, passed_by, given_back, gone_on, returned_to, next_called, returned_from, proceeds}
 use Rattle.run_model.specs.Turns.{all_called, fresh_connection, opened, begun, brought_in, file_taken, request_over}
 use Rattle.model_laws.specs.ChainSound.{ChainSound}
-use Rattle.model_laws.specs.ChainRegistered.{ChainRegistered, EventKeepsWorldRegistered, RunKeepsWorldRegistered}
+use Rattle.model_laws.specs.ChainRegistered.{ChainRegistered, WorldRegistered}
+use Rattle.model_laws.specs.KeptInRuns.{KeptInRuns}
 use Rattle.run_model.proofs.Updates.{upd_either}
 use Rattle.run_model.proofs.Names.{at_each}
 use Rattle.run_model.proofs.References.{destroyed_emptied}
@@ -38,8 +39,8 @@ use Rattle.model_laws.proofs.Registered.{LiesOn, SameBrigade, same_brigade, hand
 use Rattle.model_laws.proofs.chains.PutBack.{looking}
 use Rattle.model_laws.proofs.chains.Views.{sound_top}
 use Rattle.model_laws.proofs.chains.TopSteps.{may_step}
-use Rattle.model_laws.proofs.chains.EventTurns.{Turn, Same, Drained, Broke, Faulted, Went, Begun, Brought, FileTaken, Ended}
-use Rattle.model_laws.proofs.chains.WorldKept.{TurnsKeep, event_kept, whole_run_kept, AnyLength, any_length, any_lengths}
+use Rattle.model_laws.proofs.chains.EventTurns.{Turn, Stood, Went, Begun, Brought, FileTaken, Ended}
+use Rattle.model_laws.proofs.chains.WorldKept.{TurnsKeep, AnyLength, turns_in_runs}
 
 -- Instances.
 
@@ -225,10 +226,7 @@ over_registered req g c h =
       spared_in k name p = made_spared (is_under (pools_of g c) req) (c.instances k) ((request_over req (g, c)).1.instances k) (λ b. spared (is_under (pools_of g c) req) ((c.instances k).brigades b)) name p
 
 turn_registered : (chain : List Program) (g : Common) (c : Connection) (v : Linked) → Turn chain AnyLength g c v → ChainSound chain g c → ChainRegistered g c → ChainRegistered v.0 v.1
-turn_registered chain g c v Same s h = h
-turn_registered chain g c v Drained s h = record { once = h.once; only = h.only }
-turn_registered chain g c v (Broke k other) s h = record { once = h.once; only = h.only }
-turn_registered chain g c v (Faulted f rest k whole top is) s h = record { once = h.once; only = h.only }
+turn_registered chain g c v (Stood out broken) s h = record { once = h.once; only = h.only }
 turn_registered chain g c v (Went reads f rest whole may) s h =
     let left = top_registered chain g c f s h (sound_top chain g c f rest may.on_top s) reads (current (module_at chain f.of) f.pc) rest (may_step chain g c f rest may s) in
     record { once = left.once; only = left.only }
@@ -248,10 +246,5 @@ registered_kept chain = record {
   turns = λ g c v has t s new h. turn_registered chain g c v t s h;
 }
 
-pub event_keeps_registered : EventKeepsWorldRegistered
-event_keeps_registered memory budget chain told k e w chained s h =
-    (event_kept chain chained AnyLength ChainRegistered (registered_kept chain) memory budget told k e w (any_length _) (record { sound = s; kept = h })).kept
-
-pub run_keeps_registered : RunKeepsWorldRegistered
-run_keeps_registered budget chain es answers w chained run =
-    (whole_run_kept chain chained AnyLength ChainRegistered (registered_kept chain) budget es answers w run (any_lengths answers)).kept
+pub registered_in_runs : KeptInRuns WorldRegistered
+registered_in_runs = turns_in_runs ChainRegistered registered_kept

@@ -13,7 +13,8 @@ use Rattle.run_model.specs.RunOrder.{IsPoolMap}
 use Rattle.run_model.specs.State.{Configuration, name_in, named_at, pool_named}
 use Rattle.run_model.specs.Sound.{brigade_pool, SoundPools}
 use Rattle.model_laws.specs.AsDeclared.{AsDeclared}
-use Rattle.model_laws.proofs.AsDeclared.{KeepsOn, carried, same_live, named_same}
+use Rattle.model_laws.proofs.AsDeclared.{carried, same_live, named_same}
+use Rattle.model_laws.proofs.BrigadePools.{KeepsOn}
 use Rattle.model_laws.proofs.NamedPools.{conn_given, req_given}
 
 -- What is reached may go, and what is named is not reached. Pools that are not reached keep their paths, those above them are not

@@ -1,7 +1,7 @@
 -- What a step does to homes: those of calls that are alive, and of live pools.
-use Rattle.std.proofs.Common.{◌≡◌, ◌≢◌, ℕ, ◌≤◌, Bool, true, false, ◌==◌, cond, not, List, [], ◌∷◌, ◌++◌, map, filter_map, Option, Some, None, All, inl, inr, refl, sym, ◌∙◌, ap, subst, eq-eqb}
+use Rattle.std.proofs.Common.{◌≡◌, ◌≢◌, ℕ, ◌≤◌, Bool, true, false, ◌==◌, cond, not, List, [], ◌∷◌, map, filter_map, Option, Some, None, All, inl, inr, refl, sym, ◌∙◌, ap, subst, eq-eqb}
 use Rattle.std.specs.List.{list_any}
-use Rattle.std.proofs.lemmas.List.Elements.{All-cons, All-head, All-tail, All-append}
+use Rattle.std.proofs.lemmas.List.Elements.{All-cons, All-head, All-tail}
 use Rattle.module_code.specs.declared.instr.PoolRef.TheVariants as pool
 use Rattle.module_code.specs.declared.instr.Instr.{Instr}
 use Rattle.module_code.specs.declared.instr.Instr.TheVariants as instr
@@ -10,11 +10,8 @@ use Rattle.run_model.specs.declared.bucket.Home.{Home}
 use Rattle.run_model.specs.declared.bucket.Home.TheVariants as home
 use Rattle.run_model.specs.declared.bucket.Bucket.{Bucket}
 use Rattle.run_model.specs.declared.bucket.NamedBucket.{NamedBucket}
-use Rattle.run_model.specs.declared.bucket.BrigadeVar.{BrigadeVar}
-use Rattle.run_model.specs.declared.bucket.BrigadeVar.TheVariants as var
 use Rattle.run_model.specs.declared.payload.Payload.{Payload}
-use Rattle.run_model.specs.Indexed.{upd}
-use Rattle.run_model.specs.Pools.{Pools, is_live, is_under, is_empty, created, registered, cleared, destroyed}
+use Rattle.run_model.specs.Pools.{Pools, is_live, is_under, is_empty, created, registered}
 use Rattle.run_model.specs.RunOrder.{IsPoolMap, killed}
 use Rattle.run_model.specs.Buckets.{is_dead, end_pools, end_call, cleared_bucket, returned_bucket}
 use Rattle.run_model.specs.Clearing.{run_down}
@@ -24,22 +21,23 @@ use Rattle.run_model.specs.Faults.{WCursor, OnBucket, usable_fault, homes_fault,
 use Rattle.run_model.specs.BrigadeLists.{bucket_named}
 use Rattle.run_model.specs.Cursors.{Place, Nowhere, AtLoose, Within, AtEndOf, bucket_at, spot}
 use Rattle.run_model.specs.BucketSteps.{items_at, changed_at, aside_into}
-use Rattle.run_model.specs.Steps.{Choice, step, on_pool, with_brigade, all_referred, do_return, cleaned, with_items, returned_var, made_on, new_ref, aside_named, saved_into, pool_cleared, pool_destroyed, label_registered, label_killed, text_of}
-use Rattle.run_model.specs.Sound.{Sound, brigade_pool, count_named}
+use Rattle.run_model.specs.Steps.{Choice, step, on_pool, with_brigade, all_referred, do_return, made_on, new_ref, aside_named, saved_into, pool_cleared, pool_destroyed, label_registered, label_killed, text_of}
+use Rattle.run_model.specs.Sound.{Sound, count_named}
 use Rattle.model_laws.specs.Laws.{MayExecute, MatchHome, is_return}
 use Rattle.run_model.specs.Chains.{is_under_named, touched_bucket}
-use Rattle.run_model.proofs.PoolMap.{created_lives, destroyed_apart, cleared_apart}
+use Rattle.run_model.proofs.PoolMap.{created_lives}
+use Rattle.model_laws.proofs.PoolsGone.{Emptying, cleared_so, destroyed_so, apart_lives, pool_emptied, on_emptied}
 use Rattle.model_laws.proofs.Marks.{first_none, second_none}
 use Rattle.model_laws.proofs.MadeBrigades.{brigade_path}
-use Rattle.model_laws.proofs.NamedPools.{on_named, made_under_named}
-use Rattle.model_laws.proofs.StepPools.{referred_path, wanted_pool, named_lives}
+use Rattle.model_laws.proofs.NamedPools.{made_is, on_named, made_under_named}
+use Rattle.model_laws.proofs.StepPools.{aside_path, referred_path, wanted_pool, named_lives}
 use Rattle.run_model.proofs.Spots.{Stands, stands}
 use Rattle.run_model.proofs.EachBucket.{of_named, each_changed, only_one, loose_once, brigade_once}
-use Rattle.model_laws.proofs.Origins.{PassesOn, quiet_leaves}
+use Rattle.model_laws.proofs.Origins.{HoldsNamed, PassesOn, quiet_leaves}
 use Rattle.model_laws.proofs.Unchanged.{step_changes_only}
-use Rattle.model_laws.proofs.StepFiles.{written, no_dead, not_dead, aside_live, neither}
+use Rattle.model_laws.proofs.StepFiles.{no_dead, not_dead, aside_live, neither}
 use Rattle.model_laws.proofs.Kept.{aside_lasts}
-use Rattle.model_laws.proofs.chains.EachBucket.{Holding, none, filled_each, handed_over_each, written_variable, each_so, mapped_each, cleared_each, returned_each}
+use Rattle.model_laws.proofs.EachItem.{none, cleaned_each, handed_over_each, written_each, items_each, moved_each, each_so, mapped_each, cleared_each, left_each}
 
 -- C: which calls are alive.
 abbrev pub AliveHome : (ℕ → Type 0) → Pools Payload → Home → Type 0
@@ -80,21 +78,6 @@ same_path : (ps new : Pools Payload) → new.path ≡ ps.path → Lasting ps new
 unfolding is_live
 same_path ps new same n live = ap (λ (g : ℕ → List ℕ). not (is_empty (g n))) same ∙ live
 
-pub cleared_lasts : (n : ℕ) (ps : Pools Payload) (k : ℕ) → is_under ps n k ≡ false → is_live ps k ≡ true → is_live (cleared n ps) k ≡ true
-unfolding is_live
-cleared_lasts n ps k off live = ap (λ (path : List ℕ). not (is_empty path)) (cleared_apart n ps k off).0 ∙ live
-
-pub destroyed_lasts : (n : ℕ) (ps : Pools Payload) (k : ℕ) → is_under ps n k ≡ false → is_live ps k ≡ true → is_live (destroyed n ps) k ≡ true
-unfolding is_live
-destroyed_lasts n ps k off live = ap (λ (path : List ℕ). not (is_empty path)) (destroyed_apart n ps k off).0 ∙ live
-
-aside_path : (s : Place) (target : ℕ) (r : Configuration) → (aside_into s target r).shared.pools.path ≡ r.shared.pools.path
-unfolding set_brigade set_loose with_pools
-aside_path Nowhere target r = refl
-aside_path (AtLoose x) target r = referred_path target (filter_map (new_ref r.shared.pools target) (x ∷ [])) r.shared.pools
-aside_path (Within b x) target r = referred_path target (filter_map (new_ref r.shared.pools target) (x ∷ [])) r.shared.pools
-aside_path (AtEndOf b) target r = refl
-
 module _ (C : ℕ → Type 0) where
   -- A bucket that the call does not see.
 
@@ -104,16 +87,15 @@ module _ (C : ℕ → Type 0) where
   stays : (ps new : Pools Payload) → Lasting ps new → (x : NamedBucket) → AliveAs C ps x → AliveAs C new x
   stays ps new pools x a = home_so C C ps new (λ n c. c) pools x.bucket.home a
 
+  gone_alive : (gone : ℕ → Configuration → Configuration) (o : Option ℕ) (r : Configuration) → ((n : ℕ) → Emptying n r.shared.pools (gone n r).shared.pools)
+      → (x : NamedBucket) → AliveAs C r.shared.pools x → AliveAs C (on_pool gone o r).shared.pools (cleared_bucket (is_under_named r.shared.pools o) x)
+  gone_alive gone None r so x a = cleared_home C r.shared.pools r.shared.pools (λ m. false) (λ n off live. live) x.bucket.home a
+  gone_alive gone (Some n) r so x a = cleared_home C r.shared.pools (gone n r).shared.pools (is_under r.shared.pools n) (apart_lives n r.shared.pools (gone n r).shared.pools (so n)) x.bucket.home a
+
   pub touched_alive : (p : Program) (choice : Choice) (i : Instr) (r : Configuration) → is_return i ≡ false → (x : NamedBucket) → AliveAs C r.shared.pools x → AliveAs C (step p choice i r).state.shared.pools (touched_bucket r i x)
   unfolding with_pools set_pool run_down set_brigade registered killed
-  touched_alive p choice (instr.PClear q) r on x a = by_named (pool_named r (pool.Own q)) where
-    by_named : (o : Option ℕ) → AliveAs C (on_pool pool_cleared o r).shared.pools (cleared_bucket (is_under_named r.shared.pools o) x)
-    by_named None = cleared_home C r.shared.pools r.shared.pools (λ m. false) (λ n off live. live) x.bucket.home a
-    by_named (Some n) = cleared_home C r.shared.pools (cleared n r.shared.pools) (is_under r.shared.pools n) (cleared_lasts n r.shared.pools) x.bucket.home a
-  touched_alive p choice (instr.PDestroy q) r on x a = by_named (pool_named r (pool.Own q)) where
-    by_named : (o : Option ℕ) → AliveAs C (on_pool pool_destroyed o r).shared.pools (cleared_bucket (is_under_named r.shared.pools o) x)
-    by_named None = cleared_home C r.shared.pools r.shared.pools (λ m. false) (λ n off live. live) x.bucket.home a
-    by_named (Some n) = cleared_home C r.shared.pools (destroyed n r.shared.pools) (is_under r.shared.pools n) (destroyed_lasts n r.shared.pools) x.bucket.home a
+  touched_alive p choice (instr.PClear q) r on x a = gone_alive pool_cleared (pool_named r (pool.Own q)) r (λ n. cleared_so n r.shared.pools) x a
+  touched_alive p choice (instr.PDestroy q) r on x a = gone_alive pool_destroyed (pool_named r (pool.Own q)) r (λ n. destroyed_so n r.shared.pools) x a
   touched_alive p choice (instr.Ret s) r on x a = absurd (cc)
   touched_alive p choice (instr.PCreate q) r on x a = made_under_named (Left x) p q r a (λ parent e. stays r.shared.pools (created parent r.shared.pools) (created_lives parent r.shared.pools) x a)
   touched_alive p choice (instr.Label q t) r on x a = on_named (Left x) (label_registered (text_of p t)) (pool_named r q) r a (λ n e. stays r.shared.pools _ (same_path r.shared.pools (label_registered (text_of p t) n r).shared.pools refl) x a)
@@ -129,7 +111,7 @@ module _ (C : ℕ → Type 0) where
   -- What the call sees.
 
   abbrev Seen : Configuration → Type 0
-  Seen r = Holding (AliveAs C r.shared.pools) r
+  Seen r = HoldsNamed (AliveAs C r.shared.pools) r
 
   grown : (r s : Configuration) → Lasting r.shared.pools s.shared.pools → ((b : ℕ) → All (AliveAs C r.shared.pools) (items_of (s.instance.brigades b))) → All (AliveAs C r.shared.pools) s.call.loose → Seen s
   grown r s pools brigades loose = record {
@@ -137,19 +119,17 @@ module _ (C : ℕ → Type 0) where
     loose = each_so (AliveAs C r.shared.pools) (AliveAs C s.shared.pools) (stays r.shared.pools s.shared.pools pools) s.call.loose loose;
   }
 
-  cleaned_alive : (ps : Pools Payload) (v : BrigadeVar) → All (AliveAs C ps) (items_of (cleaned v))
-  cleaned_alive ps var.Null = none (AliveAs C ps)
-  cleaned_alive ps var.Gone = none (AliveAs C ps)
-  cleaned_alive ps (var.Live v) = none (AliveAs C ps)
-
-  -- these items go to the tail of a, and b is empty
-  moved : (r : Configuration) (a b : ℕ) (items : List NamedBucket) → All (AliveAs C r.shared.pools) items → Seen r
-      → (k : ℕ) → All (AliveAs C r.shared.pools) (items_of (upd (upd r.instance.brigades b (with_items [] (r.instance.brigades b))) a (with_items (items_of (r.instance.brigades a) ++ items) (r.instance.brigades a)) k))
-  moved r a b items there h =
-      let T : NamedBucket → Type 0 = AliveAs C r.shared.pools in
-      let emptied = written_variable T r.instance b (with_items [] (r.instance.brigades b)) h.brigades (filled_each T [] (r.instance.brigades b) (none T)) in
-      written (λ v. All T (items_of v)) (upd r.instance.brigades b (with_items [] (r.instance.brigades b))) a _
-      (filled_each T _ (r.instance.brigades a) (All-append T (items_of (r.instance.brigades a)) items (h.brigades a) there)) emptied
+  -- a pool goes, or what it holds
+  emptied : (n : ℕ) (left : Pools Payload) (r : Configuration) → Emptying n r.shared.pools left → Seen r → Seen (pool_emptied left n r)
+  unfolding run_down with_pools
+  emptied n left r so h =
+      let reached : ℕ → Bool = is_under r.shared.pools n in
+      let keeps : ((x : NamedBucket) → AliveAs C r.shared.pools x → AliveAs C left
+      (cleared_bucket reached x)) = λ x a. cleared_home C r.shared.pools left reached (apart_lives n r.shared.pools left so) x.bucket.home a in
+      record {
+        brigades = λ b. cleared_each (AliveAs C r.shared.pools) (AliveAs C left) reached keeps (r.instance.brigades b) (h.brigades b);
+        loose = mapped_each (AliveAs C r.shared.pools) (AliveAs C left) (cleared_bucket reached) keeps r.call.loose h.loose;
+      }
 
   lasting : (ps : Pools Payload) (h : Home) → MatchHome h (λ call. ⊥) (λ n. is_live ps n ≡ true) → AliveHome C ps h
   lasting ps home.Free a = tt
@@ -169,11 +149,8 @@ module _ (C : ℕ → Type 0) where
   unfolding set_brigade with_pools
   save_alive o b target r sound on dead h =
       grown r (saved_into o b target r) (same_path r.shared.pools _ (referred_path target (filter_map (new_ref r.shared.pools target) (items_of (r.instance.brigades b))) r.shared.pools))
-      (moved r o b _ (aside_all target r.shared.pools sound.pools.formed (sound.pools.brigades o target (made_pool (r.instance.brigades o) on)) (items_of (r.instance.brigades b)) (sound.buckets.brigades b) dead) h) h.loose where
-        made_pool : (v : BrigadeVar) → made_on v ≡ Some target → brigade_pool v ≡ Some target
-        made_pool var.Null e = e
-        made_pool var.Gone e = e
-        made_pool (var.Live v) e = e
+      (moved_each (AliveAs C r.shared.pools) r.instance.brigades o b _ (aside_all target r.shared.pools sound.pools.formed
+      (sound.pools.brigades o target (sym (made_is (r.instance.brigades o)) ∙ on)) (items_of (r.instance.brigades b)) (sound.buckets.brigades b) dead) h.brigades) h.loose
 
   aside_in : (ps : Pools Payload) (target : ℕ) (x : NamedBucket) (xs : List NamedBucket) → bucket_named x.name xs ≡ Some x → count_named x.name xs ≤ 1 → All (λ y. FitsKind y.bucket) xs → is_dead x ≡ false
       → is_live ps target ≡ true → IsPoolMap ps → All (AliveAs C ps) xs → All (AliveAs C ps) (changed_at x.name (aside_named ps target) xs)
@@ -191,8 +168,9 @@ module _ (C : ℕ → Type 0) where
   aside_alive (Within b x) target r there live target_lives sound h =
       let T : NamedBucket → Type 0 = AliveAs C r.shared.pools in
       grown r (aside_into (Within b x) target r) (same_path r.shared.pools _ (aside_path (Within b x) target r))
-      (written_variable T r.instance b _ h.brigades (filled_each T (changed_at x.name (aside_named r.shared.pools target) (items_at r b)) (r.instance.brigades b)
-      (aside_in r.shared.pools target x (items_at r b) there.1 (brigade_once r b x.name there.0 sound.names) (sound.buckets.brigades b) (not_dead x live) target_lives sound.pools.formed (h.brigades b)))) h.loose
+      (items_each T r.instance.brigades b (changed_at x.name (aside_named r.shared.pools target) (items_at r b))
+      (aside_in r.shared.pools target x (items_at r b) there.1 (brigade_once r b x.name there.0 sound.names) (sound.buckets.brigades b)
+      (not_dead x live) target_lives sound.pools.formed (h.brigades b)) h.brigades) h.loose
   aside_alive (AtEndOf b) target r there live target_lives sound h = h
 
   -- a bucket that is made has no home but the call
@@ -211,24 +189,22 @@ module _ (C : ℕ → Type 0) where
   pub step_alive : (p : Program) (choice : Choice) (i : Instr) (r : Configuration) → is_return i ≡ false → MayExecute p r i → Sound r → C r.call.name → Seen r → Seen (step p choice i r).state
   unfolding set_brigade with_pools set_pool run_down registered killed
   step_alive p choice (instr.PCreate q) r on may sound named h = made_under_named Seen p q r h (λ parent e. grown r _ (created_lives parent r.shared.pools) h.brigades h.loose)
-  step_alive p choice (instr.PClear q) r on may sound named h = on_named Seen pool_cleared (pool_named r (pool.Own q)) r h (λ n e. record {
-    brigades = λ b. cleared_each (AliveAs C r.shared.pools) (AliveAs C (cleared n r.shared.pools)) (is_under r.shared.pools n) (λ x a. cleared_home C r.shared.pools (cleared n r.shared.pools) (is_under r.shared.pools n) (cleared_lasts n r.shared.pools) x.bucket.home a) (r.instance.brigades b) (h.brigades b);
-    loose = mapped_each (AliveAs C r.shared.pools) (AliveAs C (cleared n r.shared.pools)) (cleared_bucket (is_under r.shared.pools n)) (λ x a. cleared_home C r.shared.pools (cleared n r.shared.pools) (is_under r.shared.pools n) (cleared_lasts n r.shared.pools) x.bucket.home a) r.call.loose h.loose;
-  })
-  step_alive p choice (instr.PDestroy q) r on may sound named h = on_named Seen pool_destroyed (pool_named r (pool.Own q)) r h (λ n e. record {
-    brigades = λ b. cleared_each (AliveAs C r.shared.pools) (AliveAs C (destroyed n r.shared.pools)) (is_under r.shared.pools n) (λ x a. cleared_home C r.shared.pools (destroyed n r.shared.pools) (is_under r.shared.pools n) (destroyed_lasts n r.shared.pools) x.bucket.home a) (r.instance.brigades b) (h.brigades b);
-    loose = mapped_each (AliveAs C r.shared.pools) (AliveAs C (destroyed n r.shared.pools)) (cleared_bucket (is_under r.shared.pools n)) (λ x a. cleared_home C r.shared.pools (destroyed n r.shared.pools) (is_under r.shared.pools n) (destroyed_lasts n r.shared.pools) x.bucket.home a) r.call.loose h.loose;
-  })
+  step_alive p choice (instr.PClear q) r on may sound named h = (on_emptied Seen q r h (λ n left e so. emptied n left r so h)).0
+  step_alive p choice (instr.PDestroy q) r on may sound named h = (on_emptied Seen q r h (λ n left e so. emptied n left r so h)).1
   step_alive p choice (instr.Label q t) r on may sound named h = on_named Seen (label_registered (text_of p t)) (pool_named r q) r h (λ n e. grown r _ (same_path r.shared.pools (label_registered (text_of p t) n r).shared.pools refl) h.brigades h.loose)
   step_alive p choice (instr.Unlabel q t) r on may sound named h = on_named Seen (label_killed (text_of p t)) (pool_named r q) r h (λ n e. grown r _ (same_path r.shared.pools (label_killed (text_of p t) n r).shared.pools refl) h.brigades h.loose)
   step_alive p choice (instr.BCreate o) r on may sound named h =
-      grown r _ (same_path r.shared.pools _ (brigade_path (pool_named r (pool_of_brigade p o)) r.shared.next r.shared.pools)) (written_variable (AliveAs C r.shared.pools) r.instance o _ h.brigades (none (AliveAs C r.shared.pools))) h.loose
-  step_alive p choice (instr.BClean b) r on may sound named h = grown r _ (λ n live. live) (written_variable (AliveAs C r.shared.pools) r.instance b _ h.brigades (cleaned_alive r.shared.pools (r.instance.brigades b))) h.loose
-  step_alive p choice (instr.BConcat a b) r on may sound named h = grown r _ (λ n live. live) (moved r a b (items_of (r.instance.brigades b)) (h.brigades b) h) h.loose
+      grown r _ (same_path r.shared.pools _ (brigade_path (pool_named r (pool_of_brigade p o)) r.shared.next r.shared.pools))
+      (written_each (AliveAs C r.shared.pools) r.instance.brigades o _ (none (AliveAs C r.shared.pools)) h.brigades) h.loose
+  step_alive p choice (instr.BClean b) r on may sound named h =
+      grown r _ (λ n live. live) (written_each (AliveAs C r.shared.pools) r.instance.brigades b _ (cleaned_each (AliveAs C r.shared.pools) (r.instance.brigades b)) h.brigades) h.loose
+  step_alive p choice (instr.BConcat a b) r on may sound named h =
+      grown r _ (λ n live. live) (moved_each (AliveAs C r.shared.pools) r.instance.brigades a b (items_of (r.instance.brigades b)) (h.brigades b) h.brigades) h.loose
   step_alive p choice (instr.BSave o b) r on may sound named h = on_named Seen (saved_into o b) (made_on (r.instance.brigades o)) r h (λ target e.
       save_alive o b target r sound e
       (no_dead (items_of (r.instance.brigades b)) (first_none (homes_fault (items_of (r.instance.brigades b))) None (second_none (usable_fault (r.instance.brigades b)) _ (second_none (usable_fault (r.instance.brigades o)) _ may.faultless)))) h)
-  step_alive p choice (instr.Pass b l) r on may sound named h = grown r _ (λ n live. live) (written_variable (AliveAs C r.shared.pools) r.instance b _ h.brigades (handed_over_each (AliveAs C r.shared.pools) (r.instance.brigades b))) h.loose
+  step_alive p choice (instr.Pass b l) r on may sound named h =
+      grown r _ (λ n live. live) (written_each (AliveAs C r.shared.pools) r.instance.brigades b _ (handed_over_each (AliveAs C r.shared.pools) (r.instance.brigades b)) h.brigades) h.loose
   step_alive p choice (instr.Aside c q) r on may sound named h = on_named Seen (aside_into (spot r c)) (pool_named r q) r h (λ target e.
       aside_alive (spot r c) target r (stands r (r.call.cursors c)) (aside_live r c q may.faultless) (named_lives r q target (wanted_pool r q _ (second_none (fault_want r (WCursor c OnBucket)) _ may.faultless)) e) sound h)
   step_alive p choice (instr.Ret s) r on may sound named h = absurd (cc)
@@ -241,8 +217,10 @@ module _ (C D : ℕ → Type 0) where
   pub returned_alive : (r : Configuration) → ((n : ℕ) → C n → n ≢ r.call.name → D n) → (x : NamedBucket) → AliveAs C r.shared.pools x → AliveAs D r.shared.pools (returned_bucket r.call.name x)
   returned_alive r others x a = returned_home C D r.shared.pools r.call.name others x.bucket.home a
 
-  pub return_alive : (r : Configuration) → ((n : ℕ) → C n → n ≢ r.call.name → D n) → Holding (AliveAs C r.shared.pools) r → Holding (AliveAs D r.shared.pools) (do_return r)
-  return_alive r others h = record { brigades = λ b. left b (b == 8); loose = none (AliveAs D r.shared.pools) } where
-    left : (b : ℕ) (is_in : Bool) → All (AliveAs D r.shared.pools) (items_of (cond is_in var.Null (returned_var r.call.name (r.instance.brigades b))))
-    left b true = none (AliveAs D r.shared.pools)
-    left b false = returned_each (AliveAs C r.shared.pools) (AliveAs D r.shared.pools) r.call.name (returned_alive r others) (r.instance.brigades b) (h.brigades b)
+  pub return_alive : (r : Configuration) → ((n : ℕ) → C n → n ≢ r.call.name → D n) → HoldsNamed (AliveAs C r.shared.pools) r → HoldsNamed (AliveAs D r.shared.pools) (do_return r)
+  return_alive r others h =
+      record {
+        brigades = left_each (AliveAs C r.shared.pools) (AliveAs D r.shared.pools) r.call.name
+            (returned_alive r others) r.instance.brigades h.brigades;
+        loose = none (AliveAs D r.shared.pools);
+      }

@@ -20,7 +20,7 @@ use Rattle.run_model.specs.Chains.{Frame, Connection, Common, Linked, module_at,
 use Rattle.run_model.specs.Passing.{Reads, delivered, delivered_by, handed_in, set_in, passed_to, passed_by, given_back, gone_on, returned_to, called, next_called, returned_from, passes, returns, proceeds}
 use Rattle.model_laws.specs.ChainSound.{ChainPools}
 use Rattle.model_laws.specs.ChainLaws.{TopKeepsPools}
-use Rattle.model_laws.proofs.AsDeclared.{handed_on, filled_on}
+use Rattle.model_laws.proofs.BrigadePools.{handed_on, filled_on}
 use Rattle.model_laws.proofs.chains.Modules.{module_at_proper}
 use Rattle.model_laws.proofs.chains.Views.{sound_top}
 use Rattle.model_laws.proofs.chains.PutBack.{put_back_pools}

@@ -23,7 +23,8 @@ use Rattle.run_model.proofs.PoolMap.{created_kept, created_next, cleared_apart, 
 use Rattle.model_laws.proofs.NamedPools.{made_under_named, own_named}
 use Rattle.model_laws.proofs.StepPools.{step_pools}
 use Rattle.model_laws.proofs.Handlers.{current_at}
-use Rattle.model_laws.proofs.AsDeclared.{KeepsOn, KeepsPool, same_on, returned_on, cleared_on, parent_apart, step_declared}
+use Rattle.model_laws.proofs.AsDeclared.{cleared_on, parent_apart, step_declared}
+use Rattle.model_laws.proofs.BrigadePools.{KeepsOn, KeepsPool, same_on, returned_on}
 use Rattle.model_laws.proofs.chains.Apart.{under_no_other}
 use Rattle.model_laws.proofs.chains.Modules.{module_at_proper}
 use Rattle.model_laws.proofs.chains.PutBack.{IsTop}

@@ -1,5 +1,6 @@
 -- In the tree of a world that is reached each connection has its part, and each pool but the root is one of a connection's.
 use Rattle.std.proofs.Common.{◌≡◌, ◌≢◌, ◌⊎◌, ℕ, zero, suc, ◌<◌, ◌≤◌, ◌==◌, true, false, not, nat_lt, List, [], ◌∷◌, Option, Some, None, inl, inr, refl, sym, ◌∙◌, ap, subst, arith, eq-eqb}
+use Rattle.std.proofs.lemmas.Option.{none-some}
 use Rattle.std.proofs.Math.Path.{fun_ext}
 use Rattle.std.proofs.lemmas.Bool.{cases_Bool, or_cases, or_right, both_ways, false_from_ne_true, ltb-true, ltb-false}
 use Rattle.run_model.proofs.References.{or_left}
@@ -23,9 +24,6 @@ use Rattle.model_laws.proofs.chains.Trees.{Grown, StandsBelow, grown, joined_eit
 
 pub same_conn : (a b : Connection) → Some a ≡ Some b → a ≡ b
 same_conn a b e = cc
-
-none_some : (a : Connection) → None ≡ Some a → ⊥
-none_some a e = cc
 
 module _ (chain : List Program) (w : World) (sound : WorldSound chain w) (numbers : WorldNumbers w) (paths : WorldPaths w) (h : WorldPoolsApart w) where
   -- Up to its number and on, a connection's pools are there.
@@ -69,10 +67,10 @@ module _ (chain : List Program) (w : World) (sound : WorldSound chain w) (number
 
   -- a number that was given
   pub numbered : (k : ℕ) (c : Connection) → w.conns k ≡ Some c → (j : ℕ) × (k ≡ suc j) × (j < w.last)
-  numbered zero c at = absurd (none_some c (sym numbers.first ∙ at))
+  numbered zero c at = absurd (none-some c (sym numbers.first ∙ at))
   numbered (suc j) c at = elim (cases_Bool (nat_lt j w.last)) [
     | inl below ↦ (j, refl, ltb-true j w.last below)
-    | inr past ↦ absurd (none_some c (sym (numbers.later (suc j) (let le : w.last ≤ j = ltb-false j w.last past in omega arith)) ∙ at))
+    | inr past ↦ absurd (none-some c (sym (numbers.later (suc j) (let le : w.last ≤ j = ltb-false j w.last past in omega arith)) ∙ at))
   ]
 
   pub in_all : (k n : ℕ) (c : Connection) → w.conns k ≡ Some c → is_own c n ≡ true → IsAt w.last n c

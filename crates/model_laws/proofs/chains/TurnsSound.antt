@@ -17,7 +17,7 @@ use Rattle.model_laws.proofs.chains.EventNames.{rising_names, opened_names, begu
 use Rattle.model_laws.proofs.chains.EventBuckets.{opened_buckets, begun_buckets, brought_in_buckets, file_taken_buckets, request_over_buckets, same_chain_buckets, begun_raises, brought_in_raises, file_taken_raises, request_over_raises}
 use Rattle.model_laws.proofs.chains.EventPools.{rising_pools, opened_pools, begun_pools, brought_in_pools, file_taken_pools, request_over_pools}
 use Rattle.model_laws.proofs.chains.EventCalls.{rising_calls, opened_calls, begun_calls, brought_in_calls, file_taken_calls, request_over_calls}
-use Rattle.model_laws.proofs.chains.EventTurns.{Turn, Same, Drained, Broke, Faulted, Went, Begun, Brought, FileTaken, Ended}
+use Rattle.model_laws.proofs.chains.EventTurns.{Turn, Stood, Went, Begun, Brought, FileTaken, Ended}
 
 pub rising_sound : RisingKeepsSound
 rising_sound chain g new c rises s = record {
@@ -49,10 +49,7 @@ pub same_rises : (g : Common) → HasNames g → Rises g g
 same_rises g has = record { next = omega arith; next_limit = has.next; pools = omega arith; pools_limit = has.pools.1; root = refl }
 
 pub turn_sound : (chain : List Program) (Lengths : ℕ → Type 0) (g : Common) (c : Connection) (v : Linked) → IsChain chain → HasNames g → Turn chain Lengths g c v → ChainSound chain g c → ChainSound chain v.0 v.1
-turn_sound chain Lengths g c v chained has Same s = s
-turn_sound chain Lengths g c v chained has Drained s = marked_sound chain g c _ refl refl refl refl refl refl s
-turn_sound chain Lengths g c v chained has (Broke k other) s = marked_sound chain g c _ refl refl refl refl refl refl s
-turn_sound chain Lengths g c v chained has (Faulted f rest k whole top is) s = marked_sound chain g c _ refl refl refl refl refl refl s
+turn_sound chain Lengths g c v chained has (Stood out broken) s = marked_sound chain g c _ refl refl refl refl refl refl s
 turn_sound chain Lengths g c v chained has (Went reads f rest whole may) s =
     let left : Linked = after_top chain reads g c f rest in
     marked_sound chain left.0 left.1 _ refl refl refl refl refl refl (record {
@@ -87,10 +84,7 @@ turn_sound chain Lengths g c v chained has (Ended req whole idle is) s = record 
 }
 
 pub turn_rises : (chain : List Program) (Lengths : ℕ → Type 0) (g : Common) (c : Connection) (v : Linked) → HasNames g → Turn chain Lengths g c v → ChainSound chain g c → Rises g v.0
-turn_rises chain Lengths g c v has Same s = same_rises g has
-turn_rises chain Lengths g c v has Drained s = same_rises g has
-turn_rises chain Lengths g c v has (Broke k other) s = same_rises g has
-turn_rises chain Lengths g c v has (Faulted f rest k whole top is) s = same_rises g has
+turn_rises chain Lengths g c v has (Stood out broken) s = same_rises g has
 turn_rises chain Lengths g c v has (Went reads f rest whole may) s = top_raises_names chain reads g c f rest may s
 turn_rises chain Lengths g c v has (Begun whole idle none pools next) s = begun_raises chain g c next pools
 turn_rises chain Lengths g c v has (Brought pieces req whole idle is there next) s = brought_in_raises chain pieces req g c next has.pools.1

@@ -1,26 +1,24 @@
 -- What each turn of a connection keeps, each event keeps of all connections, and so each run.
-use Rattle.std.proofs.Common.{◌≡◌, ℕ, ◌+◌, ◌^◌, ◌<◌, Bool, true, false, ◌||◌, not, List, [], ◌∷◌, Option, Some, None, Result, Ok, Err, All, inl, inr, refl, sym, ◌∙◌, ap, subst, arith}
+use Rattle.std.proofs.Common.{◌≡◌, ℕ, ◌+◌, ◌^◌, ◌<◌, Bool, false, List, [], ◌∷◌, Option, Some, Result, Ok, Err, All, inl, inr, sym, ◌∙◌, ap, subst, arith}
+use Rattle.std.proofs.lemmas.Option.{same_Some}
 use Rattle.std.proofs.lemmas.List.Elements.{All-nil, All-cons, All-head, All-tail}
 use Rattle.module_code.specs.Program.{Program}
 use Rattle.run_model.specs.declared.event.Event.{Event}
 use Rattle.run_model.specs.declared.event.Event.TheVariants as event
 use Rattle.run_model.specs.declared.event.Refusal.{Refusal}
-use Rattle.run_model.specs.declared.event.Refusal.TheVariants as refusal
-use Rattle.run_model.specs.declared.event.Stepped.{Stepped}
 use Rattle.run_model.specs.Steps.{is_spent}
-use Rattle.run_model.specs.Refusals.{first_refusal, refused_if}
 use Rattle.run_model.specs.Chains.{Connection, Common, Linked, IsChain}
-use Rattle.run_model.specs.Turns.{Opening, opened, opens_file}
-use Rattle.run_model.specs.Worlds.{World, Told, Answer, Opened, new_world, put_conn, answered, file_answered, step_answered, closes, opens_if, opens, adds_file, happens_on, happens, IsRun, IsWholeRun}
+use Rattle.run_model.specs.Turns.{opened, opens_file}
+use Rattle.run_model.specs.Worlds.{World, Told, Answer, Opened, new_world, put_conn, file_answered, happens_on, happens, IsRun, IsWholeRun}
 use Rattle.model_laws.specs.ChainSound.{ChainSound, HasNames, WorldSound}
 use Rattle.model_laws.specs.ChainLaws.{Rises, EventKeepsWorld, RunKeepsWorld}
+use Rattle.model_laws.specs.KeptInRuns.{OfConnections, RunKeeps, KeptInRuns}
 use Rattle.model_laws.specs.ChainFiles.{TellsLengths}
-use Rattle.model_laws.proofs.StepFiles.{neither}
+use Rattle.model_laws.proofs.chains.EventCases.{run_each, turn_made, stays_there, event_cases}
 use Rattle.run_model.proofs.Updates.{upd_either}
 use Rattle.model_laws.proofs.StepNames.{not_spent}
-use Rattle.model_laws.proofs.EventAnswers.{none_if}
 use Rattle.model_laws.proofs.chains.EventBuckets.{opened_raises}
-use Rattle.model_laws.proofs.chains.EventTurns.{Turn, OpensAs, Drained, begins_turn, brings_turn, opens_file_turn, ends_turn, steps_turn}
+use Rattle.model_laws.proofs.chains.EventTurns.{Turn, OpensAs}
 use Rattle.model_laws.proofs.chains.TurnsSound.{rising_sound, opened_sound, turn_sound, turn_rises}
 
 -- A property of connections that others' names leave, that an opening makes and each turn keeps, where opened files have these lengths.
@@ -32,10 +30,7 @@ pub record TurnsKeep (chain : List Program) (Lengths : ℕ → Type 0) (P : Comm
 -- it is true of each connection, which is sound
 pub record KeptWorld (chain : List Program) (P : Common → Connection → Type 0) (w : World) : Type 0 where
   pub sound : WorldSound chain w
-  pub kept : (k : ℕ) (c : Connection) → w.conns k ≡ Some c → P w.common c
-
-some_same : (a b : Connection) → Some a ≡ Some b → a ≡ b
-some_same a b e = cc
+  pub kept : OfConnections P w
 
 still_named : (g new : Common) → Rises g new → HasNames g → HasNames new
 still_named g new rises has = (let some : g.root < g.pools = has.pools.0 in let same : new.root ≡ g.root = rises.root in record { first = omega (arith, rises.next, has.first); next = rises.next_limit; pools = (omega (arith, rises.pools, same), rises.pools_limit) })
@@ -52,7 +47,7 @@ module _ (chain : List Program) (chained : IsChain chain) (Lengths : ℕ → Typ
   } where
     by_place : (Q : Connection → Type 0) (j : ℕ) (c : Connection) → (put_conn k v w).conns j ≡ Some c → Q v.1 → ((x : Connection) → w.conns j ≡ Some x → Q x) → Q c
     by_place Q j c e here elsewhere = elim (upd_either w.conns k j (Some v.1)) [
-      | inl at ↦ subst Q (some_same v.1 c (sym at.1 ∙ e)) here
+      | inl at ↦ subst Q (same_Some v.1 c (sym at.1 ∙ e)) here
       | inr off ↦ elsewhere c (sym off.1 ∙ e)
     ]
 
@@ -61,73 +56,35 @@ module _ (chain : List Program) (chained : IsChain chain) (Lengths : ℕ → Typ
       let sound = turn_sound chain Lengths w.common c v chained h.sound.names t (h.sound.conns k c at) in
       put_kept k v w (turn_rises chain Lengths w.common c v h.sound.names t (h.sound.conns k c at)) sound (keeps.turns w.common c v h.sound.names t (h.sound.conns k c at) sound (h.kept k c at)) h
 
-  answered_kept : (k : ℕ) (c : Connection) (w : World) (a : Option Refusal × Linked) → w.conns k ≡ Some c → Turn chain Lengths w.common c a.1 → KeptWorld chain P w → KeptWorld chain P (answered k w a).1
-  answered_kept k c w (None, v) at t h = turned k c w v at t h
-  answered_kept k c w (Some r, v) at t h = h
+  opened_kept : (w : World) → is_spent w.common.pools 1 ≡ false → is_spent w.common.next 1 ≡ false → KeptWorld chain P w
+      → KeptWorld chain P (put_conn (w.last + 1) (opened chain w.common) (record w { last = w.last + 1 }))
+  opened_kept w pools_there next_there h =
+      let pools = not_spent w.common.pools 1 pools_there in
+      let next = not_spent w.common.next 1 next_there in
+      let sound = opened_sound chain w.common chained h.sound.names next pools in
+      put_kept (w.last + 1) (opened chain w.common) (record w { last = w.last + 1 }) (opened_raises chain w.common next pools) sound (keeps.opening w.common h.sound.names sound)
+      (record { sound = record { names = h.sound.names; conns = h.sound.conns }; kept = h.kept })
 
-  file_kept : (k : ℕ) (c : Connection) (w : World) (a : Result (ℕ × ℕ) Refusal × Linked) → w.conns k ≡ Some c → Turn chain Lengths w.common c a.1 → KeptWorld chain P w → KeptWorld chain P (file_answered k w a).1
-  file_kept k c w (Ok f, v) at t h = turned k c w v at t h
-  file_kept k c w (Err r, v) at t h = h
-
-  step_kept : (k : ℕ) (c : Connection) (w : World) (a : Result Stepped Refusal × Linked) → w.conns k ≡ Some c → Turn chain Lengths w.common c a.1 → KeptWorld chain P w → KeptWorld chain P (step_answered k w a).1
-  step_kept k c w (Ok s, v) at t h = turned k c w v at t h
-  step_kept k c w (Err r, v) at t h = turned k c w v at t h
-
-  closed_kept : (memory : Bool) (k : ℕ) (c : Connection) (w : World) → KeptWorld chain P w → KeptWorld chain P (closes memory k c w).1
-  closed_kept false k c w h = h
-  closed_kept true k c w h = record {
-    sound = record { names = h.sound.names; conns = λ j x e. h.sound.conns j x (there j x e) };
-    kept = λ j x e. h.kept j x (there j x e);
-  } where
-    none_some : (x : Connection) → None ≡ Some x → ⊥
-    none_some x e = cc
-
-    there : (j : ℕ) (x : Connection) → (closes true k c w).1.conns j ≡ Some x → w.conns j ≡ Some x
-    there j x e = elim (upd_either w.conns k j None) [ inl at ↦ absurd (none_some x (sym at.1 ∙ e)) | inr off ↦ sym off.1 ∙ e ]
-
-  added_kept : (memory : Bool) (w : World) → KeptWorld chain P w → KeptWorld chain P (adds_file memory w).1
-  added_kept false w h = h
-  added_kept true w h = h
-
-  opens_kept : (memory : Bool) (w : World) → KeptWorld chain P w → KeptWorld chain P (opens memory chain w).1
-  unfolding opens
-  opens_kept memory w h = by_refusal _ refl where
-    by_refusal : (o : Option Refusal) → first_refusal (refused_if (is_spent (w.last + 1) 1 || (is_spent w.common.pools 1 || is_spent w.common.next 1)) refusal.NamesSpent ∷ (refused_if (not memory) refusal.NoMemory ∷ [])) ≡ o → KeptWorld chain P (opens_if o chain w).1
-    by_refusal (Some r) is = h
-    by_refusal None is =
-        let spent = none_if (is_spent (w.last + 1) 1 || (is_spent w.common.pools 1 || is_spent w.common.next 1)) refusal.NamesSpent _ is in
-        let names = neither (is_spent w.common.pools 1) (is_spent w.common.next 1) (neither (is_spent (w.last + 1) 1) _ spent.0).1 in
-        let pools = not_spent w.common.pools 1 names.0 in
-        let next = not_spent w.common.next 1 names.1 in
-        let sound = opened_sound chain w.common chained h.sound.names next pools in
-        put_kept (w.last + 1) (opened chain w.common) (record w { last = w.last + 1 }) (opened_raises chain w.common next pools) sound (keeps.opening w.common h.sound.names sound)
-        (record { sound = record { names = h.sound.names; conns = h.sound.conns }; kept = h.kept })
-
-  opening_kept : (k : ℕ) (c : Connection) (w : World) (memory : Bool) (opening : Opening) → w.conns k ≡ Some c → TellsLengths Lengths (file_answered k w (opens_file memory opening (w.common, c))).0
-      → KeptWorld chain P w → KeptWorld chain P (file_answered k w (opens_file memory opening (w.common, c))).1
-  opening_kept k c w memory opening at may h = file_kept k c w _ at (opens_file_turn chain Lengths w.common c memory opening (opens_as _ may)) h where
-    opens_as : (a : Result (ℕ × ℕ) Refusal × Linked) → TellsLengths Lengths (file_answered k w a).0 → OpensAs Lengths a.0
-    opens_as (Ok f, v) may = may
-    opens_as (Err r, v) may = tt
-
-  on_kept : (memory : Bool) (budget : ℕ) (told : Told) (e : Event) (k : ℕ) (o : Option Connection) (w : World) → w.conns k ≡ o → TellsLengths Lengths (happens_on memory budget chain told e k o w).0
-      → KeptWorld chain P w → KeptWorld chain P (happens_on memory budget chain told e k o w).1
+  -- the file that an event opens, as its answer tells
+  opens_as : (memory : Bool) (budget : ℕ) (told : Told) (k : ℕ) (name : List ℕ) (c : Connection) (w : World) → w.conns k ≡ Some c
+      → TellsLengths Lengths (happens memory budget chain told k (event.OpenFile name) w).0
+      → OpensAs Lengths (opens_file memory told.opening (w.common, c)).0
   unfolding happens_on
-  on_kept memory budget told event.Open k o w at may h = opens_kept memory w h
-  on_kept memory budget told (event.AddFile name bytes) k o w at may h = added_kept memory w h
-  on_kept memory budget told event.TellPools k o w at may h = h
-  on_kept memory budget told (event.OpenFile name) k (Some c) w at may h = opening_kept k c w memory told.opening at may h
-  on_kept memory budget told event.Begin k (Some c) w at may h = answered_kept k c w _ at (begins_turn chain Lengths w.common c memory) h
-  on_kept memory budget told (event.Bring pieces) k (Some c) w at may h = answered_kept k c w _ at (brings_turn chain Lengths w.common c memory pieces) h
-  on_kept memory budget told event.Step k (Some c) w at may h = step_kept k c w _ at (steps_turn chain Lengths w.common c chained memory budget told.reads) h
-  on_kept memory budget told event.End k (Some c) w at may h = answered_kept k c w _ at (ends_turn chain Lengths w.common c memory) h
-  on_kept memory budget told event.TakeOutput k (Some c) w at may h = turned k c w _ at Drained h
-  on_kept memory budget told event.TellLabels k (Some c) w at may h = h
-  on_kept memory budget told event.Close k (Some c) w at may h = closed_kept memory k c w h
-  on_kept memory budget told e k None w at may h = h
+  opens_as memory budget told k name c w at may = of_answer _ (subst (λ (o : Option Connection). TellsLengths Lengths (happens_on memory budget chain told (event.OpenFile name) k o w).0) at may) where
+    of_answer : (a : Result (ℕ × ℕ) Refusal × Linked) → TellsLengths Lengths (file_answered k w a).0 → OpensAs Lengths a.0
+    of_answer (Ok f, v) may = may
+    of_answer (Err r, v) may = tt
 
   pub event_kept : (memory : Bool) (budget : ℕ) (told : Told) (k : ℕ) (e : Event) (w : World) → TellsLengths Lengths (happens memory budget chain told k e w).0 → KeptWorld chain P w → KeptWorld chain P (happens memory budget chain told k e w).1
-  event_kept memory budget told k e w may h = on_kept memory budget told e k (w.conns k) w refl may h
+  event_kept memory budget told k e w may h = event_cases (KeptWorld chain P) memory budget chain told k w h e (record {
+    made = λ c v at made. turned k c w v at (turn_made Lengths memory budget chain told w.common c e v chained
+        (λ name is. opens_as memory budget told k name c w at (subst (λ (x : Event). TellsLengths Lengths (happens memory budget chain told k x w).0) is may)) made) h;
+    opening = λ last pools next. opened_kept w pools next h;
+    closing = λ c at. record {
+      sound = record { names = h.sound.names; conns = λ j x there. h.sound.conns j x (stays_there k w j x there) };
+      kept = λ j x there. h.kept j x (stays_there k w j x there);
+    };
+  })
 
   pub run_kept : (budget : ℕ) (es : List (ℕ × Event)) (answers : List Answer) (old new : World) → IsRun budget chain old es answers new → All (TellsLengths Lengths) answers → KeptWorld chain P old → KeptWorld chain P new
   unfolding IsRun
@@ -173,3 +130,23 @@ event_keeps_world memory budget chain told k e w chained s =
 
 pub run_keeps_world : RunKeepsWorld
 run_keeps_world budget chain es answers w chained run = (whole_run_kept chain chained AnyLength Anything (anything_kept chain) budget es answers w run (any_lengths answers)).sound
+
+-- What each turn keeps is kept in runs.
+pub turns_in_runs : (P : Common → Connection → Type 0) → ((chain : List Program) → TurnsKeep chain AnyLength P) → KeptInRuns (OfConnections P)
+turns_in_runs P keeps = record {
+  event = λ memory budget chain told k e w chained s h.
+      (event_kept chain chained AnyLength P (keeps chain) memory budget told k e w (any_length _) (record { sound = s; kept = h })).kept;
+  run = λ budget chain es answers w chained run. (whole_run_kept chain chained AnyLength P (keeps chain) budget es answers w run (any_lengths answers)).kept;
+}
+
+-- So is W, where each event keeps V, and W where V is true.
+pub beside_in_runs : (V W : World → Type 0)
+    → ((memory : Bool) (budget : ℕ) (chain : List Program) (told : Told) (k : ℕ) (e : Event) (w : World) → IsChain chain → WorldSound chain w → V w → V (happens memory budget chain told k e w).1)
+    → ((memory : Bool) (budget : ℕ) (chain : List Program) (told : Told) (k : ℕ) (e : Event) (w : World) → IsChain chain → WorldSound chain w → V w → W w
+    → W (happens memory budget chain told k e w).1) → ((first : ℕ) → V (new_world first)) → ((first : ℕ) → W (new_world first)) → RunKeeps W
+beside_in_runs V W keeps also new_v new_w budget chain es answers w chained run =
+    (run_each (λ x. WorldSound chain x × V x × W x) budget chain (λ memory told k e x h. (
+      event_keeps_world memory budget chain told k e x chained h.0,
+      keeps memory budget chain told k e x chained h.0 h.1,
+      also memory budget chain told k e x chained h.0 h.1 h.2,
+    )) es answers (new_world run.first) w run.run (new_sound chain run.first run.named run.given, new_v run.first, new_w run.first)).2

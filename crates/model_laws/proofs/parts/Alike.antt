@@ -18,9 +18,10 @@ use Rattle.run_model.specs.Faults.{fault, Want, WPool, WNewPool, is_live_named, 
 use Rattle.run_model.specs.Steps.{grows, made_on, names_of, pool_names_of, is_spent, lacks_names, takes_reference, takes_room}
 use Rattle.model_laws.specs.Parts.{belongs, part}
 use Rattle.model_laws.specs.PartSteps.{in_part, LiesIn, FaultsAlike, NamesAlike}
+use Rattle.model_laws.proofs.NamedPools.{made_is}
 use Rattle.model_laws.proofs.parts.Paths.{under_belongs, part_off, live_alike}
 use Rattle.model_laws.proofs.StepPools.{wanted_pool}
-use Rattle.model_laws.proofs.parts.Steps.{made_is, named_under, ref_part, second_want, wanted_under}
+use Rattle.model_laws.proofs.parts.Steps.{named_under, ref_part, second_want, wanted_under}
 
 -- Faults.
 

@@ -32,12 +32,12 @@ use Rattle.model_laws.specs.PartSteps.{OwnFiles, LiesIn}
 use Rattle.model_laws.specs.PartsLast.{IsNotDestroyed, IsOwnChange, IsHeldUnder, KeepsIn, PartKept, StepsKeepParts}
 use Rattle.run_model.proofs.EachBucket.{of_named}
 use Rattle.run_model.proofs.Spots.{Stands, stands}
-use Rattle.model_laws.proofs.NamedPools.{on_named, made_under_named, own_named}
+use Rattle.model_laws.proofs.NamedPools.{made_is, on_named, made_under_named, own_named}
 use Rattle.model_laws.proofs.StepPools.{wanted_pool, referred_path}
 use Rattle.model_laws.proofs.StepFiles.{no_dead, not_dead, one_dead, neither, aside_live}
 use Rattle.model_laws.proofs.parts.Paths.{apart_under, part_under}
 use Rattle.model_laws.proofs.parts.Lasting.{parts_last, old_last, own_last, refers_new, same_under, same_live}
-use Rattle.model_laws.proofs.parts.Steps.{registered_under, wanted_under, second_want, made_is}
+use Rattle.model_laws.proofs.parts.Steps.{registered_under, wanted_under, second_want}
 use Rattle.model_laws.proofs.parts.Spared.{quiet_pools}
 use Rattle.model_laws.proofs.parts.Quiet.{quiet_alike}
 

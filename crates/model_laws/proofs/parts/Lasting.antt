@@ -1,6 +1,7 @@
 -- What is done to a pool keeps every part.
 use Rattle.std.proofs.Common.{◌≡◌, ◌≢◌, ℕ, ◌<◌, Bool, true, false, ◌||◌, not, cond, List, [], ◌∷◌, ◌++◌, ◌⊎◌, inl, inr, refl, sym, ◌∙◌, ap, ne_eqb}
 use Rattle.std.specs.List.{list_any}
+use Rattle.std.proofs.Math.Bool.{or-false}
 use Rattle.std.proofs.lemmas.Bool.{cases_eq, both_ways, or_cases, or_left, or_right}
 use Rattle.std.proofs.lemmas.List.Folds.{list_any-append}
 use Rattle.run_model.specs.declared.payload.Payload.{Payload}
@@ -15,9 +16,9 @@ use Rattle.run_model.proofs.Updates.{upd_either}
 use Rattle.run_model.proofs.PoolMap.{live_path, created_kept, cleared_path, cleared_apart, cleared_itself, destroyed_path, destroyed_apart}
 use Rattle.run_model.proofs.RunOrderLaws.{under_itself}
 use Rattle.run_model.proofs.Formed.{path_live, created_formed, registered_formed, killed_formed, cleared_formed, destroyed_formed}
-use Rattle.run_model.proofs.References.{Emptied, emptied_back, refers_given, created_back}
+use Rattle.run_model.proofs.References.{emptied_back, refers_given, created_back}
 use Rattle.model_laws.proofs.parts.Paths.{under_live, apart_under, root_off, root_path}
-use Rattle.model_laws.proofs.parts.References.{cleared_emptied, destroyed_emptied}
+use Rattle.model_laws.proofs.PoolsGone.{Emptying, cleared_so, destroyed_so}
 use Rattle.model_laws.proofs.parts.Steps.{registered_path}
 
 pub killed_path : (p : ℕ) (test : Payload → Bool) (ps : Pools Payload) → (killed p test ps).path ≡ ps.path
@@ -112,13 +113,10 @@ unfolding registered
 refers_new p x ps q file h = elim (upd_either ps.payloads p q (ps.payloads p ++ x ∷ [])) [
   | inl at ↦ (elim (or_cases (list_any (is_file_ref file) (ps.payloads p)) (is_file_ref file x || false) (sym (list_any-append (is_file_ref file) (ps.payloads p) (x ∷ [])) ∙ (sym (ap (list_any (is_file_ref file)) at.1) ∙ h))) [
     | inl old ↦ inl (ap (λ (k : ℕ). refers ps k file) at.0 ∙ old)
-    | inr new ↦ inr (at.0, alone (is_file_ref file x) new)
+    | inr new ↦ inr (at.0, sym (or-false (is_file_ref file x)) ∙ new)
   ])
   | inr off ↦ inl (sym (ap (list_any (is_file_ref file)) off.1) ∙ h)
-] where
-  alone : (b : Bool) → (b || false) ≡ true → b ≡ true
-  alone true h = refl
-  alone false h = h
+]
 
 module _ (c d p : ℕ) (x : Payload) (ps : Pools Payload) (hc : HasPart ps c) (hd : HasPart ps d) (under : is_under ps c p ≡ true)
     (only : (file : ℕ) → is_file_ref file x ≡ true → (q : ℕ) → refers ps q file ≡ true → is_under ps c q ≡ true) (own : OwnFiles d ps) where
@@ -151,8 +149,8 @@ module _ (c d p : ℕ) (x : Payload) (ps : Pools Payload) (hc : HasPart ps c) (h
     same : (n : ℕ) → (registered p x ps).path n ≡ ps.path n
     same n = ap (λ (f : ℕ → List ℕ). f n) (registered_path p x ps)
 
-emptied_kept : (p : ℕ) (ps new : Pools Payload) → Emptied p ps new → ((n : ℕ) → is_under ps p n ≡ false → new.path n ≡ ps.path n) → (q file : ℕ) → refers new q file ≡ true → Kept ps new q file
-emptied_kept p ps new e apart q file h = (let was = emptied_back p ps new e q file h in record { path = apart q was.0; refers = was.1 })
+emptied_kept : (p : ℕ) (ps new : Pools Payload) → Emptying p ps new → (q file : ℕ) → refers new q file ≡ true → Kept ps new q file
+emptied_kept p ps new so q file h = (let was = emptied_back p ps new so.payloads q file h in record { path = so.apart q was.0; refers = was.1 })
 
 made_kept : (p : ℕ) (ps : Pools Payload) (c : ℕ) → HasPart ps c → (q file : ℕ) → refers (created p ps) q file ≡ true → Kept ps (created p ps) q file
 made_kept p ps c hc q file h = (let was = created_back p ps q file h in record { path = created_kept p ps q (refers_given ps q file hc.formed was); refers = was })
@@ -161,5 +159,5 @@ pub own_last : OwnFilesLast
 own_last Made c d p ps hc hd under is own = all_kept d ps (created p ps) (made_kept p ps c hc) own
 own_last (Registered x) c d p ps hc hd under is own = registered_own c d p x ps hc hd under is own
 own_last (Killed test) c d p ps hc hd under is own = all_kept d ps (killed p test ps) (λ q file h. record { path = ap (λ (f : ℕ → List ℕ). f q) (killed_path p test ps); refers = killed_back p test ps q file h }) own
-own_last Cleared c d p ps hc hd under is own = all_kept d ps (cleared p ps) (emptied_kept p ps (cleared p ps) (cleared_emptied p ps) (λ n off. (cleared_apart p ps n off).0)) own
-own_last Destroyed c d p ps hc hd under is own = all_kept d ps (destroyed p ps) (emptied_kept p ps (destroyed p ps) (destroyed_emptied p ps) (λ n off. (destroyed_apart p ps n off).0)) own
+own_last Cleared c d p ps hc hd under is own = all_kept d ps (cleared p ps) (emptied_kept p ps (cleared p ps) (cleared_so p ps)) own
+own_last Destroyed c d p ps hc hd under is own = all_kept d ps (destroyed p ps) (emptied_kept p ps (destroyed p ps) (destroyed_so p ps)) own

@@ -13,8 +13,13 @@ use Rattle.run_model.specs.State.{Configuration, named_at, set_brigade, set_loos
 use Rattle.run_model.specs.Cursors.{Place, AtLoose, Within, spot, spot_of, holder_of, variable_of}
 use Rattle.run_model.specs.BucketSteps.{do_next, do_unlink, do_delete, put_into, do_before, do_make, do_split, split_there, is_unsplit, do_read, read_within, read_given, got}
 use Rattle.run_model.specs.BrigadeLists.{put_before}
+use Rattle.model_laws.specs.Laws.{may_change_tree}
 use Rattle.model_laws.proofs.NamedPools.{with_buffer}
-use Rattle.run_model.specs.EffectOf.{Effect, MadeFrom, NewNumber, ENothing, EMakePool, EClearPool, EDestroyPool, ERegister, EKill, EMakeBrigade, EClean, EConcat, ESplitBrigade, EPartBrigade, ESave, EPass, EFirst, ENext, EUnlink, EDelete, EInsert, EBefore, EMake, ESplit, EAside, ERead, ENumber, EPut, EClearBuffer, EReturn, effect_of}
+use Rattle.run_model.specs.declared.effect.Effect.{Effect}
+use Rattle.run_model.specs.declared.effect.Effect.TheVariants as effect
+use Rattle.run_model.specs.declared.effect.MadeFrom.{MadeFrom}
+use Rattle.run_model.specs.declared.effect.NewNumber.{NewNumber}
+use Rattle.run_model.specs.EffectOf.{effect_of}
 use Rattle.run_model.specs.Steps.{exit_of, do_effect, made_of, number_of, put_at, Choice, Outcome, step, value_of, is_full, do_put}
 
 -- r with its pools changed
@@ -26,18 +31,6 @@ amended_outcome change o = record o { state = amended change o.state }
 
 abbrev pub went : Exit → Configuration → Outcome
 went e r = record { exit = e; state = r }
-
--- whether an effect may change pools, or asks how they stand
-abbrev pub minds_pools : Effect → Bool
-minds_pools (EMakePool q) = true
-minds_pools (EClearPool q) = true
-minds_pools (EDestroyPool q) = true
-minds_pools (ERegister q t) = true
-minds_pools (EKill q t) = true
-minds_pools (EMakeBrigade o) = true
-minds_pools (ESave o b) = true
-minds_pools (EAside c q) = true
-minds_pools e = false
 
 module _ (change : Pools Payload → Pools Payload) where
   next_alike : (d : ℕ) (s : Place) (r : Configuration) → do_next d s (amended change r) ≡ amended change (do_next d s r)
@@ -110,29 +103,30 @@ module _ (change : Pools Payload → Pools Payload) where
   exit_alike choice (instr.Jump l) r = refl
   exit_alike choice i r = refl
 
-  run_alike : (p : Program) (choice : Choice) (e : Effect) (r : Configuration) → minds_pools e ≡ false → do_effect p choice e (amended change r) ≡ amended change (do_effect p choice e r)
+  run_alike : (p : Program) (choice : Choice) (e : Effect) (r : Configuration) → may_change_tree e ≡ false → do_effect p choice e (amended change r) ≡ amended change (do_effect p choice e r)
   unfolding set_brigade set_loose set_number set_cursor spot_of holder_of variable_of named_at
-  run_alike p choice ENothing r quiet = refl
-  run_alike p choice (EClean b) r quiet = refl
-  run_alike p choice (EConcat a b) r quiet = refl
-  run_alike p choice (ESplitBrigade b c a) r quiet = refl
-  run_alike p choice (EPartBrigade b x c) r quiet = refl
-  run_alike p choice (EPass b) r quiet = refl
-  run_alike p choice (EFirst c b) r quiet = refl
-  run_alike p choice (ENext d c) r quiet = next_alike d (spot r c) r
-  run_alike p choice (EUnlink c) r quiet = unlink_alike (spot r c) r
-  run_alike p choice (EDelete c) r quiet = delete_alike (spot r c) r
-  run_alike p choice (EInsert side b c) r quiet = put_alike (put_at side) b (spot r c) r
-  run_alike p choice (EBefore c d) r quiet = before_alike (spot r c) (spot r d) r
-  run_alike p choice (EMake c source) r quiet = ap (λ (o : Option Bucket). do_make c o (amended change r)) (made_alike p source r) ∙ make_alike c (made_of p r source) r
-  run_alike p choice (ESplit c x) r quiet = split_alike (value_of r x) (spot r c) r
-  run_alike p choice (ERead c) r quiet = read_alike choice.given (spot r c) r
-  run_alike p choice (ENumber n number) r quiet = ap (λ (o : Option ℕ). got n o (amended change r)) (number_alike n number r) ∙ got_alike n (number_of r n number) r
-  run_alike p choice (EPut x) r quiet = into_alike x r
-  run_alike p choice EClearBuffer r quiet = refl
-  run_alike p choice EReturn r quiet = refl
+  run_alike p choice effect.Nothing r quiet = refl
+  run_alike p choice (effect.Clean b) r quiet = refl
+  run_alike p choice (effect.Concat a b) r quiet = refl
+  run_alike p choice (effect.SplitBrigade b c a) r quiet = refl
+  run_alike p choice (effect.PartBrigade b x c) r quiet = refl
+  run_alike p choice (effect.Pass b) r quiet = refl
+  run_alike p choice (effect.First c b) r quiet = refl
+  run_alike p choice (effect.Next d c) r quiet = next_alike d (spot r c) r
+  run_alike p choice (effect.Unlink c) r quiet = unlink_alike (spot r c) r
+  run_alike p choice (effect.Delete c) r quiet = delete_alike (spot r c) r
+  run_alike p choice (effect.Insert side b c) r quiet = put_alike (put_at side) b (spot r c) r
+  run_alike p choice (effect.Before c d) r quiet = before_alike (spot r c) (spot r d) r
+  run_alike p choice (effect.Make c source) r quiet = ap (λ (o : Option Bucket). do_make c o (amended change r)) (made_alike p source r) ∙ make_alike c (made_of p r source) r
+  run_alike p choice (effect.Split c x) r quiet = split_alike (value_of r x) (spot r c) r
+  run_alike p choice (effect.Read c) r quiet = read_alike choice.given (spot r c) r
+  run_alike p choice (effect.Number n number) r quiet = ap (λ (o : Option ℕ). got n o (amended change r)) (number_alike n number r) ∙ got_alike n (number_of r n number) r
+  run_alike p choice (effect.Put x) r quiet = into_alike x r
+  run_alike p choice effect.ClearBuffer r quiet = refl
+  run_alike p choice effect.Return r quiet = refl
   run_alike p choice e r quiet = absurd (cc)
 
-  pub quiet_alike : (p : Program) (choice : Choice) (i : Instr) (r : Configuration) → minds_pools (effect_of i) ≡ false → step p choice i (amended change r) ≡ amended_outcome change (step p choice i r)
+  pub quiet_alike : (p : Program) (choice : Choice) (i : Instr) (r : Configuration) → may_change_tree (effect_of i) ≡ false
+      → step p choice i (amended change r) ≡ amended_outcome change (step p choice i r)
   quiet_alike p choice i r quiet =
       ap (λ (e : Exit). went e (do_effect p choice (effect_of i) (amended change r))) (exit_alike choice i r) ∙ ap (went (exit_of choice i r)) (run_alike p choice (effect_of i) r quiet)

@@ -2,20 +2,21 @@
 use Rattle.std.proofs.Common.{◌≡◌, ℕ, zero, suc, Bool, true, false, ◌&&◌, ◌||◌, not, cond, List, [], ◌∷◌, map, reverse, Option, None, inl, inr, refl, sym, ◌∙◌, ap}
 use Rattle.std.specs.List.{list_any, flat_map}
 use Rattle.std.proofs.Math.Path.{fun_ext}
+use Rattle.std.proofs.Math.Bool.{or-false}
 use Rattle.std.proofs.lemmas.Bool.{cases_Bool, both_ways, false_from_ne_true, or_cases, or_left, or_right}
 use Rattle.std.proofs.lemmas.List.{reverse-append}
 use Rattle.std.proofs.lemmas.List.Folds.{list_any-append}
 use Rattle.run_model.specs.declared.payload.Payload.{Payload}
 use Rattle.run_model.specs.Indexed.{any_below}
-use Rattle.run_model.specs.Pools.{Pools, is_under, cleared, destroyed}
+use Rattle.run_model.specs.Pools.{Pools, is_under}
 use Rattle.run_model.specs.RunOrder.{is_child, children_below, own_run, runs_within, run_order}
 use Rattle.run_model.specs.Payloads.{is_file_ref}
 use Rattle.run_model.specs.Files.{Files, is_referred, let_go}
 use Rattle.run_model.specs.Holding.{refers}
 use Rattle.model_laws.specs.Parts.{belongs, part, HasPart}
 use Rattle.model_laws.specs.PartSteps.{OwnFiles}
-use Rattle.run_model.proofs.PoolMap.{cleared_apart, cleared_payloads, cleared_next, destroyed_apart, destroyed_under, destroyed_next}
-use Rattle.run_model.proofs.References.{Emptied, emptied_back}
+use Rattle.run_model.proofs.References.{emptied_back}
+use Rattle.model_laws.proofs.PoolsGone.{Emptying}
 use Rattle.model_laws.proofs.parts.Paths.{under_belongs, part_payloads, part_off}
 use Rattle.model_laws.proofs.parts.Order.{child_under}
 
@@ -28,11 +29,8 @@ turned : (file : ℕ) (xs : List Payload) → list_any (is_file_ref file) (rever
 turned file [] h = h
 turned file (x ∷ xs) h = elim (or_cases (list_any (is_file_ref file) (reverse xs)) (is_file_ref file x || false) (sym (list_any-append (is_file_ref file) (reverse xs) (x ∷ [])) ∙ (sym (ap (list_any (is_file_ref file)) (reverse-append (x ∷ []) xs)) ∙ h))) [
   | inl later ↦ or_right (is_file_ref file x) (list_any (is_file_ref file) xs) (turned file xs later)
-  | inr here ↦ or_left (is_file_ref file x) (list_any (is_file_ref file) xs) (alone (is_file_ref file x) here)
-] where
-  alone : (b : Bool) → (b || false) ≡ true → b ≡ true
-  alone true h = refl
-  alone false h = h
+  | inr here ↦ or_left (is_file_ref file x) (list_any (is_file_ref file) xs) (sym (or-false (is_file_ref file x)) ∙ here)
+]
 
 with_pool : (file p : ℕ) (xs : List Payload) → hands file (map (λ x. (p, x)) xs) ≡ true → list_any (is_file_ref file) xs ≡ true
 with_pool file p [] h = h
@@ -94,18 +92,12 @@ module _ (c file : ℕ) (ps : Pools Payload) (within : (q : ℕ) → refers ps q
 
 -- Files that close where a pool under c goes, with all or with its subpools.
 
-pub cleared_emptied : (p : ℕ) (ps : Pools Payload) → Emptied p ps (cleared p ps)
-cleared_emptied p ps = record { kept = λ m off. (cleared_apart p ps m off).1; gone = λ m under. cleared_payloads p ps m under; next = cleared_next p ps }
-
-pub destroyed_emptied : (p : ℕ) (ps : Pools Payload) → Emptied p ps (destroyed p ps)
-destroyed_emptied p ps = record { kept = λ m off. (destroyed_apart p ps m off).1; gone = λ m under. (destroyed_under p ps m under).1; next = destroyed_next p ps }
-
 module _ (c p : ℕ) (ps left : Pools Payload) (h : HasPart ps c) (own : OwnFiles c ps) (under : is_under ps c p ≡ true)
-    (emptied : Emptied p ps left) (apart : (n : ℕ) → is_under ps p n ≡ false → left.path n ≡ ps.path n) where
+    (so : Emptying p ps left) where
   left_within : (file : ℕ) → HasRef c file ps → (q : ℕ) → refers left q file ≡ true → belongs c (left.path q) ≡ true
   left_within file first q there =
-      let was = emptied_back p ps left emptied q file there in
-      ap (belongs c) (apart q was.0) ∙ under_belongs ps c q (own.apart first.at q file first.under first.refers was.1)
+      let was = emptied_back p ps left so.payloads q file there in
+      ap (belongs c) (so.apart q was.0) ∙ under_belongs ps c q (own.apart first.at q file first.under first.refers was.1)
 
   closed_alike : (fs : Files) (file : ℕ) → (let_go (run_order ps p) (part c left) fs).opened file ≡ (let_go (run_order ps p) left fs).opened file
   closed_alike fs file = by_test (hands file (run_order ps p)) refl where
@@ -115,9 +107,3 @@ module _ (c p : ℕ) (ps left : Pools Payload) (h : HasPart ps c) (own : OwnFile
 
   pub let_go_alike : (fs : Files) → let_go (run_order ps p) (part c left) fs ≡ let_go (run_order ps p) left fs
   let_go_alike fs = ap (λ (opened : ℕ → Option (List ℕ)). record fs { opened = opened }) (fun_ext (closed_alike fs))
-
-pub cleared_files : (c p : ℕ) (ps : Pools Payload) → HasPart ps c → OwnFiles c ps → is_under ps c p ≡ true → (fs : Files) → let_go (run_order ps p) (part c (cleared p ps)) fs ≡ let_go (run_order ps p) (cleared p ps) fs
-cleared_files c p ps h own under = let_go_alike c p ps (cleared p ps) h own under (cleared_emptied p ps) (λ n off. (cleared_apart p ps n off).0)
-
-pub destroyed_files : (c p : ℕ) (ps : Pools Payload) → HasPart ps c → OwnFiles c ps → is_under ps c p ≡ true → (fs : Files) → let_go (run_order ps p) (part c (destroyed p ps)) fs ≡ let_go (run_order ps p) (destroyed p ps) fs
-destroyed_files c p ps h own under = let_go_alike c p ps (destroyed p ps) h own under (destroyed_emptied p ps) (λ n off. (destroyed_apart p ps n off).0)

@@ -17,11 +17,11 @@ use Rattle.run_model.specs.Steps.{Choice, Outcome, step}
 use Rattle.run_model.specs.Faults.{has_pool}
 use Rattle.model_laws.specs.Parts.{belongs, part, HasPart, Change, Made, Registered, Killed, Cleared, Destroyed, changed}
 use Rattle.model_laws.specs.PartSteps.{LiesIn, StepsSpareOthers}
-use Rattle.model_laws.proofs.NamedPools.{on_named, made_under_named}
+use Rattle.model_laws.proofs.NamedPools.{made_is, on_named, made_under_named}
 use Rattle.model_laws.proofs.StepPools.{wanted_pool, referred_next}
 use Rattle.model_laws.proofs.parts.Paths.{off_belongs}
 use Rattle.model_laws.proofs.parts.Others.{others_stay, same_next, registered_off}
-use Rattle.model_laws.proofs.parts.Steps.{registered_path, wanted_under, second_want, made_is}
+use Rattle.model_laws.proofs.parts.Steps.{registered_path, wanted_under, second_want}
 use Rattle.model_laws.proofs.parts.Quiet.{quiet_alike}
 
 -- the part of d is as it was over these pools, but for the next name

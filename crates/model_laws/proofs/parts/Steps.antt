@@ -1,5 +1,6 @@
 -- A step that has no fault does the same in the part of its connection and in the whole.
 use Rattle.std.proofs.Common.{◌≡◌, ℕ, ◌+◌, Bool, true, cond, List, [], ◌∷◌, ◌++◌, map, filter_map, Option, Some, None, refl, sym, ◌∙◌, ap}
+use Rattle.std.proofs.lemmas.Option.{same_Some}
 use Rattle.std.proofs.Math.Path.{fun_ext}
 use Rattle.module_code.specs.declared.instr.Instr.TheVariants as instr
 use Rattle.module_code.specs.declared.instr.PoolRef.{PoolRef}
@@ -9,7 +10,6 @@ use Rattle.run_model.specs.declared.bucket.Home.{Home}
 use Rattle.run_model.specs.declared.bucket.Home.TheVariants as home
 use Rattle.run_model.specs.declared.bucket.NamedBucket.{NamedBucket}
 use Rattle.run_model.specs.declared.bucket.Mark.TheVariants.{Usable}
-use Rattle.run_model.specs.declared.bucket.BrigadeVar.{BrigadeVar}
 use Rattle.run_model.specs.declared.bucket.BrigadeVar.TheVariants as var
 use Rattle.run_model.specs.declared.bucket.PoolVar.TheVariants as poolvar
 use Rattle.run_model.specs.declared.event.Exit.TheVariants.{GoOn}
@@ -29,24 +29,22 @@ use Rattle.run_model.specs.Effects.{on_pool, is_above, file_of, new_ref, all_ref
 use Rattle.run_model.specs.BucketSteps.{items_at, set_items, changed_at, aside_into}
 use Rattle.run_model.specs.declared.fault.FaultKind.{FaultKind}
 use Rattle.run_model.specs.Faults.{has_pool, or_else}
-use Rattle.run_model.specs.Sound.{brigade_pool}
 use Rattle.model_laws.specs.Parts.{part, HasPart}
 use Rattle.model_laws.specs.PartSteps.{in_part, LiesIn, StepsStayInPart}
 use Rattle.run_model.proofs.Formed.{registered_formed}
-use Rattle.model_laws.proofs.NamedPools.{own_named}
+use Rattle.model_laws.proofs.PoolsGone.{Emptying, cleared_so, destroyed_so, pool_emptied}
+use Rattle.model_laws.proofs.NamedPools.{made_is, own_named}
 use Rattle.model_laws.proofs.StepPools.{wanted_pool, named_lives}
 use Rattle.model_laws.proofs.parts.Paths.{part_under, under_alike, above_alike, under_live}
 use Rattle.model_laws.proofs.parts.Own.{own_made, own_registered, own_killed, own_cleared, own_destroyed}
 use Rattle.model_laws.proofs.parts.Order.{order_alike}
-use Rattle.model_laws.proofs.parts.References.{cleared_files, destroyed_files}
+use Rattle.model_laws.proofs.parts.References.{let_go_alike}
 use Rattle.model_laws.proofs.parts.Quiet.{went, quiet_alike}
 
 -- The pool that an operand names stands under c, where it is live.
 pub named_under : (c : ℕ) (r : Configuration) → LiesIn c r → (o : PoolRef) (n : ℕ) → pool_named r o ≡ Some n → is_live r.shared.pools n ≡ true → is_under r.shared.pools c n ≡ true
 unfolding named_at
-named_under c r s pool.Conn n is live = (let same : c ≡ n = sym s.conn ∙ some_is r.shared.conn n is in ap (is_under r.shared.pools c) (sym same) ∙ part_under r.shared.pools c s.has) where
-  some_is : (a b : ℕ) → Some a ≡ Some b → a ≡ b
-  some_is a b e = cc
+named_under c r s pool.Conn n is live = (let same : c ≡ n = sym s.conn ∙ same_Some r.shared.conn n is in ap (is_under r.shared.pools c) (sym same) ∙ part_under r.shared.pools c s.has)
 named_under c r s pool.Req n is live = s.req n is live
 named_under c r s (pool.Own q) n is live = s.own q n (own_named q n r is) live
 
@@ -144,23 +142,21 @@ module _ (c target : ℕ) (r : Configuration) (s : LiesIn c r) (under : is_under
   pub reached_alike : is_under (part c r.shared.pools) target ≡ is_under r.shared.pools target
   reached_alike = fun_ext (λ n. under_alike r.shared.pools c target n s.has under)
 
-  cleared_alike : pool_cleared target (in_part c r) ≡ in_part c (pool_cleared target r)
+  gone_alike : (gone : Pools Payload → Pools Payload) → Emptying target r.shared.pools (gone r.shared.pools) → part c (gone r.shared.pools) ≡ gone (part c r.shared.pools)
+      → pool_emptied (gone (part c r.shared.pools)) target (in_part c r) ≡ in_part c (pool_emptied (gone r.shared.pools) target r)
   unfolding with_pools run_down
-  cleared_alike =
+  gone_alike gone so own =
       let ps = r.shared.pools in
-      ap (λ (reached : ℕ → Bool). went_down reached (run_order (part c ps) target) (cleared target (part c ps)) (let_go (run_order (part c ps) target) (cleared target (part c ps)) r.shared.files)) reached_alike
-      ∙ (ap (λ (run : List (ℕ × Payload)). went_down (is_under ps target) run (cleared target (part c ps)) (let_go run (cleared target (part c ps)) r.shared.files)) (order_alike c ps s.has target under)
-      ∙ (ap (λ (left : Pools Payload). went_down (is_under ps target) (run_order ps target) left (let_go (run_order ps target) left r.shared.files)) (sym (own_cleared c target ps s.has under))
-      ∙ ap (went_down (is_under ps target) (run_order ps target) (part c (cleared target ps))) (cleared_files c target ps s.has s.files under r.shared.files)))
+      ap (λ (reached : ℕ → Bool). went_down reached (run_order (part c ps) target) (gone (part c ps)) (let_go (run_order (part c ps) target) (gone (part c ps)) r.shared.files)) reached_alike
+      ∙ (ap (λ (run : List (ℕ × Payload)). went_down (is_under ps target) run (gone (part c ps)) (let_go run (gone (part c ps)) r.shared.files)) (order_alike c ps s.has target under)
+      ∙ (ap (λ (left : Pools Payload). went_down (is_under ps target) (run_order ps target) left (let_go (run_order ps target) left r.shared.files)) (sym own)
+      ∙ ap (went_down (is_under ps target) (run_order ps target) (part c (gone ps))) (let_go_alike c target ps (gone ps) s.has s.files under so r.shared.files)))
+
+  cleared_alike : pool_cleared target (in_part c r) ≡ in_part c (pool_cleared target r)
+  cleared_alike = gone_alike (cleared target) (cleared_so target r.shared.pools) (own_cleared c target r.shared.pools s.has under)
 
   pub destroyed_alike : pool_destroyed target (in_part c r) ≡ in_part c (pool_destroyed target r)
-  unfolding with_pools run_down
-  destroyed_alike =
-      let ps = r.shared.pools in
-      ap (λ (reached : ℕ → Bool). went_down reached (run_order (part c ps) target) (destroyed target (part c ps)) (let_go (run_order (part c ps) target) (destroyed target (part c ps)) r.shared.files)) reached_alike
-      ∙ (ap (λ (run : List (ℕ × Payload)). went_down (is_under ps target) run (destroyed target (part c ps)) (let_go run (destroyed target (part c ps)) r.shared.files)) (order_alike c ps s.has target under)
-      ∙ (ap (λ (left : Pools Payload). went_down (is_under ps target) (run_order ps target) left (let_go (run_order ps target) left r.shared.files)) (sym (own_destroyed c target ps s.has under))
-      ∙ ap (went_down (is_under ps target) (run_order ps target) (part c (destroyed target ps))) (destroyed_files c target ps s.has s.files under r.shared.files)))
+  destroyed_alike = gone_alike (destroyed target) (destroyed_so target r.shared.pools) (own_destroyed c target r.shared.pools s.has under)
 
 -- What is done where a pool is named.
 
@@ -172,11 +168,6 @@ with_part_brigade : (c : ℕ) (on : Option ℕ) (name : ℕ) (ps : Pools Payload
 unfolding with_brigade
 with_part_brigade c None name ps h under = refl
 with_part_brigade c (Some n) name ps h under = sym (own_registered c n ps h (under n refl) (payload.Brigade name))
-
-pub made_is : (v : BrigadeVar) → made_on v ≡ brigade_pool v
-made_is var.Null = refl
-made_is var.Gone = refl
-made_is (var.Live v) = refl
 
 abbrev made : ℕ → Configuration → Option ℕ → Configuration
 made q r None = r

@@ -1,5 +1,5 @@
 -- Brigades of other instances and pools of other connections, after a step that has no fault.
-use Rattle.std.proofs.Common.{◌≡◌, ℕ, Bool, true, false, cond, List, [], ◌∷◌, map, filter_map, Option, Some, None, refl, sym, ◌∙◌, ap, subst}
+use Rattle.std.proofs.Common.{◌≡◌, ℕ, Bool, true, false, cond, List, map, filter_map, Option, Some, None, refl, sym, ◌∙◌, ap, subst}
 use Rattle.module_code.specs.declared.instr.Instr.TheVariants as instr
 use Rattle.module_code.specs.declared.instr.PoolRef.TheVariants as pool
 use Rattle.module_code.specs.Program.{pool_of_brigade}
@@ -13,8 +13,8 @@ use Rattle.run_model.specs.Pools.{Pools, is_in, is_under, created, registered}
 use Rattle.run_model.specs.RunOrder.{killed}
 use Rattle.run_model.specs.Buckets.{cleared_bucket}
 use Rattle.run_model.specs.Clearing.{is_reached, cleared_var}
-use Rattle.run_model.specs.State.{Configuration, items_of, pool_named, set_brigade, set_loose, set_pool, with_pools}
-use Rattle.run_model.specs.Cursors.{Place, Nowhere, AtLoose, Within, AtEndOf, spot}
+use Rattle.run_model.specs.State.{Configuration, items_of, pool_named, set_brigade, set_pool, with_pools}
+use Rattle.run_model.specs.Cursors.{Place, spot}
 use Rattle.run_model.specs.Effects.{on_pool, new_ref, with_brigade, saved_into, made_on, returned_var, pool_cleared, pool_destroyed, label_registered, label_killed, text_of}
 use Rattle.run_model.specs.BucketSteps.{aside_into}
 use Rattle.run_model.specs.Steps.{step}
@@ -23,10 +23,12 @@ use Rattle.run_model.specs.Chains.{is_under_named}
 use Rattle.model_laws.specs.Parts.{part}
 use Rattle.model_laws.specs.PartSteps.{LiesIn}
 use Rattle.model_laws.specs.PartsLast.{LiesUnder, TouchedLies, OthersLie}
-use Rattle.run_model.proofs.PoolMap.{created_kept, cleared_apart, destroyed_apart}
+use Rattle.run_model.proofs.PoolMap.{created_kept}
+use Rattle.model_laws.proofs.BrigadePools.{pool_kept, returned_on}
+use Rattle.model_laws.proofs.PoolsGone.{Emptying, cleared_so, destroyed_so}
 use Rattle.model_laws.proofs.MadeBrigades.{brigade_path}
 use Rattle.model_laws.proofs.NamedPools.{on_named, made_under_named}
-use Rattle.model_laws.proofs.StepPools.{referred_path}
+use Rattle.model_laws.proofs.StepPools.{aside_path, referred_path}
 use Rattle.model_laws.proofs.parts.Paths.{under_belongs, under_live, part_path}
 use Rattle.model_laws.proofs.parts.Lasting.{same_under, killed_path}
 use Rattle.model_laws.proofs.parts.Steps.{registered_path}
@@ -61,29 +63,17 @@ stays_on reached (var.Live v) m is = by_test (is_reached reached v.on) refl is w
   by_test true off is = absurd (cc)
   by_test false off is = (is, on_it v.on off is)
 
-pub returned_on : (call : ℕ) (v : BrigadeVar) (m : ℕ) → brigade_pool (returned_var call v) ≡ Some m → brigade_pool v ≡ Some m
-returned_on call var.Null m is = is
-returned_on call var.Gone m is = is
-returned_on call (var.Live v) m is = is
-
 module _ (c : ℕ) (r : Configuration) (s : LiesIn c r) (v : BrigadeVar) (lies : LiesUnder c r.shared.pools v) where
   -- over other pools, in which what stood under c keeps its path
   over : (new : Pools Payload) → ((n : ℕ) → is_under r.shared.pools c n ≡ true → new.path n ≡ r.shared.pools.path n) → LiesUnder c new v
   over new same n is = same_under r.shared.pools new c n (same n (lies n is)) ∙ lies n is
 
-  pub cleared_lies : (o : Option ℕ) → LiesUnder c (on_pool pool_cleared o r).shared.pools (cleared_var (is_under_named r.shared.pools o) v)
-  unfolding with_pools
-  cleared_lies None m is = lies m (stays_on (is_under_named r.shared.pools None) v m is).0
-  cleared_lies (Some n) m is =
+  pub gone_lies : (gone : ℕ → Configuration → Configuration) (o : Option ℕ) → ((n : ℕ) → Emptying n r.shared.pools (gone n r).shared.pools)
+      → LiesUnder c (on_pool gone o r).shared.pools (cleared_var (is_under_named r.shared.pools o) v)
+  gone_lies gone None so m is = lies m (stays_on (is_under_named r.shared.pools None) v m is).0
+  gone_lies gone (Some n) so m is =
       let was = stays_on (is_under r.shared.pools n) v m is in
-      same_under r.shared.pools (pool_cleared n r).shared.pools c m (cleared_apart n r.shared.pools m was.1).0 ∙ lies m was.0
-
-  pub destroyed_lies : (o : Option ℕ) → LiesUnder c (on_pool pool_destroyed o r).shared.pools (cleared_var (is_under_named r.shared.pools o) v)
-  unfolding with_pools
-  destroyed_lies None m is = lies m (stays_on (is_under_named r.shared.pools None) v m is).0
-  destroyed_lies (Some n) m is =
-      let was = stays_on (is_under r.shared.pools n) v m is in
-      same_under r.shared.pools (pool_destroyed n r).shared.pools c m (destroyed_apart n r.shared.pools m was.1).0 ∙ lies m was.0
+      same_under r.shared.pools (gone n r).shared.pools c m ((so n).apart m was.1) ∙ lies m was.0
 
   labelled_lies : (text : List ℕ) (n : ℕ) → LiesUnder c (label_registered text n r).shared.pools v
   unfolding with_pools
@@ -102,23 +92,19 @@ module _ (c : ℕ) (r : Configuration) (s : LiesIn c r) (v : BrigadeVar) (lies :
   saved_lies o b target = over (saved_into o b target r).shared.pools (λ m under. ap (λ (f : ℕ → List ℕ). f m) (referred_path target (filter_map (new_ref r.shared.pools target) (items_of (r.instance.brigades b))) r.shared.pools))
 
   aside_lies : (at : Place) (target : ℕ) → LiesUnder c (aside_into at target r).shared.pools v
-  unfolding with_pools set_brigade set_loose
-  aside_lies (Within b x) target = over (aside_into (Within b x) target r).shared.pools (λ m under. ap (λ (f : ℕ → List ℕ). f m) (referred_path target (filter_map (new_ref r.shared.pools target) (x ∷ [])) r.shared.pools))
-  aside_lies (AtLoose x) target = over (aside_into (AtLoose x) target r).shared.pools (λ m under. ap (λ (f : ℕ → List ℕ). f m) (referred_path target (filter_map (new_ref r.shared.pools target) (x ∷ [])) r.shared.pools))
-  aside_lies Nowhere target = lies
-  aside_lies (AtEndOf b) target = lies
+  aside_lies at target = over (aside_into at target r).shared.pools (λ m under. ap (λ (f : ℕ → List ℕ). f m) (aside_path at target r))
 
 pub touched_lies : TouchedLies
-unfolding set_brigade
+unfolding set_brigade with_pools
 touched_lies c p choice (instr.PCreate q) r v s none lies = made_under_named (λ x. LiesUnder c x.shared.pools v) p q r lies (λ parent is. made_lies c r s v lies q parent)
-touched_lies c p choice (instr.PClear q) r v s none lies = cleared_lies c r s v lies (pool_named r (pool.Own q))
-touched_lies c p choice (instr.PDestroy q) r v s none lies = destroyed_lies c r s v lies (pool_named r (pool.Own q))
+touched_lies c p choice (instr.PClear q) r v s none lies = gone_lies c r s v lies pool_cleared (pool_named r (pool.Own q)) (λ n. cleared_so n r.shared.pools)
+touched_lies c p choice (instr.PDestroy q) r v s none lies = gone_lies c r s v lies pool_destroyed (pool_named r (pool.Own q)) (λ n. destroyed_so n r.shared.pools)
 touched_lies c p choice (instr.Label q t) r v s none lies = on_named (λ x. LiesUnder c x.shared.pools v) (label_registered (text_of p t)) (pool_named r q) r lies (λ n is. labelled_lies c r s v lies (text_of p t) n)
 touched_lies c p choice (instr.Unlabel q t) r v s none lies = on_named (λ x. LiesUnder c x.shared.pools v) (label_killed (text_of p t)) (pool_named r q) r lies (λ n is. unlabelled_lies c r s v lies (text_of p t) n)
 touched_lies c p choice (instr.BCreate o) r v s none lies =
     over c r s v lies (with_brigade (pool_named r (pool_of_brigade p o)) r.shared.next r.shared.pools) (λ m under. ap (λ (f : ℕ → List ℕ). f m) (brigade_path (pool_named r (pool_of_brigade p o)) r.shared.next r.shared.pools))
 touched_lies c p choice (instr.BSave o b) r v s none lies = on_named (λ x. LiesUnder c x.shared.pools v) (saved_into o b) (made_on (r.instance.brigades o)) r lies (λ n is. saved_lies c r s v lies o b n)
 touched_lies c p choice (instr.Aside at q) r v s none lies = on_named (λ x. LiesUnder c x.shared.pools v) (aside_into (spot r at)) (pool_named r q) r lies (λ n is. aside_lies c r s v lies (spot r at) n)
-touched_lies c p choice (instr.Ret status) r v s none lies = λ m is. lies m (returned_on r.call.name v m is)
+touched_lies c p choice (instr.Ret status) r v s none lies = λ m is. lies m (pool_kept v (returned_var r.call.name v) (returned_on r.call.name v) m is)
 touched_lies c p choice i r v s none lies =
     subst (λ (ps : Pools Payload). LiesUnder c ps v) (sym (quiet_pools p choice i r (quiet_alike (λ (old : Pools Payload). r.shared.pools) p choice i r refl))) lies

@@ -23,11 +23,11 @@ use Rattle.model_laws.specs.PartSteps.{LiesIn}
 use Rattle.run_model.proofs.PoolMap.{cleared_apart, cleared_next, cleared_path, created_kept, destroyed_apart, destroyed_next, destroyed_path, live_path}
 use Rattle.run_model.proofs.References.{or_right}
 use Rattle.run_model.proofs.Updates.{upd_either, upd_off}
-use Rattle.model_laws.proofs.NamedPools.{made_under_named, on_named}
+use Rattle.model_laws.proofs.NamedPools.{made_is, made_under_named, on_named}
 use Rattle.model_laws.proofs.StepPools.{referred_next, referred_path, wanted_pool}
 use Rattle.model_laws.proofs.Unchanged.{step_changes_only}
 use Rattle.model_laws.proofs.parts.Paths.{under_trans}
-use Rattle.model_laws.proofs.parts.Steps.{made_is, second_want, wanted_under}
+use Rattle.model_laws.proofs.parts.Steps.{second_want, wanted_under}
 
 -- off: a pool that was given out and does not stand under c is as it was. inside: what stood there, or is new, stands there, where it is live.
 pub record StaysWithin (c : ℕ) (ps new : Pools Payload) : Type 0 where

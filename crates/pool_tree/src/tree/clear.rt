@@ -3,6 +3,8 @@
 ghost use Rattle.std.specs.Prelude.{◌≡◌, ◌≢◌, ◌≤◌, IsTrue, IfOk, OnOk, OnErr, reverse, length, vec_capacity, [], ◌∷◌};
 ghost use Rattle.run_model.specs.Pools.{is_live, cleared, destroyed};
 ghost use Rattle.run_model.specs.RunOrder.{children, run_order, IsPoolMap, order_under};
+ghost use Rattle.pool_tree.specs.declared.tree.clear.ClearKind.TheVariants.{Destroy};
+ghost use Rattle.pool_tree.specs.Clears.{emptied};
 ghost use Rattle.pool_tree.specs.Room.{IsRoomFor};
 ghost use Rattle.pool_tree.specs.Tree.{map_of};
 
@@ -10,6 +12,15 @@ use super::{PoolId, PoolTree};
 use crate::handed::{empty_pool, take_pools};
 use crate::links::remove_leaf;
 use std::alloc::AllocError;
+
+/// What becomes of a pool that is emptied.
+#[derive(Clone, Copy)]
+pub enum ClearKind {
+    /// It stays (apr_pool_clear).
+    Clear,
+    /// It goes too (apr_pool_destroy).
+    Destroy,
+}
 
 /// The memory that a clear of one pool takes.
 #[derive(Drop)]
@@ -114,5 +125,21 @@ impl<T: Drop> PoolTree<T> {
     {
         let room = self.room_to_clear(pool)?;
         Ok(self.destroy_in(pool, room))
+    }
+
+    /// Clears a pool, or destroys one other than the root. Without memory nothing is changed.
+    pub fn empty(&mut self, kind: ClearKind, pool: PoolId) -> Result<Vec<(PoolId, T)>, AllocError>
+        requires live { IsTrue (is_live (map_of self.old) pool) }
+        requires below { kind ≡ Destroy → (map_of self.old).path pool ≢ pool ∷ [] }
+        ensures ran { IfOk result (λ ran. ran.items ≡ run_order (map_of self.old) pool) }
+        ensures ok { OnOk result (map_of self.new ≡ emptied kind pool (map_of self.old)) }
+        ensures formed { IsPoolMap (map_of self.new) }
+        ensures err { OnErr result (map_of self.new ≡ map_of self.old) }
+        ensures unasked { self.new.asked ≡ self.old.asked }
+    {
+        match kind {
+            ClearKind::Clear => self.clear(pool),
+            ClearKind::Destroy => self.destroy(pool),
+        }
     }
 }

@@ -1,69 +1,149 @@
 -- The clear, the read, and all others.
-use Rattle.std.proofs.Common.{◌≡◌, true, refl, sym, rules}
-use Rattle.std.proofs.lemmas.Result.{IfOk-weaker, on_err_weaker}
+use Rattle.std.proofs.Common.{◌≡◌, true, Result, Ok, Err, refl, sym, ap, ◌∙◌, rules}
+use Rattle.std.specs.Prelude.{OnErr}
 use Rattle.run_model.specs.Faults.{InBrigade, WCursor, WHome}
 use Rattle.pool_tree.specs.Tree.{map_of}
 use Rattle.brigade_ops.specs.Store.{lists, next_name}
-use Rattle.ring_run.specs.Apart.{clears_pool, keeps_files}
+use Rattle.ring_run.specs.Apart.{clears_pool_by, is_carried_by, keeps_files_by}
 use Rattle.ring_run.specs.CarriedOut.{during}
+use Rattle.ring_run.specs.Needs.{grows_by}
+use Rattle.ring_run.specs.Operands.{cleared_by}
+use Rattle.ring_calls.specs.Around.{Around}
 use Rattle.ring_calls.specs.Seen.{seen_over}
 use Rattle.ring_calls.specs.Setting.{in_setting}
 use Rattle.ring_run.proofs.Carried.{read_within}
-use Rattle.ring_run.proofs.CarriedOut.{carried_inside, carried_read, pools_same}
-use Rattle.ring_calls.proofs.Faultless.{nowhere, wanted}
-use Rattle.ring_run.proofs.Instructions.{files_kept, pool_cleared}
+use Rattle.ring_run.proofs.CarriedOut.{carried, carried_read, done_inside, pools_same}
+use Rattle.ring_calls.proofs.Faultless.{nowhere}
+use Rattle.ring_run.proofs.Instructions.{clears_live, keeps_rest, pool_cleared, reads_so, unanswered, uncleared}
+use Rattle.ring_run.proofs.Needed.{faultless_by, fits_by, met, stands}
 use Rattle.ring_calls.proofs.OpenFiles.{open_spot}
-use Rattle.ring_calls.proofs.Standing.{stands}
 use Rattle.ring_run.proofs.execute_instr.execute_instr.Goals as goal
 
-pub execute_clear-requires-clause-live : goal.execute_clear-requires-clause-live
-execute_clear-requires-clause-live g c =
-    let kind : clears_pool c.args.instr ≡ true = search rules in
-    (pool_cleared c.args.instr kind).live c.args.code.now c.args.setting.now (map_of c.args.tree.now) (lists c.args.store.now) (next_name c.args.store.now) nowhere c.args.instance.now c.args.call.now (c.requires.faultless nowhere)
+where_refused : {X E P : Type 0} (r : Result X E) → P → OnErr r P
+where_refused (Ok x) p = tt
+where_refused (Err e) p = p
+
+pub clear_pool-requires-clause-live : goal.clear_pool-requires-clause-live
+clear_pool-requires-clause-live g c =
+    let over = in_setting c.args.setting.now (map_of c.args.tree.now) nowhere in
+    let effect = c.effect_of-effect.result in
+    let kind : clears_pool_by c.effect_of-effect.result ≡ true = search rules in
+    let met = faultless_by c.args.code.now c.args.store.now over c.args.instance.now c.args.call.now c.args.instr effect c.effect_of-effect.ensures (c.requires.faultless nowhere) in
+    clears_live c.args.code.now c.args.setting.now (map_of c.args.tree.now) (lists c.args.store.now) (next_name c.args.store.now) nowhere c.args.instance.now c.args.call.now effect kind met.none
+
+pub clear_pool-requires-clause-below : goal.clear_pool-requires-clause-below
+clear_pool-requires-clause-below g c = λ pool named. c.requires.below pool (ap (cleared_by c.args.instance.now) (sym c.effect_of-effect.ensures) ∙ named)
+
+pub clear_pool-requires-clause-looks : goal.clear_pool-requires-clause-looks
+clear_pool-requires-clause-looks g c = λ pool named. c.requires.looks pool (ap (cleared_by c.args.instance.now) (sym c.effect_of-effect.ensures) ∙ named)
 
 pub read-requires-clause-open : goal.read-requires-clause-open
 read-requires-clause-open g c =
     let over = in_setting c.args.setting.now (map_of c.args.tree.now) nowhere in
-    let r = seen_over (lists c.args.store.now) (next_name c.args.store.now) over c.args.instance.now c.args.call.now in (
+    let r = seen_over (lists c.args.store.now) (next_name c.args.store.now) over c.args.instance.now c.args.call.now in
+    let none = faultless_by c.args.code.now c.args.store.now over c.args.instance.now c.args.call.now c.args.instr c.effect_of-effect.result c.effect_of-effect.ensures (c.requires.faultless nowhere) in (
       over,
       open_spot (g.F.Files.device c.args.files.now) r c.in-Read.c (c.requires.ranges nowhere)
-          (wanted c.args.code.now (lists c.args.store.now) (next_name c.args.store.now) over c.args.instance.now c.args.call.now c.args.instr _ c.in-Read.is (c.requires.faultless nowhere) 1 (WHome c.in-Read.c) refl),
+          (met none c.in-Read.is 1 (WHome c.in-Read.c) refl),
     )
 
 pub read-requires-clause-stands : goal.read-requires-clause-stands
-read-requires-clause-stands g c = stands c.args.code.now (lists c.args.store.now) (next_name c.args.store.now) (in_setting c.args.setting.now (map_of c.args.tree.now) nowhere) c.args.instance.now c.args.call.now c.args.instr _ c.in-Read.is (c.requires.faultless nowhere) 0 c.in-Read.c InBrigade refl
+read-requires-clause-stands g c =
+    let over = in_setting c.args.setting.now (map_of c.args.tree.now) nowhere in
+    let none = faultless_by c.args.code.now c.args.store.now over c.args.instance.now c.args.call.now c.args.instr c.effect_of-effect.result c.effect_of-effect.ensures (c.requires.faultless nowhere) in
+    stands none c.in-Read.is 0 c.in-Read.c InBrigade refl
 
-pub returns-in-PClear-clause-ok : goal.returns-in-PClear-clause-ok
-returns-in-PClear-clause-ok g c = IfOk-weaker c.execute_clear.result _ _ (λ exit done. done c.args.code.now) c.execute_clear.ensures.ok
+pub returns-in_ok-clear_pool-in-ClearPool-clause-ok : goal.returns-in_ok-clear_pool-in-ClearPool-clause-ok
+returns-in_ok-clear_pool-in-ClearPool-clause-ok g c =
+    λ around.
+    let kind : clears_pool_by c.effect_of-effect.result ≡ true = search rules in
+    let clears = pool_cleared c.args.instr (ap clears_pool_by (sym c.effect_of-effect.ensures) ∙ kind) in
+    let r = seen_over (lists c.args.store.now) (next_name c.args.store.now) (during c.args.setting.now (map_of c.args.tree.now) c.args.handed.now.items around) c.args.instance.now c.args.call.now in
+    carried (g.F.Files.device c.args.files.now) (g.F.Files.device c.clear_pool.new.files) c.args.code.now c.args.instr c.effect_of-effect.result r _ _ c.effect_of-effect.ensures
+    (λ choice. sym (clears.goes_on c.args.code.now choice r)) (c.in_ok-clear_pool-in-ClearPool.ensures.ok c.args.code.now around)
+
+pub returns-in_ok-clear_pool-in-ClearPool-clause-cleared : goal.returns-in_ok-clear_pool-in-ClearPool-clause-cleared
+returns-in_ok-clear_pool-in-ClearPool-clause-cleared g c = λ pool named. c.in_ok-clear_pool-in-ClearPool.ensures.cleared pool (ap (cleared_by c.args.instance.now) c.effect_of-effect.ensures ∙ named)
 
 pub returns-in_ok-well-in-Read-clause-ok : goal.returns-in_ok-well-in-Read-clause-ok
 returns-in_ok-well-in-Read-clause-ok g c =
     λ around.
-    let s = c.args.store.now in
+    let store = c.args.store.now in
+    let i = c.args.instance.now in
+    let call = c.args.call.now in
     let over = during c.args.setting.now (map_of c.args.tree.now) c.args.handed.now.items around in
-    let r = seen_over (lists s) (next_name s) over c.args.instance.now c.args.call.now in
-    let none = c.requires.faultless over in
-    let at = read_within r c.in-Read.c (wanted c.args.code.now (lists c.args.store.now) (next_name c.args.store.now) over c.args.instance.now c.args.call.now c.args.instr _ c.in-Read.is none 0 (WCursor c.in-Read.c InBrigade) refl) (wanted c.args.code.now (lists c.args.store.now) (next_name c.args.store.now) over c.args.instance.now c.args.call.now c.args.instr _ c.in-Read.is none 1 (WHome c.in-Read.c) refl) in
-    carried_read (g.F.Files.device c.args.files.now) (g.F.Files.device c.read.new.files) c.args.code.now c.args.instr c.in-Read.c c.in-Read.field-1 (sym c.in-Read.is) (lists c.read.new.store) (next_name c.read.new.store) over c.args.instance.now c.read.new.call
+    let r = seen_over (lists store) (next_name store) over i call in
+    let none = faultless_by c.args.code.now c.args.store.now over c.args.instance.now c.args.call.now c.args.instr c.effect_of-effect.result c.effect_of-effect.ensures (c.requires.faultless over) in
+    let at = read_within r c.in-Read.c (met none c.in-Read.is 0 (WCursor c.in-Read.c InBrigade) refl)
+    (met none c.in-Read.is 1 (WHome c.in-Read.c) refl) in
+    let reads = reads_so c.args.instr c.in-Read.c (sym c.in-Read.is ∙ c.effect_of-effect.ensures) in
+    carried_read (g.F.Files.device c.args.files.now) (g.F.Files.device c.read.new.files) c.args.code.now c.args.instr c.in-Read.c reads.0 reads.1
+    (lists c.read.new.store) (next_name c.read.new.store) over i c.read.new.call
     r c.in_ok-well-in-Read.well _ (c.in_ok-well-in-Read.ensures.ok over at.0 at.1 at.2 at.3) c.jumps_if.ensures
 
-pub returns-in_default-clause-ok : goal.returns-in_default-clause-ok
-returns-in_default-clause-ok g c =
-    let keeps : keeps_files c.args.instr ≡ true = search rules in
-    IfOk-weaker c.execute_without_files.result _ _ (λ exit done around.
-    let s = c.args.store.now in
-    let ps = map_of c.args.tree.now in
+pub exit-leads-requires-clause-other : goal.exit-leads-requires-clause-other
+exit-leads-requires-clause-other g c =
+    let effect = c.effect_of-effect.result in
+    let is = c.effect_of-effect.ensures in
+    unanswered c.args.instr (ap keeps_files_by (sym is) ∙ keeps_rest effect (ap is_carried_by is ∙ c.requires.kind) c.in_default.not-ClearPool c.in_default.not-DestroyPool c.in_default.not-Read)
+
+pub exit-leads-requires-clause-faultless : goal.exit-leads-requires-clause-faultless
+exit-leads-requires-clause-faultless g c = (in_setting c.args.setting.now (map_of c.args.tree.now) nowhere, c.requires.faultless nowhere)
+
+pub execute_without_files-requires-clause-fit : goal.execute_without_files-requires-clause-fit
+execute_without_files-requires-clause-fit g c = fits_by c.args.code.now c.args.instr c.effect_of-effect.result c.effect_of-effect.ensures c.requires.fit
+
+pub execute_without_files-requires-clause-kind : goal.execute_without_files-requires-clause-kind
+execute_without_files-requires-clause-kind g c = keeps_rest c.effect_of-effect.result (ap is_carried_by c.effect_of-effect.ensures ∙ c.requires.kind) c.in_default.not-ClearPool c.in_default.not-DestroyPool c.in_default.not-Read
+
+pub execute_without_files-requires-clause-faultless : goal.execute_without_files-requires-clause-faultless
+execute_without_files-requires-clause-faultless g c =
+    λ around.
+    let over = in_setting c.args.setting.now (map_of c.args.tree.now) around in
+    faultless_by c.args.code.now c.args.store.now over c.args.instance.now c.args.call.now c.args.instr c.effect_of-effect.result c.effect_of-effect.ensures (c.requires.faultless around)
+
+pub returns-in_ok-execute_without_files-in_default-clause-ok : goal.returns-in_ok-execute_without_files-in_default-clause-ok
+returns-in_ok-execute_without_files-in_default-clause-ok g c =
+    λ around.
+    let store = c.args.store.now in
+    let d = g.F.Files.device c.args.files.now in
     let handed = c.args.handed.now.items in
-    carried_inside (g.F.Files.device c.args.files.now) c.args.code.now c.args.instr (files_kept c.args.instr keeps) (lists c.execute_without_files.new.store) (next_name c.execute_without_files.new.store) (during c.args.setting.now (map_of c.execute_without_files.new.tree) handed around)
-    c.execute_without_files.new.instance c.execute_without_files.new.call (seen_over (lists s) (next_name s) (during c.args.setting.now ps handed around) c.args.instance.now c.args.call.now) exit
-    (done (during c.args.setting.now ps handed around)))
-    c.execute_without_files.ensures.ok
+    let over = during c.args.setting.now (map_of c.args.tree.now) handed around in
+    let r = seen_over (lists store) (next_name store) over c.args.instance.now c.args.call.now in
+    let effect = c.effect_of-effect.result in
+    let is = c.effect_of-effect.ensures in
+    let keeps = keeps_rest effect (ap is_carried_by is ∙ c.requires.kind) c.in_default.not-ClearPool c.in_default.not-DestroyPool c.in_default.not-Read in
+    carried d d c.args.code.now c.args.instr effect r _ _ is (λ choice. c.exit-leads.ensures over choice)
+    (done_inside d c.args.code.now effect keeps (lists c.execute_without_files.new.store) (next_name c.execute_without_files.new.store)
+    (during c.args.setting.now (map_of c.execute_without_files.new.tree) handed around) c.execute_without_files.new.instance c.execute_without_files.new.call r (λ choice. c.in_ok-execute_without_files-in_default.ensures.ok over choice))
 
-pub returns-in_default-clause-err : goal.returns-in_default-clause-err
-returns-in_default-clause-err g c = on_err_weaker c.execute_without_files.result (λ same around. same (during c.args.setting.now (map_of c.args.tree.now) c.args.handed.now.items around)) c.execute_without_files.ensures.err
+pub returns-in_ok-execute_without_files-in_default-clause-cleared : goal.returns-in_ok-execute_without_files-in_default-clause-cleared
+returns-in_ok-execute_without_files-in_default-clause-cleared g c =
+    λ pool named.
+    let effect = c.effect_of-effect.result in
+    let is = c.effect_of-effect.ensures in
+    let keeps = keeps_rest effect (ap is_carried_by is ∙ c.requires.kind) c.in_default.not-ClearPool c.in_default.not-DestroyPool c.in_default.not-Read in
+    let none = sym (uncleared c.args.instance.now effect keeps) ∙ (ap (cleared_by c.args.instance.now) is ∙ named) in
+    absurd (cc)
 
-pub returns-in_default-clause-kept : goal.returns-in_default-clause-kept
-returns-in_default-clause-kept g c =
-    on_err_weaker c.execute_without_files.result (λ same.
-    pools_same (lists c.args.store.now) (lists c.execute_without_files.new.store) (next_name c.args.store.now) (next_name c.execute_without_files.new.store) (map_of c.args.tree.now) (map_of c.execute_without_files.new.tree) nowhere c.args.instance.now c.execute_without_files.new.instance c.args.call.now c.execute_without_files.new.call (same nowhere))
-    c.execute_without_files.ensures.err
+pub returns-in_err-execute_without_files-in_default-clause-err : goal.returns-in_err-execute_without_files-in_default-clause-err
+returns-in_err-execute_without_files-in_default-clause-err g c =
+    let handed = c.args.handed.now.items in
+    let same : (around : Around)
+    → seen_over (lists c.execute_without_files.new.store) (next_name c.execute_without_files.new.store) (during c.args.setting.now (map_of c.execute_without_files.new.tree) handed around) c.execute_without_files.new.instance c.execute_without_files.new.call
+    ≡ seen_over (lists c.args.store.now) (next_name c.args.store.now) (during c.args.setting.now (map_of c.args.tree.now) handed around) c.args.instance.now c.args.call.now
+    = λ around. c.in_err-execute_without_files-in_default.ensures.err (during c.args.setting.now (map_of c.args.tree.now) handed around) in
+    where_refused _ same
+
+pub returns-in_err-execute_without_files-in_default-clause-kept : goal.returns-in_err-execute_without_files-in_default-clause-kept
+returns-in_err-execute_without_files-in_default-clause-kept g c =
+    where_refused _ (pools_same (lists c.args.store.now) (lists c.execute_without_files.new.store) (next_name c.args.store.now) (next_name c.execute_without_files.new.store)
+    (map_of c.args.tree.now) (map_of c.execute_without_files.new.tree) nowhere c.args.instance.now c.execute_without_files.new.instance c.args.call.now c.execute_without_files.new.call
+    (c.in_err-execute_without_files-in_default.ensures.err nowhere))
+
+pub returns-in_err-execute_without_files-in_default-clause-sure : goal.returns-in_err-execute_without_files-in_default-clause-sure
+returns-in_err-execute_without_files-in_default-clause-sure g c =
+    λ around none.
+    let r = seen_over (lists c.args.store.now) (next_name c.args.store.now) (in_setting c.args.setting.now (map_of c.args.tree.now) around) c.args.instance.now c.args.call.now in
+    let never = c.in_err-execute_without_files-in_default.ensures.sure around (ap (grows_by r) c.effect_of-effect.ensures ∙ none) in
+    absurd (cc)

@@ -106,39 +106,22 @@ returns-in-Err-ReadFault-clause-held g c =
     held_cursor (brigade_of c.read.new.self) (lists c.read.new.self) (pool_of c.read.new.self) (next_name c.read.new.self) c.args.instance.now c.args.call.now c.set_cursor-in-Err-ReadFault.new.self 8 cursor_value.Unset c.set_cursor-in-Err-ReadFault.ensures.name c.set_cursor-in-Err-ReadFault.ensures.cursors
     (λ j e. absurd (let never = e in cc)) still
 
-pub returns-in-Err-NoMemory-clause-held : goal.returns-in-Err-NoMemory-clause-held
-returns-in-Err-NoMemory-clause-held g c =
+pub returns-in-Err-clause-held : goal.returns-in-Err-clause-held
+returns-in-Err-clause-held g c =
     let s = within_here c.args.store.now c.args.instance.now c.args.call.now c.args.c c.requires.held c.requires.stands c.bucket-id.result c.bucket-id.ensures in
-    let read = c.in-Err-NoMemory.ensures.read s.bucket s.here in
+    let read = c.in-Err.ensures.read s.bucket s.here in
     let same = next_same (is_some (read_of [] s.bucket).1) (next_name c.args.store.now) (next_name c.read.new.self) read.names in
     let still = held_kept c.args.store.now c.read.new.self (no_less (next_name c.args.store.now) (next_name c.read.new.self) same) c.read.ensures.names c.read.ensures.pools
-    (still_same (lists c.args.store.now) (lists c.read.new.self) c.in-Err-NoMemory.ensures.err)
+    (still_same (lists c.args.store.now) (lists c.read.new.self) c.in-Err.ensures.err)
     c.args.instance.now c.args.call.now c.requires.held in
     still
 
-pub returns-in-Err-NoMemory-clause-err : goal.returns-in-Err-NoMemory-clause-err
-returns-in-Err-NoMemory-clause-err g c =
+pub returns-in-Err-clause-err : goal.returns-in-Err-clause-err
+returns-in-Err-clause-err g c =
     λ around.
     let s = within_here c.args.store.now c.args.instance.now c.args.call.now c.args.c c.requires.held c.requires.stands c.bucket-id.result c.bucket-id.ensures in
-    let read = c.in-Err-NoMemory.ensures.read s.bucket s.here in
-    seen_same (lists c.args.store.now) (next_name c.args.store.now) around c.args.instance.now c.args.call.now (lists c.read.new.self) (next_name c.read.new.self) (next_same (is_some (read_of [] s.bucket).1) (next_name c.args.store.now) (next_name c.read.new.self) read.names) c.in-Err-NoMemory.ensures.err
-
-pub returns-in-Err-NamesSpent-clause-held : goal.returns-in-Err-NamesSpent-clause-held
-returns-in-Err-NamesSpent-clause-held g c =
-    let s = within_here c.args.store.now c.args.instance.now c.args.call.now c.args.c c.requires.held c.requires.stands c.bucket-id.result c.bucket-id.ensures in
-    let read = c.in-Err-NamesSpent.ensures.read s.bucket s.here in
-    let same = next_same (is_some (read_of [] s.bucket).1) (next_name c.args.store.now) (next_name c.read.new.self) read.names in
-    let still = held_kept c.args.store.now c.read.new.self (no_less (next_name c.args.store.now) (next_name c.read.new.self) same) c.read.ensures.names c.read.ensures.pools
-    (still_same (lists c.args.store.now) (lists c.read.new.self) c.in-Err-NamesSpent.ensures.err)
-    c.args.instance.now c.args.call.now c.requires.held in
-    still
-
-pub returns-in-Err-NamesSpent-clause-err : goal.returns-in-Err-NamesSpent-clause-err
-returns-in-Err-NamesSpent-clause-err g c =
-    λ around.
-    let s = within_here c.args.store.now c.args.instance.now c.args.call.now c.args.c c.requires.held c.requires.stands c.bucket-id.result c.bucket-id.ensures in
-    let read = c.in-Err-NamesSpent.ensures.read s.bucket s.here in
-    seen_same (lists c.args.store.now) (next_name c.args.store.now) around c.args.instance.now c.args.call.now (lists c.read.new.self) (next_name c.read.new.self) (next_same (is_some (read_of [] s.bucket).1) (next_name c.args.store.now) (next_name c.read.new.self) read.names) c.in-Err-NamesSpent.ensures.err
+    let read = c.in-Err.ensures.read s.bucket s.here in
+    seen_same (lists c.args.store.now) (next_name c.args.store.now) around c.args.instance.now c.args.call.now (lists c.read.new.self) (next_name c.read.new.self) (next_same (is_some (read_of [] s.bucket).1) (next_name c.args.store.now) (next_name c.read.new.self) read.names) c.in-Err.ensures.err
 
 pub returns-in-Ok-clause-left : goal.returns-in-Ok-clause-left
 returns-in-Ok-clause-left g c =
@@ -155,19 +138,12 @@ returns-in-Err-ReadFault-clause-left g c =
     let same = next_same (is_some (read_of [] s.bucket).1) (next_name c.args.store.now) (next_name c.read.new.self) read.names in
     left_same c.args.store.now c.read.new.self (no_less (next_name c.args.store.now) (next_name c.read.new.self) same) c.read.ensures.names c.read.ensures.pools c.read.ensures.references c.read.ensures.unasked c.in-Err-ReadFault.ensures.err c.args.instance.now c.args.call.now
 
-pub returns-in-Err-NoMemory-clause-left : goal.returns-in-Err-NoMemory-clause-left
-returns-in-Err-NoMemory-clause-left g c =
+pub returns-in-Err-clause-left : goal.returns-in-Err-clause-left
+returns-in-Err-clause-left g c =
     let s = within_here c.args.store.now c.args.instance.now c.args.call.now c.args.c c.requires.held c.requires.stands c.bucket-id.result c.bucket-id.ensures in
-    let read = c.in-Err-NoMemory.ensures.read s.bucket s.here in
+    let read = c.in-Err.ensures.read s.bucket s.here in
     let same = next_same (is_some (read_of [] s.bucket).1) (next_name c.args.store.now) (next_name c.read.new.self) read.names in
-    left_same c.args.store.now c.read.new.self (no_less (next_name c.args.store.now) (next_name c.read.new.self) same) c.read.ensures.names c.read.ensures.pools c.read.ensures.references c.read.ensures.unasked c.in-Err-NoMemory.ensures.err c.args.instance.now c.args.call.now
-
-pub returns-in-Err-NamesSpent-clause-left : goal.returns-in-Err-NamesSpent-clause-left
-returns-in-Err-NamesSpent-clause-left g c =
-    let s = within_here c.args.store.now c.args.instance.now c.args.call.now c.args.c c.requires.held c.requires.stands c.bucket-id.result c.bucket-id.ensures in
-    let read = c.in-Err-NamesSpent.ensures.read s.bucket s.here in
-    let same = next_same (is_some (read_of [] s.bucket).1) (next_name c.args.store.now) (next_name c.read.new.self) read.names in
-    left_same c.args.store.now c.read.new.self (no_less (next_name c.args.store.now) (next_name c.read.new.self) same) c.read.ensures.names c.read.ensures.pools c.read.ensures.references c.read.ensures.unasked c.in-Err-NamesSpent.ensures.err c.args.instance.now c.args.call.now
+    left_same c.args.store.now c.read.new.self (no_less (next_name c.args.store.now) (next_name c.read.new.self) same) c.read.ensures.names c.read.ensures.pools c.read.ensures.references c.read.ensures.unasked c.in-Err.ensures.err c.args.instance.now c.args.call.now
 
 pub read-requires-clause-open : goal.read-requires-clause-open
 read-requires-clause-open g c =
@@ -177,16 +153,8 @@ read-requires-clause-open g c =
     let same : s.bucket ≡ y = some_same _ s.bucket y s.here here in
     subst (λ (x : Bucket). IsOpenFor (g.F.Files.device c.args.files.now) x.content) same (subst (λ (p : Place). IsOpenFor (g.F.Files.device c.args.files.now) (content_at p)) (s.at around) c.requires.open.1)
 
-pub returns-in-Err-NoMemory-clause-sure : goal.returns-in-Err-NoMemory-clause-sure
-returns-in-Err-NoMemory-clause-sure g c around none =
+pub returns-in-Err-clause-sure : goal.returns-in-Err-clause-sure
+returns-in-Err-clause-sure g c around none =
     let s = within_here c.args.store.now c.args.instance.now c.args.call.now c.args.c c.requires.held c.requires.stands c.bucket-id.result c.bucket-id.ensures in
-    let r = seen_over (lists c.args.store.now) (next_name c.args.store.now) around c.args.instance.now c.args.call.now in
     let no_rest : Option BucketId = None in
-    absurd (err_ok c.in-Err-NoMemory.field-0 no_rest ((c.in-Err-NoMemory.ensures.read s.bucket s.here).unread (sym (ap (λ (s : Place). wanted (content_at s)) (s.at around)) ∙ none)).0)
-
-pub returns-in-Err-NamesSpent-clause-sure : goal.returns-in-Err-NamesSpent-clause-sure
-returns-in-Err-NamesSpent-clause-sure g c around none =
-    let s = within_here c.args.store.now c.args.instance.now c.args.call.now c.args.c c.requires.held c.requires.stands c.bucket-id.result c.bucket-id.ensures in
-    let r = seen_over (lists c.args.store.now) (next_name c.args.store.now) around c.args.instance.now c.args.call.now in
-    let no_rest : Option BucketId = None in
-    absurd (err_ok c.in-Err-NamesSpent.field-0 no_rest ((c.in-Err-NamesSpent.ensures.read s.bucket s.here).unread (sym (ap (λ (s : Place). wanted (content_at s)) (s.at around)) ∙ none)).0)
+    absurd (err_ok c.in-Err.field-0 no_rest ((c.in-Err.ensures.read s.bucket s.here).unread (sym (ap (λ (s : Place). wanted (content_at s)) (s.at around)) ∙ none)).0)

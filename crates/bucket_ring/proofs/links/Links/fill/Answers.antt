@@ -1,25 +1,10 @@
-use Rattle.std.proofs.Common.{refl, arith}
-use Rattle.raw_nodes.specs.declared.node.Node.{Node}
+use Rattle.std.proofs.Common.{refl}
 use Rattle.raw_nodes.specs.declared.node.Load.TheVariants.{Bucket}
-use Rattle.bucket_ring.specs.Links.{sentinel_ring, bucket_ring, named_in, behind_of, before_of, mark_of, at_of, bucket_of}
-use Rattle.bucket_ring.proofs.Shown.{some_is}
-use Rattle.bucket_ring.proofs.Rewritten.{link_kept, read_new, read_off, there_kept}
+use Rattle.bucket_ring.proofs.Rewritten.{refilled}
 use Rattle.bucket_ring.proofs.links.Links.fill.Goals as goal
 
-pub returns : goal.returns
-unfolding behind_of before_of mark_of at_of bucket_of
-returns g c =
-    let p = g.S.Slots.node c.args.self.now.nodes in
-    let q = g.S.Slots.node c.fill.new.self in
-    let k = c.args.slot in
-    let v = some_is (p k) c.requires in
-    let w : Node g.row.T.Denot = record v.0 { ring = c.args.ring; load = Bucket c.args.bucket } in
-    let new = c.fill.ensures.at v.0 v.1 in
-    record {
-      bucket = read_new p q k v.0 w v.1 new named_in _ refl;
-      at = read_new p q k v.0 w v.1 new (λ j n. bucket_ring n) _ refl;
-      mark = read_off p q k v.0 w v.1 new (λ j n. sentinel_ring n);
-      links = record { behind = link_kept p q k v.0 w v.1 new (λ n. n.behind) refl; before = link_kept p q k v.0 w v.1 new (λ n. n.before) refl };
-      room = record { there = there_kept p q k v.0 w v.1 new; room = λ n h. omega (arith, h, c.fill.ensures.room) };
-      heads = refl;
-    }
+pub returns-clause-filled : goal.returns-clause-filled
+returns-clause-filled g c =
+    refilled c.args.self.now _ c.args.slot
+    (λ v. record v { ring = c.args.ring; load = Bucket c.args.bucket }) c.requires c.fill.ensures.at c.fill.ensures.room _ _ (λ v. (refl, refl))
+    (λ v is. (refl, refl))

@@ -1,10 +1,9 @@
--- As c, or unset.
-use Rattle.std.proofs.Common.{ap}
-use Rattle.std.specs.Prelude.{Some}
-use Rattle.life_state.specs.States.{State}
-use Rattle.life_state.specs.declared.successors.Successors.{Successors}
-use Rattle.life_state.proofs.Picks.{edges_are}
+-- As c.
+use Rattle.std.proofs.Common.{ap, ◌∙◌}
+use Rattle.life_state.specs.States.{CursorKnown}
+use Rattle.life_state.specs.Facts.{known, set_cursor}
+use Rattle.life_state.specs.Seen.{seen}
 use Rattle.life_state.proofs.state.State.read.Goals as goal
 
 pub returns : goal.returns
-returns c = let e : Successors = record { next = Some c.read_at.result; jump = Some c.placed.result } in edges_are e _ _ (ap (λ (s : State). Some s) c.read_at.ensures) (ap (λ (s : State). Some s) c.placed.ensures)
+returns c = c.set_cursor.ensures ∙ ap (λ (v : CursorKnown). set_cursor 8 v (known (seen c.args.self) c.args.c) (seen c.args.self)) c.cursor-cursor.ensures

@@ -15,4 +15,4 @@ returns-clause-labels g c = c.add_labels.ensures.told ∙ (ap (λ (hs : List Lab
 
 pub returns-clause-unreferred : goal.returns-clause-unreferred
 returns-clause-unreferred g c file none =
-    unreferred_stays (map_of c.args.tree.now) (tree_formed c.args.tree.now) c.args.pool c.requires.live file none (is_referred (map_of c.destroy.new.tree) file) ((g.F.Files.device c.destroy.new.files).numbered file) ((g.F.Files.device c.args.files.now).numbered file) (c.in_ok-ran.ensures.closed file)
+    unreferred_stays (map_of c.args.tree.now) (tree_formed c.args.tree.now) c.args.pool c.requires.live file none (is_referred (map_of c.clear.new.tree) file) ((g.F.Files.device c.clear.new.files).numbered file) ((g.F.Files.device c.args.files.now).numbered file) (c.in_ok-ran.ensures.closed file)

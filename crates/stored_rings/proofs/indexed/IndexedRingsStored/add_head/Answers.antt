@@ -1,16 +1,10 @@
-use Rattle.std.proofs.Common.{◌∙◌, ℕ, Option, ap, sym}
 use Rattle.bucket_ring.specs.Lists.{put_head}
-use Rattle.stored_rings.specs.Dependents.{noted}
-use Rattle.stored_rings.specs.Noted.{is_noted, place_under}
-use Rattle.stored_rings.proofs.Noted.{put_in, are_kept, noted_item, all_head}
+use Rattle.stored_rings.proofs.Noted.{all_head}
+use Rattle.stored_rings.proofs.Passing.{new_noted}
 use Rattle.stored_rings.proofs.indexed.IndexedRingsStored.add_head.Goals as goal
 
 pub invariant_of-self-2-clause-indexed : goal.invariant_of-self-2-clause-indexed
 invariant_of-self-2-clause-indexed g c =
-    let s = c.args.self.now in
-    let names = noted c.note.new.self in
-    let p = is_noted names in
-    let old = g.R.Rings.lists s.rings in
-    c.tidy.ensures
-    (put_in p old (g.R.Rings.lists c.add_head.new.self) (are_kept (noted s.dependents) names c.note.ensures.kept old s.indexed) put_head c.args.ring (_, c.args.payload) (all_head p)
-    (noted_item names _ c.args.payload c.note.ensures.kind c.note.ensures.home (ap (λ (q : Option ℕ). place_under (λ n. names n c.in_ok-id.id) q) (sym c.place_of-place.ensures) ∙ c.note.ensures.place)) c.in_ok-id.ensures.ok)
+    let e = c.note.ensures in
+    c.tidy.ensures (new_noted c.args.self.now c.note.new.self c.add_head.new.self c.in_ok-id.id c.args.payload c.place_of-place.result e.kept e.kind
+    e.home c.place_of-place.ensures e.place put_head all_head c.args.ring c.in_ok-id.ensures.ok)

@@ -1,9 +1,5 @@
-use Rattle.stored_rings.specs.Dependents.{noted}
-use Rattle.stored_rings.specs.Noted.{is_noted}
-use Rattle.stored_rings.proofs.Noted.{ended}
+use Rattle.stored_rings.proofs.Passing.{noted_in, ended}
 use Rattle.stored_rings.proofs.indexed.IndexedRingsStored.end_ring.Goals as goal
 
 pub invariant_of-self-clause-indexed : goal.invariant_of-self-clause-indexed
-invariant_of-self-clause-indexed g c =
-    let s = c.args.self.now in
-    ended (is_noted (noted s.dependents)) (g.R.Rings.lists s.rings) (g.R.Rings.lists c.end_ring.new.self) s.indexed c.args.ring c.end_ring.ensures.out
+invariant_of-self-clause-indexed g c = ended (noted_in c.args.self.now) c.end_ring.new.self c.args.ring c.end_ring.ensures.out

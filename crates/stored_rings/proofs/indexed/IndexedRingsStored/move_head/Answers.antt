@@ -1,13 +1,7 @@
 use Rattle.bucket_ring.specs.Lists.{put_head}
-use Rattle.stored_rings.specs.Dependents.{noted}
-use Rattle.stored_rings.specs.Noted.{is_noted}
-use Rattle.stored_rings.proofs.Noted.{moved, all_head}
+use Rattle.stored_rings.proofs.Noted.{all_head}
+use Rattle.stored_rings.proofs.Passing.{noted_in, moved}
 use Rattle.stored_rings.proofs.indexed.IndexedRingsStored.move_head.Goals as goal
 
 pub invariant_of-self-clause-indexed : goal.invariant_of-self-clause-indexed
-invariant_of-self-clause-indexed g c =
-    let s = c.args.self.now in
-    let p = is_noted (noted s.dependents) in
-    let old = g.R.Rings.lists s.rings in
-    let new = g.R.Rings.lists c.move_head.new.self in
-    moved p old new s.indexed (g.R.Rings.ring_at s.rings) (g.R.Rings.next_name s.rings) s.kept c.args.id c.requires.bucket put_head c.args.ring (all_head p) c.move_head.ensures.out
+invariant_of-self-clause-indexed g c = moved (noted_in c.args.self.now) c.move_head.new.self c.args.id c.requires.bucket put_head all_head c.args.ring c.move_head.ensures.out

@@ -1,9 +1,10 @@
 use Rattle.std.proofs.Common.{◌∙◌, ℕ, Option, sym, ap}
-use Rattle.bucket_ring.specs.Lists.{list_at, with_payload}
+use Rattle.bucket_ring.specs.Lists.{list_at}
 use Rattle.stored_rings.specs.Dependents.{noted}
 use Rattle.stored_rings.specs.Noted.{is_noted, place_under}
 use Rattle.stored_rings.proofs.Lists.{some_of}
-use Rattle.stored_rings.proofs.Noted.{changed_at, are_kept, all_found, noted_item, noted_parts, all_set}
+use Rattle.stored_rings.proofs.Noted.{are_kept, all_found, noted_item, noted_parts}
+use Rattle.stored_rings.proofs.Passing.{noted_since, replaced}
 use Rattle.stored_rings.proofs.indexed.IndexedRingsStored.set_payload.Goals as goal
 
 pub invariant_of-self-clause-indexed : goal.invariant_of-self-clause-indexed
@@ -13,11 +14,12 @@ invariant_of-self-clause-indexed g c =
     let had = c.set_payload-had.result in
     let before = noted s.dependents in
     let names = noted c.note_changed.new.dependents in
-    let p = is_noted names in
     let old = g.R.Rings.lists s.rings in
     let q = some_of (g.R.Rings.ring_at s.rings id) c.requires in
     let were = all_found (is_noted before) id had (list_at old q.0) (s.indexed q.0) (c.set_payload-had.ensures.had q.0 q.1) in
     let parts = noted_parts before id had were in
     c.tidy.ensures
-    (changed_at p old (g.R.Rings.lists c.set_payload-had.new.self) (are_kept before names c.note_changed.ensures.kept old s.indexed) (g.R.Rings.ring_at s.rings) (g.R.Rings.next_name s.rings) s.kept id c.requires
-    (with_payload id c.args.payload) (λ xs. all_set p id c.args.payload xs (noted_item names id c.args.payload (c.note_changed.ensures.kind parts.0) (c.note_changed.ensures.home parts.1) (ap (λ (q : Option ℕ). place_under (λ n. names n id) q) (sym c.place_of-place.ensures) ∙ c.note_changed.ensures.place parts.2))) c.set_payload-had.ensures.out)
+    (replaced (noted_since c.args.self.now c.note_changed.new.dependents (are_kept before names c.note_changed.ensures.kept old s.indexed)) c.set_payload-had.new.self id c.requires c.args.payload
+    (noted_item names id c.args.payload (c.note_changed.ensures.kind parts.0) (c.note_changed.ensures.home parts.1)
+    (ap (λ (q : Option ℕ). place_under (λ n. names n id) q) (sym c.place_of-place.ensures) ∙ c.note_changed.ensures.place parts.2))
+    c.set_payload-had.ensures.out)

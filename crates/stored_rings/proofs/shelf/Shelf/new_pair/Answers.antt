@@ -1,25 +1,21 @@
-use Rattle.std.proofs.Common.{◌≡◌, ◌+◌, ℕ, true, Some, [], ap, ◌∙◌}
-use Rattle.std.specs.List.{list_all}
-use Rattle.bucket_ring.specs.Lists.{upd, list_at, numbered}
+use Rattle.std.proofs.Common.{◌≡◌, ◌+◌, ℕ, Some, [], ap, ◌∙◌}
+use Rattle.bucket_ring.specs.Lists.{upd, numbered}
 use Rattle.stored_rings.specs.Regions.{look}
 use Rattle.stored_rings.specs.Shelf.{seen}
-use Rattle.stored_rings.specs.Shown.{shown_items, held_item}
-use Rattle.stored_rings.proofs.Noted.{by_result, paired, same_lists}
-use Rattle.stored_rings.proofs.Shown.{brought_held, brought_shown, paired_seen, ok_then, upd_cong}
+use Rattle.stored_rings.specs.Shown.{shown_items}
+use Rattle.stored_rings.proofs.Passing.{held_in, by_result, paired}
+use Rattle.stored_rings.proofs.Seen.{paired_seen}
+use Rattle.stored_rings.proofs.Shown.{brought_held, brought_shown, ok_then, upd_cong}
 use Rattle.stored_rings.proofs.shelf.Shelf.new_pair.Goals as goal
 
 pub invariant_of-self : goal.invariant_of-self
 invariant_of-self g c =
     let s = c.hold_all.new.self in
     let see = look s.regions in
-    let p = held_item see in
     let next = g.R.Rings.next_name s.rings.rings in
-    let old = g.R.Rings.lists s.rings.rings in
-    let new = g.R.Rings.lists c.new_pair.new.self.rings in
     record {
-      whole = by_result {X = (n : ℕ) → list_all p (list_at new n) ≡ true} _ _ c.new_pair.result c.new_pair.ensures.ok c.new_pair.ensures.err
-          (λ ok. paired p old new s.whole next (next + 1) ok.0 (brought_held see (next + 2) ok.0 c.in_ok-kept.kept.items ok.1 c.in_ok-kept.ensures.held) ok.2)
-          (λ same. same_lists p old s.whole new same);
+      whole = by_result (held_in s) c.new_pair.new.self.rings _ c.new_pair.result c.new_pair.ensures.ok c.new_pair.ensures.err
+          (λ ok. paired (held_in s) c.new_pair.new.self.rings next (next + 1) ok.0 (brought_held see (next + 2) ok.0 c.in_ok-kept.kept.items ok.1 c.in_ok-kept.ensures.held) ok.2);
     }
 
 pub returns-clause-ok : goal.returns-clause-ok
@@ -31,13 +27,11 @@ returns-clause-ok g c =
     let next = g.R.Rings.next_name was.rings.rings in
     let now = g.R.Rings.next_name s.rings.rings in
     let same_next : now ≡ next = ap (λ r. g.R.Rings.next_name r.rings) c.hold_all.ensures.rings in
-    let old = g.R.Rings.lists s.rings.rings in
-    let new = g.R.Rings.lists c.new_pair.new.self.rings in
     ok_then _ _ c.new_pair.result c.new_pair.ensures.ok
     (λ ok. (
       shown_items see ok.0,
       brought_shown see (next + 2) ok.0 c.in_ok-kept.kept.items c.args.given.items (ok.1 ∙ ap (λ (k : ℕ). numbered (k + 2) c.in_ok-kept.kept.items) same_next) c.in_ok-kept.ensures.shown,
-      λ n. paired_seen see old new now (now + 1) ok.0 ok.2 n
+      λ n. paired_seen s c.new_pair.new.self.rings now (now + 1) ok.0 ok.2 n
           ∙ (ap (λ (k : ℕ). upd (upd (seen s) k (Some [])) (k + 1) (Some (shown_items see ok.0)) n) same_next
           ∙ upd_cong (next + 1) (Some (shown_items see ok.0)) (upd (seen s) next (Some [])) (upd (seen was) next (Some [])) (upd_cong next (Some []) (seen s) (seen was) c.hold_all.ensures.same) n),
     ))

@@ -6,21 +6,18 @@ use Rattle.stored_rings.specs.Shelf.{seen}
 use Rattle.stored_rings.specs.Shown.{held_item}
 use Rattle.bucket_kinds.specs.Stored.{shown}
 use Rattle.stored_rings.proofs.Lists.{some_of}
-use Rattle.stored_rings.proofs.Noted.{both, all_found, all_set, changed_at}
-use Rattle.stored_rings.proofs.Shown.{stored_found, on_seen, set_shown}
+use Rattle.stored_rings.proofs.Noted.{both, all_found}
+use Rattle.stored_rings.proofs.Passing.{held_in, replaced}
+use Rattle.stored_rings.proofs.Shown.{stored_found, set_shown}
+use Rattle.stored_rings.proofs.Seen.{on_seen}
 use Rattle.stored_rings.proofs.shelf.Shelf.put.Goals as goal
 use Rattle.stored_rings.proofs.shelf.Shelf.put.Goals.{After-set_payload}
 
 pub invariant_of-self : goal.invariant_of-self
-invariant_of-self g c =
-    let s = c.args.self.now.rings in
-    let p = held_item (look c.args.self.now.regions) in
-    let old = g.R.Rings.lists s.rings in
-    let new = g.R.Rings.lists c.set_payload.new.self.rings in
-    record {
-      whole = changed_at p old new c.args.self.now.whole (g.R.Rings.ring_at s.rings) (g.R.Rings.next_name s.rings) s.kept c.args.id c.requires.there
-          (with_payload c.args.id c.args.bucket) (λ xs. all_set p c.args.id c.args.bucket xs (both c.requires.whole c.requires.lies)) c.set_payload.ensures.out;
-    }
+invariant_of-self g c = record {
+  whole = replaced (held_in c.args.self.now) c.set_payload.new.self.rings c.args.id c.requires.there c.args.bucket
+      (both c.requires.whole c.requires.lies) c.set_payload.ensures.out;
+}
 
 pub returns-clause-had : goal.returns-clause-had
 unfolding seen
@@ -41,8 +38,7 @@ returns-clause-had_right g c = (and_parts _ _ (had g (goal.at.returns-clause-had
 
 pub returns-clause-out : goal.returns-clause-out
 unfolding seen
-returns-clause-out g c =
+returns-clause-out g c r n at =
     let see = look c.args.self.now.regions in
-    let old = g.R.Rings.lists c.args.self.now.rings.rings in
-    let new = g.R.Rings.lists c.set_payload.new.self.rings in
-    λ r n at. on_seen see old new r (with_payload c.args.id c.args.bucket) (with_payload c.args.id (shown see c.args.bucket)) (set_shown see c.args.id c.args.bucket) (λ m. c.set_payload.ensures.out r m at) n
+    on_seen c.args.self.now c.set_payload.new.self.rings r (with_payload c.args.id c.args.bucket) (with_payload c.args.id (shown see c.args.bucket))
+    (set_shown see c.args.id c.args.bucket) (λ m. c.set_payload.ensures.out r m at) n

@@ -1,0 +1,10 @@
+-- A pool that is cleared or destroyed.
+use Rattle.std.specs.Prelude.{ℕ}
+use Rattle.run_model.specs.Pools.{Pools, cleared, destroyed}
+use Rattle.pool_tree.specs.declared.tree.clear.ClearKind.{ClearKind}
+use Rattle.pool_tree.specs.declared.tree.clear.ClearKind.TheVariants.{Clear, Destroy}
+
+-- apr_pool_clear, apr_pool_destroy
+abbrev pub emptied : {T : Type 0} → ClearKind → ℕ → Pools T → Pools T
+emptied Clear = cleared
+emptied Destroy = destroyed

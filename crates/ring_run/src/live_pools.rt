@@ -1,0 +1,56 @@
+//! The pools that operands and declarations name, where there is no fault.
+
+ghost use Rattle.std.specs.Prelude.{◌≡◌, ℕ, Option, None, Some, IsTrue};
+ghost use Rattle.run_model.specs.Faults.{WPool, fault_want};
+ghost use Rattle.run_model.specs.Pools.{is_live};
+ghost use Rattle.run_model.specs.State.{pool_named};
+ghost use Rattle.pool_tree.specs.Tree.{map_of};
+ghost use Rattle.stored_rings.specs.Items.{Items};
+ghost use Rattle.ring_calls.specs.declared.machine.Call.{Call};
+ghost use Rattle.ring_calls.specs.Around.{Around};
+ghost use Rattle.ring_calls.specs.Outside.{with_outside};
+ghost use Rattle.ring_calls.specs.Seen.{seen_over};
+ghost use Rattle.ring_calls.specs.Setting.{in_setting};
+
+use brigade_ops::{PoolId, PoolTree};
+use ring_calls::machine::Instance;
+use ring_calls::outside::Outside;
+use ring_calls::pool_names::pool_named;
+use ring_calls::setting::Setting;
+use run_model::{Payload, PoolRef};
+
+/// The live pool that an operand or a declaration names.
+pub(crate) fn pool_there(instance: &Instance, outside: &Outside<'_>, pool: PoolRef) -> PoolId
+    requires there { (rings : ℕ → Option Items)
+        × ((next : ℕ) × ((around : Around) × ((call : Call) × (fault_want (seen_over rings next (with_outside outside.now around) instance.now call) (WPool pool) ≡ None)))) }
+    ensures named { (rings : ℕ → Option Items) (next : ℕ) (around : Around) (call : Call)
+        → pool_named (seen_over rings next (with_outside outside.now around) instance.now call) pool ≡ Some result }
+    ensures live { IsTrue (is_live (map_of outside.now.tree.now) result) }
+{
+    match pool_named(instance, outside, pool) {
+        Some(name) => name,
+        None => unreachable!(),
+    }
+}
+
+/// The same, where the pools change.
+pub(crate) fn live_pool(
+    instance: &Instance,
+    tree: &PoolTree<Payload>,
+    setting: &Setting<'_>,
+    pool: PoolRef,
+) -> PoolId
+    requires there { (rings : ℕ → Option Items)
+        × ((next : ℕ) × ((around : Around) × ((call : Call) × (fault_want (seen_over rings next (in_setting setting.now (map_of tree.now) around) instance.now call) (WPool pool) ≡ None)))) }
+    ensures named { (rings : ℕ → Option Items) (next : ℕ) (around : Around) (call : Call)
+        → pool_named (seen_over rings next (in_setting setting.now (map_of tree.now) around) instance.now call) pool ≡ Some result }
+    ensures live { IsTrue (is_live (map_of tree.now) result) }
+{
+    let outside = Outside {
+        tree,
+        conn: setting.conn,
+        req: setting.req,
+        waits: setting.waits,
+    };
+    pool_there(instance, &outside, pool)
+}
