@@ -1,5 +1,6 @@
 -- How many payloads pass a test: in one pool, in all pools, and among what a clear hands on.
-use Rattle.std.proofs.Common.{◌≡◌, ◌≢◌, ℕ, zero, suc, ◌+◌, ◌<◌, ◌≤◌, Bool, true, false, cond, List, [], ◌∷◌, ◌++◌, map, reverse, filter, Option, None, Some, inl, inr, refl, sym, ◌∙◌, ap, arith, ne_eqb, eq-eqb}
+use Rattle.std.proofs.Common.{◌≡◌, ◌≢◌, ℕ, zero, suc, ◌+◌, ◌<◌, ◌≤◌, Bool, true, false, cond, List, [], ◌∷◌, ◌++◌, map, reverse, filter, Option, None, Some, inl, inr, refl, sym, ◌∙◌, ap, arith}
+use Rattle.std.proofs.Common.{ne_eqb, eq-eqb}
 use mathlib.Core.List.{reverse-cons}
 use Rattle.std.specs.Prelude.{count_by}
 use Rattle.std.specs.List.{list_any}
@@ -53,7 +54,8 @@ pub any_none : {X : Type 0} (test : X → Bool) (xs : List X) → count_by test 
 any_none test [] none = refl
 any_none test (x ∷ xs) none = go (test x) refl (any_none test xs) where
   go : (b : Bool) → test x ≡ b → (count_by test xs ≡ 0 → list_any test xs ≡ false) → list_any test (x ∷ xs) ≡ false
-  go true is later = absurd (let front : count_by test (x ∷ xs) ≡ one_if test x + count_by test xs = count_cons test x xs in let one : one_if test x ≡ 1 = ap (λ (b : Bool). cond b 1 0) is in omega arith)
+  go true is later = absurd (let front : count_by test (x ∷ xs) ≡ one_if test x + count_by test xs = count_cons test x xs in let one : one_if test x ≡ 1 = ap (λ (b : Bool). cond b 1 0) is in
+      omega arith)
   go false is later = rw is (later (let front : count_by test (x ∷ xs) ≡ one_if test x + count_by test xs = count_cons test x xs in omega arith))
 
 pub any_some : {X : Type 0} (test : X → Bool) (xs : List X) → 0 < count_by test xs → list_any test xs ≡ true
@@ -61,13 +63,15 @@ any_some test [] some = absurd (omega arith)
 any_some test (x ∷ xs) some = go (test x) refl (any_some test xs) where
   go : (b : Bool) → test x ≡ b → (0 < count_by test xs → list_any test xs ≡ true) → list_any test (x ∷ xs) ≡ true
   go true is later = rw is refl
-  go false is later = rw is (later (let front : count_by test (x ∷ xs) ≡ one_if test x + count_by test xs = count_cons test x xs in let none : one_if test x ≡ 0 = ap (λ (b : Bool). cond b 1 0) is in omega arith))
+  go false is later = rw is
+      (later (let front : count_by test (x ∷ xs) ≡ one_if test x + count_by test xs = count_cons test x xs in let none : one_if test x ≡ 0 = ap (λ (b : Bool). cond b 1 0) is in omega arith))
 
 pub refs_counted : (f : ℕ) (xs : List (ℕ × Payload)) → refs_in f xs ≡ count_by (λ (x : ℕ × Payload). is_file_ref f x.1) xs
 unfolding refs_in
 refs_counted f [] = refl
 refs_counted f (x ∷ xs) = by_test (is_file_ref f x.1) (refs_counted f xs) ∙ sym (count_cons (λ (x : ℕ × Payload). is_file_ref f x.1) x xs) where
-  by_test : (b : Bool) → refs_in f xs ≡ count_by (λ (x : ℕ × Payload). is_file_ref f x.1) xs → cond b (suc (refs_in f xs)) (refs_in f xs) ≡ cond b 1 0 + count_by (λ (x : ℕ × Payload). is_file_ref f x.1) xs
+  by_test : (b : Bool) → refs_in f xs ≡ count_by (λ (x : ℕ × Payload). is_file_ref f x.1) xs
+      → cond b (suc (refs_in f xs)) (refs_in f xs) ≡ cond b 1 0 + count_by (λ (x : ℕ × Payload). is_file_ref f x.1) xs
   by_test true rest = omega (arith, rest)
   by_test false rest = omega (arith, rest)
 
@@ -111,7 +115,8 @@ entries_summed : {T : Type 0} (next : ℕ) (test : ℕ × T → Bool) (xs : List
 entries_summed next test [] below = sym (all_none next (λ p. 0) (λ k lt. refl))
 entries_summed {T} next test (x ∷ xs) below = elim (cases_lt x.0 next) [
   | inl lt ↦
-      (let rest : count_by test xs ≡ sum_below next (λ p. count_by test (filter (is_of p) xs)) = entries_summed next test xs (λ n le. rw (ne_eqb x.0 n (λ e. absurd (omega (arith, e)))) at (below n le)) in
+      (let rest : count_by test xs ≡ sum_below next (λ p. count_by test (filter (is_of p) xs)) =
+      entries_summed next test xs (λ n le. rw (ne_eqb x.0 n (λ e. absurd (omega (arith, e)))) at (below n le)) in
       let front : count_by test (x ∷ xs) ≡ one_if test x + count_by test xs = count_cons test x xs in
       let all : sum_below next (λ p. count_by test (filter (is_of p) (x ∷ xs))) ≡ sum_below next (λ p. count_by test (filter (is_of p) xs)) + one_if test x
       = sum_more next x.0 (one_if test x) (λ p. count_by test (filter (is_of p) xs)) (λ p. count_by test (filter (is_of p) (x ∷ xs))) lt (here refl) off in
@@ -151,9 +156,12 @@ module _ {T : Type 0} (test : T → Bool) (ps : Pools T) (formed : IsPoolMap ps)
 pub run_splits : (test : Payload → Bool) (ps new : Pools Payload) → IsPoolMap ps → (pool : ℕ) → is_live ps pool ≡ true → Emptied pool ps new
     → sum_below ps.next (λ p. count_by test (ps.payloads p)) ≡ sum_below new.next (λ p. count_by test (new.payloads p)) + count_by (λ (x : ℕ × Payload). test x.1) (run_order ps pool)
 run_splits test ps new formed pool live gone =
-    let parts : sum_below ps.next (λ p. count_by test (ps.payloads p)) ≡ sum_below ps.next (λ p. count_by test (new.payloads p)) + sum_below ps.next (λ p. cond (is_under ps pool p) (count_by test (ps.payloads p)) 0)
-    = sum_both ps.next (λ p. count_by test (ps.payloads p)) (λ p. count_by test (new.payloads p)) (λ p. cond (is_under ps pool p) (count_by test (ps.payloads p)) 0) (λ p lt. by_test p (is_under ps pool p) refl) in
-    let same : sum_below new.next (λ p. count_by test (new.payloads p)) ≡ sum_below ps.next (λ p. count_by test (new.payloads p)) = ap (λ (n : ℕ). sum_below n (λ p. count_by test (new.payloads p))) gone.next in
+    let parts : sum_below ps.next (λ p. count_by test (ps.payloads p)) ≡ sum_below ps.next (λ p. count_by test (new.payloads p)) + sum_below ps.next
+    (λ p. cond (is_under ps pool p) (count_by test (ps.payloads p)) 0)
+    = sum_both ps.next (λ p. count_by test (ps.payloads p)) (λ p. count_by test (new.payloads p)) (λ p. cond (is_under ps pool p) (count_by test (ps.payloads p)) 0)
+    (λ p lt. by_test p (is_under ps pool p) refl) in
+    let same : sum_below new.next (λ p. count_by test (new.payloads p)) ≡ sum_below ps.next (λ p. count_by test (new.payloads p)) =
+    ap (λ (n : ℕ). sum_below n (λ p. count_by test (new.payloads p))) gone.next in
     let run = run_counted test ps formed pool live in
     omega (arith, parts, same, run) where
       by_test : (p : ℕ) (b : Bool) → is_under ps pool p ≡ b → count_by test (ps.payloads p) ≡ count_by test (new.payloads p) + cond b (count_by test (ps.payloads p)) 0
@@ -174,7 +182,8 @@ both_none false n none = refl
 pub brigade_handed : (ps : Pools Payload) → IsPoolMap ps → (pool : ℕ) → is_live ps pool ≡ true → (name : ℕ) (on : Option ℕ) → ((p : ℕ) → count_by (is_brigade name) (ps.payloads p) ≡ once_in p on)
     → list_any (λ (x : ℕ × Payload). is_brigade name x.1) (run_order ps pool) ≡ is_reached (is_under ps pool) on
 brigade_handed ps formed pool live name None held = any_none (λ (x : ℕ × Payload). is_brigade name x.1) (run_order ps pool)
-    (run_counted (is_brigade name) ps formed pool live ∙ all_none ps.next (λ p. cond (is_under ps pool p) (count_by (is_brigade name) (ps.payloads p)) 0) (λ p lt. both_none (is_under ps pool p) _ (held p)))
+    (run_counted (is_brigade name) ps formed pool live
+    ∙ all_none ps.next (λ p. cond (is_under ps pool p) (count_by (is_brigade name) (ps.payloads p)) 0) (λ p lt. both_none (is_under ps pool p) _ (held p)))
 brigade_handed ps formed pool live name (Some q) held = by_test (is_under ps pool q) refl where
   terms : ℕ → ℕ
   terms = λ p. cond (is_under ps pool p) (count_by (is_brigade name) (ps.payloads p)) 0
@@ -207,4 +216,5 @@ referred_none ps file none = any_below_none ps.next (λ p. list_any (is_file_ref
     (λ p lt. any_none (is_file_ref file) (ps.payloads p) (let one = term_below ps.next p (λ q. count_by (is_file_ref file) (ps.payloads q)) lt in omega (arith, one, none)))
 
 pub referred_some : (ps : Pools Payload) (file : ℕ) → 0 < all_refs ps file → is_referred ps file ≡ true
-referred_some ps file some = any_below_one ps.next (λ p. count_by (is_file_ref file) (ps.payloads p)) (λ p. list_any (is_file_ref file) (ps.payloads p)) (λ p here. any_some (is_file_ref file) (ps.payloads p) here) some
+referred_some ps file some =
+    any_below_one ps.next (λ p. count_by (is_file_ref file) (ps.payloads p)) (λ p. list_any (is_file_ref file) (ps.payloads p)) (λ p here. any_some (is_file_ref file) (ps.payloads p) here) some

@@ -1,5 +1,6 @@
 -- What ends with a pool, one payload after another.
-use Rattle.std.proofs.Common.{◌≡◌, ◌≢◌, ◌==◌, ◌&&◌, ◌||◌, ℕ, zero, suc, ◌+◌, ◌<◌, ◌≤◌, Bool, true, false, cond, Option, None, List, ◌∷◌, drop, length, get_or, refl, sym, ap, ◌∙◌, arith, add-one, drop-cons, inl, inr}
+use Rattle.std.proofs.Common.{◌≡◌, ◌≢◌, ◌==◌, ◌&&◌, ◌||◌, ℕ, zero, suc, ◌+◌, ◌<◌, ◌≤◌, Bool, true, false, cond, Option, None, List, ◌∷◌, drop, length, get_or, refl, sym, ap, ◌∙◌, arith, add-one}
+use Rattle.std.proofs.Common.{drop-cons, inl, inr}
 use Rattle.std.specs.Option.{option_map_or}
 use Rattle.std.proofs.lemmas.Bool.{cases_eq, eq-eqb, ne_eqb}
 use Rattle.bucket_ring.specs.Lists as rings
@@ -56,7 +57,8 @@ closed_step true now before n new old less le e =
 closed_step false now before n new old less le e =
     ap (λ k. cond (is_let_go k n) Missing new) (sym less) ∙ ap (λ h. cond (is_let_go before n) Missing h) e
 
-pub open_step : (here : Bool) (now before n : ℕ) (new old : Held) → n ≤ now → new ≡ cond (here && (now == 0)) Missing old → (0 < cond here (suc n) n → is_there old ≡ true) → 0 < n → is_there new ≡ true
+pub open_step : (here : Bool) (now before n : ℕ) (new old : Held) → n ≤ now → new ≡ cond (here && (now == 0)) Missing old → (0 < cond here (suc n) n → is_there old ≡ true) → 0 < n
+    → is_there new ≡ true
 open_step true now before n new old le e opened h =
     let some : now ≢ 0 = λ z. absurd (omega arith) in
     let same : new ≡ old = e ∙ rw (ne_eqb now 0 some) refl in

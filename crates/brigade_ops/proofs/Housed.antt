@@ -1,5 +1,6 @@
 -- What calls of a store and changes of the pool map leave of the brigades on their pools and of the references.
-use Rattle.std.proofs.Common.{◌≡◌, ◌≢◌, ◌==◌, ℕ, suc, ◌+◌, ◌<◌, Bool, true, false, not, cond, Option, None, Some, is_some, List, [], ◌∷◌, ◌++◌, map, refl, sym, ◌∙◌, ap, subst, arith, ne_eqb, eq-eqb, inl, inr}
+use Rattle.std.proofs.Common.{◌≡◌, ◌≢◌, ◌==◌, ℕ, suc, ◌+◌, ◌<◌, Bool, true, false, not, cond, Option, None, Some, is_some, List, [], ◌∷◌, ◌++◌, map, refl, sym, ◌∙◌, ap, subst, arith, ne_eqb, eq-eqb}
+use Rattle.std.proofs.Common.{inl, inr}
 use Rattle.std.specs.Prelude.{count_by, Result, Ok, Err, OnOk, OnErr}
 use Rattle.std.specs.List.{list_any}
 use Rattle.std.specs.Option.{option_map}
@@ -93,7 +94,8 @@ thinned test blind text (x ∷ xs) = by_tests (list_any (is_label text) xs) (is_
   by_tests false true is rest = let front = count_cons test x xs in let none = not_counted x is in omega (arith, front, none)
   by_tests false false is rest = refl
 
-less_same : (test : Payload → Bool) → ((text : List ℕ) → test (Label text) ≡ false) → (n : ℕ) (text : List ℕ) (ps : Pools Payload) (p : ℕ) → held_by test (killed n (is_label text) ps) p ≡ held_by test ps p
+less_same : (test : Payload → Bool) → ((text : List ℕ) → test (Label text) ≡ false) → (n : ℕ) (text : List ℕ) (ps : Pools Payload) (p : ℕ)
+    → held_by test (killed n (is_label text) ps) p ≡ held_by test ps p
 unfolding killed
 less_same test blind n text ps p = elim (upd_either ps.payloads n p (without_last (is_label text) (ps.payloads n))) [
   | inl q ↦ ap (count_by test) q.1 ∙ (thinned test blind text (ps.payloads n) ∙ sym (ap (held_by test ps) q.0))
@@ -124,7 +126,8 @@ referred_all f n (file ∷ files) ps lt =
 module _ (lists : ℕ → Option Items) (pool_of : ℕ → Option ℕ) (references : ℕ → ℕ) (ps : Pools Payload) (house : AreHoused lists pool_of references ps)
     (lists_now : ℕ → Option Items) (pools_now : ℕ → Option ℕ) (refs_now : ℕ → ℕ) where
   -- No brigade on a pool ended, none came or left a pool, and no reference was counted.
-  pub house_stays : ((n p : ℕ) → pool_of n ≡ Some p → is_some (lists n) ≡ true → is_some (lists_now n) ≡ true) → ((n : ℕ) → pools_now n ≡ pool_of n) → ((f : ℕ) → refs_now f ≡ references f) → AreHoused lists_now pools_now refs_now ps
+  pub house_stays : ((n p : ℕ) → pool_of n ≡ Some p → is_some (lists n) ≡ true → is_some (lists_now n) ≡ true) → ((n : ℕ) → pools_now n ≡ pool_of n) → ((f : ℕ) → refs_now f ≡ references f)
+      → AreHoused lists_now pools_now refs_now ps
   house_stays there off counts = record {
     held = λ n p. house.held n p ∙ sym (ap (once_in p) (off n));
     there = λ n p is. (let was = sym (off n) ∙ is in there n p was (house.there n p was));
@@ -200,7 +203,8 @@ module _ (lists : ℕ → Option Items) (pool_of : ℕ → Option ℕ) (referenc
       (λ f. sum_below_same ps.next (held_by (is_file_ref f) (killed pool (is_label text) ps)) (held_by (is_file_ref f) ps) (λ p lt. less_same (is_file_ref f) (λ t. refl) pool text ps p))
 
 -- no brigade, no reference, and one pool
-pub house_begins : (lists : ℕ → Option Items) (pool_of : ℕ → Option ℕ) (references : ℕ → ℕ) (first : ℕ) → ((n : ℕ) → pool_of n ≡ None) → ((f : ℕ) → references f ≡ 0) → AreHoused lists pool_of references (planted first)
+pub house_begins : (lists : ℕ → Option Items) (pool_of : ℕ → Option ℕ) (references : ℕ → ℕ) (first : ℕ) → ((n : ℕ) → pool_of n ≡ None) → ((f : ℕ) → references f ≡ 0)
+    → AreHoused lists pool_of references (planted first)
 unfolding planted
 house_begins lists pool_of references first none unreferred = record {
   held = λ n p. sym (ap (once_in p) (none n));
@@ -236,7 +240,8 @@ house_refer (Err e) lists pool_of references ps new pool file refs_now formed li
     subst (AreHoused lists pool_of refs_now) (sym kept) (house_stays lists pool_of references ps house lists pool_of refs_now (λ n p at there. there) (λ n. refl) uncounted)
 
 -- a brigade is on a live pool
-pub house_live : (lists : ℕ → Option Items) (pool_of : ℕ → Option ℕ) (references : ℕ → ℕ) (ps : Pools Payload) → AreHoused lists pool_of references ps → IsPoolMap ps → (n p : ℕ) → pool_of n ≡ Some p → is_live ps p ≡ true
+pub house_live : (lists : ℕ → Option Items) (pool_of : ℕ → Option ℕ) (references : ℕ → ℕ) (ps : Pools Payload) → AreHoused lists pool_of references ps → IsPoolMap ps → (n p : ℕ)
+    → pool_of n ≡ Some p → is_live ps p ≡ true
 unfolding is_live
 house_live lists pool_of references ps house formed n p at = by_path (ps.path p) refl where
   by_path : (path : List ℕ) → ps.path p ≡ path → not (is_empty path) ≡ true

@@ -4,6 +4,7 @@ pub mod Above
 pub mod Unread
 pub mod Referred
 pub mod Stores
+pub mod OnlyLists
 pub mod Counts
 pub mod Plans
 pub mod House
@@ -12,3 +13,4 @@ pub mod HouseCalls
 pub mod Renumbered
 pub mod PoolsReached
 pub mod Asked
+pub mod Added

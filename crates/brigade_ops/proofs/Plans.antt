@@ -35,7 +35,8 @@ module _ (reached : ℕ → Bool) (ready : List Morph) (name : BucketId) (r : Op
         morphed_append ready (m ∷ []) id x
         ∙ ap (λ (b : Bool). cond b (given_by m (morphed ready id x)) (morphed ready id x)) (ap (λ (n : BucketId). same id n) told ∙ miss)
 
-  pub this_ready : (id : BucketId) (x : Bucket) → same id name ≡ true → IsAsItWas reached ready id x → IfSome r (λ m. m.kind ≡ (cleared_as reached x).kind) → IfSome r (λ m. m.home ≡ (cleared_as reached x).home)
+  pub this_ready : (id : BucketId) (x : Bucket) → same id name ≡ true → IsAsItWas reached ready id x → IfSome r (λ m. m.kind ≡ (cleared_as reached x).kind)
+      → IfSome r (λ m. m.home ≡ (cleared_as reached x).home)
       → (r ≡ None → cleared_as reached x ≡ x) → morphed (ready ++ cons_option r []) id x ≡ cleared_as reached x
   unfolding morphed
   this_ready id x hit begun k h same_one = go r is k h same_one where
@@ -77,7 +78,8 @@ as_it_was reached ms id x false e = inl e
 
 -- A list of buckets gets what was made ready for each.
 module _ (reached : ℕ → Bool) (ms : List Morph) where
-  list_made : (named : Bool) (xs : Items) → ((i : BucketId) → times i xs ≤ 1) → ((id : BucketId) (x : Bucket) → found id xs ≡ Some x → morphed ms id x ≡ cond named (cleared_as reached x) x) → all_morphed ms xs ≡ cleared_items reached named xs
+  list_made : (named : Bool) (xs : Items) → ((i : BucketId) → times i xs ≤ 1) → ((id : BucketId) (x : Bucket) → found id xs ≡ Some x → morphed ms id x ≡ cond named (cleared_as reached x) x)
+      → all_morphed ms xs ≡ cleared_items reached named xs
   list_made named [] once each = by_test named where
     by_test : (b : Bool) → [] ≡ cleared_items reached b []
     by_test true = refl
@@ -109,7 +111,8 @@ module _ (reached : ℕ → Bool) (ms : List Morph) where
   ring_made named None once each = refl
   ring_made named (Some xs) once each = ap (λ (ys : Items). Some ys) (list_made named xs once each)
 
-pub ring_step : (b ring : ℕ) (rings : List ℕ) (new old done x : Bucket) → old ≡ cond (is_in b rings) done x → (ring ≡ b → new ≡ done) → (ring ≢ b → new ≡ old) → new ≡ cond (is_in b (rings ++ ring ∷ [])) done x
+pub ring_step : (b ring : ℕ) (rings : List ℕ) (new old done x : Bucket) → old ≡ cond (is_in b rings) done x → (ring ≡ b → new ≡ done) → (ring ≢ b → new ≡ old)
+    → new ≡ cond (is_in b (rings ++ ring ∷ [])) done x
 ring_step b ring rings new old done x e here other = elim (cases_eq ring b) [
   | inl is ↦ here is ∙ sym (ap (λ (s : Bool). cond s done x) (in_more_here b ring rings is))
   | inr ne ↦ other ne ∙ (e ∙ sym (ap (λ (s : Bool). cond s done x) (in_more_other b ring rings ne)))

@@ -22,7 +22,8 @@ module _ (xs : List ℕ) (x : ℕ) where
   apart i low high k lt =
       ⊎_elim (λ (l : k < i). ne_eqb (get_or xs k 0) x (λ e. omega (arith, low k l, e))) (λ (l : i ≤ k). ne_eqb (get_or xs k 0) x (λ e. omega (arith, high k l lt, e))) (cases_lt k i)
 
-  by_answer : (r : Result ℕ ℕ) → MatchResult r (λ i. (i < length xs) × (get_or xs i 0 ≡ x)) (λ i. (i ≤ length xs) × ((k : ℕ) → k < i → get_or xs k 0 < x) × ((k : ℕ) → i ≤ k → k < length xs → x < get_or xs k 0))
+  by_answer : (r : Result ℕ ℕ)
+      → MatchResult r (λ i. (i < length xs) × (get_or xs i 0 ≡ x)) (λ i. (i ≤ length xs) × ((k : ℕ) → k < i → get_or xs k 0 < x) × ((k : ℕ) → i ≤ k → k < length xs → x < get_or xs k 0))
       → is_ok r ≡ is_in x xs
   by_answer (Ok i) at = sym (list_any_at (λ m. m == x) xs i 0 at.0 (eq-eqb (get_or xs i 0) x at.1))
   by_answer (Err i) none = sym (list_any_none (λ m. m == x) xs (λ k d lt. ap (λ m. m == x) (get_or_default xs k d 0 lt) ∙ apart i none.1 none.2 k lt))
@@ -39,7 +40,8 @@ or_no true = refl
 or_no false = refl
 
 -- the pools under a pool, and itself
-pub all_reached : {T : Type 0} (tree : PoolTree T) (pool : ℕ) (found pools : List ℕ) → is_live (map_of tree) pool ≡ true → reverse found ≡ order_under (map_of tree) pool → IsPermutation (found ++ pool ∷ []) pools
+pub all_reached : {T : Type 0} (tree : PoolTree T) (pool : ℕ) (found pools : List ℕ) → is_live (map_of tree) pool ≡ true → reverse found ≡ order_under (map_of tree) pool
+    → IsPermutation (found ++ pool ∷ []) pools
     → (p : ℕ) → is_in p pools ≡ is_under (map_of tree) pool p
 all_reached tree pool found pools live under moved p =
     sym (list_any-IsPermutation (λ m. m == p) (found ++ pool ∷ []) pools moved)

@@ -27,7 +27,8 @@ pub referred_none : (pool : ℕ) (ps : Pools Payload) → all_referred pool [] p
 unfolding all_referred
 referred_none pool ps = refl
 
-pub unreferred_one : (pool file : ℕ) (files : List ℕ) (ps : Pools Payload) → killed pool (λ other. payload_eq other (FileRef file)) (all_referred pool (files ++ file ∷ []) ps) ≡ all_referred pool files ps
+pub unreferred_one : (pool file : ℕ) (files : List ℕ) (ps : Pools Payload)
+    → killed pool (λ other. payload_eq other (FileRef file)) (all_referred pool (files ++ file ∷ []) ps) ≡ all_referred pool files ps
 unreferred_one pool file files ps =
     ap (killed pool (λ other. payload_eq other (FileRef file))) (referred_more pool file files ps)
     ∙ killed_again (all_referred pool files ps) pool (λ other. payload_eq other (FileRef file)) (FileRef file) (eq-eqb file file refl)
@@ -42,7 +43,8 @@ unfolding times_in
 times_more file f [] = refl
 times_more file f (g ∷ files) = at (g == file) (f == file) (times_more file f files) where
   at : (s t : Bool) → times_in file (files ++ f ∷ []) ≡ cond t (times_in file files + 1) (times_in file files)
-      → cond s (suc (times_in file (files ++ f ∷ []))) (times_in file (files ++ f ∷ [])) ≡ cond t (cond s (suc (times_in file files)) (times_in file files) + 1) (cond s (suc (times_in file files)) (times_in file files))
+      → cond s (suc (times_in file (files ++ f ∷ []))) (times_in file (files ++ f ∷ [])) ≡ cond t (cond s (suc (times_in file files)) (times_in file files) + 1)
+      (cond s (suc (times_in file files)) (times_in file files))
   at true true e = omega (arith, e)
   at true false e = omega (arith, e)
   at false true e = e
@@ -63,7 +65,8 @@ above_same ps qs pool home.Ended same = refl
 
 -- setting aside looks at paths alone
 pub aside_same : (pool : ℕ) (files : List ℕ) (ps : Pools Payload) → aside_item (all_referred pool files ps) pool ≡ aside_item ps pool
-aside_same pool files ps = fun_ext (λ (x : Item). ap (λ above. (let y : Item = (x.0, set_aside pool above x.1) in y)) (above_same ps (all_referred pool files ps) pool x.1.home (referred_path pool files ps)))
+aside_same pool files ps =
+    fun_ext (λ (x : Item). ap (λ above. (let y : Item = (x.0, set_aside pool above x.1) in y)) (above_same ps (all_referred pool files ps) pool x.1.home (referred_path pool files ps)))
 
 same_test : (m n : ℕ) → (m == n) ≡ (n == m)
 same_test m n = elim (cases_eq m n) [
@@ -88,11 +91,13 @@ pub counted_more : (f file start now before : ℕ) (files : List ℕ) → before
 counted_more f file start now before files b n =
     more_one (file == f) start (times_in f files) (times_in f (files ++ file ∷ [])) now before b (n ∙ ap (λ s. cond s (before + 1) before) (same_test f file)) (times_more f file files)
 
-pub counted_less : (f file start now before all : ℕ) (files : List ℕ) → before ≡ cond (file == f) (now + 1) now → start + times_in f (files ++ file ∷ []) ≡ before + all → start + times_in f files ≡ now + all
+pub counted_less : (f file start now before all : ℕ) (files : List ℕ) → before ≡ cond (file == f) (now + 1) now → start + times_in f (files ++ file ∷ []) ≡ before + all
+    → start + times_in f files ≡ now + all
 counted_less f file start now before all files b s = less_one (file == f) start (times_in f files) (times_in f (files ++ file ∷ [])) now before all b (times_more f file files) s
 
 pub counted_some : (file start before all : ℕ) (files : List ℕ) → start + times_in file (files ++ file ∷ []) ≡ before + all → all ≤ start → 0 < before
-counted_some file start before all files s le = some_one (file == file) start (times_in file files) (times_in file (files ++ file ∷ [])) before all (eq-eqb file file refl) (times_more file file files) s le
+counted_some file start before all files s le =
+    some_one (file == file) start (times_in file files) (times_in file (files ++ file ∷ [])) before all (eq-eqb file file refl) (times_more file file files) s le
 
 -- a fact that a call told, where it succeeded or failed
 pub ok_of : {X E : Type 0} (x : Result X E) (P : Type 0) → is_err x ≡ false → OnOk x P → P

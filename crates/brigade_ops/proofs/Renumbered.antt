@@ -43,5 +43,6 @@ module _ (ps : Pools Payload) (formed : IsPoolMap ps) (now : ℕ) (named : (n : 
         | inr more ↦ sym (sum_from refs ps.next now more (no_refs ps.next file formed.named))
       ]
 
-  pub house_renumbered : (lists : ℕ → Option Items) (pool_of : ℕ → Option ℕ) (references : ℕ → ℕ) → AreHoused lists pool_of references ps → AreHoused lists pool_of references (record ps { next = now })
+  pub house_renumbered : (lists : ℕ → Option Items) (pool_of : ℕ → Option ℕ) (references : ℕ → ℕ) → AreHoused lists pool_of references ps
+      → AreHoused lists pool_of references (record ps { next = now })
   house_renumbered lists pool_of references house = record { held = house.held; there = house.there; referred = λ f. house.referred f ∙ same_refs f }

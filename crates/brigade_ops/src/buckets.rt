@@ -41,19 +41,8 @@ impl<R: Rings<Stored> + Drop> Brigades<R> {
         ensures back { IfErr result (λ why. why.1 ≡ bucket) }
         ensures unasked { self.new.asked ≡ self.old.asked }
     {
-        let next = self.held.next_name();
-        if let Err(why) = self
-            .held
-            .rings
-            .dependents
-            .make_room_for(next, bucket.kind, bucket.home)
-        {
-            return Err((why, bucket));
-        }
-        match self.held.take(bucket) {
-            Ok(stored) => Ok(self.held.add_tail(b, stored)),
-            Err(bucket) => Err((RingRefusal::NoMemory, bucket)),
-        }
+        let stored = self.hold(bucket)?;
+        Ok(self.held.add_tail(b, stored))
     }
 
     /// Puts new buckets at the tail of a brigade, in this order: all, or none. `NamesSpent`: so many names are not left. Refused, nothing is
@@ -91,19 +80,8 @@ impl<R: Rings<Stored> + Drop> Brigades<R> {
         ensures back { IfErr result (λ why. why.1 ≡ bucket) }
         ensures unasked { self.new.asked ≡ self.old.asked }
     {
-        let next = self.held.next_name();
-        if let Err(why) = self
-            .held
-            .rings
-            .dependents
-            .make_room_for(next, bucket.kind, bucket.home)
-        {
-            return Err((why, bucket));
-        }
-        match self.held.take(bucket) {
-            Ok(stored) => Ok(self.held.add_head(b, stored)),
-            Err(bucket) => Err((RingRefusal::NoMemory, bucket)),
-        }
+        let stored = self.hold(bucket)?;
+        Ok(self.held.add_head(b, stored))
     }
 
     /// Puts a new bucket before another (`APR_BUCKET_INSERT_BEFORE`), else as `add_tail`.
@@ -125,19 +103,8 @@ impl<R: Rings<Stored> + Drop> Brigades<R> {
         ensures back { IfErr result (λ why. why.1 ≡ bucket) }
         ensures unasked { self.new.asked ≡ self.old.asked }
     {
-        let next = self.held.next_name();
-        if let Err(why) = self
-            .held
-            .rings
-            .dependents
-            .make_room_for(next, bucket.kind, bucket.home)
-        {
-            return Err((why, bucket));
-        }
-        match self.held.take(bucket) {
-            Ok(stored) => Ok(self.held.add_before(at, stored)),
-            Err(bucket) => Err((RingRefusal::NoMemory, bucket)),
-        }
+        let stored = self.hold(bucket)?;
+        Ok(self.held.add_before(at, stored))
     }
 
     /// Puts a new bucket behind another (`APR_BUCKET_INSERT_AFTER`), else as `add_tail`.
@@ -159,19 +126,8 @@ impl<R: Rings<Stored> + Drop> Brigades<R> {
         ensures back { IfErr result (λ why. why.1 ≡ bucket) }
         ensures unasked { self.new.asked ≡ self.old.asked }
     {
-        let next = self.held.next_name();
-        if let Err(why) = self
-            .held
-            .rings
-            .dependents
-            .make_room_for(next, bucket.kind, bucket.home)
-        {
-            return Err((why, bucket));
-        }
-        match self.held.take(bucket) {
-            Ok(stored) => Ok(self.held.add_after(at, stored)),
-            Err(bucket) => Err((RingRefusal::NoMemory, bucket)),
-        }
+        let stored = self.hold(bucket)?;
+        Ok(self.held.add_after(at, stored))
     }
 
     /// Moves a bucket to the tail of a brigade, which may be its own. It gets no new name, and takes no memory.

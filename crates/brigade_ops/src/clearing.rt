@@ -9,7 +9,7 @@ ghost use Rattle.run_model.specs.Payloads.{is_brigade, is_file_ref};
 ghost use Rattle.run_model.specs.Pools.{is_live, is_under, is_in};
 ghost use Rattle.run_model.specs.RunOrder.{run_order, IsPoolMap};
 ghost use Rattle.pool_tree.specs.declared.tree.clear.ClearKind.TheVariants.{Destroy};
-ghost use Rattle.pool_tree.specs.Clears.{emptied};
+ghost use Rattle.pool_tree.specs.Clears.{pools_after};
 ghost use Rattle.pool_tree.specs.Tree.{map_of};
 ghost use Rattle.bucket_kinds.specs.Device.{Missing, is_there};
 ghost use Rattle.bucket_ring.specs.Kept.{NoneRevived};
@@ -183,7 +183,7 @@ impl<R: Rings<Stored> + Drop> Brigades<R> {
         requires house { IsHouse self.old (map_of tree.old) }
         requires open { AreOpen (references self.old) (F.device files.old) }
         ensures ran { IfOk result (λ ran. ran.items ≡ run_order (map_of tree.old) pool) }
-        ensures ok { OnOk result (map_of tree.new ≡ emptied kind pool (map_of tree.old)) }
+        ensures ok { OnOk result (map_of tree.new ≡ pools_after kind pool (map_of tree.old)) }
         ensures out { OnOk result ((n : ℕ) → lists self.new n ≡ cleared_ring (is_under (map_of tree.old) pool) (is_in n rings.now) (pool_of self.old n) (lists self.old n)) }
         ensures off { OnOk result ((n : ℕ) → pool_of self.new n ≡ pool_left (is_under (map_of tree.old) pool) (pool_of self.old n)) }
         ensures closed { OnOk result ((f : ℕ) → (F.device files.new).numbered f

@@ -43,24 +43,6 @@ impl<R: Rings<Stored> + Drop> Brigades<R> {
         self.held.add_after(at, bucket)
     }
 
-    /// Puts a new bucket that keeps its own content behind another. A name and room for it are there.
-    pub(crate) fn put_own_behind(&mut self, at: BucketId, bucket: Bucket) -> BucketId
-        requires there { is_some (brigade_of self.old at) ≡ true }
-        requires lies { lies_right bucket.kind (Kept.Own bucket.content) ≡ true }
-        requires room { has_room self.old }
-        requires unspent { next_name self.old < u64.MAX }
-        ensures out { (b n : ℕ) → brigade_of self.old at ≡ Some b → lists self.new n ≡ on b (put_after at (result, bucket)) (lists self.old) n }
-        ensures still { (b : ℕ) → brigade_of self.old at ≡ Some b → brigade_of self.new at ≡ Some b }
-        ensures name { result.birth ≡ next_name self.old }
-        ensures next { next_name self.new ≡ next_name self.old + 1 }
-        ensures names { NoneRevived (brigade_of self.old) (brigade_of self.new) (next_name self.old) }
-        ensures pools { pool_of self.new ≡ pool_of self.old }
-        ensures references { references self.new ≡ references self.old }
-        ensures unasked { self.new.asked ≡ self.old.asked }
-    {
-        self.put_behind(at, keep_own(bucket))
-    }
-
     /// Puts a bucket that keeps its own content in the place of another.
     pub(crate) fn set_own(&mut self, id: BucketId, bucket: Bucket)
         requires there { is_some (brigade_of self.old id) ≡ true }
@@ -111,14 +93,7 @@ impl<R: Rings<Stored> + Drop> Brigades<R> {
         ensures unasked { self.new.asked ≡ self.old.asked }
     {
         let (front, rest) = self.halves_at(id, n)?;
-        if self.held.next_name() == u64::MAX {
-            return Err(SplitRefusal::NamesSpent);
-        }
-        self.held
-            .rings
-            .dependents
-            .make_room(rest.kind, rest.home, 1)?;
-        self.held.make_room()?;
+        self.room_for(rest.kind, rest.home)?;
         let new = self.put_behind(id, rest);
         let _whole = self.held.put(id, front);
         Ok(new)
@@ -140,12 +115,7 @@ impl<R: Rings<Stored> + Drop> Brigades<R> {
         ensures unasked { self.new.asked ≡ self.old.asked }
     {
         let copy = stored_copy(self.alloc, self.stored(id))?;
-        let next = self.held.next_name();
-        self.held
-            .rings
-            .dependents
-            .make_room_for(next, copy.kind, copy.home)?;
-        self.held.make_room()?;
+        self.room_for(copy.kind, copy.home)?;
         Ok(self.held.add_tail(b, copy))
     }
 }

@@ -12,6 +12,7 @@ mod morphs;
 mod reached;
 mod reading;
 mod references;
+mod rooms;
 mod saving;
 mod store;
 mod walking;

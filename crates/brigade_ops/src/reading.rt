@@ -12,7 +12,7 @@ ghost use Rattle.brigade_ops.specs.Reads.{IsRead};
 ghost use Rattle.stored_rings.specs.Shown.{lies_right};
 
 use crate::store::Brigades;
-use bucket_kinds::{Files, ReadFault, Stored, read_into, rest_of_read, room_to_read};
+use bucket_kinds::{Files, ReadFault, Stored, keep_own, read_into, rest_of_read, room_to_read};
 use bucket_ring::{BucketId, Rings};
 use run_model::{Bucket, Content, Seq};
 use stored_rings::{ContentView, ReadRefusal};
@@ -107,13 +107,13 @@ impl<R: Rings<Stored> + Drop> Brigades<R> {
         ensures unasked { self.new.asked ≡ self.old.asked }
     {
         let _rest = read_into(&mut bucket, room, files)?;
-        let new = self.put_own_behind(id, rest);
+        let new = self.put_behind(id, keep_own(rest));
         self.set_own(id, bucket);
         Ok(new)
     }
 
     /// Reads a bucket that is a range of a file. A name and room for what a read leaves of it are got before the file is asked.
-    #[tactic(auto, unfolding(stored_rings::specs::Shelf::seen, crate::specs::Store::lists, crate::specs::Store::brigade_of, crate::specs::Store::pool_of, crate::specs::Store::next_name, crate::specs::Store::references, crate::specs::Store::has_room))]
+    #[tactic(auto)]
     fn read_range<F: Files>(
         &mut self,
         files: &mut F,
@@ -150,14 +150,7 @@ impl<R: Rings<Stored> + Drop> Brigades<R> {
                 Err(_) => Err(ReadRefusal::ReadFault),
             };
         };
-        if self.held.next_name() == u64::MAX {
-            return Err(ReadRefusal::NamesSpent);
-        }
-        self.held
-            .rings
-            .dependents
-            .make_room(rest.kind, rest.home, 1)?;
-        self.make_room()?;
+        self.room_for(rest.kind, rest.home)?;
         match self.read_front(files, id, bucket, room, rest) {
             Ok(new) => Ok(Some(new)),
             Err(_) => Err(ReadRefusal::ReadFault),

@@ -30,7 +30,8 @@ lookup_put : (order : Bytes → Bytes → Ordering) (t : Bytes → Bool) (k v : 
     → (es : List (Bytes × Bytes)) → lookup t (insert_entry order es k v) ≡ cond (t k) (Some v) (lookup t es)
 lookup_put order t k v same apart [] = refl
 lookup_put order t k v same apart (e ∷ es) = at (lookup_put order t k v same apart es) (order k e.0) refl where
-  at : lookup t (insert_entry order es k v) ≡ cond (t k) (Some v) (lookup t es) → (o : Ordering) → order k e.0 ≡ o → lookup t (match_ordering o ((k, v) ∷ e ∷ es) ((e.0, v) ∷ es) (e ∷ insert_entry order es k v))
+  at : lookup t (insert_entry order es k v) ≡ cond (t k) (Some v) (lookup t es) → (o : Ordering) → order k e.0 ≡ o
+      → lookup t (match_ordering o ((k, v) ∷ e ∷ es) ((e.0, v) ∷ es) (e ∷ insert_entry order es k v))
       ≡ cond (t k) (Some v) (cond (t e.0) (Some e.1) (lookup t es))
   at ih Less is = refl
   at ih Equal is = rw (same e.0 is) (choice (t e.0) (Some v) (Some e.1) (lookup t es))

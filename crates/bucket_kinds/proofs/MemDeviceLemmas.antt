@@ -2,7 +2,7 @@
 use Rattle.std.proofs.Common.{◌≡◌, ℕ, zero, suc, ◌+◌, Bool, true, false, ◌==◌, cond, List, Option, Some, None, is_some, Result, Ok, Err, refl, sym, subst, ◌∙◌, ap}
 use Rattle.std.proofs.Math.Path.{fun_ext}
 use Rattle.run_model.specs.Indexed.{upd}
-use Rattle.run_model.specs.Files.{Files, file_opened, read_done, after_read, fails_now}
+use Rattle.run_model.specs.Files.{Files, file_opened, read_done, fails_after_read, fails_now}
 use Rattle.bucket_kinds.specs.Device.{Device, Held, Plan, is_there, opened, closed, moved, failed, one_more, nearer, spent, MayGoWell, MayFail, WentWell, HasFailed}
 use Rattle.bucket_kinds.specs.Answers.{MayMiss, MayHave, IsOpening}
 use Rattle.bucket_kinds.specs.MemDevice.{held_of, plan_of, device_of}
@@ -29,7 +29,7 @@ pub closed_device : (fs : Files) (file failures : ℕ) → device_of (file_close
 closed_device fs file failures = ap (with_numbered (device_of fs failures) fs.next) (held_upd fs.opened file None)
 
 -- The plan of a device after a call is that of the files after it.
-well_planned : (o : Option ℕ) → fails_now o ≡ false → plan_of (after_read o) ≡ nearer (plan_of o)
+well_planned : (o : Option ℕ) → fails_now o ≡ false → plan_of (fails_after_read o) ≡ nearer (plan_of o)
 well_planned None well = refl
 well_planned (Some zero) well = cc
 well_planned (Some (suc n)) well = refl
@@ -39,7 +39,7 @@ may_go_well None well = tt
 may_go_well (Some zero) well = cc
 may_go_well (Some (suc n)) well = tt
 
-fails_spent : (o : Option ℕ) → fails_now o ≡ true → plan_of (after_read o) ≡ spent (plan_of o)
+fails_spent : (o : Option ℕ) → fails_now o ≡ true → plan_of (fails_after_read o) ≡ spent (plan_of o)
 fails_spent None fails = refl
 fails_spent (Some zero) fails = refl
 fails_spent (Some (suc n)) fails = cc

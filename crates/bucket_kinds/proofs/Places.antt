@@ -89,28 +89,26 @@ module _ (look : Look) where
       (ap (λ c. let b : Bucket = record { kind = x.kind; content = c; home = x.home } in b) (front_shown n x.kept le), ap (λ c. let b : Bucket = record { kind = x.kind; content = c; home = x.home } in b) (rest_shown n x.kept le))
 
   pub both_shown : (n : ℕ) (x : Stored) → n ≤ kept_length x.kept → (shown look (parts_at n x).0, shown look (parts_at n x).1) ≡ split_at n (shown look x)
-  both_shown n x le = (let s = parts_shown n x le in ap (λ (a : Bucket). let both : Bucket × Bucket = (a, shown look (parts_at n x).1) in both) (s.0) ∙ ap (λ (b : Bucket). let both : Bucket × Bucket = ((split_at n (shown look x)).0, b) in both) (s.1))
+  both_shown n x le = (let s = parts_shown n x le in ap (λ (a : Bucket). let both : Bucket × Bucket = (a, shown look (parts_at n x).1) in both) (s.0)
+      ∙ ap (λ (b : Bucket). let both : Bucket × Bucket = ((split_at n (shown look x)).0, b) in both) (s.1))
+
+  -- what is set aside keeps its bytes
+  set_aside_is : (target : ℕ) (above : Bool) (x : Stored)
+      → (shown look (aside target above x) ≡ set_aside target above (shown look x)) × ((aside target above x).kept ≡ x.kept)
+  set_aside_is target above x = go x.kind above where
+    go : (k : Kind) (a : Bool) → let y : Stored = record x { kind = k } in (shown look (aside target a y) ≡ set_aside target a (shown look y))
+        × ((aside target a y).kept ≡ x.kept)
+    go kind.Heap a = (refl, refl)
+    go kind.Transient a = (refl, refl)
+    go kind.Immortal a = (refl, refl)
+    go (kind.Pool p) a = (refl, refl)
+    go kind.File true = (refl, refl)
+    go kind.File false = (refl, refl)
+    go kind.Flush a = (refl, refl)
+    go kind.Eos a = (refl, refl)
 
   pub aside_shown : (target : ℕ) (above : Bool) (x : Stored) → shown look (aside target above x) ≡ set_aside target above (shown look x)
-  aside_shown target above x = go x.kind above where
-    go : (k : Kind) (a : Bool) → shown look (aside target a (record x { kind = k })) ≡ set_aside target a (shown look (record x { kind = k }))
-    go kind.Heap a = refl
-    go kind.Transient a = refl
-    go kind.Immortal a = refl
-    go (kind.Pool p) a = refl
-    go kind.File true = refl
-    go kind.File false = refl
-    go kind.Flush a = refl
-    go kind.Eos a = refl
+  aside_shown target above x = (set_aside_is target above x).0
 
   pub aside_whole : (target : ℕ) (above : Bool) (x : Stored) → (aside target above x).kept ≡ x.kept
-  aside_whole target above x = go x.kind above where
-    go : (k : Kind) (a : Bool) → (aside target a (record x { kind = k })).kept ≡ x.kept
-    go kind.Heap a = refl
-    go kind.Transient a = refl
-    go kind.Immortal a = refl
-    go (kind.Pool p) a = refl
-    go kind.File true = refl
-    go kind.File false = refl
-    go kind.Flush a = refl
-    go kind.Eos a = refl
+  aside_whole target above x = (set_aside_is target above x).1

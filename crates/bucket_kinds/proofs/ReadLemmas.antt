@@ -2,13 +2,13 @@
 use Rattle.std.proofs.Common.{◌≡◌, ◌≢◌, ℕ, zero, suc, ◌-◌, ◌≤◌, ◌<◌, Bool, true, false, nat_le, cond, List, ◌++◌, length, take, drop, Option, Some, None, refl, sym, ◌∙◌, ap, arith, min}
 use Rattle.std.proofs.lemmas.List.{length-take, drop_all, append-nil}
 use Rattle.std.proofs.lemmas.Bool.Decides.{nat_tests}
-use Rattle.run_model.specs.Files.{Files, part_of, read_part, read_done, after_read, fails_now}
+use Rattle.run_model.specs.Files.{Files, part_of, read_part, read_done, fails_after_read, fails_now}
 use Rattle.bucket_kinds.specs.Device.{Holds}
 use Rattle.bucket_kinds.specs.Answers.{IsFilled}
 use Rattle.bucket_kinds.specs.MemAnswers.{planned}
 
 -- A call that fails later comes nearer.
-pub after_well : (n : ℕ) → n ≢ 0 → after_read (Some n) ≡ Some (n - 1)
+pub after_well : (n : ℕ) → n ≢ 0 → fails_after_read (Some n) ≡ Some (n - 1)
 after_well zero not_zero = absurd (not_zero refl)
 after_well (suc n) not_zero = ap (λ k. Some k) (omega arith)
 

@@ -14,7 +14,8 @@ use Rattle.bucket_ring.specs.Kept.{IsKept}
 use Rattle.bucket_ring.specs.Laws.{same_name}
 use Rattle.bucket_ring.specs.Spots.{placed}
 use Rattle.bucket_ring.specs.Walks.{id_of, turned}
-use Rattle.bucket_ring.specs.Links.{sentinel_ring, bucket_ring, named_in, IsSpot, target, behind_of, before_of, mark_of, at_of, bucket_of, head_of, ring_at, lists_of, AreLinked, IsLooseSlot, Relinked, Refilled, Changed}
+use Rattle.bucket_ring.specs.Links.{sentinel_ring, bucket_ring, named_in, IsSpot, target, behind_of, before_of, mark_of, at_of, bucket_of, head_of, ring_at, lists_of, AreLinked, IsLooseSlot, Relinked}
+use Rattle.bucket_ring.specs.Links.{Refilled, Changed}
 use Rattle.bucket_ring.proofs.Counted.{upd_on, upd_off}
 use Rattle.bucket_ring.proofs.Shown.{some_is}
 use Rattle.bucket_ring.proofs.Kept.{upd_as, there_at, lists_there, length_of, changed}
@@ -163,7 +164,8 @@ module _ {T N : Type 0} {g : Ghosts N T} where
     head_left ring there = sym (lists_there mid ring) ∙ on_some from (without id) (lists_of s) (lists_of mid) mid_lists ring there
 
     -- and comes into another
-    module _ (ring next : ℕ) (position : Position) (h2 : RingHead) (head2 : head_of s2 ring ≡ Some h2) (is : IsSpot (λ j. if same id j then None else ring_at s j) ring position) (kept : IsKept (ring_at s) (lists_of s) next) where
+    module _ (ring next : ℕ) (position : Position) (h2 : RingHead) (head2 : head_of s2 ring ≡ Some h2) (is : IsSpot (λ j. if same id j then None else ring_at s j) ring position)
+        (kept : IsKept (ring_at s) (lists_of s) next) where
       head_mid : head_of mid ring ≡ Some h2
       unfolding head_of
       head_mid = head2
@@ -208,7 +210,8 @@ module _ {T N : Type 0} {g : Ghosts N T} where
             })
             heads_in
 
-        all_in : Changed mid (read_of t) id.slot (target (behind_of mid) h2 position) ring (Some (id_of id.slot id.birth, place.0.1)) (Some ring) (record { sentinel = h2.sentinel; count = h2.count + 1 })
+        all_in : Changed mid (read_of t) id.slot (target (behind_of mid) h2 position) ring (Some (id_of id.slot id.birth, place.0.1)) (Some ring)
+            (record { sentinel = h2.sentinel; count = h2.count + 1 })
         all_in = subst (λ (k : ℕ). Changed mid (read_of t) id.slot k ring (Some (id_of id.slot id.birth, place.0.1)) (Some ring)
             (record { sentinel = h2.sentinel; count = h2.count + 1 }))
             (a_is ∙ sym (target_as (behind_of s2) (behind_of mid) h2 position mid_behind)) change_in

@@ -1,5 +1,6 @@
 -- What is true of the rings between two calls is true after each.
-use Rattle.std.proofs.Common.{◌≡◌, ◌≢◌, ℕ, ◌+◌, ◌-◌, ◌^◌, ◌<◌, ◌≤◌, ◌⊎◌, Bool, true, false, if◌then◌else◌, Option, None, Some, is_some, List, [], ◌∷◌, ◌++◌, take, drop, length, refl, ap, sym, ◌∙◌, arith, inl, inr}
+use Rattle.std.proofs.Common.{◌≡◌, ◌≢◌, ℕ, ◌+◌, ◌-◌, ◌^◌, ◌<◌, ◌≤◌, ◌⊎◌, Bool, true, false, if◌then◌else◌, Option, None, Some, is_some, List, [], ◌∷◌, ◌++◌, take, drop, length, refl, ap, sym, ◌∙◌}
+use Rattle.std.proofs.Common.{arith, inl, inr}
 use Rattle.std.proofs.lemmas.Bool.{cases_eq}
 use Rattle.std.proofs.lemmas.List.{take-append-drop, length-append}
 use Rattle.std.proofs.lemmas.Option.{same_Some}
@@ -33,14 +34,16 @@ was_taken id at at2 at_new j h = go (same id j) (sym (ap is_some (at_new j)) ∙
   go true h = cc
   go false h = h
 
-pub was_put : (id : BucketId) (r : ℕ) (at at2 : BucketId → Option ℕ) → ((j : BucketId) → at2 j ≡ (if same id j then Some r else at j)) → (j : BucketId) → is_some (at2 j) ≡ true → (same id j ≡ true) ⊎ (is_some (at j) ≡ true)
+pub was_put : (id : BucketId) (r : ℕ) (at at2 : BucketId → Option ℕ) → ((j : BucketId) → at2 j ≡ (if same id j then Some r else at j)) → (j : BucketId) → is_some (at2 j) ≡ true
+    → (same id j ≡ true) ⊎ (is_some (at j) ≡ true)
 was_put id r at at2 at_new j h = go (same id j) refl (sym (ap is_some (at_new j)) ∙ h) where
   go : (b : Bool) → same id j ≡ b → is_some (if b then Some r else at j) ≡ true → (same id j ≡ true) ⊎ (is_some (at j) ≡ true)
   go true e h = inl e
   go false e h = inr h
 
 -- a bucket that goes to another ring
-pub was_moved : (id : BucketId) (r : ℕ) (at at2 : BucketId → Option ℕ) → is_some (at id) ≡ true → ((j : BucketId) → at2 j ≡ (if same id j then Some r else at j)) → (j : BucketId) → is_some (at2 j) ≡ true → is_some (at j) ≡ true
+pub was_moved : (id : BucketId) (r : ℕ) (at at2 : BucketId → Option ℕ) → is_some (at id) ≡ true → ((j : BucketId) → at2 j ≡ (if same id j then Some r else at j)) → (j : BucketId)
+    → is_some (at2 j) ≡ true → is_some (at j) ≡ true
 was_moved id r at at2 there moved j h =
     elim (was_put id r at at2 moved j h) [
       | inl is ↦ ap (λ (i : BucketId). is_some (at i)) (sym (same_name id j is)) ∙ there
@@ -48,7 +51,8 @@ was_moved id r at at2 there moved j h =
     ]
 
 module _ {T : Type 0} where
-  pub upd_some : (lists new : ℕ → Option (List (BucketId × T))) (q : ℕ) (w : Option (List (BucketId × T))) → ((n : ℕ) → new n ≡ upd lists q w n) → (is_some w ≡ true → is_some (lists q) ≡ true) → (r : ℕ) → is_some (new r) ≡ true → is_some (lists r) ≡ true
+  pub upd_some : (lists new : ℕ → Option (List (BucketId × T))) (q : ℕ) (w : Option (List (BucketId × T))) → ((n : ℕ) → new n ≡ upd lists q w n) → (is_some w ≡ true → is_some (lists q) ≡ true)
+      → (r : ℕ) → is_some (new r) ≡ true → is_some (lists r) ≡ true
   upd_some lists new q w lists_new some r h =
       elim (cases_eq r q) [
         | inl e ↦ rw e (some (sym (ap is_some (ap new e ∙ lists_new q ∙ upd_on lists q w)) ∙ h))
@@ -56,10 +60,12 @@ module _ {T : Type 0} where
       ]
 
   -- no ring comes or goes where one list changes
-  pub on_was : (q : ℕ) (f : List (BucketId × T) → List (BucketId × T)) (lists new : ℕ → Option (List (BucketId × T))) → ((n : ℕ) → new n ≡ on q f lists n) → (r : ℕ) → is_some (new r) ≡ true → is_some (lists r) ≡ true
+  pub on_was : (q : ℕ) (f : List (BucketId × T) → List (BucketId × T)) (lists new : ℕ → Option (List (BucketId × T))) → ((n : ℕ) → new n ≡ on q f lists n) → (r : ℕ) → is_some (new r) ≡ true
+      → is_some (lists r) ≡ true
   on_was q f lists new lists_new r h = upd_some lists new q (option_map f (lists q)) lists_new (λ h. sym (mapped_some f (lists q)) ∙ h) r h
 
-  pub on_some : (q : ℕ) (f : List (BucketId × T) → List (BucketId × T)) (lists new : ℕ → Option (List (BucketId × T))) → ((n : ℕ) → new n ≡ on q f lists n) → (r : ℕ) → is_some (lists r) ≡ true → is_some (new r) ≡ true
+  pub on_some : (q : ℕ) (f : List (BucketId × T) → List (BucketId × T)) (lists new : ℕ → Option (List (BucketId × T))) → ((n : ℕ) → new n ≡ on q f lists n) → (r : ℕ) → is_some (lists r) ≡ true
+      → is_some (new r) ≡ true
   on_some q f lists new lists_new r h =
       elim (cases_eq r q) [
         | inl e ↦ rw e (ap is_some (lists_new q ∙ upd_on lists q (option_map f (lists q))) ∙ mapped_some f (lists q) ∙ ap (λ k. is_some (lists k)) (sym e) ∙ h)
@@ -67,13 +73,15 @@ module _ {T : Type 0} where
       ]
 
   -- the list of a ring that is changed, and of another
-  pub list_on : (q : ℕ) (f : List (BucketId × T) → List (BucketId × T)) (lists new : ℕ → Option (List (BucketId × T))) → ((n : ℕ) → new n ≡ on q f lists n) → is_some (lists q) ≡ true → list_at new q ≡ f (list_at lists q)
+  pub list_on : (q : ℕ) (f : List (BucketId × T) → List (BucketId × T)) (lists new : ℕ → Option (List (BucketId × T))) → ((n : ℕ) → new n ≡ on q f lists n) → is_some (lists q) ≡ true
+      → list_at new q ≡ f (list_at lists q)
   list_on q f lists new lists_new h = ap items (lists_new q ∙ upd_on lists q (option_map f (lists q))) ∙ go (lists q) h where
     go : (o : Option (List (BucketId × T))) → is_some o ≡ true → items (option_map f o) ≡ f (items o)
     go None h = cc
     go (Some bs) h = refl
 
-  pub list_off : (q : ℕ) (f : List (BucketId × T) → List (BucketId × T)) (lists new : ℕ → Option (List (BucketId × T))) → ((n : ℕ) → new n ≡ on q f lists n) → (r : ℕ) → r ≢ q → list_at new r ≡ list_at lists r
+  pub list_off : (q : ℕ) (f : List (BucketId × T) → List (BucketId × T)) (lists new : ℕ → Option (List (BucketId × T))) → ((n : ℕ) → new n ≡ on q f lists n) → (r : ℕ) → r ≢ q
+      → list_at new r ≡ list_at lists r
   list_off q f lists new lists_new r ne = ap items (lists_new r ∙ upd_off lists q (option_map f (lists q)) r ne)
 
   pub on_same : (r n : ℕ) (f : List (BucketId × T) → List (BucketId × T)) (lists new : ℕ → Option (List (BucketId × T))) → ((n : ℕ) → new n ≡ lists n) → on r f new n ≡ on r f lists n
@@ -110,7 +118,8 @@ module _ {T : Type 0} where
         go None e = refl
         go (Some bs) e = ap Some e
 
-  one_found : (s : Bool) (b : BucketId × T) (id : BucketId) (x : T) (bs cs : List (BucketId × T)) → same b.0 id ≡ s → (payload_of cs ≡ Some x → take 1 cs ≡ (id, x) ∷ []) → payload_of (if s then b ∷ bs else cs) ≡ Some x → take 1 (if s then b ∷ bs else cs) ≡ (id, x) ∷ []
+  one_found : (s : Bool) (b : BucketId × T) (id : BucketId) (x : T) (bs cs : List (BucketId × T)) → same b.0 id ≡ s → (payload_of cs ≡ Some x → take 1 cs ≡ (id, x) ∷ [])
+      → payload_of (if s then b ∷ bs else cs) ≡ Some x → take 1 (if s then b ∷ bs else cs) ≡ (id, x) ∷ []
   one_found true b id x bs cs e later h = ap (λ y. y ∷ []) (pair_is b id x (same_name b.0 id e) (same_Some b.1 x h))
   one_found false b id x bs cs e later h = later h
 
@@ -140,8 +149,10 @@ module _ {T : Type 0} where
         mapped_less None = omega arith
         mapped_less (Some bs) = less bs
 
-  pub shifted : (lists between new : ℕ → Option (List (BucketId × T))) (q r n : ℕ) (position : Position) (id : BucketId) (x y : T) (birth : ℕ) → birth ≡ id.birth → found id (list_at lists q) ≡ Some y → found id (list_at lists q) ≡ Some x
-      → ((n : ℕ) → between n ≡ on q (without id) lists n) → ((n : ℕ) → new n ≡ on r (placed position ((id_of id.slot birth, y) ∷ [])) between n) → new n ≡ on r (placed position ((id, x) ∷ [])) (on q (without id) lists) n
+  pub shifted : (lists between new : ℕ → Option (List (BucketId × T))) (q r n : ℕ) (position : Position) (id : BucketId) (x y : T) (birth : ℕ) → birth ≡ id.birth
+      → found id (list_at lists q) ≡ Some y → found id (list_at lists q) ≡ Some x
+      → ((n : ℕ) → between n ≡ on q (without id) lists n) → ((n : ℕ) → new n ≡ on r (placed position ((id_of id.slot birth, y) ∷ [])) between n)
+      → new n ≡ on r (placed position ((id, x) ∷ [])) (on q (without id) lists) n
   shifted lists between new q r n position id x y birth e had is taken put =
       put n ∙ on_same r n (placed position ((id_of id.slot birth, y) ∷ [])) (on q (without id) lists) between taken
       ∙ ap (λ (b : BucketId × T). on r (placed position (b ∷ [])) (on q (without id) lists) n) (pair_is (id_of id.slot birth, y) id x (ap (id_of id.slot) e) (same_Some y x (sym had ∙ is)))
@@ -150,10 +161,12 @@ module _ {T : Type 0} where
   pub on_over : (r n : ℕ) (f : List (BucketId × T) → List (BucketId × T)) (lists : ℕ → Option (List (BucketId × T))) → on r (λ bs. []) (on r f lists) n ≡ on r (λ bs. []) lists n
   on_over r n f lists =
       elim (cases_eq n r) [
-        | inl e ↦ rw e (upd_on (on r f lists) r (option_map (λ bs. []) (on r f lists r)) ∙ ap (option_map (λ (bs : List (BucketId × T)). let none : List (BucketId × T) = [] in none)) (upd_on lists r (option_map f (lists r))) ∙ go (lists r) ∙ sym (upd_on lists r (option_map (λ bs. []) (lists r))))
+        | inl e ↦ rw e (upd_on (on r f lists) r (option_map (λ bs. []) (on r f lists r)) ∙ ap (option_map (λ (bs : List (BucketId × T)). let none : List (BucketId × T) = [] in none))
+            (upd_on lists r (option_map f (lists r))) ∙ go (lists r) ∙ sym (upd_on lists r (option_map (λ bs. []) (lists r))))
         | inr ne ↦ upd_off (on r f lists) r (option_map (λ bs. []) (on r f lists r)) n ne ∙ upd_off lists r (option_map f (lists r)) n ne ∙ sym (upd_off lists r (option_map (λ bs. []) (lists r)) n ne)
       ] where
-        go : (o : Option (List (BucketId × T))) → option_map (λ (bs : List (BucketId × T)). let none : List (BucketId × T) = [] in none) (option_map f o) ≡ option_map (λ (bs : List (BucketId × T)). let none : List (BucketId × T) = [] in none) o
+        go : (o : Option (List (BucketId × T))) → option_map (λ (bs : List (BucketId × T)). let none : List (BucketId × T) = [] in none) (option_map f o) ≡ option_map
+            (λ (bs : List (BucketId × T)). let none : List (BucketId × T) = [] in none) o
         go None = refl
         go (Some bs) = refl
 
@@ -180,7 +193,8 @@ module _ {T N : Type 0} {g : Ghosts N T} where
   links_counted s linked id r = lists_counted (bucket_of s) (mark_of s) (at_of s) (shown_of s) (behind_of s) (before_of s) (head_of s) linked id r
 
   -- each call in which no bucket and no ring is new
-  pub kept_still : (s t : Links T N g) (next : ℕ) → AreLinked t → ((j : BucketId) → is_some (ring_at t j) ≡ true → is_some (ring_at s j) ≡ true) → ((r : ℕ) → is_some (lists_of t r) ≡ true → is_some (lists_of s r) ≡ true)
+  pub kept_still : (s t : Links T N g) (next : ℕ) → AreLinked t → ((j : BucketId) → is_some (ring_at t j) ≡ true → is_some (ring_at s j) ≡ true)
+      → ((r : ℕ) → is_some (lists_of t r) ≡ true → is_some (lists_of s r) ≡ true)
       → IsKept (ring_at s) (lists_of s) next → IsKept (ring_at t) (lists_of t) next
   kept_still s t next linked was_there was_ring kept = record {
     counted = links_counted t linked;
@@ -190,11 +204,13 @@ module _ {T N : Type 0} {g : Ghosts N T} where
     limit = kept.limit;
   }
 
-  pub kept_same : (s t : Links T N g) (next : ℕ) → AreLinked t → ((n : ℕ) → lists_of t n ≡ lists_of s n) → ((j : BucketId) → ring_at t j ≡ ring_at s j) → IsKept (ring_at s) (lists_of s) next → IsKept (ring_at t) (lists_of t) next
+  pub kept_same : (s t : Links T N g) (next : ℕ) → AreLinked t → ((n : ℕ) → lists_of t n ≡ lists_of s n) → ((j : BucketId) → ring_at t j ≡ ring_at s j) → IsKept (ring_at s) (lists_of s) next
+      → IsKept (ring_at t) (lists_of t) next
   kept_same s t next linked lists places kept = kept_still s t next linked (λ j h. sym (ap is_some (places j)) ∙ h) (λ r h. sym (ap is_some (lists r)) ∙ h) kept
 
   -- a ring is new
-  pub kept_ring : (s t : Links T N g) (next : ℕ) → AreLinked t → ((n : ℕ) → lists_of t n ≡ upd (lists_of s) next (Some []) n) → ((j : BucketId) → ring_at t j ≡ ring_at s j) → next < 2 ^ 64 - 1 → IsKept (ring_at s) (lists_of s) next → IsKept (ring_at t) (lists_of t) (next + 1)
+  pub kept_ring : (s t : Links T N g) (next : ℕ) → AreLinked t → ((n : ℕ) → lists_of t n ≡ upd (lists_of s) next (Some []) n) → ((j : BucketId) → ring_at t j ≡ ring_at s j) → next < 2 ^ 64 - 1
+      → IsKept (ring_at s) (lists_of s) next → IsKept (ring_at t) (lists_of t) (next + 1)
   kept_ring s t next linked lists places unspent kept = record {
     counted = links_counted t linked;
     young = λ j h. let young : j.birth < next = kept.young j (sym (ap is_some (places j)) ∙ h) in omega arith;
@@ -207,7 +223,8 @@ module _ {T N : Type 0} {g : Ghosts N T} where
   }
 
   -- a bucket is new
-  module _ (s t : Links T N g) (next r : ℕ) (id : BucketId) (linked : AreLinked t) (was_ring : (n : ℕ) → is_some (lists_of t n) ≡ true → is_some (lists_of s n) ≡ true) (at_new : (j : BucketId) → ring_at t j ≡ (if same id j then Some r else ring_at s j))
+  module _ (s t : Links T N g) (next r : ℕ) (id : BucketId) (linked : AreLinked t) (was_ring : (n : ℕ) → is_some (lists_of t n) ≡ true → is_some (lists_of s n) ≡ true)
+      (at_new : (j : BucketId) → ring_at t j ≡ (if same id j then Some r else ring_at s j))
       (kept : IsKept (ring_at s) (lists_of s) next) (birth : id.birth ≡ next) (unspent : next < 2 ^ 64 - 1) where
     old_or_new : (j : BucketId) → is_some (ring_at t j) ≡ true → (same id j ≡ true) ⊎ (is_some (ring_at s j) ≡ true)
     old_or_new j h = was_put id r (ring_at s) (ring_at t) at_new j h

@@ -20,7 +20,8 @@ use Rattle.bucket_ring.proofs.Shown.{listed_append, listed_same}
 use Rattle.bucket_ring.proofs.Read.{nothing_there, around_of, head_of_bucket}
 
 -- no ring at all
-pub none_linked : (f b : ℕ → ℕ) (mark at : ℕ → Option ℕ) (heads : ℕ → Option RingHead) → ((k : ℕ) → f k ≡ k) → ((k : ℕ) → b k ≡ k) → ((k : ℕ) → at k ≡ None) → ((r : ℕ) → heads r ≡ None) → SlotsLinked f b mark at heads
+pub none_linked : (f b : ℕ → ℕ) (mark at : ℕ → Option ℕ) (heads : ℕ → Option RingHead) → ((k : ℕ) → f k ≡ k) → ((k : ℕ) → b k ≡ k) → ((k : ℕ) → at k ≡ None) → ((r : ℕ) → heads r ≡ None)
+    → SlotsLinked f b mark at heads
 none_linked f b mark at heads e_f e_b e_at none = record {
   back = λ k. e_b (f k) ∙ e_f k;
   forth = λ k. e_f (b k) ∙ e_b k;
@@ -35,7 +36,8 @@ none_linked f b mark at heads e_f e_b e_at none = record {
 
 module _ (f b : ℕ → ℕ) (mark mark2 at : ℕ → Option ℕ) (heads heads2 : ℕ → Option RingHead) (q : ℕ) (linked : SlotsLinked f b mark at heads) where
   -- a ring comes, whose sentinel leads to itself
-  pub ring_comes : (s : ℕ) → heads q ≡ None → ((n : ℕ) → heads2 n ≡ upd heads q (Some (record { sentinel = s; count = 0 })) n) → f s ≡ s → mark s ≡ None → at s ≡ None → ((j : ℕ) → mark2 j ≡ upd mark s (Some q) j) → SlotsLinked f b mark2 at heads2
+  pub ring_comes : (s : ℕ) → heads q ≡ None → ((n : ℕ) → heads2 n ≡ upd heads q (Some (record { sentinel = s; count = 0 })) n) → f s ≡ s → mark s ≡ None → at s ≡ None
+      → ((j : ℕ) → mark2 j ≡ upd mark s (Some q) j) → SlotsLinked f b mark2 at heads2
   ring_comes s none heads_new loose unmarked nowhere marks = record {
     back = linked.back;
     forth = linked.forth;
@@ -45,7 +47,8 @@ module _ (f b : ℕ → ℕ) (mark mark2 at : ℕ → Option ℕ) (heads heads2 
     apart = by_ring (λ n g. at g.sentinel ≡ None) nowhere (λ n g e. linked.apart n g e);
     few = by_ring (λ n g. g.count < 2 ^ 64) (omega arith) (λ n g e. linked.few n g e);
     counted = λ k r. elim (cases_eq r q) [
-      | inl e ↦ rw e (ap (λ (o : Option RingHead). count k (slots f o)) (heads_new q ∙ upd_on heads q (Some (record { sentinel = s; count = 0 }))) ∙ sym (ap (λ (o : Option RingHead). count k (slots f o)) none) ∙ linked.counted k q)
+      | inl e ↦ rw e (ap (λ (o : Option RingHead). count k (slots f o)) (heads_new q ∙ upd_on heads q (Some (record { sentinel = s; count = 0 })))
+          ∙ sym (ap (λ (o : Option RingHead). count k (slots f o)) none) ∙ linked.counted k q)
       | inr ne ↦ ap (λ (o : Option RingHead). count k (slots f o)) (heads_new r ∙ upd_off heads q (Some (record { sentinel = s; count = 0 })) r ne) ∙ linked.counted k r
     ];
   } where
@@ -68,7 +71,8 @@ module _ (f b : ℕ → ℕ) (mark mark2 at : ℕ → Option ℕ) (heads heads2 
     apart = λ n g e. linked.apart n g (was n g e).0;
     few = λ n g e. linked.few n g (was n g e).0;
     counted = λ k r. elim (cases_eq r q) [
-      | inl e ↦ rw e (ap (λ (o : Option RingHead). count k (slots f o)) (heads_new q ∙ upd_on heads q None) ∙ sym (ap (λ (o : Option RingHead). count k (slots f o)) head ∙ empty k) ∙ linked.counted k q)
+      | inl e ↦ rw e (ap (λ (o : Option RingHead). count k (slots f o)) (heads_new q ∙ upd_on heads q None) ∙ sym (ap (λ (o : Option RingHead). count k (slots f o)) head ∙ empty k)
+          ∙ linked.counted k q)
       | inr ne ↦ ap (λ (o : Option RingHead). count k (slots f o)) (heads_new r ∙ upd_off heads q None r ne) ∙ linked.counted k r
     ];
   } where
@@ -87,8 +91,10 @@ module _ {T : Type 0} where
       → lists_by f bucket heads2 n ≡ upd (lists_by f bucket heads) q (option_map (λ (h : RingHead). listed bucket (slots f (Some h))) o) n
   heads_on f bucket heads heads2 q o heads_new n =
       elim (cases_eq n q) [
-        | inl e ↦ rw e (ap (option_map (λ (h : RingHead). listed bucket (slots f (Some h)))) (heads_new q ∙ upd_on heads q o) ∙ sym (upd_on (lists_by f bucket heads) q (option_map (λ (h : RingHead). listed bucket (slots f (Some h))) o)))
-        | inr ne ↦ ap (option_map (λ (h : RingHead). listed bucket (slots f (Some h)))) (heads_new n ∙ upd_off heads q o n ne) ∙ sym (upd_off (lists_by f bucket heads) q (option_map (λ (h : RingHead). listed bucket (slots f (Some h))) o) n ne)
+        | inl e ↦ rw e (ap (option_map (λ (h : RingHead). listed bucket (slots f (Some h)))) (heads_new q ∙ upd_on heads q o)
+            ∙ sym (upd_on (lists_by f bucket heads) q (option_map (λ (h : RingHead). listed bucket (slots f (Some h))) o)))
+        | inr ne ↦ ap (option_map (λ (h : RingHead). listed bucket (slots f (Some h)))) (heads_new n ∙ upd_off heads q o n ne)
+            ∙ sym (upd_off (lists_by f bucket heads) q (option_map (λ (h : RingHead). listed bucket (slots f (Some h))) o) n ne)
       ]
 
 module _ {T N : Type 0} {g : Ghosts N T} where
@@ -111,7 +117,8 @@ module _ {T N : Type 0} {g : Ghosts N T} where
       → lists_of t n ≡ upd (lists_of s) q (option_map (λ (h : RingHead). listed (bucket_of s) (slots (behind_of s) (Some h))) o) n
   unfolding lists_of
   head_lists s t q o links bucket heads n =
-      ap (λ (x : ℕ → ℕ). lists_by x (bucket_of t) (head_of t) n) (fun_ext links.behind) ∙ ap (λ (x : ℕ → Option (BucketId × T)). lists_by (behind_of s) x (head_of t) n) (fun_ext bucket) ∙ heads_on (behind_of s) (bucket_of s) (head_of s) (head_of t) q o heads n
+      ap (λ (x : ℕ → ℕ). lists_by x (bucket_of t) (head_of t) n) (fun_ext links.behind) ∙ ap (λ (x : ℕ → Option (BucketId × T)). lists_by (behind_of s) x (head_of t) n) (fun_ext bucket)
+      ∙ heads_on (behind_of s) (bucket_of s) (head_of s) (head_of t) q o heads n
 
   pub same_places : (s t : Links T N g) → ((j : ℕ) → at_of t j ≡ at_of s j) → ((j : ℕ) → bucket_of t j ≡ bucket_of s j) → (id : BucketId) → ring_at t id ≡ ring_at s id
   unfolding ring_at
@@ -136,7 +143,8 @@ module _ {T N : Type 0} {g : Ghosts N T} where
     one : (h : RingHead) → head_of s r ≡ Some h → listed (bucket_of t) (slots (behind_of s) (Some h)) ≡ with_payload id x (listed (bucket_of s) (slots (behind_of s) (Some h)))
     one h e =
         let w = around_of s linked id r h e in_r in
-        let all : count id.slot w.1 + count id.slot (id.slot ∷ w.2) ≡ 1 = sym (count_append id.slot w.1 (id.slot ∷ w.2)) ∙ ap (count id.slot) (sym w.6) ∙ own_ring (behind_of s) (before_of s) (mark_of s) (at_of s) (head_of s) linked id.slot r h e w.5 in
+        let all : count id.slot w.1 + count id.slot (id.slot ∷ w.2) ≡ 1 =
+        sym (count_append id.slot w.1 (id.slot ∷ w.2)) ∙ ap (count id.slot) (sym w.6) ∙ own_ring (behind_of s) (before_of s) (mark_of s) (at_of s) (head_of s) linked id.slot r h e w.5 in
         let none : count id.slot w.2 ≡ 0 = omega (arith, all, count_here id.slot w.2) in
         let is : bucket_of t id.slot ≡ Some (id, x) = here ∙ ap (option_map (λ (b : BucketId × T). (b.0, x))) w.3 ∙ ap (λ (i : BucketId). Some (i, x)) (same_name w.0.0 id w.4) in
         ap (listed (bucket_of t)) w.6 ∙ listed_append (bucket_of t) w.1 (id.slot ∷ w.2)
@@ -147,12 +155,14 @@ module _ {T N : Type 0} {g : Ghosts N T} where
         ∙ ap (λ (bs : List (BucketId × T)). listed (bucket_of s) w.1 ++ (id, x) ∷ [] ++ drop 1 bs) w.9
         ∙ append_assoc (listed (bucket_of s) w.1) ((id, x) ∷ []) (listed (bucket_of s) w.2))
 
-    other : (n : ℕ) → n ≢ r → (o : Option RingHead) → head_of s n ≡ o → option_map (λ (h : RingHead). listed (bucket_of t) (slots (behind_of s) (Some h))) o ≡ option_map (λ (h : RingHead). listed (bucket_of s) (slots (behind_of s) (Some h))) o
+    other : (n : ℕ) → n ≢ r → (o : Option RingHead) → head_of s n ≡ o
+        → option_map (λ (h : RingHead). listed (bucket_of t) (slots (behind_of s) (Some h))) o ≡ option_map (λ (h : RingHead). listed (bucket_of s) (slots (behind_of s) (Some h))) o
     other n ne None e = refl
     other n ne (Some h) e =
         let g = head_of_bucket s linked id r in_r in
         let w = around_of s linked id r g.0 g.1 in_r in
-        ap Some (listed_same (bucket_of s) (bucket_of t) id.slot (slots (behind_of s) (Some h)) off (other_ring (behind_of s) (before_of s) (mark_of s) (at_of s) (head_of s) linked id.slot r n h e w.5 ne))
+        ap Some (listed_same (bucket_of s) (bucket_of t) id.slot (slots (behind_of s) (Some h)) off
+        (other_ring (behind_of s) (before_of s) (mark_of s) (at_of s) (head_of s) linked id.slot r n h e w.5 ne))
 
     pub payload_lists : (n : ℕ) → lists_of t n ≡ on r (with_payload id x) (lists_of s) n
     unfolding lists_of
@@ -161,9 +171,11 @@ module _ {T N : Type 0} {g : Ghosts N T} where
         ∙ elim (cases_eq n r) [
           | inl e ↦
               let g = head_of_bucket s linked id r in_r in
-              rw e (ap (option_map (λ (h : RingHead). listed (bucket_of t) (slots (behind_of s) (Some h)))) g.1 ∙ ap Some (one g.0 g.1) ∙ sym (upd_on (lists_by (behind_of s) (bucket_of s) (head_of s)) r (option_map (with_payload id x) (lists_by (behind_of s) (bucket_of s) (head_of s) r))
+              rw e (ap (option_map (λ (h : RingHead). listed (bucket_of t) (slots (behind_of s) (Some h)))) g.1 ∙ ap Some (one g.0 g.1)
+              ∙ sym (upd_on (lists_by (behind_of s) (bucket_of s) (head_of s)) r (option_map (with_payload id x) (lists_by (behind_of s) (bucket_of s) (head_of s) r))
               ∙ ap (λ (o : Option RingHead). option_map (with_payload id x) (option_map (λ (h : RingHead). listed (bucket_of s) (slots (behind_of s) (Some h))) o)) g.1))
-          | inr ne ↦ other n ne (head_of s n) refl ∙ sym (upd_off (lists_by (behind_of s) (bucket_of s) (head_of s)) r (option_map (with_payload id x) (lists_by (behind_of s) (bucket_of s) (head_of s) r)) n ne)
+          | inr ne ↦ other n ne (head_of s n) refl
+              ∙ sym (upd_off (lists_by (behind_of s) (bucket_of s) (head_of s)) r (option_map (with_payload id x) (lists_by (behind_of s) (bucket_of s) (head_of s) r)) n ne)
         ]
 
     pub payload_places : (j : BucketId) → ring_at t j ≡ ring_at s j
@@ -171,7 +183,8 @@ module _ {T N : Type 0} {g : Ghosts N T} where
     payload_places j =
         ap (λ (f : ℕ → Option ℕ). ring_named (bucket_of t) f j) (fun_ext at)
         ∙ elim (cases_eq j.slot id.slot) [
-          | inl e ↦ ap (λ (b : Bool). if b then at_of s j.slot else None) (ap (λ (k : ℕ). is_named j (bucket_of t k)) e ∙ ap (is_named j) here ∙ go (bucket_of s id.slot) ∙ sym (ap (λ (k : ℕ). is_named j (bucket_of s k)) e))
+          | inl e ↦ ap (λ (b : Bool). if b then at_of s j.slot else None)
+              (ap (λ (k : ℕ). is_named j (bucket_of t k)) e ∙ ap (is_named j) here ∙ go (bucket_of s id.slot) ∙ sym (ap (λ (k : ℕ). is_named j (bucket_of s k)) e))
           | inr ne ↦ ap (λ (o : Option (BucketId × T)). if is_named j o then at_of s j.slot else None) (off j.slot ne)
         ] where
           go : (o : Option (BucketId × T)) → is_named j (option_map (λ (b : BucketId × T). (b.0, x)) o) ≡ is_named j o

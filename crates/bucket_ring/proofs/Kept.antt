@@ -12,7 +12,8 @@ use Rattle.bucket_ring.specs.declared.links.Links.{Links}
 use Rattle.bucket_ring.specs.declared.slots.Slots.{Ghosts}
 use Rattle.bucket_ring.specs.Lists.{upd, list_at}
 use Rattle.bucket_ring.specs.Walks.{slots, turned}
-use Rattle.bucket_ring.specs.Links.{listed, IsShown, with_name, named_in, sentinel_ring, bucket_ring, behind_of, before_of, mark_of, at_of, bucket_of, head_of, lists_of, AreLinked, Changed, KeepsLinks, KeepsBuckets, KeepsRoom, Relinked, Refilled}
+use Rattle.bucket_ring.specs.Links.{listed, IsShown, with_name, named_in, sentinel_ring, bucket_ring, behind_of, before_of, mark_of, at_of, bucket_of, head_of, lists_of, AreLinked, Changed}
+use Rattle.bucket_ring.specs.Links.{KeepsLinks, KeepsBuckets, KeepsRoom, Relinked, Refilled}
 use Rattle.bucket_ring.proofs.Counted.{upd_on, upd_off}
 use Rattle.bucket_ring.proofs.Shown.{ring_length}
 use Rattle.bucket_ring.proofs.Rewritten.{read_there}
@@ -26,7 +27,8 @@ upd_as r x n f g e =
 
 pub turned_same : (f f2 b b2 : ℕ → ℕ) (a k j : ℕ) → ((i : ℕ) → f2 i ≡ f i) → ((i : ℕ) → b2 i ≡ b i) → turned f2 b2 a k j ≡ turned f b a k j
 turned_same f f2 b b2 a k j e_f e_b =
-    ap (λ (n : ℕ). if j == k then a else if j == b2 a then f2 k else n) (e_f j) ∙ ap (λ (n : ℕ). if j == k then a else if j == n then f2 k else f j) (e_b a) ∙ ap (λ (n : ℕ). if j == k then a else if j == b a then n else f j) (e_f k)
+    ap (λ (n : ℕ). if j == k then a else if j == b2 a then f2 k else n) (e_f j) ∙ ap (λ (n : ℕ). if j == k then a else if j == n then f2 k else f j) (e_b a)
+    ∙ ap (λ (n : ℕ). if j == k then a else if j == b a then n else f j) (e_f k)
 
 module _ {T N : Type 0} {g : Ghosts N T} where
   pub room_twice : (a b c : Links T N g) → KeepsRoom a b → KeepsRoom b c → KeepsRoom a c

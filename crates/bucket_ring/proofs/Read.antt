@@ -18,7 +18,8 @@ use Rattle.bucket_ring.proofs.Parted.{parted, on_spot}
 use Rattle.bucket_ring.proofs.Kept.{shown_of, there_at, there_mark}
 
 -- links that are the same in all but marks of slots that are no sentinels
-pub linked_as : (f f2 b b2 : ℕ → ℕ) (mark mark2 at at2 : ℕ → Option ℕ) (heads heads2 : ℕ → Option RingHead) → f2 ≡ f → b2 ≡ b → at2 ≡ at → heads2 ≡ heads → ((r : ℕ) (h : RingHead) → heads r ≡ Some h → mark2 h.sentinel ≡ mark h.sentinel) → SlotsLinked f b mark at heads → SlotsLinked f2 b2 mark2 at2 heads2
+pub linked_as : (f f2 b b2 : ℕ → ℕ) (mark mark2 at at2 : ℕ → Option ℕ) (heads heads2 : ℕ → Option RingHead) → f2 ≡ f → b2 ≡ b → at2 ≡ at → heads2 ≡ heads
+    → ((r : ℕ) (h : RingHead) → heads r ≡ Some h → mark2 h.sentinel ≡ mark h.sentinel) → SlotsLinked f b mark at heads → SlotsLinked f2 b2 mark2 at2 heads2
 linked_as f f2 b b2 mark mark2 at at2 heads heads2 e_f e_b e_at e_heads marks linked =
     subst (λ (x : ℕ → ℕ). SlotsLinked x b2 mark2 at2 heads2) (sym e_f)
     (subst (λ (x : ℕ → ℕ). SlotsLinked f x mark2 at2 heads2) (sym e_b)
@@ -37,14 +38,16 @@ module _ {T N : Type 0} {g : Ghosts N T} where
   module _ (s : Links T N g) (linked : AreLinked s) where
     read_ring : (r : ℕ) (h : RingHead) → head_of s r ≡ Some h → list_at (lists_of s) r ≡ listed (bucket_of s) (slots (behind_of s) (Some h))
     unfolding lists_of
-    read_ring r h e = list_here (bucket_of s) (mark_of s) (at_of s) (shown_of s) (behind_of s) (before_of s) (head_of s) linked r ∙ ap (λ (o : Option RingHead). listed (bucket_of s) (slots (behind_of s) o)) e
+    read_ring r h e = list_here (bucket_of s) (mark_of s) (at_of s) (shown_of s) (behind_of s) (before_of s) (head_of s) linked r
+        ∙ ap (λ (o : Option RingHead). listed (bucket_of s) (slots (behind_of s) o)) e
 
     within : (r : ℕ) (h : RingHead) → head_of s r ≡ Some h → (j : ℕ) → count j (slots (behind_of s) (Some h)) ≤ once_in r (at_of s j)
     within r h e j = omega (arith, counted_in (behind_of s) (before_of s) (mark_of s) (at_of s) (head_of s) linked j r h e)
 
     pub first_is : (r : ℕ) (h : RingHead) → head_of s r ≡ Some h → first_of (list_at (lists_of s) r) ≡ option_map (λ (b : BucketId × T). b.0) (bucket_of s (behind_of s h.sentinel))
     first_is r h e =
-        ap first_of (read_ring r h e) ∙ first_listed (bucket_of s) (mark_of s) (at_of s) (shown_of s) (behind_of s) (before_of s) (head_of s) linked (behind_of s h.sentinel) (slots (behind_of s) (Some h)) r h e (within r h e)
+        ap first_of (read_ring r h e) ∙ first_listed (bucket_of s) (mark_of s) (at_of s) (shown_of s) (behind_of s) (before_of s) (head_of s) linked (behind_of s h.sentinel)
+        (slots (behind_of s) (Some h)) r h e (within r h e)
         (ring_walk (behind_of s) (before_of s) (mark_of s) (at_of s) (head_of s) linked r h e)
 
     -- where a bucket lies, and the head of its ring
@@ -56,7 +59,8 @@ module _ {T N : Type 0} {g : Ghosts N T} where
     head_of_bucket id r e = head_is (head_of s r) (head_there (behind_of s) (before_of s) (mark_of s) (at_of s) (head_of s) linked id.slot r (place_of id r e).3)
 
     pub around_of : (id : BucketId) (r : ℕ) (h : RingHead) → head_of s r ≡ Some h → ring_at s id ≡ Some r
-        → (c : BucketId × T) × (xs : List ℕ) × (ys : List ℕ) × (bucket_of s id.slot ≡ Some c) × (same c.0 id ≡ true) × (at_of s id.slot ≡ Some r) × (slots (behind_of s) (Some h) ≡ xs ++ id.slot ∷ ys) × (count id.slot xs ≡ 0)
+        → (c : BucketId × T) × (xs : List ℕ) × (ys : List ℕ) × (bucket_of s id.slot ≡ Some c) × (same c.0 id ≡ true) × (at_of s id.slot ≡ Some r)
+        × (slots (behind_of s) (Some h) ≡ xs ++ id.slot ∷ ys) × (count id.slot xs ≡ 0)
         × (front id (listed (bucket_of s) (slots (behind_of s) (Some h))) ≡ listed (bucket_of s) xs) × (rest id (listed (bucket_of s) (slots (behind_of s) (Some h))) ≡ c ∷ listed (bucket_of s) ys)
     unfolding ring_at
     around_of id r h e in_r = stands_in (bucket_of s) (mark_of s) (at_of s) (shown_of s) (behind_of s) (before_of s) (head_of s) linked id r h e in_r
@@ -65,10 +69,12 @@ module _ {T N : Type 0} {g : Ghosts N T} where
     next_is id r in_r =
         let h = head_of_bucket id r in_r in
         let w = around_of id r h.0 h.1 in_r in
-        let walk : Walk (behind_of s) (behind_of s h.0.sentinel) (w.1 ++ id.slot ∷ w.2) h.0.sentinel = subst (λ (ks : List ℕ). Walk (behind_of s) (behind_of s h.0.sentinel) ks h.0.sentinel) w.6 (ring_walk (behind_of s) (before_of s) (mark_of s) (at_of s) (head_of s) linked r h.0 h.1) in
+        let walk : Walk (behind_of s) (behind_of s h.0.sentinel) (w.1 ++ id.slot ∷ w.2) h.0.sentinel =
+        subst (λ (ks : List ℕ). Walk (behind_of s) (behind_of s h.0.sentinel) ks h.0.sentinel) w.6 (ring_walk (behind_of s) (before_of s) (mark_of s) (at_of s) (head_of s) linked r h.0 h.1) in
         ap (λ (bs : List (BucketId × T)). first_of (drop 1 (rest id bs))) (read_ring r h.0 h.1) ∙ ap (λ (bs : List (BucketId × T)). first_of (drop 1 bs)) w.9
         ∙ first_listed (bucket_of s) (mark_of s) (at_of s) (shown_of s) (behind_of s) (before_of s) (head_of s) linked (behind_of s id.slot) w.2 r h.0 h.1
-        (λ j. omega (arith, within r h.0 h.1 j, ap (count j) w.6, count_append j w.1 (id.slot ∷ w.2), count_fewer id.slot j w.2)) (walk_apart (behind_of s) (behind_of s h.0.sentinel) w.1 id.slot w.2 h.0.sentinel walk).1
+        (λ j. omega (arith, within r h.0 h.1 j, ap (count j) w.6, count_append j w.1 (id.slot ∷ w.2), count_fewer id.slot j w.2))
+        (walk_apart (behind_of s) (behind_of s h.0.sentinel) w.1 id.slot w.2 h.0.sentinel walk).1
 
     pub payload_is : (id : BucketId) (r : ℕ) → ring_at s id ≡ Some r → found id (list_at (lists_of s) r) ≡ option_map (λ (b : BucketId × T). b.1) (bucket_of s id.slot)
     payload_is id r in_r =
@@ -87,15 +93,18 @@ module _ {T N : Type 0} {g : Ghosts N T} where
         ]
 
   -- nothing that is read changes
-  pub same_all : (s t : Links T N g) → KeepsLinks s t → ((j : ℕ) → at_of t j ≡ at_of s j) → ((j : ℕ) → bucket_of t j ≡ bucket_of s j) → ((n : ℕ) → head_of t n ≡ head_of s n) → ((r : ℕ) (h : RingHead) → head_of s r ≡ Some h → mark_of t h.sentinel ≡ mark_of s h.sentinel) → AreLinked s
+  pub same_all : (s t : Links T N g) → KeepsLinks s t → ((j : ℕ) → at_of t j ≡ at_of s j) → ((j : ℕ) → bucket_of t j ≡ bucket_of s j) → ((n : ℕ) → head_of t n ≡ head_of s n)
+      → ((r : ℕ) (h : RingHead) → head_of s r ≡ Some h → mark_of t h.sentinel ≡ mark_of s h.sentinel) → AreLinked s
       → AreLinked t × ((n : ℕ) → lists_of t n ≡ lists_of s n) × ((id : BucketId) → ring_at t id ≡ ring_at s id)
   unfolding lists_of ring_at
   same_all s t links at bucket heads marks linked =
       let f = fun_ext links.behind in
       let e_heads = fun_ext heads in
       let e_bucket = fun_ext bucket in (
-        linked_as (behind_of s) (behind_of t) (before_of s) (before_of t) (mark_of s) (mark_of t) (at_of s) (at_of t) (head_of s) (head_of t) f (fun_ext links.before) (fun_ext at) e_heads marks linked,
-        λ n. ap (λ (x : ℕ → ℕ). lists_by x (bucket_of t) (head_of t) n) f ∙ ap (λ (x : ℕ → Option (BucketId × T)). lists_by (behind_of s) x (head_of t) n) e_bucket ∙ ap (λ (x : ℕ → Option RingHead). lists_by (behind_of s) (bucket_of s) x n) e_heads,
+        linked_as (behind_of s) (behind_of t) (before_of s) (before_of t) (mark_of s) (mark_of t) (at_of s) (at_of t) (head_of s) (head_of t) f (fun_ext links.before)
+            (fun_ext at) e_heads marks linked,
+        λ n. ap (λ (x : ℕ → ℕ). lists_by x (bucket_of t) (head_of t) n) f ∙ ap (λ (x : ℕ → Option (BucketId × T)). lists_by (behind_of s) x (head_of t) n) e_bucket
+            ∙ ap (λ (x : ℕ → Option RingHead). lists_by (behind_of s) (bucket_of s) x n) e_heads,
         λ id. ap (λ (x : ℕ → Option (BucketId × T)). ring_named x (at_of t) id) e_bucket ∙ ap (λ (x : ℕ → Option ℕ). ring_named (bucket_of s) x id) (fun_ext at),
       )
 
@@ -115,10 +124,13 @@ module _ {T N : Type 0} {g : Ghosts N T} where
     go None e = refl
     go (Some b) e = cc
 
-  pub linked_by : (s t : Links T N g) → KeepsLinks s t → ((j : ℕ) → at_of t j ≡ at_of s j) → ((n : ℕ) → head_of t n ≡ head_of s n) → ((r : ℕ) (h : RingHead) → head_of s r ≡ Some h → mark_of t h.sentinel ≡ mark_of s h.sentinel) → AreLinked s → AreLinked t
+  pub linked_by : (s t : Links T N g) → KeepsLinks s t → ((j : ℕ) → at_of t j ≡ at_of s j) → ((n : ℕ) → head_of t n ≡ head_of s n)
+      → ((r : ℕ) (h : RingHead) → head_of s r ≡ Some h → mark_of t h.sentinel ≡ mark_of s h.sentinel) → AreLinked s → AreLinked t
   linked_by s t links at heads marks linked =
-      linked_as (behind_of s) (behind_of t) (before_of s) (before_of t) (mark_of s) (mark_of t) (at_of s) (at_of t) (head_of s) (head_of t) (fun_ext links.behind) (fun_ext links.before) (fun_ext at) (fun_ext heads) marks linked
+      linked_as (behind_of s) (behind_of t) (before_of s) (before_of t) (mark_of s) (mark_of t) (at_of s) (at_of t) (head_of s) (head_of t) (fun_ext links.behind) (fun_ext links.before)
+      (fun_ext at) (fun_ext heads) marks linked
 
   pub linked_as_new : (s t : Links T N g) → KeepsLinks s t → ((j : ℕ) → at_of t j ≡ at_of s j) → SlotsLinked (behind_of s) (before_of s) (mark_of t) (at_of s) (head_of t) → AreLinked t
   linked_as_new s t links at linked =
-      linked_as (behind_of s) (behind_of t) (before_of s) (before_of t) (mark_of t) (mark_of t) (at_of s) (at_of t) (head_of t) (head_of t) (fun_ext links.behind) (fun_ext links.before) (fun_ext at) refl (λ r h e. refl) linked
+      linked_as (behind_of s) (behind_of t) (before_of s) (before_of t) (mark_of t) (mark_of t) (at_of s) (at_of t) (head_of t) (head_of t) (fun_ext links.behind) (fun_ext links.before)
+      (fun_ext at) refl (λ r h e. refl) linked

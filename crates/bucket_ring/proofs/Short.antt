@@ -59,15 +59,18 @@ module _ {T : Type 0} where
 
   -- a ring
   pub short : (at : BucketId → Option ℕ) (lists : ℕ → Option (List (BucketId × T))) (next r : ℕ) → IsKept at lists next → length (list_at lists r) ≤ next
-  short at lists next r kept = fewer_than_names next (list_at lists r) (λ i. rw (kept.counted i r) (once_most r (at i))) (λ i j hi hj e. kept.births i j (there i hi) (there j hj) e) (λ i h. kept.young i (there i h)) where
-    there : (i : BucketId) → 0 < times i (list_at lists r) → is_some (at i) ≡ true
-    there i h = ap is_some (in_found at lists next kept i r (times_found i (list_at lists r) h))
+  short at lists next r kept =
+      fewer_than_names next (list_at lists r) (λ i. rw (kept.counted i r) (once_most r (at i))) (λ i j hi hj e. kept.births i j (there i hi) (there j hj) e) (λ i h. kept.young i (there i h)) where
+        there : (i : BucketId) → 0 < times i (list_at lists r) → is_some (at i) ≡ true
+        there i h = ap is_some (in_found at lists next kept i r (times_found i (list_at lists r) h))
 
   -- a ring that does not have a bucket, with that bucket: mid and lists2 are without it
-  pub short_with : (at mid : BucketId → Option ℕ) (lists lists2 : ℕ → Option (List (BucketId × T))) (next r : ℕ) (id : BucketId) (x : T) → IsKept at lists next → is_some (at id) ≡ true → ((j : BucketId) → mid j ≡ (if same id j then None else at j))
+  pub short_with : (at mid : BucketId → Option ℕ) (lists lists2 : ℕ → Option (List (BucketId × T))) (next r : ℕ) (id : BucketId) (x : T) → IsKept at lists next → is_some (at id) ≡ true
+      → ((j : BucketId) → mid j ≡ (if same id j then None else at j))
       → ((j : BucketId) → times j (list_at lists2 r) ≡ once_in r (mid j)) → length (list_at lists2 r) + 1 ≤ next
   short_with at mid lists lists2 next r id x kept there without counted =
-      let all : length ((id, x) ∷ list_at lists2 r) ≤ next = fewer_than_names next ((id, x) ∷ list_at lists2 r) once (λ i j hi hj e. kept.births i j (is_there i hi) (is_there j hj) e) (λ i h. kept.young i (is_there i h)) in
+      let all : length ((id, x) ∷ list_at lists2 r) ≤ next =
+      fewer_than_names next ((id, x) ∷ list_at lists2 r) once (λ i j hi hj e. kept.births i j (is_there i hi) (is_there j hj) e) (λ i h. kept.young i (is_there i h)) in
       omega arith where
         is_left : (i : BucketId) (b : Bool) → mid i ≡ (if b then None else at i) → 0 < once_in r (mid i) → is_some (at i) ≡ true
         is_left i true e h = absurd (let none : once_in r (mid i) ≡ 0 = ap (once_in r) e in omega arith)

@@ -53,7 +53,8 @@ pub numbers_below : {X : Type 0} (f : X → Option ℕ) (n : ℕ) (xs : List X) 
 numbers_below f n [] h = λ k d lt. absurd (omega arith)
 numbers_below f n (x ∷ xs) h = one (f x) refl (numbers_below f n xs) h
   where
-    one : (o : Option ℕ) → f x ≡ o → (AllBelow n (filter_map f xs) → All (λ y. IfSome (f y) (λ t. t < n)) xs) → AllBelow n (cons_option o (filter_map f xs)) → All (λ y. IfSome (f y) (λ t. t < n)) (x ∷ xs)
+    one : (o : Option ℕ) → f x ≡ o → (AllBelow n (filter_map f xs) → All (λ y. IfSome (f y) (λ t. t < n)) xs) → AllBelow n (cons_option o (filter_map f xs))
+        → All (λ y. IfSome (f y) (λ t. t < n)) (x ∷ xs)
     one None q more h = all_cons (λ y. IfSome (f y) (λ t. t < n)) x xs (rw q tt) (more h)
     one (Some t) q more h = all_cons (λ y. IfSome (f y) (λ t. t < n)) x xs (rw q h.0) (more h.1)
 

@@ -1,5 +1,6 @@
 -- A constant is read as its decimal digits say, and no other digits spell it.
-use Rattle.std.proofs.Common.{◌≡◌, ℕ, ◌+◌, ◌-◌, ◌*◌, ◌/◌, ◌%◌, ◌^◌, ◌<◌, ◌≤◌, Bool, true, false, ◌&&◌, not, cond, eqb, leb, ltb, List, [], ◌∷◌, ◌++◌, Option, Some, None, refl, sym, ◌∙◌, ap, subst, arith, append_assoc, append-nil, inl, inr, ◌⊎◌}
+use Rattle.std.proofs.Common.{◌≡◌, ℕ, ◌+◌, ◌-◌, ◌*◌, ◌/◌, ◌%◌, ◌^◌, ◌<◌, ◌≤◌, Bool, true, false, ◌&&◌, not, cond, eqb, leb, ltb, List, [], ◌∷◌, ◌++◌, Option, Some, None, refl, sym, ◌∙◌, ap, subst}
+use Rattle.std.proofs.Common.{arith, append_assoc, append-nil, inl, inr, ◌⊎◌}
 use Rattle.std.specs.Prelude.{decimal}
 use Rattle.std.specs.List.{list_all}
 use Rattle.std.specs.Option.{option_and_then}
@@ -44,7 +45,8 @@ from_push [] n m b h = let e : n ≡ m = cc h in same (with_digit (2 ^ 32) n b) 
     same (Some x) = refl
 from_push (d ∷ ds) n m b h = next (with_digit (2 ^ 32) n d) (λ x. from_push ds x m b) h
   where
-    next : (o : Option ℕ) → ((x : ℕ) → decimal_from (2 ^ 32) x ds ≡ Some m → decimal_from (2 ^ 32) x (ds ++ b ∷ []) ≡ with_digit (2 ^ 32) m b) → option_and_then (λ x. decimal_from (2 ^ 32) x ds) o ≡ Some m → option_and_then (λ x. decimal_from (2 ^ 32) x (ds ++ b ∷ [])) o ≡ with_digit (2 ^ 32) m b
+    next : (o : Option ℕ) → ((x : ℕ) → decimal_from (2 ^ 32) x ds ≡ Some m → decimal_from (2 ^ 32) x (ds ++ b ∷ []) ≡ with_digit (2 ^ 32) m b)
+        → option_and_then (λ x. decimal_from (2 ^ 32) x ds) o ≡ Some m → option_and_then (λ x. decimal_from (2 ^ 32) x (ds ++ b ∷ [])) o ≡ with_digit (2 ^ 32) m b
     next None more h = absurd (cc h)
     next (Some x) more h = more x h
 
@@ -57,14 +59,18 @@ abbrev Leads : ℕ → List ℕ → Type 0
 Leads n ds = 0 < n → (b : ℕ) × (bs : List ℕ) × (ds ≡ b ∷ bs) × (eqb b 48 ≡ false)
 
 decimal_leads : (n : ℕ) → n < 2 ^ 64 → Leads n (decimal n)
-decimal_leads n low = decimal_by_steps Leads (λ m small some. (48 + m, [], refl, ne_eqb (48 + m) 48 (λ e. omega arith))) (λ m ds high h some. let z = h (omega arith) in (z.0, z.1 ++ (48 + m % 10) ∷ [], ap (λ xs. xs ++ (48 + m % 10) ∷ []) z.2, z.3)) n low
+decimal_leads n low = decimal_by_steps Leads (λ m small some. (48 + m, [], refl, ne_eqb (48 + m) 48 (λ e. omega arith)))
+    (λ m ds high h some. let z = h (omega arith) in (z.0, z.1 ++ (48 + m % 10) ∷ [], ap (λ xs. xs ++ (48 + m % 10) ∷ []) z.2, z.3)) n low
 
 decimal_canonical : (n : ℕ) → n < 2 ^ 64 → is_canonical (decimal n) ≡ true
-decimal_canonical n low = (decimal_by_steps (λ m ds. Leads m ds × (is_canonical ds ≡ true)) (λ m small. ((λ some. (48 + m, [], refl, ne_eqb (48 + m) 48 (λ e. omega arith))), refl)) (λ m ds high h. let z = h.0 (omega arith) in let last = (48 + m % 10) ∷ [] in ((λ some. (z.0, z.1 ++ last, ap (λ xs. xs ++ last) z.2, z.3)), subst (λ xs. is_canonical (xs ++ last) ≡ true) (sym z.2) (canonical_first z.0 (z.1 ++ last) z.3))) n low).1
+decimal_canonical n low = (decimal_by_steps (λ m ds. Leads m ds × (is_canonical ds ≡ true)) (λ m small. ((λ some. (48 + m, [], refl, ne_eqb (48 + m) 48 (λ e. omega arith))), refl))
+    (λ m ds high h. let z = h.0 (omega arith) in let last = (48 + m % 10) ∷ [] in
+    ((λ some. (z.0, z.1 ++ last, ap (λ xs. xs ++ last) z.2, z.3)), subst (λ xs. is_canonical (xs ++ last) ≡ true) (sym z.2) (canonical_first z.0 (z.1 ++ last) z.3))) n low).1
 
 decimal_read : (n : ℕ) → n < 2 ^ 64 → n < 2 ^ 32 → decimal_from (2 ^ 32) 0 (decimal n) ≡ Some n
 decimal_read n low =
-    decimal_by_steps (λ m ds. m < 2 ^ 32 → decimal_from (2 ^ 32) 0 ds ≡ Some m) (λ m small fits. ap (option_and_then (λ x. decimal_from (2 ^ 32) x [])) (digit_again 0 m m small (omega arith) fits)) (λ m ds high h fits. from_push ds 0 (m / 10) (48 + m % 10) (h (omega arith)) ∙ digit_again (m / 10) (m % 10) m (omega arith) (omega arith) fits) n low
+    decimal_by_steps (λ m ds. m < 2 ^ 32 → decimal_from (2 ^ 32) 0 ds ≡ Some m) (λ m small fits. ap (option_and_then (λ x. decimal_from (2 ^ 32) x [])) (digit_again 0 m m small (omega arith) fits))
+    (λ m ds high h fits. from_push ds 0 (m / 10) (48 + m % 10) (h (omega arith)) ∙ digit_again (m / 10) (m % 10) m (omega arith) (omega arith) fits) n low
 
 pub constant_again : (k : ℕ) → k < 2 ^ 32 → constant_of (decimal k) ≡ Some k
 unfolding constant_of decimal_below
@@ -75,7 +81,8 @@ grown : (bs : List ℕ) (n k : ℕ) → 0 < n → n < 2 ^ 32 → decimal_from (2
 grown [] n k some low h = let e : n ≡ k = cc h in (append-nil (decimal n) ∙ ap decimal e, omega (arith, e))
 grown (b ∷ bs) n k some low h = next (with_digit (2 ^ 32) n b) refl (λ m. grown bs m k) h
   where
-    next : (o : Option ℕ) → with_digit (2 ^ 32) n b ≡ o → ((m : ℕ) → 0 < m → m < 2 ^ 32 → decimal_from (2 ^ 32) m bs ≡ Some k → (decimal m ++ bs ≡ decimal k) × (k < 2 ^ 32)) → option_and_then (λ x. decimal_from (2 ^ 32) x bs) o ≡ Some k → (decimal n ++ b ∷ bs ≡ decimal k) × (k < 2 ^ 32)
+    next : (o : Option ℕ) → with_digit (2 ^ 32) n b ≡ o → ((m : ℕ) → 0 < m → m < 2 ^ 32 → decimal_from (2 ^ 32) m bs ≡ Some k → (decimal m ++ bs ≡ decimal k) × (k < 2 ^ 32))
+        → option_and_then (λ x. decimal_from (2 ^ 32) x bs) o ≡ Some k → (decimal n ++ b ∷ bs ≡ decimal k) × (k < 2 ^ 32)
     next None q rest h = absurd (cc h)
     next (Some m) q rest h =
         let d = digit_taken n b m q in
@@ -135,7 +142,8 @@ all_joined (x ∷ xs) ys h j =
 
 pub decimal_digits : (k : ℕ) → k < 2 ^ 32 → list_all is_digit (decimal k) ≡ true
 decimal_digits k h =
-    decimal_by_steps (λ m ds. list_all is_digit ds ≡ true) (λ m small. rw (digit_is m small) refl) (λ m ds high e. all_joined ds ((48 + m % 10) ∷ []) e (rw (digit_is (m % 10) (omega arith)) refl)) k (omega arith)
+    decimal_by_steps (λ m ds. list_all is_digit ds ≡ true) (λ m small. rw (digit_is m small) refl)
+    (λ m ds high e. all_joined ds ((48 + m % 10) ∷ []) e (rw (digit_is (m % 10) (omega arith)) refl)) k (omega arith)
 
 -- a byte that is no digit is not among digits
 digits_without : (c : ℕ) (ds : List ℕ) → is_digit c ≡ false → list_all is_digit ds ≡ true → list_all (λ b. not (eqb b c)) ds ≡ true

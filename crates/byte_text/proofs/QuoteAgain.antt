@@ -1,5 +1,6 @@
 -- A text that is spelled by the grammar is read as its bytes.
-use Rattle.std.proofs.Common.{◌≡◌, ℕ, ◌+◌, ◌-◌, ◌*◌, ◌<◌, Bool, true, false, ◌&&◌, not, cond, eqb, ltb, leb, List, [], ◌∷◌, ◌++◌, length, map, Option, Some, refl, sym, ◌∙◌, ap, subst, arith, append_assoc, append-nil, length-append}
+use Rattle.std.proofs.Common.{◌≡◌, ℕ, ◌+◌, ◌-◌, ◌*◌, ◌<◌, Bool, true, false, ◌&&◌, not, cond, eqb, ltb, leb, List, [], ◌∷◌, ◌++◌, length, map, Option, Some, refl, sym, ◌∙◌, ap, subst, arith}
+use Rattle.std.proofs.Common.{append_assoc, append-nil, length-append}
 use Rattle.std.specs.Prelude.{All}
 use Rattle.std.specs.List.{list_all}
 use Rattle.std.proofs.lemmas.Bool.{and_parts, ltb-true, ltb-false, le-leb, lt-leb, ne_eqb, not-true, leb-true}
@@ -39,7 +40,8 @@ one_more : (acc : List ℕ) (b : ℕ) (bs : List ℕ) → (acc ++ b ∷ []) ++ b
 one_more acc b bs = append_assoc acc (b ∷ []) bs
 
 -- the pieces of a text are read one by one, up to the closing quote
-pub pieces_again : (cs : List Piece) (acc : List ℕ) (n : ℕ) (rest : List ℕ) → All (λ c. is_piece c ≡ true) cs → text_from scan.Plain acc n (pieces_text cs ++ 34 ∷ rest) ≡ read_as (acc ++ map piece_byte cs) (n + length (pieces_text cs) + 1)
+pub pieces_again : (cs : List Piece) (acc : List ℕ) (n : ℕ) (rest : List ℕ) → All (λ c. is_piece c ≡ true) cs
+    → text_from scan.Plain acc n (pieces_text cs ++ 34 ∷ rest) ≡ read_as (acc ++ map piece_byte cs) (n + length (pieces_text cs) + 1)
 pieces_again [] acc n rest h = reads acc (acc ++ []) (n + 1) (n + 0 + 1) (sym (append-nil acc)) (omega arith)
 pieces_again (plain b ∷ cs) acc n rest h =
     let a = and_parts (is_printable b && not (eqb b 34)) (not (eqb b 92)) (all_head (λ c. is_piece c ≡ true) (plain b) cs h) in
@@ -59,7 +61,8 @@ pieces_again (hex u v ∷ cs) acc n rest h =
     let a = and_parts (ltb u 16) (ltb v 16) (all_head (λ c. is_piece c ≡ true) (hex u v) cs h) in
     let x = digit_again u (ltb-true u 16 a.0) in
     let y = digit_again v (ltb-true v 16 a.1) in
-    rw (append-nil acc, append-nil acc, x, append-nil acc, y) (pieces_again cs (acc ++ (16 * u + v) ∷ []) (n + 1 + 1 + 1 + 1) rest (all_tail (λ c. is_piece c ≡ true) (hex u v) cs h) ∙ reads _ _ _ _ (one_more acc (16 * u + v) (map piece_byte cs)) (omega arith))
+    rw (append-nil acc, append-nil acc, x, append-nil acc, y) (pieces_again cs (acc ++ (16 * u + v) ∷ []) (n + 1 + 1 + 1 + 1) rest (all_tail (λ c. is_piece c ≡ true) (hex u v) cs h)
+    ∙ reads _ _ _ _ (one_more acc (16 * u + v) (map piece_byte cs)) (omega arith))
 
 pub quoted_again : (s bytes rest : List ℕ) → Spells s bytes → quoted (s ++ rest) ≡ Some (record { text = bytes; used = length s })
 unfolding quoted

@@ -1,5 +1,6 @@
 -- A text that was read is spelled by the grammar.
-use Rattle.std.proofs.Common.{◌≡◌, ℕ, ◌+◌, ◌-◌, ◌*◌, ◌<◌, Bool, true, false, ◌&&◌, cond, eqb, ltb, leb, List, [], ◌∷◌, ◌++◌, length, map, Option, Some, None, Result, Ok, Err, refl, sym, ◌∙◌, ap, subst, arith, append_assoc, append-nil, length-append}
+use Rattle.std.proofs.Common.{◌≡◌, ℕ, ◌+◌, ◌-◌, ◌*◌, ◌<◌, Bool, true, false, ◌&&◌, cond, eqb, ltb, leb, List, [], ◌∷◌, ◌++◌, length, map, Option, Some, None, Result, Ok, Err, refl, sym, ◌∙◌, ap}
+use Rattle.std.proofs.Common.{subst, arith, append_assoc, append-nil, length-append}
 use Rattle.std.specs.Prelude.{All, IfOk, IfSome}
 use Rattle.std.proofs.lemmas.Bool.{and_parts, eqb-true, leb-true, le-ltb, lt-ltb}
 use Rattle.byte_text.specs.Bytes.{is_printable}
@@ -51,7 +52,8 @@ record Taken (s : Scan) (acc : List ℕ) (n : ℕ) (bs : List ℕ) (q : Quoted) 
   used : q.used + length (begun s) ≡ n + length (pieces_text pieces) + 1
 
 -- a piece in front of those that were taken
-more_pieces : (c : Piece) (s : Scan) (acc : List ℕ) (n : ℕ) (b : ℕ) (bs : List ℕ) (q : Quoted) → is_piece c ≡ true → begun s ++ b ∷ [] ≡ piece_text c → Taken scan.Plain (acc ++ piece_byte c ∷ []) (n + 1) bs q → Taken s acc n (b ∷ bs) q
+more_pieces : (c : Piece) (s : Scan) (acc : List ℕ) (n : ℕ) (b : ℕ) (bs : List ℕ) (q : Quoted) → is_piece c ≡ true → begun s ++ b ∷ [] ≡ piece_text c
+    → Taken scan.Plain (acc ++ piece_byte c ∷ []) (n + 1) bs q → Taken s acc n (b ∷ bs) q
 more_pieces c s acc n b bs q p e t =
     let size = ap length e in
     let one = length-append (begun s) (b ∷ []) in
@@ -86,7 +88,8 @@ taken_from : (bs : List ℕ) (s : Scan) (acc : List ℕ) (n : ℕ) (q : Quoted) 
 taken_from [] s acc n q w h = absurd (cc h)
 taken_from (b ∷ bs) s acc n q w h = state s w h (λ t a. taken_from bs t a (n + 1) q)
   where
-    plainly : (x y z : Bool) → eqb b 34 ≡ x → eqb b 92 ≡ y → is_printable b ≡ z → steps (cond x (moved scan.Done) (cond y (moved scan.Escape) (cond z (made b) None))) acc n bs ≡ Some q → ((t : Scan) (a : List ℕ) → IsBelow16 t → text_from t a (n + 1) bs ≡ Some q → Taken t a (n + 1) bs q) → Taken scan.Plain acc n (b ∷ bs) q
+    plainly : (x y z : Bool) → eqb b 34 ≡ x → eqb b 92 ≡ y → is_printable b ≡ z → steps (cond x (moved scan.Done) (cond y (moved scan.Escape) (cond z (made b) None))) acc n bs ≡ Some q
+        → ((t : Scan) (a : List ℕ) → IsBelow16 t → text_from t a (n + 1) bs ≡ Some q → Taken t a (n + 1) bs q) → Taken scan.Plain acc n (b ∷ bs) q
     plainly true y z e f g h more =
         let same : record { text = acc; used = n + 1 } ≡ q = cc h in
         record {
@@ -101,7 +104,8 @@ taken_from (b ∷ bs) s acc n q w h = state s w h (λ t a. taken_from bs t a (n 
     plainly false false true e f g h more = more_pieces (plain b) scan.Plain acc n b bs q (rw (g, e, f) refl) refl (more scan.Plain (acc ++ b ∷ []) tt h)
     plainly false false false e f g h more = absurd (cc h)
 
-    escape : (x y z u v : Bool) → eqb b 34 ≡ x → eqb b 92 ≡ y → eqb b 110 ≡ z → eqb b 114 ≡ u → eqb b 120 ≡ v → steps (cond x (made 34) (cond y (made 92) (cond z (made 10) (cond u (made 13) (cond v (moved scan.High) None))))) acc n bs ≡ Some q → ((t : Scan) (a : List ℕ) → IsBelow16 t → text_from t a (n + 1) bs ≡ Some q → Taken t a (n + 1) bs q) → Taken scan.Escape acc n (b ∷ bs) q
+    escape : (x y z u v : Bool) → eqb b 34 ≡ x → eqb b 92 ≡ y → eqb b 110 ≡ z → eqb b 114 ≡ u → eqb b 120 ≡ v → steps (cond x (made 34) (cond y (made 92) (cond z (made 10) (cond u (made 13) (cond v
+        (moved scan.High) None))))) acc n bs ≡ Some q → ((t : Scan) (a : List ℕ) → IsBelow16 t → text_from t a (n + 1) bs ≡ Some q → Taken t a (n + 1) bs q) → Taken scan.Escape acc n (b ∷ bs) q
     escape true y z u v e f g i j h more = more_pieces quote scan.Escape acc n b bs q refl (ap (λ x. 92 ∷ x ∷ []) (eqb-true b 34 e)) (more scan.Plain (acc ++ 34 ∷ []) tt h)
     escape false true z u v e f g i j h more = more_pieces backslash scan.Escape acc n b bs q refl (ap (λ x. 92 ∷ x ∷ []) (eqb-true b 92 f)) (more scan.Plain (acc ++ 92 ∷ []) tt h)
     escape false false true u v e f g i j h more = more_pieces line_feed scan.Escape acc n b bs q refl (ap (λ x. 92 ∷ x ∷ []) (eqb-true b 110 g)) (more scan.Plain (acc ++ 10 ∷ []) tt h)
@@ -109,19 +113,22 @@ taken_from (b ∷ bs) s acc n q w h = state s w h (λ t a. taken_from bs t a (n 
     escape false false false false true e f g i j h more = within scan.Escape scan.High acc n b bs q (ap (λ x. 92 ∷ x ∷ []) (eqb-true b 120 j)) (more scan.High (acc ++ []) tt h)
     escape false false false false false e f g i j h more = absurd (cc h)
 
-    high : (o : Option ℕ) → hex_value b ≡ o → steps (high_digit o) acc n bs ≡ Some q → ((t : Scan) (a : List ℕ) → IsBelow16 t → text_from t a (n + 1) bs ≡ Some q → Taken t a (n + 1) bs q) → Taken scan.High acc n (b ∷ bs) q
+    high : (o : Option ℕ) → hex_value b ≡ o → steps (high_digit o) acc n bs ≡ Some q → ((t : Scan) (a : List ℕ) → IsBelow16 t → text_from t a (n + 1) bs ≡ Some q → Taken t a (n + 1) bs q)
+        → Taken scan.High acc n (b ∷ bs) q
     high None e h more = absurd (cc h)
     high (Some d) e h more =
         let z = digit_found b d e in
         within scan.High (scan.Low d) acc n b bs q (ap (λ x. 92 ∷ 120 ∷ x ∷ []) z.1) (more (scan.Low d) (acc ++ []) z.0 h)
 
-    low : (u : ℕ) (o : Option ℕ) → u < 16 → hex_value b ≡ o → steps (low_digit u o) acc n bs ≡ Some q → ((t : Scan) (a : List ℕ) → IsBelow16 t → text_from t a (n + 1) bs ≡ Some q → Taken t a (n + 1) bs q) → Taken (scan.Low u) acc n (b ∷ bs) q
+    low : (u : ℕ) (o : Option ℕ) → u < 16 → hex_value b ≡ o → steps (low_digit u o) acc n bs ≡ Some q
+        → ((t : Scan) (a : List ℕ) → IsBelow16 t → text_from t a (n + 1) bs ≡ Some q → Taken t a (n + 1) bs q) → Taken (scan.Low u) acc n (b ∷ bs) q
     low u None w e h more = absurd (cc h)
     low u (Some d) w e h more =
         let z = digit_found b d e in
         more_pieces (hex u d) (scan.Low u) acc n b bs q (rw (lt-ltb u 16 w, lt-ltb d 16 z.0) refl) (ap (λ x. 92 ∷ 120 ∷ hex_digit u ∷ x ∷ []) z.1) (more scan.Plain (acc ++ (16 * u + d) ∷ []) tt h)
 
-    state : (s : Scan) → IsBelow16 s → text_from s acc n (b ∷ bs) ≡ Some q → ((t : Scan) (a : List ℕ) → IsBelow16 t → text_from t a (n + 1) bs ≡ Some q → Taken t a (n + 1) bs q) → Taken s acc n (b ∷ bs) q
+    state : (s : Scan) → IsBelow16 s → text_from s acc n (b ∷ bs) ≡ Some q → ((t : Scan) (a : List ℕ) → IsBelow16 t → text_from t a (n + 1) bs ≡ Some q → Taken t a (n + 1) bs q)
+        → Taken s acc n (b ∷ bs) q
     state scan.Plain w h more = plainly (eqb b 34) (eqb b 92) (is_printable b) refl refl refl h more
     state scan.Escape w h more = escape (eqb b 34) (eqb b 92) (eqb b 110) (eqb b 114) (eqb b 120) refl refl refl refl refl h more
     state scan.High w h more = high (hex_value b) refl h more

@@ -1,5 +1,6 @@
 -- A loop over the bytes of a text takes its lines in turn.
-use Rattle.std.proofs.Common.{◌≡◌, ℕ, ◌+◌, ◌-◌, ◌<◌, ◌≤◌, true, false, eqb, List, [], ◌∷◌, ◌++◌, length, get_or, take, drop, Ok, refl, sym, ◌∙◌, ap, subst, arith, append_assoc, length-append, length-drop, get_or-drop}
+use Rattle.std.proofs.Common.{◌≡◌, ℕ, ◌+◌, ◌-◌, ◌<◌, ◌≤◌, true, false, eqb, List, [], ◌∷◌, ◌++◌, length, get_or, take, drop, Ok, refl, sym, ◌∙◌, ap, subst, arith, append_assoc, length-append}
+use Rattle.std.proofs.Common.{length-drop, get_or-drop}
 use Rattle.std.proofs.lemmas.List.{take_more}
 use Rattle.byte_text.specs.LineReading.{AreTaken, LineTakes}
 use Rattle.byte_text.specs.TextLines.{lines_from, rest_from}
@@ -27,7 +28,8 @@ grown text start i low high =
     let same : start + (i - start) ≡ i = omega arith in
     rw (k, take_more (drop start text) (i - start) 0 (omega (arith, length-drop start text)), at, same) refl
 
-push : {S E : Type 0} (takes : LineTakes S E) (s : S) (n m : ℕ) (ls : List (List ℕ)) (l : List ℕ) (t u : S) → m ≡ n + length ls → AreTaken takes s n ls t → takes t m l (Ok tt) u → AreTaken takes s n (ls ++ l ∷ []) u
+push : {S E : Type 0} (takes : LineTakes S E) (s : S) (n m : ℕ) (ls : List (List ℕ)) (l : List ℕ) (t u : S) → m ≡ n + length ls → AreTaken takes s n ls t → takes t m l (Ok tt) u
+    → AreTaken takes s n (ls ++ l ∷ []) u
 push takes s n m [] l t u e a h = let k : m ≡ n = omega (arith, e) in (u, subst (λ x. takes s x l (Ok tt) u) k (subst (λ x. takes x m l (Ok tt) u) (sym a) h), refl)
 push takes s n m (x ∷ ls) l t u e a h = (a.0, a.1, push takes a.0 (n + 1) m ls l t u (omega (arith, e)) a.2 h)
 

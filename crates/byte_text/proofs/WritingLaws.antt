@@ -44,14 +44,16 @@ pub leaves_none : (a b : Option (List ℕ)) (whole : List ℕ) → Leaves a b wh
 leaves_none a b whole l = subst (Appends a b) (sym (append-nil l.done) ∙ l.both) l.wrote
 
 -- the writer fails in the next part
-front_fault : (a b c : Option (List ℕ)) (whole x rest : List ℕ) → Leaves a b whole (x ++ rest) → (n : ℕ) → n < length x → Appends b c (take n x) → (m : ℕ) × (m < length whole) × Appends a c (take m whole)
+front_fault : (a b c : Option (List ℕ)) (whole x rest : List ℕ) → Leaves a b whole (x ++ rest) → (n : ℕ) → n < length x → Appends b c (take n x) → (m : ℕ) × (m < length whole)
+    × Appends a c (take m whole)
 front_fault a b c whole x rest l n low h =
     let front : take n (x ++ rest) ≡ take n x = take-append-le n x rest (omega arith) in
     let all : l.done ++ take n x ≡ take (length l.done + n) whole = sym (ap (λ z. take (length l.done + n) z) (sym l.both) ∙ take-append-add l.done (x ++ rest) n ∙ ap (λ z. l.done ++ z) front) in
     let long : length whole ≡ length l.done + length (x ++ rest) = ap length (sym l.both) ∙ length-append l.done (x ++ rest) in
     (length l.done + n, omega (arith, long, length-append x rest), subst (Appends a c) all (appends_then a b c l.done (take n x) l.wrote h))
 
-pub leaves_fault : {E F : Type 0} (a b c : Option (List ℕ)) (whole x rest : List ℕ) (e : E) (r : Result (Unit {0}) F) → is_err r ≡ true → Leaves a b whole (x ++ rest) → Wrote (Err e) b c x → Wrote r a c whole
+pub leaves_fault : {E F : Type 0} (a b c : Option (List ℕ)) (whole x rest : List ℕ) (e : E) (r : Result (Unit {0}) F) → is_err r ≡ true → Leaves a b whole (x ++ rest) → Wrote (Err e) b c x
+    → Wrote r a c whole
 leaves_fault a b c whole x rest e (Ok u) fault l h = absurd (cc fault)
 leaves_fault a b c whole x rest e (Err f) fault l h = front_fault a b c whole x rest l h.0 h.1 h.2
 

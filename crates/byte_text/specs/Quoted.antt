@@ -1,5 +1,6 @@
 -- Texts in quotes: how they are read, and how they are written.
-use Rattle.std.specs.Prelude.{ℕ, ◌<◌, ◌+◌, ◌-◌, ◌*◌, ◌/◌, ◌%◌, Bool, true, false, ◌&&◌, nat_le, nat_lt, ◌==◌, if◌then◌else◌, List, [], ◌∷◌, ◌++◌, length, Option, Some, None, option_map, option_to_list}
+use Rattle.std.specs.Prelude.{ℕ, ◌<◌, ◌+◌, ◌-◌, ◌*◌, ◌/◌, ◌%◌, Bool, true, false, ◌&&◌, nat_le, nat_lt, ◌==◌, if◌then◌else◌, List, [], ◌∷◌, ◌++◌, length, Option, Some, None, option_map}
+use Rattle.std.specs.Prelude.{option_to_list}
 use Rattle.byte_text.specs.Bytes.{is_printable}
 use Rattle.byte_text.specs.declared.quoted.Scan.{Scan}
 use Rattle.byte_text.specs.declared.quoted.Scan.TheVariants as scan

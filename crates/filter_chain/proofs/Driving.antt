@@ -25,11 +25,13 @@ module _ {F : Type 0} (device : F → Device) where
   alive_then old new does alive h = (let x = h alive.0 alive.1 in (x.to, x.hosts))
 
   -- what was done to a host on the same chain, with the same budget, was done on its own
-  there : (old mid : Host F) (does : Transition) (s t : HostView) → chain_of mid ≡ chain_of old → budget_of mid ≡ budget_of old → does (budget_of mid) (chain_of mid) s t → does (budget_of old) (chain_of old) s t
+  there : (old mid : Host F) (does : Transition) (s t : HostView) → chain_of mid ≡ chain_of old → budget_of mid ≡ budget_of old → does (budget_of mid) (chain_of mid) s t
+      → does (budget_of old) (chain_of old) s t
   there old mid does s t chain budget d =
       subst (λ (b : ℕ). does b (chain_of old) s t) budget (subst (λ (c : List Program). does (budget_of mid) c s t) chain d)
 
-  pub leads_as : (old new : Host F) (does means : Transition) → ((b : ℕ) (c : List Program) (s t : HostView) → does b c s t → means b c s t) → Refines device old new does → Refines device old new means
+  pub leads_as : (old new : Host F) (does means : Transition) → ((b : ℕ) (c : List Program) (s t : HostView) → does b c s t → means b c s t) → Refines device old new does
+      → Refines device old new means
   leads_as old new does means all h w hosts =
       let x = h w hosts in
       record { to = x.to; did = all _ _ _ _ x.did; hosts = x.hosts; chain = x.chain; budget = x.budget }

@@ -28,6 +28,7 @@ use Rattle.module_run.specs.Proceeding.{StandsFor}
 use Rattle.filter_chain.specs.declared.host.Host.{Host}
 use Rattle.filter_chain.specs.Hosted.{conn_at}
 use Rattle.filter_chain.specs.Hosting.{IsHosting, budget_of, chain_of}
+use Rattle.filter_chain.proofs.HostEvents.{lent}
 use Rattle.filter_chain.proofs.Hosts.{found, known, stands_for}
 use Rattle.module_run.specs.Stepping.{NextIsFaultless, next_at, next_fault}
 use Rattle.filter_chain.specs.Safe.{ReachedCallsAreFaultless}
@@ -40,7 +41,8 @@ is_over : (a b : ℕ) → b < a → nat_le a b ≡ false
 is_over a b lt = grind (arith, nat_tests)
 
 -- Where the next instruction has a fault, the step answers it.
-step_tells : (budget : ℕ) (chain : List Program) (v : Linked) (f : Frame) (rest : List Frame) (kind : FaultKind) → v.1.broken ≡ None → v.1.count < budget → v.1.stack ≡ f ∷ rest → next_fault chain v f ≡ Some kind
+step_tells : (budget : ℕ) (chain : List Program) (v : Linked) (f : Frame) (rest : List Frame) (kind : FaultKind) → v.1.broken ≡ None → v.1.count < budget → v.1.stack ≡ f ∷ rest
+    → next_fault chain v f ≡ Some kind
     → (steps true budget chain no_reads v).0 ≡ Ok (stepped.Fault kind f.of f.pc)
 unfolding steps
 step_tells budget chain v f rest kind whole left on_top faulty =
@@ -50,7 +52,8 @@ step_tells budget chain v f rest kind whole left on_top faulty =
     ∙ ap (λ (o : Option FaultKind). (unless_fault o f v (executed true chain no_reads (next_at chain f) f rest v)).0) faulty))
 
 -- So it has none where no step answers one.
-faultless_where : (budget : ℕ) (chain : List Program) (v : Linked) → ((kind : FaultKind) (of pc : ℕ) → (steps true budget chain no_reads v).0 ≡ Ok (stepped.Fault kind of pc) → ⊥) → NextIsFaultless budget chain v
+faultless_where : (budget : ℕ) (chain : List Program) (v : Linked) → ((kind : FaultKind) (of pc : ℕ) → (steps true budget chain no_reads v).0 ≡ Ok (stepped.Fault kind of pc) → ⊥)
+    → NextIsFaultless budget chain v
 faultless_where budget chain v never f rest whole left on_top = by_fault (next_fault chain v f) refl where
   by_fault : (o : Option FaultKind) → next_fault chain v f ≡ o → next_fault chain v f ≡ None
   by_fault None is = is
@@ -66,7 +69,8 @@ module _ (budget : ℕ) (chain : List Program) (w : World) (number : ℕ) (c : C
     answered : (x : Result Stepped Refusal × Linked) → steps true budget chain no_reads (w.common, c) ≡ x → x.0 ≡ Ok (stepped.Fault kind of pc) → ⊥
     answered (y, left) same fault_is =
         event_answers_no_fault true budget chain told number event.Step w (step_answered number w (Ok (stepped.Fault kind of pc), left)).1 (Step (stepped.Fault kind of pc)) never reached
-        (ap (λ (o : Option Connection). happens_on true budget chain told event.Step number o w) at ∙ (ap (step_answered number w) same ∙ ap (λ (z : Result Stepped Refusal). step_answered number w (z, left)) fault_is))
+        (ap (λ (o : Option Connection). happens_on true budget chain told event.Step number o w) at
+        ∙ (ap (step_answered number w) same ∙ ap (λ (z : Result Stepped Refusal). step_answered number w (z, left)) fault_is))
 
   pub call_is_faultless : NextIsFaultless budget chain (w.common, c)
   call_is_faultless = faultless_where budget chain (w.common, c) no_step_faults
@@ -93,10 +97,9 @@ module _ {F : Type 0} (d : Device) (host : Host F) (number : ℕ) (w : World) (h
       (lent_call_is_faultless (budget_of host) (chain_of host) w number c (never bare) hosts.reached s.here (map_of host.tree) s.lies)
 
   -- What is found at the number can be stepped.
-  pub can_step : (conn : Conn) → conn_at host.conns number ≡ Some conn → (v : Linked) × (StandsFor modules host.tree host.store d conn v × (host.chain.bare ≡ true → NextIsFaultless (budget_of host) modules v))
+  pub can_step : (conn : Conn) → conn_at host.conns number ≡ Some conn → (v : Linked)
+      × (StandsFor modules host.tree host.store d conn v × (host.chain.bare ≡ true → NextIsFaultless (budget_of host) modules v))
   unfolding IsHosting
   can_step conn at =
-      let f = found (budget_of host) (chain_of host) d host.tree host.store host.last (conn_at host.conns) w hosts number conn at in
-      let stands = stands_for (budget_of host) (chain_of host) d host.tree host.store host.last (conn_at host.conns) w hosts number f.0 f.1 conn f.2 in
-      let s = known (budget_of host) (chain_of host) d host.tree host.store host.last (conn_at host.conns) w hosts number f.0 f.1 in
-      ((w.common, over (map_of host.tree) f.0), (subst (λ (chain : List Program). StandsFor chain host.tree host.store d conn (w.common, over (map_of host.tree) f.0)) (sym same) stands, is_faultless f.0 s))
+      let f = found hosts number conn at in
+      ((w.common, over (map_of host.tree) f.0), (lent same (stands_for hosts number f.0 f.1 conn f.2), is_faultless f.0 (known hosts number f.0 f.1)))

@@ -64,7 +64,8 @@ module _ (e : Device) where
   part d None file start n next then (inl failed_now) = fails d failed_now
   part d None file start n next then (inr ended) = went d ended.0
 
-  parts : (n : ℕ) (d : Device) (file start len : ℕ) (reads : Reads) (next : Device → ℕ → Type 0) (k : ℕ) → ((m : Device) (j : ℕ) → next m j → Reads_only m) → PartsGiven d e n file start len reads next k → Reads_only d
+  parts : (n : ℕ) (d : Device) (file start len : ℕ) (reads : Reads) (next : Device → ℕ → Type 0) (k : ℕ) → ((m : Device) (j : ℕ) → next m j → Reads_only m)
+      → PartsGiven d e n file start len reads next k → Reads_only d
   unfolding PartsGiven
   parts zero d file start len reads next k then given = then d k given
   parts (suc n) d file start len reads next k then given =
@@ -104,7 +105,8 @@ module _ (d e : Device) where
   tells_reads chain (instr.Read c l) f v reads told = reads_spare v.1 (gives e d (content_at (spot (configuration v.0 v.1 f) c)) (reads 0) told)
   tells_reads chain (instr.Pass b l) f v reads told =
       reads_spare v.1 (unless e d (is_last chain f.of) (IfElse v.1.out.ended (e ≡ d) (ReadsGiven d e (items_of ((v.1.instances f.of).brigades b)) reads 0)) (e ≡ d)
-      (unless e d v.1.out.ended (e ≡ d) (ReadsGiven d e (items_of ((v.1.instances f.of).brigades b)) reads 0) (same e d) (all_reads e (items_of ((v.1.instances f.of).brigades b)) d reads 0)) (same e d) told)
+      (unless e d v.1.out.ended (e ≡ d) (ReadsGiven d e (items_of ((v.1.instances f.of).brigades b)) reads 0) (same e d) (all_reads e (items_of ((v.1.instances f.of).brigades b)) d reads 0))
+      (same e d) told)
   tells_reads chain (instr.PClear q) f v reads told = beside v told
   tells_reads chain (instr.PDestroy q) f v reads told = beside v told
   tells_reads chain i f v reads told = reads_spare v.1 (same e d told)

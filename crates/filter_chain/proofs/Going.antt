@@ -33,19 +33,22 @@ module _ {F : Type 0} (device : F → Device) (number : ℕ) where
         record {
           alive = alive_then device now new (λ b c s t. Answers b c number event.Step s (step_answer answer) t) so.alive one;
           chain = (one so.alive.0 so.alive.1).chain ∙ so.chain;
-          goes = leads_on device old now new (λ b c s t. HostGoesOn b c number made s t) (λ b c s t. Answers b c number event.Step s (step_answer answer) t) (λ b c s t. HostGoesOn b c number (suc made) s t)
+          goes = leads_on device old now new (λ b c s t. HostGoesOn b c number made s t) (λ b c s t. Answers b c number event.Step s (step_answer answer) t)
+              (λ b c s t. HostGoesOn b c number (suc made) s t)
               (λ b c s m t g a. goes_more b c number made s m t g (subst (λ (x : Result Stepped Refusal). Answers b c number event.Step m (step_answer x) t) went a)) so.goes one;
         }
 
 -- As many went as the budget, so that one more does not go on.
-steps_run : (budget : ℕ) (chain : List Program) (number : ℕ) (s t : HostView) (answer : Result Stepped Refusal) → StepsOn budget chain number budget s answer t → StepsToEnd budget chain number s answer t
+steps_run : (budget : ℕ) (chain : List Program) (number : ℕ) (s t : HostView) (answer : Result Stepped Refusal) → StepsOn budget chain number budget s answer t
+    → StepsToEnd budget chain number s answer t
 steps_run budget chain number s t answer x = record {
   count = x.count;
   before = x.before;
   few = x.few;
   goes = x.goes;
   last = x.last;
-  stops = λ went. (let few = goes_few budget chain number x.count s x.before t x.goes (subst (λ (a : Result Stepped Refusal). Answers budget chain number event.Step x.before (step_answer a) t) went x.last) in
+  stops = λ went. (let few =
+      goes_few budget chain number x.count s x.before t x.goes (subst (λ (a : Result Stepped Refusal). Answers budget chain number event.Step x.before (step_answer a) t) went x.last) in
       let all = x.stops went in absurd (omega (arith, few, all)));
 }
 

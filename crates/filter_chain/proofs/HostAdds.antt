@@ -5,10 +5,8 @@ use Rattle.std.proofs.Math.Path.{fun_ext}
 use Rattle.module_code.specs.Program.{Program}
 use Rattle.run_model.specs.declared.event.Event.TheVariants as event
 use Rattle.run_model.specs.declared.event.Refusal.TheVariants as refusal
-use Rattle.run_model.specs.Chains.{Connection}
 use Rattle.run_model.specs.Files.{Files, file_added}
-use Rattle.run_model.specs.Turns.{Failing}
-use Rattle.run_model.specs.Worlds.{World, Told, Done, Refused, happens_on}
+use Rattle.run_model.specs.Worlds.{World, Done, Refused, happens_on}
 use Rattle.bucket_kinds.specs.declared.mem_files.MemFiles.{MemFiles}
 use Rattle.bucket_kinds.specs.declared.refusal.AddRefusal.{AddRefusal}
 use Rattle.bucket_kinds.specs.declared.refusal.AddRefusal.TheVariants as added
@@ -22,22 +20,23 @@ use Rattle.pool_tree.specs.declared.tree.PoolTree.{PoolTree}
 use Rattle.bucket_kinds.specs.declared.stored.Stored.{Stored}
 use Rattle.brigade_ops.specs.declared.store.Brigades.{Brigades}
 use Rattle.module_run.specs.declared.conn.Conn.{Conn}
-use Rattle.filter_chain.specs.Hosted.{conn_at}
 use Rattle.filter_chain.specs.declared.host.Host.{Host}
-use Rattle.filter_chain.specs.Hosting.{HoldsWorld, IsHostedIf, IsHosting, Happens, Stays, TriesToAdd, chain_of, budget_of}
+use Rattle.filter_chain.specs.Hosting.{HoldsWorld, IsHosting, Happens, Stays, TriesToAdd, chain_of, budget_of}
 use Rattle.filter_chain.specs.HostViews.{TellsEvent}
+use Rattle.filter_chain.proofs.HostEvents.{happened_on, nothing_told}
+use Rattle.filter_chain.proofs.Hosts.{hosted_if}
 
 -- The device, after a file is added.
 
-with_named : Device → (List ℕ → Held) → Device
+abbrev with_named : Device → (List ℕ → Held) → Device
 with_named d f = record d { named = f }
 
 held_if : (b : Bool) (bytes : List ℕ) (o : Option (List ℕ)) → held_of (cond b (Some bytes) o) ≡ cond b (Holds bytes) (held_of o)
 held_if true bytes o = refl
 held_if false bytes o = refl
 
-added_device : (fs : Files) (name bytes : List ℕ) (failures : ℕ) → device_of (file_added name bytes fs) failures ≡ record (device_of fs failures) { named = λ q. cond (bytes_eq q name) (Holds bytes) (held_of (fs.named q)) }
-unfolding with_named
+added_device : (fs : Files) (name bytes : List ℕ) (failures : ℕ)
+    → device_of (file_added name bytes fs) failures ≡ with_named (device_of fs failures) (λ q. cond (bytes_eq q name) (Holds bytes) (held_of (fs.named q)))
 added_device fs name bytes failures = ap (with_named (device_of fs failures)) (fun_ext (λ q. held_if (bytes_eq q name) bytes (fs.named q)))
 
 missing_then : (o : Option (List ℕ)) → o ≡ None → is_there (held_of o) ≡ false
@@ -48,7 +47,8 @@ there_then None there = absurd (cc)
 there_then (Some bytes) there = refl
 
 -- The host stands for the same world where its device gives the same numbers, and has the same files under them.
-module _ {R : Type 0} {g : Ghosts R Stored} (budget : ℕ) (chain : List Program) (d e : Device) (tree : PoolTree Payload) (store : Brigades R g) (last : ℕ) (conns : ℕ → Option Conn) (w : World) (h : HoldsWorld budget chain d tree store last conns w)
+module _ {R : Type 0} {g : Ghosts R Stored} {budget : ℕ} {chain : List Program} {d : Device} {tree : PoolTree Payload} {store : Brigades R g} {last : ℕ} {conns : ℕ → Option Conn} {w : World}
+    (h : HoldsWorld budget chain d tree store last conns w) (e : Device)
     (numbered : e.numbered ≡ d.numbered) (same : e.next ≡ d.next) where
   pub renamed_holds : HoldsWorld budget chain e tree store last conns w
   renamed_holds = record {
@@ -61,58 +61,42 @@ module _ {R : Type 0} {g : Ghosts R Stored} (budget : ℕ) (chain : List Program
     house = h.house;
     open_files = λ file more. ap (λ (f : ℕ → Held). is_there (f file)) numbered ∙ h.open_files file more;
     none = h.none;
-    conns = λ k. both (conns k) (w.conns k) (h.conns k);
+    conns = λ k. hosted_if (conns k) (w.conns k) (λ x c at there is. record {
+      seen = is.seen;
+      opens = λ file bytes kept. subst (λ (held : Held). MayHold held bytes) (sym (ap (λ (f : ℕ → Held). f file) numbered)) (is.opens file bytes kept);
+      stacked = is.stacked;
+    }) (h.conns k);
     apart = h.apart;
-  } where
-    both : (o : Option Conn) (b : Option Connection) → IsHostedIf chain tree store d o b → IsHostedIf chain tree store e o b
-    both None None is = is
-    both None (Some b) is = absurd is
-    both (Some s) None is = absurd is
-    both (Some s) (Some b) is = record { seen = is.seen; opens = λ file bytes there. subst (λ (held : Held). MayHold held bytes) (sym (ap (λ (f : ℕ → Held). f file) numbered)) (is.opens file bytes there); stacked = is.stacked }
+  }
 
-module _ (old : Host MemFiles) (files : MemFiles) (name bytes : List ℕ) (w : World) where
+-- Only names of files changed.
+module _ (old : Host MemFiles) (files : MemFiles) (name bytes : List ℕ) (w : World) (d e : Device) (hosts : IsHosting d old w) where
   abbrev new : Host MemFiles
   new = record old { files = files }
 
-  abbrev told : Told
-  told = record { reads = λ k. None; opening = Failing }
-
-  hosts_still : (d e : Device) → IsHosting d old w → e.numbered ≡ d.numbered → e.next ≡ d.next → IsHosting e new w
+  hosts_still : (names : List ℕ → Held) → e ≡ with_named d names → IsHosting e new w
   unfolding IsHosting chain_of budget_of
-  hosts_still d e hosts numbered same = renamed_holds (budget_of old) (chain_of old) d e old.tree old.store old.last (conn_at old.conns) w hosts numbered same
+  hosts_still names is = renamed_holds hosts e (ap (λ (x : Device). x.numbered) is) (ap (λ (x : Device). x.next) is)
 
-  was_added : (d e : Device) → IsHosting d old w → is_there (d.named name) ≡ false → e ≡ record d { named = λ q. cond (bytes_eq q name) (Holds bytes) (d.named q) } → Happens d e old new 0 (event.AddFile name bytes) Done w
-  unfolding happens_on TellsEvent chain_of budget_of
-  was_added d e hosts free is = record {
-    to = w;
-    acts = record { memory = true; told = told; is = refl; tells = (free, is); closes = tt };
-    hosts = hosts_still d e hosts (ap (λ (x : Device). x.numbered) is) (ap (λ (x : Device). x.next) is);
-    chain = refl;
-    budget = refl;
-  }
+  was_added : is_there (d.named name) ≡ false → e ≡ with_named d (λ q. cond (bytes_eq q name) (Holds bytes) (d.named q)) → Happens d e old new 0 (event.AddFile name bytes) Done w
+  unfolding happens_on TellsEvent chain_of budget_of IsHosting
+  was_added free is = happened_on d e old new 0 w hosts refl refl (event.AddFile name bytes) true nothing_told Done w refl (free, is) tt tt (λ reached. hosts_still _ is)
 
-  not_added : (d e : Device) → IsHosting d old w → e ≡ d → Happens d e old new 0 (event.AddFile name bytes) (Refused refusal.NoMemory) w
-  unfolding happens_on TellsEvent chain_of budget_of
-  not_added d e hosts is = record {
-    to = w;
-    acts = record { memory = false; told = told; is = refl; tells = is; closes = tt };
-    hosts = hosts_still d e hosts (ap (λ (x : Device). x.numbered) is) (ap (λ (x : Device). x.next) is);
-    chain = refl;
-    budget = refl;
-  }
+  not_added : e ≡ d → Happens d e old new 0 (event.AddFile name bytes) (Refused refusal.NoMemory) w
+  unfolding happens_on TellsEvent chain_of budget_of IsHosting
+  not_added is = happened_on d e old new 0 w hosts refl refl (event.AddFile name bytes) false nothing_told (Refused refusal.NoMemory) w refl is tt tt (λ reached. hosts_still d.named is)
 
-  stays_taken : (d e : Device) → IsHosting d old w → e ≡ d → Stays d e old new w
+  stays_taken : e ≡ d → Stays d e old new w
   unfolding chain_of budget_of
-  stays_taken d e hosts is = record { same = is; hosts = hosts_still d e hosts (ap (λ (x : Device). x.numbered) is) (ap (λ (x : Device). x.next) is); chain = refl; budget = refl }
+  stays_taken is = record { same = is; hosts = hosts_still d.named is; chain = refl; budget = refl }
 
-  module _ (fs gs : Files) (m n : ℕ) (same : n ≡ m) where
-    device_after : (hs : Files) → gs ≡ hs → device_of gs n ≡ device_of hs m
-    device_after hs is = ap (device_of gs) same ∙ ap (λ (x : Files). device_of x m) is
+module _ (old : Host MemFiles) (files : MemFiles) (name bytes : List ℕ) (w : World) (fs gs : Files) (m n : ℕ) (same : n ≡ m) where
+  device_after : (hs : Files) → gs ≡ hs → device_of gs n ≡ device_of hs m
+  device_after hs is = ap (device_of gs) same ∙ ap (λ (x : Files). device_of x m) is
 
-    pub tries_to_add : (r : Result (Unit {0}) AddRefusal) → IsHosting (device_of fs m) old w → IsAdding fs name bytes r gs → TriesToAdd (device_of fs m) (device_of gs n) old new name bytes r w
-    tries_to_add (Ok x) hosts (free, is) =
-        was_added (device_of fs m) (device_of gs n) hosts (missing_then (fs.named name) free) (device_after (file_added name bytes fs) is ∙ added_device fs name bytes m)
-    tries_to_add (Err added.NoMemory) hosts (free, is) =
-        (missing_then (fs.named name) free, not_added (device_of fs m) (device_of gs n) hosts (device_after fs is))
-    tries_to_add (Err added.Taken) hosts (taken, is) =
-        (there_then (fs.named name) taken, stays_taken (device_of fs m) (device_of gs n) hosts (device_after fs is))
+  pub tries_to_add : (r : Result (Unit {0}) AddRefusal) → IsHosting (device_of fs m) old w → IsAdding fs name bytes r gs
+      → TriesToAdd (device_of fs m) (device_of gs n) old (record old { files = files }) name bytes r w
+  tries_to_add (Ok x) hosts (free, is) =
+      was_added old files name bytes w (device_of fs m) (device_of gs n) hosts (missing_then (fs.named name) free) (device_after (file_added name bytes fs) is ∙ added_device fs name bytes m)
+  tries_to_add (Err added.NoMemory) hosts (free, is) = (missing_then (fs.named name) free, not_added old files name bytes w (device_of fs m) (device_of gs n) hosts (device_after fs is))
+  tries_to_add (Err added.Taken) hosts (taken, is) = (there_then (fs.named name) taken, stays_taken old files name bytes w (device_of fs m) (device_of gs n) hosts (device_after fs is))

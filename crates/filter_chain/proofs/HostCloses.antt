@@ -48,16 +48,19 @@ use Rattle.filter_chain.specs.Hosting.{HoldsWorld, IsHosting, Happens, chain_of,
 use Rattle.filter_chain.specs.HostViews.{ClosesFiles, TellsEvent}
 use Rattle.filter_chain.specs.Spared.{Spares}
 use Rattle.filter_chain.proofs.Hosts.{foreign, found, known, stands_for}
-use Rattle.filter_chain.proofs.HostsLeft.{IsWritten, conns_put, opens_still, others_still, written}
+use Rattle.filter_chain.proofs.HostsLeft.{conns_put, opens_still, others_still}
 use Rattle.filter_chain.proofs.HostEvents.{Serves, nothing_told, happened_on}
 use Rattle.filter_chain.proofs.KnownEvents.{put_same}
+use Rattle.filter_chain.proofs.Lent.{IsLent}
 use Rattle.filter_chain.proofs.StepsSeen.{own_pools}
 
 -- Where there is no memory it is there as it was.
-pub close_serves : {R : Type 0} {g : Ghosts R Stored} (budget : ℕ) (chain : List Program) (d e : Device) (w : World) (tree : PoolTree Payload) (number : ℕ) (c : Connection) (s : Stands chain w (map_of tree) number c) → w.common.file ≤ d.next → (newer : PoolTree Payload) (store : Brigades R g) (conn : Conn)
-    → LeftAs chain newer store e conn (w.common, over (map_of tree) c) → Spares d e c → e ≡ d → Serves budget chain d e w tree number c event.Close (Refused refusal.NoMemory) newer store conn
+pub close_serves : {R : Type 0} {g : Ghosts R Stored} {budget : ℕ} {chain : List Program} {d e : Device} {w : World} {tree : PoolTree Payload} {number : ℕ} {c : Connection}
+    → Stands chain w (map_of tree) number c → w.common.file ≤ d.next
+    → {newer : PoolTree Payload} {store : Brigades R g} {conn : Conn} → LeftAs chain newer store e conn (w.common, over (map_of tree) c) → Spares d e c → e ≡ d
+    → Serves budget chain d e w tree number c event.Close (Refused refusal.NoMemory) newer store conn
 unfolding happens_on TellsEvent
-close_serves budget chain d e w tree number c s given newer store conn left spared same = record {
+close_serves {w = w} {tree = tree} {number = number} {c = c} s given left spared same = record {
   memory = false;
   told = nothing_told;
   all = (w.common, over (map_of tree) c);
@@ -78,10 +81,12 @@ without number w = record w { conns = upd w.conns number None }
 -- What a close closes.
 
 module _ (chain : List Program) (w : World) (ps : Pools Payload) (number : ℕ) (c : Connection) (s : Stands chain w ps number c) where
-  pub closed_own : (d e : Device) → ((file : ℕ) → e.numbered file ≡ (if lets_go ps c.conn (destroyed c.conn ps) file then Missing else d.numbered file)) → SameButOpen d e → ClosedWith d e (Some c.conn) (pools_of w.common c) (destroyed c.conn (pools_of w.common c))
+  pub closed_own : (d e : Device) → ((file : ℕ) → e.numbered file ≡ (if lets_go ps c.conn (destroyed c.conn ps) file then Missing else d.numbered file)) → SameButOpen d e
+      → ClosedWith d e (Some c.conn) (pools_of w.common c) (destroyed c.conn (pools_of w.common c))
   unfolding configuration
   closed_own d e closed others = subst (λ (qs : Pools Payload). WereLetGo d e (run_order qs c.conn) (destroyed c.conn qs)) (sym own) (record {
-    closed = λ file. closed file ∙ ap (λ t. if t then Missing else d.numbered file) (sym (alike file) ∙ ap (λ (qs : Pools Payload). lets_go (part c.conn ps) c.conn qs file) (own_destroyed c.conn c.conn ps has under));
+    closed = λ file. closed file
+        ∙ ap (λ t. if t then Missing else d.numbered file) (sym (alike file) ∙ ap (λ (qs : Pools Payload). lets_go (part c.conn ps) c.conn qs file) (own_destroyed c.conn c.conn ps has under));
     others = others;
   }) where
     has : HasPart ps c.conn
@@ -110,12 +115,13 @@ pub record WasClosed {R : Type 0} {g : Ghosts R Stored} (tree newer : PoolTree P
   pub closed : (file : ℕ) → e.numbered file ≡ (if lets_go (map_of tree) conn0.conn (map_of newer) file then Missing else d.numbered file)
   pub others : SameButOpen d e
 
-module _ {R : Type 0} {g : Ghosts R Stored} (budget : ℕ) (chain : List Program) (d : Device) (tree : PoolTree Payload) (store : Brigades R g) (last : ℕ) (conns : ℕ → Option Conn) (w : World) (h : HoldsWorld budget chain d tree store last conns w) (number : ℕ) (conn0 conn : Conn) (at : conns number ≡ Some conn0)
+module _ {R : Type 0} {g : Ghosts R Stored} {budget : ℕ} {chain : List Program} {d : Device} {tree : PoolTree Payload} {store : Brigades R g} {last : ℕ} {conns : ℕ → Option Conn} {w : World}
+    (h : HoldsWorld budget chain d tree store last conns w) (number : ℕ) (conn0 conn : Conn) (at : conns number ≡ Some conn0)
     (c : Connection) (here : w.conns number ≡ Some c) (e : Device) (spared : Spares d e c) (newer : PoolTree Payload) (new : Brigades R g) (was : WasClosed tree newer store new d e conn0 conn) where
   its_conn : c.conn ≡ conn0.conn
-  its_conn = conn_is (map_of tree) (lists store) (next_name store) conn0 (w.common, over (map_of tree) c) (stands_for budget chain d tree store last conns w h number c here conn0 hosted).left.seen where
+  its_conn = conn_is (map_of tree) (lists store) (next_name store) conn0 (w.common, over (map_of tree) c) (stands_for h number c here conn0 hosted).left.seen where
     f : (x : Connection) × (w.conns number ≡ Some x) × IsHosted chain tree store d conn0 x
-    f = found budget chain d tree store last conns w h number conn0 at
+    f = found h number conn0 at
 
     same : f.0 ≡ c
     same = (let both : Some f.0 ≡ Some c = sym f.1 ∙ here in cc)
@@ -130,7 +136,8 @@ module _ {R : Type 0} {g : Ghosts R Stored} (budget : ℕ) (chain : List Program
   none_then = was.none h.none
 
   -- The others are as they were.
-  pub holds_without : (after : ℕ → Option Conn) → ((k : ℕ) → after k ≡ upd conns number None k) → IsReached budget chain (without number w) → HoldsWorld budget chain e newer new last after (without number w)
+  pub holds_without : (after : ℕ → Option Conn) → ((k : ℕ) → after k ≡ upd conns number None k) → IsReached budget chain (without number w)
+      → HoldsWorld budget chain e newer new last after (without number w)
   holds_without after is reached = record {
     chained = h.chained;
     reached = reached;
@@ -141,8 +148,8 @@ module _ {R : Type 0} {g : Ghosts R Stored} (budget : ℕ) (chain : List Program
     house = was.house;
     open_files = was.references;
     none = none_then;
-    conns = conns_put budget chain d tree store last conns w h number newer new e None None
-        (others_still budget chain d tree store last conns w h number conn0 conn (map_of tree) (foreign budget chain d tree store last conns w h number conn0 at) newer new was.leaves was.house none_then e (opens_still budget chain d tree store last conns w h number c here e spared)) tt after is;
+    conns = conns_put h number newer new e None None
+        (others_still h number conn0 conn (map_of tree) (foreign h number conn0 at) newer new was.leaves was.house none_then e (opens_still h number c here e spared)) tt after is;
     apart = λ j k n a b at_j at_k. h.apart j k n a b (there j a at_j) (there k b at_k);
   } where
     there : (j : ℕ) (x : Conn) → after j ≡ Some x → conns j ≡ Some x
@@ -152,40 +159,40 @@ module _ {R : Type 0} {g : Ghosts R Stored} (budget : ℕ) (chain : List Program
     ]
 
 -- Of a host whose connections were looked up by the number.
-module _ {F : Type 0} (host : Host F) (number : ℕ) (conn : Conn) (lent : Conns) (wrote : IsWritten host.conns number conn lent) where
-  changed : (k : ℕ) → conn_at lent k ≡ upd (conn_at host.conns) number (Some conn) k
-  changed k = written host.conns number conn lent wrote k
-
+module _ {F : Type 0} (host : Host F) (number : ℕ) {conn0 : Conn} {table : Conn → Conns} (here : IsLent host.conns number conn0 table) (conn : Conn) where
   -- What was put back is what is taken.
-  pub taken_is : (taken : Option Conn) → taken ≡ conn_at lent number → taken ≡ Some conn
-  taken_is taken is = is ∙ changed number ∙ upd_at (conn_at host.conns) number (Some conn)
+  pub taken_is : {taken : Option Conn} → taken ≡ conn_at (table conn) number → taken ≡ Some conn
+  taken_is is = is ∙ here.holds conn number ∙ upd_at (conn_at host.conns) number (Some conn)
 
-  taken_out : (after : Conns) → ((k : ℕ) → conn_at after k ≡ upd (conn_at lent) number None k) → (k : ℕ) → conn_at after k ≡ upd (conn_at host.conns) number None k
+  taken_out : (after : Conns) → ((k : ℕ) → conn_at after k ≡ upd (conn_at (table conn)) number None k) → (k : ℕ) → conn_at after k ≡ upd (conn_at host.conns) number None k
   taken_out after rest k =
       rest k
-      ∙ ap (λ (f : ℕ → Option Conn). upd f number None k) (fun_ext changed)
+      ∙ ap (λ (f : ℕ → Option Conn). upd f number None k) (fun_ext (here.holds conn))
       ∙ ap (λ (f : ℕ → Option Conn). f k) (upd_upd (conn_at host.conns) number (Some conn) None)
 
   -- It is closed.
-  pub closed_on : (d e : Device) (w : World) → IsHosting d host w → (conn0 : Conn) → conn_at host.conns number ≡ Some conn0 → (after : Conns) → ((k : ℕ) → conn_at after k ≡ upd (conn_at lent) number None k) → (new : Host F)
-      → new ≡ record host { conns = after; tree = new.tree; store = new.store; files = new.files } → (labels : List (List ℕ)) → ((v : Linked) → StandsFor (chain_of host) host.tree host.store d conn0 v → labels ≡ closing_labels v)
-      → ((c : Connection) → StandsFor (chain_of host) host.tree host.store d conn0 (w.common, over (map_of host.tree) c) → Spares d e c) → WasClosed host.tree new.tree host.store new.store d e conn0 conn
+  pub closed_on : (d e : Device) (w : World) → IsHosting d host w → (after : Conns) → ((k : ℕ) → conn_at after k ≡ upd (conn_at (table conn)) number None k) → (new : Host F)
+      → new ≡ record host { conns = after; tree = new.tree; store = new.store; files = new.files } → (labels : List (List ℕ))
+      → ((v : Linked) → StandsFor (chain_of host) host.tree host.store d conn0 v → labels ≡ closing_labels v)
+      → ((c : Connection) → StandsFor (chain_of host) host.tree host.store d conn0 (w.common, over (map_of host.tree) c) → Spares d e c)
+      → WasClosed host.tree new.tree host.store new.store d e conn0 conn
       → Happens d e host new number event.Close (Labels labels) w
   unfolding IsHosting happens_on TellsEvent chain_of budget_of
-  closed_on d e w hosts conn0 at after rest new is_new labels answers spares was =
-      let f = found (budget_of host) (chain_of host) d host.tree host.store host.last (conn_at host.conns) w hosts number conn0 at in
-      let s = known (budget_of host) (chain_of host) d host.tree host.store host.last (conn_at host.conns) w hosts number f.0 f.1 in
-      let so = stands_for (budget_of host) (chain_of host) d host.tree host.store host.last (conn_at host.conns) w hosts number f.0 f.1 conn0 f.2 in
+  closed_on d e w hosts after rest new is_new labels answers spares was =
+      let f = found hosts number conn0 here.at in
+      let s = known hosts number f.0 f.1 in
+      let so = stands_for hosts number f.0 f.1 conn0 f.2 in
       let to = without number w in
       let spared = spares f.0 so in
       let told : labels ≡ closing_labels (w.common, f.0) = answers (w.common, over (map_of host.tree) f.0) so ∙ sym (labels_in_part (map_of host.tree) w.common f.0 s.lies) in
       let is : happens true (budget_of host) (chain_of host) nothing_told number event.Close w ≡ (Labels labels, to) =
       ap (λ (o : Option Connection). happens_on true (budget_of host) (chain_of host) nothing_told event.Close number o w) f.1 ∙ ap (λ (l : List (List ℕ)). (Labels l, to)) (sym told) in
-      let gone = its_conn (budget_of host) (chain_of host) d host.tree host.store host.last (conn_at host.conns) w hosts number conn0 conn at f.0 f.1 e spared new.tree new.store was in
+      let gone = its_conn hosts number conn0 conn here.at f.0 f.1 e spared new.tree new.store was in
       let closes = closed_own (chain_of host) w (map_of host.tree) number f.0 s d e (λ file. was.closed file ∙ ap (λ t. if t then Missing else d.numbered file)
-      (ap (λ (n : ℕ). lets_go (map_of host.tree) n (map_of new.tree) file) (sym gone) ∙ ap (λ (ps : Pools Payload). lets_go (map_of host.tree) f.0.conn ps file) (was.pools ∙ ap (λ (n : ℕ). destroyed n (map_of host.tree)) (sym gone)))) was.others in
+      (ap (λ (n : ℕ). lets_go (map_of host.tree) n (map_of new.tree) file) (sym gone)
+      ∙ ap (λ (ps : Pools Payload). lets_go (map_of host.tree) f.0.conn ps file) (was.pools ∙ ap (λ (n : ℕ). destroyed n (map_of host.tree)) (sym gone)))) was.others in
       happened_on d e host new number w hosts (ap chain_of is_new) (ap budget_of is_new) event.Close true nothing_told (Labels labels) to is (was.others.named, was.others.plan)
       (subst (λ (o : Option Connection). ClosesFiles d e (chain_of host) event.Close (Labels labels) w.common o to.common (to.conns number)) (sym f.1) closes) tt
       (λ reached. subst (λ (n : ℕ). HoldsWorld (budget_of host) (chain_of host) e new.tree new.store n (conn_at new.conns) to) (sym (ap (λ (x : Host F). x.last) is_new))
       (subst (λ (x : ℕ → Option Conn). HoldsWorld (budget_of host) (chain_of host) e new.tree new.store host.last x to) (sym (ap (λ (x : Host F). conn_at x.conns) is_new))
-      (holds_without (budget_of host) (chain_of host) d host.tree host.store host.last (conn_at host.conns) w hosts number conn0 conn at f.0 f.1 e spared new.tree new.store was (conn_at after) (taken_out after rest) reached)))
+      (holds_without hosts number conn0 conn here.at f.0 f.1 e spared new.tree new.store was (conn_at after) (taken_out after rest) reached)))

@@ -5,7 +5,6 @@ use Rattle.run_model.specs.declared.event.Event.{Event}
 use Rattle.run_model.specs.declared.event.Event.TheVariants as event
 use Rattle.run_model.specs.declared.event.Refusal.{Refusal}
 use Rattle.run_model.specs.declared.event.Refusal.TheVariants as refusal
-use Rattle.run_model.specs.Indexed.{upd}
 use Rattle.run_model.specs.Chains.{Common, Connection, Linked}
 use Rattle.model_laws.specs.ChainFiles.{TellsLengths, IsShortLength}
 use Rattle.run_model.specs.Passing.{Reads}
@@ -26,6 +25,7 @@ use Rattle.pool_tree.specs.Tree.{map_of}
 use Rattle.bucket_kinds.specs.declared.stored.Stored.{Stored}
 use Rattle.brigade_ops.specs.declared.store.Brigades.{Brigades}
 use Rattle.module_run.specs.declared.conn.Conn.{Conn}
+use Rattle.module_run.specs.Happened as happened
 use Rattle.module_run.specs.Neighbours.{LeavesOthers}
 use Rattle.module_run.specs.Proceeding.{LeftAs, StandsFor}
 use Rattle.filter_chain.specs.declared.conns.Conns.{Conns}
@@ -37,7 +37,10 @@ use Rattle.filter_chain.specs.Spared.{Spares}
 use Rattle.module_run.specs.OpenedFile.{IsAfterOpening}
 use Rattle.module_run.proofs.OpeningsTold.{may_tell_unasked, unasked}
 use Rattle.filter_chain.proofs.Hosts.{found, known, missing, stands_for}
+use Rattle.filter_chain.specs.Led.{IsAlive}
+use Rattle.filter_chain.proofs.Driving.{Happened}
 use Rattle.filter_chain.proofs.HostsLeft.{holds_put, same_conns}
+use Rattle.filter_chain.proofs.Lent.{IsLent, ViewIn, host_with}
 
 abbrev pub AnyLength : ℕ → Type 0
 AnyLength n = Unit {0}
@@ -69,20 +72,14 @@ before what = tt
 pub refused_tells : (chain : List Program) (number : ℕ) (what : Event) (w : World) (d : Device) (r : Refusal) → w.common.file ≤ d.next → IsBeforeAsking what r
     → TellsEvent chain number what (host_view w d) (Refused r) (unasked_in w.common.file d what) d
 unfolding TellsEvent
-refused_tells chain number event.Open w d r below first = refl
-refused_tells chain number event.Begin w d r below first = refl
-refused_tells chain number (event.AddFile name bytes) w d r below first = refl
 refused_tells chain number (event.OpenFile name) w d r below first = (may_tell_unasked w.common.file d name below, subst (λ (x : Refusal). IsAfterOpening name (Some x) d d) (sym first) refl)
-refused_tells chain number (event.Bring pieces) w d r below first = refl
 refused_tells chain number event.Step w d r below first = by_conn (w.conns number) where
   by_conn : (o : Option Connection) → StepTellsReads chain (host_view w d) o (Refused r) (λ k. None) d
   by_conn None = refl
   by_conn (Some c) = subst (λ (x : Refusal). StepTellsReads chain (host_view w d) (Some c) (Refused x) (λ k. None) d) (sym first) refl
 refused_tells chain number event.End w d r below first = (refl, refl)
-refused_tells chain number event.TakeOutput w d r below first = refl
-refused_tells chain number event.TellLabels w d r below first = refl
-refused_tells chain number event.TellPools w d r below first = refl
 refused_tells chain number event.Close w d r below first = (refl, refl)
+refused_tells chain number what w d r below first = refl
 
 -- and it closes nothing
 pub refused_closes : (d : Device) (chain : List Program) (what : Event) (r : Refusal) (g h : Common) (c x : Option Connection) → ClosesFiles d d chain what (Refused r) g c h x
@@ -98,7 +95,8 @@ IsOfConnection (event.AddFile name bytes) = ⊥
 IsOfConnection event.TellPools = ⊥
 IsOfConnection e = Unit {0}
 
-pub none_is : (memory : Bool) (budget : ℕ) (chain : List Program) (told : Told) (number : ℕ) (w : World) (what : Event) → IsOfConnection what → happens_on memory budget chain told what number None w ≡ (Refused refusal.NoSuchConn, w)
+pub none_is : (memory : Bool) (budget : ℕ) (chain : List Program) (told : Told) (number : ℕ) (w : World) (what : Event) → IsOfConnection what
+    → happens_on memory budget chain told what number None w ≡ (Refused refusal.NoSuchConn, w)
 unfolding happens_on
 none_is memory budget chain told number w event.Open of = absurd of
 none_is memory budget chain told number w (event.AddFile name bytes) of = absurd of
@@ -108,7 +106,8 @@ none_is memory budget chain told number w e of = refl
 -- It is answered so, and the new host stands for the world that this leads to.
 pub happened_on : {F : Type 0} (d e : Device) (old new : Host F) (number : ℕ) (w : World) → IsHosting d old w → chain_of new ≡ chain_of old → budget_of new ≡ budget_of old
     → (what : Event) (memory : Bool) (told : Told) (answer : Answer) (to : World) → happens memory (budget_of old) (chain_of old) told number what w ≡ (answer, to)
-    → TellsEvent (chain_of old) number what (host_view w d) answer told e → ClosesFiles d e (chain_of old) what answer w.common (w.conns number) to.common (to.conns number) → TellsLengths IsShortLength answer
+    → TellsEvent (chain_of old) number what (host_view w d) answer told e → ClosesFiles d e (chain_of old) what answer w.common (w.conns number) to.common (to.conns number)
+    → TellsLengths IsShortLength answer
     → (IsReached (budget_of old) (chain_of old) to → HoldsWorld (budget_of old) (chain_of old) e new.tree new.store new.last (conn_at new.conns) to) → Happens d e old new number what answer w
 unfolding IsHosting
 happened_on d e old new number w hosts chain budget what memory told answer to is tells closes short holds = record {
@@ -125,11 +124,13 @@ happened_on d e old new number w hosts chain budget what memory told answer to i
 module _ {F : Type 0} (d : Device) (old new : Host F) (number : ℕ) (w : World) (hosts : IsHosting d old w) (chain : chain_of new ≡ chain_of old) (budget : budget_of new ≡ budget_of old)
     (holds : HoldsWorld (budget_of old) (chain_of old) d new.tree new.store new.last (conn_at new.conns) w) where
   pub stays_on : (what : Event) (memory : Bool) (told : Told) (answer : Answer) → happens memory (budget_of old) (chain_of old) told number what w ≡ (answer, w)
-      → TellsEvent (chain_of old) number what (host_view w d) answer told d → ClosesFiles d d (chain_of old) what answer w.common (w.conns number) w.common (w.conns number) → TellsLengths IsShortLength answer → Happens d d old new number what answer w
+      → TellsEvent (chain_of old) number what (host_view w d) answer told d → ClosesFiles d d (chain_of old) what answer w.common (w.conns number) w.common (w.conns number)
+      → TellsLengths IsShortLength answer → Happens d d old new number what answer w
   unfolding IsHosting
   stays_on what memory told answer is tells closes short = happened_on d d old new number w hosts chain budget what memory told answer w is tells closes short (λ reached. holds)
 
-  pub refused_on : (what : Event) (memory : Bool) (r : Refusal) → IsBeforeAsking what r → happens memory (budget_of old) (chain_of old) (unasked_in w.common.file d what) number what w ≡ (Refused r, w) → Happens d d old new number what (Refused r) w
+  pub refused_on : (what : Event) (memory : Bool) (r : Refusal) → IsBeforeAsking what r
+      → happens memory (budget_of old) (chain_of old) (unasked_in w.common.file d what) number what w ≡ (Refused r, w) → Happens d d old new number what (Refused r) w
   unfolding IsHosting
   refused_on what memory r first is =
       stays_on what memory (unasked_in w.common.file d what) (Refused r) is (refused_tells (chain_of old) number what w d r hosts.files first)
@@ -139,12 +140,14 @@ module _ {F : Type 0} (d : Device) (old new : Host F) (number : ℕ) (w : World)
   pub none_served : conn_at old.conns number ≡ None → (what : Event) → IsOfConnection what → Happens d d old new number what (Refused refusal.NoSuchConn) w
   unfolding IsHosting
   none_served at what of =
-      let none = missing (budget_of old) (chain_of old) d old.tree old.store old.last (conn_at old.conns) w hosts number at in
+      let none = missing hosts number at in
       refused_on what true refusal.NoSuchConn (before what)
-      (ap (λ (o : Option Connection). happens_on true (budget_of old) (chain_of old) (unasked_in w.common.file d what) what number o w) none ∙ none_is true (budget_of old) (chain_of old) (unasked_in w.common.file d what) number w what of)
+      (ap (λ (o : Option Connection). happens_on true (budget_of old) (chain_of old) (unasked_in w.common.file d what) what number o w) none
+      ∙ none_is true (budget_of old) (chain_of old) (unasked_in w.common.file d what) number w what of)
 
 -- A connection c that is there answers this, and is conn then, by devices d and e. all: what is left of it over the tree that all share.
-pub record Serves {R : Type 0} {g : Ghosts R Stored} (budget : ℕ) (chain : List Program) (d e : Device) (w : World) (tree : PoolTree Payload) (number : ℕ) (c : Connection) (what : Event) (answer : Answer) (newer : PoolTree Payload) (new : Brigades R g) (conn : Conn) : Type 0 where
+pub record Serves {R : Type 0} {g : Ghosts R Stored} (budget : ℕ) (chain : List Program) (d e : Device) (w : World) (tree : PoolTree Payload) (number : ℕ) (c : Connection) (what : Event)
+    (answer : Answer) (newer : PoolTree Payload) (new : Brigades R g) (conn : Conn) : Type 0 where
   pub memory : Bool
   pub told : Told
   pub all : Linked
@@ -163,40 +166,44 @@ AlwaysServes d e host number w what answer newer new conn0 conn =
     (c : Connection) → Stands (chain_of host) w (map_of host.tree) number c → StandsFor (chain_of host) host.tree host.store d conn0 (w.common, over (map_of host.tree) c) → w.common.file ≤ d.next
     → Serves (budget_of host) (chain_of host) d e w host.tree number c what answer newer new conn
 
--- A connection is served, and put back.
-module _ {F : Type 0} (d e : Device) (old new : Host F) (number : ℕ) (w : World) (hosts : IsHosting d old w) (chain : chain_of new ≡ chain_of old) (budget : budget_of new ≡ budget_of old) (last : new.last ≡ old.last) where
-  pub served_on : (what : Event) (answer : Answer) (conn0 conn : Conn) → conn_at old.conns number ≡ Some conn0 → ((k : ℕ) → conn_at new.conns k ≡ upd (conn_at old.conns) number (Some conn) k)
-      → LeavesOthers (map_of old.tree) old.store new.store conn0 conn → AlwaysServes d e old number w what answer new.tree new.store conn0 conn → Happens d e old new number what answer w
-  unfolding IsHosting
-  served_on what answer conn0 conn at conns leaves serve =
-      let f = found (budget_of old) (chain_of old) d old.tree old.store old.last (conn_at old.conns) w hosts number conn0 at in
-      let s = known (budget_of old) (chain_of old) d old.tree old.store old.last (conn_at old.conns) w hosts number f.0 f.1 in
-      let st = serve f.0 s (stands_for (budget_of old) (chain_of old) d old.tree old.store old.last (conn_at old.conns) w hosts number f.0 f.1 conn0 f.2) hosts.files in
-      let to : World = put_conn number (linked_in_part f.0.conn st.all) w in
-      happened_on d e old new number w hosts chain budget what st.memory st.told answer to
-      (ap (λ (o : Option Connection). happens_on st.memory (budget_of old) (chain_of old) st.told what number o w) f.1 ∙ st.is) st.tells
-      (subst (λ (o : Option Connection). ClosesFiles d e (chain_of old) what answer w.common o st.all.0 (to.conns number)) (sym f.1)
-      (subst (λ (o : Option Connection). ClosesFiles d e (chain_of old) what answer w.common (Some f.0) st.all.0 o) (sym (upd_at w.conns number (Some (linked_in_part f.0.conn st.all).1))) st.closes)) st.short
-      (λ reached. subst (λ (n : ℕ). HoldsWorld (budget_of old) (chain_of old) e new.tree new.store n (conn_at new.conns) to) (sym last)
-      (holds_put (budget_of old) (chain_of old) d old.tree old.store old.last (conn_at old.conns) w hosts number conn0 conn at f.0 f.1 e st.spared new.tree new.store leaves st.all st.turn st.left st.files (conn_at new.conns) conns reached))
-
--- Of a host whose connections were looked up by the number: what is found stands for a connection of the world.
-pub can_serve : {F : Type 0} (d : Device) (host : Host F) (number : ℕ) (w : World) → IsHosting d host w → (modules : List Program) (conn : Conn) → modules ≡ chain_of host → conn_at host.conns number ≡ Some conn
-    → (v : Linked) × StandsFor modules host.tree host.store d conn v
-unfolding IsHosting
-can_serve d host number w hosts modules conn same at =
-    let f = found (budget_of host) (chain_of host) d host.tree host.store host.last (conn_at host.conns) w hosts number conn at in
-    let stands = stands_for (budget_of host) (chain_of host) d host.tree host.store host.last (conn_at host.conns) w hosts number f.0 f.1 conn f.2 in
-    ((w.common, over (map_of host.tree) f.0), subst (λ (chain : List Program). StandsFor chain host.tree host.store d conn (w.common, over (map_of host.tree) f.0)) (sym same) stands)
-
 -- So it does by the chain as it was handed on.
-pub lent : {R : Type 0} {g : Ghosts R Stored} (modules chain : List Program) → modules ≡ chain → (tree : PoolTree Payload) (store : Brigades R g) (d : Device) (conn : Conn) (v : Linked) → StandsFor chain tree store d conn v → StandsFor modules tree store d conn v
-lent modules chain same tree store d conn v so = subst (λ (m : List Program). StandsFor m tree store d conn v) (sym same) so
+pub lent : {R : Type 0} {g : Ghosts R Stored} {modules chain : List Program} → modules ≡ chain → {tree : PoolTree Payload} {store : Brigades R g} {d : Device} {conn : Conn} {v : Linked}
+    → StandsFor chain tree store d conn v → StandsFor modules tree store d conn v
+lent same {tree} {store} {d} {conn} {v} so = subst (λ (m : List Program). StandsFor m tree store d conn v) (sym same) so
+
+-- A connection that was looked up.
+module _ {F : Type 0} (device : F → Device) (host : Host F) (number : ℕ) {conn0 : Conn} {table : Conn → Conns} (here : IsLent host.conns number conn0 table) where
+  -- It stands for a connection of the world. modules: the chain, as it was handed on.
+  pub stands : IsAlive device host → (modules : List Program) → modules ≡ chain_of host → happened.Stands modules host.tree host.store (device host.files) conn0
+  unfolding IsHosting
+  stands (w, hosts) modules same =
+      let f = found hosts number conn0 here.at in
+      record { linked = (w.common, over (map_of host.tree) f.0); so = lent same (stands_for hosts number f.0 f.1 conn0 f.2) }
+
+  -- It is served, and put back.
+  pub served : (w : World) → IsHosting (device host.files) host w → (what : Event) (answer : Answer) (a : ViewIn host) → LeavesOthers (map_of host.tree) host.store a.store conn0 a.conn
+      → AlwaysServes (device host.files) (device a.files) host number w what answer a.tree a.store conn0 a.conn
+      → Happens (device host.files) (device a.files) host (host_with host table a) number what answer w
+  unfolding IsHosting chain_of budget_of
+  served w hosts what answer a leaves serve =
+      let d = device host.files in
+      let e = device a.files in
+      let f = found hosts number conn0 here.at in
+      let s = known hosts number f.0 f.1 in
+      let st = serve f.0 s (stands_for hosts number f.0 f.1 conn0 f.2) hosts.files in
+      let to : World = put_conn number (linked_in_part f.0.conn st.all) w in
+      happened_on d e host (host_with host table a) number w hosts refl refl what st.memory st.told answer to
+      (ap (λ (o : Option Connection). happens_on st.memory (budget_of host) (chain_of host) st.told what number o w) f.1 ∙ st.is) st.tells
+      (subst (λ (o : Option Connection). ClosesFiles d e (chain_of host) what answer w.common o st.all.0 (to.conns number)) (sym f.1)
+      (subst (λ (o : Option Connection). ClosesFiles d e (chain_of host) what answer w.common (Some f.0) st.all.0 o)
+      (sym (upd_at w.conns number (Some (linked_in_part f.0.conn st.all).1))) st.closes)) st.short
+      (λ reached. holds_put hosts number conn0 a.conn here.at f.0 f.1 e st.spared a.tree a.store leaves st.all st.turn st.left st.files
+      (conn_at (table a.conn)) (here.holds a.conn) reached)
 
 -- None is found.
-pub none_found : {F : Type 0} (d : Device) (host : Host F) (number : ℕ) (w : World) → IsHosting d host w → (after : Conns) → after.by_number ≡ host.conns.by_number → conn_at host.conns number ≡ None
-    → (what : Event) → IsOfConnection what → Happens d d host (record host { conns = after }) number what (Refused refusal.NoSuchConn) w
+pub none_found : {F : Type 0} (device : F → Device) (host : Host F) (number : ℕ) (after : Conns) → after.by_number ≡ host.conns.by_number → conn_at host.conns number ≡ None
+    → (what : Event) → IsOfConnection what → Happened device host (record host { conns = after }) number what (Refused refusal.NoSuchConn)
 unfolding chain_of budget_of IsHosting
-none_found d host number w hosts after same at what of =
-    none_served d host (record host { conns = after }) number w hosts refl refl
-    (subst (λ (f : ℕ → Option Conn). HoldsWorld (budget_of host) (chain_of host) d host.tree host.store host.last f w) (sym (same_conns after host.conns same)) hosts) at what of
+none_found device host number after same at what of w hosts =
+    none_served (device host.files) host (record host { conns = after }) number w hosts refl refl
+    (subst (λ (f : ℕ → Option Conn). HoldsWorld (budget_of host) (chain_of host) (device host.files) host.tree host.store host.last f w) (sym (same_conns after host.conns same)) hosts) at what of

@@ -6,7 +6,6 @@ use Rattle.bucket_kinds.specs.Device.{Device, Held}
 use Rattle.bucket_kinds.specs.MemAnswers.{failing_at}
 use Rattle.bucket_kinds.specs.MemDevice.{held_of, device_of}
 use Rattle.bucket_kinds.specs.declared.mem_files.MemFiles.{MemFiles}
-use Rattle.filter_chain.specs.Hosted.{conn_at}
 use Rattle.filter_chain.specs.Hosting.{IsHosting, chain_of, budget_of}
 use Rattle.filter_chain.specs.declared.host.Host.{Host}
 use Rattle.filter_chain.proofs.HostAdds.{renamed_holds}
@@ -14,7 +13,7 @@ use Rattle.filter_chain.proofs.HostAdds.{renamed_holds}
 module _ (old : Host MemFiles) (files : MemFiles) (w : World) where
   still_hosts : (d e : Device) → IsHosting d old w → e.numbered ≡ d.numbered → e.next ≡ d.next → IsHosting e (record old { files = files }) w
   unfolding IsHosting chain_of budget_of
-  still_hosts d e hosts numbered same = renamed_holds (budget_of old) (chain_of old) d e old.tree old.store old.last (conn_at old.conns) w hosts numbered same
+  still_hosts d e hosts numbered same = renamed_holds hosts e numbered same
 
   -- It stands for the same world.
   pub hosts_failing : (call : ℕ) (fs gs : Files) (m n : ℕ) → gs ≡ failing_at call fs → IsHosting (device_of fs m) old w → IsHosting (device_of gs n) (record old { files = files }) w

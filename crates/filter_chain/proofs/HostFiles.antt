@@ -4,7 +4,7 @@ use Rattle.module_code.specs.Program.{Program}
 use Rattle.run_model.specs.declared.event.Event.TheVariants as event
 use Rattle.run_model.specs.declared.event.Refusal.{Refusal}
 use Rattle.run_model.specs.declared.event.Refusal.TheVariants as refusal
-use Rattle.run_model.specs.Chains.{Connection}
+use Rattle.run_model.specs.Chains.{Connection, Linked}
 use Rattle.model_laws.specs.ChainFiles.{TellsLengths, IsShortLength}
 use Rattle.run_model.specs.Turns.{Opening, Found, Missing, Failing, opens_file}
 use Rattle.run_model.specs.Turns as turns
@@ -15,7 +15,6 @@ use Rattle.module_run.specs.Happened.{lasted, refusal_of}
 use Rattle.module_run.specs.OpenedFile.{IsAfterOpening, TellsShort, WasOpened}
 use Rattle.bucket_ring.specs.declared.rings.Rings.{Ghosts}
 use Rattle.run_model.specs.declared.payload.Payload.{Payload}
-use Rattle.run_model.specs.Chains.{Linked}
 use Rattle.model_laws.specs.PartSteps.{linked_in_part}
 use Rattle.model_laws.specs.SharedPools.{over}
 use Rattle.model_laws.proofs.chains.LeftTree.{Stands}
@@ -33,7 +32,8 @@ use Rattle.filter_chain.proofs.KnownEvents.{put_same}
 
 -- What an opening answers, it answers of the world; what is refused changes nothing.
 opening_told : (k : ℕ) (w : World) (c : Connection) → w.conns k ≡ Some c → (o : Option Refusal) (req : Option ℕ) (opening : Opening)
-    → file_answered k w (turns.file_answer o req opening (w.common, c)) ≡ (file_answer (turns.file_answer o req opening (w.common, c)).0, put_conn k (turns.file_answer o req opening (w.common, c)).1 w)
+    → file_answered k w (turns.file_answer o req opening (w.common, c))
+    ≡ (file_answer (turns.file_answer o req opening (w.common, c)).0, put_conn k (turns.file_answer o req opening (w.common, c)).1 w)
 opening_told k w c here (Some r) req opening = ap (λ (x : World). (Refused r, x)) (sym (put_same k w c here))
 opening_told k w c here None None opening = ap (λ (x : World). (Refused refusal.NotInRequest, x)) (sym (put_same k w c here))
 opening_told k w c here None (Some req) Missing = ap (λ (x : World). (Refused refusal.NoFile, x)) (sym (put_same k w c here))
@@ -52,10 +52,12 @@ after_answer : (name : List ℕ) (answer : Result (ℕ × ℕ) Refusal) (d e : D
 after_answer name (Ok file) d e after = after
 after_answer name (Err r) d e after = after
 
-pub opens_serves : {R : Type 0} {g : Ghosts R Stored} (budget : ℕ) (chain : List Program) (d e : Device) (w : World) (tree : PoolTree Payload) (number : ℕ) (c : Connection) (s : Stands chain w (map_of tree) number c) (newer : PoolTree Payload) (store : Brigades R g) (conn : Conn) (name : List ℕ) (answer : Result (ℕ × ℕ) Refusal)
+pub opens_serves : {R : Type 0} {g : Ghosts R Stored} {budget : ℕ} {chain : List Program} {d e : Device} {w : World} {tree : PoolTree Payload} {number : ℕ} {c : Connection}
+    → Stands chain w (map_of tree) number c
+    → {newer : PoolTree Payload} {store : Brigades R g} {conn : Conn} {name : List ℕ} {answer : Result (ℕ × ℕ) Refusal}
     → WasOpened chain newer store d e conn name answer (w.common, over (map_of tree) c) → Serves budget chain d e w tree number c (event.OpenFile name) (file_answer answer) newer store conn
 unfolding happens_on opens_file TellsEvent
-opens_serves budget chain d e w tree number c s newer store conn name answer st =
+opens_serves {chain = chain} {d = d} {e = e} {w = w} {tree = tree} {number = number} {c = c} s {name = name} {answer = answer} st =
     let all = opens_file (lasted answer) st.opening (w.common, over (map_of tree) c) in
     let kept = keeps_files name d e (refusal_of answer) st.after in
     record {

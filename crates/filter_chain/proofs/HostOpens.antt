@@ -1,19 +1,18 @@
 -- A connection of a host is opened.
 use Rattle.std.proofs.Math.Path.{fun_ext}
-use Rattle.std.proofs.Common.{◌≡◌, ◌≢◌, Option, None, is_some, ℕ, ◌+◌, ◌<◌, Bool, true, false, ◌||◌, not, List, [], ◌∷◌, Some, inr, refl, sym, ◌∙◌, ap, subst, arith}
+use Rattle.std.proofs.Common.{◌≡◌, ◌≢◌, Option, is_some, ℕ, ◌+◌, ◌<◌, Bool, true, false, ◌||◌, not, List, [], ◌∷◌, Some, inr, refl, sym, ◌∙◌, ap, subst, arith}
 use Rattle.module_code.specs.Program.{Program}
 use Rattle.run_model.specs.declared.event.Event.TheVariants as event
 use Rattle.run_model.specs.declared.event.Refusal.TheVariants as refusal
 use Rattle.run_model.specs.Refusals.{first_refusal, refused_if}
 use Rattle.run_model.specs.Indexed.{upd}
-use Rattle.run_model.specs.Chains.{Common, Linked}
+use Rattle.run_model.specs.Chains.{Common, Linked, Connection}
 use Rattle.run_model.specs.Steps.{is_spent}
 use Rattle.run_model.specs.Turns.{opened, all_called}
 use Rattle.run_model.specs.Worlds.{World, Refused, Connected, put_conn, opens_if, opens, happens, happens_on}
 use Rattle.bucket_kinds.specs.Device.{Device}
 use Rattle.pool_tree.specs.Tree.{map_of}
 use Rattle.bucket_ring.specs.Kept.{once_in}
-use Rattle.run_model.specs.Chains.{Connection}
 use Rattle.brigade_ops.specs.House.{AreOpen, IsHouse}
 use Rattle.stored_rings.specs.Items.{Items}
 use Rattle.brigade_ops.specs.Store.{lists, brigade_of, next_name, pool_of, references}
@@ -30,11 +29,11 @@ use Rattle.module_run.specs.Opening as opening
 use Rattle.module_run.specs.Opening.{IsUnchanged}
 use Rattle.module_run.specs.Proceeding.{LeftAs}
 use Rattle.filter_chain.specs.declared.host.Host.{Host}
-use Rattle.filter_chain.specs.Hosting.{HoldsWorld, IsHosting, IsHostedIf, Happens, chain_of, budget_of}
+use Rattle.filter_chain.specs.Hosting.{HoldsWorld, IsHosting, Happens, chain_of, budget_of}
 use Rattle.filter_chain.specs.declared.conns.Conns.{Conns}
 use Rattle.filter_chain.specs.Hosted.{conn_at, IsHosted}
 use Rattle.filter_chain.specs.HostViews.{TellsEvent}
-use Rattle.filter_chain.proofs.Hosts.{found, held_given}
+use Rattle.filter_chain.proofs.Hosts.{found, held_given, hosted_if}
 use Rattle.filter_chain.proofs.HostsLeft.{apart_then, conns_put, others_still, over_shown}
 use Rattle.filter_chain.proofs.HostEvents.{nothing_told, happened_on, refused_on}
 
@@ -52,7 +51,8 @@ unfolding IsHosting
 pools_next d host w hosts = ap (λ (ps : Pools Payload). ps.next) hosts.pools ∙ (reached_tree (budget_of host) (chain_of host) w hosts.chained hosts.reached).next
 
 -- what the host asks is what the model does
-pub spent_is : {F : Type 0} (d : Device) (host : Host F) (w : World) → IsHosting d host w → (b : Bool) → spent host.last (map_of host.tree).next (next_name host.store) ≡ b → spent w.last w.common.pools w.common.next ≡ b
+pub spent_is : {F : Type 0} (d : Device) (host : Host F) (w : World) → IsHosting d host w → (b : Bool) → spent host.last (map_of host.tree).next (next_name host.store) ≡ b
+    → spent w.last w.common.pools w.common.next ≡ b
 unfolding IsHosting
 spent_is d host w hosts b is =
     ap (λ (n : ℕ). spent n w.common.pools w.common.next) hosts.last_is
@@ -75,7 +75,8 @@ unfolding opened all_called
 opened_file chain g = refl
 
 -- What was refused changed nothing that is seen.
-pub unchanged_holds : {F : Type 0} (d : Device) (old new : Host F) (w : World) → IsHosting d old w → chain_of new ≡ chain_of old → budget_of new ≡ budget_of old → new.last ≡ old.last → conn_at new.conns ≡ conn_at old.conns → IsUnchanged old.tree new.tree old.store new.store
+pub unchanged_holds : {F : Type 0} (d : Device) (old new : Host F) (w : World) → IsHosting d old w → chain_of new ≡ chain_of old → budget_of new ≡ budget_of old → new.last ≡ old.last
+    → conn_at new.conns ≡ conn_at old.conns → IsUnchanged old.tree new.tree old.store new.store
     → HoldsWorld (budget_of old) (chain_of old) d new.tree new.store new.last (conn_at new.conns) w
 unfolding IsHosting is_under
 unchanged_holds d old new w hosts chain budget last conns same =
@@ -90,7 +91,7 @@ unchanged_holds d old new w hosts chain budget last conns same =
       house = house;
       open_files = λ file more. hosts.open_files file (subst (λ (refs : ℕ → ℕ). 0 < refs file) same.referred more);
       none = same.lists_are 0 ∙ hosts.none;
-      conns = λ k. each k;
+      conns = λ k. hosted_if (conn_at old.conns k) (w.conns k) (λ x c at there is. hosted x c is) (hosts.conns k);
       apart = hosts.apart;
     })) where
       house : IsHouse new.store (map_of new.tree)
@@ -105,7 +106,8 @@ unchanged_holds d old new w hosts chain budget last conns same =
         many = stacked.many;
         within = stacked.within;
         queue = stacked.queue;
-        held = λ k f is. held_stays (brigade_of old.store) (brigade_of new.store) (lists old.store) (lists new.store) (pool_of old.store) (pool_of new.store) (next_name old.store) (next_name new.store) f.instance f.call (omega (arith, same.next)) same.on same.names
+        held = λ k f is. held_stays (brigade_of old.store) (brigade_of new.store) (lists old.store) (lists new.store) (pool_of old.store) (pool_of new.store) (next_name old.store)
+            (next_name new.store) f.instance f.call (omega (arith, same.next)) same.on same.names
             (λ b n named. same.lists_are n) (λ pos. same.lists_are f.call.name) (stacked.held k f is);
         apart = stacked.apart;
         called = stacked.called;
@@ -114,20 +116,14 @@ unchanged_holds d old new w hosts chain budget last conns same =
 
       hosted : (x : Conn) (b : Connection) → IsHosted (chain_of old) old.tree old.store d x b → IsHosted (chain_of old) new.tree new.store d x b
       hosted x b is = record {
-        seen = over_shown (map_of old.tree) (map_of new.tree) (lists old.store) b.opened x b is.seen ∙ ap (λ (rings : ℕ → Option Items). conn_of (map_of new.tree) rings b.opened x) (sym (fun_ext same.lists_are));
+        seen = over_shown (map_of old.tree) (map_of new.tree) (lists old.store) b.opened x b is.seen
+            ∙ ap (λ (rings : ℕ → Option Items). conn_of (map_of new.tree) rings b.opened x) (sym (fun_ext same.lists_are));
         opens = is.opens;
         stacked = raised x is.stacked;
       }
 
-      each : (k : ℕ) → IsHostedIf (chain_of old) new.tree new.store d (conn_at old.conns k) (w.conns k)
-      each k = both (conn_at old.conns k) (w.conns k) (hosts.conns k) where
-        both : (o : Option Conn) (b : Option Connection) → IsHostedIf (chain_of old) old.tree old.store d o b → IsHostedIf (chain_of old) new.tree new.store d o b
-        both None None is = is
-        both None (Some b) is = absurd is
-        both (Some x) None is = absurd is
-        both (Some x) (Some b) is = hosted x b is
-
-pub put_after : (old room new : Conns) (number : ℕ) (conn : Conn) → ((n : ℕ) → conn_at room n ≡ conn_at old n) → ((n : ℕ) → conn_at new n ≡ upd (conn_at room) number (Some conn) n) → (n : ℕ) → conn_at new n ≡ upd (conn_at old) number (Some conn) n
+pub put_after : (old room new : Conns) (number : ℕ) (conn : Conn) → ((n : ℕ) → conn_at room n ≡ conn_at old n) → ((n : ℕ) → conn_at new n ≡ upd (conn_at room) number (Some conn) n) → (n : ℕ)
+    → conn_at new n ≡ upd (conn_at old) number (Some conn) n
 put_after old room new number conn same put n = put n ∙ ap (λ (f : ℕ → Option Conn). upd f number (Some conn) n) (fun_ext same)
 
 -- These are no pools.
@@ -136,9 +132,12 @@ no_pools = record { path = λ n. []; payloads = λ n. []; next = 0 }
 
 -- It is opened, with the next number.
 pub opened_on : {F : Type 0} (d : Device) (old new : Host F) (w : World) → IsHosting d old w → chain_of new ≡ chain_of old → budget_of new ≡ budget_of old → new.last ≡ old.last + 1
-    → (conn : Conn) → ((k : ℕ) → conn_at new.conns k ≡ upd (conn_at old.conns) (old.last + 1) (Some conn) k) → (modules : List Program) → modules ≡ chain_of old → spent old.last (map_of old.tree).next (next_name old.store) ≡ false
-    → ((d : Device) (g : Common) → AreOpen (references old.store) d → g.pools ≡ (map_of old.tree).next → g.next ≡ next_name old.store → LeftAs modules new.tree new.store d conn (opening.over (map_of new.tree) (opened modules g)))
-    → ((root : ℕ) → (map_of old.tree).path root ≡ root ∷ [] → map_of new.tree ≡ created root (map_of old.tree)) → ComesBeside old.store new.store conn → Happens d d old new 0 event.Open (Connected (old.last + 1)) w
+    → (conn : Conn) → ((k : ℕ) → conn_at new.conns k ≡ upd (conn_at old.conns) (old.last + 1) (Some conn) k) → (modules : List Program) → modules ≡ chain_of old
+    → spent old.last (map_of old.tree).next (next_name old.store) ≡ false
+    → ((d : Device) (g : Common) → AreOpen (references old.store) d → g.pools ≡ (map_of old.tree).next → g.next ≡ next_name old.store
+    → LeftAs modules new.tree new.store d conn (opening.over (map_of new.tree) (opened modules g)))
+    → ((root : ℕ) → (map_of old.tree).path root ≡ root ∷ [] → map_of new.tree ≡ created root (map_of old.tree)) → ComesBeside old.store new.store conn
+    → Happens d d old new 0 event.Open (Connected (old.last + 1)) w
 unfolding happens_on IsHosting TellsEvent is_under
 opened_on d old new w hosts chain budget last conn conns modules same lasts opens pools beside =
     happened_on d d old new 0 w hosts chain budget event.Open true nothing_told (Connected (old.last + 1)) to told refl tt tt (λ reached. record {
@@ -151,10 +150,10 @@ opened_on d old new w hosts chain budget last conn conns modules same lasts open
       house = left.house;
       open_files = left.references;
       none = left.none;
-      conns = conns_put (budget_of old) programs d old.tree old.store old.last (conn_at old.conns) w hosts (w.last + 1) new.tree new.store d (Some conn) (Some v.1)
-          (others_still (budget_of old) programs d old.tree old.store old.last (conn_at old.conns) w hosts (w.last + 1) conn conn no_pools away new.tree new.store beside_all left.house left.none d (λ k b other there so. so))
+      conns = conns_put hosts (w.last + 1) new.tree new.store d (Some conn) (Some v.1)
+          (others_still hosts (w.last + 1) conn conn no_pools away new.tree new.store beside_all left.house left.none d (λ k b other there so. so))
           (record { seen = left.seen.conn; opens = left.opens; stacked = left.stacked }) (conn_at new.conns) after;
-      apart = apart_then (budget_of old) programs d old.tree old.store old.last (conn_at old.conns) w hosts (w.last + 1) conn conn no_pools away new.tree new.store beside_all left.house left.none d (λ k b other there so. so) (conn_at new.conns) after;
+      apart = apart_then hosts (w.last + 1) conn conn no_pools away new.tree new.store beside_all left.house left.none d (λ k b other there so. so) (conn_at new.conns) after;
     }) where
       programs : List Program
       programs = chain_of old
@@ -184,12 +183,13 @@ opened_on d old new w hosts chain budget last conn conns modules same lasts open
       root = ap (λ (ps : Pools Payload). ps.path w.common.root) hosts.pools ∙ (reached_tree (budget_of old) programs w hosts.chained hosts.reached).root
 
       left : LeftAs programs new.tree new.store d conn (opening.over (map_of new.tree) v)
-      left = subst (λ (m : List Program). (d : Device) (g : Common) → AreOpen (references old.store) d → g.pools ≡ (map_of old.tree).next → g.next ≡ next_name old.store → LeftAs m new.tree new.store d conn (opening.over (map_of new.tree) (opened m g))) same opens
+      left = subst (λ (m : List Program). (d : Device) (g : Common) → AreOpen (references old.store) d → g.pools ≡ (map_of old.tree).next → g.next ≡ next_name old.store
+          → LeftAs m new.tree new.store d conn (opening.over (map_of new.tree) (opened m g))) same opens
           d w.common hosts.open_files (sym (pools_next d old w hosts)) hosts.names
 
       away : (k : ℕ) (x : Conn) → k ≢ w.last + 1 → conn_at old.conns k ≡ Some x → (n : ℕ) → 0 < n → Holds x n → IsForeign no_pools old.store conn n
       away k x other there n pos held =
-          let given = held_given (budget_of old) programs d old.tree old.store old.last (conn_at old.conns) w hosts x (found (budget_of old) programs d old.tree old.store old.last (conn_at old.conns) w hosts k x there).2.stacked n held in
+          let given = held_given hosts x (found hosts k x there).2.stacked n held in
           record { real = pos; given = given; unheld = λ too. (let fresh = beside.holds n pos too in omega (arith, given, fresh)); off = λ p on. refl }
 
       beside_all : LeavesOthers no_pools old.store new.store conn conn

@@ -65,7 +65,8 @@ name_held runs rings f b n is = by_lent f.lent is where
   by_lent : (o : Option ℕ) → brigade_name ((lent_by o (shown_instance runs rings f.instance)).brigades b) ≡ Some n → named_at f b ≡ Some n
   by_lent None is = name_shown runs rings (slot_at f.instance b) n is
   by_lent (Some a) is = elim (upd_either (λ (j : ℕ). shown_slot runs rings (slot_at f.instance j)) a b (handed_over (shown_slot runs rings (slot_at f.instance a)))) [
-    | inl p ↦ (let lent = sym (ap brigade_name p.1) ∙ is in let there = name_shown runs rings (slot_at f.instance a) n (sym (name_lent (shown_slot runs rings (slot_at f.instance a))) ∙ lent) in ap (λ (j : ℕ). named_at f j) p.0 ∙ there)
+    | inl p ↦ (let lent = sym (ap brigade_name p.1) ∙ is in let there = name_shown runs rings (slot_at f.instance a) n (sym (name_lent (shown_slot runs rings (slot_at f.instance a))) ∙ lent) in
+        ap (λ (j : ℕ). named_at f j) p.0 ∙ there)
     | inr p ↦ name_shown runs rings (slot_at f.instance b) n (sym (ap brigade_name p.1) ∙ is)
   ]
 
@@ -80,7 +81,17 @@ stands_once : (p : ℕ) (o : Option ℕ) → o ≡ Some p → once_in p o ≡ 1
 stands_once p None is = absurd (cc)
 stands_once p (Some q) is = (let same : q ≡ p = cc in ap (λ (b : Bool). if b then 1 else 0) (eq-eqb q p same))
 
-module _ {R : Type 0} {g : Ghosts R Stored} (budget : ℕ) (chain : List Program) (d : Device) (tree : PoolTree Payload) (store : Brigades R g) (last : ℕ) (conns : ℕ → Option Conn) (w : World) (h : HoldsWorld budget chain d tree store last conns w) where
+-- Whatever is there is as it was, over what the host has now.
+module _ {R : Type 0} {g : Ghosts R Stored} {chain : List Program} {tree newer : PoolTree Payload} {store new : Brigades R g} {d e : Device} where
+  pub hosted_if : (o : Option Conn) (b : Option Connection) → ((x : Conn) (c : Connection) → o ≡ Some x → b ≡ Some c → IsHosted chain tree store d x c → IsHosted chain newer new e x c)
+      → IsHostedIf chain tree store d o b → IsHostedIf chain newer new e o b
+  hosted_if None None still is = is
+  hosted_if None (Some c) still is = absurd is
+  hosted_if (Some x) None still is = absurd is
+  hosted_if (Some x) (Some c) still is = still x c refl refl is
+
+module _ {R : Type 0} {g : Ghosts R Stored} {budget : ℕ} {chain : List Program} {d : Device} {tree : PoolTree Payload} {store : Brigades R g} {last : ℕ} {conns : ℕ → Option Conn} {w : World}
+    (h : HoldsWorld budget chain d tree store last conns w) where
   pub laws : WorldLaws chain w
   laws = reached_holds budget chain w h.chained h.reached
 
@@ -110,7 +121,8 @@ module _ {R : Type 0} {g : Ghosts R Stored} (budget : ℕ) (chain : List Program
       names = laws.sound.names;
       sound = sound_over chain ps w.common c (known k c here).lies (laws.sound.conns k c here);
       ends = (let ends = laws.ends k c here in record { ends = record { brigades = ends.ends.brigades; loose = ends.ends.loose }; lengths = ends.lengths });
-      files = (let files = laws.files k c here in record { lasts = λ p file under there. refers_open p file under there; open_files = record { brigades = files.open_files.brigades; loose = files.open_files.loose } });
+      files = (let files = laws.files k c here in
+          record { lasts = λ p file under there. refers_open p file under there; open_files = record { brigades = files.open_files.brigades; loose = files.open_files.loose } });
       pools = record { has = at_first; named = λ i q n made live. ((known k c here).lies.lies (looking i)).own q n made live };
     }
 
@@ -132,14 +144,17 @@ module _ {R : Type 0} {g : Ghosts R Stored} (budget : ℕ) (chain : List Program
   pub found : (k : ℕ) (conn : Conn) → conns k ≡ Some conn → (c : Connection) × (w.conns k ≡ Some c) × IsHosted chain tree store d conn c
   found k conn at = by_conn (w.conns k) refl where
     by_conn : (o : Option Connection) → w.conns k ≡ o → (c : Connection) × (w.conns k ≡ Some c) × IsHosted chain tree store d conn c
-    by_conn None none = absurd (subst (λ (o : Option Connection). IsHostedIf chain tree store d (Some conn) o) none (subst (λ (o : Option Conn). IsHostedIf chain tree store d o (w.conns k)) at (h.conns k)))
-    by_conn (Some c) here = (c, here, subst (λ (o : Option Connection). IsHostedIf chain tree store d (Some conn) o) here (subst (λ (o : Option Conn). IsHostedIf chain tree store d o (w.conns k)) at (h.conns k)))
+    by_conn None none = absurd (subst (λ (o : Option Connection). IsHostedIf chain tree store d (Some conn) o) none
+        (subst (λ (o : Option Conn). IsHostedIf chain tree store d o (w.conns k)) at (h.conns k)))
+    by_conn (Some c) here =
+        (c, here, subst (λ (o : Option Connection). IsHostedIf chain tree store d (Some conn) o) here (subst (λ (o : Option Conn). IsHostedIf chain tree store d o (w.conns k)) at (h.conns k)))
 
   pub missing : (k : ℕ) → conns k ≡ None → w.conns k ≡ None
   missing k at = by_conn (w.conns k) refl where
     by_conn : (o : Option Connection) → w.conns k ≡ o → w.conns k ≡ None
     by_conn None none = none
-    by_conn (Some c) here = absurd (subst (λ (o : Option Connection). IsHostedIf chain tree store d None o) here (subst (λ (o : Option Conn). IsHostedIf chain tree store d o (w.conns k)) at (h.conns k)))
+    by_conn (Some c) here =
+        absurd (subst (λ (o : Option Connection). IsHostedIf chain tree store d None o) here (subst (λ (o : Option Conn). IsHostedIf chain tree store d o (w.conns k)) at (h.conns k)))
 
   -- What a connection holds was given out.
   pub held_given : (conn : Conn) → IsStacked chain store conn → (n : ℕ) → Holds conn n → n < next_name store

@@ -5,7 +5,9 @@ pub mod MayFail
 pub mod FileNumbers
 pub mod Hosts
 pub mod HostsLeft
+pub mod Lent
 pub mod HostEvents
+pub mod StepCounts
 pub mod StepsSeen
 pub mod KnownEvents
 pub mod HostOpens
@@ -16,6 +18,5 @@ pub mod HostFails
 pub mod Safety
 pub mod Faultless
 pub mod HostCloses
-pub mod StepCounts
 pub mod Driving
 pub mod Going

@@ -31,13 +31,15 @@ added_kind : (name bytes : List ℕ) (d e : Device) (answer : Answer) → HasAdd
 added_kind name bytes d e Done (free, is) sound = ap (λ (x : Device). x.plan) is ∙ sound
 added_kind name bytes d e answer is sound = same_kind d e is sound
 
-reads_kind : (chain : List Program) (s : HostView) (c : Option Connection) (answer : Answer) (reads : Reads) (e : Device) → StepTellsReads chain s c answer reads e → s.device.plan ≡ Sound → e.plan ≡ Sound
+reads_kind : (chain : List Program) (s : HostView) (c : Option Connection) (answer : Answer) (reads : Reads) (e : Device) → StepTellsReads chain s c answer reads e → s.device.plan ≡ Sound
+    → e.plan ≡ Sound
 reads_kind chain s None answer reads e is = same_kind s.device e is
 reads_kind chain s (Some c) (Step t) reads e told = (step_spares s.device e chain (Ok t) (s.world.common, c) reads told).sound
 reads_kind chain s (Some c) (Refused r) reads e told = (step_spares s.device e chain (Err r) (s.world.common, c) reads told).sound
 reads_kind chain s (Some c) answer reads e is = same_kind s.device e is
 
-tells_kind : (chain : List Program) (k : ℕ) (what : Event) (s : HostView) (answer : Answer) (told : Told) (e : Device) → TellsEvent chain k what s answer told e → s.device.plan ≡ Sound → e.plan ≡ Sound
+tells_kind : (chain : List Program) (k : ℕ) (what : Event) (s : HostView) (answer : Answer) (told : Told) (e : Device) → TellsEvent chain k what s answer told e → s.device.plan ≡ Sound
+    → e.plan ≡ Sound
 unfolding TellsEvent
 tells_kind chain k (event.AddFile name bytes) s answer told e tells sound = added_kind name bytes s.device e answer tells sound
 tells_kind chain k (event.OpenFile name) s answer told e tells sound = (keeps_files name s.device e (refusal_in answer) tells.1).sound sound
@@ -78,7 +80,8 @@ by_opening next d name (Found skipped bytes) fails tells = absurd (false≢true 
 by_opening next d name Missing fails tells = absurd (false≢true fails)
 by_opening next d name Failing fails tells = tells
 
-by_event : (chain : List Program) (k : ℕ) (what : Event) (s : HostView) (answer : Answer) (told : Told) (e : Device) → fails_to_open what told ≡ true → TellsEvent chain k what s answer told e → MayFail s.device.plan
+by_event : (chain : List Program) (k : ℕ) (what : Event) (s : HostView) (answer : Answer) (told : Told) (e : Device) → fails_to_open what told ≡ true → TellsEvent chain k what s answer told e
+    → MayFail s.device.plan
 unfolding TellsEvent
 by_event chain k (event.OpenFile name) s answer told e fails tells = by_opening s.world.common.file s.device name told.opening fails tells.0
 by_event chain k what s answer told e fails tells = absurd (false≢true fails)
@@ -91,22 +94,14 @@ module _ (budget : ℕ) (chain : List Program) (number : ℕ) (old new : HostVie
 
   failed_never : (what : Event) → Answers budget chain number what old (Refused refusal.FileFailed) new → ⊥
   failed_never event.Step acts = step_unfailing acts.memory budget chain acts.told number old.world new.world (old.world.conns number) acts.is
-  failed_never event.Open acts = other event.Open (λ q. cc) acts
-  failed_never (event.AddFile name bytes) acts = other (event.AddFile name bytes) (λ q. cc) acts
-  failed_never event.Begin acts = other event.Begin (λ q. cc) acts
-  failed_never (event.OpenFile name) acts = other (event.OpenFile name) (λ q. cc) acts
-  failed_never (event.Bring pieces) acts = other (event.Bring pieces) (λ q. cc) acts
-  failed_never event.End acts = other event.End (λ q. cc) acts
-  failed_never event.TakeOutput acts = other event.TakeOutput (λ q. cc) acts
-  failed_never event.TellLabels acts = other event.TellLabels (λ q. cc) acts
-  failed_never event.TellPools acts = other event.TellPools (λ q. cc) acts
-  failed_never event.Close acts = other event.Close (λ q. cc) acts
+  failed_never what acts = other what (λ q. cc) acts
 
   -- No event answers that the device failed.
   pub acts_unfailing : (what : Event) (answer : Answer) → Answers budget chain number what old answer new → answer ≢ Refused refusal.FileFailed
-  acts_unfailing what answer acts is = failed_never what (record { memory = acts.memory; told = acts.told; is = acts.is ∙ ap (λ (a : Answer). (a, new.world)) is; tells = tells; closes = closes }) where
-    tells : TellsEvent chain number what old (Refused refusal.FileFailed) acts.told new.device
-    tells = subst (λ (a : Answer). TellsEvent chain number what old a acts.told new.device) is acts.tells
+  acts_unfailing what answer acts is =
+      failed_never what (record { memory = acts.memory; told = acts.told; is = acts.is ∙ ap (λ (a : Answer). (a, new.world)) is; tells = tells; closes = closes }) where
+        tells : TellsEvent chain number what old (Refused refusal.FileFailed) acts.told new.device
+        tells = subst (λ (a : Answer). TellsEvent chain number what old a acts.told new.device) is acts.tells
 
-    closes : ClosesFiles old.device new.device chain what (Refused refusal.FileFailed) old.world.common (old.world.conns number) new.world.common (new.world.conns number)
-    closes = subst (λ (a : Answer). ClosesFiles old.device new.device chain what a old.world.common (old.world.conns number) new.world.common (new.world.conns number)) is acts.closes
+        closes : ClosesFiles old.device new.device chain what (Refused refusal.FileFailed) old.world.common (old.world.conns number) new.world.common (new.world.conns number)
+        closes = subst (λ (a : Answer). ClosesFiles old.device new.device chain what a old.world.common (old.world.conns number) new.world.common (new.world.conns number)) is acts.closes

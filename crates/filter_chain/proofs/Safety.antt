@@ -17,7 +17,8 @@ unfolding NoFaults
 last_well [] a well = well.0
 last_well (b ∷ answers) a well = last_well answers a well.1
 
-pub event_answers_no_fault : (memory : Bool) (budget : ℕ) (chain : List Program) (told : Told) (number : ℕ) (what : Event) (w new : World) (answer : Answer) → ChainNeverFaults chain → IsReached budget chain w
+pub event_answers_no_fault : (memory : Bool) (budget : ℕ) (chain : List Program) (told : Told) (number : ℕ) (what : Event) (w new : World) (answer : Answer) → ChainNeverFaults chain
+    → IsReached budget chain w
     → happens memory budget chain told number what w ≡ (answer, new) → IsNoFault answer
 event_answers_no_fault memory budget chain told number what w new answer never reached is =
     last_well reached.answers answer (never budget (reached.events ++ (number, what) ∷ []) (reached.answers ++ answer ∷ []) new
@@ -33,6 +34,8 @@ reached_worlds_answer_no_fault budget chain number what old new answer never rea
     event_answers_no_fault acts.memory budget chain acts.told number what old.world new.world answer never reached acts.is
 
 -- So it is of each call of a host.
-pub happens_well : {F : Type 0} (d e : Device) (old new : Host F) (number : ℕ) (what : Event) (answer : Answer) (w : World) → IsHosting d old w → IsSafe old → Happens d e old new number what answer w → IsNoFault answer
+pub happens_well : {F : Type 0} (d e : Device) (old new : Host F) (number : ℕ) (what : Event) (answer : Answer) (w : World) → IsHosting d old w → IsSafe old
+    → Happens d e old new number what answer w → IsNoFault answer
 unfolding IsHosting
-happens_well d e old new number what answer w hosts safe h = reached_worlds_answer_no_fault (budget_of old) (chain_of old) number what (host_view w d) (host_view h.to e) answer safe hosts.reached h.acts
+happens_well d e old new number what answer w hosts safe h =
+    reached_worlds_answer_no_fault (budget_of old) (chain_of old) number what (host_view w d) (host_view h.to e) answer safe hosts.reached h.acts

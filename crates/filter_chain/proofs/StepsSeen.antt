@@ -1,18 +1,16 @@
 -- What an event tells and closes over the tree of all it tells and closes in the connection's part.
-use Rattle.std.proofs.Common.{◌≡◌, ℕ, Bool, true, false, cond, nat_le, List, [], ◌∷◌, Option, Some, None, Result, Ok, Err, refl, sym, ◌∙◌, ap, subst}
+use Rattle.std.proofs.Common.{◌≡◌, ℕ, Bool, true, List, [], ◌∷◌, Option, Some, None, Result, Ok, Err, refl, sym, ◌∙◌, ap, subst}
 use Rattle.std.specs.Prelude.{if◌then◌else◌}
 use Rattle.module_code.specs.declared.instr.Instr.{Instr}
 use Rattle.module_code.specs.declared.instr.Instr.TheVariants as instr
 use Rattle.module_code.specs.declared.instr.PoolRef.TheVariants as pool
 use Rattle.module_code.specs.Program.{Program}
 use Rattle.bucket_kinds.specs.Device.{Device, Missing}
-use Rattle.run_model.specs.declared.event.Cause.{Cause}
 use Rattle.run_model.specs.declared.event.Cause.TheVariants as cause
 use Rattle.run_model.specs.declared.event.Refusal.{Refusal}
 use Rattle.run_model.specs.declared.event.Refusal.TheVariants as refusal
 use Rattle.run_model.specs.declared.event.Stepped.{Stepped}
 use Rattle.run_model.specs.declared.event.Stepped.TheVariants as stepped
-use Rattle.run_model.specs.declared.fault.FaultKind.{FaultKind}
 use Rattle.run_model.specs.declared.payload.Payload.{Payload}
 use Rattle.run_model.specs.Cursors.{spot_of, holder_of, variable_of}
 use Rattle.run_model.specs.Faults.{fault}
@@ -22,7 +20,7 @@ use Rattle.run_model.specs.State.{named_at, pool_named}
 use Rattle.run_model.specs.Steps.{current}
 use Rattle.run_model.specs.Chains.{Frame, Connection, Common, Linked, configuration, module_at, pools_of}
 use Rattle.run_model.specs.Passing.{Reads}
-use Rattle.run_model.specs.Turns.{broken_by, executed, step_top, step_unless, steps, unless_fault, watched}
+use Rattle.run_model.specs.Turns.{steps}
 use Rattle.run_model.specs.Worlds.{World}
 use Rattle.model_laws.specs.Parts.{part}
 use Rattle.model_laws.specs.PartSteps.{LiesIn, linked_in_part}
@@ -39,10 +37,12 @@ use Rattle.model_laws.proofs.parts.Within.{StaysWithin}
 use Rattle.ring_run.specs.CarriedOut.{ClosedWith, WereLetGo}
 use Rattle.module_run.specs.Proceeding.{TellsClear, TellsReads}
 use Rattle.module_run.specs.Stepping.{ClearsAtTop, ClosesStep, TellsAtTop, TellsStep}
+use Rattle.filter_chain.proofs.StepCounts.{went_on}
 
 -- What the device tells.
 
-reads_alike : (d e : Device) (chain : List Program) (i : Instr) (f : Frame) (g : Common) (c : Connection) (ps : Pools Payload) (reads : Reads) → TellsReads d e chain i f (g, over ps c) reads → TellsReads d e chain i f (g, c) reads
+reads_alike : (d e : Device) (chain : List Program) (i : Instr) (f : Frame) (g : Common) (c : Connection) (ps : Pools Payload) (reads : Reads) → TellsReads d e chain i f (g, over ps c) reads
+    → TellsReads d e chain i f (g, c) reads
 unfolding configuration spot_of holder_of variable_of
 reads_alike d e chain (instr.Read x l) f g c ps reads told = told
 reads_alike d e chain (instr.Pass b l) f g c ps reads told = told
@@ -50,12 +50,14 @@ reads_alike d e chain (instr.PClear q) f g c ps reads told = told
 reads_alike d e chain (instr.PDestroy q) f g c ps reads told = told
 reads_alike d e chain i f g c ps reads told = told
 
-top_alike : (d e : Device) (chain : List Program) (fs : List Frame) (g : Common) (c : Connection) (ps : Pools Payload) (reads : Reads) → TellsAtTop d e chain fs (g, over ps c) reads → TellsAtTop d e chain fs (g, c) reads
+top_alike : (d e : Device) (chain : List Program) (fs : List Frame) (g : Common) (c : Connection) (ps : Pools Payload) (reads : Reads) → TellsAtTop d e chain fs (g, over ps c) reads
+    → TellsAtTop d e chain fs (g, c) reads
 unfolding TellsAtTop
 top_alike d e chain [] g c ps reads told = told
 top_alike d e chain (f ∷ rest) g c ps reads told = reads_alike d e chain (current (module_at chain f.of) f.pc) f g c ps reads told
 
-pub tells_alike : (d e : Device) (chain : List Program) (answer : Result Stepped Refusal) (g : Common) (c : Connection) (ps : Pools Payload) (reads : Reads) → TellsStep d e chain answer (g, over ps c) reads → TellsStep d e chain answer (g, c) reads
+pub tells_alike : (d e : Device) (chain : List Program) (answer : Result Stepped Refusal) (g : Common) (c : Connection) (ps : Pools Payload) (reads : Reads)
+    → TellsStep d e chain answer (g, over ps c) reads → TellsStep d e chain answer (g, c) reads
 tells_alike d e chain (Ok stepped.Went) g c ps reads told = top_alike d e chain c.stack g c ps reads told
 tells_alike d e chain (Ok (stepped.CallEnded s)) g c ps reads told = top_alike d e chain c.stack g c ps reads told
 tells_alike d e chain (Ok (stepped.Fault kind of pc)) g c ps reads told = told
@@ -89,28 +91,6 @@ module _ (ps : Pools Payload) (g : Common) (c : Connection) (l : LiesOver ps g c
   closed_in_part d e None v within formed under closed = closed
   closed_in_part d e (Some n) v within formed under closed = let_go_in_part d e n v within formed (under n refl) closed
 
--- a step that went had no fault
-went_faultless : (memory : Bool) (budget : ℕ) (chain : List Program) (reads : Reads) (g : Common) (c : Connection) (f : Frame) (rest : List Frame) → c.stack ≡ f ∷ rest → (steps memory budget chain reads (g, c)).0 ≡ Ok stepped.Went
-    → fault (module_at chain f.of) (configuration g c f) (current (module_at chain f.of) f.pc) ≡ None
-unfolding steps
-went_faultless memory budget chain reads g c f rest top went = by_broken c.broken went where
-  by_fault : (h : Frame) (hs : List Frame) (o : Option FaultKind) → fault (module_at chain h.of) (configuration g c h) (current (module_at chain h.of) h.pc) ≡ o
-      → (unless_fault o h (g, c) (executed memory chain reads (current (module_at chain h.of) h.pc) h hs (g, c))).0 ≡ Ok stepped.Went → fault (module_at chain h.of) (configuration g c h) (current (module_at chain h.of) h.pc) ≡ None
-  by_fault h hs None is answer = is
-  by_fault h hs (Some k) is answer = absurd (cc)
-
-  by_budget : (h : Frame) (hs : List Frame) (t : Bool) → (cond t (broken_by cause.OutOfSteps (g, c)) (watched memory chain reads h hs (g, c))).0 ≡ Ok stepped.Went → fault (module_at chain h.of) (configuration g c h) (current (module_at chain h.of) h.pc) ≡ None
-  by_budget h hs true answer = absurd (cc)
-  by_budget h hs false answer = by_fault h hs (fault (module_at chain h.of) (configuration g c h) (current (module_at chain h.of) h.pc)) refl answer
-
-  by_stack : (fs : List Frame) → fs ≡ f ∷ rest → (step_top memory budget chain reads fs (g, c)).0 ≡ Ok stepped.Went → fault (module_at chain f.of) (configuration g c f) (current (module_at chain f.of) f.pc) ≡ None
-  by_stack [] is answer = absurd (cc)
-  by_stack (h ∷ hs) is answer = (let same : h ≡ f = cc in subst (λ (x : Frame). fault (module_at chain x.of) (configuration g c x) (current (module_at chain x.of) x.pc) ≡ None) same (by_budget h hs (nat_le budget c.count) answer))
-
-  by_broken : (o : Option Cause) → (step_unless o memory budget chain reads (g, c)).0 ≡ Ok stepped.Went → fault (module_at chain f.of) (configuration g c f) (current (module_at chain f.of) f.pc) ≡ None
-  by_broken None answer = by_stack c.stack top answer
-  by_broken (Some k) answer = absurd (cc)
-
 module _ (budget : ℕ) (chain : List Program) (d e : Device) (w : World) (ps : Pools Payload) (number : ℕ) (c : Connection) (s : Stands chain w ps number c) (memory : Bool) (reads : Reads) where
   abbrev before : Linked
   before = (w.common, over ps c)
@@ -121,22 +101,27 @@ module _ (budget : ℕ) (chain : List Program) (d e : Device) (w : World) (ps : 
   within : StaysWithin c.conn (pools_of before.0 before.1) (pools_of after.0 after.1)
   within = turn_within chain ps w.common c s.lies after (steps_turn chain AnyLength w.common (over ps c) s.chained memory budget reads)
 
-  clear_alike : IsPoolMap (pools_of after.0 after.1) → (f : Frame) (i : Instr) → fault (module_at chain f.of) (configuration w.common (over ps c) f) i ≡ None → TellsClear d e i f before after → TellsClear d e i f (w.common, c) (linked_in_part c.conn after)
+  clear_alike : IsPoolMap (pools_of after.0 after.1) → (f : Frame) (i : Instr) → fault (module_at chain f.of) (configuration w.common (over ps c) f) i ≡ None → TellsClear d e i f before after
+      → TellsClear d e i f (w.common, c) (linked_in_part c.conn after)
   unfolding configuration named_at
   clear_alike formed f (instr.PClear q) none closed =
       closed_in_part ps w.common c s.lies d e (pool_named (configuration w.common c f) (pool.Own q)) after within formed
-      (λ n is. wanted_under c.conn (module_at chain f.of) (configuration w.common (over ps c) f) (s.lies.lies f) (pool.Own q) (wanted_pool (configuration w.common (over ps c) f) (pool.Own q) None none) n is) closed
+      (λ n is. wanted_under c.conn (module_at chain f.of) (configuration w.common (over ps c) f) (s.lies.lies f) (pool.Own q)
+      (wanted_pool (configuration w.common (over ps c) f) (pool.Own q) None none) n is) closed
   clear_alike formed f (instr.PDestroy q) none closed =
       closed_in_part ps w.common c s.lies d e (pool_named (configuration w.common c f) (pool.Own q)) after within formed
-      (λ n is. wanted_under c.conn (module_at chain f.of) (configuration w.common (over ps c) f) (s.lies.lies f) (pool.Own q) (wanted_pool (configuration w.common (over ps c) f) (pool.Own q) None none) n is) closed
+      (λ n is. wanted_under c.conn (module_at chain f.of) (configuration w.common (over ps c) f) (s.lies.lies f) (pool.Own q)
+      (wanted_pool (configuration w.common (over ps c) f) (pool.Own q) None none) n is) closed
   clear_alike formed f i none closed = closed
 
-  clears_alike : IsPoolMap (pools_of after.0 after.1) → (steps memory budget chain reads before).0 ≡ Ok stepped.Went → (fs : List Frame) → c.stack ≡ fs → ClearsAtTop d e chain fs before after → ClearsAtTop d e chain fs (w.common, c) (linked_in_part c.conn after)
+  clears_alike : IsPoolMap (pools_of after.0 after.1) → (steps memory budget chain reads before).0 ≡ Ok stepped.Went → (fs : List Frame) → c.stack ≡ fs → ClearsAtTop d e chain fs before after
+      → ClearsAtTop d e chain fs (w.common, c) (linked_in_part c.conn after)
   unfolding ClearsAtTop
   clears_alike formed went [] is closed = closed
-  clears_alike formed went (f ∷ rest) is closed = clear_alike formed f (current (module_at chain f.of) f.pc) (went_faultless memory budget chain reads w.common (over ps c) f rest is went) closed
+  clears_alike formed went (f ∷ rest) is closed = clear_alike formed f (current (module_at chain f.of) f.pc) ((went_on memory chain reads budget w.common (over ps c) went).faultless f rest is) closed
 
-  pub closes_alike : IsPoolMap (pools_of after.0 after.1) → (answer : Result Stepped Refusal) → (steps memory budget chain reads before).0 ≡ answer → ClosesStep d e chain answer before after → ClosesStep d e chain answer (w.common, c) (linked_in_part c.conn after)
+  pub closes_alike : IsPoolMap (pools_of after.0 after.1) → (answer : Result Stepped Refusal) → (steps memory budget chain reads before).0 ≡ answer → ClosesStep d e chain answer before after
+      → ClosesStep d e chain answer (w.common, c) (linked_in_part c.conn after)
   closes_alike formed (Ok stepped.Went) is closed = clears_alike formed is c.stack refl closed
   closes_alike formed (Ok (stepped.CallEnded x)) is closed = closed
   closes_alike formed (Ok (stepped.Fault kind of pc)) is closed = closed

@@ -4,20 +4,13 @@ use Rattle.std.proofs.Common.{◌∙◌, ap}
 use Rattle.std.proofs.Math.Path.{fun_ext}
 use Rattle.module_code.specs.Program.{Program}
 use Rattle.run_model.specs.declared.event.Stepped.TheVariants as stepped
-use Rattle.run_model.specs.Worlds.{Answer, Done, Refused, Connected, Step, Output, Opened, Labels, Tree}
+use Rattle.run_model.specs.Worlds.{Answer, Step}
 use Rattle.life_check.specs.ChainTheorem.{ChainNeverFaults, IsNoFault, NoFaults}
 
 no_fault_is_a_fact : (a : Answer) → IsProp (IsNoFault a)
-no_fault_is_a_fact Done x y = refl
-no_fault_is_a_fact (Refused r) x y = refl
-no_fault_is_a_fact (Connected k) x y = refl
-no_fault_is_a_fact (Step stepped.Went) x y = refl
-no_fault_is_a_fact (Step (stepped.CallEnded s)) x y = refl
 no_fault_is_a_fact (Step (stepped.Fault k m pc)) x y = absurd x
-no_fault_is_a_fact (Output bytes) x y = refl
-no_fault_is_a_fact (Opened file len) x y = refl
-no_fault_is_a_fact (Labels texts) x y = refl
-no_fault_is_a_fact (Tree root pools) x y = refl
+no_fault_is_a_fact (Step answer) x y = refl
+no_fault_is_a_fact a x y = refl
 
 no_faults_are_a_fact : (answers : List Answer) → IsProp (NoFaults answers)
 unfolding NoFaults

@@ -206,17 +206,8 @@ module _ (was is : Bool) where
 
 -- where nothing is opened, neither is asked
 unopened_kind : (why : Refusal) → (kind_of why ≡ kind.NamesSpent) ⊎ (kind_of why ≡ kind.NoMemory)
-unopened_kind refusal.NoSuchConn = inr refl
-unopened_kind (refusal.Broken c) = inr refl
-unopened_kind refusal.Busy = inr refl
-unopened_kind refusal.Idle = inr refl
-unopened_kind refusal.InRequest = inr refl
-unopened_kind refusal.NotInRequest = inr refl
-unopened_kind refusal.DataAfterEos = inr refl
-unopened_kind refusal.NoFile = inr refl
-unopened_kind refusal.FileFailed = inr refl
 unopened_kind refusal.NamesSpent = inl refl
-unopened_kind refusal.NoMemory = inr refl
+unopened_kind why = inr refl
 
 module _ (was : Bool) where
   sink_kind : (e : FrontKind) → (e ≡ kind.NamesSpent) ⊎ (e ≡ kind.NoMemory) → BlamesSink {T = Served} (Err e) was was

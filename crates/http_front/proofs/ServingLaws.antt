@@ -327,9 +327,7 @@ module _ {H K : Type 0} (site : Site) (handles : H → Method → List ℕ → R
         lack_memory r q w v old before new after (far_lacks (λ m. IsDue) old before r q w v unread n mid then so (λ left leaves. is_due unread left whole (λ is. at_end q left leaves (end is)) wants))
     far_lacks_by old before r q w v unread whole n mid new then after kind.NamesSpent so end wants =
         far_lacks (λ m seen left. LacksFile site lacks m seen new) old before r q w v unread n mid then so (λ left leaves. wants)
-    far_lacks_by old before r q w v unread whole n mid new then after kind.Read so end lack = absurd lack
-    far_lacks_by old before r q w v unread whole n mid new then after kind.Write so end lack = absurd lack
-    far_lacks_by old before r q w v unread whole n mid new then after kind.TooManyReads so end lack = absurd lack
+    far_lacks_by old before r q w v unread whole n mid new then after e so end lack = absurd lack
 
     -- The sink fails, or lacks memory.
     cut_lacks : (r q w v : Option (List ℕ)) (old : H) (before : K) (new : H) (after : K)

@@ -41,11 +41,7 @@ module _ (k : ℕ) (w : World) (there : IsThere k w) where
   stays_on memory budget chain told event.Step c own = step_there _
   stays_on memory budget chain told event.End c own = answered_there _
   stays_on memory budget chain told event.TakeOutput c own = put_there k (w.common, record c { out = record c.out { bytes = [] } }) w
-  stays_on memory budget chain told event.Open c own = absurd own
-  stays_on memory budget chain told (event.AddFile name bytes) c own = absurd own
-  stays_on memory budget chain told event.TellPools c own = absurd own
-  stays_on memory budget chain told event.TellLabels c own = absurd own
-  stays_on memory budget chain told event.Close c own = absurd own
+  stays_on memory budget chain told what c own = absurd own
 
 module _ (budget : ℕ) (chain : List Program) (number : ℕ) where
   stays : (what : Event) (answer : Answer) (s t : HostView) → IsOfConn what → Answers budget chain number what s answer t → IsThere number s.world → IsThere number t.world

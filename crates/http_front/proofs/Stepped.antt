@@ -132,9 +132,7 @@ module _ {H : Type 0} (site : Site) (lacks : H → Method → List ℕ → Front
     begins = begins_before seen wants.head wants.rest wants.begins;
     names = wants.names;
   }
-  lack_before seen whole kind.Read lack = absurd lack
-  lack_before seen whole kind.Write lack = absurd lack
-  lack_before seen whole kind.TooManyReads lack = absurd lack
+  lack_before seen whole e lack = absurd lack
 
   pub lack_wider : {A : Type 0} (seen low : List ℕ) (whole ended : Bool) (r : Result A FrontKind) → low ≡ take head_limit seen → ended ≡ (whole && nat_le (length seen) head_limit)
       → IfErr r (LacksAnswer site lacks old low ended new) → IfErr r (LacksAnswer site lacks old seen whole new)

@@ -24,44 +24,29 @@ use Rattle.http_front.specs.Turns.{WantsMore}
 
 -- what is told of source and sink, where neither failed
 module _ {A : Type 0} (was is : Bool) (same : is ≡ was) where
-  pub sink_lack : (r : Result A FrontKind) → IfErr r IsLack → BlamesSink r was is
-  sink_lack (Ok x) lack = same
-  sink_lack (Err kind.Write) (inl ill) = absurd (cc)
-  sink_lack (Err kind.Write) (inr ill) = absurd (cc)
-  sink_lack (Err kind.Read) lack = same
-  sink_lack (Err kind.TooManyReads) lack = same
-  sink_lack (Err kind.NoMemory) lack = same
-  sink_lack (Err kind.NamesSpent) lack = same
-
-  pub source_lack : (left : ℕ) (r : Result A FrontKind) → IfErr r IsLack → BlamesSource r was is left
-  source_lack left (Ok x) lack = same
-  source_lack left (Err kind.Read) (inl ill) = absurd (cc)
-  source_lack left (Err kind.Read) (inr ill) = absurd (cc)
-  source_lack left (Err kind.TooManyReads) (inl ill) = absurd (cc)
-  source_lack left (Err kind.TooManyReads) (inr ill) = absurd (cc)
-  source_lack left (Err kind.Write) lack = same
-  source_lack left (Err kind.NoMemory) lack = same
-  source_lack left (Err kind.NamesSpent) lack = same
-
-  -- of a write
-  pub source_wrote : (left : ℕ) (r : Result A FrontKind) → IfErr r IsSinkKind → BlamesSource r was is left
-  source_wrote left (Ok x) kinds = same
-  source_wrote left (Err kind.Read) (inl ill) = absurd (cc)
-  source_wrote left (Err kind.Read) (inr ill) = absurd (cc)
-  source_wrote left (Err kind.TooManyReads) (inl ill) = absurd (cc)
-  source_wrote left (Err kind.TooManyReads) (inr ill) = absurd (cc)
-  source_wrote left (Err kind.Write) kinds = same
-  source_wrote left (Err kind.NoMemory) kinds = same
-  source_wrote left (Err kind.NamesSpent) kinds = same
-
-  -- of a read
   pub sink_read : (r : Result A FrontKind) → r ≢ Err kind.Write → BlamesSink r was is
   sink_read (Ok x) not = same
   sink_read (Err kind.Write) not = absurd (not refl)
-  sink_read (Err kind.Read) not = same
-  sink_read (Err kind.TooManyReads) not = same
-  sink_read (Err kind.NoMemory) not = same
-  sink_read (Err kind.NamesSpent) not = same
+  sink_read (Err e) not = same
+
+  pub sink_lack : (r : Result A FrontKind) → IfErr r IsLack → BlamesSink r was is
+  sink_lack (Ok x) lack = same
+  sink_lack (Err kind.Write) lack = absurd (elim lack [ inl ill ↦ (cc) | inr ill ↦ (cc) ])
+  sink_lack (Err e) lack = same
+
+  -- Failures of this kind are not the source's.
+  source_by_kind : (P : FrontKind → Type 0) → (P kind.Read → ⊥) → (P kind.TooManyReads → ⊥) → (left : ℕ) (r : Result A FrontKind) → IfErr r P → BlamesSource r was is left
+  source_by_kind P read many left (Ok x) kinds = same
+  source_by_kind P read many left (Err kind.Read) kinds = absurd (read kinds)
+  source_by_kind P read many left (Err kind.TooManyReads) kinds = absurd (many kinds)
+  source_by_kind P read many left (Err e) kinds = same
+
+  pub source_lack : (left : ℕ) (r : Result A FrontKind) → IfErr r IsLack → BlamesSource r was is left
+  source_lack = source_by_kind IsLack (λ lack. elim lack [ inl ill ↦ (cc) | inr ill ↦ (cc) ]) (λ lack. elim lack [ inl ill ↦ (cc) | inr ill ↦ (cc) ])
+
+  -- of a write
+  pub source_wrote : (left : ℕ) (r : Result A FrontKind) → IfErr r IsSinkKind → BlamesSource r was is left
+  source_wrote = source_by_kind IsSinkKind (λ kinds. elim kinds [ inl ill ↦ (cc) | inr ill ↦ (cc) ]) (λ kinds. elim kinds [ inl ill ↦ (cc) | inr ill ↦ (cc) ])
 
 -- what a failure leaves
 module _ {A E : Type 0} where
@@ -86,12 +71,8 @@ module _ {H T : Type 0} (site : Site) (lacks : H → Method → List ℕ → Fro
   pub slice_lack : (hand : Option (UnderWay T)) (e : FrontKind) → LacksSlice site lacks lacks_rest hand old seen whole new e → IsLack e
   slice_lack hand kind.NoMemory h = inl refl
   slice_lack hand kind.NamesSpent h = inr refl
-  slice_lack None kind.Read h = absurd h
-  slice_lack None kind.Write h = absurd h
-  slice_lack None kind.TooManyReads h = absurd h
-  slice_lack (Some u) kind.Read h = absurd h
-  slice_lack (Some u) kind.Write h = absurd h
-  slice_lack (Some u) kind.TooManyReads h = absurd h
+  slice_lack None e h = absurd h
+  slice_lack (Some u) e h = absurd h
 
   -- of a request that was in hand
   pub in_hand : {A : Type 0} (hand : Option (UnderWay T)) (u : UnderWay T) (r : Result A FrontKind) → hand ≡ Some u
@@ -101,12 +82,8 @@ module _ {H T : Type 0} (site : Site) (lacks : H → Method → List ℕ → Fro
     by : (e : FrontKind) → IsLack e → (e ≡ kind.NamesSpent → lacks_rest old u.task e new) → LacksSlice site lacks lacks_rest (Some u) old seen whole new e
     by kind.NoMemory lack names = tt
     by kind.NamesSpent lack names = names refl
-    by kind.Read (inl ill) names = absurd (cc)
-    by kind.Read (inr ill) names = absurd (cc)
-    by kind.Write (inl ill) names = absurd (cc)
-    by kind.Write (inr ill) names = absurd (cc)
-    by kind.TooManyReads (inl ill) names = absurd (cc)
-    by kind.TooManyReads (inr ill) names = absurd (cc)
+    by e (inl ill) names = absurd (cc)
+    by e (inr ill) names = absurd (cc)
 
   -- a text is made only where an answer is wanted
   module _ {K : Type 0} (among : H → Method → List ℕ → RequestOutcome → H → Type 0) (rests : H → T → RequestOutcome → H → Type 0) (tells : K → Said → K → Type 0)
@@ -173,11 +150,9 @@ module _ {A E T : Type 0} (r : Result A E) (c d : HttpConn T) where
 -- what a step does
 module _ {T : Type 0} (c d : HttpConn T) where
   counts_step : (s : ServeStep) → Follows s c d → CountsOn c d
-  counts_step (step.Stays size) f = inr f.counted
-  counts_step (step.Closes size) f = inr f.counted
-  counts_step step.Refused f = inr f.counted
   counts_step step.More f = inl f.counted
   counts_step step.Done f = inl f.counted
+  counts_step s f = inr f.counted
 
   counts_slice : (x : StepSlice T) → Lands x c d → CountsOn c d
   counts_slice (slice.Did s) l = counts_step s l.0
@@ -186,11 +161,8 @@ module _ {T : Type 0} (c d : HttpConn T) where
   module _ {H K : Type 0} (site : Site) (among : H → Method → List ℕ → RequestOutcome → H → Type 0) (rests : H → T → RequestOutcome → H → Type 0)
       (tells : K → Said → K → Type 0) (now new : H) (before after : K) (whole : Bool) (text : List ℕ) where
     wants_step : (s : ServeStep) → DoesStep site among tells now before (unread c.inbox) whole s text new after → Follows s c d → d.wants ≡ true → (c.wants ≡ true) ⊎ WantsMore (unread d.inbox)
-    wants_step (step.Stays size) did f is = inl (sym f.wants ∙ is)
-    wants_step (step.Closes size) did f is = inl (sym f.wants ∙ is)
-    wants_step step.Refused did f is = inl (sym f.wants ∙ is)
     wants_step step.More did f is = inr (subst WantsMore (sym f.still) did.1)
-    wants_step step.Done did f is = inl (sym f.wants ∙ is)
+    wants_step s did f is = inl (sym f.wants ∙ is)
 
     wants_slice : (hand : Option (UnderWay T)) (x : StepSlice T) → StepsFrom site among rests tells hand now before (unread c.inbox) whole x text new after
         → Lands x c d → hand ≡ None → d.wants ≡ true → (c.wants ≡ true) ⊎ WantsMore (unread d.inbox)

@@ -25,7 +25,8 @@ unfolding SiteFailsAt
 fails_here ls l behind n old split none = subst (λ x. SiteFailsAt n x old n) (sym split) (inl (refl, none))
 
 pub so_far_adds : (text rest : List ℕ) (n w : ℕ) (l : RawLine) (old mid : Routes) → SoFar text rest n old → IsSplit rest l w → AddsLine l old mid → SoFar text (drop w rest) (n + 1) mid
-so_far_adds text rest n w l old mid s split one = record { adds = λ new more. s.adds new (adds_one _ l _ old mid new split one more); fails = λ k more. s.fails k (fails_later _ l _ (n + 1) k old mid split one more) }
+so_far_adds text rest n w l old mid s split one =
+    record { adds = λ new more. s.adds new (adds_one _ l _ old mid new split one more); fails = λ k more. s.fails k (fails_later _ l _ (n + 1) k old mid split one more) }
 
 pub so_far_fails : (text rest : List ℕ) (n w : ℕ) (l : RawLine) (old : Routes) → SoFar text rest n old → IsSplit rest l w → AddsNothing l old → SiteFailsAt 1 (lines_of text) no_routes (n + 1)
 so_far_fails text rest n w l old s split none = s.fails (n + 1) (fails_here _ l _ (n + 1) old split none)
@@ -35,8 +36,12 @@ unfolding AddsLines lines_of
 so_far_end text [] n now s none = s.adds now (λ q. refl)
 so_far_end text (b ∷ bs) n now s none = absurd (cc none)
 
-pub nothing_first : (rest t : List ℕ) (e : Bool) (r : Routes) → t ≡ (first_line rest).text → e ≡ (first_line rest).ended → AddsNothing (record { text = t; ended = e }) r → AddsNothing (first_line rest) r
-nothing_first rest t e r p q n = subst (λ (y : Bool). AddsNothing (record { text = (first_line rest).text; ended = y }) r) q (subst (λ (x : List ℕ). AddsNothing (record { text = x; ended = e }) r) p n)
+pub nothing_first : (rest t : List ℕ) (e : Bool) (r : Routes) → t ≡ (first_line rest).text → e ≡ (first_line rest).ended → AddsNothing (record { text = t; ended = e }) r
+    → AddsNothing (first_line rest) r
+nothing_first rest t e r p q n =
+    subst (λ (y : Bool). AddsNothing (record { text = (first_line rest).text; ended = y }) r) q (subst (λ (x : List ℕ). AddsNothing (record { text = x; ended = e }) r) p n)
 
-pub added_first : (rest t : List ℕ) (e : Bool) (old new : Routes) → t ≡ (first_line rest).text → e ≡ (first_line rest).ended → AddsLine (record { text = t; ended = e }) old new → AddsLine (first_line rest) old new
-added_first rest t e old new p q n = subst (λ (y : Bool). AddsLine (record { text = (first_line rest).text; ended = y }) old new) q (subst (λ (x : List ℕ). AddsLine (record { text = x; ended = e }) old new) p n)
+pub added_first : (rest t : List ℕ) (e : Bool) (old new : Routes) → t ≡ (first_line rest).text → e ≡ (first_line rest).ended → AddsLine (record { text = t; ended = e }) old new
+    → AddsLine (first_line rest) old new
+added_first rest t e old new p q n =
+    subst (λ (y : Bool). AddsLine (record { text = (first_line rest).text; ended = y }) old new) q (subst (λ (x : List ℕ). AddsLine (record { text = x; ended = e }) old new) p n)

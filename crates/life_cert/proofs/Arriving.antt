@@ -1,5 +1,6 @@
 -- What is true of growing states stays so.
-use Rattle.std.proofs.Common.{◌≡◌, ℕ, suc, ◌+◌, ◌<◌, ◌≤◌, true, false, if◌then◌else◌, List, [], ◌∷◌, length, All, ◌⊎◌, inl, inr, Option, Some, None, refl, ap, sym, ◌∙◌, subst, drop, get_or, add-one, drop-cons, lt-ltb}
+use Rattle.std.proofs.Common.{◌≡◌, ℕ, suc, ◌+◌, ◌<◌, ◌≤◌, true, false, if◌then◌else◌, List, [], ◌∷◌, length, All, ◌⊎◌, inl, inr, Option, Some, None, refl, ap, sym, ◌∙◌, subst, drop, get_or, add-one}
+use Rattle.std.proofs.Common.{drop-cons, lt-ltb}
 use Rattle.std.proofs.Math.ListN.{get_or-map}
 use Rattle.std.proofs.lemmas.List.{drop_all, length-map}
 use Rattle.std.proofs.lemmas.List.Elements.{All-nil, All-cons, All-append}
@@ -44,7 +45,8 @@ grow_keeps p w s g h inside declared = record {
   few = h.few;
   lines = lines_written w s g.states ∙ h.lines;
   states = λ v t e. elim (read_written w v s g.states) [ inl new ↦ subst (IsDeclared p) (some_is (sym (new.1) ∙ e)) declared | inr old ↦ h.states v t (sym old ∙ e) ];
-  places = All-append (λ v. is_inside (length p.code) v ≡ true) g.grown (w ∷ []) h.places (All-cons (λ v. is_inside (length p.code) v ≡ true) w [] inside (All-nil (λ v. is_inside (length p.code) v ≡ true)));
+  places = All-append (λ v. is_inside (length p.code) v ≡ true) g.grown (w ∷ []) h.places
+      (All-cons (λ v. is_inside (length p.code) v ≡ true) w [] inside (All-nil (λ v. is_inside (length p.code) v ≡ true)));
 }
 
 joined_declared : (p : Program) (s t : State) → IsDeclared p t → IsDeclared p (join t s)
@@ -84,7 +86,8 @@ at_seen xs i d = get_or-map seen_arrival xs i d
 pub fit_at : (p : Program) (xs : List code.Arrival) (i : ℕ) (d : code.Arrival) → All (IsFit p) (seen_arrivals xs) → i < length xs → IsFit p (seen_arrival (get_or xs i d))
 fit_at p xs i d fit inside = subst (IsFit p) (at_seen xs i d) (fit i (seen_arrival d) (subst (λ (n : ℕ). i < n) (sym (length_seen xs)) inside))
 
-pub inside_at : (p : Program) (g : Growth) (xs : List code.Arrival) (i : ℕ) (d : code.Arrival) → IsOf p (seen_growth g) → All (IsFit p) (seen_arrivals xs) → i < length xs → is_inside (length g.cert.at.items) (get_or xs i d).place ≡ true
+pub inside_at : (p : Program) (g : Growth) (xs : List code.Arrival) (i : ℕ) (d : code.Arrival) → IsOf p (seen_growth g) → All (IsFit p) (seen_arrivals xs) → i < length xs
+    → is_inside (length g.cert.at.items) (get_or xs i d).place ≡ true
 inside_at p g xs i d h fit inside = subst (λ (n : ℕ). is_inside n (get_or xs i d).place ≡ true) (sym h.lines) (fit_at p xs i d fit inside).inside
 
 pub pools_at : (p : Program) (g : Growth) (xs : List code.Arrival) (i : ℕ) (d : code.Arrival) → IsOf p (seen_growth g) → All (IsFit p) (seen_arrivals xs) → i < length xs

@@ -38,7 +38,8 @@ under_at : (s t : State) (o : Option State) → o ≡ Some t → leq s t ≡ tru
 under_at s t o e h = ap (is_below s) e ∙ h
 
 under_by : (p : Program) (a : Arrival) (g : Grown) (o : Option State) → state_at g.states a.place ≡ o → IsOf p g → IsFit p a → Good p a → Under (arrive_by o a g).states a
-under_by p a g None e h fit good = under_at a.state a.state (state_at (with_state a.place a.state g.states) a.place) (written a.place a.state g.states) (below_itself p (is_in_main p a.place) a.state good)
+under_by p a g None e h fit good =
+    under_at a.state a.state (state_at (with_state a.place a.state g.states) a.place) (written a.place a.state g.states) (below_itself p (is_in_main p a.place) a.state good)
 under_by p a g (Some t) e h fit good = by_order (leq a.state t) refl
   where
     by_order : (b : Bool) → leq a.state t ≡ b → Under (if b then g else grow a.place (join t a.state) g).states a
@@ -80,7 +81,8 @@ grow_same v w s g = elim (read_written w v s g.states) [ inl here ↦ inl (has_l
 
 same_by : (v : StatePlace) (a : Arrival) (g : Grown) (o : Option State) → Has v (arrive_by o a g).grown ⊎ (state_at (arrive_by o a g).states v ≡ state_at g.states v)
 same_by v a g None = grow_same v a.place a.state g
-same_by v a g (Some t) = elim (leq a.state t) as (λ b. Has v (if b then g else grow a.place (join t a.state) g).grown ⊎ (state_at (if b then g else grow a.place (join t a.state) g).states v ≡ state_at g.states v)) [ true ↦ inr refl | false ↦ grow_same v a.place (join t a.state) g ]
+same_by v a g (Some t) = elim (leq a.state t) as (λ b. Has v (if b then g else grow a.place (join t a.state) g).grown ⊎
+    (state_at (if b then g else grow a.place (join t a.state) g).states v ≡ state_at g.states v)) [ true ↦ inr refl | false ↦ grow_same v a.place (join t a.state) g ]
 
 still_by : (v : StatePlace) (a : Arrival) (g : Grown) (o : Option State) → Has v g.grown → Has v (arrive_by o a g).grown
 still_by v a g None h = has_left v g.grown (a.place ∷ []) h

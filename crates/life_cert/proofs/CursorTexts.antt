@@ -5,7 +5,8 @@ use Rattle.life_state.specs.declared.parts.Classes.{Classes}
 use Rattle.life_state.specs.States.{CursorKnown, Unset, Loose, In, End, InOrEnd}
 use Rattle.life_state.specs.Facts.{is_set}
 use Rattle.life_cert.specs.StateText.{where_holds, classes_text, homes, homes_text, cursor_name, brigade_name, place_text_of, cursor_text}
-use Rattle.life_cert.specs.StateFromText.{at_past, at_read, behind, classes_past, classes_read, cursor_past, cursor_read, homes_from, homes_past, homes_read, key, loose_past, loose_read, number_in, past, place_past, place_read, starts}
+use Rattle.life_cert.specs.StateFromText.{at_past, at_read, behind, classes_past, classes_read, cursor_past, cursor_read, homes_from, homes_past, homes_read, key, loose_past, loose_read, number_in}
+use Rattle.life_cert.specs.StateFromText.{past, place_past, place_read, starts}
 use Rattle.life_cert.proofs.Taking.{Ended, ThreeTaken, behind_self, brigade_first, brigade_named, classes_taken, one, second_of, starts_self}
 use Rattle.life_cert.proofs.HomeTexts.{bits, homes_taken}
 
@@ -51,7 +52,8 @@ named_place b v r m below read more =
     let no = not_loose b (second_of 110 b ∷ r) in
     let high : 56 < 110 = omega arith in
     record {
-      read = ap place_read is ∙ ap (λ (x : Bool). cond x (loose_read (behind (codes "loose/") t)) (at_read (number_in 110 t) r)) no ∙ ap (λ (k : ℕ). at_read k r) (number_told 110 (brigade_first b) b r high below) ∙ read;
+      read = ap place_read is ∙ ap (λ (x : Bool). cond x (loose_read (behind (codes "loose/") t)) (at_read (number_in 110 t) r)) no
+          ∙ ap (λ (k : ℕ). at_read k r) (number_told 110 (brigade_first b) b r high below) ∙ read;
       more = ap place_past is ∙ ap (λ (x : Bool). cond x (loose_past (behind (codes "loose/") t)) (at_past r)) no ∙ more;
     }
 
@@ -77,7 +79,8 @@ place_taken (In b s) m set say e =
     let taken = classes_taken s m e in
     again_at (In b s) m (place_text_of (In b s) ++ m) (brigade_name b ++ (47 ∷ (classes_text s ++ m))) (append_assoc (brigade_name b) (47 ∷ classes_text s) m)
     (named_place b (In b s) (47 ∷ (classes_text s ++ m)) m say (ap (λ (c : Classes). (let k : CursorKnown = In b c in k)) (same_classes s m (classes_text s ++ m) taken)) taken.more)
-place_taken (End b) m set say e = again_at (End b) m (place_text_of (End b) ++ m) (brigade_name b ++ (36 ∷ m)) (append_assoc (brigade_name b) (36 ∷ []) m) (named_place b (End b) (36 ∷ m) m say refl refl)
+place_taken (End b) m set say e =
+    again_at (End b) m (place_text_of (End b) ++ m) (brigade_name b ++ (36 ∷ m)) (append_assoc (brigade_name b) (36 ∷ []) m) (named_place b (End b) (36 ∷ m) m say refl refl)
 place_taken (InOrEnd b s) m set say e =
     let taken = classes_taken s m e in
     again_at (InOrEnd b s) m (place_text_of (InOrEnd b s) ++ m) (brigade_name b ++ (63 ∷ (47 ∷ (classes_text s ++ m)))) (append_assoc (brigade_name b) (63 ∷ (47 ∷ classes_text s)) m)

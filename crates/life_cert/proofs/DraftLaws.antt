@@ -1,5 +1,6 @@
 -- What one more line of a certificate text adds.
-use Rattle.std.proofs.Common.{◌≡◌, ℕ, ◌+◌, ◌^◌, ◌<◌, ◌≤◌, Bool, true, false, ◌&&◌, List, [], ◌∷◌, ◌++◌, length, replicate, codes, decimal, Option, Some, None, refl, sym, ap, subst, ◌∙◌, append_assoc, append-nil, arith, length-append}
+use Rattle.std.proofs.Common.{◌≡◌, ℕ, ◌+◌, ◌^◌, ◌<◌, ◌≤◌, Bool, true, false, ◌&&◌, List, [], ◌∷◌, ◌++◌, length, replicate, codes, decimal, Option, Some, None, refl, sym, ap, subst, ◌∙◌, append_assoc}
+use Rattle.std.proofs.Common.{append-nil, arith, length-append}
 use Rattle.std.proofs.lemmas.List.{length-replicate}
 use Rattle.std.specs.Prelude.{nat_eq, nat_le, slice_get, IfSome, IsSome}
 use Rattle.std.specs.Cmp.Lexicographic.{pointwise, same_text}
@@ -86,7 +87,8 @@ right d l x clean is has code_of.BadByte h = cc (clean, h)
 right d l x clean is has code_of.NotDue h = cc (is, h)
 right d l x clean is has code_of.NotState h = let lacks = subst (λ (o : Option CertLine). LacksState o (after_token l)) is h in lacks has
 
-pub added : (d : CertDraft) (l : List ℕ) (e : CertDraft) (x : CertLine) → all_printable l ≡ true → due_line d.due l ≡ Some x → HasState x (after_token l) → e.due ≡ due_after x → text_so_far (due_after x) e.slim (seen_draft e) ≡ text_so_far d.due d.slim (seen_draft d) ++ (l ++ 10 ∷ []) → IsLineAdded d l e
+pub added : (d : CertDraft) (l : List ℕ) (e : CertDraft) (x : CertLine) → all_printable l ≡ true → due_line d.due l ≡ Some x → HasState x (after_token l) → e.due ≡ due_after x
+    → text_so_far (due_after x) e.slim (seen_draft e) ≡ text_so_far d.due d.slim (seen_draft d) ++ (l ++ 10 ∷ []) → IsLineAdded d l e
 added d l e x clean is has next text = record {
   right = right d.due l x clean is has;
   due = next ∙ sym (ap (left_by d.due) is);
@@ -100,20 +102,23 @@ head d = first_line d.slim ++ between_line (codes "idle ") (seen_some d.idle)
 abbrev tail_of : CertDraft → List ℕ
 tail_of d = each 0 (length d.at.items) (λ pc. pc_line pc (seen_line (slice_get d.at.items pc)))
 
-pub header_text : (d e : CertDraft) (l : List ℕ) → d.due ≡ due.Header → l ++ 10 ∷ [] ≡ first_line e.slim → text_so_far due.Idle e.slim (seen_draft e) ≡ text_so_far d.due d.slim (seen_draft d) ++ (l ++ 10 ∷ [])
+pub header_text : (d e : CertDraft) (l : List ℕ) → d.due ≡ due.Header → l ++ 10 ∷ [] ≡ first_line e.slim
+    → text_so_far due.Idle e.slim (seen_draft e) ≡ text_so_far d.due d.slim (seen_draft d) ++ (l ++ 10 ∷ [])
 unfolding text_so_far
 header_text d e l at is = sym (ap (λ (u : Due). text_so_far u d.slim (seen_draft d) ++ (l ++ 10 ∷ [])) at ∙ is)
 
 line_of : (w l : List ℕ) (o : Option State) → l ≡ w ++ after_token l → IsStateOrNone (after_token l) o → l ++ 10 ∷ [] ≡ w ++ (32 ∷ (state_or_none o ++ 10 ∷ []))
 line_of w l o is has = ap (λ t. t ++ 10 ∷ []) (is ∙ ap (λ t. w ++ t) has.1) ∙ append_assoc w (32 ∷ state_or_none o) (10 ∷ [])
 
-pub idle_text : (d e : CertDraft) (l : List ℕ) → d.due ≡ due.Idle → l ≡ codes "idle" ++ after_token l → IsStateOrNone (after_token l) (seen_some e.idle) → e.slim ≡ d.slim → text_so_far due.Ready e.slim (seen_draft e) ≡ text_so_far d.due d.slim (seen_draft d) ++ (l ++ 10 ∷ [])
+pub idle_text : (d e : CertDraft) (l : List ℕ) → d.due ≡ due.Idle → l ≡ codes "idle" ++ after_token l → IsStateOrNone (after_token l) (seen_some e.idle) → e.slim ≡ d.slim
+    → text_so_far due.Ready e.slim (seen_draft e) ≡ text_so_far d.due d.slim (seen_draft d) ++ (l ++ 10 ∷ [])
 unfolding text_so_far
 idle_text d e l at is has slim =
     ap (λ (b : Bool). first_line b ++ between_line (codes "idle ") (seen_some e.idle)) slim
     ∙ sym (ap (λ (u : Due). text_so_far u d.slim (seen_draft d) ++ (l ++ 10 ∷ [])) at ∙ ap (λ t. first_line d.slim ++ t) (line_of (codes "idle") l (seen_some e.idle) is has))
 
-pub ready_text : (d e : CertDraft) (l : List ℕ) → d.due ≡ due.Ready → l ≡ codes "ready" ++ after_token l → IsStateOrNone (after_token l) (seen_some e.ready) → seen_some e.idle ≡ seen_some d.idle → length e.at.items ≡ 0 → e.slim ≡ d.slim → text_so_far (due.States 0) e.slim (seen_draft e) ≡ text_so_far d.due d.slim (seen_draft d) ++ (l ++ 10 ∷ [])
+pub ready_text : (d e : CertDraft) (l : List ℕ) → d.due ≡ due.Ready → l ≡ codes "ready" ++ after_token l → IsStateOrNone (after_token l) (seen_some e.ready) → seen_some e.idle ≡ seen_some d.idle
+    → length e.at.items ≡ 0 → e.slim ≡ d.slim → text_so_far (due.States 0) e.slim (seen_draft e) ≡ text_so_far d.due d.slim (seen_draft d) ++ (l ++ 10 ∷ [])
 unfolding text_so_far each
 ready_text d e l at is has idle none slim =
     let ready = between_line (codes "ready ") (seen_some e.ready) in
@@ -126,14 +131,16 @@ ready_text d e l at is has idle none slim =
 regroup : (x r e l : List ℕ) → x ++ (r ++ (e ++ l)) ≡ (x ++ (r ++ e)) ++ l
 regroup x r e l = sym (append_assoc x (r ++ e) l ∙ ap (λ t. x ++ t) (append_assoc r e l))
 
-pub pc_text : (d e : CertDraft) (l : List ℕ) (next pc m : ℕ) (s : code.State) → d.due ≡ due.States next → l ≡ decimal pc ++ after_token l → IsState (after_token l) (seen s) → seen_some e.idle ≡ seen_some d.idle → seen_some e.ready ≡ seen_some d.ready → e.at.items ≡ (d.at.items ++ replicate m None) ++ Some s ∷ [] → pc ≡ length d.at.items + m → e.slim ≡ d.slim
+pub pc_text : (d e : CertDraft) (l : List ℕ) (next pc m : ℕ) (s : code.State) → d.due ≡ due.States next → l ≡ decimal pc ++ after_token l → IsState (after_token l) (seen s)
+    → seen_some e.idle ≡ seen_some d.idle → seen_some e.ready ≡ seen_some d.ready → e.at.items ≡ (d.at.items ++ replicate m None) ++ Some s ∷ [] → pc ≡ length d.at.items + m → e.slim ≡ d.slim
     → text_so_far (due.States (pc + 1)) e.slim (seen_draft e) ≡ text_so_far d.due d.slim (seen_draft d) ++ (l ++ 10 ∷ [])
 unfolding text_so_far
 pc_text d e l next pc m s at is has idle ready items long slim =
     let whole : l ++ 10 ∷ [] ≡ pc_line pc (Some (seen s)) = ap (λ t. t ++ 10 ∷ []) (is ∙ ap (λ t. decimal pc ++ t) has.1) ∙ append_assoc (decimal pc) (32 ∷ state_text (seen s)) (10 ∷ []) in
     let none : Option code.State = None in
     let size : length (d.at.items ++ replicate m None) ≡ pc = length-append d.at.items (replicate m None) ∙ omega (arith, length-replicate m none) in
-    let tail : tail_of e ≡ tail_of d ++ (l ++ 10 ∷ []) = lines_are e.at.items ∙ ap (λ xs. lines_text 0 xs) items ∙ lines_more d.at.items m s pc long size ∙ ap (λ t. t ++ pc_line pc (Some (seen s))) (sym (lines_are d.at.items)) ∙ ap (λ t. tail_of d ++ t) (sym whole) in
+    let tail : tail_of e ≡ tail_of d ++ (l ++ 10 ∷ []) = lines_are e.at.items ∙ ap (λ xs. lines_text 0 xs) items ∙ lines_more d.at.items m s pc long size
+    ∙ ap (λ t. t ++ pc_line pc (Some (seen s))) (sym (lines_are d.at.items)) ∙ ap (λ t. tail_of d ++ t) (sym whole) in
     let r = between_line (codes "ready ") (seen_some d.ready) in
     ap (λ (b : Bool). (first_line b ++ between_line (codes "idle ") (seen_some e.idle)) ++ (between_line (codes "ready ") (seen_some e.ready) ++ tail_of e)) slim
     ∙ ap (λ (o : Option State). (first_line d.slim ++ between_line (codes "idle ") o) ++ (between_line (codes "ready ") (seen_some e.ready) ++ tail_of e)) idle
@@ -142,7 +149,8 @@ pc_text d e l next pc m s at is has idle ready items long slim =
     ∙ regroup (head d) r (tail_of d) (l ++ 10 ∷ [])
     ∙ sym (ap (λ (u : Due). text_so_far u d.slim (seen_draft d) ++ (l ++ 10 ∷ [])) at)
 
-pub end_text : (d e : CertDraft) (l : List ℕ) (next : ℕ) → d.due ≡ due.States next → l ≡ codes "end" → seen_draft e ≡ seen_draft d → e.slim ≡ d.slim → text_so_far due.Nothing e.slim (seen_draft e) ≡ text_so_far d.due d.slim (seen_draft d) ++ (l ++ 10 ∷ [])
+pub end_text : (d e : CertDraft) (l : List ℕ) (next : ℕ) → d.due ≡ due.States next → l ≡ codes "end" → seen_draft e ≡ seen_draft d → e.slim ≡ d.slim
+    → text_so_far due.Nothing e.slim (seen_draft e) ≡ text_so_far d.due d.slim (seen_draft d) ++ (l ++ 10 ∷ [])
 unfolding text_so_far cert_text
 end_text d e l next at is same slim =
     let r = between_line (codes "ready ") (seen_some d.ready) in
@@ -158,7 +166,8 @@ pub counts_at : (d : CertDraft) (u : Due) → IsCertDraft d → d.due ≡ u → 
 counts_at d u h at = subst (λ (v : Due). Counts v (length d.at.items)) at h.counts
 
 -- a state is added behind instructions that have none
-pub pc_draft : (d e : CertDraft) (next pc m : ℕ) (s : code.State) → IsCertDraft d → d.due ≡ due.States next → e.due ≡ due.States (pc + 1) → seen_some e.idle ≡ seen_some d.idle → seen_some e.ready ≡ seen_some d.ready → e.at.items ≡ (d.at.items ++ replicate m None) ++ Some s ∷ [] → pc ≡ length d.at.items + m → pc < 1024 → IsFormed (seen s) → IsCertDraft e
+pub pc_draft : (d e : CertDraft) (next pc m : ℕ) (s : code.State) → IsCertDraft d → d.due ≡ due.States next → e.due ≡ due.States (pc + 1) → seen_some e.idle ≡ seen_some d.idle
+    → seen_some e.ready ≡ seen_some d.ready → e.at.items ≡ (d.at.items ++ replicate m None) ++ Some s ∷ [] → pc ≡ length d.at.items + m → pc < 1024 → IsFormed (seen s) → IsCertDraft e
 pc_draft d e next pc m s h at due idle ready items long few formed =
     let none : Option code.State = None in
     let before = d.at.items ++ replicate m none in
@@ -167,7 +176,8 @@ pc_draft d e next pc m s h at due idle ready items long few formed =
     record {
       idle = subst (λ (o : Option State). IfSome o IsFormed) (sym idle) h.idle;
       ready = subst (λ (o : Option State). IfSome o IsFormed) (sym ready) h.ready;
-      at = λ k. subst (λ (xs : List (Option code.State)). IfSome (seen_line (slice_get xs k)) IsFormed) (sym items) (formed_at (before ++ Some s ∷ []) (formed_more d.at.items m s (all_formed d.at.items h.at) formed) k);
+      at = λ k. subst (λ (xs : List (Option code.State)). IfSome (seen_line (slice_get xs k)) IsFormed) (sym items)
+          (formed_at (before ++ Some s ∷ []) (formed_more d.at.items m s (all_formed d.at.items h.at) formed) k);
       counts = subst (λ (u : Due). Counts u (length e.at.items)) (sym due) (all, omega arith);
       last = λ k is. subst (λ (xs : List (Option code.State)). IsSome (seen_line (slice_get xs k))) (sym items) (last_some before s k (omega (arith, size, all, is)));
     }

@@ -1,5 +1,6 @@
 -- The rounds that are made are enough: each in which a state grows adds to what all states weigh together.
-use Rattle.std.proofs.Common.{◌≡◌, ℕ, zero, suc, ◌+◌, ◌*◌, ◌<◌, ◌≤◌, Bool, true, false, if◌then◌else◌, List, [], ◌∷◌, ◌++◌, length, All, ◌⊎◌, inl, inr, Option, Some, None, refl, ap, sym, ◌∙◌, subst, arith, ltb-true, length-append}
+use Rattle.std.proofs.Common.{◌≡◌, ℕ, zero, suc, ◌+◌, ◌*◌, ◌<◌, ◌≤◌, Bool, true, false, if◌then◌else◌, List, [], ◌∷◌, ◌++◌, length, All, ◌⊎◌, inl, inr, Option, Some, None, refl, ap, sym, ◌∙◌, subst}
+use Rattle.std.proofs.Common.{arith, ltb-true, length-append}
 use Rattle.module_code.specs.Program.{Program, IsModule}
 use Rattle.run_model.specs.Indexed.{upd}
 use Rattle.run_model.proofs.Updates.{upd_at, upd_off}
@@ -72,7 +73,8 @@ paid_by p a g (Some t) e h fit = by_order (leq a.state t) refl
     by_order true below = omega arith
     by_order false apart =
         grow_paid p a.place (join t a.state) g fit.inside
-        (subst (λ (o : Option State). height o < height (Some (join t a.state))) (sym e) (some_height t (join t a.state) (join_heavier t a.state (alike p t a.state (h.states a.place t e) fit.declared) apart)))
+        (subst (λ (o : Option State). height o < height (Some (join t a.state))) (sym e)
+        (some_height t (join t a.state) (join_heavier t a.state (alike p t a.state (h.states a.place t e) fit.declared) apart)))
 
 arrived_paid : (p : Program) (rest : List Arrival) (g : Grown) → IsOf p g → All (IsFit p) rest → Paid p g (arrived rest g)
 unfolding arrived
@@ -89,7 +91,8 @@ round_paid p m g h =
     = arrived_paid p (handed_on p g.states g.grown) (record { states = g.states; grown = [] }) (forgotten p g h) (handed_on_fits p m g.states g.grown h.states h.places) in
     omega arith
 
-by_list : (p : Program) (g h : Grown) (n : ℕ) (ws : List StatePlace) → h.grown ≡ ws → n ≤ load p g.states → load p g.states + length h.grown ≤ load p h.states → (h.grown ≡ []) ⊎ (suc n ≤ load p h.states)
+by_list : (p : Program) (g h : Grown) (n : ℕ) (ws : List StatePlace) → h.grown ≡ ws → n ≤ load p g.states → load p g.states + length h.grown ≤ load p h.states
+    → (h.grown ≡ []) ⊎ (suc n ≤ load p h.states)
 by_list p g h n [] e so_far paid = inl e
 by_list p g h n (w ∷ ws) e so_far paid = let long = ap length e in inr (omega arith)
 

@@ -13,7 +13,8 @@ use Rattle.life_cert.proofs.CursorTexts.{CanSay, cursor_taken}
 two_bytes : (c d : ℕ) (w m : List ℕ) → c < 9 → d < 9 → (c ≡ d → ⊥) → starts (cursor_name c ++ w) (cursor_name d ++ m) ≡ false
 two_bytes c d w m first second ne =
     ap (λ t. starts (t ++ w) (cursor_name d ++ m)) (cursor_named c first) ∙ ap (λ t. starts (cursor_first c ∷ (second_of 100 c ∷ w)) (t ++ m)) (cursor_named d second)
-    ∙ ap (λ (b : Bool). eqb (cursor_first d) (cursor_first c) && (b && starts w m)) (ne_eqb (second_of 100 d) (second_of 100 c) (λ e. let high : 56 < 100 = omega arith in ne (second_tells 100 c d high first second (sym e))))
+    ∙ ap (λ (b : Bool). eqb (cursor_first d) (cursor_first c) && (b && starts w m))
+    (ne_eqb (second_of 100 d) (second_of 100 c) (λ e. let high : 56 < 100 = omega arith in ne (second_tells 100 c d high first second (sym e))))
     ∙ never (eqb (cursor_first d) (cursor_first c))
   where
     never : (b : Bool) → (b && false) ≡ false
@@ -51,11 +52,13 @@ no_fact_key c i j b m first second h =
     skips (key c) (fact_word i j) b m
     (ap (starts (cursor_name c ++ codes "=")) (append_assoc (cursor_name i) (33 ∷ cursor_name j) m) ∙ any_bytes c i (codes "=") (33 ∷ (cursor_name j ++ m)) first second refl) h
 
-pub no_fact : (c d i j : ℕ) (b : Bool) (m : List ℕ) → c < 9 → d < 9 → i < 9 → j < 9 → (c ≡ i → d ≡ j → ⊥) → starts (fact_word c d) m ≡ false → starts (fact_word c d) (where_holds b (fact_word i j) ++ m) ≡ false
+pub no_fact : (c d i j : ℕ) (b : Bool) (m : List ℕ) → c < 9 → d < 9 → i < 9 → j < 9 → (c ≡ i → d ≡ j → ⊥) → starts (fact_word c d) m ≡ false
+    → starts (fact_word c d) (where_holds b (fact_word i j) ++ m) ≡ false
 no_fact c d i j b m cs ds is js ne h =
     skips (fact_word c d) (fact_word i j) b m
     (ap (starts (cursor_name c ++ (33 ∷ cursor_name d))) (append_assoc (cursor_name i) (33 ∷ cursor_name j) m) ∙ ⊎_elim
-    (λ (e : c ≡ i). subst (λ (k : ℕ). starts (cursor_name c ++ (33 ∷ cursor_name d)) (cursor_name k ++ (33 ∷ (cursor_name j ++ m))) ≡ false) e (same_bytes c (33 ∷ cursor_name d) (33 ∷ (cursor_name j ++ m)) cs (behind_sign e)))
+    (λ (e : c ≡ i). subst (λ (k : ℕ). starts (cursor_name c ++ (33 ∷ cursor_name d)) (cursor_name k ++ (33 ∷ (cursor_name j ++ m))) ≡ false) e
+    (same_bytes c (33 ∷ cursor_name d) (33 ∷ (cursor_name j ++ m)) cs (behind_sign e)))
     (λ (apart : c ≡ i → ⊥). two_bytes c i (33 ∷ cursor_name d) (33 ∷ (cursor_name j ++ m)) cs is apart)
     (cases_eq c i)) h
   where
@@ -77,14 +80,16 @@ pub record EachTaken (p : ℕ → List ℕ → List ℕ) (Says : ℕ → List �
   pub says : (i : ℕ) → i < n → Says (k + i) (past_each p k i t)
   pub more : past_each p k n t ≡ m
 
-each_free : (f : ℕ → List ℕ) (p : ℕ → List ℕ → List ℕ) (Says Free : ℕ → List ℕ → Type 0) (h : TakesEach f p Says Free) (i k n : ℕ) (m : List ℕ) → i < k → k + n ≤ 9 → Free i m → Free i (each k n f ++ m)
+each_free : (f : ℕ → List ℕ) (p : ℕ → List ℕ → List ℕ) (Says Free : ℕ → List ℕ → Type 0) (h : TakesEach f p Says Free) (i k n : ℕ) (m : List ℕ) → i < k → k + n ≤ 9 → Free i m
+    → Free i (each k n f ++ m)
 unfolding each
 each_free f p Says Free h i k zero m low high e = e
 each_free f p Says Free h i k (suc n) m low high e =
     subst (Free i) (sym (append_assoc (f k) (each (k + 1) n f) m)) (h.free i k (each (k + 1) n f ++ m) low (omega arith) (each_free f p Says Free h i (k + 1) n m (omega arith) (omega arith) e))
 
 -- the first, and then those behind it
-says_next : (p : ℕ → List ℕ → List ℕ) (Says : ℕ → List ℕ → Type 0) (k n : ℕ) (m t r : List ℕ) → p k t ≡ r → Says k t → EachTaken p Says (k + 1) n m r → (i : ℕ) → i < suc n → Says (k + i) (past_each p k i t)
+says_next : (p : ℕ → List ℕ → List ℕ) (Says : ℕ → List ℕ → Type 0) (k n : ℕ) (m t r : List ℕ) → p k t ≡ r → Says k t → EachTaken p Says (k + 1) n m r → (i : ℕ) → i < suc n
+    → Says (k + i) (past_each p k i t)
 unfolding past_each
 says_next p Says k n m t r left here on zero inside = let same : k ≡ k + 0 = omega arith in subst (λ (x : ℕ). Says x t) same here
 says_next p Says k n m t r left here on (suc i) inside =
@@ -92,7 +97,8 @@ says_next p Says k n m t r left here on (suc i) inside =
     subst (λ (x : ℕ). Says x (past_each p (k + 1) i (p k t))) same
     (subst (λ u. Says (k + 1 + i) (past_each p (k + 1) i u)) (sym left) (on.says i (omega (arith, inside))))
 
-pub each_taken : (f : ℕ → List ℕ) (p : ℕ → List ℕ → List ℕ) (Says Free : ℕ → List ℕ → Type 0) (h : TakesEach f p Says Free) (k n : ℕ) (m : List ℕ) → k + n ≤ 9 → ((i : ℕ) → i < 9 → Free i m) → EachTaken p Says k n m (each k n f ++ m)
+pub each_taken : (f : ℕ → List ℕ) (p : ℕ → List ℕ → List ℕ) (Says Free : ℕ → List ℕ → Type 0) (h : TakesEach f p Says Free) (k n : ℕ) (m : List ℕ) → k + n ≤ 9 → ((i : ℕ) → i < 9 → Free i m)
+    → EachTaken p Says k n m (each k n f ++ m)
 unfolding each past_each
 each_taken f p Says Free h k zero m high e = record { says = λ i below. absurd (omega (arith, below)); more = refl }
 each_taken f p Says Free h k (suc n) m high e =
@@ -122,7 +128,8 @@ cursors_taken v m say free =
     (record {
       says = λ i r below none. (cursor_taken i (v i) r (say i) none.0 none.1).read;
       more = λ i r below none. (cursor_taken i (v i) r (say i) none.0 none.1).more;
-      free = λ i j r low high none. (ended_where (is_set (v j)) (cursor_name j ++ (61 ∷ place_text_of (v j))) r none.0, no_cursor i j (v j) r (omega (arith, low, high)) high (λ e. omega (arith, low, e)) none.1);
+      free = λ i j r low high none.
+          (ended_where (is_set (v j)) (cursor_name j ++ (61 ∷ place_text_of (v j))) r none.0, no_cursor i j (v j) r (omega (arith, low, high)) high (λ e. omega (arith, low, e)) none.1);
     }) 0 9 m (omega arith) free
 
 -- The facts, row by row.
@@ -132,7 +139,8 @@ is_written s c d = nat_lt c d && s.facts c d
 abbrev pub FreeOfFact : ℕ → ℕ → List ℕ → Type 0
 FreeOfFact c d m = starts (fact_word c d) m ≡ false
 
-pub row_taken : (s : State) (c : ℕ) (m : List ℕ) → c < 9 → ((d : ℕ) → d < 9 → FreeOfFact c d m) → EachTaken (fact_past c) (λ d t. starts (fact_word c d) t ≡ is_written s c d) 0 9 m (facts_text s c ++ m)
+pub row_taken : (s : State) (c : ℕ) (m : List ℕ) → c < 9 → ((d : ℕ) → d < 9 → FreeOfFact c d m)
+    → EachTaken (fact_past c) (λ d t. starts (fact_word c d) t ≡ is_written s c d) 0 9 m (facts_text s c ++ m)
 row_taken s c m below free =
     each_taken (fact_text s c) (fact_past c) (λ d t. starts (fact_word c d) t ≡ is_written s c d) (FreeOfFact c)
     (record {
@@ -154,7 +162,8 @@ pub facts_taken : (s : State) (m : List ℕ) → ((c : ℕ) → c < 9 → (d : �
 facts_taken s m free =
     each_taken (facts_text s) row_past (λ c t. (d : ℕ) → d < 9 → starts (fact_word c d) (past_each (fact_past c) 0 d t) ≡ is_written s c d) (λ c r. (d : ℕ) → d < 9 → FreeOfFact c d r)
     (record {
-      says = λ i r inside none d below. let t = past_each (fact_past i) 0 d (facts_text s i ++ r) in let same : 0 + d ≡ d = omega arith in subst (λ (x : ℕ). starts (fact_word i x) t ≡ is_written s i x) same ((row_taken s i r inside none).says d below);
+      says = λ i r inside none d below. let t = past_each (fact_past i) 0 d (facts_text s i ++ r) in let same : 0 + d ≡ d = omega arith in
+          subst (λ (x : ℕ). starts (fact_word i x) t ≡ is_written s i x) same ((row_taken s i r inside none).says d below);
       more = λ i r inside none. (row_taken s i r inside none).more;
       free = λ i j r low high none d below. row_free s i d j 0 9 r (omega (arith, low, high)) below high (omega arith) (λ e. omega (arith, low, e)) (none d below);
     }) 0 9 m (omega arith) free

@@ -30,7 +30,8 @@ lines_set xs n s inside =
     ∙ (read_set seen_some None xs n (Some s) inside ∙ ap (λ (f : ℕ → Option State). upd f n (Some (seen s))) (sym (lines_are xs)))
 
 -- a certificate with other lines, as many
-pub with_lines : (idle ready : Option State) (f g : ℕ → Option State) (m n : ℕ) → f ≡ g → m ≡ n → (let c : Certificate = record { idle = idle; ready = ready; at = f; lines = m } in c) ≡ record { idle = idle; ready = ready; at = g; lines = n }
+pub with_lines : (idle ready : Option State) (f g : ℕ → Option State) (m n : ℕ) → f ≡ g → m ≡ n
+    → (let c : Certificate = record { idle = idle; ready = ready; at = f; lines = m } in c) ≡ record { idle = idle; ready = ready; at = g; lines = n }
 with_lines idle ready f g m n same long =
     let of : (ℕ → Option State) → ℕ → Certificate = λ h k. record { idle = idle; ready = ready; at = h; lines = k } in
     ap (λ h. of h m) same ∙ ap (of g) long

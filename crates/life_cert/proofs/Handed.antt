@@ -1,5 +1,6 @@
 -- What is handed on is for places of the module, and of its variables.
-use Rattle.std.proofs.Common.{◌≡◌, ℕ, ◌+◌, ◌<◌, ◌≤◌, true, false, nat_lt, if◌then◌else◌, List, [], ◌∷◌, ◌++◌, length, All, Option, Some, None, IfSome, unwrap_or, Result, Ok, Err, slice_get, refl, ap, sym, ◌∙◌, subst, arith, drop, get_or, append_assoc, add-one, drop-cons, lt-ltb}
+use Rattle.std.proofs.Common.{◌≡◌, ℕ, ◌+◌, ◌<◌, ◌≤◌, true, false, nat_lt, if◌then◌else◌, List, [], ◌∷◌, ◌++◌, length, All, Option, Some, None, IfSome, unwrap_or, Result, Ok, Err, slice_get, refl, ap}
+use Rattle.std.proofs.Common.{sym, ◌∙◌, subst, arith, drop, get_or, append_assoc, add-one, drop-cons, lt-ltb}
 use Rattle.std.proofs.lemmas.List.{append-nil, drop_all}
 use Rattle.std.proofs.lemmas.List.Elements.{All-nil, All-cons, All-append}
 use Rattle.module_code.specs.declared.instr.Instr.{Instr}
@@ -36,7 +37,8 @@ left_inside p pc n = elim (nat_lt pc p.init) as (λ b. is_inside n (if b then pl
 
 return_fits : (p : Program) (pc : ℕ) (i : Instr) (s : State) → IsDeclared p s → All (IsFit p) (arriving (left_place p pc) (returned i s))
 return_fits p pc (instr.Ret t) s h =
-    some_fits p (left_place p pc) (Some (at_return s)) (λ r e. record { inside = left_inside p pc (length p.code); declared = subst (IsDeclared p) (some_is e) (record { pools = h.pools; brigades = h.brigades }) })
+    some_fits p (left_place p pc) (Some (at_return s))
+    (λ r e. record { inside = left_inside p pc (length p.code); declared = subst (IsDeclared p) (some_is e) (record { pools = h.pools; brigades = h.brigades }) })
   where
     some_is : {r t : State} → Some t ≡ Some r → t ≡ r
     some_is e = cc
@@ -55,14 +57,16 @@ edges_fit p pc i s here placed h =
       declared = declared_on p s t h (alike_at s t (edges p i s).jump alike.jump e);
     }))
 
-rule_fits : (p : Program) (pc : ℕ) (i : Instr) (s : State) (a : Result Edges FaultKind) → rule p i s ≡ a → pc < length p.code → IsPlaced p pc i → IsDeclared p s → All (IsFit p) (handed_by_rule p pc i s a)
+rule_fits : (p : Program) (pc : ℕ) (i : Instr) (s : State) (a : Result Edges FaultKind) → rule p i s ≡ a → pc < length p.code → IsPlaced p pc i → IsDeclared p s
+    → All (IsFit p) (handed_by_rule p pc i s a)
 rule_fits p pc i s (Err k) e here placed h = All-nil (IsFit p)
 rule_fits p pc i s (Ok f) e here placed h =
     All-append (IsFit p) (edges_arriving pc i f) (arriving (left_place p pc) (returned i s))
     (subst (λ (g : Edges). All (IsFit p) (edges_arriving pc i g)) (sym (rule_edges p i s f e)) (edges_fit p pc i s here placed h))
     (return_fits p pc i s h)
 
-pub line_fits : (p : Program) (pc : ℕ) (i : Instr) (s : State) → slice_get p.code pc ≡ Some i → pc < length p.code → IsPlaced p pc i → IsDeclared p s → All (IsFit p) (handed_by_line p pc (slice_get p.code pc) s)
+pub line_fits : (p : Program) (pc : ℕ) (i : Instr) (s : State) → slice_get p.code pc ≡ Some i → pc < length p.code → IsPlaced p pc i → IsDeclared p s
+    → All (IsFit p) (handed_by_line p pc (slice_get p.code pc) s)
 line_fits p pc i s at here placed h =
     subst (λ (o : Option Instr). All (IsFit p) (handed_by_line p pc o s)) (sym at) (rule_fits p pc i s (rule p i s) refl here placed h)
 

@@ -95,7 +95,8 @@ more_taken (x ∷ xs) h m a e =
     let on = more_taken xs h m two.1 e in
     let after = ap (past w) again ∙ word_past w (has_home h x) rest none in
     record {
-      there = ap (λ (b : Bool). b ∷ more_there xs (past w (more_homes h (x ∷ xs) ++ m))) (ap (starts w) again ∙ word_is w (has_home h x) rest none) ∙ ap (λ t. has_home h x ∷ more_there xs t) after ∙ ap (λ bs. has_home h x ∷ bs) on.there;
+      there = ap (λ (b : Bool). b ∷ more_there xs (past w (more_homes h (x ∷ xs) ++ m))) (ap (starts w) again ∙ word_is w (has_home h x) rest none) ∙ ap (λ t. has_home h x ∷ more_there xs t) after
+          ∙ ap (λ bs. has_home h x ∷ bs) on.there;
       more = ap (past_more xs) after ∙ on.more;
     }
 
@@ -115,7 +116,8 @@ no_some x (y ∷ ys) h m p a =
     let one = split2 (is_small y) (are_apart x y) two.0 in
     by (has_home h y) one.0 one.1 (no_some x ys h m p two.1)
   where
-    by : (b : Bool) → is_small y ≡ true → are_apart x y ≡ true → starts (home_text x) (some_homes h ys ++ m) ≡ false → starts (home_text x) (cond b (home_text y ++ more_homes h ys) (some_homes h ys) ++ m) ≡ false
+    by : (b : Bool) → is_small y ≡ true → are_apart x y ≡ true → starts (home_text x) (some_homes h ys ++ m) ≡ false
+        → starts (home_text x) (cond b (home_text y ++ more_homes h ys) (some_homes h ys) ++ m) ≡ false
     by true small far on = ap (starts (home_text x)) (append_assoc (home_text y) (more_homes h ys) m) ∙ apart x y (more_homes h ys ++ m) p small far
     by false small far on = on
 
@@ -136,14 +138,16 @@ some_taken (x ∷ xs) h m a e =
     found : (r t : List ℕ) → t ≡ w ++ r → (starts w t ≡ true) × (behind w t ≡ r)
     found r t is = (ap (starts w) is ∙ starts_self w r, ap (behind w) is ∙ behind_self w r)
 
-    by : (b : Bool) → has_home h x ≡ b → starts w (some_homes h xs ++ m) ≡ false → MoreTaken xs h m (more_homes h xs ++ m) → SomeTaken xs h m (some_homes h xs ++ m) → SomeTaken (x ∷ xs) h m (some_homes h (x ∷ xs) ++ m)
+    by : (b : Bool) → has_home h x ≡ b → starts w (some_homes h xs ++ m) ≡ false → MoreTaken xs h m (more_homes h xs ++ m) → SomeTaken xs h m (some_homes h xs ++ m)
+        → SomeTaken (x ∷ xs) h m (some_homes h (x ∷ xs) ++ m)
     by true has none more on =
         let t = some_homes h (x ∷ xs) ++ m in
         let rest = more_homes h xs ++ m in
         let is : t ≡ w ++ rest = ap (λ (b : Bool). cond b (w ++ more_homes h xs) (some_homes h xs) ++ m) has ∙ append_assoc w (more_homes h xs) m in
         let f = found rest t is in
         record {
-          there = ap (λ (b : Bool). cond b (true ∷ more_there xs (behind w t)) (false ∷ some_there xs t)) f.0 ∙ ap (λ r. true ∷ more_there xs r) f.1 ∙ ap (λ bs. true ∷ bs) more.there ∙ ap (λ (b : Bool). b ∷ bits h xs) (sym has);
+          there = ap (λ (b : Bool). cond b (true ∷ more_there xs (behind w t)) (false ∷ some_there xs t)) f.0 ∙ ap (λ r. true ∷ more_there xs r) f.1 ∙ ap (λ bs. true ∷ bs) more.there
+              ∙ ap (λ (b : Bool). b ∷ bits h xs) (sym has);
           more = ap (λ (b : Bool). cond b (past_more xs (behind w t)) (past_some xs t)) f.0 ∙ ap (past_more xs) f.1 ∙ more.more;
         }
     by false has none more on =
@@ -151,7 +155,8 @@ some_taken (x ∷ xs) h m a e =
         let is : t ≡ some_homes h xs ++ m = ap (λ (b : Bool). cond b (w ++ more_homes h xs) (some_homes h xs) ++ m) has in
         let no : starts w t ≡ false = ap (starts w) is ∙ none in
         record {
-          there = ap (λ (b : Bool). cond b (true ∷ more_there xs (behind w t)) (false ∷ some_there xs t)) no ∙ ap (λ r. false ∷ some_there xs r) is ∙ ap (λ bs. false ∷ bs) on.there ∙ ap (λ (b : Bool). b ∷ bits h xs) (sym has);
+          there = ap (λ (b : Bool). cond b (true ∷ more_there xs (behind w t)) (false ∷ some_there xs t)) no ∙ ap (λ r. false ∷ some_there xs r) is ∙ ap (λ bs. false ∷ bs) on.there
+              ∙ ap (λ (b : Bool). b ∷ bits h xs) (sym has);
           more = ap (λ (b : Bool). cond b (past_more xs (behind w t)) (past_some xs t)) no ∙ ap (past_some xs) is ∙ on.more;
         }
 

@@ -49,17 +49,23 @@ module _ (a b : Option (List ℕ)) (any : Bool) (h : Homes) (i : ℕ) (l : Leave
   pub comma_left : has_home h (get_or homes i home.Call) ≡ true → Leaves a b (homes_text h) (where_holds any (codes ",") ++ (home_text (get_or homes i home.Call) ++ more_homes h (drop (i + 1) homes)))
   comma_left has = subst (Leaves a b (homes_text h)) (ap (λ xs. rest_homes any h xs) (next_home i below) ∙ rest_has any h (get_or homes i home.Call) (drop (i + 1) homes) has) l.left
 
-  pub name_left : (c : Option (List ℕ)) → has_home h (get_or homes i home.Call) ≡ true → Appends b c (where_holds any (codes ",")) → Leaves a c (homes_text h) (home_text (get_or homes i home.Call) ++ more_homes h (drop (i + 1) homes))
+  pub name_left : (c : Option (List ℕ)) → has_home h (get_or homes i home.Call) ≡ true → Appends b c (where_holds any (codes ","))
+      → Leaves a c (homes_text h) (home_text (get_or homes i home.Call) ++ more_homes h (drop (i + 1) homes))
   name_left c has k = leaves_less a b c (homes_text h) (where_holds any (codes ",")) (home_text (get_or homes i home.Call) ++ more_homes h (drop (i + 1) homes)) (comma_left has) k
 
-  pub home_written : (c d : Option (List ℕ)) → has_home h (get_or homes i home.Call) ≡ true → Appends b c (where_holds any (codes ",")) → Appends c d (home_text (get_or homes i home.Call)) → LeavesHomes a d true h (i + 1)
+  pub home_written : (c d : Option (List ℕ)) → has_home h (get_or homes i home.Call) ≡ true → Appends b c (where_holds any (codes ",")) → Appends c d (home_text (get_or homes i home.Call))
+      → LeavesHomes a d true h (i + 1)
   home_written c d has k m = record { left = leaves_less a c d (homes_text h) (home_text (get_or homes i home.Call)) (more_homes h (drop (i + 1) homes)) (name_left c has k) m }
 
-  pub comma_fault : {F : Type 0} (c : Option (List ℕ)) (r : Result (Unit {0}) F) → has_home h (get_or homes i home.Call) ≡ true → is_err r ≡ true → Front b c (where_holds any (codes ",")) → Wrote r a c (homes_text h)
-  comma_fault c r has fault k = leaves_fault {E = ℕ} a b c (homes_text h) (where_holds any (codes ",")) (home_text (get_or homes i home.Call) ++ more_homes h (drop (i + 1) homes)) 0 r fault (comma_left has) k
+  pub comma_fault : {F : Type 0} (c : Option (List ℕ)) (r : Result (Unit {0}) F) → has_home h (get_or homes i home.Call) ≡ true → is_err r ≡ true → Front b c (where_holds any (codes ","))
+      → Wrote r a c (homes_text h)
+  comma_fault c r has fault k =
+      leaves_fault {E = ℕ} a b c (homes_text h) (where_holds any (codes ",")) (home_text (get_or homes i home.Call) ++ more_homes h (drop (i + 1) homes)) 0 r fault (comma_left has) k
 
-  pub name_fault : {F : Type 0} (c d : Option (List ℕ)) (r : Result (Unit {0}) F) → has_home h (get_or homes i home.Call) ≡ true → is_err r ≡ true → Appends b c (where_holds any (codes ",")) → Front c d (home_text (get_or homes i home.Call)) → Wrote r a d (homes_text h)
+  pub name_fault : {F : Type 0} (c d : Option (List ℕ)) (r : Result (Unit {0}) F) → has_home h (get_or homes i home.Call) ≡ true → is_err r ≡ true → Appends b c (where_holds any (codes ","))
+      → Front c d (home_text (get_or homes i home.Call)) → Wrote r a d (homes_text h)
   name_fault c d r has fault k m = leaves_fault {E = ℕ} a c d (homes_text h) (home_text (get_or homes i home.Call)) (more_homes h (drop (i + 1) homes)) 0 r fault (name_left c has k) m
 
-pub homes_end : {E : Type 0} (a b c : Option (List ℕ)) (any : Bool) (h : Homes) (r : Result (Unit {0}) E) → LeavesHomes a b any h 11 → Wrote r b c (where_holds (not any) (codes "-")) → Wrote r a c (homes_text h)
+pub homes_end : {E : Type 0} (a b c : Option (List ℕ)) (any : Bool) (h : Homes) (r : Result (Unit {0}) E) → LeavesHomes a b any h 11 → Wrote r b c (where_holds (not any) (codes "-"))
+    → Wrote r a c (homes_text h)
 homes_end a b c any h r l k = leaves_last a b c (homes_text h) (where_holds (not any) (codes "-")) r (subst (Leaves a b (homes_text h)) (rest_none any h) l.left) k

@@ -29,7 +29,8 @@ past_these false xs t = past_some xs t
 abbrev pub next_word : Bool → HomeWord → List ℕ
 next_word any x = where_holds any (codes ",") ++ home_text x
 
-pub there_next : (any : Bool) (x : HomeWord) (xs : List HomeWord) (t : List ℕ) → there any (x ∷ xs) t ≡ starts (next_word any x) t ∷ there (any || starts (next_word any x) t) xs (past (next_word any x) t)
+pub there_next : (any : Bool) (x : HomeWord) (xs : List HomeWord) (t : List ℕ)
+    → there any (x ∷ xs) t ≡ starts (next_word any x) t ∷ there (any || starts (next_word any x) t) xs (past (next_word any x) t)
 there_next true x xs t = refl
 there_next false x xs t = by (starts (home_text x) t) refl
   where
@@ -66,20 +67,25 @@ pub record OwnsRead (t : List ℕ) (call req any : Bool) (own : List Bool) (u : 
   pub left : past_some homes t ≡ past_these any (drop q owns) u
   pub eight : length own ≡ 8
 
-there_step : (any : Bool) (x : HomeWord) (xs : List HomeWord) (t : List ℕ) (b : Bool) (u : List ℕ) → b ≡ starts (next_word any x) t → u ≡ past (next_word any x) t → there any (x ∷ xs) t ≡ b ∷ there (any || b) xs u
-there_step any x xs t b u is on = there_next any x xs t ∙ sym (ap (λ (c : Bool). c ∷ there (any || c) xs u) is ∙ ap (λ r. starts (next_word any x) t ∷ there (any || starts (next_word any x) t) xs r) on)
+there_step : (any : Bool) (x : HomeWord) (xs : List HomeWord) (t : List ℕ) (b : Bool) (u : List ℕ) → b ≡ starts (next_word any x) t → u ≡ past (next_word any x) t
+    → there any (x ∷ xs) t ≡ b ∷ there (any || b) xs u
+there_step any x xs t b u is on =
+    there_next any x xs t ∙ sym (ap (λ (c : Bool). c ∷ there (any || c) xs u) is ∙ ap (λ r. starts (next_word any x) t ∷ there (any || starts (next_word any x) t) xs r) on)
 
-past_step : (any : Bool) (x : HomeWord) (xs : List HomeWord) (t : List ℕ) (b : Bool) (u : List ℕ) → b ≡ starts (next_word any x) t → u ≡ past (next_word any x) t → past_these any (x ∷ xs) t ≡ past_these (any || b) xs u
+past_step : (any : Bool) (x : HomeWord) (xs : List HomeWord) (t : List ℕ) (b : Bool) (u : List ℕ) → b ≡ starts (next_word any x) t → u ≡ past (next_word any x) t
+    → past_these any (x ∷ xs) t ≡ past_these (any || b) xs u
 past_step any x xs t b u is on = past_next any x xs t ∙ sym (ap (λ (c : Bool). past_these (any || c) xs u) is ∙ ap (past_these (any || starts (next_word any x) t) xs) on)
 
-pub owns_begin : (t : List ℕ) (call req : Bool) (u v : List ℕ) → call ≡ starts (codes "call") t → u ≡ past (codes "call") t → req ≡ starts (where_holds call (codes ",") ++ codes "req") u → v ≡ past (where_holds call (codes ",") ++ codes "req") u → OwnsRead t call req (call || req) (false ∷ (false ∷ (false ∷ (false ∷ (false ∷ (false ∷ (false ∷ (false ∷ [])))))))) v 0
+pub owns_begin : (t : List ℕ) (call req : Bool) (u v : List ℕ) → call ≡ starts (codes "call") t → u ≡ past (codes "call") t → req ≡ starts (where_holds call (codes ",") ++ codes "req") u
+    → v ≡ past (where_holds call (codes ",") ++ codes "req") u → OwnsRead t call req (call || req) (false ∷ (false ∷ (false ∷ (false ∷ (false ∷ (false ∷ (false ∷ (false ∷ [])))))))) v 0
 owns_begin t call req u v c is r on = record {
   said = there_step false home.Call (home.Req ∷ owns) t call u c is ∙ ap (λ bs. call ∷ bs) (there_step call home.Req owns u req v r on);
   left = past_step false home.Call (home.Req ∷ owns) t call u c is ∙ past_step call home.Req owns u req v r on;
   eight = refl;
 }
 
-pub own_read_on : (t : List ℕ) (call req any : Bool) (own : List Bool) (u : List ℕ) (q : ℕ) (found : Bool) (v : List ℕ) → OwnsRead t call req any own u q → q < 8 → found ≡ starts (where_holds any (codes ",") ++ (112 ∷ ((48 + q) ∷ []))) u → v ≡ past (where_holds any (codes ",") ++ (112 ∷ ((48 + q) ∷ []))) u
+pub own_read_on : (t : List ℕ) (call req any : Bool) (own : List Bool) (u : List ℕ) (q : ℕ) (found : Bool) (v : List ℕ) → OwnsRead t call req any own u q → q < 8
+    → found ≡ starts (where_holds any (codes ",") ++ (112 ∷ ((48 + q) ∷ []))) u → v ≡ past (where_holds any (codes ",") ++ (112 ∷ ((48 + q) ∷ []))) u
     → OwnsRead t call req (any || found) (set own q found) v (q + 1)
 own_read_on t call req any own u q found v h below is on =
     let digit : decimal q ≡ (48 + q) ∷ [] = decimal_digit q (omega arith) in
@@ -92,7 +98,8 @@ own_read_on t call req any own u q found v h below is on =
     let front : take q own ++ (found ∷ more) ≡ take (q + 1) (set own q found) ++ more =
     sym (append_assoc (take q own) (found ∷ []) more) ∙ ap (λ bs. bs ++ more) (sym (take-suc-set own q found (omega (arith, eight)))) ∙ ap (λ (i : ℕ). take i (set own q found) ++ more) (sym next) in
     record {
-      said = h.said ∙ ap (λ bs. call ∷ (req ∷ (take q own ++ bs))) (ap (λ xs. there any xs u) (own_next q below) ∙ there_step any (home.Own q) (drop (q + 1) owns) u found v is_there past_it) ∙ ap (λ bs. call ∷ (req ∷ bs)) front;
+      said = h.said ∙ ap (λ bs. call ∷ (req ∷ (take q own ++ bs))) (ap (λ xs. there any xs u) (own_next q below) ∙ there_step any (home.Own q) (drop (q + 1) owns) u found v is_there past_it)
+          ∙ ap (λ bs. call ∷ (req ∷ bs)) front;
       left = h.left ∙ ap (λ xs. past_these any xs u) (own_next q below) ∙ past_step any (home.Own q) (drop (q + 1) owns) u found v is_there past_it;
       eight = length-set own q found ∙ eight;
     }
@@ -110,7 +117,8 @@ own_at (x ∷ []) d (suc q) = refl
 own_at (x ∷ (y ∷ ys)) d zero = refl
 own_at (x ∷ (y ∷ ys)) d (suc q) = own_at (y ∷ ys) d q
 
-module _ (t : List ℕ) (call req any : Bool) (own : List Bool) (u : List ℕ) (q : ℕ) (dead : Bool) (v : List ℕ) (h : OwnsRead t call req any own u q) (all : q ≡ 8) (is : dead ≡ starts (where_holds any (codes ",") ++ codes "dead") u) (on : v ≡ past (where_holds any (codes ",") ++ codes "dead") u) where
+module _ (t : List ℕ) (call req any : Bool) (own : List Bool) (u : List ℕ) (q : ℕ) (dead : Bool) (v : List ℕ) (h : OwnsRead t call req any own u q) (all : q ≡ 8)
+    (is : dead ≡ starts (where_holds any (codes ",") ++ codes "dead") u) (on : v ≡ past (where_holds any (codes ",") ++ codes "dead") u) where
   said_all : some_there homes t ≡ call ∷ (req ∷ (own ++ (dead ∷ [])))
   said_all =
       let eight = h.eight in

@@ -1,5 +1,6 @@
 -- Each state of the rounds is below that of every certificate that is accepted.
-use Rattle.std.proofs.Common.{◌≡◌, ℕ, zero, suc, ◌+◌, Bool, true, false, ◌&&◌, nat_lt, if◌then◌else◌, List, [], ◌∷◌, length, All, inl, inr, Option, Some, None, IfSome, unwrap_or, Result, slice_get, refl, ap, sym, ◌∙◌, subst, arith}
+use Rattle.std.proofs.Common.{◌≡◌, ℕ, zero, suc, ◌+◌, Bool, true, false, ◌&&◌, nat_lt, if◌then◌else◌, List, [], ◌∷◌, length, All, inl, inr, Option, Some, None, IfSome, unwrap_or, Result, slice_get}
+use Rattle.std.proofs.Common.{refl, ap, sym, ◌∙◌, subst, arith}
 use Rattle.std.proofs.lemmas.List.Elements.{All-nil, All-cons, All-append}
 use Rattle.module_code.specs.declared.instr.Instr.{Instr}
 use Rattle.module_code.specs.declared.instr.Instr.TheVariants as instr
@@ -16,7 +17,8 @@ use Rattle.life_check.specs.Certificates.{Certificate, AreFormed}
 use Rattle.life_check.specs.Typed.{is_below, flows, main_from, request_end, left_by, exits, IsLed, IsTyped}
 use Rattle.life_cert.specs.declared.growth.StatePlace.{StatePlace}
 use Rattle.life_cert.specs.declared.growth.StatePlace.TheVariants as place
-use Rattle.life_cert.specs.Rounds.{Arrival, Grown, state_at, arriving, left_place, returned, edges_arriving, handed_by_rule, handed_by_line, handed_by, handed_on, grow, arrive_by, arrive, arrived, nothing, begun, rounds, enough, made}
+use Rattle.life_cert.specs.Rounds.{Arrival, Grown, state_at, arriving, left_place, returned, edges_arriving, handed_by_rule, handed_by_line, handed_by, handed_on, grow, arrive_by, arrive, arrived}
+use Rattle.life_cert.specs.Rounds.{nothing, begun, rounds, enough, made}
 use Rattle.life_check.proofs.Completed.{below_trans}
 use Rattle.life_cert.specs.Least.{IsBelow}
 use Rattle.life_cert.proofs.Arriving.{read_written}
@@ -81,8 +83,10 @@ module _ (p : Program) (c : Certificate) (typed : IsTyped p c) (formed : AreForm
   by_under place.Ready s (Some t) e f le =
       let g : IsFormed t = subst (λ (o : Option State). IfSome o IsFormed) e formed.ready in
       All-append (Under c) (arriving (place.At p.main) (Some (at_main s))) (arriving place.Idle (Some (at_end_of_request p s)))
-      (edge_under (place.At p.main) (Some (at_main s)) (main_from c.ready) (ap (λ (o : Option State). edge_le (Some (at_main s)) (main_from o)) e ∙ entries_are_monotone.serves s t f g le) typed.serves)
-      (edge_under place.Idle (Some (at_end_of_request p s)) (request_end p c.ready) (ap (λ (o : Option State). edge_le (Some (at_end_of_request p s)) (request_end p o)) e ∙ entries_are_monotone.ends p s t f g le) typed.requests)
+      (edge_under (place.At p.main) (Some (at_main s)) (main_from c.ready)
+      (ap (λ (o : Option State). edge_le (Some (at_main s)) (main_from o)) e ∙ entries_are_monotone.serves s t f g le) typed.serves)
+      (edge_under place.Idle (Some (at_end_of_request p s)) (request_end p c.ready)
+      (ap (λ (o : Option State). edge_le (Some (at_end_of_request p s)) (request_end p o)) e ∙ entries_are_monotone.ends p s t f g le) typed.requests)
   by_under (place.At pc) s (Some t) e f le = line_under pc s t (slice_get p.code pc) refl e f (subst (λ (o : Option State). IfSome o IsFormed) e (formed.at pc)) le
 
   handed_under : (w : StatePlace) (o : Option State) → ((s : State) → o ≡ Some s → IsFormed s × (is_below s (state_at c w) ≡ true)) → All (Under c) (handed_by p w o)
@@ -117,7 +121,8 @@ module _ (p : Program) (c : Certificate) (typed : IsTyped p c) (formed : AreForm
   unfolding arrived
   arrived_under [] g f good new h = h
   arrived_under (a ∷ rest) g f good new h =
-      arrived_under rest (arrive a g) (formed_by p a g (state_at g.states a.place) refl f (good 0 a (omega arith))) (λ k d below. good (suc k) d (omega arith)) (λ k d below. new (suc k) d (omega arith))
+      arrived_under rest (arrive a g) (formed_by p a g (state_at g.states a.place) refl f (good 0 a (omega arith))) (λ k d below. good (suc k) d (omega arith))
+      (λ k d below. new (suc k) d (omega arith))
       (under_by a g (state_at g.states a.place) refl f (new 0 a (omega arith)) h)
 
   -- Rounds.

@@ -1,5 +1,6 @@
 -- Where some certificate is accepted, that of the rounds is.
-use Rattle.std.proofs.Common.{◌≡◌, ℕ, zero, suc, ◌+◌, ◌<◌, true, false, ◌&&◌, not, nat_lt, nat_le, if◌then◌else◌, List, [], ◌∷◌, ◌++◌, length, All, inl, inr, Option, Some, None, IfSome, unwrap_or, Result, Ok, Err, slice_get, refl, ap, ap₂, sym, ◌∙◌, subst, arith}
+use Rattle.std.proofs.Common.{◌≡◌, ℕ, zero, suc, ◌+◌, ◌<◌, true, false, ◌&&◌, not, nat_lt, nat_le, if◌then◌else◌, List, [], ◌∷◌, ◌++◌, length, All, inl, inr, Option, Some, None, IfSome, unwrap_or}
+use Rattle.std.proofs.Common.{Result, Ok, Err, slice_get, refl, ap, ap₂, sym, ◌∙◌, subst, arith}
 use Rattle.std.proofs.lemmas.List.Elements.{All-nil, All-cons, All-append, All-head}
 use Rattle.module_code.specs.declared.instr.Instr.{Instr}
 use Rattle.module_code.specs.declared.instr.Instr.TheVariants as instr
@@ -20,12 +21,14 @@ use Rattle.life_state.proofs.FormPasses.{passes_form}
 use Rattle.life_state.proofs.Tests.{and2, and3}
 use Rattle.life_state.proofs.WithinRules.{rules_are_monotone}
 use Rattle.life_check.specs.Certificates.{Certificate, AreFormed}
-use Rattle.life_check.specs.Typed.{is_below, flows, declares, has_in, has_no_cursor, fits_between, fits_line, fits_lines, has_shape, main_from, request_end, left_by, exits, first_refusal, IsLed, IsTyped}
+use Rattle.life_check.specs.Typed.{is_below, flows, declares, has_in, has_no_cursor, fits_between, fits_line, fits_lines, has_shape, main_from, request_end, left_by, exits, first_refusal, IsLed}
+use Rattle.life_check.specs.Typed.{IsTyped}
 use Rattle.life_check.proofs.Completed.{below_itself, declared, line_fits}
 use Rattle.life_check.proofs.TypedLaws.{none_typed}
 use Rattle.life_cert.specs.declared.growth.StatePlace.{StatePlace}
 use Rattle.life_cert.specs.declared.growth.StatePlace.TheVariants as place
-use Rattle.life_cert.specs.Rounds.{Arrival, Grown, state_at, with_state, arriving, left_place, returned, edges_arriving, handed_by_rule, handed_by_line, handed_by, handed_on, grow, arrive_by, arrive, arrived, nothing, begun, rounds, enough, made}
+use Rattle.life_cert.specs.Rounds.{Arrival, Grown, state_at, with_state, arriving, left_place, returned, edges_arriving, handed_by_rule, handed_by_line, handed_by, handed_on, grow, arrive_by, arrive}
+use Rattle.life_cert.specs.Rounds.{arrived, nothing, begun, rounds, enough, made}
 use Rattle.life_cert.specs.Laws.{is_in_main}
 use Rattle.life_cert.proofs.Arriving.{read_written}
 use Rattle.life_cert.proofs.RoundsFit.{rounds_fit, states_only_grow}
@@ -65,7 +68,8 @@ line_bare p pc (Some i) s = of (rule p i s)
     of (Err k) = All-nil IsBare
     of (Ok e) =
         All-append IsBare (edges_arriving pc i e) (arriving (left_place p pc) (returned i s))
-        (All-append IsBare (arriving (place.At (pc + 1)) e.next) (arriving (place.At (unwrap_or (target i) 0)) e.jump) (at_line (pc + 1) e.next) (at_line (unwrap_or (target i) 0) e.jump)) (return_bare p pc i s)
+        (All-append IsBare (arriving (place.At (pc + 1)) e.next) (arriving (place.At (unwrap_or (target i) 0)) e.jump) (at_line (pc + 1) e.next) (at_line (unwrap_or (target i) 0) e.jump))
+        (return_bare p pc i s)
 
 end_bare : (p : Program) (s : State) → ((k : ℕ) → s.cursors k ≡ Unset) → (k : ℕ) → (at_end_of_request p s).cursors k ≡ Unset
 unfolding at_end_of_request cleared_under moved
@@ -133,11 +137,13 @@ rounds_bare p (suc n) =
 -- `open` begins below the first state.
 opens_under : (p : Program) → IsModule p → (n : ℕ) → is_below (at_open (length p.pools) (length p.brigades)) (state_at (rounds n p (begun p)).states (place.At 0)) ≡ true
 unfolding rounds
-opens_under p m zero = begins (at_open (length p.pools) (length p.brigades)) (nothing p) (below_itself p (is_in_main p (place.At 0)) (at_open (length p.pools) (length p.brigades)) ((begun_formed p m).each (place.At 0) (at_open (length p.pools) (length p.brigades)) (upd_at (nothing p).at 0 (Some (at_open (length p.pools) (length p.brigades))))))
+opens_under p m zero = begins (at_open (length p.pools) (length p.brigades)) (nothing p) (below_itself p (is_in_main p (place.At 0)) (at_open (length p.pools) (length p.brigades))
+    ((begun_formed p m).each (place.At 0) (at_open (length p.pools) (length p.brigades)) (upd_at (nothing p).at 0 (Some (at_open (length p.pools) (length p.brigades))))))
   where
     begins : (s : State) (d : Certificate) → leq s s ≡ true → is_below s (state_at (with_state (place.At 0) s d) (place.At 0)) ≡ true
     begins s d h = ap (is_below s) (upd_at d.at 0 (Some s)) ∙ h
-opens_under p m (suc n) = under_grown (at_open (length p.pools) (length p.brigades)) (state_at (rounds n p (begun p)).states (place.At 0)) (state_at (rounds (suc n) p (begun p)).states (place.At 0)) (states_only_grow p m n (place.At 0)) (opens_under p m n)
+opens_under p m (suc n) = under_grown (at_open (length p.pools) (length p.brigades)) (state_at (rounds n p (begun p)).states (place.At 0))
+    (state_at (rounds (suc n) p (begun p)).states (place.At 0)) (states_only_grow p m n (place.At 0)) (opens_under p m n)
 
 module _ (p : Program) (c : Certificate) (m : IsModule p) (formed : AreFormed c) (typed : IsTyped p c) where
   each : (w : StatePlace) (s : State) → state_at (made p) w ≡ Some s → IsFormedIn p (is_in_main p w) s
@@ -155,7 +161,8 @@ module _ (p : Program) (c : Certificate) (m : IsModule p) (formed : AreFormed c)
   between (Some s) h =
       let both = h s refl in
       and2 (declares p s && not (has_in s) && has_no_cursor s) (is_formed s)
-      (and3 (declares p s) (not (has_in s)) (has_no_cursor s) (declared p false s (both.0)) (ap not ((both.0).brought)) (all_below_holds 9 (λ k. not (is_set (s.cursors k))) (λ k low. ap (λ x. not (is_set x)) ((both.1) k))))
+      (and3 (declares p s) (not (has_in s)) (has_no_cursor s) (declared p false s (both.0)) (ap not ((both.0).brought))
+      (all_below_holds 9 (λ k. not (is_set (s.cursors k))) (λ k low. ap (λ x. not (is_set x)) ((both.1) k))))
       (passes_form s (both.0).formed)
 
   line_there : (pc : ℕ) (o : Option State) → pc < length p.code → ((s : State) → o ≡ Some s → IsFormedIn p (nat_le p.main pc) s) → fits_line p pc o ≡ true
@@ -219,14 +226,16 @@ module _ (p : Program) (c : Certificate) (m : IsModule p) (formed : AreFormed c)
       let less = rules_are_monotone p i s t of_t.edges f g le of_t.safe in
       let d = less.edges in
       let all : All (Under (made p)) (handed_by_rule p pc i s (Ok d)) = subst (λ (r : Result Edges FaultKind). All (Under (made p)) (handed_by_rule p pc i s r)) less.safe
-      (subst (λ (o : Option Instr). All (Under (made p)) (handed_by_line p pc o s)) here (subst (λ (o : Option State). All (Under (made p)) (handed_by p (place.At pc) o)) line (closed (place.At pc)))) in
+      (subst (λ (o : Option Instr). All (Under (made p)) (handed_by_line p pc o s)) here
+      (subst (λ (o : Option State). All (Under (made p)) (handed_by p (place.At pc) o)) line (closed (place.At pc)))) in
       let on = front (edges_arriving pc i d) (arriving (left_place p pc) (returned i s)) all in
       let next = arriving (place.At (pc + 1)) d.next in
       let jump = arriving (place.At (unwrap_or (target i) 0)) d.jump in
       record {
         edges = d;
         safe = less.safe;
-        leads = and2 (flows d.next ((made p).at (pc + 1))) (flows d.jump ((made p).at (unwrap_or (target i) 0))) (flows_there (place.At (pc + 1)) d.next (front next jump on)) (flows_there (place.At (unwrap_or (target i) 0)) d.jump (back next jump on));
+        leads = and2 (flows d.next ((made p).at (pc + 1))) (flows d.jump ((made p).at (unwrap_or (target i) 0))) (flows_there (place.At (pc + 1)) d.next (front next jump on))
+            (flows_there (place.At (unwrap_or (target i) 0)) d.jump (back next jump on));
         exits = exits_there pc i s (back (edges_arriving pc i d) (arriving (left_place p pc) (returned i s)) all);
       }
 

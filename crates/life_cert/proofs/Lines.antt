@@ -1,5 +1,6 @@
 -- The lines of the instructions' states.
-use Rattle.std.proofs.Common.{◌≡◌, ℕ, zero, suc, ◌+◌, ◌-◌, ◌<◌, ◌≤◌, List, [], ◌∷◌, ◌++◌, length, get_or, replicate, Option, Some, None, refl, sym, ap, subst, ◌∙◌, append_assoc, append-nil, arith, rules}
+use Rattle.std.proofs.Common.{◌≡◌, ℕ, zero, suc, ◌+◌, ◌-◌, ◌<◌, ◌≤◌, List, [], ◌∷◌, ◌++◌, length, get_or, replicate, Option, Some, None, refl, sym, ap, subst, ◌∙◌, append_assoc, append-nil, arith}
+use Rattle.std.proofs.Common.{rules}
 use Rattle.std.specs.Prelude.{slice_get, IfSome, IsSome}
 use Rattle.life_state.specs.declared.state.State as code
 use Rattle.life_state.specs.Form.{IsFormed}
@@ -42,7 +43,8 @@ lines_from (x ∷ xs) k =
         ap (λ j. pc_line i (seen_line (slice_get (x ∷ xs) j))) one
 
 pub lines_are : (xs : List (Option code.State)) → each 0 (length xs) (λ pc. pc_line pc (seen_line (slice_get xs pc))) ≡ lines_text 0 xs
-lines_are xs = each_same (length xs) 0 (λ pc. pc_line pc (seen_line (slice_get xs pc))) (line_from 0 xs) (λ i low high. let same : i ≡ i - 0 = omega arith in ap (λ j. pc_line i (seen_line (slice_get xs j))) same) ∙ lines_from xs 0
+lines_are xs = each_same (length xs) 0 (λ pc. pc_line pc (seen_line (slice_get xs pc))) (line_from 0 xs)
+    (λ i low high. let same : i ≡ i - 0 = omega arith in ap (λ j. pc_line i (seen_line (slice_get xs j))) same) ∙ lines_from xs 0
 
 lines_both : (xs ys : List (Option code.State)) (k : ℕ) → lines_text k (xs ++ ys) ≡ lines_text k xs ++ lines_text (k + length xs) ys
 lines_both [] ys k = let same : k ≡ k + 0 = omega arith in ap (λ i. lines_text i ys) same
@@ -56,11 +58,14 @@ lines_none zero k = refl
 lines_none (suc m) k = lines_none m (k + 1)
 
 -- one more state, behind instructions that have none
-pub lines_more : (xs : List (Option code.State)) (m : ℕ) (s : code.State) (pc : ℕ) → pc ≡ length xs + m → length (xs ++ replicate m None) ≡ pc → lines_text 0 ((xs ++ replicate m None) ++ Some s ∷ []) ≡ lines_text 0 xs ++ pc_line pc (Some (seen s))
+pub lines_more : (xs : List (Option code.State)) (m : ℕ) (s : code.State) (pc : ℕ) → pc ≡ length xs + m → length (xs ++ replicate m None) ≡ pc
+    → lines_text 0 ((xs ++ replicate m None) ++ Some s ∷ []) ≡ lines_text 0 xs ++ pc_line pc (Some (seen s))
 lines_more xs m s pc at long =
-    let some : lines_text (0 + length (xs ++ replicate m None)) (Some s ∷ []) ≡ pc_line pc (Some (seen s)) = ap (λ i. lines_text (0 + i) (Some s ∷ [])) long ∙ ap (λ i. lines_text i (Some s ∷ [])) (omega arith) ∙ append-nil (pc_line pc (Some (seen s))) in
+    let some : lines_text (0 + length (xs ++ replicate m None)) (Some s ∷ []) ≡ pc_line pc (Some (seen s)) =
+    ap (λ i. lines_text (0 + i) (Some s ∷ [])) long ∙ ap (λ i. lines_text i (Some s ∷ [])) (omega arith) ∙ append-nil (pc_line pc (Some (seen s))) in
     lines_both (xs ++ replicate m None) (Some s ∷ []) 0
-    ∙ ap (λ t. t ++ lines_text (0 + length (xs ++ replicate m None)) (Some s ∷ [])) (lines_both xs (replicate m None) 0 ∙ ap (λ t. lines_text 0 xs ++ t) (lines_none m (0 + length xs)) ∙ append-nil (lines_text 0 xs))
+    ∙ ap (λ t. t ++ lines_text (0 + length (xs ++ replicate m None)) (Some s ∷ []))
+    (lines_both xs (replicate m None) 0 ∙ ap (λ t. lines_text 0 xs ++ t) (lines_none m (0 + length xs)) ∙ append-nil (lines_text 0 xs))
     ∙ ap (λ t. lines_text 0 xs ++ t) some
 
 -- Lines whose states are in form.

@@ -45,7 +45,8 @@ one_or_none (Some s) (Some t) m n f g e = let both = one_state_line s t m n f g 
 
 one_between : (w : List ℕ) (o p : Option State) (m n : List ℕ) → IfSome o IsFormed → IfSome p IsFormed → between_line w o ++ m ≡ between_line w p ++ n → (o ≡ p) × (m ≡ n)
 one_between w o p m n f g e =
-    one_or_none o p m n f g (sym (append_assoc (state_or_none o) (codes "\n") m) ∙ append_cancel_left w ((state_or_none o ++ codes "\n") ++ m) ((state_or_none p ++ codes "\n") ++ n) (sym (append_assoc w (state_or_none o ++ codes "\n") m) ∙ e ∙ append_assoc w (state_or_none p ++ codes "\n") n) ∙ append_assoc (state_or_none p) (codes "\n") n)
+    one_or_none o p m n f g (sym (append_assoc (state_or_none o) (codes "\n") m) ∙ append_cancel_left w ((state_or_none o ++ codes "\n") ++ m) ((state_or_none p ++ codes "\n") ++ n)
+    (sym (append_assoc w (state_or_none o ++ codes "\n") m) ∙ e ∙ append_assoc w (state_or_none p ++ codes "\n") n) ∙ append_assoc (state_or_none p) (codes "\n") n)
 
 -- The lines of instructions.
 abbrev pub pcs : ℕ → ℕ → (ℕ → Option State) → List ℕ
@@ -88,14 +89,17 @@ no_number k m at (suc n) pc low high e =
 
 module _ (at bt : ℕ → Option State) (f : (pc : ℕ) → IfSome (at pc) IsFormed) (g : (pc : ℕ) → IfSome (bt pc) IsFormed) where
   -- the first of the lines, and those behind it
-  one_line : (pc n : ℕ) (o p : Option State) → pc + suc n ≤ 1024 → IfSome o IsFormed → IfSome p IsFormed → pc_line pc o ++ pcs (pc + 1) n at ≡ pc_line pc p ++ pcs (pc + 1) n bt → (o ≡ p) × (pcs (pc + 1) n at ≡ pcs (pc + 1) n bt)
+  one_line : (pc n : ℕ) (o p : Option State) → pc + suc n ≤ 1024 → IfSome o IsFormed → IfSome p IsFormed → pc_line pc o ++ pcs (pc + 1) n at ≡ pc_line pc p ++ pcs (pc + 1) n bt → (o ≡ p)
+      × (pcs (pc + 1) n at ≡ pcs (pc + 1) n bt)
   one_line pc n None None high h k e = (refl, e)
   one_line pc n None (Some t) high h k e = absurd (no_number pc (state_text t ++ (10 ∷ pcs (pc + 1) n bt)) at n (pc + 1) (omega arith) (omega (arith, high)) (e ∙ some_line pc t (pcs (pc + 1) n bt)))
-  one_line pc n (Some s) None high h k e = absurd (no_number pc (state_text s ++ (10 ∷ pcs (pc + 1) n at)) bt n (pc + 1) (omega arith) (omega (arith, high)) (sym e ∙ some_line pc s (pcs (pc + 1) n at)))
+  one_line pc n (Some s) None high h k e =
+      absurd (no_number pc (state_text s ++ (10 ∷ pcs (pc + 1) n at)) bt n (pc + 1) (omega arith) (omega (arith, high)) (sym e ∙ some_line pc s (pcs (pc + 1) n at)))
   one_line pc n (Some s) (Some t) high h k e =
       let m = pcs (pc + 1) n at in
       let r = pcs (pc + 1) n bt in
-      let behind : 32 ∷ (state_text s ++ (10 ∷ m)) ≡ 32 ∷ (state_text t ++ (10 ∷ r)) = append_cancel_left (decimal pc) (32 ∷ (state_text s ++ (10 ∷ m))) (32 ∷ (state_text t ++ (10 ∷ r))) (sym (some_line pc s m) ∙ e ∙ some_line pc t r) in
+      let behind : 32 ∷ (state_text s ++ (10 ∷ m)) ≡ 32 ∷ (state_text t ++ (10 ∷ r)) =
+      append_cancel_left (decimal pc) (32 ∷ (state_text s ++ (10 ∷ m))) (32 ∷ (state_text t ++ (10 ∷ r))) (sym (some_line pc s m) ∙ e ∙ some_line pc t r) in
       let both = one_state_line s t m r h k (cc behind) in
       (ap (λ (x : State). (let o : Option State = Some x in o)) both.0, both.1)
 
@@ -140,12 +144,14 @@ seen_writable r h =
     record { idle = h.idle; ready = h.ready; at = h.at; none = gone; few = λ pc high. gone pc (omega (arith, few, high)) }
 
 -- What was printed is read again.
-pub read_again : (text : List ℕ) (r : Result Cert CertRefusal) → IfOk r (λ x. IsCertText text x.slim (seen_cert x)) → IfErr r (λ e. IsTold text e) → (slim : Bool) (c : Certificate) → IsPrinted text slim c → MatchResult r (λ x. (x.slim ≡ slim) × HaveSameStates (seen_cert x) c) (λ e. e ≡ NoMemory)
+pub read_again : (text : List ℕ) (r : Result Cert CertRefusal) → IfOk r (λ x. IsCertText text x.slim (seen_cert x)) → IfErr r (λ e. IsTold text e) → (slim : Bool) (c : Certificate)
+    → IsPrinted text slim c → MatchResult r (λ x. (x.slim ≡ slim) × HaveSameStates (seen_cert x) c) (λ e. e ≡ NoMemory)
 read_again text (Ok x) is told slim c p = one_cert x.slim slim (seen_cert x) c (seen_writable x is.sound) p.writable (sym is.whole ∙ p.whole)
 read_again text (Err (Fault n k)) is told slim c p = absurd (no_fault text slim c n k p told.fits)
 read_again text (Err NoMemory) is told slim c p = refl
 
 -- as the reader of lines tells it
-pub read_short : (text : List ℕ) (r : Result Cert CertRefusal) → IfOk r (λ x. (false ≡ false) × IsCertText text x.slim (seen_cert x)) → IfErr r (λ e. IsTold text e) → (slim : Bool) (c : Certificate) → IsPrinted text slim c → MatchResult r (λ x. (x.slim ≡ slim) × HaveSameStates (seen_cert x) c) (λ e. e ≡ NoMemory)
+pub read_short : (text : List ℕ) (r : Result Cert CertRefusal) → IfOk r (λ x. (false ≡ false) × IsCertText text x.slim (seen_cert x)) → IfErr r (λ e. IsTold text e)
+    → (slim : Bool) (c : Certificate) → IsPrinted text slim c → MatchResult r (λ x. (x.slim ≡ slim) × HaveSameStates (seen_cert x) c) (λ e. e ≡ NoMemory)
 read_short text (Ok x) is told slim c p = read_again text (Ok x) is.1 told slim c p
 read_short text (Err e) is told slim c p = read_again text (Err e) is told slim c p

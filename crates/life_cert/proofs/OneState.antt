@@ -11,10 +11,13 @@ use Rattle.life_state.specs.Form.{IsFormed}
 use Rattle.life_state.specs.Rules.{at_open}
 use Rattle.life_state.specs.States.{BrigadeKnown, CursorKnown, State, Unset, never_made, only_null, set_brigade, set_pool}
 use Rattle.life_cert.specs.StateText.{state_text}
-use Rattle.life_cert.specs.StateFromText.{at_pools, brigades_there, cursor_past, cursor_read, fact_past, fact_word, fold_each, in_past, in_read, own_past, own_read, past_brigades, past_cursors, past_each, past_pools, pool_past, pool_read, pools_there, row_past, starts, told_brigade, told_brigades, told_cursor, told_cursors, told_facts, told_pool, told_pools}
+use Rattle.life_cert.specs.StateFromText.{at_pools, brigades_there, cursor_past, cursor_read, fact_past, fact_word, fold_each, in_past, in_read, own_past, own_read, past_brigades, past_cursors}
+use Rattle.life_cert.specs.StateFromText.{past_each, past_pools, pool_past, pool_read, pools_there, row_past, starts, told_brigade, told_brigades, told_cursor, told_cursors, told_facts, told_pool}
+use Rattle.life_cert.specs.StateFromText.{told_pools}
 use Rattle.life_cert.proofs.FactTexts.{is_written}
 use Rattle.life_cert.proofs.StateTexts.{IsLineEnd}
-use Rattle.life_cert.proofs.StateReading.{brigades_counted, brigades_told, cursors_told, facts_told, from_brigades, from_cursors, from_facts, from_in, from_pools, in_told, parts, pools_counted, pools_told, sent_told}
+use Rattle.life_cert.proofs.StateReading.{brigades_counted, brigades_told, cursors_told, facts_told, from_brigades, from_cursors, from_facts, from_in, from_pools, in_told, parts, pools_counted}
+use Rattle.life_cert.proofs.StateReading.{pools_told, sent_told}
 use Rattle.life_cert.proofs.TextFacts.{RowsSay, all_facts, facts_back, rows_told}
 
 -- What texts in turn say of their numbers.
@@ -32,12 +35,14 @@ unfolding told_each
 told_above read p k zero t f i high = refl
 told_above read p k (suc n) t f i high = told_above read p (k + 1) n (p k t) (upd f k (read k t)) i (omega (arith, high)) ∙ upd_off f k i (read k t) (λ e. omega (arith, high, e))
 
-told_at : {A : Type 0} (read : ℕ → List ℕ → A) (p : ℕ → List ℕ → List ℕ) (v : ℕ → A) (k n : ℕ) (t : List ℕ) (f : ℕ → A) → ((i : ℕ) → i < n → read (k + i) (past_each p k i t) ≡ v (k + i)) → (i : ℕ) → k ≤ i → i < k + n → told_each read p k n t f i ≡ v i
+told_at : {A : Type 0} (read : ℕ → List ℕ → A) (p : ℕ → List ℕ → List ℕ) (v : ℕ → A) (k n : ℕ) (t : List ℕ) (f : ℕ → A) → ((i : ℕ) → i < n → read (k + i) (past_each p k i t) ≡ v (k + i)) → (i : ℕ)
+    → k ≤ i → i < k + n → told_each read p k n t f i ≡ v i
 unfolding told_each past_each
 told_at read p v k zero t f says i low high = absurd (omega (arith, low, high))
 told_at {A} read p v k (suc n) t f says i low high =
     ⊎_elim
-    (λ (e : i ≡ k). ap (told_each read p (k + 1) n (p k t) (upd f k (read k t))) e ∙ told_below read p (k + 1) n (p k t) (upd f k (read k t)) k (omega arith) ∙ upd_at f k (read k t) ∙ here ∙ ap v (sym e))
+    (λ (e : i ≡ k). ap (told_each read p (k + 1) n (p k t) (upd f k (read k t))) e ∙ told_below read p (k + 1) n (p k t) (upd f k (read k t)) k (omega arith) ∙ upd_at f k (read k t) ∙ here
+    ∙ ap v (sym e))
     (λ (ne : i ≡ k → ⊥). told_at read p v (k + 1) n (p k t) (upd f k (read k t)) others i (omega (arith, low, ne)) (omega (arith, high)))
     (cases_eq i k)
   where
@@ -99,8 +104,10 @@ module _ (s : State) (formed : IsFormed s) (m : List ℕ) (h : IsLineEnd m) wher
   pools_back q = by (nat_lt q s.pool_count) refl
     where
       by : (b : Bool) → nat_lt q s.pool_count ≡ b → told_each (λ i. pool_read) (λ i. pool_past) 0 s.pool_count (from_pools s formed m h) (λ i. only_null) q ≡ s.pools q
-      by true e = told_at (λ i. pool_read) (λ i. pool_past) s.pools 0 s.pool_count (from_pools s formed m h) (λ i. only_null) (pools_told s formed m h).says q (omega arith) (let low = ltb-true q s.pool_count e in omega (arith, low))
-      by false e = let high = ltb-false q s.pool_count e in told_above (λ i. pool_read) (λ i. pool_past) 0 s.pool_count (from_pools s formed m h) (λ i. only_null) q (omega (arith, high)) ∙ sym (formed.no_pools q high)
+      by true e = told_at (λ i. pool_read) (λ i. pool_past) s.pools 0 s.pool_count (from_pools s formed m h) (λ i. only_null) (pools_told s formed m h).says q (omega arith)
+          (let low = ltb-true q s.pool_count e in omega (arith, low))
+      by false e = let high = ltb-false q s.pool_count e in
+          told_above (λ i. pool_read) (λ i. pool_past) 0 s.pool_count (from_pools s formed m h) (λ i. only_null) q (omega (arith, high)) ∙ sym (formed.no_pools q high)
 
   abbrev brigades_read : ℕ → BrigadeKnown
   brigades_read = told_each (λ i. own_read) (λ i. own_past) 0 s.brigade_count (from_brigades s formed m h) (λ i. never_made)
@@ -113,14 +120,17 @@ module _ (s : State) (formed : IsFormed s) (m : List ℕ) (h : IsLineEnd m) wher
       (cases_eq b 8)
     where
       by : (x : Bool) → (b ≡ 8 → ⊥) → nat_lt b s.brigade_count ≡ x → brigades_read b ≡ s.brigades b
-      by true ne e = told_at (λ i. own_read) (λ i. own_past) s.brigades 0 s.brigade_count (from_brigades s formed m h) (λ i. never_made) (brigades_told s formed m h).says b (omega arith) (let low = ltb-true b s.brigade_count e in omega (arith, low))
-      by false ne e = let high = ltb-false b s.brigade_count e in told_above (λ i. own_read) (λ i. own_past) 0 s.brigade_count (from_brigades s formed m h) (λ i. never_made) b (omega (arith, high)) ∙ sym (formed.no_brigades b high ne)
+      by true ne e = told_at (λ i. own_read) (λ i. own_past) s.brigades 0 s.brigade_count (from_brigades s formed m h) (λ i. never_made) (brigades_told s formed m h).says b (omega arith)
+          (let low = ltb-true b s.brigade_count e in omega (arith, low))
+      by false ne e = let high = ltb-false b s.brigade_count e in
+          told_above (λ i. own_read) (λ i. own_past) 0 s.brigade_count (from_brigades s formed m h) (λ i. never_made) b (omega (arith, high)) ∙ sym (formed.no_brigades b high ne)
 
   cursors_back : (c : ℕ) → told_each cursor_read cursor_past 0 9 (from_cursors s formed m h) (λ i. Unset) c ≡ s.cursors c
   cursors_back c = by (nat_lt c 9) refl
     where
       by : (x : Bool) → nat_lt c 9 ≡ x → told_each cursor_read cursor_past 0 9 (from_cursors s formed m h) (λ i. Unset) c ≡ s.cursors c
-      by true e = told_at cursor_read cursor_past s.cursors 0 9 (from_cursors s formed m h) (λ i. Unset) (cursors_told s formed m h).says c (omega arith) (let low = ltb-true c 9 e in omega (arith, low))
+      by true e = told_at cursor_read cursor_past s.cursors 0 9 (from_cursors s formed m h) (λ i. Unset) (cursors_told s formed m h).says c (omega arith)
+          (let low = ltb-true c 9 e in omega (arith, low))
       by false e = let high = ltb-false c 9 e in told_above cursor_read cursor_past 0 9 (from_cursors s formed m h) (λ i. Unset) c (omega (arith, high)) ∙ sym (formed.no_cursors c high)
 
   rows_say : RowsSay s 0 9 (from_facts s formed m h)
@@ -178,12 +188,14 @@ brigades_stay t s = ap (λ (x : State). x.brigade_count) (pools_fold 0 s.pool_co
 
 -- The steps of the code, one after another.
 pub steps_read : (t u1 u2 u3 u4 u5 : List ℕ) (sent : Bool) (n m : ℕ) (v : BrigadeKnown) (s1 s2 s3 s4 s5 s6 s7 : State)
-    → sent ≡ starts (codes "sent=maybe") t → u1 ≡ at_pools t → n ≡ pools_there u1 → u2 ≡ past_pools u1 → m ≡ brigades_there u2 → u3 ≡ past_brigades u2 → v ≡ in_read u3 → u4 ≡ in_past u3 → u5 ≡ past_cursors u4
+    → sent ≡ starts (codes "sent=maybe") t → u1 ≡ at_pools t → n ≡ pools_there u1 → u2 ≡ past_pools u1 → m ≡ brigades_there u2 → u3 ≡ past_brigades u2 → v ≡ in_read u3 → u4 ≡ in_past u3
+    → u5 ≡ past_cursors u4
     → s1 ≡ at_open n m → s2 ≡ with_sent sent s1 → s3 ≡ told_pools u1 s2 → s4 ≡ told_brigades u2 s3 → s5 ≡ set_brigade 8 v s4 → s6 ≡ told_cursors u4 s5 → s7 ≡ told_facts u5 s6
     → s7 ≡ read_as t
 unfolding read_as read_from state_of
 steps_read t u1 u2 u3 u4 u5 sent n m v s1 s2 s3 s4 s5 s6 s7 sent_is u1_is n_is u2_is m_is u3_is v_is u4_is u5_is one two three four five six seven =
-    seven ∙ ap (λ (s : State). told_facts u5 s) (six ∙ ap (λ (s : State). told_cursors u4 s) (five ∙ ap (λ (s : State). set_brigade 8 v s) (four ∙ ap (λ (s : State). told_brigades u2 s) (three ∙ ap (λ (s : State). told_pools u1 s) (two ∙ ap (λ (s : State). with_sent sent s) one)))))
+    seven ∙ ap (λ (s : State). told_facts u5 s) (six ∙ ap (λ (s : State). told_cursors u4 s)
+    (five ∙ ap (λ (s : State). set_brigade 8 v s) (four ∙ ap (λ (s : State). told_brigades u2 s) (three ∙ ap (λ (s : State). told_pools u1 s) (two ∙ ap (λ (s : State). with_sent sent s) one)))))
     ∙ ap (λ x. state_of sent n m u1 u2 v u4 x) u5_is
     ∙ ap (λ x. state_of sent n m u1 u2 v x (past_cursors x)) u4_is
     ∙ ap (λ (x : BrigadeKnown). state_of sent n m u1 u2 x (in_past u3) (past_cursors (in_past u3))) v_is

@@ -1,5 +1,6 @@
 -- The text of a certificate: its lines, of which none has a fault.
-use Rattle.std.proofs.Common.{◌≡◌, ℕ, zero, suc, ◌+◌, ◌^◌, ◌<◌, ◌≤◌, Bool, true, false, ◌&&◌, ◌||◌, not, cond, List, [], ◌∷◌, ◌++◌, length, take, codes, decimal, Option, Some, None, refl, sym, ap, subst, ◌∙◌, append_assoc, append-nil, arith, inl, inr, eqb, ne_eqb}
+use Rattle.std.proofs.Common.{◌≡◌, ℕ, zero, suc, ◌+◌, ◌^◌, ◌<◌, ◌≤◌, Bool, true, false, ◌&&◌, ◌||◌, not, cond, List, [], ◌∷◌, ◌++◌, length, take, codes, decimal, Option, Some, None, refl, sym, ap}
+use Rattle.std.proofs.Common.{subst, ◌∙◌, append_assoc, append-nil, arith, inl, inr, eqb, ne_eqb}
 use Rattle.std.specs.Prelude.{nat_eq, nat_lt, IfSome}
 use Rattle.std.specs.List.{list_all}
 use Rattle.std.specs.Cmp.Lexicographic.{pointwise}
@@ -72,8 +73,10 @@ cert_joined slim c =
     let i = state_or_none c.idle in
     let r = state_or_none c.ready in
     let ls = joined (pc_lines 0 c.lines c.at) in
-    let idle : (codes "idle" ++ (32 ∷ i)) ++ (10 ∷ ((codes "ready" ++ (32 ∷ r)) ++ 10 ∷ ls)) ≡ between_line (codes "idle ") c.idle ++ ((codes "ready" ++ (32 ∷ r)) ++ 10 ∷ ls) = sym (append_assoc (codes "idle ") (i ++ codes "\n") ((codes "ready" ++ (32 ∷ r)) ++ 10 ∷ ls) ∙ ap (λ t. codes "idle " ++ t) (append_assoc i (codes "\n") ((codes "ready" ++ (32 ∷ r)) ++ 10 ∷ ls))) in
-    let ready : (codes "ready" ++ (32 ∷ r)) ++ (10 ∷ ls) ≡ between_line (codes "ready ") c.ready ++ ls = sym (append_assoc (codes "ready ") (r ++ codes "\n") ls ∙ ap (λ t. codes "ready " ++ t) (append_assoc r (codes "\n") ls)) in
+    let idle : (codes "idle" ++ (32 ∷ i)) ++ (10 ∷ ((codes "ready" ++ (32 ∷ r)) ++ 10 ∷ ls)) ≡ between_line (codes "idle ") c.idle ++ ((codes "ready" ++ (32 ∷ r)) ++ 10 ∷ ls) = sym (append_assoc
+    (codes "idle ") (i ++ codes "\n") ((codes "ready" ++ (32 ∷ r)) ++ 10 ∷ ls) ∙ ap (λ t. codes "idle " ++ t) (append_assoc i (codes "\n") ((codes "ready" ++ (32 ∷ r)) ++ 10 ∷ ls))) in
+    let ready : (codes "ready" ++ (32 ∷ r)) ++ (10 ∷ ls) ≡ between_line (codes "ready ") c.ready ++ ls =
+    sym (append_assoc (codes "ready ") (r ++ codes "\n") ls ∙ ap (λ t. codes "ready " ++ t) (append_assoc r (codes "\n") ls)) in
     head_joined slim _ _ (idle ∙ ap (λ t. between_line (codes "idle ") c.idle ++ t) (ready ∙ ap (λ t. between_line (codes "ready ") c.ready ++ t) (lines_joined 0 c.lines c.at)))
 
 abbrev pub AreClean : List (List ℕ) → Type 0
@@ -171,11 +174,13 @@ module _ (c : Certificate) (h : IsWritable c) where
   pcs_right next pc zero low = no_faults (due.States next) (codes "end") [] line.End (plain (codes "end") refl) refl tt none_after
   pcs_right next pc (suc n) low = by (c.at pc) refl (h.at pc) (pcs_right next (pc + 1) n (omega (arith, low))) (pcs_right (pc + 1) (pc + 1) n (omega arith))
     where
-      by : (o : Option State) → c.at pc ≡ o → IfSome o IsFormed → NoFaults (due.States next) (pc_lines (pc + 1) n c.at) → NoFaults (due.States (pc + 1)) (pc_lines (pc + 1) n c.at) → NoFaults (due.States next) (more_lines pc o (pc_lines (pc + 1) n c.at))
+      by : (o : Option State) → c.at pc ≡ o → IfSome o IsFormed → NoFaults (due.States next) (pc_lines (pc + 1) n c.at) → NoFaults (due.States (pc + 1)) (pc_lines (pc + 1) n c.at)
+          → NoFaults (due.States next) (more_lines pc o (pc_lines (pc + 1) n c.at))
       by None e formed same others = same
       by (Some s) e formed same others =
           let high = low_pc c h pc s e in
-          let clean : IsClean (decimal pc ++ (32 ∷ state_text s)) = both (decimal pc) (32 ∷ state_text s) (decimal_clean pc (omega (arith, high))) (both (codes " ") (state_text s) (plain (codes " ") refl) (state_clean s formed)) in
+          let clean : IsClean (decimal pc ++ (32 ∷ state_text s)) =
+          both (decimal pc) (32 ∷ state_text s) (decimal_clean pc (omega (arith, high))) (both (codes " ") (state_text s) (plain (codes " ") refl) (state_clean s formed)) in
           no_faults (due.States next) (decimal pc ++ (32 ∷ state_text s)) (pc_lines (pc + 1) n c.at) (line.Instruction pc) clean (pc_is_due next pc (state_text s) low high)
           (s, (formed, after_again (decimal pc) (32 ∷ state_text s) (decimal_without 32 pc refl (omega (arith, high))) refl)) others
 
@@ -192,7 +197,8 @@ module _ (c : Certificate) (h : IsWritable c) where
       let first = (codes "idle" ++ (32 ∷ i)) ∷ second in
       no_faults due.Header (head_line slim) first (line.Header slim) clean.0 (head_due slim) tt
       (no_faults due.Idle (codes "idle" ++ (32 ∷ i)) second line.Idle clean.1.0 idle_is (c.idle, (h.idle, after_again (codes "idle") (32 ∷ i) refl refl))
-      (no_faults due.Ready (codes "ready" ++ (32 ∷ r)) third line.Ready clean.1.1.0 ready_is (c.ready, (h.ready, after_again (codes "ready") (32 ∷ r) refl refl)) (pcs_right 0 0 c.lines (omega arith))))
+      (no_faults due.Ready (codes "ready" ++ (32 ∷ r)) third line.Ready clean.1.1.0 ready_is (c.ready, (h.ready, after_again (codes "ready") (32 ∷ r) refl refl))
+      (pcs_right 0 0 c.lines (omega arith))))
 
 -- What was printed has no fault.
 pub no_fault : (text : List ℕ) (slim : Bool) (c : Certificate) (n : ℕ) (k : CertCode) → IsPrinted text slim c → HasCertLineCode text n k → ⊥
@@ -201,5 +207,7 @@ no_fault text slim c n k p f =
     let cut : take 4194304 text ≡ joined (cert_lines slim c) = take_all 4194304 text small ∙ p.whole ∙ sym (cert_joined slim c) in
     let found = lines_found (cert_lines slim c) (lines_clean c p.writable slim) in
     let lines : lines_from [] (take 4194304 text) ≡ cert_lines slim c = ap (λ t. lines_from [] t) cut ∙ found.0 in
-    let over : goes_on text ≡ false = ap (λ (r : List ℕ). nat_lt 4194304 (length text) || not (eqb (length r) 0)) (ap (λ t. rest_from [] t) cut ∙ found.1) ∙ ap (λ (b : Bool). b || false) (le-ltb 4194304 (length text) small) in
-    lines_right c p.writable slim 1 n k (subst (λ (b : Bool). CertLinesHaveCode b due.Header 1 (cert_lines slim c) n k) over (subst (λ (ls : List (List ℕ)). CertLinesHaveCode (goes_on text) due.Header 1 ls n k) lines f))
+    let over : goes_on text ≡ false =
+    ap (λ (r : List ℕ). nat_lt 4194304 (length text) || not (eqb (length r) 0)) (ap (λ t. rest_from [] t) cut ∙ found.1) ∙ ap (λ (b : Bool). b || false) (le-ltb 4194304 (length text) small) in
+    lines_right c p.writable slim 1 n k
+    (subst (λ (b : Bool). CertLinesHaveCode b due.Header 1 (cert_lines slim c) n k) over (subst (λ (ls : List (List ℕ)). CertLinesHaveCode (goes_on text) due.Header 1 ls n k) lines f))

@@ -11,7 +11,8 @@ use Rattle.life_state.specs.Form.{FormedCursor, IsFormed}
 use Rattle.life_state.specs.States.{BrigadeKnown, CursorKnown, End, Homes, In, InOrEnd, Loose, State, Unset}
 use Rattle.life_cert.specs.declared.print_state.HomeWord.{HomeWord}
 use Rattle.life_cert.specs.declared.print_state.HomeWord.TheVariants as home
-use Rattle.life_cert.specs.StateText.{brigade_name, brigade_text, classes_text, content_text, cursor_name, cursor_text, each, fact_text, facts_text, has_home, home_text, homes, homes_text, in_text, live_text, more_homes, place_text_of, pool_text, sent_text, set_text, some_homes, state_text, usable_text, where_holds}
+use Rattle.life_cert.specs.StateText.{brigade_name, brigade_text, classes_text, content_text, cursor_name, cursor_text, each, fact_text, facts_text, has_home, home_text, homes, homes_text, in_text}
+use Rattle.life_cert.specs.StateText.{live_text, more_homes, place_text_of, pool_text, sent_text, set_text, some_homes, state_text, usable_text, where_holds}
 
 -- each of these bytes is printable
 pub record IsClean (xs : List ℕ) : Type 0 where
@@ -32,7 +33,8 @@ digit_clean d low = grind arith
 
 pub decimal_clean : (n : ℕ) → n < 2 ^ 64 → IsClean (decimal n)
 decimal_clean n low =
-    plain (decimal n) (decimal_by_steps (λ m ds. list_all is_printable ds ≡ true) digit_clean (λ m ds high h. all_joined is_printable ds ((48 + m % 10) ∷ []) h (digit_clean (m % 10) (omega arith))) n low)
+    plain (decimal n) (decimal_by_steps (λ m ds. list_all is_printable ds ≡ true) digit_clean
+    (λ m ds high h. all_joined is_printable ds ((48 + m % 10) ∷ []) h (digit_clean (m % 10) (omega arith))) n low)
 
 each_clean : (f : ℕ → List ℕ) (k n : ℕ) → ((i : ℕ) → i < k + n → IsClean (f i)) → IsClean (each k n f)
 unfolding each
@@ -52,7 +54,8 @@ homes_clean = (plain (codes "call") refl, (plain (codes "req") refl, (own_clean 
 
 more_clean : (h : Homes) (xs : List HomeWord) → AreClean xs → IsClean (more_homes h xs)
 more_clean h [] c = plain [] refl
-more_clean h (x ∷ xs) c = both (where_holds (has_home h x) (codes "," ++ home_text x)) (more_homes h xs) (where_clean (has_home h x) (codes "," ++ home_text x) (both (codes ",") (home_text x) (plain (codes ",") refl) c.0)) (more_clean h xs c.1)
+more_clean h (x ∷ xs) c = both (where_holds (has_home h x) (codes "," ++ home_text x)) (more_homes h xs)
+    (where_clean (has_home h x) (codes "," ++ home_text x) (both (codes ",") (home_text x) (plain (codes ",") refl) c.0)) (more_clean h xs c.1)
 
 some_clean : (h : Homes) (xs : List HomeWord) → AreClean xs → IsClean (some_homes h xs)
 some_clean h [] c = plain (codes "-") refl
@@ -153,7 +156,8 @@ module _ (s : State) (formed : IsFormed s) where
   facts_clean : IsClean (each 0 9 (facts_text s))
   facts_clean = each_clean (facts_text s) 0 9 (λ c low. each_clean (fact_text s c) 0 9 (λ d below.
       where_clean _ (codes " " ++ (cursor_name c ++ (codes "!" ++ cursor_name d))) (both (codes " ") (cursor_name c ++ (codes "!" ++ cursor_name d)) (plain (codes " ") refl)
-      (both (cursor_name c) (codes "!" ++ cursor_name d) (cursor_name_clean c (omega (arith, low))) (both (codes "!") (cursor_name d) (plain (codes "!") refl) (cursor_name_clean d (omega (arith, below))))))))
+      (both (cursor_name c) (codes "!" ++ cursor_name d) (cursor_name_clean c (omega (arith, low)))
+      (both (codes "!") (cursor_name d) (plain (codes "!") refl) (cursor_name_clean d (omega (arith, below))))))))
 
   pub state_clean : IsClean (state_text s)
   unfolding state_text
@@ -164,4 +168,5 @@ module _ (s : State) (formed : IsFormed s) where
       let c = each 0 9 (λ k. cursor_text k (s.cursors k)) in
       let f = each 0 9 (facts_text s) in
       both (sent_text s.sent) (p ++ (b ++ (i ++ (c ++ f)))) (sent_clean s.sent)
-      (both p (b ++ (i ++ (c ++ f))) pools_clean (both b (i ++ (c ++ f)) brigades_clean (both i (c ++ f) (live_clean (codes " in=") (s.brigades 8) (plain (codes " in=") refl)) (both c f cursors_clean facts_clean))))
+      (both p (b ++ (i ++ (c ++ f))) pools_clean
+      (both b (i ++ (c ++ f)) brigades_clean (both i (c ++ f) (live_clean (codes " in=") (s.brigades 8) (plain (codes " in=") refl)) (both c f cursors_clean facts_clean))))

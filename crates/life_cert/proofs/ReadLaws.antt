@@ -1,5 +1,6 @@
 -- A text and its lines.
-use Rattle.std.proofs.Common.{◌≡◌, ℕ, suc, ◌+◌, ◌≤◌, Bool, true, false, ◌||◌, not, cond, List, [], ◌∷◌, ◌++◌, length, take, Ok, Err, refl, sym, ap, subst, ◌∙◌, append_assoc, append-nil, arith, inl, inr, eqb}
+use Rattle.std.proofs.Common.{◌≡◌, ℕ, suc, ◌+◌, ◌≤◌, Bool, true, false, ◌||◌, not, cond, List, [], ◌∷◌, ◌++◌, length, take, Ok, Err, refl, sym, ap, subst, ◌∙◌, append_assoc, append-nil, arith, inl}
+use Rattle.std.proofs.Common.{inr, eqb}
 use Rattle.std.specs.Prelude.{Result, IfErr, nat_lt}
 use Rattle.std.proofs.lemmas.Bool.{eqb-true, le-ltb}
 use Rattle.std.proofs.lemmas.List.{take_all}
@@ -44,7 +45,8 @@ low more d n (l ∷ ls) m c (inl h) = let e = h.0 in omega (arith, e)
 low more d n (l ∷ ls) m c (inr h) = let e = low more (left d l) (n + 1) ls m c h in omega (arith, e)
 
 -- lines that were taken have no code: one that some line has is one of the others
-behind : (more : Bool) (before tail : List (List ℕ)) (d s : CertDraft) (n : ℕ) (m : ℕ) (c : CertCode) → AreTaken LineAdded d n before s → CertLinesHaveCode more d.due n (before ++ tail) m c → CertLinesHaveCode more s.due (n + length before) tail m c
+behind : (more : Bool) (before tail : List (List ℕ)) (d s : CertDraft) (n : ℕ) (m : ℕ) (c : CertCode) → AreTaken LineAdded d n before s → CertLinesHaveCode more d.due n (before ++ tail) m c
+    → CertLinesHaveCode more s.due (n + length before) tail m c
 behind more [] tail d s n m c h k =
     let same : n ≡ n + 0 = omega arith in
     subst (λ (x : ℕ). CertLinesHaveCode more s.due x tail m c) same (subst (λ (x : CertDraft). CertLinesHaveCode more x.due n tail m c) h k)
@@ -56,7 +58,8 @@ behind more (l ∷ ls) tail d s n m c h (inr k) =
     (behind more ls tail h.0 s (n + 1) m c h.2 (subst (λ (x : Due). CertLinesHaveCode more x (n + 1) (ls ++ tail) m c) (sym one.due) k))
 
 -- and the others way round
-ahead : (more : Bool) (before tail : List (List ℕ)) (d s : CertDraft) (n : ℕ) (m : ℕ) (c : CertCode) → AreTaken LineAdded d n before s → CertLinesHaveCode more s.due (n + length before) tail m c → CertLinesHaveCode more d.due n (before ++ tail) m c
+ahead : (more : Bool) (before tail : List (List ℕ)) (d s : CertDraft) (n : ℕ) (m : ℕ) (c : CertCode) → AreTaken LineAdded d n before s → CertLinesHaveCode more s.due (n + length before) tail m c
+    → CertLinesHaveCode more d.due n (before ++ tail) m c
 ahead more [] tail d s n m c h k =
     let same : n + 0 ≡ n = omega arith in
     subst (λ (x : CertDraft). CertLinesHaveCode more x.due n tail m c) (sym h) (subst (λ (x : ℕ). CertLinesHaveCode more s.due x tail m c) same k)
@@ -65,7 +68,8 @@ ahead more (l ∷ ls) tail d s n m c h k =
     let same : n + suc (length ls) ≡ n + 1 + length ls = omega arith in
     inr (subst (λ (x : Due). CertLinesHaveCode more x (n + 1) (ls ++ tail) m c) one.due (ahead more ls tail h.0 s (n + 1) m c h.2 (subst (λ (x : ℕ). CertLinesHaveCode more s.due x tail m c) same k)))
 
-told_at : (more : Bool) (before after : List (List ℕ)) (line : List ℕ) (d s : CertDraft) (m : ℕ) (c : CertCode) → AreTaken LineAdded d 1 before s → m ≡ length before + 1 → IsRefused s line c → IsToldFirst (CertLinesHaveCode more d.due 1 (before ++ line ∷ after)) m c
+told_at : (more : Bool) (before after : List (List ℕ)) (line : List ℕ) (d s : CertDraft) (m : ℕ) (c : CertCode) → AreTaken LineAdded d 1 before s → m ≡ length before + 1 → IsRefused s line c
+    → IsToldFirst (CertLinesHaveCode more d.due 1 (before ++ line ∷ after)) m c
 told_at more before after line d s m c taken at r = record {
   fits = ahead more before (line ∷ after) d s 1 m c taken (inl (omega (arith, at), r.fits));
   line = λ k e h. let first = low more s.due (1 + length before) (line ∷ after) k e (behind more before (line ∷ after) d s 1 k e taken h) in omega (arith, at, first);
@@ -77,14 +81,16 @@ told_at more before after line d s m c taken at r = record {
     here e (inr h) = let past = low more (left s.due line) (1 + length before + 1) after m e h in absurd (omega (arith, at, past))
 
 -- a line is refused
-pub refused_told : (more : Bool) (lines : List (List ℕ)) (d t : CertDraft) (e : CertRefusal) → d.due ≡ due.Header → IsFirstRefused LineAdded d lines e t → IsToldBy (CertLinesHaveCode more due.Header 1 lines) e
+pub refused_told : (more : Bool) (lines : List (List ℕ)) (d t : CertDraft) (e : CertRefusal) → d.due ≡ due.Header → IsFirstRefused LineAdded d lines e t
+    → IsToldBy (CertLinesHaveCode more due.Header 1 lines) e
 refused_told more lines d t NoMemory at r = tt
 refused_told more lines d t (Fault m c) at r =
     let told = told_at more r.before r.after r.line d r.state m c r.taken r.refused.0 r.refused.1 in
     subst (λ (u : Due). IsToldFirst (CertLinesHaveCode more u 1 lines) m c) at (subst (λ (ls : List (List ℕ)). IsToldFirst (CertLinesHaveCode more d.due 1 ls) m c) (sym r.whole) told)
 
 -- what stands behind the lines is refused
-pub end_told : (more : Bool) (lines : List (List ℕ)) (d s : CertDraft) (n : ℕ) (e : CertRefusal) → d.due ≡ due.Header → AreTaken LineAdded d 1 lines s → n ≡ length lines + 1 → EndTold more s.due n (Err e) → IsToldBy (CertLinesHaveCode more due.Header 1 lines) e
+pub end_told : (more : Bool) (lines : List (List ℕ)) (d s : CertDraft) (n : ℕ) (e : CertRefusal) → d.due ≡ due.Header → AreTaken LineAdded d 1 lines s → n ≡ length lines + 1
+    → EndTold more s.due n (Err e) → IsToldBy (CertLinesHaveCode more due.Header 1 lines) e
 end_told more lines d s n NoMemory at taken count r = tt
 end_told more lines d s n (Fault m c) at taken count r =
     subst (λ (u : Due). IsToldFirst (CertLinesHaveCode more u 1 lines) m c) at (subst (λ (ls : List (List ℕ)). IsToldFirst (CertLinesHaveCode more d.due 1 ls) m c) (append-nil lines) told)
@@ -115,7 +121,8 @@ over d h is = by d.due refl is
     by due.Nothing e t = (e, record { idle = h.idle; ready = h.ready; at = h.at; few = subst (λ (u : Due). Counts u (length d.at.items)) e h.counts; last = h.last })
 
 -- the text is read to its end
-pub read_whole : (long : Bool) (text : List ℕ) (d s : CertDraft) (n : ℕ) → d.due ≡ due.Header → IsCertDraft s → AreTaken LineAdded d 1 (lines_from [] text) s → EndTold (more_than long (rest_from [] text)) s.due n (Ok tt) → length text ≤ 4194304 → (long ≡ false) × IsCertText text s.slim (seen_draft s)
+pub read_whole : (long : Bool) (text : List ℕ) (d s : CertDraft) (n : ℕ) → d.due ≡ due.Header → IsCertDraft s → AreTaken LineAdded d 1 (lines_from [] text) s
+    → EndTold (more_than long (rest_from [] text)) s.due n (Ok tt) → length text ≤ 4194304 → (long ≡ false) × IsCertText text s.slim (seen_draft s)
 unfolding text_so_far
 read_whole long text d s n at sound taken r small =
     let both = or_there long (not (eqb (length (rest_from [] text)) 0)) r.0 in
@@ -123,7 +130,8 @@ read_whole long text d s n at sound taken r small =
     let done = over s sound r.1 in
     let lines = joined (lines_from [] text) in
     let whole : text ≡ lines = text_lines text [] ∙ ap (λ t. lines ++ t) none ∙ append-nil lines in
-    let text_is : cert_text s.slim (seen_draft s) ≡ lines = ap (λ (u : Due). text_so_far u s.slim (seen_draft s)) (sym done.0) ∙ taken_text (lines_from [] text) d s 1 taken ∙ ap (λ (u : Due). text_so_far u d.slim (seen_draft d) ++ lines) at in
+    let text_is : cert_text s.slim (seen_draft s) ≡ lines =
+    ap (λ (u : Due). text_so_far u s.slim (seen_draft s)) (sym done.0) ∙ taken_text (lines_from [] text) d s 1 taken ∙ ap (λ (u : Due). text_so_far u d.slim (seen_draft d) ++ lines) at in
     (both.0, record { sound = done.1; whole = whole ∙ sym text_is; small = small })
 
 -- A text that is not too long is read whole.

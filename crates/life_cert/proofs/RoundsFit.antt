@@ -1,5 +1,6 @@
 -- The states of all rounds are of the module, and only grow.
-use Rattle.std.proofs.Common.{◌≡◌, ℕ, zero, suc, ◌<◌, true, false, ◌==◌, if◌then◌else◌, List, [], ◌∷◌, length, All, inl, inr, Option, Some, None, slice_get, refl, sym, ◌∙◌, subst, arith, lt-ltb, ltb-true, eq-eqb}
+use Rattle.std.proofs.Common.{◌≡◌, ℕ, zero, suc, ◌<◌, true, false, ◌==◌, if◌then◌else◌, List, [], ◌∷◌, length, All, inl, inr, Option, Some, None, slice_get, refl, sym, ◌∙◌, subst, arith, lt-ltb}
+use Rattle.std.proofs.Common.{ltb-true, eq-eqb}
 use Rattle.std.proofs.lemmas.List.Elements.{All-nil, All-cons, All-append}
 use Rattle.module_code.specs.declared.instr.Instr.{Instr}
 use Rattle.module_code.specs.Program.{Program, IsModule}
@@ -19,7 +20,8 @@ use Rattle.life_cert.proofs.Arriving.{read_written, arrive_keeps, begun_fits}
 
 -- What is handed on fits.
 
-line_by : (p : Program) → IsModule p → (pc : ℕ) (s : State) (o : Option Instr) → slice_get p.code pc ≡ o → pc < length p.code → IsDeclared p s → All (IsFit p) (handed_by_line p pc (slice_get p.code pc) s)
+line_by : (p : Program) → IsModule p → (pc : ℕ) (s : State) (o : Option Instr) → slice_get p.code pc ≡ o → pc < length p.code → IsDeclared p s
+    → All (IsFit p) (handed_by_line p pc (slice_get p.code pc) s)
 line_by p m pc s None e inside h = subst (λ (o : Option Instr). All (IsFit p) (handed_by_line p pc o s)) (sym e) (All-nil (IsFit p))
 line_by p m pc s (Some i) e inside h = line_fits p pc i s e inside (m.placed pc i e) h
 
@@ -57,7 +59,8 @@ grown_on (Some s) (Some t) (Some u) h k =
 
 pub alike : (p : Program) (s t : State) → IsDeclared p s → IsDeclared p t → same_variables s t ≡ true
 alike p s t h k =
-    and2 (s.pool_count == t.pool_count) (s.brigade_count == t.brigade_count) (eq-eqb s.pool_count t.pool_count (h.pools ∙ sym k.pools)) (eq-eqb s.brigade_count t.brigade_count (h.brigades ∙ sym k.brigades))
+    and2 (s.pool_count == t.pool_count) (s.brigade_count == t.brigade_count) (eq-eqb s.pool_count t.pool_count (h.pools ∙ sym k.pools))
+    (eq-eqb s.brigade_count t.brigade_count (h.brigades ∙ sym k.brigades))
 
 grown_at : (w v : StatePlace) (s : State) (g : Grown) → HasGrown (state_at g.states w) (Some s) → HasGrown (state_at g.states v) (state_at (grow w s g).states v)
 grown_at w v s g h =
@@ -66,12 +69,14 @@ grown_at w v s g h =
       | inr other ↦ subst (HasGrown (state_at g.states v)) (sym other) (grown_same (state_at g.states v))
     ]
 
-grows_by : (p : Program) (a : Arrival) (g : Grown) (o : Option State) → state_at g.states a.place ≡ o → IsOf p g → IsFit p a → (v : StatePlace) → HasGrown (state_at g.states v) (state_at (arrive_by o a g).states v)
+grows_by : (p : Program) (a : Arrival) (g : Grown) (o : Option State) → state_at g.states a.place ≡ o → IsOf p g → IsFit p a → (v : StatePlace)
+    → HasGrown (state_at g.states v) (state_at (arrive_by o a g).states v)
 grows_by p a g None e h fit v = grown_at a.place v a.state g (subst (λ (x : Option State). HasGrown x (Some a.state)) (sym e) tt)
 grows_by p a g (Some t) e h fit v =
     elim (leq a.state t) as (λ b. HasGrown (state_at g.states v) (state_at (if b then g else grow a.place (join t a.state) g).states v)) [
       | true ↦ grown_same (state_at g.states v)
-      | false ↦ grown_at a.place v (join t a.state) g (subst (λ (x : Option State). HasGrown x (Some (join t a.state))) (sym e) (inr ((join_above t a.state (alike p t a.state (h.states a.place t e) fit.declared)).0)))
+      | false ↦ grown_at a.place v (join t a.state) g
+          (subst (λ (x : Option State). HasGrown x (Some (join t a.state))) (sym e) (inr ((join_above t a.state (alike p t a.state (h.states a.place t e) fit.declared)).0)))
     ]
 
 arrived_fits : (p : Program) (rest : List Arrival) (g : Grown) → IsOf p g → All (IsFit p) rest → IsOf p (arrived rest g)

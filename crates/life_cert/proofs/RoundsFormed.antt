@@ -1,5 +1,6 @@
 -- The states of all rounds are in form, and have `in` in `main` alone.
-use Rattle.std.proofs.Common.{◌≡◌, ℕ, zero, suc, ◌+◌, ◌<◌, Bool, true, false, nat_lt, nat_le, if◌then◌else◌, List, [], ◌∷◌, length, All, inl, inr, Option, Some, None, unwrap_or, Result, Ok, Err, slice_get, refl, ap, sym, ◌∙◌, subst, arith}
+use Rattle.std.proofs.Common.{◌≡◌, ℕ, zero, suc, ◌+◌, ◌<◌, Bool, true, false, nat_lt, nat_le, if◌then◌else◌, List, [], ◌∷◌, length, All, inl, inr, Option, Some, None, unwrap_or, Result, Ok, Err}
+use Rattle.std.proofs.Common.{slice_get, refl, ap, sym, ◌∙◌, subst, arith}
 use Rattle.std.proofs.lemmas.Bool.{le-leb, lt-leb}
 use Rattle.std.proofs.lemmas.Option.{slice_get_within}
 use Rattle.std.proofs.lemmas.List.Elements.{All-nil, All-cons, All-append}
@@ -17,7 +18,8 @@ use Rattle.life_state.proofs.FormEntries.{entries_are_formed}
 use Rattle.life_check.specs.Certificates.{Certificate}
 use Rattle.life_cert.specs.declared.growth.StatePlace.{StatePlace}
 use Rattle.life_cert.specs.declared.growth.StatePlace.TheVariants as place
-use Rattle.life_cert.specs.Rounds.{Arrival, Grown, state_at, arriving, left_place, returned, edges_arriving, handed_by_rule, handed_by_line, handed_by, handed_on, grow, arrive_by, arrive, arrived, nothing, begun, rounds}
+use Rattle.life_cert.specs.Rounds.{Arrival, Grown, state_at, arriving, left_place, returned, edges_arriving, handed_by_rule, handed_by_line, handed_by, handed_on, grow, arrive_by, arrive, arrived}
+use Rattle.life_cert.specs.Rounds.{nothing, begun, rounds}
 use Rattle.life_cert.specs.Laws.{is_in_main, StatesAreFormed}
 use Rattle.life_check.proofs.EdgeLaws.{goes_on_next, rule_edges}
 use Rattle.life_check.proofs.Sides.{same_side, if_some, target_side, next_side}
@@ -63,7 +65,8 @@ return_good p pc (instr.Ret t) s call h =
     (subst (λ (b : Bool). IsFormedIn p b (at_return s)) (sym (left_outside p pc)) (entries_are_formed.returns p call s h)))
 return_good p pc _ s call h = All-nil (Good p)
 
-rule_good : (p : Program) → IsModule p → (pc : ℕ) (i : Instr) (s : State) (a : Result Edges FaultKind) → rule p i s ≡ a → slice_get p.code pc ≡ Some i → pc < length p.code → IsFormedIn p (nat_le p.main pc) s
+rule_good : (p : Program) → IsModule p → (pc : ℕ) (i : Instr) (s : State) (a : Result Edges FaultKind) → rule p i s ≡ a → slice_get p.code pc ≡ Some i → pc < length p.code
+    → IsFormedIn p (nat_le p.main pc) s
     → All (Good p) (handed_by_rule p pc i s a)
 rule_good p m pc i s (Err k) e here inside h = All-nil (Good p)
 rule_good p m pc i s (Ok f) e here inside h =
@@ -82,7 +85,8 @@ rule_good p m pc i s (Ok f) e here inside h =
     subst (λ (b : Bool). IsFormedIn p b t) at (if_some f.jump t (IsFormedIn p call) n (keep.1)))))
     (return_good p pc i s call h)
 
-line_good : (p : Program) → IsModule p → (pc : ℕ) (s : State) (o : Option Instr) → slice_get p.code pc ≡ o → IsFormedIn p (nat_le p.main pc) s → All (Good p) (handed_by_line p pc (slice_get p.code pc) s)
+line_good : (p : Program) → IsModule p → (pc : ℕ) (s : State) (o : Option Instr) → slice_get p.code pc ≡ o → IsFormedIn p (nat_le p.main pc) s
+    → All (Good p) (handed_by_line p pc (slice_get p.code pc) s)
 line_good p m pc s None e h = subst (λ (o : Option Instr). All (Good p) (handed_by_line p pc o s)) (sym e) (All-nil (Good p))
 line_good p m pc s (Some i) e h =
     subst (λ (o : Option Instr). All (Good p) (handed_by_line p pc o s)) (sym e) (rule_good p m pc i s (rule p i s) refl e (slice_get_within p.code pc i e) h)
@@ -91,7 +95,8 @@ by_good : (p : Program) → IsModule p → (w : StatePlace) (o : Option State) �
 by_good p m w None h = All-nil (Good p)
 by_good p m place.Idle (Some s) h =
     let some = m.initial.some in
-    some_good p (place.At p.init) (Some s) (λ t e. subst (IsFormedIn p (nat_le p.main p.init)) (some_is e) (subst (λ (b : Bool). IsFormedIn p b s) (sym (lt-leb p.main p.init (omega arith))) (h s refl)))
+    some_good p (place.At p.init) (Some s)
+    (λ t e. subst (IsFormedIn p (nat_le p.main p.init)) (some_is e) (subst (λ (b : Bool). IsFormedIn p b s) (sym (lt-leb p.main p.init (omega arith))) (h s refl)))
 by_good p m place.Ready (Some s) h =
     All-append (Good p) (arriving (place.At p.main) (Some (at_main s))) (arriving place.Idle (Some (at_end_of_request p s)))
     (some_good p (place.At p.main) (Some (at_main s)) (λ t e. subst (IsFormedIn p (nat_le p.main p.main)) (some_is e)

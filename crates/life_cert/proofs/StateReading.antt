@@ -81,7 +81,8 @@ module _ (s : State) (formed : IsFormed s) (m : List ℕ) (h : IsLineEnd m) wher
       let t = in_taken v from_cursors (says_brigade s v formed.pool_count (formed.brigades 8) (formed.homes 8)) (given formed.brought) in_free.ended in_free.free in
       (t.read, t.more)
     where
-      given : (s.brigades 8 ≡ never_made) ⊎ (is_live_brigade (s.brigades 8) ≡ true) → (s.brigades 8 ≡ never_made) ⊎ (((s.brigades 8).live ≡ true) × ((s.brigades 8).null ≡ false) × ((s.brigades 8).gone ≡ false))
+      given : (s.brigades 8 ≡ never_made) ⊎ (is_live_brigade (s.brigades 8) ≡ true)
+          → (s.brigades 8 ≡ never_made) ⊎ (((s.brigades 8).live ≡ true) × ((s.brigades 8).null ≡ false) × ((s.brigades 8).gone ≡ false))
       given (inl e) = inl e
       given (inr e) =
           let three = split3 (s.brigades 8).live (not (s.brigades 8).null) (not (s.brigades 8).gone) e in

@@ -75,10 +75,12 @@ says_brigade s v few form names = record { dead = λ e. dead e (marks v.usable v
 pub each_keeps : (P : List ℕ → Type 0) (f : ℕ → List ℕ) (k n : ℕ) (m : List ℕ) → ((i : ℕ) → i < k + n → (r : List ℕ) → P r → P (f i ++ r)) → P m → P (each k n f ++ m)
 unfolding each
 each_keeps P f k zero m one h = h
-each_keeps P f k (suc n) m one h = subst P (sym (append_assoc (f k) (each (k + 1) n f) m)) (one k (omega arith) (each (k + 1) n f ++ m) (each_keeps P f (k + 1) n m (λ i below r q. one i (omega (arith, below)) r q) h))
+each_keeps P f k (suc n) m one h =
+    subst P (sym (append_assoc (f k) (each (k + 1) n f) m)) (one k (omega arith) (each (k + 1) n f ++ m) (each_keeps P f (k + 1) n m (λ i below r q. one i (omega (arith, below)) r q) h))
 
 -- How many texts stand there.
-pub counted : (w : List ℕ) (p : List ℕ → List ℕ) (f : ℕ → List ℕ) (P : List ℕ → Type 0) → ((i : ℕ) → i < 9 → (r : List ℕ) → P r → P (f i ++ r)) → ((i : ℕ) → i < 9 → (r : List ℕ) → P r → (starts w (f i ++ r) ≡ true) × (p (f i ++ r) ≡ r))
+pub counted : (w : List ℕ) (p : List ℕ → List ℕ) (f : ℕ → List ℕ) (P : List ℕ → Type 0) → ((i : ℕ) → i < 9 → (r : List ℕ) → P r → P (f i ++ r))
+    → ((i : ℕ) → i < 9 → (r : List ℕ) → P r → (starts w (f i ++ r) ≡ true) × (p (f i ++ r) ≡ r))
     → (k n most : ℕ) (m : List ℕ) → k + n ≤ 9 → n ≤ most → P m → starts w m ≡ false → count_each w p most (each k n f ++ m) ≡ n
 unfolding each count_each
 counted w p f P keeps one k zero zero m high few h none = refl
@@ -115,12 +117,14 @@ no_name p c w m r l = by (eqb c 8)
     by true = ap (λ (b : Bool). b && starts w (100 ∷ m)) r
     by false = ap (λ (b : Bool). b && starts w (decimal c ++ m)) l
 
-pub no_cursor_begins : (p c : ℕ) (w : List ℕ) (v : CursorKnown) (m : List ℕ) → eqb 114 p ≡ false → eqb 99 p ≡ false → starts (32 ∷ (p ∷ w)) m ≡ false → starts (32 ∷ (p ∷ w)) (cursor_text c v ++ m) ≡ false
+pub no_cursor_begins : (p c : ℕ) (w : List ℕ) (v : CursorKnown) (m : List ℕ) → eqb 114 p ≡ false → eqb 99 p ≡ false → starts (32 ∷ (p ∷ w)) m ≡ false
+    → starts (32 ∷ (p ∷ w)) (cursor_text c v ++ m) ≡ false
 no_cursor_begins p c w v m r l h =
     skips (32 ∷ (p ∷ w)) (32 ∷ (cursor_name c ++ (61 ∷ place_text_of v))) (is_set v) m
     (ap (starts (p ∷ w)) (append_assoc (cursor_name c) (61 ∷ place_text_of v) m) ∙ no_name p c w (61 ∷ (place_text_of v ++ m)) r l) h
 
-pub no_fact_begins : (p c d : ℕ) (w : List ℕ) (b : Bool) (m : List ℕ) → eqb 114 p ≡ false → eqb 99 p ≡ false → starts (32 ∷ (p ∷ w)) m ≡ false → starts (32 ∷ (p ∷ w)) (where_holds b (fact_word c d) ++ m) ≡ false
+pub no_fact_begins : (p c d : ℕ) (w : List ℕ) (b : Bool) (m : List ℕ) → eqb 114 p ≡ false → eqb 99 p ≡ false → starts (32 ∷ (p ∷ w)) m ≡ false
+    → starts (32 ∷ (p ∷ w)) (where_holds b (fact_word c d) ++ m) ≡ false
 no_fact_begins p c d w b m r l h =
     skips (32 ∷ (p ∷ w)) (fact_word c d) b m
     (ap (starts (p ∷ w)) (append_assoc (cursor_name c) (33 ∷ cursor_name d) m) ∙ no_name p c w (33 ∷ (cursor_name d ++ m)) r l) h
@@ -139,10 +143,12 @@ pub record Follows (p : ℕ) (w m : List ℕ) : Type 0 where
   pub free : starts (32 ∷ (p ∷ w)) m ≡ false
 
 pub facts_follow : (p : ℕ) (w : List ℕ) (s : State) (m : List ℕ) → eqb 114 p ≡ false → eqb 99 p ≡ false → Follows p w m → Follows p w (each 0 9 (facts_text s) ++ m)
-facts_follow p w s m r l h = rows_keep (Follows p w) s m (λ c d cs ds x k. record { ended = ended_at (is_written s c d) (cursor_name c ++ (33 ∷ cursor_name d)) x k.ended; free = no_fact_begins p c d w (is_written s c d) x r l k.free }) h
+facts_follow p w s m r l h = rows_keep (Follows p w) s m
+    (λ c d cs ds x k. record { ended = ended_at (is_written s c d) (cursor_name c ++ (33 ∷ cursor_name d)) x k.ended; free = no_fact_begins p c d w (is_written s c d) x r l k.free }) h
 
 pub cursors_follow : (p : ℕ) (w : List ℕ) (v : ℕ → CursorKnown) (m : List ℕ) → eqb 114 p ≡ false → eqb 99 p ≡ false → Follows p w m → Follows p w (each 0 9 (λ c. cursor_text c (v c)) ++ m)
-cursors_follow p w v m r l h = each_keeps (Follows p w) (λ c. cursor_text c (v c)) 0 9 m (λ c below x k. record { ended = ended_at (is_set (v c)) (cursor_name c ++ (61 ∷ place_text_of (v c))) x k.ended; free = no_cursor_begins p c w (v c) x r l k.free }) h
+cursors_follow p w v m r l h = each_keeps (Follows p w) (λ c. cursor_text c (v c)) 0 9 m
+    (λ c below x k. record { ended = ended_at (is_set (v c)) (cursor_name c ++ (61 ∷ place_text_of (v c))) x k.ended; free = no_cursor_begins p c w (v c) x r l k.free }) h
 
 -- before the facts and what ends the line, no word of a cursor is begun
 pub facts_free : (s : State) (m : List ℕ) → IsLineEnd m → (c : ℕ) → c < 9 → Ended (each 0 9 (facts_text s) ++ m) × (starts (key c) (each 0 9 (facts_text s) ++ m) ≡ false)

@@ -75,7 +75,8 @@ module _ (w t u : List ℕ) (comma : starts (one 44) t ≡ true) (is : u ≡ pas
   pub next_none : starts w u ≡ false → t ≡ past (44 ∷ w) t
   next_none h = past_none (44 ∷ w) t (sym next_starts ∙ h)
 
-pub content_by_letter : (t : List ℕ) → content_read t ≡ (if begins 102 t then Flushes else (if begins 110 t then NoEos else (if begins 111 t then NoLateData else (if begins 97 t then Any else Empty))))
+pub content_by_letter : (t : List ℕ)
+    → content_read t ≡ (if begins 102 t then Flushes else (if begins 110 t then NoEos else (if begins 111 t then NoLateData else (if begins 97 t then Any else Empty))))
 content_by_letter [] = refl
 content_by_letter (b ∷ m) = refl
 
@@ -87,7 +88,8 @@ pub took_none : (w t u : List ℕ) → starts w t ≡ false → u ≡ past w t �
 took_none w t u h is = is ∙ sym (past_none w t h)
 
 -- A cursor in a brigade: at a bucket or the end, or at a bucket.
-pub at_either : (b : ℕ) (t u v : List ℕ) → starts (codes "$") t ≡ false → u ≡ past (codes "$") t → starts (codes "?/") u ≡ true → v ≡ past (codes "?/") u → (InOrEnd b (classes_read v) ≡ at_read b t) × (classes_past v ≡ at_past t)
+pub at_either : (b : ℕ) (t u v : List ℕ) → starts (codes "$") t ≡ false → u ≡ past (codes "$") t → starts (codes "?/") u ≡ true → v ≡ past (codes "?/") u
+    → (InOrEnd b (classes_read v) ≡ at_read b t) × (classes_past v ≡ at_past t)
 unfolding at_read at_past
 at_either b t u v end is there_is on =
     let same = took_none (codes "$") t u end is in
@@ -95,7 +97,8 @@ at_either b t u v end is there_is on =
     let left : v ≡ behind (codes "?/") t = took (codes "?/") u v there_is on ∙ ap (behind (codes "?/")) same in
     (rw (end, there, left) refl, rw (end, there, left) refl)
 
-pub at_bucket : (b : ℕ) (t u v r : List ℕ) → starts (codes "$") t ≡ false → u ≡ past (codes "$") t → starts (codes "?/") u ≡ false → v ≡ past (codes "?/") u → r ≡ behind (codes "/") v → (In b (classes_read r) ≡ at_read b t) × (classes_past r ≡ at_past t)
+pub at_bucket : (b : ℕ) (t u v r : List ℕ) → starts (codes "$") t ≡ false → u ≡ past (codes "$") t → starts (codes "?/") u ≡ false → v ≡ past (codes "?/") u → r ≡ behind (codes "/") v
+    → (In b (classes_read r) ≡ at_read b t) × (classes_past r ≡ at_past t)
 unfolding at_read at_past
 at_bucket b t u v r end is never on last =
     let same = took_none (codes "$") t u end is in

@@ -35,7 +35,8 @@ one_only : (f : ℕ → ℕ → Bool) (c d i j : ℕ) → with_one f c d i j ≡
 one_only f c d i j h =
     ⊎_elim
     (λ (k : (i ≡ c) × (with_one f c d i ≡ upd (f c) d true)). let here = sym (ap (λ (g : ℕ → Bool). g j) k.1) ∙ h in
-    ⊎_elim (λ (l : (j ≡ d) × (upd (f c) d true j ≡ true)). inr (k.0, l.0)) (λ (l : (j ≡ d → ⊥) × (upd (f c) d true j ≡ f c j)). inl (ap (λ (x : ℕ). f x j) k.0 ∙ sym l.1 ∙ here)) (upd_either (f c) d j true))
+    ⊎_elim (λ (l : (j ≡ d) × (upd (f c) d true j ≡ true)). inr (k.0, l.0)) (λ (l : (j ≡ d → ⊥) × (upd (f c) d true j ≡ f c j)). inl (ap (λ (x : ℕ). f x j) k.0 ∙ sym l.1 ∙ here))
+    (upd_either (f c) d j true))
     (λ (k : (i ≡ c → ⊥) × (with_one f c d i ≡ f i)). inl (sym (ap (λ (g : ℕ → Bool). g j) k.1) ∙ h))
     (upd_either f c i (upd (f c) d true))
 
@@ -215,4 +216,5 @@ fact_is_told s t f says c d e =
         (rows_have s 0 9 d c t (λ i j. false) says (omega arith) (omega (arith, ds)) cs (and2 (nat_lt d c) (s.facts d c) (lt-ltb d c low) (f.symmetric d c ∙ e))).other
 
 pub facts_back : (s : State) (t : List ℕ) → IsFormed s → RowsSay s 0 9 t → all_facts 0 9 t (λ i j. false) ≡ s.facts
-facts_back s t f says = fun_ext (λ c. fun_ext (λ d. both_ways (all_facts 0 9 t (λ i j. false) c d) (s.facts c d) (rows_within s 0 9 t (λ i j. false) f says (λ i j k. cc k) c d) (fact_is_told s t f says c d)))
+facts_back s t f says =
+    fun_ext (λ c. fun_ext (λ d. both_ways (all_facts 0 9 t (λ i j. false) c d) (s.facts c d) (rows_within s 0 9 t (λ i j. false) f says (λ i j k. cc k) c d) (fact_is_told s t f says c d)))

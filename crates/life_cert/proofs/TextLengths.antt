@@ -1,5 +1,6 @@
 -- How long texts are: that of a state in form has 1,187 bytes at most.
-use Rattle.std.proofs.Common.{◌≡◌, ℕ, zero, suc, ◌+◌, ◌<◌, ◌≤◌, Bool, true, false, ◌&&◌, if◌then◌else◌, List, [], ◌∷◌, ◌++◌, length, codes, decimal, Option, Some, None, IfSome, inl, inr, refl, ap, sym, subst, ◌∙◌, arith}
+use Rattle.std.proofs.Common.{◌≡◌, ℕ, zero, suc, ◌+◌, ◌<◌, ◌≤◌, Bool, true, false, ◌&&◌, if◌then◌else◌, List, [], ◌∷◌, ◌++◌, length, codes, decimal, Option, Some, None, IfSome, inl, inr, refl, ap}
+use Rattle.std.proofs.Common.{sym, subst, ◌∙◌, arith}
 use Rattle.std.specs.Prelude.{nat_lt}
 use Rattle.std.proofs.lemmas.Bool.{cases_eq, eq-eqb, ltb-false, ltb-true, ne_eqb}
 use Rattle.std.proofs.lemmas.Fmt.{length-decimal-le}
@@ -16,7 +17,8 @@ use Rattle.life_cert.specs.declared.print_state.HomeWord.TheVariants as home
 use Rattle.life_cert.specs.CertText.{first_line, between_line, cert_text, pc_line, state_or_none}
 use Rattle.life_cert.specs.Lengths.{StateTextsAreShort, CertTextsAreShort}
 use Rattle.life_cert.specs.Reading.{IsPrinted, IsWritable}
-use Rattle.life_cert.specs.StateText.{brigade_name, brigade_text, classes_text, content_text, cursor_name, cursor_text, each, fact_text, facts_text, has_home, home_text, homes, homes_text, in_text, live_text, more_homes, place_text_of, pool_text, sent_text, set_text, some_homes, state_text, usable_text, where_holds}
+use Rattle.life_cert.specs.StateText.{brigade_name, brigade_text, classes_text, content_text, cursor_name, cursor_text, each, fact_text, facts_text, has_home, home_text, homes, homes_text, in_text}
+use Rattle.life_cert.specs.StateText.{live_text, more_homes, place_text_of, pool_text, sent_text, set_text, some_homes, state_text, usable_text, where_holds}
 
 -- these are so many bytes at most
 pub record IsWithin (n : ℕ) (xs : List ℕ) : Type 0 where
@@ -49,7 +51,8 @@ unfolding each total
 each_within f m zero most k few h = record { within = omega arith }
 each_within f m (suc n) zero k few h = absurd (omega (arith, few))
 each_within f m (suc n) (suc most) k few h =
-    both (m k) (total (k + 1) most m) (f k) (each (k + 1) n f) (h k (omega arith) (omega arith)) (each_within f m n most (k + 1) (omega (arith, few)) (λ i low high. h i (omega (arith, low)) (omega (arith, high))))
+    both (m k) (total (k + 1) most m) (f k) (each (k + 1) n f) (h k (omega arith) (omega arith))
+    (each_within f m n most (k + 1) (omega (arith, few)) (λ i low high. h i (omega (arith, low)) (omega (arith, high))))
 
 digit_within : (q : ℕ) → q < 10 → IsWithin 1 (decimal q)
 digit_within q low = record { within = length-decimal-le 1 q (omega arith) (omega (arith, low)) (omega (arith, low)) }
@@ -184,7 +187,8 @@ fact_within s c d low high = by (nat_lt c d)
     word = codes " " ++ (cursor_name c ++ (codes "!" ++ cursor_name d))
 
     by : (b : Bool) → IsWithin (if b then 6 else 0) (where_holds (b && s.facts c d) word)
-    by true = where_within 6 (s.facts c d) word (both 1 5 (codes " ") (cursor_name c ++ (codes "!" ++ cursor_name d)) (exact (codes " ")) (both 2 3 (cursor_name c) (codes "!" ++ cursor_name d) (cursor_name_within c low) (both 1 2 (codes "!") (cursor_name d) (exact (codes "!")) (cursor_name_within d high))))
+    by true = where_within 6 (s.facts c d) word (both 1 5 (codes " ") (cursor_name c ++ (codes "!" ++ cursor_name d)) (exact (codes " "))
+        (both 2 3 (cursor_name c) (codes "!" ++ cursor_name d) (cursor_name_within c low) (both 1 2 (codes "!") (cursor_name d) (exact (codes "!")) (cursor_name_within d high))))
     by false = exact []
 
 sent_within : (b : Bool) → IsWithin 10 (sent_text b)
@@ -201,8 +205,10 @@ state_within s f =
     let cursors = each 0 9 (λ c. cursor_text c (s.cursors c)) in
     let facts = each 0 9 (facts_text s) in
     both 10 1177 (sent_text s.sent) (pools ++ (brigades ++ (in_text (s.brigades 8) ++ (cursors ++ facts)))) (sent_within s.sent)
-    (both 56 1121 pools (brigades ++ (in_text (s.brigades 8) ++ (cursors ++ facts))) (each_within (λ q. pool_text q (s.pools q)) (λ q. 7) s.pool_count 8 0 few (λ q low high. pool q (omega (arith, high, few))))
-    (both 400 721 brigades (in_text (s.brigades 8) ++ (cursors ++ facts)) (each_within (λ b. brigade_text b (s.brigades b)) (λ b. 50) s.brigade_count 8 0 few_brigades (λ b low high. brigade_within b (s.brigades b) (omega (arith, high, few_brigades))))
+    (both 56 1121 pools (brigades ++ (in_text (s.brigades 8) ++ (cursors ++ facts)))
+    (each_within (λ q. pool_text q (s.pools q)) (λ q. 7) s.pool_count 8 0 few (λ q low high. pool q (omega (arith, high, few))))
+    (both 400 721 brigades (in_text (s.brigades 8) ++ (cursors ++ facts))
+    (each_within (λ b. brigade_text b (s.brigades b)) (λ b. 50) s.brigade_count 8 0 few_brigades (λ b low high. brigade_within b (s.brigades b) (omega (arith, high, few_brigades))))
     (both 46 675 (in_text (s.brigades 8)) (cursors ++ facts) (live_within 4 (codes " in=") (s.brigades 8) (exact (codes " in=")))
     (both 459 216 cursors facts (each_within (λ c. cursor_text c (s.cursors c)) (λ c. 51) 9 9 0 (omega arith) (λ c low high. cursor_within s c (s.cursors c) high (f.cursors c)))
     (each_within (facts_text s) (λ c. total 0 9 (rising c)) 9 9 0 (omega arith) (λ c low high. each_within (fact_text s c) (rising c) 9 9 0 (omega arith) (λ d from to. fact_within s c d high to)))))))
@@ -270,7 +276,8 @@ cert_texts_are_short slim c h =
     both 7 (1193 + (1194 + (most + 4))) (first_line slim) (idle ++ (ready ++ (lines ++ codes "end\n"))) (first_within slim)
     (both 1193 (1194 + (most + 4)) idle (ready ++ (lines ++ codes "end\n")) (between_within 5 (codes "idle ") c.idle (exact (codes "idle ")) h.idle)
     (both 1194 (most + 4) ready (lines ++ codes "end\n") (between_within 6 (codes "ready ") c.ready (exact (codes "ready ")) h.ready)
-    (both most 4 lines (codes "end\n") (each_within (λ pc. pc_line pc (c.at pc)) (λ pc. 1193) 1024 1024 0 (omega arith) (λ pc from low. line_within pc (c.at pc) low (h.at pc))) (exact (codes "end\n"))))) in
+    (both most 4 lines (codes "end\n") (each_within (λ pc. pc_line pc (c.at pc)) (λ pc. 1193) 1024 1024 0 (omega arith) (λ pc from low. line_within pc (c.at pc) low (h.at pc)))
+    (exact (codes "end\n"))))) in
     let few = whole.within in
     let sum = most_is in
     let same = ap (λ (t : List ℕ). length (first_line slim ++ (idle ++ (ready ++ (t ++ codes "end\n"))))) (all_lines c h) in

@@ -26,16 +26,19 @@ pub folded_begins : (step : ℕ → List ℕ → State → State) (p : ℕ → L
 unfolding past_each
 folded_begins step p n t s = let same : n ≡ n - 0 = omega arith in record { left = ap (λ (i : ℕ). fold_each step p 0 i t s) same; more = refl }
 
-pub folded_more : (step : ℕ → List ℕ → State → State) (p : ℕ → List ℕ → List ℕ) (n : ℕ) (t : List ℕ) (s : State) (u : List ℕ) (v : State) (q : ℕ) (w : List ℕ) (x : State) → Folded step p n t s u v q → q < n → x ≡ step q u v → w ≡ p q u → Folded step p n t s w x (q + 1)
+pub folded_more : (step : ℕ → List ℕ → State → State) (p : ℕ → List ℕ → List ℕ) (n : ℕ) (t : List ℕ) (s : State) (u : List ℕ) (v : State) (q : ℕ) (w : List ℕ) (x : State)
+    → Folded step p n t s u v q → q < n → x ≡ step q u v → w ≡ p q u → Folded step p n t s w x (q + 1)
 unfolding fold_each
 folded_more step p n t s u v q w x h below now on =
     let less : n - q ≡ suc (n - (q + 1)) = omega arith in
     record {
-      left = h.left ∙ ap (λ (i : ℕ). fold_each step p q i u v) less ∙ ap (λ r. fold_each step p (q + 1) (n - (q + 1)) r (step q u v)) (sym on) ∙ ap (fold_each step p (q + 1) (n - (q + 1)) w) (sym now);
+      left = h.left ∙ ap (λ (i : ℕ). fold_each step p q i u v) less ∙ ap (λ r. fold_each step p (q + 1) (n - (q + 1)) r (step q u v)) (sym on)
+          ∙ ap (fold_each step p (q + 1) (n - (q + 1)) w) (sym now);
       more = on ∙ ap (p q) h.more ∙ past_next p q t;
     }
 
-pub folded_ends : (step : ℕ → List ℕ → State → State) (p : ℕ → List ℕ → List ℕ) (n : ℕ) (t : List ℕ) (s : State) (u : List ℕ) (v : State) (q : ℕ) → Folded step p n t s u v q → q ≡ n → (v ≡ fold_each step p 0 n t s) × (u ≡ past_each p 0 n t)
+pub folded_ends : (step : ℕ → List ℕ → State → State) (p : ℕ → List ℕ → List ℕ) (n : ℕ) (t : List ℕ) (s : State) (u : List ℕ) (v : State) (q : ℕ) → Folded step p n t s u v q → q ≡ n
+    → (v ≡ fold_each step p 0 n t s) × (u ≡ past_each p 0 n t)
 unfolding fold_each
 folded_ends step p n t s u v q h last =
     let none : n - q ≡ 0 = omega (arith, last) in
@@ -62,7 +65,8 @@ counted_more w p most t u v n h below there on =
       more = on ∙ ap p h.more ∙ past_next (λ q. p) n t;
     }
 
-pub counted_ends : (w : List ℕ) (p : List ℕ → List ℕ) (most : ℕ) (t u : List ℕ) (n : ℕ) → Counted w p most t u n → (count_each w p (most - n) u ≡ 0) → (n ≡ count_each w p most t) × (u ≡ past_each (λ q. p) 0 (count_each w p most t) t)
+pub counted_ends : (w : List ℕ) (p : List ℕ → List ℕ) (most : ℕ) (t u : List ℕ) (n : ℕ) → Counted w p most t u n → (count_each w p (most - n) u ≡ 0) → (n ≡ count_each w p most t)
+    × (u ≡ past_each (λ q. p) 0 (count_each w p most t) t)
 counted_ends w p most t u n h none =
     let count = h.count in
     let is : n ≡ count_each w p most t = omega (arith, none, count) in

@@ -7,7 +7,8 @@ use Rattle.life_state.specs.declared.parts.Contents.TheVariants.{Empty, Flushes,
 use Rattle.life_state.specs.declared.parts.PoolState.{PoolState}
 use Rattle.life_state.specs.States.{no_homes, BrigadeKnown, never_made}
 use Rattle.life_cert.specs.StateText.{where_holds, homes, homes_text, set_text, content_text, usable_text, live_text, pool_text, brigade_text, in_text}
-use Rattle.life_cert.specs.StateFromText.{behind, behind_marks, content_read, homes_at, homes_from, homes_past, homes_read, in_past, in_read, known_dead, known_live, live_past, live_read, own_past, own_read, past, pool_past, pool_read, set_past, set_read, starts}
+use Rattle.life_cert.specs.StateFromText.{behind, behind_marks, content_read, homes_at, homes_from, homes_past, homes_read, in_past, in_read, known_dead, known_live, live_past, live_read, own_past}
+use Rattle.life_cert.specs.StateFromText.{own_read, past, pool_past, pool_read, set_past, set_read, starts}
 use Rattle.life_cert.proofs.Taking.{Ended, ThreeTaken, not_begun, one, past_none, set_taken, three_taken}
 use Rattle.life_cert.proofs.HomeTexts.{bits, homes_taken}
 
@@ -77,7 +78,8 @@ usable_taken v m say e = by v.usable refl say.bare
         let told = content_told v.content r in
         let there = homes_taken v.homes m say.homes e in
         let t = 47 ∷ (content_text v.content ++ r) in
-        let whole : usable_text v ++ m ≡ t = ap (λ (b : Bool). where_holds b (codes "/" ++ (content_text v.content ++ (codes "/" ++ h))) ++ m) is ∙ ap (λ x. 47 ∷ x) (append_assoc (content_text v.content) (47 ∷ h) m) in
+        let whole : usable_text v ++ m ≡ t =
+        ap (λ (b : Bool). where_holds b (codes "/" ++ (content_text v.content ++ (codes "/" ++ h))) ++ m) is ∙ ap (λ x. 47 ∷ x) (append_assoc (content_text v.content) (47 ∷ h) m) in
         let at : homes_at t ≡ h ++ m = ap (behind (codes "/")) told.1 in
         subst (UsableTaken v m) (sym whole) (record {
           ended = inr (inl refl);
@@ -95,7 +97,8 @@ usable_taken v m say e = by v.usable refl say.bare
           more = ap (λ (b : Bool). cond b (homes_past (homes_at m)) m) is;
         })
 
-marks_apart : (a b : Bool) (u m : List ℕ) → (where_holds a (codes "u") ++ (where_holds b (codes "p") ++ u)) ++ m ≡ (where_holds a (codes "u") ++ (where_holds b (codes "p") ++ where_holds false (codes "z"))) ++ (u ++ m)
+marks_apart : (a b : Bool) (u m : List ℕ)
+    → (where_holds a (codes "u") ++ (where_holds b (codes "p") ++ u)) ++ m ≡ (where_holds a (codes "u") ++ (where_holds b (codes "p") ++ where_holds false (codes "z"))) ++ (u ++ m)
 marks_apart true true u m = refl
 marks_apart true false u m = refl
 marks_apart false true u m = refl
@@ -107,12 +110,15 @@ live_taken v m live say e =
     let u = usable_text v ++ m in
     let t = body v ++ m in
     let h = usable_taken v m say e in
-    let marks = three_taken 117 112 122 v.usable v.passed false u refl refl refl (not_begun 117 [] u h.ended refl refl refl) (not_begun 112 [] u h.ended refl refl refl) (not_begun 122 [] u h.ended refl refl refl) in
+    let marks = three_taken 117 112 122 v.usable v.passed false u refl refl refl (not_begun 117 [] u h.ended refl refl refl) (not_begun 112 [] u h.ended refl refl refl)
+    (not_begun 122 [] u h.ended refl refl refl) in
     let two = subst (ThreeTaken 117 112 122 v.usable v.passed false u) (sym (marks_apart v.usable v.passed (usable_text v) m)) marks in
     let left : behind_marks t ≡ u = past_none (one 122) (behind_marks t) two.third ∙ two.more in
     record {
-      read = ap (λ (b : Bool). known_live v.null v.gone b (starts (one 112) (past (one 117) t)) (cond b (content_read (behind (codes "/") (behind_marks t))) Empty) (cond b (homes_read (homes_at (behind_marks t))) no_homes)) two.first
-          ∙ ap (λ (b : Bool). known_live v.null v.gone v.usable b (cond v.usable (content_read (behind (codes "/") (behind_marks t))) Empty) (cond v.usable (homes_read (homes_at (behind_marks t))) no_homes)) two.second
+      read = ap (λ (b : Bool). known_live v.null v.gone b (starts (one 112) (past (one 117) t)) (cond b (content_read (behind (codes "/") (behind_marks t))) Empty)
+          (cond b (homes_read (homes_at (behind_marks t))) no_homes)) two.first
+          ∙ ap (λ (b : Bool). known_live v.null v.gone v.usable b (cond v.usable (content_read (behind (codes "/") (behind_marks t))) Empty)
+          (cond v.usable (homes_read (homes_at (behind_marks t))) no_homes)) two.second
           ∙ ap (λ x. known_live v.null v.gone v.usable v.passed (cond v.usable (content_read (behind (codes "/") x)) Empty) (cond v.usable (homes_read (homes_at x)) no_homes)) left
           ∙ ap (λ (c : Contents). known_live v.null v.gone v.usable v.passed c (cond v.usable (homes_read (homes_at u)) no_homes)) h.content
           ∙ ap (known_live v.null v.gone v.usable v.passed v.content) h.homes_read
@@ -163,8 +169,10 @@ own_taken b v m below say e =
         let l : live_text (codes "/") v ++ m ≡ 47 ∷ (body v ++ m) = ap (λ (y : Bool). where_holds y (47 ∷ body v) ++ m) live in
         record {
           begins = half.begins;
-          read = half.read ∙ ap (λ (y : Bool). cond y (live_read v.null v.gone (behind (codes "/") (live_text (codes "/") v ++ m))) (known_dead v.null v.gone)) live ∙ ap (λ z. live_read v.null v.gone (behind (codes "/") z)) l ∙ on.read;
-          more = half.more ∙ ap (λ (y : Bool). cond y (live_past (behind (codes "/") (live_text (codes "/") v ++ m))) (live_text (codes "/") v ++ m)) live ∙ ap (λ z. live_past (behind (codes "/") z)) l ∙ on.more;
+          read = half.read ∙ ap (λ (y : Bool). cond y (live_read v.null v.gone (behind (codes "/") (live_text (codes "/") v ++ m))) (known_dead v.null v.gone)) live
+              ∙ ap (λ z. live_read v.null v.gone (behind (codes "/") z)) l ∙ on.read;
+          more = half.more ∙ ap (λ (y : Bool). cond y (live_past (behind (codes "/") (live_text (codes "/") v ++ m))) (live_text (codes "/") v ++ m)) live
+              ∙ ap (λ z. live_past (behind (codes "/") z)) l ∙ on.more;
         }
     by false live half =
         let l : live_text (codes "/") v ++ m ≡ m = ap (λ (y : Bool). where_holds y (47 ∷ body v) ++ m) live in
@@ -179,7 +187,8 @@ pub record InTaken (v : BrigadeKnown) (m t : List ℕ) : Type 0 where
   pub read : in_read t ≡ v
   pub more : in_past t ≡ m
 
-pub in_taken : (v : BrigadeKnown) (m : List ℕ) → CanSayBrigade v → (v ≡ never_made) ⊎ ((v.live ≡ true) × (v.null ≡ false) × (v.gone ≡ false)) → Ended m → starts (codes " in=") m ≡ false → InTaken v m (in_text v ++ m)
+pub in_taken : (v : BrigadeKnown) (m : List ℕ) → CanSayBrigade v → (v ≡ never_made) ⊎ ((v.live ≡ true) × (v.null ≡ false) × (v.gone ≡ false)) → Ended m → starts (codes " in=") m ≡ false
+    → InTaken v m (in_text v ++ m)
 in_taken v m say (inl never) e none =
     subst (λ (x : BrigadeKnown). InTaken x m (in_text x ++ m)) (sym never) (record {
       read = ap (λ (b : Bool). cond b (live_read false false (behind (codes " in=") m)) never_made) none;

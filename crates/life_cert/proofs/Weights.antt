@@ -233,8 +233,10 @@ weight_rises a b h =
     (both
     (both (both (both (bit_rises a.sent b.sent (implies_by a.sent b.sent h.sent))
     (sum_rises 8 (λ q. pool_weight (a.pools q)) (λ q. pool_weight (b.pools q)) (λ q. pool_le (b.pools q) (a.pools q) ≡ true) (λ q below. pool_rises (a.pools q) (b.pools q) (h.pools q below))))
-    (sum_rises 9 (λ v. brigade_weight (a.brigades v)) (λ v. brigade_weight (b.brigades v)) (λ v. brigade_le (b.brigades v) (a.brigades v) ≡ true) (λ v below. brigade_rises (a.brigades v) (b.brigades v) (h.brigades v below))))
-    (sum_rises 9 (λ c. cursor_weight (a.cursors c)) (λ c. cursor_weight (b.cursors c)) (λ c. cursor_le (b.cursors c) (a.cursors c) ≡ true) (λ c below. cursor_rises (a.cursors c) (b.cursors c) (h.cursors c below))))
+    (sum_rises 9 (λ v. brigade_weight (a.brigades v)) (λ v. brigade_weight (b.brigades v)) (λ v. brigade_le (b.brigades v) (a.brigades v) ≡ true)
+    (λ v below. brigade_rises (a.brigades v) (b.brigades v) (h.brigades v below))))
+    (sum_rises 9 (λ c. cursor_weight (a.cursors c)) (λ c. cursor_weight (b.cursors c)) (λ c. cursor_le (b.cursors c) (a.cursors c) ≡ true)
+    (λ c below. cursor_rises (a.cursors c) (b.cursors c) (h.cursors c below))))
     (both (unknown_rises a b h) (self_rises a b h)))
   where
     facts_back : (i j : ℕ) → i < 9 → j < 9 → a.facts i j ≡ true → ((c : ℕ) → c < 9 → (d : ℕ) → d < 9 → implies (not (known b c d)) (not (known a c d)) ≡ true)

@@ -47,7 +47,8 @@ each_written a b c n k f l below h = record {
   left = leaves_less a b c (each 0 n f) (f k) (each (k + 1) (n - (k + 1)) f) (subst (Leaves a b (each 0 n f)) (each_more n k f below) l.left) h;
 }
 
-pub each_fault : {F : Type 0} (a b c : Option (List ℕ)) (n k : ℕ) (f : ℕ → List ℕ) (r : Result (Unit {0}) F) → LeavesEach a b n f k → k < n → is_err r ≡ true → Front b c (f k) → Wrote r a c (each 0 n f)
+pub each_fault : {F : Type 0} (a b c : Option (List ℕ)) (n k : ℕ) (f : ℕ → List ℕ) (r : Result (Unit {0}) F) → LeavesEach a b n f k → k < n → is_err r ≡ true → Front b c (f k)
+    → Wrote r a c (each 0 n f)
 each_fault a b c n k f r l below fault h =
     leaves_fault {E = ℕ} a b c (each 0 n f) (f k) (each (k + 1) (n - (k + 1)) f) 0 r fault (subst (Leaves a b (each 0 n f)) (each_more n k f below) l.left) h
 

@@ -18,5 +18,7 @@ two_cursors = record (serving false brought) {
 }
 
 pub record WorkedTexts : Type 0 where
-  pub identity : cert_text false (given (resting true) whole) ≡ codes "cert 1\nidle sent=no\nready sent=maybe\n0 sent=no\n1 sent=no\n2 sent=maybe in=u/o/call\n3 sent=no in=u/o/call\n4 sent=maybe in=p\n5 sent=maybe in=u/o/call\n6 sent=maybe in=u/e/-\n7 sent=maybe in=p\nend\n"
+  pub identity : cert_text false
+      (given (resting true) whole) ≡ codes
+      "cert 1\nidle sent=no\nready sent=maybe\n0 sent=no\n1 sent=no\n2 sent=maybe in=u/o/call\n3 sent=no in=u/o/call\n4 sent=maybe in=p\n5 sent=maybe in=u/o/call\n6 sent=maybe in=u/e/-\n7 sent=maybe in=p\nend\n"
   pub cursors : pc_line 6 (Some two_cursors) ≡ codes "6 sent=no in=u/o/call c0=in/dfe c1=in/dfe c0!c1\n"

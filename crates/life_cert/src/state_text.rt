@@ -6,7 +6,11 @@ ghost use Rattle.std.specs.Prelude.{◌≡◌, ◌∷◌, ◌<◌, ◌≤◌, []
 ghost use Rattle.life_state.specs.Seen.{seen, seen_brigade, seen_cursor, seen_homes};
 ghost use Rattle.life_cert.specs.StateText.{cursor_name};
 ghost use Rattle.life_cert.specs.Reading.{IsToldState};
-ghost use Rattle.life_cert.specs.StateFromText.{starts, at_pools, at_past, at_read, behind_name, classes_past, classes_read, content_read, cursor_past, cursor_read, fact_past, fact_word, homes_past, homes_read, in_past, in_read, key, live_past, live_read, loose_past, loose_read, number_in, own_past, own_read, place_past, place_read, pool_past, pool_read, row_past, set_past, set_read, told_brigades, told_cursors, told_facts, told_pools, told_row, past_cursors, past_brigades, past_pools, brigades_there, pools_there};
+ghost use Rattle.life_cert.specs.StateFromText.{starts, at_pools, at_past, at_read, behind_name, classes_past, classes_read, content_read, cursor_past};
+ghost use Rattle.life_cert.specs.StateFromText.{cursor_read, fact_past, fact_word, homes_past, homes_read, in_past, in_read, key, live_past, live_read};
+ghost use Rattle.life_cert.specs.StateFromText.{loose_past, loose_read, number_in, own_past, own_read, place_past, place_read, pool_past, pool_read, row_past};
+ghost use Rattle.life_cert.specs.StateFromText.{set_past, set_read, told_brigades, told_cursors, told_facts, told_pools, told_row, past_cursors, past_brigades};
+ghost use Rattle.life_cert.specs.StateFromText.{past_pools, brigades_there, pools_there};
 
 use crate::unread::Unread;
 use byte_text::begins;

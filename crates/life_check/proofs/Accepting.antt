@@ -17,7 +17,8 @@ all_accepted parts all = All-weaker IsChecked IsAccepted (λ x h. h.accepts) par
 -- each module that was checked is safe by itself
 pub all_safe : (parts : List CertifiedModule) → All IsChecked parts → All InstancesAreSafe (modules_of parts)
 all_safe parts all =
-    All-map InstancesAreSafe (λ (x : CertifiedModule). x.0) parts (All-weaker IsChecked (λ x. InstancesAreSafe x.0) (λ x h. typed_is_safe x.0 (meant x.0 x.1) h.proper h.bounded h.accepts.typed) parts all)
+    All-map InstancesAreSafe (λ (x : CertifiedModule). x.0) parts
+    (All-weaker IsChecked (λ x. InstancesAreSafe x.0) (λ x h. typed_is_safe x.0 (meant x.0 x.1) h.proper h.bounded h.accepts.typed) parts all)
 
 -- The certificates of a chain, by the places of their modules.
 
@@ -52,7 +53,8 @@ some_at [] i x inside is = absurd (omega arith)
 some_at (y ∷ ys) zero x inside is = ap (λ (z : CertifiedModule). Some z) (sym is)
 some_at (y ∷ ys) (suc i) x inside is = some_at ys i x (omega arith) is
 
-pub one_more : (parts : List CertifiedModule) (i : ℕ) (x : CertifiedModule) → i < length parts → x ≡ slice_index_or parts i x → IsChecked x → All IsChecked (take i parts) → All IsChecked (take (i + 1) parts)
+pub one_more : (parts : List CertifiedModule) (i : ℕ) (x : CertifiedModule) → i < length parts → x ≡ slice_index_or parts i x → IsChecked x → All IsChecked (take i parts)
+    → All IsChecked (take (i + 1) parts)
 one_more parts i x inside is here all = All-more IsChecked parts i x inside all (subst IsChecked is here)
 
 pub all_taken : (parts : List CertifiedModule) (i : ℕ) → length parts ≤ i → All IsChecked (take i parts) → All IsChecked parts

@@ -1,5 +1,6 @@
 -- Buckets that are set aside (apr_bucket_setaside), and the law of aside.
-use Rattle.std.proofs.Common.{◌≡◌, ◌≢◌, ◌⊎◌, ℕ, ◌<◌, arith, Bool, true, false, ◌==◌, ◌&&◌, nat_lt, zero, suc, cond, List, [], ◌∷◌, filter_map, Option, Some, None, inl, inr, refl, sym, ◌∙◌, ap, subst, eq-eqb, ne_eqb}
+use Rattle.std.proofs.Common.{◌≡◌, ◌≢◌, ◌⊎◌, ℕ, ◌<◌, arith, Bool, true, false, ◌==◌, ◌&&◌, nat_lt, zero, suc, cond, List, [], ◌∷◌, filter_map, Option, Some, None, inl, inr, refl, sym, ◌∙◌, ap, subst}
+use Rattle.std.proofs.Common.{eq-eqb, ne_eqb}
 use Rattle.std.specs.Prelude.{get_or}
 use Rattle.module_code.specs.Program.{Program, IsModule}
 use Rattle.module_code.specs.declared.instr.Instr.TheVariants as instr
@@ -127,7 +128,8 @@ module _ (p : Program) (lives : Home → Type 0) (ps : Pools Payload) (r : Confi
 
   paths_more : (h : Homes) (x : Home) → Covers p (pool_view r) lives h x → Covers p (pool_view (with_pools ps r)) lives h x
   unfolding with_pools
-  paths_more = covers_moves p (pool_view r) (pool_view (with_pools ps r)) lives (record { conn = refl; named = λ k n e l. same_names (pool_view r) (pool_view (with_pools ps r)) refl refl refl k ∙ e; lives = λ n l. still_live n ∙ l })
+  paths_more = covers_moves p (pool_view r) (pool_view (with_pools ps r)) lives
+      (record { conn = refl; named = λ k n e l. same_names (pool_view r) (pool_view (with_pools ps r)) refl refl refl k ∙ e; lives = λ n l. still_live n ∙ l })
 
   paths_fit : (s : State) → Fits (Covers p (pool_view r) lives) s r → Fits (Covers p (pool_view (with_pools ps r)) lives) s (with_pools ps r)
   unfolding with_pools
@@ -182,7 +184,8 @@ module _ (n : ℕ) (ps : Pools Payload) (target : ℕ) where
   aside_found m x xs is = named_map m put_aside aside_name xs ∙ ap (map_found put_aside) is
 
 -- A bucket at c is set aside into the pool at q.
-module _ {lives : Home → Type 0} (p : Program) (r : Configuration) (s : State) (c : ℕ) (q : PoolRef) (target : ℕ) (x : NamedBucket) (proper : IsModule p) (sound : Sound r) (declared : AsDeclared p r) (outside : LivesOutside r lives)
+module _ {lives : Home → Type 0} (p : Program) (r : Configuration) (s : State) (c : ℕ) (q : PoolRef) (target : ℕ) (x : NamedBucket) (proper : IsModule p) (sound : Sound r)
+    (declared : AsDeclared p r) (outside : LivesOutside r lives)
     (named : pool_named r q ≡ Some target) (live : is_live r.shared.pools target ≡ true) (place : (is_clearable q ≡ true) ⊎ (q ≡ pool.Conn)) (fits : Fits (Covers p (pool_view r) lives) s r) where
   abbrev left : Configuration
   left = ref_taken target x r
@@ -197,7 +200,8 @@ module _ {lives : Home → Type 0} (p : Program) (r : Configuration) (s : State)
   left_fits = paths_fit p lives (all_referred target (filter_map (new_ref r.shared.pools target) (x ∷ [])) r.shared.pools) r path s fits
 
   left_covered : (h : Homes) (y : NamedBucket) → h.dead ≡ false → FitsKind y.bucket → Covers p (pool_view r) lives h y.bucket.home → D (home_in q) (aside_named r.shared.pools target y).bucket.home
-  left_covered h y none kind c = paths_more p lives _ r path (home_in q) (aside_named r.shared.pools target y).bucket.home (aside_covered p r q target proper sound declared outside named live place h y none kind c)
+  left_covered h y none kind c =
+      paths_more p lives _ r path (home_in q) (aside_named r.shared.pools target y).bucket.home (aside_covered p r q target proper sound declared outside named live place h y none kind c)
 
   left_names : SoundNames left
   unfolding with_pools
@@ -230,7 +234,8 @@ module _ {lives : Home → Type 0} (p : Program) (r : Configuration) (s : State)
       holds = holds_map (s.brigades b).content (put_aside x.name r.shared.pools target) (aside_sorted x.name r.shared.pools target) (items_at r b) was_full.holds;
       homes = each_of_all (λ y. D known_now.homes y.bucket.home) items
           (each_changed (λ y. Covers p (pool_view r) lives (s.brigades b).homes y.bucket.home) (λ y. D known_now.homes y.bucket.home) x.name (aside_named r.shared.pools target) (items_at r b) kept
-          (λ k d lt. λ same e. turned (get_or (items_at r b) k d) (sound.buckets.brigades b k d lt) e) (all_of_each (λ y. Covers p (pool_view r) lives (s.brigades b).homes y.bucket.home) (items_at r b) was_full.homes));
+          (λ k d lt. λ same e. turned (get_or (items_at r b) k d) (sound.buckets.brigades b k d lt) e)
+          (all_of_each (λ y. Covers p (pool_view r) lives (s.brigades b).homes y.bucket.home) (items_at r b) was_full.homes));
     }
 
     stays : (v : Cursor) → Stays (λ h y. Unit {0}) (λ h y. Unit {0}) left new v
@@ -319,7 +324,8 @@ law_aside {lives} c q p choice r s ready = by_pool (pool_named r q) refl where
   there = wanted_pool r q (or_else (fault_want r (WHome c)) None) pool_met
 
   home_met : homes_need (homes_at s (s.cursors c)) ≡ None
-  home_met = first_none (homes_need (homes_at s (s.cursors c))) None (second_none (pool_need s q) (or_else (homes_need (homes_at s (s.cursors c))) None) (second_none (cursor_need OnBucket (s.cursors c)) (or_else (pool_need s q) (or_else (homes_need (homes_at s (s.cursors c))) None)) ready.met))
+  home_met = first_none (homes_need (homes_at s (s.cursors c))) None (second_none (pool_need s q) (or_else (homes_need (homes_at s (s.cursors c))) None)
+      (second_none (cursor_need OnBucket (s.cursors c)) (or_else (pool_need s q) (or_else (homes_need (homes_at s (s.cursors c))) None)) ready.met))
 
   none_named : pool_named r q ≡ None → ⊥
   none_named is = let none : is_live_named r.shared.pools None ≡ true = ap (is_live_named r.shared.pools) (sym is) ∙ there in cc
@@ -329,16 +335,22 @@ law_aside {lives} c q p choice r s ready = by_pool (pool_named r q) refl where
       → Fits (Covers p (pool_view (do_aside (spot r c) (Some target) r)) lives) (after_aside c q k s) (do_aside (spot r c) (Some target) r)
   by_known target named (In b t) is met home =
       let i : IsAtBucketOf r (r.call.cursors c) b t = subst (λ (k : CursorKnown). FitsCursor C r k (r.call.cursors c)) is (ready.fits.cursors c) in
-      subst (λ (at : Place). Fits (Covers p (pool_view (do_aside at (Some target) r)) lives) (after_aside c q (In b t) s) (do_aside at (Some target) r)) (sym (spot_in r (r.call.cursors c) b t ready.sound.names i))
-      (subst (λ (few : Bool). Fits (Covers p (pool_view (aside_into (Within b i.bucket) target r)) lives) (cond few (set_brigade_known b (with_homes (both_homes (home_in q)) (s.brigades b)) s) s) (aside_into (Within b i.bucket) target r))
+      subst (λ (at : Place). Fits (Covers p (pool_view (do_aside at (Some target) r)) lives) (after_aside c q (In b t) s) (do_aside at (Some target) r))
+      (sym (spot_in r (r.call.cursors c) b t ready.sound.names i))
+      (subst (λ (few : Bool). Fits (Covers p (pool_view (aside_into (Within b i.bucket) target r)) lives) (cond few (set_brigade_known b (with_homes (both_homes (home_in q)) (s.brigades b)) s) s)
+      (aside_into (Within b i.bucket) target r))
       (sym (let lt : b < 9 = usable_below r b ready.sound.names i.usable in is_below b 9 lt))
-      (within_fits p r s c q target i.bucket ready.may.proper ready.sound ready.declared ready.outside named (named_lives r q target there named) (clearable p r q target ready.declared named) ready.fits b i.usable (unless_some (s.brigades b).homes.dead F5 home)))
+      (within_fits p r s c q target i.bucket ready.may.proper ready.sound ready.declared ready.outside named (named_lives r q target there named)
+      (clearable p r q target ready.declared named) ready.fits b i.usable (unless_some (s.brigades b).homes.dead F5 home)))
   by_known target named (Loose t h) is met home =
       let i : IsAtLoose C r (r.call.cursors c) t h = subst (λ (k : CursorKnown). FitsCursor C r k (r.call.cursors c)) is (ready.fits.cursors c) in
-      subst (λ (at : Place). Fits (Covers p (pool_view (do_aside at (Some target) r)) lives) (after_aside c q (Loose t h) s) (do_aside at (Some target) r)) (sym (spot_loose C r (r.call.cursors c) t h ready.sound.names i))
-      (loose_fits p r s c q target i.bucket ready.may.proper ready.sound ready.declared ready.outside named (named_lives r q target there named) (clearable p r q target ready.declared named) ready.fits t h i.at i.there i.classed i.covered (unless_some h.dead F5 home))
+      subst (λ (at : Place). Fits (Covers p (pool_view (do_aside at (Some target) r)) lives) (after_aside c q (Loose t h) s) (do_aside at (Some target) r))
+      (sym (spot_loose C r (r.call.cursors c) t h ready.sound.names i))
+      (loose_fits p r s c q target i.bucket ready.may.proper ready.sound ready.declared ready.outside named (named_lives r q target there named)
+      (clearable p r q target ready.declared named) ready.fits t h i.at i.there i.classed i.covered (unless_some h.dead F5 home))
   by_known target named k is met home = absurd (cc)
 
   by_pool : (o : Option ℕ) → pool_named r q ≡ o → Fits (Covers p (pool_view (do_aside (spot r c) o r)) lives) (after_aside c q (s.cursors c) s) (do_aside (spot r c) o r)
   by_pool None is = absurd (none_named is)
-  by_pool (Some target) is = by_known target is (s.cursors c) refl (first_none (cursor_need OnBucket (s.cursors c)) (or_else (pool_need s q) (or_else (homes_need (homes_at s (s.cursors c))) None)) ready.met) home_met
+  by_pool (Some target) is =
+      by_known target is (s.cursors c) refl (first_none (cursor_need OnBucket (s.cursors c)) (or_else (pool_need s q) (or_else (homes_need (homes_at s (s.cursors c))) None)) ready.met) home_met

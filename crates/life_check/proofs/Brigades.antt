@@ -45,7 +45,8 @@ unfolding set_variable Each
 law_bcreate {lives} o p choice r s ready =
     fits_beside C D more r (do_create p o r) refl same s s.pools (upd s.brigades o (holds Empty no_homes)) refl refl
     (λ k. pool_kept r.shared.pools (do_create p o r).shared.pools (s.pools k) (r.instance.pools k) (λ n e. brigade_lives on r.shared.next r.shared.pools n) (ready.fits.pools k))
-    (upd_both (FitsBrigade D) s.brigades r.instance.brigades o (holds Empty no_homes) made (refl, (refl, refl, tt)) (λ b off. brigade_more C D more (s.brigades b) (r.instance.brigades b) (ready.fits.brigades b))) ready.fits where
+    (upd_both (FitsBrigade D) s.brigades r.instance.brigades o (holds Empty no_homes) made (refl, (refl, refl, tt))
+    (λ b off. brigade_more C D more (s.brigades b) (r.instance.brigades b) (ready.fits.brigades b))) ready.fits where
       on : Option ℕ
       on = pool_named r (pool_of_brigade p o)
 
@@ -161,10 +162,12 @@ module _ (C D : Homes → Home → Type 0) (r new : Configuration) (a b : ℕ) (
       ∙ (upd_off (upd r.instance.brigades b (with_items [] (r.instance.brigades b))) a k (with_items (items_at r a ++ behind) (r.instance.brigades a)) off
       ∙ upd_off r.instance.brigades b k (with_items [] (r.instance.brigades b)) away)
 
-  each_var : (P : BrigadeVar → BrigadeVar → Type 0) → ((v : BrigadeVar) → P v v) → ((items : List NamedBucket) (v : BrigadeVar) → P v (with_items items v)) → (k : ℕ) → P (r.instance.brigades k) (new.instance.brigades k)
+  each_var : (P : BrigadeVar → BrigadeVar → Type 0) → ((v : BrigadeVar) → P v v) → ((items : List NamedBucket) (v : BrigadeVar) → P v (with_items items v)) → (k : ℕ)
+      → P (r.instance.brigades k) (new.instance.brigades k)
   each_var P same filled k =
       subst (λ (g : ℕ → BrigadeVar). P (r.instance.brigades k) (g k)) (sym j.brigades)
-      (at_two P r.instance.brigades b a (with_items [] (r.instance.brigades b)) (with_items (items_at r a ++ behind) (r.instance.brigades a)) (filled [] (r.instance.brigades b)) (filled (items_at r a ++ behind) (r.instance.brigades a)) same k)
+      (at_two P r.instance.brigades b a (with_items [] (r.instance.brigades b)) (with_items (items_at r a ++ behind) (r.instance.brigades a)) (filled [] (r.instance.brigades b))
+      (filled (items_at r a ++ behind) (r.instance.brigades a)) same k)
 
   name_kept : (k : ℕ) → brigade_name (new.instance.brigades k) ≡ brigade_name (r.instance.brigades k)
   name_kept = each_var (λ v w. brigade_name w ≡ brigade_name v) (λ v. refl) filled_name
@@ -241,48 +244,53 @@ module _ (C D : Homes → Home → Type 0) (r new : Configuration) (a b : ℕ) (
     emptied_full : IsFull D (holds Empty no_homes) []
     emptied_full = record { live = refl; usable = refl; holds = refl; homes = each_none (λ x. D no_homes x.bucket.home) }
 
-    two : (k : ℕ) → FitsBrigade D (upd (upd s.brigades a known_a) b (holds Empty no_homes) k) (upd (upd r.instance.brigades a (with_items (items_at r a ++ behind) (r.instance.brigades a))) b (with_items [] (r.instance.brigades b)) k)
-    two = upd_both (FitsBrigade D) (upd s.brigades a known_a) (upd r.instance.brigades a (with_items (items_at r a ++ behind) (r.instance.brigades a))) b (holds Empty no_homes) (with_items [] (r.instance.brigades b))
+    two : (k : ℕ) → FitsBrigade D (upd (upd s.brigades a known_a) b (holds Empty no_homes) k)
+        (upd (upd r.instance.brigades a (with_items (items_at r a ++ behind) (r.instance.brigades a))) b (with_items [] (r.instance.brigades b)) k)
+    two = upd_both (FitsBrigade D) (upd s.brigades a known_a) (upd r.instance.brigades a (with_items (items_at r a ++ behind) (r.instance.brigades a))) b (holds Empty no_homes)
+        (with_items [] (r.instance.brigades b))
         (full_fits D (holds Empty no_homes) (r.instance.brigades b) [] j.second emptied_full)
         (λ k off. upd_both (FitsBrigade D) s.brigades r.instance.brigades a known_a (with_items (items_at r a ++ behind) (r.instance.brigades a))
         (full_fits D known_a (r.instance.brigades a) (items_at r a ++ behind) j.first full) (λ i away. brigade_more C D j.more (s.brigades i) (r.instance.brigades i) (f.brigades i)) k)
 
 pub law_bconcat : {lives : Home → Type 0} (a b : ℕ) → LawOf lives (instr.BConcat a b)
 unfolding set_variable
-law_bconcat {lives} a b p choice r s ready = joined_fits C C r (do_concat a b r) a b (items_at r b) joins s (both_homes (s.brigades a).homes (s.brigades b).homes) ready.sound.names ready.fits.pools full ready.fits where
-  C : Homes → Home → Type 0
-  C = Covers p (pool_view r) lives
+law_bconcat {lives} a b p choice r s ready =
+    joined_fits C C r (do_concat a b r) a b (items_at r b) joins s (both_homes (s.brigades a).homes (s.brigades b).homes) ready.sound.names ready.fits.pools full ready.fits where
+      C : Homes → Home → Type 0
+      C = Covers p (pool_view r) lives
 
-  first : usable_fault (r.instance.brigades a) ≡ None
-  first = first_none (usable_fault (r.instance.brigades a)) (or_else (usable_fault (r.instance.brigades b)) None) ready.may.faultless
+      first : usable_fault (r.instance.brigades a) ≡ None
+      first = first_none (usable_fault (r.instance.brigades a)) (or_else (usable_fault (r.instance.brigades b)) None) ready.may.faultless
 
-  second : usable_fault (r.instance.brigades b) ≡ None
-  second = first_none (usable_fault (r.instance.brigades b)) None (second_none (usable_fault (r.instance.brigades a)) (or_else (usable_fault (r.instance.brigades b)) None) ready.may.faultless)
+      second : usable_fault (r.instance.brigades b) ≡ None
+      second = first_none (usable_fault (r.instance.brigades b)) None (second_none (usable_fault (r.instance.brigades a)) (or_else (usable_fault (r.instance.brigades b)) None) ready.may.faultless)
 
-  joins : Joins C C r (do_concat a b r) a b (items_at r b)
-  joins = record {
-    more = λ h x c. c;
-    brigades = refl;
-    call = refl;
-    sent = refl;
-    differ = (two_brigades p ready.may.proper a b ready.may.fit).differ;
-    first = first;
-    second = second;
-    found = λ n. finds_same AnyHome AnyHome n (items_at r b) (items_at r b) (λ h x c. c) refl;
-  }
+      joins : Joins C C r (do_concat a b r) a b (items_at r b)
+      joins = record {
+        more = λ h x c. c;
+        brigades = refl;
+        call = refl;
+        sent = refl;
+        differ = (two_brigades p ready.may.proper a b ready.may.fit).differ;
+        first = first;
+        second = second;
+        found = λ n. finds_same AnyHome AnyHome n (items_at r b) (items_at r b) (λ h x c. c) refl;
+      }
 
-  was_a : IsFull C (s.brigades a) (items_at r a)
-  was_a = full_of C (s.brigades a) (r.instance.brigades a) first (ready.fits.brigades a)
+      was_a : IsFull C (s.brigades a) (items_at r a)
+      was_a = full_of C (s.brigades a) (r.instance.brigades a) first (ready.fits.brigades a)
 
-  was_b : IsFull C (s.brigades b) (items_at r b)
-  was_b = full_of C (s.brigades b) (r.instance.brigades b) second (ready.fits.brigades b)
+      was_b : IsFull C (s.brigades b) (items_at r b)
+      was_b = full_of C (s.brigades b) (r.instance.brigades b) second (ready.fits.brigades b)
 
-  full : IsFull C (holds (joined_content (s.brigades a).content (s.brigades b).content) (both_homes (s.brigades a).homes (s.brigades b).homes)) (items_at r a ++ items_at r b)
-  full = record {
-    live = refl;
-    usable = refl;
-    holds = holds_joined (s.brigades a).content (s.brigades b).content (items_at r a) (items_at r b) was_a.holds was_b.holds;
-    homes = each_append (λ x. C (both_homes (s.brigades a).homes (s.brigades b).homes) x.bucket.home) (items_at r a) (items_at r b)
-        (each_more (λ x. C (s.brigades a).homes x.bucket.home) (λ x. C (both_homes (s.brigades a).homes (s.brigades b).homes) x.bucket.home) (λ x c. covers_first p (pool_view r) lives (s.brigades a).homes (s.brigades b).homes x.bucket.home c) (items_at r a) was_a.homes)
-        (each_more (λ x. C (s.brigades b).homes x.bucket.home) (λ x. C (both_homes (s.brigades a).homes (s.brigades b).homes) x.bucket.home) (λ x c. covers_second p (pool_view r) lives (s.brigades a).homes (s.brigades b).homes x.bucket.home c) (items_at r b) was_b.homes);
-  }
+      full : IsFull C (holds (joined_content (s.brigades a).content (s.brigades b).content) (both_homes (s.brigades a).homes (s.brigades b).homes)) (items_at r a ++ items_at r b)
+      full = record {
+        live = refl;
+        usable = refl;
+        holds = holds_joined (s.brigades a).content (s.brigades b).content (items_at r a) (items_at r b) was_a.holds was_b.holds;
+        homes = each_append (λ x. C (both_homes (s.brigades a).homes (s.brigades b).homes) x.bucket.home) (items_at r a) (items_at r b)
+            (each_more (λ x. C (s.brigades a).homes x.bucket.home) (λ x. C (both_homes (s.brigades a).homes (s.brigades b).homes) x.bucket.home)
+            (λ x c. covers_first p (pool_view r) lives (s.brigades a).homes (s.brigades b).homes x.bucket.home c) (items_at r a) was_a.homes)
+            (each_more (λ x. C (s.brigades b).homes x.bucket.home) (λ x. C (both_homes (s.brigades a).homes (s.brigades b).homes) x.bucket.home)
+            (λ x c. covers_second p (pool_view r) lives (s.brigades a).homes (s.brigades b).homes x.bucket.home c) (items_at r b) was_b.homes);
+      }

@@ -29,7 +29,7 @@ use Rattle.run_model.specs.Pools.{Pools, is_empty, is_live, is_under}
 use Rattle.run_model.specs.Pools as pools
 use Rattle.run_model.specs.Sound.{Sound, brigade_name}
 use Rattle.run_model.specs.Steps.{on_pool, pool_cleared, pool_destroyed}
-use Rattle.life_check.specs.Soundness.{request_ended}
+use Rattle.life_check.specs.Soundness.{request_ended, LawOf, RequestEndLands}
 use Rattle.run_model.specs.Indexed.{upd}
 use Rattle.run_model.proofs.Formed.{path_live}
 use Rattle.model_laws.proofs.NamedPools.{own_named}
@@ -50,7 +50,6 @@ use Rattle.life_state.proofs.Tests.{or_left, or_right}
 use Rattle.life_state.proofs.UnderLaws.{conn_is_under, brigade_past}
 use Rattle.life_check.specs.Meaning.{NoneLives, CoversPool, ByConnection, ByMember, ByDead, ByCall, Covers, class_has, FitsPool, FitsMark, FitsBrigade, IsAtBucketOf, IsEndOf, FitsCursor, Differ, Fits}
 use Rattle.life_check.proofs.Lists.{each_map, IsSorted, holds_map, map_found, named_map}
-use Rattle.life_check.specs.Soundness.{LawOf, RequestEndLands}
 use Rattle.life_check.proofs.Pools.{same_live, same_names}
 use Rattle.life_check.proofs.Standing.{moved_facts}
 use Rattle.life_check.proofs.Tree.{same_named, under_through, under_declared}
@@ -166,16 +165,19 @@ module _ (p : Program) (r new : Configuration) (lives : Home → Type 0) (top : 
         let lives : is_live new.shared.pools j ≡ true = ap (is_live new.shared.pools) is_it ∙ itself same in
         subst (λ b. cond b k.live k.gone ≡ true) (sym lives) live
     by_place false differ under live =
-        let dies : is_live new.shared.pools j ≡ false = went.under j under (λ e. absurd (let both : true ≡ false = sym (eq-eqb j n e) ∙ (same_named p r sound declared top (pool.Own q) n j is named ∙ differ) in cc)) in
+        let dies : is_live new.shared.pools j ≡ false =
+        went.under j under (λ e. absurd (let both : true ≡ false = sym (eq-eqb j n e) ∙ (same_named p r sound declared top (pool.Own q) n j is named ∙ differ) in cc)) in
         subst (λ b. cond b false (k.gone || k.live) ≡ true) (sym dies) (or_right k.gone k.live live)
 
-    by_under : (b : Bool) → gone (pool.Own q) ≡ b → is_live r.shared.pools j ≡ true → k.live ≡ true → FitsPool new.shared.pools (cond (b && not (is_same_place top (pool.Own q))) (ended_pool k) k) (poolvar.Made j)
+    by_under : (b : Bool) → gone (pool.Own q) ≡ b → is_live r.shared.pools j ≡ true → k.live ≡ true
+        → FitsPool new.shared.pools (cond (b && not (is_same_place top (pool.Own q))) (ended_pool k) k) (poolvar.Made j)
     by_under true under there live = by_place (is_same_place top (pool.Own q)) refl (as_declared (pool.Own q) j named there ∙ under) live
     by_under false off there live = subst (λ b. cond b k.live k.gone ≡ true) (sym (still_lives j (as_declared (pool.Own q) j named there ∙ off) there)) live
 
     by_live : (b : Bool) → is_live r.shared.pools j ≡ b → cond b k.live k.gone ≡ true → FitsPool new.shared.pools (cond (is_subpool gone top q) (ended_pool k) k) (poolvar.Made j)
     by_live true there f = by_under (gone (pool.Own q)) refl there f
-    by_live false none f = subst (λ b. cond b (cond (is_subpool gone top q) (ended_pool k) k).live (cond (is_subpool gone top q) (ended_pool k) k).gone ≡ true) (sym (went.dead j none)) (gone_stays (is_subpool gone top q) k f)
+    by_live false none f = subst (λ b. cond b (cond (is_subpool gone top q) (ended_pool k) k).live (cond (is_subpool gone top q) (ended_pool k) k).gone ≡ true) (sym (went.dead j none))
+        (gone_stays (is_subpool gone top q) k f)
 
   -- Brigades.
 
@@ -197,7 +199,8 @@ module _ (p : Program) (r new : Configuration) (lives : Home → Type 0) (top : 
   mark_went k Usable xs f = (
     f.0,
     holds_map k.content (cleared_bucket reached) (cleared_sorted reached) xs f.1,
-    each_map (λ x. Covers p (pool_view r) lives k.homes x.bucket.home) (λ x. Covers p (pool_view new) lives (dead_where gone k.homes) x.bucket.home) (cleared_bucket reached) (λ x c. covers_went k.homes x.bucket.home c) xs f.2,
+    each_map (λ x. Covers p (pool_view r) lives k.homes x.bucket.home) (λ x. Covers p (pool_view new) lives (dead_where gone k.homes) x.bucket.home) (cleared_bucket reached)
+        (λ x c. covers_went k.homes x.bucket.home c) xs f.2,
   )
   mark_went k Passed xs f = f
 
@@ -212,9 +215,11 @@ module _ (p : Program) (r new : Configuration) (lives : Home → Type 0) (top : 
     by_test true = or_left k.gone k.live f
     by_test false = f
   brigade_went b k (var.Live v) at f = subst
-      (λ t. FitsBrigade (Covers p (pool_view new) lives) (cond (lies_under p gone b) (ended_brigade k) (with_homes (dead_where gone) k)) (cond t var.Gone (var.Live (record v { items = map (cleared_bucket reached) v.items }))))
+      (λ t. FitsBrigade (Covers p (pool_view new) lives) (cond (lies_under p gone b) (ended_brigade k) (with_homes (dead_where gone) k))
+      (cond t var.Gone (var.Live (record v { items = map (cleared_bucket reached) v.items }))))
       (sym (goes b v at)) (by_test (lies_under p gone b)) where
-        by_test : (t : Bool) → FitsBrigade (Covers p (pool_view new) lives) (cond t (ended_brigade k) (with_homes (dead_where gone) k)) (cond t var.Gone (var.Live (record v { items = map (cleared_bucket reached) v.items })))
+        by_test : (t : Bool) → FitsBrigade (Covers p (pool_view new) lives) (cond t (ended_brigade k) (with_homes (dead_where gone) k))
+            (cond t var.Gone (var.Live (record v { items = map (cleared_bucket reached) v.items })))
         by_test true = or_right k.gone k.live f.0
         by_test false = (f.0, mark_went k v.mark v.items f.1)
 
@@ -269,13 +274,16 @@ module _ (p : Program) (r new : Configuration) (lives : Home → Type 0) (top : 
 
   -- All of it. pools, sent: what is said of the pools and of what was sent.
   pub went_fits : (s : State) (pools : ℕ → PoolState) (sent : Bool) → (new.instance.sent ≡ true → sent ≡ true)
-      → ((q : ℕ) → FitsPool new.shared.pools (pools q) (new.instance.pools q)) → Fits (Covers p (pool_view r) lives) s r → Fits (Covers p (pool_view new) lives) (record (cleared p top s) { pools = pools; sent = sent }) new
+      → ((q : ℕ) → FitsPool new.shared.pools (pools q) (new.instance.pools q)) → Fits (Covers p (pool_view r) lives) s r
+      → Fits (Covers p (pool_view new) lives) (record (cleared p top s) { pools = pools; sent = sent }) new
   unfolding cleared_under moved known
   went_fits s pools sent sent_fits pool_fits f = record {
     sent = sent_fits;
     pools = pool_fits;
-    brigades = λ b. subst (FitsBrigade (Covers p (pool_view new) lives) (cleared_brigade p gone s b)) (sym (went.brigades b)) (brigade_went b (s.brigades b) (r.instance.brigades b) refl (f.brigades b));
-    cursors = λ c. subst (λ (g : ℕ → Cursor). FitsCursor (Covers p (pool_view new) lives) new (cleared_cursor p gone (s.cursors c)) (g c)) (sym went.cursors) (cursor_went (s.cursors c) (r.call.cursors c) (f.cursors c));
+    brigades = λ b. subst (FitsBrigade (Covers p (pool_view new) lives) (cleared_brigade p gone s b)) (sym (went.brigades b))
+        (brigade_went b (s.brigades b) (r.instance.brigades b) refl (f.brigades b));
+    cursors = λ c. subst (λ (g : ℕ → Cursor). FitsCursor (Covers p (pool_view new) lives) new (cleared_cursor p gone (s.cursors c)) (g c)) (sym went.cursors)
+        (cursor_went (s.cursors c) (r.call.cursors c) (f.cursors c));
     facts = λ c d h. subst (λ (g : ℕ → Cursor). Differ (g c) (g d)) (sym went.cursors) (moved_facts (Covers p (pool_view r) lives) r s sound.names f (cleared_cursors p gone s) c d h);
   }
 
@@ -337,7 +345,8 @@ law_pclear {lives} q p choice r s ready = by_pool (pool_named r (pool.Own q)) re
       let itself : is_live (pools.cleared n r.shared.pools) n ≡ true = same_live r.shared.pools (pools.cleared n r.shared.pools) n (cleared_itself n r.shared.pools) ∙ live in
       went_fits p r (pool_cleared n r) lives (pool.Own q) n ready.may.proper ready.sound ready.declared clears is stays (cleared_went n r) s
       (cleared_pool (is_declared_under p (pool.Own q)) (pool.Own q) s) s.sent ready.fits.sent
-      (λ k. pool_went p r (pool_cleared n r) lives (pool.Own q) n ready.may.proper ready.sound ready.declared clears is stays (cleared_went n r) k (s.pools k) (r.instance.pools k) refl (λ same. itself) (ready.fits.pools k))
+      (λ k. pool_went p r (pool_cleared n r) lives (pool.Own q) n ready.may.proper ready.sound ready.declared clears is stays (cleared_went n r) k (s.pools k) (r.instance.pools k) refl
+      (λ same. itself) (ready.fits.pools k))
       ready.fits
 
 -- the variable of a pool that goes itself
@@ -368,9 +377,11 @@ law_pdestroy {lives} q p choice r s ready = by_pool (pool_named r (pool.Own q)) 
       (upd others q (ended_pool (s.pools q))) s.sent ready.fits.sent
       (λ k. elim (upd_either others q k (ended_pool (s.pools q))) [
         | inl at ↦ subst (λ (x : PoolState). FitsPool new.shared.pools x (r.instance.pools k)) (sym at.1)
-            (subst (λ (j : ℕ). FitsPool new.shared.pools (ended_pool (s.pools q)) (r.instance.pools j)) (sym at.0) (ended_fits r new (s.pools q) (r.instance.pools q) n (own_named q n r is) live dead (ready.fits.pools q)))
+            (subst (λ (j : ℕ). FitsPool new.shared.pools (ended_pool (s.pools q)) (r.instance.pools j)) (sym at.0)
+            (ended_fits r new (s.pools q) (r.instance.pools q) n (own_named q n r is) live dead (ready.fits.pools q)))
         | inr off ↦ subst (λ (x : PoolState). FitsPool new.shared.pools x (r.instance.pools k)) (sym off.1)
-            (pool_went p r new lives (pool.Own q) n ready.may.proper ready.sound ready.declared clears is stays (destroyed_went n r) k (s.pools k) (r.instance.pools k) refl (λ same. absurd (off.0 (sym (eqb-true q k same)))) (ready.fits.pools k))
+            (pool_went p r new lives (pool.Own q) n ready.may.proper ready.sound ready.declared clears is stays (destroyed_went n r) k (s.pools k) (r.instance.pools k) refl
+            (λ same. absurd (off.0 (sym (eqb-true q k same)))) (ready.fits.pools k))
       ])
       ready.fits
 
@@ -405,5 +416,6 @@ unfolding cleared_under moved named_at at_end_of_request with_pools run_down
 request_end_lands p req r s m sound declared is f =
     went_fits p r (request_ended req r) NoneLives pool.Req req m sound declared refl is (λ k alive. absurd alive) (ended_went req r sound is) s
     (cleared_pool (is_declared_under p pool.Req) pool.Req s) false (λ h. h)
-    (λ k. pool_went p r (request_ended req r) NoneLives pool.Req req m sound declared refl is (λ j alive. absurd alive) (ended_went req r sound is) k (s.pools k) (r.instance.pools k) refl (λ same. absurd (cc)) (f.pools k))
+    (λ k. pool_went p r (request_ended req r) NoneLives pool.Req req m sound declared refl is (λ j alive. absurd alive) (ended_went req r sound is) k (s.pools k) (r.instance.pools k) refl
+    (λ same. absurd (cc)) (f.pools k))
     f

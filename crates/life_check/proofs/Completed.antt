@@ -1,5 +1,6 @@
 -- The completion of a slim certificate: each of its states is in form, and stands where it may.
-use Rattle.std.proofs.Common.{◌≡◌, ℕ, zero, suc, ◌+◌, ◌<◌, Bool, true, false, ◌&&◌, not, ◌==◌, nat_lt, nat_le, if◌then◌else◌, length, inl, inr, Option, Some, None, IfSome, Result, Ok, Err, slice_get, refl, ap, sym, ◌∙◌, subst, add-one, lt-ltb, eq-eqb}
+use Rattle.std.proofs.Common.{◌≡◌, ℕ, zero, suc, ◌+◌, ◌<◌, Bool, true, false, ◌&&◌, not, ◌==◌, nat_lt, nat_le, if◌then◌else◌, length, inl, inr, Option, Some, None, IfSome, Result, Ok, Err, slice_get}
+use Rattle.std.proofs.Common.{refl, ap, sym, ◌∙◌, subst, add-one, lt-ltb, eq-eqb}
 use Rattle.std.proofs.lemmas.Bool.{cases_lt, eqb-true}
 use Rattle.module_code.specs.declared.instr.Instr.{Instr}
 use Rattle.module_code.specs.Program.{Program, IsModule, goes_on}
@@ -57,7 +58,8 @@ head_kept p c pc h = ap (λ (b : Bool). if b then c.at pc else None) h
 -- A line that stands where it may.
 
 pub declared : (p : Program) (call : Bool) (s : State) → IsFormedIn p call s → declares p s ≡ true
-declared p call s f = and2 (s.pool_count == length p.pools) (s.brigade_count == length p.brigades) (eq-eqb s.pool_count (length p.pools) f.pools) (eq-eqb s.brigade_count (length p.brigades) f.brigades)
+declared p call s f =
+    and2 (s.pool_count == length p.pools) (s.brigade_count == length p.brigades) (eq-eqb s.pool_count (length p.pools) f.pools) (eq-eqb s.brigade_count (length p.brigades) f.brigades)
 
 in_part : (b : Bool) (s : State) → has_in s ≡ b → (if b then has_in s else not (has_in s)) ≡ true
 in_part true s h = h
@@ -105,7 +107,8 @@ module _ (p : Program) (c : Certificate) (m : IsModule p) (formed : AreFormed c)
       of None h f = tt
       of (Some s) h f = line_formed p pc s h f
 
-  handed_by : (n : ℕ) (i : Instr) (s : State) (r : Result Edges FaultKind) → slice_get p.code n ≡ Some i → rule p i s ≡ r → IsFormedIn p (nat_le p.main n) s → IfSome (next_of r) (IsFormedIn p (nat_le p.main (suc n)))
+  handed_by : (n : ℕ) (i : Instr) (s : State) (r : Result Edges FaultKind) → slice_get p.code n ≡ Some i → rule p i s ≡ r → IsFormedIn p (nat_le p.main n) s
+      → IfSome (next_of r) (IsFormedIn p (nat_le p.main (suc n)))
   handed_by n i s (Err k) here is f = tt
   handed_by n i s (Ok e) here is f = on e.next refl (rules_keep_form p (nat_le p.main n) i s e m (m.placed n i here).fit f is).0
     where

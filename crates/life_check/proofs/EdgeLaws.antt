@@ -10,17 +10,18 @@ use Rattle.run_model.specs.declared.effect.Condition.{Condition}
 use Rattle.run_model.specs.declared.effect.Condition.TheVariants as condition
 use Rattle.run_model.specs.declared.effect.Effect.{Effect}
 use Rattle.run_model.specs.declared.effect.Effect.TheVariants as effect
-use Rattle.run_model.specs.declared.effect.Flow.{Flow}
-use Rattle.run_model.specs.declared.effect.Flow.TheVariants.{ToNext, JumpIf, JumpAlways, EndCall}
+use Rattle.run_model.specs.declared.effect.Branch.{Branch}
+use Rattle.run_model.specs.declared.effect.Branch.TheVariants.{ToNext, JumpIf, JumpAlways, EndCall}
 use Rattle.run_model.specs.declared.effect.MadeFrom.{MadeFrom}
 use Rattle.run_model.specs.declared.effect.MadeFrom.TheVariants.{CopyAt}
-use Rattle.run_model.specs.EffectOf.{effect_of, flow_of}
+use Rattle.run_model.specs.EffectOf.{effect_of, branch_of}
 use Rattle.run_model.specs.declared.fault.FaultKind.{FaultKind}
 use Rattle.run_model.specs.Faults.{wants}
 use Rattle.life_state.specs.declared.parts.Classes.{Classes}
 use Rattle.life_state.specs.States.{State, CursorKnown, Loose, In, End, InOrEnd, home_in, both_homes, with_homes, only_null, never_made, set_pool, set_brigade}
 use Rattle.life_state.specs.Facts.{moved, set_cursor}
-use Rattle.life_state.specs.Rules.{Edges, some_if, cleared_under, after_next, if_brigade, put_in, before_content, after_before, after_aside, is_empty, edges_jend, of_kind, not_of_kind, some_class, with_classes, classes_of, told, told_classes, pool_not_null, brigade_not_null, edges_jnull, after_make, after, on_condition, led, edges, first_need, need_or, rule}
+use Rattle.life_state.specs.Rules.{Edges, some_if, cleared_under, after_next, if_brigade, put_in, before_content, after_before, after_aside, is_empty, edges_jend, of_kind, not_of_kind, some_class}
+use Rattle.life_state.specs.Rules.{with_classes, classes_of, told, told_classes, pool_not_null, brigade_not_null, edges_jnull, after_make, after, on_condition, led, edges, first_need, need_or, rule}
 
 -- of the same variables
 pub record AreAlike (s t : State) : Type 0 where
@@ -104,7 +105,8 @@ module _ (s t : State) (h : AreAlike s t) where
   condition_alike : (when : Condition) → EdgesAlike s (on_condition when s t)
   unfolding set_cursor
   condition_alike (condition.TooShort b x c) = record { next = h; jump = record { pools = refl; brigades = refl } }
-  condition_alike (condition.NoBucket b) = past _ (record { next = some_if_alike (not (is_empty (t.brigades b).content)) t t (record { pools = refl; brigades = refl }); jump = record { pools = refl; brigades = refl } })
+  condition_alike (condition.NoBucket b) =
+      past _ (record { next = some_if_alike (not (is_empty (t.brigades b).content)) t t (record { pools = refl; brigades = refl }); jump = record { pools = refl; brigades = refl } })
   condition_alike (condition.AtEnd c) = past _ (jend_alike c (t.cursors c) t)
   condition_alike (condition.OfKind c k) = past _ (record { next = told_alike c (not_of_kind k (classes_of (t.cursors c))) t; jump = told_alike c (of_kind k (classes_of (t.cursors c))) t })
   condition_alike (condition.ReadFailed c) = record { next = h; jump = record { pools = refl; brigades = refl } }
@@ -112,7 +114,7 @@ module _ (s t : State) (h : AreAlike s t) where
   condition_alike condition.WasSent = past _ (record { next = record { pools = refl; brigades = refl }; jump = some_if_alike t.sent t t (record { pools = refl; brigades = refl }) })
   condition_alike when = record { next = h; jump = h }
 
-  led_alike : (flow : Flow) → EdgesAlike s (led flow s t)
+  led_alike : (branch : Branch) → EdgesAlike s (led branch s t)
   led_alike ToNext = record { next = h; jump = tt }
   led_alike (JumpIf when) = condition_alike when
   led_alike JumpAlways = record { next = tt; jump = h }
@@ -120,7 +122,7 @@ module _ (s t : State) (h : AreAlike s t) where
 
 -- each state that an instruction leads to is of the same variables
 pub edges_alike : (p : Program) (i : Instr) (s : State) → EdgesAlike s (edges p i s)
-edges_alike p i s = led_alike s (after p (effect_of i) s) (after_alike p (effect_of i) s) (flow_of i)
+edges_alike p i s = led_alike s (after p (effect_of i) s) (after_alike p (effect_of i) s) (branch_of i)
 
 -- the next instruction is led to by those alone behind which control goes on
 pub goes_on_next : (p : Program) (i : Instr) (s t : State) → (edges p i s).next ≡ Some t → goes_on i ≡ true

@@ -128,12 +128,14 @@ identity_module = record {
 ample_run : (budget : ℕ) (chain : List Program) (w : World) (es : List (ℕ × Event)) → IsRun budget chain w es (answers_from bare budget chain w es) (left_by bare budget chain w es)
 unfolding IsRun answers_from left_by
 ample_run budget chain w [] = refl
-ample_run budget chain w (e ∷ es) = (true, told_by bare e.1, (happens true budget chain (told_by bare e.1) e.0 e.1 w).1, refl, ample_run budget chain (happens true budget chain (told_by bare e.1) e.0 e.1 w).1 es)
+ample_run budget chain w (e ∷ es) =
+    (true, told_by bare e.1, (happens true budget chain (told_by bare e.1) e.0 e.1 w).1, refl, ample_run budget chain (happens true budget chain (told_by bare e.1) e.0 e.1 w).1 es)
 
 a_fault : ChainNeverFaults (never_creates ∷ []) → ⊥
 unfolding NoFaults
 a_fault never =
-    (subst NoFaults chain_runs.no_brigade (never 100 cleans_none (answers_from bare 100 (never_creates ∷ []) (new_world 1) cleans_none) (left_by bare 100 (never_creates ∷ []) (new_world 1) cleans_none)
+    (subst NoFaults chain_runs.no_brigade
+    (never 100 cleans_none (answers_from bare 100 (never_creates ∷ []) (new_world 1) cleans_none) (left_by bare 100 (never_creates ∷ []) (new_world 1) cleans_none)
     (record { first = 1; named = omega arith; given = omega arith; run = ample_run 100 (never_creates ∷ []) (new_world 1) cleans_none }))).1.1.1.1.1.0
 
 pub fault_rows : FaultRows

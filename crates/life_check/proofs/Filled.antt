@@ -108,10 +108,12 @@ module _ (C : Homes → Home → Type 0) (r : Configuration) (b : ℕ) (ys loose
 
   pub rearranged_usable : (k : ℕ) → usable_fault ((rearranged b ys loose r).instance.brigades k) ≡ usable_fault (r.instance.brigades k)
   unfolding set_brigade set_loose
-  rearranged_usable = upd_second (λ k v. usable_fault v ≡ usable_fault (r.instance.brigades k)) r.instance.brigades b (with_items ys (r.instance.brigades b)) (filled_usable ys (r.instance.brigades b)) (λ k differ. refl)
+  rearranged_usable = upd_second (λ k v. usable_fault v ≡ usable_fault (r.instance.brigades k)) r.instance.brigades b (with_items ys (r.instance.brigades b))
+      (filled_usable ys (r.instance.brigades b)) (λ k differ. refl)
 
   -- a cursor stays where its bucket is still found
-  pub rearranged_stays : (v : Cursor) → usable_fault (r.instance.brigades b) ≡ None → ((n : ℕ) → v ≡ cursor.At n → Finds C C n (items_at r b) ys) → ((n : ℕ) → v ≡ cursor.At n → Finds C C n r.call.loose loose)
+  pub rearranged_stays : (v : Cursor) → usable_fault (r.instance.brigades b) ≡ None → ((n : ℕ) → v ≡ cursor.At n → Finds C C n (items_at r b) ys)
+      → ((n : ℕ) → v ≡ cursor.At n → Finds C C n r.call.loose loose)
       → Stays C C r (rearranged b ys loose r) v
   unfolding set_brigade set_loose
   rearranged_stays v usable within loosely = record {
@@ -119,7 +121,8 @@ module _ (C : Homes → Home → Type 0) (r : Configuration) (b : ℕ) (ys loose
     within = λ k n at. upd_second (λ j w. Finds C C n (items_at r j) (items_of w)) r.instance.brigades b (with_items ys (r.instance.brigades b))
         (subst (λ (zs : List NamedBucket). Finds C C n (items_at r b) zs) (sym (filled_items ys (r.instance.brigades b) usable)) (within n at))
         (λ j differ. finds_same C C n (items_at r j) (items_at r j) (λ h x c. c) refl) k;
-    names = upd_second (λ k w. brigade_name w ≡ brigade_name (r.instance.brigades k)) r.instance.brigades b (with_items ys (r.instance.brigades b)) (filled_name ys (r.instance.brigades b)) (λ k differ. refl);
+    names = upd_second (λ k w. brigade_name w ≡ brigade_name (r.instance.brigades k)) r.instance.brigades b (with_items ys (r.instance.brigades b)) (filled_name ys (r.instance.brigades b))
+        (λ k differ. refl);
     usable = λ k was. rearranged_usable k ∙ was;
   }
 
@@ -151,7 +154,8 @@ bucket_moved C r s c n v known_now brigades loose names f at fit stays here = re
   sent = f.sent;
   pools = f.pools;
   brigades = fit;
-  cursors = upd_first (FitsCursor C (with_buckets brigades loose r)) (forgotten s c) r.call.cursors c v here (λ k differ. forgotten_fits C C r (with_buckets brigades loose r) s c k names f differ (λ other. cursor_stays C C r (with_buckets brigades loose r) (r.call.cursors k) (stays (r.call.cursors k) (λ m is. elsewhere k other m is)) (s.cursors k) (f.cursors k)));
+  cursors = upd_first (FitsCursor C (with_buckets brigades loose r)) (forgotten s c) r.call.cursors c v here (λ k differ. forgotten_fits C C r (with_buckets brigades loose r) s c k names f differ
+      (λ other. cursor_stays C C r (with_buckets brigades loose r) (r.call.cursors k) (stays (r.call.cursors k) (λ m is. elsewhere k other m is)) (s.cursors k) (f.cursors k)));
   facts = moved_facts C r s names f (upd (forgotten s c) c v);
 } where
   elsewhere : (k : ℕ) → Differ (r.call.cursors c) (r.call.cursors k) → (m : ℕ) → r.call.cursors k ≡ cursor.At m → m ≢ n

@@ -89,7 +89,8 @@ module _ (C : Homes → Home → Type 0) where
   finer_late new ys [] f = ap data_after_eos f
   finer_late new [] (x ∷ xs) f = absurd f
   finer_late new (y ∷ ys) (x ∷ xs) f = elim f [
-    | inl t ↦ ap (λ b. (b && has_data ys) || data_after_eos ys) t.1.ends ∙ ap (λ b. (is_eos x && b) || data_after_eos ys) (finer_data new ys xs t.2) ∙ ap (λ b. (is_eos x && has_data xs) || b) (finer_late new ys xs t.2)
+    | inl t ↦ ap (λ b. (b && has_data ys) || data_after_eos ys) t.1.ends ∙ ap (λ b. (is_eos x && b) || data_after_eos ys) (finer_data new ys xs t.2)
+        ∙ ap (λ b. (is_eos x && has_data xs) || b) (finer_late new ys xs t.2)
     | inr t ↦ ap (λ b. (b && has_data ys) || data_after_eos ys) (t.3.first.ends ∙ t.3.middle) ∙ ap data_after_eos t.2 ∙ ap (λ b. (b && has_data t.1) || data_after_eos t.1) (t.3.rest.ends ∙ t.3.middle)
         ∙ finer_late new t.1 xs t.4 ∙ sym (ap (λ b. (b && has_data xs) || data_after_eos xs) t.3.middle)
   ]
@@ -131,7 +132,8 @@ module _ (C : Homes → Home → Type 0) where
   finer_found new n w [] (x ∷ xs) f ne is = absurd f
   finer_found new n w (y ∷ ys) (x ∷ xs) f ne is = elim f [
     | inl t ↦ first_or t.0 t.1 (λ still. finer_found new n w ys xs t.2 ne still) (named_cases n x w xs is)
-    | inr t ↦ first_or t.3.name t.3.first (λ still. subst (λ zs. FoundLike n w zs) (sym t.2) (turned_found n w t.0 t.1 (finer_found new n w t.1 xs t.4 ne still) (ap (λ m. m == n) t.3.fresh ∙ ne_eqb new n ne))) (named_cases n x w xs is)
+    | inr t ↦ first_or t.3.name t.3.first (λ still. subst (λ zs. FoundLike n w zs) (sym t.2)
+        (turned_found n w t.0 t.1 (finer_found new n w t.1 xs t.4 ne still) (ap (λ m. m == n) t.3.fresh ∙ ne_eqb new n ne))) (named_cases n x w xs is)
   ] where
     first_or : y.name ≡ x.name → Like y x → (bucket_named n xs ≡ Some w → FoundLike n w ys)
         → (((x.name == n) ≡ true) × (x ≡ w)) ⊎ (((x.name == n) ≡ false) × (bucket_named n xs ≡ Some w)) → FoundLike n w (y ∷ ys)

@@ -72,7 +72,8 @@ module _ (C : Homes → Home → Type 0) where
           record {
             bucket = f.bucket;
             at = w.at ∙ ap cursor.At (sym f.name);
-            there = ap (λ g. bucket_named f.bucket.name (items_of g)) is ∙ ap (λ g. bucket_named f.bucket.name g) (items_found (r.instance.brigades b) w.bucket.name w.bucket ys there) ∙ ap (λ m. bucket_named m ys) f.name ∙ f.there;
+            there = ap (λ g. bucket_named f.bucket.name (items_of g)) is ∙ ap (λ g. bucket_named f.bucket.name g) (items_found (r.instance.brigades b) w.bucket.name w.bucket ys there)
+                ∙ ap (λ m. bucket_named m ys) f.name ∙ f.there;
             classed = f.like.classed t w.classed;
             usable = ap usable_fault is ∙ fault_kept (r.instance.brigades b) ys ∙ ap (λ m. usable_fault (r.instance.brigades m)) (sym same) ∙ w.usable;
           }
@@ -103,7 +104,8 @@ module _ (C : Homes → Home → Type 0) where
       sent = h.sent;
       pools = h.pools;
       brigades = λ m. elim (upd_either r.instance.brigades b m (with_items ys (r.instance.brigades b))) [
-        | inl g ↦ subst (λ v. FitsBrigade C (s.brigades m) v) (sym g.1) (brigade_fits r.shared.next (s.brigades m) (r.instance.brigades b) ys finer (subst (λ a. FitsBrigade C (s.brigades m) (r.instance.brigades a)) g.0 (h.brigades m)))
+        | inl g ↦ subst (λ v. FitsBrigade C (s.brigades m) v) (sym g.1)
+            (brigade_fits r.shared.next (s.brigades m) (r.instance.brigades b) ys finer (subst (λ a. FitsBrigade C (s.brigades m) (r.instance.brigades a)) g.0 (h.brigades m)))
         | inr g ↦ subst (λ v. FitsBrigade C (s.brigades m) v) (sym g.1) (h.brigades m)
       ];
       cursors = λ c. cursor_stays (s.cursors c) (r.call.cursors c) (h.cursors c);

@@ -12,7 +12,8 @@ use Rattle.run_model.specs.declared.bucket.Kind.{Kind}
 use Rattle.run_model.specs.declared.bucket.Kind.TheVariants as kind
 use Rattle.run_model.specs.declared.bucket.NamedBucket.{NamedBucket}
 use Rattle.run_model.specs.Buckets.{is_data_kind, is_eos_kind, is_data}
-use Rattle.run_model.specs.BrigadeLists.{buckets_before, buckets_from, first_bucket, bucket_named, Metadata, TooLong, split_refusal, first_bytes, rest_as, first_split, bucket_split, front_to, back_from, is_short, partitioned}
+use Rattle.run_model.specs.BrigadeLists.{buckets_before, buckets_from, first_bucket, bucket_named, Metadata, TooLong, split_refusal, first_bytes, rest_as, first_split, bucket_split, front_to}
+use Rattle.run_model.specs.BrigadeLists.{back_from, is_short, partitioned}
 use Rattle.run_model.specs.BucketSteps.{first_read, bucket_read, rest_named}
 use Rattle.run_model.specs.Cutting.{FitsKind, form_of, form_of_kind, length_of, read_limit, read_as, heap_of, rest_of}
 use Rattle.model_laws.proofs.BrigadeLists.{bytes_are_data}
@@ -114,12 +115,16 @@ module _ (C : Homes → Home → Type 0) (free : (h : Homes) → C h home.Free) 
   unfolding front_to back_from
   parted_at new zero xs fits = finer_same C new xs
   parted_at new (suc p) [] fits = finer_same C new []
-  parted_at new (suc p) (x ∷ xs) fits = by_length (nat_le (length_of x.bucket.content) (suc p)) refl (parted_at new (suc p - length_of x.bucket.content) xs (All-tail (λ y. FitsKind y.bucket) x xs fits)) where
-    by_length : (c : Bool) → nat_le (length_of x.bucket.content) (suc p) ≡ c → Finer C new (front_to (suc p - length_of x.bucket.content) xs ++ back_from new (suc p - length_of x.bucket.content) xs) xs
-        → Finer C new (cond c (x ∷ front_to (suc p - length_of x.bucket.content) xs) (first_bytes (suc p) x ∷ []) ++ cond c (back_from new (suc p - length_of x.bucket.content) xs) (rest_as new (suc p) x ∷ xs)) (x ∷ xs)
-    by_length true tells f = kept_finer new x (front_to (suc p - length_of x.bucket.content) xs ++ back_from new (suc p - length_of x.bucket.content) xs) xs f
-    by_length false tells f =
-        parted_finer new (first_bytes (suc p) x) (rest_as new (suc p) x) x xs (split_parts new (suc p) x (bytes_are_data (suc p) x.bucket (All-head (λ y. FitsKind y.bucket) x xs fits) (grind (arith, nat_tests))))
+  parted_at new (suc p) (x ∷ xs) fits =
+      by_length (nat_le (length_of x.bucket.content) (suc p)) refl (parted_at new (suc p - length_of x.bucket.content) xs (All-tail (λ y. FitsKind y.bucket) x xs fits)) where
+        by_length : (c : Bool) → nat_le (length_of x.bucket.content) (suc p) ≡ c
+            → Finer C new (front_to (suc p - length_of x.bucket.content) xs ++ back_from new (suc p - length_of x.bucket.content) xs) xs
+            → Finer C new (cond c (x ∷ front_to (suc p - length_of x.bucket.content) xs) (first_bytes (suc p) x ∷ []) ++ cond c (back_from new (suc p - length_of x.bucket.content) xs)
+            (rest_as new (suc p) x ∷ xs)) (x ∷ xs)
+        by_length true tells f = kept_finer new x (front_to (suc p - length_of x.bucket.content) xs ++ back_from new (suc p - length_of x.bucket.content) xs) xs f
+        by_length false tells f =
+            parted_finer new (first_bytes (suc p) x) (rest_as new (suc p) x) x xs
+            (split_parts new (suc p) x (bytes_are_data (suc p) x.bucket (All-head (λ y. FitsKind y.bucket) x xs fits) (grind (arith, nat_tests))))
 
   pub partition_finer : (new point : ℕ) (xs : List NamedBucket) → All (λ x. FitsKind x.bucket) xs → Finer C new (partitioned new point xs) xs
   partition_finer new point xs fits = by_test (is_short point xs) where

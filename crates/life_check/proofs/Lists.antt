@@ -1,6 +1,7 @@
 -- Lists of buckets: what is true of each, what a brigade may hold, and which bucket is found by its name, where buckets are taken
 -- out, put in, moved and changed.
-use Rattle.std.proofs.Common.{◌≡◌, ◌≢◌, ℕ, ◌≤◌, Bool, true, false, ◌&&◌, ◌||◌, ◌==◌, cond, List, [], ◌∷◌, ◌++◌, append-nil, map, drop, Option, Some, None, All, refl, sym, ◌∙◌, ap, subst, arith, eqb-true, eq-eqb, ne_eqb}
+use Rattle.std.proofs.Common.{◌≡◌, ◌≢◌, ℕ, ◌≤◌, Bool, true, false, ◌&&◌, ◌||◌, ◌==◌, cond, List, [], ◌∷◌, ◌++◌, append-nil, map, drop, Option, Some, None, All, refl, sym, ◌∙◌, ap, subst, arith}
+use Rattle.std.proofs.Common.{eqb-true, eq-eqb, ne_eqb}
 use Rattle.std.proofs.lemmas.Bool.{or_parts, or_from}
 use Rattle.std.proofs.lemmas.List.Folds.{list_any-append}
 use Rattle.std.proofs.lemmas.List.Elements.{All-nil, All-cons, All-head, All-tail}
@@ -120,7 +121,8 @@ pub none_named : (n : ℕ) (xs : List NamedBucket) → count_named n xs ≡ 0 �
 none_named n xs none = by_found (bucket_named n xs) refl where
   by_found : (o : Option NamedBucket) → bucket_named n xs ≡ o → o ≡ None
   by_found None is = refl
-  by_found (Some x) is = absurd (let one : 1 ≤ count_named x.name xs = found_there n x xs is in let same : count_named x.name xs ≡ count_named n xs = ap (λ (k : ℕ). count_named k xs) (named_is n xs x is) in omega arith)
+  by_found (Some x) is = absurd (let one : 1 ≤ count_named x.name xs = found_there n x xs is in let same : count_named x.name xs ≡ count_named n xs =
+      ap (λ (k : ℕ). count_named k xs) (named_is n xs x is) in omega arith)
 
 -- what is behind a bucket of another name
 behind_from : (m n : ℕ) (xs : List NamedBucket) → m ≢ n → bucket_named m (drop 1 (buckets_from n xs)) ≡ bucket_named m (buckets_from n xs)
@@ -302,7 +304,8 @@ thins_one [] = thins_same []
 thins_one (x ∷ xs) = thins_tail x xs
 
 pub thins_taken_out : (n : ℕ) (xs : List NamedBucket) → Thins xs (taken_out n xs)
-thins_taken_out n xs = subst (λ (zs : List NamedBucket). Thins zs (taken_out n xs)) (before_and_from n xs) (thins_behind (buckets_before n xs) (buckets_from n xs) (drop 1 (buckets_from n xs)) (thins_one (buckets_from n xs)))
+thins_taken_out n xs = subst (λ (zs : List NamedBucket). Thins zs (taken_out n xs)) (before_and_from n xs)
+    (thins_behind (buckets_before n xs) (buckets_from n xs) (drop 1 (buckets_from n xs)) (thins_one (buckets_from n xs)))
 
 pub holds_thinner : (k : Contents) (xs ys : List NamedBucket) → Thins xs ys → HoldsContents k xs → HoldsContents k ys
 holds_thinner Empty xs ys t h = t.empty h
@@ -357,7 +360,8 @@ pub joined_ahead : (xs ys : List NamedBucket) → data_after_eos xs ≡ false �
 joined_ahead [] ys h none = no_data_late ys none
 joined_ahead (x ∷ xs) ys h none =
     let parts = or_parts (is_eos x && has_data xs) (data_after_eos xs) h in
-    or_from (is_eos x && has_data (xs ++ ys)) (data_after_eos (xs ++ ys)) (and_less (is_eos x) (has_data xs) (has_data (xs ++ ys)) (λ e. joined_data xs ys e none) (parts.0)) (joined_ahead xs ys (parts.1) none)
+    or_from (is_eos x && has_data (xs ++ ys)) (data_after_eos (xs ++ ys)) (and_less (is_eos x) (has_data xs) (has_data (xs ++ ys)) (λ e. joined_data xs ys e none) (parts.0))
+    (joined_ahead xs ys (parts.1) none)
 
 pub holds_joined : (a b : Contents) (xs ys : List NamedBucket) → HoldsContents a xs → HoldsContents b ys → HoldsContents (joined_content a b) (xs ++ ys)
 holds_joined Empty b xs ys h k = subst (λ (zs : List NamedBucket). HoldsContents b (zs ++ ys)) (sym h) k
@@ -390,7 +394,8 @@ one_holds t x has = by_class t.eos t.bytes refl refl where
 
 pub holds_tail : (k : Contents) (t : Classes) (x : NamedBucket) (xs : List NamedBucket) → class_has t x.bucket.kind ≡ true → HoldsContents k xs → HoldsContents (tail_content k t) (put_tail x xs)
 holds_tail Empty t x xs has h = more t.eos t.bytes (holds_joined Empty (content_of t) xs (x ∷ []) h (one_holds t x has)) where
-  more : (eos bytes : Bool) → HoldsContents (cond eos NoLateData (cond bytes NoEos Flushes)) (put_tail x xs) → HoldsContents (greater Empty (cond eos NoLateData (cond bytes NoEos Flushes))) (put_tail x xs)
+  more : (eos bytes : Bool) → HoldsContents (cond eos NoLateData (cond bytes NoEos Flushes)) (put_tail x xs)
+      → HoldsContents (greater Empty (cond eos NoLateData (cond bytes NoEos Flushes))) (put_tail x xs)
   more true bytes h = h
   more false true h = h
   more false false h = h
@@ -443,7 +448,8 @@ module _ (at : ℕ) (x : NamedBucket) (xs : List NamedBucket) where
   put_eos here none = joined_eos (buckets_before at xs) (x ∷ buckets_from at xs) ((thins_before at xs).eos none) (or_from (is_eos x) (has_eos (buckets_from at xs)) here ((thins_from at xs).eos none))
 
   put_data : is_data x ≡ false → has_data xs ≡ false → has_data (put_before at x xs) ≡ false
-  put_data here none = joined_data (buckets_before at xs) (x ∷ buckets_from at xs) ((thins_before at xs).bytes none) (or_from (is_data x) (has_data (buckets_from at xs)) here ((thins_from at xs).bytes none))
+  put_data here none =
+      joined_data (buckets_before at xs) (x ∷ buckets_from at xs) ((thins_before at xs).bytes none) (or_from (is_data x) (has_data (buckets_from at xs)) here ((thins_from at xs).bytes none))
 
   put_late : is_data x ≡ false → is_eos x ≡ false → data_after_eos xs ≡ false → data_after_eos (put_before at x xs) ≡ false
   put_late here plain none = metadata_late x (buckets_before at xs) (buckets_from at xs) here plain ∙ (ap data_after_eos (before_and_from at xs) ∙ none)
@@ -452,7 +458,8 @@ module _ (at : ℕ) (x : NamedBucket) (xs : List NamedBucket) where
   put_any : has_data xs ≡ false → has_eos xs ≡ false → data_after_eos (put_before at x xs) ≡ false
   put_any none plain =
       joined_behind (buckets_before at xs) (x ∷ buckets_from at xs) ((thins_before at xs).eos plain)
-      (or_from (is_eos x && has_data (buckets_from at xs)) (data_after_eos (buckets_from at xs)) (both_false (is_eos x) (has_data (buckets_from at xs)) ((thins_from at xs).bytes none)) (no_data_late (buckets_from at xs) ((thins_from at xs).bytes none)))
+      (or_from (is_eos x && has_data (buckets_from at xs)) (data_after_eos (buckets_from at xs)) (both_false (is_eos x) (has_data (buckets_from at xs)) ((thins_from at xs).bytes none))
+      (no_data_late (buckets_from at xs) ((thins_from at xs).bytes none)))
 
   eos_before : (k : Contents) → HoldsContents k xs → HoldsContents (before_eos k) (put_before at x xs)
   eos_before Empty h = put_any (ap has_data h) (ap has_eos h)

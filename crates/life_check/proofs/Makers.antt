@@ -61,23 +61,27 @@ unnamed_fault r q none met = (let fault : Some F1 ≡ None = sym (ap (λ (o : Op
 pub law_poolb : {lives : Home → Type 0} (c : ℕ) (q : PoolRef) → LawOf lives (instr.PoolB c q)
 unfolding set_cursor set_loose
 law_poolb {lives = lives} c q p choice r s ready = by_name (pool_named r q) refl where
-  by_name : (o : Option ℕ) → pool_named r q ≡ o → Fits (Covers p (pool_view (do_make c (pooled_bucket r.call.buffer o) r)) lives) (made c only_bytes no_homes s) (do_make c (pooled_bucket r.call.buffer o) r)
+  by_name : (o : Option ℕ) → pool_named r q ≡ o
+      → Fits (Covers p (pool_view (do_make c (pooled_bucket r.call.buffer o) r)) lives) (made c only_bytes no_homes s) (do_make c (pooled_bucket r.call.buffer o) r)
   by_name None is = absurd (unnamed_fault r q is (first_none (cond (has_pool r q) None (Some F1)) None ready.may.faultless))
   by_name (Some n) is = made_fits (Covers p (pool_view r) lives) r s ready.sound.names ready.fits c only_bytes no_homes (pool_bucket r.call.buffer n) refl tt
 
 pub law_copy : {lives : Home → Type 0} (d c : ℕ) → LawOf lives (instr.Copy d c)
 unfolding set_cursor set_loose
 law_copy {lives = lives} d c p choice r s ready = by_known (s.cursors c) refl (first_none (cursor_need OnBucket (s.cursors c)) _ ready.met) where
-  by_known : (k : CursorKnown) → s.cursors c ≡ k → cursor_need OnBucket k ≡ None → Fits (Covers p (pool_view (do_make d (copied_bucket (bucket_at (spot r c))) r)) lives) (made d (classes_of k) (homes_at s k) s) (do_make d (copied_bucket (bucket_at (spot r c))) r)
+  by_known : (k : CursorKnown) → s.cursors c ≡ k → cursor_need OnBucket k ≡ None
+      → Fits (Covers p (pool_view (do_make d (copied_bucket (bucket_at (spot r c))) r)) lives) (made d (classes_of k) (homes_at s k) s) (do_make d (copied_bucket (bucket_at (spot r c))) r)
   by_known (In b t) is met =
       let C : Homes → Home → Type 0 = Covers p (pool_view r) lives in
       let i : IsAtBucketOf r (r.call.cursors c) b t = subst (λ (k : CursorKnown). FitsCursor C r k (r.call.cursors c)) is (ready.fits.cursors c) in
-      subst (λ (at : Place). Fits (Covers p (pool_view (do_make d (copied_bucket (bucket_at at)) r)) lives) (made d t (s.brigades b).homes s) (do_make d (copied_bucket (bucket_at at)) r)) (sym (spot_in r (r.call.cursors c) b t ready.sound.names i))
+      subst (λ (at : Place). Fits (Covers p (pool_view (do_make d (copied_bucket (bucket_at at)) r)) lives) (made d t (s.brigades b).homes s) (do_make d (copied_bucket (bucket_at at)) r))
+      (sym (spot_in r (r.call.cursors c) b t ready.sound.names i))
       (made_fits C r s ready.sound.names ready.fits d t (s.brigades b).homes i.bucket.bucket i.classed
       (each_named (λ y. C (s.brigades b).homes y.bucket.home) i.bucket.name (items_at r b) i.bucket i.there (full_of C (s.brigades b) (r.instance.brigades b) i.usable (ready.fits.brigades b)).homes))
   by_known (Loose t h) is met =
       let C : Homes → Home → Type 0 = Covers p (pool_view r) lives in
       let i : IsAtLoose C r (r.call.cursors c) t h = subst (λ (k : CursorKnown). FitsCursor C r k (r.call.cursors c)) is (ready.fits.cursors c) in
-      subst (λ (at : Place). Fits (Covers p (pool_view (do_make d (copied_bucket (bucket_at at)) r)) lives) (made d t h s) (do_make d (copied_bucket (bucket_at at)) r)) (sym (spot_loose C r (r.call.cursors c) t h ready.sound.names i))
+      subst (λ (at : Place). Fits (Covers p (pool_view (do_make d (copied_bucket (bucket_at at)) r)) lives) (made d t h s) (do_make d (copied_bucket (bucket_at at)) r))
+      (sym (spot_loose C r (r.call.cursors c) t h ready.sound.names i))
       (made_fits C r s ready.sound.names ready.fits d t h i.bucket.bucket i.classed i.covered)
   by_known k is met = absurd (cc)

@@ -1,5 +1,6 @@
 -- What a certificate means, by whether it is slim.
-use Rattle.std.proofs.Common.{◌≡◌, ℕ, suc, ◌+◌, ◌<◌, ◌≤◌, Bool, true, false, ◌&&◌, ◌||◌, not, ◌==◌, nat_le, nat_lt, is_some, unwrap_or, ap₂, add-one, if◌then◌else◌, length, Option, Some, None, IfSome, Result, Ok, Err, slice_get, refl, ap, sym, ◌∙◌, subst, arith, IsOk, ◌↔◌, rules}
+use Rattle.std.proofs.Common.{◌≡◌, ℕ, suc, ◌+◌, ◌<◌, ◌≤◌, Bool, true, false, ◌&&◌, ◌||◌, not, ◌==◌, nat_le, nat_lt, is_some, unwrap_or, ap₂, add-one, if◌then◌else◌, length, Option, Some, None, IfSome}
+use Rattle.std.proofs.Common.{Result, Ok, Err, slice_get, refl, ap, sym, ◌∙◌, subst, arith, IsOk, ◌↔◌, rules}
 use Rattle.std.proofs.lemmas.Bool.{ltb-true}
 use Rattle.std.proofs.lemmas.Option.{slice_get_past}
 use Rattle.module_code.specs.declared.instr.Instr.{Instr}
@@ -18,7 +19,8 @@ use Rattle.life_check.specs.declared.refusal.Rule.TheVariants.{Shape, Request}
 use Rattle.life_check.specs.Certificates.{Certificate, IsBoundedSome, AllBounded, AreFormed}
 use Rattle.life_check.specs.Seen.{seen_line, seen_cert}
 use Rattle.life_check.specs.Slim.{is_head, at_heads, next_of, handed_next, completion, meant, is_slim_shape, cert_refusal, Accepts, EndsWithLines}
-use Rattle.life_check.specs.Typed.{flows, leads_on, declares, has_in, fits_line, has_shape, refusal, unless, or_else, line_refusal, refusal_at, entry_refusal, first_below, requests, first_refusal, IsAnswer}
+use Rattle.life_check.specs.Typed.{flows, leads_on, declares, has_in, fits_line, has_shape, refusal, unless, or_else, line_refusal, refusal_at, entry_refusal, first_below, requests, first_refusal}
+use Rattle.life_check.specs.Typed.{IsAnswer}
 use Rattle.life_check.proofs.Completed.{declared, head_full, next_full, each_fits, given, full_formed, completion_shaped, completion_formed}
 use Rattle.life_check.proofs.Firsts.{unless_none, unless_holds, or_none, none_or, before_some, after_none}
 use Rattle.life_check.proofs.TypedLaws.{typed_of, none_typed, none_past}
@@ -106,7 +108,8 @@ slim_shape p c shape heads = of c.slim (has_shape p (seen_cert c)) (at_heads p (
 pub refused_as_meant : (p : Program) (c : Cert) (r : Result (Unit {0}) CheckRefusal) → has_shape p (seen_cert c) ≡ true → (c.slim ≡ true → at_heads p (seen_cert c) ≡ true)
     → IsAnswer (first_refusal p (meant p c)) r → IsAnswer (cert_refusal p c) r
 refused_as_meant p c r shape heads h =
-    subst (λ (o : Option CheckRefusal). IsAnswer o r) (sym (after_none (unless (is_slim_shape p c) 0 Shape) (first_refusal p (meant p c)) (unless_holds (is_slim_shape p c) 0 Shape (slim_shape p c shape heads)))) h
+    subst (λ (o : Option CheckRefusal). IsAnswer o r)
+    (sym (after_none (unless (is_slim_shape p c) 0 Shape) (first_refusal p (meant p c)) (unless_holds (is_slim_shape p c) 0 Shape (slim_shape p c shape heads)))) h
 
 -- a state that is given where it may not stand
 pub refused_by_heads : (p : Program) (c : Cert) → c.slim ≡ true → at_heads p (seen_cert c) ≡ false → cert_refusal p c ≡ Some (refusal 0 Shape)
@@ -132,7 +135,8 @@ refused_by_shape p c h = by c.slim refl
         (ap (λ (b : Bool). not b || (has_shape p (seen_cert c) && at_heads p (seen_cert c))) e ∙ of (has_shape p (seen_cert c)) (at_heads p (seen_cert c)) h)
     by false e =
         ap (λ (b : Bool). or_else (unless (not b || (has_shape p (seen_cert c) && at_heads p (seen_cert c))) 0 Shape) (first_refusal p (if b then completion p (seen_cert c) else seen_cert c))) e
-        ∙ ap (λ (b : Bool). or_else (unless b 0 Shape) (or_else (entry_refusal p (seen_cert c)) (or_else (first_below (length p.code) (refusal_at p (seen_cert c))) (unless (requests p (seen_cert c)) 0 Request)))) h
+        ∙ ap (λ (b : Bool). or_else (unless b 0 Shape)
+        (or_else (entry_refusal p (seen_cert c)) (or_else (first_below (length p.code) (refusal_at p (seen_cert c))) (unless (requests p (seen_cert c)) 0 Request)))) h
 
 -- No refusal.
 
@@ -146,7 +150,8 @@ none_accepts p c a = none_or (unless (is_slim_shape p c) 0 Shape) (first_refusal
 
 -- of a certificate that gives all states the first refusal is that of these
 pub whole_refusal : (p : Program) (c : Cert) → c.slim ≡ false → cert_refusal p c ≡ first_refusal p (seen_cert c)
-whole_refusal p c w = ap (λ (b : Bool). or_else (unless (not b || (has_shape p (seen_cert c) && at_heads p (seen_cert c))) 0 Shape) (first_refusal p (if b then completion p (seen_cert c) else seen_cert c))) w
+whole_refusal p c w =
+    ap (λ (b : Bool). or_else (unless (not b || (has_shape p (seen_cert c) && at_heads p (seen_cert c))) 0 Shape) (first_refusal p (if b then completion p (seen_cert c) else seen_cert c))) w
 
 apart : (r : CheckRefusal) → None ≡ Some r → ⊥
 apart r h = cc
@@ -162,7 +167,8 @@ handed_none p None = refl
 handed_none p (Some i) = refl
 
 -- what the rule hands on where a state stands
-pub handed_is : (p : Program) (pc : ℕ) (s : State) (q : Option State) (e : Edges) → pc < length p.code → q ≡ Some s → ((i : Instr) → slice_get p.code pc ≡ Some i → Ok e ≡ rule p i s) → e.next ≡ handed_next p (slice_get p.code pc) q
+pub handed_is : (p : Program) (pc : ℕ) (s : State) (q : Option State) (e : Edges) → pc < length p.code → q ≡ Some s → ((i : Instr) → slice_get p.code pc ≡ Some i → Ok e ≡ rule p i s)
+    → e.next ≡ handed_next p (slice_get p.code pc) q
 handed_is p pc s q e inside stands is = of (slice_get p.code pc) refl ∙ sym (ap (handed_next p (slice_get p.code pc)) stands)
   where
     of : (o : Option Instr) → slice_get p.code pc ≡ o → e.next ≡ handed_next p o (Some s)
@@ -218,7 +224,8 @@ first_is p m h = ap (λ (b : Bool). or_else (unless b 0 Shape) (or_else (entry_r
 pub entry_first : (p : Program) (m : Certificate) (r : CheckRefusal) → has_shape p m ≡ true → entry_refusal p m ≡ Some r → first_refusal p m ≡ Some r
 entry_first p m r shape h = first_is p m shape ∙ before_some (entry_refusal p m) (or_else (first_below (length p.code) (refusal_at p m)) (unless (requests p m) 0 Request)) r h
 
-pub lines_first : (p : Program) (m : Certificate) (r : CheckRefusal) → has_shape p m ≡ true → entry_refusal p m ≡ None → first_below (length p.code) (refusal_at p m) ≡ Some r → first_refusal p m ≡ Some r
+pub lines_first : (p : Program) (m : Certificate) (r : CheckRefusal) → has_shape p m ≡ true → entry_refusal p m ≡ None → first_below (length p.code) (refusal_at p m) ≡ Some r
+    → first_refusal p m ≡ Some r
 lines_first p m r shape entry h =
     first_is p m shape
     ∙ (after_none (entry_refusal p m) (or_else (first_below (length p.code) (refusal_at p m)) (unless (requests p m) 0 Request)) entry

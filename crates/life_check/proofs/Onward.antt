@@ -15,10 +15,10 @@ use Rattle.run_model.specs.declared.event.Exit.TheVariants.{GoOn, Jump, Return}
 use Rattle.run_model.specs.declared.event.Refusal.{Refusal}
 use Rattle.run_model.specs.declared.event.Stepped.{Stepped}
 use Rattle.run_model.specs.declared.event.Stepped.TheVariants as stepped
-use Rattle.run_model.specs.declared.effect.Flow.{Flow}
-use Rattle.run_model.specs.declared.effect.Flow.TheVariants.{ToNext, JumpIf, JumpAlways, EndCall}
+use Rattle.run_model.specs.declared.effect.Branch.{Branch}
+use Rattle.run_model.specs.declared.effect.Branch.TheVariants.{ToNext, JumpIf, JumpAlways, EndCall}
 use Rattle.run_model.specs.declared.fault.FaultKind.{FaultKind}
-use Rattle.run_model.specs.EffectOf.{flow_of}
+use Rattle.run_model.specs.EffectOf.{branch_of}
 use Rattle.run_model.specs.Faults.{Want, WPool, wants}
 use Rattle.model_laws.specs.Laws.{is_return}
 use Rattle.run_model.specs.State.{Configuration}
@@ -77,18 +77,18 @@ jumps_on true = tt
 jumps_on false = tt
 
 -- only a return returns
-flow_onward : (choice : Choice) (flow : Flow) (r : Configuration) → (flow ≡ EndCall → ⊥) → IsOnward (exit_by choice flow r)
-flow_onward choice ToNext r on = tt
-flow_onward choice (JumpIf when) r on = jumps_on (holds choice when r)
-flow_onward choice JumpAlways r on = tt
-flow_onward choice EndCall r on = absurd (on refl)
+branch_onward : (choice : Choice) (branch : Branch) (r : Configuration) → (branch ≡ EndCall → ⊥) → IsOnward (exit_by choice branch r)
+branch_onward choice ToNext r on = tt
+branch_onward choice (JumpIf when) r on = jumps_on (holds choice when r)
+branch_onward choice JumpAlways r on = tt
+branch_onward choice EndCall r on = absurd (on refl)
 
-goes_on_by : (i : Instr) → is_return i ≡ false → flow_of i ≡ EndCall → ⊥
+goes_on_by : (i : Instr) → is_return i ≡ false → branch_of i ≡ EndCall → ⊥
 goes_on_by (instr.Ret s) on ends = cc
 goes_on_by i on ends = cc
 
 pub goes_onward : (p : Program) (choice : Choice) (i : Instr) (r : Configuration) → is_return i ≡ false → IsOnward (step p choice i r).exit
-goes_onward p choice i r on = flow_onward choice (flow_of i) r (goes_on_by i on)
+goes_onward p choice i r on = branch_onward choice (branch_of i) r (goes_on_by i on)
 
 -- What is met, and where it leads.
 

@@ -42,7 +42,8 @@ names_unset : (c : ℕ) (w : Cursor) (r : Configuration) → SoundNames (set_cur
 unfolding set_cursor
 names_unset c w r s = record { once = s.once; fresh = s.fresh; apart = s.apart; given = s.given; limit = s.limit; slots = s.slots }
 
-module _ (p : Program) (lives : Home → Type 0) (r : Configuration) (s : State) (b point c : ℕ) (names : SoundNames r) (kinds : All (λ x. FitsKind x.bucket) (items_at r b)) (f : Fits (Covers p (pool_view r) lives) s r)
+module _ (p : Program) (lives : Home → Type 0) (r : Configuration) (s : State) (b point c : ℕ) (names : SoundNames r) (kinds : All (λ x. FitsKind x.bucket) (items_at r b))
+    (f : Fits (Covers p (pool_view r) lives) s r)
     (usable : usable_fault (r.instance.brigades b) ≡ None) where
   abbrev C : Homes → Home → Type 0
   C = Covers p (pool_view r) lives
@@ -67,7 +68,8 @@ module _ (p : Program) (lives : Home → Type 0) (r : Configuration) (s : State)
   part_stands : (n : ℕ) → place_of (partition_answer r.shared.next point (items_at r b)) ≡ Some n → 1 ≤ count_named n (items_at mid b)
   unfolding set_brigade
   part_stands n is =
-      subst (λ (xs : List NamedBucket). 1 ≤ count_named n xs) (sym (ap items_of (upd_at r.instance.brigades b now) ∙ filled_items parts (r.instance.brigades b) usable)) (part_there r.shared.next point n (items_at r b) is)
+      subst (λ (xs : List NamedBucket). 1 ≤ count_named n xs) (sym (ap items_of (upd_at r.instance.brigades b now) ∙ filled_items parts (r.instance.brigades b) usable))
+      (part_there r.shared.next point n (items_at r b) is)
 
   part_lands : (x : Value) → SoundNames mid → (answer : Cut) → partition_answer r.shared.next point (items_at r b) ≡ answer
       → Lands lives p (on_condition (condition.TooShort b x c) s (after_first c b s)) s (jumps_if (is_incomplete answer)) (set_place c b (place_of answer) mid)
@@ -81,5 +83,6 @@ module _ (p : Program) (lives : Home → Type 0) (r : Configuration) (s : State)
 pub law_bpart : {lives : Home → Type 0} (b : ℕ) (x : Value) (c l : ℕ) → LawOf lives (instr.BPart b x c l)
 law_bpart {lives = lives} b x c l p choice r s ready =
     part_lands p lives r s b (value_of r x) c ready.sound.names (ready.sound.buckets.brigades b) ready.fits (first_none (usable_fault (r.instance.brigades b)) _ ready.may.faultless) x
-    (names_unset c _ (set_items b (partitioned r.shared.next (value_of r x) (items_at r b)) (names_given (names_to_part (value_of r x) (items_at r b)) r)) (step_names p choice (instr.BPart b x c l) r ready.may ready.sound.names))
+    (names_unset c _ (set_items b (partitioned r.shared.next (value_of r x) (items_at r b)) (names_given (names_to_part (value_of r x) (items_at r b)) r))
+    (step_names p choice (instr.BPart b x c l) r ready.may ready.sound.names))
     (partition_answer r.shared.next (value_of r x) (items_at r b)) refl

@@ -101,7 +101,8 @@ pub law_pass : {lives : Home → Type 0} (b l : ℕ) → LawOf lives (instr.Pass
 unfolding run.set_brigade
 law_pass {lives = lives} b l p choice r s ready =
     lands_both lives p s (after_pass b s) (do_pass b r) (is_fail choice.answer)
-    (pass_fits (Covers p (pool_view r) lives) r s b ready.sound.names ready.fits ((both_none (fault_want r (WUsable b)) (or_else (fault_want r (WHomes b)) (or_else (fault_want r (WSend b)) None)) ready.may.faultless).0))
+    (pass_fits (Covers p (pool_view r) lives) r s b ready.sound.names ready.fits
+    ((both_none (fault_want r (WUsable b)) (or_else (fault_want r (WHomes b)) (or_else (fault_want r (WSend b)) None)) ready.may.faultless).0))
 
 -- A return.
 
@@ -127,7 +128,8 @@ returned_mark p v lives s name Usable xs live kept e =
     let own : s.homes.call ≡ false = sym (ap (λ b. b && s.usable && s.homes.call) live ∙ ap (λ b. b && s.homes.call) (e.0)) ∙ kept in (
       e.0,
       holds_map s.content (returned_bucket name) (sorted_returned name) xs (e.1),
-      each_map (λ x. Covers p v lives s.homes x.bucket.home) (λ x. Covers p v NoneLives s.homes x.bucket.home) (returned_bucket name) (λ x c. after_call p v lives s.homes name x.bucket.home own c) xs (e.2),
+      each_map (λ x. Covers p v lives s.homes x.bucket.home) (λ x. Covers p v NoneLives s.homes x.bucket.home) (returned_bucket name)
+          (λ x c. after_call p v lives s.homes name x.bucket.home own c) xs (e.2),
     )
 returned_mark p v lives s name Passed xs live kept e = e
 

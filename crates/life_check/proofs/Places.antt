@@ -85,7 +85,8 @@ unfolding buckets_from
 not_in_empty r v b none i = (let both : None ≡ Some i.bucket = sym (ap (bucket_named i.bucket.name) none) ∙ i.there in cc)
 
 -- a cursor at a bucket of a brigade or at its end, by the brigade's contents
-pub bucket_or_end_fits : (C : Homes → Home → Type 0) (r : Configuration) (v : Cursor) (b : ℕ) (k : Contents) → HoldsContents k (items_at r b) → IsAtBucketOf r v b all_classes ⊎ IsEndOf r v b → FitsCursor C r (bucket_or_end b k) v
+pub bucket_or_end_fits : (C : Homes → Home → Type 0) (r : Configuration) (v : Cursor) (b : ℕ) (k : Contents) → HoldsContents k (items_at r b) → IsAtBucketOf r v b all_classes ⊎ IsEndOf r v b
+    → FitsCursor C r (bucket_or_end b k) v
 bucket_or_end_fits C r v b Empty h at = elim at [ inl i ↦ absurd (not_in_empty r v b h i) | inr e ↦ e ]
 bucket_or_end_fits C r v b Flushes h at = elim at [
   | inl i ↦ inl (in_of_classes r v b _ i (flush_class i.bucket.bucket.kind
@@ -190,7 +191,8 @@ next_away : (r : Configuration) (b c k n : ℕ) (t : Classes) → SoundNames r �
 next_away r b c k n t names i same at too =
     let here : cursor.At n ≡ cursor.At i.bucket.name = sym too ∙ (ap r.call.cursors (eqb-true k c same) ∙ i.at) in
     let name : n ≡ i.bucket.name = cc in
-    next_differs i.bucket (items_at r b) i.there (once_in r (r.call.cursors c) b t names i).once (name_at (r.instance.brigades b) (next_place i.bucket.name (items_at r b)) n at ∙ ap (λ (m : ℕ). Some m) name)
+    next_differs i.bucket (items_at r b) i.there (once_in r (r.call.cursors c) b t names i).once
+    (name_at (r.instance.brigades b) (next_place i.bucket.name (items_at r b)) n at ∙ ap (λ (m : ℕ). Some m) name)
 
 pub law_next : {lives : Home → Type 0} (d c : ℕ) → LawOf lives (instr.Next d c)
 unfolding set_cursor

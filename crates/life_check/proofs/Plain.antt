@@ -30,7 +30,8 @@ use Rattle.life_state.specs.declared.parts.Contents.{Contents}
 use Rattle.life_state.specs.declared.parts.Contents.TheVariants.{Empty}
 use Rattle.life_state.specs.declared.parts.PoolState.{PoolState}
 use Rattle.life_state.specs.Facts.{moved}
-use Rattle.life_state.specs.Rules.{Edges, cursor_need, told, of_kind, not_of_kind, some_class, with_classes, classes_of, edges_jend, pool_not_null, brigade_not_null, edges_jsent, edges_jnull, edges_jempty, goes_on_with, some_if, is_empty as holds_none}
+use Rattle.life_state.specs.Rules.{Edges, cursor_need, told, of_kind, not_of_kind, some_class, with_classes, classes_of, edges_jend, pool_not_null, brigade_not_null, edges_jsent, edges_jnull}
+use Rattle.life_state.specs.Rules.{edges_jempty, goes_on_with, some_if, is_empty as holds_none}
 use Rattle.life_state.proofs.Tests.{or_left, or_right}
 use Rattle.life_state.specs.States.{Homes, no_homes, only_null, BrigadeKnown, never_made, holds, CursorKnown, Unset, Loose, In, End, InOrEnd, State, set_pool, set_brigade}
 use Rattle.life_check.proofs.Orders.{never}
@@ -102,11 +103,13 @@ null_brigade lives p s r b var.Null is e f =
     (brigade_told (Covers p (pool_view r) lives) s r b never_made f (subst (λ (x : BrigadeVar). FitsBrigade (Covers p (pool_view r) lives) never_made x) (sym is) refl))
 null_brigade lives p s r b var.Gone is e f =
     lands_if (Covers p (pool_view r) lives) ((s.brigades b).gone || (s.brigades b).live) (set_brigade b (brigade_not_null (s.brigades b)) s) r (or_left (s.brigades b).gone (s.brigades b).live e)
-    (brigade_told (Covers p (pool_view r) lives) s r b (brigade_not_null (s.brigades b)) f (subst (λ (x : BrigadeVar). FitsBrigade (Covers p (pool_view r) lives) (brigade_not_null (s.brigades b)) x) (sym is) e))
+    (brigade_told (Covers p (pool_view r) lives) s r b (brigade_not_null (s.brigades b)) f
+    (subst (λ (x : BrigadeVar). FitsBrigade (Covers p (pool_view r) lives) (brigade_not_null (s.brigades b)) x) (sym is) e))
 null_brigade lives p s r b (var.Live v) is e f =
     lands_if (Covers p (pool_view r) lives) ((s.brigades b).gone || (s.brigades b).live) (set_brigade b (brigade_not_null (s.brigades b)) s) r (or_right (s.brigades b).gone (s.brigades b).live (e.0))
     (brigade_told (Covers p (pool_view r) lives) s r b (brigade_not_null (s.brigades b)) f
-    (subst (λ (x : BrigadeVar). FitsBrigade (Covers p (pool_view r) lives) (brigade_not_null (s.brigades b)) x) (sym is) (e.0, mark_not_null (Covers p (pool_view r) lives) (s.brigades b) v.mark v.items (e.1))))
+    (subst (λ (x : BrigadeVar). FitsBrigade (Covers p (pool_view r) lives) (brigade_not_null (s.brigades b)) x) (sym is)
+    (e.0, mark_not_null (Covers p (pool_view r) lives) (s.brigades b) v.mark v.items (e.1))))
 
 pub law_jnull : {lives : Home → Type 0} (v : VarRef) (l : ℕ) → LawOf lives (instr.JNull v l)
 law_jnull {lives = lives} (variable.Pool q) l p choice r s ready = null_pool lives p s r q (r.instance.pools q) refl (ready.fits.pools q) ready.fits
@@ -216,11 +219,13 @@ kind_lands lives p r s c k x known names f h fitting = by_test (is_of_kind k x) 
   by_test : (b : Bool) → is_of_kind k x ≡ b → Lands lives p (kind_edges c k known s) s (jumps_if b) r
   by_test true is =
       let has = class_of_kind k (classes_of known) x is h in
-      lands_if (Covers p (pool_view r) lives) (some_class (of_kind k (classes_of known))) (told c (with_classes (of_kind k (classes_of known)) known) s) r (some_classes (of_kind k (classes_of known)) x has)
+      lands_if (Covers p (pool_view r) lives) (some_class (of_kind k (classes_of known))) (told c (with_classes (of_kind k (classes_of known)) known) s) r
+      (some_classes (of_kind k (classes_of known)) x has)
       (told_fits (Covers p (pool_view r) lives) r s c (with_classes (of_kind k (classes_of known)) known) names f (fitting (of_kind k (classes_of known)) has))
   by_test false is =
       let has = class_not_of_kind k (classes_of known) x is h in
-      lands_if (Covers p (pool_view r) lives) (some_class (not_of_kind k (classes_of known))) (told c (with_classes (not_of_kind k (classes_of known)) known) s) r (some_classes (not_of_kind k (classes_of known)) x has)
+      lands_if (Covers p (pool_view r) lives) (some_class (not_of_kind k (classes_of known))) (told c (with_classes (not_of_kind k (classes_of known)) known) s) r
+      (some_classes (not_of_kind k (classes_of known)) x has)
       (told_fits (Covers p (pool_view r) lives) r s c (with_classes (not_of_kind k (classes_of known)) known) names f (fitting (not_of_kind k (classes_of known)) has))
 
 known_lands : (lives : Home → Type 0) (p : Program) (r : Configuration) (s : State) (c : ℕ) (k : KindTest) (known : CursorKnown)

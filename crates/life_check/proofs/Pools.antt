@@ -133,7 +133,8 @@ payloads_fit p lives payloads s r f =
     let new : Configuration = with_pools (record r.shared.pools { payloads = payloads }) r in
     let C = Covers p (pool_view r) lives in
     let D = Covers p (pool_view new) lives in
-    let more = covers_moves p (pool_view r) (pool_view new) lives (record { conn = refl; named = λ k n e live. same_names (pool_view r) (pool_view new) refl refl refl k ∙ e; lives = λ n live. live }) in
+    let more = covers_moves p (pool_view r) (pool_view new) lives
+    (record { conn = refl; named = λ k n e live. same_names (pool_view r) (pool_view new) refl refl refl k ∙ e; lives = λ n live. live }) in
     fits_beside C D more r new refl (λ b u. refl) s s.pools s.brigades refl refl f.pools (λ b. brigade_more C D more (s.brigades b) (r.instance.brigades b) (f.brigades b)) f
 
 pub law_label : {lives : Home → Type 0} (q : PoolRef) (t : ℕ) → LawOf lives (instr.Label q t)
@@ -152,7 +153,8 @@ law_unlabel {lives} q t p choice r s ready = by_pool (pool_named r q) where
 
 -- A new pool.
 
-no_live_pool : (r : Configuration) (d : PoolRef) (q : ℕ) → or_else (cond (has_pool r d) None (Some F1)) (or_else (cond (has_pool r (pool.Own q)) (Some F10) None) None) ≡ None → has_pool r (pool.Own q) ≡ false
+no_live_pool : (r : Configuration) (d : PoolRef) (q : ℕ) → or_else (cond (has_pool r d) None (Some F1)) (or_else (cond (has_pool r (pool.Own q)) (Some F10) None) None) ≡ None
+    → has_pool r (pool.Own q) ≡ false
 no_live_pool r d q h = by_test (has_pool r (pool.Own q)) (first_none _ None (second_none (cond (has_pool r d) None (Some F1)) _ h)) where
   by_test : (b : Bool) → cond b (Some F10) None ≡ None → b ≡ false
   by_test true e = absurd (cc)
@@ -169,7 +171,8 @@ made_moves q parent r none = record { conn = refl; named = named; lives = create
   named pool.Conn n is live = is
   named pool.Req n is live = is
   named (pool.Own j) n is live = elim (upd_either r.instance.pools q j (poolvar.Made r.shared.pools.next)) [
-    | inl at ↦ absurd (let lives : is_live_named r.shared.pools (name_in (r.instance.pools q)) ≡ true = ap (λ (i : ℕ). is_live_named r.shared.pools (name_in (r.instance.pools i))) (sym at.0) ∙ ap (is_live_named r.shared.pools) is ∙ live in
+    | inl at ↦ absurd (let lives : is_live_named r.shared.pools (name_in (r.instance.pools q)) ≡ true =
+        ap (λ (i : ℕ). is_live_named r.shared.pools (name_in (r.instance.pools i))) (sym at.0) ∙ ap (is_live_named r.shared.pools) is ∙ live in
         let both : true ≡ false = sym lives ∙ none in cc)
     | inr off ↦ ap name_in off.1 ∙ is
   ]

@@ -21,12 +21,14 @@ use Rattle.life_state.specs.Facts.{move_bucket}
 use Rattle.life_state.specs.Rules.{cursor_need, usable_need, classes_of, homes_at, tail_content, head_content, before_content, put_in, after_before}
 use Rattle.life_check.specs.Meaning.{class_has, Covers, Each, HoldsContents, IsAtBucketOf, IsAtLoose, FitsCursor, Fits}
 use Rattle.life_check.specs.Soundness.{LawOf}
-use Rattle.life_check.proofs.Lists.{each_more, each_cons, each_put_tail, each_put_before, named_first, named_later, named_taken_out, named_put_tail, named_put_before, new_put_tail, new_put_before, holds_tail, holds_head, holds_before}
+use Rattle.life_check.proofs.Lists.{each_more, each_cons, each_put_tail, each_put_before, named_first, named_later, named_taken_out, named_put_tail, named_put_before, new_put_tail, new_put_before}
+use Rattle.life_check.proofs.Lists.{holds_tail, holds_head, holds_before}
 use Rattle.life_check.proofs.Standing.{usable_below, spot_in, spot_loose, once_loose}
 use Rattle.life_check.proofs.Filled.{covers_first, covers_second, IsFull, full_of, finds_kept, rearranged_items, rearranged_usable, rearranged_stays, rearranged_brigades, bucket_moved}
 
 -- What it is to put a bucket x of the classes t into the list xs, in which none has its name.
-record Inserts (P : NamedBucket → Type 0) (content : Contents → Classes → Contents) (insert : NamedBucket → List NamedBucket → List NamedBucket) (t : Classes) (x : NamedBucket) (xs : List NamedBucket) : Type 0 where
+record Inserts (P : NamedBucket → Type 0) (content : Contents → Classes → Contents) (insert : NamedBucket → List NamedBucket → List NamedBucket) (t : Classes) (x : NamedBucket)
+    (xs : List NamedBucket) : Type 0 where
   holds : (k : Contents) → class_has t x.bucket.kind ≡ true → HoldsContents k xs → HoldsContents (content k t) (insert x xs)
   each : P x → Each P xs → Each P (insert x xs)
   kept : (m : ℕ) (y : NamedBucket) → m ≢ x.name → bucket_named m xs ≡ Some y → bucket_named m (insert x xs) ≡ Some y
@@ -79,7 +81,8 @@ module _ (p : Program) (lives : Home → Type 0) (r : Configuration) (s : State)
         usable = refl;
         holds = ins.holds (s.brigades b).content i.classed had.holds;
         homes = ins.each (covers_second p (pool_view r) lives (s.brigades b).homes h x.bucket.home i.covered)
-            (each_more (λ y. C (s.brigades b).homes y.bucket.home) (λ y. C (both_homes (s.brigades b).homes h) y.bucket.home) (λ y e. covers_first p (pool_view r) lives (s.brigades b).homes h y.bucket.home e) (items_at r b) had.homes);
+            (each_more (λ y. C (s.brigades b).homes y.bucket.home) (λ y. C (both_homes (s.brigades b).homes h) y.bucket.home)
+            (λ y e. covers_first p (pool_view r) lives (s.brigades b).homes h y.bucket.home e) (items_at r b) had.homes);
       } in
       bucket_moved C r s c x.name (In b t) (upd s.brigades b new) (upd r.instance.brigades b (with_items ys (r.instance.brigades b))) loose names f i.at
       (rearranged_brigades C r b ys loose s new usable full f.brigades)
@@ -105,7 +108,8 @@ module _ (p : Program) (lives : Home → Type 0) (r : Configuration) (s : State)
   unfolding set_brigade set_loose
   end_fits content insert b c usable ins (Loose t h) is met =
       let i : IsAtLoose (Covers p (pool_view r) lives) r (r.call.cursors c) t h = subst (λ (k : CursorKnown). FitsCursor (Covers p (pool_view r) lives) r k (r.call.cursors c)) is (f.cursors c) in
-      subst (λ (at : Place). Fits (Covers p (pool_view (put_into insert b at r)) lives) (put_known content b c (Loose t h) s) (put_into insert b at r)) (sym (spot_loose (Covers p (pool_view r) lives) r (r.call.cursors c) t h names i))
+      subst (λ (at : Place). Fits (Covers p (pool_view (put_into insert b at r)) lives) (put_known content b c (Loose t h) s) (put_into insert b at r))
+      (sym (spot_loose (Covers p (pool_view r) lives) r (r.call.cursors c) t h names i))
       (put_fits p lives r s names f content insert c b t h i usable (ins (λ y. Covers p (pool_view r) lives (both_homes (s.brigades b).homes h) y.bucket.home) t i.bucket (items_at r b)))
   end_fits content insert b c usable ins k is met = absurd (cc)
 
@@ -115,9 +119,12 @@ module _ (p : Program) (lives : Home → Type 0) (r : Configuration) (s : State)
   unfolding set_brigade set_loose
   beside_fits c d b t j (Loose u h) is met =
       let i : IsAtLoose (Covers p (pool_view r) lives) r (r.call.cursors c) u h = subst (λ (k : CursorKnown). FitsCursor (Covers p (pool_view r) lives) r k (r.call.cursors c)) is (f.cursors c) in
-      subst (λ (at : Place). Fits (Covers p (pool_view (do_before (spot r c) at r)) lives) (put_known before_content b c (Loose u h) s) (do_before (spot r c) at r)) (sym (spot_in r (r.call.cursors d) b t names j))
-      (subst (λ (at : Place). Fits (Covers p (pool_view (put_into (put_before j.bucket.name) b at r)) lives) (put_known before_content b c (Loose u h) s) (put_into (put_before j.bucket.name) b at r)) (sym (spot_loose (Covers p (pool_view r) lives) r (r.call.cursors c) u h names i))
-      (put_fits p lives r s names f before_content (put_before j.bucket.name) c b u h i j.usable (before_inserts (λ y. Covers p (pool_view r) lives (both_homes (s.brigades b).homes h) y.bucket.home) j.bucket.name u i.bucket (items_at r b))))
+      subst (λ (at : Place). Fits (Covers p (pool_view (do_before (spot r c) at r)) lives) (put_known before_content b c (Loose u h) s) (do_before (spot r c) at r))
+      (sym (spot_in r (r.call.cursors d) b t names j))
+      (subst (λ (at : Place). Fits (Covers p (pool_view (put_into (put_before j.bucket.name) b at r)) lives) (put_known before_content b c (Loose u h) s)
+      (put_into (put_before j.bucket.name) b at r)) (sym (spot_loose (Covers p (pool_view r) lives) r (r.call.cursors c) u h names i))
+      (put_fits p lives r s names f before_content (put_before j.bucket.name) c b u h i j.usable
+      (before_inserts (λ y. Covers p (pool_view r) lives (both_homes (s.brigades b).homes h) y.bucket.home) j.bucket.name u i.bucket (items_at r b))))
   beside_fits c d b t j k is met = absurd (cc)
 
 pub law_tail : {lives : Home → Type 0} (b c : ℕ) → LawOf lives (instr.Tail b c)
@@ -134,10 +141,13 @@ is_below : (a b : ℕ) → a < b → nat_lt a b ≡ true
 is_below a b lt = grind (arith, nat_tests)
 
 pub law_before : {lives : Home → Type 0} (c d : ℕ) → LawOf lives (instr.Before c d)
-law_before {lives = lives} c d p choice r s ready = by_known (s.cursors d) refl (first_none (cursor_need InBrigade (s.cursors d)) None (second_none (cursor_need OnLoose (s.cursors c)) _ ready.met)) where
-  by_known : (k : CursorKnown) → s.cursors d ≡ k → cursor_need InBrigade k ≡ None → Fits (Covers p (pool_view (do_before (spot r c) (spot r d) r)) lives) (after_before c k s) (do_before (spot r c) (spot r d) r)
-  by_known (In b t) is met =
-      let j : IsAtBucketOf r (r.call.cursors d) b t = subst (λ (k : CursorKnown). FitsCursor (Covers p (pool_view r) lives) r k (r.call.cursors d)) is (ready.fits.cursors d) in
-      subst (λ (below : Bool). Fits (Covers p (pool_view (do_before (spot r c) (spot r d) r)) lives) (cond below (put_in before_content b c s) s) (do_before (spot r c) (spot r d) r)) (sym (is_below b 9 (usable_below r b ready.sound.names j.usable)))
-      (beside_fits p lives r s ready.sound.names ready.fits c d b t j (s.cursors c) refl (first_none (cursor_need OnLoose (s.cursors c)) _ ready.met))
-  by_known k is met = absurd (cc)
+law_before {lives = lives} c d p choice r s ready =
+    by_known (s.cursors d) refl (first_none (cursor_need InBrigade (s.cursors d)) None (second_none (cursor_need OnLoose (s.cursors c)) _ ready.met)) where
+      by_known : (k : CursorKnown) → s.cursors d ≡ k → cursor_need InBrigade k ≡ None
+          → Fits (Covers p (pool_view (do_before (spot r c) (spot r d) r)) lives) (after_before c k s) (do_before (spot r c) (spot r d) r)
+      by_known (In b t) is met =
+          let j : IsAtBucketOf r (r.call.cursors d) b t = subst (λ (k : CursorKnown). FitsCursor (Covers p (pool_view r) lives) r k (r.call.cursors d)) is (ready.fits.cursors d) in
+          subst (λ (below : Bool). Fits (Covers p (pool_view (do_before (spot r c) (spot r d) r)) lives) (cond below (put_in before_content b c s) s) (do_before (spot r c) (spot r d) r))
+          (sym (is_below b 9 (usable_below r b ready.sound.names j.usable)))
+          (beside_fits p lives r s ready.sound.names ready.fits c d b t j (s.cursors c) refl (first_none (cursor_need OnLoose (s.cursors c)) _ ready.met))
+      by_known k is met = absurd (cc)

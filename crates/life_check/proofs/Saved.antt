@@ -114,7 +114,8 @@ module _ (p : Program) (lives : Home → Type 0) (o b target : ℕ) (r : Configu
   first = first_none (usable_fault (r.instance.brigades o)) (first_fault r (WUsable b ∷ (WHomes b ∷ []))) ready.may.faultless
 
   second : usable_fault (r.instance.brigades b) ≡ None
-  second = first_none (usable_fault (r.instance.brigades b)) (first_fault r (WHomes b ∷ [])) (second_none (usable_fault (r.instance.brigades o)) (first_fault r (WUsable b ∷ (WHomes b ∷ []))) ready.may.faultless)
+  second = first_none (usable_fault (r.instance.brigades b)) (first_fault r (WHomes b ∷ []))
+      (second_none (usable_fault (r.instance.brigades o)) (first_fault r (WUsable b ∷ (WHomes b ∷ []))) ready.may.faultless)
 
   same_path : (saved_into o b target r).shared.pools.path ≡ r.shared.pools.path
   unfolding set_variable with_pools
@@ -165,13 +166,16 @@ module _ (p : Program) (lives : Home → Type 0) (o b target : ℕ) (r : Configu
       (aside_covered p r place target ready.may.proper ready.sound ready.declared ready.outside is live (own_place p r ready.declared place target is) (s.brigades b).homes x alive c.0 c.1))) items
       (each_both (λ x. FitsKind x.bucket) (λ x. C (s.brigades b).homes x.bucket.home) items (each_of_all (λ x. FitsKind x.bucket) items (ready.sound.buckets.brigades b)) was_b.homes)
 
-  saved_full : pool_named r place ≡ Some target → is_live r.shared.pools target ≡ true → IsFull D (holds (joined_content (s.brigades o).content (s.brigades b).content) homes) (items_at r o ++ map aside items)
+  saved_full : pool_named r place ≡ Some target → is_live r.shared.pools target ≡ true
+      → IsFull D (holds (joined_content (s.brigades o).content (s.brigades b).content) homes) (items_at r o ++ map aside items)
   saved_full is live = record {
     live = refl;
     usable = refl;
-    holds = holds_joined (s.brigades o).content (s.brigades b).content (items_at r o) (map aside items) was_o.holds (holds_map (s.brigades b).content aside (aside_sorted r.shared.pools target) items was_b.holds);
+    holds = holds_joined (s.brigades o).content (s.brigades b).content (items_at r o) (map aside items) was_o.holds
+        (holds_map (s.brigades b).content aside (aside_sorted r.shared.pools target) items was_b.holds);
     homes = each_append (λ x. D homes x.bucket.home) (items_at r o) (map aside items)
-        (each_more (λ x. C (s.brigades o).homes x.bucket.home) (λ x. D homes x.bucket.home) (λ x c. more homes x.bucket.home (covers_first p (pool_view r) lives (s.brigades o).homes (home_in place) x.bucket.home c)) (items_at r o) was_o.homes)
+        (each_more (λ x. C (s.brigades o).homes x.bucket.home) (λ x. D homes x.bucket.home)
+        (λ x c. more homes x.bucket.home (covers_first p (pool_view r) lives (s.brigades o).homes (home_in place) x.bucket.home c)) (items_at r o) was_o.homes)
         (saved_covered is live);
   }
 

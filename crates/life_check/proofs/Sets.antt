@@ -29,6 +29,7 @@ cursor_set C r s names f c v w loose next other stays here away = record {
   sent = f.sent;
   pools = f.pools;
   brigades = f.brigades;
-  cursors = upd_both (FitsCursor C (with_cursor c w loose next r)) s.cursors r.call.cursors c v w here (λ k differ. cursor_stays C C r (with_cursor c w loose next r) (r.call.cursors k) (stays k) (s.cursors k) (f.cursors k));
+  cursors = upd_both (FitsCursor C (with_cursor c w loose next r)) s.cursors r.call.cursors c v w here
+      (λ k differ. cursor_stays C C r (with_cursor c w loose next r) (r.call.cursors k) (stays k) (s.cursors k) (f.cursors k));
   facts = set_facts C r s names f c v w other away;
 }

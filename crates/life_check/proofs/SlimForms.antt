@@ -39,6 +39,7 @@ slim_accepts p c d m formed slim is a = by c.slim refl
         let same : seen_cert d ≡ slim_of p (seen_cert c) = is ∙ ap form_of w in
         let whole : IsTyped p (seen_cert c) = subst (IsTyped p) (whole_means p c w) a.typed in
         record {
-          given = ap₂ shape slim same ∙ and2 (has_shape p (slim_of p (seen_cert c))) (at_heads p (slim_of p (seen_cert c))) (slim_shaped p (seen_cert c) m formed (ends_with_lines c) whole) (slim_at_heads p (seen_cert c));
+          given = ap₂ shape slim same
+              ∙ and2 (has_shape p (slim_of p (seen_cert c))) (at_heads p (slim_of p (seen_cert c))) (slim_shaped p (seen_cert c) m formed (ends_with_lines c) whole) (slim_at_heads p (seen_cert c));
           typed = subst (IsTyped p) (sym (slim_means p d slim ∙ ap (completion p) same)) (slim_is_typed p (seen_cert c) m formed (ends_with_lines c) whole);
         }

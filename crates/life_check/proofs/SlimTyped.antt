@@ -1,5 +1,6 @@
 -- What is accepted is accepted in its slim form: each state of the completion is below the one that was given there.
-use Rattle.std.proofs.Common.{◌≡◌, ℕ, zero, suc, ◌+◌, Bool, true, false, nat_le, if◌then◌else◌, length, Option, Some, None, IfSome, unwrap_or, Result, Ok, slice_get, refl, ap, sym, ◌∙◌, subst, add-one}
+use Rattle.std.proofs.Common.{◌≡◌, ℕ, zero, suc, ◌+◌, Bool, true, false, nat_le, if◌then◌else◌, length, Option, Some, None, IfSome, unwrap_or, Result, Ok, slice_get, refl, ap, sym, ◌∙◌, subst}
+use Rattle.std.proofs.Common.{add-one}
 use Rattle.std.proofs.lemmas.Option.{slice_get_within}
 use Rattle.module_code.specs.declared.instr.Instr.{Instr}
 use Rattle.module_code.specs.declared.instr.Instr.TheVariants as instr
@@ -75,7 +76,8 @@ module _ (p : Program) (c : Certificate) (m : IsModule p) (formed : AreFormed c)
 
   -- Each state of the completion is below the one that was given.
 
-  over_handed : (n : ℕ) (o : Option Instr) (q r : Option State) → slice_get p.code n ≡ o → IfSome q (IsFormedIn p (nat_le p.main n)) → c.at n ≡ r → flows q r ≡ true → flows (handed_next p o q) (c.at (suc n)) ≡ true
+  over_handed : (n : ℕ) (o : Option Instr) (q r : Option State) → slice_get p.code n ≡ o → IfSome q (IsFormedIn p (nat_le p.main n)) → c.at n ≡ r → flows q r ≡ true
+      → flows (handed_next p o q) (c.at (suc n)) ≡ true
   over_handed n None q r here f e le = refl
   over_handed n (Some i) None r here f e le = refl
   over_handed n (Some i) (Some s) None here f e le = cc
@@ -92,7 +94,8 @@ module _ (p : Program) (c : Certificate) (m : IsModule p) (formed : AreFormed c)
       by : (b : Bool) → is_head p (suc n) ≡ b → flows (full_at p slim n) (c.at n) ≡ true → flows (full_at p slim (suc n)) (c.at (suc n)) ≡ true
       by true h below =
           let e = at_head (suc n) h in
-          ap (λ (o : Option State). flows o (c.at (suc n))) e ∙ flows_itself p (nat_le p.main (suc n)) (c.at (suc n)) (subst (λ (x : Option State). IfSome x (IsFormedIn p (nat_le p.main (suc n)))) e (formed_there (suc n)))
+          ap (λ (o : Option State). flows o (c.at (suc n))) e
+          ∙ flows_itself p (nat_le p.main (suc n)) (c.at (suc n)) (subst (λ (x : Option State). IfSome x (IsFormedIn p (nat_le p.main (suc n)))) e (formed_there (suc n)))
       by false h below =
           ap (λ (o : Option State). flows o (c.at (suc n))) (next_full p slim n h)
           ∙ over_handed n (slice_get p.code n) (full_at p slim n) (c.at n) refl (formed_there n) refl below
@@ -111,7 +114,8 @@ module _ (p : Program) (c : Certificate) (m : IsModule p) (formed : AreFormed c)
       = next_full p slim pc h ∙ (ap (λ (o : Option Instr). handed_next p o (full_at p slim pc)) here ∙ (ap (handed_next p (Some i)) line ∙ ap next_of is)) in
       ap (flows e.next) same ∙ flows_itself p (nat_le p.main (suc pc)) e.next (subst (λ (x : Option State). IfSome x (IsFormedIn p (nat_le p.main (suc pc)))) same (formed_there (suc pc)))
 
-  led_by : (pc : ℕ) (i : Instr) (s : State) (q : Option State) → slice_get p.code pc ≡ Some i → full_at p slim pc ≡ Some s → c.at pc ≡ q → IsFormed s → is_below s q ≡ true → IsLed p (completion p slim) pc i s
+  led_by : (pc : ℕ) (i : Instr) (s : State) (q : Option State) → slice_get p.code pc ≡ Some i → full_at p slim pc ≡ Some s → c.at pc ≡ q → IsFormed s → is_below s q ≡ true
+      → IsLed p (completion p slim) pc i s
   led_by pc i s None here line e f le = cc
   led_by pc i s (Some u) here line e f le =
       let of_u = led pc i s u here e f le in
@@ -121,7 +125,8 @@ module _ (p : Program) (c : Certificate) (m : IsModule p) (formed : AreFormed c)
         edges = d.edges;
         safe = d.safe;
         leads = and2 (flows d.edges.next (full_at p slim (pc + 1))) (flows d.edges.jump (full_at p slim at))
-            (subst (λ (n : ℕ). flows d.edges.next (full_at p slim n) ≡ true) (sym (add-one pc)) (next_there pc i s d.edges here line d.safe (next_under pc i s u here e f le) (is_head p (suc pc)) refl))
+            (subst (λ (n : ℕ). flows d.edges.next (full_at p slim n) ≡ true) (sym (add-one pc))
+            (next_there pc i s d.edges here line d.safe (next_under pc i s u here e f le) (is_head p (suc pc)) refl))
             (ap (flows d.edges.jump) (at_head at (target_head p pc i here (slice_get_within p.code pc i here))) ∙ jump_under pc i s u here e f le);
         exits = returns_under pc i s u f (formed_u pc i s u here e f le) le of_u.exits;
       }

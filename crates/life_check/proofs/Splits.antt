@@ -87,7 +87,8 @@ both_emptied a b Q k none away =
 abbrev split_there : ℕ → Option ℕ → ℕ → Configuration → Configuration
 split_there b place a r = set_items a (moves place (items_at r b)) (set_items b (stays place (items_at r b)) r)
 
-module _ (C : Homes → Home → Type 0) (r : Configuration) (b a : ℕ) (place : Option ℕ) (differ : a ≢ b) (usable_b : usable_fault (r.instance.brigades b) ≡ None) (usable_a : usable_fault (r.instance.brigades a) ≡ None) where
+module _ (C : Homes → Home → Type 0) (r : Configuration) (b a : ℕ) (place : Option ℕ) (differ : a ≢ b) (usable_b : usable_fault (r.instance.brigades b) ≡ None)
+    (usable_a : usable_fault (r.instance.brigades a) ≡ None) where
   abbrev front : BrigadeVar
   front = with_items (stays place (items_at r b)) (r.instance.brigades b)
 
@@ -165,7 +166,8 @@ module _ (C : Homes → Home → Type 0) (r : Configuration) (b a : ℕ) (place 
         (subst (λ (j : ℕ). FitsCursor C (split_there b place a r) (carried a b (s.cursors j)) (r.call.cursors j)) (sym p.1) here)
     by_cursor {k = k} (inr p) =
         subst (λ (t : Bool). FitsCursor C (split_there b place a r) (cond t (carried a b (s.cursors k)) (emptied a (emptied b (s.cursors k)))) (r.call.cursors k)) (sym p.0)
-        (both_emptied a b (λ x. FitsCursor C (split_there b place a r) x (r.call.cursors k)) (s.cursors k) tt (λ from_a from_b. away_stays (s.cursors k) (r.call.cursors k) from_a from_b (f.cursors k)))
+        (both_emptied a b (λ x. FitsCursor C (split_there b place a r) x (r.call.cursors k)) (s.cursors k) tt
+        (λ from_a from_b. away_stays (s.cursors k) (r.call.cursors k) from_a from_b (f.cursors k)))
 
 -- what moves, where the buckets of b are known
 moved_full : (C : Homes → Home → Type 0) (k : BrigadeKnown) (place : Option ℕ) (xs : List NamedBucket) → IsFull C k xs → IsFull C (holds k.content k.homes) (moves place xs)
@@ -193,7 +195,8 @@ in_this v b met = by_place (eqb_tells v b) where
   by_place (inr p) = absurd (let both : cond (v == b) None (Some F9) ≡ Some F9 = ap (λ (t : Bool). cond t None (Some F9)) p.0 in let clash : None ≡ Some F9 = sym met ∙ both in cc)
 
 -- a cursor at a bucket that moves
-moves_along : (C : Homes → Home → Type 0) (r : Configuration) (b a : ℕ) (t : Classes) (v : Cursor) (differ : a ≢ b) (usable_b : usable_fault (r.instance.brigades b) ≡ None) (usable_a : usable_fault (r.instance.brigades a) ≡ None)
+moves_along : (C : Homes → Home → Type 0) (r : Configuration) (b a : ℕ) (t : Classes) (v : Cursor) (differ : a ≢ b) (usable_b : usable_fault (r.instance.brigades b) ≡ None)
+    (usable_a : usable_fault (r.instance.brigades a) ≡ None)
     → (i : IsAtBucketOf r v b t) → IsAtBucketOf (split_there b (Some i.bucket.name) a r) v a t
 unfolding set_brigade
 moves_along C r b a t v differ usable_b usable_a i =
@@ -225,7 +228,8 @@ module _ (p : Program) (lives : Home → Type 0) (r : Configuration) (s : State)
   split_within t bucket i here =
       subst IsSplit (sym (spot_in r (r.call.cursors c) b t names i))
       (split_fits C r b a (Some i.bucket.name) differ usable_b usable_a s c (split_part (s.cursors c) (s.brigades b)) names f
-      (subst (λ (e : Bool). IsFull C (cond e (holds Empty no_homes) (holds (s.brigades b).content (s.brigades b).homes)) (moves (Some i.bucket.name) (items_at r b))) (sym bucket) (moved_full C (s.brigades b) (Some i.bucket.name) (items_at r b) old_full)) here)
+      (subst (λ (e : Bool). IsFull C (cond e (holds Empty no_homes) (holds (s.brigades b).content (s.brigades b).homes)) (moves (Some i.bucket.name) (items_at r b))) (sym bucket)
+      (moved_full C (s.brigades b) (Some i.bucket.name) (items_at r b) old_full)) here)
 
   -- c is at the end, and nothing moves
   split_end : IsEndOf r (r.call.cursors c) b → FitsCursor C (split_there b None a r) (carried a b (s.cursors c)) (r.call.cursors c) → IsSplit (spot r c)
@@ -244,7 +248,8 @@ module _ (p : Program) (lives : Home → Type 0) (r : Configuration) (s : State)
       let i : IsAtBucketOf r (r.call.cursors c) b t = subst (λ (k : CursorKnown). FitsCursor C r k (r.call.cursors c)) is (f.cursors c) in
       split_within t (ap is_end is) i
       (subst (λ (k : CursorKnown). FitsCursor C (split_there b (Some i.bucket.name) a r) (carried a b k) (r.call.cursors c)) (sym is)
-      (subst (λ (e : Bool). FitsCursor C (split_there b (Some i.bucket.name) a r) (cond e (In a t) (In b t)) (r.call.cursors c)) (sym (eq-eqb b b refl)) (moves_along C r b a t (r.call.cursors c) differ usable_b usable_a i)))
+      (subst (λ (e : Bool). FitsCursor C (split_there b (Some i.bucket.name) a r) (cond e (In a t) (In b t)) (r.call.cursors c)) (sym (eq-eqb b b refl))
+      (moves_along C r b a t (r.call.cursors c) differ usable_b usable_a i)))
 
   split_at_end : s.cursors c ≡ End b → IsSplit (spot r c)
   unfolding set_brigade

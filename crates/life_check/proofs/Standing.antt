@@ -123,7 +123,8 @@ one_place : (r : Configuration) (n i j : ℕ) → SoundNames r → IsPlaced r n 
 one_place r n i j s (LooseThere x is here) (LooseThere y too there) = here ∙ sym there
 one_place r n i j s (LooseThere x is here) (WithinThere b y too there) = absurd (let both = sym (loose_at r n x s is) ∙ within_at r n b y s too in cc)
 one_place r n i j s (WithinThere a x is here) (LooseThere y too there) = absurd (let both = sym (within_at r n a x s is) ∙ loose_at r n y s too in cc)
-one_place r n i j s (WithinThere a x is here) (WithinThere b y too there) = (let both = sym (within_at r n a x s is) ∙ within_at r n b y s too in let same : a ≡ b = cc in here ∙ (ap (λ (k : ℕ). k + 1) same ∙ sym there))
+one_place r n i j s (WithinThere a x is here) (WithinThere b y too there) =
+    (let both = sym (within_at r n a x s is) ∙ within_at r n b y s too in let same : a ≡ b = cc in here ∙ (ap (λ (k : ℕ). k + 1) same ∙ sym there))
 
 name_is : (m n : ℕ) (v : Cursor) → v ≡ cursor.At m → v ≡ cursor.At n → m ≡ n
 name_is m n v is too = (let both = sym is ∙ too in cc)
@@ -159,7 +160,8 @@ module _ (C : Homes → Home → Type 0) (r : Configuration) where
       let set = and_parts (is_set k) (is_set l) (parts.0) in
       elim (or_either (is_end k || is_end l) (not (place_of k == place_of l)) (parts.1)) [
         | inl ends ↦ elim (or_either (is_end k) (is_end l) ends) [ inl first ↦ ends_nowhere k v n at first f | inr second ↦ ends_nowhere l w n too second g ]
-        | inr away ↦ (let here : (place_of k == place_of l) ≡ true = eq-eqb (place_of k) (place_of l) (one_place r n (place_of k) (place_of l) s (placed k v n at (set.0) f) (placed l w n too (set.1) g)) in
+        | inr away ↦ (let here : (place_of k == place_of l) ≡ true =
+            eq-eqb (place_of k) (place_of l) (one_place r n (place_of k) (place_of l) s (placed k v n at (set.0) f) (placed l w n too (set.1) g)) in
             let none : not true ≡ true = sym (ap not here) ∙ away in cc)
       ]
 
@@ -260,7 +262,8 @@ module _ (C D : Homes → Home → Type 0) (r new : Configuration) (v : Cursor) 
         }
 
   -- in a brigade, which may have come to another variable
-  pub in_stays : (a b : ℕ) (t : Classes) → ((n : ℕ) → v ≡ cursor.At n → Finds C D n (items_at r a) (items_at new b)) → usable_fault (new.instance.brigades b) ≡ None → IsAtBucketOf r v a t → IsAtBucketOf new v b t
+  pub in_stays : (a b : ℕ) (t : Classes) → ((n : ℕ) → v ≡ cursor.At n → Finds C D n (items_at r a) (items_at new b)) → usable_fault (new.instance.brigades b) ≡ None → IsAtBucketOf r v a t
+      → IsAtBucketOf new v b t
   in_stays a b t finds usable i = found (finds i.bucket.name i.at i.bucket i.there) where
     found : IsFound C D i.bucket.name i.bucket (items_at new b) → IsAtBucketOf new v b t
     found y =

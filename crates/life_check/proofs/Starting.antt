@@ -35,9 +35,10 @@ calm_fits C D s r call shared pc out unset facts more lives f =
 -- what is known between calls has no cursors
 pub between_unset : (p : Program) (o : Option State) (s : State) → IsBoundedSome o → fits_between p o ≡ true → o ≡ Some s → (c : ℕ) → s.cursors c ≡ Unset
 between_unset p None s bounded fit is = cc
-between_unset p (Some t) s bounded fit is = subst (λ (x : State). (c : ℕ) → x.cursors c ≡ Unset) (same is) (no_cursors t bounded (split3 (declares p t) (not (has_in t)) (has_no_cursor t) (split2 (declares p t && not (has_in t) && has_no_cursor t) (is_formed t) fit).0).2) where
-  same : Some t ≡ Some s → t ≡ s
-  same e = cc
+between_unset p (Some t) s bounded fit is = subst (λ (x : State). (c : ℕ) → x.cursors c ≡ Unset) (same is)
+    (no_cursors t bounded (split3 (declares p t) (not (has_in t)) (has_no_cursor t) (split2 (declares p t && not (has_in t) && has_no_cursor t) (is_formed t) fit).0).2) where
+      same : Some t ≡ Some s → t ≡ s
+      same e = cc
 
 -- What is brought.
 
@@ -50,7 +51,8 @@ piece_covered p r req is live (piece.File file from len) = (live, ByCall refl is
 piece_covered p r req is live piece.Flush = tt
 piece_covered p r req is live piece.Eos = tt
 
-pub pieces_covered : (p : Program) (r : Configuration) (req n : ℕ) (xs : List Piece) → r.shared.req ≡ Some req → is_live r.shared.pools req ≡ true → Each (λ x. InCall p r only_call x.bucket.home) (named_from (bucket_of r.call.name req) n xs)
+pub pieces_covered : (p : Program) (r : Configuration) (req n : ℕ) (xs : List Piece) → r.shared.req ≡ Some req → is_live r.shared.pools req ≡ true
+    → Each (λ x. InCall p r only_call x.bucket.home) (named_from (bucket_of r.call.name req) n xs)
 unfolding Each
 pieces_covered p r req n [] is live = tt
 pieces_covered p r req n (x ∷ xs) is live = (piece_covered p r req is live x, pieces_covered p r req (n + 1) xs is live)

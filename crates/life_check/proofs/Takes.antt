@@ -33,7 +33,8 @@ module _ (C : Homes → Home → Type 0) (r : Configuration) (s : State) (names 
         homes = each_taken_out (λ x. C (s.brigades b).homes x.bucket.home) n (items_at r b) full.homes;
       }
 
-  left_brigades : (n b : ℕ) → usable_fault (r.instance.brigades b) ≡ None → (j : ℕ) → FitsBrigade C (s.brigades j) (upd r.instance.brigades b (with_items (taken_out n (items_at r b)) (r.instance.brigades b)) j)
+  left_brigades : (n b : ℕ) → usable_fault (r.instance.brigades b) ≡ None → (j : ℕ)
+      → FitsBrigade C (s.brigades j) (upd r.instance.brigades b (with_items (taken_out n (items_at r b)) (r.instance.brigades b)) j)
   left_brigades n b usable =
       upd_second (λ j v. FitsBrigade C (s.brigades j) v) r.instance.brigades b (with_items (taken_out n (items_at r b)) (r.instance.brigades b))
       (full_fits C (s.brigades b) (r.instance.brigades b) (taken_out n (items_at r b)) usable (left_full n b usable)) (λ j differ. f.brigades j)
@@ -42,7 +43,8 @@ module _ (C : Homes → Home → Type 0) (r : Configuration) (s : State) (names 
   unfolding set_brigade set_loose
   unlinked c b t i =
       let x = i.bucket in
-      bucket_moved C r s c x.name (Loose t (s.brigades b).homes) s.brigades (upd r.instance.brigades b (with_items (taken_out x.name (items_at r b)) (r.instance.brigades b))) (put_tail x r.call.loose) names f i.at
+      bucket_moved C r s c x.name (Loose t (s.brigades b).homes) s.brigades (upd r.instance.brigades b (with_items (taken_out x.name (items_at r b)) (r.instance.brigades b)))
+      (put_tail x r.call.loose) names f i.at
       (left_brigades x.name b i.usable)
       (λ w away. rearranged_stays C r b (taken_out x.name (items_at r b)) (put_tail x r.call.loose) w i.usable
       (λ m at. finds_kept C m (items_at r b) (taken_out x.name (items_at r b)) (λ y is. named_taken_out m x.name (items_at r b) (away m at) ∙ is))
@@ -82,10 +84,12 @@ module _ (C : Homes → Home → Type 0) (r : Configuration) (s : State) (names 
 pub law_unlink : {lives : Home → Type 0} (c : ℕ) → LawOf lives (instr.Unlink c)
 unfolding set_brigade set_loose
 law_unlink {lives = lives} c p choice r s ready = by_known (s.cursors c) refl (first_none (cursor_need InBrigade (s.cursors c)) None ready.met) where
-  by_known : (k : CursorKnown) → s.cursors c ≡ k → cursor_need InBrigade k ≡ None → Fits (Covers p (pool_view (do_unlink (spot r c) r)) lives) (move_bucket c (Loose (classes_of k) (homes_at s k)) s) (do_unlink (spot r c) r)
+  by_known : (k : CursorKnown) → s.cursors c ≡ k → cursor_need InBrigade k ≡ None
+      → Fits (Covers p (pool_view (do_unlink (spot r c) r)) lives) (move_bucket c (Loose (classes_of k) (homes_at s k)) s) (do_unlink (spot r c) r)
   by_known (In b t) is met =
       let i : IsAtBucketOf r (r.call.cursors c) b t = subst (λ (k : CursorKnown). FitsCursor (Covers p (pool_view r) lives) r k (r.call.cursors c)) is (ready.fits.cursors c) in
-      subst (λ (at : Place). Fits (Covers p (pool_view (do_unlink at r)) lives) (move_bucket c (Loose t (s.brigades b).homes) s) (do_unlink at r)) (sym (spot_in r (r.call.cursors c) b t ready.sound.names i))
+      subst (λ (at : Place). Fits (Covers p (pool_view (do_unlink at r)) lives) (move_bucket c (Loose t (s.brigades b).homes) s) (do_unlink at r))
+      (sym (spot_in r (r.call.cursors c) b t ready.sound.names i))
       (unlinked (Covers p (pool_view r) lives) r s ready.sound.names ready.fits c b t i)
   by_known k is met = absurd (cc)
 
@@ -98,7 +102,9 @@ law_bdelete {lives = lives} c p choice r s ready = by_known (s.cursors c) refl (
       subst (λ (at : Place). Fits (Covers p (pool_view (do_delete at r)) lives) (move_bucket c Unset s) (do_delete at r)) (sym (spot_in r (r.call.cursors c) b t ready.sound.names i))
       (deleted_in (Covers p (pool_view r) lives) r s ready.sound.names ready.fits c b t i)
   by_known (Loose t h) is met =
-      let i : IsAtLoose (Covers p (pool_view r) lives) r (r.call.cursors c) t h = subst (λ (k : CursorKnown). FitsCursor (Covers p (pool_view r) lives) r k (r.call.cursors c)) is (ready.fits.cursors c) in
-      subst (λ (at : Place). Fits (Covers p (pool_view (do_delete at r)) lives) (move_bucket c Unset s) (do_delete at r)) (sym (spot_loose (Covers p (pool_view r) lives) r (r.call.cursors c) t h ready.sound.names i))
+      let i : IsAtLoose (Covers p (pool_view r) lives) r (r.call.cursors c) t h =
+      subst (λ (k : CursorKnown). FitsCursor (Covers p (pool_view r) lives) r k (r.call.cursors c)) is (ready.fits.cursors c) in
+      subst (λ (at : Place). Fits (Covers p (pool_view (do_delete at r)) lives) (move_bucket c Unset s) (do_delete at r))
+      (sym (spot_loose (Covers p (pool_view r) lives) r (r.call.cursors c) t h ready.sound.names i))
       (deleted_loose (Covers p (pool_view r) lives) r s ready.sound.names ready.fits c t h i)
   by_known k is met = absurd (cc)

@@ -1,5 +1,6 @@
 -- Which instructions are heads.
-use Rattle.std.proofs.Common.{◌≡◌, ℕ, suc, ◌+◌, ◌<◌, Bool, true, false, ◌||◌, ◌==◌, if◌then◌else◌, length, Option, Some, None, unwrap_or, slice_get, refl, ap, sym, ◌∙◌, add-one, eq-eqb, IfSome, inl, inr, ◌⊎◌, zero, arith}
+use Rattle.std.proofs.Common.{◌≡◌, ℕ, suc, ◌+◌, ◌<◌, Bool, true, false, ◌||◌, ◌==◌, if◌then◌else◌, length, Option, Some, None, unwrap_or, slice_get, refl, ap, sym, ◌∙◌, add-one, eq-eqb, IfSome, inl}
+use Rattle.std.proofs.Common.{inr, ◌⊎◌, zero, arith}
 use Rattle.std.proofs.lemmas.Bool.{eqb-true}
 use Rattle.module_code.specs.declared.instr.Instr.{Instr}
 use Rattle.module_code.specs.Program.{Program, IsModule, IsPlaced, target}

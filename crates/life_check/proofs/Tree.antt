@@ -71,7 +71,8 @@ through (suc b) p m top mid low lt above h = elim (or_either (is_same_place mid 
       let below : rank (pool_of_pool p q) < 2 + q = parent_rank p m q in
       or_right (is_same_place top (pool.Own q)) (under_within 9 p top (pool_of_pool p q)) (enough 10 9 p m top (pool_of_pool p q) (omega arith) (next (pool_of_pool p q) (omega arith) deeper))
 
-pub under_through : (p : Program) → IsModule p → (top mid low : PoolRef) → is_clearable low ≡ true → is_declared_under p top mid ≡ true → is_declared_under p mid low ≡ true → is_declared_under p top low ≡ true
+pub under_through : (p : Program) → IsModule p → (top mid low : PoolRef) → is_clearable low ≡ true → is_declared_under p top mid ≡ true → is_declared_under p mid low ≡ true
+    → is_declared_under p top low ≡ true
 under_through p m top mid low clears above below = through 10 p m top mid low (clearable_rank low clears) above below
 
 -- Places and pools.
@@ -106,7 +107,8 @@ module _ (p : Program) (r : Configuration) (s : Sound r) where
   unfolding named_at under_within
   conn_under looks pool.Conn n e = subst (λ (k : ℕ). is_under r.shared.pools k r.shared.conn ≡ true) (some_is r.shared.conn n e) (under_itself r.shared.pools s.pools.formed r.shared.conn s.pools.conn)
   conn_under looks pool.Req n e = not_under n r.shared.pools r.shared.conn (formed_older r.shared.pools s.pools.formed) (s.pools.req n e).1 ∙ sym (none_under looks p pool.Req refl)
-  conn_under looks (pool.Own q) n e = not_under n r.shared.pools r.shared.conn (formed_older r.shared.pools s.pools.formed) (s.pools.own q n (own_named q n r e)).0 ∙ sym (none_under looks p (pool.Own q) refl)
+  conn_under looks (pool.Own q) n e =
+      not_under n r.shared.pools r.shared.conn (formed_older r.shared.pools s.pools.formed) (s.pools.own q n (own_named q n r e)).0 ∙ sym (none_under looks p (pool.Own q) refl)
 
   -- of a pool right under another
   step_under : (d : AsDeclared p r) (looks : ℕ) (top low up : PoolRef) (n k j : ℕ) → pool_named r top ≡ Some n → pool_named r low ≡ Some k → r.shared.pools.path k ≡ k ∷ r.shared.pools.path j
@@ -119,7 +121,8 @@ module _ (p : Program) (r : Configuration) (s : Sound r) where
       → is_under r.shared.pools n k ≡ under_within looks p top low
   unfolding under_within named_at
   under_at m d zero top low n k lt e f live = absurd (omega arith)
-  under_at m d (suc looks) top pool.Conn n k lt e f live = subst (λ (j : ℕ). is_under r.shared.pools n j ≡ under_within (suc looks) p top pool.Conn) (some_is r.shared.conn k f) (conn_under looks top n e)
+  under_at m d (suc looks) top pool.Conn n k lt e f live =
+      subst (λ (j : ℕ). is_under r.shared.pools n j ≡ under_within (suc looks) p top pool.Conn) (some_is r.shared.conn k f) (conn_under looks top n e)
   under_at m d (suc looks) top pool.Req n k lt e f live =
       step_under d looks top pool.Req pool.Conn n k r.shared.conn e f (s.pools.req k f).0 (under_at m d looks top pool.Conn n r.shared.conn (omega arith) e refl s.pools.conn)
   under_at m d (suc looks) top (pool.Own q) n k lt e f live =
@@ -137,6 +140,7 @@ own_below p r d (pool.Own q) k e = elim (cases_lt q 8) [
 ]
 
 -- of two places whose pools are there, the one lies under the other as is declared
-pub under_declared : (p : Program) (r : Configuration) → IsModule p → Sound r → AsDeclared p r → (top low : PoolRef) (n k : ℕ) → pool_named r top ≡ Some n → pool_named r low ≡ Some k → is_live r.shared.pools k ≡ true
+pub under_declared : (p : Program) (r : Configuration) → IsModule p → Sound r → AsDeclared p r → (top low : PoolRef) (n k : ℕ) → pool_named r top ≡ Some n → pool_named r low ≡ Some k
+    → is_live r.shared.pools k ≡ true
     → is_under r.shared.pools n k ≡ is_declared_under p top low
 under_declared p r m s d top low n k e f live = under_at p r s m d 10 top low n k (own_below p r d low k f) e f live

@@ -9,7 +9,8 @@ use Rattle.life_state.specs.Rules.{Edges, rule}
 use Rattle.life_check.specs.declared.refusal.CheckRefusal.{CheckRefusal}
 use Rattle.life_check.specs.declared.refusal.Rule.TheVariants.{Shape, Entry, Flow, Exit, Request}
 use Rattle.life_check.specs.Certificates.{Certificate}
-use Rattle.life_check.specs.Typed.{has_shape, opens, inits, serves, requests, exits, leads_on, unless, or_else, entry_refusal, first_below, step_refusal, line_refusal, refusal_at, first_refusal, IsLed, IsTyped, IsAnswer}
+use Rattle.life_check.specs.Typed.{has_shape, opens, inits, serves, requests, exits, leads_on, unless, or_else, entry_refusal, first_below, step_refusal, line_refusal, refusal_at, first_refusal}
+use Rattle.life_check.specs.Typed.{IsLed, IsTyped, IsAnswer}
 use Rattle.life_check.proofs.Firsts.{unless_none, unless_holds, or_none, none_or, none_below, none_at}
 
 -- by what the rule answers
@@ -73,10 +74,12 @@ none_past [] i e h = omega arith
 none_past (x ∷ xs) zero e h = cc
 none_past (x ∷ xs) (suc i) e h = none_past xs i e (omega arith)
 
-told_by : (p : Program) (c : Certificate) (pc : ℕ) (s : State) (r : Result (Unit {0}) CheckRefusal) (o : Option Instr) → slice_get p.code pc ≡ o → pc < length p.code → ((i : Instr) → slice_get p.code pc ≡ Some i → IsAnswer (step_refusal p c pc i s (rule p i s)) r) → IsAnswer (line_refusal p c pc o (Some s)) r
+told_by : (p : Program) (c : Certificate) (pc : ℕ) (s : State) (r : Result (Unit {0}) CheckRefusal) (o : Option Instr) → slice_get p.code pc ≡ o → pc < length p.code
+    → ((i : Instr) → slice_get p.code pc ≡ Some i → IsAnswer (step_refusal p c pc i s (rule p i s)) r) → IsAnswer (line_refusal p c pc o (Some s)) r
 told_by p c pc s r None e inside h = absurd (none_past p.code pc e inside)
 told_by p c pc s r (Some i) e inside h = h i e
 
-pub told : (p : Program) (c : Certificate) (pc : ℕ) (s : State) (r : Result (Unit {0}) CheckRefusal) → c.at pc ≡ Some s → pc < length p.code → ((i : Instr) → slice_get p.code pc ≡ Some i → IsAnswer (step_refusal p c pc i s (rule p i s)) r) → IsAnswer (refusal_at p c pc) r
+pub told : (p : Program) (c : Certificate) (pc : ℕ) (s : State) (r : Result (Unit {0}) CheckRefusal) → c.at pc ≡ Some s → pc < length p.code
+    → ((i : Instr) → slice_get p.code pc ≡ Some i → IsAnswer (step_refusal p c pc i s (rule p i s)) r) → IsAnswer (refusal_at p c pc) r
 told p c pc s r line inside h =
     subst (λ (o : Option State). IsAnswer (line_refusal p c pc (slice_get p.code pc) o) r) (sym line) (told_by p c pc s r (slice_get p.code pc) refl inside h)

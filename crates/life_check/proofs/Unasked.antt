@@ -11,14 +11,14 @@ use Rattle.run_model.specs.declared.bucket.PoolVar.{PoolVar}
 use Rattle.run_model.specs.declared.effect.Condition.TheVariants as condition
 use Rattle.run_model.specs.declared.effect.Effect.{Effect}
 use Rattle.run_model.specs.declared.effect.Effect.TheVariants as effect
-use Rattle.run_model.specs.declared.effect.Flow.{Flow}
-use Rattle.run_model.specs.declared.effect.Flow.TheVariants.{ToNext, JumpIf, JumpAlways}
+use Rattle.run_model.specs.declared.effect.Branch.{Branch}
+use Rattle.run_model.specs.declared.effect.Branch.TheVariants.{ToNext, JumpIf, JumpAlways}
 use Rattle.run_model.specs.declared.effect.MadeFrom.{MadeFrom}
 use Rattle.run_model.specs.declared.effect.MadeFrom.TheVariants.{HeapText, ImmortalText, HeapBuffer, TransientBuffer, PoolBuffer, FlushBucket, EosBucket, CopyAt}
 use Rattle.run_model.specs.declared.payload.Payload.{Payload}
 use Rattle.run_model.specs.BrigadeLists.{bucket_named}
 use Rattle.run_model.specs.BucketSteps.{items_at, got}
-use Rattle.run_model.specs.EffectOf.{effect_of, flow_of}
+use Rattle.run_model.specs.EffectOf.{effect_of, branch_of}
 use Rattle.run_model.specs.Faults.{usable_fault}
 use Rattle.run_model.specs.Pools.{Pools}
 use Rattle.run_model.specs.Sound.{SoundNames, brigade_name}
@@ -122,26 +122,26 @@ lands_both lives p s t r true f = f
 lands_both lives p s t r false f = f
 
 -- by what no state speaks of
-abbrev pub Unseen : Flow → Type 0
+abbrev pub Unseen : Branch → Type 0
 Unseen ToNext = Unit {0}
 Unseen JumpAlways = Unit {0}
 Unseen (JumpIf (condition.NoByte x)) = Unit {0}
 Unseen (JumpIf (condition.NoRoom x)) = Unit {0}
 Unseen (JumpIf (condition.Less n x)) = Unit {0}
 Unseen (JumpIf (condition.Equal n x)) = Unit {0}
-Unseen flow = ⊥
+Unseen branch = ⊥
 
-unseen_lands : (lives : Home → Type 0) (p : Program) (choice : Choice) (s t : State) (r new : Configuration) (flow : Flow) → Unseen flow
-    → Fits (Covers p (pool_view new) lives) t new → Lands lives p (led flow s t) s (exit_by choice flow r) new
+unseen_lands : (lives : Home → Type 0) (p : Program) (choice : Choice) (s t : State) (r new : Configuration) (branch : Branch) → Unseen branch
+    → Fits (Covers p (pool_view new) lives) t new → Lands lives p (led branch s t) s (exit_by choice branch r) new
 unseen_lands lives p choice s t r new ToNext h f = f
 unseen_lands lives p choice s t r new JumpAlways h f = f
 unseen_lands lives p choice s t r new (JumpIf (condition.NoByte x)) h f = lands_both lives p s t new (holds choice (condition.NoByte x) r) f
 unseen_lands lives p choice s t r new (JumpIf (condition.NoRoom x)) h f = lands_both lives p s t new (holds choice (condition.NoRoom x) r) f
 unseen_lands lives p choice s t r new (JumpIf (condition.Less n x)) h f = lands_both lives p s t new (holds choice (condition.Less n x) r) f
 unseen_lands lives p choice s t r new (JumpIf (condition.Equal n x)) h f = lands_both lives p s t new (holds choice (condition.Equal n x) r) f
-unseen_lands lives p choice s t r new flow h f = absurd h
+unseen_lands lives p choice s t r new branch h f = absurd h
 
-pub law_unasked : {lives : Home → Type 0} (i : Instr) → Unasked (effect_of i) → Unseen (flow_of i) → LawOf lives i
+pub law_unasked : {lives : Home → Type 0} (i : Instr) → Unasked (effect_of i) → Unseen (branch_of i) → LawOf lives i
 law_unasked {lives = lives} i asks leads p choice r s ready =
-    unseen_lands lives p choice s (after p (effect_of i) s) r (do_effect p choice (effect_of i) r) (flow_of i) leads
+    unseen_lands lives p choice s (after p (effect_of i) s) r (do_effect p choice (effect_of i) r) (branch_of i) leads
     (unasked_described lives p choice r s ready.sound.names ready.outside ready.fits (effect_of i) asks)

@@ -1,5 +1,6 @@
 -- Where no need of an instruction fails in a state that describes a run, the instruction has no fault.
-use Rattle.std.proofs.Common.{◌≡◌, ℕ, zero, suc, ◌-◌, ◌<◌, Bool, true, false, ◌&&◌, ◌||◌, not, ◌==◌, nat_le, cond, List, [], ◌∷◌, Option, Some, None, is_some, inl, inr, ⊎_elim, refl, ap, sym, ◌∙◌, subst, arith, eq-eqb, eqb-true}
+use Rattle.std.proofs.Common.{◌≡◌, ℕ, zero, suc, ◌-◌, ◌<◌, Bool, true, false, ◌&&◌, ◌||◌, not, ◌==◌, nat_le, cond, List, [], ◌∷◌, Option, Some, None, is_some, inl, inr, ⊎_elim, refl, ap, sym, ◌∙◌}
+use Rattle.std.proofs.Common.{subst, arith, eq-eqb, eqb-true}
 use Rattle.std.proofs.lemmas.Bool.{ltb-true, or_parts, cases_eq}
 use Rattle.std.specs.List.{list_any}
 use Rattle.module_code.specs.declared.instr.Instr.{Instr}
@@ -27,7 +28,8 @@ use Rattle.run_model.specs.BucketSteps.{items_at}
 use Rattle.run_model.specs.Cursors.{spot_of, bucket_at}
 use Rattle.run_model.specs.Cutting.{length_of}
 use Rattle.run_model.specs.Effects.{value_of}
-use Rattle.run_model.specs.Faults.{Want, WPool, WBrigade, WUsable, WNew, WNewPool, WCursor, WHomes, WHome, WHomeAcross, WSend, WReturn, wants, is_live_named, has_pool_at, brigade_fault, usable_fault, passed_fault, within_fault, end_fault, cursor_fault, Need, first_fault, new_fault, home_fault, send_fault, is_stray, keeps_stray, fault_want, or_else}
+use Rattle.run_model.specs.Faults.{Want, WPool, WBrigade, WUsable, WNew, WNewPool, WCursor, WHomes, WHome, WHomeAcross, WSend, WReturn, wants, is_live_named, has_pool_at, brigade_fault, usable_fault}
+use Rattle.run_model.specs.Faults.{passed_fault, within_fault, end_fault, cursor_fault, Need, first_fault, new_fault, home_fault, send_fault, is_stray, keeps_stray, fault_want, or_else}
 use Rattle.run_model.specs.Pools.{Pools, is_empty, is_live}
 use Rattle.run_model.specs.Sound.{SoundNames, SoundPools, Sound}
 use Rattle.run_model.specs.State.{Configuration, PoolView, pool_view, named_at, is_own_at, is_named, name_in, items_of, is_passed}
@@ -376,7 +378,8 @@ is_standing_met s c w is h = cc
 standing_met : (s : State) (c : ℕ) (before : List Want) → AllMet s before → list_any (is_standing c) before ≡ true → is_set (s.cursors c) ≡ true
 standing_met s c [] met h = cc
 standing_met s c (w ∷ ws) met h =
-    ⊎_elim (λ (here : is_standing c w ≡ true). is_standing_met s c w here (met.0)) (λ (later : list_any (is_standing c) ws ≡ true). standing_met s c ws (met.1) later) (or_either (is_standing c w) (list_any (is_standing c) ws) h)
+    ⊎_elim (λ (here : is_standing c w ≡ true). is_standing_met s c w here (met.0)) (λ (later : list_any (is_standing c) ws ≡ true). standing_met s c ws (met.1) later)
+    (or_either (is_standing c w) (list_any (is_standing c) ws) h)
 
 module _ (C : Homes → Home → Type 0) (r : Configuration) (s : State) (ended : EndedIsDead C) (tells : CallTells C r) (sound : Sound r) (f : Fits C s r) where
   items_met : (b : ℕ) → usable_need (s.brigades b) ≡ None → HoldsContents (s.brigades b).content (items_at r b) × Each (λ y. C (s.brigades b).homes y.bucket.home) (items_at r b)

@@ -1,5 +1,5 @@
 -- Arrays read as functions of an index, each value by what it stands for.
-use Rattle.std.proofs.Common.{◌≡◌, ◌≢◌, ℕ, ◌+◌, ◌<◌, ◌≤◌, Bool, false, List, [], length, slice_index_or, slice_set, ap, sym, ◌∙◌, subst, ⊎_elim, ◌⊎◌, inl, inr, arith, get_or-set_same, get_or-set_other}
+use Rattle.std.proofs.Common.{◌≡◌, ◌≢◌, ℕ, ◌<◌, ◌≤◌, Bool, false, List, [], length, slice_index_or, slice_set, ap, sym, ◌∙◌, subst, ⊎_elim, ◌⊎◌, inl, inr, arith, get_or-set_same, get_or-set_other}
 use Rattle.std.proofs.Math.Path.{fun_ext}
 use Rattle.std.proofs.lemmas.List.{get_or_past}
 use Rattle.std.proofs.lemmas.Bool.{cases_eq, cases_lt}
@@ -7,21 +7,6 @@ use Rattle.run_model.specs.Indexed.{upd}
 use Rattle.run_model.proofs.Updates.{upd_at, upd_off}
 
 module _ {A B : Type 0} (f : A → B) (d : A) where
-  -- one more value is written
-  pub filled : (xs : List A) (n : ℕ) (v : A) (g : ℕ → B) → n < length xs → f v ≡ g n → ((i : ℕ) → i < n → f (slice_index_or xs i d) ≡ g i)
-      → (i : ℕ) → i < n + 1 → f (slice_index_or (slice_set xs n v) i d) ≡ g i
-  filled xs n v g inside here below i h =
-      ⊎_elim
-      (λ (same : i ≡ n). subst (λ (k : ℕ). f (slice_index_or (slice_set xs n v) k d) ≡ g k) (sym same) (ap f (get_or-set_same xs n v d inside) ∙ here))
-      (λ (other : i ≢ n). ap f (get_or-set_other xs n i v d other) ∙ below i (omega arith))
-      (cases_eq i n)
-
-  -- the same, at a number that was converted
-  pub filled_at : (xs : List A) (n m : ℕ) (v : A) (g : ℕ → B) → m ≡ n → n < length xs → f v ≡ g n → ((i : ℕ) → i < n → f (slice_index_or xs i d) ≡ g i)
-      → (i : ℕ) → i < n + 1 → f (slice_index_or (slice_set xs m v) i d) ≡ g i
-  filled_at xs n m v g same inside here below =
-      subst (λ (k : ℕ). (i : ℕ) → i < n + 1 → f (slice_index_or (slice_set xs k v) i d) ≡ g i) (sym same) (filled xs n v g inside here below)
-
   -- what holds below the length, and of what stands in beyond it, holds everywhere
   pub read_as : (n : ℕ) (xs : List A) (g : ℕ → B) → length xs ≡ n → ((i : ℕ) → i < n → f (slice_index_or xs i d) ≡ g i) → ((i : ℕ) → n ≤ i → f d ≡ g i)
       → (λ i. f (slice_index_or xs i d)) ≡ g

@@ -50,7 +50,8 @@ none_dead under =
     (ap (λ a. a || any_below 8 (λ i. under (pool.Own i) && false)) (and_false (under pool.Req))
     ∙ none_below 8 (λ i. under (pool.Own i) && false) (λ k h. and_false (under (pool.Own k))))
 
-cleared_unmade : (p : Program) (under : PoolRef → Bool) (gone : Bool) → (if gone then ended_brigade (seen_brigade unmade) else with_homes (dead_where under) (seen_brigade unmade)) ≡ seen_brigade unmade
+cleared_unmade : (p : Program) (under : PoolRef → Bool) (gone : Bool)
+    → (if gone then ended_brigade (seen_brigade unmade) else with_homes (dead_where under) (seen_brigade unmade)) ≡ seen_brigade unmade
 cleared_unmade p under true = ap (λ (h : Homes). record (seen_brigade unmade) { homes = h }) (sym unmade_homes)
 cleared_unmade p under false =
     ap (λ (h : Homes). record (seen_brigade unmade) { homes = dead_where under h }) unmade_homes

@@ -62,7 +62,8 @@ module _ (p : Program) (under : PoolRef → Bool) (s : State) where
   hand_cleared top b h hand = (hand.0, ap is_at_hand (kept_cleared b h) ∙ hand.1)
 
   -- a cursor at b is unset, or b does not go
-  left_cleared : (top : PoolRef) (b : ℕ) (x : CursorKnown) → (lies_under p under b ≡ false → FormedCursor (with_cleared p under top s) x) → FormedCursor (with_cleared p under top s) (if lies_under p under b then Unset else x)
+  left_cleared : (top : PoolRef) (b : ℕ) (x : CursorKnown) → (lies_under p under b ≡ false → FormedCursor (with_cleared p under top s) x)
+      → FormedCursor (with_cleared p under top s) (if lies_under p under b then Unset else x)
   left_cleared top b x f = either (lies_under p under b) refl
     where
       either : (e : Bool) → lies_under p under b ≡ e → FormedCursor (with_cleared p under top s) (if e then Unset else x)

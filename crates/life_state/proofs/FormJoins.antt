@@ -184,5 +184,6 @@ alone s f c = either (s.facts c c) refl
 pub joins_absorb : JoinsAbsorb
 joins_absorb p call a b f g less =
     let j = joins_keep_form p call a b f g in
-    let counts = and2 (a.pool_count == b.pool_count) (a.brigade_count == b.brigade_count) (eq-eqb a.pool_count b.pool_count (f.pools ∙ sym g.pools)) (eq-eqb a.brigade_count b.brigade_count (f.brigades ∙ sym g.brigades)) in
+    let counts = and2 (a.pool_count == b.pool_count) (a.brigade_count == b.brigade_count) (eq-eqb a.pool_count b.pool_count (f.pools ∙ sym g.pools))
+    (eq-eqb a.brigade_count b.brigade_count (f.brigades ∙ sym g.brigades)) in
     leq_both (join a b) a j.formed f.formed (join_least a b a f.formed f.formed (leq_same a (alone a f.formed)) less) ((join_above a b counts).0)

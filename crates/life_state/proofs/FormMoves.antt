@@ -83,7 +83,27 @@ module _ (p : Program) (call : Bool) where
     present : not (s.brigades 8).null ≡ call;
   }
 
-  pub based : (s : State) → IsFormedIn p call s → Based s
+-- one brigade is written, where `in` is live or was never made
+written_based : (p : Program) (call now : Bool) (s : State) (b : ℕ) (v : BrigadeKnown) → Based p call s → FormedBrigade v → NamesDeclared s v.homes
+    → ((k : ℕ) → s.brigade_count ≤ k → k ≢ 8 → k ≢ b)
+    → (upd s.brigades b v 8 ≡ never_made) ⊎ (is_live_brigade (upd s.brigades b v 8) ≡ true) → not (upd s.brigades b v 8).null ≡ now
+    → Based p now (set_brigade b v s)
+written_based p call now s b v f formed named elsewhere brought present = record {
+  pool_count = f.pool_count;
+  brigade_count = f.brigade_count;
+  pools = f.pools;
+  no_pools = f.no_pools;
+  brigades = upd_all FormedBrigade s.brigades b v formed f.brigades;
+  homes = upd_all (λ w. NamesDeclared s w.homes) s.brigades b v named f.homes;
+  no_brigades = λ k past other. upd_off s.brigades b k v (elsewhere k past other) ∙ f.no_brigades k past other;
+  brought = brought;
+  own_pools = f.own_pools;
+  own_brigades = f.own_brigades;
+  present = present;
+}
+
+module _ (p : Program) (call : Bool) where
+  pub based : (s : State) → IsFormedIn p call s → Based p call s
   based s f = record {
     pool_count = f.formed.pool_count;
     brigade_count = f.formed.brigade_count;
@@ -98,7 +118,8 @@ module _ (p : Program) (call : Bool) where
     present = f.brought;
   }
 
-  pub assembled : (s : State) → Based s → ((c : ℕ) → FormedCursor s (s.cursors c)) → UnsetPast s.cursors → ((c d : ℕ) → s.facts c d ≡ true → is_to_write s c d ≡ true)
+  pub assembled : (s : State) → Based p call s → ((c : ℕ) → FormedCursor s (s.cursors c)) → UnsetPast s.cursors
+      → ((c d : ℕ) → s.facts c d ≡ true → is_to_write s c d ≡ true)
       → ((c d : ℕ) → s.facts c d ≡ s.facts d c) → IsFormedIn p call s
   assembled s b cursors past facts symmetric = record {
     formed = record {
@@ -122,13 +143,15 @@ module _ (p : Program) (call : Bool) where
 
   -- Cursors.
 
-  pub with_facts : (s : State) (keep : ℕ → ℕ → Bool) (cursors : ℕ → CursorKnown) → Based s → ((c d : ℕ) → keep c d ≡ keep d c) → ((c : ℕ) → FormedCursor s (cursors c)) → UnsetPast cursors
+  pub with_facts : (s : State) (keep : ℕ → ℕ → Bool) (cursors : ℕ → CursorKnown) → Based p call s → ((c d : ℕ) → keep c d ≡ keep d c)
+      → ((c : ℕ) → FormedCursor s (cursors c)) → UnsetPast cursors
       → IsFormedIn p call (record s { cursors = cursors; facts = facts_of keep cursors })
   with_facts s keep cursors b same each past =
       assembled (record s { cursors = cursors; facts = facts_of keep cursors })
       b each past (facts_needed keep cursors) (facts_turned keep cursors same)
 
-  pub moved_formed : (s : State) (cursors : ℕ → CursorKnown) → Based s → ((c d : ℕ) → s.facts c d ≡ s.facts d c) → ((c : ℕ) → FormedCursor s (cursors c)) → UnsetPast cursors → IsFormedIn p call (moved cursors s)
+  pub moved_formed : (s : State) (cursors : ℕ → CursorKnown) → Based p call s → ((c d : ℕ) → s.facts c d ≡ s.facts d c)
+      → ((c : ℕ) → FormedCursor s (cursors c)) → UnsetPast cursors → IsFormedIn p call (moved cursors s)
   unfolding moved
   moved_formed s cursors b same each past = with_facts s (known s) cursors b (known_turned s same) each past
 
@@ -151,20 +174,19 @@ module _ (p : Program) (call : Bool) where
 
   -- Variables.
 
-  pub brigade_based : (s : State) (b : ℕ) (v : BrigadeKnown) → Based s → Placed s b v → FormedBrigade v → NamesDeclared s v.homes → Based (set_brigade b v s)
-  brigade_based s b v f placed formed named = record {
-    pool_count = f.pool_count;
-    brigade_count = f.brigade_count;
-    pools = f.pools;
-    no_pools = f.no_pools;
-    brigades = upd_all FormedBrigade s.brigades b v formed f.brigades;
-    homes = upd_all (λ w. NamesDeclared s w.homes) s.brigades b v named f.homes;
-    no_brigades = λ k past other. upd_off s.brigades b k v (elsewhere k past other placed) ∙ f.no_brigades k past other;
-    brought = elim (upd_either s.brigades b 8 v) [ inl h ↦ inr (ap is_live_brigade (h.1) ∙ (here (h.0) placed).0) | inr h ↦ elim f.brought [ inl e ↦ inl (h.1 ∙ e) | inr e ↦ inr (ap is_live_brigade (h.1) ∙ e) ] ];
-    own_pools = f.own_pools;
-    own_brigades = f.own_brigades;
-    present = elim (upd_either s.brigades b 8 v) [ inl h ↦ ap (λ w. not w.null) (h.1) ∙ (live_not_null v ((here (h.0) placed).0) ∙ (sym (live_not_null (s.brigades 8) ((here (h.0) placed).1)) ∙ f.present)) | inr h ↦ ap (λ w. not w.null) (h.1) ∙ f.present ];
-  }
+  pub brigade_based : (s : State) (b : ℕ) (v : BrigadeKnown) → Based p call s → Placed s b v → FormedBrigade v → NamesDeclared s v.homes
+      → Based p call (set_brigade b v s)
+  brigade_based s b v f placed formed named =
+      written_based p call call s b v f formed named (λ k past other. elsewhere k past other placed)
+      (elim (upd_either s.brigades b 8 v) [
+        | inl h ↦ inr (ap is_live_brigade (h.1) ∙ (here (h.0) placed).0)
+        | inr h ↦ elim f.brought [ inl e ↦ inl (h.1 ∙ e) | inr e ↦ inr (ap is_live_brigade (h.1) ∙ e) ]
+      ])
+      (elim (upd_either s.brigades b 8 v) [
+        | inl h ↦ ap (λ w. not w.null) (h.1)
+            ∙ (live_not_null v ((here (h.0) placed).0) ∙ (sym (live_not_null (s.brigades 8) ((here (h.0) placed).1)) ∙ f.present))
+        | inr h ↦ ap (λ w. not w.null) (h.1) ∙ f.present
+      ])
     where
       elsewhere : (k : ℕ) → s.brigade_count ≤ k → k ≢ 8 → Placed s b v → k ≢ b
       elsewhere k past other (inl h) e = absurd (omega arith)
@@ -177,10 +199,12 @@ module _ (p : Program) (call : Bool) where
       here e (inl h) = absurd (omega (arith, f.brigade_count))
       here e (inr h) = (h.0, ap (λ (n : ℕ). is_live_brigade (s.brigades n)) e ∙ h.1)
 
-  pub brigade_formed : (s : State) (b : ℕ) (v : BrigadeKnown) → IsFormedIn p call s → Placed s b v → FormedBrigade v → NamesDeclared s v.homes → (is_at_hand (s.brigades b) ≡ true → is_at_hand v ≡ true)
+  pub brigade_formed : (s : State) (b : ℕ) (v : BrigadeKnown) → IsFormedIn p call s → Placed s b v → FormedBrigade v → NamesDeclared s v.homes
+      → (is_at_hand (s.brigades b) ≡ true → is_at_hand v ≡ true)
       → IsFormedIn p call (set_brigade b v s)
   brigade_formed s b v f placed formed named keep =
-      assembled (set_brigade b v s) (brigade_based s b v (based s f) placed formed named) (λ c. cursor_kept s b v (s.cursors c) keep (f.formed.cursors c)) f.formed.no_cursors f.formed.facts f.formed.symmetric
+      assembled (set_brigade b v s) (brigade_based s b v (based s f) placed formed named)
+      (λ c. cursor_kept s b v (s.cursors c) keep (f.formed.cursors c)) f.formed.no_cursors f.formed.facts f.formed.symmetric
 
   pub pool_formed : (s : State) (q : ℕ) (v : PoolState) → IsFormedIn p call s → q < s.pool_count → some_pool v ≡ true → IsFormedIn p call (set_pool q v s)
   pool_formed s q v f inside some =
@@ -202,18 +226,9 @@ module _ (p : Program) (call : Bool) where
       f.formed.cursors f.formed.no_cursors f.formed.facts f.formed.symmetric
 
 -- `in` comes or goes
-pub in_based : (p : Program) (call now : Bool) (s : State) (v : BrigadeKnown) → Based p call s → FormedBrigade v → NamesDeclared s v.homes → (v ≡ never_made) ⊎ (is_live_brigade v ≡ true) → not v.null ≡ now
+pub in_based : (p : Program) (call now : Bool) (s : State) (v : BrigadeKnown) → Based p call s → FormedBrigade v → NamesDeclared s v.homes → (v ≡ never_made) ⊎ (is_live_brigade v ≡ true)
+    → not v.null ≡ now
     → Based p now (set_brigade 8 v s)
-in_based p call now s v f formed named brought present = record {
-  pool_count = f.pool_count;
-  brigade_count = f.brigade_count;
-  pools = f.pools;
-  no_pools = f.no_pools;
-  brigades = upd_all FormedBrigade s.brigades 8 v formed f.brigades;
-  homes = upd_all (λ w. NamesDeclared s w.homes) s.brigades 8 v named f.homes;
-  no_brigades = λ k past other. upd_off s.brigades 8 k v other ∙ f.no_brigades k past other;
-  brought = subst (λ w. (w ≡ never_made) ⊎ (is_live_brigade w ≡ true)) (sym (upd_at s.brigades 8 v)) brought;
-  own_pools = f.own_pools;
-  own_brigades = f.own_brigades;
-  present = ap (λ w. not w.null) (upd_at s.brigades 8 v) ∙ present;
-}
+in_based p call now s v f formed named brought present =
+    written_based p call now s 8 v f formed named (λ k past other. other)
+    (subst (λ w. (w ≡ never_made) ⊎ (is_live_brigade w ≡ true)) (sym (upd_at s.brigades 8 v)) brought) (ap (λ w. not w.null) (upd_at s.brigades 8 v) ∙ present)

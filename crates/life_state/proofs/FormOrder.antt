@@ -87,7 +87,8 @@ homes_both h k few less p q =
     each a b c d pool.Req = same_test (h.at pool.Req) (k.at pool.Req) a b
     each a b c d (pool.Own i) =
         ⊎_elim
-        (λ (low : i < 8). same_test (h.at (pool.Own i)) (k.at (pool.Own i)) (all_at 8 i (λ i. implies (h.at (pool.Own i)) (k.at (pool.Own i))) c low) (all_at 8 i (λ i. implies (k.at (pool.Own i)) (h.at (pool.Own i))) d low))
+        (λ (low : i < 8). same_test (h.at (pool.Own i)) (k.at (pool.Own i)) (all_at 8 i (λ i. implies (h.at (pool.Own i)) (k.at (pool.Own i))) c low)
+        (all_at 8 i (λ i. implies (k.at (pool.Own i)) (h.at (pool.Own i))) d low))
         (λ (high : 8 ≤ i). none_past h i few high ∙ sym (none_past k i less high)) (cases_lt i 8)
 
 brigade_both : (v w : BrigadeKnown) → Few v.homes → Few w.homes → Parts v w → Parts w v → v ≡ w

@@ -6,7 +6,8 @@ use Rattle.module_code.specs.declared.instr.PoolRef.TheVariants as pool
 use Rattle.module_code.specs.Tables.{place_is_declared}
 use Rattle.life_state.specs.declared.parts.Contents.{Contents}
 use Rattle.life_state.specs.declared.parts.PoolState.{PoolState}
-use Rattle.life_state.specs.States.{Homes, no_homes, only_call, home_in, both_homes, dead_where, ended_pool, BrigadeKnown, never_made, holds, passed_on, is_live_brigade, is_usable_alone, ended_brigade, with_homes, State}
+use Rattle.life_state.specs.States.{Homes, no_homes, only_call, home_in, both_homes, dead_where, ended_pool, BrigadeKnown, never_made, holds, passed_on, is_live_brigade, is_usable_alone}
+use Rattle.life_state.specs.States.{ended_brigade, with_homes, State}
 use Rattle.life_state.specs.Order.{greater, both_brigades, is_at_hand}
 use Rattle.life_state.specs.Rules.{brigade_not_null}
 use Rattle.life_state.specs.Form.{some_pool, NamesDeclared, FormedBrigade}

@@ -10,7 +10,8 @@ use Rattle.life_state.specs.Rules.{is_empty, some_class}
 use Rattle.life_state.specs.States.{Homes, BrigadeKnown, CursorKnown, Unset, Loose, In, End, InOrEnd, State, is_live_brigade, never_made, no_homes, only_null}
 use Rattle.life_state.specs.Form.{some_pool, FormedBrigade, AtHand, FormedCursor, is_to_write, IsFormed}
 use Rattle.life_state.specs.FormTests.{NamesBelow, FormedPool, FormedPlace}
-use Rattle.life_state.specs.InForm.{names_below, is_free, is_null, is_unmade, is_formed_pool, is_formed_brigade, is_formed_place, has_at_hand, is_formed_cursor, is_formed_fact, is_formed_at, is_formed}
+use Rattle.life_state.specs.InForm.{names_below, is_free, is_null, is_unmade, is_formed_pool, is_formed_brigade, is_formed_place, has_at_hand, is_formed_cursor, is_formed_fact, is_formed_at}
+use Rattle.life_state.specs.InForm.{is_formed}
 use Rattle.life_state.proofs.Below.{all_below_holds}
 use Rattle.life_state.proofs.Tests.{and2, and3, or_left, or_right}
 
@@ -25,7 +26,8 @@ or_else : (a b : Bool) → (a ≡ false → b ≡ true) → (a || b) ≡ true
 or_else true b h = refl
 or_else false b h = h refl
 
-pub passes_brigade : (v : BrigadeKnown) (free : Bool) → (v.homes ≡ no_homes → free ≡ true) → FormedBrigade v → ((((v.null || v.gone) || v.live) && beq v.live (v.usable || v.passed)) && (v.usable || (is_empty v.content && free))) ≡ true
+pub passes_brigade : (v : BrigadeKnown) (free : Bool) → (v.homes ≡ no_homes → free ≡ true) → FormedBrigade v
+    → ((((v.null || v.gone) || v.live) && beq v.live (v.usable || v.passed)) && (v.usable || (is_empty v.content && free))) ≡ true
 passes_brigade v free none f =
     and2 (((v.null || v.gone) || v.live) && beq v.live (v.usable || v.passed)) (v.usable || (is_empty v.content && free))
     (and2 ((v.null || v.gone) || v.live) (beq v.live (v.usable || v.passed)) f.some (beq_same v.live (v.usable || v.passed) f.marks))
@@ -44,7 +46,8 @@ pub low_or_none : (q n : ℕ) (b : Bool) → (b ≡ true → q < n) → (nat_lt 
 low_or_none q n true h = or_left (nat_lt q n) false (lt-ltb q n (h refl))
 low_or_none q n false h = or_right (nat_lt q n) true refl
 
-pub passes_pool : (s : State) (q : ℕ) (v : PoolState) (null : Bool) → v ≡ s.pools q → (v ≡ only_null → null ≡ true) → FormedPool s q → (((v.null || v.gone) || v.live) && (ltb q s.pool_count || null)) ≡ true
+pub passes_pool : (s : State) (q : ℕ) (v : PoolState) (null : Bool) → v ≡ s.pools q → (v ≡ only_null → null ≡ true) → FormedPool s q
+    → (((v.null || v.gone) || v.live) && (ltb q s.pool_count || null)) ≡ true
 passes_pool s q v null at is f =
     and2 ((v.null || v.gone) || v.live) (ltb q s.pool_count || null) (ap some_pool at ∙ f.0) (below_or q s.pool_count null (λ past. is (at ∙ f.1 past)))
 
@@ -128,7 +131,8 @@ passes_form s f =
         (f.brigades b, (f.homes b, f.no_brigades b))
 
     fact : (c d : ℕ) → is_formed_fact s c d ≡ true
-    fact c d = and2 (is_to_write s c d || not (s.facts c d)) (beq (s.facts c d) (s.facts d c)) (due_or_none (is_to_write s c d) (s.facts c d) (f.facts c d)) (beq_same (s.facts c d) (s.facts d c) (f.symmetric c d))
+    fact c d = and2 (is_to_write s c d || not (s.facts c d)) (beq (s.facts c d) (s.facts d c)) (due_or_none (is_to_write s c d) (s.facts c d) (f.facts c d))
+        (beq_same (s.facts c d) (s.facts d c) (f.symmetric c d))
 
     at : (k : ℕ) → k < 9 → is_formed_at s k ≡ true
     at k low =

@@ -1,5 +1,6 @@
 -- What the rules lead to is in form.
-use Rattle.std.proofs.Common.{◌≡◌, ℕ, ◌<◌, ◌≤◌, Bool, true, false, ◌||◌, not, nat_lt, length, List, [], ◌∷◌, Option, Some, None, IfSome, IfOk, refl, ap, sym, subst, ◌∙◌, inl, ⊎_elim, arith, slice_index_or}
+use Rattle.std.proofs.Common.{◌≡◌, ℕ, ◌<◌, ◌≤◌, Bool, true, false, ◌||◌, not, nat_lt, length, List, [], ◌∷◌, Option, Some, None, IfSome, IfOk, refl, ap, sym, subst, ◌∙◌, inl, ⊎_elim, arith}
+use Rattle.std.proofs.Common.{slice_index_or}
 use Rattle.std.proofs.lemmas.Option.{slice_get-get_or}
 use Rattle.std.proofs.lemmas.Bool.{ltb-true, lt-ltb, cases_lt}
 use Rattle.module_code.specs.declared.instr.Instr.{Instr}
@@ -13,21 +14,25 @@ use Rattle.module_code.specs.Program.{Program, IsModule, is_variable, pool_of_br
 use Rattle.module_code.proofs.FitLaws.{AreFit, fits_parts}
 use Rattle.run_model.specs.declared.effect.Condition.{Condition}
 use Rattle.run_model.specs.declared.effect.Condition.TheVariants as condition
-use Rattle.run_model.specs.declared.effect.Flow.{Flow}
-use Rattle.run_model.specs.declared.effect.Flow.TheVariants.{ToNext, JumpIf, JumpAlways, EndCall}
-use Rattle.run_model.specs.EffectOf.{effect_of, flow_of}
+use Rattle.run_model.specs.declared.effect.Branch.{Branch}
+use Rattle.run_model.specs.declared.effect.Branch.TheVariants.{ToNext, JumpIf, JumpAlways, EndCall}
+use Rattle.run_model.specs.EffectOf.{effect_of, branch_of}
 use Rattle.run_model.specs.declared.fault.FaultKind.{FaultKind}
 use Rattle.run_model.specs.Faults.{Want, WUsable, wants}
 use Rattle.life_state.specs.declared.parts.Classes.{Classes}
-use Rattle.life_state.specs.States.{no_homes, only_call, home_in, both_homes, only_null, only_live, ended_pool, BrigadeKnown, never_made, is_live_brigade, CursorKnown, Unset, Loose, In, End, InOrEnd, State, set_pool, set_brigade}
+use Rattle.life_state.specs.States.{no_homes, only_call, home_in, both_homes, only_null, only_live, ended_pool, BrigadeKnown, never_made, is_live_brigade, CursorKnown, Unset, Loose, In, End, InOrEnd}
+use Rattle.life_state.specs.States.{State, set_pool, set_brigade}
 use Rattle.life_state.specs.Facts.{known}
-use Rattle.life_state.specs.Rules.{need, first_need, Edges, some_if, some_class, told, with_classes, classes_of, told_classes, no_other, only_bytes, only_flush, only_eos, tail_content, head_content, edges_jend, edges_jnull, after, on_condition, led, edges, need_or, made, is_empty, after_pclear, after_pdestroy, pool_not_null, brigade_not_null, of_kind, not_of_kind}
+use Rattle.life_state.specs.Rules.{need, first_need, Edges, some_if, some_class, told, with_classes, classes_of, told_classes, no_other, only_bytes, only_flush, only_eos, tail_content, head_content}
+use Rattle.life_state.specs.Rules.{edges_jend, edges_jnull, after, on_condition, led, edges, need_or, made, is_empty, after_pclear, after_pdestroy, pool_not_null, brigade_not_null, of_kind}
+use Rattle.life_state.specs.Rules.{not_of_kind}
 use Rattle.life_state.specs.Form.{NamesDeclared, AtHand, FormedCursor}
 use Rattle.life_state.specs.FormLaws.{IsFormedIn, RulesKeepForm}
 use Rattle.life_state.proofs.FormParts.{no_named, call_named, both_named, home_named, ended_some, never_formed, not_null_formed, hand_not_null}
 use Rattle.life_state.proofs.FormMoves.{live_not_null, set_cursor_formed, told_formed, brigade_formed, pool_formed}
 use Rattle.life_state.proofs.FormNeeds.{or_none, live_there, hand_there, place_there, on_bucket, on_loose, in_brigade}
-use Rattle.life_state.proofs.FormSteps.{hand_live, classes_formed, emptied_at, bcreate_formed, bclean_formed, join_formed, bsplit_formed, pass_formed, sent_formed, first_formed, next_formed, made_formed, copy_formed, unlink_formed, bdelete_formed, put_formed, before_formed, aside_formed}
+use Rattle.life_state.proofs.FormSteps.{hand_live, classes_formed, emptied_at, bcreate_formed, bclean_formed, join_formed, bsplit_formed, pass_formed, sent_formed, first_formed, next_formed}
+use Rattle.life_state.proofs.FormSteps.{made_formed, copy_formed, unlink_formed, bdelete_formed, put_formed, before_formed, aside_formed}
 use Rattle.life_state.proofs.FormClears.{cleared_formed}
 use Rattle.life_state.proofs.UnderLaws.{brigade_past}
 
@@ -128,7 +133,8 @@ module _ (p : Program) (call : Bool) (s : State) (m : IsModule p) (f : IsFormedI
   after_formed (instr.BCreate o) a h = bcreate_formed p call s o f (own_brigade s o f (a.first.0))
   after_formed (instr.BClean b) a h = bclean_formed p call s b f (live_there (s.brigades b) (h.0))
   after_formed (instr.BConcat b d) a h =
-      join_formed p call s b d (both_homes (s.brigades b).homes (s.brigades d).homes) f (hand b (h.0)) (live d (h.1.0)) (both_named s (s.brigades b).homes (s.brigades d).homes (f.formed.homes b) (f.formed.homes d))
+      join_formed p call s b d (both_homes (s.brigades b).homes (s.brigades d).homes) f (hand b (h.0)) (live d (h.1.0))
+      (both_named s (s.brigades b).homes (s.brigades d).homes (f.formed.homes b) (f.formed.homes d))
   after_formed (instr.BSplit b c d) a h = bsplit_formed p call s b c d f (hand d (h.1.1.0))
   after_formed (instr.BPart b x c l) a h = first_formed p call s c b f (cursor_number c (a.third.0)) (hand b (h.0))
   after_formed (instr.BSave o b) a h =
@@ -154,17 +160,17 @@ module _ (p : Program) (call : Bool) (s : State) (m : IsModule p) (f : IsFormedI
   after_formed (instr.Read c l) a h = set_cursor_formed p call s 8 (s.cursors c) (known s c) f (omega arith) (f.formed.cursors c)
   after_formed i a h = f
 
-  -- what is used of operands and needs where an instruction leads on from a state, by its flow
-  FlowTakes : State → Flow → Type 0
-  FlowTakes t (JumpIf (condition.TooShort b x c)) = (c < 9) × AtHand s b
-  FlowTakes t (JumpIf (condition.NoBucket b)) = is_live_brigade (t.brigades b) ≡ true
-  FlowTakes t (JumpIf (condition.AtEnd c)) = c < 9
-  FlowTakes t (JumpIf (condition.OfKind c k)) = c < 9
-  FlowTakes t (JumpIf (condition.IsNull v)) = is_variable p v ≡ true
-  FlowTakes t when = Unit {0}
+  -- what is used of operands and needs where an instruction leads on from a state, by its branch
+  BranchTakes : State → Branch → Type 0
+  BranchTakes t (JumpIf (condition.TooShort b x c)) = (c < 9) × AtHand s b
+  BranchTakes t (JumpIf (condition.NoBucket b)) = is_live_brigade (t.brigades b) ≡ true
+  BranchTakes t (JumpIf (condition.AtEnd c)) = c < 9
+  BranchTakes t (JumpIf (condition.OfKind c k)) = c < 9
+  BranchTakes t (JumpIf (condition.IsNull v)) = is_variable p v ≡ true
+  BranchTakes t when = Unit {0}
 
-  leads : (i : Instr) → AreFit p (args i) → Met (wants p i) → FlowTakes (after p (effect_of i) s) (flow_of i)
-  unfolding Met FlowTakes
+  leads : (i : Instr) → AreFit p (args i) → Met (wants p i) → BranchTakes (after p (effect_of i) s) (branch_of i)
+  unfolding Met BranchTakes
   leads (instr.BPart b x c l) a h = (cursor_number c (a.third.0), hand b (h.0))
   leads (instr.JEmpty b l) a h = live b (h.0)
   leads (instr.JEnd c l) a h = cursor_number c (a.first.0)
@@ -174,8 +180,8 @@ module _ (p : Program) (call : Bool) (s : State) (m : IsModule p) (f : IsFormedI
 
   -- t is what an effect makes of s
   module _ (t : State) (g : IsFormedIn p call t) where
-    on_condition_formed : (when : Condition) → FlowTakes t (JumpIf when) → AreFormed (on_condition when s t)
-    unfolding FlowTakes
+    on_condition_formed : (when : Condition) → BranchTakes t (JumpIf when) → AreFormed (on_condition when s t)
+    unfolding BranchTakes
     on_condition_formed (condition.TooShort b x c) h = (g, set_cursor_formed p call s c (End b) no_other f (h.0) (h.1))
     on_condition_formed (condition.NoBucket b) h = (if_reached (not (is_empty (t.brigades b).content)) t (λ e. g), emptied_at p call t b g h)
     on_condition_formed (condition.AtEnd c) h = end_edges t g c (t.cursors c) h (g.formed.cursors c)
@@ -185,15 +191,15 @@ module _ (p : Program) (call : Bool) (s : State) (m : IsModule p) (f : IsFormedI
     on_condition_formed condition.WasSent h = (sent_formed p call t false g, if_reached t.sent t (λ e. g))
     on_condition_formed when h = (g, g)
 
-    led_formed : (flow : Flow) → FlowTakes t flow → AreFormed (led flow s t)
-    unfolding FlowTakes
+    led_formed : (branch : Branch) → BranchTakes t branch → AreFormed (led branch s t)
+    unfolding BranchTakes
     led_formed ToNext h = (g, tt)
     led_formed (JumpIf when) h = on_condition_formed when h
     led_formed JumpAlways h = (tt, g)
     led_formed EndCall h = (tt, tt)
 
   edges_formed : (i : Instr) → AreFit p (args i) → Met (wants p i) → AreFormed (edges p i s)
-  edges_formed i a h = led_formed (after p (effect_of i) s) (after_formed i a h) (flow_of i) (leads i a h)
+  edges_formed i a h = led_formed (after p (effect_of i) s) (after_formed i a h) (branch_of i) (leads i a h)
 
 pub rules_keep_form : RulesKeepForm
 rules_keep_form p call i s e m fit f h = subst (λ r. IfOk r (AreFormed p call s m f)) h (answered (first_need s (wants p i)) refl)

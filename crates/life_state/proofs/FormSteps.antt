@@ -7,10 +7,13 @@ use Rattle.run_model.proofs.Updates.{upd_at, upd_either}
 use Rattle.life_state.specs.declared.parts.Contents.{Contents}
 use Rattle.life_state.specs.declared.parts.Contents.TheVariants.{Empty, Flushes, NoEos, NoLateData, Any}
 use Rattle.life_state.specs.declared.parts.Classes.{Classes}
-use Rattle.life_state.specs.States.{Homes, no_homes, home_in, both_homes, BrigadeKnown, holds, passed_on, is_live_brigade, is_usable_alone, with_homes, CursorKnown, Unset, Loose, In, End, InOrEnd, State, set_brigade}
+use Rattle.life_state.specs.States.{Homes, no_homes, home_in, both_homes, BrigadeKnown, holds, passed_on, is_live_brigade, is_usable_alone, with_homes, CursorKnown, Unset, Loose, In, End, InOrEnd}
+use Rattle.life_state.specs.States.{State, set_brigade}
 use Rattle.life_state.specs.Facts.{is_end, moved}
 use Rattle.life_state.specs.Order.{is_at_hand}
-use Rattle.life_state.specs.Rules.{homes_at, joined_content, emptied, left, carried, split_off, after_bcreate, after_bclean, after_join, after_bsplit, bucket_or_end, after_first, after_next, no_other, some_class, with_classes, classes_of, after_unlink, after_bdelete, after_copy, put_in, before_content, after_before, if_brigade, made, after_aside, all_others, may_end, after_pass}
+use Rattle.life_state.specs.Rules.{homes_at, joined_content, emptied, left, carried, split_off, after_bcreate, after_bclean, after_join, after_bsplit, bucket_or_end, after_first, after_next, no_other}
+use Rattle.life_state.specs.Rules.{some_class, with_classes, classes_of, after_unlink, after_bdelete, after_copy, put_in, before_content, after_before, if_brigade, made, after_aside, all_others}
+use Rattle.life_state.specs.Rules.{may_end, after_pass}
 use Rattle.life_state.specs.Form.{NamesDeclared, AtHand, FormedCursor}
 use Rattle.life_state.specs.FormLaws.{IsFormedIn}
 use Rattle.life_state.proofs.FormParts.{no_named, both_named, holds_formed, passed_formed, usable_formed}
@@ -143,7 +146,8 @@ module _ (p : Program) (call : Bool) where
       moved_formed p call t (λ k. emptied b (s.cursors k)) (based p call t g) f.formed.symmetric
       (λ k. emptied_formed t b (s.cursors k) (g.formed.cursors k)) (λ k h. ap (emptied b) (f.formed.no_cursors k h))
 
-  pub join_formed : (s : State) (a b : ℕ) (homes : Homes) → IsFormedIn p call s → AtHand s a → is_live_brigade (s.brigades b) ≡ true → NamesDeclared s homes → IsFormedIn p call (after_join a b homes s)
+  pub join_formed : (s : State) (a b : ℕ) (homes : Homes) → IsFormedIn p call s → AtHand s a → is_live_brigade (s.brigades b) ≡ true → NamesDeclared s homes
+      → IsFormedIn p call (after_join a b homes s)
   join_formed s a b homes f hand live named =
       let c = joined_content (s.brigades a).content (s.brigades b).content in
       let t = set_brigade a (holds c homes) s in

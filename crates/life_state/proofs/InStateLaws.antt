@@ -8,16 +8,16 @@ use Rattle.module_code.specs.declared.instr.VarRef.TheVariants as variable
 use Rattle.module_code.specs.Args.{args}
 use Rattle.module_code.specs.Program.{Program, fits, is_brigade, is_variable}
 use Rattle.module_code.proofs.FitLaws.{AreFit, fits_parts}
-use Rattle.run_model.specs.EffectOf.{effect_of, flow_of}
-use Rattle.run_model.specs.declared.effect.Flow.{Flow}
-use Rattle.run_model.specs.declared.effect.Flow.TheVariants.{JumpIf}
+use Rattle.run_model.specs.EffectOf.{effect_of, branch_of}
+use Rattle.run_model.specs.declared.effect.Branch.{Branch}
+use Rattle.run_model.specs.declared.effect.Branch.TheVariants.{JumpIf}
 use Rattle.run_model.specs.declared.effect.Condition.TheVariants as condition
 use Rattle.life_state.specs.InState.{effect_fits, condition_fits}
 use Rattle.life_state.proofs.Tests.{and2, or_either}
 
-abbrev flow_fits : Flow → Bool
-flow_fits (JumpIf when) = condition_fits when
-flow_fits f = true
+abbrev branch_fits : Branch → Bool
+branch_fits (JumpIf when) = condition_fits when
+branch_fits f = true
 
 cursor_in : (c : ℕ) → nat_lt c 8 ≡ true → nat_lt c 9 ≡ true
 cursor_in c h = lt-ltb c 9 (let below : c < 8 = ltb-true c 8 h in omega arith)
@@ -65,7 +65,7 @@ module _ (p : Program) (pools : length p.pools ≤ 8) (brigades : length p.briga
   effect_parts (instr.Aside c q) a = cursor_in c (a.first.0)
   effect_parts i a = refl
 
-  flow_parts : (i : Instr) → AreFit p (args i) → flow_fits (flow_of i) ≡ true
+  flow_parts : (i : Instr) → AreFit p (args i) → branch_fits (branch_of i) ≡ true
   flow_parts (instr.BPart b x c l) a = cursor_in c (a.third.0)
   flow_parts (instr.JEmpty b l) a = brigade_in b (a.first.0)
   flow_parts (instr.JEnd c l) a = cursor_in c (a.first.0)
@@ -76,5 +76,5 @@ module _ (p : Program) (pools : length p.pools ≤ 8) (brigades : length p.briga
 pub effects_fit : (p : Program) (i : Instr) → length p.pools ≤ 8 → length p.brigades ≤ 8 → fits p i ≡ true → effect_fits (effect_of i) ≡ true
 effects_fit p i pools brigades h = effect_parts p pools brigades i (fits_parts p i h)
 
-pub flows_fit : (p : Program) (i : Instr) → length p.pools ≤ 8 → length p.brigades ≤ 8 → fits p i ≡ true → flow_fits (flow_of i) ≡ true
+pub flows_fit : (p : Program) (i : Instr) → length p.pools ≤ 8 → length p.brigades ≤ 8 → fits p i ≡ true → branch_fits (branch_of i) ≡ true
 flows_fit p i pools brigades h = flow_parts p pools brigades i (fits_parts p i h)

@@ -7,7 +7,8 @@ use Rattle.life_state.specs.declared.parts.Contents.{Contents}
 use Rattle.life_state.specs.declared.parts.Classes.{Classes}
 use Rattle.life_state.specs.States.{Homes, both_homes, BrigadeKnown, CursorKnown, Unset, Loose, In, End, InOrEnd, State}
 use Rattle.life_state.specs.Facts.{is_set, is_apart, place_of, known, facts_of}
-use Rattle.life_state.specs.Order.{implies, all_below, rank, content_le, greater, classes_le, both_classes, places_le, homes_le, brigade_le, both_brigades, cursor_le, both_here, both_cursors, is_at_hand, kept_cursor, same_variables, joined_brigades, joined_cursors, join}
+use Rattle.life_state.specs.Order.{implies, all_below, rank, content_le, greater, classes_le, both_classes, places_le, homes_le, brigade_le, both_brigades, cursor_le, both_here, both_cursors}
+use Rattle.life_state.specs.Order.{is_at_hand, kept_cursor, same_variables, joined_brigades, joined_cursors, join}
 use Rattle.life_state.specs.Laws.{Below, JoinIsAbove}
 use Rattle.life_state.proofs.Below.{all_below_holds}
 use Rattle.life_state.proofs.Tests.{split2, and2, split3, and3, or_left, or_right, implies_left, implies_right}
@@ -46,13 +47,15 @@ content_right a b = pick (content_le a b) refl
 brigade_left : (a b : BrigadeKnown) → brigade_le a (both_brigades a b) ≡ true
 unfolding both_brigades
 brigade_left a b =
-    brigade_by a (both_brigades a b) (pool_left (as_pool a) (as_pool b)) (and2 (implies a.usable (a.usable || b.usable)) (implies a.passed (a.passed || b.passed)) (implies_left a.usable b.usable) (implies_left a.passed b.passed))
+    brigade_by a (both_brigades a b) (pool_left (as_pool a) (as_pool b))
+    (and2 (implies a.usable (a.usable || b.usable)) (implies a.passed (a.passed || b.passed)) (implies_left a.usable b.usable) (implies_left a.passed b.passed))
     (content_left a.content b.content) (homes_left a.homes b.homes)
 
 brigade_right : (a b : BrigadeKnown) → brigade_le b (both_brigades a b) ≡ true
 unfolding both_brigades
 brigade_right a b =
-    brigade_by b (both_brigades a b) (pool_right (as_pool a) (as_pool b)) (and2 (implies b.usable (a.usable || b.usable)) (implies b.passed (a.passed || b.passed)) (implies_right a.usable b.usable) (implies_right a.passed b.passed))
+    brigade_by b (both_brigades a b) (pool_right (as_pool a) (as_pool b))
+    (and2 (implies b.usable (a.usable || b.usable)) (implies b.passed (a.passed || b.passed)) (implies_right a.usable b.usable) (implies_right a.passed b.passed))
     (content_right a.content b.content) (homes_right a.homes b.homes)
 
 same_number : (b : ℕ) → (b == b) ≡ true

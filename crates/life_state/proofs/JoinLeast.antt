@@ -8,7 +8,8 @@ use Rattle.life_state.specs.declared.parts.Classes.{Classes}
 use Rattle.life_state.specs.declared.parts.PoolState.{PoolState}
 use Rattle.life_state.specs.States.{Homes, both_homes, BrigadeKnown, is_live_brigade, is_usable_alone, CursorKnown, Unset, Loose, In, End, InOrEnd, State}
 use Rattle.life_state.specs.Facts.{is_set, is_apart, place_of, known, facts_of}
-use Rattle.life_state.specs.Order.{implies, all_below, content_le, greater, classes_le, both_classes, pool_le, both_pools, places_le, homes_le, variable_le, marks_le, brigade_le, both_brigades, cursor_le, both_here, both_cursors, is_at_hand, kept_cursor, joined_brigades, joined_cursors, join}
+use Rattle.life_state.specs.Order.{implies, all_below, content_le, greater, classes_le, both_classes, pool_le, both_pools, places_le, homes_le, variable_le, marks_le, brigade_le, both_brigades}
+use Rattle.life_state.specs.Order.{cursor_le, both_here, both_cursors, is_at_hand, kept_cursor, joined_brigades, joined_cursors, join}
 use Rattle.life_state.specs.Form.{FormedBrigade, AtHand, FormedCursor, IsFormed}
 use Rattle.life_state.specs.Laws.{Below, JoinIsLeast}
 use Rattle.life_state.proofs.Below.{all_below_holds}
@@ -38,19 +39,20 @@ or_off a b p q = ap (λ x. x || b) p ∙ q
 last_on : (a b : Bool) → (a || b) ≡ true → a ≡ false → b ≡ true
 last_on a b h p = sym (ap (λ x. x || b) p) ∙ h
 
+-- three tests of two
+three_least : (a b c x y z u v w : Bool) → (implies a u && implies b v && implies c w) ≡ true → (implies x u && implies y v && implies z w) ≡ true
+    → (implies (a || x) u && implies (b || y) v && implies (c || z) w) ≡ true
+three_least a b c x y z u v w p q =
+    let p3 = split3 (implies a u) (implies b v) (implies c w) p in
+    let q3 = split3 (implies x u) (implies y v) (implies z w) q in
+    and3 (implies (a || x) u) (implies (b || y) v) (implies (c || z) w) (implies_or a x u (p3.0) (q3.0)) (implies_or b y v (p3.1) (q3.1))
+    (implies_or c z w (p3.2) (q3.2))
+
 classes_least : (s t u : Classes) → classes_le s u ≡ true → classes_le t u ≡ true → classes_le (both_classes s t) u ≡ true
-classes_least s t u p q =
-    let p3 = split3 (implies s.bytes u.bytes) (implies s.flush u.flush) (implies s.eos u.eos) p in
-    let q3 = split3 (implies t.bytes u.bytes) (implies t.flush u.flush) (implies t.eos u.eos) q in
-    and3 (implies (s.bytes || t.bytes) u.bytes) (implies (s.flush || t.flush) u.flush) (implies (s.eos || t.eos) u.eos)
-    (implies_or s.bytes t.bytes u.bytes (p3.0) (q3.0)) (implies_or s.flush t.flush u.flush (p3.1) (q3.1)) (implies_or s.eos t.eos u.eos (p3.2) (q3.2))
+classes_least s t u = three_least s.bytes s.flush s.eos t.bytes t.flush t.eos u.bytes u.flush u.eos
 
 pool_least : (s t u : PoolState) → pool_le s u ≡ true → pool_le t u ≡ true → pool_le (both_pools s t) u ≡ true
-pool_least s t u p q =
-    let p3 = split3 (implies s.null u.null) (implies s.gone u.gone) (implies s.live u.live) p in
-    let q3 = split3 (implies t.null u.null) (implies t.gone u.gone) (implies t.live u.live) q in
-    and3 (implies (s.null || t.null) u.null) (implies (s.gone || t.gone) u.gone) (implies (s.live || t.live) u.live)
-    (implies_or s.null t.null u.null (p3.0) (q3.0)) (implies_or s.gone t.gone u.gone (p3.1) (q3.1)) (implies_or s.live t.live u.live (p3.2) (q3.2))
+pool_least s t u = three_least s.null s.gone s.live t.null t.gone t.live u.null u.gone u.live
 
 pub homes_least : (a b u : Homes) → homes_le a u ≡ true → homes_le b u ≡ true → homes_le (both_homes a b) u ≡ true
 homes_least a b u p q =
@@ -62,7 +64,8 @@ homes_least a b u p q =
     and3 (implies (a.call || b.call) u.call) (implies (a.dead || b.dead) u.dead) (places_le both u.at) (implies_or a.call b.call u.call (p3.0) (q3.0)) (implies_or a.dead b.dead u.dead (p3.1) (q3.1))
     (and2 (implies (both pool.Req) (u.at pool.Req)) (all_below 8 (λ i. implies (both (pool.Own i)) (u.at (pool.Own i)))) (implies_or (a.at pool.Req) (b.at pool.Req) (u.at pool.Req) (pp.0) (qq.0))
     (all_below_holds 8 (λ i. implies (both (pool.Own i)) (u.at (pool.Own i)))
-    (λ k h. implies_or (a.at (pool.Own k)) (b.at (pool.Own k)) (u.at (pool.Own k)) (all_at 8 k (λ i. implies (a.at (pool.Own i)) (u.at (pool.Own i))) (pp.1) h) (all_at 8 k (λ i. implies (b.at (pool.Own i)) (u.at (pool.Own i))) (qq.1) h))))
+    (λ k h. implies_or (a.at (pool.Own k)) (b.at (pool.Own k)) (u.at (pool.Own k)) (all_at 8 k (λ i. implies (a.at (pool.Own i)) (u.at (pool.Own i))) (pp.1) h)
+    (all_at 8 k (λ i. implies (b.at (pool.Own i)) (u.at (pool.Own i))) (qq.1) h))))
 
 content_least : (a b u : Contents) → content_le a u ≡ true → content_le b u ≡ true → content_le (greater a b) u ≡ true
 content_least a b u p q = pick (content_le a b)
@@ -98,7 +101,8 @@ brigade_least a b u p q =
     (and3 (variable_le both u) (marks_le both u) (content_le (greater a.content b.content) u.content)
     (and3 (implies (a.null || b.null) u.null) (implies (a.gone || b.gone) u.gone) (implies (a.live || b.live) u.live)
     (implies_or a.null b.null u.null p.null q.null) (implies_or a.gone b.gone u.gone p.gone q.gone) (implies_or a.live b.live u.live p.live q.live))
-    (and2 (implies (a.usable || b.usable) u.usable) (implies (a.passed || b.passed) u.passed) (implies_or a.usable b.usable u.usable p.usable q.usable) (implies_or a.passed b.passed u.passed p.passed q.passed))
+    (and2 (implies (a.usable || b.usable) u.usable) (implies (a.passed || b.passed) u.passed) (implies_or a.usable b.usable u.usable p.usable q.usable)
+    (implies_or a.passed b.passed u.passed p.passed q.passed))
     (content_least a.content b.content u.content p.content q.content))
     (homes_least a.homes b.homes u.homes p.homes q.homes)
 
@@ -213,7 +217,8 @@ both_least x y (InOrEnd d u) p q = pick x y (InOrEnd d u) p q refl
 module _ (a b u : State) (of_a : IsFormed a) (of_u : IsFormed u) (au : Below a u) (bu : Below b u) where
   hand : (n : ℕ) → AtHand u n → is_at_hand (joined_brigades a b n) ≡ true
   hand n at =
-      hand_joined (a.brigades n) (b.brigades n) (u.brigades n) (of_a.brigades n) (parts (a.brigades n) (u.brigades n) (au.brigades n (at.0))) (parts (b.brigades n) (u.brigades n) (bu.brigades n (at.0))) (at.1)
+      hand_joined (a.brigades n) (b.brigades n) (u.brigades n) (of_a.brigades n) (parts (a.brigades n) (u.brigades n) (au.brigades n (at.0)))
+      (parts (b.brigades n) (u.brigades n) (bu.brigades n (at.0))) (at.1)
 
   hands : (v : CursorKnown) → FormedCursor u v → Hand (joined_brigades a b) v
   unfolding Hand
@@ -241,7 +246,8 @@ module _ (a b u : State) (of_a : IsFormed a) (of_u : IsFormed u) (au : Below a u
       let kept = and2 (known a c d) (known b c d) (au.facts c d first second h) (bu.facts c d first second h) in
       and2 (not (c == d)) (facts_of (λ i j. known a i j && known b i j) (joined_cursors a b) c d || is_apart x y) (w2.0) (either (is_apart x y) refl set_c set_d kept (w2.0))
     where
-      either : (t : Bool) → is_apart (joined_cursors a b c) (joined_cursors a b d) ≡ t → is_set (joined_cursors a b c) ≡ true → is_set (joined_cursors a b d) ≡ true → (known a c d && known b c d) ≡ true → not (c == d) ≡ true
+      either : (t : Bool) → is_apart (joined_cursors a b c) (joined_cursors a b d) ≡ t → is_set (joined_cursors a b c) ≡ true → is_set (joined_cursors a b d) ≡ true
+          → (known a c d && known b c d) ≡ true → not (c == d) ≡ true
           → (facts_of (λ i j. known a i j && known b i j) (joined_cursors a b) c d || is_apart (joined_cursors a b c) (joined_cursors a b d)) ≡ true
       either true e set_c set_d kept ne = or_right (facts_of (λ i j. known a i j && known b i j) (joined_cursors a b) c d) (is_apart (joined_cursors a b c) (joined_cursors a b d)) e
       either false e set_c set_d kept ne =
@@ -255,7 +261,8 @@ module _ (a b u : State) (of_a : IsFormed a) (of_u : IsFormed u) (au : Below a u
     variables = au.variables;
     sent = λ h. ⊎_elim au.sent bu.sent (or_either a.sent b.sent h);
     pools = λ q below. pool_least (a.pools q) (b.pools q) (u.pools q) (au.pools q below) (bu.pools q below);
-    brigades = λ v below. brigade_least (a.brigades v) (b.brigades v) (u.brigades v) (parts (a.brigades v) (u.brigades v) (au.brigades v below)) (parts (b.brigades v) (u.brigades v) (bu.brigades v below));
+    brigades = λ v below. brigade_least (a.brigades v) (b.brigades v) (u.brigades v) (parts (a.brigades v) (u.brigades v) (au.brigades v below))
+        (parts (b.brigades v) (u.brigades v) (bu.brigades v below));
     cursors = cursor_below;
     facts = fact_known;
   }

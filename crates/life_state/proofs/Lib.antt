@@ -27,6 +27,7 @@ pub mod Picks
 pub mod Sets
 pub mod Tests
 pub mod UnderLaws
+pub mod Walks
 pub mod Within
 pub mod WithinParts
 pub mod WithinNeeds

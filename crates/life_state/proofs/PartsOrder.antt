@@ -86,7 +86,8 @@ places_trans f g h p q =
     let q2 = split2 (implies (g pool.Req) (h pool.Req)) (all_below 8 (λ i. implies (g (pool.Own i)) (h (pool.Own i)))) q in
     and2 (implies (f pool.Req) (h pool.Req)) (all_below 8 (λ i. implies (f (pool.Own i)) (h (pool.Own i)))) (implies_trans (f pool.Req) (g pool.Req) (h pool.Req) (p2.0) (q2.0))
     (all_below_holds 8 (λ i. implies (f (pool.Own i)) (h (pool.Own i)))
-    (λ k below. implies_trans (f (pool.Own k)) (g (pool.Own k)) (h (pool.Own k)) (all_at 8 k (λ i. implies (f (pool.Own i)) (g (pool.Own i))) (p2.1) below) (all_at 8 k (λ i. implies (g (pool.Own i)) (h (pool.Own i))) (q2.1) below)))
+    (λ k below. implies_trans (f (pool.Own k)) (g (pool.Own k)) (h (pool.Own k)) (all_at 8 k (λ i. implies (f (pool.Own i)) (g (pool.Own i))) (p2.1) below)
+    (all_at 8 k (λ i. implies (g (pool.Own i)) (h (pool.Own i))) (q2.1) below)))
 
 pub homes_same : (h : Homes) → homes_le h h ≡ true
 homes_same h = and3 (implies h.call h.call) (implies h.dead h.dead) (places_le h.at h.at) (implies_same h.call) (implies_same h.dead) (places_same h.at)
@@ -95,7 +96,8 @@ pub homes_trans : (a b c : Homes) → homes_le a b ≡ true → homes_le b c ≡
 homes_trans a b c p q =
     let p3 = split3 (implies a.call b.call) (implies a.dead b.dead) (places_le a.at b.at) p in
     let q3 = split3 (implies b.call c.call) (implies b.dead c.dead) (places_le b.at c.at) q in
-    and3 (implies a.call c.call) (implies a.dead c.dead) (places_le a.at c.at) (implies_trans a.call b.call c.call (p3.0) (q3.0)) (implies_trans a.dead b.dead c.dead (p3.1) (q3.1)) (places_trans a.at b.at c.at (p3.2) (q3.2))
+    and3 (implies a.call c.call) (implies a.dead c.dead) (places_le a.at c.at) (implies_trans a.call b.call c.call (p3.0) (q3.0)) (implies_trans a.dead b.dead c.dead (p3.1) (q3.1))
+    (places_trans a.at b.at c.at (p3.2) (q3.2))
 
 marks_same : (v : BrigadeKnown) → marks_le v v ≡ true
 marks_same v = and2 (implies v.usable v.usable) (implies v.passed v.passed) (implies_same v.usable) (implies_same v.passed)
@@ -122,7 +124,8 @@ brigade_trans a b c p q =
     let q2 = split2 (variable_le b c && marks_le b c && content_le b.content c.content) (homes_le b.homes c.homes) q in
     let p3 = split3 (variable_le a b) (marks_le a b) (content_le a.content b.content) (p2.0) in
     let q3 = split3 (variable_le b c) (marks_le b c) (content_le b.content c.content) (q2.0) in
-    brigade_by a c (variable_trans a b c (p3.0) (q3.0)) (marks_trans a b c (p3.1) (q3.1)) (content_trans a.content b.content c.content (p3.2) (q3.2)) (homes_trans a.homes b.homes c.homes (p2.1) (q2.1))
+    brigade_by a c (variable_trans a b c (p3.0) (q3.0)) (marks_trans a b c (p3.1) (q3.1)) (content_trans a.content b.content c.content (p3.2) (q3.2))
+    (homes_trans a.homes b.homes c.homes (p2.1) (q2.1))
 
 same_number : (b : ℕ) → (b == b) ≡ true
 same_number b = eq-eqb b b refl
@@ -199,7 +202,8 @@ apart_below x y u v p q h =
     let elsewhere : (is_end x || is_end y || not (place_of x == place_of y)) ≡ true =
     ⊎_elim
     (λ (ends : (is_end u || is_end v) ≡ true). or_left (is_end x || is_end y) (not (place_of x == place_of y))
-    (⊎_elim (λ (e : is_end u ≡ true). or_left (is_end x) (is_end y) (le_end x u p e)) (λ (e : is_end v ≡ true). or_right (is_end x) (is_end y) (le_end y v q e)) (or_either (is_end u) (is_end v) ends)))
+    (⊎_elim (λ (e : is_end u ≡ true). or_left (is_end x) (is_end y) (le_end x u p e)) (λ (e : is_end v ≡ true). or_right (is_end x) (is_end y) (le_end y v q e))
+    (or_either (is_end u) (is_end v) ends)))
     (λ (far : not (place_of u == place_of v) ≡ true). or_right (is_end x || is_end y) (not (place_of x == place_of y))
     (ap (λ (n : ℕ). not (n == place_of y)) (le_place x u p (h3.0)) ∙ (ap (λ (n : ℕ). not (place_of u == n)) (le_place y v q (h3.1)) ∙ far)))
     (or_either (is_end u || is_end v) (not (place_of u == place_of v)) (h3.2)) in

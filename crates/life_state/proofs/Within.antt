@@ -34,7 +34,8 @@ within a b f g h =
       variables = less.variables;
       sent = less.sent;
       pools = λ q. ⊎_elim (λ (low : q < 8). less.pools q low)
-          (λ (high : 8 ≤ q). subst (λ v. pool_le v (b.pools q) ≡ true) (sym (f.no_pools q (omega (arith, f.pool_count)))) (subst (λ v. pool_le only_null v ≡ true) (sym (g.no_pools q (omega (arith, g.pool_count)))) (pool_same only_null)))
+          (λ (high : 8 ≤ q). subst (λ v. pool_le v (b.pools q) ≡ true) (sym (f.no_pools q (omega (arith, f.pool_count))))
+          (subst (λ v. pool_le only_null v ≡ true) (sym (g.no_pools q (omega (arith, g.pool_count)))) (pool_same only_null)))
           (cases_lt q 8);
       brigades = λ v. ⊎_elim (λ (low : v < 9). less.brigades v low)
           (λ (high : 9 ≤ v). subst (λ x. brigade_le x (b.brigades v) ≡ true) (sym (f.no_brigades v (omega (arith, f.brigade_count)) (omega arith)))
@@ -79,7 +80,8 @@ kept_fact keep more f g less kept c d h =
     let h3 = split3 (not (c == d) && more c d && is_set (g c)) (is_set (g d)) (not (is_apart (g c) (g d))) h in
     let k3 = split3 (not (c == d)) (more c d) (is_set (g c)) (h3.0) in
     and2 (not (c == d)) (not (c == d) && keep c d && is_set (f c) && is_set (f d) && not (is_apart (f c) (f d)) || is_apart (f c) (f d)) (k3.0)
-    (either (and3 (not (c == d) && keep c d) (is_set (f c)) (is_set (f d)) (and2 (not (c == d)) (keep c d) (k3.0) (kept c d (k3.1))) (le_set (f c) (g c) (less c) (k3.2)) (le_set (f d) (g d) (less d) (h3.1))) (is_apart (f c) (f d)))
+    (either (and3 (not (c == d) && keep c d) (is_set (f c)) (is_set (f d)) (and2 (not (c == d)) (keep c d) (k3.0) (kept c d (k3.1))) (le_set (f c) (g c) (less c) (k3.2))
+    (le_set (f d) (g d) (less d) (h3.1))) (is_apart (f c) (f d)))
   where
     either : {x : Bool} → x ≡ true → (y : Bool) → (x && not y || y) ≡ true
     either {x} h true = or_right (x && false) true refl
@@ -128,7 +130,8 @@ IsLess x y = cursor_le x y ≡ true
 pub cursors_within : (a b : State) (c : ℕ) (v u : CursorKnown) → Within a b → cursor_le v u ≡ true → CursorsWithin (upd a.cursors c v) (upd b.cursors c u)
 cursors_within a b c v u w h = upd_within IsLess a.cursors b.cursors c v u h w.cursors
 
-pub set_within : (a b : State) (c : ℕ) (v u : CursorKnown) (new more : ℕ → Bool) → Within a b → cursor_le v u ≡ true → ((k : ℕ) → more k ≡ true → new k ≡ true) → Within (set_cursor c v new a) (set_cursor c u more b)
+pub set_within : (a b : State) (c : ℕ) (v u : CursorKnown) (new more : ℕ → Bool) → Within a b → cursor_le v u ≡ true → ((k : ℕ) → more k ≡ true → new k ≡ true)
+    → Within (set_cursor c v new a) (set_cursor c u more b)
 unfolding set_cursor known
 set_within a b c v u new more w h others = record {
   variables = w.variables;

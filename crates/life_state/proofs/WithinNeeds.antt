@@ -104,21 +104,14 @@ limits true false f = absurd (clash (f refl))
 limits false true f = refl
 limits false false f = refl
 
-marks_alone : (u p w q : Bool) → implies u w ≡ true → implies p q ≡ true → (u || p) ≡ true → (w && not q) ≡ true → (u && not p) ≡ true
-marks_alone true true w true a b c d = absurd (clash w d)
-  where
-    clash : (w : Bool) → (w && false) ≡ true → ⊥
-    clash true e = cc
-    clash false e = cc
-marks_alone true true w false a b c d = cc
-marks_alone true false w q a b c d = refl
-marks_alone false true w true a b c d = absurd (clash w d)
-  where
-    clash : (w : Bool) → (w && false) ≡ true → ⊥
-    clash true e = cc
-    clash false e = cc
-marks_alone false true w false a b c d = cc
-marks_alone false false w q a b c d = cc
+none_above : (p q : Bool) → implies p q ≡ true → not q ≡ true → p ≡ false
+none_above true true b d = cc
+none_above true false b d = cc
+none_above false q b d = refl
+
+first_alone : (u p : Bool) → (u || p) ≡ true → p ≡ false → (u && not p) ≡ true
+first_alone true p c none = ap not none
+first_alone false p c none = cc
 
 live_within : (v u : BrigadeKnown) → brigade_le v u ≡ true → FormedBrigade v → is_live_brigade u ≡ true → is_live_brigade v ≡ true
 live_within v u p f h =
@@ -128,7 +121,8 @@ live_within v u p f h =
 usable_within : (v u : BrigadeKnown) → brigade_le v u ≡ true → FormedBrigade v → is_live_brigade v ≡ true → is_usable_alone u ≡ true → is_usable_alone v ≡ true
 usable_within v u p f live h =
     let of = parts v u p in
-    marks_alone v.usable v.passed u.usable u.passed of.usable of.passed (sym f.marks ∙ (split3 v.live (not v.null) (not v.gone) live).0) h
+    first_alone v.usable v.passed (sym f.marks ∙ (split3 v.live (not v.null) (not v.gone) live).0)
+    (none_above v.passed u.passed of.passed (split2 u.usable (not u.passed) h).1)
 
 both_none : (t u : Bool) (j k : FaultKind) → (if t then (if u then None else Some j) else Some k) ≡ None → (t ≡ true) × (u ≡ true)
 both_none true true j k h = (refl, refl)

@@ -11,10 +11,12 @@ use Rattle.life_state.specs.declared.parts.Contents.{Contents}
 use Rattle.life_state.specs.declared.parts.Contents.TheVariants.{Empty, Flushes, NoEos, NoLateData, Any}
 use Rattle.life_state.specs.declared.parts.Classes.{Classes}
 use Rattle.life_state.specs.declared.parts.PoolState.{PoolState}
-use Rattle.life_state.specs.States.{Homes, no_homes, both_homes, any_place, dead_where, is_live_alone, ended_pool, BrigadeKnown, holds, ended_brigade, with_homes, CursorKnown, Unset, Loose, In, End, InOrEnd, State}
+use Rattle.life_state.specs.States.{Homes, no_homes, both_homes, any_place, dead_where, is_live_alone, ended_pool, BrigadeKnown, holds, ended_brigade, with_homes, CursorKnown, Unset, Loose, In, End}
+use Rattle.life_state.specs.States.{InOrEnd, State}
 use Rattle.life_state.specs.Facts.{is_set, is_end}
 use Rattle.life_state.specs.Order.{implies, all_below, content_le, classes_le, pool_le, places_le, homes_le, brigade_le, cursor_le}
-use Rattle.life_state.specs.Rules.{homes_at, joined_content, tail_content, head_content, before_content, emptied, left, carried, lies_under, cleared_cursor, split_part, bucket_or_end, is_empty, of_kind, not_of_kind, some_class, with_classes, classes_of, may_end, pool_not_null, brigade_not_null}
+use Rattle.life_state.specs.Rules.{homes_at, joined_content, tail_content, head_content, before_content, emptied, left, carried, lies_under, cleared_cursor, split_part, bucket_or_end, is_empty}
+use Rattle.life_state.specs.Rules.{of_kind, not_of_kind, some_class, with_classes, classes_of, may_end, pool_not_null, brigade_not_null}
 use Rattle.life_state.specs.Form.{some_pool}
 use Rattle.life_state.proofs.Below.{all_below_holds}
 use Rattle.life_state.proofs.Tests.{split2, and2, split3, and3, or_either, or_left, or_right, implies_says, implies_by, all_at}
@@ -120,35 +122,37 @@ empty_least = content_of_all (content_le Empty) refl
 
 -- Classes.
 
-classes_by : (f : Classes → Classes) → all_classes (λ s. all_classes (λ t. implies (classes_le s t) (classes_le (f s) (f t)))) ≡ true → (s t : Classes) → classes_le s t ≡ true → classes_le (f s) (f t) ≡ true
+abbrev Ups : (Classes → Classes) → Type 0
+Ups f = all_classes (λ s. all_classes (λ t. implies (classes_le s t) (classes_le (f s) (f t)))) ≡ true
+
+classes_by : (f : Classes → Classes) → Ups f → (s t : Classes) → classes_le s t ≡ true → classes_le (f s) (f t) ≡ true
 classes_by f all s t p =
     implies_says (classes_le s t) (classes_le (f s) (f t))
     (class_of_all (λ t. implies (classes_le s t) (classes_le (f s) (f t))) (class_of_all (λ s. all_classes (λ t. implies (classes_le s t) (classes_le (f s) (f t)))) all s) t) p
 
+-- kind by kind
+each_kind : (f : KindTest → Classes → Classes) → Ups (f test.Flush) → Ups (f test.Eos) → Ups (f test.Data) → Ups (f test.Heap) → Ups (f test.Transient)
+    → Ups (f test.Immortal) → Ups (f test.Pool) → Ups (f test.File) → (k : KindTest) → Ups (f k)
+each_kind f flush eos bytes heap transient immortal pool file test.Flush = flush
+each_kind f flush eos bytes heap transient immortal pool file test.Eos = eos
+each_kind f flush eos bytes heap transient immortal pool file test.Data = bytes
+each_kind f flush eos bytes heap transient immortal pool file test.Heap = heap
+each_kind f flush eos bytes heap transient immortal pool file test.Transient = transient
+each_kind f flush eos bytes heap transient immortal pool file test.Immortal = immortal
+each_kind f flush eos bytes heap transient immortal pool file test.Pool = pool
+each_kind f flush eos bytes heap transient immortal pool file test.File = file
+
 pub of_kind_rises : (k : KindTest) (s t : Classes) → classes_le s t ≡ true → classes_le (of_kind k s) (of_kind k t) ≡ true
-of_kind_rises test.Flush = classes_by (of_kind test.Flush) refl
-of_kind_rises test.Eos = classes_by (of_kind test.Eos) refl
-of_kind_rises test.Data = classes_by (of_kind test.Data) refl
-of_kind_rises test.Heap = classes_by (of_kind test.Heap) refl
-of_kind_rises test.Transient = classes_by (of_kind test.Transient) refl
-of_kind_rises test.Immortal = classes_by (of_kind test.Immortal) refl
-of_kind_rises test.Pool = classes_by (of_kind test.Pool) refl
-of_kind_rises test.File = classes_by (of_kind test.File) refl
+of_kind_rises k = classes_by (of_kind k) (each_kind of_kind refl refl refl refl refl refl refl refl k)
 
 pub not_of_kind_rises : (k : KindTest) (s t : Classes) → classes_le s t ≡ true → classes_le (not_of_kind k s) (not_of_kind k t) ≡ true
-not_of_kind_rises test.Flush = classes_by (not_of_kind test.Flush) refl
-not_of_kind_rises test.Eos = classes_by (not_of_kind test.Eos) refl
-not_of_kind_rises test.Data = classes_by (not_of_kind test.Data) refl
-not_of_kind_rises test.Heap = classes_by (not_of_kind test.Heap) refl
-not_of_kind_rises test.Transient = classes_by (not_of_kind test.Transient) refl
-not_of_kind_rises test.Immortal = classes_by (not_of_kind test.Immortal) refl
-not_of_kind_rises test.Pool = classes_by (not_of_kind test.Pool) refl
-not_of_kind_rises test.File = classes_by (not_of_kind test.File) refl
+not_of_kind_rises k = classes_by (not_of_kind k) (each_kind not_of_kind refl refl refl refl refl refl refl refl k)
 
 pub some_rises : (s t : Classes) → classes_le s t ≡ true → some_class s ≡ true → some_class t ≡ true
 some_rises s t p h =
     implies_says (some_class s) (some_class t) (implies_says (classes_le s t) (implies (some_class s) (some_class t))
-    (class_of_all (λ t. implies (classes_le s t) (implies (some_class s) (some_class t))) (class_of_all (λ s. all_classes (λ t. implies (classes_le s t) (implies (some_class s) (some_class t)))) refl s) t) p) h
+    (class_of_all (λ t. implies (classes_le s t) (implies (some_class s) (some_class t)))
+    (class_of_all (λ s. all_classes (λ t. implies (classes_le s t) (implies (some_class s) (some_class t)))) refl s) t) p) h
 
 -- Homes.
 
@@ -179,7 +183,8 @@ place_req f g p = implies_says (f pool.Req) (g pool.Req) ((split2 (implies (f po
 
 place_own : (f g : PoolRef → Bool) → places_le f g ≡ true → (i : ℕ) → i < 8 → f (pool.Own i) ≡ true → g (pool.Own i) ≡ true
 place_own f g p i low =
-    implies_says (f (pool.Own i)) (g (pool.Own i)) (all_at 8 i (λ i. implies (f (pool.Own i)) (g (pool.Own i))) ((split2 (implies (f pool.Req) (g pool.Req)) (all_below 8 (λ i. implies (f (pool.Own i)) (g (pool.Own i)))) p).1) low)
+    implies_says (f (pool.Own i)) (g (pool.Own i))
+    (all_at 8 i (λ i. implies (f (pool.Own i)) (g (pool.Own i))) ((split2 (implies (f pool.Req) (g pool.Req)) (all_below 8 (λ i. implies (f (pool.Own i)) (g (pool.Own i)))) p).1) low)
 
 places_by : (f g : PoolRef → Bool) → (f pool.Req ≡ true → g pool.Req ≡ true) → ((i : ℕ) → i < 8 → f (pool.Own i) ≡ true → g (pool.Own i) ≡ true) → places_le f g ≡ true
 places_by f g req own =
@@ -219,7 +224,8 @@ homes_ended gone a b p =
 
 pools_by : (f : PoolState → PoolState) → all_pools (λ v. all_pools (λ u. implies (pool_le v u) (pool_le (f v) (f u)))) ≡ true → (v u : PoolState) → pool_le v u ≡ true → pool_le (f v) (f u) ≡ true
 pools_by f all v u p =
-    implies_says (pool_le v u) (pool_le (f v) (f u)) (pool_of_all (λ u. implies (pool_le v u) (pool_le (f v) (f u))) (pool_of_all (λ v. all_pools (λ u. implies (pool_le v u) (pool_le (f v) (f u)))) all v) u) p
+    implies_says (pool_le v u) (pool_le (f v) (f u))
+    (pool_of_all (λ u. implies (pool_le v u) (pool_le (f v) (f u))) (pool_of_all (λ v. all_pools (λ u. implies (pool_le v u) (pool_le (f v) (f u)))) all v) u) p
 
 pub pool_ended : (v u : PoolState) → pool_le v u ≡ true → pool_le (ended_pool v) (ended_pool u) ≡ true
 pool_ended = pools_by ended_pool refl
@@ -242,18 +248,22 @@ holds_within a b h k p q = brigade_by (holds a h) (holds b k) refl refl p q
 pub ended_within : (v u : BrigadeKnown) → brigade_le v u ≡ true → brigade_le (ended_brigade v) (ended_brigade u) ≡ true
 ended_within v u p =
     let of = parts v u p in
-    brigade_by (ended_brigade v) (ended_brigade u) (pool_ended (as_pool v) (as_pool u) (and3 (implies v.null u.null) (implies v.gone u.gone) (implies v.live u.live) of.null of.gone of.live)) refl refl (homes_same no_homes)
+    brigade_by (ended_brigade v) (ended_brigade u)
+    (pool_ended (as_pool v) (as_pool u) (and3 (implies v.null u.null) (implies v.gone u.gone) (implies v.live u.live) of.null of.gone of.live)) refl refl (homes_same no_homes)
 
-pub homes_changed : (change : Homes → Homes) (v u : BrigadeKnown) → ((h k : Homes) → homes_le h k ≡ true → homes_le (change h) (change k) ≡ true) → brigade_le v u ≡ true → brigade_le (with_homes change v) (with_homes change u) ≡ true
+pub homes_changed : (change : Homes → Homes) (v u : BrigadeKnown) → ((h k : Homes) → homes_le h k ≡ true → homes_le (change h) (change k) ≡ true) → brigade_le v u ≡ true
+    → brigade_le (with_homes change v) (with_homes change u) ≡ true
 homes_changed change v u rise p =
     let of = parts v u p in
-    brigade_by (with_homes change v) (with_homes change u) (and3 (implies v.null u.null) (implies v.gone u.gone) (implies v.live u.live) of.null of.gone of.live) (and2 (implies v.usable u.usable) (implies v.passed u.passed) of.usable of.passed) of.content
+    brigade_by (with_homes change v) (with_homes change u) (and3 (implies v.null u.null) (implies v.gone u.gone) (implies v.live u.live) of.null of.gone of.live)
+    (and2 (implies v.usable u.usable) (implies v.passed u.passed) of.usable of.passed) of.content
     (rise v.homes u.homes of.homes)
 
 pub brigade_not_null_within : (v u : BrigadeKnown) → brigade_le v u ≡ true → brigade_le (brigade_not_null v) (brigade_not_null u) ≡ true
 brigade_not_null_within v u p =
     let of = parts v u p in
-    brigade_by (brigade_not_null v) (brigade_not_null u) (and3 (implies false false) (implies v.gone u.gone) (implies v.live u.live) refl of.gone of.live) (and2 (implies v.usable u.usable) (implies v.passed u.passed) of.usable of.passed) of.content of.homes
+    brigade_by (brigade_not_null v) (brigade_not_null u) (and3 (implies false false) (implies v.gone u.gone) (implies v.live u.live) refl of.gone of.live)
+    (and2 (implies v.usable u.usable) (implies v.passed u.passed) of.usable of.passed) of.content of.homes
 
 -- Cursors.
 
@@ -403,12 +413,16 @@ with_classes_within x (End c) u w p q = cc
 with_classes_within x (InOrEnd c t) u w p q = cc
 
 -- the homes at a cursor that is set
-pub homes_at_within : (a b : State) (x y : CursorKnown) → ((n : ℕ) → brigade_le (a.brigades n) (b.brigades n) ≡ true) → is_set y ≡ true → cursor_le x y ≡ true → homes_le (homes_at a x) (homes_at b y) ≡ true
+pub homes_at_within : (a b : State) (x y : CursorKnown) → ((n : ℕ) → brigade_le (a.brigades n) (b.brigades n) ≡ true) → is_set y ≡ true → cursor_le x y ≡ true
+    → homes_le (homes_at a x) (homes_at b y) ≡ true
 homes_at_within a b x Unset less set p = cc
 homes_at_within a b (Loose s h) (Loose t k) less set p = (split2 (classes_le s t) (homes_le h k) p).1
-homes_at_within a b (In m s) (In n t) less set p = subst (λ (i : ℕ). homes_le (a.brigades i).homes (b.brigades n).homes ≡ true) (sym (eqb-true m n (number m n s t p))) (parts (a.brigades n) (b.brigades n) (less n)).homes
-homes_at_within a b (In m s) (InOrEnd n t) less set p = subst (λ (i : ℕ). homes_le (a.brigades i).homes (b.brigades n).homes ≡ true) (sym (eqb-true m n (number m n s t p))) (parts (a.brigades n) (b.brigades n) (less n)).homes
-homes_at_within a b (InOrEnd m s) (InOrEnd n t) less set p = subst (λ (i : ℕ). homes_le (a.brigades i).homes (b.brigades n).homes ≡ true) (sym (eqb-true m n (number m n s t p))) (parts (a.brigades n) (b.brigades n) (less n)).homes
+homes_at_within a b (In m s) (In n t) less set p =
+    subst (λ (i : ℕ). homes_le (a.brigades i).homes (b.brigades n).homes ≡ true) (sym (eqb-true m n (number m n s t p))) (parts (a.brigades n) (b.brigades n) (less n)).homes
+homes_at_within a b (In m s) (InOrEnd n t) less set p =
+    subst (λ (i : ℕ). homes_le (a.brigades i).homes (b.brigades n).homes ≡ true) (sym (eqb-true m n (number m n s t p))) (parts (a.brigades n) (b.brigades n) (less n)).homes
+homes_at_within a b (InOrEnd m s) (InOrEnd n t) less set p =
+    subst (λ (i : ℕ). homes_le (a.brigades i).homes (b.brigades n).homes ≡ true) (sym (eqb-true m n (number m n s t p))) (parts (a.brigades n) (b.brigades n) (less n)).homes
 homes_at_within a b (End m) (End n) less set p = homes_none no_homes
 homes_at_within a b (End m) (InOrEnd n t) less set p = homes_none (b.brigades n).homes
 homes_at_within a b x (Loose t k) less set p = cc

@@ -17,25 +17,32 @@ use Rattle.run_model.specs.declared.effect.Side.{Side}
 use Rattle.run_model.specs.declared.effect.Side.TheVariants.{AtTail, AtHead}
 use Rattle.run_model.specs.declared.effect.Condition.{Condition}
 use Rattle.run_model.specs.declared.effect.Condition.TheVariants as condition
-use Rattle.run_model.specs.declared.effect.Flow.{Flow}
-use Rattle.run_model.specs.declared.effect.Flow.TheVariants.{ToNext, JumpIf, JumpAlways, EndCall}
-use Rattle.run_model.specs.EffectOf.{effect_of, flow_of}
+use Rattle.run_model.specs.declared.effect.Branch.{Branch}
+use Rattle.run_model.specs.declared.effect.Branch.TheVariants.{ToNext, JumpIf, JumpAlways, EndCall}
+use Rattle.run_model.specs.EffectOf.{effect_of, branch_of}
 use Rattle.run_model.specs.declared.fault.FaultKind.{FaultKind}
 use Rattle.run_model.specs.Faults.{OnBucket, OnLoose, InBrigade, Anywhere, wants}
 use Rattle.life_state.specs.declared.parts.Contents.{Contents}
 use Rattle.life_state.specs.declared.parts.Contents.TheVariants.{Empty, NoLateData}
 use Rattle.life_state.specs.declared.parts.Classes.{Classes}
-use Rattle.life_state.specs.States.{Homes, no_homes, only_call, home_in, both_homes, dead_where, only_null, only_live, ended_pool, never_made, holds, passed_on, ended_brigade, with_homes, CursorKnown, Unset, Loose, In, End, InOrEnd, State, set_pool, set_brigade}
+use Rattle.life_state.specs.States.{Homes, no_homes, only_call, home_in, both_homes, dead_where, only_null, only_live, ended_pool, never_made, holds, passed_on, ended_brigade, with_homes, CursorKnown}
+use Rattle.life_state.specs.States.{Unset, Loose, In, End, InOrEnd, State, set_pool, set_brigade}
 use Rattle.life_state.specs.Facts.{is_set, known, set_cursor}
 use Rattle.life_state.specs.Order.{implies, classes_le, homes_le, pool_le, brigade_le, cursor_le}
 use Rattle.life_state.specs.PoolOrder.{is_under}
-use Rattle.life_state.specs.Rules.{homes_at, cursor_need, first_need, joined_content, before_content, emptied, left, carried, split_off, lies_under, is_subpool, cleared_pool, cleared_brigade, cleared_cursors, with_cleared, cleared_under, cleared, Edges, some_if, no_other, all_others, after_pclear, after_pdestroy, after_bclean, after_join, after_bsplit, split_part, bucket_or_end, after_first, after_next, is_empty, edges_jempty, told, edges_jend, of_kind, not_of_kind, some_class, with_classes, classes_of, told_classes, edges_jkind, after_unlink, put_in, if_brigade, after_before, only_bytes, only_flush, only_eos, made, after_make, side_content, after_aside, after_read, may_end, after_pass, pool_not_null, brigade_not_null, edges_jnull, after, on_condition, led, edges, need_or, at_main, at_return, at_end_of_request}
+use Rattle.life_state.specs.Rules.{homes_at, cursor_need, first_need, joined_content, before_content, emptied, left, carried, split_off, lies_under, is_subpool, cleared_pool, cleared_brigade}
+use Rattle.life_state.specs.Rules.{cleared_cursors, with_cleared, cleared_under, cleared, Edges, some_if, no_other, all_others, after_pclear, after_pdestroy, after_bclean, after_join, after_bsplit}
+use Rattle.life_state.specs.Rules.{split_part, bucket_or_end, after_first, after_next, is_empty, edges_jempty, told, edges_jend, of_kind, not_of_kind, some_class, with_classes, classes_of}
+use Rattle.life_state.specs.Rules.{told_classes, edges_jkind, after_unlink, put_in, if_brigade, after_before, only_bytes, only_flush, only_eos, made, after_make, side_content, after_aside, after_read}
+use Rattle.life_state.specs.Rules.{may_end, after_pass, pool_not_null, brigade_not_null, edges_jnull, after, on_condition, led, edges, need_or, at_main, at_return, at_end_of_request}
 use Rattle.life_state.specs.Monotone.{edge_le, LeadsBelow, RulesAreMonotone, EntriesAreMonotone}
 use Rattle.life_state.proofs.Tests.{split2, and2, split3, or_either, or_left, or_right, implies_says}
 use Rattle.life_state.proofs.PartsOrder.{pool_same, brigade_same, homes_same, classes_same, cursor_same}
 use Rattle.life_state.proofs.JoinLeast.{Parts, parts}
 use Rattle.life_state.proofs.Within.{Within, within, below, known_within, moved_within, set_within, told_within, told_over, move_within, pool_within, brigade_within, sent_within}
-use Rattle.life_state.proofs.WithinParts.{content_joined, Rises, tail_rises, head_rises, before_rises, may_end_rises, not_empty_rises, of_kind_rises, not_of_kind_rises, some_rises, homes_joined, homes_ended, pool_ended, not_null_within, holds_within, ended_within, homes_changed, brigade_not_null_within, emptied_within, left_within, carried_within, cleared_within, first_within, split_within, classes_within, with_classes_within, homes_at_within}
+use Rattle.life_state.proofs.WithinParts.{content_joined, Rises, tail_rises, head_rises, before_rises, may_end_rises, not_empty_rises, of_kind_rises, not_of_kind_rises, some_rises, homes_joined}
+use Rattle.life_state.proofs.WithinParts.{homes_ended, pool_ended, not_null_within, holds_within, ended_within, homes_changed, brigade_not_null_within, emptied_within, left_within, carried_within}
+use Rattle.life_state.proofs.WithinParts.{cleared_within, first_within, split_within, classes_within, with_classes_within, homes_at_within}
 use Rattle.life_state.proofs.WithinNeeds.{Met, met, met_all, Homed, there, needs_within}
 
 abbrev pub EdgeWithin : Option State → Option State → Type 0
@@ -46,11 +53,11 @@ EdgeWithin (Some a) (Some b) = Within a b
 abbrev pub EdgesWithin : Edges → Edges → Type 0
 EdgesWithin d e = EdgeWithin d.next e.next × EdgeWithin d.jump e.jump
 
--- what is used of the needs where an instruction leads on from a state, by its flow
-abbrev FlowNeeds : State → Flow → Type 0
-FlowNeeds b (JumpIf (condition.AtEnd c)) = cursor_need Anywhere (b.cursors c) ≡ None
-FlowNeeds b (JumpIf (condition.OfKind c k)) = cursor_need OnBucket (b.cursors c) ≡ None
-FlowNeeds b f = Unit {0}
+-- what is used of the needs where an instruction leads on from a state, by its branch
+abbrev BranchNeeds : State → Branch → Type 0
+BranchNeeds b (JumpIf (condition.AtEnd c)) = cursor_need Anywhere (b.cursors c) ≡ None
+BranchNeeds b (JumpIf (condition.OfKind c k)) = cursor_need OnBucket (b.cursors c) ≡ None
+BranchNeeds b f = Unit {0}
 
 clash : false ≡ true → ⊥
 clash e = cc
@@ -72,10 +79,12 @@ pool_cleared under top a b q h = pick (is_subpool under top q)
     pick true = pool_ended (a.pools q) (b.pools q) h
     pick false = h
 
-brigade_cleared : (p : Program) (under : PoolRef → Bool) (a b : State) (n : ℕ) → brigade_le (a.brigades n) (b.brigades n) ≡ true → brigade_le (cleared_brigade p under a n) (cleared_brigade p under b n) ≡ true
+brigade_cleared : (p : Program) (under : PoolRef → Bool) (a b : State) (n : ℕ) → brigade_le (a.brigades n) (b.brigades n) ≡ true
+    → brigade_le (cleared_brigade p under a n) (cleared_brigade p under b n) ≡ true
 brigade_cleared p under a b n h = pick (lies_under p under n)
   where
-    pick : (e : Bool) → brigade_le (if e then ended_brigade (a.brigades n) else with_homes (dead_where under) (a.brigades n)) (if e then ended_brigade (b.brigades n) else with_homes (dead_where under) (b.brigades n)) ≡ true
+    pick : (e : Bool) → brigade_le (if e then ended_brigade (a.brigades n) else with_homes (dead_where under) (a.brigades n))
+        (if e then ended_brigade (b.brigades n) else with_homes (dead_where under) (b.brigades n)) ≡ true
     pick true = ended_within (a.brigades n) (b.brigades n) h
     pick false = homes_changed (dead_where under) (a.brigades n) (b.brigades n) (homes_ended under) h
 
@@ -109,7 +118,8 @@ module _ (p : Program) (s t : State) (w : Within s t) where
   cleaned : (b : ℕ) → Within (after_bclean b s) (after_bclean b t)
   cleaned b =
       let e = holds Empty no_homes in
-      moved_within (set_brigade b e s) (set_brigade b e t) (λ k. emptied b (s.cursors k)) (λ k. emptied b (t.cursors k)) (emptied_at b) (λ k. emptied_within b (s.cursors k) (t.cursors k) (w.cursors k))
+      moved_within (set_brigade b e s) (set_brigade b e t) (λ k. emptied b (s.cursors k)) (λ k. emptied b (t.cursors k)) (emptied_at b)
+      (λ k. emptied_within b (s.cursors k) (t.cursors k) (w.cursors k))
 
   joined : (a b : ℕ) (h k : Homes) → homes_le h k ≡ true → Within (after_join a b h s) (after_join a b k t)
   joined a b h k le =
@@ -132,7 +142,8 @@ module _ (p : Program) (s t : State) (w : Within s t) where
       (brigade_within s t a v u w (split_within (s.cursors c) (t.cursors c) (s.brigades b) (t.brigades b) (w.cursors c) (w.brigades b)))
       (λ k. pick k (k == c))
     where
-      pick : (k : ℕ) (e : Bool) → cursor_le (if e then carried a b (s.cursors k) else emptied a (emptied b (s.cursors k))) (if e then carried a b (t.cursors k) else emptied a (emptied b (t.cursors k))) ≡ true
+      pick : (k : ℕ) (e : Bool)
+          → cursor_le (if e then carried a b (s.cursors k) else emptied a (emptied b (s.cursors k))) (if e then carried a b (t.cursors k) else emptied a (emptied b (t.cursors k))) ≡ true
       pick k true = carried_within a b (s.cursors k) (t.cursors k) (w.cursors k)
       pick k false = emptied_within a (emptied b (s.cursors k)) (emptied b (t.cursors k)) (emptied_within b (s.cursors k) (t.cursors k) (w.cursors k))
 
@@ -155,14 +166,16 @@ module _ (p : Program) (s t : State) (w : Within s t) where
   -- Cursors.
 
   firsts : (c b : ℕ) → Within (after_first c b s) (after_first c b t)
-  firsts c b = set_within s t c (bucket_or_end b (s.brigades b).content) (bucket_or_end b (t.brigades b).content) no_other no_other w (first_within b (s.brigades b).content (t.brigades b).content (of b).content) (λ k h. h)
+  firsts c b = set_within s t c (bucket_or_end b (s.brigades b).content) (bucket_or_end b (t.brigades b).content) no_other no_other w
+      (first_within b (s.brigades b).content (t.brigades b).content (of b).content) (λ k h. h)
 
   ends : (c b : ℕ) → Within (set_cursor c (End b) no_other s) (set_cursor c (End b) no_other t)
   ends c b = set_within s t c (End b) (End b) no_other no_other w (cursor_same (End b)) (λ k h. h)
 
   nexts : (d c : ℕ) (x y : CursorKnown) → cursor_le x y ≡ true → cursor_need InBrigade y ≡ None → Within (after_next d c x s) (after_next d c y t)
   nexts d c (In m u) (In n v) p h = subst (λ (i : ℕ). Within (after_next d c (In i u) s) (after_next d c (In n v) t)) (sym (eqb-true m n (number m n u v p)))
-      (set_within s t d (bucket_or_end n (s.brigades n).content) (bucket_or_end n (t.brigades n).content) (λ k. k == c) (λ k. k == c) w (first_within n (s.brigades n).content (t.brigades n).content (of n).content) (λ k e. e))
+      (set_within s t d (bucket_or_end n (s.brigades n).content) (bucket_or_end n (t.brigades n).content) (λ k. k == c) (λ k. k == c) w
+      (first_within n (s.brigades n).content (t.brigades n).content (of n).content) (λ k e. e))
   nexts d c x Unset p h = cc
   nexts d c x (Loose v k) p h = cc
   nexts d c x (In n v) p h = cc
@@ -275,7 +288,8 @@ module _ (p : Program) (s t : State) (w : Within s t) where
       let a = s.pools q in
       let b = t.pools q in
       let le = split3 (implies a.null b.null) (implies a.gone b.gone) (implies a.live b.live) (w.pools q) in (
-        if_within (a.gone || a.live) (b.gone || b.live) (set_pool q (pool_not_null a) s) (set_pool q (pool_not_null b) t) (or_more a.gone a.live b.gone b.live (le.1) (le.2)) (pool_within s t q (pool_not_null a) (pool_not_null b) w (not_null_within a b (w.pools q))),
+        if_within (a.gone || a.live) (b.gone || b.live) (set_pool q (pool_not_null a) s) (set_pool q (pool_not_null b) t) (or_more a.gone a.live b.gone b.live (le.1) (le.2))
+            (pool_within s t q (pool_not_null a) (pool_not_null b) w (not_null_within a b (w.pools q))),
         if_within a.null b.null (set_pool q only_null s) (set_pool q only_null t) (implies_says a.null b.null (le.0)) (pool_within s t q only_null only_null w (pool_same only_null)),
       )
   nulls (variable.Brigade n) =
@@ -283,7 +297,8 @@ module _ (p : Program) (s t : State) (w : Within s t) where
       let b = t.brigades n in (
         if_within (a.gone || a.live) (b.gone || b.live) (set_brigade n (brigade_not_null a) s) (set_brigade n (brigade_not_null b) t) (or_more a.gone a.live b.gone b.live (of n).gone (of n).live)
             (brigade_within s t n (brigade_not_null a) (brigade_not_null b) w (brigade_not_null_within a b (w.brigades n))),
-        if_within a.null b.null (set_brigade n never_made s) (set_brigade n never_made t) (implies_says a.null b.null (of n).null) (brigade_within s t n never_made never_made w (brigade_same never_made)),
+        if_within a.null b.null (set_brigade n never_made s) (set_brigade n never_made t) (implies_says a.null b.null (of n).null)
+            (brigade_within s t n never_made never_made w (brigade_same never_made)),
       )
 
   -- the cursors whose homes are asked for
@@ -316,7 +331,7 @@ module _ (p : Program) (s t : State) (w : Within s t) where
   asked (instr.Aside c q) h = h.0
   asked i h = tt
 
-  leads : (i : Instr) → Met t (wants p i) → FlowNeeds (after p (effect_of i) t) (flow_of i)
+  leads : (i : Instr) → Met t (wants p i) → BranchNeeds (after p (effect_of i) t) (branch_of i)
   unfolding Met
   leads (instr.JEnd c l) h = h.0
   leads (instr.JKind c k l) h = h.0
@@ -344,7 +359,8 @@ module _ (p : Program) (s t : State) (w : Within s t) where
   after_within (effect.MakeBrigade o) h = emptied_at o
   after_within (effect.Clean b) h = cleaned b
   after_within (effect.Concat a b) h =
-      joined a b (both_homes (s.brigades a).homes (s.brigades b).homes) (both_homes (t.brigades a).homes (t.brigades b).homes) (homes_joined (s.brigades a).homes (s.brigades b).homes (t.brigades a).homes (t.brigades b).homes (of a).homes (of b).homes)
+      joined a b (both_homes (s.brigades a).homes (s.brigades b).homes) (both_homes (t.brigades a).homes (t.brigades b).homes)
+      (homes_joined (s.brigades a).homes (s.brigades b).homes (t.brigades a).homes (t.brigades b).homes (of a).homes (of b).homes)
   after_within (effect.SplitBrigade b c a) h = split_at b c a
   after_within (effect.PartBrigade b x c) h = firsts c b
   after_within (effect.Save o b) h =
@@ -364,7 +380,7 @@ module _ (p : Program) (s t : State) (w : Within s t) where
 
 -- a and b are what an effect makes of s and t
 module _ (p : Program) (s t : State) (w : Within s t) (a b : State) (v : Within a b) where
-  on_condition_within : (when : Condition) → FlowNeeds b (JumpIf when) → EdgesWithin (on_condition when s a) (on_condition when t b)
+  on_condition_within : (when : Condition) → BranchNeeds b (JumpIf when) → EdgesWithin (on_condition when s a) (on_condition when t b)
   on_condition_within (condition.TooShort n x c) h = (v, ends p s t w c n)
   on_condition_within (condition.NoBucket n) h = emptiness p a b v n
   on_condition_within (condition.AtEnd c) h = at_end p a b v c (a.cursors c) (b.cursors c) refl (v.cursors c) h
@@ -374,7 +390,7 @@ module _ (p : Program) (s t : State) (w : Within s t) (a b : State) (v : Within 
   on_condition_within condition.WasSent h = (sent_within a b false false v (λ h. h), if_within a.sent b.sent a b v.sent v)
   on_condition_within when h = (v, v)
 
-  led_within : (f : Flow) → FlowNeeds b f → EdgesWithin (led f s a) (led f t b)
+  led_within : (f : Branch) → BranchNeeds b f → EdgesWithin (led f s a) (led f t b)
   led_within ToNext h = (v, tt)
   led_within (JumpIf when) h = on_condition_within when h
   led_within JumpAlways h = (tt, v)
@@ -383,7 +399,7 @@ module _ (p : Program) (s t : State) (w : Within s t) (a b : State) (v : Within 
 edges_within : (p : Program) (s t : State) → Within s t → (i : Instr) → Met t (wants p i) → EdgesWithin (edges p i s) (edges p i t)
 edges_within p s t w i h =
     let v = after_within p s t w (effect_of i) (asked p s t w i h) in
-    led_within p s t w (after p (effect_of i) s) (after p (effect_of i) t) v (flow_of i) (leads p s t w i h)
+    led_within p s t w (after p (effect_of i) s) (after p (effect_of i) t) v (branch_of i) (leads p s t w i h)
 
 edge_below : (x y : Option State) → EdgeWithin x y → edge_le x y ≡ true
 edge_below None y h = refl

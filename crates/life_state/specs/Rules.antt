@@ -18,16 +18,17 @@ use Rattle.run_model.specs.declared.effect.Side.{Side}
 use Rattle.run_model.specs.declared.effect.Side.TheVariants.{AtTail, AtHead}
 use Rattle.run_model.specs.declared.effect.Condition.{Condition}
 use Rattle.run_model.specs.declared.effect.Condition.TheVariants as condition
-use Rattle.run_model.specs.declared.effect.Flow.{Flow}
-use Rattle.run_model.specs.declared.effect.Flow.TheVariants.{ToNext, JumpIf, JumpAlways, EndCall}
-use Rattle.run_model.specs.EffectOf.{effect_of, flow_of}
+use Rattle.run_model.specs.declared.effect.Branch.{Branch}
+use Rattle.run_model.specs.declared.effect.Branch.TheVariants.{ToNext, JumpIf, JumpAlways, EndCall}
+use Rattle.run_model.specs.EffectOf.{effect_of, branch_of}
 use Rattle.run_model.specs.Indexed.{upd, any_below}
 use Rattle.run_model.specs.Faults.{Need, Want, WPool, WBrigade, WUsable, WNew, WNewPool, WCursor, WHomes, WHome, WHomeAcross, WSend, WReturn, wants, loose_fault, within_fault, end_fault, or_else}
 use Rattle.life_state.specs.declared.parts.Contents.{Contents}
 use Rattle.life_state.specs.declared.parts.Contents.TheVariants.{Empty, Flushes, NoEos, NoLateData, Any}
 use Rattle.life_state.specs.declared.parts.Classes.{Classes}
 use Rattle.life_state.specs.declared.parts.PoolState.{PoolState}
-use Rattle.life_state.specs.States.{Homes, no_homes, only_call, home_in, both_homes, dead_where, only_null, only_live, is_live_alone, ended_pool, BrigadeKnown, never_made, holds, passed_on, is_live_brigade, is_usable_alone, ended_brigade, with_homes, CursorKnown, Unset, Loose, In, End, InOrEnd, State, set_pool, set_brigade}
+use Rattle.life_state.specs.States.{Homes, no_homes, only_call, home_in, both_homes, dead_where, only_null, only_live, is_live_alone, ended_pool, BrigadeKnown, never_made, holds, passed_on}
+use Rattle.life_state.specs.States.{is_live_brigade, is_usable_alone, ended_brigade, with_homes, CursorKnown, Unset, Loose, In, End, InOrEnd, State, set_pool, set_brigade}
 use Rattle.life_state.specs.Order.{content_le, greater}
 use Rattle.life_state.specs.Facts.{is_end, known, moved, set_cursor, move_bucket}
 use Rattle.life_state.specs.PoolOrder.{is_same_place, is_under}
@@ -480,7 +481,7 @@ on_condition (condition.IsNull v) s t = edges_jnull v t
 on_condition condition.WasSent s t = edges_jsent t
 
 -- the edges, by where an instruction may lead
-abbrev pub led : Flow → State → State → Edges
+abbrev pub led : Branch → State → State → Edges
 led ToNext s t = goes_on_with t
 led (JumpIf when) s t = on_condition when s t
 led JumpAlways s t = record { next = None; jump = Some t }
@@ -488,7 +489,7 @@ led EndCall s t = record { next = None; jump = None }
 
 -- the edges of an instruction whose needs are met
 abbrev pub edges : Program → Instr → State → Edges
-edges p i s = led (flow_of i) s (after p (effect_of i) s)
+edges p i s = led (branch_of i) s (after p (effect_of i) s)
 
 abbrev pub need_or : Option FaultKind → Edges → Result Edges FaultKind
 need_or None e = Ok e

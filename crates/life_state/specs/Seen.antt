@@ -1,5 +1,5 @@
 -- What the code's values stand for.
-use Rattle.std.specs.Prelude.{ℕ, Bool, true, false, ◌==◌, List, [], replicate, slice_index_or, Option, Some, None, Result, Ok, Err}
+use Rattle.std.specs.Prelude.{ℕ, Bool, true, false, ◌&&◌, ◌==◌, List, [], replicate, slice_index_or, Option, Some, None, Result, Ok, Err}
 use Rattle.module_code.specs.declared.instr.PoolRef.{PoolRef}
 use Rattle.module_code.specs.declared.instr.PoolRef.TheVariants as pool
 use Rattle.life_state.specs.declared.parts.Contents.TheVariants.{Empty}
@@ -101,6 +101,7 @@ others_of (others.As c) s k = known s c k
 -- what stays known
 abbrev pub keep_of : Keep → State → ℕ → ℕ → Bool
 keep_of keep.Known s i j = known s i j
+keep_of (keep.Shared t) s i j = known s i j && known (seen t.now) i j
 keep_of (keep.But c o) s i j = known_but s c (others_of o s) i j
 
 -- The answers of the rules.

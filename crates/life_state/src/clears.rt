@@ -1,14 +1,15 @@
 //! Pools that go, with what lies under them.
 
-ghost use Rattle.std.specs.Prelude.{◌≡◌, ◌<◌, ◌≤◌, ℕ, length, slice_index_or, false, true};
+ghost use Rattle.std.specs.Prelude.{◌≡◌, ◌≤◌, length, true};
 ghost use Rattle.module_code.specs.declared.instr.PoolRef.TheVariants as pool;
 ghost use Rattle.module_code.specs.Program.{pool_of_brigade};
 ghost use Rattle.life_state.specs.PoolOrder.{is_same_place, parent_of, is_under, is_clearable};
-ghost use Rattle.life_state.specs.Rules.{is_subpool, lies_under, cleared_pool, cleared_brigade, cleared_cursor, cleared_cursors, cleared_under, cleared};
-ghost use Rattle.life_state.specs.Seen.{seen, seen_pools, seen_pool_states, seen_brigade, seen_brigades, seen_cursor, seen_cursors};
+ghost use Rattle.life_state.specs.Rules.{lies_under, cleared_pool, cleared_brigade, cleared_cursors, cleared};
+ghost use Rattle.life_state.specs.Seen.{seen, seen_pools, seen_brigade, seen_cursor};
 
 use crate::facts::Keep;
 use crate::parts::{BrigadeState, CursorState, PoolSet, PoolState};
+use crate::places::filled;
 use crate::state::State;
 use module_code::{Module, PoolRef};
 
@@ -53,17 +54,6 @@ fn is_under(code: &Module, count: u8, top: PoolRef, low: PoolRef) -> bool
     false
 }
 
-fn own_under(code: &Module, count: u8, top: PoolRef) -> [bool; 8]
-    requires { count ≡ length code.now.pools }
-    ensures { (i : ℕ) → i < 8 → slice_index_or result i false ≡ is_under code.now top (pool.Own i) }
-{
-    let mut own = [false; 8];
-    for q in 0..8u8 {
-        own[usize::from(q)] = is_under(code, count, top, PoolRef::Own(q));
-    }
-    own
-}
-
 /// A pool and those under it.
 fn pools_under(code: &Module, count: u8, top: PoolRef) -> PoolSet
     requires counted { count ≡ length code.now.pools }
@@ -73,7 +63,7 @@ fn pools_under(code: &Module, count: u8, top: PoolRef) -> PoolSet
 {
     PoolSet {
         req: is_under(code, count, top, PoolRef::Req),
-        own: own_under(code, count, top),
+        own: filled([false; 8], |q| is_under(code, count, top, PoolRef::Own(q))),
     }
 }
 
@@ -96,23 +86,6 @@ fn lies_under(code: &Module, count: u8, under: &PoolSet, b: u8) -> bool
     under.has(pool_of_brigade(code, count, b))
 }
 
-fn cleared_cursor(code: &Module, count: u8, under: &PoolSet, cursor: CursorState) -> CursorState
-    requires { count ≡ length code.now.brigades }
-    ensures { seen_cursor result ≡ cleared_cursor code.now (seen_pools under.now) (seen_cursor cursor) }
-{
-    match cursor {
-        CursorState::Unset => cursor,
-        CursorState::Loose(classes, homes) => CursorState::Loose(classes, homes.dead_where(under)),
-        CursorState::In(b, _) | CursorState::End(b) | CursorState::InOrEnd(b, _) => {
-            if lies_under(code, count, under, b) {
-                CursorState::Unset
-            } else {
-                cursor
-            }
-        }
-    }
-}
-
 #[tactic(auto)]
 impl State {
     fn cleared_pool(&self, under: &PoolSet, top: PoolRef, q: u8) -> PoolState
@@ -126,16 +99,6 @@ impl State {
         }
     }
 
-    fn cleared_pools(&self, under: &PoolSet, top: PoolRef) -> [PoolState; 8]
-        ensures { seen_pool_states result ≡ cleared_pool (seen_pools under.now) top (seen self.now) }
-    {
-        let mut pools = [PoolState::NULL; 8];
-        for q in 0..8u8 {
-            pools[usize::from(q)] = self.cleared_pool(under, top, q);
-        }
-        pools
-    }
-
     #[tactic(auto, unfolding(crate::specs::Seen::seen))]
     fn cleared_brigade(&self, code: &Module, under: &PoolSet, b: u8) -> BrigadeState
         requires { (seen self.now).brigade_count ≡ length code.now.brigades }
@@ -145,62 +108,54 @@ impl State {
         if lies_under(code, self.brigade_count, under, b) {
             brigade.ended()
         } else {
-            brigade.dead_where(under)
+            BrigadeState {
+                homes: brigade.homes.dead_where(under),
+                ..brigade
+            }
         }
-    }
-
-    fn cleared_brigades(&self, code: &Module, under: &PoolSet) -> [BrigadeState; 9]
-        requires { (seen self.now).brigade_count ≡ length code.now.brigades }
-        ensures { seen_brigades result ≡ cleared_brigade code.now (seen_pools under.now) (seen self.now) }
-    {
-        let mut brigades = [BrigadeState::UNMADE; 9];
-        for b in 0..9u8 {
-            brigades[usize::from(b)] = self.cleared_brigade(code, under, b);
-        }
-        brigades
     }
 
     #[tactic(auto, unfolding(crate::specs::Seen::seen))]
-    fn cursor_cleared(&self, code: &Module, under: &PoolSet, c: u8) -> CursorState
+    fn cleared_cursor(&self, code: &Module, under: &PoolSet, c: u8) -> CursorState
         requires { (seen self.now).brigade_count ≡ length code.now.brigades }
         ensures { seen_cursor result ≡ cleared_cursors code.now (seen_pools under.now) (seen self.now) c }
     {
-        cleared_cursor(code, self.brigade_count, under, self.cursor(c))
-    }
-
-    fn cleared_cursors(&self, code: &Module, under: &PoolSet) -> [CursorState; 9]
-        requires { (seen self.now).brigade_count ≡ length code.now.brigades }
-        ensures { seen_cursors result ≡ cleared_cursors code.now (seen_pools under.now) (seen self.now) }
-    {
-        let mut cursors = [CursorState::Unset; 9];
-        for c in 0..9u8 {
-            cursors[usize::from(c)] = self.cursor_cleared(code, under, c);
+        let cursor = self.cursor(c);
+        match cursor {
+            CursorState::Unset => cursor,
+            CursorState::Loose(classes, homes) => {
+                CursorState::Loose(classes, homes.dead_where(under))
+            }
+            CursorState::In(at, _) | CursorState::End(at) | CursorState::InOrEnd(at, _) => {
+                if lies_under(code, self.brigade_count, under, at) {
+                    CursorState::Unset
+                } else {
+                    cursor
+                }
+            }
         }
-        cursors
-    }
-
-    fn clear_under(&mut self, code: &Module, under: &PoolSet, top: PoolRef)
-        requires { (seen self.old).brigade_count ≡ length code.now.brigades }
-        ensures { seen self.new ≡ cleared_under code.now (seen_pools under.now) top (seen self.old) }
-    {
-        let pools = self.cleared_pools(under, top);
-        let brigades = self.cleared_brigades(code, under);
-        let cursors = self.cleared_cursors(code, under);
-        self.change_cursors(Keep::Known, cursors);
-        self.pools = pools;
-        self.brigades = brigades;
     }
 
     /// A pool is cleared: those under it and the brigades on it and on them are gone, and homes there are dead.
     #[tactic(auto, unfolding(crate::specs::Seen::seen))]
-    pub(crate) fn clear(&mut self, code: &Module, top: PoolRef)
-        requires pools { (seen self.old).pool_count ≡ length code.now.pools }
-        requires brigades { (seen self.old).brigade_count ≡ length code.now.brigades }
+    pub(crate) fn cleared(mut self, code: &Module, top: PoolRef) -> State
+        requires pools { (seen self).pool_count ≡ length code.now.pools }
+        requires brigades { (seen self).brigade_count ≡ length code.now.brigades }
         requires few { length code.now.pools ≤ 8 }
         requires clearable { is_clearable top ≡ true }
-        ensures { seen self.new ≡ cleared code.now top (seen self.old) }
+        ensures { seen result ≡ cleared code.now top (seen self) }
     {
         let under = pools_under(code, self.pool_count, top);
-        self.clear_under(code, &under, top);
+        let pools = filled([PoolState::NULL; 8], |q| self.cleared_pool(&under, top, q));
+        let brigades = filled([BrigadeState::UNMADE; 9], |b| {
+            self.cleared_brigade(code, &under, b)
+        });
+        let cursors = filled([CursorState::Unset; 9], |c| {
+            self.cleared_cursor(code, &under, c)
+        });
+        self.change_cursors(Keep::Known, cursors);
+        self.pools = pools;
+        self.brigades = brigades;
+        self
     }
 }

@@ -1,7 +1,8 @@
 //! What stands in a brigade that buckets come to, and which buckets stand at cursors.
 
 ghost use Rattle.std.specs.Prelude.{◌≡◌};
-ghost use Rattle.life_state.specs.Rules.{joined_content, content_of, tail_content, head_content, before_data, before_eos, before_content, bucket_or_end, is_empty, may_end, send_limit, of_kind, not_of_kind, some_class, with_classes, classes_of};
+ghost use Rattle.life_state.specs.Rules.{joined_content, content_of, tail_content, head_content, before_eos, before_content, bucket_or_end, is_empty, may_end};
+ghost use Rattle.life_state.specs.Rules.{of_kind, not_of_kind, some_class, with_classes, classes_of};
 ghost use Rattle.life_state.specs.Seen.{seen_cursor};
 
 use crate::parts::{Classes, Contents, CursorState};
@@ -56,16 +57,6 @@ impl Contents {
         }
     }
 
-    fn before_data(self) -> Contents
-        ensures { result ≡ before_data self }
-    {
-        if self.is_at_most(Contents::NoEos) {
-            Contents::NoEos
-        } else {
-            Contents::Any
-        }
-    }
-
     /// With a bucket of these classes at the head.
     pub(crate) fn with_head(self, classes: Classes) -> Contents
         ensures { result ≡ head_content self classes }
@@ -89,7 +80,11 @@ impl Contents {
         if classes.eos {
             self.before_eos()
         } else if classes.bytes {
-            self.before_data()
+            if self.is_at_most(Contents::NoEos) {
+                Contents::NoEos
+            } else {
+                Contents::Any
+            }
         } else {
             self.greater(Contents::Flushes)
         }
@@ -126,17 +121,6 @@ impl Contents {
         ensures { result ≡ may_end self }
     {
         matches!(self, Contents::NoLateData | Contents::Any)
-    }
-
-    /// What may be passed on, by whether an EOS may have been passed.
-    pub(crate) fn limit(sent: bool) -> Contents
-        ensures { result ≡ send_limit sent }
-    {
-        if sent {
-            Contents::Flushes
-        } else {
-            Contents::NoLateData
-        }
     }
 }
 

@@ -1,10 +1,11 @@
 //! Which cursors are known to be at different buckets.
 
-ghost use Rattle.std.specs.Prelude.{◌≡◌, ◌<◌, ℕ, slice_index_or, false};
+ghost use Rattle.std.specs.Prelude.{◌≡◌, ◌<◌, ℕ, length, slice_index_or, false};
 ghost use Rattle.life_state.specs.Facts.{known, facts_of};
 ghost use Rattle.life_state.specs.Seen.{seen, seen_cursors, seen_facts, others_of, keep_of};
 
 use crate::parts::CursorState;
+use crate::places::filled;
 use crate::state::State;
 
 /// The cursors whose buckets are others than that of a cursor that is set.
@@ -22,9 +23,11 @@ pub(crate) enum Others {
 
 /// What stays known.
 #[derive(Clone, Copy)]
-pub(crate) enum Keep {
+pub(crate) enum Keep<'a> {
     /// What was known.
     Known,
+    /// What was known, and is known in another state.
+    Shared(&'a State),
     /// What was known, but for the cursor that is set, of which this is known.
     But(u8, Others),
 }
@@ -52,11 +55,12 @@ impl State {
         }
     }
 
-    fn is_kept(&self, keep: Keep, i: u8, j: u8) -> bool
-        ensures { result ≡ keep_of keep (seen self.now) i j }
+    fn is_kept(&self, keep: Keep<'_>, i: u8, j: u8) -> bool
+        ensures { result ≡ keep_of keep.entry (seen self.now) i j }
     {
         match keep {
             Keep::Known => self.known(i, j),
+            Keep::Shared(other) => self.known(i, j) & other.known(i, j),
             Keep::But(c, others) => {
                 if i == c {
                     self.is_other(others, j)
@@ -70,10 +74,10 @@ impl State {
     }
 
     #[tactic(auto, unfolding(crate::specs::Facts::facts_of))]
-    fn is_written(&self, keep: Keep, cursors: &[CursorState; 9], c: u8, d: u8) -> bool
+    fn is_written(&self, keep: Keep<'_>, cursors: &[CursorState; 9], c: u8, d: u8) -> bool
         requires first { c < 9 }
         requires second { d < 9 }
-        ensures { result ≡ facts_of (keep_of keep (seen self.now)) (seen_cursors cursors.now) c d }
+        ensures { result ≡ facts_of (keep_of keep.entry (seen self.now)) (seen_cursors cursors.now) c d }
     {
         let first = cursors[usize::from(c)];
         let second = cursors[usize::from(d)];
@@ -81,31 +85,23 @@ impl State {
         (c != d) & self.is_kept(keep, c, d) & set & !first.is_apart(&second)
     }
 
-    fn fact_row(&self, keep: Keep, cursors: &[CursorState; 9], c: u8) -> [bool; 9]
-        requires { c < 9 }
-        ensures { (d : ℕ) → d < 9 → slice_index_or result d false ≡ facts_of (keep_of keep (seen self.now)) (seen_cursors cursors.now) c d }
+    /// The facts to write, of what stays known.
+    pub(crate) fn fact_rows(&self, keep: Keep<'_>, cursors: &[CursorState; 9]) -> [[bool; 9]; 9]
+        ensures { seen_facts result ≡ facts_of (keep_of keep.entry (seen self.now)) (seen_cursors cursors.now) }
     {
-        let mut row = [false; 9];
-        for d in 0..9u8 {
-            row[usize::from(d)] = self.is_written(keep, cursors, c, d);
-        }
-        row
-    }
-
-    fn fact_rows(&self, keep: Keep, cursors: &[CursorState; 9]) -> [[bool; 9]; 9]
-        ensures { seen_facts result ≡ facts_of (keep_of keep (seen self.now)) (seen_cursors cursors.now) }
-    {
-        let mut rows = [[false; 9]; 9];
-        for c in 0..9u8 {
-            rows[usize::from(c)] = self.fact_row(keep, cursors, c);
-        }
-        rows
+        let row = |c|
+            requires { c < 9 }
+            ensures long { length result ≡ 9 }
+            ensures each { (d : ℕ) → d < 9 → slice_index_or result d false ≡
+                facts_of (keep_of keep.entry (seen self.entry.now)) (seen_cursors cursors.entry.now) c d }
+        { filled([false; 9], |d| self.is_written(keep, cursors, c, d)) };
+        filled([[false; 9]; 9], row)
     }
 
     /// The cursors become these. Of what stays known, that is written which their places do not imply.
     #[tactic(auto, unfolding(crate::specs::Seen::seen))]
-    pub(crate) fn change_cursors(&mut self, keep: Keep, cursors: [CursorState; 9])
-        ensures { seen self.new ≡ record (seen self.old) { cursors = seen_cursors cursors; facts = facts_of (keep_of keep (seen self.old)) (seen_cursors cursors) } }
+    pub(crate) fn change_cursors(&mut self, keep: Keep<'_>, cursors: [CursorState; 9])
+        ensures { seen self.new ≡ record (seen self.old) { cursors = seen_cursors cursors; facts = facts_of (keep_of keep.entry (seen self.old)) (seen_cursors cursors) } }
     {
         self.facts = self.fact_rows(keep, &cursors);
         self.cursors = cursors;

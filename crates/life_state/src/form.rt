@@ -1,37 +1,20 @@
 //! Whether a state is in form: each thing is said in one way.
 
-ghost use Rattle.std.specs.Prelude.{◌≡◌, ◌<◌, ℕ, true, false, ◌||◌, length, ◌⊎◌};
+ghost use Rattle.std.specs.Prelude.{◌≡◌, ◌<◌, ℕ, true, length};
 ghost use Rattle.life_state.specs.Form.{AtHand, FormedBrigade, FormedCursor, IsFormed};
-ghost use Rattle.life_state.specs.FormTests.{NamesBelow, FormedPool, FormedPlace, FormedFact, FormedAt};
-ghost use Rattle.life_state.specs.InForm.{names_below, is_free, is_null, is_unmade, is_formed_pool, is_formed_brigade, is_formed_place, has_at_hand, is_formed_cursor, is_formed_fact, is_formed_at, is_formed};
+ghost use Rattle.life_state.specs.FormTests.{NamesBelow, FormedPlace, FormedFact, FormedAt};
+ghost use Rattle.life_state.specs.InForm.{names_below, is_free, is_unmade, is_formed_pool, is_formed_brigade, is_formed_place, has_at_hand, is_formed_cursor, is_formed_fact, is_formed_at, is_formed};
 ghost use Rattle.life_state.specs.Order.{all_below};
-ghost use Rattle.life_state.specs.Rules.{some_class};
 ghost use Rattle.life_state.specs.Seen.{seen, seen_homes, seen_brigade};
-ghost use Rattle.life_state.specs.States.{no_homes, only_null, never_made, is_live_brigade};
+ghost use Rattle.life_state.specs.States.{no_homes};
 
-use crate::parts::{BrigadeState, Classes, CursorState, HomeSet, PoolState};
+use crate::parts::{BrigadeState, CursorState, HomeSet};
 use crate::state::State;
 
-fn is_null(pool: PoolState) -> bool
-    ensures value { result ≡ is_null pool }
-    ensures sound { result ≡ true → pool ≡ only_null }
-    ensures complete { pool ≡ only_null → result ≡ true }
-{
-    pool.null & !pool.gone & !pool.live
-}
-
 fn is_unmade(brigade: &BrigadeState) -> bool
-    ensures value { result ≡ is_unmade (seen_brigade brigade.now) }
-    ensures sound { result ≡ true → (brigade.now.null ≡ true) × (brigade.now.gone ≡ false) × (brigade.now.live ≡ false) }
-    ensures complete { seen_brigade brigade.now ≡ never_made → result ≡ true }
+    ensures { result ≡ is_unmade (seen_brigade brigade.now) }
 {
     brigade.null & !brigade.gone & !brigade.live
-}
-
-fn has_class(classes: Classes) -> bool
-    ensures { result ≡ some_class classes }
-{
-    classes.bytes | classes.flush | classes.eos
 }
 
 /// How many cursors a row of facts is for.
@@ -46,7 +29,6 @@ fn width(row: &[bool; 9]) -> u8
 fn is_free(homes: &HomeSet) -> bool
     ensures value { result ≡ is_free (seen_homes homes.now) }
     ensures sound { result ≡ true → seen_homes homes.now ≡ no_homes }
-    ensures complete { seen_homes homes.now ≡ no_homes → result ≡ true }
 {
     let named = are_declared(homes, 0);
     !homes.call & !homes.dead & !homes.pools.req & named
@@ -56,7 +38,6 @@ fn is_free(homes: &HomeSet) -> bool
 fn are_declared(homes: &HomeSet, count: u8) -> bool
     ensures value { result ≡ names_below count (seen_homes homes.now) }
     ensures sound { result ≡ true → NamesBelow count (seen_homes homes.now) }
-    ensures complete { NamesBelow count (seen_homes homes.now) → result ≡ true }
 {
     for q in 0..8u8 {
         let declared = q < count || !homes.pools.own[usize::from(q)];
@@ -71,7 +52,6 @@ fn are_declared(homes: &HomeSet, count: u8) -> bool
 fn is_formed_brigade(brigade: &BrigadeState) -> bool
     ensures value { result ≡ is_formed_brigade (seen_brigade brigade.now) }
     ensures sound { result ≡ true → FormedBrigade (seen_brigade brigade.now) }
-    ensures complete { FormedBrigade (seen_brigade brigade.now) → result ≡ true }
 {
     (brigade.null | brigade.gone | brigade.live)
         & (brigade.live == (brigade.usable | brigade.passed))
@@ -80,19 +60,16 @@ fn is_formed_brigade(brigade: &BrigadeState) -> bool
 
 impl State {
     fn is_formed_pool(&self, q: u8) -> bool
-        ensures value { result ≡ is_formed_pool (seen self.now) q }
-        ensures sound { result ≡ true → FormedPool (seen self.now) q }
-        ensures complete { FormedPool (seen self.now) q → result ≡ true }
+        ensures { result ≡ is_formed_pool (seen self.now) q }
     {
         let pool = self.pool(q);
-        let null = is_null(pool);
+        let null = pool.null & !pool.gone & !pool.live;
         (pool.null | pool.gone | pool.live) & ((q < self.pool_count) | null)
     }
 
     fn is_formed_brigade(&self, b: u8) -> bool
         ensures value { result ≡ is_formed_place (seen self.now) b }
         ensures sound { result ≡ true → FormedPlace (seen self.now) b }
-        ensures complete { FormedPlace (seen self.now) b → result ≡ true }
     {
         let brigade = self.brigade(b);
         let formed = is_formed_brigade(&brigade);
@@ -101,20 +78,9 @@ impl State {
         formed & declared & ((b == 8) | (b < self.brigade_count) | unmade)
     }
 
-    /// `in` is not given, or live.
-    fn is_formed_in(&self) -> bool
-        ensures value { result ≡ is_unmade ((seen self.now).brigades 8) || is_live_brigade ((seen self.now).brigades 8) }
-        ensures sound { result ≡ true → FormedBrigade ((seen self.now).brigades 8) → ((seen self.now).brigades 8 ≡ never_made) ⊎ (is_live_brigade ((seen self.now).brigades 8) ≡ true) }
-        ensures complete { ((seen self.now).brigades 8 ≡ never_made) ⊎ (is_live_brigade ((seen self.now).brigades 8) ≡ true) → result ≡ true }
-    {
-        let brigade = self.brigade(8);
-        is_unmade(&brigade) | (brigade.live & !brigade.null & !brigade.gone)
-    }
-
     fn is_at_hand(&self, b: u8) -> bool
         ensures value { result ≡ has_at_hand (seen self.now) b }
         ensures sound { result ≡ true → AtHand (seen self.now) b }
-        ensures complete { AtHand (seen self.now) b → result ≡ true }
     {
         let brigade = self.brigade(b);
         b < 9 && brigade.is_at_hand()
@@ -123,15 +89,14 @@ impl State {
     fn is_formed_cursor(&self, c: u8) -> bool
         ensures value { result ≡ is_formed_cursor (seen self.now) ((seen self.now).cursors c) }
         ensures sound { result ≡ true → FormedCursor (seen self.now) ((seen self.now).cursors c) }
-        ensures complete { FormedCursor (seen self.now) ((seen self.now).cursors c) → result ≡ true }
     {
         match self.cursor(c) {
             CursorState::Unset => true,
             CursorState::Loose(classes, homes) => {
-                has_class(classes) & are_declared(&homes, self.pool_count)
+                classes.is_some() & are_declared(&homes, self.pool_count)
             }
             CursorState::In(b, classes) | CursorState::InOrEnd(b, classes) => {
-                has_class(classes) & self.is_at_hand(b)
+                classes.is_some() & self.is_at_hand(b)
             }
             CursorState::End(b) => self.is_at_hand(b),
         }
@@ -141,7 +106,6 @@ impl State {
     fn is_formed_fact(&self, c: u8, d: u8) -> bool
         ensures value { result ≡ is_formed_fact (seen self.now) c d }
         ensures sound { result ≡ true → FormedFact (seen self.now) c d }
-        ensures complete { FormedFact (seen self.now) c d → result ≡ true }
     {
         let first = self.cursor(c);
         let second = self.cursor(d);
@@ -153,7 +117,6 @@ impl State {
         requires { c < 9 }
         ensures value { result ≡ all_below 9 (is_formed_fact (seen self.now) c) }
         ensures sound { result ≡ true → (d : ℕ) → FormedFact (seen self.now) c d }
-        ensures complete { ((d : ℕ) → FormedFact (seen self.now) c d) → result ≡ true }
     {
         for d in 0..width(&self.facts[usize::from(c)]) {
             let formed = self.is_formed_fact(c, d);
@@ -164,24 +127,9 @@ impl State {
         true
     }
 
-    fn are_formed_pools(&self) -> bool
-        ensures value { result ≡ all_below 8 (is_formed_pool (seen self.now)) }
-        ensures sound { result ≡ true → (q : ℕ) → q < 8 → FormedPool (seen self.now) q }
-        ensures complete { ((q : ℕ) → q < 8 → FormedPool (seen self.now) q) → result ≡ true }
-    {
-        for q in 0..8u8 {
-            let formed = self.is_formed_pool(q);
-            if !formed {
-                return false;
-            }
-        }
-        true
-    }
-
     fn are_formed_places(&self) -> bool
         ensures value { result ≡ all_below 9 (is_formed_at (seen self.now)) }
         ensures sound { result ≡ true → (k : ℕ) → k < 9 → FormedAt (seen self.now) k }
-        ensures complete { ((k : ℕ) → k < 9 → FormedAt (seen self.now) k) → result ≡ true }
     {
         for k in 0..9u8 {
             let place = self.is_formed_brigade(k);
@@ -201,10 +149,11 @@ impl State {
         ensures sound { result ≡ true → IsFormed (seen self.now) }
         ensures complete { IsFormed (seen self.now) → result ≡ true }
     {
+        let brought = self.brigade(8);
         (self.pool_count <= 8)
             & (self.brigade_count <= 8)
-            & self.is_formed_in()
-            & self.are_formed_pools()
+            & (is_unmade(&brought) | brought.is_live())
+            & (0..8u8).all(|q| self.is_formed_pool(q))
             & self.are_formed_places()
     }
 }

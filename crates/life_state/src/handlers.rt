@@ -41,7 +41,8 @@ pub fn at_return(state: &State) -> State
 {
     let mut next = *state;
     next.set_brigade(8, BrigadeState::never_made());
-    next.unset_cursors();
+    next.cursors = [CursorState::Unset; 9];
+    next.facts = [[false; 9]; 9];
     next
 }
 
@@ -54,7 +55,5 @@ pub fn at_end_of_request(code: &Module, state: &State) -> State
     requires few { length code.now.pools ≤ 8 }
     ensures { seen result ≡ at_end_of_request code.now (seen state.now) }
 {
-    let mut next = *state;
-    next.clear(code, PoolRef::Req);
-    next.with_sent(false)
+    state.cleared(code, PoolRef::Req).with_sent(false)
 }

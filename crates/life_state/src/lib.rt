@@ -16,6 +16,7 @@ mod motions;
 mod needs;
 mod order;
 mod parts;
+mod places;
 mod pools;
 mod rules;
 mod state;

@@ -1,13 +1,13 @@
 //! How cursors move with the buckets that they stand at.
 
-ghost use Rattle.std.specs.Prelude.{◌≡◌, ◌<◌, ℕ};
-ghost use Rattle.run_model.specs.Indexed.{upd};
+ghost use Rattle.std.specs.Prelude.{◌≡◌, ◌<◌};
 ghost use Rattle.life_state.specs.Facts.{moved, set_cursor, move_bucket};
-ghost use Rattle.life_state.specs.Rules.{without_cursors};
+ghost use Rattle.life_state.specs.Rules.{told};
 ghost use Rattle.life_state.specs.Seen.{seen, seen_cursor, seen_cursors, motion_of, others_of};
 
 use crate::facts::{Keep, Others};
 use crate::parts::CursorState;
+use crate::places::filled;
 use crate::state::State;
 
 /// What happened to buckets at which cursors may stand.
@@ -57,60 +57,51 @@ impl State {
     fn cursors_after(&self, motion: Motion) -> [CursorState; 9]
         ensures { seen_cursors result ≡ motion_of motion (seen self.now) }
     {
-        let mut cursors = [CursorState::Unset; 9];
-        for k in 0..9u8 {
-            cursors[usize::from(k)] = self.motion(motion, k);
-        }
-        cursors
+        filled([CursorState::Unset; 9], |k| self.motion(motion, k))
     }
 
     /// Moves the cursors.
     #[tactic(auto, unfolding(crate::specs::Facts::moved))]
-    pub(crate) fn move_cursors(&mut self, motion: Motion)
-        ensures { seen self.new ≡ moved (motion_of motion (seen self.old)) (seen self.old) }
+    pub(crate) fn move_cursors(mut self, motion: Motion) -> State
+        ensures { seen result ≡ moved (motion_of motion (seen self)) (seen self) }
     {
         self.change_cursors(Keep::Known, self.cursors_after(motion));
+        self
     }
 
     /// Says what is known of a cursor that stays where it is.
     #[tactic(auto, unfolding(crate::specs::Facts::moved, crate::specs::Seen::seen, run_model::specs::Indexed::upd))]
-    pub(crate) fn tell(&mut self, c: u8, cursor: CursorState)
+    pub(crate) fn told(mut self, c: u8, cursor: CursorState) -> State
         requires { c < 9 }
-        ensures { seen self.new ≡ moved (upd (seen self.old).cursors c (seen_cursor cursor)) (seen self.old) }
+        ensures { seen result ≡ told c (seen_cursor cursor) (seen self) }
     {
         let mut cursors = self.cursors;
         cursors[usize::from(c)] = cursor;
         self.change_cursors(Keep::Known, cursors);
-    }
-
-    /// Unsets all cursors.
-    #[tactic(auto, unfolding(crate::specs::Seen::seen))]
-    pub(crate) fn unset_cursors(&mut self)
-        ensures { seen self.new ≡ without_cursors (seen self.old) }
-    {
-        self.cursors = [CursorState::Unset; 9];
-        self.facts = [[false; 9]; 9];
+        self
     }
 
     /// Sets a cursor. Of its bucket is known that it is not that of the others.
     #[tactic(auto, unfolding(crate::specs::Facts::set_cursor, crate::specs::Seen::seen, run_model::specs::Indexed::upd))]
-    pub(crate) fn set_cursor(&mut self, c: u8, cursor: CursorState, others: Others)
+    pub(crate) fn set_cursor(mut self, c: u8, cursor: CursorState, others: Others) -> State
         requires { c < 9 }
-        ensures { seen self.new ≡ set_cursor c (seen_cursor cursor) (others_of others (seen self.old)) (seen self.old) }
+        ensures { seen result ≡ set_cursor c (seen_cursor cursor) (others_of others (seen self)) (seen self) }
     {
         let mut cursors = self.cursors;
         cursors[usize::from(c)] = cursor;
         self.change_cursors(Keep::But(c, others), cursors);
+        self
     }
 
     /// The bucket at a cursor moves, or is destroyed: the other cursors that may be at it are unset.
     #[tactic(auto, unfolding(crate::specs::Facts::moved, run_model::specs::Indexed::upd))]
-    pub(crate) fn move_bucket(&mut self, c: u8, cursor: CursorState)
+    pub(crate) fn move_bucket(mut self, c: u8, cursor: CursorState) -> State
         requires { c < 9 }
-        ensures { seen self.new ≡ move_bucket c (seen_cursor cursor) (seen self.old) }
+        ensures { seen result ≡ move_bucket c (seen_cursor cursor) (seen self) }
     {
         let mut cursors = self.cursors_after(Motion::Forgotten(c));
         cursors[usize::from(c)] = cursor;
         self.change_cursors(Keep::Known, cursors);
+        self
     }
 }

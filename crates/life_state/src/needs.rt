@@ -2,12 +2,12 @@
 
 ghost use Rattle.std.specs.Prelude.{◌≡◌, true};
 ghost use Rattle.module_code.specs.Program.{fits};
-ghost use Rattle.run_model.specs.Faults.{WNew, WNewPool, WReturn, wants};
+ghost use Rattle.run_model.specs.Faults.{wants};
 ghost use Rattle.run_model.specs.Wants.{need_of, want_of};
-ghost use Rattle.life_state.specs.Rules.{cursor_need, pool_need, brigade_need, usable_need, homes_need, homes_at, send_need, keeps_call, need, first_need};
-ghost use Rattle.life_state.specs.Seen.{seen, seen_homes, seen_brigade, seen_cursor};
+ghost use Rattle.life_state.specs.Rules.{cursor_need, homes_at, need, first_need};
+ghost use Rattle.life_state.specs.Seen.{seen, seen_homes, seen_cursor};
 
-use crate::parts::{BrigadeState, Contents, CursorState, HomeSet};
+use crate::parts::{Contents, CursorState, HomeSet};
 use crate::state::State;
 use module_code::{Instr, Module, PoolRef};
 use run_model::{FaultKind, Need, Want, wants};
@@ -29,46 +29,6 @@ impl CursorState {
     }
 }
 
-impl BrigadeState {
-    fn need_live(&self) -> Option<FaultKind>
-        ensures { result ≡ brigade_need (seen_brigade self.now) }
-    {
-        if self.is_live() {
-            None
-        } else {
-            Some(FaultKind::F2)
-        }
-    }
-
-    fn need_usable(&self) -> Option<FaultKind>
-        ensures { result ≡ usable_need (seen_brigade self.now) }
-    {
-        if self.is_live() {
-            if self.is_usable() {
-                None
-            } else {
-                Some(FaultKind::F7)
-            }
-        } else {
-            Some(FaultKind::F2)
-        }
-    }
-
-    fn keeps_call(&self) -> bool
-        ensures { result ≡ keeps_call (seen_brigade self.now) }
-    {
-        self.live & self.usable & self.homes.call
-    }
-}
-
-impl HomeSet {
-    fn need_alive(&self) -> Option<FaultKind>
-        ensures { result ≡ homes_need (seen_homes self.now) }
-    {
-        if self.dead { Some(FaultKind::F5) } else { None }
-    }
-}
-
 #[tactic(auto)]
 impl State {
     /// The homes of the bucket at a cursor.
@@ -83,78 +43,42 @@ impl State {
         }
     }
 
-    fn need_pool(&self, pool: PoolRef) -> Option<FaultKind>
-        ensures { result ≡ pool_need (seen self.now) pool }
-    {
-        match pool {
-            PoolRef::Own(q) if !self.pool(q).is_live() => Some(FaultKind::F1),
-            PoolRef::Conn | PoolRef::Req | PoolRef::Own(_) => None,
-        }
-    }
-
-    fn need_new(&self, b: u8) -> Option<FaultKind>
-        ensures { result ≡ need (seen self.now) (WNew b) }
-    {
-        if self.may_be_live(b) {
-            Some(FaultKind::F10)
-        } else {
-            None
-        }
-    }
-
-    fn need_new_pool(&self, q: u8) -> Option<FaultKind>
-        ensures { result ≡ need (seen self.now) (WNewPool q) }
-    {
-        if self.pool(q).live {
-            Some(FaultKind::F10)
-        } else {
-            None
-        }
-    }
-
-    fn need_send(&self, b: u8) -> Option<FaultKind>
-        ensures { result ≡ send_need (seen self.now).sent ((seen self.now).brigades b) }
-    {
-        if self.content(b).is_at_most(Contents::limit(self.sent())) {
-            None
-        } else {
-            Some(FaultKind::F8)
-        }
-    }
-
-    fn keeps_call(&self, b: u8) -> bool
-        ensures { result ≡ keeps_call ((seen self.now).brigades b) }
-    {
-        self.brigade(b).keeps_call()
-    }
-
-    fn need_return(&self) -> Option<FaultKind>
-        ensures { result ≡ need (seen self.now) WReturn }
-    {
-        for b in 0..8u8 {
-            let keeps = self.keeps_call(b);
-            if keeps {
-                return Some(FaultKind::F6);
-            }
-        }
-        None
-    }
-
     /// The fault of a want that the state does not meet.
     fn need(&self, want: Want) -> Option<FaultKind>
         ensures { result ≡ need (seen self.now) (want_of want) }
     {
         match want {
-            Want::Pool(pool) => self.need_pool(pool),
-            Want::Brigade(b) => self.brigade(b).need_live(),
-            Want::Usable(b) => self.brigade(b).need_usable(),
-            Want::New(b) => self.need_new(b),
-            Want::NewPool(q) => self.need_new_pool(q),
+            Want::Pool(PoolRef::Own(q)) => (!self.pool(q).is_live()).then_some(FaultKind::F1),
+            Want::Pool(PoolRef::Conn | PoolRef::Req) => None,
+            Want::Brigade(b) => (!self.brigade(b).is_live()).then_some(FaultKind::F2),
+            Want::Usable(b) => {
+                let brigade = self.brigade(b);
+                if brigade.is_live() {
+                    (!brigade.is_usable()).then_some(FaultKind::F7)
+                } else {
+                    Some(FaultKind::F2)
+                }
+            }
+            Want::New(b) => self.may_be_live(b).then_some(FaultKind::F10),
+            Want::NewPool(q) => self.pool(q).live.then_some(FaultKind::F10),
             Want::Cursor(c, need) => self.cursor(c).need(need),
-            Want::Homes(b) | Want::HomeAcross(b, _) => self.homes(b).need_alive(),
-            Want::Home(c) => self.homes_at(self.cursor(c)).need_alive(),
-            Want::Send(b) => self.need_send(b),
-            Want::Return => self.need_return(),
+            Want::Homes(b) | Want::HomeAcross(b, _) => self.homes(b).dead.then_some(FaultKind::F5),
+            Want::Home(c) => self.homes_at(self.cursor(c)).dead.then_some(FaultKind::F5),
+            Want::Send(b) => {
+                let limit = if self.sent() {
+                    Contents::Flushes
+                } else {
+                    Contents::NoLateData
+                };
+                (!self.content(b).is_at_most(limit)).then_some(FaultKind::F8)
+            }
+            Want::Return => {
+                let keeps_call = |b| {
+                    let brigade = self.brigade(b);
+                    brigade.live & brigade.usable & brigade.homes.call
+                };
+                (0..8u8).any(keeps_call).then_some(FaultKind::F6)
+            }
         }
     }
 

@@ -1,11 +1,10 @@
 //! The order of the parts of a state: the greater one says less.
 
 ghost use Rattle.std.specs.Prelude.{◌≡◌};
-ghost use Rattle.life_state.specs.States.{is_live_alone, ended_pool, is_live_brigade, is_usable_alone, holds, passed_on, never_made, no_homes, both_homes, ended_brigade, with_homes, dead_where};
+ghost use Rattle.life_state.specs.States.{is_live_alone, ended_pool, is_live_brigade, is_usable_alone, holds, never_made, no_homes, ended_brigade};
 ghost use Rattle.life_state.specs.Order.{rank, content_le, greater, classes_le, both_classes, pool_le, both_pools, brigade_le, both_brigades, cursor_le, both_here, both_cursors, is_at_hand};
 ghost use Rattle.life_state.specs.declared.parts.Contents.TheVariants as Contents;
-ghost use Rattle.life_state.specs.Rules.{brigade_not_null, pool_not_null};
-ghost use Rattle.life_state.specs.Seen.{seen_pools, seen_homes, seen_brigade, seen_cursor};
+ghost use Rattle.life_state.specs.Seen.{seen_homes, seen_brigade, seen_cursor};
 
 use crate::parts::{BrigadeState, Classes, Contents, CursorState, HomeSet, PoolSet, PoolState};
 use crate::pools::implies;
@@ -84,16 +83,6 @@ impl PoolState {
         self.live & !self.null & !self.gone
     }
 
-    /// The same where it is not null.
-    pub(crate) fn not_null(&self) -> PoolState
-        ensures { result ≡ pool_not_null self.now }
-    {
-        PoolState {
-            null: false,
-            ..*self
-        }
-    }
-
     /// Its pool is dead, if there was one.
     pub(crate) fn ended(&self) -> PoolState
         ensures { result ≡ ended_pool self.now }
@@ -168,17 +157,6 @@ impl BrigadeState {
         BrigadeState::holding(Contents::Empty, HomeSet::none())
     }
 
-    /// Live and passed.
-    pub(crate) fn passed_on() -> BrigadeState
-        ensures { seen_brigade result ≡ passed_on }
-    {
-        BrigadeState {
-            usable: false,
-            passed: true,
-            ..BrigadeState::empty()
-        }
-    }
-
     /// Nothing was made in it.
     pub(crate) fn never_made() -> BrigadeState
         ensures { seen_brigade result ≡ never_made }
@@ -186,26 +164,6 @@ impl BrigadeState {
         BrigadeState {
             homes: HomeSet::none(),
             ..BrigadeState::UNMADE
-        }
-    }
-
-    /// With other homes besides.
-    pub(crate) fn with_homes(&self, homes: &HomeSet) -> BrigadeState
-        ensures { seen_brigade result ≡ with_homes (both_homes (seen_homes homes.now)) (seen_brigade self.now) }
-    {
-        BrigadeState {
-            homes: homes.both(&self.homes),
-            ..*self
-        }
-    }
-
-    /// The same where it is not null.
-    pub(crate) fn not_null(&self) -> BrigadeState
-        ensures { seen_brigade result ≡ brigade_not_null (seen_brigade self.now) }
-    {
-        BrigadeState {
-            null: false,
-            ..*self
         }
     }
 
@@ -221,16 +179,6 @@ impl BrigadeState {
             passed: false,
             content: Contents::Empty,
             homes: HomeSet::none(),
-        }
-    }
-
-    /// The same where these pools are dead.
-    pub(crate) fn dead_where(&self, gone: &PoolSet) -> BrigadeState
-        ensures { seen_brigade result ≡ with_homes (dead_where (seen_pools gone.now)) (seen_brigade self.now) }
-    {
-        BrigadeState {
-            homes: self.homes.dead_where(gone),
-            ..*self
         }
     }
 

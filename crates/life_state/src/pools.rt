@@ -1,12 +1,12 @@
 //! Sets of pools.
 
-ghost use Rattle.std.specs.Prelude.{◌≡◌, ◌<◌, ◌||◌, ◌&&◌, not, length, slice_index_or, false, nat_lt, ◌==◌, ℕ};
-ghost use Rattle.run_model.specs.Indexed.{any_below};
+ghost use Rattle.std.specs.Prelude.{◌≡◌, ◌<◌, ◌||◌, ◌&&◌, not, slice_index_or, false, nat_lt, ◌==◌, ℕ};
 ghost use Rattle.life_state.specs.States.{is_home, any_place};
-ghost use Rattle.life_state.specs.Order.{implies, all_below, places_le};
+ghost use Rattle.life_state.specs.Order.{implies, places_le};
 ghost use Rattle.life_state.specs.Seen.{seen_pools};
 
 use crate::parts::PoolSet;
+use crate::places::filled;
 use module_code::PoolRef;
 
 /// Whether the second holds where the first does.
@@ -68,34 +68,14 @@ impl PoolSet {
         }
     }
 
-    fn own_in_both(&self, other: &PoolSet) -> [bool; 8]
-        ensures { (i : ℕ) → i < 8 → slice_index_or result i false ≡ slice_index_or self.now.own i false || slice_index_or other.now.own i false }
-    {
-        let mut own = [false; 8];
-        for q in 0..8u8 {
-            own[usize::from(q)] = self.has_own(q) | other.has_own(q);
-        }
-        own
-    }
-
     /// The pools of both.
     pub(crate) fn both(&self, other: &PoolSet) -> PoolSet
         ensures { seen_pools result ≡ (λ k. seen_pools self.now k || seen_pools other.now k) }
     {
         PoolSet {
             req: self.req | other.req,
-            own: self.own_in_both(other),
+            own: filled([false; 8], |q| self.has_own(q) | other.has_own(q)),
         }
-    }
-
-    fn own_without(&self, other: &PoolSet) -> [bool; 8]
-        ensures { (i : ℕ) → i < 8 → slice_index_or result i false ≡ slice_index_or self.now.own i false && not (slice_index_or other.now.own i false) }
-    {
-        let mut own = [false; 8];
-        for q in 0..8u8 {
-            own[usize::from(q)] = self.has_own(q) & !other.has_own(q);
-        }
-        own
     }
 
     /// The pools that another set does not have.
@@ -104,43 +84,21 @@ impl PoolSet {
     {
         PoolSet {
             req: self.req & !other.req,
-            own: self.own_without(other),
+            own: filled([false; 8], |q| self.has_own(q) & !other.has_own(q)),
         }
-    }
-
-    fn meets_own(&self, other: &PoolSet) -> bool
-        ensures { result ≡ any_below 8 (λ i. slice_index_or self.now.own i false && slice_index_or other.now.own i false) }
-    {
-        for q in 0..8u8 {
-            if self.has_own(q) & other.has_own(q) {
-                return true;
-            }
-        }
-        false
     }
 
     /// Whether it has a pool of another set.
     pub(crate) fn meets(&self, other: &PoolSet) -> bool
         ensures { result ≡ any_place (λ k. seen_pools self.now k && seen_pools other.now k) }
     {
-        (self.req & other.req) | self.meets_own(other)
-    }
-
-    fn own_is_in(&self, other: &PoolSet) -> bool
-        ensures { result ≡ all_below 8 (λ i. implies (slice_index_or self.now.own i false) (slice_index_or other.now.own i false)) }
-    {
-        for q in 0..8u8 {
-            if !implies(self.has_own(q), other.has_own(q)) {
-                return false;
-            }
-        }
-        true
+        (self.req & other.req) | (0..8u8).any(|q| self.has_own(q) & other.has_own(q))
     }
 
     /// Whether another set has all its pools.
     pub(crate) fn is_in(&self, other: &PoolSet) -> bool
         ensures { result ≡ places_le (seen_pools self.now) (seen_pools other.now) }
     {
-        implies(self.req, other.req) & self.own_is_in(other)
+        implies(self.req, other.req) & (0..8u8).all(|q| implies(self.has_own(q), other.has_own(q)))
     }
 }

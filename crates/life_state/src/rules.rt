@@ -4,29 +4,21 @@ ghost use Rattle.std.specs.Prelude.{◌≡◌, ◌<◌, ◌≤◌, true, length,
 ghost use Rattle.module_code.specs.declared.instr.Instr as instr;
 ghost use Rattle.module_code.specs.declared.instr.VarRef.TheVariants as variable;
 ghost use Rattle.module_code.specs.Program.{fits};
-ghost use Rattle.life_state.specs.Facts.{set_cursor};
-ghost use Rattle.life_state.specs.States.{set_pool, set_brigade};
+ghost use Rattle.life_state.specs.States.{set_pool};
 ghost use Rattle.life_state.specs.InState.{effect_fits, condition_fits};
-ghost use Rattle.life_state.specs.Rules.{no_other, edges_jempty, edges_jend, told_classes, edges_jkind, after_read, after_make, edges_jnull, edges_jsent, after, on_condition, edges, rule};
-ghost use Rattle.life_state.specs.Seen.{seen, seen_brigade, seen_cursor, seen_some, seen_edges, seen_answer};
+ghost use Rattle.life_state.specs.Rules.{edges_jempty, edges_jend, told_classes, edges_jkind, after_make, edges_jnull, after, on_condition, edges, rule};
+ghost use Rattle.life_state.specs.Seen.{seen, seen_cursor, seen_some, seen_edges, seen_answer};
 
 use crate::facts::Others;
+use crate::motions::Motion;
 use crate::parts::{BrigadeState, Classes, CursorState, HomeSet, PoolState};
 use crate::state::State;
 use crate::successors::{Successors, some_if};
-use module_code::{Instr, KindTest, Module, VarRef};
-use run_model::{Condition, Effect, FaultKind, Flow, MadeFrom, effect_of, flow_of};
+use module_code::{Instr, KindTest, Module, PoolRef, VarRef};
+use run_model::{Branch, Condition, Effect, FaultKind, MadeFrom, branch_of, effect_of};
 
 #[tactic(auto)]
 impl State {
-    fn placed(mut self, c: u8, cursor: CursorState) -> State
-        requires { c < 9 }
-        ensures { seen result ≡ set_cursor c (seen_cursor cursor) no_other (seen self) }
-    {
-        self.set_cursor(c, cursor, Others::Nobody);
-        self
-    }
-
     fn jempty(self, b: u8) -> Successors
         requires { b < 9 }
         ensures { seen_edges result ≡ edges_jempty b (seen self) }
@@ -75,27 +67,11 @@ impl State {
         }
     }
 
-    fn read(mut self, c: u8) -> State
-        ensures { seen result ≡ after_read c (seen self) }
-    {
-        let cursor = self.cursor(c);
-        self.set_cursor(8, cursor, Others::As(c));
-        self
-    }
-
     fn with_pool(mut self, q: u8, pool: PoolState) -> State
         requires { q < 8 }
         ensures { seen result ≡ set_pool q pool (seen self) }
     {
         self.set_pool(q, pool);
-        self
-    }
-
-    fn with_brigade(mut self, b: u8, brigade: BrigadeState) -> State
-        requires { b < 9 }
-        ensures { seen result ≡ set_brigade b (seen_brigade brigade) (seen self) }
-    {
-        self.set_brigade(b, brigade);
         self
     }
 
@@ -113,7 +89,16 @@ impl State {
     {
         let pool = self.pool(q);
         Successors {
-            next: some_if(pool.gone | pool.live, self.with_pool(q, pool.not_null())),
+            next: some_if(
+                pool.gone | pool.live,
+                self.with_pool(
+                    q,
+                    PoolState {
+                        null: false,
+                        ..pool
+                    },
+                ),
+            ),
             jump: some_if(pool.null, self.with_pool(q, PoolState::NULL)),
         }
     }
@@ -126,21 +111,18 @@ impl State {
         Successors {
             next: some_if(
                 brigade.gone | brigade.live,
-                self.with_brigade(b, brigade.not_null()),
+                self.with_brigade(
+                    b,
+                    BrigadeState {
+                        null: false,
+                        ..brigade
+                    },
+                ),
             ),
             jump: some_if(
                 brigade.null,
                 self.with_brigade(b, BrigadeState::never_made()),
             ),
-        }
-    }
-
-    fn jsent(self) -> Successors
-        ensures { seen_edges result ≡ edges_jsent (seen self) }
-    {
-        Successors {
-            next: Some(self.with_sent(false)),
-            jump: some_if(self.sent(), self),
         }
     }
 
@@ -156,7 +138,10 @@ impl State {
             MadeFrom::TransientBuffer => self.made(c, Classes::BYTES, HomeSet::only_call()),
             MadeFrom::FlushBucket => self.made(c, Classes::FLUSH, HomeSet::none()),
             MadeFrom::EosBucket => self.made(c, Classes::EOS, HomeSet::none()),
-            MadeFrom::CopyAt(d) => self.copy(c, d),
+            MadeFrom::CopyAt(d) => {
+                let cursor = self.cursor(d);
+                self.made(c, cursor.classes(), self.homes_at(cursor))
+            }
         }
     }
 
@@ -168,25 +153,29 @@ impl State {
         ensures { seen result ≡ after code.now effect (seen self) }
     {
         match effect {
-            Effect::MakePool(q) => self.pcreate(q),
-            Effect::ClearPool(q) => self.pclear(code, q),
-            Effect::DestroyPool(q) => self.pdestroy(code, q),
+            Effect::MakePool(q) => self.with_pool(q, PoolState::LIVE),
+            Effect::ClearPool(q) => self.cleared(code, PoolRef::Own(q)),
+            Effect::DestroyPool(q) => {
+                let ended = self.pool(q).ended();
+                self.cleared(code, PoolRef::Own(q)).with_pool(q, ended)
+            }
             Effect::MakeBrigade(o) => self.bcreate(o),
-            Effect::Clean(b) => self.bclean(b),
-            Effect::Concat(a, b) => self.bconcat(a, b),
-            Effect::SplitBrigade(b, c, a) => self.bsplit(b, c, a),
-            Effect::PartBrigade(b, _, c) => self.first(c, b),
+            Effect::Clean(b) => self.bcreate(b).move_cursors(Motion::Emptied(b)),
+            Effect::Concat(a, b) => self.join_brigades(a, b, self.homes(a).both(&self.homes(b))),
+            Effect::SplitBrigade(b, c, a) => self
+                .with_brigade(a, self.split_part(b, self.cursor(c)))
+                .move_cursors(Motion::SplitOff(b, c, a)),
             Effect::Save(o, b) => self.bsave(code, o, b),
             Effect::Pass(b) => self.pass(b),
-            Effect::First(c, b) => self.first(c, b),
+            Effect::First(c, b) | Effect::PartBrigade(b, _, c) => self.first(c, b),
             Effect::Next(d, c) => self.next(d, c, self.cursor(c)),
             Effect::Unlink(c) => self.unlink(c),
-            Effect::Delete(c) => self.bdelete(c),
+            Effect::Delete(c) => self.move_bucket(c, CursorState::Unset),
             Effect::Insert(side, b, c) => self.insert(side, b, c),
             Effect::Before(c, d) => self.before(c, self.cursor(d)),
             Effect::Make(c, from) => self.make(c, from),
             Effect::Aside(c, pool) => self.aside(c, pool, self.cursor(c)),
-            Effect::Read(c) => self.read(c),
+            Effect::Read(c) => self.set_cursor(8, self.cursor(c), Others::As(c)),
             Effect::Nothing
             | Effect::Register(_, _)
             | Effect::Kill(_, _)
@@ -205,18 +194,21 @@ impl State {
         match condition {
             Condition::TooShort(b, _, c) => Successors {
                 next: Some(after),
-                jump: Some(self.placed(c, CursorState::End(b))),
+                jump: Some(self.set_cursor(c, CursorState::End(b), Others::Nobody)),
             },
             Condition::NoBucket(b) => after.jempty(b),
             Condition::AtEnd(c) => after.jend(c, after.cursor(c)),
             Condition::OfKind(c, test) => after.jkind(c, test),
             Condition::ReadFailed(_) => Successors {
                 next: Some(after),
-                jump: Some(self.placed(8, CursorState::Unset)),
+                jump: Some(self.set_cursor(8, CursorState::Unset, Others::Nobody)),
             },
             Condition::IsNull(VarRef::Pool(q)) => after.jnull_pool(q),
             Condition::IsNull(VarRef::Brigade(b)) => after.jnull_brigade(b),
-            Condition::WasSent => after.jsent(),
+            Condition::WasSent => Successors {
+                next: Some(after.with_sent(false)),
+                jump: some_if(after.sent(), after),
+            },
             Condition::PassFailed
             | Condition::NoSplit(_, _)
             | Condition::NoByte(_)
@@ -236,14 +228,14 @@ impl State {
         ensures { seen_edges result ≡ edges code.now instr (seen self) }
     {
         let after = self.after_effect(code, effect_of(instr));
-        match flow_of(instr) {
-            Flow::ToNext => Successors::goes_on(after),
-            Flow::JumpIf(condition) => self.on_condition(condition, after),
-            Flow::JumpAlways => Successors {
+        match branch_of(instr) {
+            Branch::ToNext => Successors::goes_on(after),
+            Branch::JumpIf(condition) => self.on_condition(condition, after),
+            Branch::JumpAlways => Successors {
                 next: None,
                 jump: Some(after),
             },
-            Flow::EndCall => Successors {
+            Branch::EndCall => Successors {
                 next: None,
                 jump: None,
             },

@@ -1,6 +1,6 @@
 //! Where an instruction leads.
 
-ghost use Rattle.std.specs.Prelude.{◌≡◌, Some};
+ghost use Rattle.std.specs.Prelude.{◌≡◌};
 ghost use Rattle.life_state.specs.Rules.{goes_on_with, both_with, some_if};
 ghost use Rattle.life_state.specs.Seen.{seen, seen_some, seen_edges};
 

@@ -1,5 +1,6 @@
 -- Steps keep pools and brigades as the module declares them.
-use Rattle.std.proofs.Common.{◌≡◌, ◌≢◌, ℕ, ◌+◌, ◌<◌, ◌≤◌, Bool, true, false, ◌||◌, not, ◌==◌, nat_lt, cond, List, [], ◌∷◌, ◌++◌, map, filter_map, length, Option, Some, None, ◌⊎◌, inl, inr, refl, sym, ◌∙◌, ap, subst, arith}
+use Rattle.std.proofs.Common.{◌≡◌, ◌≢◌, ℕ, ◌+◌, ◌<◌, ◌≤◌, Bool, true, false, ◌||◌, not, ◌==◌, nat_lt, cond, List, [], ◌∷◌, ◌++◌, map, filter_map, length, Option, Some, None, ◌⊎◌, inl, inr, refl, sym}
+use Rattle.std.proofs.Common.{◌∙◌, ap, subst, arith}
 use Rattle.std.proofs.lemmas.Bool.{cases_Bool, cases_eq}
 use Rattle.std.proofs.lemmas.Bool.Decides.{nat_tests}
 use Rattle.module_code.specs.declared.instr.PoolRef.{PoolRef}
@@ -52,7 +53,8 @@ named_same r new own conn req (pool.Own q) = ap (λ (g : ℕ → PoolVar). name_
 pub record IsCarried (r new : Configuration) : Type 0 where
   pub own : new.instance.pools ≡ r.instance.pools
   pub older : (q n : ℕ) → r.instance.pools q ≡ poolvar.Made n → is_live new.shared.pools n ≡ true
-      → (new.shared.pools.path n ≡ r.shared.pools.path n) × ((m : ℕ) → r.shared.pools.path n ≡ n ∷ r.shared.pools.path m → is_live r.shared.pools m ≡ true → new.shared.pools.path m ≡ r.shared.pools.path m)
+      → (new.shared.pools.path n ≡ r.shared.pools.path n)
+      × ((m : ℕ) → r.shared.pools.path n ≡ n ∷ r.shared.pools.path m → is_live r.shared.pools m ≡ true → new.shared.pools.path m ≡ r.shared.pools.path m)
   pub named : (d : PoolRef) (m : ℕ) → pool_named r d ≡ Some m → is_live r.shared.pools m ≡ true → new.shared.pools.path m ≡ r.shared.pools.path m → pool_named new d ≡ Some m
   pub brigades : (b : ℕ) → KeepsOn (λ m. new.shared.pools.path m ≡ r.shared.pools.path m) (r.instance.brigades b) (new.instance.brigades b)
 
@@ -146,7 +148,8 @@ went p c r new formed own apart left named brigades s =
       brigades = λ b w e. (let old = cleared_on (is_under r.shared.pools c) (r.instance.brigades b) (new.instance.brigades b) (brigades b) w e in (old.0, old.1, old.2, λ m at. apart m (old.3 m at)));
     }) s where
       by_under : (n : ℕ) → is_live new.shared.pools n ≡ true → (is_under r.shared.pools c n ≡ true) ⊎ (is_under r.shared.pools c n ≡ false)
-          → (new.shared.pools.path n ≡ r.shared.pools.path n) × ((m : ℕ) → r.shared.pools.path n ≡ n ∷ r.shared.pools.path m → is_live r.shared.pools m ≡ true → new.shared.pools.path m ≡ r.shared.pools.path m)
+          → (new.shared.pools.path n ≡ r.shared.pools.path n)
+          × ((m : ℕ) → r.shared.pools.path n ≡ n ∷ r.shared.pools.path m → is_live r.shared.pools m ≡ true → new.shared.pools.path m ≡ r.shared.pools.path m)
       by_under n live (inl under) =
           let itself = left n under live in
           (itself.1, λ m at there. apart m (not_under c r.shared.pools m (formed_older r.shared.pools formed) (subst (λ (k : ℕ). m < k) itself.0 (parent_below r.shared.pools n m formed there at))))
@@ -163,18 +166,21 @@ emptied_declared p c left r formed so s =
 -- Pools and brigades that are made.
 
 -- names of what is live stay where the variable q, which names no live pool, is written
-named_beside : (r new : Configuration) (q next : ℕ) → has_pool r (pool.Own q) ≡ false → new.instance.pools ≡ upd r.instance.pools q (poolvar.Made next) → new.shared.conn ≡ r.shared.conn → new.shared.req ≡ r.shared.req
+named_beside : (r new : Configuration) (q next : ℕ) → has_pool r (pool.Own q) ≡ false → new.instance.pools ≡ upd r.instance.pools q (poolvar.Made next) → new.shared.conn ≡ r.shared.conn
+    → new.shared.req ≡ r.shared.req
     → (d : PoolRef) (m : ℕ) → pool_named r d ≡ Some m → is_live r.shared.pools m ≡ true → pool_named new d ≡ Some m
 unfolding named_at has_pool_at
 named_beside r new q next none own conn req pool.Conn m e live = ap (λ (n : ℕ). Some n) conn ∙ e
 named_beside r new q next none own conn req pool.Req m e live = req ∙ e
 named_beside r new q next none own conn req (pool.Own k) m e live = elim (cases_eq k q) [
-  | inl is ↦ absurd (let lives : is_live_named r.shared.pools (name_in (r.instance.pools q)) ≡ true = ap (λ (j : ℕ). is_live_named r.shared.pools (name_in (r.instance.pools j))) (sym is) ∙ ap (is_live_named r.shared.pools) e ∙ live in
+  | inl is ↦ absurd (let lives : is_live_named r.shared.pools (name_in (r.instance.pools q)) ≡ true =
+      ap (λ (j : ℕ). is_live_named r.shared.pools (name_in (r.instance.pools j))) (sym is) ∙ ap (is_live_named r.shared.pools) e ∙ live in
       let no : true ≡ false = sym lives ∙ none in cc)
   | inr ne ↦ ap (λ (g : ℕ → PoolVar). name_in (g k)) own ∙ ap name_in (upd_off r.instance.pools q k (poolvar.Made next) ne) ∙ e
 ]
 
-made_declared : (p : Program) (parent q : ℕ) (r : Configuration) → q < 8 → has_pool r (pool.Own q) ≡ false → pool_named r (pool_of_pool p q) ≡ Some parent → is_live r.shared.pools parent ≡ true → SoundPools r
+made_declared : (p : Program) (parent q : ℕ) (r : Configuration) → q < 8 → has_pool r (pool.Own q) ≡ false → pool_named r (pool_of_pool p q) ≡ Some parent → is_live r.shared.pools parent ≡ true
+    → SoundPools r
     → AsDeclared p r → AsDeclared p (set_pool q (poolvar.Made r.shared.pools.next) (with_pools (created parent r.shared.pools) r))
 unfolding set_pool with_pools
 made_declared p parent q r lt none is lives sound s = record {
@@ -183,7 +189,8 @@ made_declared p parent q r lt none is lives sound s = record {
       parent,
       named (pool_of_pool p k) parent (ap (λ (j : ℕ). pool_named r (pool_of_pool p j)) at.0 ∙ is) lives,
       created_lives parent ps parent lives,
-      subst (λ (j : ℕ). (created parent ps).path j ≡ j ∷ (created parent ps).path parent) fresh (created_at parent ps ∙ ap (λ (path : List ℕ). next ∷ path) (sym (created_kept parent ps parent (sound.formed.named parent lives)))),
+      subst (λ (j : ℕ). (created parent ps).path j ≡ j ∷ (created parent ps).path parent) fresh
+          (created_at parent ps ∙ ap (λ (path : List ℕ). next ∷ path) (sym (created_kept parent ps parent (sound.formed.named parent lives)))),
     ))
     | inr off ↦ (let was : r.instance.pools k ≡ poolvar.Made n = sym off.1 ∙ e in
         let given : n < next = (sound.own k n was).1 in
@@ -228,7 +235,8 @@ made_declared p parent q r lt none is lives sound s = record {
   lies o d h = still_lies r new d o (λ m at. created_kept parent r.shared.pools m (sound.formed.named m (sym (ap (is_live_named r.shared.pools) at) ∙ h.1))) (λ m e live stays. named d m e live) h
 
 -- a brigade is written into one variable, as its declaration says
-pub written_declared : (p : Program) (o : ℕ) (made : Brigade) (r : Configuration) → (o ≢ 8 → Lies r (pool_of_brigade p o) made.on) → (o ≡ 8 → made.on ≡ None) → AsDeclared p r → AsDeclared p (set_brigade o (var.Live made) r)
+pub written_declared : (p : Program) (o : ℕ) (made : Brigade) (r : Configuration) → (o ≢ 8 → Lies r (pool_of_brigade p o) made.on) → (o ≡ 8 → made.on ≡ None) → AsDeclared p r
+    → AsDeclared p (set_brigade o (var.Live made) r)
 unfolding set_brigade
 written_declared p o made r here incoming s = record {
   pools = λ q n e live. (let old = s.pools q n e live in (old.0, same (pool_of_pool p q) ∙ old.1, old.2, old.3));
@@ -253,7 +261,8 @@ written_declared p o made r here incoming s = record {
 
 -- Steps.
 
-no_live_pool : (r : Configuration) (d : PoolRef) (q : ℕ) → or_else (cond (has_pool r d) None (Some F1)) (or_else (cond (has_pool r (pool.Own q)) (Some F10) None) None) ≡ None → has_pool r (pool.Own q) ≡ false
+no_live_pool : (r : Configuration) (d : PoolRef) (q : ℕ) → or_else (cond (has_pool r d) None (Some F1)) (or_else (cond (has_pool r (pool.Own q)) (Some F10) None) None) ≡ None
+    → has_pool r (pool.Own q) ≡ false
 no_live_pool r d q h = by_test (has_pool r (pool.Own q)) (first_none _ None (second_none (cond (has_pool r d) None (Some F1)) _ h)) where
   by_test : (b : Bool) → cond b (Some F10) None ≡ None → b ≡ false
   by_test true e = absurd (cc)
@@ -309,7 +318,8 @@ pub step_declared : StepKeepsDeclared
 unfolding set_brigade with_pools registered killed
 step_declared p choice (instr.PCreate q) r may sound s =
     made_under_named (AsDeclared p) p q r s
-    (λ parent e. made_declared p parent q r (pool_below p may.proper q may.fit) (no_live_pool r (pool_of_pool p q) q may.faultless) e (named_lives r (pool_of_pool p q) parent (wanted_pool r (pool_of_pool p q) _ may.faultless) e) sound.pools s)
+    (λ parent e. made_declared p parent q r (pool_below p may.proper q may.fit) (no_live_pool r (pool_of_pool p q) q may.faultless) e
+    (named_lives r (pool_of_pool p q) parent (wanted_pool r (pool_of_pool p q) _ may.faultless) e) sound.pools s)
 step_declared p choice (instr.PClear q) r may sound s = (on_emptied (AsDeclared p) q r s (λ n left e so. emptied_declared p n left r sound.pools.formed so s)).0
 step_declared p choice (instr.PDestroy q) r may sound s = (on_emptied (AsDeclared p) q r s (λ n left e so. emptied_declared p n left r sound.pools.formed so s)).1
 step_declared p choice (instr.Label q t) r may sound s = on_named (AsDeclared p) (label_registered (text_of p t)) (pool_named r q) r s (λ n e. kept p r _ refl refl refl refl (same_vars r) s)

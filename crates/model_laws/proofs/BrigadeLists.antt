@@ -1,5 +1,6 @@
 -- Cuts of brigades: parts in order, the lengths of a front, and names.
-use Rattle.std.proofs.Common.{◌≡◌, ℕ, zero, suc, ◌+◌, ◌-◌, ◌<◌, ◌≤◌, Bool, true, false, ◌==◌, cond, nat_lt, nat_le, List, [], ◌∷◌, ◌++◌, append_assoc, append-nil, length, take, drop, inl, inr, Option, Some, None, refl, sym, ◌∙◌, ap, subst, arith, ne_eqb, eq-eqb}
+use Rattle.std.proofs.Common.{◌≡◌, ℕ, zero, suc, ◌+◌, ◌-◌, ◌<◌, ◌≤◌, Bool, true, false, ◌==◌, cond, nat_lt, nat_le, List, [], ◌∷◌, ◌++◌, append_assoc, append-nil, length, take, drop, inl, inr, Option}
+use Rattle.std.proofs.Common.{Some, None, refl, sym, ◌∙◌, ap, subst, arith, ne_eqb, eq-eqb}
 use Rattle.std.proofs.Math.Seq.{take-add}
 use Rattle.std.proofs.lemmas.List.{drop-drop, length-drop, length-take-le, take-append-drop}
 use Rattle.std.proofs.lemmas.List.Elements.{All-head, All-tail}
@@ -13,8 +14,10 @@ use Rattle.run_model.specs.declared.bucket.NamedBucket.{NamedBucket}
 use Rattle.run_model.specs.Buckets.{is_data_kind, is_data}
 use Rattle.run_model.specs.Cutting.{FitsKind, form_of, form_of_kind, length_of, front_of, rest_of}
 use Rattle.run_model.specs.Sound.{count_named}
-use Rattle.run_model.specs.BrigadeLists.{buckets_before, buckets_from, first_bucket, stays, moves, SplitRefusal, Metadata, TooLong, split_refusal, first_bytes, rest_as, first_split, bucket_split, length_in, bytes_of, all_bytes, Cut, Incomplete, front_to, back_from, bucket_across, is_short, place_before, partitioned, place_of}
-use Rattle.model_laws.specs.BrigadeLaws.{BrigadeSplitsInOrder, MovesKeepNames, SplitBytes, BucketSplitsInOrder, SameBytes, may_split, SplitKeepsBytes, PartedAt, PartsAtPoint, ShortIsIncomplete, PartitionKeepsBytes, UnsplitIsUnchanged, MetadataIsNotSplit, PlaceIsBehindFront, PartitionRows, BrigadeSplitRows, BucketSplitRows, MoveRows}
+use Rattle.run_model.specs.BrigadeLists.{buckets_before, buckets_from, first_bucket, stays, moves, SplitRefusal, Metadata, TooLong, split_refusal, first_bytes, rest_as, first_split, bucket_split}
+use Rattle.run_model.specs.BrigadeLists.{length_in, bytes_of, all_bytes, Cut, Incomplete, front_to, back_from, bucket_across, is_short, place_before, partitioned, place_of}
+use Rattle.model_laws.specs.BrigadeLaws.{BrigadeSplitsInOrder, MovesKeepNames, SplitBytes, BucketSplitsInOrder, SameBytes, may_split, SplitKeepsBytes, PartedAt, PartsAtPoint, ShortIsIncomplete}
+use Rattle.model_laws.specs.BrigadeLaws.{PartitionKeepsBytes, UnsplitIsUnchanged, MetadataIsNotSplit, PlaceIsBehindFront, PartitionRows, BrigadeSplitRows, BucketSplitRows, MoveRows}
 use Rattle.run_model.proofs.Names.{count_append, count_cons}
 
 -- What the tests tell.
@@ -130,7 +133,8 @@ same_behind new xs old left s = record {
 same_in_two : (new n : ℕ) (b : NamedBucket) (bs : List NamedBucket) → n ≤ length_of b.bucket.content → SameBytes new (b ∷ bs) (first_bytes n b ∷ rest_as new n b ∷ bs)
 unfolding all_bytes
 same_in_two new n b bs le = record {
-  bytes = λ file. sym (append_assoc (bytes_of file (front_of n b.bucket.content)) (bytes_of file (rest_of n b.bucket.content)) (all_bytes file bs)) ∙ ap (λ (w : List ℕ). w ++ all_bytes file bs) ((halves n b.bucket.content le).bytes file);
+  bytes = λ file. sym (append_assoc (bytes_of file (front_of n b.bucket.content)) (bytes_of file (rest_of n b.bucket.content)) (all_bytes file bs))
+      ∙ ap (λ (w : List ℕ). w ++ all_bytes file bs) ((halves n b.bucket.content le).bytes file);
   others = λ m ne. (let other : ◌≡◌ {A = ℕ} (cond (new == m) 1 0) 0 = ap (λ c. cond c 1 0) (ne_eqb new m (λ e. ne (sym e))) in
       omega (arith, other, count_cons m (first_bytes n b) (rest_as new n b ∷ bs), count_cons m (rest_as new n b) bs, count_cons m b bs));
   one = (let itself : ◌≡◌ {A = ℕ} (cond (new == new) 1 0) 1 = ap (λ c. cond c 1 0) (eq-eqb new new refl) in
@@ -153,7 +157,8 @@ same_in_parts new (suc p) [] = same_itself new []
 same_in_parts new (suc p) (b ∷ bs) = by_length (nat_le (length_of b.bucket.content) (suc p)) refl (same_in_parts new (suc p - length_of b.bucket.content) bs) where
   by_length : (c : Bool) → nat_le (length_of b.bucket.content) (suc p) ≡ c
       → SameBytes new bs (front_to (suc p - length_of b.bucket.content) bs ++ back_from new (suc p - length_of b.bucket.content) bs)
-      → SameBytes new (b ∷ bs) (cond c (b ∷ front_to (suc p - length_of b.bucket.content) bs) (first_bytes (suc p) b ∷ []) ++ cond c (back_from new (suc p - length_of b.bucket.content) bs) (rest_as new (suc p) b ∷ bs))
+      → SameBytes new (b ∷ bs)
+      (cond c (b ∷ front_to (suc p - length_of b.bucket.content) bs) (first_bytes (suc p) b ∷ []) ++ cond c (back_from new (suc p - length_of b.bucket.content) bs) (rest_as new (suc p) b ∷ bs))
   by_length true is rest = same_behind new (b ∷ []) bs (front_to (suc p - length_of b.bucket.content) bs ++ back_from new (suc p - length_of b.bucket.content) bs) rest
   by_length false is rest =
       let inside : suc p < length_of b.bucket.content = more_told (length_of b.bucket.content) (suc p) is in
@@ -229,7 +234,8 @@ unsplit new (suc p) (b ∷ bs) none = by_length (nat_le (length_of b.bucket.cont
   by_length : (c : Bool)
       → (bucket_across (suc p - length_of b.bucket.content) bs ≡ None → front_to (suc p - length_of b.bucket.content) bs ++ back_from new (suc p - length_of b.bucket.content) bs ≡ bs)
       → cond c (bucket_across (suc p - length_of b.bucket.content) bs) (Some b) ≡ None
-      → cond c (b ∷ front_to (suc p - length_of b.bucket.content) bs) (first_bytes (suc p) b ∷ []) ++ cond c (back_from new (suc p - length_of b.bucket.content) bs) (rest_as new (suc p) b ∷ bs) ≡ b ∷ bs
+      → cond c (b ∷ front_to (suc p - length_of b.bucket.content) bs) (first_bytes (suc p) b ∷ []) ++ cond c (back_from new (suc p - length_of b.bucket.content) bs)
+      (rest_as new (suc p) b ∷ bs) ≡ b ∷ bs
   by_length true rest none = ap (λ (xs : List NamedBucket). b ∷ xs) (rest none)
   by_length false rest none = absurd (cc)
 
@@ -255,18 +261,21 @@ pub metadata_is_not_split : MetadataIsNotSplit
 unfolding bucket_across
 metadata_is_not_split zero bs b fits is = absurd (cc)
 metadata_is_not_split (suc p) [] b fits is = absurd (cc)
-metadata_is_not_split (suc p) (x ∷ bs) b fits is = by_length (nat_le (length_of x.bucket.content) (suc p)) refl (metadata_is_not_split (suc p - length_of x.bucket.content) bs b (All-tail (λ (y : NamedBucket). FitsKind y.bucket) x bs fits)) is where
-  by_length : (c : Bool) → nat_le (length_of x.bucket.content) (suc p) ≡ c → (bucket_across (suc p - length_of x.bucket.content) bs ≡ Some b → is_data b ≡ true)
-      → cond c (bucket_across (suc p - length_of x.bucket.content) bs) (Some x) ≡ Some b → is_data b ≡ true
-  by_length true tells rest is = rest is
-  by_length false tells rest is =
-      let same : x ≡ b = cc in
-      subst (λ (y : NamedBucket). is_data y ≡ true) same (bytes_are_data (suc p) x.bucket (All-head (λ (y : NamedBucket). FitsKind y.bucket) x bs fits) (more_told (length_of x.bucket.content) (suc p) tells))
+metadata_is_not_split (suc p) (x ∷ bs) b fits is = by_length (nat_le (length_of x.bucket.content) (suc p)) refl
+    (metadata_is_not_split (suc p - length_of x.bucket.content) bs b (All-tail (λ (y : NamedBucket). FitsKind y.bucket) x bs fits)) is where
+      by_length : (c : Bool) → nat_le (length_of x.bucket.content) (suc p) ≡ c → (bucket_across (suc p - length_of x.bucket.content) bs ≡ Some b → is_data b ≡ true)
+          → cond c (bucket_across (suc p - length_of x.bucket.content) bs) (Some x) ≡ Some b → is_data b ≡ true
+      by_length true tells rest is = rest is
+      by_length false tells rest is =
+          let same : x ≡ b = cc in
+          subst (λ (y : NamedBucket). is_data y ≡ true) same
+          (bytes_are_data (suc p) x.bucket (All-head (λ (y : NamedBucket). FitsKind y.bucket) x bs fits) (more_told (length_of x.bucket.content) (suc p) tells))
 
 -- The place of a partition.
 
 -- a bucket whose name does not stand before it is found where it stands
-pub at_seam : (xs : List NamedBucket) (y : NamedBucket) (ys : List NamedBucket) → count_named y.name xs ≡ 0 → (buckets_before y.name (xs ++ y ∷ ys) ≡ xs) × (buckets_from y.name (xs ++ y ∷ ys) ≡ y ∷ ys)
+pub at_seam : (xs : List NamedBucket) (y : NamedBucket) (ys : List NamedBucket) → count_named y.name xs ≡ 0 → (buckets_before y.name (xs ++ y ∷ ys) ≡ xs)
+    × (buckets_from y.name (xs ++ y ∷ ys) ≡ y ∷ ys)
 unfolding buckets_before buckets_from
 at_seam [] y ys none = (
   ap (λ (c : Bool). cond c [] (y ∷ buckets_before y.name ys)) (eq-eqb y.name y.name refl),
@@ -292,7 +301,8 @@ splits_before front (y ∷ ys) once =
 pub place_is_behind_front : PlaceIsBehindFront
 place_is_behind_front new point bs le once fresh =
     let parted : PartedAt new point bs = parts_at_point new point bs le in
-    let found : (stays (place_of (place_before (back_from new point bs))) (front_to point bs ++ back_from new point bs) ≡ front_to point bs) × (moves (place_of (place_before (back_from new point bs))) (front_to point bs ++ back_from new point bs) ≡ back_from new point bs)
+    let found : (stays (place_of (place_before (back_from new point bs))) (front_to point bs ++ back_from new point bs) ≡ front_to point bs)
+    × (moves (place_of (place_before (back_from new point bs))) (front_to point bs ++ back_from new point bs) ≡ back_from new point bs)
     = splits_before (front_to point bs) (back_from new point bs) each_once in
     record {
       front = ap (λ (c : Cut). stays (place_of c) (partitioned new point bs)) parted.answer ∙ (ap (stays (place_of (place_before (back_from new point bs)))) parted.whole ∙ found.0);

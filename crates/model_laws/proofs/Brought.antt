@@ -55,14 +55,16 @@ late_first (Some k) busy o l rest req sound idle in_request late = absurd (cc)
 pub late_data_is_refused : LateDataIsRefused
 unfolding brings
 late_data_is_refused memory chain pieces g c req sound idle is late =
-    ap (λ (o : Option Refusal). unless_refused o (g, c) (brought chain pieces c.req (g, c))) (late_first c.broken (is_busy c.stack) c.req (data_behind_eos pieces) _ req sound (ap is_busy idle) is late)
+    ap (λ (o : Option Refusal). unless_refused o (g, c) (brought chain pieces c.req (g, c)))
+    (late_first c.broken (is_busy c.stack) c.req (data_behind_eos pieces) _ req sound (ap is_busy idle) is late)
 
 -- what happened passed each test
 served : (o : Option Refusal) (old done new : Linked) → unless_refused o old done ≡ (None, new) → (o ≡ None) × (new ≡ done)
 served None old done new is = (refl, ap (λ (a : Option Refusal × Linked). a.1) (sym is))
 served (Some r) old done new is = absurd (let no : Some r ≡ None = ap (λ (a : Option Refusal × Linked). a.0) is in cc)
 
-in_brought : (o : Option ℕ) (chain : List Program) (pieces : List Piece) (g : Common) (c : Connection) → not (is_some o) ≡ false → data_behind_eos pieces ≡ false → data_after_eos (items_of (((brought chain pieces o (g, c)).1.instances 0).brigades 8)) ≡ false
+in_brought : (o : Option ℕ) (chain : List Program) (pieces : List Piece) (g : Common) (c : Connection) → not (is_some o) ≡ false → data_behind_eos pieces ≡ false
+    → data_after_eos (items_of (((brought chain pieces o (g, c)).1.instances 0).brigades 8)) ≡ false
 in_brought None chain pieces g c in_request none = absurd (cc)
 in_brought (Some req) chain pieces g c in_request none =
     ap (λ (i : Instance). data_after_eos (items_of (i.brigades 8))) (upd_at c.instances 0 _)

@@ -14,7 +14,8 @@ use Rattle.run_model.specs.Faults.{has_pool_at, has_pool, is_live_named, cursor_
 use Rattle.run_model.specs.BrigadeLists.{put_before}
 use Rattle.run_model.specs.Effects.{all_referred, value_of}
 use Rattle.run_model.specs.Cursors.{Place, AtLoose, Within, spot, read_cursor}
-use Rattle.run_model.specs.BucketSteps.{set_items, do_next, do_unlink, do_delete, put_into, do_before, names_given, new_loose, do_make, is_unsplit, split_there, do_split, aside_into, read_given, read_within, do_read, got}
+use Rattle.run_model.specs.BucketSteps.{set_items, do_next, do_unlink, do_delete, put_into, do_before, names_given, new_loose, do_make, is_unsplit, split_there, do_split, aside_into, read_given}
+use Rattle.run_model.specs.BucketSteps.{read_within, do_read, got}
 use Rattle.run_model.specs.declared.effect.Effect.{Effect}
 use Rattle.run_model.specs.declared.effect.Effect.TheVariants as effect
 use Rattle.run_model.specs.EffectOf.{effect_of}
@@ -112,9 +113,6 @@ module _ (P : Configuration → Type 0) (f : IsFrame P) where
   framed p choice (effect.Put x) r plain unset alive h = put_keeps P x r h (λ bytes. f.buffer bytes r h)
   framed p choice effect.ClearBuffer r plain unset alive h = f.buffer [] r h
   framed p choice e r plain unset alive h = absurd (cc)
-
-  pub framed_step : (p : Program) (choice : Choice) (i : Instr) (r : Configuration) → changes_frame (effect_of i) ≡ false → sets_cursor (effect_of i) ≡ false → MayExecute p r i → P r → P (step p choice i r).state
-  framed_step p choice i r plain unset may h = framed p choice (effect_of i) r plain unset (alive_aside p i r may) h
 
 -- Where it also stays wherever cursors stand.
 module _ (P : Configuration → Type 0) (f : IsFrame P) (set : (c : ℕ) (v : Cursor) (r : Configuration) → P r → P (set_cursor c v r)) where

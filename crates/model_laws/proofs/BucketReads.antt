@@ -1,5 +1,6 @@
 -- A read drops no byte of its brigade.
-use Rattle.std.proofs.Common.{◌≡◌, ◌≢◌, ℕ, ◌+◌, ◌-◌, ◌<◌, Bool, true, false, ◌==◌, cond, nat_le, min, List, [], ◌∷◌, ◌++◌, append_assoc, append-nil, take, drop, Option, Some, None, inl, inr, refl, sym, ◌∙◌, ap, subst, arith, eqb-true, eq-eqb}
+use Rattle.std.proofs.Common.{◌≡◌, ◌≢◌, ℕ, ◌+◌, ◌-◌, ◌<◌, Bool, true, false, ◌==◌, cond, nat_le, min, List, [], ◌∷◌, ◌++◌, append_assoc, append-nil, take, drop, Option, Some, None, inl, inr, refl}
+use Rattle.std.proofs.Common.{sym, ◌∙◌, ap, subst, arith, eqb-true, eq-eqb}
 use Rattle.std.proofs.lemmas.Bool.{cases_lt}
 use Rattle.std.proofs.lemmas.Bool.Decides.{nat_tests}
 use Rattle.run_model.specs.declared.bucket.Kind.{Kind}
@@ -32,7 +33,8 @@ of_bucket : (file : ℕ → List ℕ) (new : ℕ) (k : Kind) (c : Content) (h : 
 unfolding all_bytes
 of_bucket file new k (content.Bytes bs) h = append-nil bs
 of_bucket file new k (content.Range n start len) h =
-    ap (λ (bs : List ℕ). take (min len read_limit) (take len (drop start (file n))) ++ bs) (rest_bytes (nat_le len read_limit)) ∙ (reads_drop_nothing (file n) (record { kind = k; content = content.Range n start len; home = h })).1 where
+    ap (λ (bs : List ℕ). take (min len read_limit) (take len (drop start (file n))) ++ bs) (rest_bytes (nat_le len read_limit))
+    ∙ (reads_drop_nothing (file n) (record { kind = k; content = content.Range n start len; home = h })).1 where
       rest : Bucket
       rest = record { kind = k; content = content.Range n (start + read_limit) (len - read_limit); home = h }
 
@@ -41,14 +43,17 @@ of_bucket file new k (content.Range n start len) h =
       rest_bytes false = append-nil (take (len - read_limit) (drop (start + read_limit) (file n)))
 of_bucket file new k content.Nothing h = refl
 
-first_bytes_kept : (file : ℕ → List ℕ) (new : ℕ) (x : NamedBucket) (ys : List NamedBucket) → first_bucket ys ≡ Some x → all_bytes file (first_read new (taken_by file x.bucket.content) ys) ≡ all_bytes file ys
+first_bytes_kept : (file : ℕ → List ℕ) (new : ℕ) (x : NamedBucket) (ys : List NamedBucket) → first_bucket ys ≡ Some x
+    → all_bytes file (first_read new (taken_by file x.bucket.content) ys) ≡ all_bytes file ys
 unfolding all_bytes
 first_bytes_kept file new x [] is = absurd (cc)
 first_bytes_kept file new x (y ∷ ys) is =
     let here : y ≡ x = cc in
     ap (λ (z : NamedBucket). all_bytes file (first_read new (taken_by file z.bucket.content) (y ∷ ys))) (sym here)
-    ∙ (ap (λ (bs : List ℕ). bytes_of file (read_of (taken_by file y.bucket.content) y.bucket).0.content ++ bs) (bytes_append file (rest_named new (read_of (taken_by file y.bucket.content) y.bucket).1) ys)
-    ∙ (sym (append_assoc (bytes_of file (read_of (taken_by file y.bucket.content) y.bucket).0.content) (all_bytes file (rest_named new (read_of (taken_by file y.bucket.content) y.bucket).1)) (all_bytes file ys))
+    ∙ (ap (λ (bs : List ℕ). bytes_of file (read_of (taken_by file y.bucket.content) y.bucket).0.content ++ bs)
+    (bytes_append file (rest_named new (read_of (taken_by file y.bucket.content) y.bucket).1) ys)
+    ∙ (sym (append_assoc (bytes_of file (read_of (taken_by file y.bucket.content) y.bucket).0.content) (all_bytes file (rest_named new (read_of (taken_by file y.bucket.content) y.bucket).1))
+    (all_bytes file ys))
     ∙ ap (λ (bs : List ℕ). bs ++ all_bytes file ys) (of_bucket file new y.bucket.kind y.bucket.content y.bucket.home)))
 
 pub read_keeps_bytes : ReadKeepsBytes

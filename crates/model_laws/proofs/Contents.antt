@@ -26,7 +26,8 @@ module _ (C : Content → Type 0) where
   aside_parts target false kind.File c h e = e
   aside_parts target above k c h e = e
 
-  pub step_contents : (p : Program) (choice : Choice) (i : Instr) (r : Configuration) → PassesParts Of → ((b : Bucket) → Makes p choice r (effect_of i) b → Of b) → Holds Of r → Holds Of (step p choice i r).state
+  pub step_contents : (p : Program) (choice : Choice) (i : Instr) (r : Configuration) → PassesParts Of → ((b : Bucket) → Makes p choice r (effect_of i) b → Of b) → Holds Of r
+      → Holds Of (step p choice i r).state
   step_contents p choice i r on made h = each_step (λ x. Of x.bucket) r h p choice i (record {
     descends = parts_descend Of r.shared.next on;
     made = λ b other is. made b is;

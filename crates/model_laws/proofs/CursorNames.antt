@@ -3,7 +3,7 @@ use Rattle.std.proofs.Common.{◌≡◌, ℕ, ◌+◌, ◌<◌, ◌≤◌, Bool,
 use Rattle.std.proofs.lemmas.Option.{same_Some}
 use Rattle.std.proofs.lemmas.Bool.{cases_lt}
 use Rattle.module_code.specs.declared.instr.PoolRef.TheVariants as pool
-use Rattle.run_model.specs.declared.bucket.Bucket.{Bucket}
+use Rattle.run_model.specs.declared.bucket.Bucket.{Bucket, Bucket}
 use Rattle.run_model.specs.declared.bucket.NamedBucket.{NamedBucket}
 use Rattle.run_model.specs.declared.bucket.BrigadeVar.{BrigadeVar}
 use Rattle.run_model.specs.declared.bucket.BrigadeVar.TheVariants as var
@@ -11,15 +11,16 @@ use Rattle.run_model.specs.declared.bucket.Cursor.{Cursor}
 use Rattle.run_model.specs.declared.bucket.Cursor.TheVariants as cursor
 use Rattle.run_model.specs.Clearing.{run_down}
 use Rattle.run_model.specs.State.{Configuration, items_of, set_brigade, set_loose, set_cursor, set_number, set_pool, with_pools, pool_named}
-use Rattle.run_model.specs.BrigadeLists.{buckets_from, bucket_named, taken_out, first_place, next_place, stays, partition_answer, partitioned, place_of, place_before, front_to, back_from, is_short, Incomplete}
+use Rattle.run_model.specs.BrigadeLists.{buckets_from, bucket_named, taken_out, first_place, next_place, stays, partition_answer, partitioned, place_of, place_before, front_to, back_from, is_short}
+use Rattle.run_model.specs.BrigadeLists.{Incomplete}
 use Rattle.run_model.specs.Cursors.{Place, Within, spot, read_cursor}
 use Rattle.run_model.specs.BucketSteps.{items_at, cursor_at, set_place, set_items, do_first, do_next, names_given, new_loose, do_make, read_given, read_within, do_read, names_to_part, do_bpart}
 use Rattle.run_model.specs.declared.effect.Effect.{Effect}
 use Rattle.run_model.specs.declared.effect.Effect.TheVariants as effect
 use Rattle.run_model.specs.EffectOf.{effect_of}
 use Rattle.module_code.specs.Program.{Program}
-use Rattle.run_model.specs.declared.bucket.Bucket.{Bucket}
-use Rattle.run_model.specs.Steps.{Choice, do_effect, made_of, do_create, do_clean, do_concat, do_pass, pool_cleared, pool_destroyed, label_registered, label_killed, text_of, saved_into, made_on, value_of}
+use Rattle.run_model.specs.Steps.{Choice, do_effect, made_of, do_create, do_clean, do_concat, do_pass, pool_cleared, pool_destroyed, label_registered, label_killed, text_of, saved_into, made_on}
+use Rattle.run_model.specs.Steps.{value_of}
 use Rattle.run_model.specs.Sound.{SoundNames, brigade_name, sum_below, count_named, count}
 use Rattle.model_laws.specs.CursorLaws.{name_held, SoundCursors, StepKeepsCursors}
 use Rattle.run_model.proofs.Updates.{upd_either}
@@ -62,7 +63,8 @@ fewer_behind n (x ∷ bs) = omega (arith, count_cons n x bs)
 next_there : (at k : ℕ) (bs : List NamedBucket) → next_place at bs ≡ Some k → 1 ≤ count_named k bs
 next_there at k bs is =
     let one : 1 ≤ count_named k (drop 1 (buckets_from at bs)) = first_there k (drop 1 (buckets_from at bs)) is in
-    let whole : count_named k bs ≡ count_named k (stays (Some at) bs) + count_named k (buckets_from at bs) = sym (ap (count_named k) (brigade_splits_in_order (Some at) bs)) ∙ count_append k (stays (Some at) bs) (buckets_from at bs) in
+    let whole : count_named k bs ≡ count_named k (stays (Some at) bs) + count_named k (buckets_from at bs) =
+    sym (ap (count_named k) (brigade_splits_in_order (Some at) bs)) ∙ count_append k (stays (Some at) bs) (buckets_from at bs) in
     omega (arith, one, whole, fewer_behind k (buckets_from at bs))
 
 pub part_there : (new point k : ℕ) (bs : List NamedBucket) → place_of (partition_answer new point bs) ≡ Some k → 1 ≤ count_named k (partitioned new point bs)
@@ -86,7 +88,8 @@ end_held var.Null n e = absurd (cc)
 end_held var.Gone n e = absurd (cc)
 end_held (var.Live v) n e = e
 
-place_held : (c b : ℕ) (place : Option ℕ) (r : Configuration) → ((k : ℕ) → place ≡ Some k → k < r.shared.next) → ((n : ℕ) → brigade_name (r.instance.brigades b) ≡ Some n → n < r.shared.next) → SoundCursors r → SoundCursors (set_place c b place r)
+place_held : (c b : ℕ) (place : Option ℕ) (r : Configuration) → ((k : ℕ) → place ≡ Some k → k < r.shared.next) → ((n : ℕ) → brigade_name (r.instance.brigades b) ≡ Some n → n < r.shared.next)
+    → SoundCursors r → SoundCursors (set_place c b place r)
 place_held c b place r found named s = set_held c (cursor_at (r.instance.brigades b) place) r (λ n e. held place found n e) s where
   held : (o : Option ℕ) → ((k : ℕ) → o ≡ Some k → k < r.shared.next) → (n : ℕ) → name_held (cursor_at (r.instance.brigades b) o) ≡ Some n → n < r.shared.next
   held None found n e = named n (end_held (r.instance.brigades b) n e)
@@ -141,7 +144,8 @@ bpart_held b point c r names s =
       found : (k : ℕ) → place_of (partition_answer r.shared.next point (items_at r b)) ≡ Some k → k < r.shared.next + names_to_part point (items_at r b)
       found k is = elim (cases_lt k (r.shared.next + names_to_part point (items_at r b))) [
         | inl lt ↦ lt
-        | inr le ↦ absurd (let rises : Rises r.shared.next (r.shared.next + names_to_part point (items_at r b)) k (count_named k (items_at r b)) (count_named k (partitioned r.shared.next point (items_at r b))) = part_rises r.shared.next point k (items_at r b) in
+        | inr le ↦ absurd (let rises : Rises r.shared.next (r.shared.next + names_to_part point (items_at r b)) k (count_named k (items_at r b))
+            (count_named k (partitioned r.shared.next point (items_at r b))) = part_rises r.shared.next point k (items_at r b) in
             let none : count r k ≡ 0 = names.fresh k (omega arith) in
             omega (arith, none, in_brigade b k r names, rises.later le, part_there r.shared.next point k (items_at r b) is))
       ]
@@ -162,7 +166,8 @@ effect_cursors p choice (effect.Kill q t) r alive names s = on_named SoundCursor
 effect_cursors p choice (effect.MakeBrigade o) r alive names s = stay_held r (do_create p o r) refl (omega arith) s
 effect_cursors p choice (effect.Clean b) r alive names s = stay_held r (do_clean b r) refl (omega arith) s
 effect_cursors p choice (effect.Concat a b) r alive names s = stay_held r (do_concat a b r) refl (omega arith) s
-effect_cursors p choice (effect.Save o b) r alive names s = on_named SoundCursors (saved_into o b) (made_on (r.instance.brigades o)) r s (λ target is. stay_held r (saved_into o b target r) refl (omega arith) s)
+effect_cursors p choice (effect.Save o b) r alive names s =
+    on_named SoundCursors (saved_into o b) (made_on (r.instance.brigades o)) r s (λ target is. stay_held r (saved_into o b target r) refl (omega arith) s)
 effect_cursors p choice (effect.Pass b) r alive names s = stay_held r (do_pass b r) refl (omega arith) s
 effect_cursors p choice effect.Return r alive names s = record { given = λ c n is. absurd (cc) }
 effect_cursors p choice (effect.First c b) r alive names s = first_held c b r names s

@@ -36,7 +36,8 @@ unnamed : (n : ℕ) (bs : List NamedBucket) → bucket_named n bs ≡ None → c
 unfolding buckets_from
 unnamed n [] is = count_none n
 unnamed n (b ∷ bs) is = sum (b.name == n) (unnamed n bs) is (sym (count_cons n b bs)) where
-  sum : (c : Bool) → (bucket_named n bs ≡ None → count_named n bs ≡ 0) → first_bucket (cond c (b ∷ bs) (buckets_from n bs)) ≡ None → cond c 1 0 + count_named n bs ≡ count_named n (b ∷ bs) → count_named n (b ∷ bs) ≡ 0
+  sum : (c : Bool) → (bucket_named n bs ≡ None → count_named n bs ≡ 0) → first_bucket (cond c (b ∷ bs) (buckets_from n bs)) ≡ None → cond c 1 0 + count_named n bs ≡ count_named n (b ∷ bs)
+      → count_named n (b ∷ bs) ≡ 0
   sum true rest is all = absurd (cc)
   sum false rest is all = omega (arith, rest is, all)
 
@@ -60,7 +61,8 @@ loose_once r n x s is = record {
   there = is;
   once = (let one : count r n ≤ 1 = s.once n in omega (arith, here));
   brigades = λ k. elim (cases_lt k 9) [
-    | inl lt ↦ (let one : count r n ≤ 1 = s.once n in let term : count_named n (items_at r k) ≤ sum_below 9 (λ j. count_named n (items_at r j)) = term_below 9 k (λ j. count_named n (items_at r j)) lt in omega (arith, here))
+    | inl lt ↦ (let one : count r n ≤ 1 = s.once n in let term : count_named n (items_at r k) ≤ sum_below 9 (λ j. count_named n (items_at r j)) =
+        term_below 9 k (λ j. count_named n (items_at r j)) lt in omega (arith, here))
     | inr le ↦ none_beyond r n k s le
   ];
 } where
@@ -74,7 +76,8 @@ within_once r n b x s lt is = record {
   once = (let one : count r n ≤ 1 = s.once n in omega (arith, here, term));
   others = λ k ne. elim (cases_lt k 9) [
     | inl below ↦ (let one : count r n ≤ 1 = s.once n in
-        let two : count_named n (items_at r b) + count_named n (items_at r k) ≤ sum_below 9 (λ j. count_named n (items_at r j)) = two_below 9 b k (λ j. count_named n (items_at r j)) lt below (λ e. ne (sym e)) in
+        let two : count_named n (items_at r b) + count_named n (items_at r k) ≤ sum_below 9 (λ j. count_named n (items_at r j)) =
+        two_below 9 b k (λ j. count_named n (items_at r j)) lt below (λ e. ne (sym e)) in
         omega (arith, here))
     | inr le ↦ none_beyond r n k s le
   ];

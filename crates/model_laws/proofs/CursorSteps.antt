@@ -1,5 +1,6 @@
 -- Copies are new, and splits and partitions give the parts of the whole in order.
-use Rattle.std.proofs.Common.{◌≡◌, ◌≢◌, ℕ, zero, suc, ◌+◌, ◌-◌, ◌<◌, ◌≤◌, Bool, true, false, ◌==◌, cond, nat_le, inl, inr, List, [], ◌∷◌, ◌++◌, length, take, drop, Option, Some, None, is_some, refl, sym, ◌∙◌, ap, subst, arith}
+use Rattle.std.proofs.Common.{◌≡◌, ◌≢◌, ℕ, zero, suc, ◌+◌, ◌-◌, ◌<◌, ◌≤◌, Bool, true, false, ◌==◌, cond, nat_le, inl, inr, List, [], ◌∷◌, ◌++◌, length, take, drop, Option, Some, None, is_some, refl}
+use Rattle.std.proofs.Common.{sym, ◌∙◌, ap, subst, arith}
 use Rattle.std.proofs.lemmas.Bool.{cases_eq, or_from}
 use Rattle.std.proofs.lemmas.Bool.Decides.{nat_tests}
 use Rattle.module_code.specs.declared.instr.Instr.TheVariants as instr
@@ -11,21 +12,25 @@ use Rattle.run_model.specs.declared.bucket.Cursor.TheVariants as cursor
 use Rattle.run_model.specs.Indexed.{upd}
 use Rattle.run_model.specs.State.{Configuration, items_of, set_brigade, set_loose, set_cursor}
 use Rattle.run_model.specs.Faults.{brigade_fault, usable_fault, cursor_fault, InThis}
-use Rattle.run_model.specs.BrigadeLists.{buckets_before, buckets_from, first_bucket, bucket_named, is_there, put_tail, stays, moves, SplitRefusal, split_refusal, first_bytes, rest_as, first_split, bucket_split, length_in, all_bytes, Cut, Incomplete, bucket_across, front_to, back_from, place_before, partition_answer, partitioned, place_of}
+use Rattle.run_model.specs.BrigadeLists.{buckets_before, buckets_from, first_bucket, bucket_named, is_there, put_tail, stays, moves, SplitRefusal, split_refusal, first_bytes, rest_as, first_split}
+use Rattle.run_model.specs.BrigadeLists.{bucket_split, length_in, all_bytes, Cut, Incomplete, bucket_across, front_to, back_from, place_before, partition_answer, partitioned, place_of}
 use Rattle.model_laws.specs.BrigadeLaws.{may_split, SameBytes, PartedAt, SplitsThere}
 use Rattle.run_model.specs.Cutting.{length_of}
 use Rattle.run_model.specs.Effects.{with_items}
 use Rattle.run_model.specs.Cursors.{Place, Nowhere, AtLoose, Within, AtEndOf, found_below, holder_of, loose_spot, bucket_spot, spot_of, spot}
-use Rattle.run_model.specs.BucketSteps.{items_at, cursor_at, end_called, set_items, name_given, names_given, new_loose, do_make, is_unsplit, split_there, do_split, place_at, is_incomplete, names_if, names_to_part, do_bsplit, do_bpart}
+use Rattle.run_model.specs.BucketSteps.{items_at, cursor_at, end_called, set_items, name_given, names_given, new_loose, do_make, is_unsplit, split_there, do_split, place_at, is_incomplete, names_if}
+use Rattle.run_model.specs.BucketSteps.{names_to_part, do_bsplit, do_bpart}
 use Rattle.run_model.specs.declared.effect.Effect.{Effect}
 use Rattle.run_model.specs.Steps.{do_effect, Outcome, jumps_if, value_of}
 use Rattle.run_model.specs.Sound.{SoundNames, brigade_name, count_named, count}
-use Rattle.model_laws.specs.CursorLaws.{BucketOnce, BrigadeOnce, MakesLoose, MadeAreNew, SplitsBucket, SplitsInOrder, RefusedSplitJumps, BrigadesSplitInOrder, IsPlaceIn, PartsBrigade, PartitionsInOrder, IsPastEnd, PastEndJumps}
+use Rattle.model_laws.specs.CursorLaws.{BucketOnce, BrigadeOnce, MakesLoose, MadeAreNew, SplitsBucket, SplitsInOrder, RefusedSplitJumps, BrigadesSplitInOrder, IsPlaceIn, PartsBrigade}
+use Rattle.model_laws.specs.CursorLaws.{PartitionsInOrder, IsPastEnd, PastEndJumps}
 use Rattle.run_model.proofs.Updates.{upd_at, upd_off, upd_same}
 use Rattle.model_laws.proofs.Marks.{first_none, second_none}
 use Rattle.model_laws.proofs.Operands.{split_brigades}
 use Rattle.run_model.proofs.Names.{count_cons}
-use Rattle.model_laws.proofs.BrigadeLists.{at_seam, brigade_splits_in_order, bucket_splits_in_order, split_keeps_bytes, parts_at_point, partition_keeps_bytes, place_is_behind_front, short_is_incomplete}
+use Rattle.model_laws.proofs.BrigadeLists.{at_seam, brigade_splits_in_order, bucket_splits_in_order, split_keeps_bytes, parts_at_point, partition_keeps_bytes, place_is_behind_front}
+use Rattle.model_laws.proofs.BrigadeLists.{short_is_incomplete}
 use Rattle.run_model.proofs.Spots.{Stands, stands}
 use Rattle.model_laws.proofs.StepNames.{step_names}
 use Rattle.model_laws.proofs.CursorNames.{in_brigade, part_there}
@@ -131,7 +136,8 @@ splits_in_order p choice c n l b x r s is may =
 
 pub refused_split_jumps : RefusedSplitJumps
 refused_split_jumps p choice c n l b x k r is refused =
-    ap (λ (at : Place). splitting (value_of r n) at r) is ∙ ap (λ (o : Option SplitRefusal). record { exit = jumps_if (is_some o); state = cond (is_some o) r (split_there (value_of r n) (Within b x) r) }) refused
+    ap (λ (at : Place). splitting (value_of r n) at r) is
+    ∙ ap (λ (o : Option SplitRefusal). record { exit = jumps_if (is_some o); state = cond (is_some o) r (split_there (value_of r n) (Within b x) r) }) refused
 
 -- Splits of a brigade.
 
@@ -155,7 +161,8 @@ brigades_split_in_order p choice b c a r may =
     record {
       stay = cut.0;
       move = cut.1;
-      whole = ap (λ (xs : List NamedBucket). xs ++ items_at (do_bsplit b (spot r c) a r) a) cut.0 ∙ (ap (λ (ys : List NamedBucket). stays (place_at (spot r c)) (items_at r b) ++ ys) cut.1 ∙ brigade_splits_in_order (place_at (spot r c)) (items_at r b));
+      whole = ap (λ (xs : List NamedBucket). xs ++ items_at (do_bsplit b (spot r c) a r) a) cut.0
+          ∙ (ap (λ (ys : List NamedBucket). stays (place_at (spot r c)) (items_at r b) ++ ys) cut.1 ∙ brigade_splits_in_order (place_at (spot r c)) (items_at r b));
     }
 
 -- Partitions.
@@ -199,7 +206,8 @@ ends b r s is = of_name (brigade_name (r.instance.brigades b)) refl where
   of_name (Some n) name = stands_behind b n r s name
 
 -- a cursor that is set to a place in a brigade stands there
-stands_at : (b : ℕ) (place : Option ℕ) (r : Configuration) → SoundNames r → ((k : ℕ) → place ≡ Some k → 1 ≤ count_named k (items_at r b)) → IsThere (r.instance.brigades b) → IsPlacedIn b place (spot_of r (cursor_at (r.instance.brigades b) place))
+stands_at : (b : ℕ) (place : Option ℕ) (r : Configuration) → SoundNames r → ((k : ℕ) → place ≡ Some k → 1 ≤ count_named k (items_at r b)) → IsThere (r.instance.brigades b)
+    → IsPlacedIn b place (spot_of r (cursor_at (r.instance.brigades b) place))
 stands_at b (Some k) r s there is = stands_in b k r s (there k refl)
 stands_at b None r s there is = subst (IsPlacedIn b None) (sym (ends b r s is)) (record { there = refl; inside = refl })
 
@@ -262,7 +270,8 @@ module _ (b point c : ℕ) (r : Configuration) (names : SoundNames r) (after : S
   fresh : count_named r.shared.next (items_at r b) ≡ 0
   fresh = omega (arith, in_brigade b r.shared.next r names, names.fresh r.shared.next (omega arith))
 
-  parts_brigade : point ≤ length_in (items_at r b) → PartsBrigade b point c r (record { exit = jumps_if (is_incomplete (partition_answer r.shared.next point (items_at r b))); state = do_bpart b point c r })
+  parts_brigade : point ≤ length_in (items_at r b)
+      → PartsBrigade b point c r (record { exit = jumps_if (is_incomplete (partition_answer r.shared.next point (items_at r b))); state = do_bpart b point c r })
   parts_brigade le =
       let at : PartedAt r.shared.next point (items_at r b) = parts_at_point r.shared.next point (items_at r b) le in
       let split : SplitsThere r.shared.next point (items_at r b) = place_is_behind_front r.shared.next point (items_at r b) le once fresh in
@@ -284,16 +293,20 @@ module _ (b point c : ℕ) (r : Configuration) (names : SoundNames r) (after : S
       let told : partition_answer r.shared.next point (items_at r b) ≡ Incomplete = short.told lt in
       record {
         exit = ap (λ (x : Cut). jumps_if (is_incomplete x)) told;
-        cursor = cursor_set ∙ (ap (λ (x : Cut). spot_of (do_bpart b point c r) (cursor_at ((do_bpart b point c r).instance.brigades b) (place_of x))) told ∙ ends b (do_bpart b point c r) after left_there);
-        brigades = ap (λ (v : BrigadeVar). upd r.instance.brigades b v) (ap (λ (xs : List NamedBucket). with_items xs (r.instance.brigades b)) (short.unchanged told) ∙ refilled (r.instance.brigades b)) ∙ upd_same r.instance.brigades b;
+        cursor = cursor_set ∙ (ap (λ (x : Cut). spot_of (do_bpart b point c r) (cursor_at ((do_bpart b point c r).instance.brigades b) (place_of x))) told
+            ∙ ends b (do_bpart b point c r) after left_there);
+        brigades = ap (λ (v : BrigadeVar). upd r.instance.brigades b v)
+            (ap (λ (xs : List NamedBucket). with_items xs (r.instance.brigades b)) (short.unchanged told) ∙ refilled (r.instance.brigades b)) ∙ upd_same r.instance.brigades b;
         loose = refl;
         names = omega (arith, ap (λ (o : Option NamedBucket). names_if (is_some o)) (none_across point (items_at r b) lt));
       }
 
 pub partitions_in_order : PartitionsInOrder
 partitions_in_order p choice b x c l r may names le =
-    parts_brigade b (value_of r x) c r names (step_names p choice (instr.BPart b x c l) r may names) (usable_there (r.instance.brigades b) (first_none (usable_fault (r.instance.brigades b)) _ may.faultless)) le
+    parts_brigade b (value_of r x) c r names (step_names p choice (instr.BPart b x c l) r may names)
+    (usable_there (r.instance.brigades b) (first_none (usable_fault (r.instance.brigades b)) _ may.faultless)) le
 
 pub past_end_jumps : PastEndJumps
 past_end_jumps p choice b x c l r may names lt =
-    past_end b (value_of r x) c r names (step_names p choice (instr.BPart b x c l) r may names) (usable_there (r.instance.brigades b) (first_none (usable_fault (r.instance.brigades b)) _ may.faultless)) lt
+    past_end b (value_of r x) c r names (step_names p choice (instr.BPart b x c l) r may names)
+    (usable_there (r.instance.brigades b) (first_none (usable_fault (r.instance.brigades b)) _ may.faultless)) lt

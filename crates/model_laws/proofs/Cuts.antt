@@ -29,7 +29,8 @@ later_parts : (parts n k : ℕ) (reads : Reads) → parts_taken parts (n + k) re
 unfolding parts_taken
 later_parts zero n k reads = refl
 later_parts (suc parts) n k reads = by_read (later_parts parts n (k + 1) reads) (reads (n + k)) where
-  by_read : parts_taken parts (n + (k + 1)) reads ≡ later n (parts_taken parts (k + 1) (reads_after n reads)) → (o : Option (List ℕ)) → unless_unread o (n + k) (parts_taken parts ((n + k) + 1) reads) ≡ later n (unless_unread o k (parts_taken parts (k + 1) (reads_after n reads)))
+  by_read : parts_taken parts (n + (k + 1)) reads ≡ later n (parts_taken parts (k + 1) (reads_after n reads)) → (o : Option (List ℕ))
+      → unless_unread o (n + k) (parts_taken parts ((n + k) + 1) reads) ≡ later n (unless_unread o k (parts_taken parts (k + 1) (reads_after n reads)))
   by_read rest None = (let same : (n + k) + 1 ≡ n + (k + 1) = omega arith in ap (λ (m : ℕ). let t : Taken = record { bytes = []; whole = false; reads = m } in t) same)
   by_read rest (Some bytes) = (let same : (n + k) + 1 ≡ n + (k + 1) = omega arith in
       ap (λ (m : ℕ). and_taken bytes (parts_taken parts m reads)) same ∙ ap (and_taken bytes) rest)
@@ -43,11 +44,13 @@ later_taken : (xs : List NamedBucket) (n k : ℕ) (reads : Reads) → taken xs (
 unfolding taken
 later_taken [] n k reads = refl
 later_taken (x ∷ xs) n k reads = by_eos (λ m. later_taken xs n m reads) (is_eos x) where
-  by_whole : ((m : ℕ) → taken xs (n + m) reads ≡ later n (taken xs m (reads_after n reads))) → (t : Taken) (b : Bool) → cond b (and_taken t.bytes (taken xs (n + t.reads) reads)) (later n t) ≡ later n (cond b (and_taken t.bytes (taken xs t.reads (reads_after n reads))) t)
+  by_whole : ((m : ℕ) → taken xs (n + m) reads ≡ later n (taken xs m (reads_after n reads))) → (t : Taken) (b : Bool)
+      → cond b (and_taken t.bytes (taken xs (n + t.reads) reads)) (later n t) ≡ later n (cond b (and_taken t.bytes (taken xs t.reads (reads_after n reads))) t)
   by_whole rest t true = ap (and_taken t.bytes) (rest t.reads)
   by_whole rest t false = refl
 
-  by_eos : ((m : ℕ) → taken xs (n + m) reads ≡ later n (taken xs m (reads_after n reads))) → (b : Bool) → cond b (taken_whole [] (n + k)) (followed (content_taken x.bucket.content (n + k) reads) (λ j. taken xs j reads))
+  by_eos : ((m : ℕ) → taken xs (n + m) reads ≡ later n (taken xs m (reads_after n reads))) → (b : Bool)
+      → cond b (taken_whole [] (n + k)) (followed (content_taken x.bucket.content (n + k) reads) (λ j. taken xs j reads))
       ≡ later n (cond b (taken_whole [] k) (followed (content_taken x.bucket.content k (reads_after n reads)) (λ j. taken xs j (reads_after n reads))))
   by_eos rest true = refl
   by_eos rest false =
@@ -82,7 +85,8 @@ taken_append : (xs ys : List NamedBucket) (k : ℕ) (reads : Reads) → Joined x
 unfolding Joined taken
 taken_append [] ys k reads whole = refl
 taken_append (x ∷ xs) ys k reads whole = by_eos (taken_append xs ys (content_taken x.bucket.content k reads).reads reads) (is_eos x) whole where
-  by_eos : Joined xs ys (content_taken x.bucket.content k reads).reads reads → (eos : Bool) → (cond eos (taken_whole [] k) (followed (content_taken x.bucket.content k reads) (λ j. taken xs j reads))).whole ≡ true
+  by_eos : Joined xs ys (content_taken x.bucket.content k reads).reads reads → (eos : Bool)
+      → (cond eos (taken_whole [] k) (followed (content_taken x.bucket.content k reads) (λ j. taken xs j reads))).whole ≡ true
       → cond eos (taken_whole [] k) (followed (content_taken x.bucket.content k reads) (λ j. taken (xs ++ ys) j reads))
       ≡ cond (eos || has_eos xs) (cond eos (taken_whole [] k) (followed (content_taken x.bucket.content k reads) (λ j. taken xs j reads)))
       (and_taken (cond eos (taken_whole [] k) (followed (content_taken x.bucket.content k reads) (λ j. taken xs j reads))).bytes
@@ -100,7 +104,8 @@ joined bs true n t u whole = ap (λ (w : Bool). let d : Out × Bool = (record { 
 joined bs false n t u whole = ap (λ (b : List ℕ). let d : Out × Bool = (record { bytes = b; ended = n }, u.whole) in d) (append_assoc bs t.bytes u.bytes)
 
 -- what the second list gives is what it gives after the reads of the first
-second_taken : (ys : List NamedBucket) (n : ℕ) (reads : Reads) → ((taken ys 0 (reads_after n reads)).bytes ≡ (taken ys n reads).bytes) × ((taken ys 0 (reads_after n reads)).whole ≡ (taken ys n reads).whole)
+second_taken : (ys : List NamedBucket) (n : ℕ) (reads : Reads) → ((taken ys 0 (reads_after n reads)).bytes ≡ (taken ys n reads).bytes)
+    × ((taken ys 0 (reads_after n reads)).whole ≡ (taken ys n reads).whole)
 second_taken ys n reads =
     let same : n + 0 ≡ n = omega arith in
     let all : later n (taken ys 0 (reads_after n reads)) ≡ taken ys n reads = sym (later_taken ys n 0 reads) ∙ ap (λ (k : ℕ). taken ys k reads) same in
@@ -118,7 +123,8 @@ follows_on out xs ys reads = by_ended out.bytes out.ended where
       ∙ ap (λ (w : Bool). let d : Out × Bool = (record { bytes = bs ++ (taken ys n reads).bytes; ended = has_eos ys }, w) in d) same.1
 
   by_ended : (bs : List ℕ) (e : Bool) → (delivered (record { bytes = bs; ended = e }) xs reads).1 ≡ true
-      → delivered (delivered (record { bytes = bs; ended = e }) xs reads).0 ys (reads_after (reads_made (record { bytes = bs; ended = e }) xs reads) reads) ≡ delivered (record { bytes = bs; ended = e }) (xs ++ ys) reads
+      → delivered (delivered (record { bytes = bs; ended = e }) xs reads).0 ys (reads_after (reads_made (record { bytes = bs; ended = e }) xs reads) reads) ≡ delivered
+      (record { bytes = bs; ended = e }) (xs ++ ys) reads
   by_ended bs true well = refl
   by_ended bs false well =
       let t : Taken = taken xs 0 reads in
@@ -184,7 +190,8 @@ same_taken : (xs : List NamedBucket) (k : ℕ) (first all : Reads) → Agree k (
 unfolding taken
 same_taken [] k first all agree = refl
 same_taken (x ∷ xs) k first all agree = by_eos (λ m. same_taken xs m first all) (is_eos x) agree where
-  by_whole : ((m : ℕ) → Agree m (taken xs m first).reads first all → taken xs m all ≡ taken xs m first) → (t : Taken) → k ≤ t.reads → (Agree k t.reads first all → content_taken x.bucket.content k all ≡ t)
+  by_whole : ((m : ℕ) → Agree m (taken xs m first).reads first all → taken xs m all ≡ taken xs m first) → (t : Taken) → k ≤ t.reads
+      → (Agree k t.reads first all → content_taken x.bucket.content k all ≡ t)
       → (b : Bool) → t.whole ≡ b → Agree k (cond b (and_taken t.bytes (taken xs t.reads first)) t).reads first all
       → followed (content_taken x.bucket.content k all) (λ j. taken xs j all) ≡ cond b (and_taken t.bytes (taken xs t.reads first)) t
   by_whole rest t le same true is agree =
@@ -195,12 +202,15 @@ same_taken (x ∷ xs) k first all agree = by_eos (λ m. same_taken xs m first al
 
   by_eos : ((m : ℕ) → Agree m (taken xs m first).reads first all → taken xs m all ≡ taken xs m first) → (b : Bool)
       → Agree k (cond b (taken_whole [] k) (followed (content_taken x.bucket.content k first) (λ j. taken xs j first))).reads first all
-      → cond b (taken_whole [] k) (followed (content_taken x.bucket.content k all) (λ j. taken xs j all)) ≡ cond b (taken_whole [] k) (followed (content_taken x.bucket.content k first) (λ j. taken xs j first))
+      → cond b (taken_whole [] k) (followed (content_taken x.bucket.content k all) (λ j. taken xs j all)) ≡ cond b (taken_whole [] k)
+      (followed (content_taken x.bucket.content k first) (λ j. taken xs j first))
   by_eos rest true agree = refl
   by_eos rest false agree =
-      by_whole rest (content_taken x.bucket.content k first) (content_later x.bucket.content k first) (same_content x.bucket.content k first all) (content_taken x.bucket.content k first).whole refl agree
+      by_whole rest (content_taken x.bucket.content k first) (content_later x.bucket.content k first) (same_content x.bucket.content k first all)
+      (content_taken x.bucket.content k first).whole refl agree
 
-same_delivered : (out : Out) (xs : List NamedBucket) (first all : Reads) → Agree 0 (reads_made out xs first) first all → (delivered out xs all ≡ delivered out xs first) × (reads_made out xs all ≡ reads_made out xs first)
+same_delivered : (out : Out) (xs : List NamedBucket) (first all : Reads) → Agree 0 (reads_made out xs first) first all → (delivered out xs all ≡ delivered out xs first)
+    × (reads_made out xs all ≡ reads_made out xs first)
 unfolding delivered
 same_delivered out xs first all agree = by_ended out.ended agree where
   put : Taken → Out × Bool
@@ -247,7 +257,8 @@ pub fault_of_cuts : FaultOfCuts
 fault_of_cuts sent xs ys =
     either_fault (data_after_eos xs || (sent && has_data xs)) (data_after_eos ys || ((sent || has_eos xs) && has_data ys))
     ∙ (ap (λ (b : Bool). told b) (regrouped sent (has_eos xs) (has_data xs) (has_data ys) (data_after_eos xs) (data_after_eos ys))
-    ∙ sym (ap (λ b. told (b || (sent && has_data (xs ++ ys)))) (after_append xs ys) ∙ ap (λ b. told ((data_after_eos xs || data_after_eos ys || (has_eos xs && has_data ys)) || (sent && b))) (list_any-append is_data xs ys))) where
+    ∙ sym (ap (λ b. told (b || (sent && has_data (xs ++ ys)))) (after_append xs ys)
+    ∙ ap (λ b. told ((data_after_eos xs || data_after_eos ys || (has_eos xs && has_data ys)) || (sent && b))) (list_any-append is_data xs ys))) where
       told : Bool → Option FaultKind
       told b = cond b (Some F8) None
 

@@ -83,7 +83,8 @@ kills_the_newest n m text r =
     let old : List Payload = r.shared.pools.payloads n in
     let grown : ℕ → List Payload = upd r.shared.pools.payloads n (old ++ Label text ∷ []) in
     elim (upd_either grown n m (without_last (is_label text) (grown n))) [
-      | inl p ↦ p.1 ∙ (ap (without_last (is_label text)) (upd_at r.shared.pools.payloads n (old ++ Label text ∷ [])) ∙ (newest_goes (is_label text) old [] (Label text) ((bytes_decides text text).1 refl) refl ∙ (append-nil old ∙ ap r.shared.pools.payloads (sym p.0))))
+      | inl p ↦ p.1 ∙ (ap (without_last (is_label text)) (upd_at r.shared.pools.payloads n (old ++ Label text ∷ []))
+          ∙ (newest_goes (is_label text) old [] (Label text) ((bytes_decides text text).1 refl) refl ∙ (append-nil old ∙ ap r.shared.pools.payloads (sym p.0))))
       | inr p ↦ p.1 ∙ upd_off r.shared.pools.payloads n m (old ++ Label text ∷ []) p.0
     ]
 
@@ -93,7 +94,8 @@ kills_one_label n text r =
     let old : ℕ → List Payload = r.shared.pools.payloads in
     let left : List Payload = without_last (is_label text) (old n) in
     record {
-      newest = λ xs ys is apart. upd_at old n left ∙ (ap (without_last (is_label text)) is ∙ newest_goes (is_label text) xs ys (Label text) ((bytes_decides text text).1 refl) (no_label text ys apart));
+      newest = λ xs ys is apart. upd_at old n left
+          ∙ (ap (without_last (is_label text)) is ∙ newest_goes (is_label text) xs ys (Label text) ((bytes_decides text text).1 refl) (no_label text ys apart));
       none = λ apart. upd_at old n left ∙ none_goes (is_label text) (old n) (no_label text (old n) apart);
       others = λ m ne. upd_off old n m left ne;
       path = refl;

@@ -116,4 +116,5 @@ piece_bytes call req x h = h
 
 pub named_bytes : (call req n : ℕ) (xs : List Piece) → All IsOfBytes xs → Each OfBytes (named_from (bucket_of call req) n xs)
 named_bytes call req n [] all = none
-named_bytes call req n (x ∷ xs) all = All-cons IsOf _ (named_from (bucket_of call req) (n + 1) xs) (piece_bytes call req x (All-head IsOfBytes x xs all)) (named_bytes call req (n + 1) xs (All-tail IsOfBytes x xs all))
+named_bytes call req n (x ∷ xs) all =
+    All-cons IsOf _ (named_from (bucket_of call req) (n + 1) xs) (piece_bytes call req x (All-head IsOfBytes x xs all)) (named_bytes call req (n + 1) xs (All-tail IsOfBytes x xs all))

@@ -88,15 +88,18 @@ abbrev gives_value : Effect → Bool
 gives_value (effect.Number n (ValueGiven x)) = true
 gives_value e = false
 
-effect_numbers : (p : Program) (choice : Choice) (e : Effect) (r : Configuration) → gives_value e ≡ false → Holds OfBytes r → ((k : ℕ) → r.instance.numbers k ≤ 4294967295) → (k : ℕ) → (do_effect p choice e r).instance.numbers k ≤ 4294967295
+effect_numbers : (p : Program) (choice : Choice) (e : Effect) (r : Configuration) → gives_value e ≡ false → Holds OfBytes r → ((k : ℕ) → r.instance.numbers k ≤ 4294967295) → (k : ℕ)
+    → (do_effect p choice e r).instance.numbers k ≤ 4294967295
 effect_numbers p choice (effect.Number n (LengthAt c)) r other held s = number_set n _ r (least _) s
-effect_numbers p choice (effect.Number n (ByteRead x)) r other held s = got_range n (byte_of (value_of r x) (content_at (spot r read_cursor))) r (λ v is. byte_there r read_cursor (value_of r x) v held is) s
+effect_numbers p choice (effect.Number n (ByteRead x)) r other held s =
+    got_range n (byte_of (value_of r x) (content_at (spot r read_cursor))) r (λ v is. byte_there r read_cursor (value_of r x) v held is) s
 effect_numbers p choice (effect.Number n (Plus x)) r other held s = number_set n _ r (least (r.instance.numbers n + value_of r x)) s
 effect_numbers p choice (effect.Number n (Minus x)) r other held s = number_set n _ r (let le : r.instance.numbers n ≤ 4294967295 = s n in omega arith) s
 effect_numbers p choice (effect.Number n (ValueGiven x)) r other held s = absurd (cc)
 effect_numbers p choice e r other held s = λ k. subst (λ (v : ℕ). v ≤ 4294967295) (sym ((effect_changes_only p choice e r).numbers k refl)) (s k)
 
-step_numbers : (p : Program) (choice : Choice) (i : Instr) (r : Configuration) → fits p i ≡ true → Holds OfBytes r → ((k : ℕ) → r.instance.numbers k ≤ 4294967295) → (k : ℕ) → (step p choice i r).state.instance.numbers k ≤ 4294967295
+step_numbers : (p : Program) (choice : Choice) (i : Instr) (r : Configuration) → fits p i ≡ true → Holds OfBytes r → ((k : ℕ) → r.instance.numbers k ≤ 4294967295) → (k : ℕ)
+    → (step p choice i r).state.instance.numbers k ≤ 4294967295
 step_numbers p choice (instr.Set n x) r fit held s = number_set n (value_of r x) r (value_range x r (second (nat_lt n 8) (is_value x) fit) s) s
 step_numbers p choice i r fit held s = effect_numbers p choice (effect_of i) r refl held s
 

@@ -1,5 +1,6 @@
 -- Buckets that are set aside, read, and let go with their files.
-use Rattle.std.proofs.Common.{◌≡◌, ℕ, ◌+◌, ◌-◌, ◌<◌, Bool, true, false, ◌&&◌, not, cond, List, [], ◌∷◌, ◌++◌, append-nil, take, drop, ◌⊎◌, inl, inr, Option, Some, None, nat_le, min, ◌==◌, eqb-true, subst, refl, sym, ◌∙◌, ap, arith}
+use Rattle.std.proofs.Common.{◌≡◌, ℕ, ◌+◌, ◌-◌, ◌<◌, Bool, true, false, ◌&&◌, not, cond, List, [], ◌∷◌, ◌++◌, append-nil, take, drop, ◌⊎◌, inl, inr, Option, Some, None, nat_le, min, ◌==◌, eqb-true}
+use Rattle.std.proofs.Common.{subst, refl, sym, ◌∙◌, ap, arith}
 use Rattle.std.proofs.lemmas.List.{drop-drop, drop-take, length-take, take-append-drop, take_all}
 use Rattle.std.proofs.lemmas.Bool.{cases_lt, or_cases}
 use Rattle.std.proofs.lemmas.Bool.Decides.{nat_tests}
@@ -70,7 +71,8 @@ kept_as ps target old new lasts alive name content =
 
 aside_parts : (ps : Pools Payload) (target name : ℕ) (k : Kind) (c : Content) (h : Home) (above : Bool) → is_above ps target h ≡ above
     → LivesAs k h → is_ended h ≡ false
-    → KeptAside ps target (record { name = name; bucket = record { kind = k; content = c; home = h } }) (record { name = name; bucket = set_aside target above (record { kind = k; content = c; home = h }) })
+    → KeptAside ps target (record { name = name; bucket = record { kind = k; content = c; home = h } })
+    (record { name = name; bucket = set_aside target above (record { kind = k; content = c; home = h }) })
 aside_parts ps target name kind.Heap c h above is fit live = kept_as ps target _ _ (free_lasts _ _ h fit) live refl refl
 aside_parts ps target name kind.Transient c h above is fit live = kept_as ps target _ _ tt refl refl refl
 aside_parts ps target name kind.Immortal c h above is fit live = kept_as ps target _ _ (free_lasts _ _ h fit) live refl refl
@@ -115,16 +117,20 @@ behind_read start len file lt =
     ap (λ (bs : List ℕ). take read_limit (take len (drop start file)) ++ bs) (sym rest) ∙ take-append-drop read_limit (take len (drop start file))
 
 range_read : (n start len : ℕ) (file : List ℕ) (b : Bucket)
-    → take (min len read_limit) (take len (drop start file)) ++ bytes_of_rest file (cond (nat_le len read_limit) None (Some (record b { content = content.Range n (start + read_limit) (len - read_limit) }))) ≡ take len (drop start file)
+    → take (min len read_limit) (take len (drop start file)) ++ bytes_of_rest file
+    (cond (nat_le len read_limit) None (Some (record b { content = content.Range n (start + read_limit) (len - read_limit) }))) ≡ take len (drop start file)
 range_read n start len file b = elim (cases_lt read_limit len) [
   | inl lt ↦ (let front : min len read_limit ≡ read_limit = grind (arith, nat_tests) in
       let longer : nat_le len read_limit ≡ false = grind (arith, nat_tests) in
-      ap (λ (k : ℕ). take k (take len (drop start file)) ++ bytes_of_rest file (cond (nat_le len read_limit) None (Some (record b { content = content.Range n (start + read_limit) (len - read_limit) })))) front
-      ∙ (ap (λ (t : Bool). take read_limit (take len (drop start file)) ++ bytes_of_rest file (cond t None (Some (record b { content = content.Range n (start + read_limit) (len - read_limit) })))) longer
+      ap (λ (k : ℕ). take k (take len (drop start file)) ++ bytes_of_rest file
+      (cond (nat_le len read_limit) None (Some (record b { content = content.Range n (start + read_limit) (len - read_limit) })))) front
+      ∙ (ap (λ (t : Bool). take read_limit (take len (drop start file)) ++ bytes_of_rest file (cond t None (Some (record b { content = content.Range n (start + read_limit) (len - read_limit) }))))
+      longer
       ∙ behind_read start len file lt))
   | inr le ↦ (let front : min len read_limit ≡ len = grind (arith, nat_tests) in
       let whole : nat_le len read_limit ≡ true = grind (arith, nat_tests) in
-      ap (λ (k : ℕ). take k (take len (drop start file)) ++ bytes_of_rest file (cond (nat_le len read_limit) None (Some (record b { content = content.Range n (start + read_limit) (len - read_limit) })))) front
+      ap (λ (k : ℕ). take k (take len (drop start file)) ++ bytes_of_rest file
+      (cond (nat_le len read_limit) None (Some (record b { content = content.Range n (start + read_limit) (len - read_limit) })))) front
       ∙ (ap (λ (t : Bool). take len (take len (drop start file)) ++ bytes_of_rest file (cond t None (Some (record b { content = content.Range n (start + read_limit) (len - read_limit) })))) whole
       ∙ (append-nil (take len (take len (drop start file))) ∙ take_all len (take len (drop start file)) (grind (arith, length-take len (drop start file), nat_tests)))))
 ]

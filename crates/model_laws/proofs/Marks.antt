@@ -59,7 +59,8 @@ there_none var.Null there none = absurd there
 there_none var.Gone there none = absurd there
 there_none (var.Live v) there none = none
 
-cursor_unmet : (r : Configuration) (f : Need) (k : ℕ) (s : Place) → IsThere (r.instance.brigades k) → (usable_fault (r.instance.brigades k) ≡ None → ⊥) → is_at s k ≡ true → cursor_fault r f s ≡ None → ⊥
+cursor_unmet : (r : Configuration) (f : Need) (k : ℕ) (s : Place) → IsThere (r.instance.brigades k) → (usable_fault (r.instance.brigades k) ≡ None → ⊥) → is_at s k ≡ true
+    → cursor_fault r f s ≡ None → ⊥
 unfolding cursor_fault
 cursor_unmet r f k Nowhere there no_use h none = cc
 cursor_unmet r f k (AtLoose x) there no_use h none = cc

@@ -39,7 +39,8 @@ names_stay r new t s = record {
 }
 
 -- Where buckets do not grow in number and brigades keep their names.
-pub keeps_names : (r new : Configuration) → ((n : ℕ) → count new n ≤ count r n) → ((b : ℕ) → Carried (r.instance.brigades b) (new.instance.brigades b)) → r.shared.next ≤ new.shared.next → new.shared.next < 2 ^ 64 → NamesStep r new
+pub keeps_names : (r new : Configuration) → ((n : ℕ) → count new n ≤ count r n) → ((b : ℕ) → Carried (r.instance.brigades b) (new.instance.brigades b)) → r.shared.next ≤ new.shared.next
+    → new.shared.next < 2 ^ 64 → NamesStep r new
 keeps_names r new fewer carried rises limit = record {
   rises = rises;
   limit = limit;
@@ -102,8 +103,10 @@ placed_names r new o v in_range is loose above below limit old_names once behind
   counted : (n : ℕ) → count new n ≤ count r n + count_named n v.items
   counted n =
       let l : count_named n new.call.loose ≤ count_named n r.call.loose = loose n in
-      let e : sum_below 9 (λ k. count_named n (items_of (new.instance.brigades k))) ≡ sum_below 9 (λ k. count_named n (items_of (upd r.instance.brigades o (var.Live v) k))) = ap (λ (g : ℕ → BrigadeVar). sum_below 9 (λ k. count_named n (items_of (g k)))) is in
-      let u : sum_below 9 (λ k. count_named n (items_of (upd r.instance.brigades o (var.Live v) k))) + count_named n (items_of (r.instance.brigades o)) ≡ sum_below 9 (λ k. count_named n (items_of (r.instance.brigades k))) + count_named n v.items = sum_below_upd 9 o r.instance.brigades (var.Live v) (λ x. count_named n (items_of x)) in_range in
+      let e : sum_below 9 (λ k. count_named n (items_of (new.instance.brigades k))) ≡ sum_below 9 (λ k. count_named n (items_of (upd r.instance.brigades o (var.Live v) k))) =
+      ap (λ (g : ℕ → BrigadeVar). sum_below 9 (λ k. count_named n (items_of (g k)))) is in
+      let u : sum_below 9 (λ k. count_named n (items_of (upd r.instance.brigades o (var.Live v) k))) + count_named n (items_of (r.instance.brigades o)) ≡ sum_below 9
+      (λ k. count_named n (items_of (r.instance.brigades k))) + count_named n v.items = sum_below_upd 9 o r.instance.brigades (var.Live v) (λ x. count_named n (items_of x)) in_range in
       omega arith
 
   named : (b n : ℕ) → brigade_name (new.instance.brigades b) ≡ Some n → ((b ≡ o) × (v.name ≡ n)) ⊎ (brigade_name (r.instance.brigades b) ≡ Some n)

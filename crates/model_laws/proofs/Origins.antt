@@ -1,6 +1,7 @@
 -- What an instruction on cursors and buckets leaves: what was true of each bucket is true of each, also of those that are
 -- made, cut and read.
-use Rattle.std.proofs.Common.{◌≡◌, ℕ, zero, suc, ◌+◌, ◌-◌, ◌≤◌, ◌⊎◌, Bool, true, false, cond, not, ◌||◌, nat_lt, nat_le, List, [], ◌∷◌, ◌++◌, Option, Some, None, is_some, All, inl, inr, refl, sym, subst, arith}
+use Rattle.std.proofs.Common.{◌≡◌, ℕ, zero, suc, ◌+◌, ◌-◌, ◌≤◌, ◌⊎◌, Bool, true, false, cond, not, ◌||◌, nat_lt, nat_le, List, [], ◌∷◌, ◌++◌, Option, Some, None, is_some, All, inl, inr, refl, sym}
+use Rattle.std.proofs.Common.{subst, arith}
 use Rattle.std.proofs.lemmas.Bool.Decides.{nat_tests}
 use Rattle.std.proofs.lemmas.List.Elements.{All-nil, All-cons, All-head, All-tail, All-append}
 use Rattle.module_code.specs.declared.instr.Instr.{Instr}
@@ -16,10 +17,13 @@ use Rattle.run_model.specs.declared.bucket.BrigadeVar.TheVariants as var
 use Rattle.run_model.specs.declared.bucket.Cursor.{Cursor}
 use Rattle.run_model.specs.Buckets.{is_data}
 use Rattle.run_model.specs.Cutting.{FitsKind, length_of, front_of, rest_of, split_at, read_limit, read_as}
-use Rattle.run_model.specs.BrigadeLists.{buckets_before, buckets_from, first_bucket, taken_out, put_head, put_tail, put_before, stays, moves, TooLong, Metadata, split_refusal, first_bytes, rest_as, first_split, front_to, back_from, is_short, partitioned}
+use Rattle.run_model.specs.BrigadeLists.{buckets_before, buckets_from, first_bucket, taken_out, put_head, put_tail, put_before, stays, moves, TooLong, Metadata, split_refusal, first_bytes, rest_as}
+use Rattle.run_model.specs.BrigadeLists.{first_split, front_to, back_from, is_short, partitioned}
 use Rattle.run_model.specs.State.{Configuration, items_of, set_brigade, set_number, set_cursor, set_loose, pool_named}
 use Rattle.run_model.specs.Cursors.{bucket_at, Place, AtLoose, Within, spot, read_cursor}
-use Rattle.run_model.specs.BucketSteps.{items_at, set_items, do_next, do_unlink, do_delete, put_into, do_before, name_given, names_given, names_to_part, new_loose, heap_bucket, immortal_bucket, transient_bucket, pool_bucket, metadata, copied_bucket, pooled_bucket, do_make, split_there, do_split, rest_named, first_read, read_given, read_within, do_read, place_at, do_bsplit, do_bpart, got}
+use Rattle.run_model.specs.BucketSteps.{items_at, set_items, do_next, do_unlink, do_delete, put_into, do_before, name_given, names_given, names_to_part, new_loose, heap_bucket, immortal_bucket}
+use Rattle.run_model.specs.BucketSteps.{transient_bucket, pool_bucket, metadata, copied_bucket, pooled_bucket, do_make, split_there, do_split, rest_named, first_read, read_given, read_within, do_read}
+use Rattle.run_model.specs.BucketSteps.{place_at, do_bsplit, do_bpart, got}
 use Rattle.run_model.specs.declared.effect.Effect.{Effect}
 use Rattle.run_model.specs.declared.effect.Effect.TheVariants as effect
 use Rattle.run_model.specs.declared.effect.MadeFrom.{MadeFrom}
@@ -296,13 +300,15 @@ module _ (T : NamedBucket → Type 0) (r : Configuration) (on : Descends r.share
       let parts = read_parts bytes y (made y old) y.bucket.content refl old in
       All-cons T _ _ parts.0 (All-append T _ ys parts.1 (All-tail T y ys all))
 
-  read_holds : (given : Option (List ℕ)) (s : Place) → ((c : Content) (bytes : List ℕ) → read_given given c ≡ Some bytes → (y : NamedBucket) → T y → T (record y { bucket = heap_bucket bytes })) → HoldsNamed T (do_read given s r)
+  read_holds : (given : Option (List ℕ)) (s : Place) → ((c : Content) (bytes : List ℕ) → read_given given c ≡ Some bytes → (y : NamedBucket) → T y → T (record y { bucket = heap_bucket bytes }))
+      → HoldsNamed T (do_read given s r)
   read_holds given (Within b x) made = by_given (read_given given x.bucket.content) refl where
     by_given : (o : Option (List ℕ)) → read_given given x.bucket.content ≡ o → HoldsNamed T (read_within b x o r)
     by_given None is = cursor_holds T read_cursor _ r h
     by_given (Some bytes) is =
         cursor_holds T read_cursor _ _ (items_hold T b _ _ (All-append T (buckets_before x.name (items_at r b)) (first_read r.shared.next bytes (buckets_from x.name (items_at r b)))
-        (each_before T x.name (items_at r b) (h.brigades b)) (read_first bytes (made x.bucket.content bytes is) (buckets_from x.name (items_at r b)) (each_from T x.name (items_at r b) (h.brigades b)))) (names_hold T _ r h))
+        (each_before T x.name (items_at r b) (h.brigades b))
+        (read_first bytes (made x.bucket.content bytes is) (buckets_from x.name (items_at r b)) (each_from T x.name (items_at r b) (h.brigades b)))) (names_hold T _ r h))
   read_holds given s made = h
 
 -- whether an effect neither changes pools nor brigades as a whole, nor ends a call, nor sets buckets aside
@@ -376,7 +382,8 @@ module _ (T : NamedBucket → Type 0) (p : Program) (choice : Choice) (r : Confi
 
 pub named_leaves : (T : NamedBucket → Type 0) (p : Program) (choice : Choice) (i : Instr) (r : Configuration) → is_quiet (effect_of i) ≡ true → Descends r.shared.next T
     → ((b : Bucket) → is_read i ≡ false → Makes p choice r (effect_of i) b → T (record { name = r.shared.next; bucket = b }))
-    → ((c : Content) (bytes : List ℕ) → is_read i ≡ true → read_given choice.given c ≡ Some bytes → (x : NamedBucket) → T x → T (record x { bucket = heap_bucket bytes })) → HoldsNamed T r → HoldsNamed T (step p choice i r).state
+    → ((c : Content) (bytes : List ℕ) → is_read i ≡ true → read_given choice.given c ≡ Some bytes → (x : NamedBucket) → T x → T (record x { bucket = heap_bucket bytes })) → HoldsNamed T r
+    → HoldsNamed T (step p choice i r).state
 named_leaves T p choice i r quiet on made reads h = leaves T p choice r on (effect_of i) quiet made reads h
 
 -- the parts of a bucket, and a copy

@@ -16,7 +16,8 @@ use Rattle.run_model.specs.Buckets.{cleared_bucket}
 use Rattle.run_model.specs.Clearing.{is_reached, cleared_var, run_down}
 use Rattle.run_model.specs.State.{Configuration, is_passed, set_brigade, with_pools, pool_named}
 use Rattle.run_model.specs.Cursors.{Place, Nowhere, AtLoose, Within, AtEndOf, spot}
-use Rattle.run_model.specs.Faults.{Need, Anywhere, OnBucket, OnLoose, InBrigade, InThis, Want, WPool, WUsable, WCursor, wants, usable_fault, passed_fault, loose_fault, within_fault, end_fault, cursor_fault, new_fault, fault_want, first_fault, fault, or_else}
+use Rattle.run_model.specs.Faults.{Need, Anywhere, OnBucket, OnLoose, InBrigade, InThis, Want, WPool, WUsable, WCursor, wants, usable_fault, passed_fault, loose_fault, within_fault, end_fault}
+use Rattle.run_model.specs.Faults.{cursor_fault, new_fault, fault_want, first_fault, fault, or_else}
 use Rattle.run_model.specs.EffectOf.{effect_of}
 use Rattle.run_model.specs.Steps.{Choice, step, do_pass, handed_over, returned_var, pool_cleared, pool_destroyed}
 use Rattle.run_model.specs.Sound.{brigade_name}
@@ -60,8 +61,10 @@ cursor_told : (r : Configuration) (f : Need) (k : ℕ) (s : Place) → HoldsPass
 unfolding cursor_fault
 cursor_told r f k Nowhere h used = absurd (cc)
 cursor_told r f k (AtLoose x) h used = absurd (cc)
-cursor_told r f k (Within b x) h used = ap (λ (o : Option FaultKind). or_else o (within_fault f b)) (ap (λ (j : ℕ). passed_fault (r.instance.brigades j)) (sym (eqb-true k b used)) ∙ passed_there (r.instance.brigades k) h)
-cursor_told r f k (AtEndOf b) h used = ap (λ (o : Option FaultKind). or_else o (end_fault f b)) (ap (λ (j : ℕ). passed_fault (r.instance.brigades j)) (sym (eqb-true k b used)) ∙ passed_there (r.instance.brigades k) h)
+cursor_told r f k (Within b x) h used =
+    ap (λ (o : Option FaultKind). or_else o (within_fault f b)) (ap (λ (j : ℕ). passed_fault (r.instance.brigades j)) (sym (eqb-true k b used)) ∙ passed_there (r.instance.brigades k) h)
+cursor_told r f k (AtEndOf b) h used =
+    ap (λ (o : Option FaultKind). or_else o (end_fault f b)) (ap (λ (j : ℕ). passed_fault (r.instance.brigades j)) (sym (eqb-true k b used)) ∙ passed_there (r.instance.brigades k) h)
 
 use_told : (r : Configuration) (k : ℕ) (w : Want) → HoldsPassed (r.instance.brigades k) → wants_use r k w ≡ true → fault_want r w ≡ Some F7
 use_told r k (WUsable b) h used = ap (λ (j : ℕ). usable_fault (r.instance.brigades j)) (sym (eqb-true k b used)) ∙ passed_told (r.instance.brigades k) h
@@ -176,7 +179,8 @@ record Before (r : Configuration) (k : ℕ) (ws : List Want) : Type 0 where
   unmet : fault_want r want ≡ Some kind
   unused : list_any (wants_use r k) (earlier ++ want ∷ []) ≡ false
 
-told_first : (r : Configuration) (k : ℕ) (ws : List Want) → operands_first ws ≡ true → list_any (wants_use r k) ws ≡ true → HoldsPassed (r.instance.brigades k) → (first_fault r ws ≡ Some F7) ⊎ Before r k ws
+told_first : (r : Configuration) (k : ℕ) (ws : List Want) → operands_first ws ≡ true → list_any (wants_use r k) ws ≡ true → HoldsPassed (r.instance.brigades k)
+    → (first_fault r ws ≡ Some F7) ⊎ Before r k ws
 told_first r k [] fine used h = absurd (cc)
 told_first r k (w ∷ ws) fine used h = by_use (λ rest later. told_first r k ws rest later h) (wants_use r k w) refl used where
   one_more : fault_want r w ≡ None → wants_use r k w ≡ false → (first_fault r ws ≡ Some F7) ⊎ Before r k ws → (first_fault r (w ∷ ws) ≡ Some F7) ⊎ Before r k (w ∷ ws)
@@ -207,11 +211,13 @@ told_first r k (w ∷ ws) fine used h = by_use (λ rest later. told_first r k ws
     unused = ap (λ (b : Bool). b || false) unused;
   })
 
-  by_fault : (operands_first ws ≡ true → list_any (wants_use r k) ws ≡ true → (first_fault r ws ≡ Some F7) ⊎ Before r k ws) → (o : Option FaultKind) → fault_want r w ≡ o → Told o → wants_use r k w ≡ false → list_any (wants_use r k) ws ≡ true → operands_first ws ≡ true → (first_fault r (w ∷ ws) ≡ Some F7) ⊎ Before r k (w ∷ ws)
+  by_fault : (operands_first ws ≡ true → list_any (wants_use r k) ws ≡ true → (first_fault r ws ≡ Some F7) ⊎ Before r k ws) → (o : Option FaultKind) → fault_want r w ≡ o → Told o
+      → wants_use r k w ≡ false → list_any (wants_use r k) ws ≡ true → operands_first ws ≡ true → (first_fault r (w ∷ ws) ≡ Some F7) ⊎ Before r k (w ∷ ws)
   by_fault behind None none as_told unused later rest = one_more none unused (behind rest later)
   by_fault behind (Some j) is as_told unused later rest = here j is unused as_told
 
-  by_use : (operands_first ws ≡ true → list_any (wants_use r k) ws ≡ true → (first_fault r ws ≡ Some F7) ⊎ Before r k ws) → (b : Bool) → wants_use r k w ≡ b → (b || list_any (wants_use r k) ws) ≡ true → (first_fault r (w ∷ ws) ≡ Some F7) ⊎ Before r k (w ∷ ws)
+  by_use : (operands_first ws ≡ true → list_any (wants_use r k) ws ≡ true → (first_fault r ws ≡ Some F7) ⊎ Before r k ws) → (b : Bool) → wants_use r k w ≡ b
+      → (b || list_any (wants_use r k) ws) ≡ true → (first_fault r (w ∷ ws) ≡ Some F7) ⊎ Before r k (w ∷ ws)
   by_use behind true is later = inl (ap (λ (o : Option FaultKind). or_else o (first_fault r ws)) (use_told r k w h is))
   by_use behind false is later =
       let parts = ordered w ws fine (used_any r k ws later) in by_fault behind (fault_want r w) refl (operand_told r w parts.0) is later parts.1
@@ -233,7 +239,8 @@ still_at : (v w : BrigadeVar) → w ≡ v → HoldsPassed v → StaysPassed v w
 still_at v w is h = subst (λ (x : BrigadeVar). StaysPassed v x) (sym is) (still v h)
 
 -- what a step does not change stays
-kept_unless : (p : Program) (choice : Choice) (i : Instr) (b : ℕ) (r : Configuration) → (may_change r (effect_of i) b ≡ true → ⊥) → HoldsPassed (r.instance.brigades b) → StaysPassed (r.instance.brigades b) ((step p choice i r).state.instance.brigades b)
+kept_unless : (p : Program) (choice : Choice) (i : Instr) (b : ℕ) (r : Configuration) → (may_change r (effect_of i) b ≡ true → ⊥) → HoldsPassed (r.instance.brigades b)
+    → StaysPassed (r.instance.brigades b) ((step p choice i r).state.instance.brigades b)
 kept_unless p choice i b r never h =
     still_at (r.instance.brigades b) ((step p choice i r).state.instance.brigades b) ((step_changes_only p choice i r).brigades b (false_from_ne_true (may_change r (effect_of i) b) never)) h
 
@@ -289,7 +296,8 @@ changed_used p r (instr.Read c l) k plain h = first (is_at (spot r c) k) _ (with
 changed_used p r i k plain h = absurd (cc)
 
 -- so a step without a fault leaves a passed brigade as it is
-plain_keeps : (p : Program) (choice : Choice) (i : Instr) (b : ℕ) (r : Configuration) → is_remade i ≡ false → fault p r i ≡ None → HoldsPassed (r.instance.brigades b) → StaysPassed (r.instance.brigades b) ((step p choice i r).state.instance.brigades b)
+plain_keeps : (p : Program) (choice : Choice) (i : Instr) (b : ℕ) (r : Configuration) → is_remade i ≡ false → fault p r i ≡ None → HoldsPassed (r.instance.brigades b)
+    → StaysPassed (r.instance.brigades b) ((step p choice i r).state.instance.brigades b)
 plain_keeps p choice i b r plain none h = kept_unless p choice i b r (λ t. uses_unmet r b (wants p i) (not_usable (r.instance.brigades b) h) (changed_used p r i b plain t) none) h
 
 pub cleared_stays : (reached : ℕ → Bool) (v : BrigadeVar) → HoldsPassed v → StaysPassed v (cleared_var reached v)
@@ -309,12 +317,15 @@ returned_stays call false (var.Live v) other h = (refl, h)
 pub step_keeps_passed : StepKeepsPassed
 unfolding with_pools run_down
 step_keeps_passed p choice (instr.PClear q) b r none other h =
-    on_named (λ (x : Configuration). StaysPassed (r.instance.brigades b) (x.instance.brigades b)) pool_cleared (pool_named r (pool.Own q)) r (still (r.instance.brigades b) h) (λ n e. cleared_stays (is_under r.shared.pools n) (r.instance.brigades b) h)
+    on_named (λ (x : Configuration). StaysPassed (r.instance.brigades b) (x.instance.brigades b)) pool_cleared (pool_named r (pool.Own q)) r (still (r.instance.brigades b) h)
+    (λ n e. cleared_stays (is_under r.shared.pools n) (r.instance.brigades b) h)
 step_keeps_passed p choice (instr.PDestroy q) b r none other h =
-    on_named (λ (x : Configuration). StaysPassed (r.instance.brigades b) (x.instance.brigades b)) pool_destroyed (pool_named r (pool.Own q)) r (still (r.instance.brigades b) h) (λ n e. cleared_stays (is_under r.shared.pools n) (r.instance.brigades b) h)
+    on_named (λ (x : Configuration). StaysPassed (r.instance.brigades b) (x.instance.brigades b)) pool_destroyed (pool_named r (pool.Own q)) r (still (r.instance.brigades b) h)
+    (λ n e. cleared_stays (is_under r.shared.pools n) (r.instance.brigades b) h)
 step_keeps_passed p choice (instr.BCreate o) b r none other h =
     kept_unless p choice (instr.BCreate o) b r
-    (λ t. live_not_new (r.instance.brigades b) h (ap (λ (k : ℕ). new_fault (r.instance.brigades k)) (eqb-true b o t) ∙ first_none (new_fault (r.instance.brigades o)) None (second_none (fault_want r (WPool (pool_of_brigade p o))) _ none)))
+    (λ t. live_not_new (r.instance.brigades b) h
+    (ap (λ (k : ℕ). new_fault (r.instance.brigades k)) (eqb-true b o t) ∙ first_none (new_fault (r.instance.brigades o)) None (second_none (fault_want r (WPool (pool_of_brigade p o))) _ none)))
     h
 step_keeps_passed p choice (instr.BClean c) b r none other h = kept_unless p choice (instr.BClean c) b r (λ t. let no_clean : true ≡ false = sym t ∙ other in cc) h
 step_keeps_passed p choice (instr.Ret s) b r none other h = returned_stays r.call.name (b == 8) (r.instance.brigades b) other h

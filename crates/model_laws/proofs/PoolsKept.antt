@@ -62,14 +62,16 @@ pub keeps_pools : (r new : Configuration) → new.shared.pools ≡ r.shared.pool
     → ((b n : ℕ) → brigade_pool (new.instance.brigades b) ≡ Some n → is_live r.shared.pools n ≡ true)
     → SoundPools r → SoundPools new
 keeps_pools r new pools conn req own brigades s =
-    keeps_paths r new (subst (λ (ps : Pools Payload). IsPoolMap ps) (sym pools) s.formed) (ap (λ (ps : Pools Payload). ps.path) pools) (ap (λ (ps : Pools Payload). ps.next) pools) conn req own brigades s
+    keeps_paths r new (subst (λ (ps : Pools Payload). IsPoolMap ps) (sym pools) s.formed) (ap (λ (ps : Pools Payload). ps.path) pools)
+    (ap (λ (ps : Pools Payload). ps.next) pools) conn req own brigades s
 
 -- A brigade that a clear leaves does not lie on a pool that it reaches.
 pub cleared_pool : (reached : ℕ → Bool) (v : BrigadeVar) (n : ℕ) → brigade_pool (cleared_var reached v) ≡ Some n → (brigade_pool v ≡ Some n) × (reached n ≡ false)
 cleared_pool reached var.Null n e = absurd (cc)
 cleared_pool reached var.Gone n e = absurd (cc)
 cleared_pool reached (var.Live v) n e = by_test (is_reached reached v.on) refl e where
-  by_test : (b : Bool) → is_reached reached v.on ≡ b → brigade_pool (cond b var.Gone (var.Live (record v { items = map (cleared_bucket reached) v.items }))) ≡ Some n → (v.on ≡ Some n) × (reached n ≡ false)
+  by_test : (b : Bool) → is_reached reached v.on ≡ b → brigade_pool (cond b var.Gone (var.Live (record v { items = map (cleared_bucket reached) v.items }))) ≡ Some n → (v.on ≡ Some n)
+      × (reached n ≡ false)
   by_test true is e = absurd (cc)
   by_test false is e = (e, sym (ap (is_reached reached) e) ∙ is)
 

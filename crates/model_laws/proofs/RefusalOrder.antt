@@ -1,5 +1,6 @@
 -- The first refusal whose test holds is the one that is told.
-use Rattle.std.proofs.Common.{◌≡◌, ◌≢◌, ℕ, ◌+◌, ◌<◌, ◌≤◌, Bool, true, false, ◌||◌, not, cond, List, [], ◌∷◌, length, get_or, Option, Some, None, is_some, Result, Err, nat_le, inl, inr, refl, sym, ◌∙◌, ap, subst, arith}
+use Rattle.std.proofs.Common.{◌≡◌, ◌≢◌, ℕ, ◌+◌, ◌<◌, ◌≤◌, Bool, true, false, ◌||◌, not, cond, List, [], ◌∷◌, length, get_or, Option, Some, None, is_some, Result, Err, nat_le, inl, inr, refl, sym, ◌∙◌}
+use Rattle.std.proofs.Common.{ap, subst, arith}
 use Rattle.std.proofs.lemmas.Option.{same_Some}
 use Rattle.std.specs.List.{list_any}
 use Rattle.std.proofs.lemmas.Bool.{cases_eq, cases_lt}
@@ -19,15 +20,18 @@ use Rattle.run_model.specs.Refusals.{first_refusal, refused_if, if_broken}
 use Rattle.run_model.specs.Pieces.{lacks_file, data_behind_eos}
 use Rattle.run_model.specs.Chains.{Frame, Connection, Common, Linked, module_at}
 use Rattle.run_model.specs.Passing.{Reads, proceeds}
-use Rattle.run_model.specs.Turns.{Opening, Found, Missing, Failing, is_missing, is_failing, number_given, unless_refused, is_busy, begins, begun, brings, brought, ends, ended, opens_file, file_answer, steps, step_unless, step_top, watched, executed, unless_fault, counted, broken_by}
+use Rattle.run_model.specs.Turns.{Opening, Found, Missing, Failing, is_missing, is_failing, number_given, unless_refused, is_busy, begins, begun, brings, brought, ends, ended, opens_file, file_answer}
+use Rattle.run_model.specs.Turns.{steps, step_unless, step_top, watched, executed, unless_fault, counted, broken_by}
 use Rattle.run_model.specs.Worlds.{World, Told, Answer, Done, Refused, answered, file_answered, adds_file, closes, opens, opens_if, happens_on}
-use Rattle.model_laws.specs.RefusalOrder.{place, Tests, tests, TestHolds, IsFirstRefusal, FirstIsTold, StepsTell, NoConnectionIsTold, is_of_connection, BusyDoesNotEnd, OnlyMemoryRefusesClose, lacks_for, grows_for, fault_of}
+use Rattle.model_laws.specs.RefusalOrder.{place, Tests, tests, TestHolds, IsFirstRefusal, FirstIsTold, StepsTell, NoConnectionIsTold, is_of_connection, BusyDoesNotEnd, OnlyMemoryRefusesClose}
+use Rattle.model_laws.specs.RefusalOrder.{lacks_for, grows_for, fault_of}
 
 -- Refusals by their places.
 
 refusal_at : ℕ → Refusal
 refusal_at n =
-    get_or (refusal.NoSuchConn ∷ refusal.Broken cause.Faulted ∷ refusal.Busy ∷ refusal.Idle ∷ refusal.InRequest ∷ refusal.NotInRequest ∷ refusal.DataAfterEos ∷ refusal.NoFile ∷ refusal.FileFailed ∷ refusal.NamesSpent ∷ refusal.NoMemory ∷ []) n
+    get_or (refusal.NoSuchConn ∷ refusal.Broken cause.Faulted ∷ refusal.Busy ∷ refusal.Idle ∷ refusal.InRequest ∷ refusal.NotInRequest ∷ refusal.DataAfterEos ∷ refusal.NoFile ∷ refusal.FileFailed
+    ∷ refusal.NamesSpent ∷ refusal.NoMemory ∷ []) n
     refusal.NoMemory
 
 by_place : (r : Refusal) → place r ≢ 1 → refusal_at (place r) ≡ r
@@ -124,8 +128,10 @@ broken_row t None o is rest below = rest (λ s lt h. none s lt h) where
 broken_row t (Some k) o is rest below = due t (refusal.Broken k) (record { holds = is; first = below })
 
 walk : (t : Tests)
-    → Tells t (firsts (refused_if t.no_such_conn refusal.NoSuchConn ∷ if_broken t.broken ∷ refused_if t.busy refusal.Busy ∷ refused_if t.idle refusal.Idle ∷ refused_if t.in_request refusal.InRequest ∷ refused_if t.not_in_request refusal.NotInRequest
-    ∷ refused_if t.data_after_eos refusal.DataAfterEos ∷ refused_if t.no_file refusal.NoFile ∷ refused_if t.file_failed refusal.FileFailed ∷ refused_if t.names_spent refusal.NamesSpent ∷ refused_if t.no_memory refusal.NoMemory ∷ []))
+    → Tells t (firsts (refused_if t.no_such_conn refusal.NoSuchConn ∷ if_broken t.broken ∷ refused_if t.busy refusal.Busy ∷ refused_if t.idle refusal.Idle ∷ refused_if t.in_request
+    refusal.InRequest ∷ refused_if t.not_in_request refusal.NotInRequest
+    ∷ refused_if t.data_after_eos refusal.DataAfterEos ∷ refused_if t.no_file refusal.NoFile ∷ refused_if t.file_failed refusal.FileFailed ∷ refused_if t.names_spent refusal.NamesSpent ∷ refused_if
+    t.no_memory refusal.NoMemory ∷ []))
 walk t =
     no_conn_row t _
     (broken_row t t.broken _ refl
@@ -181,7 +187,8 @@ file_or_refused : (t : Tests) (o : Option Refusal) (req : Option ℕ) (opening :
 file_or_refused t o req opening k w v tells there r =
     exact t _ o tells (λ q e. ap (λ (x : Option Refusal). (file_answered k w (file_answer x req opening v)).0) e)
     (λ e. (let parts = there e in ap (λ (x : Option Refusal). is_refused (file_answered k w (file_answer x req opening v)).0) e ∙ opened_file req opening parts.0 parts.1 parts.2)) r where
-      opened_file : (req : Option ℕ) (opening : Opening) → is_some req ≡ true → is_missing opening ≡ false → is_failing opening ≡ false → is_refused (file_answered k w (file_answer None req opening v)).0 ≡ false
+      opened_file : (req : Option ℕ) (opening : Opening) → is_some req ≡ true → is_missing opening ≡ false → is_failing opening ≡ false
+          → is_refused (file_answered k w (file_answer None req opening v)).0 ≡ false
       opened_file (Some q) (Found skipped bytes) e f h = refl
       opened_file (Some q) Missing e f h = absurd (cc)
       opened_file (Some q) Failing e f h = absurd (cc)
@@ -217,15 +224,19 @@ module _ (told : Told) (w : World) (r : Refusal) where
   unfolding opens
   opens_exact memory chain o =
       let t = tests memory told event.Open o w in
-      exact t _ _ (in_order t (refused_if (is_spent (w.last + 1) 1 || (is_spent w.common.pools 1 || is_spent w.common.next 1)) refusal.NamesSpent ∷ (refused_if (not memory) refusal.NoMemory ∷ [])) (walk t))
+      exact t _ _ (in_order t (refused_if (is_spent (w.last + 1) 1 || (is_spent w.common.pools 1 || is_spent w.common.next 1)) refusal.NamesSpent ∷ (refused_if (not memory) refusal.NoMemory ∷ []))
+      (walk t))
       (λ q e. ap (λ (x : Option Refusal). (opens_if x chain w).0) e) (λ e. ap (λ (x : Option Refusal). is_refused (opens_if x chain w).0) e) r
 
-  opens_file_exact : (memory : Bool) (name : List ℕ) (k : ℕ) (c : Connection) → Exact (tests memory told (event.OpenFile name) (Some c) w) (file_answered k w (opens_file memory told.opening (w.common, c))).0 r
+  opens_file_exact : (memory : Bool) (name : List ℕ) (k : ℕ) (c : Connection)
+      → Exact (tests memory told (event.OpenFile name) (Some c) w) (file_answered k w (opens_file memory told.opening (w.common, c))).0 r
   unfolding opens_file
   opens_file_exact memory name k c =
       let t = tests memory told (event.OpenFile name) (Some c) w in
-      let ordered = in_order t (if_broken c.broken ∷ refused_if (is_busy c.stack) refusal.Busy ∷ refused_if (not (is_some c.req)) refusal.NotInRequest ∷ refused_if (is_missing told.opening) refusal.NoFile
-      ∷ refused_if (is_failing told.opening) refusal.FileFailed ∷ refused_if (is_spent (number_given w.common told.opening) 1) refusal.NamesSpent ∷ refused_if (not memory) refusal.NoMemory ∷ []) (walk t) in
+      let ordered = in_order t
+      (if_broken c.broken ∷ refused_if (is_busy c.stack) refusal.Busy ∷ refused_if (not (is_some c.req)) refusal.NotInRequest ∷ refused_if (is_missing told.opening) refusal.NoFile
+      ∷ refused_if (is_failing told.opening) refusal.FileFailed ∷ refused_if (is_spent (number_given w.common told.opening) 1) refusal.NamesSpent ∷ refused_if (not memory) refusal.NoMemory ∷ [])
+      (walk t) in
       file_or_refused t _ c.req told.opening k w (w.common, c) ordered
       (λ e. (from_not (is_some c.req) (ordered.none e refusal.NotInRequest (omega arith)), not_on (is_missing told.opening) (ordered.none e refusal.NoFile (omega arith)), not_on (is_failing told.opening) (ordered.none e refusal.FileFailed (omega arith)))) r
 
@@ -236,20 +247,25 @@ module _ (told : Told) (w : World) (r : Refusal) where
       refused_or_done t _ k w (w.common, c) (begun chain (w.common, c)) (in_order t (if_broken c.broken ∷ refused_if (is_busy c.stack) refusal.Busy ∷ refused_if (is_some c.req) refusal.InRequest
       ∷ refused_if (is_spent w.common.pools 1 || is_spent w.common.next 1) refusal.NamesSpent ∷ refused_if (not memory) refusal.NoMemory ∷ []) (walk t)) r
 
-  brings_exact : (memory : Bool) (chain : List Program) (pieces : List Piece) (k : ℕ) (c : Connection) → Exact (tests memory told (event.Bring pieces) (Some c) w) (answered k w (brings memory chain pieces (w.common, c))).0 r
+  brings_exact : (memory : Bool) (chain : List Program) (pieces : List Piece) (k : ℕ) (c : Connection)
+      → Exact (tests memory told (event.Bring pieces) (Some c) w) (answered k w (brings memory chain pieces (w.common, c))).0 r
   unfolding brings
   brings_exact memory chain pieces k c =
       let t = tests memory told (event.Bring pieces) (Some c) w in
-      refused_or_done t _ k w (w.common, c) (brought chain pieces c.req (w.common, c)) (in_order t (if_broken c.broken ∷ refused_if (is_busy c.stack) refusal.Busy ∷ refused_if (not (is_some c.req)) refusal.NotInRequest ∷ refused_if (data_behind_eos pieces) refusal.DataAfterEos
-      ∷ refused_if (list_any (lacks_file c.files) pieces) refusal.NoFile ∷ refused_if (is_spent w.common.next (2 + length pieces)) refusal.NamesSpent ∷ refused_if (not memory) refusal.NoMemory ∷ []) (walk t)) r
+      refused_or_done t _ k w (w.common, c) (brought chain pieces c.req (w.common, c)) (in_order t
+      (if_broken c.broken ∷ refused_if (is_busy c.stack) refusal.Busy ∷ refused_if (not (is_some c.req)) refusal.NotInRequest ∷ refused_if (data_behind_eos pieces) refusal.DataAfterEos
+      ∷ refused_if (list_any (lacks_file c.files) pieces) refusal.NoFile ∷ refused_if (is_spent w.common.next (2 + length pieces)) refusal.NamesSpent ∷ refused_if
+      (not memory) refusal.NoMemory ∷ []) (walk t)) r
 
   ends_exact : (memory : Bool) (k : ℕ) (c : Connection) → Exact (tests memory told event.End (Some c) w) (answered k w (ends memory (w.common, c))).0 r
   unfolding ends
   ends_exact memory k c =
       let t = tests memory told event.End (Some c) w in
-      refused_or_done t _ k w (w.common, c) (ended c.req (w.common, c)) (in_order t (if_broken c.broken ∷ refused_if (is_busy c.stack) refusal.Busy ∷ refused_if (not (is_some c.req)) refusal.NotInRequest ∷ refused_if (not memory) refusal.NoMemory ∷ []) (walk t)) r
+      refused_or_done t _ k w (w.common, c) (ended c.req (w.common, c)) (in_order t
+      (if_broken c.broken ∷ refused_if (is_busy c.stack) refusal.Busy ∷ refused_if (not (is_some c.req)) refusal.NotInRequest ∷ refused_if (not memory) refusal.NoMemory ∷ []) (walk t)) r
 
-  on_exact : (memory : Bool) (budget : ℕ) (chain : List Program) (e : Event) (k : ℕ) (o : Option Connection) → e ≢ event.Step → Exact (tests memory told e o w) (happens_on memory budget chain told e k o w).0 r
+  on_exact : (memory : Bool) (budget : ℕ) (chain : List Program) (e : Event) (k : ℕ) (o : Option Connection) → e ≢ event.Step
+      → Exact (tests memory told e o w) (happens_on memory budget chain told e k o w).0 r
   unfolding happens_on
   on_exact memory budget chain event.Open k o ne = opens_exact memory chain o
   on_exact memory budget chain (event.AddFile name bytes) k o ne = adds_exact memory name bytes o
@@ -273,7 +289,8 @@ module _ (told : Told) (w : World) (r : Refusal) where
 pub first_is_told : FirstIsTold
 first_is_told memory budget chain told k e w r ne = on_exact told w r memory budget chain e k (w.conns k) ne
 
-nothing_there : (memory : Bool) (budget : ℕ) (chain : List Program) (told : Told) (e : Event) (k : ℕ) (w : World) → is_of_connection e ≡ true → happens_on memory budget chain told e k None w ≡ (Refused refusal.NoSuchConn, w)
+nothing_there : (memory : Bool) (budget : ℕ) (chain : List Program) (told : Told) (e : Event) (k : ℕ) (w : World) → is_of_connection e ≡ true
+    → happens_on memory budget chain told e k None w ≡ (Refused refusal.NoSuchConn, w)
 unfolding happens_on
 nothing_there memory budget chain told event.Open k w of = absurd (cc)
 nothing_there memory budget chain told (event.AddFile name bytes) k w of = absurd (cc)
@@ -355,7 +372,8 @@ due_refused memory budget chain told c w r first =
       by_stack [] e = ap (λ (x : Refusal). (Err x, (w.common, c))) (same_Some refusal.Idle r e)
       by_stack (f ∷ fs) e = absurd (none_is r e)
 
-      by_broken : (b : Option Cause) → first_refusal (if_broken b ∷ refused_if (not (is_busy c.stack)) refusal.Idle ∷ []) ≡ Some r → step_unless b memory budget chain told.reads (w.common, c) ≡ (Err r, (w.common, c))
+      by_broken : (b : Option Cause) → first_refusal (if_broken b ∷ refused_if (not (is_busy c.stack)) refusal.Idle ∷ []) ≡ Some r
+          → step_unless b memory budget chain told.reads (w.common, c) ≡ (Err r, (w.common, c))
       by_broken None e = by_stack c.stack e
       by_broken (Some k) e = ap (λ (x : Refusal). (Err x, (w.common, c))) (same_Some (refusal.Broken k) r e)
 

@@ -17,7 +17,8 @@ use Rattle.run_model.specs.Steps.{lacks_names, grows, current, is_spent}
 use Rattle.run_model.specs.Refusals.{first_refusal, if_broken}
 use Rattle.run_model.specs.Chains.{Frame, Connection, Common, Linked, module_at, configuration}
 use Rattle.run_model.specs.Passing.{Reads, next_called, returned_from, proceeds}
-use Rattle.run_model.specs.Turns.{Opening, unless_refused, begins, begun, brings, brought, ends, ended, opens_file, file_answer, steps, step_unless, step_top, watched, executed, unless_fault, counted, broken_by, calls_of}
+use Rattle.run_model.specs.Turns.{Opening, unless_refused, begins, begun, brings, brought, ends, ended, opens_file, file_answer, steps, step_unless, step_top, watched, executed, unless_fault, counted}
+use Rattle.run_model.specs.Turns.{broken_by, calls_of}
 use Rattle.run_model.specs.Worlds.{World, Told, Answer, Refused, put_conn, answered, file_answered, step_answered, adds_file, closes, opens, opens_if, happens_on}
 use Rattle.model_laws.specs.RefusalOrder.{RefusedChangesNothing, RefusedStepBreaks, FaultBreaks, BrokenStaysBroken, SameWorld, breaks, is_work}
 use Rattle.run_model.proofs.Updates.{upd_either}
@@ -56,7 +57,8 @@ module _ (k : ℕ) (w new : World) (r : Refusal) where
   opens_same None chain e = absurd (served _ r new refl e)
   opens_same (Some q) chain e = left _ _ e
 
-  on_same : (memory : Bool) (budget : ℕ) (chain : List Program) (told : Told) (e : Event) (o : Option Connection) → e ≢ event.Step → happens_on memory budget chain told e k o w ≡ (Refused r, new) → new ≡ w
+  on_same : (memory : Bool) (budget : ℕ) (chain : List Program) (told : Told) (e : Event) (o : Option Connection) → e ≢ event.Step → happens_on memory budget chain told e k o w ≡ (Refused r, new)
+      → new ≡ w
   unfolding happens_on opens
   on_same memory budget chain told event.Open o ne is = opens_same _ chain is
   on_same memory budget chain told (event.AddFile name bytes) o ne is = adds_same memory is
@@ -109,7 +111,8 @@ module _ (memory : Bool) (budget : ℕ) (chain : List Program) (reads : Reads) (
     by_memory true = proceeds_is i f rest
     by_memory false = Breaks cause.NoMemory
 
-    by_names : (b : Bool) → StepIs (g, c) (cond b (broken_by cause.NamesSpent (g, c)) (cond (memory || not (grows (configuration g c f) i || nat_lt 0 (calls_of chain i f rest c.queue))) (counted (proceeds chain reads i f rest (g, c))) (broken_by cause.NoMemory (g, c))))
+    by_names : (b : Bool) → StepIs (g, c) (cond b (broken_by cause.NamesSpent (g, c))
+        (cond (memory || not (grows (configuration g c f) i || nat_lt 0 (calls_of chain i f rest c.queue))) (counted (proceeds chain reads i f rest (g, c))) (broken_by cause.NoMemory (g, c))))
     by_names true = Breaks cause.NamesSpent
     by_names false = by_memory _
 
@@ -213,4 +216,5 @@ module _ (memory : Bool) (budget : ℕ) (chain : List Program) (told : Told) (k 
 
 pub broken_stays_broken : BrokenStaysBroken
 broken_stays_broken memory budget chain told k e c w why at is work =
-    subst (λ (o : Option Connection). ((happens_on memory budget chain told e k o w).0 ≡ Refused (refusal.Broken why)) × SameWorld w (happens_on memory budget chain told e k o w).1) (sym at) (stays memory budget chain told k c w why at is e work)
+    subst (λ (o : Option Connection). ((happens_on memory budget chain told e k o w).0 ≡ Refused (refusal.Broken why)) × SameWorld w (happens_on memory budget chain told e k o w).1) (sym at)
+    (stays memory budget chain told k c w why at is e work)

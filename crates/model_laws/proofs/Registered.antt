@@ -1,5 +1,6 @@
 -- Each step keeps brigades registered with their pools, those of its instance and of others.
-use Rattle.std.proofs.Common.{◌≡◌, ◌≢◌, ◌⊎◌, ℕ, ◌+◌, ◌<◌, Bool, true, false, ◌==◌, cond, List, [], ◌∷◌, ◌++◌, map, filter_map, Option, Some, None, inl, inr, refl, sym, ◌∙◌, ap, subst, arith, ne_eqb, eq-eqb}
+use Rattle.std.proofs.Common.{◌≡◌, ◌≢◌, ◌⊎◌, ℕ, ◌+◌, ◌<◌, Bool, true, false, ◌==◌, cond, List, [], ◌∷◌, ◌++◌, map, filter_map, Option, Some, None, inl, inr, refl, sym, ◌∙◌, ap, subst, arith, ne_eqb}
+use Rattle.std.proofs.Common.{eq-eqb}
 use Rattle.std.proofs.lemmas.Option.{same_Some}
 use Rattle.std.specs.Prelude.{count_by}
 use Rattle.std.specs.List.{list_any, sum_by}
@@ -25,7 +26,8 @@ use Rattle.run_model.specs.BucketSteps.{set_items, names_given}
 use Rattle.run_model.specs.Clearing.{is_reached, cleared_var, run_down}
 use Rattle.run_model.specs.State.{Instance, Configuration, items_of, set_pool, with_pools, set_brigade, set_loose, set_cursor, set_number, pool_named}
 use Rattle.run_model.specs.Faults.{WPool, fault_want, new_fault, or_else}
-use Rattle.run_model.specs.Steps.{Choice, step, on_pool, with_brigade, all_referred, do_create, do_pass, do_return, do_clean, do_concat, cleaned, handed_over, with_items, returned_var, made_on, new_ref, saved_into, pool_cleared, pool_destroyed, label_registered, label_killed, text_of}
+use Rattle.run_model.specs.Steps.{Choice, step, on_pool, with_brigade, all_referred, do_create, do_pass, do_return, do_clean, do_concat, cleaned, handed_over, with_items, returned_var, made_on}
+use Rattle.run_model.specs.Steps.{new_ref, saved_into, pool_cleared, pool_destroyed, label_registered, label_killed, text_of}
 use Rattle.run_model.specs.Chains.{is_under_named, cleared_by, touched_var, touched_instance}
 use Rattle.run_model.specs.Sound.{brigade_name, brigade_pool, SoundNames, Sound}
 use Rattle.model_laws.specs.Laws.{MayExecute, is_clear}
@@ -254,21 +256,25 @@ module _ (Others : ℕ → ℕ → Type 0) where
   held_itself : (n : ℕ) (r : Configuration) → ((p : ℕ) → times_held r.shared.pools r.shared.next p ≡ 0) → times_held (with_brigade (Some n) r.shared.next r.shared.pools) r.shared.next n ≡ 1
   unfolding with_brigade
   held_itself n r new =
-      let more : times_held (registered n (Brigade r.shared.next) r.shared.pools) r.shared.next n ≡ times_held r.shared.pools r.shared.next n + one_if r.shared.next (Brigade r.shared.next) = held_more n (Brigade r.shared.next) r.shared.pools r.shared.next in
+      let more : times_held (registered n (Brigade r.shared.next) r.shared.pools) r.shared.next n ≡ times_held r.shared.pools r.shared.next n + one_if r.shared.next (Brigade r.shared.next) =
+      held_more n (Brigade r.shared.next) r.shared.pools r.shared.next in
       let one : one_if r.shared.next (Brigade r.shared.next) ≡ 1 = ap (λ (b : Bool). cond b 1 0) (eq-eqb r.shared.next r.shared.next refl) in
       let none : times_held r.shared.pools r.shared.next n ≡ 0 = new n in
       omega arith
 
-  held_only_there : (on : Option ℕ) (p : ℕ) (r : Configuration) → ((q : ℕ) → times_held r.shared.pools r.shared.next q ≡ 0) → 0 < times_held (with_brigade on r.shared.next r.shared.pools) r.shared.next p → on ≡ Some p
+  held_only_there : (on : Option ℕ) (p : ℕ) (r : Configuration) → ((q : ℕ) → times_held r.shared.pools r.shared.next q ≡ 0)
+      → 0 < times_held (with_brigade on r.shared.next r.shared.pools) r.shared.next p → on ≡ Some p
   unfolding with_brigade
   held_only_there None p r new h = absurd (let none : times_held r.shared.pools r.shared.next p ≡ 0 = new p in omega arith)
   held_only_there (Some n) p r new h = elim (cases_eq p n) [
     | inl is ↦ ap (λ (k : ℕ). Some k) (sym is)
     | inr ne ↦ absurd (let none : times_held r.shared.pools r.shared.next p ≡ 0 = new p in
-        let same : times_held (registered n (Brigade r.shared.next) r.shared.pools) r.shared.next p ≡ times_held r.shared.pools r.shared.next p = held_elsewhere n (Brigade r.shared.next) r.shared.pools r.shared.next p ne in omega arith)
+        let same : times_held (registered n (Brigade r.shared.next) r.shared.pools) r.shared.next p ≡ times_held r.shared.pools r.shared.next p =
+        held_elsewhere n (Brigade r.shared.next) r.shared.pools r.shared.next p ne in omega arith)
   ]
 
-  made_registered : (p : Program) (o : ℕ) (r : Configuration) → new_fault (r.instance.brigades o) ≡ None → SoundNames r → ((name q : ℕ) → Others name q → name < r.shared.next) → With r → With (do_create p o r)
+  made_registered : (p : Program) (o : ℕ) (r : Configuration) → new_fault (r.instance.brigades o) ≡ None → SoundNames r → ((name q : ℕ) → Others name q → name < r.shared.next) → With r
+      → With (do_create p o r)
   unfolding set_brigade
   made_registered p o r free names given s = record { once = once; only = only } where
     on : Option ℕ
@@ -303,7 +309,8 @@ module _ (Others : ℕ → ℕ → Type 0) where
 
     only : (name q : ℕ) → 0 < times_held (with_brigade (pool_named r (pool_of_brigade p o)) r.shared.next r.shared.pools) name q → IsMadeOr Others (do_create p o r).instance name q
     only name q h = elim (cases_eq r.shared.next name) [
-      | inl is ↦ (let there = held_only_there (pool_named r (pool_of_brigade p o)) q r new (subst (λ (k : ℕ). 0 < times_held (with_brigade (pool_named r (pool_of_brigade p o)) r.shared.next r.shared.pools) k q) (sym is) h) in
+      | inl is ↦ (let there = held_only_there (pool_named r (pool_of_brigade p o)) q r new
+          (subst (λ (k : ℕ). 0 < times_held (with_brigade (pool_named r (pool_of_brigade p o)) r.shared.next r.shared.pools) k q) (sym is) h) in
           let at = upd_at r.instance.brigades o made in
           inl (o, ap brigade_name at ∙ ap (λ (k : ℕ). Some k) is, ap brigade_pool at ∙ there))
       | inr ne ↦ stays name q (s.only name q (subst (λ (k : ℕ). 0 < k) (held_made (pool_named r (pool_of_brigade p o)) r.shared.next r.shared.pools name q ne) h))
@@ -311,7 +318,8 @@ module _ (Others : ℕ → ℕ → Type 0) where
 
   returned_registered : (p : Program) (r : Configuration) → AsDeclared p r → With r → With (do_return r)
   returned_registered p r d s = kept r (do_return r) (still r.shared.pools) (λ b. left b (cases_eq b 8)) s where
-    at_in : (b : ℕ) (t : Bool) → (b == 8) ≡ t → (t ≡ true → SameBrigade (r.instance.brigades b) var.Null) → SameBrigade (r.instance.brigades b) (cond t var.Null (returned_var r.call.name (r.instance.brigades b)))
+    at_in : (b : ℕ) (t : Bool) → (b == 8) ≡ t → (t ≡ true → SameBrigade (r.instance.brigades b) var.Null)
+        → SameBrigade (r.instance.brigades b) (cond t var.Null (returned_var r.call.name (r.instance.brigades b)))
     at_in b true is null = null refl
     at_in b false is null = returned_same r.call.name (r.instance.brigades b)
 
@@ -324,12 +332,14 @@ module _ (Others : ℕ → ℕ → Type 0) where
   unfolding set_brigade with_pools
   saved_registered o b target r s =
       kept r (saved_into o b target r) (held_referred target (filter_map (new_ref r.shared.pools target) (items_of (r.instance.brigades b))) r.shared.pools)
-      (at_two SameBrigade r.instance.brigades b o (with_items [] (r.instance.brigades b)) (with_items _ (r.instance.brigades o)) (filled_same [] (r.instance.brigades b)) (filled_same _ (r.instance.brigades o)) same_brigade) s
+      (at_two SameBrigade r.instance.brigades b o (with_items [] (r.instance.brigades b)) (with_items _ (r.instance.brigades o)) (filled_same [] (r.instance.brigades b))
+      (filled_same _ (r.instance.brigades o)) same_brigade) s
 
   registered_frame : IsFrame With
   unfolding set_brigade set_loose set_number with_pools
   registered_frame = record {
-    items = λ b xs r s. kept r (set_items b xs r) (still r.shared.pools) (at_each SameBrigade r.instance.brigades b (with_items xs (r.instance.brigades b)) (filled_same xs (r.instance.brigades b)) same_brigade) s;
+    items = λ b xs r s. kept r (set_items b xs r) (still r.shared.pools)
+        (at_each SameBrigade r.instance.brigades b (with_items xs (r.instance.brigades b)) (filled_same xs (r.instance.brigades b)) same_brigade) s;
     loose = λ xs r s. kept r (set_loose xs r) (still r.shared.pools) (all_same r) s;
     numbers = λ n v r s. kept r (set_number n v r) (still r.shared.pools) (all_same r) s;
     buffer = λ bytes r s. kept r (with_buffer bytes r) (still r.shared.pools) (all_same r) s;
@@ -342,23 +352,29 @@ module _ (Others : ℕ → ℕ → Type 0) where
   registered_placed c v r s = kept r (set_cursor c v r) (still r.shared.pools) (all_same r) s
 
   -- all but clears
-  stays_registered : (p : Program) (choice : Choice) (i : Instr) (r : Configuration) → is_clear i ≡ false → MayExecute p r i → Sound r → AsDeclared p r → ((name q : ℕ) → Others name q → name < r.shared.next) → With r
+  stays_registered : (p : Program) (choice : Choice) (i : Instr) (r : Configuration) → is_clear i ≡ false → MayExecute p r i → Sound r → AsDeclared p r
+      → ((name q : ℕ) → Others name q → name < r.shared.next) → With r
       → With (step p choice i r).state
   unfolding set_brigade set_pool with_pools
   stays_registered p choice (instr.PCreate q) r on may sound d given s =
-      made_under_named With p q r s (λ parent e. kept r (set_pool q (poolvar.Made r.shared.pools.next) (with_pools (created parent r.shared.pools) r)) (held_created parent r.shared.pools sound.pools.formed) (all_same r) s)
+      made_under_named With p q r s
+      (λ parent e. kept r (set_pool q (poolvar.Made r.shared.pools.next) (with_pools (created parent r.shared.pools) r)) (held_created parent r.shared.pools sound.pools.formed) (all_same r) s)
   stays_registered p choice (instr.PClear q) r on may sound d given s = absurd (cc)
   stays_registered p choice (instr.PDestroy q) r on may sound d given s = absurd (cc)
   stays_registered p choice (instr.Label q t) r on may sound d given s =
-      on_named With (label_registered (text_of p t)) (pool_named r q) r s (λ n e. kept r (label_registered (text_of p t) n r) (λ name k. held_beside n (Label (text_of p t)) r.shared.pools name k refl) (all_same r) s)
-  stays_registered p choice (instr.Unlabel q t) r on may sound d given s = on_named With (label_killed (text_of p t)) (pool_named r q) r s (λ n e. kept r (label_killed (text_of p t) n r) (held_killed n (text_of p t) r.shared.pools) (all_same r) s)
+      on_named With (label_registered (text_of p t)) (pool_named r q) r s
+      (λ n e. kept r (label_registered (text_of p t) n r) (λ name k. held_beside n (Label (text_of p t)) r.shared.pools name k refl) (all_same r) s)
+  stays_registered p choice (instr.Unlabel q t) r on may sound d given s =
+      on_named With (label_killed (text_of p t)) (pool_named r q) r s (λ n e. kept r (label_killed (text_of p t) n r) (held_killed n (text_of p t) r.shared.pools) (all_same r) s)
   stays_registered p choice (instr.BCreate o) r on may sound d given s =
-      made_registered p o r (first_none (new_fault (r.instance.brigades o)) None (second_none (fault_want r (WPool (pool_of_brigade p o))) (or_else (new_fault (r.instance.brigades o)) None) may.faultless)) sound.names given s
+      made_registered p o r (first_none (new_fault (r.instance.brigades o)) None
+      (second_none (fault_want r (WPool (pool_of_brigade p o))) (or_else (new_fault (r.instance.brigades o)) None) may.faultless)) sound.names given s
   stays_registered p choice (instr.BClean b) r on may sound d given s =
       kept r (do_clean b r) (still r.shared.pools) (at_each SameBrigade r.instance.brigades b (cleaned (r.instance.brigades b)) (cleaned_same (r.instance.brigades b)) same_brigade) s
   stays_registered p choice (instr.BConcat a b) r on may sound d given s =
       kept r (do_concat a b r) (still r.shared.pools)
-      (at_two SameBrigade r.instance.brigades b a (with_items [] (r.instance.brigades b)) (with_items (items_of (r.instance.brigades a) ++ items_of (r.instance.brigades b)) (r.instance.brigades a)) (filled_same [] (r.instance.brigades b))
+      (at_two SameBrigade r.instance.brigades b a (with_items [] (r.instance.brigades b)) (with_items (items_of (r.instance.brigades a) ++ items_of (r.instance.brigades b)) (r.instance.brigades a))
+      (filled_same [] (r.instance.brigades b))
       (filled_same (items_of (r.instance.brigades a) ++ items_of (r.instance.brigades b)) (r.instance.brigades a)) same_brigade) s
   stays_registered p choice (instr.BSave o b) r on may sound d given s = on_named With (saved_into o b) (made_on (r.instance.brigades o)) r s (λ target e. saved_registered o b target r s)
   stays_registered p choice (instr.Pass b l) r on may sound d given s =
@@ -377,11 +393,13 @@ module _ (Others : ℕ → ℕ → Type 0) where
       (λ name q. either (IsMadeIn i name q) (IsMadeIn i name q) (Others name q) (Others name q × (false ≡ false)) (λ m. m) (λ o. (o, refl)))
       (λ name q. either (IsMadeIn i name q) (IsMadeIn i name q) (Others name q × (false ≡ false)) (Others name q) (λ m. m) (λ o. o.0)) s
 
-  went : (n : ℕ) (r new : Configuration) → Emptied n r.shared.pools new.shared.pools → ((b : ℕ) → Spared (is_under r.shared.pools n) (r.instance.brigades b) (new.instance.brigades b)) → With r → Left (is_under r.shared.pools n) new
+  went : (n : ℕ) (r new : Configuration) → Emptied n r.shared.pools new.shared.pools → ((b : ℕ) → Spared (is_under r.shared.pools n) (r.instance.brigades b) (new.instance.brigades b)) → With r
+      → Left (is_under r.shared.pools n) new
   unfolding Left
   went n r new e brigades s =
       went_as (IsMadeOr Others r.instance) (IsMadeOr (λ name q. Others name q × (is_under r.shared.pools n q ≡ false)) new.instance) n r.shared.pools new.shared.pools e stays left s where
-        stays : (name q : ℕ) → IsMadeOr Others r.instance name q → (is_under r.shared.pools n q ≡ false) → IsMadeOr (λ name q. Others name q × (is_under r.shared.pools n q ≡ false)) new.instance name q
+        stays : (name q : ℕ) → IsMadeOr Others r.instance name q → (is_under r.shared.pools n q ≡ false)
+            → IsMadeOr (λ name q. Others name q × (is_under r.shared.pools n q ≡ false)) new.instance name q
         stays name q (inl m) off = inl ((made_spared (is_under r.shared.pools n) r.instance new.instance brigades name q).0 m off)
         stays name q (inr o) off = inr (o, off)
 
@@ -396,7 +414,8 @@ module _ (Others : ℕ → ℕ → Type 0) where
   gone_registered gone (Some n) r e left s = went n r (gone n r) (e n) (left n) s
 
 -- What a step leaves, where others hold brigades whose names were given out.
-pub step_leaves : (Others : ℕ → ℕ → Type 0) (p : Program) (choice : Choice) (i : Instr) (r : Configuration) → MayExecute p r i → Sound r → AsDeclared p r → ((name q : ℕ) → Others name q → name < r.shared.next)
+pub step_leaves : (Others : ℕ → ℕ → Type 0) (p : Program) (choice : Choice) (i : Instr) (r : Configuration) → MayExecute p r i → Sound r → AsDeclared p r
+    → ((name q : ℕ) → Others name q → name < r.shared.next)
     → AreRegistered (IsMadeOr Others r.instance) r.shared.pools
     → (let s = (step p choice i r).state in AreRegistered (IsMadeOr (λ name q. Others name q × (takes_from r i q ≡ false)) s.instance) s.shared.pools)
 unfolding Left run_down with_pools
@@ -426,7 +445,8 @@ step_registered others p choice i r may sound d given s =
     let t = (step p choice i r).state in
     let new : ℕ → Instance = λ k. touched_instance (touched_var r i) (others k) in
     kept_as (IsMadeOr (λ name q. IsMadeInOne others name q × (takes_from r i q ≡ false)) t.instance) (IsMadeWith new t.instance) t.shared.pools t.shared.pools (still t.shared.pools)
-    (λ name q. either (IsMadeIn t.instance name q) (IsMadeIn t.instance name q) (IsMadeInOne others name q × (takes_from r i q ≡ false)) (IsMadeInOne new name q) (λ m. m) (λ o. (o.0.0, (touched_made r i (others o.0.0) name q).0 o.0.1 o.1)))
+    (λ name q. either (IsMadeIn t.instance name q) (IsMadeIn t.instance name q) (IsMadeInOne others name q × (takes_from r i q ≡ false)) (IsMadeInOne new name q) (λ m. m)
+    (λ o. (o.0.0, (touched_made r i (others o.0.0) name q).0 o.0.1 o.1)))
     (λ name q. either (IsMadeIn t.instance name q) (IsMadeIn t.instance name q) (IsMadeInOne new name q) (IsMadeInOne others name q × (takes_from r i q ≡ false)) (λ m. m)
     (λ o. (let old = (touched_made r i (others o.0) name q).1 o.1 in ((o.0, old.0), old.1))))
     (step_leaves (IsMadeInOne others) p choice i r may sound d (λ name q o. given o.0 o.1.0 name o.1.1) s)

@@ -1,5 +1,6 @@
 -- How many buckets of a name there are where the buckets of one brigade change, or the loose ones.
-use Rattle.std.proofs.Common.{◌≡◌, ℕ, ◌+◌, ◌^◌, ◌<◌, ◌≤◌, Bool, true, false, ◌==◌, cond, nat_le, nat_lt, List, [], ◌∷◌, ◌++◌, Option, Some, None, is_some, inl, inr, refl, sym, ◌∙◌, ap, subst, arith, ne_eqb}
+use Rattle.std.proofs.Common.{◌≡◌, ℕ, ◌+◌, ◌^◌, ◌<◌, ◌≤◌, Bool, true, false, ◌==◌, cond, nat_le, nat_lt, List, [], ◌∷◌, ◌++◌, Option, Some, None, is_some, inl, inr, refl, sym, ◌∙◌, ap, subst, arith}
+use Rattle.std.proofs.Common.{ne_eqb}
 use Rattle.std.proofs.lemmas.Bool.Decides.{nat_tests, eqb_tells}
 use Rattle.run_model.specs.declared.bucket.Bucket.{Bucket}
 use Rattle.run_model.specs.declared.bucket.Content.{Content}
@@ -10,7 +11,8 @@ use Rattle.run_model.specs.declared.bucket.Cursor.{Cursor}
 use Rattle.run_model.specs.declared.bucket.Cursor.TheVariants as cursor
 use Rattle.run_model.specs.Indexed.{upd}
 use Rattle.run_model.specs.Cutting.{read_of, read_as, read_limit}
-use Rattle.run_model.specs.BrigadeLists.{buckets_before, buckets_from, first_bucket, bucket_named, taken_out, put_head, put_tail, put_before, stays, moves, bucket_across, partitioned, SplitRefusal, split_refusal, bucket_split}
+use Rattle.run_model.specs.BrigadeLists.{buckets_before, buckets_from, first_bucket, bucket_named, taken_out, put_head, put_tail, put_before, stays, moves, bucket_across, partitioned, SplitRefusal}
+use Rattle.run_model.specs.BrigadeLists.{split_refusal, bucket_split}
 use Rattle.model_laws.specs.BrigadeLaws.{SameBytes, may_split}
 use Rattle.run_model.specs.State.{Configuration, items_of, set_brigade, set_loose, set_cursor, with_pools}
 use Rattle.run_model.specs.Effects.{with_items, aside_named}
@@ -18,7 +20,9 @@ use Rattle.run_model.specs.Cursors.{Place, AtLoose, Within, read_cursor}
 use Rattle.run_model.specs.declared.effect.Side.{Side}
 use Rattle.run_model.specs.declared.effect.Side.TheVariants.{AtTail, AtHead}
 use Rattle.run_model.specs.Steps.{put_at}
-use Rattle.run_model.specs.BucketSteps.{set_items, items_at, do_unlink, do_delete, put_into, do_before, name_given, names_given, new_loose, do_make, names_to_split, split_there, do_split, changed_at, aside_into, read_given, rest_named, first_read, bucket_read, has_rest, names_if, names_to_read, read_within, do_read, place_at, do_bsplit, names_to_part, do_bpart}
+use Rattle.run_model.specs.BucketSteps.{set_items, items_at, do_unlink, do_delete, put_into, do_before, name_given, names_given, new_loose, do_make, names_to_split, split_there, do_split, changed_at}
+use Rattle.run_model.specs.BucketSteps.{aside_into, read_given, rest_named, first_read, bucket_read, has_rest, names_if, names_to_read, read_within, do_read, place_at, do_bsplit, names_to_part}
+use Rattle.run_model.specs.BucketSteps.{do_bpart}
 use Rattle.run_model.specs.Sound.{NamesStep, sum_below, count_named, count}
 use Rattle.run_model.proofs.Sums.{sum_below_upd}
 use Rattle.run_model.proofs.Names.{count_none, count_append, count_cons, count_map, Carried, carried_same, filled_carried, filled_items, at_each}
@@ -56,7 +60,8 @@ pub slot_counts : (b : ℕ) (items : List NamedBucket) (r : Configuration) (n : 
 unfolding set_brigade
 slot_counts b items r n lt =
     let filled : BrigadeVar = with_items items (r.instance.brigades b) in
-    let all : sum_below 9 (λ k. count_named n (items_of (upd r.instance.brigades b filled k))) + count_named n (items_at r b) ≡ sum_below 9 (λ k. count_named n (items_at r k)) + count_named n (items_of filled)
+    let all : sum_below 9 (λ k. count_named n (items_of (upd r.instance.brigades b filled k))) + count_named n (items_at r b) ≡ sum_below 9 (λ k. count_named n (items_at r k)) + count_named n
+    (items_of filled)
     = sum_below_upd 9 b r.instance.brigades filled (λ x. count_named n (items_of x)) lt in
     let most : count_named n (items_of filled) ≤ count_named n items = filled_items n items (r.instance.brigades b) in
     omega arith
@@ -109,14 +114,17 @@ delete_names (Within b x) r at limit = rising_names r _ (slot_carried b (taken_o
 delete_names (AtLoose x) r at limit = rising_names r _ (all_carried r) (omega arith) limit (λ n. no_more _ _ n _ _ (omega (arith, taken_counts n x r.call.loose at)))
 delete_names s r at limit = rising_names r r (all_carried r) (omega arith) limit (λ n. no_more _ _ n _ _ (omega arith))
 
-put_names : (insert : NamedBucket → List NamedBucket → List NamedBucket) (b : ℕ) (s : Place) (r : Configuration) → AddsOne insert → b < 9 → Stands r s → r.shared.next < 2 ^ 64 → NamesStep r (put_into insert b s r)
+put_names : (insert : NamedBucket → List NamedBucket → List NamedBucket) (b : ℕ) (s : Place) (r : Configuration) → AddsOne insert → b < 9 → Stands r s → r.shared.next < 2 ^ 64
+    → NamesStep r (put_into insert b s r)
 unfolding set_brigade set_loose
-put_names insert b (AtLoose x) r adds lt at limit = rising_names r _ (slot_carried b (insert x (items_at r b)) (set_loose (taken_out x.name r.call.loose) r)) (omega arith) limit (λ n. no_more _ _ n _ _ (fewer n)) where
-  fewer : (n : ℕ) → count (put_into insert b (AtLoose x) r) n ≤ count r n
-  fewer n =
-      let left : Configuration = set_loose (taken_out x.name r.call.loose) r in
-      let slot : count (set_items b (insert x (items_at r b)) left) n + count_named n (items_at r b) ≤ count left n + count_named n (insert x (items_at r b)) = slot_counts b (insert x (items_at r b)) left n lt in
-      omega (arith, slot, taken_counts n x r.call.loose at, adds x (items_at r b) n)
+put_names insert b (AtLoose x) r adds lt at limit =
+    rising_names r _ (slot_carried b (insert x (items_at r b)) (set_loose (taken_out x.name r.call.loose) r)) (omega arith) limit (λ n. no_more _ _ n _ _ (fewer n)) where
+      fewer : (n : ℕ) → count (put_into insert b (AtLoose x) r) n ≤ count r n
+      fewer n =
+          let left : Configuration = set_loose (taken_out x.name r.call.loose) r in
+          let slot : count (set_items b (insert x (items_at r b)) left) n + count_named n (items_at r b) ≤ count left n + count_named n (insert x (items_at r b)) =
+          slot_counts b (insert x (items_at r b)) left n lt in
+          omega (arith, slot, taken_counts n x r.call.loose at, adds x (items_at r b) n)
 put_names insert b s r adds lt at limit = rising_names r r (all_carried r) (omega arith) limit (λ n. no_more _ _ n _ _ (omega arith))
 
 pub insert_names : (side : Side) (b : ℕ) (s : Place) (r : Configuration) → b < 9 → Stands r s → r.shared.next < 2 ^ 64 → NamesStep r (put_into (put_at side) b s r)
@@ -143,21 +151,24 @@ bsplit_names b place a r lt below limit = rising_names r _ carried (omega arith)
   fewer n =
       let cut : Configuration = set_items b (stays (place_at place) (items_at r b)) r in
       let first : count cut n + count_named n (items_at r b) ≤ count r n + count_named n (stays (place_at place) (items_at r b)) = slot_counts b (stays (place_at place) (items_at r b)) r n lt in
-      let second : count (do_bsplit b place a r) n + count_named n (items_at cut a) ≤ count cut n + count_named n (moves (place_at place) (items_at r b)) = slot_counts a (moves (place_at place) (items_at r b)) cut n below in
+      let second : count (do_bsplit b place a r) n + count_named n (items_at cut a) ≤ count cut n + count_named n (moves (place_at place) (items_at r b)) =
+      slot_counts a (moves (place_at place) (items_at r b)) cut n below in
       omega (arith, first, second, count_append n (stays (place_at place) (items_at r b)) (moves (place_at place) (items_at r b)), ap (count_named n) (brigade_splits_in_order (place_at place) (items_at r b)))
 
 -- the buckets of b become these, of which the new name is one's at most
 remade_names : (b names : ℕ) (items : List NamedBucket) (r : Configuration) → b < 9 → r.shared.next + names < 2 ^ 64
     → ((n : ℕ) → Rises r.shared.next (r.shared.next + names) n (count_named n (items_at r b)) (count_named n items)) → NamesStep r (set_items b items (names_given names r))
 unfolding set_brigade
-remade_names b names items r lt limit same = rising_names r (set_items b items (names_given names r)) (slot_carried b items r) (omega arith) limit (λ n. remade n (same n) (slot_counts b items r n lt)) where
-  remade : (n : ℕ) → Rises r.shared.next (r.shared.next + names) n (count_named n (items_at r b)) (count_named n items) → count (set_items b items r) n + count_named n (items_at r b) ≤ count r n + count_named n items
-      → Rises r.shared.next (r.shared.next + names) n (count r n) (count (set_items b items r) n)
-  remade n h slot = record {
-    kept = λ lt. (let less : count_named n items ≤ count_named n (items_at r b) = h.kept lt in omega arith);
-    given = (let less : count_named n items ≤ count_named n (items_at r b) + 1 = h.given in omega arith);
-    later = λ le. (let less : count_named n items ≤ count_named n (items_at r b) = h.later le in omega arith);
-  }
+remade_names b names items r lt limit same =
+    rising_names r (set_items b items (names_given names r)) (slot_carried b items r) (omega arith) limit (λ n. remade n (same n) (slot_counts b items r n lt)) where
+      remade : (n : ℕ) → Rises r.shared.next (r.shared.next + names) n (count_named n (items_at r b)) (count_named n items)
+          → count (set_items b items r) n + count_named n (items_at r b) ≤ count r n + count_named n items
+          → Rises r.shared.next (r.shared.next + names) n (count r n) (count (set_items b items r) n)
+      remade n h slot = record {
+        kept = λ lt. (let less : count_named n items ≤ count_named n (items_at r b) = h.kept lt in omega arith);
+        given = (let less : count_named n items ≤ count_named n (items_at r b) + 1 = h.given in omega arith);
+        later = λ le. (let less : count_named n items ≤ count_named n (items_at r b) = h.later le in omega arith);
+      }
 
 same_rises : (new n : ℕ) (old left : List NamedBucket) → SameBytes new old left → Rises new (new + 1) n (count_named n old) (count_named n left)
 same_rises new n old left s = elim (eqb_tells n new) [
@@ -182,7 +193,8 @@ unfolding set_brigade
 split_names n (Within b x) r at limit = by_refusal (split_refusal n x) refl limit where
   by_refusal : (o : Option SplitRefusal) → split_refusal n x ≡ o → r.shared.next + cond (is_some o) 0 1 < 2 ^ 64 → NamesStep r (cond (is_some o) r (split_there n (Within b x) r))
   by_refusal (Some k) is limit = rising_names r r (all_carried r) (omega arith) (omega arith) (λ n. no_more _ _ n _ _ (omega arith))
-  by_refusal None is limit = remade_names b 1 (bucket_split r.shared.next x.name n (items_at r b)) r at.0 limit (λ m. same_rises r.shared.next m (items_at r b) _ (split_keeps_bytes r.shared.next x.name n (items_at r b) (subst (may_split n) (sym at.1) is)))
+  by_refusal None is limit = remade_names b 1 (bucket_split r.shared.next x.name n (items_at r b)) r at.0 limit
+      (λ m. same_rises r.shared.next m (items_at r b) _ (split_keeps_bytes r.shared.next x.name n (items_at r b) (subst (may_split n) (sym at.1) is)))
 split_names n s r at limit = rising_names r r (all_carried r) (omega arith) (omega arith) (λ n. no_more _ _ n _ _ (omega arith))
 
 at_most : (c : Bool) → cond c 1 0 ≤ 1
@@ -198,7 +210,8 @@ rest_rises new n bytes b = of_content b.content where
   one : (rest : Bucket) → Rises new (new + 1) n 0 (count_named n (record { name = new; bucket = rest } ∷ []))
   one rest = elim (eqb_tells n new) [
     | inl p ↦ one_more _ _ n _ _ (omega (arith, p.1)) (omega (arith, p.1)) (omega (arith, at_most (new == n), count_cons n (record { name = new; bucket = rest }) [], count_none n))
-    | inr p ↦ no_more _ _ n _ _ (let other : ◌≡◌ {A = ℕ} (cond (new == n) 1 0) 0 = ap (λ (c : Bool). cond c 1 0) (ne_eqb new n (λ e. p.1 (sym e))) in omega (arith, other, count_cons n (record { name = new; bucket = rest }) [], count_none n))
+    | inr p ↦ no_more _ _ n _ _ (let other : ◌≡◌ {A = ℕ} (cond (new == n) 1 0) 0 = ap (λ (c : Bool). cond c 1 0) (ne_eqb new n (λ e. p.1 (sym e))) in
+        omega (arith, other, count_cons n (record { name = new; bucket = rest }) [], count_none n))
   ]
 
   longer : (len limit : ℕ) → nat_le len limit ≡ false → nat_lt limit len ≡ true
@@ -221,15 +234,19 @@ read_counts new n bytes x bs is = omega (arith, count_append n (buckets_before x
   of_first [] is = absurd (cc)
   of_first (y ∷ ys) is =
       let same : y ≡ x = cc in
-      let rest : count_named n (rest_named new (read_of bytes y.bucket).1) ≡ count_named n (rest_named new (read_of bytes x.bucket).1) = ap (λ (z : NamedBucket). count_named n (rest_named new (read_of bytes z.bucket).1)) same in
+      let rest : count_named n (rest_named new (read_of bytes y.bucket).1) ≡ count_named n (rest_named new (read_of bytes x.bucket).1) =
+      ap (λ (z : NamedBucket). count_named n (rest_named new (read_of bytes z.bucket).1)) same in
       omega (arith, rest, count_cons n (record y { bucket = (read_of bytes y.bucket).0 }) (rest_named new (read_of bytes y.bucket).1 ++ ys), count_append n (rest_named new (read_of bytes y.bucket).1) ys, count_cons n y ys)
 
 pub read_names : (given : Option (List ℕ)) (s : Place) (r : Configuration) → Stands r s → r.shared.next + names_to_read s < 2 ^ 64 → NamesStep r (do_read given s r)
 read_names given (Within b x) r at limit = by_given (read_given given x.bucket.content) where
-  rises : (bytes : List ℕ) (n : ℕ) → Rises r.shared.next (r.shared.next + names_if (has_rest x.bucket.content)) n (count_named n (items_at r b)) (count_named n (bucket_read r.shared.next x.name bytes (items_at r b)))
+  rises : (bytes : List ℕ) (n : ℕ)
+      → Rises r.shared.next (r.shared.next + names_if (has_rest x.bucket.content)) n (count_named n (items_at r b)) (count_named n (bucket_read r.shared.next x.name bytes (items_at r b)))
   rises bytes n =
-      let h : Rises r.shared.next (r.shared.next + names_if (has_rest x.bucket.content)) n 0 (count_named n (rest_named r.shared.next (read_of bytes x.bucket).1)) = rest_rises r.shared.next n bytes x.bucket in
-      let all : count_named n (bucket_read r.shared.next x.name bytes (items_at r b)) ≡ count_named n (items_at r b) + count_named n (rest_named r.shared.next (read_of bytes x.bucket).1) = read_counts r.shared.next n bytes x (items_at r b) at.1 in
+      let h : Rises r.shared.next (r.shared.next + names_if (has_rest x.bucket.content)) n 0 (count_named n (rest_named r.shared.next (read_of bytes x.bucket).1)) =
+      rest_rises r.shared.next n bytes x.bucket in
+      let all : count_named n (bucket_read r.shared.next x.name bytes (items_at r b)) ≡ count_named n (items_at r b) + count_named n (rest_named r.shared.next (read_of bytes x.bucket).1) =
+      read_counts r.shared.next n bytes x (items_at r b) at.1 in
       record {
         kept = λ lt. omega (arith, all, h.kept lt);
         given = omega (arith, all, h.given);
@@ -238,20 +255,23 @@ read_names given (Within b x) r at limit = by_given (read_given given x.bucket.c
 
   by_given : (o : Option (List ℕ)) → NamesStep r (read_within b x o r)
   by_given None = cursor_names read_cursor cursor.Unset r r (rising_names r r (all_carried r) (omega arith) (omega arith) (λ n. no_more _ _ n _ _ (omega arith)))
-  by_given (Some bytes) = cursor_names read_cursor (cursor.At x.name) r _ (remade_names b (names_if (has_rest x.bucket.content)) (bucket_read r.shared.next x.name bytes (items_at r b)) r at.0 limit (rises bytes))
+  by_given (Some bytes) =
+      cursor_names read_cursor (cursor.At x.name) r _ (remade_names b (names_if (has_rest x.bucket.content)) (bucket_read r.shared.next x.name bytes (items_at r b)) r at.0 limit (rises bytes))
 read_names given s r at limit = rising_names r r (all_carried r) (omega arith) (omega arith) (λ n. no_more _ _ n _ _ (omega arith))
 
 -- a new loose bucket
 pub new_names : (c : ℕ) (b : Bucket) (r : Configuration) → r.shared.next + 1 < 2 ^ 64 → NamesStep r (new_loose c b r)
 unfolding set_loose
-new_names c b r limit = cursor_names c (cursor.At r.shared.next) r _ (rising_names r (set_loose (put_tail (record { name = r.shared.next; bucket = b }) r.call.loose) (name_given r)) (all_carried r) (omega arith) limit rises) where
-  rises : (n : ℕ) → Rises r.shared.next (r.shared.next + 1) n (count r n) (count (set_loose (put_tail (record { name = r.shared.next; bucket = b }) r.call.loose) (name_given r)) n)
-  rises n =
-      let all : count_named n (put_tail (record { name = r.shared.next; bucket = b }) r.call.loose) ≡ cond (r.shared.next == n) 1 0 + count_named n r.call.loose = tail_counts (record { name = r.shared.next; bucket = b }) r.call.loose n in
-      elim (eqb_tells n r.shared.next) [
-        | inl p ↦ one_more _ _ n _ _ (omega (arith, p.1)) (omega (arith, p.1)) (omega (arith, all, at_most (r.shared.next == n)))
-        | inr p ↦ no_more _ _ n _ _ (let other : ◌≡◌ {A = ℕ} (cond (r.shared.next == n) 1 0) 0 = ap (λ (c : Bool). cond c 1 0) (ne_eqb r.shared.next n (λ e. p.1 (sym e))) in omega (arith, all, other))
-      ]
+new_names c b r limit = cursor_names c (cursor.At r.shared.next) r _
+    (rising_names r (set_loose (put_tail (record { name = r.shared.next; bucket = b }) r.call.loose) (name_given r)) (all_carried r) (omega arith) limit rises) where
+      rises : (n : ℕ) → Rises r.shared.next (r.shared.next + 1) n (count r n) (count (set_loose (put_tail (record { name = r.shared.next; bucket = b }) r.call.loose) (name_given r)) n)
+      rises n =
+          let all : count_named n (put_tail (record { name = r.shared.next; bucket = b }) r.call.loose) ≡ cond (r.shared.next == n) 1 0 + count_named n r.call.loose =
+          tail_counts (record { name = r.shared.next; bucket = b }) r.call.loose n in
+          elim (eqb_tells n r.shared.next) [
+            | inl p ↦ one_more _ _ n _ _ (omega (arith, p.1)) (omega (arith, p.1)) (omega (arith, all, at_most (r.shared.next == n)))
+            | inr p ↦ no_more _ _ n _ _ (let other : ◌≡◌ {A = ℕ} (cond (r.shared.next == n) 1 0) 0 = ap (λ (c : Bool). cond c 1 0) (ne_eqb r.shared.next n (λ e. p.1 (sym e))) in omega (arith, all, other))
+          ]
 
 -- a bucket that is made, where it is
 pub make_names : (c : ℕ) (o : Option Bucket) (r : Configuration) → r.shared.next + 1 < 2 ^ 64 → NamesStep r (do_make c o r)
@@ -271,7 +291,8 @@ aside_names (Within b x) target r at limit =
     rising_names r _ (slot_carried b (changed_at x.name (aside_named r.shared.pools target) (items_at r b)) r) (omega arith) limit (λ n. no_more _ _ n _ _ (fewer n)) where
       fewer : (n : ℕ) → count (aside_into (Within b x) target r) n ≤ count r n
       fewer n =
-          let slot : count (set_items b (changed_at x.name (aside_named r.shared.pools target) (items_at r b)) r) n + count_named n (items_at r b) ≤ count r n + count_named n (changed_at x.name (aside_named r.shared.pools target) (items_at r b))
+          let slot : count (set_items b (changed_at x.name (aside_named r.shared.pools target) (items_at r b)) r) n + count_named n (items_at r b) ≤ count r n + count_named n
+          (changed_at x.name (aside_named r.shared.pools target) (items_at r b))
           = slot_counts b (changed_at x.name (aside_named r.shared.pools target) (items_at r b)) r n at.0 in
           omega (arith, slot, changed_counts x.name n (aside_named r.shared.pools target) (λ y. refl) (items_at r b))
 aside_names (AtLoose x) target r at limit =

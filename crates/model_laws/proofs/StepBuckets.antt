@@ -62,7 +62,8 @@ pub returned_proper : (call : ℕ) (b : NamedBucket) → IsProper b → IsProper
 returned_proper call b e = record { holds = e.holds; lives = home_call call b.bucket.kind b.bucket.home e.lives }
 
 pub cleared_proper : (reached : ℕ → Bool) (b : NamedBucket) → IsProper b → IsProper (cleared_bucket reached b)
-cleared_proper reached b e = heap_fits reached b.bucket.kind b.bucket.content (end_pools reached b.bucket.home) (record { holds = e.holds; lives = home_pools reached b.bucket.kind b.bucket.home e.lives })
+cleared_proper reached b e =
+    heap_fits reached b.bucket.kind b.bucket.content (end_pools reached b.bucket.home) (record { holds = e.holds; lives = home_pools reached b.bucket.kind b.bucket.home e.lives })
 
 -- Lists and variables.
 
@@ -100,7 +101,8 @@ pub keeps_buckets : (r new : Configuration)
 keeps_buckets r new slots loose s = record { brigades = λ b. slots b (s.brigades b); loose = loose s.loose }
 
 -- a bucket that is set aside, of its parts
-aside_parts : (target : ℕ) (above : Bool) (k : Kind) (c : Content) (h : Home) → FitsKind (record { kind = k; content = c; home = h }) → FitsKind (set_aside target above (record { kind = k; content = c; home = h }))
+aside_parts : (target : ℕ) (above : Bool) (k : Kind) (c : Content) (h : Home) → FitsKind (record { kind = k; content = c; home = h })
+    → FitsKind (set_aside target above (record { kind = k; content = c; home = h }))
 aside_parts target above kind.Transient c h e = record { holds = e.holds; lives = tt }
 aside_parts target true kind.File c h e = e
 aside_parts target false kind.File c h e = record { holds = e.holds; lives = tt }

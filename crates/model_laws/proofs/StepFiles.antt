@@ -1,7 +1,7 @@
 -- A step keeps the files of FILE buckets open.
-use Rattle.std.proofs.Common.{◌≡◌, ℕ, ◌<◌, ◌⊎◌, arith, eqb-true, Bool, true, false, ◌||◌, ◌==◌, cond, List, [], ◌≤◌, ◌∷◌, map, filter_map, Option, Some, None, is_some, All, inl, inr, refl, sym, ◌∙◌, ap, subst}
-use Rattle.std.specs.List.{cons_option}
-use Rattle.std.specs.List.{list_any}
+use Rattle.std.proofs.Common.{◌≡◌, ℕ, ◌<◌, ◌⊎◌, arith, eqb-true, Bool, true, false, ◌||◌, ◌==◌, cond, List, [], ◌≤◌, ◌∷◌, map, filter_map, Option, Some, None, is_some, All, inl, inr, refl, sym, ◌∙◌}
+use Rattle.std.proofs.Common.{ap, subst}
+use Rattle.std.specs.List.{cons_option, list_any}
 use Rattle.std.proofs.lemmas.Bool.Decides.{nat_tests}
 use Rattle.std.proofs.lemmas.List.Elements.{All-nil, All-cons, All-head, All-tail}
 use Rattle.module_code.specs.declared.instr.PoolRef.{PoolRef}
@@ -31,7 +31,8 @@ use Rattle.run_model.specs.Clearing.{run_down}
 use Rattle.run_model.specs.State.{Configuration, items_of, set_pool, with_pools, set_brigade, set_loose, pool_named}
 use Rattle.run_model.specs.Faults.{WPool, WCursor, OnBucket, usable_fault, homes_fault, home_fault, or_else, fault_want}
 use Rattle.run_model.specs.EffectOf.{effect_of}
-use Rattle.run_model.specs.Steps.{on_pool, with_brigade, do_create, do_clean, do_concat, do_pass, do_return, cleaned, handed_over, pool_cleared, pool_destroyed, files_let_go, label_registered, label_killed, text_of, is_above, aside_named, file_of, new_ref, all_referred, saved_into, made_on}
+use Rattle.run_model.specs.Steps.{on_pool, with_brigade, do_create, do_clean, do_concat, do_pass, do_return, cleaned, handed_over, pool_cleared, pool_destroyed, files_let_go, label_registered}
+use Rattle.run_model.specs.Steps.{label_killed, text_of, is_above, aside_named, file_of, new_ref, all_referred, saved_into, made_on}
 use Rattle.run_model.specs.Pieces.{has_range}
 use Rattle.run_model.specs.Sound.{SoundPools, SoundBuckets, Sound, count_named}
 use Rattle.run_model.specs.BrigadeLists.{bucket_named}
@@ -50,7 +51,8 @@ use Rattle.model_laws.proofs.EachItem.{none, cleaned_each, handed_over_each, wri
 use Rattle.model_laws.proofs.Marks.{first_none, second_none}
 use Rattle.model_laws.proofs.Kept.{files_go}
 use Rattle.model_laws.proofs.MadeBrigades.{brigade_refers, brigade_back}
-use Rattle.run_model.proofs.References.{one_of, or_left, or_right, refers_given, referred_at, created_refers, created_back, registered_refers, registered_back, all_grow, all_there, all_back, killed_refers, Emptied, emptied_refers, emptied_back}
+use Rattle.run_model.proofs.References.{one_of, or_left, or_right, refers_given, referred_at, created_refers, created_back, registered_refers, registered_back, all_grow, all_there, all_back}
+use Rattle.run_model.proofs.References.{killed_refers, Emptied, emptied_refers, emptied_back}
 
 -- Lists and variables.
 
@@ -105,7 +107,8 @@ pub same_files : (files : List (ℕ × ℕ)) (r new : Configuration) → new.sha
 same_files files r new pools opened req brigades loose s =
     kept_files files r new (λ p file h. subst (λ (ps : Pools Payload). refers ps p file ≡ true) (sym pools) h)
     (λ p file h. ap (λ (g : ℕ → Option (List ℕ)). is_some (g file)) opened ∙ s.lasts p file (subst (λ (ps : Pools Payload). refers ps p file ≡ true) pools h))
-    (λ b. subst (λ (ps : Pools Payload). HeldList ps (items_of (new.instance.brigades b))) (sym pools) (brigades b)) (subst (λ (ps : Pools Payload). HeldList ps new.call.loose) (sym pools) loose) req s
+    (λ b. subst (λ (ps : Pools Payload). HeldList ps (items_of (new.instance.brigades b))) (sym pools) (brigades b))
+    (subst (λ (ps : Pools Payload). HeldList ps new.call.loose) (sym pools) loose) req s
 
 -- where brigades, loose buckets and open files are as they were, and no reference goes or comes
 pub refilled_files : (files : List (ℕ × ℕ)) (r new : Configuration)
@@ -147,7 +150,8 @@ emptied_files : (files : List (ℕ × ℕ)) (q : ℕ) (r : Configuration) → So
     → SoundFiles files (on_pool pool_cleared (pool_named r (pool.Own q)) r) × SoundFiles files (on_pool pool_destroyed (pool_named r (pool.Own q)) r)
 emptied_files files q r s held = on_emptied (SoundFiles files) q r held (λ n left e so. went_files files n r left so.payloads s (own_apart q n r (own_named q n r e) s) held)
 
-made_files : (files : List (ℕ × ℕ)) (parent q : ℕ) (r : Configuration) → SoundPools r → SoundFiles files r → SoundFiles files (set_pool q (poolvar.Made r.shared.pools.next) (with_pools (created parent r.shared.pools) r))
+made_files : (files : List (ℕ × ℕ)) (parent q : ℕ) (r : Configuration) → SoundPools r → SoundFiles files r
+    → SoundFiles files (set_pool q (poolvar.Made r.shared.pools.next) (with_pools (created parent r.shared.pools) r))
 unfolding set_pool with_pools
 made_files files parent q r pools s =
     refilled_files files r (set_pool q (poolvar.Made r.shared.pools.next) (with_pools (created parent r.shared.pools) r))
@@ -216,12 +220,14 @@ refs_open ps target file Q lasts [] proper live held h = absurd (cc)
 refs_open ps target file Q lasts (x ∷ xs) proper live held h =
     let alive = neither (is_dead x) (list_any is_dead xs) live in
     elim (any_cons (new_ref ps target x) (filter_map (new_ref ps target) xs) file h) [
-      | inl here ↦ ref_open ps target file Q lasts x.name x.bucket.kind x.bucket.content x.bucket.home (All-head (λ x. FitsKind x.bucket) x xs proper).lives alive.0 (All-head (HasReference ps) x xs held) here
+      | inl here ↦ ref_open ps target file Q lasts x.name x.bucket.kind x.bucket.content x.bucket.home (All-head (λ x. FitsKind x.bucket) x xs proper).lives alive.0
+          (All-head (HasReference ps) x xs held) here
       | inr there ↦ refs_open ps target file Q lasts xs (All-tail (λ x. FitsKind x.bucket) x xs proper) alive.1 (All-tail (HasReference ps) x xs held) there
     ]
 
 -- a bucket that is set aside is held, where the file that it asks for has a reference in the target
-aside_one : (ps new : Pools Payload) (target name : ℕ) → ((p file : ℕ) → refers ps p file ≡ true → refers new p file ≡ true) → (k : Kind) (c : Content) (h : Home) (above : Bool) → is_above ps target h ≡ above
+aside_one : (ps new : Pools Payload) (target name : ℕ) → ((p file : ℕ) → refers ps p file ≡ true → refers new p file ≡ true) → (k : Kind) (c : Content) (h : Home) (above : Bool)
+    → is_above ps target h ≡ above
     → HasReference ps (record { name = name; bucket = record { kind = k; content = c; home = h } })
     → ((file : ℕ) → cond (is_above ps target h) None (file_of k c) ≡ Some file → refers new target file ≡ true)
     → HasReference new (record { name = name; bucket = set_aside target above (record { kind = k; content = c; home = h }) })
@@ -242,7 +248,8 @@ aside_held ps new target grow (x ∷ xs) held asked =
     (λ file e. asked file (head_any (new_ref ps target x) (filter_map (new_ref ps target) xs) file e)))
     (aside_held ps new target grow xs (All-tail (HasReference ps) x xs held) (λ file h. asked file (tail_any (new_ref ps target x) (filter_map (new_ref ps target) xs) file h)))
 
-save_files : (files : List (ℕ × ℕ)) (o b target : ℕ) (r : Configuration) → SoundBuckets r → list_any is_dead (items_of (r.instance.brigades b)) ≡ false → SoundFiles files r → SoundFiles files (saved_into o b target r)
+save_files : (files : List (ℕ × ℕ)) (o b target : ℕ) (r : Configuration) → SoundBuckets r → list_any is_dead (items_of (r.instance.brigades b)) ≡ false → SoundFiles files r
+    → SoundFiles files (saved_into o b target r)
 unfolding set_brigade with_pools
 save_files files o b target r buckets live s =
     let ps = r.shared.pools in
@@ -268,7 +275,8 @@ concat_files files a b r s =
 
 -- one variable is written
 pub written_files : (files : List (ℕ × ℕ)) (r new : Configuration) (i : ℕ) (w : BrigadeVar) → new.instance.brigades ≡ upd r.instance.brigades i w → HeldList r.shared.pools (items_of w)
-    → new.shared.pools ≡ r.shared.pools → new.shared.files.opened ≡ r.shared.files.opened → new.shared.req ≡ r.shared.req → HeldList r.shared.pools new.call.loose → SoundFiles files r → SoundFiles files new
+    → new.shared.pools ≡ r.shared.pools → new.shared.files.opened ≡ r.shared.files.opened → new.shared.req ≡ r.shared.req → HeldList r.shared.pools new.call.loose → SoundFiles files r
+    → SoundFiles files new
 written_files files r new i w brigades held pools opened req loose s =
     same_files files r new pools opened req
     (λ k. subst (λ (g : ℕ → BrigadeVar). HeldList r.shared.pools (items_of (g k))) (sym brigades) (written_each (HasReference r.shared.pools) r.instance.brigades i w held s.brigades k)) loose s
@@ -330,7 +338,8 @@ aside_in ps target x xs there once held =
     let kept : HeldList new (map (aside_named ps target) (x ∷ [])) = aside_held ps new target grow (x ∷ [])
     (All-cons (HasReference ps) x [] old (none (HasReference ps))) (λ file h. all_there target refs ps file h) in
     each_changed (HasReference ps) (HasReference new) x.name (aside_named ps target) xs (λ y h. λ file start len p c at. grow p file (h file start len p c at))
-    (λ k d lt. λ same h. subst (λ (y : NamedBucket). HasReference new (aside_named ps target y)) (sym (only_one x.name x xs there once k d lt same)) (All-head (HasReference new) (aside_named ps target x) [] kept)) held
+    (λ k d lt. λ same h. subst (λ (y : NamedBucket). HasReference new (aside_named ps target y)) (sym (only_one x.name x xs there once k d lt same))
+    (All-head (HasReference new) (aside_named ps target x) [] kept)) held
 
 -- what is true of each file that has a reference is true of each that has one then
 pub aside_refs : (ps : Pools Payload) (target : ℕ) (x : NamedBucket) (Q : ℕ → Type 0) → ((p file : ℕ) → refers ps p file ≡ true → Q file) → FitsKind x.bucket → is_dead x ≡ false → HasReference ps x
@@ -341,7 +350,8 @@ aside_refs ps target x Q each fit live held p file h = elim (all_back target (fi
       (All-cons (HasReference ps) x [] held (none (HasReference ps))) asked
 ]
 
-aside_files : (files : List (ℕ × ℕ)) (s : Place) (target : ℕ) (r : Configuration) → Stands r s → home_fault (bucket_at s) ≡ None → Sound r → SoundFiles files r → SoundFiles files (aside_into s target r)
+aside_files : (files : List (ℕ × ℕ)) (s : Place) (target : ℕ) (r : Configuration) → Stands r s → home_fault (bucket_at s) ≡ None → Sound r → SoundFiles files r
+    → SoundFiles files (aside_into s target r)
 unfolding set_brigade set_loose with_pools
 aside_files files Nowhere target r there live sound held = held
 aside_files files (AtLoose x) target r there live sound held =
@@ -349,7 +359,8 @@ aside_files files (AtLoose x) target r there live sound held =
     let new : Pools Payload = refs_with ps target x in
     let grow : ((p file : ℕ) → refers ps p file ≡ true → refers new p file ≡ true) = λ p file h. all_grow target (filter_map (new_ref ps target) (x ∷ [])) ps p file h in
     kept_files files r (aside_into (AtLoose x) target r) grow
-    (λ p file h. aside_refs ps target x (λ (n : ℕ). is_some (r.shared.files.opened n) ≡ true) held.lasts (of_named (λ y. FitsKind y.bucket) x.name x r.call.loose there sound.buckets.loose) (not_dead x live)
+    (λ p file h. aside_refs ps target x (λ (n : ℕ). is_some (r.shared.files.opened n) ≡ true) held.lasts (of_named (λ y. FitsKind y.bucket) x.name x r.call.loose there sound.buckets.loose)
+    (not_dead x live)
     (of_named (HasReference ps) x.name x r.call.loose there held.loose) p file h)
     (λ b. weaker ps new grow (items_at r b) (held.brigades b)) (aside_in ps target x r.call.loose there (loose_once r x.name sound.names) held.loose) refl held
 aside_files files (Within b x) target r there live sound held =
@@ -357,7 +368,8 @@ aside_files files (Within b x) target r there live sound held =
     let new : Pools Payload = refs_with ps target x in
     let grow : ((p file : ℕ) → refers ps p file ≡ true → refers new p file ≡ true) = λ p file h. all_grow target (filter_map (new_ref ps target) (x ∷ [])) ps p file h in
     kept_files files r (aside_into (Within b x) target r) grow
-    (λ p file h. aside_refs ps target x (λ (n : ℕ). is_some (r.shared.files.opened n) ≡ true) held.lasts (of_named (λ y. FitsKind y.bucket) x.name x (items_at r b) there.1 (sound.buckets.brigades b)) (not_dead x live)
+    (λ p file h. aside_refs ps target x (λ (n : ℕ). is_some (r.shared.files.opened n) ≡ true) held.lasts
+    (of_named (λ y. FitsKind y.bucket) x.name x (items_at r b) there.1 (sound.buckets.brigades b)) (not_dead x live)
     (of_named (HasReference ps) x.name x (items_at r b) there.1 (held.brigades b)) p file h)
     (items_each (HasReference new) r.instance.brigades b _ (aside_in ps target x (items_at r b) there.1 (brigade_once r b x.name there.0 sound.names)
     (held.brigades b)) (λ j. weaker ps new grow (items_at r j) (held.brigades j)))
@@ -383,7 +395,8 @@ held_on ps r = record {
   };
 }
 
-quiet_files : (files : List (ℕ × ℕ)) (i : Instr) (r new : Configuration) → changes_pools i ≡ false → is_clear i ≡ false → ChangesOnly (effect_of i) r new → Holds (HeldBucket r.shared.pools) new → SoundFiles files r → SoundFiles files new
+quiet_files : (files : List (ℕ × ℕ)) (i : Instr) (r new : Configuration) → changes_pools i ≡ false → is_clear i ≡ false → ChangesOnly (effect_of i) r new → Holds (HeldBucket r.shared.pools) new
+    → SoundFiles files r → SoundFiles files new
 quiet_files files i r new tree clear only h s = same_files files r new (only.tree tree) (ap (λ (fs : Files). fs.opened) (only.files clear)) only.req h.brigades h.loose s
 
 pub step_files : StepKeepsFiles
@@ -397,9 +410,12 @@ step_files p choice (instr.BClean b) files r may s held = clean_files files b r 
 step_files p choice (instr.BConcat a b) files r may s held = concat_files files a b r held
 step_files p choice (instr.BSave o b) files r may s held = on_named (SoundFiles files) (saved_into o b) (made_on (r.instance.brigades o)) r held (λ target e.
     save_files files o b target r s.buckets
-    (no_dead (items_of (r.instance.brigades b)) (first_none (homes_fault (items_of (r.instance.brigades b))) None (second_none (usable_fault (r.instance.brigades b)) _ (second_none (usable_fault (r.instance.brigades o)) _ may.faultless)))) held)
+    (no_dead (items_of (r.instance.brigades b)) (first_none (homes_fault (items_of (r.instance.brigades b))) None
+    (second_none (usable_fault (r.instance.brigades b)) _ (second_none (usable_fault (r.instance.brigades o)) _ may.faultless)))) held)
 step_files p choice (instr.Pass b l) files r may s held = pass_files files b r held
-step_files p choice (instr.Aside c q) files r may s held = on_named (SoundFiles files) (aside_into (spot r c)) (pool_named r q) r held (λ target e. aside_files files (spot r c) target r (stands r (r.call.cursors c)) (aside_live r c q may.faultless) s held)
+step_files p choice (instr.Aside c q) files r may s held = on_named (SoundFiles files) (aside_into (spot r c)) (pool_named r q) r held
+    (λ target e. aside_files files (spot r c) target r (stands r (r.call.cursors c)) (aside_live r c q may.faultless) s held)
 step_files p choice (instr.Ret st) files r may s held = return_files files r held
 step_files p choice i files r may s held =
-    quiet_files files i r _ refl refl (step_changes_only p choice i r) (quiet_leaves (HeldBucket r.shared.pools) p choice i r refl (held_on r.shared.pools r) (record { brigades = held.brigades; loose = held.loose })) held
+    quiet_files files i r _ refl refl (step_changes_only p choice i r)
+    (quiet_leaves (HeldBucket r.shared.pools) p choice i r refl (held_on r.shared.pools r) (record { brigades = held.brigades; loose = held.loose })) held

@@ -20,7 +20,8 @@ use Rattle.run_model.specs.declared.effect.Effect.{Effect}
 use Rattle.run_model.specs.declared.effect.Effect.TheVariants as effect
 use Rattle.run_model.specs.declared.effect.Side.TheVariants.{AtTail, AtHead}
 use Rattle.run_model.specs.EffectOf.{effect_of}
-use Rattle.run_model.specs.Steps.{Choice, do_effect, made_of, number_of, names_for, value_of, step, do_create, do_clean, do_concat, do_pass, do_return, cleaned, with_items, handed_over, returned_var, do_pcreate, label_registered, label_killed, text_of, aside_named, saved_into, made_on, names_of, pool_names_of, is_spent, lacks_names}
+use Rattle.run_model.specs.Steps.{Choice, do_effect, made_of, number_of, names_for, value_of, step, do_create, do_clean, do_concat, do_pass, do_return, cleaned, with_items, handed_over, returned_var}
+use Rattle.run_model.specs.Steps.{do_pcreate, label_registered, label_killed, text_of, aside_named, saved_into, made_on, names_of, pool_names_of, is_spent, lacks_names}
 use Rattle.run_model.specs.Sound.{NamesStep, sum_below, count_named}
 use Rattle.model_laws.specs.Laws.{StepGivesNames, StepKeepsNames}
 use Rattle.run_model.proofs.Updates.{upd_off}
@@ -28,7 +29,8 @@ use Rattle.run_model.proofs.Sums.{sum_below_upd}
 use Rattle.model_laws.proofs.PoolsGone.{pool_emptied, on_emptied}
 use Rattle.model_laws.proofs.Operands.{created_below, TwoBrigades, two_brigades, saved_brigades, split_brigades, parted_below, source_below}
 use Rattle.model_laws.proofs.NamesStay.{names_stay, keeps_names, keeps_slots, went_names, placed_names}
-use Rattle.run_model.proofs.Names.{count_none, count_append, count_map, Carried, Fewer, carried_same, fewer_same, fewer_none, cleaned_fewer, handed_fewer, returned_fewer, filled_carried, filled_items, at_each, at_two}
+use Rattle.run_model.proofs.Names.{count_none, count_append, count_map, Carried, Fewer, carried_same, fewer_same, fewer_none, cleaned_fewer, handed_fewer, returned_fewer, filled_carried, filled_items}
+use Rattle.run_model.proofs.Names.{at_each, at_two}
 use Rattle.run_model.proofs.Spots.{stands}
 use Rattle.model_laws.proofs.SlotNames.{cursor_names, unlink_names, delete_names, insert_names, before_names, bsplit_names, bpart_names, split_names, read_names, make_names, aside_names}
 use Rattle.model_laws.proofs.NamedPools.{on_named, made_under_named, put_keeps}
@@ -78,8 +80,10 @@ moved : (g : ℕ → BrigadeVar) (a b n : ℕ) (items : List NamedBucket) → Tw
 moved g a b n items two same =
     let emptied : BrigadeVar = with_items [] (g b) in
     let filled : BrigadeVar = with_items (items_of (g a) ++ items) (g a) in
-    let first : sum_below 9 (λ k. count_named n (items_of (upd (upd g b emptied) a filled k))) + count_named n (items_of (upd g b emptied a)) ≡ sum_below 9 (λ k. count_named n (items_of (upd g b emptied k))) + count_named n (items_of filled) = sum_below_upd 9 a (upd g b emptied) filled (λ x. count_named n (items_of x)) two.first in
-    let second : sum_below 9 (λ k. count_named n (items_of (upd g b emptied k))) + count_named n (items_of (g b)) ≡ sum_below 9 (λ k. count_named n (items_of (g k))) + count_named n (items_of emptied) = sum_below_upd 9 b g emptied (λ x. count_named n (items_of x)) two.second in
+    let first : sum_below 9 (λ k. count_named n (items_of (upd (upd g b emptied) a filled k))) + count_named n (items_of (upd g b emptied a)) ≡ sum_below 9
+    (λ k. count_named n (items_of (upd g b emptied k))) + count_named n (items_of filled) = sum_below_upd 9 a (upd g b emptied) filled (λ x. count_named n (items_of x)) two.first in
+    let second : sum_below 9 (λ k. count_named n (items_of (upd g b emptied k))) + count_named n (items_of (g b)) ≡ sum_below 9 (λ k. count_named n (items_of (g k))) + count_named n
+    (items_of emptied) = sum_below_upd 9 b g emptied (λ x. count_named n (items_of x)) two.second in
     let there : count_named n (items_of (upd g b emptied a)) ≡ count_named n (items_of (g a)) = ap (λ x. count_named n (items_of x)) (upd_off g b a emptied two.differ) in
     let none : count_named n (items_of emptied) ≤ count_named n [] = filled_items n [] (g b) in
     let both : count_named n (items_of filled) ≤ count_named n (items_of (g a) ++ items) = filled_items n (items_of (g a) ++ items) (g a) in
@@ -109,11 +113,13 @@ save_names o b target r two limit =
 -- where no brigade and no bucket changes, and no name is given out
 pub same_slots : (r new : Configuration) → new.instance.brigades ≡ r.instance.brigades → new.call.loose ≡ r.call.loose → new.shared.next ≡ r.shared.next → r.shared.next < 2 ^ 64 → NamesStep r new
 same_slots r new brigades loose next limit =
-    keeps_slots r new (λ n. rw loose (omega arith)) (λ b. subst (λ (g : ℕ → BrigadeVar). Fewer (r.instance.brigades b) (g b)) (sym brigades) (fewer_same (r.instance.brigades b))) (omega arith) (subst (λ (k : ℕ). k < 2 ^ 64) (sym next) limit)
+    keeps_slots r new (λ n. rw loose (omega arith)) (λ b. subst (λ (g : ℕ → BrigadeVar). Fewer (r.instance.brigades b) (g b)) (sym brigades) (fewer_same (r.instance.brigades b))) (omega arith)
+    (subst (λ (k : ℕ). k < 2 ^ 64) (sym next) limit)
 
 pcreate_names : (p : Program) (q : ℕ) (r : Configuration) → r.shared.next < 2 ^ 64 → NamesStep r (do_pcreate p q r)
 unfolding set_pool with_pools
-pcreate_names p q r limit = made_under_named (NamesStep r) p q r (same_slots r r refl refl refl limit) (λ parent e. same_slots r (set_pool q (poolvar.Made r.shared.pools.next) (with_pools (created parent r.shared.pools) r)) refl refl refl limit)
+pcreate_names p q r limit = made_under_named (NamesStep r) p q r (same_slots r r refl refl refl limit)
+    (λ parent e. same_slots r (set_pool q (poolvar.Made r.shared.pools.next) (with_pools (created parent r.shared.pools) r)) refl refl refl limit)
 
 emptied_names : (left : Pools Payload) (n : ℕ) (r : Configuration) → r.shared.next < 2 ^ 64 → NamesStep r (pool_emptied left n r)
 unfolding run_down with_pools
@@ -150,7 +156,8 @@ gives p choice (effect.ClearPool q) r other last =
 gives p choice (effect.DestroyPool q) r other last =
     let limit = start r.shared.next 0 last in (on_emptied (NamesStep r) q r (same_slots r r refl refl refl limit) (λ n left is so. emptied_names left n r limit)).1
 gives p choice (effect.Register q t) r other last =
-    let limit = start r.shared.next 0 last in on_named (NamesStep r) (label_registered (text_of p t)) (pool_named r q) r (same_slots r r refl refl refl limit) (λ n is. same_slots r _ refl refl refl limit)
+    let limit = start r.shared.next 0 last in
+    on_named (NamesStep r) (label_registered (text_of p t)) (pool_named r q) r (same_slots r r refl refl refl limit) (λ n is. same_slots r _ refl refl refl limit)
 gives p choice (effect.Kill q t) r other last =
     let limit = start r.shared.next 0 last in on_named (NamesStep r) (label_killed (text_of p t)) (pool_named r q) r (same_slots r r refl refl refl limit) (λ n is. same_slots r _ refl refl refl limit)
 gives p choice (effect.Clean b) r other last = clean_names b r (start r.shared.next 0 last)
@@ -177,8 +184,10 @@ step_gives p choice (instr.BCreate o) r may = create_names p o r (created_below 
 step_gives p choice (instr.BConcat a b) r may = concat_names a b r (two_brigades p may.proper a b may.fit) (below_limit r (instr.BConcat a b) may.names_last)
 step_gives p choice (instr.BSave o b) r may =
     let limit = below_limit r (instr.BSave o b) may.names_last in
-    on_named (NamesStep r) (saved_into o b) (made_on (r.instance.brigades o)) r (same_slots r r refl refl refl limit) (λ target is. save_names o b target r (saved_brigades p may.proper o b may.fit) limit)
-step_gives p choice (instr.BSplit b c a) r may = (let two = split_brigades p may.proper b c a may.fit in bsplit_names b (spot r c) a r two.first two.second (below_limit r (instr.BSplit b c a) may.names_last))
+    on_named (NamesStep r) (saved_into o b) (made_on (r.instance.brigades o)) r (same_slots r r refl refl refl limit)
+    (λ target is. save_names o b target r (saved_brigades p may.proper o b may.fit) limit)
+step_gives p choice (instr.BSplit b c a) r may =
+    (let two = split_brigades p may.proper b c a may.fit in bsplit_names b (spot r c) a r two.first two.second (below_limit r (instr.BSplit b c a) may.names_last))
 step_gives p choice (instr.BPart b x c l) r may = bpart_names b (value_of r x) c r (parted_below p may.proper b x c l may.fit) (lasting r (instr.BPart b x c l) may.names_last)
 step_gives p choice (instr.Tail b c) r may = insert_names AtTail b (spot r c) r (source_below p may.proper b _ may.fit) (stands r (r.call.cursors c)) (below_limit r (instr.Tail b c) may.names_last)
 step_gives p choice (instr.Head b c) r may = insert_names AtHead b (spot r c) r (source_below p may.proper b _ may.fit) (stands r (r.call.cursors c)) (below_limit r (instr.Head b c) may.names_last)

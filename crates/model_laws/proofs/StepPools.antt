@@ -19,7 +19,8 @@ use Rattle.run_model.specs.RunOrder.{IsPoolMap, killed}
 use Rattle.run_model.specs.State.{Configuration, items_of, set_pool, with_pools, set_brigade, set_loose, set_cursor, set_number, pool_named}
 use Rattle.run_model.specs.Clearing.{run_down}
 use Rattle.run_model.specs.Faults.{has_pool_at, has_pool, is_live_named, or_else}
-use Rattle.run_model.specs.Steps.{do_create, do_clean, do_concat, do_pass, do_return, do_pcreate, label_registered, label_killed, text_of, new_ref, all_referred, saved_into, made_on, names_of, pool_names_of, is_spent, lacks_names}
+use Rattle.run_model.specs.Steps.{do_create, do_clean, do_concat, do_pass, do_return, do_pcreate, label_registered, label_killed, text_of, new_ref, all_referred, saved_into, made_on, names_of}
+use Rattle.run_model.specs.Steps.{pool_names_of, is_spent, lacks_names}
 use Rattle.run_model.specs.Sound.{brigade_pool, SoundPools}
 use Rattle.run_model.specs.Cursors.{Place, Nowhere, AtLoose, Within, AtEndOf}
 use Rattle.run_model.specs.BucketSteps.{aside_into}
@@ -54,15 +55,17 @@ named_lives r d n h e = let named : is_live_named r.shared.pools (pool_named r d
 
 create_pools : (p : Program) (o : ℕ) (r : Configuration) → has_pool r (pool_of_brigade p o) ≡ true → SoundPools r → SoundPools (do_create p o r)
 unfolding set_brigade has_pool_at
-create_pools p o r lives s = keeps_paths r (do_create p o r) (brigade_formed on r.shared.next r.shared.pools lives s.formed) (brigade_path on r.shared.next r.shared.pools) (brigade_next on r.shared.next r.shared.pools) refl refl refl on_live s where
-  on : Option ℕ
-  on = pool_named r (pool_of_brigade p o)
+create_pools p o r lives s = keeps_paths r (do_create p o r) (brigade_formed on r.shared.next r.shared.pools lives s.formed) (brigade_path on r.shared.next r.shared.pools)
+    (brigade_next on r.shared.next r.shared.pools) refl refl refl on_live s where
+      on : Option ℕ
+      on = pool_named r (pool_of_brigade p o)
 
-  on_live : (b n : ℕ) → brigade_pool (upd r.instance.brigades o (var.Live (record { name = r.shared.next; on = pool_named r (pool_of_brigade p o); mark = Usable; items = [] })) b) ≡ Some n → is_live r.shared.pools n ≡ true
-  on_live b n e = elim (upd_either r.instance.brigades o b (var.Live (record { name = r.shared.next; on = pool_named r (pool_of_brigade p o); mark = Usable; items = [] }))) [
-    | inl q ↦ named_lives r (pool_of_brigade p o) n lives (sym (ap brigade_pool q.1) ∙ e)
-    | inr q ↦ s.brigades b n (sym (ap brigade_pool q.1) ∙ e)
-  ]
+      on_live : (b n : ℕ) → brigade_pool (upd r.instance.brigades o (var.Live (record { name = r.shared.next; on = pool_named r (pool_of_brigade p o); mark = Usable; items = [] })) b) ≡ Some n
+          → is_live r.shared.pools n ≡ true
+      on_live b n e = elim (upd_either r.instance.brigades o b (var.Live (record { name = r.shared.next; on = pool_named r (pool_of_brigade p o); mark = Usable; items = [] }))) [
+        | inl q ↦ named_lives r (pool_of_brigade p o) n lives (sym (ap brigade_pool q.1) ∙ e)
+        | inr q ↦ s.brigades b n (sym (ap brigade_pool q.1) ∙ e)
+      ]
 
 clean_pools : (b : ℕ) (r : Configuration) → SoundPools r → SoundPools (do_clean b r)
 unfolding set_brigade
@@ -94,7 +97,8 @@ still_live n target x ps lives = lives
 referred_formed : (target : ℕ) (files : List ℕ) (ps : Pools Payload) → is_live ps target ≡ true → IsPoolMap ps → IsPoolMap (all_referred target files ps)
 unfolding all_referred
 referred_formed target [] ps lives f = f
-referred_formed target (file ∷ files) ps lives f = referred_formed target files (registered target (FileRef file) ps) (still_live target target (FileRef file) ps lives) (registered_formed target (FileRef file) ps lives f)
+referred_formed target (file ∷ files) ps lives f =
+    referred_formed target files (registered target (FileRef file) ps) (still_live target target (FileRef file) ps lives) (registered_formed target (FileRef file) ps lives f)
 
 -- setting aside registers these, if any
 pub aside_pools : (s : Place) (target : ℕ) (r : Configuration) → (files : List ℕ) × ((aside_into s target r).shared.pools ≡ all_referred target files r.shared.pools)
@@ -174,7 +178,8 @@ pools_frame = record {
   numbers = λ n v r s. keeps_pools r _ refl refl refl refl s.brigades s;
   buffer = λ bytes r s. keeps_pools r _ refl refl refl refl s.brigades s;
   names = λ n r s. keeps_pools r _ refl refl refl refl s.brigades s;
-  refs = λ target files r lives s. keeps_paths r _ (referred_formed target files r.shared.pools lives s.formed) (referred_path target files r.shared.pools) (referred_next target files r.shared.pools) refl refl refl s.brigades s;
+  refs = λ target files r lives s. keeps_paths r _ (referred_formed target files r.shared.pools lives s.formed) (referred_path target files r.shared.pools)
+      (referred_next target files r.shared.pools) refl refl refl s.brigades s;
 }
 
 pools_placed : (c : ℕ) (v : Cursor) (r : Configuration) → SoundPools r → SoundPools (set_cursor c v r)
@@ -185,7 +190,8 @@ pub step_pools : StepKeepsPools
 step_pools p choice (instr.PCreate q) r may s = pcreate_pools p q r (lasting_pool r (instr.PCreate q) may.names_last) (wanted_pool r (pool_of_pool p q) _ may.faultless) s
 step_pools p choice (instr.PClear q) r may s = (on_emptied SoundPools q r s (λ n left e so. emptied_pools q n left r (own_named q n r e) so s)).0
 step_pools p choice (instr.PDestroy q) r may s = (on_emptied SoundPools q r s (λ n left e so. emptied_pools q n left r (own_named q n r e) so s)).1
-step_pools p choice (instr.Label q t) r may s = on_named SoundPools (label_registered (text_of p t)) (pool_named r q) r s (λ n e. labelled_pools (text_of p t) n r (named_lives r q n (wanted_pool r q None may.faultless) e) s)
+step_pools p choice (instr.Label q t) r may s =
+    on_named SoundPools (label_registered (text_of p t)) (pool_named r q) r s (λ n e. labelled_pools (text_of p t) n r (named_lives r q n (wanted_pool r q None may.faultless) e) s)
 step_pools p choice (instr.Unlabel q t) r may s = on_named SoundPools (label_killed (text_of p t)) (pool_named r q) r s (λ n e. unlabelled_pools (text_of p t) n r s)
 step_pools p choice (instr.BCreate o) r may s = create_pools p o r (wanted_pool r (pool_of_brigade p o) _ may.faultless) s
 step_pools p choice (instr.BClean b) r may s = clean_pools b r s

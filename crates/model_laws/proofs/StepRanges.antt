@@ -113,7 +113,8 @@ went_ranges files n r ps e pools s held =
     (mapped_each T T (cleared_bucket reached) (cleared_lies r.shared.files reached) r.call.loose s.loose)
     (λ p file h. s.given p file (emptied_back n r.shared.pools ps e p file h).1) refl s
 
-made_ranges : (files : List (ℕ × ℕ)) (parent q : ℕ) (r : Configuration) → SoundRanges files r → SoundRanges files (set_pool q (poolvar.Made r.shared.pools.next) (with_pools (created parent r.shared.pools) r))
+made_ranges : (files : List (ℕ × ℕ)) (parent q : ℕ) (r : Configuration) → SoundRanges files r
+    → SoundRanges files (set_pool q (poolvar.Made r.shared.pools.next) (with_pools (created parent r.shared.pools) r))
 unfolding set_pool with_pools
 made_ranges files parent q r s = record { brigades = s.brigades; loose = s.loose; told = s.told; given = λ p file h. s.given p file (created_back parent r.shared.pools p file h) }
 
@@ -145,7 +146,8 @@ aside_lies fs ps target x proper live lies file start len p e at =
     let old = homed x.bucket.kind x.bucket.content x.bucket.home file start len proper.lives proper.holds live was in
     lies file start len old.0 was old.1
 
-aside_lie : (fs : Files) (ps : Pools Payload) (target : ℕ) (xs : List NamedBucket) → All (λ x. FitsKind x.bucket) xs → list_any is_dead xs ≡ false → LieList fs xs → LieList fs (map (aside_named ps target) xs)
+aside_lie : (fs : Files) (ps : Pools Payload) (target : ℕ) (xs : List NamedBucket) → All (λ x. FitsKind x.bucket) xs → list_any is_dead xs ≡ false → LieList fs xs
+    → LieList fs (map (aside_named ps target) xs)
 aside_lie fs ps target [] proper live h = none (LiesInFile fs)
 aside_lie fs ps target (x ∷ xs) proper live h =
     let alive = neither (is_dead x) (list_any is_dead xs) live in
@@ -212,7 +214,8 @@ aside_lie_in fs ps target x xs there once proper live h =
     each_changed (LiesInFile fs) (LiesInFile fs) x.name (aside_named ps target) xs (λ y e. e)
     (λ k d lt. λ same e. subst (λ (y : NamedBucket). LiesInFile fs (aside_named ps target y)) (sym (only_one x.name x xs there once k d lt same)) lies) h
 
-aside_ranges : (files : List (ℕ × ℕ)) (s : Place) (target : ℕ) (r : Configuration) → Stands r s → home_fault (bucket_at s) ≡ None → Sound r → SoundFiles files r → SoundRanges files r → SoundRanges files (aside_into s target r)
+aside_ranges : (files : List (ℕ × ℕ)) (s : Place) (target : ℕ) (r : Configuration) → Stands r s → home_fault (bucket_at s) ≡ None → Sound r → SoundFiles files r → SoundRanges files r
+    → SoundRanges files (aside_into s target r)
 unfolding set_brigade set_loose with_pools
 aside_ranges files Nowhere target r there live sound held s = s
 aside_ranges files (AtLoose x) target r there live sound held s =
@@ -261,7 +264,8 @@ lies_on fs r = record {
         less_far fs file (start + len) (start + whole.0) (front_within n whole.0 len start whole.2 (long n b.content file start whole.0 whole.1 le)) (h file start whole.0 p whole.1 at);
     rest = λ n b le h. λ file start len p e at.
         let whole = rest_back n b.content file start len e in
-        less_far fs file (start + len) (whole.0 + whole.1.0) (rest_within n whole.0 whole.1.0 start len whole.1.2 whole.1.3 (long n b.content file whole.0 whole.1.0 whole.1.1 le)) (h file whole.0 whole.1.0 p whole.1.1 at);
+        less_far fs file (start + len) (whole.0 + whole.1.0) (rest_within n whole.0 whole.1.0 start len whole.1.2 whole.1.3 (long n b.content file whole.0 whole.1.0 whole.1.1 le))
+        (h file whole.0 whole.1.0 p whole.1.1 at);
   };
 } where
   long : (n : ℕ) (c : Content) (file start len : ℕ) → c ≡ content.Range file start len → n ≤ length_of c → n ≤ len
@@ -290,10 +294,12 @@ step_ranges p choice (instr.BClean b) files r may sound held s = clean_ranges fi
 step_ranges p choice (instr.BConcat a b) files r may sound held s = concat_ranges files a b r s
 step_ranges p choice (instr.BSave o b) files r may sound held s = on_named (SoundRanges files) (saved_into o b) (made_on (r.instance.brigades o)) r s (λ target e.
     save_ranges files o b target r sound.buckets
-    (no_dead (items_of (r.instance.brigades b)) (first_none (homes_fault (items_of (r.instance.brigades b))) None (second_none (usable_fault (r.instance.brigades b)) _ (second_none (usable_fault (r.instance.brigades o)) _ may.faultless)))) held s)
+    (no_dead (items_of (r.instance.brigades b)) (first_none (homes_fault (items_of (r.instance.brigades b))) None
+    (second_none (usable_fault (r.instance.brigades b)) _ (second_none (usable_fault (r.instance.brigades o)) _ may.faultless)))) held s)
 step_ranges p choice (instr.Pass b l) files r may sound held s = pass_ranges files b r s
 step_ranges p choice (instr.Aside c q) files r may sound held s = on_named (SoundRanges files) (aside_into (spot r c)) (pool_named r q) r s (λ target e.
     aside_ranges files (spot r c) target r (stands r (r.call.cursors c)) (aside_live r c q may.faultless) sound held s)
 step_ranges p choice (instr.Ret st) files r may sound held s = return_ranges files r s
 step_ranges p choice i files r may sound held s =
-    quiet_ranges files i r _ refl refl (step_changes_only p choice i r) (quiet_leaves (LiesBucket r.shared.files) p choice i r refl (lies_on r.shared.files r) (record { brigades = s.brigades; loose = s.loose })) (step_files p choice i files r may sound held) s
+    quiet_ranges files i r _ refl refl (step_changes_only p choice i r)
+    (quiet_leaves (LiesBucket r.shared.files) p choice i r refl (lies_on r.shared.files r) (record { brigades = s.brigades; loose = s.loose })) (step_files p choice i files r may sound held) s

@@ -13,12 +13,14 @@ use Rattle.run_model.specs.State.{Configuration, set_pool, with_pools, set_briga
 use Rattle.run_model.specs.Clearing.{run_down}
 use Rattle.run_model.specs.Cursors.{Place, Nowhere, AtLoose, Within, AtEndOf, spot, read_cursor}
 use Rattle.run_model.specs.BrigadeLists.{put_before}
-use Rattle.run_model.specs.BucketSteps.{aside_into, do_make, do_before, do_delete, do_next, do_read, do_split, do_unlink, got, has_rest, is_unsplit, items_at, name_given, names_given, names_if, names_to_part, names_to_read, names_to_split, new_loose, put_into, read_given, read_within, split_there}
+use Rattle.run_model.specs.BucketSteps.{aside_into, do_make, do_before, do_delete, do_next, do_read, do_split, do_unlink, got, has_rest, is_unsplit, items_at, name_given, names_given, names_if}
+use Rattle.run_model.specs.BucketSteps.{names_to_part, names_to_read, names_to_split, new_loose, put_into, read_given, read_within, split_there}
 use Rattle.run_model.specs.declared.effect.Effect.{Effect}
 use Rattle.run_model.specs.declared.effect.Effect.TheVariants as effect
 use Rattle.run_model.specs.EffectOf.{effect_of}
 use Rattle.run_model.specs.Steps.{Choice, do_effect, made_of, number_of, put_at, names_for, with_brigade, do_create, label_registered, label_killed, text_of, made_on, saved_into, value_of, do_pass}
-use Rattle.model_laws.specs.Laws.{is_within, is_loose, may_change, may_change_pool, may_change_number, may_change_cursor, may_change_loose, may_change_buffer, may_change_tree, may_change_labels, ChangesOnly, StepChangesOnly}
+use Rattle.model_laws.specs.Laws.{is_within, is_loose, may_change, may_change_pool, may_change_number, may_change_cursor, may_change_loose, may_change_buffer, may_change_tree, may_change_labels}
+use Rattle.model_laws.specs.Laws.{ChangesOnly, StepChangesOnly}
 use Rattle.run_model.proofs.Updates.{upd_off}
 use Rattle.model_laws.proofs.PoolsGone.{pool_emptied, on_emptied}
 use Rattle.model_laws.proofs.NamedPools.{on_named, made_under_named, put_keeps}
@@ -117,13 +119,15 @@ unlink_changes e r (AtLoose x) within loose = nothing e r
 unlink_changes e r (Within b x) within loose = by_loose e r _ _ loose (by_brigade e r r b _ (within b (itself b)) (nothing e r))
 unlink_changes e r (AtEndOf b) within loose = nothing e r
 
-delete_changes : (e : Effect) (r : Configuration) (s : Place) → ((k : ℕ) → is_within s k ≡ true → may_change r e k ≡ true) → (is_loose s ≡ true → may_change_loose r e ≡ true) → ChangesOnly e r (do_delete s r)
+delete_changes : (e : Effect) (r : Configuration) (s : Place) → ((k : ℕ) → is_within s k ≡ true → may_change r e k ≡ true) → (is_loose s ≡ true → may_change_loose r e ≡ true)
+    → ChangesOnly e r (do_delete s r)
 delete_changes e r Nowhere within loose = nothing e r
 delete_changes e r (AtLoose x) within loose = by_loose e r r _ (loose refl) (nothing e r)
 delete_changes e r (Within b x) within loose = by_brigade e r r b _ (within b (itself b)) (nothing e r)
 delete_changes e r (AtEndOf b) within loose = nothing e r
 
-put_into_changes : (e : Effect) (r : Configuration) (insert : NamedBucket → List NamedBucket → List NamedBucket) (b : ℕ) (s : Place) → may_change r e b ≡ true → may_change_loose r e ≡ true → ChangesOnly e r (put_into insert b s r)
+put_into_changes : (e : Effect) (r : Configuration) (insert : NamedBucket → List NamedBucket → List NamedBucket) (b : ℕ) (s : Place) → may_change r e b ≡ true → may_change_loose r e ≡ true
+    → ChangesOnly e r (put_into insert b s r)
 put_into_changes e r insert b Nowhere may loose = nothing e r
 put_into_changes e r insert b (AtLoose x) may loose = by_brigade e r _ b _ may (by_loose e r r _ loose (nothing e r))
 put_into_changes e r insert b (Within a x) may loose = nothing e r
@@ -139,7 +143,8 @@ make_changes : (e : Effect) (r : Configuration) (c : ℕ) (o : Option Bucket) �
 make_changes e r c None name cursor loose = nothing e r
 make_changes e r c (Some b) name cursor loose = new_changes e r c b name cursor loose
 
-split_changes : (e : Effect) (r : Configuration) (n : ℕ) (s : Place) → ((k : ℕ) → is_within s k ≡ true → may_change r e k ≡ true) → names_to_split n s ≤ names_for r e → ChangesOnly e r (do_split n s r)
+split_changes : (e : Effect) (r : Configuration) (n : ℕ) (s : Place) → ((k : ℕ) → is_within s k ≡ true → may_change r e k ≡ true) → names_to_split n s ≤ names_for r e
+    → ChangesOnly e r (do_split n s r)
 split_changes e r n s within names = by_refusal (is_unsplit n s) names where
   there : (t : Place) → ((k : ℕ) → is_within t k ≡ true → may_change r e k ≡ true) → 1 ≤ names_for r e → ChangesOnly e r (split_there n t r)
   there Nowhere may one = nothing e r
@@ -151,14 +156,16 @@ split_changes e r n s within names = by_refusal (is_unsplit n s) names where
   by_refusal true none = nothing e r
   by_refusal false one = there s within one
 
-aside_changes : (e : Effect) (r : Configuration) (s : Place) (target : ℕ) → ((k : ℕ) → is_within s k ≡ true → may_change r e k ≡ true) → (is_loose s ≡ true → may_change_loose r e ≡ true) → may_change_tree e ≡ true
+aside_changes : (e : Effect) (r : Configuration) (s : Place) (target : ℕ) → ((k : ℕ) → is_within s k ≡ true → may_change r e k ≡ true) → (is_loose s ≡ true → may_change_loose r e ≡ true)
+    → may_change_tree e ≡ true
     → ChangesOnly e r (aside_into s target r)
 aside_changes e r Nowhere target within loose tree = nothing e r
 aside_changes e r (AtLoose x) target within loose tree = by_loose e r _ _ (loose refl) (by_tree e r r _ tree (nothing e r))
 aside_changes e r (Within b x) target within loose tree = by_brigade e r _ b _ (within b (itself b)) (by_tree e r r _ tree (nothing e r))
 aside_changes e r (AtEndOf b) target within loose tree = nothing e r
 
-read_changes : (e : Effect) (r : Configuration) (given : Option (List ℕ)) (s : Place) → ((k : ℕ) → is_within s k ≡ true → may_change r e k ≡ true) → names_to_read s ≤ names_for r e → may_change_cursor e read_cursor ≡ true
+read_changes : (e : Effect) (r : Configuration) (given : Option (List ℕ)) (s : Place) → ((k : ℕ) → is_within s k ≡ true → may_change r e k ≡ true) → names_to_read s ≤ names_for r e
+    → may_change_cursor e read_cursor ≡ true
     → ChangesOnly e r (do_read given s r)
 read_changes e r given Nowhere within names cursor = nothing e r
 read_changes e r given (AtLoose x) within names cursor = nothing e r
@@ -183,17 +190,21 @@ created_changes : (p : Program) (o : ℕ) (r : Configuration) → ChangesOnly (e
 unfolding with_pools
 created_changes p o r =
     let e = effect.MakeBrigade o in
-    by_brigade e r (with_pools (with_brigade (pool_named r (pool_of_brigade p o)) r.shared.next r.shared.pools) (name_given r)) o _ (itself o) (by_tree e r (name_given r) _ refl (by_names e 1 r (omega arith)))
+    by_brigade e r (with_pools (with_brigade (pool_named r (pool_of_brigade p o)) r.shared.next r.shared.pools) (name_given r)) o _ (itself o)
+    (by_tree e r (name_given r) _ refl (by_names e 1 r (omega arith)))
 
 pub effect_changes_only : (p : Program) (choice : Choice) (e : Effect) (r : Configuration) → ChangesOnly e r (do_effect p choice e r)
 effect_changes_only p choice effect.Nothing r = nothing effect.Nothing r
-effect_changes_only p choice (effect.MakePool q) r = let e = effect.MakePool q in made_under_named (ChangesOnly e r) p q r (nothing e r) (λ parent is. by_pool e r _ q _ (itself q) (by_tree e r r _ refl (nothing e r)))
+effect_changes_only p choice (effect.MakePool q) r = let e = effect.MakePool q in
+    made_under_named (ChangesOnly e r) p q r (nothing e r) (λ parent is. by_pool e r _ q _ (itself q) (by_tree e r r _ refl (nothing e r)))
 effect_changes_only p choice (effect.ClearPool q) r =
     let e = effect.ClearPool q in (on_emptied (ChangesOnly e r) q r (nothing e r) (λ n left is so. emptied_changes e left n r (λ k. refl) refl refl refl)).0
 effect_changes_only p choice (effect.DestroyPool q) r =
     let e = effect.DestroyPool q in (on_emptied (ChangesOnly e r) q r (nothing e r) (λ n left is so. emptied_changes e left n r (λ k. refl) refl refl refl)).1
-effect_changes_only p choice (effect.Register q t) r = let e = effect.Register q t in on_named (ChangesOnly e r) (label_registered (text_of p t)) (pool_named r q) r (nothing e r) (λ n is. by_tree e r r _ refl (nothing e r))
-effect_changes_only p choice (effect.Kill q t) r = let e = effect.Kill q t in on_named (ChangesOnly e r) (label_killed (text_of p t)) (pool_named r q) r (nothing e r) (λ n is. by_tree e r r _ refl (nothing e r))
+effect_changes_only p choice (effect.Register q t) r = let e = effect.Register q t in
+    on_named (ChangesOnly e r) (label_registered (text_of p t)) (pool_named r q) r (nothing e r) (λ n is. by_tree e r r _ refl (nothing e r))
+effect_changes_only p choice (effect.Kill q t) r = let e = effect.Kill q t in
+    on_named (ChangesOnly e r) (label_killed (text_of p t)) (pool_named r q) r (nothing e r) (λ n is. by_tree e r r _ refl (nothing e r))
 effect_changes_only p choice (effect.MakeBrigade o) r = created_changes p o r
 effect_changes_only p choice (effect.Clean b) r = by_brigade (effect.Clean b) r r b _ (itself b) (nothing (effect.Clean b) r)
 effect_changes_only p choice (effect.Concat a b) r = let e = effect.Concat a b in by_brigade e r _ a _ (first_of a b) (by_brigade e r r b _ (second_of a b) (nothing e r))
@@ -201,7 +212,8 @@ effect_changes_only p choice (effect.SplitBrigade b c a) r = let e = effect.Spli
 effect_changes_only p choice (effect.PartBrigade b x c) r =
     let e = effect.PartBrigade b x c in by_cursor e r _ c _ (itself c) (by_brigade e r _ b _ (itself b) (by_names e (names_to_part (value_of r x) (items_at r b)) r (omega arith)))
 effect_changes_only p choice (effect.Save o b) r =
-    let e = effect.Save o b in on_named (ChangesOnly e r) (saved_into o b) (made_on (r.instance.brigades o)) r (nothing e r) (λ target is. by_brigade e r _ o _ (first_of o b) (by_brigade e r _ b _ (second_of o b) (by_tree e r r _ refl (nothing e r))))
+    let e = effect.Save o b in on_named (ChangesOnly e r) (saved_into o b) (made_on (r.instance.brigades o)) r (nothing e r)
+    (λ target is. by_brigade e r _ o _ (first_of o b) (by_brigade e r _ b _ (second_of o b) (by_tree e r r _ refl (nothing e r))))
 effect_changes_only p choice (effect.Pass b) r = passed_changes b r
 effect_changes_only p choice (effect.First c b) r = by_cursor (effect.First c b) r r c _ (itself c) (nothing (effect.First c b) r)
 effect_changes_only p choice (effect.Next d c) r = next_changes (effect.Next d c) r d (spot r c) (itself d)

@@ -8,7 +8,8 @@ use Rattle.run_model.specs.declared.bucket.NamedBucket.{NamedBucket}
 use Rattle.run_model.specs.Buckets.{is_data}
 use Rattle.run_model.specs.Cutting.{FitsKind, length_of, split_at}
 use Rattle.run_model.specs.Sound.{count_named}
-use Rattle.run_model.specs.BrigadeLists.{is_there, bucket_named, first_place, next_place, taken_out, put_head, put_tail, put_before, copied, stays, moves, split_refusal, bucket_split, length_in, bytes_of, all_bytes, front_to, back_from, bucket_across, place_before, partition_answer, partitioned, place_of, Metadata, TooLong, Found, AtEnd, Incomplete}
+use Rattle.run_model.specs.BrigadeLists.{is_there, bucket_named, first_place, next_place, taken_out, put_head, put_tail, put_before, copied, stays, moves, split_refusal, bucket_split, length_in}
+use Rattle.run_model.specs.BrigadeLists.{bytes_of, all_bytes, front_to, back_from, bucket_across, place_before, partition_answer, partitioned, place_of, Metadata, TooLong, Found, AtEnd, Incomplete}
 
 -- What stays and what moves are the whole, in order.
 abbrev pub BrigadeSplitsInOrder : Type 0

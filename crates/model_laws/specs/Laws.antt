@@ -20,7 +20,7 @@ use Rattle.run_model.specs.declared.effect.Effect.{Effect}
 use Rattle.run_model.specs.declared.effect.Effect.TheVariants as effect
 use Rattle.run_model.specs.EffectOf.{effect_of}
 use Rattle.run_model.specs.Changes.{extent, has_pools, has_all_under}
-use Rattle.run_model.specs.Steps.{Choice, step, aside_named, lacks_names, names_for, pool_cleared, pool_destroyed}
+use Rattle.run_model.specs.Steps.{Choice, step, aside_named, lacks_names, names_for, pool_cleared, pool_destroyed, label_registered, label_killed}
 use Rattle.run_model.specs.Pieces.{bucket_of, named_from, data_behind_eos, has_range}
 use Rattle.run_model.specs.Sound.{NamesStep, SoundNames, SoundBuckets, SoundPools, Sound, brigade_pool}
 use Rattle.run_model.specs.declared.bucket.Kind.TheVariants as kind
@@ -33,7 +33,6 @@ use Rattle.run_model.specs.RunOrder.{IsPoolMap, runs_within, run_order}
 use Rattle.std.specs.List.{list_any, AllZip}
 use Rattle.run_model.specs.Payloads.{is_file_ref, labels_in}
 use Rattle.run_model.specs.Clearing.{is_reached}
-use Rattle.run_model.specs.Steps.{label_registered, label_killed}
 use Rattle.run_model.specs.Holding.{refers}
 
 -- An instruction of a module may be executed: it has no fault, and the names that it gives out are there.

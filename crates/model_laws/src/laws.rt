@@ -2,7 +2,9 @@
 
 ghost use Rattle.model_laws.specs.Examples.{PassRuns, PoolRuns, PoolEnds, KindRuns, FaultRuns, BreakRuns, RefusedRuns, NameRuns, HeldFaults, HeldChanges};
 ghost use Rattle.model_laws.specs.ChainExamples.{ChainRuns};
-ghost use Rattle.model_laws.specs.Laws.{CreatesKeepOthers, KillsTheNewest, KillsOneLabel, EachStandsOnce, DepthDoesNotMatter, StepGivesNames, NamesStaySingle, StepKeepsNames, StepKeepsBuckets, StepKeepsPools, StepChangesOnly, BucketsAsPieces, FaultOfCuts, ClearsKeepOthers, ClearsTakeAlong, AsideLasts, ReadsDropNothing, FilesCloseLast, StepKeepsFiles};
+ghost use Rattle.model_laws.specs.Laws.{CreatesKeepOthers, KillsTheNewest, KillsOneLabel, EachStandsOnce, DepthDoesNotMatter, StepGivesNames, NamesStaySingle};
+ghost use Rattle.model_laws.specs.Laws.{StepKeepsNames, StepKeepsBuckets, StepKeepsPools, StepChangesOnly, BucketsAsPieces, FaultOfCuts, ClearsKeepOthers};
+ghost use Rattle.model_laws.specs.Laws.{ClearsTakeAlong, AsideLasts, ReadsDropNothing, FilesCloseLast, StepKeepsFiles};
 ghost use Rattle.model_laws.specs.AsDeclared.{StepKeepsDeclared};
 ghost use Rattle.model_laws.specs.Registered.{StepKeepsRegistered};
 ghost use Rattle.model_laws.specs.KeptInRuns.{KeptInRuns, RunKeeps};
@@ -15,13 +17,16 @@ ghost use Rattle.model_laws.specs.Bringing.{LateDataIsRefused, BroughtEndsOnce};
 ghost use Rattle.model_laws.specs.CallLaws.{WorldCalls};
 ghost use Rattle.model_laws.specs.StepRuns.{StepsGoOn, StepsAreARun, EndedStepsAreARun};
 ghost use Rattle.model_laws.specs.ChainCursors.{WorldCursors, SoundWorldStandsOnce, WorldRunStandsOnce};
-ghost use Rattle.model_laws.specs.RefusalOrder.{RefusedChangesNothing, RefusedStepBreaks, FaultBreaks, BrokenStaysBroken, FirstIsTold, NoConnectionIsTold, StepsTell, BusyDoesNotEnd, OnlyMemoryRefusesClose};
+ghost use Rattle.model_laws.specs.RefusalOrder.{RefusedChangesNothing, RefusedStepBreaks, FaultBreaks, BrokenStaysBroken, FirstIsTold, NoConnectionIsTold};
+ghost use Rattle.model_laws.specs.RefusalOrder.{StepsTell, BusyDoesNotEnd, OnlyMemoryRefusesClose};
 ghost use Rattle.model_laws.specs.Marks.{PassesMark, PassedIsNotUsed, UseAfterPassFaults, StepKeepsPassed, ReturnEndsIn, EventKeepsPassed, CleanedIsUsable};
 ghost use Rattle.model_laws.specs.BucketExamples.{CursorRows, MovingRows, MakerRows, CutRows, BrigadeCutRows, CursorFaults, FirstFaults, CursorRuns};
 ghost use Rattle.model_laws.specs.Ranges.{StepKeepsInRange, StepKeepsBuffer, StepKeepsRanges};
 ghost use Rattle.model_laws.specs.ChainRanges.{EventKeepsBuffers, RunKeepsBuffers, EventKeepsWorldInRange, RunsOfBytesAreRuns, RunIsInRangeWorld, EventKeepsWorldRanges, WorldRanges};
 ghost use Rattle.model_laws.specs.RangesEnd.{StepKeepsEnds};
-ghost use Rattle.model_laws.specs.BrigadeLaws.{BrigadeSplitsInOrder, MovesKeepNames, BucketSplitsInOrder, SplitKeepsBytes, PartsAtPoint, ShortIsIncomplete, PartitionKeepsBytes, UnsplitIsUnchanged, MetadataIsNotSplit, PlaceIsBehindFront, PartitionRows, BrigadeSplitRows, BucketSplitRows, MoveRows};
+ghost use Rattle.model_laws.specs.BrigadeLaws.{BrigadeSplitsInOrder, MovesKeepNames, BucketSplitsInOrder, SplitKeepsBytes, PartsAtPoint, ShortIsIncomplete};
+ghost use Rattle.model_laws.specs.BrigadeLaws.{PartitionKeepsBytes, UnsplitIsUnchanged, MetadataIsNotSplit, PlaceIsBehindFront, PartitionRows};
+ghost use Rattle.model_laws.specs.BrigadeLaws.{BrigadeSplitRows, BucketSplitRows, MoveRows};
 ghost use Rattle.model_laws.specs.ChainLaws.{TopKeepsNames, TopKeepsBuckets, TopKeepsPools, TopKeepsCalls, TopRaisesNames, RisingKeepsSound, EventKeepsWorld, RunKeepsWorld, OthersStay, OpeningStays};
 ghost use Rattle.model_laws.specs.ChainFiles.{ConnectionStepKeepsEnds, BringKeepsEnds, EventKeepsBucketsEnd, EventKeepsWorldEnds, RunEndsWorld, WorldFiles, EventKeepsFilesApart, WorldFilesApart};
 ghost use Rattle.model_laws.specs.ChainHomes.{WorldHomes};
@@ -37,7 +42,8 @@ ghost use Rattle.model_laws.specs.CursorLaws.{StepKeepsCursors, CursorsStandOnce
 ghost use Rattle.model_laws.specs.Parts.{PartIsPoolMap, OwnPartChanges, OtherPartsStay, ChangesSpareTheRoot, NewPartIsPlanted, NewPartSparesOthers, PartReadsAlike};
 ghost use Rattle.model_laws.specs.PartSteps.{StepsStayInPart, TopStaysInPart, FaultsAlike, NamesAlike, StepsSpareOthers};
 ghost use Rattle.model_laws.specs.SharedPools.{StepsSeenInPart, BeginsSeenInPart, BringsSeenInPart, OpensFileSeenInPart, EndsSeenInPart, LabelsSeenInPart, SoundOver, TopSparesOthers};
-ghost use Rattle.model_laws.specs.SharedTree.{ReachedLiesOver, StepsLeaveTheTree, BeginsLeaveTheTree, BringsLeaveTheTree, OpenFilesLeaveTheTree, EndsLeaveTheTree, OpeningPlantsAPool, ClosingTakesItsPool};
+ghost use Rattle.model_laws.specs.SharedTree.{ReachedLiesOver, StepsLeaveTheTree, BeginsLeaveTheTree, BringsLeaveTheTree, OpenFilesLeaveTheTree};
+ghost use Rattle.model_laws.specs.SharedTree.{EndsLeaveTheTree, OpeningPlantsAPool, ClosingTakesItsPool};
 ghost use Rattle.model_laws.specs.JoinedParts.{JoinedPartStays, PartsAreTheWhole};
 ghost use Rattle.model_laws.specs.PartsLast.{PartsLast, OldPoolsLast, OwnFilesLast, StepsKeepParts, StepsKeepLies, TouchedLies, OthersLie};
 

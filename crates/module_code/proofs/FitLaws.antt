@@ -60,4 +60,5 @@ fits_parts p i h =
 
 pub parts_fit : (p : Program) (a : Args) → AreFit p a → all_of (fit_tests p a) ≡ true
 parts_fit p a f =
-    every_all (fit_tests p a) (every_join (tests p a.first) _ f.first (every_join (tests p a.second) _ f.second (every_join (tests p a.third) _ f.third (every_join (tests p a.fourth) _ f.fourth (every_join (apart a.first a.second) _ f.one_two (every_join (apart a.first a.third) _ f.one_three f.two_three))))))
+    every_all (fit_tests p a) (every_join (tests p a.first) _ f.first (every_join (tests p a.second) _ f.second (every_join (tests p a.third) _ f.third
+    (every_join (tests p a.fourth) _ f.fourth (every_join (apart a.first a.second) _ f.one_two (every_join (apart a.first a.third) _ f.one_three f.two_three))))))

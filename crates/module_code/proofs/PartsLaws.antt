@@ -1,7 +1,8 @@
 -- An instruction is made again from its word and its operands.
 use Rattle.std.proofs.Common.{◌≡◌, ℕ, Bool, true, false, ◌&&◌, ◌||◌, not, List, Option, Some, None, refl, sym, ◌∙◌, ap, subst}
 use Rattle.std.specs.Prelude.{IfSome, is_some, option_map}
-use Rattle.module_code.specs.Args.{AreOf, IsSplit, arg_aim, arg_index, arg_kind_test, arg_place, arg_status, arg_text, arg_value, arg_variable, args, first_some, four_args, is_of, made, names_target, names_text, op_of, parts}
+use Rattle.module_code.specs.Args.{AreOf, IsSplit, arg_aim, arg_index, arg_kind_test, arg_place, arg_status, arg_text, arg_value, arg_variable, args, first_some, four_args, is_of, made, names_target}
+use Rattle.module_code.specs.Args.{names_text, op_of, parts}
 use Rattle.module_code.specs.Words.{op_kinds}
 use Rattle.module_code.specs.declared.arg.Arg.{Arg}
 use Rattle.module_code.specs.declared.arg.Arg.TheVariants as arg
@@ -50,7 +51,8 @@ same_kind kind.KindTest (arg.KindTest k) h = refl
 same_kind _ _ h = absurd (cc h)
 
 -- the table is the same read from either side
-made_kinds : (o : Op) (a : Args) → parts (made o a) ≡ (o, four_args (as_kind (op_kinds o).first a.first) (as_kind (op_kinds o).second a.second) (as_kind (op_kinds o).third a.third) (as_kind (op_kinds o).fourth a.fourth))
+made_kinds : (o : Op) (a : Args)
+    → parts (made o a) ≡ (o, four_args (as_kind (op_kinds o).first a.first) (as_kind (op_kinds o).second a.second) (as_kind (op_kinds o).third a.third) (as_kind (op_kinds o).fourth a.fourth))
 made_kinds op.ClearBuf a = refl
 made_kinds _ a = refl
 

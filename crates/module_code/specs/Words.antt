@@ -1,7 +1,6 @@
 -- The words of module texts.
-use Rattle.std.specs.Prelude.{Bool, true, false, ℕ, List, [], ◌∷◌, Option, find, codes}
+use Rattle.std.specs.Prelude.{Bool, true, false, ℕ, List, [], ◌∷◌, Option, find, codes, nat_eq}
 use Rattle.std.specs.Cmp.Lexicographic.{pointwise}
-use Rattle.std.specs.Prelude.{nat_eq}
 use Rattle.module_code.specs.declared.instr.KindTest.{KindTest}
 use Rattle.module_code.specs.declared.instr.KindTest.TheVariants as kind_test
 use Rattle.module_code.specs.declared.word.Op.{Op}

@@ -1,7 +1,8 @@
 //! The operands of an instruction, by their kinds.
 
 ghost use Rattle.std.specs.Prelude.{◌≡◌};
-ghost use Rattle.module_code.specs.Args.{arg_aim, arg_index, arg_kind_test, arg_place, arg_status, arg_text, arg_value, arg_variable, first_some, no_arg, one_arg, names_target, four_args, three_args, two_args};
+ghost use Rattle.module_code.specs.Args.{arg_aim, arg_index, arg_kind_test, arg_place, arg_status, arg_text, arg_value, arg_variable, first_some, no_arg};
+ghost use Rattle.module_code.specs.Args.{one_arg, names_target, four_args, three_args, two_args};
 
 use crate::instr::{KindTest, PoolRef, Status, Value, VarRef};
 

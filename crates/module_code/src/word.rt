@@ -1,7 +1,8 @@
 //! The words of module texts, and what operands follow each.
 
 ghost use Rattle.std.specs.Prelude.{◌≡◌};
-ghost use Rattle.module_code.specs.Words.{going_on, leaving, op_goes_on, op_text, op_kinds, signature, word_text, word_kinds, word_at, no_operand, one_operand, two_operands, three_operands, four_operands};
+ghost use Rattle.module_code.specs.Words.{going_on, leaving, op_goes_on, op_text, op_kinds, signature, word_text, word_kinds, word_at, no_operand, one_operand};
+ghost use Rattle.module_code.specs.Words.{two_operands, three_operands, four_operands};
 
 /// What an operand may be.
 #[derive(Clone, Copy)]

@@ -1,7 +1,7 @@
 -- An instruction is made again from its word and its operands.
 use Rattle.std.proofs.Common.{◌≡◌, ℕ, Bool, true, false, ◌&&◌, ◌||◌, not, List, Option, Some, None, refl, sym, ◌∙◌, ap, subst}
 use Rattle.std.specs.Prelude.{IfSome, is_some, option_map}
-use Rattle.module_code.specs.Args.{AreOf, IsSplit, arg_aim, arg_index, arg_kind_test, arg_place, arg_status, arg_text, arg_value, arg_variable, args, first_some, four_args, is_of, made, names_target, names_text, op_of, parts}
+use Rattle.module_code.specs.Args.{AreOf, args, first_some, four_args, is_of, made, names_target, names_text, op_of, parts}
 use Rattle.module_lang.specs.Handlers.{arg_in, args_in, label_of, op_instr}
 use Rattle.module_lang.specs.Operands.{operand_kind_is_text}
 use Rattle.module_code.proofs.PartsLaws.{made_again, split_again}
@@ -82,7 +82,8 @@ picked false false false d p q r s h = (s, λ e. absurd (cc e), λ e. absurd (cc
 picked _ _ _ _ p q r s h = absurd (cc h)
 
 -- what holds of the first of four, of which there is one at most, holds of each
-pub each_some : (a b c d : Option ℕ) (P : ℕ → Type 0) → at_most_one (is_some a) (is_some b) (is_some c) (is_some d) ≡ true → IfSome (first_some a b c d) P → IfSome a P × IfSome b P × IfSome c P × IfSome d P
+pub each_some : (a b c d : Option ℕ) (P : ℕ → Type 0) → at_most_one (is_some a) (is_some b) (is_some c) (is_some d) ≡ true → IfSome (first_some a b c d) P → IfSome a P × IfSome b P × IfSome c P
+    × IfSome d P
 each_some None None None d P g h = (tt, tt, tt, h)
 each_some None None (Some x) None P g h = (tt, tt, h, tt)
 each_some None (Some x) None None P g h = (tt, h, tt, tt)

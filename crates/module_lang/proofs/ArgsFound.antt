@@ -38,7 +38,8 @@ pub record Found (k : OperandKind) (rest : List ℕ) (o : Operand) (x : ℕ) : T
   pub name : List ℕ
   pub spelled : List ℕ
   pub text : List ℕ
-  pub whole : (n s : List ℕ) (os : List (List ℕ)) → (is_label k ≡ true → n ≡ name) → (operand_kind_is_text k ≡ true → s ≡ spelled) → after_operand k rest ≡ operands_text os → rest ≡ operands_text (arg_texts (arg_in k o x 0) n s ++ os)
+  pub whole : (n s : List ℕ) (os : List (List ℕ)) → (is_label k ≡ true → n ≡ name) → (operand_kind_is_text k ≡ true → s ≡ spelled) → after_operand k rest ≡ operands_text os
+      → rest ≡ operands_text (arg_texts (arg_in k o x 0) n s ++ os)
   pub same : (n : List ℕ) (len : ℕ) → (is_label k ≡ true → n ≡ name) → (operand_kind_is_text k ≡ true → len ≡ length text) → o ≡ operand_of (arg_in k o x 0) (padded n) len
   pub named : is_label k ≡ true → is_name name ≡ true
   pub right : operand_kind_is_text k ≡ true → quotes.Spells spelled text × (o ≡ operand.Text (length text))
@@ -46,7 +47,8 @@ pub record Found (k : OperandKind) (rest : List ℕ) (o : Operand) (x : ℕ) : T
   pub bare : operand_kind_is_text k ≡ false → from_quote rest ≡ from_quote (after_operand k rest)
 
 -- a token that was read spells the operand of the instruction
-token_found : (k : OperandKind) (t : List ℕ) (o : Operand) (x : ℕ) → is_version k ≡ false → of_kind k o ≡ true → Spells o t → (n s : List ℕ) (len : ℕ) → (is_label k ≡ true → n ≡ t) → (arg_texts (arg_in k o x 0) n s ≡ t ∷ []) × (o ≡ operand_of (arg_in k o x 0) (padded n) len)
+token_found : (k : OperandKind) (t : List ℕ) (o : Operand) (x : ℕ) → is_version k ≡ false → of_kind k o ≡ true → Spells o t → (n s : List ℕ) (len : ℕ) → (is_label k ≡ true → n ≡ t)
+    → (arg_texts (arg_in k o x 0) n s ≡ t ∷ []) × (o ≡ operand_of (arg_in k o x 0) (padded n) len)
 token_found kind.One t o x v d h n s len l = absurd (cc v)
 token_found kind.Nothing t operand.Nothing x v d h n s len l = absurd h
 token_found kind.Text t (operand.Text m) x v d h n s len l = absurd h
@@ -69,7 +71,8 @@ label_named kind.Label t (operand.Label m) d h l = h.0
 label_named kind.Label t _ d h l = absurd (cc d)
 label_named _ t o d h l = absurd (cc l)
 
-bare_found : (k : OperandKind) (rest : List ℕ) (o : Operand) (x : ℕ) → is_version k ≡ false → operand_kind_is_nothing k ≡ false → operand_kind_is_text k ≡ false → operand_at k rest ≡ Ok o → Found k rest o x
+bare_found : (k : OperandKind) (rest : List ℕ) (o : Operand) (x : ℕ) → is_version k ≡ false → operand_kind_is_nothing k ≡ false → operand_kind_is_text k ≡ false → operand_at k rest ≡ Ok o
+    → Found k rest o x
 bare_found k rest o x v n q h =
     let y = read_token k rest o n q h in
     let d = read_kind k rest o h in
@@ -169,7 +172,8 @@ pub record AreFound (i : Op) (o : Operands) (x : ℕ) (rest : List ℕ) : Type 0
   pub text : List ℕ
   pub whole : rest ≡ operands_text (args_texts (args_in (op_kinds i) o x 0) name spelled)
   pub same : o ≡ written_as (args_in (op_kinds i) o x 0) (padded name) (length text)
-  pub named : IfSome (first_some (names_target (arg_in (op_kinds i).first o.first x 0)) (names_target (arg_in (op_kinds i).second o.second x 0)) (names_target (arg_in (op_kinds i).third o.third x 0)) (names_target (arg_in (op_kinds i).fourth o.fourth x 0))) (λ _. is_name name ≡ true)
+  pub named : IfSome (first_some (names_target (arg_in (op_kinds i).first o.first x 0)) (names_target (arg_in (op_kinds i).second o.second x 0))
+      (names_target (arg_in (op_kinds i).third o.third x 0)) (names_target (arg_in (op_kinds i).fourth o.fourth x 0))) (λ _. is_name name ≡ true)
   pub has : has_text o ≡ operand_kind_is_text (op_kinds i).second
   pub right : operand_kind_is_text (op_kinds i).second ≡ true → quotes.Spells spelled text × (o.second ≡ operand.Text (length text))
   pub behind : operand_kind_is_text (op_kinds i).second ≡ true → (word : List ℕ) → unquoted word ≡ true → text_of (quoted (from_quote (word ++ rest))) ≡ Some text
@@ -214,8 +218,10 @@ ops_found i o x rest h =
       text = f2.text;
       whole = w1;
       same = λ j. made (p j) (q j) (r j) (u j);
-      named = first_if _ _ _ _ P (target_if k.first o.first x 0 P (λ e. ap is_name (n.1 e) ∙ f1.named e)) (target_if k.second o.second x 0 P (λ e. ap is_name (n.2 e) ∙ f2.named e)) (target_if k.third o.third x 0 P (λ e. ap is_name (n.3 e) ∙ f3.named e)) (target_if k.fourth o.fourth x 0 P (λ e. ap is_name (n.4 e) ∙ f4.named e));
-      has = only_second (is_text_operand o.first) (is_text_operand o.second) (is_text_operand o.third) (is_text_operand o.fourth) (kind_text k.first o.first d.first ∙ g.first) (kind_text k.third o.third d.third ∙ g.third) (kind_text k.fourth o.fourth d.fourth ∙ g.fourth) ∙ kind_text k.second o.second d.second;
+      named = first_if _ _ _ _ P (target_if k.first o.first x 0 P (λ e. ap is_name (n.1 e) ∙ f1.named e)) (target_if k.second o.second x 0 P (λ e. ap is_name (n.2 e) ∙ f2.named e))
+          (target_if k.third o.third x 0 P (λ e. ap is_name (n.3 e) ∙ f3.named e)) (target_if k.fourth o.fourth x 0 P (λ e. ap is_name (n.4 e) ∙ f4.named e));
+      has = only_second (is_text_operand o.first) (is_text_operand o.second) (is_text_operand o.third) (is_text_operand o.fourth) (kind_text k.first o.first d.first ∙ g.first)
+          (kind_text k.third o.third d.third ∙ g.third) (kind_text k.fourth o.fourth d.fourth ∙ g.fourth) ∙ kind_text k.second o.second d.second;
       right = f2.right;
       behind = λ e word free.
           let at : from_quote (word ++ rest) ≡ s ++ r2 = quote_behind word rest free ∙ f1.bare g.first ∙ f2.at e in
@@ -227,11 +233,14 @@ word_unquoted op.ClearBuf = refl
 word_unquoted _ = refl
 
 -- the text of an instruction is the one in its line
-pub texted : (i : Op) (o : Operands) (x : ℕ) (rest : List ℕ) (f : AreFound i o x rest) (bytes : List ℕ) → from_quote bytes ≡ from_quote (op_text i ++ rest) → IfSome (first_some (names_text (arg_in (op_kinds i).first o.first x 0)) (names_text (arg_in (op_kinds i).second o.second x 0)) (names_text (arg_in (op_kinds i).third o.third x 0)) (names_text (arg_in (op_kinds i).fourth o.fourth x 0))) (λ _. (w : List ℕ) × (step_texts o bytes ≡ w ∷ []) × quotes.Spells f.spelled w)
+pub texted : (i : Op) (o : Operands) (x : ℕ) (rest : List ℕ) (f : AreFound i o x rest) (bytes : List ℕ) → from_quote bytes ≡ from_quote (op_text i ++ rest)
+    → IfSome (first_some (names_text (arg_in (op_kinds i).first o.first x 0)) (names_text (arg_in (op_kinds i).second o.second x 0)) (names_text (arg_in (op_kinds i).third o.third x 0))
+    (names_text (arg_in (op_kinds i).fourth o.fourth x 0))) (λ _. (w : List ℕ) × (step_texts o bytes ≡ w ∷ []) × quotes.Spells f.spelled w)
 texted i o x rest f bytes e =
     let k = op_kinds i in
     let g = op_formed i in
     let Q : Type 0 = (w : List ℕ) × (step_texts o bytes ≡ w ∷ []) × quotes.Spells f.spelled w in
     let none : (b : Bool) → b ≡ false → b ≡ true → Q = λ b p q. absurd (cc (sym p ∙ q)) in
     let read : operand_kind_is_text k.second ≡ true → text_of (quoted (from_quote bytes)) ≡ Some f.text = λ t. ap (λ y. text_of (quoted y)) e ∙ f.behind t (op_text i) (word_unquoted i) in
-    first_if _ _ _ _ Q (text_if k.first o.first x 0 Q (none (operand_kind_is_text k.first) g.first)) (text_if k.second o.second x 0 Q (λ t. (f.text, rw (f.has ∙ t, read t) refl, (f.right t).0))) (text_if k.third o.third x 0 Q (none (operand_kind_is_text k.third) g.third)) (text_if k.fourth o.fourth x 0 Q (none (operand_kind_is_text k.fourth) g.fourth))
+    first_if _ _ _ _ Q (text_if k.first o.first x 0 Q (none (operand_kind_is_text k.first) g.first)) (text_if k.second o.second x 0 Q (λ t. (f.text, rw (f.has ∙ t, read t) refl, (f.right t).0)))
+    (text_if k.third o.third x 0 Q (none (operand_kind_is_text k.third) g.third)) (text_if k.fourth o.fourth x 0 Q (none (operand_kind_is_text k.fourth) g.fourth))

@@ -30,11 +30,13 @@ module _ (d : Draft) (e : AsmRefusal) (start : List Instr) (none : start ≡ [])
   unfolding program_of
   stop2 a p h = rw (rw none at p) (tells (λ m. m) e (handler_resolved d.open.labels d.init a) _ h)
 
-  pub stop3 : (a b : List Instr) → handler_resolved [] d.open start ≡ Ok a → handler_resolved d.open.labels d.init a ≡ Ok b → Tells e (handler_resolved (d.open.labels ++ d.init.labels) d.main b) → Gives {X = Program} (λ m. m) (Err e) (program_of d)
+  pub stop3 : (a b : List Instr) → handler_resolved [] d.open start ≡ Ok a → handler_resolved d.open.labels d.init a ≡ Ok b → Tells e (handler_resolved (d.open.labels ++ d.init.labels) d.main b)
+      → Gives {X = Program} (λ m. m) (Err e) (program_of d)
   unfolding program_of
   stop3 a b p q h = rw (rw none at p, q) (tells (λ m. m) e (handler_resolved (d.open.labels ++ d.init.labels) d.main b) _ h)
 
-pub done : (d : Draft) (start a b c : List Instr) → start ≡ [] → handler_resolved [] d.open start ≡ Ok a → handler_resolved d.open.labels d.init a ≡ Ok b → handler_resolved (d.open.labels ++ d.init.labels) d.main b ≡ Ok c → program_of d ≡ Ok (program d.pools d.brigades d.texts c (length a) (length b))
+pub done : (d : Draft) (start a b c : List Instr) → start ≡ [] → handler_resolved [] d.open start ≡ Ok a → handler_resolved d.open.labels d.init a ≡ Ok b
+    → handler_resolved (d.open.labels ++ d.init.labels) d.main b ≡ Ok c → program_of d ≡ Ok (program d.pools d.brigades d.texts c (length a) (length b))
 unfolding program_of
 done d start a b c none p q r = rw (rw none at p, q, r) refl
 

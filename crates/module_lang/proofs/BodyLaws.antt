@@ -1,5 +1,6 @@
 -- The lines of handlers and of declarations, in the order in which they are spelled.
-use Rattle.std.proofs.Common.{◌≡◌, ℕ, suc, ◌+◌, ◌<◌, ◌≤◌, Bool, true, false, cond, List, [], ◌∷◌, ◌++◌, length, map, Option, Some, None, refl, sym, ◌∙◌, ap, subst, arith, append_assoc, append-nil, length-append}
+use Rattle.std.proofs.Common.{◌≡◌, ℕ, suc, ◌+◌, ◌<◌, ◌≤◌, Bool, true, false, cond, List, [], ◌∷◌, ◌++◌, length, map, Option, Some, None, refl, sym, ◌∙◌, ap, subst, arith, append_assoc, append-nil}
+use Rattle.std.proofs.Common.{length-append}
 use Rattle.std.specs.Prelude.{IfSome, filter_map, is_some, option_to_list, slice_get}
 use Rattle.std.proofs.lemmas.Bool.{eq-eqb}
 use Rattle.std.specs.List.{cons_option, range_with_len}
@@ -14,7 +15,8 @@ use Rattle.module_code.specs.Program.{Program, IsModule, fits, target, text_at, 
 use Rattle.module_code.specs.Args.{args, names_text, op_of}
 use Rattle.byte_text.specs.Quoted.{quoted, text_of}
 use Rattle.module_code.specs.Spelling.{operands_of}
-use Rattle.module_lang.specs.Texts.{CodeLine, label, step, arg_texts, brigade_text, cursor_text, number_text, operands_text, status_text, value_text, code_text, instr_word, line_text, instrs, operand_texts, pool_texts, brigade_texts, place_text, own_text}
+use Rattle.module_lang.specs.Texts.{CodeLine, label, step, arg_texts, brigade_text, cursor_text, number_text, operands_text, status_text, value_text, code_text, instr_word, line_text, instrs}
+use Rattle.module_lang.specs.Texts.{operand_texts, pool_texts, brigade_texts, place_text, own_text}
 use Rattle.byte_text.specs.QuotedTexts.{Spells}
 use Rattle.module_code.specs.Words.{kind_test_text, word_text, word_kinds}
 use Rattle.module_code.specs.declared.arg.Arg.{Arg}
@@ -105,11 +107,13 @@ label_matches p code h n name m =
     let size : length h.steps ≡ 0 + length (bares p code) = let e : length h.steps ≡ length (bares p code) = sym (length-map h.steps bare) ∙ ap length m.steps in omega arith in
     let x : Label = record { line = n; name = padded name; place = length h.steps } in
     record {
-      labels = map-append mark h.labels (x ∷ []) ∙ ap (λ ms. ms ++ (padded name, length h.steps) ∷ []) m.labels ∙ ap (λ k. marks_from 0 code ++ (padded name, k) ∷ []) size ∙ sym (marks-label p 0 code name);
+      labels = map-append mark h.labels (x ∷ []) ∙ ap (λ ms. ms ++ (padded name, length h.steps) ∷ []) m.labels ∙ ap (λ k. marks_from 0 code ++ (padded name, k) ∷ []) size
+          ∙ sym (marks-label p 0 code name);
       steps = m.steps ∙ sym (bares-label p code name);
     }
 
-step_matches : (p : Program) (code : List CodeLine) (h : HandlerLines) (x : DraftStep) (i : Instr) (name s : List ℕ) → bare x ≡ written p i name → Matches p code h → Matches p (code ++ step i name s ∷ []) (with_more h x)
+step_matches : (p : Program) (code : List CodeLine) (h : HandlerLines) (x : DraftStep) (i : Instr) (name s : List ℕ) → bare x ≡ written p i name → Matches p code h
+    → Matches p (code ++ step i name s ∷ []) (with_more h x)
 step_matches p code h x i name s e m = record {
   labels = m.labels ∙ sym (marks-step 0 code i name s);
   steps = map-append bare h.steps (x ∷ []) ∙ ap (λ bs. bs ++ bare x ∷ []) m.steps ∙ ap (λ y. bares p code ++ y ∷ []) e ∙ sym (bares-step p code i name s);
@@ -152,7 +156,8 @@ pub record IsStage (p : Program) (q : Part) (front : List Instr) (H : List CodeL
 -- what is due of each line of a handler
 abbrev pub IsRight : Program → Part → CodeLine → Type 0
 IsRight p q (label name) = is_name name ≡ true
-IsRight p q (step i name s) = (fits p i ≡ true) × (misplaced q p.pools p.brigades (op_of i) (operands_of i [] 0) ≡ false) × IfSome (target i) (λ _. is_name name ≡ true) × IfSome (text_of_instr i) (λ t. Spells s (text_at p t))
+IsRight p q (step i name s) = (fits p i ≡ true) × (misplaced q p.pools p.brigades (op_of i) (operands_of i [] 0) ≡ false) × IfSome (target i) (λ _. is_name name ≡ true)
+    × IfSome (text_of_instr i) (λ t. Spells s (text_at p t))
 
 abbrev pub AreRight : Program → Part → List CodeLine → Type 0
 AreRight p q [] = Unit {0}
@@ -182,7 +187,8 @@ number_here p before after i s whole = here (text_of_instr i) refl
 -- one more instruction, and its text
 texts_more : (p : Program) (is : List Instr) (i : Instr) (ts : List (List ℕ)) → ts ≡ texts_of p is → ts ++ text_list p (text_of_instr i) ≡ texts_of p (is ++ i ∷ [])
 texts_more p is i ts e =
-    ap (λ x. x ++ text_list p (text_of_instr i)) e ∙ ap (λ x. texts_of p is ++ x) (one (text_of_instr i)) ∙ sym (map-append (text_at p) (numbers is) (numbers (i ∷ []))) ∙ ap (map (text_at p)) (sym (filter_map-append text_of_instr is (i ∷ [])))
+    ap (λ x. x ++ text_list p (text_of_instr i)) e ∙ ap (λ x. texts_of p is ++ x) (one (text_of_instr i)) ∙ sym (map-append (text_at p) (numbers is) (numbers (i ∷ [])))
+    ∙ ap (map (text_at p)) (sym (filter_map-append text_of_instr is (i ∷ [])))
   where
     one : (o : Option ℕ) → text_list p o ≡ map (text_at p) (cons_option o [])
     one None = refl
@@ -193,7 +199,8 @@ text_is None b m e h = rw e refl
 text_is (Some t) b m e h = rw e (ap Some (sym h))
 
 -- no operand but a text has a quote
-arg_bare : (p : Program) (a : Arg) (n s : List ℕ) (len : ℕ) (os : List (List ℕ)) → IsSaid p a n s len → names_text a ≡ None → from_quote (operands_text (arg_texts a n s ++ os)) ≡ from_quote (operands_text os)
+arg_bare : (p : Program) (a : Arg) (n s : List ℕ) (len : ℕ) (os : List (List ℕ)) → IsSaid p a n s len → names_text a ≡ None
+    → from_quote (operands_text (arg_texts a n s ++ os)) ≡ from_quote (operands_text os)
 arg_bare p a n s len os x e = by_kind a x e
   where
     by_kind : (a : Arg) → IsSaid p a n s len → names_text a ≡ None → from_quote (operands_text (arg_texts a n s ++ os)) ≡ from_quote (operands_text os)
@@ -212,12 +219,14 @@ arg_bare p a n s len os x e = by_kind a x e
     by_kind (arg.Cursor c) x e = quote_behind (cursor_text c) (operands_text os) (token_unquoted (operand.Cursor c) (cursor_text c) (refl, x.fit.0))
     by_kind (arg.KindTest k) x e = quote_behind (kind_test_text k) (operands_text os) (token_unquoted (operand.KindTest k) (kind_test_text k) refl)
 
-text_first : (p : Program) (a : Arg) (n s : List ℕ) (os : List (List ℕ)) (t : ℕ) → names_text a ≡ Some t → Spells s (text_at p t) → from_quote (operands_text (arg_texts a n s ++ os)) ≡ s ++ operands_text os
+text_first : (p : Program) (a : Arg) (n s : List ℕ) (os : List (List ℕ)) (t : ℕ) → names_text a ≡ Some t → Spells s (text_at p t)
+    → from_quote (operands_text (arg_texts a n s ++ os)) ≡ s ++ operands_text os
 text_first p (arg.Text u) n s os t e h = rw h.whole refl
 text_first p _ n s os t e h = absurd (cc e)
 
 -- the text that stands in the line of an instruction
-pub text_entered : (p : Program) (i : Instr) (name s bytes : List ℕ) (k : ℕ) → AreSaid p (args i) name s k → IfSome (text_of_instr i) (λ t. Spells s (text_at p t)) → unindented bytes ≡ line_text (instr_word i) (operand_texts i name s) → step_texts (operands_of i (padded name) k) bytes ≡ text_list p (text_of_instr i)
+pub text_entered : (p : Program) (i : Instr) (name s bytes : List ℕ) (k : ℕ) → AreSaid p (args i) name s k → IfSome (text_of_instr i) (λ t. Spells s (text_at p t))
+    → unindented bytes ≡ line_text (instr_word i) (operand_texts i name s) → step_texts (operands_of i (padded name) k) bytes ≡ text_list p (text_of_instr i)
 text_entered p i name s bytes k x h e = rw (has_text_of i (padded name) k) (by_text (text_of_instr i) (sym (formed i).second) h)
   where
     os : List (List ℕ)
@@ -237,14 +246,17 @@ text_short p None s h = omega arith
 text_short p (Some t) s h = s.short t [] h
 
 -- the lines of a handler are taken one after another
-pub body_goes : (p : Program) (q : Part) (front back : List Instr) (H : List CodeLine → Draft → Type 0) → IsStage p q front H → IsModule p → (rest done : List CodeLine) (d : Draft) (ss : List (List ℕ)) (P : Draft → Type 0) → H done d → AreRight p q rest → p.code ≡ front ++ (instrs (done ++ rest) ++ back) → ((e : Draft) → H (done ++ rest) e → Goes e ss P) → Goes d (map code_text rest ++ ss) P
+pub body_goes : (p : Program) (q : Part) (front back : List Instr) (H : List CodeLine → Draft → Type 0) → IsStage p q front H → IsModule p
+    → (rest done : List CodeLine) (d : Draft) (ss : List (List ℕ)) (P : Draft → Type 0) → H done d → AreRight p q rest → p.code ≡ front ++ (instrs (done ++ rest) ++ back)
+    → ((e : Draft) → H (done ++ rest) e → Goes e ss P) → Goes d (map code_text rest ++ ss) P
 unfolding word_kinds
 body_goes p q front back H stage s [] done d ss P h right whole more = more d (subst (λ c. H c d) (sym (append-nil done)) h)
 body_goes p q front back H stage s (label name ∷ ls) done d ss P h right whole more =
     let at = stage.at done d h in
     let same : (done ++ label name ∷ []) ++ ls ≡ done ++ label name ∷ ls = append_assoc done (label name ∷ []) ls in
     goes_label d name (map code_text ls ++ ss) P (ap is_handler at.part ∙ stage.handled) right.0 (λ n.
-    subst (λ x. Goes (label_added x d n (padded name)) (map code_text ls ++ ss) P) (sym at.part) (body_goes p q front back H stage s ls (done ++ label name ∷ []) (label_added q d n (padded name)) ss P (stage.labels done d n name h) right.1 (rw same whole) (λ e x. more e (subst (λ c. H c e) same x))))
+    subst (λ x. Goes (label_added x d n (padded name)) (map code_text ls ++ ss) P) (sym at.part) (body_goes p q front back H stage s ls (done ++ label name ∷ [])
+    (label_added q d n (padded name)) ss P (stage.labels done d n name h) right.1 (rw same whole) (λ e x. more e (subst (λ c. H c e) same x))))
 body_goes p q front back H stage s (step i name w ∷ ls) done d ss P h right whole more =
     let at = stage.at done d h in
     let same : (done ++ step i name w ∷ []) ++ ls ≡ done ++ step i name w ∷ ls = append_assoc done (step i name w ∷ []) ls in
@@ -252,20 +264,25 @@ body_goes p q front back H stage s (step i name w ∷ ls) done d ss P h right wh
     let o = operands_of i (padded name) k in
     let before = front ++ instrs done in
     let after = instrs ls ++ back in
-    let split : p.code ≡ before ++ i ∷ after = whole ∙ ap (λ x. front ++ (x ++ back)) (instrs-append done (step i name w ∷ ls)) ∙ ap (λ x. front ++ x) (append_assoc (instrs done) (i ∷ instrs ls) back) ∙ sym (append_assoc front (instrs done) (i ∷ after)) in
+    let split : p.code ≡ before ++ i ∷ after = whole ∙ ap (λ x. front ++ (x ++ back)) (instrs-append done (step i name w ∷ ls))
+    ∙ ap (λ x. front ++ x) (append_assoc (instrs done) (i ∷ instrs ls) back) ∙ sym (append_assoc front (instrs done) (i ∷ after)) in
     let number = number_here p before after i s split in
     let count : length d.texts ≡ length (numbers before) = ap length (stage.texts done d h) ∙ length-map (numbers before) (text_at p) in
-    let few : IfSome (text_of_instr i) (λ _. length d.texts < 64) = some_both (text_of_instr i) (λ t. (t ≡ length (numbers before)) × (t < length p.texts)) (λ _. length d.texts < 64) (λ t x. omega (arith, x.0, x.1, count, s.few)) number in
+    let few : IfSome (text_of_instr i) (λ _. length d.texts < 64) =
+    some_both (text_of_instr i) (λ t. (t ≡ length (numbers before)) × (t < length p.texts)) (λ _. length d.texts < 64) (λ t x. omega (arith, x.0, x.1, count, s.few)) number in
     let short = text_short p (text_of_instr i) s (some_both (text_of_instr i) (λ t. (t ≡ length (numbers before)) × (t < length p.texts)) (λ t. t < length p.texts) (λ t x. x.1) number) in
-    let is_next = text_is (text_of_instr i) (has_text o) (length d.texts) (has_text_of i (padded name) k) (some_both (text_of_instr i) (λ t. (t ≡ length (numbers before)) × (t < length p.texts)) (λ t. t ≡ length d.texts) (λ t x. omega (arith, x.0, count)) number) in
+    let is_next = text_is (text_of_instr i) (has_text o) (length d.texts) (has_text_of i (padded name) k)
+    (some_both (text_of_instr i) (λ t. (t ≡ length (numbers before)) × (t < length p.texts)) (λ t. t ≡ length d.texts) (λ t x. omega (arith, x.0, count)) number) in
     let bare_is = λ (n : ℕ). let e : bare (step_of n (op_of i) o d) ≡ written p i name = ap (λ x. (op_of i, o, x)) is_next in e in
     let low : instruction_count d < 1024 = omega (arith, stage.count done d h, ap length split, length-append before (i ∷ after), s.size) in
     let due : is_due d.part (word.Op (op_of i)) ≡ true = ap (λ x. is_due x (word.Op (op_of i))) at.part ∙ stage.due (op_of i) in
     let read = instr_again p i name w s.pools s.brigades right.0.0 right.0.2 right.0.3 in
     let sound = instr_judged p q d i (padded name) k at low right.0.0 right.0.1 short few in
     let t = λ (n : ℕ). step_of n (op_of i) o d in
-    rw (word_of_instr i) (goes_item d (word.Op (op_of i)) (operand_texts i name w) o (λ n. step_with p d.part i d (t n)) (map code_text ls ++ ss) P due read sound (λ n bytes e. rw (text_entered p i name w bytes k (args_said p i name w right.0.0 right.0.2 right.0.3) right.0.3 (e ∙ ap (λ x. line_text x (operand_texts i name w)) (sym (word_of_instr i)))) refl) (λ n.
-    subst (λ x. Goes (step_with p x i d (t n)) (map code_text ls ++ ss) P) (sym at.part) (body_goes p q front back H stage s ls (done ++ step i name w ∷ []) (step_with p q i d (t n)) ss P (stage.steps done d (t n) i name w (bare_is n) h) right.1 (rw same whole) (λ e x. more e (subst (λ c. H c e) same x)))))
+    rw (word_of_instr i) (goes_item d (word.Op (op_of i)) (operand_texts i name w) o (λ n. step_with p d.part i d (t n)) (map code_text ls ++ ss) P due read sound (λ n bytes e. rw
+    (text_entered p i name w bytes k (args_said p i name w right.0.0 right.0.2 right.0.3) right.0.3 (e ∙ ap (λ x. line_text x (operand_texts i name w)) (sym (word_of_instr i)))) refl) (λ n.
+    subst (λ x. Goes (step_with p x i d (t n)) (map code_text ls ++ ss) P) (sym at.part) (body_goes p q front back H stage s ls (done ++ step i name w ∷ []) (step_with p q i d (t n)) ss P
+    (stage.steps done d (t n) i name w (bare_is n) h) right.1 (rw same whole) (λ e x. more e (subst (λ c. H c e) same x)))))
 
 module _ (p : Program) where
   -- the instructions of a handler with one more
@@ -339,18 +356,21 @@ pub homes_from : (n : ℕ) (qs : List PoolRef) → ((j : ℕ) (q : PoolRef) → 
 homes_from n [] h = tt
 homes_from n (q ∷ qs) h = (h 0 q refl, homes_from n qs (λ j x s. h (suc j) x s))
 
-pub pools_go : (p : Program) (qs done : List PoolRef) (k : ℕ) (d : Draft) (ss : List (List ℕ)) (P : Draft → Type 0) → d.part ≡ part.Pools → Declares p done [] d → k ≡ length done → length (done ++ qs) ≤ 8 → Lower k qs → ((e : Draft) → Declares p (done ++ qs) [] e → Goes e ss P) → Goes d (pool_texts k qs ++ ss) P
+pub pools_go : (p : Program) (qs done : List PoolRef) (k : ℕ) (d : Draft) (ss : List (List ℕ)) (P : Draft → Type 0) → d.part ≡ part.Pools → Declares p done [] d → k ≡ length done
+    → length (done ++ qs) ≤ 8 → Lower k qs → ((e : Draft) → Declares p (done ++ qs) [] e → Goes e ss P) → Goes d (pool_texts k qs ++ ss) P
 unfolding word_kinds word_text judged
 pools_go p [] done k d ss P at s size small low more = more d (rw (append-nil done) s)
 pools_go p (q ∷ qs) done k d ss P at s size small low more =
     let o = operands (operand.Place (pool.Own k)) (operand.Place q) in
     let long = length-append done (q ∷ qs) in
     let high : k < 8 = omega (arith, long) in
-    let read = two_again kind.Pool kind.Place (operand.Place (pool.Own k)) (operand.Place q) (place_text (pool.Own k)) (place_text q) (pool_operand k high) (place_operand q (declared_up k 8 q (omega arith) low.0)) in
+    let read = two_again kind.Pool kind.Place (operand.Place (pool.Own k)) (operand.Place q) (place_text (pool.Own k)) (place_text q) (pool_operand k high)
+    (place_operand q (declared_up k 8 q (omega arith) low.0)) in
     let count : length d.pools ≡ k = ap length s.pools ∙ sym size in
     let same : (done ++ q ∷ []) ++ qs ≡ done ++ q ∷ qs = append_assoc done (q ∷ []) qs in
     let one = length-append done (q ∷ []) in
-    goes_item d word.Pool (place_text (pool.Own k) ∷ place_text q ∷ []) o (λ n. record d { pools = d.pools ++ q ∷ [] }) (pool_texts (k + 1) qs ++ ss) P (rw at refl) read (rw (count, eq-eqb k k refl, low.0) refl) (λ n bytes _. refl) (λ n.
+    goes_item d word.Pool (place_text (pool.Own k) ∷ place_text q ∷ []) o (λ n. record d { pools = d.pools ++ q ∷ [] }) (pool_texts (k + 1) qs ++ ss) P (rw at refl) read
+    (rw (count, eq-eqb k k refl, low.0) refl) (λ n bytes _. refl) (λ n.
     pools_go p qs (done ++ q ∷ []) (k + 1) (record d { pools = d.pools ++ q ∷ [] }) ss P at (record {
       brigade = s.brigade;
       opening = s.opening;
@@ -362,7 +382,8 @@ pools_go p (q ∷ qs) done k d ss P at s size small low more =
       third = s.third;
     }) (omega (arith, one)) (rw same small) low.1 (λ e x. more e (rw same at x)))
 
-pub brigades_go : (p : Program) (pools qs done : List PoolRef) (k : ℕ) (d : Draft) (ss : List (List ℕ)) (P : Draft → Type 0) → Declares p pools done d → k ≡ length done → length (done ++ qs) ≤ 8 → length pools ≤ 8 → Homes (length pools) qs → ((e : Draft) → Declares p pools (done ++ qs) e → Goes e ss P) → Goes d (brigade_texts k qs ++ ss) P
+pub brigades_go : (p : Program) (pools qs done : List PoolRef) (k : ℕ) (d : Draft) (ss : List (List ℕ)) (P : Draft → Type 0) → Declares p pools done d → k ≡ length done → length (done ++ qs) ≤ 8
+    → length pools ≤ 8 → Homes (length pools) qs → ((e : Draft) → Declares p pools (done ++ qs) e → Goes e ss P) → Goes d (brigade_texts k qs ++ ss) P
 unfolding word_kinds word_text judged
 brigades_go p pools [] done k d ss P s size small few low more = more d (rw (append-nil done) s)
 brigades_go p pools (q ∷ qs) done k d ss P s size small few low more =
@@ -374,7 +395,8 @@ brigades_go p pools (q ∷ qs) done k d ss P s size small few low more =
     let same : (done ++ q ∷ []) ++ qs ≡ done ++ q ∷ qs = append_assoc done (q ∷ []) qs in
     let one = length-append done (q ∷ []) in
     let home : place_is_declared (length d.pools) q ≡ true = rw s.pools low.0 in
-    goes_item d word.Brigade (own_text k ∷ place_text q ∷ []) o (λ n. record d { part = part.Brigades; brigades = d.brigades ++ q ∷ [] }) (brigade_texts (k + 1) qs ++ ss) P s.brigade read (rw (count, eq-eqb k k refl, home) refl) (λ n bytes _. refl) (λ n.
+    goes_item d word.Brigade (own_text k ∷ place_text q ∷ []) o (λ n. record d { part = part.Brigades; brigades = d.brigades ++ q ∷ [] }) (brigade_texts (k + 1) qs ++ ss) P s.brigade read
+    (rw (count, eq-eqb k k refl, home) refl) (λ n bytes _. refl) (λ n.
     brigades_go p pools qs (done ++ q ∷ []) (k + 1) (record d { part = part.Brigades; brigades = d.brigades ++ q ∷ [] }) ss P (record {
       brigade = refl;
       opening = refl;

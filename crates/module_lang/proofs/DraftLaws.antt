@@ -1,14 +1,16 @@
 -- What each line keeps true of a draft.
-use Rattle.std.proofs.Common.{◌≡◌, ℕ, ◌+◌, ◌<◌, Bool, true, false, ◌||◌, ◌≤◌, not, ltb, List, [], ◌∷◌, ◌++◌, length, length-append, append-nil, append_assoc, inl, inr, ◌⊎◌, Some, Ok, refl, sym, ◌∙◌, ap, subst, arith}
+use Rattle.std.proofs.Common.{◌≡◌, ℕ, ◌+◌, ◌<◌, Bool, true, false, ◌||◌, ◌≤◌, not, ltb, List, [], ◌∷◌, ◌++◌, length, length-append, append-nil, append_assoc, inl, inr, ◌⊎◌, Some, Ok, refl, sym, ◌∙◌}
+use Rattle.std.proofs.Common.{ap, subst, arith}
 use Rattle.std.specs.Prelude.{All, is_some}
 use Rattle.std.specs.List.{range_with_len}
 use Rattle.std.proofs.lemmas.Bool.{and_parts, or_parts, eqb-true, ltb-true, ltb-false, lt-ltb, not-false}
 use Rattle.std.proofs.lemmas.List.Elements.{All-push, filter_map-append}
 use Rattle.module_lang.specs.Codes.{◌>>=◌, unless}
-use Rattle.module_lang.specs.Drafts.{with_step, step_added, label_added, with_line}
+use Rattle.module_lang.specs.Drafts.{with_more, with_step, step_added, label_added, with_line}
 use Rattle.module_lang.specs.Entries.{IsDraft, IsDraftStep, early_steps, entered, from_quote, item_entered, step_numbers, step_text, step_texts, step_entered}
 use Rattle.byte_text.specs.Bytes.{unindented}
-use Rattle.module_lang.specs.Lines.{instruction_count, is_due, judged, op_judged, declaration_judged, is_next, is_declared, place_is_declared, has_equal_brigades, has_long_text, is_long_text, are_declared, is_misplaced, has_room, has_text}
+use Rattle.module_lang.specs.Lines.{instruction_count, is_due, judged, op_judged, declaration_judged, is_next, is_declared, place_is_declared, has_equal_brigades, has_long_text, is_long_text}
+use Rattle.module_lang.specs.Lines.{are_declared, is_misplaced, has_room, has_text}
 use Rattle.module_lang.specs.Operands.{of_kind, operand_kind_is_text, operand_place}
 use Rattle.module_code.specs.Program.{text_of_instr}
 use Rattle.byte_text.specs.Quoted.{quoted, text_of}
@@ -19,6 +21,7 @@ use Rattle.module_lang.specs.declared.draft.Label.{Label}
 use Rattle.module_code.specs.declared.part.Part.{Part}
 use Rattle.module_code.specs.declared.part.Part.TheVariants as part
 use Rattle.module_lang.specs.declared.draft.DraftStep.{DraftStep}
+use Rattle.module_lang.specs.declared.draft.HandlerLines.{HandlerLines}
 use Rattle.module_code.specs.declared.instr.Instr.{Instr}
 use Rattle.module_code.specs.declared.instr.Instr.TheVariants as instr
 use Rattle.module_code.specs.declared.instr.PoolRef.{PoolRef}
@@ -233,81 +236,77 @@ record IsText (d : Draft) (ts : List (List ℕ)) (s : DraftStep) : Type 0 where
 pushed : (a : List DraftStep) (t : DraftStep) → step_numbers (a ++ t ∷ []) ≡ step_numbers a ++ step_numbers (t ∷ [])
 pushed a t = filter_map-append step_text a (t ∷ [])
 
-open_numbers : (a b c : List DraftStep) (t : DraftStep) (n m : ℕ) → length b + length c ≡ 0 → step_numbers a ++ (step_numbers b ++ step_numbers c) ≡ range_with_len 0 n → range_with_len 0 n ++ step_numbers (t ∷ []) ≡ range_with_len 0 m → step_numbers (a ++ t ∷ []) ++ (step_numbers b ++ step_numbers c) ≡ range_with_len 0 m
+open_numbers : (a b c : List DraftStep) (t : DraftStep) (n m : ℕ) → length b + length c ≡ 0 → step_numbers a ++ (step_numbers b ++ step_numbers c) ≡ range_with_len 0 n
+    → range_with_len 0 n ++ step_numbers (t ∷ []) ≡ range_with_len 0 m → step_numbers (a ++ t ∷ []) ++ (step_numbers b ++ step_numbers c) ≡ range_with_len 0 m
 open_numbers a b c t n m z e f =
     let none_b = empty_list b (omega arith) in
     let none_c = empty_list c (omega arith) in
     let before : step_numbers a ++ [] ≡ range_with_len 0 n = rw (none_b, none_c) at e in
     rw (none_b, none_c) (append-nil (step_numbers (a ++ t ∷ [])) ∙ pushed a t ∙ ap (λ x. x ++ step_numbers (t ∷ [])) (sym (append-nil (step_numbers a)) ∙ before) ∙ f)
 
-init_numbers : (a b c : List DraftStep) (t : DraftStep) (n m : ℕ) → length c ≡ 0 → step_numbers a ++ (step_numbers b ++ step_numbers c) ≡ range_with_len 0 n → range_with_len 0 n ++ step_numbers (t ∷ []) ≡ range_with_len 0 m → step_numbers a ++ (step_numbers (b ++ t ∷ []) ++ step_numbers c) ≡ range_with_len 0 m
+init_numbers : (a b c : List DraftStep) (t : DraftStep) (n m : ℕ) → length c ≡ 0 → step_numbers a ++ (step_numbers b ++ step_numbers c) ≡ range_with_len 0 n
+    → range_with_len 0 n ++ step_numbers (t ∷ []) ≡ range_with_len 0 m → step_numbers a ++ (step_numbers (b ++ t ∷ []) ++ step_numbers c) ≡ range_with_len 0 m
 init_numbers a b c t n m z e f =
     let none_c = empty_list c z in
     let before : step_numbers a ++ (step_numbers b ++ []) ≡ range_with_len 0 n = rw none_c at e in
     let join : step_numbers a ++ step_numbers b ≡ range_with_len 0 n = ap (λ x. step_numbers a ++ x) (sym (append-nil (step_numbers b))) ∙ before in
-    rw none_c (ap (λ x. step_numbers a ++ x) (append-nil (step_numbers (b ++ t ∷ [])) ∙ pushed b t) ∙ sym (append_assoc (step_numbers a) (step_numbers b) (step_numbers (t ∷ []))) ∙ ap (λ x. x ++ step_numbers (t ∷ [])) join ∙ f)
+    rw none_c (ap (λ x. step_numbers a ++ x) (append-nil (step_numbers (b ++ t ∷ [])) ∙ pushed b t) ∙ sym (append_assoc (step_numbers a) (step_numbers b) (step_numbers (t ∷ [])))
+    ∙ ap (λ x. x ++ step_numbers (t ∷ [])) join ∙ f)
 
-main_numbers : (a b c : List DraftStep) (t : DraftStep) (n m : ℕ) → step_numbers a ++ (step_numbers b ++ step_numbers c) ≡ range_with_len 0 n → range_with_len 0 n ++ step_numbers (t ∷ []) ≡ range_with_len 0 m → step_numbers a ++ (step_numbers b ++ step_numbers (c ++ t ∷ [])) ≡ range_with_len 0 m
+main_numbers : (a b c : List DraftStep) (t : DraftStep) (n m : ℕ) → step_numbers a ++ (step_numbers b ++ step_numbers c) ≡ range_with_len 0 n
+    → range_with_len 0 n ++ step_numbers (t ∷ []) ≡ range_with_len 0 m → step_numbers a ++ (step_numbers b ++ step_numbers (c ++ t ∷ [])) ≡ range_with_len 0 m
 main_numbers a b c t n m e f =
     let one = step_numbers (t ∷ []) in
-    ap (λ x. step_numbers a ++ (step_numbers b ++ x)) (pushed c t) ∙ ap (λ x. step_numbers a ++ x) (sym (append_assoc (step_numbers b) (step_numbers c) one)) ∙ sym (append_assoc (step_numbers a) (step_numbers b ++ step_numbers c) one) ∙ ap (λ x. x ++ one) e ∙ f
+    ap (λ x. step_numbers a ++ (step_numbers b ++ x)) (pushed c t) ∙ ap (λ x. step_numbers a ++ x) (sym (append_assoc (step_numbers b) (step_numbers c) one))
+    ∙ sym (append_assoc (step_numbers a) (step_numbers b ++ step_numbers c) one) ∙ ap (λ x. x ++ one) e ∙ f
+
+-- a draft with other handlers, and more texts
+steps_kept : (d : Draft) (ts : List (List ℕ)) (o i m : HandlerLines) (t : DraftStep) → IsDraft d → IsText d ts t
+    → instruction_count (record d { «open» = o; init = i; main = m }) ≤ 1024
+    → step_numbers o.steps ++ (step_numbers i.steps ++ step_numbers m.steps) ≡ range_with_len 0 (length (d.texts ++ ts))
+    → early_steps d.part (record d { texts = d.texts ++ ts; «open» = o; init = i; main = m }) ≡ 0
+    → All (IsDraftStep d.pools d.brigades part.Open) o.steps → All (IsDraftStep d.pools d.brigades part.Init) i.steps
+    → All (IsDraftStep d.pools d.brigades part.Main) m.steps
+    → IsDraft (record d { texts = d.texts ++ ts; «open» = o; init = i; main = m })
+steps_kept d ts o i m t s x count numbers none opening init main = record {
+  count = count;
+  pools = s.pools;
+  brigades = s.brigades;
+  parents = s.parents;
+  homes = s.homes;
+  texts = numbers;
+  few = x.few;
+  short = x.short;
+  bytes = x.bytes;
+  none = none;
+  opening = opening;
+  init = init;
+  main = main;
+}
 
 -- an instruction in the handler that is being read, with its text
-added_keeps : (p : Part) (i : Op) (d : Draft) (ts : List (List ℕ)) (s : DraftStep) → is_due p (word.Op i) ≡ true → instruction_count d < 1024 → IsDraft d → d.part ≡ p → IsDraftStep d.pools d.brigades p s → IsText d ts s → IsDraft (step_added p (record d { texts = d.texts ++ ts }) s)
+added_keeps : (p : Part) (i : Op) (d : Draft) (ts : List (List ℕ)) (s : DraftStep) → is_due p (word.Op i) ≡ true → instruction_count d < 1024 → IsDraft d → d.part ≡ p
+    → IsDraftStep d.pools d.brigades p s → IsText d ts s → IsDraft (step_added p (record d { texts = d.texts ++ ts }) s)
 added_keeps part.Open i d ts t due low s e h x =
     let one : length (d.open.steps ++ t ∷ []) ≡ length d.open.steps + 1 = length-append d.open.steps (t ∷ []) in
     let early : early_steps part.Open d ≡ 0 = ap (λ q. early_steps q d) (sym e) ∙ s.none in
-    record {
-      count = omega arith;
-      pools = s.pools;
-      brigades = s.brigades;
-      parents = s.parents;
-      homes = s.homes;
-      texts = open_numbers d.open.steps d.init.steps d.main.steps t (length d.texts) (length (d.texts ++ ts)) early s.texts x.numbers;
-      few = x.few;
-      short = x.short;
-      bytes = x.bytes;
-      none = ap (λ q. early_steps q (step_added part.Open (record d { texts = d.texts ++ ts }) t)) e ∙ early;
-      opening = All-push (IsDraftStep d.pools d.brigades part.Open) d.open.steps t s.opening h;
-      init = s.init;
-      main = s.main;
-    }
+    steps_kept d ts (with_more d.open t) d.init d.main t s x (omega arith)
+    (open_numbers d.open.steps d.init.steps d.main.steps t (length d.texts) (length (d.texts ++ ts)) early s.texts x.numbers)
+    (ap (λ q. early_steps q (step_added part.Open (record d { texts = d.texts ++ ts }) t)) e
+    ∙ early) (All-push (IsDraftStep d.pools d.brigades part.Open) d.open.steps t s.opening h) s.init s.main
 added_keeps part.Init i d ts t due low s e h x =
     let one : length (d.init.steps ++ t ∷ []) ≡ length d.init.steps + 1 = length-append d.init.steps (t ∷ []) in
     let early : early_steps part.Init d ≡ 0 = ap (λ q. early_steps q d) (sym e) ∙ s.none in
-    record {
-      count = omega arith;
-      pools = s.pools;
-      brigades = s.brigades;
-      parents = s.parents;
-      homes = s.homes;
-      texts = init_numbers d.open.steps d.init.steps d.main.steps t (length d.texts) (length (d.texts ++ ts)) early s.texts x.numbers;
-      few = x.few;
-      short = x.short;
-      bytes = x.bytes;
-      none = ap (λ q. early_steps q (step_added part.Init (record d { texts = d.texts ++ ts }) t)) e ∙ early;
-      opening = s.opening;
-      init = All-push (IsDraftStep d.pools d.brigades part.Init) d.init.steps t s.init h;
-      main = s.main;
-    }
+    steps_kept d ts d.open (with_more d.init t) d.main t s x (omega arith)
+    (init_numbers d.open.steps d.init.steps d.main.steps t (length d.texts) (length (d.texts ++ ts)) early s.texts x.numbers)
+    (ap (λ q. early_steps q (step_added part.Init (record d { texts = d.texts ++ ts }) t)) e
+    ∙ early) s.opening (All-push (IsDraftStep d.pools d.brigades part.Init) d.init.steps t s.init h) s.main
 added_keeps part.Main i d ts t due low s e h x =
     let one : length (d.main.steps ++ t ∷ []) ≡ length d.main.steps + 1 = length-append d.main.steps (t ∷ []) in
-    let early : early_steps part.Main d ≡ 0 = ap (λ q. early_steps q d) (sym e) ∙ s.none in
-    record {
-      count = omega arith;
-      pools = s.pools;
-      brigades = s.brigades;
-      parents = s.parents;
-      homes = s.homes;
-      texts = main_numbers d.open.steps d.init.steps d.main.steps t (length d.texts) (length (d.texts ++ ts)) s.texts x.numbers;
-      few = x.few;
-      short = x.short;
-      bytes = x.bytes;
-      none = ap (λ q. early_steps q (step_added part.Main (record d { texts = d.texts ++ ts }) t)) e ∙ refl;
-      opening = s.opening;
-      init = s.init;
-      main = All-push (IsDraftStep d.pools d.brigades part.Main) d.main.steps t s.main h;
-    }
+    steps_kept d ts d.open d.init (with_more d.main t) t s x (omega arith)
+    (main_numbers d.open.steps d.init.steps d.main.steps t (length d.texts) (length (d.texts ++ ts)) s.texts x.numbers)
+    (ap (λ q. early_steps q (step_added part.Main (record d { texts = d.texts ++ ts }) t)) e
+    ∙ refl) s.opening s.init (All-push (IsDraftStep d.pools d.brigades part.Main) d.main.steps t s.main h)
 added_keeps _ i d ts t due low s e h x = absurd (cc due)
 
 -- the operands of an instruction have a text where the instruction has
@@ -338,7 +337,8 @@ without_text d n i o s e = record {
   numbers = rw (e, append-nil d.texts) (append-nil (range_with_len 0 (length d.texts)));
 }
 
-with_text : (d : Draft) (n : ℕ) (i : Op) (o : Operands) (x : List ℕ) → IsDraft d → has_text o ≡ true → length x ≤ 255 → All (λ b. b < 256) x → length d.texts < 64 → IsText d (x ∷ []) (record { line = n; op = i; operands = o; text = length d.texts })
+with_text : (d : Draft) (n : ℕ) (i : Op) (o : Operands) (x : List ℕ) → IsDraft d → has_text o ≡ true → length x ≤ 255 → All (λ b. b < 256) x → length d.texts < 64
+    → IsText d (x ∷ []) (record { line = n; op = i; operands = o; text = length d.texts })
 with_text d n i o x s e low bytes room =
     let one : length (d.texts ++ x ∷ []) ≡ length d.texts + 1 = length-append d.texts (x ∷ []) in
     record {

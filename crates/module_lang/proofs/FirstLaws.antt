@@ -25,7 +25,8 @@ Judged text (Err NoMemory) = ⊥
 
 judged : (text : List ℕ) → Judged text (assembling text)
 unfolding assembling draft_read
-judged text = subst (λ r. Judged text (r >>= λ d. program_of d)) (sym (read_is (take 1048576 text) (ltb 1048576 (length text)) empty_draft 1 [])) (by lines refl (lines_tell (goes_on text) empty_draft 1 (lines_of text)))
+judged text = subst (λ r. Judged text (r >>= λ d. program_of d)) (sym (read_is (take 1048576 text) (ltb 1048576 (length text)) empty_draft 1 []))
+    (by lines refl (lines_tell (goes_on text) empty_draft 1 (lines_of text)))
   where
     lines : Option LineFault
     lines = text_fault (goes_on text) empty_draft 1 (lines_of text)

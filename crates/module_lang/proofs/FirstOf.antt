@@ -49,7 +49,8 @@ tells_here n p P o low t = judged (told p) (told_judges p)
         lowest e (inr h) = let x = low n e h in absurd (omega (arith, x))
 
 -- the sooner of two, where at one line the first has the lower code
-pub tells_sooner : (a b : Option LineFault) (P Q : ℕ → Code → Type 0) → ((m : ℕ) (c e : Code) → P m c → Q m e → code_number c ≤ code_number e) → Tells a P → Tells b Q → Tells (sooner a b) (λ m c. P m c ⊎ Q m c)
+pub tells_sooner : (a b : Option LineFault) (P Q : ℕ → Code → Type 0) → ((m : ℕ) (c e : Code) → P m c → Q m e → code_number c ≤ code_number e) → Tells a P → Tells b Q
+    → Tells (sooner a b) (λ m c. P m c ⊎ Q m c)
 tells_sooner None b P Q tie s t = tells_same b Q (λ m c. P m c ⊎ Q m c) (λ m c h. inr h) right t
   where
     right : (m : ℕ) (c : Code) → P m c ⊎ Q m c → Q m c
@@ -89,7 +90,8 @@ tells_sooner (Some x) (Some y) P Q tie s t = by (leb x.line y.line) refl
     by false q = second (leb-false x.line y.line q)
 
 -- one part of the lines and then another
-pub tells_else : (a b : Option LineFault) (P Q : ℕ → Code → Type 0) (k : ℕ) → ((m : ℕ) (c : Code) → P m c → m < k) → ((m : ℕ) (c : Code) → Q m c → k ≤ m) → Tells a P → Tells b Q → Tells (or_else a b) (λ m c. P m c ⊎ Q m c)
+pub tells_else : (a b : Option LineFault) (P Q : ℕ → Code → Type 0) (k : ℕ) → ((m : ℕ) (c : Code) → P m c → m < k) → ((m : ℕ) (c : Code) → Q m c → k ≤ m) → Tells a P → Tells b Q
+    → Tells (or_else a b) (λ m c. P m c ⊎ Q m c)
 tells_else None b P Q k low high s t = tells_same b Q (λ m c. P m c ⊎ Q m c) (λ m c h. inr h) right t
   where
     right : (m : ℕ) (c : Code) → P m c ⊎ Q m c → Q m c

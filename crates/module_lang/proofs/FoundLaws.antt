@@ -3,14 +3,11 @@ use Rattle.std.proofs.Common.{◌≡◌, ℕ, ◌+◌, true, List, [], ◌∷◌
 use Rattle.std.specs.Prelude.{codes, IfSome}
 use Rattle.std.proofs.lemmas.Bool.{eqb-true, ltb-true}
 use Rattle.std.proofs.lemmas.List.{map-append}
-use Rattle.module_lang.specs.Entries.{entered}
-use Rattle.module_lang.specs.Entries.{step_entered, step_texts}
-use Rattle.module_lang.specs.Drafts.{with_part}
-use Rattle.module_lang.specs.Drafts.{label_added, step_added}
-use Rattle.module_lang.specs.Entries.{from_quote, item_entered}
+use Rattle.module_lang.specs.Entries.{entered, step_entered, step_texts, from_quote, item_entered}
+use Rattle.module_lang.specs.Drafts.{with_part, label_added, step_added}
 use Rattle.module_lang.specs.Lines.{is_due, is_handler, is_next, judged}
 use Rattle.module_lang.specs.Operands.{of_kind, operand_place}
-use Rattle.module_lang.specs.Texts.{line_text, place_text, own_text, pool_texts, brigade_texts}
+use Rattle.module_lang.specs.Texts.{line_text, place_text, own_text, pool_texts, brigade_texts, operands_text}
 use Rattle.module_code.specs.declared.part.Part.{Part}
 use Rattle.module_code.specs.declared.part.Part.TheVariants as part
 use Rattle.module_code.specs.declared.instr.PoolRef.{PoolRef}
@@ -19,7 +16,6 @@ use Rattle.module_lang.proofs.DraftLaws.{declaration}
 use Rattle.module_lang.specs.Handlers.{op_instr}
 use Rattle.module_code.specs.Names.{is_name}
 use Rattle.module_code.specs.Program.{target, text_of_instr}
-use Rattle.module_lang.specs.Texts.{operands_text}
 use Rattle.module_code.specs.Words.{word_text, word_kinds}
 use Rattle.module_lang.specs.declared.draft.Draft.{Draft}
 use Rattle.module_lang.specs.declared.draft.Label.{Label}
@@ -33,8 +29,7 @@ use Rattle.module_code.specs.declared.word.Word.{Word}
 use Rattle.module_lang.specs.declared.lines.Line.{Line}
 use Rattle.module_lang.specs.declared.lines.Line.TheVariants as line
 use Rattle.module_code.specs.declared.word.Word.TheVariants as word
-use Rattle.module_lang.proofs.InverseLaws.{Item, Spells, none_spelled, one_taken, two_taken, own_is}
-use Rattle.module_lang.proofs.InverseLaws.{Spelled}
+use Rattle.module_lang.proofs.InverseLaws.{Item, Spells, none_spelled, one_taken, two_taken, own_is, Spelled}
 use Rattle.module_lang.proofs.ModuleLaws as modules
 use Rattle.module_lang.proofs.OperandLaws.{kinds_read}
 use Rattle.module_lang.proofs.SpellingLaws.{padded}
@@ -89,17 +84,21 @@ pub record Told (q : Part) (d : Draft) (ss : List (List ℕ)) : Type 0 where
   pub texts_b : AreTexted d.texts b
   pub texts_c : AreTexted d.texts c
 
-pub pool_texts-push : (k : ℕ) (qs : List PoolRef) (q : PoolRef) → pool_texts k (qs ++ q ∷ []) ≡ pool_texts k qs ++ line_text (codes "pool") (place_text (pool.Own (k + length qs)) ∷ place_text q ∷ []) ∷ []
+pub pool_texts-push : (k : ℕ) (qs : List PoolRef) (q : PoolRef)
+    → pool_texts k (qs ++ q ∷ []) ≡ pool_texts k qs ++ line_text (codes "pool") (place_text (pool.Own (k + length qs)) ∷ place_text q ∷ []) ∷ []
 pool_texts-push k [] q = let e : k ≡ k + 0 = omega arith in ap (λ j. line_text (codes "pool") (place_text (pool.Own j) ∷ place_text q ∷ []) ∷ []) e
 pool_texts-push k (x ∷ xs) q =
     let e : k + 1 + length xs ≡ k + suc (length xs) = omega arith in
-    ap (λ ls. line_text (codes "pool") (place_text (pool.Own k) ∷ place_text x ∷ []) ∷ ls) (pool_texts-push (k + 1) xs q ∙ ap (λ j. pool_texts (k + 1) xs ++ line_text (codes "pool") (place_text (pool.Own j) ∷ place_text q ∷ []) ∷ []) e)
+    ap (λ ls. line_text (codes "pool") (place_text (pool.Own k) ∷ place_text x ∷ []) ∷ ls)
+    (pool_texts-push (k + 1) xs q ∙ ap (λ j. pool_texts (k + 1) xs ++ line_text (codes "pool") (place_text (pool.Own j) ∷ place_text q ∷ []) ∷ []) e)
 
-pub brigade_texts-push : (k : ℕ) (qs : List PoolRef) (q : PoolRef) → brigade_texts k (qs ++ q ∷ []) ≡ brigade_texts k qs ++ line_text (codes "brigade") (own_text (k + length qs) ∷ place_text q ∷ []) ∷ []
+pub brigade_texts-push : (k : ℕ) (qs : List PoolRef) (q : PoolRef)
+    → brigade_texts k (qs ++ q ∷ []) ≡ brigade_texts k qs ++ line_text (codes "brigade") (own_text (k + length qs) ∷ place_text q ∷ []) ∷ []
 brigade_texts-push k [] q = let e : k ≡ k + 0 = omega arith in ap (λ j. line_text (codes "brigade") (own_text j ∷ place_text q ∷ []) ∷ []) e
 brigade_texts-push k (x ∷ xs) q =
     let e : k + 1 + length xs ≡ k + suc (length xs) = omega arith in
-    ap (λ ls. line_text (codes "brigade") (own_text k ∷ place_text x ∷ []) ∷ ls) (brigade_texts-push (k + 1) xs q ∙ ap (λ j. brigade_texts (k + 1) xs ++ line_text (codes "brigade") (own_text j ∷ place_text q ∷ []) ∷ []) e)
+    ap (λ ls. line_text (codes "brigade") (own_text k ∷ place_text x ∷ []) ∷ ls)
+    (brigade_texts-push (k + 1) xs q ∙ ap (λ j. brigade_texts (k + 1) xs ++ line_text (codes "brigade") (own_text j ∷ place_text q ∷ []) ∷ []) e)
 
 -- one more line of a handler
 snoc : (front : List (List ℕ)) (word s : List ℕ) (rs : List Raw) (r : Raw) → s ≡ raw_text r → (front ++ (word ∷ map raw_text rs)) ++ s ∷ [] ≡ front ++ (word ∷ map raw_text (rs ++ r ∷ []))
@@ -183,7 +182,8 @@ tell_module d n ss s o h t = record {
   texts_c = t.texts_c;
 }
 
-tell_pool : (d : Draft) (ss : List (List ℕ)) (s : List ℕ) (o : Operands) → Item d s word.Pool o → Told part.Pools d ss → Told part.Pools (record d { pools = d.pools ++ operand_place o.second ∷ [] }) (ss ++ s ∷ [])
+tell_pool : (d : Draft) (ss : List (List ℕ)) (s : List ℕ) (o : Operands) → Item d s word.Pool o → Told part.Pools d ss
+    → Told part.Pools (record d { pools = d.pools ++ operand_place o.second ∷ [] }) (ss ++ s ∷ [])
 tell_pool d ss s o h t =
     let q = operand_place o.second in
     let z : 0 + length d.pools ≡ length d.pools = omega arith in
@@ -194,7 +194,8 @@ tell_pool d ss s o h t =
       first = t.first;
       second = t.second;
       third = t.third;
-      text = ap (λ x. x ++ s ∷ []) t.text ∙ ap (λ x. codes "module 1" ∷ (pool_texts 0 d.pools ++ x ∷ [])) (pool_line d s o h ∙ ap (λ k. line_text (codes "pool") (place_text (pool.Own k) ∷ place_text q ∷ [])) (sym z)) ∙ ap (λ x. codes "module 1" ∷ x) (sym (pool_texts-push 0 d.pools q));
+      text = ap (λ x. x ++ s ∷ []) t.text ∙ ap (λ x. codes "module 1" ∷ (pool_texts 0 d.pools ++ x ∷ []))
+          (pool_line d s o h ∙ ap (λ k. line_text (codes "pool") (place_text (pool.Own k) ∷ place_text q ∷ [])) (sym z)) ∙ ap (λ x. codes "module 1" ∷ x) (sym (pool_texts-push 0 d.pools q));
       clear = t.clear;
       texts_a = t.texts_a;
       texts_b = t.texts_b;
@@ -216,7 +217,8 @@ all_pools d ss t = record {
   texts_c = t.texts_c;
 }
 
-tell_brigade : (d : Draft) (ss : List (List ℕ)) (s : List ℕ) (o : Operands) → Item d s word.Brigade o → Told part.Brigades d ss → Told part.Brigades (record d { part = part.Brigades; brigades = d.brigades ++ operand_place o.second ∷ [] }) (ss ++ s ∷ [])
+tell_brigade : (d : Draft) (ss : List (List ℕ)) (s : List ℕ) (o : Operands) → Item d s word.Brigade o → Told part.Brigades d ss
+    → Told part.Brigades (record d { part = part.Brigades; brigades = d.brigades ++ operand_place o.second ∷ [] }) (ss ++ s ∷ [])
 tell_brigade d ss s o h t =
     let q = operand_place o.second in
     let z : 0 + length d.brigades ≡ length d.brigades = omega arith in
@@ -227,7 +229,8 @@ tell_brigade d ss s o h t =
       first = t.first;
       second = t.second;
       third = t.third;
-      text = ap (λ x. x ++ s ∷ []) t.text ∙ append_assoc (head_of d) (brigade_texts 0 d.brigades) (s ∷ []) ∙ ap (λ x. head_of d ++ (brigade_texts 0 d.brigades ++ x ∷ [])) (brigade_line d s o h ∙ ap (λ k. line_text (codes "brigade") (own_text k ∷ place_text q ∷ [])) (sym z)) ∙ ap (λ x. head_of d ++ x) (sym (brigade_texts-push 0 d.brigades q));
+      text = ap (λ x. x ++ s ∷ []) t.text ∙ append_assoc (head_of d) (brigade_texts 0 d.brigades) (s ∷ []) ∙ ap (λ x. head_of d ++ (brigade_texts 0 d.brigades ++ x ∷ []))
+          (brigade_line d s o h ∙ ap (λ k. line_text (codes "brigade") (own_text k ∷ place_text q ∷ [])) (sym z)) ∙ ap (λ x. head_of d ++ x) (sym (brigade_texts-push 0 d.brigades q));
       clear = t.clear;
       texts_a = t.texts_a;
       texts_b = t.texts_b;
@@ -294,7 +297,18 @@ tell_end d n ss s o h t = record {
   texts_c = t.texts_c;
 }
 
-did_open : (d : Draft) (us : List (List ℕ)) (ss : List (List ℕ)) (s : List ℕ) (st : DraftStep) (name w : List ℕ) → Told part.Open d ss → s ≡ raw_text (did st name w) → IsWritten st name → IfSome (target (op_instr st.op st.operands st.text 0)) (λ _. is_name name ≡ true) → IsTexted (d.texts ++ us) st w → Told part.Open (step_added part.Open (record d { texts = d.texts ++ us }) st) (ss ++ s ∷ [])
+-- a step that is read into the handler of this part, and a label
+abbrev Did : Part → Type 0
+Did q = (d : Draft) (us : List (List ℕ)) (ss : List (List ℕ)) (s : List ℕ) (st : DraftStep) (name w : List ℕ) → Told q d ss → s ≡ raw_text (did st name w)
+    → IsWritten st name
+    → IfSome (target (op_instr st.op st.operands st.text 0)) (λ _. is_name name ≡ true) → IsTexted (d.texts ++ us) st w
+    → Told q (step_added q (record d { texts = d.texts ++ us }) st) (ss ++ s ∷ [])
+
+abbrev Marks : Part → Type 0
+Marks q = (d : Draft) (n : ℕ) (ss : List (List ℕ)) (s name : List ℕ) → Told q d ss → s ≡ 58 ∷ name → is_name name ≡ true
+    → Told q (label_added q d n (padded name)) (ss ++ s ∷ [])
+
+did_open : Did part.Open
 did_open d us ss s st name w t e same named one =
     record {
       a = t.a ++ did st name w ∷ [];
@@ -310,7 +324,7 @@ did_open d us ss s st name w t e same named one =
       texts_c = texted-more d.texts us t.c t.texts_c;
     }
 
-marked_open : (d : Draft) (n : ℕ) (ss : List (List ℕ)) (s name : List ℕ) → Told part.Open d ss → s ≡ 58 ∷ name → is_name name ≡ true → Told part.Open (label_added part.Open d n (padded name)) (ss ++ s ∷ [])
+marked_open : Marks part.Open
 marked_open d n ss s name t e named =
     let l : Label = record { line = n; name = padded name; place = length d.open.steps } in
     record {
@@ -327,7 +341,7 @@ marked_open d n ss s name t e named =
       texts_c = t.texts_c;
     }
 
-did_init : (d : Draft) (us : List (List ℕ)) (ss : List (List ℕ)) (s : List ℕ) (st : DraftStep) (name w : List ℕ) → Told part.Init d ss → s ≡ raw_text (did st name w) → IsWritten st name → IfSome (target (op_instr st.op st.operands st.text 0)) (λ _. is_name name ≡ true) → IsTexted (d.texts ++ us) st w → Told part.Init (step_added part.Init (record d { texts = d.texts ++ us }) st) (ss ++ s ∷ [])
+did_init : Did part.Init
 did_init d us ss s st name w t e same named one =
     record {
       a = t.a;
@@ -343,7 +357,7 @@ did_init d us ss s st name w t e same named one =
       texts_c = texted-more d.texts us t.c t.texts_c;
     }
 
-marked_init : (d : Draft) (n : ℕ) (ss : List (List ℕ)) (s name : List ℕ) → Told part.Init d ss → s ≡ 58 ∷ name → is_name name ≡ true → Told part.Init (label_added part.Init d n (padded name)) (ss ++ s ∷ [])
+marked_init : Marks part.Init
 marked_init d n ss s name t e named =
     let l : Label = record { line = n; name = padded name; place = length d.init.steps } in
     record {
@@ -360,7 +374,7 @@ marked_init d n ss s name t e named =
       texts_c = t.texts_c;
     }
 
-did_main : (d : Draft) (us : List (List ℕ)) (ss : List (List ℕ)) (s : List ℕ) (st : DraftStep) (name w : List ℕ) → Told part.Main d ss → s ≡ raw_text (did st name w) → IsWritten st name → IfSome (target (op_instr st.op st.operands st.text 0)) (λ _. is_name name ≡ true) → IsTexted (d.texts ++ us) st w → Told part.Main (step_added part.Main (record d { texts = d.texts ++ us }) st) (ss ++ s ∷ [])
+did_main : Did part.Main
 did_main d us ss s st name w t e same named one =
     record {
       a = t.a;
@@ -376,7 +390,7 @@ did_main d us ss s st name w t e same named one =
       texts_c = texted-did (d.texts ++ us) t.c st name w (texted-more d.texts us t.c t.texts_c) one;
     }
 
-marked_main : (d : Draft) (n : ℕ) (ss : List (List ℕ)) (s name : List ℕ) → Told part.Main d ss → s ≡ 58 ∷ name → is_name name ≡ true → Told part.Main (label_added part.Main d n (padded name)) (ss ++ s ∷ [])
+marked_main : Marks part.Main
 marked_main d n ss s name t e named =
     let l : Label = record { line = n; name = padded name; place = length d.main.steps } in
     record {
@@ -393,61 +407,69 @@ marked_main d n ss s name t e named =
       texts_c = texted-marked d.texts t.c l name t.texts_c;
     }
 
-on_module : (q : Part) (d : Draft) (n : ℕ) (bytes : List ℕ) (ss : List (List ℕ)) (s : List ℕ) (o : Operands) → d.part ≡ q → is_due q (word.Module) ≡ true → Item d s (word.Module) o → Told q d ss → Told (item_entered d n bytes (word.Module) o).part (item_entered d n bytes (word.Module) o) (ss ++ s ∷ [])
+-- a statement that begins with this word
+abbrev OnWord : Word → Type 0
+OnWord w = (q : Part) (d : Draft) (n : ℕ) (bytes : List ℕ) (ss : List (List ℕ)) (s : List ℕ) (o : Operands) → d.part ≡ q → is_due q w ≡ true → Item d s w o
+    → Told q d ss
+    → Told (item_entered d n bytes w o).part (item_entered d n bytes w o) (ss ++ s ∷ [])
+
+on_module : OnWord word.Module
 on_module part.Start d n bytes ss s o e due h t = tell_module d n ss s o h t
 on_module _ d n bytes ss s o e due h t = absurd (cc due)
 
-on_pool : (q : Part) (d : Draft) (n : ℕ) (bytes : List ℕ) (ss : List (List ℕ)) (s : List ℕ) (o : Operands) → d.part ≡ q → is_due q (word.Pool) ≡ true → Item d s (word.Pool) o → Told q d ss → Told (item_entered d n bytes (word.Pool) o).part (item_entered d n bytes (word.Pool) o) (ss ++ s ∷ [])
+on_pool : OnWord word.Pool
 on_pool part.Pools d n bytes ss s o e due h t = subst (λ x. Told x (record d { pools = d.pools ++ operand_place o.second ∷ [] }) (ss ++ s ∷ [])) (sym e) (tell_pool d ss s o h t)
 on_pool _ d n bytes ss s o e due h t = absurd (cc due)
 
-on_brigade : (q : Part) (d : Draft) (n : ℕ) (bytes : List ℕ) (ss : List (List ℕ)) (s : List ℕ) (o : Operands) → d.part ≡ q → is_due q (word.Brigade) ≡ true → Item d s (word.Brigade) o → Told q d ss → Told (item_entered d n bytes (word.Brigade) o).part (item_entered d n bytes (word.Brigade) o) (ss ++ s ∷ [])
+on_brigade : OnWord word.Brigade
 on_brigade part.Pools d n bytes ss s o e due h t = tell_brigade d ss s o h (all_pools d ss t)
 on_brigade part.Brigades d n bytes ss s o e due h t = tell_brigade d ss s o h t
 on_brigade _ d n bytes ss s o e due h t = absurd (cc due)
 
-on_open : (q : Part) (d : Draft) (n : ℕ) (bytes : List ℕ) (ss : List (List ℕ)) (s : List ℕ) (o : Operands) → d.part ≡ q → is_due q (word.Open) ≡ true → Item d s (word.Open) o → Told q d ss → Told (item_entered d n bytes (word.Open) o).part (item_entered d n bytes (word.Open) o) (ss ++ s ∷ [])
+on_open : OnWord word.Open
 on_open part.Pools d n bytes ss s o e due h t = tell_open d n ss s o h (all_pools d ss t)
 on_open part.Brigades d n bytes ss s o e due h t = tell_open d n ss s o h t
 on_open _ d n bytes ss s o e due h t = absurd (cc due)
 
-on_init : (q : Part) (d : Draft) (n : ℕ) (bytes : List ℕ) (ss : List (List ℕ)) (s : List ℕ) (o : Operands) → d.part ≡ q → is_due q (word.Init) ≡ true → Item d s (word.Init) o → Told q d ss → Told (item_entered d n bytes (word.Init) o).part (item_entered d n bytes (word.Init) o) (ss ++ s ∷ [])
+on_init : OnWord word.Init
 on_init part.Open d n bytes ss s o e due h t = tell_init d n ss s o h t
 on_init _ d n bytes ss s o e due h t = absurd (cc due)
 
-on_main : (q : Part) (d : Draft) (n : ℕ) (bytes : List ℕ) (ss : List (List ℕ)) (s : List ℕ) (o : Operands) → d.part ≡ q → is_due q (word.Main) ≡ true → Item d s (word.Main) o → Told q d ss → Told (item_entered d n bytes (word.Main) o).part (item_entered d n bytes (word.Main) o) (ss ++ s ∷ [])
+on_main : OnWord word.Main
 on_main part.Init d n bytes ss s o e due h t = tell_main d n ss s o h t
 on_main _ d n bytes ss s o e due h t = absurd (cc due)
 
-on_end : (q : Part) (d : Draft) (n : ℕ) (bytes : List ℕ) (ss : List (List ℕ)) (s : List ℕ) (o : Operands) → d.part ≡ q → is_due q (word.End) ≡ true → Item d s (word.End) o → Told q d ss → Told (item_entered d n bytes (word.End) o).part (item_entered d n bytes (word.End) o) (ss ++ s ∷ [])
+on_end : OnWord word.End
 on_end part.Main d n bytes ss s o e due h t = tell_end d n ss s o h t
 on_end _ d n bytes ss s o e due h t = absurd (cc due)
 
-on_op : (q : Part) (i : Op) (d : Draft) (n : ℕ) (bytes : List ℕ) (ss : List (List ℕ)) (s : List ℕ) (o : Operands) → d.part ≡ q → is_due q (word.Op i) ≡ true → from_quote bytes ≡ from_quote s → Item d s (word.Op i) o → Told q d ss → Told (step_entered d n bytes i o).part (step_entered d n bytes i o) (ss ++ s ∷ [])
-on_op part.Open i d n bytes ss s o e due u h t =
-    let x = op_spelled d s i o (length d.texts) h in
-    let texts = d.texts ++ step_texts o bytes in
-    let st : DraftStep = record { line = n; op = i; operands = o; text = length d.texts } in
-    let one = text_last (text_of_instr (op_instr i o (length d.texts) 0)) (length d.texts) d.texts (step_texts o bytes) x.text (modules.own_text i o (length d.texts) 0) refl (x.texted bytes u) in
-    let z : DraftStep → Draft = step_added part.Open (record d { texts = texts }) in
-    subst (λ y. Told (step_added y (record d { texts = texts }) st).part (step_added y (record d { texts = texts }) st) (ss ++ s ∷ [])) (sym e) (subst (λ y. Told y (z st) (ss ++ s ∷ [])) (sym e) (did_open d (step_texts o bytes) ss s st x.name x.text t x.spelled (x.len, x.same) x.named one))
-on_op part.Init i d n bytes ss s o e due u h t =
-    let x = op_spelled d s i o (length d.texts) h in
-    let texts = d.texts ++ step_texts o bytes in
-    let st : DraftStep = record { line = n; op = i; operands = o; text = length d.texts } in
-    let one = text_last (text_of_instr (op_instr i o (length d.texts) 0)) (length d.texts) d.texts (step_texts o bytes) x.text (modules.own_text i o (length d.texts) 0) refl (x.texted bytes u) in
-    let z : DraftStep → Draft = step_added part.Init (record d { texts = texts }) in
-    subst (λ y. Told (step_added y (record d { texts = texts }) st).part (step_added y (record d { texts = texts }) st) (ss ++ s ∷ [])) (sym e) (subst (λ y. Told y (z st) (ss ++ s ∷ [])) (sym e) (did_init d (step_texts o bytes) ss s st x.name x.text t x.spelled (x.len, x.same) x.named one))
-on_op part.Main i d n bytes ss s o e due u h t =
-    let x = op_spelled d s i o (length d.texts) h in
-    let texts = d.texts ++ step_texts o bytes in
-    let st : DraftStep = record { line = n; op = i; operands = o; text = length d.texts } in
-    let one = text_last (text_of_instr (op_instr i o (length d.texts) 0)) (length d.texts) d.texts (step_texts o bytes) x.text (modules.own_text i o (length d.texts) 0) refl (x.texted bytes u) in
-    let z : DraftStep → Draft = step_added part.Main (record d { texts = texts }) in
-    subst (λ y. Told (step_added y (record d { texts = texts }) st).part (step_added y (record d { texts = texts }) st) (ss ++ s ∷ [])) (sym e) (subst (λ y. Told y (z st) (ss ++ s ∷ [])) (sym e) (did_main d (step_texts o bytes) ss s st x.name x.text t x.spelled (x.len, x.same) x.named one))
-on_op _ i d n bytes ss s o e due u h t = absurd (cc due)
+same_part : (q : Part) (d : Draft) (st : DraftStep) → (step_added q d st).part ≡ d.part
+same_part part.Open d st = refl
+same_part part.Init d st = refl
+same_part _ d st = refl
 
-on_item : (d : Draft) (n : ℕ) (bytes : List ℕ) (ss : List (List ℕ)) (s : List ℕ) (w : Word) (o : Operands) → from_quote bytes ≡ from_quote s → Item d s w o → Told d.part d ss → Told (item_entered d n bytes w o).part (item_entered d n bytes w o) (ss ++ s ∷ [])
+op_done : (q : Part) → Did q → (i : Op) (d : Draft) (n : ℕ) (bytes : List ℕ) (ss : List (List ℕ)) (s : List ℕ) (o : Operands) → d.part ≡ q
+    → from_quote bytes ≡ from_quote s → Item d s (word.Op i) o → Told q d ss
+    → Told (step_entered d n bytes i o).part (step_entered d n bytes i o) (ss ++ s ∷ [])
+op_done q done i d n bytes ss s o e u h t =
+    let x = op_spelled d s i o (length d.texts) h in
+    let next : Draft = record d { texts = d.texts ++ step_texts o bytes } in
+    let st : DraftStep = record { line = n; op = i; operands = o; text = length d.texts } in
+    let one = text_last (text_of_instr (op_instr i o (length d.texts) 0)) (length d.texts) d.texts (step_texts o bytes) x.text (modules.own_text i o (length d.texts) 0) refl (x.texted bytes u) in
+    subst (λ y. Told (step_added y next st).part (step_added y next st) (ss ++ s ∷ [])) (sym e)
+    (subst (λ y. Told y (step_added q next st) (ss ++ s ∷ []))
+    (sym (same_part q next st ∙ e)) (done d (step_texts o bytes) ss s st x.name x.text t x.spelled (x.len, x.same) x.named one))
+
+on_op : (q : Part) (i : Op) (d : Draft) (n : ℕ) (bytes : List ℕ) (ss : List (List ℕ)) (s : List ℕ) (o : Operands) → d.part ≡ q
+    → is_due q (word.Op i) ≡ true → from_quote bytes ≡ from_quote s → Item d s (word.Op i) o → Told q d ss → Told (step_entered d n bytes i o).part
+    (step_entered d n bytes i o) (ss ++ s ∷ [])
+on_op part.Open i d n bytes ss s o e due = op_done part.Open did_open i d n bytes ss s o e
+on_op part.Init i d n bytes ss s o e due = op_done part.Init did_init i d n bytes ss s o e
+on_op part.Main i d n bytes ss s o e due = op_done part.Main did_main i d n bytes ss s o e
+on_op _ i d n bytes ss s o e due = absurd (cc due)
+
+on_item : (d : Draft) (n : ℕ) (bytes : List ℕ) (ss : List (List ℕ)) (s : List ℕ) (w : Word) (o : Operands) → from_quote bytes ≡ from_quote s → Item d s w o → Told d.part d ss
+    → Told (item_entered d n bytes w o).part (item_entered d n bytes w o) (ss ++ s ∷ [])
 on_item d n bytes ss s word.Module o u h t = on_module d.part d n bytes ss s o refl h.due h t
 on_item d n bytes ss s word.Pool o u h t = on_pool d.part d n bytes ss s o refl h.due h t
 on_item d n bytes ss s word.Brigade o u h t = on_brigade d.part d n bytes ss s o refl h.due h t
@@ -457,19 +479,26 @@ on_item d n bytes ss s word.Main o u h t = on_main d.part d n bytes ss s o refl 
 on_item d n bytes ss s word.End o u h t = on_end d.part d n bytes ss s o refl h.due h t
 on_item d n bytes ss s (word.Op i) o u h t = on_op d.part i d n bytes ss s o refl h.due u h t
 
-on_label : (q : Part) (d : Draft) (n : ℕ) (ss : List (List ℕ)) (s name : List ℕ) → d.part ≡ q → is_handler q ≡ true → s ≡ 58 ∷ name → is_name name ≡ true → Told q d ss → Told d.part (label_added q d n (padded name)) (ss ++ s ∷ [])
-on_label part.Open d n ss s name e due p v t = subst (λ y. Told y (label_added part.Open d n (padded name)) (ss ++ s ∷ [])) (sym e) (marked_open d n ss s name t p v)
-on_label part.Init d n ss s name e due p v t = subst (λ y. Told y (label_added part.Init d n (padded name)) (ss ++ s ∷ [])) (sym e) (marked_init d n ss s name t p v)
-on_label part.Main d n ss s name e due p v t = subst (λ y. Told y (label_added part.Main d n (padded name)) (ss ++ s ∷ [])) (sym e) (marked_main d n ss s name t p v)
-on_label _ d n ss s name e due p v t = absurd (cc due)
+label_done : (q : Part) → Marks q → (d : Draft) (n : ℕ) (ss : List (List ℕ)) (s name : List ℕ) → d.part ≡ q → s ≡ 58 ∷ name → is_name name ≡ true
+    → Told q d ss → Told d.part (label_added q d n (padded name)) (ss ++ s ∷ [])
+label_done q done d n ss s name e p v t = subst (λ y. Told y (label_added q d n (padded name)) (ss ++ s ∷ [])) (sym e) (done d n ss s name t p v)
+
+on_label : (q : Part) (d : Draft) (n : ℕ) (ss : List (List ℕ)) (s name : List ℕ) → d.part ≡ q → is_handler q ≡ true → s ≡ 58 ∷ name → is_name name ≡ true → Told q d ss
+    → Told d.part (label_added q d n (padded name)) (ss ++ s ∷ [])
+on_label part.Open d n ss s name e due = label_done part.Open marked_open d n ss s name e
+on_label part.Init d n ss s name e due = label_done part.Init marked_init d n ss s name e
+on_label part.Main d n ss s name e due = label_done part.Main marked_main d n ss s name e
+on_label _ d n ss s name e due = absurd (cc due)
 
 -- a statement that says something
-pub on_line : (d : Draft) (n : ℕ) (bytes : List ℕ) (ss : List (List ℕ)) (s : List ℕ) (x : Line) → from_quote bytes ≡ from_quote s → Spelled d s x → Told d.part d ss → Told (entered d n bytes x).part (entered d n bytes x) (ss ++ s ∷ [])
+pub on_line : (d : Draft) (n : ℕ) (bytes : List ℕ) (ss : List (List ℕ)) (s : List ℕ) (x : Line) → from_quote bytes ≡ from_quote s → Spelled d s x → Told d.part d ss
+    → Told (entered d n bytes x).part (entered d n bytes x) (ss ++ s ∷ [])
 on_line d n bytes ss s line.Skipped u h t = absurd h
 on_line d n bytes ss s (line.Label m) u h t =
     subst (λ y. Told (label_added d.part d n y).part (label_added d.part d n y) (ss ++ s ∷ [])) (sym h.3) (labelled d.part refl (on_label d.part d n ss s h.0 refl h.4 h.1 h.2 t))
   where
-    labelled : (q : Part) → d.part ≡ q → Told d.part (label_added d.part d n (padded h.0)) (ss ++ s ∷ []) → Told (label_added d.part d n (padded h.0)).part (label_added d.part d n (padded h.0)) (ss ++ s ∷ [])
+    labelled : (q : Part) → d.part ≡ q → Told d.part (label_added d.part d n (padded h.0)) (ss ++ s ∷ [])
+        → Told (label_added d.part d n (padded h.0)).part (label_added d.part d n (padded h.0)) (ss ++ s ∷ [])
     labelled q e t = subst (λ y. Told y (label_added d.part d n (padded h.0)) (ss ++ s ∷ [])) (sym (same d.part d)) t
       where
         same : (q : Part) (x : Draft) → (label_added q x n (padded h.0)).part ≡ x.part

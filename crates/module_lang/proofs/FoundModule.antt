@@ -57,9 +57,11 @@ labels_marked base n k ls (marked l name ∷ rs) q h = (h.1, omega (arith, h.2),
 labels_marked base n k ls (did s name w ∷ rs) q h = labels_marked base (n + 1) (k + 1) ls rs (omega arith) h.2
 
 -- labels without a fault have names, instructions follow them, and they are distinct
-pub labels_good : (base n k to count : ℕ) (ls all : List Label) (rs : List Raw) → k ≡ base + n → to ≡ base + count → AreBuilt n rs → All (λ l. l.place < count) (raw_labels rs) → AreLabels to (labels_from k (map (line_of base all) rs))
+pub labels_good : (base n k to count : ℕ) (ls all : List Label) (rs : List Raw) → k ≡ base + n → to ≡ base + count → AreBuilt n rs → All (λ l. l.place < count) (raw_labels rs)
+    → AreLabels to (labels_from k (map (line_of base all) rs))
 labels_good base n k to count ls all [] q r h a = tt
-labels_good base n k to count ls all (marked l name ∷ rs) q r h a = (h.0, (let low = a 0 l (omega arith) in omega (arith, h.2)), labels_good base n k to count ls all rs q r h.3 (all_tail (λ l. l.place < count) l (raw_labels rs) a))
+labels_good base n k to count ls all (marked l name ∷ rs) q r h a =
+    (h.0, (let low = a 0 l (omega arith) in omega (arith, h.2)), labels_good base n k to count ls all rs q r h.3 (all_tail (λ l. l.place < count) l (raw_labels rs) a))
 labels_good base n k to count ls all (did s name w ∷ rs) q r h a = labels_good base (n + 1) (k + 1) to count ls all rs (omega arith) r h.2 a
 
 pub unnamed_apart : (q : List ℕ) (ls : List Label) (xs : List (List ℕ × ℕ)) → Named ls xs → is_named (padded q) ls ≡ false → IsApart q xs

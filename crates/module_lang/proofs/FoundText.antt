@@ -6,8 +6,7 @@ use Rattle.module_lang.specs.Assembling.{lines_read, lines_ended, is_end}
 use Rattle.byte_text.specs.Bytes.{all_printable, begins, tail, unindented}
 use Rattle.module_lang.specs.Codes.{◌>>=◌}
 use Rattle.module_lang.specs.Entries.{entered}
-use Rattle.module_lang.specs.Lines.{line_taken, taken}
-use Rattle.module_lang.specs.Lines.{line_read, unindented_read, label_read, item_read}
+use Rattle.module_lang.specs.Lines.{line_taken, taken, line_read, unindented_read, label_read, item_read}
 use Rattle.module_lang.specs.Texts.{is_skipped, joined, statements}
 use Rattle.module_lang.specs.declared.draft.Draft.{Draft}
 use Rattle.module_lang.specs.declared.lines.Line.{Line}
@@ -53,7 +52,8 @@ ended_at false d n cur e h = rest (not (eqb (length cur) 0)) refl h
         let same : d ≡ e = cc h in
         record { lines = []; whole = append-nil cur ∙ no_bytes cur m; fold = same; short = refl; ended = subst (λ (x : Draft). is_end x.part ≡ true) same q }
 
-    rest : (b : Bool) → not (eqb (length cur) 0) ≡ b → (cond b (Err (Fault n code.BadByte)) (cond (not (is_end d.part)) (Err (Fault n code.NotDue)) fine) >>= λ _. Ok d) ≡ Ok e → IsCut false d n cur [] e
+    rest : (b : Bool) → not (eqb (length cur) 0) ≡ b → (cond b (Err (Fault n code.BadByte)) (cond (not (is_end d.part)) (Err (Fault n code.NotDue)) fine) >>= λ _. Ok d) ≡ Ok e
+        → IsCut false d n cur [] e
     rest true q h = absurd (cc h)
     rest false q h = last (is_end d.part) refl q h
 
@@ -61,7 +61,8 @@ pub cut_lines : (bs : List ℕ) (long : Bool) (d : Draft) (n : ℕ) (cur : List 
 cut_lines [] long d n cur e h = ended_at long d n cur e h
 cut_lines (b ∷ bs) long d n cur e h = byte (eqb b 10) refl (λ x. cut_lines bs long x (n + 1) [] e) (cut_lines bs long d n (cur ++ b ∷ []) e) h
   where
-    byte : (x : Bool) → eqb b 10 ≡ x → ((y : Draft) → lines_read long y (n + 1) [] bs ≡ Ok e → IsCut long y (n + 1) [] bs e) → (lines_read long d n (cur ++ b ∷ []) bs ≡ Ok e → IsCut long d n (cur ++ b ∷ []) bs e) → cond x (line_taken d n cur >>= λ y. lines_read long y (n + 1) [] bs) (lines_read long d n (cur ++ b ∷ []) bs) ≡ Ok e → IsCut long d n cur (b ∷ bs) e
+    byte : (x : Bool) → eqb b 10 ≡ x → ((y : Draft) → lines_read long y (n + 1) [] bs ≡ Ok e → IsCut long y (n + 1) [] bs e) → (lines_read long d n (cur ++ b ∷ []) bs ≡ Ok e
+        → IsCut long d n (cur ++ b ∷ []) bs e) → cond x (line_taken d n cur >>= λ y. lines_read long y (n + 1) [] bs) (lines_read long d n (cur ++ b ∷ []) bs) ≡ Ok e → IsCut long d n cur (b ∷ bs) e
     byte true q next more h =
         let a = bind_ok (line_taken d n cur) (λ y. lines_read long y (n + 1) [] bs) e h in
         let r = next a.0 a.2 in
@@ -90,11 +91,14 @@ pub line_known : (d : Draft) (n : ℕ) (l : List ℕ) (x : Draft) → line_taken
 unfolding line_taken line_read
 line_known d n l x h = printed (all_printable l) refl h
   where
-    spelled : (r : Result Line Code) → cond (begins 58 (unindented l)) (label_read d (tail (unindented l))) (item_read d (unindented l)) ≡ r → taken d n l r ≡ Ok x → (ss : List (List ℕ)) → Told d.part d ss → Told x.part x (ss ++ unindented l ∷ [])
+    spelled : (r : Result Line Code) → cond (begins 58 (unindented l)) (label_read d (tail (unindented l))) (item_read d (unindented l)) ≡ r → taken d n l r ≡ Ok x → (ss : List (List ℕ))
+        → Told d.part d ss → Told x.part x (ss ++ unindented l ∷ [])
     spelled (Err c) q h ss t = absurd (cc h)
-    spelled (Ok y) q h ss t = let same : entered d n l y ≡ x = cc h in subst (λ (z : Draft). Told z.part z (ss ++ unindented l ∷ [])) same (on_line d n l ss (unindented l) y (quote_unindented l) (spelled_of d (unindented l) y q) t)
+    spelled (Ok y) q h ss t = let same : entered d n l y ≡ x = cc h in
+        subst (λ (z : Draft). Told z.part z (ss ++ unindented l ∷ [])) same (on_line d n l ss (unindented l) y (quote_unindented l) (spelled_of d (unindented l) y q) t)
 
-    skipped : (b : Bool) → taken d n l (cond b (Ok line.Skipped) (cond (begins 58 (unindented l)) (label_read d (tail (unindented l))) (item_read d (unindented l)))) ≡ Ok x → (ss : List (List ℕ)) → Told d.part d ss → Told x.part x (ss ++ cond b [] (unindented l ∷ []))
+    skipped : (b : Bool) → taken d n l (cond b (Ok line.Skipped) (cond (begins 58 (unindented l)) (label_read d (tail (unindented l))) (item_read d (unindented l)))) ≡ Ok x → (ss : List (List ℕ))
+        → Told d.part d ss → Told x.part x (ss ++ cond b [] (unindented l ∷ []))
     skipped true h ss t = let same : d ≡ x = cc h in rw (append-nil ss) (subst (λ (z : Draft). Told z.part z ss) same t)
     skipped false h ss t = spelled (cond (begins 58 (unindented l)) (label_read d (tail (unindented l))) (item_read d (unindented l))) refl h ss t
 
@@ -103,7 +107,8 @@ line_known d n l x h = printed (all_printable l) refl h
     printed true q h = record { clean = q; told = skipped (is_skipped (unindented l)) h }
 
 -- lines that were taken are clean, and their statements are told
-pub fold_told : (lines : List (List ℕ)) (d : Draft) (n : ℕ) (e : Draft) (ss : List (List ℕ)) → Fold d n lines e → Told d.part d ss → All (λ l. all_printable l ≡ true) lines × Told e.part e (ss ++ statements lines)
+pub fold_told : (lines : List (List ℕ)) (d : Draft) (n : ℕ) (e : Draft) (ss : List (List ℕ)) → Fold d n lines e → Told d.part d ss → All (λ l. all_printable l ≡ true) lines
+    × Told e.part e (ss ++ statements lines)
 fold_told [] d n e ss f t = (λ k z lt. absurd (omega arith), rw (append-nil ss) (subst (λ (z : Draft). Told z.part z ss) f t))
 fold_told (l ∷ ls) d n e ss f t =
     let r = line_known d n l f.0 f.1 in

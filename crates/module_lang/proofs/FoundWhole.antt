@@ -1,5 +1,6 @@
 -- A text that is read as a module is a text of it.
-use Rattle.std.proofs.Common.{◌≡◌, ℕ, zero, suc, ◌+◌, ◌<◌, ◌≤◌, true, nat_lt, List, [], ◌∷◌, ◌++◌, length, take, map, Some, Result, Ok, Err, refl, sym, ◌∙◌, ap, subst, arith, append_assoc, take_all, length-append}
+use Rattle.std.proofs.Common.{◌≡◌, ℕ, zero, suc, ◌+◌, ◌<◌, ◌≤◌, true, nat_lt, List, [], ◌∷◌, ◌++◌, length, take, map, Some, Result, Ok, Err, refl, sym, ◌∙◌, ap, subst, arith, append_assoc, take_all}
+use Rattle.std.proofs.Common.{length-append}
 use Rattle.std.specs.Prelude.{All, codes, slice_get}
 use Rattle.std.proofs.lemmas.Bool.{ltb-false}
 use Rattle.std.proofs.lemmas.List.{length-map}
@@ -8,9 +9,8 @@ use Rattle.byte_text.specs.Bytes.{all_printable}
 use Rattle.module_lang.specs.Drafts.{empty_draft}
 use Rattle.module_lang.specs.Codes.{◌>>=◌}
 use Rattle.module_lang.specs.Entries.{IsDraft, entered}
-use Rattle.module_lang.specs.Lines.{line_taken, taken}
+use Rattle.module_lang.specs.Lines.{line_taken, taken, line_read}
 use Rattle.module_lang.specs.Handlers.{handler_resolved, jump_fault, step_code}
-use Rattle.module_lang.specs.Lines.{line_read}
 use Rattle.module_code.specs.Program.{Program, program}
 use Rattle.module_lang.specs.Texts.{AreDistinct, CodeLine, IsCode, IsTextOf, instrs, joined, labels_from, module_texts, pool_texts, brigade_texts, statements}
 use Rattle.module_lang.specs.declared.draft.Draft.{Draft}
@@ -26,7 +26,6 @@ use Rattle.module_lang.specs.declared.refusal.AsmRefusal.{AsmRefusal}
 use Rattle.module_lang.proofs.DraftLaws.{entered_keeps}
 use Rattle.module_lang.proofs.FoundLabels.{labels_distinct, lines_aimed}
 use Rattle.module_lang.proofs.FoundLaws.{Told, served}
-use Rattle.module_lang.proofs.RawLines.{}
 use Rattle.module_lang.proofs.RawLines.{AreTexted, Built, Raw, raw_labels, raw_steps, raw_text}
 use Rattle.module_lang.proofs.FoundModule.{instrs_same, labels_good, labels_marked, line_of, lines_spelled, texts_same}
 use Rattle.module_lang.proofs.FoundText.{cut_lines, fold_told}
@@ -131,7 +130,8 @@ record HasLines (m : Program) (bs : List (List ℕ × ℕ)) (h : HandlerLines) (
   named : Named h.labels (labels_from (length code) (body_of (length code) h rs))
   distinct : AreDistinct (bs ++ labels_from (length code) (body_of (length code) h rs))
 
-handler_lines : (m : Program) (before : List Label) (bs : List (List ℕ × ℕ)) (h : HandlerLines) (rs : List Raw) (code after : List Instr) → Built rs h → handler_resolved before h code ≡ Ok after → Named before bs → AreDistinct bs → AreTexted m.texts rs → HasLines m bs h rs code after
+handler_lines : (m : Program) (before : List Label) (bs : List (List ℕ × ℕ)) (h : HandlerLines) (rs : List Raw) (code after : List Instr) → Built rs h → handler_resolved before h code ≡ Ok after
+    → Named before bs → AreDistinct bs → AreTexted m.texts rs → HasLines m bs h rs code after
 handler_lines m before bs h rs code after b e n d w =
     let r = resolved before h code after e in
     let base = length code in
@@ -157,11 +157,14 @@ nested : {X : Type 0} (p b o i m e : List X) → ((((p ++ b) ++ o) ++ i) ++ m) +
 nested p b o i m e = append_assoc (((p ++ b) ++ o) ++ i) m e ∙ append_assoc ((p ++ b) ++ o) i (m ++ e) ∙ append_assoc (p ++ b) o (i ++ (m ++ e)) ∙ append_assoc p b (o ++ (i ++ (m ++ e)))
 
 -- the statements of a draft are those of a module with its declarations and code
-told_again : (d : Draft) (m : Program) (a b c : List Raw) (i j k : ℕ) → m.pools ≡ d.pools → m.brigades ≡ d.brigades → served d a b c ++ codes "end" ∷ [] ≡ module_texts m (body_of i d.open a) (body_of j d.init b) (body_of k d.main c)
+told_again : (d : Draft) (m : Program) (a b c : List Raw) (i j k : ℕ) → m.pools ≡ d.pools → m.brigades ≡ d.brigades
+    → served d a b c ++ codes "end" ∷ [] ≡ module_texts m (body_of i d.open a) (body_of j d.init b) (body_of k d.main c)
 told_again d m a b c i j k p q =
-    rw (texts_same i d.open.labels a, texts_same j d.init.labels b, texts_same k d.main.labels c, p, q) (nested (codes "module 1" ∷ pool_texts 0 d.pools) (brigade_texts 0 d.brigades) (codes "open" ∷ map raw_text a) (codes "init" ∷ map raw_text b) (codes "main" ∷ map raw_text c) (codes "end" ∷ []))
+    rw (texts_same i d.open.labels a, texts_same j d.init.labels b, texts_same k d.main.labels c, p, q) (nested (codes "module 1" ∷ pool_texts 0 d.pools) (brigade_texts 0 d.brigades)
+    (codes "open" ∷ map raw_text a) (codes "init" ∷ map raw_text b) (codes "main" ∷ map raw_text c) (codes "end" ∷ []))
 
-of_draft : (text : List ℕ) (d : Draft) (x y z : List Instr) → IsRead text d → handler_resolved [] d.open [] ≡ Ok x → handler_resolved d.open.labels d.init x ≡ Ok y → handler_resolved (d.open.labels ++ d.init.labels) d.main y ≡ Ok z → IsTextOf text (program d.pools d.brigades d.texts z (length x) (length y))
+of_draft : (text : List ℕ) (d : Draft) (x y z : List Instr) → IsRead text d → handler_resolved [] d.open [] ≡ Ok x → handler_resolved d.open.labels d.init x ≡ Ok y
+    → handler_resolved (d.open.labels ++ d.init.labels) d.main y ≡ Ok z → IsTextOf text (program d.pools d.brigades d.texts z (length x) (length y))
 of_draft text d x y z r p q s =
     let m = program d.pools d.brigades d.texts z (length x) (length y) in
     let t = r.told in
@@ -169,7 +172,8 @@ of_draft text d x y z r p q s =
     let first = body_of 0 d.open t.a in
     let two = handler_lines m d.open.labels (labels_from 0 first) d.init t.b x y t.second q one.named one.distinct t.texts_b in
     let second = body_of (length x) d.init t.b in
-    let three = handler_lines m (d.open.labels ++ d.init.labels) (labels_from 0 first ++ labels_from (length x) second) d.main t.c y z t.third s (named-append d.open.labels d.init.labels (labels_from 0 first) (labels_from (length x) second) one.named two.named) two.distinct t.texts_c in
+    let three = handler_lines m (d.open.labels ++ d.init.labels) (labels_from 0 first ++ labels_from (length x) second) d.main t.c y z t.third s
+    (named-append d.open.labels d.init.labels (labels_from 0 first) (labels_from (length x) second) one.named two.named) two.distinct t.texts_c in
     let third = body_of (length y) d.main t.c in
     record {
       sound = module_of d [] x y z refl r.sound p q s;

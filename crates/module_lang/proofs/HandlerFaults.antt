@@ -39,9 +39,12 @@ steps_within labels k n (s ∷ ss) m c r (inr h) = let x = steps_within labels (
 labels_tell : (before : List Label) (count k n : ℕ) (ls : List Label) → Rises label_line k n ls → Tells (label_fault before count ls) (LabelsHaveCode before count ls)
 labels_tell before count k n [] r = λ m c h. h
 labels_tell before count k n (l ∷ ls) r =
-    subst (λ o. Tells o (LabelsHaveCode before count (l ∷ ls))) (same (is_named l.name before) (leb count l.place) (label_fault (before ++ l ∷ []) count ls)) (tells_here l.line (label_has_code before count l) (LabelsHaveCode (before ++ l ∷ []) count ls) (label_fault (before ++ l ∷ []) count ls) (λ m c h. let x = (labels_within (before ++ l ∷ []) count (l.line + 1) n ls m c r.1 h).0 in omega (arith, x)) (labels_tell (before ++ l ∷ []) count (l.line + 1) n ls r.1))
+    subst (λ o. Tells o (LabelsHaveCode before count (l ∷ ls))) (same (is_named l.name before) (leb count l.place) (label_fault (before ++ l ∷ []) count ls))
+    (tells_here l.line (label_has_code before count l) (LabelsHaveCode (before ++ l ∷ []) count ls) (label_fault (before ++ l ∷ []) count ls)
+    (λ m c h. let x = (labels_within (before ++ l ∷ []) count (l.line + 1) n ls m c r.1 h).0 in omega (arith, x)) (labels_tell (before ++ l ∷ []) count (l.line + 1) n ls r.1))
   where
-    same : (a b : Bool) (o : Option LineFault) → or_later l.line (cond a (Err code.DoubledLabel) (cond b (Err code.LostLabel) (Ok tt))) o ≡ cond a (fault l.line code.DoubledLabel) (cond b (fault l.line code.LostLabel) o)
+    same : (a b : Bool) (o : Option LineFault)
+        → or_later l.line (cond a (Err code.DoubledLabel) (cond b (Err code.LostLabel) (Ok tt))) o ≡ cond a (fault l.line code.DoubledLabel) (cond b (fault l.line code.LostLabel) o)
     same true b o = refl
     same false true o = refl
     same false false o = refl
@@ -49,7 +52,8 @@ labels_tell before count k n (l ∷ ls) r =
 steps_tell : (labels : List Label) (k n : ℕ) (ss : List DraftStep) → Rises step_line k n ss → Tells (jump_fault labels ss) (StepsHaveCode labels ss)
 steps_tell labels k n [] r = λ m c h. h
 steps_tell labels k n (s ∷ ss) r =
-    subst (λ o. Tells o (StepsHaveCode labels (s ∷ ss))) (same (is_lost labels s.operands) (jump_fault labels ss)) (tells_here s.line (step_has_code labels s) (StepsHaveCode labels ss) (jump_fault labels ss) (λ m c h. let x = (steps_within labels (s.line + 1) n ss m c r.1 h).0 in omega (arith, x)) (steps_tell labels (s.line + 1) n ss r.1))
+    subst (λ o. Tells o (StepsHaveCode labels (s ∷ ss))) (same (is_lost labels s.operands) (jump_fault labels ss)) (tells_here s.line (step_has_code labels s) (StepsHaveCode labels ss)
+    (jump_fault labels ss) (λ m c h. let x = (steps_within labels (s.line + 1) n ss m c r.1 h).0 in omega (arith, x)) (steps_tell labels (s.line + 1) n ss r.1))
   where
     same : (a : Bool) (o : Option LineFault) → or_later s.line (cond a (Err code.LostLabel) (Ok tt)) o ≡ cond a (fault s.line code.LostLabel) o
     same true o = refl
@@ -91,12 +95,15 @@ module _ (before : List Label) (n : ℕ) (h : HandlerLines) (o : HasLines n h) w
   handler_within m c (inr x) = let y = inner_within m c x in let z = y.0 in (omega (arith, z), y.1)
 
   inner_tells : Tells (sooner (label_fault before (length h.steps) h.labels) (jump_fault h.labels h.steps)) (λ m c. Labels m c ⊎ Steps m c)
-  inner_tells = tells_sooner _ _ Labels Steps (λ m c e x y. let a = label_low before (length h.steps) h.labels m c x in let b = step_high h.labels h.steps m e y in omega (arith, a, b)) (labels_tell before (length h.steps) (h.line + 1) n h.labels o.labels) (steps_tell h.labels (h.line + 1) n h.steps o.steps)
+  inner_tells = tells_sooner _ _ Labels Steps (λ m c e x y. let a = label_low before (length h.steps) h.labels m c x in let b = step_high h.labels h.steps m e y in omega (arith, a, b))
+      (labels_tell before (length h.steps) (h.line + 1) n h.labels o.labels) (steps_tell h.labels (h.line + 1) n h.steps o.steps)
 
   handler_tells : Tells (handler_fault before h) (HandlerHasCode before h)
   unfolding handler_fault
   handler_tells =
-      subst (λ x. Tells x (HandlerHasCode before h)) (same (ends_open h.steps) (sooner (label_fault before (length h.steps) h.labels) (jump_fault h.labels h.steps))) (tells_here h.line (header_has_code h) (λ m c. Labels m c ⊎ Steps m c) (sooner (label_fault before (length h.steps) h.labels) (jump_fault h.labels h.steps)) (λ m c x. let z = (inner_within m c x).0 in omega (arith, z)) inner_tells)
+      subst (λ x. Tells x (HandlerHasCode before h)) (same (ends_open h.steps) (sooner (label_fault before (length h.steps) h.labels) (jump_fault h.labels h.steps)))
+      (tells_here h.line (header_has_code h) (λ m c. Labels m c ⊎ Steps m c) (sooner (label_fault before (length h.steps) h.labels) (jump_fault h.labels h.steps))
+      (λ m c x. let z = (inner_within m c x).0 in omega (arith, z)) inner_tells)
     where
       same : (a : Bool) (x : Option LineFault) → or_later h.line (cond a (Err code.OpenEnd) (Ok tt)) x ≡ cond a (fault h.line code.OpenEnd) x
       same true x = refl
@@ -112,11 +119,15 @@ draft_tells k d e o = in_part d.part e o
   where
     ordered : HasLines d.init.line d.open → HasLines d.main.line d.init → (n : ℕ) → HasLines n d.main → Tells (draft_fault d) (DraftHasCode d)
     ordered a b n c =
-        tells_else _ _ (HandlerHasCode [] d.open) (λ m e. HandlerHasCode d.open.labels d.init m e ⊎ HandlerHasCode (d.open.labels ++ d.init.labels) d.main m e) d.init.line (λ m e x. (handler_within [] d.init.line d.open a m e x).1) behind (handler_tells [] d.init.line d.open a) (tells_else _ _ (HandlerHasCode d.open.labels d.init) (HandlerHasCode (d.open.labels ++ d.init.labels) d.main) d.main.line (λ m e x. (handler_within d.open.labels d.main.line d.init b m e x).1) (λ m e x. (handler_within (d.open.labels ++ d.init.labels) n d.main c m e x).0) (handler_tells d.open.labels d.main.line d.init b) (handler_tells (d.open.labels ++ d.init.labels) n d.main c))
+        tells_else _ _ (HandlerHasCode [] d.open) (λ m e. HandlerHasCode d.open.labels d.init m e ⊎ HandlerHasCode (d.open.labels ++ d.init.labels) d.main m e) d.init.line
+        (λ m e x. (handler_within [] d.init.line d.open a m e x).1) behind (handler_tells [] d.init.line d.open a) (tells_else _ _ (HandlerHasCode d.open.labels d.init)
+        (HandlerHasCode (d.open.labels ++ d.init.labels) d.main) d.main.line (λ m e x. (handler_within d.open.labels d.main.line d.init b m e x).1) (λ m e x.
+        (handler_within (d.open.labels ++ d.init.labels) n d.main c m e x).0) (handler_tells d.open.labels d.main.line d.init b) (handler_tells (d.open.labels ++ d.init.labels) n d.main c))
       where
         behind : (m : ℕ) (e : Code) → HandlerHasCode d.open.labels d.init m e ⊎ HandlerHasCode (d.open.labels ++ d.init.labels) d.main m e → d.init.line ≤ m
         behind m e (inl x) = (handler_within d.open.labels d.main.line d.init b m e x).0
-        behind m e (inr x) = let y = (handler_within (d.open.labels ++ d.init.labels) n d.main c m e x).0 in let z = rises_le label_line (d.init.line + 1) d.main.line d.init.labels b.labels in omega (arith, y, z)
+        behind m e (inr x) = let y = (handler_within (d.open.labels ++ d.init.labels) n d.main c m e x).0 in let z = rises_le label_line (d.init.line + 1) d.main.line d.init.labels b.labels in
+            omega (arith, y, z)
 
     in_part : (p : Part) → is_end p ≡ true → Ordered p k d → Tells (draft_fault d) (DraftHasCode d)
     in_part part.End q x = ordered x.0 x.1 x.2.0 x.2.1
@@ -139,7 +150,8 @@ program_is d = by (handler_fault [] d.open) (handler_fault d.open.labels d.init)
     made : Program
     made = program d.pools d.brigades d.texts code3 (length code1) (length code2)
 
-    by : (a b c : Option LineFault) → (p : Program) × ((code_or_fault a code1 >>= λ x. code_or_fault b (x ++ map (step_code (length x) d.init.labels) d.init.steps) >>= λ y. code_or_fault c (y ++ map (step_code (length y) d.main.labels) d.main.steps) >>= λ z. Ok (program d.pools d.brigades d.texts z (length x) (length y))) ≡ or_fault (or_else a (or_else b c)) p)
+    by : (a b c : Option LineFault) → (p : Program) × ((code_or_fault a code1 >>= λ x. code_or_fault b (x ++ map (step_code (length x) d.init.labels) d.init.steps) >>= λ y. code_or_fault c
+        (y ++ map (step_code (length y) d.main.labels) d.main.steps) >>= λ z. Ok (program d.pools d.brigades d.texts z (length x) (length y))) ≡ or_fault (or_else a (or_else b c)) p)
     by (Some f) b c = (made, refl)
     by None (Some f) c = (made, refl)
     by None None (Some f) = (made, refl)

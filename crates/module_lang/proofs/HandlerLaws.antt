@@ -65,20 +65,24 @@ pub named_before : (m : BTreeSet (List ℕ)) (ls : List Label) (q : List ℕ) (a
 unfolding IsSeen
 named_before m ls q added h e = sym (h q) ∙ sym (twice (contains (slice_cmp nat_cmp) m q)) ∙ ap not (sym e)
 
-pub fault_doubled : (before ls : List Label) (count i : ℕ) (d : Label) → i < length ls → is_named (get_or ls i d).name before ≡ true → label_fault before count (drop i ls) ≡ fault (get_or ls i d).line code.DoubledLabel
+pub fault_doubled : (before ls : List Label) (count i : ℕ) (d : Label) → i < length ls → is_named (get_or ls i d).name before ≡ true
+    → label_fault before count (drop i ls) ≡ fault (get_or ls i d).line code.DoubledLabel
 fault_doubled before ls count i d h e = rw (drop_here ls i d h, e) refl
 
-pub fault_lost : (before ls : List Label) (count i : ℕ) (d : Label) → i < length ls → is_named (get_or ls i d).name before ≡ false → count ≤ (get_or ls i d).place → label_fault before count (drop i ls) ≡ fault (get_or ls i d).line code.LostLabel
+pub fault_lost : (before ls : List Label) (count i : ℕ) (d : Label) → i < length ls → is_named (get_or ls i d).name before ≡ false → count ≤ (get_or ls i d).place
+    → label_fault before count (drop i ls) ≡ fault (get_or ls i d).line code.LostLabel
 fault_lost before ls count i d h e low = rw (drop_here ls i d h, e, le-leb count (get_or ls i d).place low) refl
 
-pub fault_on : (before ls : List Label) (count i : ℕ) (d : Label) → i < length ls → is_named (get_or ls i d).name before ≡ false → (get_or ls i d).place < count → label_fault before count (drop i ls) ≡ label_fault (before ++ get_or ls i d ∷ []) count (drop (i + 1) ls)
+pub fault_on : (before ls : List Label) (count i : ℕ) (d : Label) → i < length ls → is_named (get_or ls i d).name before ≡ false → (get_or ls i d).place < count
+    → label_fault before count (drop i ls) ≡ label_fault (before ++ get_or ls i d ∷ []) count (drop (i + 1) ls)
 fault_on before ls count i d h e low = rw (drop_here ls i d h, e, lt-leb count (get_or ls i d).place low) refl
 
 -- where each label stands below a number, so does each place that is found
 pub place_from-below : (n : ℕ) (f : Option ℕ) (q : List ℕ) (ls : List Label) → ((p : ℕ) → f ≡ Some p → p < n) → All (λ l. l.place < n) ls → (p : ℕ) → place_from f q ls ≡ Some p → p < n
 place_from-below n f q [] hf h p e = hf p e
 place_from-below n f q (l ∷ ls) hf h p e =
-    place_from-below n (cond (has_name q l) (Some l.place) f) q ls (either (has_name q l)) (λ k d lt. let e : get_or (l ∷ ls) (k + 1) d ≡ get_or ls k d = rw add-one refl in subst (λ x. x.place < n) e (h (k + 1) d (omega arith))) p e
+    place_from-below n (cond (has_name q l) (Some l.place) f) q ls (either (has_name q l))
+    (λ k d lt. let e : get_or (l ∷ ls) (k + 1) d ≡ get_or ls k d = rw add-one refl in subst (λ x. x.place < n) e (h (k + 1) d (omega arith))) p e
   where
     either : (b : Bool) (p : ℕ) → cond b (Some l.place) f ≡ Some p → p < n
     either true p e = let s : l.place ≡ p = cc e in subst (λ x. x < n) s (h 0 l (omega arith))

@@ -1,5 +1,6 @@
 -- What is read was spelled so: words, operands and lines.
-use Rattle.std.proofs.Common.{◌≡◌, ℕ, zero, suc, ◌+◌, ◌-◌, ◌^◌, ◌<◌, Bool, true, false, ◌&&◌, not, cond, eqb, leb, ltb, nat_eq, List, [], ◌∷◌, ◌++◌, length, take, drop, Option, Some, None, Ok, Err, refl, sym, ◌∙◌, ap, subst, arith}
+use Rattle.std.proofs.Common.{◌≡◌, ℕ, zero, suc, ◌+◌, ◌-◌, ◌^◌, ◌<◌, Bool, true, false, ◌&&◌, not, cond, eqb, leb, ltb, nat_eq, List, [], ◌∷◌, ◌++◌, length, take, drop, Option, Some, None, Ok, Err}
+use Rattle.std.proofs.Common.{refl, sym, ◌∙◌, ap, subst, arith}
 use Rattle.std.specs.Prelude.{All, slice_index, codes, option_map, find}
 use Rattle.std.specs.Cmp.Lexicographic.{pointwise, same_text}
 use Rattle.std.proofs.lemmas.Bool.{and_parts, leb-true, eqb-true, lt-ltb, ltb-true, ne_eqb}
@@ -32,8 +33,7 @@ use Rattle.module_code.specs.declared.word.OperandKind.TheVariants as kind
 use Rattle.module_code.specs.declared.word.Word.{Word}
 use Rattle.module_lang.proofs.LineLaws.{bind_ok, unless_ok, not_false}
 use Rattle.byte_text.proofs.NumberLaws.{constant_found, decimal_without}
-use Rattle.module_lang.proofs.OperandLaws.{chain}
-use Rattle.module_lang.proofs.OperandLaws.{cond_some, numbered_below}
+use Rattle.module_lang.proofs.OperandLaws.{chain, cond_some, numbered_below}
 use Rattle.module_lang.proofs.QuoteLaws.{unquoted, place_unquoted}
 use Rattle.module_lang.proofs.SpellingLaws.{padded}
 
@@ -121,16 +121,19 @@ number_brigade : (n : Option ℕ) (t : List ℕ) (o : Operand) → numbered 98 t
 number_brigade None t o q e = absurd (cc e)
 number_brigade (Some i) t o q e = to o (operand.Brigade i) t e (numbered_spelled 98 t i q ∙ own_is i (numbered_below 98 t i q))
 
-place_spelled : (a b : Bool) (t : List ℕ) (o : Operand) → pointwise nat_eq t (codes "conn") ≡ a → pointwise nat_eq t (codes "req") ≡ b → cond a (Some (operand.Place pool.Conn)) (cond b (Some (operand.Place pool.Req)) (option_map (λ i. operand.Place (pool.Own i)) (numbered 112 t))) ≡ Some o → Spells o t
+place_spelled : (a b : Bool) (t : List ℕ) (o : Operand) → pointwise nat_eq t (codes "conn") ≡ a → pointwise nat_eq t (codes "req") ≡ b
+    → cond a (Some (operand.Place pool.Conn)) (cond b (Some (operand.Place pool.Req)) (option_map (λ i. operand.Place (pool.Own i)) (numbered 112 t))) ≡ Some o → Spells o t
 place_spelled true b t o p q e = to o (operand.Place pool.Conn) t e (same_text t (codes "conn") (sym p))
 place_spelled false true t o p q e = to o (operand.Place pool.Req) t e (same_text t (codes "req") (sym q))
 place_spelled false false t o p q e = number_place (numbered 112 t) t o refl e
 
-source_spelled : (a : Bool) (t : List ℕ) (o : Operand) → pointwise nat_eq t (codes "in") ≡ a → cond a (Some (operand.Brigade 8)) (option_map (λ i. operand.Brigade i) (numbered 98 t)) ≡ Some o → Spells o t
+source_spelled : (a : Bool) (t : List ℕ) (o : Operand) → pointwise nat_eq t (codes "in") ≡ a → cond a (Some (operand.Brigade 8)) (option_map (λ i. operand.Brigade i) (numbered 98 t)) ≡ Some o
+    → Spells o t
 source_spelled true t o p e = to o (operand.Brigade 8) t e (same_text t (codes "in") (sym p))
 source_spelled false t o p e = number_brigade (numbered 98 t) t o refl e
 
-ending_spelled : (a b : Bool) (t : List ℕ) (o : Operand) → pointwise nat_eq t (codes "ok") ≡ a → pointwise nat_eq t (codes "fail") ≡ b → cond a (Some (operand.Ending status.Success)) (cond b (Some (operand.Ending status.Fail)) None) ≡ Some o → Spells o t
+ending_spelled : (a b : Bool) (t : List ℕ) (o : Operand) → pointwise nat_eq t (codes "ok") ≡ a → pointwise nat_eq t (codes "fail") ≡ b
+    → cond a (Some (operand.Ending status.Success)) (cond b (Some (operand.Ending status.Fail)) None) ≡ Some o → Spells o t
 ending_spelled true b t o p q e = to o (operand.Ending status.Success) t e (same_text t (codes "ok") (sym p))
 ending_spelled false true t o p q e = to o (operand.Ending status.Fail) t e (same_text t (codes "fail") (sym q))
 ending_spelled false false t o p q e = absurd (cc e)
@@ -147,7 +150,8 @@ label_spelled : (r : Option (List ℕ)) (t : List ℕ) (o : Operand) → name_of
 label_spelled None t o q e = absurd (cc e)
 label_spelled (Some n) t o q e = to o (operand.Label n) t e (name_spelled t n q)
 
-variable_spelled : (a : Bool) (t : List ℕ) (o : Operand) → cond a (option_map (λ i. operand.Place (pool.Own i)) (numbered 112 t)) (option_map (λ i. operand.Brigade i) (numbered 98 t)) ≡ Some o → Spells o t
+variable_spelled : (a : Bool) (t : List ℕ) (o : Operand) → cond a (option_map (λ i. operand.Place (pool.Own i)) (numbered 112 t)) (option_map (λ i. operand.Brigade i) (numbered 98 t)) ≡ Some o
+    → Spells o t
 variable_spelled true t o e = number_place (numbered 112 t) t o refl e
 variable_spelled false t o e = number_brigade (numbered 98 t) t o refl e
 
@@ -159,7 +163,8 @@ constant_spelled : (n : Option ℕ) (t : List ℕ) (o : Operand) → constant_of
 constant_spelled None t o q e = absurd (cc e)
 constant_spelled (Some k) t o q e = let z = constant_found t k q in to o (operand.Value (value.Constant k)) t e (z.0, lt-ltb k (2 ^ 32) z.1)
 
-value_spelled : (a : Bool) (t : List ℕ) (o : Operand) → cond a (option_map (λ i. operand.Value (value.Number i)) (numbered 110 t)) (option_map (λ k. operand.Value (value.Constant k)) (constant_of t)) ≡ Some o → Spells o t
+value_spelled : (a : Bool) (t : List ℕ) (o : Operand)
+    → cond a (option_map (λ i. operand.Value (value.Number i)) (numbered 110 t)) (option_map (λ k. operand.Value (value.Constant k)) (constant_of t)) ≡ Some o → Spells o t
 value_spelled true t o e = number_spelled (numbered 110 t) t o refl e
 value_spelled false t o e = constant_spelled (constant_of t) t o refl e
 
@@ -218,7 +223,8 @@ pub record TwoSpelled (k l : OperandKind) (rest : List ℕ) (o : Operands) : Typ
   pub first : Spells o.first one
   pub second : Spells o.second two
 
-pub two_taken : (k l : OperandKind) (rest : List ℕ) (o : Operands) → operand_kind_is_nothing k ≡ false → operand_kind_is_text k ≡ false → operand_kind_is_nothing l ≡ false → operand_kind_is_text l ≡ false → operands_at (two_operands k l) rest ≡ Ok o → TwoSpelled k l rest o
+pub two_taken : (k l : OperandKind) (rest : List ℕ) (o : Operands) → operand_kind_is_nothing k ≡ false → operand_kind_is_text k ≡ false → operand_kind_is_nothing l ≡ false
+    → operand_kind_is_text l ≡ false → operands_at (two_operands k l) rest ≡ Ok o → TwoSpelled k l rest o
 two_taken k l rest o n q m r h =
     let c = chain (two_operands k l) rest o h in
     let r1 = after_operand k rest in
@@ -330,7 +336,8 @@ known t (Some x) w q h = let z : x ≡ w = cc h in word_spelled t w (q ∙ ap So
 pub item_spelled : (d : Draft) (s : List ℕ) (x : Line) → item_read d s ≡ Ok x → Spelled d s x
 unfolding item_read
 item_spelled d s x h =
-    let a = bind_ok (known_word (token s)) (λ w. unless (not (is_due d.part w)) code.NotDue >>= λ _. operands_at (word_kinds w) (after_token s) >>= λ o. judged d w o >>= λ _. Ok (line.Item w o)) x h in
+    let a = bind_ok (known_word (token s))
+    (λ w. unless (not (is_due d.part w)) code.NotDue >>= λ _. operands_at (word_kinds w) (after_token s) >>= λ o. judged d w o >>= λ _. Ok (line.Item w o)) x h in
     let b = bind_ok (unless (not (is_due d.part a.0)) code.NotDue) (λ _. operands_at (word_kinds a.0) (after_token s) >>= λ o. judged d a.0 o >>= λ _. Ok (line.Item a.0 o)) x a.2 in
     let e = bind_ok (operands_at (word_kinds a.0) (after_token s)) (λ o. judged d a.0 o >>= λ _. Ok (line.Item a.0 o)) x b.2 in
     let f = bind_ok (judged d a.0 e.0) (λ _. Ok (line.Item a.0 e.0)) x e.2 in

@@ -1,5 +1,6 @@
 -- Labels that are spelled are found again.
-use Rattle.std.proofs.Common.{◌≡◌, ◌≢◌, ℕ, zero, suc, ◌+◌, ◌-◌, true, false, ◌&&◌, cond, eqb, leb, nat_eq, List, [], ◌∷◌, ◌++◌, length, map, Option, Some, None, inl, inr, refl, sym, ◌∙◌, ap, subst, arith, append_assoc}
+use Rattle.std.proofs.Common.{◌≡◌, ◌≢◌, ℕ, zero, suc, ◌+◌, ◌-◌, true, false, ◌&&◌, cond, eqb, leb, nat_eq, List, [], ◌∷◌, ◌++◌, length, map, Option, Some, None, inl, inr, refl, sym, ◌∙◌, ap, subst}
+use Rattle.std.proofs.Common.{arith, append_assoc}
 use Rattle.std.specs.Prelude.{replicate, slice_index}
 use Rattle.std.specs.List.{list_all}
 use Rattle.std.specs.Cmp.Lexicographic.{pointwise, same_text}
@@ -95,7 +96,8 @@ apart_at name [] y rest h = h.0
 apart_at name (b ∷ bs) y rest h = apart_at name bs y rest h.1
 
 -- a label that stands nowhere before is not named before
-fresh : (before : List Label) (bs : List (List ℕ × ℕ)) (y : List ℕ × ℕ) (rest : List (List ℕ × ℕ)) → Named before bs → AreNamed bs → is_name y.0 ≡ true → AreDistinct (bs ++ y ∷ rest) → is_named (padded y.0) before ≡ false
+fresh : (before : List Label) (bs : List (List ℕ × ℕ)) (y : List ℕ × ℕ) (rest : List (List ℕ × ℕ)) → Named before bs → AreNamed bs → is_name y.0 ≡ true → AreDistinct (bs ++ y ∷ rest)
+    → is_named (padded y.0) before ≡ false
 fresh [] [] y rest h v name d = refl
 fresh [] (b ∷ bs) y rest h v name d = absurd h
 fresh (l ∷ ls) [] y rest h v name d = absurd h
@@ -104,7 +106,8 @@ fresh (l ∷ ls) (b ∷ bs) y rest h v name d =
     rw apart (fresh ls bs y rest h.1 v.1 name d.1)
 
 -- labels with names of their own, which instructions follow, have no fault
-pub labels_right : (before labels : List Label) (bs xs : List (List ℕ × ℕ)) (n count : ℕ) → Named before bs → AreNamed bs → Marked n labels xs → AreLabels (n + count) xs → AreDistinct (bs ++ xs) → label_fault before count labels ≡ None
+pub labels_right : (before labels : List Label) (bs xs : List (List ℕ × ℕ)) (n count : ℕ) → Named before bs → AreNamed bs → Marked n labels xs → AreLabels (n + count) xs → AreDistinct (bs ++ xs)
+    → label_fault before count labels ≡ None
 labels_right before [] bs xs n count b v m r d = refl
 labels_right before (l ∷ ls) bs [] n count b v m r d = absurd m
 labels_right before (l ∷ ls) bs (x ∷ xs) n count b v m r d =
@@ -123,7 +126,8 @@ kept f name n (l ∷ ls) (x ∷ xs) v m r a =
     rw apart (kept f name n ls xs v m.2 r.1 a.1)
 
 -- the place of a label that is spelled
-pub place_again : (f : Option ℕ) (name : List ℕ) (t n : ℕ) (ls : List Label) (xs : List (List ℕ × ℕ)) → Marked n ls xs → AreNamed xs → AreDistinct xs → IsLabel name t xs → (k : ℕ) × (t ≡ n + k) × (place_from f (padded name) ls ≡ Some k)
+pub place_again : (f : Option ℕ) (name : List ℕ) (t n : ℕ) (ls : List Label) (xs : List (List ℕ × ℕ)) → Marked n ls xs → AreNamed xs → AreDistinct xs → IsLabel name t xs → (k : ℕ) × (t ≡ n + k)
+    × (place_from f (padded name) ls ≡ Some k)
 place_again f name t n [] [] m r d h = absurd h
 place_again f name t n [] (x ∷ xs) m r d h = absurd m
 place_again f name t n (l ∷ ls) [] m r d h = absurd h

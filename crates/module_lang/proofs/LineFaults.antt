@@ -1,12 +1,15 @@
 -- A line is read as the codes fit it: the lowest that fits is told, and where none fits the line adds what it says.
 use Rattle.std.specs.Prelude.{replicate}
-use Rattle.std.proofs.Common.{◌≡◌, ℕ, ◌+◌, ◌-◌, ◌++◌, ◌<◌, ◌≤◌, Bool, true, false, ◌&&◌, ◌||◌, not, cond, eqb, leb, ltb, List, length, Option, Some, None, inl, inr, ◌⊎◌, Result, Ok, Err, refl, sym, ◌∙◌, ap, arith}
+use Rattle.std.proofs.Common.{◌≡◌, ℕ, ◌+◌, ◌-◌, ◌++◌, ◌<◌, ◌≤◌, Bool, true, false, ◌&&◌, ◌||◌, not, cond, eqb, leb, ltb, List, length, Option, Some, None, inl, inr, ◌⊎◌, Result, Ok, Err, refl, sym}
+use Rattle.std.proofs.Common.{◌∙◌, ap, arith}
 use Rattle.std.proofs.lemmas.Bool.{cases_lt}
 use Rattle.std.proofs.lemmas.Bool.Decides.{nat_tests}
 use Rattle.byte_text.specs.Bytes.{after_token, all_printable, begins, tail, token, unindented}
 use Rattle.module_lang.specs.Codes.{◌>>=◌, code_number, unless}
-use Rattle.module_lang.specs.FirstFault.{Statement, are_misplaced, are_undeclared, are_wrong, has_code, has_faulty_text, has_operands, has_wrong_operands, have, is_faulty_text, is_not_due, is_too_many, is_unknown, item, item_line, item_of, label, label_line, line_of, nothing, statement, takes_text, unindented_statement}
-use Rattle.module_lang.specs.Lines.{are_declared, has_equal_brigades, has_long_text, has_room, has_text, instruction_count, is_declared, is_due, is_handler, is_misplaced, is_next, is_text_operand, item_read, judged, label_read, line_read, or_no_label, or_unknown, unindented_read}
+use Rattle.module_lang.specs.FirstFault.{Statement, are_misplaced, are_undeclared, are_wrong, has_code, has_faulty_text, has_operands, has_wrong_operands, have, is_faulty_text, is_not_due}
+use Rattle.module_lang.specs.FirstFault.{is_too_many, is_unknown, item, item_line, item_of, label, label_line, line_of, nothing, statement, takes_text, unindented_statement}
+use Rattle.module_lang.specs.Lines.{are_declared, has_equal_brigades, has_long_text, has_room, has_text, instruction_count, is_declared, is_due, is_handler, is_misplaced, is_next, is_text_operand}
+use Rattle.module_lang.specs.Lines.{item_read, judged, label_read, line_read, or_no_label, or_unknown, unindented_read}
 use Rattle.module_code.specs.Names.{is_name, name_of}
 use Rattle.module_lang.specs.Operands.{after_operand, of_kind, operand_at, operand_in, operand_kind_is_nothing, operand_kind_is_text, operands_at, text_measured, text_operand, or_wrong}
 use Rattle.byte_text.specs.Quoted.{measure_of, quoted}
@@ -39,7 +42,8 @@ IsAbove n p = (e : Code) → p e ≡ true → n ≤ code_number e
 
 numbered : ℕ → Code
 numbered n =
-    cond (eqb n 1) code.BadByte (cond (eqb n 2) code.NotDue (cond (eqb n 3) code.UnknownWord (cond (eqb n 4) code.WrongOperands (cond (eqb n 5) code.FaultyText (cond (eqb n 6) code.Undeclared (cond (eqb n 7) code.DoubledLabel (cond (eqb n 8) code.LostLabel (cond (eqb n 9) code.Misplaced (cond (eqb n 10) code.OpenEnd code.TooMany)))))))))
+    cond (eqb n 1) code.BadByte (cond (eqb n 2) code.NotDue (cond (eqb n 3) code.UnknownWord (cond (eqb n 4) code.WrongOperands (cond (eqb n 5) code.FaultyText
+    (cond (eqb n 6) code.Undeclared (cond (eqb n 7) code.DoubledLabel (cond (eqb n 8) code.LostLabel (cond (eqb n 9) code.Misplaced (cond (eqb n 10) code.OpenEnd code.TooMany)))))))))
 
 number_of : (c : Code) → numbered (code_number c) ≡ c
 unfolding numbered
@@ -67,11 +71,15 @@ above_more p c low none = λ e h. higher e h (cases_lt (code_number e) (code_num
 -- the lowest code that fits, as tests in the order of the codes tell it
 abbrev pub told : (Code → Bool) → Result (Unit {0}) Code
 told p =
-    cond (p code.BadByte) (Err code.BadByte) (cond (p code.NotDue) (Err code.NotDue) (cond (p code.UnknownWord) (Err code.UnknownWord) (cond (p code.WrongOperands) (Err code.WrongOperands) (cond (p code.FaultyText) (Err code.FaultyText) (cond (p code.Undeclared) (Err code.Undeclared) (cond (p code.DoubledLabel) (Err code.DoubledLabel) (cond (p code.LostLabel) (Err code.LostLabel) (cond (p code.Misplaced) (Err code.Misplaced) (cond (p code.OpenEnd) (Err code.OpenEnd) (cond (p code.TooMany) (Err code.TooMany) (Ok tt)))))))))))
+    cond (p code.BadByte) (Err code.BadByte) (cond (p code.NotDue) (Err code.NotDue) (cond (p code.UnknownWord) (Err code.UnknownWord) (cond (p code.WrongOperands) (Err code.WrongOperands)
+    (cond (p code.FaultyText) (Err code.FaultyText) (cond (p code.Undeclared) (Err code.Undeclared) (cond (p code.DoubledLabel) (Err code.DoubledLabel) (cond (p code.LostLabel)
+    (Err code.LostLabel) (cond (p code.Misplaced) (Err code.Misplaced) (cond (p code.OpenEnd) (Err code.OpenEnd) (cond (p code.TooMany) (Err code.TooMany) (Ok tt)))))))))))
 
 pub told_judges : (p : Code → Bool) → Judges (told p) p
 told_judges p =
-    test code.BadByte _ (λ e h. least e) (λ a. test code.NotDue _ a (λ a. test code.UnknownWord _ a (λ a. test code.WrongOperands _ a (λ a. test code.FaultyText _ a (λ a. test code.Undeclared _ a (λ a. test code.DoubledLabel _ a (λ a. test code.LostLabel _ a (λ a. test code.Misplaced _ a (λ a. test code.OpenEnd _ a (λ a. test code.TooMany (Ok tt) a (λ a e h. let x = a e h in let y = most e in omega (arith, x, y))))))))))))
+    test code.BadByte _ (λ e h. least e) (λ a. test code.NotDue _ a (λ a. test code.UnknownWord _ a (λ a. test code.WrongOperands _ a (λ a. test code.FaultyText _ a
+    (λ a. test code.Undeclared _ a (λ a. test code.DoubledLabel _ a (λ a. test code.LostLabel _ a
+    (λ a. test code.Misplaced _ a (λ a. test code.OpenEnd _ a (λ a. test code.TooMany (Ok tt) a (λ a e h. let x = a e h in let y = most e in omega (arith, x, y))))))))))))
   where
     test : (c : Code) (r : Result (Unit {0}) Code) → IsAbove (code_number c) p → (IsAbove (code_number c + 1) p → Judges r p) → Judges (cond (p c) (Err c) r) p
     test c r low more = by (p c) refl
@@ -101,7 +109,9 @@ refuses_bind (Err e) f h g = λ c q. h c (cc q)
 operand_refuses : (k : OperandKind) (bytes : List ℕ) → Refuses (operand_at k bytes)
 unfolding operand_at
 operand_refuses k bytes =
-    refuses_cond (operand_kind_is_nothing k) (Ok operand.Nothing) _ (refuses_none operand.Nothing) (refuses_cond (not (begins 32 bytes)) (Err code.WrongOperands) _ refuses_wrong (refuses_cond (operand_kind_is_text k) (text_operand (tail bytes)) _ (refuses_cond (not (begins 34 (tail bytes))) (Err code.WrongOperands) _ refuses_wrong (measured (measure_of (quoted (tail bytes))))) (wrong (operand_in k (token (tail bytes))))))
+    refuses_cond (operand_kind_is_nothing k) (Ok operand.Nothing) _ (refuses_none operand.Nothing) (refuses_cond (not (begins 32 bytes)) (Err code.WrongOperands) _ refuses_wrong
+    (refuses_cond (operand_kind_is_text k) (text_operand (tail bytes)) _
+    (refuses_cond (not (begins 34 (tail bytes))) (Err code.WrongOperands) _ refuses_wrong (measured (measure_of (quoted (tail bytes))))) (wrong (operand_in k (token (tail bytes))))))
   where
     measured : (m : Option Measured) → Refuses (text_measured m)
     measured None = λ c h. inr (cc h)
@@ -114,7 +124,10 @@ operand_refuses k bytes =
 operands_refuse : (k : OperandKinds) (bytes : List ℕ) → Refuses (operands_at k bytes)
 unfolding operands_at
 operands_refuse k bytes =
-    refuses_bind (operand_at k.first bytes) _ (operand_refuses k.first bytes) (λ a. refuses_bind (operand_at k.second rest1) _ (operand_refuses k.second rest1) (λ b. refuses_bind (operand_at k.third rest2) _ (operand_refuses k.third rest2) (λ c. refuses_bind (operand_at k.fourth rest3) _ (operand_refuses k.fourth rest3) (λ d. refuses_bind (unless (not (eqb (length (after_operand k.fourth rest3)) 0)) code.WrongOperands) _ (end (not (eqb (length (after_operand k.fourth rest3)) 0))) (λ u. refuses_none (record { first = a; second = b; third = c; fourth = d }))))))
+    refuses_bind (operand_at k.first bytes) _ (operand_refuses k.first bytes) (λ a. refuses_bind (operand_at k.second rest1) _ (operand_refuses k.second rest1)
+    (λ b. refuses_bind (operand_at k.third rest2) _ (operand_refuses k.third rest2) (λ c. refuses_bind (operand_at k.fourth rest3) _ (operand_refuses k.fourth rest3)
+    (λ d. refuses_bind (unless (not (eqb (length (after_operand k.fourth rest3)) 0)) code.WrongOperands) _ (end (not (eqb (length (after_operand k.fourth rest3)) 0)))
+    (λ u. refuses_none (record { first = a; second = b; third = c; fourth = d }))))))
   where
     rest1 : List ℕ
     rest1 = after_operand k.first bytes
@@ -136,7 +149,8 @@ text_kind kind.Text _ h = absurd (cc h)
 text_kind _ (operand.Text n) h = absurd (cc h)
 text_kind _ _ h = refl
 
-text_read : (k : OperandKinds) (bytes : List ℕ) (o : Operands) → operands_at k bytes ≡ Ok o → has_text o ≡ (operand_kind_is_text k.first || operand_kind_is_text k.second || operand_kind_is_text k.third || operand_kind_is_text k.fourth)
+text_read : (k : OperandKinds) (bytes : List ℕ) (o : Operands) → operands_at k bytes ≡ Ok o
+    → has_text o ≡ (operand_kind_is_text k.first || operand_kind_is_text k.second || operand_kind_is_text k.third || operand_kind_is_text k.fourth)
 text_read k bytes o q =
     let x = kinds_read k bytes o q in
     rw (text_kind k.first o.first x.first, text_kind k.second o.second x.second, text_kind k.third o.third x.third, text_kind k.fourth o.fourth x.fourth) refl
@@ -151,7 +165,8 @@ fine = Ok tt
 -- the tests of a statement, in the order of their codes, and what it adds
 abbrev behind : Draft → Statement → Result (Unit {0}) Code
 behind d s =
-    cond (is_not_due d.part s) (Err code.NotDue) (cond (is_unknown s) (Err code.UnknownWord) (cond (has_wrong_operands d s) (Err code.WrongOperands) (cond (has_faulty_text s) (Err code.FaultyText) (cond (has_operands (are_undeclared d) s) (Err code.Undeclared) (cond (has_operands (are_misplaced d) s) (Err code.Misplaced) (cond (is_too_many d s) (Err code.TooMany) fine))))))
+    cond (is_not_due d.part s) (Err code.NotDue) (cond (is_unknown s) (Err code.UnknownWord) (cond (has_wrong_operands d s) (Err code.WrongOperands) (cond (has_faulty_text s) (Err code.FaultyText)
+    (cond (has_operands (are_undeclared d) s) (Err code.Undeclared) (cond (has_operands (are_misplaced d) s) (Err code.Misplaced) (cond (is_too_many d s) (Err code.TooMany) fine))))))
 
 abbrev shows : Draft → Statement → Result Line Code
 shows d s = behind d s >>= λ _. Ok (line_of s)
@@ -161,7 +176,9 @@ two true u x = refl
 two false true x = refl
 two false false x = refl
 
-five : (a b u m t : Bool) (x : Line) → ((unless a code.WrongOperands >>= λ _. unless b code.FaultyText >>= λ _. unless u code.Undeclared >>= λ _. unless m code.Misplaced >>= λ _. unless t code.TooMany) >>= λ _. Ok x) ≡ (cond a (Err code.WrongOperands) (cond b (Err code.FaultyText) (cond u (Err code.Undeclared) (cond m (Err code.Misplaced) (cond t (Err code.TooMany) fine)))) >>= λ _. Ok x)
+five : (a b u m t : Bool) (x : Line) → ((unless a code.WrongOperands >>= λ _. unless b code.FaultyText >>= λ _. unless u code.Undeclared >>= λ _. unless m code.Misplaced >>= λ _.
+    unless t code.TooMany) >>= λ _.
+    Ok x) ≡ (cond a (Err code.WrongOperands) (cond b (Err code.FaultyText) (cond u (Err code.Undeclared) (cond m (Err code.Misplaced) (cond t (Err code.TooMany) fine)))) >>= λ _. Ok x)
 five true b u m t x = refl
 five false true u m t x = refl
 five false false true m t x = refl
@@ -172,20 +189,26 @@ five false false false false false x = refl
 -- the tests of the operands of a word
 abbrev operand_tests : Draft → Word → List ℕ → Result Operands Code → Result (Unit {0}) Code
 operand_tests d w bytes r =
-    cond (are_wrong d w r) (Err code.WrongOperands) (cond (is_faulty_text w r) (Err code.FaultyText) (cond (have (are_undeclared d w) r) (Err code.Undeclared) (cond (have (are_misplaced d w) r) (Err code.Misplaced) (cond (is_too_many d (item w bytes)) (Err code.TooMany) fine))))
+    cond (are_wrong d w r) (Err code.WrongOperands) (cond (is_faulty_text w r) (Err code.FaultyText)
+    (cond (have (are_undeclared d w) r) (Err code.Undeclared) (cond (have (are_misplaced d w) r) (Err code.Misplaced) (cond (is_too_many d (item w bytes)) (Err code.TooMany) fine))))
 
-tests_are : (d : Draft) (w : Word) (bytes : List ℕ) (o : Operands) → operands_at (word_kinds w) bytes ≡ Ok o → (judged d w o >>= λ _. Ok (line.Item w o)) ≡ (operand_tests d w bytes (Ok o) >>= λ _. Ok (line.Item w o))
+tests_are : (d : Draft) (w : Word) (bytes : List ℕ) (o : Operands) → operands_at (word_kinds w) bytes ≡ Ok o
+    → (judged d w o >>= λ _. Ok (line.Item w o)) ≡ (operand_tests d w bytes (Ok o) >>= λ _. Ok (line.Item w o))
 unfolding judged word_kinds
 tests_are d word.Pool bytes o q = two (not (is_next (length d.pools) o.first)) (not (is_declared (length d.pools) 0 o.second)) (line.Item word.Pool o)
 tests_are d word.Brigade bytes o q = two (not (is_next (length d.brigades) o.first)) (not (is_declared (length d.pools) 0 o.second)) (line.Item word.Brigade o)
 tests_are d (word.Op i) bytes o q =
-    let room : not (has_room d o) ≡ is_too_many d (item (word.Op i) bytes) = ap (λ x. not (ltb (instruction_count d) 1024 && (not x || ltb (length d.texts) 64))) (text_read (op_kinds i) bytes o q) ∙ no_room (instruction_count d) (length d.texts) (takes_text i) in
+    let room : not (has_room d o) ≡ is_too_many d (item (word.Op i) bytes) =
+    ap (λ x. not (ltb (instruction_count d) 1024 && (not x || ltb (length d.texts) 64))) (text_read (op_kinds i) bytes o q) ∙ no_room (instruction_count d) (length d.texts) (takes_text i) in
     five (has_equal_brigades o) (has_long_text o) (not (are_declared (length d.pools) (length d.brigades) o)) (is_misplaced d i o) (not (has_room d o)) (line.Item (word.Op i) o)
-    ∙ ap (λ t. cond (has_equal_brigades o) (Err code.WrongOperands) (cond (has_long_text o) (Err code.FaultyText) (cond (not (are_declared (length d.pools) (length d.brigades) o)) (Err code.Undeclared) (cond (is_misplaced d i o) (Err code.Misplaced) (cond t (Err code.TooMany) fine)))) >>= λ _. Ok (line.Item (word.Op i) o)) room
+    ∙ ap (λ t. cond (has_equal_brigades o) (Err code.WrongOperands) (cond (has_long_text o) (Err code.FaultyText) (cond (not (are_declared (length d.pools) (length d.brigades) o))
+    (Err code.Undeclared) (cond (is_misplaced d i o) (Err code.Misplaced) (cond t (Err code.TooMany) fine)))) >>= λ _. Ok (line.Item (word.Op i) o)) room
 tests_are d _ bytes o q = refl
 
-word_is : (d : Draft) (w : Word) (bytes : List ℕ) → (unless (not (is_due d.part w)) code.NotDue >>= λ _. operands_at (word_kinds w) bytes >>= λ o. judged d w o >>= λ _. Ok (line.Item w o)) ≡ shows d (item w bytes)
-word_is d w bytes = due (is_due d.part w) (operands_at (word_kinds w) bytes >>= λ o. judged d w o >>= λ _. Ok (line.Item w o)) (operand_tests d w bytes (operands_at (word_kinds w) bytes)) (item_line w (operands_at (word_kinds w) bytes)) (read (operands_at (word_kinds w) bytes) refl (operands_refuse (word_kinds w) bytes))
+word_is : (d : Draft) (w : Word) (bytes : List ℕ)
+    → (unless (not (is_due d.part w)) code.NotDue >>= λ _. operands_at (word_kinds w) bytes >>= λ o. judged d w o >>= λ _. Ok (line.Item w o)) ≡ shows d (item w bytes)
+word_is d w bytes = due (is_due d.part w) (operands_at (word_kinds w) bytes >>= λ o. judged d w o >>= λ _. Ok (line.Item w o)) (operand_tests d w bytes (operands_at (word_kinds w) bytes))
+    (item_line w (operands_at (word_kinds w) bytes)) (read (operands_at (word_kinds w) bytes) refl (operands_refuse (word_kinds w) bytes))
   where
     due : (b : Bool) (r : Result Line Code) (t : Result (Unit {0}) Code) (x : Line) → r ≡ (t >>= λ _. Ok x) → (unless (not b) code.NotDue >>= λ _. r) ≡ (cond (not b) (Err code.NotDue) t >>= λ _. Ok x)
     due true r t x e = e
@@ -195,7 +218,8 @@ word_is d w bytes = due (is_due d.part w) (operands_at (word_kinds w) bytes >>= 
     failing c (inl e) = rw e refl
     failing c (inr e) = rw e refl
 
-    read : (r : Result Operands Code) → operands_at (word_kinds w) bytes ≡ r → Refuses r → (r >>= λ o. judged d w o >>= λ _. Ok (line.Item w o)) ≡ (operand_tests d w bytes r >>= λ _. Ok (item_line w r))
+    read : (r : Result Operands Code) → operands_at (word_kinds w) bytes ≡ r → Refuses r
+        → (r >>= λ o. judged d w o >>= λ _. Ok (line.Item w o)) ≡ (operand_tests d w bytes r >>= λ _. Ok (item_line w r))
     read (Err c) q h = failing c (h c refl)
     read (Ok o) q h = tests_are d w bytes o q
 
@@ -203,7 +227,8 @@ item_is : (d : Draft) (s : List ℕ) → item_read d s ≡ shows d (item_of (wor
 unfolding item_read
 item_is d s = known (word_at (token s))
   where
-    known : (r : Option Word) → (or_unknown r >>= λ w. unless (not (is_due d.part w)) code.NotDue >>= λ _. operands_at (word_kinds w) (after_token s) >>= λ o. judged d w o >>= λ _. Ok (line.Item w o)) ≡ shows d (item_of r (after_token s))
+    known : (r : Option Word) → (or_unknown r >>= λ w. unless (not (is_due d.part w)) code.NotDue >>= λ _. operands_at (word_kinds w) (after_token s) >>= λ o. judged d w o >>= λ _. Ok
+        (line.Item w o)) ≡ shows d (item_of r (after_token s))
     known None = refl
     known (Some w) = word_is d w (after_token s)
 
@@ -211,7 +236,8 @@ label_is : (d : Draft) (name : List ℕ) → label_read d name ≡ shows d (labe
 unfolding name_of
 label_is d name = by (is_handler d.part) (is_name name) (name ++ replicate (16 - length name) 0)
   where
-    by : (h v : Bool) (n : List ℕ) → (unless (not h) code.NotDue >>= λ _. or_no_label (cond v (Some n) None)) ≡ (cond (not h) (Err code.NotDue) (cond (not v) (Err code.WrongOperands) fine) >>= λ _. Ok (label_line (cond v (Some n) None)))
+    by : (h v : Bool) (n : List ℕ) → (unless (not h) code.NotDue >>= λ _. or_no_label (cond v (Some n) None))
+        ≡ (cond (not h) (Err code.NotDue) (cond (not v) (Err code.WrongOperands) fine) >>= λ _. Ok (label_line (cond v (Some n) None)))
     by false v n = refl
     by true true n = refl
     by true false n = refl
@@ -223,7 +249,8 @@ unindented_is d s = skipped (is_skipped s)
     labelled true = label_is d (tail s)
     labelled false = item_is d s
 
-    skipped : (b : Bool) → cond b (Ok line.Skipped) (cond (begins 58 s) (label_read d (tail s)) (item_read d s)) ≡ shows d (cond b nothing (cond (begins 58 s) (label (tail s)) (item_of (word_at (token s)) (after_token s))))
+    skipped : (b : Bool) → cond b (Ok line.Skipped) (cond (begins 58 s) (label_read d (tail s)) (item_read d s)) ≡ shows d
+        (cond b nothing (cond (begins 58 s) (label (tail s)) (item_of (word_at (token s)) (after_token s))))
     skipped true = refl
     skipped false = labelled (begins 58 s)
 

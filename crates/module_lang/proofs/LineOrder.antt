@@ -80,13 +80,15 @@ label_ordered part.Init n d name e v h = subst (λ q. Ordered q (n + 1) (label_a
 label_ordered part.Main n d name e v h = subst (λ q. Ordered q (n + 1) (label_added part.Main d n name)) e (h.0, h.1, label_lines n d.main name h.2)
 label_ordered _ n d name e v h = absurd (cc v)
 
-step_ordered : (p : Part) (n : ℕ) (d : Draft) (ts : List (List ℕ)) (s : DraftStep) (i : Op) → s.line ≡ n → p ≡ d.part → is_due p (word.Op i) ≡ true → Ordered p n d → IsOrdered (n + 1) (step_added p (record d { texts = ts }) s)
+step_ordered : (p : Part) (n : ℕ) (d : Draft) (ts : List (List ℕ)) (s : DraftStep) (i : Op) → s.line ≡ n → p ≡ d.part → is_due p (word.Op i) ≡ true → Ordered p n d
+    → IsOrdered (n + 1) (step_added p (record d { texts = ts }) s)
 step_ordered part.Open n d ts s i l e v h = subst (λ q. Ordered q (n + 1) (step_added part.Open (record d { texts = ts }) s)) e (step_lines n d.open s l h.0, h.1, h.2)
 step_ordered part.Init n d ts s i l e v h = subst (λ q. Ordered q (n + 1) (step_added part.Init (record d { texts = ts }) s)) e (h.0, step_lines n d.init s l h.1, h.2)
 step_ordered part.Main n d ts s i l e v h = subst (λ q. Ordered q (n + 1) (step_added part.Main (record d { texts = ts }) s)) e (h.0, h.1, step_lines n d.main s l h.2)
 step_ordered _ n d ts s i l e v h = absurd (cc v)
 
-op_ordered : (p : Part) (n : ℕ) (d : Draft) (bytes : List ℕ) (i : Op) (o : Operands) → p ≡ d.part → is_due p (word.Op i) ≡ true → Ordered p n d → IsOrdered (n + 1) (item_entered d n bytes (word.Op i) o)
+op_ordered : (p : Part) (n : ℕ) (d : Draft) (bytes : List ℕ) (i : Op) (o : Operands) → p ≡ d.part → is_due p (word.Op i) ≡ true → Ordered p n d
+    → IsOrdered (n + 1) (item_entered d n bytes (word.Op i) o)
 op_ordered p n d bytes i o e v h =
     let s : DraftStep = record { line = n; op = i; operands = o; text = length d.texts } in
     let ts = d.texts ++ step_texts o bytes in

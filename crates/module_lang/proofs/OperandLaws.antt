@@ -1,5 +1,6 @@
 -- Operands that were read are of their kinds, and an instruction has them again.
-use Rattle.std.proofs.Common.{◌≡◌, ℕ, ◌-◌, ◌^◌, ◌<◌, Bool, true, false, ◌&&◌, ◌||◌, not, cond, eqb, leb, nat_eq, List, [], ◌∷◌, length, Option, Some, None, Result, Ok, Err, refl, sym, ◌∙◌, ap, subst, arith}
+use Rattle.std.proofs.Common.{◌≡◌, ℕ, ◌-◌, ◌^◌, ◌<◌, Bool, true, false, ◌&&◌, ◌||◌, not, cond, eqb, leb, nat_eq, List, [], ◌∷◌, length, Option, Some, None, Result, Ok, Err, refl, sym, ◌∙◌, ap, subst}
+use Rattle.std.proofs.Common.{arith}
 use Rattle.std.specs.Prelude.{option_map, slice_index, codes}
 use Rattle.std.specs.Cmp.Lexicographic.{pointwise}
 use Rattle.std.proofs.lemmas.Bool.{and_parts, eqb-true, leb-true, lt-ltb, or_parts}
@@ -8,7 +9,8 @@ use Rattle.module_lang.specs.Codes.{◌>>=◌, unless}
 use Rattle.module_lang.specs.Handlers.{arg_in, op_instr, operand_index, operand_status, operand_value, operand_variable}
 use Rattle.module_code.specs.Names.{name_of}
 use Rattle.byte_text.specs.Numbers.{constant_of}
-use Rattle.module_lang.specs.Operands.{IsOfKinds, kind_test_at, numbered, of_kind, operand_in, operand_at, operand_place, operand_kind_is_text, or_wrong, text_operand, text_measured, operands_at, after_operand}
+use Rattle.module_lang.specs.Operands.{IsOfKinds, kind_test_at, numbered, of_kind, operand_in, operand_at, operand_place, operand_kind_is_text, or_wrong, text_operand, text_measured, operands_at}
+use Rattle.module_lang.specs.Operands.{after_operand}
 use Rattle.byte_text.specs.Quoted.{quoted, measure_of}
 use Rattle.module_code.specs.Spelling.{number_operand, operand_of, operands_of, own_pool, variable_operand}
 use Rattle.module_code.specs.Words.{op_kinds}
@@ -59,7 +61,8 @@ numbered_place : (n : Option ℕ) (o : Operand) → option_map (λ i. operand.Pl
 numbered_place None o e = absurd (cc e)
 numbered_place (Some i) o e = is_kind kind.Place (operand.Place (pool.Own i)) o refl e
 
-place_kind : (a b : Bool) (n : Option ℕ) (o : Operand) → cond a (Some (operand.Place pool.Conn)) (cond b (Some (operand.Place pool.Req)) (option_map (λ i. operand.Place (pool.Own i)) n)) ≡ Some o → of_kind kind.Place o ≡ true
+place_kind : (a b : Bool) (n : Option ℕ) (o : Operand) → cond a (Some (operand.Place pool.Conn)) (cond b (Some (operand.Place pool.Req)) (option_map (λ i. operand.Place (pool.Own i)) n)) ≡ Some o
+    → of_kind kind.Place o ≡ true
 place_kind true b n o e = is_kind kind.Place (operand.Place pool.Conn) o refl e
 place_kind false true n o e = is_kind kind.Place (operand.Place pool.Req) o refl e
 place_kind false false n o e = numbered_place n o e
@@ -97,7 +100,8 @@ brigade_variable : (n : Option ℕ) (o : Operand) → ((i : ℕ) → n ≡ Some 
 brigade_variable None o h e = absurd (cc e)
 brigade_variable (Some i) o h e = is_kind kind.Variable (operand.Brigade i) o (lt-ltb i 8 (h i refl)) e
 
-variable_kind : (a : Bool) (t : List ℕ) (o : Operand) → cond a (option_map (λ i. operand.Place (pool.Own i)) (numbered 112 t)) (option_map (λ i. operand.Brigade i) (numbered 98 t)) ≡ Some o → of_kind kind.Variable o ≡ true
+variable_kind : (a : Bool) (t : List ℕ) (o : Operand) → cond a (option_map (λ i. operand.Place (pool.Own i)) (numbered 112 t)) (option_map (λ i. operand.Brigade i) (numbered 98 t)) ≡ Some o
+    → of_kind kind.Variable o ≡ true
 variable_kind true t o e = number_variable (numbered 112 t) o (numbered_below 112 t) e
 variable_kind false t o e = brigade_variable (numbered 98 t) o (numbered_below 98 t) e
 
@@ -113,7 +117,8 @@ constant_value : (n : Option ℕ) (o : Operand) → ((k : ℕ) → n ≡ Some k 
 constant_value None o h e = absurd (cc e)
 constant_value (Some k) o h e = is_kind kind.Value (operand.Value (value.Constant k)) o (lt-ltb k (2 ^ 32) (h k refl)) e
 
-value_kind : (a : Bool) (t : List ℕ) (o : Operand) → cond a (option_map (λ i. operand.Value (value.Number i)) (numbered 110 t)) (option_map (λ k. operand.Value (value.Constant k)) (constant_of t)) ≡ Some o → of_kind kind.Value o ≡ true
+value_kind : (a : Bool) (t : List ℕ) (o : Operand)
+    → cond a (option_map (λ i. operand.Value (value.Number i)) (numbered 110 t)) (option_map (λ k. operand.Value (value.Constant k)) (constant_of t)) ≡ Some o → of_kind kind.Value o ≡ true
 value_kind true t o e = number_value (numbered 110 t) o (numbered_below 110 t) e
 value_kind false t o e = constant_value (constant_of t) o (λ k h. (constant_found t k h).1) e
 
@@ -267,7 +272,8 @@ len_in (operand.Text n) = n
 len_in _ = 0
 
 -- an operand that was read is that of the instruction, with its name or its length
-one_shape : (k : OperandKind) (o : Operand) (x t : ℕ) (n : List ℕ) (len : ℕ) → is_version k ≡ false → of_kind k o ≡ true → (is_label k ≡ true → n ≡ name_in o) → (operand_kind_is_text k ≡ true → len ≡ len_in o) → o ≡ operand_of (arg_in k o x t) n len
+one_shape : (k : OperandKind) (o : Operand) (x t : ℕ) (n : List ℕ) (len : ℕ) → is_version k ≡ false → of_kind k o ≡ true → (is_label k ≡ true → n ≡ name_in o)
+    → (operand_kind_is_text k ≡ true → len ≡ len_in o) → o ≡ operand_of (arg_in k o x t) n len
 one_shape kind.One o x t n len v h l w = absurd (cc v)
 one_shape kind.Nothing operand.Nothing x t n len v h l w = refl
 one_shape kind.Place (operand.Place p) x t n len v h l w = refl
@@ -302,5 +308,6 @@ shape i o x t h =
     record {
       name = n.0;
       len = len;
-      same = (λ j. made (a j) (b j) (c j) (d j)) ∙ ap (λ (y : Args). made (operand_of y.first n.0 len) (operand_of y.second n.0 len) (operand_of y.third n.0 len) (operand_of y.fourth n.0 len)) (sym (args_of_read i o x t));
+      same = (λ j. made (a j) (b j) (c j) (d j))
+          ∙ ap (λ (y : Args). made (operand_of y.first n.0 len) (operand_of y.second n.0 len) (operand_of y.third n.0 len) (operand_of y.fourth n.0 len)) (sym (args_of_read i o x t));
     }

@@ -8,7 +8,7 @@ use Rattle.module_code.specs.Names.{is_name}
 use Rattle.module_code.specs.Program.{target, text_of_instr}
 use Rattle.module_code.specs.Spelling.{operands_of}
 use Rattle.byte_text.specs.QuotedTexts as quotes
-use Rattle.module_lang.specs.Texts.{step, arg_texts, args_texts, code_text, operands_text}
+use Rattle.module_lang.specs.Texts.{step, args_texts, code_text, operands_text}
 use Rattle.module_code.specs.Words.{op_text, word_kinds, word_text}
 use Rattle.module_code.specs.declared.arg.Args.{Args}
 use Rattle.module_lang.specs.declared.draft.Draft.{Draft}
@@ -40,8 +40,10 @@ op_spelled d s i o x h =
       name = f.name;
       text = f.spelled;
       len = length f.text;
-      spelled = h.spelled ∙ ap (λ r. op_text i ++ r) f.whole ∙ ap (λ y. op_text i ++ operands_text (args_texts y f.name f.spelled)) (sym a) ∙ ap (λ y. op_text y ++ operands_text (args_texts (args (op_instr i o x 0)) f.name f.spelled)) (sym w);
+      spelled = h.spelled ∙ ap (λ r. op_text i ++ r) f.whole ∙ ap (λ y. op_text i ++ operands_text (args_texts y f.name f.spelled)) (sym a)
+          ∙ ap (λ y. op_text y ++ operands_text (args_texts (args (op_instr i o x 0)) f.name f.spelled)) (sym w);
       same = f.same ∙ ap (λ (y : Args). written_as y (padded f.name) (length f.text)) (sym a);
       named = subst (λ (y : Args). IfSome (first_some (names_target y.first) (names_target y.second) (names_target y.third) (names_target y.fourth)) (λ _. is_name f.name ≡ true)) (sym a) f.named;
-      texted = λ bytes e. subst (λ (y : Args). IfSome (first_some (names_text y.first) (names_text y.second) (names_text y.third) (names_text y.fourth)) (λ _. (w : List ℕ) × (step_texts o bytes ≡ w ∷ []) × quotes.Spells f.spelled w)) (sym a) (texted i o x h.rest f bytes (e ∙ ap from_quote h.spelled));
+      texted = λ bytes e. subst (λ (y : Args). IfSome (first_some (names_text y.first) (names_text y.second) (names_text y.third) (names_text y.fourth))
+          (λ _. (w : List ℕ) × (step_texts o bytes ≡ w ∷ []) × quotes.Spells f.spelled w)) (sym a) (texted i o x h.rest f bytes (e ∙ ap from_quote h.spelled));
     }

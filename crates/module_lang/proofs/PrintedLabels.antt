@@ -1,5 +1,6 @@
 -- The labels and the targets of printed code.
-use Rattle.std.proofs.Common.{◌≡◌, ◌≢◌, ℕ, zero, suc, ◌+◌, ◌^◌, ◌%◌, ◌<◌, ◌≤◌, Bool, true, false, cond, leb, List, [], ◌∷◌, ◌++◌, length, Option, Some, None, inl, inr, ◌⊎◌, refl, sym, ◌∙◌, ap, subst, arith, append_assoc}
+use Rattle.std.proofs.Common.{◌≡◌, ◌≢◌, ℕ, zero, suc, ◌+◌, ◌^◌, ◌%◌, ◌<◌, ◌≤◌, Bool, true, false, cond, leb, List, [], ◌∷◌, ◌++◌, length, Option, Some, None, inl, inr, ◌⊎◌, refl, sym, ◌∙◌, ap, subst}
+use Rattle.std.proofs.Common.{arith, append_assoc}
 use Rattle.std.specs.Prelude.{IfSome, slice_get, decimal}
 use Rattle.std.specs.List.{list_all}
 use Rattle.std.proofs.Math.Nat.{eq-or-lt_of_le}
@@ -29,20 +30,23 @@ abbrev pub marks : List Instr → ℕ → List Instr → List (List ℕ × ℕ)
 marks code n [] = []
 marks code n (i ∷ is) = mark_at code n ++ marks code (n + 1) is
 
-line_labels : (b : Bool) (n : ℕ) (x : List ℕ) (i : Instr) (y s : List ℕ) (ls : List CodeLine) → labels_from n (cond b (label x ∷ []) [] ++ step i y s ∷ ls) ≡ cond b ((x, n) ∷ []) [] ++ labels_from (n + 1) ls
+line_labels : (b : Bool) (n : ℕ) (x : List ℕ) (i : Instr) (y s : List ℕ) (ls : List CodeLine)
+    → labels_from n (cond b (label x ∷ []) [] ++ step i y s ∷ ls) ≡ cond b ((x, n) ∷ []) [] ++ labels_from (n + 1) ls
 line_labels true n x i y s ls = refl
 line_labels false n x i y s ls = refl
 
 pub labels_printed : (ts : List (List ℕ)) (code : List Instr) (n : ℕ) (is : List Instr) → labels_from n (printed_code ts code n is) ≡ marks code n is
 labels_printed ts code n [] = refl
 labels_printed ts code n (i ∷ is) =
-    line_labels (is_target code n) n (target_name n) i (aim (target i)) (quoted_text ts (text_of_instr i)) (printed_code ts code (n + 1) is) ∙ ap (λ x. mark_at code n ++ x) (labels_printed ts code (n + 1) is)
+    line_labels (is_target code n) n (target_name n) i (aim (target i)) (quoted_text ts (text_of_instr i)) (printed_code ts code (n + 1) is)
+    ∙ ap (λ x. mark_at code n ++ x) (labels_printed ts code (n + 1) is)
 
 pub marks-append : (code : List Instr) (n : ℕ) (xs ys : List Instr) → marks code n (xs ++ ys) ≡ marks code n xs ++ marks code (n + length xs) ys
 marks-append code n [] ys = let e : n + 0 ≡ n = omega arith in rw e refl
 marks-append code n (x ∷ xs) ys =
     let e : n + 1 + length xs ≡ n + length (x ∷ xs) = omega arith in
-    ap (λ z. mark_at code n ++ z) (marks-append code (n + 1) xs ys) ∙ sym (append_assoc (mark_at code n) (marks code (n + 1) xs) (marks code (n + 1 + length xs) ys)) ∙ ap (λ k. mark_at code n ++ marks code (n + 1) xs ++ marks code k ys) e
+    ap (λ z. mark_at code n ++ z) (marks-append code (n + 1) xs ys) ∙ sym (append_assoc (mark_at code n) (marks code (n + 1) xs) (marks code (n + 1 + length xs) ys))
+    ∙ ap (λ k. mark_at code n ++ marks code (n + 1) xs ++ marks code k ys) e
 
 -- names
 
@@ -118,7 +122,8 @@ marked code t n (i ∷ is) h low high =
     here_or (inr l) later = mark_later (is_target code n) t n (marks code (n + 1) is) (later l)
 
 -- where each target has its label, the code is aimed
-line_aimed : (b : Bool) (labels : List (List ℕ × ℕ)) (x : List ℕ) (i : Instr) (y s : List ℕ) (ls : List CodeLine) → IfSome (target i) (λ t. IsLabel y t labels) → IsAimed labels ls → IsAimed labels (cond b (label x ∷ []) [] ++ step i y s ∷ ls)
+line_aimed : (b : Bool) (labels : List (List ℕ × ℕ)) (x : List ℕ) (i : Instr) (y s : List ℕ) (ls : List CodeLine) → IfSome (target i) (λ t. IsLabel y t labels) → IsAimed labels ls
+    → IsAimed labels (cond b (label x ∷ []) [] ++ step i y s ∷ ls)
 line_aimed true labels x i y s ls h j = (h, j)
 line_aimed false labels x i y s ls h j = (h, j)
 
@@ -126,10 +131,12 @@ named_aim : (labels : List (List ℕ × ℕ)) (o : Option ℕ) → IfSome o (λ 
 named_aim labels None h = tt
 named_aim labels (Some t) h = h
 
-pub aimed_printed : (ts : List (List ℕ)) (code : List Instr) (labels : List (List ℕ × ℕ)) (n : ℕ) (is : List Instr) → ((k : ℕ) (i : Instr) → slice_get is k ≡ Some i → IfSome (target i) (λ t. IsLabel (target_name t) t labels)) → IsAimed labels (printed_code ts code n is)
+pub aimed_printed : (ts : List (List ℕ)) (code : List Instr) (labels : List (List ℕ × ℕ)) (n : ℕ) (is : List Instr)
+    → ((k : ℕ) (i : Instr) → slice_get is k ≡ Some i → IfSome (target i) (λ t. IsLabel (target_name t) t labels)) → IsAimed labels (printed_code ts code n is)
 aimed_printed ts code labels n [] h = tt
 aimed_printed ts code labels n (i ∷ is) h =
-    line_aimed (is_target code n) labels (target_name n) i (aim (target i)) (quoted_text ts (text_of_instr i)) (printed_code ts code (n + 1) is) (named_aim labels (target i) (h 0 i refl)) (aimed_printed ts code labels (n + 1) is (λ k j e. h (suc k) j e))
+    line_aimed (is_target code n) labels (target_name n) i (aim (target i)) (quoted_text ts (text_of_instr i)) (printed_code ts code (n + 1) is) (named_aim labels (target i) (h 0 i refl))
+    (aimed_printed ts code labels (n + 1) is (λ k j e. h (suc k) j e))
 
 -- the target of an instruction of the code is a target
 pub is_target_of : (code : List Instr) (k t : ℕ) (i : Instr) → slice_get code k ≡ Some i → target i ≡ Some t → is_target code t ≡ true

@@ -1,16 +1,18 @@
 -- The lines of a printed module: each says something and begins with no space, and together they are short.
-use Rattle.std.proofs.Common.{◌≡◌, ℕ, ◌+◌, ◌*◌, ◌%◌, ◌^◌, ◌||◌, ltb, ◌<◌, ◌≤◌, Bool, true, false, cond, eqb, List, [], ◌∷◌, ◌++◌, length, map, Option, Some, None, refl, sym, ◌∙◌, ap, subst, arith, length-append}
+use Rattle.std.proofs.Common.{◌≡◌, ℕ, ◌+◌, ◌*◌, ◌%◌, ◌^◌, ◌||◌, ltb, ◌<◌, ◌≤◌, Bool, true, false, cond, eqb, List, [], ◌∷◌, ◌++◌, length, map, Option, Some, None, refl, sym, ◌∙◌, ap, subst, arith}
+use Rattle.std.proofs.Common.{length-append}
 use Rattle.std.specs.Prelude.{All, IfSome, codes, filter_map}
 use Rattle.std.specs.List.{cons_option, list_all}
 use Rattle.std.proofs.lemmas.Bool.{ne_eqb, ltb-true}
 use Rattle.std.proofs.lemmas.Fmt.{decimal_by_steps, length-decimal-le}
 use Rattle.std.proofs.lemmas.List.Folds.{list_all-append}
-use Rattle.module_code.specs.Args.{args, names_text}
+use Rattle.module_code.specs.Args.{args, names_text, is_value}
 use Rattle.byte_text.specs.Bytes.{all_printable, is_printable, unindented}
 use Rattle.module_lang.specs.Printing.{target_name, aim, is_target, printed_code, quoted_text}
 use Rattle.module_code.specs.Program.{Program, fits, target, tests, text_of_instr}
 use Rattle.module_lang.specs.Lines.{place_is_declared}
-use Rattle.module_lang.specs.Texts.{CodeLine, label, step, arg_texts, brigade_text, brigade_texts, code_text, cursor_text, instr_word, is_skipped, joined, line_text, operand_texts, number_text, operands_text, own_text, place_text, pool_texts, statements, status_text, value_text}
+use Rattle.module_lang.specs.Texts.{CodeLine, label, step, arg_texts, brigade_text, brigade_texts, code_text, cursor_text, instr_word, is_skipped, joined, line_text, operand_texts, number_text}
+use Rattle.module_lang.specs.Texts.{operands_text, own_text, place_text, pool_texts, statements, status_text, value_text}
 use Rattle.module_code.specs.Words.{kind_test_text}
 use Rattle.module_code.specs.declared.arg.Arg.{Arg}
 use Rattle.module_code.specs.declared.arg.Arg.TheVariants as arg
@@ -20,7 +22,6 @@ use Rattle.module_code.specs.declared.instr.KindTest.{KindTest}
 use Rattle.module_code.specs.declared.instr.KindTest.TheVariants as kind_test
 use Rattle.module_code.specs.declared.instr.PoolRef.{PoolRef}
 use Rattle.module_code.specs.declared.instr.PoolRef.TheVariants as pool
-use Rattle.module_code.specs.Args.{is_value}
 use Rattle.module_code.specs.declared.instr.Value.{Value}
 use Rattle.module_code.specs.declared.instr.Value.TheVariants as value
 use Rattle.module_code.specs.declared.instr.VarRef.TheVariants as variable
@@ -98,7 +99,8 @@ digit_printable d low = grind arith
 
 name_printable : (n : ℕ) → n < 1024 → list_all is_printable (target_name n) ≡ true
 name_printable n low =
-    decimal_by_steps (λ m ds. list_all is_printable ds ≡ true) digit_printable (λ m ds high h. all_joined is_printable ds ((48 + m % 10) ∷ []) h (digit_printable (m % 10) (omega arith))) n (omega arith)
+    decimal_by_steps (λ m ds. list_all is_printable ds ≡ true) digit_printable (λ m ds high h. all_joined is_printable ds ((48 + m % 10) ∷ []) h (digit_printable (m % 10) (omega arith))) n
+    (omega arith)
 
 name_short : (n : ℕ) → n < 1024 → length (target_name n) ≤ 8
 name_short n low = omega (arith, length-decimal-le 4 n (omega arith) (omega arith) (omega arith))
@@ -168,7 +170,8 @@ token_written : (t : List ℕ) (n : ℕ) → n ≤ 10 → (list_all is_printable
 token_written t n low h = record { clean = operands_printable (t ∷ []) (h.0, omega (arith, h.1), tt); short = omega (arith, operands_short (t ∷ []) (h.0, omega (arith, h.1), tt)) }
 
 -- an operand of an instruction of a program
-arg_written : (p : Program) (a : Arg) (n s : List ℕ) → length p.pools ≤ 8 → length p.brigades ≤ 8 → Every (tests p a) → (list_all is_printable n ≡ true) × (length n ≤ 8) → QuotedShown (names_text a) s → AreWritten (arg_texts a n s) (11 + text_room (names_text a))
+arg_written : (p : Program) (a : Arg) (n s : List ℕ) → length p.pools ≤ 8 → length p.brigades ≤ 8 → Every (tests p a) → (list_all is_printable n ≡ true) × (length n ≤ 8)
+    → QuotedShown (names_text a) s → AreWritten (arg_texts a n s) (11 + text_room (names_text a))
 arg_written p arg.Nothing n s few small f t w = record { clean = refl; short = omega arith }
 arg_written p (arg.Place q) n s few small f t w = token_written _ 8 (omega arith) (place_shown (length p.pools) q few f.0)
 arg_written p (arg.Pool q) n s few small f t w = token_written _ 8 (omega arith) (own_pool_shown q (let low = ltb-true q (length p.pools) f.0 in omega arith))
@@ -184,7 +187,8 @@ arg_written p (arg.Value v) n s few small f t w = token_written _ 10 (omega arit
 arg_written p (arg.Cursor c) n s few small f t w = token_written _ 10 (omega arith) (cursor_shown c f.0)
 arg_written p (arg.KindTest k) n s few small f t w = token_written _ 10 (omega arith) (kind_test_shown k)
 
-instr_shown : (p : Program) (i : Instr) (n s : List ℕ) → length p.pools ≤ 8 → length p.brigades ≤ 8 → fits p i ≡ true → (list_all is_printable n ≡ true) × (length n ≤ 8) → QuotedShown (text_of_instr i) s → StepShown (operand_texts i n s) (text_room (text_of_instr i))
+instr_shown : (p : Program) (i : Instr) (n s : List ℕ) → length p.pools ≤ 8 → length p.brigades ≤ 8 → fits p i ≡ true → (list_all is_printable n ≡ true) × (length n ≤ 8)
+    → QuotedShown (text_of_instr i) s → StepShown (operand_texts i n s) (text_room (text_of_instr i))
 instr_shown p i n s few small h t w =
     let a = args i in
     let f = fits_parts p i h in
@@ -211,7 +215,8 @@ pub record IsPrintable (p : Program) (i : Instr) : Type 0 where
   pub low : IfSome (target i) (λ t. t < 1024)
   pub text : QuotedShown (text_of_instr i) (quoted_text p.texts (text_of_instr i))
 
-step_plain : (p : Program) (i : Instr) → length p.pools ≤ 8 → length p.brigades ≤ 8 → IsPrintable p i → IsPlain (code_text (step i (aim (target i)) (quoted_text p.texts (text_of_instr i)))) × (length (code_text (step i (aim (target i)) (quoted_text p.texts (text_of_instr i)))) ≤ 55 + text_room (text_of_instr i))
+step_plain : (p : Program) (i : Instr) → length p.pools ≤ 8 → length p.brigades ≤ 8 → IsPrintable p i → IsPlain (code_text (step i (aim (target i)) (quoted_text p.texts (text_of_instr i))))
+    × (length (code_text (step i (aim (target i)) (quoted_text p.texts (text_of_instr i)))) ≤ 55 + text_room (text_of_instr i))
 step_plain p i few small h =
     let name = aim (target i) in
     let s = quoted_text p.texts (text_of_instr i) in
@@ -227,7 +232,8 @@ label_plain n low = ((refl, refl, name_printable n low), omega (arith, name_shor
 abbrev pub IsFew : ℕ → List (List ℕ) → Type 0
 IsFew n ls = ArePlain ls × (length (joined ls) ≤ n)
 
-printed_line : (b : Bool) (l : List ℕ) (i : Instr) (y s : List ℕ) (ls : List CodeLine) (k m : ℕ) → IsPlain (58 ∷ l) × (length (58 ∷ l) ≤ 40) → IsPlain (code_text (step i y s)) × (length (code_text (step i y s)) ≤ 55 + k) → IsFew m (map code_text ls) → IsFew (97 + k + m) (map code_text (cond b (label l ∷ []) [] ++ step i y s ∷ ls))
+printed_line : (b : Bool) (l : List ℕ) (i : Instr) (y s : List ℕ) (ls : List CodeLine) (k m : ℕ) → IsPlain (58 ∷ l) × (length (58 ∷ l) ≤ 40) → IsPlain (code_text (step i y s))
+    × (length (code_text (step i y s)) ≤ 55 + k) → IsFew m (map code_text ls) → IsFew (97 + k + m) (map code_text (cond b (label l ∷ []) [] ++ step i y s ∷ ls))
 printed_line true l i y s ls k m a c h =
     let rest = joined (map code_text ls) in
     let one = length-append (code_text (step i y s)) (10 ∷ rest) in
@@ -243,13 +249,15 @@ more_room None ts = omega arith
 more_room (Some t) ts = omega arith
 
 -- the lines of code
-pub code_plain : (p : Program) (n : ℕ) (is : List Instr) → length p.pools ≤ 8 → length p.brigades ≤ 8 → n + length is ≤ 1024 → All (IsPrintable p) is → IsFew (97 * length is + 1022 * length (filter_map text_of_instr is)) (map code_text (printed_code p.texts p.code n is))
+pub code_plain : (p : Program) (n : ℕ) (is : List Instr) → length p.pools ≤ 8 → length p.brigades ≤ 8 → n + length is ≤ 1024 → All (IsPrintable p) is
+    → IsFew (97 * length is + 1022 * length (filter_map text_of_instr is)) (map code_text (printed_code p.texts p.code n is))
 code_plain p n [] few small low h = (tt, omega arith)
 code_plain p n (i ∷ is) few small low h =
     let k = text_room (text_of_instr i) in
     let more = filter_map text_of_instr is in
     let rest = code_plain p (n + 1) is few small (omega arith) (all_tail (IsPrintable p) i is h) in
-    let x = printed_line (is_target p.code n) (target_name n) i (aim (target i)) (quoted_text p.texts (text_of_instr i)) (printed_code p.texts p.code (n + 1) is) k (97 * length is + 1022 * length more) (label_plain n (omega arith)) (step_plain p i few small (all_head (IsPrintable p) i is h)) rest in
+    let x = printed_line (is_target p.code n) (target_name n) i (aim (target i)) (quoted_text p.texts (text_of_instr i)) (printed_code p.texts p.code (n + 1) is) k
+    (97 * length is + 1022 * length more) (label_plain n (omega arith)) (step_plain p i few small (all_head (IsPrintable p) i is h)) rest in
     (x.0, omega (arith, x.1, more_room (text_of_instr i) more))
 
 -- the declarations
@@ -266,7 +274,8 @@ pools_plain k (q ∷ qs) few h =
     let own = own_pool_shown k (omega arith) in
     let place = place_shown 8 q (omega arith) (all_head (λ q. place_is_declared 8 q ≡ true) q qs h) in
     let rest = pools_plain (k + 1) qs (omega arith) (all_tail (λ q. place_is_declared 8 q ≡ true) q qs h) in
-    let x = declared_line (codes "pool") (place_text (pool.Own k) ∷ place_text q ∷ []) (pool_texts (k + 1) qs) (56 * length qs) (refl, refl, refl) (omega arith) (omega arith) (own.0, omega (arith, own.1), (place.0, omega (arith, place.1), tt)) rest in
+    let x = declared_line (codes "pool") (place_text (pool.Own k) ∷ place_text q ∷ []) (pool_texts (k + 1) qs) (56 * length qs) (refl, refl, refl) (omega arith) (omega arith)
+    (own.0, omega (arith, own.1), (place.0, omega (arith, place.1), tt)) rest in
     (x.0, omega (arith, x.1))
 
 pub brigades_plain : (k : ℕ) (ps : List PoolRef) → k + length ps ≤ 8 → All (λ q. place_is_declared 8 q ≡ true) ps → IsFew (56 * length ps) (brigade_texts k ps)
@@ -275,5 +284,6 @@ brigades_plain k (q ∷ qs) few h =
     let own = own_shown k (omega arith) in
     let place = place_shown 8 q (omega arith) (all_head (λ q. place_is_declared 8 q ≡ true) q qs h) in
     let rest = brigades_plain (k + 1) qs (omega arith) (all_tail (λ q. place_is_declared 8 q ≡ true) q qs h) in
-    let x = declared_line (codes "brigade") (own_text k ∷ place_text q ∷ []) (brigade_texts (k + 1) qs) (56 * length qs) (refl, refl, refl) (omega arith) (omega arith) (own.0, omega (arith, own.1), (place.0, omega (arith, place.1), tt)) rest in
+    let x = declared_line (codes "brigade") (own_text k ∷ place_text q ∷ []) (brigade_texts (k + 1) qs) (56 * length qs) (refl, refl, refl) (omega arith) (omega arith)
+    (own.0, omega (arith, own.1), (place.0, omega (arith, place.1), tt)) rest in
     (x.0, omega (arith, x.1))

@@ -1,5 +1,6 @@
 -- The text that a module is printed as is one of it.
-use Rattle.std.proofs.Common.{◌≡◌, ℕ, suc, ◌+◌, ◌-◌, ◌*◌, ◌<◌, ◌≤◌, Bool, true, false, cond, List, [], ◌∷◌, ◌++◌, length, map, take, drop, Option, Some, None, refl, sym, ◌∙◌, ap, subst, arith, append_assoc, append-nil, length-append}
+use Rattle.std.proofs.Common.{◌≡◌, ℕ, suc, ◌+◌, ◌-◌, ◌*◌, ◌<◌, ◌≤◌, Bool, true, false, cond, List, [], ◌∷◌, ◌++◌, length, map, take, drop, Option, Some, None, refl, sym, ◌∙◌, ap, subst, arith}
+use Rattle.std.proofs.Common.{append_assoc, append-nil, length-append}
 use Rattle.std.specs.Prelude.{All, IfSome, codes, filter_map, slice_get, slice_index_or, slice_range}
 use Rattle.std.proofs.lemmas.Bool.{lt-ltb, ltb-true}
 use Rattle.std.proofs.Math.Seq.{take-add, take-length}
@@ -75,18 +76,22 @@ text_quoted p i s h = at (text_of_instr i) refl
         let bytes = s.bytes t [] low in
         (spelling_clean (slice_index_or p.texts t []) bytes, omega (arith, spelling_short (slice_index_or p.texts t []) bytes, s.short t [] low))
 
-line_spelled : (b : Bool) (p : Program) (x : List ℕ) (i : Instr) (y w : List ℕ) (ls : List CodeLine) → IfSome (text_of_instr i) (λ t. Spells w (text_at p t)) → AreSpelled p ls → AreSpelled p (cond b (label x ∷ []) [] ++ step i y w ∷ ls)
+line_spelled : (b : Bool) (p : Program) (x : List ℕ) (i : Instr) (y w : List ℕ) (ls : List CodeLine) → IfSome (text_of_instr i) (λ t. Spells w (text_at p t)) → AreSpelled p ls
+    → AreSpelled p (cond b (label x ∷ []) [] ++ step i y w ∷ ls)
 line_spelled true p x i y w ls h j = (h, j)
 line_spelled false p x i y w ls h j = (h, j)
 
-spelled_printed : (p : Program) (n : ℕ) (is : List Instr) → ((k : ℕ) (i : Instr) → slice_get is k ≡ Some i → IfSome (text_of_instr i) (λ t. Spells (quoted_text p.texts (text_of_instr i)) (text_at p t))) → AreSpelled p (printed_code p.texts p.code n is)
+spelled_printed : (p : Program) (n : ℕ) (is : List Instr)
+    → ((k : ℕ) (i : Instr) → slice_get is k ≡ Some i → IfSome (text_of_instr i) (λ t. Spells (quoted_text p.texts (text_of_instr i)) (text_at p t))) → AreSpelled p (printed_code p.texts p.code n is)
 spelled_printed p n [] h = tt
 spelled_printed p n (i ∷ is) h =
-    line_spelled (is_target p.code n) p (target_name n) i (aim (target i)) (quoted_text p.texts (text_of_instr i)) (printed_code p.texts p.code (n + 1) is) (h 0 i refl) (spelled_printed p (n + 1) is (λ k j e. h (suc k) j e))
+    line_spelled (is_target p.code n) p (target_name n) i (aim (target i)) (quoted_text p.texts (text_of_instr i)) (printed_code p.texts p.code (n + 1) is) (h 0 i refl)
+    (spelled_printed p (n + 1) is (λ k j e. h (suc k) j e))
 
 -- a handler
 
-module _ (p : Program) (q : Part) (from to : ℕ) (fs bs cs : List Instr) (s : IsModule p) (h : IsHandler p q from to) (whole : p.code ≡ fs ++ (bs ++ cs)) (front : length fs ≡ from) (end : from + length bs ≡ to) where
+module _ (p : Program) (q : Part) (from to : ℕ) (fs bs cs : List Instr) (s : IsModule p) (h : IsHandler p q from to) (whole : p.code ≡ fs ++ (bs ++ cs)) (front : length fs ≡ from)
+    (end : from + length bs ≡ to) where
   inside : (k : ℕ) (i : Instr) → slice_get bs k ≡ Some i → (slice_get p.code (from + k) ≡ Some i) × IfSome (target i) (λ t. (from ≤ t) × (t < to))
   inside k i e =
       let at : slice_get p.code (from + k) ≡ Some i = rw (whole, sym front) (item_inside fs bs cs k i e) in
@@ -119,7 +124,8 @@ few-append m n xs ys h j =
 few_word : (l : List ℕ) → IsPlain l → length l ≤ 40 → IsFew 41 (l ∷ [])
 few_word l h low = let size = length-append l (10 ∷ []) in ((h, tt), omega (arith, size))
 
-module_few : (m : Program) (first second third : List CodeLine) (i j k : ℕ) → IsFew 448 (pool_texts 0 m.pools) → IsFew 448 (brigade_texts 0 m.brigades) → IsFew i (map code_text first) → IsFew j (map code_text second) → IsFew k (map code_text third) → IsFew (1101 + i + j + k) (module_texts m first second third)
+module_few : (m : Program) (first second third : List CodeLine) (i j k : ℕ) → IsFew 448 (pool_texts 0 m.pools) → IsFew 448 (brigade_texts 0 m.brigades) → IsFew i (map code_text first)
+    → IsFew j (map code_text second) → IsFew k (map code_text third) → IsFew (1101 + i + j + k) (module_texts m first second third)
 module_few m first second third i j k ps bs x y z =
     let end = few_word (codes "end") (refl, refl, refl) (omega arith) in
     let main = few_word (codes "main") (refl, refl, refl) (omega arith) in
@@ -139,7 +145,8 @@ module_few m first second third i j k ps bs x y z =
     let initial = few-append 41 (j + (41 + (k + 41))) (codes "init" ∷ []) (bs1 ++ third_l) init (few-append j (41 + (k + 41)) bs1 third_l y serving) in
     let opening = few-append 41 (i + (41 + (j + (41 + (k + 41))))) (codes "open" ∷ []) (as1 ++ second_l) begin (few-append i (41 + (j + (41 + (k + 41)))) as1 second_l x initial) in
     let code = 41 + (i + (41 + (j + (41 + (k + 41))))) in
-    let all = few-append 41 (448 + (448 + code)) (codes "module 1" ∷ []) (pools ++ (brigades ++ first_l)) head (few-append 448 (448 + code) pools (brigades ++ first_l) ps (few-append 448 code brigades first_l bs opening)) in
+    let all = few-append 41 (448 + (448 + code)) (codes "module 1" ∷ []) (pools ++ (brigades ++ first_l)) head
+    (few-append 448 (448 + code) pools (brigades ++ first_l) ps (few-append 448 code brigades first_l bs opening)) in
     (all.0, omega (arith, all.1))
 
 -- the whole
@@ -164,7 +171,8 @@ below_1024 n (Some t) few h = omega arith
 abbrev room_of : List Instr → ℕ
 room_of is = 97 * length is + 1022 * length (filter_map text_of_instr is)
 
-handler_plain : (m : Program) (from : ℕ) (is : List Instr) → IsModule m → from + length is ≤ length m.code → ((k : ℕ) (i : Instr) → slice_get is k ≡ Some i → slice_get m.code (from + k) ≡ Some i) → IsFew (room_of is) (map code_text (printed_code m.texts m.code from is))
+handler_plain : (m : Program) (from : ℕ) (is : List Instr) → IsModule m → from + length is ≤ length m.code → ((k : ℕ) (i : Instr) → slice_get is k ≡ Some i → slice_get m.code (from + k) ≡ Some i)
+    → IsFew (room_of is) (map code_text (printed_code m.texts m.code from is))
 handler_plain m from is s low at =
     let printable = all_of (IsPrintable m) is (λ k i e. record {
       fit = (s.placed (from + k) i (at k i e)).fit;
@@ -208,8 +216,10 @@ printed_is_text m s =
     let few_brigades : IsFew 448 (brigade_texts 0 m.brigades) = (bs.0, omega (arith, bs.1, s.brigades)) in
     let plain = module_few m first second third (room_of as1) (room_of bs1) (room_of cs1) few_pools few_brigades plain_a plain_b plain_c in
     let numbers : List Instr → List ℕ = λ is. filter_map text_of_instr is in
-    let cut : numbers code ≡ (numbers as1 ++ numbers bs1) ++ numbers cs1 = ap numbers (sym all) ∙ filter_map-append text_of_instr (as1 ++ bs1) cs1 ∙ ap (λ x. x ++ numbers cs1) (filter_map-append text_of_instr as1 bs1) in
-    let texts : length (numbers as1) + length (numbers bs1) + length (numbers cs1) ≡ length m.texts = sym (ap length cut ∙ length-append (numbers as1 ++ numbers bs1) (numbers cs1) ∙ ap (λ k. k + length (numbers cs1)) (length-append (numbers as1) (numbers bs1))) ∙ ap length s.texts ∙ length-range_with_len 0 (length m.texts) in
+    let cut : numbers code ≡ (numbers as1 ++ numbers bs1) ++ numbers cs1 =
+    ap numbers (sym all) ∙ filter_map-append text_of_instr (as1 ++ bs1) cs1 ∙ ap (λ x. x ++ numbers cs1) (filter_map-append text_of_instr as1 bs1) in
+    let texts : length (numbers as1) + length (numbers bs1) + length (numbers cs1) ≡ length m.texts = sym (ap length cut ∙ length-append (numbers as1 ++ numbers bs1) (numbers cs1)
+    ∙ ap (λ k. k + length (numbers cs1)) (length-append (numbers as1) (numbers bs1))) ∙ ap length s.texts ∙ length-range_with_len 0 (length m.texts) in
     let lines = module_texts m first second third in
     let named : marks code 0 (as1 ++ bs1 ++ cs1) ≡ marks code 0 as1 ++ marks code m.init bs1 ++ marks code m.main cs1 =
     marks-append code 0 (as1 ++ bs1) cs1 ∙ rw (marks-append code 0 as1 bs1, end_a, front_at) refl in
@@ -229,5 +239,6 @@ printed_is_text m s =
       opening = handler_code m part.Open 0 m.init [] as1 (bs1 ++ cs1) s s.opening whole_a refl end_a s.size (omega arith);
       initial = handler_code m part.Init m.init m.main as1 bs1 cs1 s s.initial whole_a len_a end_b s.size (omega arith);
       serving = handler_code m part.Main m.main (length code) (as1 ++ bs1) cs1 [] s s.serving whole_c front end_c s.size (omega arith);
-      distinct = rw (labels_printed m.texts code 0 as1, labels_printed m.texts code m.init bs1, labels_printed m.texts code m.main cs1) (subst AreDistinct named (marks_distinct code 0 (as1 ++ bs1 ++ cs1) (omega (arith, ap length all, s.size))));
+      distinct = rw (labels_printed m.texts code 0 as1, labels_printed m.texts code m.init bs1, labels_printed m.texts code m.main cs1)
+          (subst AreDistinct named (marks_distinct code 0 (as1 ++ bs1 ++ cs1) (omega (arith, ap length all, s.size))));
     }

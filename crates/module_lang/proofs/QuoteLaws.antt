@@ -1,17 +1,13 @@
 -- A text that is spelled by the grammar stands behind the first quote of its line.
-use Rattle.std.proofs.Common.{◌≡◌, ℕ, ◌+◌, ◌-◌, ◌*◌, ◌<◌, Bool, true, false, ◌&&◌, not, cond, eqb, ltb, leb, List, [], ◌∷◌, ◌++◌, length, map, Option, Some, refl, sym, ◌∙◌, ap, subst, arith, append_assoc, append-nil, length-append}
-use Rattle.std.specs.Prelude.{All}
+use Rattle.std.proofs.Common.{◌≡◌, ℕ, ◌+◌, Bool, true, false, not, cond, eqb, List, [], ◌∷◌, ◌++◌, refl, sym, ◌∙◌, ap, arith}
 use Rattle.std.specs.List.{list_all}
-use Rattle.std.proofs.lemmas.Bool.{and_parts, ltb-true, ltb-false, le-leb, lt-leb, ne_eqb, not-true, leb-true}
-use Rattle.byte_text.specs.Bytes.{is_printable, unindented}
+use Rattle.std.proofs.lemmas.Bool.{and_parts, ne_eqb, not-true}
+use Rattle.byte_text.specs.Bytes.{unindented}
 use Rattle.module_lang.specs.Entries.{from_quote}
-use Rattle.byte_text.specs.Quoted.{Quoted, hex_digit, hex_value, quoted, text_from}
-use Rattle.byte_text.specs.QuotedTexts.{Piece, plain, quote, backslash, line_feed, carriage_return, hex, Spells, is_piece, piece_byte, pieces_text}
+use Rattle.byte_text.specs.QuotedTexts.{Spells}
 use Rattle.module_lang.specs.Texts.{place_text}
 use Rattle.module_code.specs.declared.instr.PoolRef.{PoolRef}
 use Rattle.module_code.specs.declared.instr.PoolRef.TheVariants as pool
-use Rattle.byte_text.specs.declared.quoted.Scan.TheVariants as scan
-use Rattle.byte_text.proofs.ListLaws.{all_cons, all_head, all_tail}
 
 -- no quote among these bytes
 abbrev pub unquoted : List ℕ → Bool

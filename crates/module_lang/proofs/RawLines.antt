@@ -71,12 +71,14 @@ steps-did [] s name w = refl
 steps-did (marked x n ∷ rs) s name w = steps-did rs s name w
 steps-did (did t n v ∷ rs) s name w = ap (λ ys. t ∷ ys) (steps-did rs s name w)
 
-built-marked : (n : ℕ) (rs : List Raw) (l : Label) (name : List ℕ) → AreBuilt n rs → is_name name ≡ true → l.name ≡ padded name → l.place ≡ n + length (raw_steps rs) → AreBuilt n (rs ++ marked l name ∷ [])
+built-marked : (n : ℕ) (rs : List Raw) (l : Label) (name : List ℕ) → AreBuilt n rs → is_name name ≡ true → l.name ≡ padded name → l.place ≡ n + length (raw_steps rs)
+    → AreBuilt n (rs ++ marked l name ∷ [])
 built-marked n [] l name h v p q = (v, p, omega (arith, q), tt)
 built-marked n (marked x m ∷ rs) l name h v p q = (h.0, h.1, h.2, built-marked n rs l name h.3 v p q)
 built-marked n (did s m w ∷ rs) l name h v p q = (h.0, h.1, built-marked (n + 1) rs l name h.2 v p (omega (arith, q)))
 
-built-did : (n : ℕ) (rs : List Raw) (s : DraftStep) (name w : List ℕ) → AreBuilt n rs → IsWritten s name → IfSome (target (op_instr s.op s.operands s.text 0)) (λ _. is_name name ≡ true) → AreBuilt n (rs ++ did s name w ∷ [])
+built-did : (n : ℕ) (rs : List Raw) (s : DraftStep) (name w : List ℕ) → AreBuilt n rs → IsWritten s name → IfSome (target (op_instr s.op s.operands s.text 0)) (λ _. is_name name ≡ true)
+    → AreBuilt n (rs ++ did s name w ∷ [])
 built-did n [] s name w h e v = (e, v, tt)
 built-did n (marked x m ∷ rs) s name w h e v = (h.0, h.1, h.2, built-did n rs s name w h.3 e v)
 built-did n (did t m u ∷ rs) s name w h e v = (h.0, h.1, built-did (n + 1) rs s name w h.2 e v)
@@ -112,7 +114,8 @@ texted-did ts (marked l n ∷ rs) s name w h x = texted-did ts rs s name w h x
 texted-did ts (did t n v ∷ rs) s name w h x = (h.0, texted-did ts rs s name w h.1 x)
 
 -- the text that a line adds
-pub text_last : (o : Option ℕ) (n : ℕ) (ts us : List (List ℕ)) (spelled : List ℕ) → o ≡ cond (is_some o) (Some n) None → n ≡ length ts → IfSome o (λ _. (w : List ℕ) × (us ≡ w ∷ []) × quotes.Spells spelled w) → IfSome o (λ t. (t < length (ts ++ us)) × quotes.Spells spelled (slice_index_or (ts ++ us) t []))
+pub text_last : (o : Option ℕ) (n : ℕ) (ts us : List (List ℕ)) (spelled : List ℕ) → o ≡ cond (is_some o) (Some n) None → n ≡ length ts
+    → IfSome o (λ _. (w : List ℕ) × (us ≡ w ∷ []) × quotes.Spells spelled w) → IfSome o (λ t. (t < length (ts ++ us)) × quotes.Spells spelled (slice_index_or (ts ++ us) t []))
 text_last None n ts us spelled e q h = tt
 text_last (Some t) n ts us spelled e q h =
     let same : t ≡ n = cc e in
@@ -120,7 +123,8 @@ text_last (Some t) n ts us spelled e q h =
     let at : slice_index_or (ts ++ us) t [] ≡ h.0 = ap (λ y. slice_index_or (ts ++ y) t []) h.1 ∙ ap (λ k. slice_index_or (ts ++ h.0 ∷ []) k []) (same ∙ q) ∙ get_or-append_seam ts h.0 [] [] in
     (omega (arith, same, q, size), subst (λ y. quotes.Spells spelled y) (sym at) h.2)
 
-pub label_built : (rs : List Raw) (h : HandlerLines) (n : ℕ) (name : List ℕ) → Built rs h → is_name name ≡ true → Built (rs ++ marked (record { line = n; name = padded name; place = length h.steps }) name ∷ []) (with_line h n (padded name))
+pub label_built : (rs : List Raw) (h : HandlerLines) (n : ℕ) (name : List ℕ) → Built rs h → is_name name ≡ true
+    → Built (rs ++ marked (record { line = n; name = padded name; place = length h.steps }) name ∷ []) (with_line h n (padded name))
 label_built rs h n name b v =
     let l : Label = record { line = n; name = padded name; place = length h.steps } in
     record {
@@ -129,7 +133,8 @@ label_built rs h n name b v =
       lines = built-marked 0 rs l name b.lines v refl (let e = ap length b.steps in omega (arith, e));
     }
 
-pub step_built : (rs : List Raw) (h : HandlerLines) (s : DraftStep) (name w : List ℕ) → Built rs h → IsWritten s name → IfSome (target (op_instr s.op s.operands s.text 0)) (λ _. is_name name ≡ true) → Built (rs ++ did s name w ∷ []) (with_more h s)
+pub step_built : (rs : List Raw) (h : HandlerLines) (s : DraftStep) (name w : List ℕ) → Built rs h → IsWritten s name
+    → IfSome (target (op_instr s.op s.operands s.text 0)) (λ _. is_name name ≡ true) → Built (rs ++ did s name w ∷ []) (with_more h s)
 step_built rs h s name w b e v = record {
   labels = b.labels ∙ sym (labels-did rs s name w);
   steps = ap (λ ss. ss ++ s ∷ []) b.steps ∙ sym (steps-did rs s name w);

@@ -1,5 +1,6 @@
 -- A text whose lines are spelled is read line by line.
-use Rattle.std.proofs.Common.{◌≡◌, ℕ, ◌+◌, ◌<◌, Bool, true, false, not, cond, eqb, List, [], ◌∷◌, ◌++◌, length, ltb, ◌||◌, ◌≤◌, Option, Some, None, Ok, refl, sym, ◌∙◌, ap, arith, append_assoc, append-nil}
+use Rattle.std.proofs.Common.{◌≡◌, ℕ, ◌+◌, ◌<◌, Bool, true, false, not, cond, eqb, List, [], ◌∷◌, ◌++◌, length, ltb, ◌||◌, ◌≤◌, Option, Some, None, Ok, refl, sym, ◌∙◌, ap, arith, append_assoc}
+use Rattle.std.proofs.Common.{append-nil}
 use Rattle.std.specs.Prelude.{All, IfSome, is_some}
 use Rattle.std.specs.List.{list_all}
 use Rattle.std.proofs.lemmas.Bool.{and_parts, ne_eqb, lt-ltb, le-ltb, not-true}
@@ -9,7 +10,8 @@ use Rattle.module_lang.specs.Codes.{◌>>=◌}
 use Rattle.module_lang.specs.Drafts.{label_added}
 use Rattle.module_lang.specs.Entries.{item_entered}
 use Rattle.module_lang.specs.Lines.{line_taken, taken}
-use Rattle.module_lang.specs.Lines.{line_read, unindented_read, is_due, is_handler, judged, has_equal_brigades, has_long_text, are_declared, misplaced, has_room, instruction_count, is_declared, is_long_text, same_brigade}
+use Rattle.module_lang.specs.Lines.{line_read, unindented_read, is_due, is_handler, judged, has_equal_brigades, has_long_text, are_declared, misplaced, has_room, instruction_count, is_declared}
+use Rattle.module_lang.specs.Lines.{is_long_text, same_brigade}
 use Rattle.module_code.specs.Names.{is_name}
 use Rattle.module_lang.specs.Operands.{operands_at}
 use Rattle.module_code.specs.Program.{Program, apart, fits, tests, text_of_instr}
@@ -38,7 +40,8 @@ abbrev pub Fold : Draft → ℕ → List (List ℕ) → Draft → Type 0
 Fold d n [] e = d ≡ e
 Fold d n (l ∷ ls) e = (x : Draft) × (line_taken d n l ≡ Ok x) × Fold x (n + 1) ls e
 
-one_line : (d : Draft) (n : ℕ) (cur l rest : List ℕ) → list_all is_printable l ≡ true → lines_read false d n cur (l ++ 10 ∷ rest) ≡ (line_taken d n (cur ++ l) >>= λ x. lines_read false x (n + 1) [] rest)
+one_line : (d : Draft) (n : ℕ) (cur l rest : List ℕ) → list_all is_printable l ≡ true
+    → lines_read false d n cur (l ++ 10 ∷ rest) ≡ (line_taken d n (cur ++ l) >>= λ x. lines_read false x (n + 1) [] rest)
 one_line d n cur [] rest h = rw (append-nil cur) refl
 one_line d n cur (b ∷ bs) rest h =
     let a = and_parts (is_printable b) (list_all is_printable bs) h in
@@ -70,7 +73,8 @@ run (l ∷ ls) d n P clean g = cases (is_skipped (unindented l)) refl (λ e m. r
     rest : All (λ l. all_printable l ≡ true) ls
     rest = all_tail (λ l. all_printable l ≡ true) l ls clean
 
-    cases : (b : Bool) → is_skipped (unindented l) ≡ b → ((e : Draft) (m : ℕ) → Goes e (statements ls) P → (x : Draft) × Fold e m ls x × P x) → Goes d (cond b (statements ls) (unindented l ∷ statements ls)) P → (e : Draft) × Fold d n (l ∷ ls) e × P e
+    cases : (b : Bool) → is_skipped (unindented l) ≡ b → ((e : Draft) (m : ℕ) → Goes e (statements ls) P → (x : Draft) × Fold e m ls x × P x)
+        → Goes d (cond b (statements ls) (unindented l ∷ statements ls)) P → (e : Draft) × Fold d n (l ∷ ls) e × P e
     cases true q more g =
         let first = all_head (λ l. all_printable l ≡ true) l ls clean in
         let z = more d (n + 1) g in
@@ -86,12 +90,15 @@ goes_append [] ys d P g = g
 goes_append (x ∷ xs) ys d P g = (g.0, λ n. let s = g.1 n in (s.0, s.1, goes_append xs ys s.0 P s.2))
 
 -- a line with a word
-pub goes_item : (d : Draft) (w : Word) (os : List (List ℕ)) (o : Operands) (next : ℕ → Draft) (ss : List (List ℕ)) (P : Draft → Type 0) → is_due d.part w ≡ true → operands_at (word_kinds w) (operands_text os) ≡ Ok o → judged d w o ≡ Ok tt → ((n : ℕ) (bytes : List ℕ) → unindented bytes ≡ line_text (word_text w) os → item_entered d n bytes w o ≡ next n) → ((n : ℕ) → Goes (next n) ss P) → Goes d (line_text (word_text w) os ∷ ss) P
+pub goes_item : (d : Draft) (w : Word) (os : List (List ℕ)) (o : Operands) (next : ℕ → Draft) (ss : List (List ℕ)) (P : Draft → Type 0) → is_due d.part w ≡ true
+    → operands_at (word_kinds w) (operands_text os) ≡ Ok o → judged d w o ≡ Ok tt → ((n : ℕ) (bytes : List ℕ) → unindented bytes ≡ line_text (word_text w) os → item_entered d n bytes w o ≡ next n)
+    → ((n : ℕ) → Goes (next n) ss P) → Goes d (line_text (word_text w) os ∷ ss) P
 goes_item d w os o next ss P due read sound same more =
     (statement_plain w os, λ n. (next n, λ bytes e. rw (item_again d w os o due read sound) (ap Ok (same n bytes e)), more n))
 
 -- a label line
-pub goes_label : (d : Draft) (name : List ℕ) (ss : List (List ℕ)) (P : Draft → Type 0) → is_handler d.part ≡ true → is_name name ≡ true → ((n : ℕ) → Goes (label_added d.part d n (padded name)) ss P) → Goes d ((58 ∷ name) ∷ ss) P
+pub goes_label : (d : Draft) (name : List ℕ) (ss : List (List ℕ)) (P : Draft → Type 0) → is_handler d.part ≡ true → is_name name ≡ true
+    → ((n : ℕ) → Goes (label_added d.part d n (padded name)) ss P) → Goes d ((58 ∷ name) ∷ ss) P
 goes_label d name ss P due named more =
     (skip, λ n. (label_added d.part d n (padded name), λ bytes e. rw (skip, due, name_again name named) refl, more n))
   where
@@ -159,7 +166,8 @@ room_for None m h = refl
 room_for (Some t) m h = lt-ltb m 64 h
 
 -- an instruction of a program is judged right
-pub instr_judged : (p : Program) (q : Part) (d : Draft) (i : Instr) (n : List ℕ) (k : ℕ) → IsAt p q d → instruction_count d < 1024 → fits p i ≡ true → misplaced q p.pools p.brigades (op_of i) (operands_of i [] 0) ≡ false → k ≤ 255 → IfSome (text_of_instr i) (λ _. length d.texts < 64) → judged d (word.Op (op_of i)) (operands_of i n k) ≡ Ok tt
+pub instr_judged : (p : Program) (q : Part) (d : Draft) (i : Instr) (n : List ℕ) (k : ℕ) → IsAt p q d → instruction_count d < 1024 → fits p i ≡ true
+    → misplaced q p.pools p.brigades (op_of i) (operands_of i [] 0) ≡ false → k ≤ 255 → IfSome (text_of_instr i) (λ _. length d.texts < 64) → judged d (word.Op (op_of i)) (operands_of i n k) ≡ Ok tt
 unfolding judged
 instr_judged p q d i n k at low fit allowed short few =
     let equal = equal_none p i n k fit in

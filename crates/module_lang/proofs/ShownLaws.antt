@@ -1,5 +1,6 @@
 -- The parts of printed lines.
-use Rattle.std.proofs.Common.{◌≡◌, ℕ, suc, ◌+◌, ◌-◌, ◌<◌, ◌≤◌, Bool, true, false, ◌||◌, eqb, ltb, cond, get_or, List, [], ◌∷◌, ◌++◌, length, map, drop, Some, refl, sym, ◌∙◌, ap, subst, arith, append_assoc}
+use Rattle.std.proofs.Common.{◌≡◌, ℕ, suc, ◌+◌, ◌-◌, ◌<◌, ◌≤◌, Bool, true, false, ◌||◌, eqb, ltb, cond, get_or, List, [], ◌∷◌, ◌++◌, length, map, drop, Some, refl, sym, ◌∙◌, ap, subst, arith}
+use Rattle.std.proofs.Common.{append_assoc}
 use Rattle.std.specs.Prelude.{IfSome, codes, slice_get, slice_range}
 use Rattle.std.proofs.lemmas.Bool.{eqb-true, lt-ltb, ltb-true}
 use Rattle.std.proofs.lemmas.Option.{slice_get_within, get_or_from_slice_get}
@@ -101,16 +102,19 @@ range_more xs n to x low at =
 line_joined : (l rest : List ℕ) → l ++ 10 ∷ rest ≡ (l ++ 10 ∷ []) ++ rest
 line_joined l rest = sym (append_assoc l (10 ∷ []) rest)
 
-lines_joined : (b : Bool) (name : List ℕ) (i : Instr) (y s : List ℕ) (ls : List CodeLine) → joined (map code_text (cond b (label name ∷ []) [] ++ step i y s ∷ ls)) ≡ joined (map code_text (cond b (label name ∷ []) [])) ++ ((code_text (step i y s) ++ 10 ∷ []) ++ joined (map code_text ls))
+lines_joined : (b : Bool) (name : List ℕ) (i : Instr) (y s : List ℕ) (ls : List CodeLine) → joined (map code_text (cond b (label name ∷ []) [] ++ step i y s ∷ ls)) ≡ joined
+    (map code_text (cond b (label name ∷ []) [])) ++ ((code_text (step i y s) ++ 10 ∷ []) ++ joined (map code_text ls))
 lines_joined true name i y s ls =
     ap (λ z. (58 ∷ name) ++ 10 ∷ z) (line_joined (code_text (step i y s)) (joined (map code_text ls))) ∙ line_joined (58 ∷ name) ((code_text (step i y s) ++ 10 ∷ []) ++ joined (map code_text ls))
 lines_joined false name i y s ls = line_joined (code_text (step i y s)) (joined (map code_text ls))
 
 -- the code from an instruction on: its label, if it is a target, its line, and the rest
-pub code_more : (ts : List (List ℕ)) (code : List Instr) (n to : ℕ) (i : Instr) → n < to → slice_get code n ≡ Some i → shown_code ts code n to ≡ joined (map code_text (label_line code n)) ++ (shown_step ts i ++ shown_code ts code (n + 1) to)
+pub code_more : (ts : List (List ℕ)) (code : List Instr) (n to : ℕ) (i : Instr) → n < to → slice_get code n ≡ Some i
+    → shown_code ts code n to ≡ joined (map code_text (label_line code n)) ++ (shown_step ts i ++ shown_code ts code (n + 1) to)
 unfolding shown_code
 code_more ts code n to i low at =
-    rw (range_more code n to i low at) (lines_joined (is_target code n) (target_name n) i (aim (target i)) (quoted_text ts (text_of_instr i)) (printed_code ts code (n + 1) (slice_range code (n + 1) to)))
+    rw (range_more code n to i low at)
+    (lines_joined (is_target code n) (target_name n) i (aim (target i)) (quoted_text ts (text_of_instr i)) (printed_code ts code (n + 1) (slice_range code (n + 1) to)))
 
 pub code_none : (ts : List (List ℕ)) (code : List Instr) (n to : ℕ) → to ≤ n → shown_code ts code n to ≡ []
 unfolding shown_code
@@ -118,24 +122,29 @@ code_none ts code n to high = let k : to - n ≡ 0 = omega arith in rw k refl
 
 -- declarations
 
-pub pools_more : (ts : List (List ℕ)) (ps : List PoolRef) (k : ℕ) (d : PoolRef) → k < length ps → joined (pool_texts k (drop k ps)) ≡ shown_line ts (codes "pool") (two_args (arg.Pool k) (arg.Place (get_or ps k d))) ++ joined (pool_texts (k + 1) (drop (k + 1) ps))
+pub pools_more : (ts : List (List ℕ)) (ps : List PoolRef) (k : ℕ) (d : PoolRef) → k < length ps
+    → joined (pool_texts k (drop k ps)) ≡ shown_line ts (codes "pool") (two_args (arg.Pool k) (arg.Place (get_or ps k d))) ++ joined (pool_texts (k + 1) (drop (k + 1) ps))
 pools_more ts ps k d low =
     let q = get_or ps k d in
     let rest = joined (pool_texts (k + 1) (drop (k + 1) ps)) in
-    ap (λ xs. joined (pool_texts k xs)) (drop_here ps k d low) ∙ line_joined (line_text (codes "pool") (place_text (pool.Own k) ∷ place_text q ∷ [])) rest ∙ ap (λ z. z ++ rest) (sym (line_shown ts (codes "pool") (two_args (arg.Pool k) (arg.Place q))))
+    ap (λ xs. joined (pool_texts k xs)) (drop_here ps k d low) ∙ line_joined (line_text (codes "pool") (place_text (pool.Own k) ∷ place_text q ∷ [])) rest
+    ∙ ap (λ z. z ++ rest) (sym (line_shown ts (codes "pool") (two_args (arg.Pool k) (arg.Place q))))
 
-pub brigades_more : (ts : List (List ℕ)) (ps : List PoolRef) (k : ℕ) (d : PoolRef) → k < length ps → joined (brigade_texts k (drop k ps)) ≡ shown_line ts (codes "brigade") (two_args (arg.Brigade k) (arg.Place (get_or ps k d))) ++ joined (brigade_texts (k + 1) (drop (k + 1) ps))
+pub brigades_more : (ts : List (List ℕ)) (ps : List PoolRef) (k : ℕ) (d : PoolRef) → k < length ps
+    → joined (brigade_texts k (drop k ps)) ≡ shown_line ts (codes "brigade") (two_args (arg.Brigade k) (arg.Place (get_or ps k d))) ++ joined (brigade_texts (k + 1) (drop (k + 1) ps))
 brigades_more ts ps k d low =
     let q = get_or ps k d in
     let rest = joined (brigade_texts (k + 1) (drop (k + 1) ps)) in
-    ap (λ xs. joined (brigade_texts k xs)) (drop_here ps k d low) ∙ line_joined (line_text (codes "brigade") (own_text k ∷ place_text q ∷ [])) rest ∙ ap (λ z. z ++ rest) (sym (line_shown ts (codes "brigade") (two_args (arg.Brigade k) (arg.Place q))))
+    ap (λ xs. joined (brigade_texts k xs)) (drop_here ps k d low) ∙ line_joined (line_text (codes "brigade") (own_text k ∷ place_text q ∷ [])) rest
+    ∙ ap (λ z. z ++ rest) (sym (line_shown ts (codes "brigade") (two_args (arg.Brigade k) (arg.Place q))))
 
 handler_joined : (ts : List (List ℕ)) (word : List ℕ) (ls rest : List (List ℕ)) → joined (word ∷ (ls ++ rest)) ≡ shown_line ts word no_arg ++ joined ls ++ joined rest
 handler_joined ts word ls rest =
     ap (λ z. word ++ 10 ∷ z) (joined-append ls rest) ∙ line_joined word (joined ls ++ joined rest) ∙ sym (append_assoc (word ++ 10 ∷ []) (joined ls) (joined rest))
 
 -- the text of a module is its declarations, its three handlers, and `end`
-pub printed_parts : (m : Program) (init main to : ℕ) → init ≡ m.init → main ≡ m.main → to ≡ length m.code → printed m ≡ shown_declarations m ++ (shown_handler (codes "open") m.texts m.code 0 init ++ (shown_handler (codes "init") m.texts m.code init main ++ (shown_handler (codes "main") m.texts m.code main to ++ codes "end\n")))
+pub printed_parts : (m : Program) (init main to : ℕ) → init ≡ m.init → main ≡ m.main → to ≡ length m.code → printed m ≡ shown_declarations m
+    ++ (shown_handler (codes "open") m.texts m.code 0 init ++ (shown_handler (codes "init") m.texts m.code init main ++ (shown_handler (codes "main") m.texts m.code main to ++ codes "end\n")))
 unfolding printed shown_declarations shown_handler shown_code
 printed_parts m init main to i j k =
     let ps = pool_texts 0 m.pools in
@@ -148,6 +157,9 @@ printed_parts m init main to i j k =
     let first = codes "open" ∷ (a ++ second) in
     let head : List ℕ → List ℕ = λ z. codes "module 1" ++ 10 ∷ z in
     let line : List ℕ → List ℕ = λ word. shown_line m.texts word no_arg in
-    let declared : joined (ps ++ (bs ++ first)) ≡ joined ps ++ joined bs ++ joined first = joined-append ps (bs ++ first) ∙ ap (λ z. joined ps ++ z) (joined-append bs first) ∙ sym (append_assoc (joined ps) (joined bs) (joined first)) in
-    let handled : joined first ≡ (line (codes "open") ++ joined a) ++ ((line (codes "init") ++ joined b) ++ ((line (codes "main") ++ joined c) ++ codes "end\n")) = handler_joined m.texts (codes "open") a second ∙ ap (λ z. line (codes "open") ++ joined a ++ z) (handler_joined m.texts (codes "init") b third ∙ ap (λ z. line (codes "init") ++ joined b ++ z) (handler_joined m.texts (codes "main") c (codes "end" ∷ []))) in
+    let declared : joined (ps ++ (bs ++ first)) ≡ joined ps ++ joined bs ++ joined first =
+    joined-append ps (bs ++ first) ∙ ap (λ z. joined ps ++ z) (joined-append bs first) ∙ sym (append_assoc (joined ps) (joined bs) (joined first)) in
+    let handled : joined first ≡ (line (codes "open") ++ joined a) ++ ((line (codes "init") ++ joined b) ++ ((line (codes "main") ++ joined c) ++ codes "end\n")) =
+    handler_joined m.texts (codes "open") a second ∙ ap (λ z. line (codes "open") ++ joined a ++ z)
+    (handler_joined m.texts (codes "init") b third ∙ ap (λ z. line (codes "init") ++ joined b ++ z) (handler_joined m.texts (codes "main") c (codes "end" ∷ []))) in
     rw (i, j, k) (ap head declared ∙ ap (λ z. head (joined ps ++ joined bs) ++ z) handled)

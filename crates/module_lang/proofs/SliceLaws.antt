@@ -20,7 +20,8 @@ pub item_of : {X : Type 0} (P : X → Type 0) (xs : List X) (k : ℕ) (x : X) �
 item_of P xs k x h e = subst P (get_or_from_slice_get xs k x x e) (h k x (slice_get_within xs k x e))
 
 -- the last item, or one of those before
-pub pushed_item : {X : Type 0} (P : ℕ → X → Type 0) (xs : List X) (y : X) → ((k : ℕ) (x : X) → slice_get xs k ≡ Some x → P k x) → P (length xs) y → (k : ℕ) (x : X) → slice_get (xs ++ y ∷ []) k ≡ Some x → P k x
+pub pushed_item : {X : Type 0} (P : ℕ → X → Type 0) (xs : List X) (y : X) → ((k : ℕ) (x : X) → slice_get xs k ≡ Some x → P k x) → P (length xs) y → (k : ℕ) (x : X)
+    → slice_get (xs ++ y ∷ []) k ≡ Some x → P k x
 pushed_item P [] y h last zero x e = let s : y ≡ x = cc e in subst (P 0) s last
 pushed_item P [] y h last (suc k) x e = absurd (cc e)
 pushed_item P (z ∷ xs) y h last zero x e = h 0 x e

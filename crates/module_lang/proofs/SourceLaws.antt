@@ -42,14 +42,16 @@ found_again : (n : ℕ) (labels : List Label) (xs : List (List ℕ × ℕ)) (nam
 unfolding place_of
 found_again n labels xs name t h l = let z = place_again None name t n labels xs h.marked h.named h.distinct l in rw z.2 (sym z.1)
 
-step_kept : (n : ℕ) (labels : List Label) (xs : List (List ℕ × ℕ)) (i : Instr) (name : List ℕ) (k : ℕ) → AreHandled n labels xs → IfSome (target i) (λ t. IsLabel name t xs) → is_lost labels (operands_of i (padded name) k) ≡ false
+step_kept : (n : ℕ) (labels : List Label) (xs : List (List ℕ × ℕ)) (i : Instr) (name : List ℕ) (k : ℕ) → AreHandled n labels xs → IfSome (target i) (λ t. IsLabel name t xs)
+    → is_lost labels (operands_of i (padded name) k) ≡ false
 step_kept n labels xs i name k h a = ap (is_missing labels) (label_target i (padded name) k) ∙ by_target (target i) a
   where
     by_target : (o : Option ℕ) → IfSome o (λ t. IsLabel name t xs) → is_missing labels (option_map (λ _. padded name) o) ≡ false
     by_target None h = refl
     by_target (Some t) l = lost_none n labels xs name t h l
 
-instr_made : (n : ℕ) (labels : List Label) (xs : List (List ℕ × ℕ)) (i : Instr) (name : List ℕ) (k x : ℕ) → AreHandled n labels xs → IfSome (target i) (λ t. IsLabel name t xs) → IfSome (text_of_instr i) (λ t. x ≡ t) → op_instr (op_of i) (operands_of i (padded name) k) x (n + target_place labels (label_of (operands_of i (padded name) k))) ≡ i
+instr_made : (n : ℕ) (labels : List Label) (xs : List (List ℕ × ℕ)) (i : Instr) (name : List ℕ) (k x : ℕ) → AreHandled n labels xs → IfSome (target i) (λ t. IsLabel name t xs)
+    → IfSome (text_of_instr i) (λ t. x ≡ t) → op_instr (op_of i) (operands_of i (padded name) k) x (n + target_place labels (label_of (operands_of i (padded name) k))) ≡ i
 instr_made n labels xs i name k x h a w = instr_again i (padded name) k x _ (by_target (target i) (label_target i (padded name) k) a) w
   where
     o : Operands
@@ -64,7 +66,8 @@ number_of b x None e = tt
 number_of true x (Some t) e = cc e
 number_of false x (Some t) e = absurd (cc e)
 
-steps_right : (p : Program) (n : ℕ) (labels : List Label) (xs : List (List ℕ × ℕ)) → AreHandled n labels xs → (body : List CodeLine) (steps : List DraftStep) → map bare steps ≡ bares p body → IsAimed xs body → (jump_fault labels steps ≡ None) × (map (step_code n labels) steps ≡ instrs body)
+steps_right : (p : Program) (n : ℕ) (labels : List Label) (xs : List (List ℕ × ℕ)) → AreHandled n labels xs → (body : List CodeLine) (steps : List DraftStep) → map bare steps ≡ bares p body
+    → IsAimed xs body → (jump_fault labels steps ≡ None) × (map (step_code n labels) steps ≡ instrs body)
 unfolding step_code
 steps_right p n labels xs h [] [] e a = (refl, refl)
 steps_right p n labels xs h [] (s ∷ ss) e a = absurd (cc e)
@@ -78,7 +81,8 @@ steps_right p n labels xs h (step i x w ∷ body) (s ∷ ss) e a =
     let number = number_of (has_text s.operands) s.text (text_of_instr i) (ap (λ (z : Op × Operands × Option ℕ). z.2) first) in
     let more = steps_right p n labels xs h body ss rest a.1 in
     let lost : is_lost labels s.operands ≡ false = ap (is_lost labels) os ∙ step_kept n labels xs i x k h a.0 in
-    let made : op_instr s.op s.operands s.text (n + target_place labels (label_of s.operands)) ≡ i = ap (λ (z : Op × Operands × Option ℕ). op_instr z.0 z.1 s.text (n + target_place labels (label_of z.1))) first ∙ instr_made n labels xs i x k s.text h a.0 number in
+    let made : op_instr s.op s.operands s.text (n + target_place labels (label_of s.operands)) ≡ i =
+    ap (λ (z : Op × Operands × Option ℕ). op_instr z.0 z.1 s.text (n + target_place labels (label_of z.1))) first ∙ instr_made n labels xs i x k s.text h a.0 number in
     (rw lost more.0, ap (λ y. y ∷ map (step_code n labels) ss) made ∙ ap (λ ys. i ∷ ys) more.1)
 
 bares-get : (p : Program) (body : List CodeLine) (k : ℕ) (i : Instr) → slice_get (instrs body) k ≡ Some i → (o : Operands × Option ℕ) × (slice_get (bares p body) k ≡ Some (op_of i, o.0, o.1))
@@ -94,15 +98,18 @@ bare_op : (o : Option DraftStep) (i : Op) (os : Operands) (t : Option ℕ) → o
 bare_op None i os t e = absurd (cc e)
 bare_op (Some s) i os t e = let first : bare s ≡ (i, os, t) = cc e in ap (λ (z : Op × Operands × Option ℕ). op_goes_on z.0) first
 
-ends_again : (p : Program) (body : List CodeLine) (h : HandlerLines) (i : Instr) → Matches p body h → slice_get (instrs body) (length (instrs body) - 1) ≡ Some i → goes_on i ≡ false → ends_open h.steps ≡ false
+ends_again : (p : Program) (body : List CodeLine) (h : HandlerLines) (i : Instr) → Matches p body h → slice_get (instrs body) (length (instrs body) - 1) ≡ Some i → goes_on i ≡ false
+    → ends_open h.steps ≡ false
 ends_again p body h i m e g =
     let size = steps-length p body h m in
     let b = bares-get p body (length (instrs body) - 1) i e in
-    let at : option_map bare (slice_get h.steps (length h.steps - 1)) ≡ Some (op_of i, b.0.0, b.0.1) = sym (slice_get-map bare h.steps (length h.steps - 1)) ∙ ap (λ x. slice_get x (length h.steps - 1)) m.steps ∙ ap (λ n. slice_get (bares p body) (n - 1)) size ∙ b.1 in
+    let at : option_map bare (slice_get h.steps (length h.steps - 1)) ≡ Some (op_of i, b.0.0, b.0.1) =
+    sym (slice_get-map bare h.steps (length h.steps - 1)) ∙ ap (λ x. slice_get x (length h.steps - 1)) m.steps ∙ ap (λ n. slice_get (bares p body) (n - 1)) size ∙ b.1 in
     bare_op (slice_get h.steps (length h.steps - 1)) (op_of i) b.0.0 b.0.1 at ∙ g
 
 -- a handler that is spelled is resolved as its instructions
-pub resolve_again : (p : Program) (before : List Label) (bs : List (List ℕ × ℕ)) (h : HandlerLines) (code : List Instr) (body : List CodeLine) → Named before bs → AreNamed bs → Matches p body h → IsCode p (length code) body → AreDistinct (bs ++ labels_from (length code) body) → ends_open h.steps ≡ false → handler_resolved before h code ≡ Ok (code ++ instrs body)
+pub resolve_again : (p : Program) (before : List Label) (bs : List (List ℕ × ℕ)) (h : HandlerLines) (code : List Instr) (body : List CodeLine) → Named before bs → AreNamed bs → Matches p body h
+    → IsCode p (length code) body → AreDistinct (bs ++ labels_from (length code) body) → ends_open h.steps ≡ false → handler_resolved before h code ≡ Ok (code ++ instrs body)
 unfolding handler_resolved handler_fault
 resolve_again p before bs h code body b v m r d e =
     let n = length code in
@@ -123,7 +130,8 @@ named_target : (o : Option ℕ) (name : List ℕ) (xs : List (List ℕ × ℕ)) 
 named_target None name xs v h = tt
 named_target (Some t) name xs v h = named_label name t xs v h
 
-pub right_from : (p : Program) (q : Part) (all : List (List ℕ × ℕ)) → AreNamed all → (n : ℕ) (body : List CodeLine) → ((j : ℕ) (i : Instr) → slice_get (instrs body) j ≡ Some i → (fits p i ≡ true) × (misplaced q p.pools p.brigades (op_of i) (operands_of i [] 0) ≡ false)) → AreNamed (labels_from n body) → IsAimed all body → AreSpelled p body → AreRight p q body
+pub right_from : (p : Program) (q : Part) (all : List (List ℕ × ℕ)) → AreNamed all → (n : ℕ) (body : List CodeLine) → ((j : ℕ) (i : Instr) → slice_get (instrs body) j ≡ Some i → (fits p i ≡ true)
+    × (misplaced q p.pools p.brigades (op_of i) (operands_of i [] 0) ≡ false)) → AreNamed (labels_from n body) → IsAimed all body → AreSpelled p body → AreRight p q body
 right_from p q all v n [] f names a w = tt
 right_from p q all v n (label x ∷ body) f names a w = (names.0, right_from p q all v n body f names.1 a w)
 right_from p q all v n (step i x s ∷ body) f names a w =
@@ -131,16 +139,19 @@ right_from p q all v n (step i x s ∷ body) f names a w =
     ((z.0, z.1, named_target (target i) x all v a.0, w.0), right_from p q all v (n + 1) body (λ j y e. f (suc j) y e) names a.1 w.1)
 
 -- the instructions of a handler of a module
-pub part_right : (p : Program) (q : Part) (from to : ℕ) (front mid back : List Instr) → IsModule p → IsHandler p q from to → p.code ≡ front ++ (mid ++ back) → length front ≡ from → from + length mid ≡ to → (j : ℕ) (i : Instr) → slice_get mid j ≡ Some i → (fits p i ≡ true) × (misplaced q p.pools p.brigades (op_of i) (operands_of i [] 0) ≡ false)
+pub part_right : (p : Program) (q : Part) (from to : ℕ) (front mid back : List Instr) → IsModule p → IsHandler p q from to → p.code ≡ front ++ (mid ++ back) → length front ≡ from
+    → from + length mid ≡ to → (j : ℕ) (i : Instr) → slice_get mid j ≡ Some i → (fits p i ≡ true) × (misplaced q p.pools p.brigades (op_of i) (operands_of i [] 0) ≡ false)
 part_right p q from to front mid back s h whole low high j i e =
     let lt = slice_get_within mid j i e in
     let near : length front ≤ from + j = omega arith in
     let off : from + j - length front ≡ j = omega arith in
-    let at : slice_get p.code (from + j) ≡ Some i = ap (λ x. slice_get x (from + j)) whole ∙ back_item front (mid ++ back) (from + j) near ∙ ap (slice_get (mid ++ back)) off ∙ front_item mid back j lt ∙ e in
+    let at : slice_get p.code (from + j) ≡ Some i =
+    ap (λ x. slice_get x (from + j)) whole ∙ back_item front (mid ++ back) (from + j) near ∙ ap (slice_get (mid ++ back)) off ∙ front_item mid back j lt ∙ e in
     ((s.placed (from + j) i at).fit, (h.inside (from + j) i (omega arith) (omega arith) at).allowed)
 
 -- the last instruction of a handler of a module
-pub part_ends : (p : Program) (q : Part) (from to : ℕ) (front : List Instr) (body : List CodeLine) (back : List Instr) (x : HandlerLines) → IsHandler p q from to → p.code ≡ front ++ (instrs body ++ back) → length front ≡ from → from + length (instrs body) ≡ to → Matches p body x → ends_open x.steps ≡ false
+pub part_ends : (p : Program) (q : Part) (from to : ℕ) (front : List Instr) (body : List CodeLine) (back : List Instr) (x : HandlerLines) → IsHandler p q from to
+    → p.code ≡ front ++ (instrs body ++ back) → length front ≡ from → from + length (instrs body) ≡ to → Matches p body x → ends_open x.steps ≡ false
 part_ends p q from to front body back x h whole low high m =
     let mid = instrs body in
     let some = h.some in
@@ -148,7 +159,8 @@ part_ends p q from to front body back x h whole low high m =
     let lt : k < length mid = omega arith in
     let near : length front ≤ to - 1 = omega arith in
     let off : to - 1 - length front ≡ k = omega arith in
-    let at : slice_get p.code (to - 1) ≡ slice_get mid k = ap (λ y. slice_get y (to - 1)) whole ∙ back_item front (mid ++ back) (to - 1) near ∙ ap (slice_get (mid ++ back)) off ∙ front_item mid back k lt in
+    let at : slice_get p.code (to - 1) ≡ slice_get mid k =
+    ap (λ y. slice_get y (to - 1)) whole ∙ back_item front (mid ++ back) (to - 1) near ∙ ap (slice_get (mid ++ back)) off ∙ front_item mid back k lt in
     last (slice_get mid k) refl at
   where
     last : (o : Option Instr) → slice_get (instrs body) (length (instrs body) - 1) ≡ o → slice_get p.code (to - 1) ≡ o → ends_open x.steps ≡ false

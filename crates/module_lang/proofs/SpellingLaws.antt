@@ -1,5 +1,6 @@
 -- What is spelled is read again: words, operands and lines.
-use Rattle.std.proofs.Common.{◌≡◌, ℕ, ◌+◌, ◌-◌, ◌^◌, ◌<◌, ◌≤◌, Bool, true, false, ◌&&◌, ◌||◌, not, cond, eqb, ltb, leb, List, [], ◌∷◌, ◌++◌, length, Option, Some, None, Ok, refl, sym, ◌∙◌, ap, append-nil, arith, subst}
+use Rattle.std.proofs.Common.{◌≡◌, ℕ, ◌+◌, ◌-◌, ◌^◌, ◌<◌, ◌≤◌, Bool, true, false, ◌&&◌, ◌||◌, not, cond, eqb, ltb, leb, List, [], ◌∷◌, ◌++◌, length, Option, Some, None, Ok, refl, sym, ◌∙◌, ap}
+use Rattle.std.proofs.Common.{append-nil, arith, subst}
 use Rattle.std.specs.Prelude.{slice_index, codes, replicate, IfSome}
 use Rattle.std.specs.List.{list_all}
 use Rattle.std.proofs.lemmas.Bool.{and_parts, not-true, le-leb, eq-eqb, ne_eqb, eqb-true, ltb-true, lt-ltb}
@@ -8,9 +9,8 @@ use Rattle.byte_text.specs.Bytes.{token, token_len, after_token, begins}
 use Rattle.module_lang.specs.Lines.{item_read, unindented_read, is_due, judged, place_is_declared}
 use Rattle.module_code.specs.Program.{Program, fits, target, tests, text_at, text_of_instr}
 use Rattle.module_code.specs.Names.{is_letter, is_name, is_name_byte, all_name_bytes, name_of}
-use Rattle.module_code.specs.Args.{is_value}
+use Rattle.module_code.specs.Args.{is_value, args, is_of, names_target, names_text, op_of, or_else}
 use Rattle.module_lang.specs.Operands.{numbered, operand_in, operand_at, after_operand, operands_at, operand_kind_is_nothing, operand_kind_is_text}
-use Rattle.module_code.specs.Args.{args, is_of, names_target, names_text, op_of, or_else}
 use Rattle.module_code.specs.Spelling.{number_operand, operand_of, operands_of}
 use Rattle.byte_text.specs.QuotedTexts.{Spells}
 use Rattle.module_lang.specs.Texts.{arg_texts, place_text, own_text, brigade_text, cursor_text, number_text, status_text, value_text, operands_text, line_text, operand_texts, instr_word, is_skipped}
@@ -243,7 +243,8 @@ pub record IsSaid (p : Program) (a : Arg) (n s : List ℕ) (len : ℕ) : Type 0 
   pub name : IfSome (names_target a) (λ _. is_name n ≡ true)
   pub text : IfSome (names_text a) (λ t. Spells s (text_at p t) × (len ≡ length (text_at p t)))
 
-arg_again : (p : Program) (k : OperandKind) (a : Arg) (n s : List ℕ) (len : ℕ) (os : List (List ℕ)) → length p.pools ≤ 8 → length p.brigades ≤ 8 → is_of k a ≡ true → IsSaid p a n s len → IsAgain k a n s len os
+arg_again : (p : Program) (k : OperandKind) (a : Arg) (n s : List ℕ) (len : ℕ) (os : List (List ℕ)) → length p.pools ≤ 8 → length p.brigades ≤ 8 → is_of k a ≡ true → IsSaid p a n s len
+    → IsAgain k a n s len os
 arg_again p k a n s len os few small = by_kind k a
   where
     token : (k : OperandKind) (o : Operand) (t : List ℕ) → IsOperand k o t → (operand_at k (operands_text (t ∷ os)) ≡ Ok o) × (after_operand k (operands_text (t ∷ os)) ≡ operands_text os)
@@ -262,7 +263,8 @@ arg_again p k a n s len os few small = by_kind k a
       behind = text_behind s (text_at p t) (operands_text os) x.text.0;
     }
     by_kind kind.Variable (arg.Variable (variable.Pool q)) h x = let y = token kind.Variable _ _ (own_variable q (own_below (length p.pools) q few x.fit.0)) in record { read = y.0; behind = y.1 }
-    by_kind kind.Variable (arg.Variable (variable.Brigade b)) h x = let y = token kind.Variable _ _ (brigade_variable b (own_below (length p.brigades) b small x.fit.0)) in record { read = y.0; behind = y.1 }
+    by_kind kind.Variable (arg.Variable (variable.Brigade b)) h x = let y = token kind.Variable _ _ (brigade_variable b (own_below (length p.brigades) b small x.fit.0)) in
+        record { read = y.0; behind = y.1 }
     by_kind kind.Number (arg.Number m) h x = let y = token kind.Number _ _ (number_again m (ltb-true m 8 x.fit.0)) in record { read = y.0; behind = y.1 }
     by_kind kind.Value (arg.Value v) h x = let y = token kind.Value _ _ (value_again v x.fit.0) in record { read = y.0; behind = y.1 }
     by_kind kind.Cursor (arg.Cursor c) h x = let y = token kind.Cursor _ _ (cursor_again c (ltb-true c 8 x.fit.0)) in record { read = y.0; behind = y.1 }
@@ -284,7 +286,8 @@ pub record AreSaid (p : Program) (a : Args) (n s : List ℕ) (len : ℕ) : Type 
   pub third : IsSaid p a.third n s len
   pub fourth : IsSaid p a.fourth n s len
 
-pub args_said : (p : Program) (i : Instr) (n s : List ℕ) → fits p i ≡ true → IfSome (target i) (λ _. is_name n ≡ true) → IfSome (text_of_instr i) (λ t. Spells s (text_at p t)) → AreSaid p (args i) n s (text_len p (text_of_instr i))
+pub args_said : (p : Program) (i : Instr) (n s : List ℕ) → fits p i ≡ true → IfSome (target i) (λ _. is_name n ≡ true) → IfSome (text_of_instr i) (λ t. Spells s (text_at p t))
+    → AreSaid p (args i) n s (text_len p (text_of_instr i))
 args_said p i n s h name text =
     let a = args i in
     let P = is_name n ≡ true in
@@ -307,7 +310,8 @@ args_said p i n s h name text =
     long (Some t) h = (h, refl)
 
 -- the operands of an instruction are read again
-pub instr_again : (p : Program) (i : Instr) (n s : List ℕ) → length p.pools ≤ 8 → length p.brigades ≤ 8 → fits p i ≡ true → IfSome (target i) (λ _. is_name n ≡ true) → IfSome (text_of_instr i) (λ t. Spells s (text_at p t)) → operands_at (op_kinds (op_of i)) (operands_text (operand_texts i n s)) ≡ Ok (operands_of i (padded n) (text_len p (text_of_instr i)))
+pub instr_again : (p : Program) (i : Instr) (n s : List ℕ) → length p.pools ≤ 8 → length p.brigades ≤ 8 → fits p i ≡ true → IfSome (target i) (λ _. is_name n ≡ true)
+    → IfSome (text_of_instr i) (λ t. Spells s (text_at p t)) → operands_at (op_kinds (op_of i)) (operands_text (operand_texts i n s)) ≡ Ok (operands_of i (padded n) (text_len p (text_of_instr i)))
 unfolding operands_at
 instr_again p i n s few small h name text =
     let a = args i in
@@ -322,7 +326,8 @@ instr_again p i n s few small h name text =
     let u = arg_again p k.second a.second n s len c few small q.second x.second in
     let v = arg_again p k.third a.third n s len d few small q.third x.third in
     let z = arg_again p k.fourth a.fourth n s len [] few small q.fourth x.fourth in
-    ap (λ y. operands_at k (operands_text (arg_texts a.first n s ++ (arg_texts a.second n s ++ (arg_texts a.third n s ++ y))))) (sym (append-nil (arg_texts a.fourth n s))) ∙ rw (w.read, w.behind, u.read, u.behind, v.read, v.behind, z.read, z.behind) refl
+    ap (λ y. operands_at k (operands_text (arg_texts a.first n s ++ (arg_texts a.second n s ++ (arg_texts a.third n s ++ y))))) (sym (append-nil (arg_texts a.fourth n s)))
+    ∙ rw (w.read, w.behind, u.read, u.behind, v.read, v.behind, z.read, z.behind) refl
 
 pub word_of_instr : (i : Instr) → instr_word i ≡ word_text (word.Op (op_of i))
 unfolding word_text
@@ -357,7 +362,8 @@ word_again (word.Op o) = as_word (word.Op o) refl refl refl
 word_again w = as_word w refl refl refl
 
 -- a line with a word is read again
-pub item_again : (d : Draft) (w : Word) (os : List (List ℕ)) (o : Operands) → is_due d.part w ≡ true → operands_at (word_kinds w) (operands_text os) ≡ Ok o → judged d w o ≡ Ok tt → unindented_read d (line_text (word_text w) os) ≡ Ok (line.Item w o)
+pub item_again : (d : Draft) (w : Word) (os : List (List ℕ)) (o : Operands) → is_due d.part w ≡ true → operands_at (word_kinds w) (operands_text os) ≡ Ok o → judged d w o ≡ Ok tt
+    → unindented_read d (line_text (word_text w) os) ≡ Ok (line.Item w o)
 unfolding item_read
 item_again d w os o due read sound =
     let here = word_again w in

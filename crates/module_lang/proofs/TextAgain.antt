@@ -25,11 +25,13 @@ one_is : IsOperand kind.One operand.One (codes "1")
 unfolding operand_in
 one_is = record { some = refl; bare = refl; read = refl; plain = refl }
 
-module _ (p : Program) (a b c : List CodeLine) (s : IsModule p) (whole : p.code ≡ instrs a ++ (instrs b ++ instrs c)) (first : AreRight p part.Open a) (second : AreRight p part.Init b) (third : AreRight p part.Main c) where
+module _ (p : Program) (a b c : List CodeLine) (s : IsModule p) (whole : p.code ≡ instrs a ++ (instrs b ++ instrs c)) (first : AreRight p part.Open a) (second : AreRight p part.Init b)
+    (third : AreRight p part.Main c) where
   end_goes : (d : Draft) → Holds p part.Main a b c d → Goes d (codes "end" ∷ []) (Holds p part.End a b c)
   unfolding word_kinds word_text judged
   end_goes d h =
-      goes_item d word.End [] (operands operand.Nothing operand.Nothing) (λ n. record d { part = part.End }) [] (Holds p part.End a b c) (ap (λ x. is_due x word.End) h.at.part) no_operands refl (λ n bytes _. refl) (λ n. record {
+      goes_item d word.End [] (operands operand.Nothing operand.Nothing) (λ n. record d { part = part.End }) [] (Holds p part.End a b c) (ap (λ x. is_due x word.End) h.at.part) no_operands refl
+      (λ n bytes _. refl) (λ n. record {
         at = record { part = refl; pools = h.at.pools; brigades = h.at.brigades };
         first = h.first;
         second = h.second;
@@ -40,7 +42,8 @@ module _ (p : Program) (a b c : List CodeLine) (s : IsModule p) (whole : p.code 
   main_goes : (d : Draft) → Holds p part.Init a b [] d → Goes d (codes "main" ∷ (map code_text c ++ codes "end" ∷ [])) (Holds p part.End a b c)
   unfolding word_kinds word_text judged
   main_goes d h =
-      goes_item d word.Main [] (operands operand.Nothing operand.Nothing) (λ n. with_part d part.Main n) (map code_text c ++ codes "end" ∷ []) (Holds p part.End a b c) (ap (λ x. is_due x word.Main) h.at.part) no_operands refl (λ n bytes _. refl) (λ n.
+      goes_item d word.Main [] (operands operand.Nothing operand.Nothing) (λ n. with_part d part.Main n) (map code_text c ++ codes "end" ∷ []) (Holds p part.End a b c)
+      (ap (λ x. is_due x word.Main) h.at.part) no_operands refl (λ n bytes _. refl) (λ n.
       body_goes p part.Main (instrs a ++ instrs b) [] (λ x d. Holds p part.Main a b x d) (main_stage p a b) s c [] (with_part d part.Main n) (codes "end" ∷ []) (Holds p part.End a b c) (record {
         at = record { part = refl; pools = h.at.pools; brigades = h.at.brigades };
         first = h.first;
@@ -52,8 +55,10 @@ module _ (p : Program) (a b c : List CodeLine) (s : IsModule p) (whole : p.code 
   init_goes : (d : Draft) → Holds p part.Open a [] [] d → Goes d (codes "init" ∷ (map code_text b ++ (codes "main" ∷ (map code_text c ++ codes "end" ∷ [])))) (Holds p part.End a b c)
   unfolding word_kinds word_text judged
   init_goes d h =
-      goes_item d word.Init [] (operands operand.Nothing operand.Nothing) (λ n. with_part d part.Init n) (map code_text b ++ (codes "main" ∷ (map code_text c ++ codes "end" ∷ []))) (Holds p part.End a b c) (ap (λ x. is_due x word.Init) h.at.part) no_operands refl (λ n bytes _. refl) (λ n.
-      body_goes p part.Init (instrs a) (instrs c) (λ x d. Holds p part.Init a x [] d) (init_stage p a) s b [] (with_part d part.Init n) (codes "main" ∷ (map code_text c ++ codes "end" ∷ [])) (Holds p part.End a b c) (record {
+      goes_item d word.Init [] (operands operand.Nothing operand.Nothing) (λ n. with_part d part.Init n) (map code_text b ++ (codes "main" ∷ (map code_text c ++ codes "end" ∷ [])))
+      (Holds p part.End a b c) (ap (λ x. is_due x word.Init) h.at.part) no_operands refl (λ n bytes _. refl) (λ n.
+      body_goes p part.Init (instrs a) (instrs c) (λ x d. Holds p part.Init a x [] d) (init_stage p a) s b [] (with_part d part.Init n) (codes "main" ∷ (map code_text c ++ codes "end" ∷ []))
+      (Holds p part.End a b c) (record {
         at = record { part = refl; pools = h.at.pools; brigades = h.at.brigades };
         first = h.first;
         second = record { labels = h.second.labels; steps = h.second.steps };
@@ -61,11 +66,13 @@ module _ (p : Program) (a b c : List CodeLine) (s : IsModule p) (whole : p.code 
         texts = h.texts;
       }) second whole main_goes)
 
-  open_goes : (d : Draft) → Declares p p.pools p.brigades d → Goes d (codes "open" ∷ (map code_text a ++ (codes "init" ∷ (map code_text b ++ (codes "main" ∷ (map code_text c ++ codes "end" ∷ [])))))) (Holds p part.End a b c)
+  open_goes : (d : Draft) → Declares p p.pools p.brigades d
+      → Goes d (codes "open" ∷ (map code_text a ++ (codes "init" ∷ (map code_text b ++ (codes "main" ∷ (map code_text c ++ codes "end" ∷ [])))))) (Holds p part.End a b c)
   unfolding word_kinds word_text judged
   open_goes d h =
       let ss = codes "init" ∷ (map code_text b ++ (codes "main" ∷ (map code_text c ++ codes "end" ∷ []))) in
-      goes_item d word.Open [] (operands operand.Nothing operand.Nothing) (λ n. with_part d part.Open n) (map code_text a ++ ss) (Holds p part.End a b c) h.opening no_operands refl (λ n bytes _. refl) (λ n.
+      goes_item d word.Open [] (operands operand.Nothing operand.Nothing) (λ n. with_part d part.Open n) (map code_text a ++ ss) (Holds p part.End a b c) h.opening no_operands refl
+      (λ n bytes _. refl) (λ n.
       body_goes p part.Open [] (instrs b ++ instrs c) (λ x d. Holds p part.Open x [] [] d) (open_stage p) s a [] (with_part d part.Open n) ss (Holds p part.End a b c) (record {
         at = record { part = refl; pools = h.pools; brigades = h.brigades };
         first = record { labels = h.first.labels; steps = h.first.steps };
@@ -79,7 +86,8 @@ module _ (p : Program) (a b c : List CodeLine) (s : IsModule p) (whole : p.code 
   module_goes =
       let code = codes "open" ∷ (map code_text a ++ (codes "init" ∷ (map code_text b ++ (codes "main" ∷ (map code_text c ++ codes "end" ∷ []))))) in
       let none : Matches p [] empty_draft.open = record { labels = refl; steps = refl } in
-      goes_item empty_draft word.Module (codes "1" ∷ []) (operands operand.One operand.Nothing) (λ n. record empty_draft { part = part.Pools }) (pool_texts 0 p.pools ++ (brigade_texts 0 p.brigades ++ code)) (Holds p part.End a b c) refl (one_again kind.One operand.One (codes "1") one_is) refl (λ n bytes _. refl) (λ n.
+      goes_item empty_draft word.Module (codes "1" ∷ []) (operands operand.One operand.Nothing) (λ n. record empty_draft { part = part.Pools })
+      (pool_texts 0 p.pools ++ (brigade_texts 0 p.brigades ++ code)) (Holds p part.End a b c) refl (one_again kind.One operand.One (codes "1") one_is) refl (λ n bytes _. refl) (λ n.
       pools_go p p.pools [] 0 (record empty_draft { part = part.Pools }) (brigade_texts 0 p.brigades ++ code) (Holds p part.End a b c) refl (record {
         brigade = refl;
         opening = refl;
@@ -130,7 +138,8 @@ text_again text m t =
     let names_c = names_of (m.main + length C) zs t.serving.labels in
     let right_a = right_from m part.Open xs names_a 0 t.first (part_right m part.Open 0 m.init [] A (B ++ C) s s.opening whole refl low) names_a t.opening.aimed t.opening.texts in
     let right_b = right_from m part.Init ys names_b m.init t.second (part_right m part.Init m.init m.main A B C s s.initial whole (sym t.inits) end_b) names_b t.initial.aimed t.initial.texts in
-    let right_c = right_from m part.Main zs names_c m.main t.third (part_right m part.Main m.main (length m.code) (A ++ B) C [] s s.serving whole_c front end_c) names_c t.serving.aimed t.serving.texts in
+    let right_c = right_from m part.Main zs names_c m.main t.third
+    (part_right m part.Main m.main (length m.code) (A ++ B) C [] s s.serving whole_c front end_c) names_c t.serving.aimed t.serving.texts in
     let goes = module_goes m t.first t.second t.third s whole right_a right_b right_c in
     let ran = run t.lines empty_draft 1 (Holds m part.End t.first t.second t.third) t.clean (rw t.spelled goes) in
     let d = ran.0 in
@@ -144,6 +153,8 @@ text_again text m t =
     let one = resolve_again m [] [] d.open [] t.first tt tt h.first t.opening (distinct_front xs ys (distinct_front (xs ++ ys) zs t.distinct)) ends_a in
     let init_is : length A ≡ m.init = sym t.inits in
     let two = resolve_again m d.open.labels xs d.init A t.second named_a names_a h.second (rw init_is t.initial) (rw init_is (distinct_front (xs ++ ys) zs t.distinct)) ends_b in
-    let three = resolve_again m (d.open.labels ++ d.init.labels) (xs ++ ys) d.main (A ++ B) t.third (named-append d.open.labels d.init.labels xs ys named_a named_b) (AreNamed-append xs ys names_a names_b) h.third (rw front t.serving) (rw front t.distinct) ends_c in
+    let three = resolve_again m (d.open.labels ++ d.init.labels) (xs ++ ys) d.main (A ++ B) t.third (named-append d.open.labels d.init.labels xs ys named_a named_b)
+    (AreNamed-append xs ys names_a names_b) h.third (rw front t.serving) (rw front t.distinct) ends_c in
     let made = done d [] A (A ++ B) ((A ++ B) ++ C) refl one two three in
-    rw read (made ∙ ap Ok (same_program (program d.pools d.brigades d.texts ((A ++ B) ++ C) (length A) (length (A ++ B))) m h.at.pools h.at.brigades (h.texts ∙ ap (texts_of m) (sym t.code) ∙ all_texts m s) (sym t.code) init_is front))
+    rw read (made ∙ ap Ok (same_program (program d.pools d.brigades d.texts ((A ++ B) ++ C) (length A) (length (A ++ B))) m h.at.pools h.at.brigades
+    (h.texts ∙ ap (texts_of m) (sym t.code) ∙ all_texts m s) (sym t.code) init_is front))

@@ -1,9 +1,8 @@
 -- Lines that are taken into a draft.
 use Rattle.std.specs.Prelude.{◌≡◌, All, true, false, slice_get, Option, Some, None, filter_map, ℕ, ◌+◌, ◌<◌, ◌≤◌, ◌==◌, if◌then◌else◌, List, [], ◌∷◌, ◌++◌, length, option_to_list}
 use Rattle.std.specs.List.{range_with_len}
-use Rattle.module_lang.specs.Drafts.{with_label, with_part, with_step}
+use Rattle.module_lang.specs.Drafts.{with_label, with_part, with_step, instruction_count}
 use Rattle.module_code.specs.Tables.{are_declared, has_equal_brigades, has_text, misplaced, place_is_declared}
-use Rattle.module_lang.specs.Drafts.{instruction_count}
 use Rattle.module_lang.specs.Operands.{IsOfKinds, operand_place}
 use Rattle.byte_text.specs.Quoted.{quoted, text_of}
 use Rattle.module_code.specs.Words.{op_kinds}

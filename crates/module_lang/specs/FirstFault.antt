@@ -5,14 +5,13 @@
 use Rattle.std.specs.Prelude.{◌≡◌, ℕ, ◌+◌, ◌≤◌, Bool, true, false, ◌&&◌, ◌||◌, not, nat_lt, nat_le, ◌==◌, if◌then◌else◌, List, [], ◌∷◌, ◌++◌, length, take, Option, Some, None, Result, Ok, Err, ◌⊎◌}
 use Rattle.byte_text.specs.Bytes.{after_token, all_printable, begins, tail, token, unindented}
 use Rattle.module_lang.specs.Codes.{code_number}
-use Rattle.module_lang.specs.Drafts.{empty_draft}
+use Rattle.module_lang.specs.Drafts.{empty_draft, instruction_count}
 use Rattle.module_lang.specs.Entries.{entered}
 use Rattle.module_lang.specs.Labels.{ends_open, is_lost, is_named}
 use Rattle.module_code.specs.Names.{is_name, name_of}
 use Rattle.module_lang.specs.Operands.{operand_kind_is_text, operands_at}
 use Rattle.module_code.specs.Program.{Program}
 use Rattle.module_code.specs.Tables.{are_declared, has_equal_brigades, has_long_text, is_declared, is_due, is_end, is_handler, is_next, misplaced}
-use Rattle.module_lang.specs.Drafts.{instruction_count}
 use Rattle.byte_text.specs.TextLines.{lines_from, rest_from}
 use Rattle.module_lang.specs.Texts.{IsTextOf, is_skipped}
 use Rattle.module_code.specs.Words.{op_kinds, word_at, word_kinds}

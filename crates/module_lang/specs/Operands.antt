@@ -1,5 +1,6 @@
 -- The operands of a line.
-use Rattle.std.specs.Prelude.{◌≡◌, ℕ, ◌-◌, nat_lt, Bool, true, false, ◌&&◌, not, nat_eq, nat_le, ◌==◌, if◌then◌else◌, List, length, drop, slice_index, codes, find, Option, Some, None, option_map, Result, Ok, Err}
+use Rattle.std.specs.Prelude.{◌≡◌, ℕ, ◌-◌, nat_lt, Bool, true, false, ◌&&◌, not, nat_eq, nat_le, ◌==◌, if◌then◌else◌, List, length, drop, slice_index, codes, find, Option, Some, None, option_map}
+use Rattle.std.specs.Prelude.{Result, Ok, Err}
 use Rattle.std.specs.Cmp.Lexicographic.{pointwise}
 use Rattle.byte_text.specs.Bytes.{begins, tail, token, after_token}
 use Rattle.module_lang.specs.Codes.{◌>>=◌, unless}

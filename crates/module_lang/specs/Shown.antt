@@ -1,8 +1,7 @@
 -- The parts of a printed line.
 use Rattle.std.specs.Prelude.{◌≡◌, ◌<◌, ℕ, true, ◌||◌, nat_lt, ◌==◌, List, [], ◌∷◌, ◌++◌, codes, length, map, slice_range}
-use Rattle.module_code.specs.Args.{names_target, names_text, no_arg}
+use Rattle.module_code.specs.Args.{names_target, names_text, no_arg, is_value}
 use Rattle.module_lang.specs.Lines.{place_is_declared}
-use Rattle.module_code.specs.Args.{is_value}
 use Rattle.module_lang.specs.Printing.{aim, printed_code, quoted_text}
 use Rattle.module_code.specs.Program.{Program, target, text_of_instr}
 use Rattle.module_lang.specs.Texts.{arg_texts, brigade_texts, code_text, joined, operands_text, pool_texts, step}

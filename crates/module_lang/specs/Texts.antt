@@ -1,7 +1,7 @@
 -- Module texts as they are written: the grammar.
-use Rattle.std.specs.Prelude.{◌≡◌, ◌≢◌, ℕ, ◌+◌, ◌*◌, ◌<◌, ◌≤◌, Bool, true, ◌&&◌, ◌||◌, not, nat_lt, ◌==◌, if◌then◌else◌, List, [], ◌∷◌, ◌++◌, length, map, codes, decimal, All, IfSome, ◌⊎◌}
+use Rattle.std.specs.Prelude.{◌≡◌, ◌≢◌, ℕ, ◌+◌, ◌<◌, ◌≤◌, Bool, true, ◌||◌, ◌==◌, if◌then◌else◌, List, [], ◌∷◌, ◌++◌, length, map, codes, decimal, All, IfSome, ◌⊎◌}
 use Rattle.module_code.specs.Args.{args, op_of}
-use Rattle.byte_text.specs.Bytes.{all_printable, begins, is_printable, unindented}
+use Rattle.byte_text.specs.Bytes.{all_printable, begins, unindented}
 use Rattle.module_code.specs.Names.{is_name}
 use Rattle.module_code.specs.Program.{IsModule, Program, target, text_at, text_of_instr}
 use Rattle.byte_text.specs.QuotedTexts.{Spells}

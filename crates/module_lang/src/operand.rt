@@ -2,7 +2,9 @@
 
 ghost use Rattle.std.specs.Prelude.{◌≡◌, ◌<◌, ◌≤◌, length, IsTrue};
 ghost use Rattle.byte_text.specs.Bytes.{begins, tail};
-ghost use Rattle.module_lang.specs.Operands.{numbered, is_one, place_in, pool_in, brigade_in, source_in, ending_in, label_in, variable_in, number_in, constant_in, value_in, cursor_in, kind_test_at, kind_test_in, operand_place, operand_in, text_operand, operand_at, after_text, after_operand, operands_at, operand_kind_is_nothing, operand_kind_is_text};
+ghost use Rattle.module_lang.specs.Operands.{numbered, is_one, place_in, pool_in, brigade_in, source_in, ending_in, label_in, variable_in, number_in};
+ghost use Rattle.module_lang.specs.Operands.{constant_in, value_in, cursor_in, kind_test_at, kind_test_in, operand_place, operand_in, text_operand, operand_at};
+ghost use Rattle.module_lang.specs.Operands.{after_text, after_operand, operands_at, operand_kind_is_nothing, operand_kind_is_text};
 
 use crate::refusal::Code;
 use byte_text::{after_token, begins, constant_of, is_text, measure, tail, token};

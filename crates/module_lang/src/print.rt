@@ -7,7 +7,8 @@ ghost use Rattle.module_lang.specs.Printing.{is_number, label_line, is_target, p
 ghost use Rattle.module_code.specs.Program.{IsModule, fits, target};
 ghost use Rattle.byte_text.specs.Quoted.{spelling};
 ghost use Rattle.module_lang.specs.Shown.{shown_arg, shown_args, AreShort, HasDigit, IsShortArg, shown_line, shown_step, shown_code, shown_declarations, shown_handler};
-ghost use Rattle.module_lang.specs.Texts.{brigade_text, brigade_texts, code_text, cursor_text, joined, operands_text, own_text, place_text, pool_texts, status_text, value_text, variable_text, IsTextOf};
+ghost use Rattle.module_lang.specs.Texts.{brigade_text, brigade_texts, code_text, cursor_text, joined, operands_text, own_text, place_text, pool_texts};
+ghost use Rattle.module_lang.specs.Texts.{status_text, value_text, variable_text, IsTextOf};
 ghost use Rattle.module_code.specs.Words.{kind_test_text};
 ghost use Rattle.byte_text.specs.Writes.{Wrote};
 

@@ -51,7 +51,8 @@ stacked_beside chain at rings pools next c labels conn req files out ended count
 }
 
 -- labels that are the same change nothing
-pub left_relabelled : {R : Type 0} {g : Ghosts R Stored} (chain : List Program) (tree : PoolTree Payload) (store : Brigades R g) (d : Device) (c : Conn) (v : Linked) (labels : Vec LabelsRun) → labels.items ≡ c.labels.items
+pub left_relabelled : {R : Type 0} {g : Ghosts R Stored} (chain : List Program) (tree : PoolTree Payload) (store : Brigades R g) (d : Device) (c : Conn) (v : Linked) (labels : Vec LabelsRun)
+    → labels.items ≡ c.labels.items
     → LeftAs chain tree store d c v → LeftAs chain tree store d (record c { labels = labels }) v
 unfolding conn_of filter_at
 left_relabelled chain tree store d c v labels same left = record {

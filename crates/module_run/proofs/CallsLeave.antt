@@ -88,7 +88,8 @@ ends_unchanged old new c d same = record {
 }
 
 -- One filter changed, whose call goes on, and so does what came in to it.
-pub ends_one : {R : Type 0} {g : Ghosts R Stored} (old new : Brigades R g) (c d : Conn) (t : ℕ) (x y : Filter) → filter_at c t ≡ Some x → filter_at d t ≡ Some y → ((k : ℕ) → k ≢ t → filter_at d k ≡ filter_at c k)
+pub ends_one : {R : Type 0} {g : Ghosts R Stored} (old new : Brigades R g) (c d : Conn) (t : ℕ) (x y : Filter) → filter_at c t ≡ Some x → filter_at d t ≡ Some y
+    → ((k : ℕ) → k ≢ t → filter_at d k ≡ filter_at c k)
     → y.call.name ≡ x.call.name → named_at y 8 ≡ named_at x 8 → EndsLoose old new c d
 ends_one old new c d t x y was now others name came = record { calls = calls; brought = brought } where
   calls : (k : ℕ) (f e : Filter) → filter_at c k ≡ Some f → filter_at d k ≡ Some e → e.call.name ≢ f.call.name → lists new f.call.name ≡ None
@@ -205,7 +206,8 @@ module _ {R : Type 0} {g : Ghosts R Stored} (chain : List Program) (ps : Pools P
   pub none_still : lists new 0 ≡ None
   none_still =
       let held = st.held c.first x.top x.on_top in
-      x.rings 0 (let a = held.called in omega (arith, a)) (λ e. absurd (let runs = st.called.runs c.first x.top x.on_top first_runs in omega (arith, runs, e))) (λ e. let real = held.real 8 0 e in omega (arith, real)) ∙ none where
+      x.rings 0 (let a = held.called in omega (arith, a)) (λ e. absurd (let runs = st.called.runs c.first x.top x.on_top first_runs in omega (arith, runs, e)))
+      (λ e. let real = held.real 8 0 e in omega (arith, real)) ∙ none where
         first_runs : is_called c c.first ≡ true
         first_runs = ap (λ (b : Bool). b && (nat_le c.first c.first && nat_le c.first (top_of c))) x.busy
             ∙ (ap (λ (b : Bool). b && nat_le c.first (top_of c)) (le-leb c.first c.first (omega arith)) ∙ le-leb c.first (top_of c) (omega arith))
@@ -292,7 +294,8 @@ module _ {R : Type 0} {g : Ghosts R Stored} (chain : List Program) (ps : Pools P
     }
 
 -- A brigade was handed to the next filter, whose call began.
-module _ {R : Type 0} {g : Ghosts R Stored} (chain : List Program) (ps : Pools Payload) (old new : Brigades R g) (c : Conn) (fs : Vec Filter) (ws : Vec ℕ) (b m : ℕ) (x e y z : Filter) (st : IsStacked chain old c)
+module _ {R : Type 0} {g : Ghosts R Stored} (chain : List Program) (ps : Pools Payload) (old new : Brigades R g) (c : Conn) (fs : Vec Filter) (ws : Vec ℕ) (b m : ℕ) (x e y z : Filter)
+    (st : IsStacked chain old c)
     (h : HandsOn c fs ws (next_name old) b m x e y z) (more : OneMore old new) (none : lists old 0 ≡ None) where
   abbrev handed : Conn
   handed = changed c fs ws
@@ -365,7 +368,8 @@ module _ {R : Type 0} {g : Ghosts R Stored} (chain : List Program) (ps : Pools P
     ]
 
 -- One filter changed, whose call goes on, and whose variables name what they named.
-module _ {R : Type 0} {g : Ghosts R Stored} (ps : Pools Payload) (old new : Brigades R g) (c d : Conn) (t : ℕ) (x y : Filter) (was : filter_at c t ≡ Some x) (now : filter_at d t ≡ Some y) (others : (k : ℕ) → k ≢ t → filter_at d k ≡ filter_at c k)
+module _ {R : Type 0} {g : Ghosts R Stored} (ps : Pools Payload) (old new : Brigades R g) (c d : Conn) (t : ℕ) (x y : Filter) (was : filter_at c t ≡ Some x) (now : filter_at d t ≡ Some y)
+    (others : (k : ℕ) → k ≢ t → filter_at d k ≡ filter_at c k)
     (name : y.call.name ≡ x.call.name) (names : (a : ℕ) → named_at y a ≡ named_at x a) where
   one_came : (k : ℕ) (f : Filter) → filter_at d k ≡ Some f → Came c (next_name old) f
   one_came k f is = elim (cases_eq k t) [
@@ -388,7 +392,8 @@ module _ {R : Type 0} {g : Ghosts R Stored} (ps : Pools Payload) (old new : Brig
   }
 
 -- A brigade was brought, and the call of the first filter began.
-module _ {R : Type 0} {g : Ghosts R Stored} (chain : List Program) (ps : Pools Payload) (old new : Brigades R g) (c d : Conn) (before : Filter) (before_is : filter_at c 0 ≡ Some before) (begins : CalledMain chain (next_name old) (next_name old + 1) c d) where
+module _ {R : Type 0} {g : Ghosts R Stored} (chain : List Program) (ps : Pools Payload) (old new : Brigades R g) (c d : Conn) (before : Filter) (before_is : filter_at c 0 ≡ Some before)
+    (begins : CalledMain chain (next_name old) (next_name old + 1) c d) where
   main_came : (k : ℕ) (f : Filter) → filter_at d k ≡ Some f → Came c (next_name old) f
   main_came k f is n pos by = elim (cases_eq k 0) [
     | inl q ↦ at_first (begins.first before before_is) (ap (filter_at d) (sym q) ∙ is)
@@ -405,7 +410,8 @@ module _ {R : Type 0} {g : Ghosts R Stored} (chain : List Program) (ps : Pools P
           go true a named = inr (let e : next_name old + 1 ≡ n = some_is (next_name old + 1) n named in omega (arith, e))
           go false a named = inl (held_by c 0 a n before before_is named)
 
-  pub main_leaves : ((n : ℕ) → n < next_name old → lists new n ≡ lists old n) → next_name old ≤ next_name new → NoneRevived (brigade_of old) (brigade_of new) (next_name old) → pool_of new ≡ pool_of old → LeavesOthers ps old new c d
+  pub main_leaves : ((n : ℕ) → n < next_name old → lists new n ≡ lists old n) → next_name old ≤ next_name new → NoneRevived (brigade_of old) (brigade_of new) (next_name old)
+      → pool_of new ≡ pool_of old → LeavesOthers ps old new c d
   main_leaves kept rises names pools = record {
     rises = rises;
     names = names;

@@ -122,7 +122,8 @@ module _ {R : Type 0} {g : Ghosts R Stored} (chain : List Program) (b l : ℕ) (
     unfolding is_spent
     next_left =
         (let at = ready.stands.left.seen.given in
-        let left : nat_lt (2 ^ 64 - 1) (v.0.next + 1) ≡ false = ap (λ (t : Bool). nat_lt (2 ^ 64 - 1) (v.0.next + (if t then 0 else 1))) (sym (ap (is_last chain) passer_at ∙ behind)) ∙ ready.calls_last in
+        let left : nat_lt (2 ^ 64 - 1) (v.0.next + 1) ≡ false =
+        ap (λ (t : Bool). nat_lt (2 ^ 64 - 1) (v.0.next + (if t then 0 else 1))) (sym (ap (is_last chain) passer_at ∙ behind)) ∙ ready.calls_last in
         let low = ltb-false (2 ^ 64 - 1) (v.0.next + 1) left in
         omega (arith, at, low))
 
@@ -151,8 +152,10 @@ module _ {R : Type 0} {g : Ghosts R Stored} (chain : List Program) (b l : ℕ) (
         elim (cases_eq a 8) [
           | inl q ↦ none_some m (sym next_empty ∙ (ap (named_at next_there.0) (sym q) ∙ there))
           | inr off ↦ elim (cases_eq b 8) [
-            | inl q ↦ ready.stands.left.stacked.apart.later (top_of c) (top_of c + 1) a m passer.filter next_there.0 (omega arith) (omega (arith, nine, off)) passer.is next_there.1 (ap (named_at passer.filter) (sym q) ∙ here) there
-            | inr ne ↦ (let same = ready.stands.left.stacked.apart.own (top_of c) (top_of c + 1) b a m passer.filter next_there.0 (omega (arith, v, ne)) (omega (arith, nine, off)) passer.is next_there.1 here there in omega (arith, same))
+            | inl q ↦ ready.stands.left.stacked.apart.later (top_of c) (top_of c + 1) a m passer.filter next_there.0 (omega arith) (omega (arith, nine, off)) passer.is next_there.1
+                (ap (named_at passer.filter) (sym q) ∙ here) there
+            | inr ne ↦ (let same = ready.stands.left.stacked.apart.own (top_of c) (top_of c + 1) b a m passer.filter next_there.0 (omega (arith, v, ne))
+                (omega (arith, nine, off)) passer.is next_there.1 here there in omega (arith, same))
           ]
         ]) where
           none_some : (n : ℕ) → None ≡ Some n → ⊥

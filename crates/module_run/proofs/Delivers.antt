@@ -83,7 +83,8 @@ module _ {R : Type 0} {g : Ghosts R Stored} (chain : List Program) (b l : ℕ) (
 
     names : (a : ℕ) → name_in (slot_at i a) ≡ name_in (slot_at x.instance a)
     names a = ap name_in (slots a) ∙ (elim (cases_eq a b) [
-      | inl q ↦ ap (λ (t : Bool). name_in (if t then marked Passed (slot_at x.instance b) else slot_at x.instance a)) (eq-eqb a b q) ∙ (name_marked (slot_at x.instance b) ∙ ap (λ (n : ℕ). name_in (slot_at x.instance n)) (sym q))
+      | inl q ↦ ap (λ (t : Bool). name_in (if t then marked Passed (slot_at x.instance b) else slot_at x.instance a)) (eq-eqb a b q)
+          ∙ (name_marked (slot_at x.instance b) ∙ ap (λ (n : ℕ). name_in (slot_at x.instance n)) (sym q))
       | inr q ↦ ap (λ (t : Bool). name_in (if t then marked Passed (slot_at x.instance b) else slot_at x.instance a)) (ne_eqb a b q)
     ])
 
@@ -119,9 +120,12 @@ module _ {R : Type 0} {g : Ghosts R Stored} (chain : List Program) (b l : ℕ) (
     seen_stepped : IsSeenAs (map_of tree) (lists new) (next_name new) then_conn stepped_as
     unfolding put_as stepped_in put_back seen_over cursor_at
     seen_stepped = subst (IsSeenAs (map_of tree) (lists new) (next_name new) then_conn) goes
-        (seen_put_back (map_of tree) (lists old) (lists new) (next_name old) (next_name new) c fs c.labels x passed_on change top.busy (map_of tree) (files_of v.0 v.1) f rest top.frame top.below (instr.Pass b l) v was.seen.conn
-        (filter_left chain (brigade_of old) (lists old) (pool_of old) (next_name old) c x was.stacked here top.busy (work.nine chain (instr.Pass b l) tree old d c v f rest ready x here) (lists new) (pool_of new) quiet)
-        (frame_left chain (brigade_of old) (lists old) (pool_of old) (next_name old) c x was.stacked here top.busy (work.nine chain (instr.Pass b l) tree old d c v f rest ready x here) (lists new) (pool_of new) quiet)) where
+        (seen_put_back (map_of tree) (lists old) (lists new) (next_name old) (next_name new) c fs c.labels x passed_on change top.busy (map_of tree) (files_of v.0 v.1) f rest top.frame top.below
+        (instr.Pass b l) v was.seen.conn
+        (filter_left chain (brigade_of old) (lists old) (pool_of old) (next_name old) c x was.stacked here top.busy (work.nine chain (instr.Pass b l) tree old d c v f rest ready x here) (lists new)
+        (pool_of new) quiet)
+        (frame_left chain (brigade_of old) (lists old) (pool_of old) (next_name old) c x was.stacked here top.busy (work.nine chain (instr.Pass b l) tree old d c v f rest ready x here) (lists new)
+        (pool_of new) quiet)) where
           goes : put_as (seen new around i x.call) pc ≡ stepped_as
           goes = ap (λ (s : Configuration). put_as s pc) went
               ∙ ap (put_as (do_pass b (configuration v.0 v.1 f)))
@@ -171,8 +175,10 @@ module _ {R : Type 0} {g : Ghosts R Stored} (chain : List Program) (b l : ℕ) (
         none = none_of (lists new 0) (alone.still 0 ∙ ap is_some was.none);
         stacked = stacked_out then_conn out ended chain (brigade_of new) (lists new) (pool_of new) (next_name new)
             (restacked c fs c.labels (next_name old) (next_name new) x passed_on change chain (brigade_of old) (brigade_of new) (lists old) (lists new) (pool_of old) (pool_of new)
-            (rest_goes_on (brigade_of old) (brigade_of new) (lists old) (lists new) (pool_of old) (pool_of new) (next_name old) (next_name new) x.instance x.call alone.rises alone.names quiet) was.stacked
-            (held_cursors (brigade_of new) (lists new) (pool_of new) (next_name new) i x.call passed_on.call refl (λ k. refl) (kept x.call (work.held_top chain (instr.Pass b l) tree old d c v f rest ready x here))));
+            (rest_goes_on (brigade_of old) (brigade_of new) (lists old) (lists new) (pool_of old) (pool_of new) (next_name old) (next_name new) x.instance x.call alone.rises alone.names quiet)
+            was.stacked
+            (held_cursors (brigade_of new) (lists new) (pool_of new) (next_name new) i x.call passed_on.call refl (λ k. refl)
+            (kept x.call (work.held_top chain (instr.Pass b l) tree old d c v f rest ready x here))));
       })
 
       pub delivers : RefinesStep chain (instr.Pass b l) d e v f rest tree new (with_out then_conn out ended) stepped.Went

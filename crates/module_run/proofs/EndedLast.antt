@@ -123,7 +123,8 @@ module _ (chain : List Program) (at : BucketId → Option ℕ) (L M : ℕ → Op
     ]
 
   pub stays : (k : ℕ) (f : Filter) → filter_at c k ≡ Some f → k ≢ c.first → AreAsWere L M f.instance
-  stays k f is ne b n named = x.rings n ((st.held k f is).named b n named) (λ e. st.apart.loose k c.first b f x.top is x.on_top (named ∙ ap (λ (j : ℕ). Some j) e)) (λ came. not_brought k b n f is ne came named)
+  stays k f is ne b n named =
+      x.rings n ((st.held k f is).named b n named) (λ e. st.apart.loose k c.first b f x.top is x.on_top (named ∙ ap (λ (j : ℕ). Some j) e)) (λ came. not_brought k b n f is ne came named)
 
   pub stays_top : (b n : ℕ) → b ≢ 8 → named_at x.top b ≡ Some n → M n ≡ L n
   stays_top b n own named = x.rings n ((st.held c.first x.top x.on_top).named b n named) (λ e. (st.held c.first x.top x.on_top).loose b (named ∙ ap (λ (j : ℕ). Some j) e))
@@ -182,8 +183,10 @@ module _ (chain : List Program) (at : BucketId → Option ℕ) (L M : ℕ → Op
         ∙ (ap (λ (o : Option ℕ). lent_by o (shown_instance (is_running 0 []) M x.ended.instance)) (x.lent ∙ none_lent c.first x.top x.on_top)
         ∙ (ended_instance (runs_of c) (is_running 0 []) x.top.call.name without L M x.top.instance x.ended.instance x.slots x.rest stays_top
         ∙ (ap ended_as (sym top_instance)
-        ∙ sym (ap (λ (b : Bool). if b then ended_as (shown_filter (runs_of c) L (filter_at c c.first)) else touched_instance (returned_var x.top.call.name) (shown_filter (runs_of c) L (filter_at c k))) (eq-eqb k c.first e))))))
+        ∙ sym (ap (λ (b : Bool). if b then ended_as (shown_filter (runs_of c) L (filter_at c c.first))
+        else touched_instance (returned_var x.top.call.name) (shown_filter (runs_of c) L (filter_at c k))) (eq-eqb k c.first e))))))
     | inr ne ↦ shown_parts (is_running 0 []) M (filter_at d k) (filter_at c k) (x.others k ne)
         ∙ (returned_filter (runs_of c) (is_running 0 []) x.top.call.name without L M (filter_at c k) (λ f is. stays k f is ne)
-        ∙ sym (ap (λ (b : Bool). if b then ended_as (shown_filter (runs_of c) L (filter_at c c.first)) else touched_instance (returned_var x.top.call.name) (shown_filter (runs_of c) L (filter_at c k))) (ne_eqb k c.first ne)))
+        ∙ sym (ap (λ (b : Bool). if b then ended_as (shown_filter (runs_of c) L (filter_at c c.first))
+        else touched_instance (returned_var x.top.call.name) (shown_filter (runs_of c) L (filter_at c k))) (ne_eqb k c.first ne)))
   ]

@@ -31,7 +31,8 @@ use Rattle.module_run.proofs.HeldStays.{held_stays}
 use Rattle.module_run.proofs.Known.{some_is}
 use Rattle.module_run.proofs.LoneCalls.{HasLone, stacked_lone}
 
-module _ {R : Type 0} {g : Ghosts R Stored} (chain : List Program) (s : Status) (tree : PoolTree Payload) (store : Brigades R g) (device : Device) (c : Conn) (v : Linked) (f : Frame) (rest : List Frame)
+module _ {R : Type 0} {g : Ghosts R Stored} (chain : List Program) (s : Status) (tree : PoolTree Payload) (store : Brigades R g) (device : Device) (c : Conn) (v : Linked) (f : Frame)
+    (rest : List Frame)
     (ready : IsReady chain (instr.Ret s) tree store device c v f rest) (none : waiting c ≡ 0) (new : Brigades R g) (filters : Vec Filter)
     (x : EndsLast (lists store) (lists new) (next_name store) c (record c { filters = filters; busy = false })) where
   abbrev d : Conn
@@ -44,7 +45,8 @@ module _ {R : Type 0} {g : Ghosts R Stored} (chain : List Program) (s : Status) 
       ∙ ap (λ (ws : List ℕ). is_running 0 ws n)
       (waits_none chain (brigade_of store) (lists store) (lists new) (pool_of store) (next_name store) c d ready.stands.left.stacked (nine chain s tree store device c v f rest ready none) x))))
 
-  each : (k : ℕ) → left_as chain (brigade_of store) (lists store) (lists new) (pool_of store) (next_name store) c d ready.stands.left.stacked (nine chain s tree store device c v f rest ready none) x k ≡ shown_filter (runs_of d) (lists new) (filter_at d k)
+  each : (k : ℕ) → left_as chain (brigade_of store) (lists store) (lists new) (pool_of store) (next_name store) c d ready.stands.left.stacked
+      (nine chain s tree store device c v f rest ready none) x k ≡ shown_filter (runs_of d) (lists new) (filter_at d k)
   each k = sym (each_left chain (brigade_of store) (lists store) (lists new) (pool_of store) (next_name store) c d ready.stands.left.stacked (nine chain s tree store device c v f rest ready none) x k)
       ∙ ap (λ (runs : ℕ → Bool). shown_filter runs (lists new) (filter_at d k)) (fun_ext runs_none)
 
@@ -55,7 +57,8 @@ module _ {R : Type 0} {g : Ghosts R Stored} (chain : List Program) (s : Status) 
       → returned_from chain s (shown_frame (runs_of c) (lists store) c.first (Some x.top)) (v.0, conn_of (map_of tree) (lists store) v.1.opened c) ≡ (stepped.CallEnded s, after)
   unfolding returned_from put_back configuration conn_of counting
   ended_is count last =
-      ap (λ (n : ℕ). next_called chain s (counting c.queue n) (built (left_as chain (brigade_of store) (lists store) (lists new) (pool_of store) (next_name store) c d ready.stands.left.stacked (nine chain s tree store device c v f rest ready none) x) (length c.filters.items)))
+      ap (λ (n : ℕ). next_called chain s (counting c.queue n) (built (left_as chain (brigade_of store) (lists store) (lists new) (pool_of store) (next_name store) c d ready.stands.left.stacked
+      (nine chain s tree store device c v f rest ready none) x) (length c.filters.items)))
       (let e : length c.filters.items - c.queue ≡ 0 = omega (arith, last) in e)
       ∙ (ap (λ (is : ℕ → model.Instance). (stepped.CallEnded s, built is (length c.filters.items))) (fun_ext each)
       ∙ ap (λ (n : ℕ). (stepped.CallEnded s, built (λ k. shown_filter (runs_of d) (lists new) (filter_at d k)) n)) (sym count)) where
@@ -65,7 +68,8 @@ module _ {R : Type 0} {g : Ghosts R Stored} (chain : List Program) (s : Status) 
   name_none : ((k : ℕ) → k ≢ c.first → filter_at d k ≡ filter_at c k) → (k : ℕ) (e : Filter) → filter_at d k ≡ Some e → e.call.name ≡ 0
   name_none others k e is = elim (cases_eq k c.first) [
     | inl q ↦ ap (λ (h : Filter). h.call.name) (some_is e x.ended (sym is ∙ (ap (filter_at d) q ∙ x.top_after))) ∙ x.name
-    | inr ne ↦ idle chain (brigade_of store) (lists store) (lists new) (pool_of store) (next_name store) c d ready.stands.left.stacked (nine chain s tree store device c v f rest ready none) x k e (sym (others k ne) ∙ is) ne
+    | inr ne ↦ idle chain (brigade_of store) (lists store) (lists new) (pool_of store) (next_name store) c d ready.stands.left.stacked (nine chain s tree store device c v f rest ready none) x k e
+        (sym (others k ne) ∙ is) ne
   ]
 
   lone : ((k : ℕ) → k ≢ c.first → filter_at d k ≡ filter_at c k) → HasLone (next_name store) c.first d
@@ -83,18 +87,21 @@ module _ {R : Type 0} {g : Ghosts R Stored} (chain : List Program) (s : Status) 
     | inr ne ↦ (let was : filter_at c k ≡ Some e = sym (others k ne) ∙ is in
         held_stays (brigade_of store) (brigade_of new) (lists store) (lists new) (pool_of store) (pool_of new) (next_name store) (next_name new) e.instance e.call (omega (arith, next)) pools names
         (stays chain (brigade_of store) (lists store) (lists new) (pool_of store) (next_name store) c d ready.stands.left.stacked (nine chain s tree store device c v f rest ready none) x k e was ne)
-        (λ pos. absurd (let z = idle chain (brigade_of store) (lists store) (lists new) (pool_of store) (next_name store) c d ready.stands.left.stacked (nine chain s tree store device c v f rest ready none) x k e was ne in omega (arith, pos, z)))
+        (λ pos. absurd (let z = idle chain (brigade_of store) (lists store) (lists new) (pool_of store) (next_name store) c d ready.stands.left.stacked
+        (nine chain s tree store device c v f rest ready none) x k e was ne in omega (arith, pos, z)))
         (ready.stands.left.stacked.held k e was))
   ]
 
   pub ending : length filters.items ≡ length c.filters.items → c.queue ≡ length c.filters.items → ((k : ℕ) → k ≢ c.first → filter_at d k ≡ filter_at c k)
-      → next_name new ≡ next_name store → pool_of new ≡ pool_of store → references new ≡ references store → NoneRevived (brigade_of store) (brigade_of new) (next_name store) → IsHeld new x.ended.instance x.ended.call
+      → next_name new ≡ next_name store → pool_of new ≡ pool_of store → references new ≡ references store → NoneRevived (brigade_of store) (brigade_of new) (next_name store)
+      → IsHeld new x.ended.instance x.ended.call
       → RefinesStep chain (instr.Ret s) device device v f rest tree new d (stepped.CallEnded s)
   unfolding conn_of
   ending count last others next pools refs names held =
       led chain s tree store device c v f rest ready none new d x pools refs (stepped.CallEnded s) after
       (returned_so chain s tree store device c v f rest ready none x.top x.on_top ∙ ended_is count last) refl
       (record { pools = ready.stands.left.seen.pools; given = ready.stands.left.seen.given ∙ sym next; conn = refl })
-      (stacked_lone chain (brigade_of store) (lists store) (lists new) (pool_of store) (next_name store) c d ready.stands.left.stacked (nine chain s tree store device c v f rest ready none) x c.first (lone others)
+      (stacked_lone chain (brigade_of store) (lists store) (lists new) (pool_of store) (next_name store) c d ready.stands.left.stacked
+      (nine chain s tree store device c v f rest ready none) x c.first (lone others)
       (brigade_of new) (pool_of new) (next_name new) (count ∙ ready.stands.left.stacked.many) (let a = ready.stands.left.stacked.within in omega (arith, a)) ready.stands.left.stacked.queue
       (held_each next pools names held others))

@@ -15,7 +15,8 @@ pub named_first : (a b : ℕ) → Some a ≡ Some b → a ≡ b
 named_first a b e = cc
 
 -- what a variable names of an instance whose `in` is null now
-pub named_still : (i new : Instance) → ((a : ℕ) → slot_at new a ≡ (if a == 8 then slot.Null else slot_at i a)) → (b n : ℕ) → name_in (slot_at new b) ≡ Some n → (b ≢ 8) × (name_in (slot_at i b) ≡ Some n)
+pub named_still : (i new : Instance) → ((a : ℕ) → slot_at new a ≡ (if a == 8 then slot.Null else slot_at i a)) → (b n : ℕ) → name_in (slot_at new b) ≡ Some n → (b ≢ 8)
+    × (name_in (slot_at i b) ≡ Some n)
 named_still i new nulled b n is = elim (cases_eq b 8) [
   | inl e ↦ absurd (let x : None ≡ Some n = sym (ap name_in (nulled b ∙ ap (λ (t : Bool). if t then slot.Null else slot_at i b) (eq-eqb b 8 e))) ∙ is in cc)
   | inr ne ↦ (ne, sym (ap name_in (nulled b ∙ ap (λ (t : Bool). if t then slot.Null else slot_at i b) (ne_eqb b 8 ne))) ∙ is)

@@ -160,9 +160,12 @@ module _ (d e : Device) (name : List ℕ) (number len : ℕ) (opens : Opens d na
   pub closed_again : (last : Device) → last ≡ closed number e → last ≡ closed d.next (opened name (moved d))
   closed_again last is = is ∙ (ap (λ (n : ℕ). closed n e) opens.number_is ∙ ap (closed d.next) opens.after)
 
-  module _ {R : Type 0} {g : Ghosts R Stored} (chain : List Program) (tree newer : PoolTree Payload) (old new : Brigades R g) (c : Conn) (v : Linked) (left : LeftAs chain tree old d c v) (req : ℕ) (bytes : List ℕ)
-      (holds : MayHold (d.named name) bytes) (long : len ≡ length bytes) (files : Vec OpenFile) (file : OpenFile) (is_number : file.number ≡ number) (is_len : file.len ≡ len) (more : files.items ≡ c.files.items ++ file ∷ [])
-      (map_is : map_of newer ≡ registered req (FileRef number) (map_of tree)) (formed : IsPoolMap (map_of newer)) (house : IsHouse new (map_of newer)) (counted : (f : ℕ) → references new f ≡ (if f == number then references old f + 1 else references old f))
+  module _ {R : Type 0} {g : Ghosts R Stored} (chain : List Program) (tree newer : PoolTree Payload) (old new : Brigades R g) (c : Conn) (v : Linked) (left : LeftAs chain tree old d c v) (req : ℕ)
+      (bytes : List ℕ)
+      (holds : MayHold (d.named name) bytes) (long : len ≡ length bytes) (files : Vec OpenFile) (file : OpenFile) (is_number : file.number ≡ number) (is_len : file.len ≡ len)
+      (more : files.items ≡ c.files.items ++ file ∷ [])
+      (map_is : map_of newer ≡ registered req (FileRef number) (map_of tree)) (formed : IsPoolMap (map_of newer)) (house : IsHouse new (map_of newer))
+      (counted : (f : ℕ) → references new f ≡ (if f == number then references old f + 1 else references old f))
       (same_lists : lists new ≡ lists old) (same_at : brigade_of new ≡ brigade_of old) (same_on : pool_of new ≡ pool_of old) (same_next : next_name new ≡ next_name old) where
     abbrev opened_then : ℕ → Option (List ℕ)
     opened_then = upd v.1.opened number (Some bytes)
@@ -173,7 +176,8 @@ module _ (d e : Device) (name : List ℕ) (number len : ℕ) (opens : Opens d na
         ∙ (ap (λ (n : ℕ). lengths c.files.items ++ (n, file.len) ∷ []) is_number ∙ ap (λ (n : ℕ). lengths c.files.items ++ (number, n) ∷ []) (is_len ∙ long))))
 
     payloads_then : (registered req (FileRef number) (pools_of v.0 v.1)).payloads ≡ (map_of newer).payloads
-    payloads_then = ap (λ (ps : Pools Payload). (registered req (FileRef number) ps).payloads) (pools_are (map_of tree) (lists old) (next_name old) c v left.seen) ∙ sym (ap (λ (ps : Pools Payload). ps.payloads) map_is)
+    payloads_then = ap (λ (ps : Pools Payload). (registered req (FileRef number) ps).payloads) (pools_are (map_of tree) (lists old) (next_name old) c v left.seen)
+        ∙ sym (ap (λ (ps : Pools Payload). ps.payloads) map_is)
 
     path_then : (map_of tree).path ≡ (map_of newer).path
     unfolding registered
@@ -208,7 +212,8 @@ module _ (d e : Device) (name : List ℕ) (number len : ℕ) (opens : Opens d na
     references_then : AreOpen (references new) e
     references_then n pos = elim (cases_eq n number) [
       | inl q ↦ ap (λ (k : ℕ). is_there (e.numbered k)) q ∙ opens.is_open
-      | inr ne ↦ ap is_there (numbered_old n ne) ∙ left.references n (subst (λ (k : ℕ). 0 < k) (counted n ∙ ap (λ (t : Bool). if t then references old n + 1 else references old n) (ne_eqb n number ne)) pos)
+      | inr ne ↦ ap is_there (numbered_old n ne)
+          ∙ left.references n (subst (λ (k : ℕ). 0 < k) (counted n ∙ ap (λ (t : Bool). if t then references old n + 1 else references old n) (ne_eqb n number ne)) pos)
     ]
 
     stacked_then : IsStacked chain new (record c { files = files })

@@ -49,7 +49,8 @@ handed_null var.Null e = refl
 handed_null var.Gone e = absurd (cc)
 handed_null (var.Live v) e = absurd (cc)
 
-null_slot : (runs : ℕ → Rattle.std.proofs.Common.Bool) (L : ℕ → Option Items) (i : Instance) (b : ℕ) (o : Option ℕ) → (lent_by o (shown_instance runs L i)).brigades b ≡ var.Null → slot_at i b ≡ slot.Null
+null_slot : (runs : ℕ → Rattle.std.proofs.Common.Bool) (L : ℕ → Option Items) (i : Instance) (b : ℕ) (o : Option ℕ) → (lent_by o (shown_instance runs L i)).brigades b ≡ var.Null
+    → slot_at i b ≡ slot.Null
 null_slot runs L i b None e = slot_null runs L (slot_at i b) e
 null_slot runs L i b (Some a) e = elim (upd_either was a b (handed_over (was a))) [
   | inl p ↦ ap (slot_at i) p.0 ∙ slot_null runs L (slot_at i a) (handed_null (was a) (sym p.1 ∙ e))
@@ -58,12 +59,14 @@ null_slot runs L i b (Some a) e = elim (upd_either was a b (handed_over (was a))
   was : ℕ → BrigadeVar
   was k = shown_slot runs L (slot_at i k)
 
-module _ {R : Type 0} {g : Ghosts R Stored} (chain : List Program) (s : Status) (tree : PoolTree Payload) (store : Brigades R g) (device : Device) (c : Conn) (v : Linked) (f : Frame) (rest : List Frame)
+module _ {R : Type 0} {g : Ghosts R Stored} (chain : List Program) (s : Status) (tree : PoolTree Payload) (store : Brigades R g) (device : Device) (c : Conn) (v : Linked) (f : Frame)
+    (rest : List Frame)
     (ready : IsReady chain (instr.Ret s) tree store device c v f rest) (none : waiting c ≡ 0) where
   pub nine : HasNine c
   nine k b h is past = null_slot (runs_of c) (lists store) h.instance b h.lent
       (sym (ap (λ (o : Option Filter). (shown_filter (runs_of c) (lists store) o).brigades b) is)
-      ∙ (sym (ap (λ (is : ℕ → model.Instance). (is k).brigades b) (instances_are (map_of tree) (lists store) (next_name store) c v ready.stands.left.seen)) ∙ ready.stands.lawful.sound.names.slots k b past))
+      ∙ (sym (ap (λ (is : ℕ → model.Instance). (is k).brigades b) (instances_are (map_of tree) (lists store) (next_name store) c v ready.stands.left.seen))
+      ∙ ready.stands.lawful.sound.names.slots k b past))
 
   pub top_first : top_of c ≡ c.first
   top_first = omega (arith, none)
@@ -114,7 +117,8 @@ module _ {R : Type 0} {g : Ghosts R Stored} (chain : List Program) (s : Status) 
       runs = Rattle.module_run.proofs.TopFilter.top_runs chain (instr.Ret s) tree store device c v f rest ready x.top (ap (filter_at c) top_first ∙ x.on_top)
 
     -- what it leads to
-    pub led : (answer : Stepped) (after : Linked) → proceeds chain no_reads (instr.Ret s) f rest v ≡ (answer, after) → after.1.opened ≡ v.1.opened → IsSeenAs (map_of tree) (lists new) (next_name new) d after
+    pub led : (answer : Stepped) (after : Linked) → proceeds chain no_reads (instr.Ret s) f rest v ≡ (answer, after) → after.1.opened ≡ v.1.opened
+        → IsSeenAs (map_of tree) (lists new) (next_name new) d after
         → IsStacked chain new d → RefinesStep chain (instr.Ret s) device device v f rest tree new d answer
     led answer after so opened seen stacked = record {
       reads = no_reads;

@@ -1,5 +1,6 @@
 -- The call of the first filter begins, where no call runs: what the connection reads as, and what is true of its filters.
-use Rattle.std.proofs.Common.{◌≡◌, ◌≢◌, ℕ, zero, suc, ◌+◌, ◌-◌, ◌&&◌, nat_le, nat_lt, Bool, true, false, List, [], ◌∷◌, ◌++◌, length, Option, Some, None, is_some, refl, sym, ap, ◌∙◌, ◌⊎◌, inl, inr, arith}
+use Rattle.std.proofs.Common.{◌≡◌, ◌≢◌, ℕ, zero, suc, ◌+◌, ◌-◌, ◌&&◌, nat_le, nat_lt, Bool, true, false, List, [], ◌∷◌, ◌++◌, length, Option, Some, None, is_some, refl, sym, ap, ◌∙◌, ◌⊎◌, inl, inr}
+use Rattle.std.proofs.Common.{arith}
 use Rattle.std.specs.Prelude.{if◌then◌else◌}
 use Rattle.std.specs.Option.{option_map_or}
 use Rattle.std.proofs.Math.Path.{fun_ext}
@@ -27,7 +28,8 @@ use Rattle.module_run.specs.declared.conn.Conn.{Conn}
 use Rattle.module_run.specs.declared.conn.Filter.{Filter}
 use Rattle.ring_calls.specs.declared.machine.Instance.{Instance}
 use Rattle.module_run.specs.CalledFirst.{CalledFirst, Starts}
-use Rattle.module_run.specs.Conns.{call_name, conn_of, counting, filter_at, labels_handed, lengths, lent_by, runs_of, shown_call, shown_filter, shown_frame, shown_instance, stack_of, stack_up, top_of, waiting}
+use Rattle.module_run.specs.Conns.{call_name, conn_of, counting, filter_at, labels_handed, lengths, lent_by, runs_of, shown_call, shown_filter, shown_frame, shown_instance, stack_of, stack_up, top_of}
+use Rattle.module_run.specs.Conns.{waiting}
 use Rattle.ring_calls.specs.Seen.{is_running, shown, shown_cursor, shown_slot}
 use Rattle.ring_calls.specs.Slots.{cursor_at, slot_at}
 use Rattle.module_run.specs.Stacked.{IsStacked, is_called, is_waiting, named_at}
@@ -146,7 +148,8 @@ module _ {R : Type 0} {g : Ghosts R Stored} (chain : List Program) (old new : Br
       ∙ (ap (λ (o : Option Filter). is_running (call_name o) d.waits.items) after_is
       ∙ (ap (λ (n : ℕ). is_running n d.waits.items) starts.named ∙ ap (is_running (next_name old)) waits_are))
 
-  slot_as : (k : ℕ) (f : Filter) → filter_at c k ≡ Some f → (b : ℕ) → shown_slot (is_running (next_name old) []) (lists new) (slot_at f.instance b) ≡ shown_slot (is_running 0 []) (lists old) (slot_at f.instance b)
+  slot_as : (k : ℕ) (f : Filter) → filter_at c k ≡ Some f → (b : ℕ)
+      → shown_slot (is_running (next_name old) []) (lists new) (slot_at f.instance b) ≡ shown_slot (is_running 0 []) (lists old) (slot_at f.instance b)
   slot_as k f is b =
       let none = no_call chain old c stacked idle k f is in
       ap (λ (n : ℕ). shown_slot (is_running n []) (lists new) (slot_at f.instance b)) (sym starts.named)
@@ -164,7 +167,8 @@ module _ {R : Type 0} {g : Ghosts R Stored} (chain : List Program) (old new : Br
       ∙ ap (λ (i : Instance). lent_by before.lent (shown_instance (is_running (next_name old) []) (lists new) i)) starts.instance
 
   instance_as : (k : ℕ) → shown_filter (is_running (next_name old) []) (lists new) (filter_at d k) ≡ shown_filter (is_running 0 []) (lists old) (filter_at c k)
-  instance_as zero = ap (shown_filter (is_running (next_name old) []) (lists new)) after_is ∙ (started_as ∙ (filter_as 0 before before_is ∙ ap (shown_filter (is_running 0 []) (lists old)) (sym before_is)))
+  instance_as zero = ap (shown_filter (is_running (next_name old) []) (lists new)) after_is
+      ∙ (started_as ∙ (filter_as 0 before before_is ∙ ap (shown_filter (is_running 0 []) (lists old)) (sym before_is)))
   instance_as (suc k) = ap (shown_filter (is_running (next_name old) []) (lists new)) (others_stay (suc k) (λ e. omega (arith, e))) ∙ go (filter_at c (suc k)) refl where
     go : (o : Option Filter) → filter_at c (suc k) ≡ o → shown_filter (is_running (next_name old) []) (lists new) o ≡ shown_filter (is_running 0 []) (lists old) o
     go None is = refl
@@ -186,7 +190,8 @@ module _ {R : Type 0} {g : Ghosts R Stored} (chain : List Program) (old new : Br
       ap (λ (n : ℕ). made n (λ i. shown_cursor (cursor_at after.call i)) after.call.buffer (shown runs (list_at (lists new) after.call.name))) starts.named
       ∙ (ap (λ (f : ℕ → Cursor). made (next_name old) f after.call.buffer (shown runs (list_at (lists new) after.call.name))) (fun_ext (λ i. ap shown_cursor (starts.cursors i)))
       ∙ (ap (λ (bytes : List ℕ). made (next_name old) (λ i. cursor.Unset) bytes (shown runs (list_at (lists new) after.call.name))) starts.buffer
-      ∙ ap (λ (o : Option Items). made (next_name old) (λ i. cursor.Unset) [] (shown runs (option_map_or (λ bs. bs) o []))) (ap (lists new) starts.named ∙ (over (next_name old) ∙ ring_here (lists old) (next_name old) (Some []))))) where
+      ∙ ap (λ (o : Option Items). made (next_name old) (λ i. cursor.Unset) [] (shown runs (option_map_or (λ bs. bs) o [])))
+      (ap (lists new) starts.named ∙ (over (next_name old) ∙ ring_here (lists old) (next_name old) (Some []))))) where
         made : ℕ → (ℕ → Cursor) → List ℕ → List NamedBucket → model.Call
         made n f bytes items = record { name = n; cursors = f; buffer = bytes; loose = items }
 

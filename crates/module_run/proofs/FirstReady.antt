@@ -33,7 +33,8 @@ use Rattle.module_run.proofs.Finishing.{rest_none, top_first}
 use Rattle.module_run.proofs.HeldStays.{held_stays}
 use Rattle.module_run.proofs.TopFilter.{filter_read, on_top_of, top_runs, top_within}
 
-module _ {R : Type 0} {g : Ghosts R Stored} (chain : List Program) (s : Status) (tree : PoolTree Payload) (store : Brigades R g) (device : Device) (c : Conn) (v : Linked) (f : Frame) (rest : List Frame)
+module _ {R : Type 0} {g : Ghosts R Stored} (chain : List Program) (s : Status) (tree : PoolTree Payload) (store : Brigades R g) (device : Device) (c : Conn) (v : Linked) (f : Frame)
+    (rest : List Frame)
     (ready : IsReady chain (instr.Ret s) tree store device c v f rest) (none : waiting c ≡ 0) where
   pub first_within : c.first < length c.filters.items
   first_within = (let a = top_within chain (instr.Ret s) tree store device c v f rest ready in omega (arith, a))
@@ -90,7 +91,8 @@ module _ {R : Type 0} {g : Ghosts R Stored} (chain : List Program) (s : Status) 
       made_empty = ap (lists made) (sym is) ∙ (out name ∙ ring_here (lists store) name (Some []))
 
       pub made_held : IsHeld made t.instance t.call
-      made_held = held_stays (brigade_of store) (brigade_of made) (lists store) (lists made) (pool_of store) (pool_of made) (next_name store) (next_name made) t.instance t.call (omega (arith, next)) pools names
+      made_held = held_stays (brigade_of store) (brigade_of made) (lists store) (lists made) (pool_of store) (pool_of made) (next_name store) (next_name made) t.instance t.call
+          (omega (arith, next)) pools names
           (λ b n named. as_was n (first_held.named b n named)) (λ pos. as_was t.call.name first_held.called) first_held
 
       pub made_none : lists made 0 ≡ None
@@ -103,7 +105,8 @@ module _ {R : Type 0} {g : Ghosts R Stored} (chain : List Program) (s : Status) 
       made_brought m named = (let b = first_brought m named in (ap (λ (p : ℕ → Option ℕ). p m) pools ∙ b.0, ap is_some (as_was m (first_held.named 8 m named)) ∙ b.1))
 
 -- the filters once the first one's call ended
-pub set_first : (c d : Conn) (e : Filter) → c.first < length c.filters.items → d.filters.items ≡ set c.filters.items c.first e → (filter_at d c.first ≡ Some e) × ((k : ℕ) → k ≢ c.first → filter_at d k ≡ filter_at c k)
+pub set_first : (c d : Conn) (e : Filter) → c.first < length c.filters.items → d.filters.items ≡ set c.filters.items c.first e → (filter_at d c.first ≡ Some e)
+    × ((k : ℕ) → k ≢ c.first → filter_at d k ≡ filter_at c k)
 unfolding filter_at
 set_first c d e within items = (
   ap (λ (xs : List Filter). slice_get xs c.first) items ∙ get_here c.filters.items c.first e within,
@@ -123,7 +126,8 @@ pub set_next : (c d : Conn) (ended before begun : Filter) → c.first < c.queue 
     → begun.instance ≡ before.instance → begun.lent ≡ before.lent → d.filters.items ≡ set (set c.filters.items c.first ended) c.queue begun → SetNext c d ended before begun
 unfolding filter_at
 set_next c d ended before begun later within at instance lent items = record {
-  first = ap (λ (ys : List Filter). slice_get ys c.first) items ∙ (get_other (set xs c.first ended) c.queue c.first begun (λ e. omega (arith, later, e)) ∙ get_here xs c.first ended (omega (arith, later, within)));
+  first = ap (λ (ys : List Filter). slice_get ys c.first) items
+      ∙ (get_other (set xs c.first ended) c.queue c.first begun (λ e. omega (arith, later, e)) ∙ get_here xs c.first ended (omega (arith, later, within)));
   was = before_is;
   now = begun_is;
   others = rest;
@@ -141,7 +145,8 @@ set_next c d ended before begun later within at instance lent items = record {
   rest k ne off = ap (λ (ys : List Filter). slice_get ys k) items ∙ (get_other (set xs c.first ended) c.queue k begun off ∙ get_other xs c.first k ended ne)
 
   before_is : slice_get c.filters.items c.queue ≡ Some before
-  before_is = sym (get_other xs c.first c.queue ended (λ e. omega (arith, later, e))) ∙ slice_get_read (set xs c.first ended) (length (set xs c.first ended)) c.queue before refl (let l = length-set xs c.first ended in omega (arith, within, l)) at
+  before_is = sym (get_other xs c.first c.queue ended (λ e. omega (arith, later, e)))
+      ∙ slice_get_read (set xs c.first ended) (length (set xs c.first ended)) c.queue before refl (let l = length-set xs c.first ended in omega (arith, within, l)) at
 
   begun_is : slice_get d.filters.items c.queue ≡ Some begun
   begun_is = ap (λ (ys : List Filter). slice_get ys c.queue) items ∙ get_here (set xs c.first ended) c.queue begun (let l = length-set xs c.first ended in omega (arith, within, l))

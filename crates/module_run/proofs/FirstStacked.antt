@@ -31,7 +31,8 @@ use Rattle.ring_calls.specs.Slots.{slot_at, name_in}
 use Rattle.module_run.specs.Stacked.{FiltersApart, AreCalled, IsStacked, is_called, is_waiting, named_at, names_up}
 use Rattle.ring_passes.proofs.Begins.{held_begun}
 use Rattle.ring_calls.proofs.Changes.{ring_off}
-use Rattle.module_run.proofs.FirstCalls.{Was, was, others_stay, waits_are, first_is, none_waiting, top_is, starts, before, before_is, after, after_is, conn_called, no_call, nothing_in, not_lent, none_between, no_lent, true_false}
+use Rattle.module_run.proofs.FirstCalls.{Was, was, others_stay, waits_are, first_is, none_waiting, top_is, starts, before, before_is, after, after_is, conn_called, no_call, nothing_in, not_lent}
+use Rattle.module_run.proofs.FirstCalls.{none_between, no_lent, true_false}
 use Rattle.module_run.proofs.Looked.{some_same}
 
 pub no_names : (c : Conn) (k n : ℕ) → n ≡ 0 → names_up c k n ≡ []
@@ -69,7 +70,8 @@ module _ {R : Type 0} {g : Ghosts R Stored} (old new : Brigades R g) (over : (n 
 
 module _ {R : Type 0} {g : Ghosts R Stored} (chain : List Program) (old new : Brigades R g) (c d : Conn) (r : Option ℕ) (stacked : IsStacked chain old c) (idle : c.busy ≡ false)
     (begins : CalledFirst chain (next_name old) (record c { req = r }) d) (over : (n : ℕ) → lists new n ≡ ring.upd (lists old) (next_name old) (Some []) n)
-    (next : next_name new ≡ next_name old + 1) (names : NoneRevived (brigade_of old) (brigade_of new) (next_name old)) (pools : pool_of new ≡ pool_of old) (free : pool_of old (next_name old) ≡ None) where
+    (next : next_name new ≡ next_name old + 1) (names : NoneRevived (brigade_of old) (brigade_of new) (next_name old)) (pools : pool_of new ≡ pool_of old)
+    (free : pool_of old (next_name old) ≡ None) where
   abbrev There : ℕ → Filter → Type 0
   There k f = Was chain old new c d r stacked idle begins over k f
 
@@ -104,7 +106,8 @@ module _ {R : Type 0} {g : Ghosts R Stored} (chain : List Program) (old new : Br
 
   apart_called : FiltersApart d
   apart_called = record {
-    own = λ i j a b m f e la lb fi ej na nb. (let w = there i f fi in let u = there j e ej in stacked.apart.own i j a b m w.filter u.filter la lb w.is u.is (named_so i a m f w na) (named_so j b m e u nb));
+    own = λ i j a b m f e la lb fi ej na nb.
+        (let w = there i f fi in let u = there j e ej in stacked.apart.own i j a b m w.filter u.filter la lb w.is u.is (named_so i a m f w na) (named_so j b m e u nb));
     later = λ i j b m f e lt lb fi ej nf. absurd (not_in i f fi m nf);
     handed = λ i j a m f e lt fi ej na nb. absurd (not_in j e ej m nb);
     loose = λ i j b f e fi ej. no_loose i j b f e fi (there i f fi) (there j e ej);
@@ -165,10 +168,12 @@ module _ {R : Type 0} {g : Ghosts R Stored} (chain : List Program) (old new : Br
   held_called : (k : ℕ) (f : Filter) → filter_at d k ≡ Some f → IsHeld new f.instance f.call
   held_called zero f is = subst (λ (x : Filter). IsHeld new x.instance x.call) same
       (subst (λ (i : Instance). IsHeld new i first.call) (sym began.instance)
-      (held_begun old new was_first.instance was_first.call first.call (stacked.held 0 was_first first_was) (no_call chain old c stacked idle 0 was_first first_was) over began.named began.cursors next names pools free)) where
+      (held_begun old new was_first.instance was_first.call first.call (stacked.held 0 was_first first_was)
+      (no_call chain old c stacked idle 0 was_first first_was) over began.named began.cursors next names pools free)) where
         same : first ≡ f
         same = some_same first f (sym (after_is chain old new c d r stacked idle begins over) ∙ is)
-  held_called (suc k) f is = held_beside old new over next names pools f.instance f.call (stacked.held (suc k) f (sym (others_stay chain old new c d r stacked idle begins over (suc k) (λ e. omega (arith, e))) ∙ is))
+  held_called (suc k) f is =
+      held_beside old new over next names pools f.instance f.call (stacked.held (suc k) f (sym (others_stay chain old new c d r stacked idle begins over (suc k) (λ e. omega (arith, e))) ∙ is))
 
   pub stacked_called : IsStacked chain new d
   stacked_called = record {

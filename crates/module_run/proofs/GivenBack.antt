@@ -1,5 +1,6 @@
 -- A call returned to the one that waits: what the connection reads as.
-use Rattle.std.proofs.Common.{◌≡◌, ◌≢◌, ◌==◌, ℕ, suc, ◌+◌, ◌-◌, ◌<◌, ◌&&◌, nat_le, nat_lt, Bool, true, false, List, [], ◌∷◌, ◌++◌, length, map, Option, Some, None, is_some, refl, sym, ap, ◌∙◌, inl, inr, arith}
+use Rattle.std.proofs.Common.{◌≡◌, ◌≢◌, ◌==◌, ℕ, suc, ◌+◌, ◌-◌, ◌<◌, ◌&&◌, nat_le, nat_lt, Bool, true, false, List, [], ◌∷◌, ◌++◌, length, map, Option, Some, None, is_some, refl, sym, ap, ◌∙◌, inl}
+use Rattle.std.proofs.Common.{inr, arith}
 use Rattle.std.specs.Prelude.{if◌then◌else◌}
 use Rattle.std.specs.Global.{Vec}
 use Rattle.std.proofs.Math.Path.{fun_ext}
@@ -174,12 +175,18 @@ module _ (chain : List Program) (s : Status) (at : BucketId → Option ℕ) (L M
         ap (shown_filter (runs_of d) M) x.below_after
         ∙ (ap (λ (o : Option ℕ). lent_by o (shown_instance (runs_of d) M x.resumed.instance)) x.given
         ∙ (ap (shown_instance (runs_of d) M) x.instance
-        ∙ (given_instance (runs_of c) (runs_of d) x.top.call.name without L M x.wait.instance b.0 m.0 (slot_at x.top.instance 8) (stays (c.first + w) x.wait x.below) (st.called.passed (c.first + w) b.0 x.wait x.below b.1) m.1.0 m.1.1
-        ∙ (ap (λ (i : Instr). given_back (passed_by i) (left_of (shown_instance (runs_of c) L x.top.instance)) (touched_instance (returned_var x.top.call.name) (lent_by (Some b.0) (shown_instance (runs_of c) L x.wait.instance)))) (sym p.1.1)
-        ∙ (ap (λ (i : model.Instance). given_back (passed_by pass) (left_of i) (touched_instance (returned_var x.top.call.name) (lent_by (Some b.0) (shown_instance (runs_of c) L x.wait.instance)))) (sym top_instance)
-        ∙ (ap (λ (o : Option ℕ). given_back (passed_by pass) (left_of (shown_filter (runs_of c) L (filter_at c t))) (touched_instance (returned_var x.top.call.name) (lent_by o (shown_instance (runs_of c) L x.wait.instance)))) (sym b.1)
-        ∙ (ap (λ (o : Option Filter). given_back (passed_by pass) (left_of (shown_filter (runs_of c) L (filter_at c t))) (touched_instance (returned_var x.top.call.name) (shown_filter (runs_of c) L o))) (sym x.below)
-        ∙ ap (λ (e : Bool). given_back (passed_by pass) (left_of (shown_filter (runs_of c) L (filter_at c t))) (if e then ended_as (shown_filter (runs_of c) L (filter_at c t)) else touched_instance (returned_var x.top.call.name) (shown_filter (runs_of c) L (filter_at c (c.first + w)))))
+        ∙ (given_instance (runs_of c) (runs_of d) x.top.call.name without L M x.wait.instance b.0 m.0 (slot_at x.top.instance 8) (stays (c.first + w) x.wait x.below)
+        (st.called.passed (c.first + w) b.0 x.wait x.below b.1) m.1.0 m.1.1
+        ∙ (ap (λ (i : Instr). given_back (passed_by i) (left_of (shown_instance (runs_of c) L x.top.instance))
+        (touched_instance (returned_var x.top.call.name) (lent_by (Some b.0) (shown_instance (runs_of c) L x.wait.instance)))) (sym p.1.1)
+        ∙ (ap (λ (i : model.Instance). given_back (passed_by pass) (left_of i) (touched_instance (returned_var x.top.call.name) (lent_by (Some b.0) (shown_instance (runs_of c) L x.wait.instance))))
+        (sym top_instance)
+        ∙ (ap (λ (o : Option ℕ). given_back (passed_by pass) (left_of (shown_filter (runs_of c) L (filter_at c t)))
+        (touched_instance (returned_var x.top.call.name) (lent_by o (shown_instance (runs_of c) L x.wait.instance)))) (sym b.1)
+        ∙ (ap (λ (o : Option Filter). given_back (passed_by pass) (left_of (shown_filter (runs_of c) L (filter_at c t)))
+        (touched_instance (returned_var x.top.call.name) (shown_filter (runs_of c) L o))) (sym x.below)
+        ∙ ap (λ (e : Bool). given_back (passed_by pass) (left_of (shown_filter (runs_of c) L (filter_at c t)))
+        (if e then ended_as (shown_filter (runs_of c) L (filter_at c t)) else touched_instance (returned_var x.top.call.name) (shown_filter (runs_of c) L (filter_at c (c.first + w)))))
         (sym (ne_eqb (c.first + w) t off_t)))))))))
 
     ended_is : shown_filter (runs_of d) M (filter_at d t) ≡ ended_as (shown_filter (runs_of c) L (filter_at c t))
@@ -193,10 +200,12 @@ module _ (chain : List Program) (s : Status) (at : BucketId → Option ℕ) (L M
       | inl p ↦ ap (λ (j : ℕ). shown_filter (runs_of d) M (filter_at d j)) p.0 ∙ (back_is ∙ sym p.1)
       | inr p ↦ (elim (cases_eq k t) [
         | inl e ↦ ap (λ (j : ℕ). shown_filter (runs_of d) M (filter_at d j)) e
-            ∙ (ended_is ∙ sym (ap (λ (b : Bool). if b then ended_as (shown_filter (runs_of c) L (filter_at c t)) else touched_instance (returned_var x.top.call.name) (shown_filter (runs_of c) L (filter_at c k))) (eq-eqb k t e)))
+            ∙ (ended_is ∙ sym (ap (λ (b : Bool). if b then ended_as (shown_filter (runs_of c) L (filter_at c t))
+            else touched_instance (returned_var x.top.call.name) (shown_filter (runs_of c) L (filter_at c k))) (eq-eqb k t e)))
         | inr ne ↦ ap (shown_filter (runs_of d) M) (x.others k ne p.0)
             ∙ (returned_filter (runs_of c) (runs_of d) x.top.call.name without L M (filter_at c k) (stays k)
-            ∙ sym (ap (λ (b : Bool). if b then ended_as (shown_filter (runs_of c) L (filter_at c t)) else touched_instance (returned_var x.top.call.name) (shown_filter (runs_of c) L (filter_at c k))) (ne_eqb k t ne)))
+            ∙ sym (ap (λ (b : Bool). if b then ended_as (shown_filter (runs_of c) L (filter_at c t))
+            else touched_instance (returned_var x.top.call.name) (shown_filter (runs_of c) L (filter_at c k))) (ne_eqb k t ne)))
       ]) ∙ sym p.1
     ]
 
@@ -227,9 +236,11 @@ module _ (chain : List Program) (s : Status) (at : BucketId → Option ℕ) (L M
         ∙ (ap (λ (f : Frame). f ∷ stack_up (frame_at M d) c.first w) resumed_is ∙ ap (λ (fs : List Frame). resumed_as (touched wait_frame) ∷ fs) below_is))
 
     -- what is left of the connection
-    pub returned_is : (g : Common) → returned_to (module_at chain (c.first + w)) s (shown_frame (runs_of c) L t (Some x.top)) wait_frame (stack_up (frame_at L c) c.first w) (g, C) ≡ (g, conn_of ps M opened d)
+    pub returned_is : (g : Common)
+        → returned_to (module_at chain (c.first + w)) s (shown_frame (runs_of c) L t (Some x.top)) wait_frame (stack_up (frame_at L c) c.first w) (g, C) ≡ (g, conn_of ps M opened d)
     unfolding returned_to put_back configuration conn_of
-    returned_is g = ap (λ (is : ℕ → model.Instance). built is (resumed_as (touched wait_frame) ∷ map touched (stack_up (frame_at L c) c.first w)) (length c.filters.items)) (sym (fun_ext each_instance))
+    returned_is g = ap (λ (is : ℕ → model.Instance). built is (resumed_as (touched wait_frame) ∷ map touched (stack_up (frame_at L c) c.first w)) (length c.filters.items))
+        (sym (fun_ext each_instance))
         ∙ (ap (λ (fs : List Frame). built (λ k. shown_filter (runs_of d) M (filter_at d k)) fs (length c.filters.items)) (sym stack_is)
         ∙ ap (λ (n : ℕ). built (λ k. shown_filter (runs_of d) M (filter_at d k)) (stack_of M d) n) (sym x.count)) where
           built : (ℕ → model.Instance) → List Frame → ℕ → Linked

@@ -215,10 +215,12 @@ module _ (c : Conn) (fs : Vec Filter) (ws : Vec ℕ) (next b m : ℕ) (x e y z :
         own_not : b ≢ 8 → ⊥
         own_not off = elim (cases_eq a 8) [
           | inl at ↦ (let v = h.variable in apart.later i (top_of c) b m p.filter x low (omega (arith, v, off)) p.is h.top (ap (named_at p.filter) (sym at) ∙ fa) h.handed)
-          | inr ne ↦ (let v = h.variable in let nine = names.nine i a m p.filter p.is fa in let same = apart.own i (top_of c) a b m p.filter x (omega (arith, nine, ne)) (omega (arith, v, off)) p.is h.top fa h.handed in omega (arith, same, low))
+          | inr ne ↦ (let v = h.variable in let nine = names.nine i a m p.filter p.is fa in let same =
+              apart.own i (top_of c) a b m p.filter x (omega (arith, nine, ne)) (omega (arith, v, off)) p.is h.top fa h.handed in omega (arith, same, low))
         ]
 
-    handed_before : (i j a k : ℕ) (f g : Filter) → i < j → filter_at (changed c fs ws) i ≡ Some f → (p : Before i f) (q : Before j g) → named_at f a ≡ Some k → named_at q.filter 8 ≡ Some k → f.lent ≡ Some a
+    handed_before : (i j a k : ℕ) (f g : Filter) → i < j → filter_at (changed c fs ws) i ≡ Some f → (p : Before i f) (q : Before j g) → named_at f a ≡ Some k → named_at q.filter 8 ≡ Some k
+        → f.lent ≡ Some a
     handed_before i j a k f g less fi p q fa older = elim (cases_le j (top_of c)) [
       | inr high ↦ absurd (no_some k (sym (incoming j q.filter q.is (not_called c j high)) ∙ older))
       | inl low ↦ elim (p.named a k fa) [

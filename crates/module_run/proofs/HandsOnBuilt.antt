@@ -53,7 +53,8 @@ module _ (c : Conn) (t : ℕ) (at : t ≡ top_of c) (was y z : Filter) where
 
     pub reads_again : (r : Filter) → r ≡ slice_index_or written.items t r → r ≡ y
     reads_again r is = read_as written.items t r y is
-        (get_other (set (set c.filters.items (t + 1) was) t y) (t + 1) t z (λ q. omega (arith, q)) ∙ get_here (set c.filters.items (t + 1) was) t y (let n = length-set c.filters.items (t + 1) was in omega (arith, at, within, n)))
+        (get_other (set (set c.filters.items (t + 1) was) t y) (t + 1) t z (λ q. omega (arith, q))
+        ∙ get_here (set c.filters.items (t + 1) was) t y (let n = length-set c.filters.items (t + 1) was in omega (arith, at, within, n)))
 
     module _ (ws : Vec ℕ) (next b m : ℕ) (waits : ws.items ≡ c.waits.items ++ x.call.name ∷ []) (busy : c.busy ≡ true) (variable : b < 9) (handed : named_at x b ≡ Some m)
         (slots : (a : ℕ) → slot_at y.instance a ≡ (if a == b then marked Passed (slot_at x.instance b) else slot_at x.instance a))
@@ -65,9 +66,11 @@ module _ (c : Conn) (t : ℕ) (at : t ≡ top_of c) (was y z : Filter) where
         top = top;
         behind = behind;
         top_after = ap (slice_get written.items) (sym at)
-            ∙ (get_other (set (set c.filters.items (t + 1) was) t y) (t + 1) t z (λ q. omega (arith, q)) ∙ get_here (set c.filters.items (t + 1) was) t y (let n = length-set c.filters.items (t + 1) was in omega (arith, at, within, n)));
+            ∙ (get_other (set (set c.filters.items (t + 1) was) t y) (t + 1) t z (λ q. omega (arith, q))
+            ∙ get_here (set c.filters.items (t + 1) was) t y (let n = length-set c.filters.items (t + 1) was in omega (arith, at, within, n)));
         behind_after = ap (λ (n : ℕ). slice_get written.items (n + 1)) (sym at)
-            ∙ get_here (set (set c.filters.items (t + 1) was) t y) (t + 1) z (let n = length-set c.filters.items (t + 1) was in let k = length-set (set c.filters.items (t + 1) was) t y in omega (arith, at, within, n, k));
+            ∙ get_here (set (set c.filters.items (t + 1) was) t y) (t + 1) z
+            (let n = length-set c.filters.items (t + 1) was in let k = length-set (set c.filters.items (t + 1) was) t y in omega (arith, at, within, n, k));
         others = λ j ne off.
             get_other (set (set c.filters.items (t + 1) was) t y) (t + 1) j z (λ q. off (omega (arith, q, at)))
             ∙ (get_other (set c.filters.items (t + 1) was) t j y (λ q. ne (omega (arith, q, at))) ∙ get_other c.filters.items (t + 1) j was (λ q. off (omega (arith, q, at))));

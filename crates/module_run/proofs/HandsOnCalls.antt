@@ -44,7 +44,8 @@ module _ (chain : List Program) (c : Conn) (fs : Vec Filter) (ws : Vec ℕ) (nex
   called_after pos passing called = record {
     runs = λ j f is runs. elim (cases_eq j (top_of c + 1)) [
       | inl q ↦ (let n = ap (λ (g : Filter). g.call.name) (at_behind j f is q) ∙ h.name in omega (arith, n, pos))
-      | inr ne ↦ (let p = old j f is in let n = ap (λ (t : Call). t.name) (p.call ne) in let r = called.runs j p.filter p.is (sym (called_before c fs ws next b m x e y z h j ne) ∙ runs) in omega (arith, n, r))
+      | inr ne ↦ (let p = old j f is in let n = ap (λ (t : Call). t.name) (p.call ne) in let r = called.runs j p.filter p.is (sym (called_before c fs ws next b m x e y z h j ne) ∙ runs) in
+          omega (arith, n, r))
     ];
     idle = λ j f is idle. elim (cases_eq j (top_of c + 1)) [
       | inl q ↦ absurd (false≢true (sym idle ∙ called_there c fs ws next b m x e y z h j (omega (arith, q)) (omega (arith, q))))
@@ -67,7 +68,8 @@ module _ (chain : List Program) (c : Conn) (fs : Vec Filter) (ws : Vec ℕ) (nex
       | inr w ↦ called.passes j n f w.2 lent
     ];
     passed = λ j n f is lent. elim (lent_by j n f is lent) [
-      | inl w ↦ ap (λ (g : Filter). slot_at g.instance n) (at_top j f is w.0) ∙ (ap (slot_at y.instance) w.1 ∙ (y_marked ∙ (ap (λ (i : ℕ). marked Passed (slot_at y.instance i)) (sym w.1) ∙ ap (λ (g : Filter). marked Passed (slot_at g.instance n)) (sym (at_top j f is w.0)))))
+      | inl w ↦ ap (λ (g : Filter). slot_at g.instance n) (at_top j f is w.0) ∙ (ap (slot_at y.instance) w.1
+          ∙ (y_marked ∙ (ap (λ (i : ℕ). marked Passed (slot_at y.instance i)) (sym w.1) ∙ ap (λ (g : Filter). marked Passed (slot_at g.instance n)) (sym (at_top j f is w.0)))))
       | inr w ↦ called.passed j n f w.2 lent
     ];
     inward = λ j n f g is gs lent. elim (lent_by j n f is lent) [
@@ -87,7 +89,8 @@ module _ (chain : List Program) (c : Conn) (fs : Vec Filter) (ws : Vec ℕ) (nex
     incoming = λ j f is idle. elim (cases_eq j (top_of c + 1)) [
       | inl q ↦ absurd (false≢true (sym idle ∙ called_there c fs ws next b m x e y z h j (omega (arith, q)) (omega (arith, q))))
       | inr off ↦ elim (cases_eq j (top_of c)) [
-        | inl q ↦ ap (λ (t : Filter). named_at t 8) (at_top j f is q) ∙ (named_top c fs ws next b m x e y z h 8 ∙ called.incoming j x (ap (filter_at c) q ∙ h.top) (sym (called_before c fs ws next b m x e y z h j off) ∙ idle))
+        | inl q ↦ ap (λ (t : Filter). named_at t 8) (at_top j f is q)
+            ∙ (named_top c fs ws next b m x e y z h 8 ∙ called.incoming j x (ap (filter_at c) q ∙ h.top) (sym (called_before c fs ws next b m x e y z h j off) ∙ idle))
         | inr ne ↦ called.incoming j f (as_was j f is ne off) (sym (called_before c fs ws next b m x e y z h j off) ∙ idle)
       ]
     ];
@@ -128,6 +131,7 @@ module _ (chain : List Program) (c : Conn) (fs : Vec Filter) (ws : Vec ℕ) (nex
 
     names_kept : (j : ℕ) → j < c.first + suc (waiting c) → call_name (filter_at (changed c fs ws) j) ≡ call_name (filter_at c j)
     names_kept j high = elim (cases_eq j (top_of c)) [
-      | inl q ↦ ap (λ (i : ℕ). call_name (filter_at (changed c fs ws) i)) q ∙ (ap call_name h.top_after ∙ (ap (λ (t : Call). t.name) h.call ∙ (ap call_name (sym h.top) ∙ ap (λ (i : ℕ). call_name (filter_at c i)) (sym q))))
+      | inl q ↦ ap (λ (i : ℕ). call_name (filter_at (changed c fs ws) i)) q
+          ∙ (ap call_name h.top_after ∙ (ap (λ (t : Call). t.name) h.call ∙ (ap call_name (sym h.top) ∙ ap (λ (i : ℕ). call_name (filter_at c i)) (sym q))))
       | inr ne ↦ ap call_name (h.others j ne (omega (arith, high)))
     ]

@@ -148,7 +148,8 @@ module _ {R : Type 0} {g : Ghosts R Stored} (chain : List Program) (b l : ℕ) (
     }
 
     module _ (lends : (around : Around) (call : Call) → lent b (seen new around y.instance call) ≡ do_pass b (seen new around x.instance call))
-        (takes : (around : Around) (call : Call) → seen new around z.instance call ≡ set_brigade 8 (shown_slot (calls_in around call) (lists new) (slot.Made m None Usable)) (seen new around e.instance call))
+        (takes : (around : Around) (call : Call)
+        → seen new around z.instance call ≡ set_brigade 8 (shown_slot (calls_in around call) (lists new) (slot.Made m None Usable)) (seen new around e.instance call))
         (live : is_some (lists old m) ≡ true)
         (begun : (waits : List ℕ) → shown_call (is_running z.call.name waits) (lists new) z.call ≡ fresh_call (next_name old))
         (at : z.call.pc ≡ (module_at chain (top_of c + 1)).main) where

@@ -65,7 +65,8 @@ in_shown runs m pool mark (Some xs) there = refl
 module _ (L M : ℕ → Option Items) (k l : ℕ) (c : Conn) (fs : Vec Filter) (ws : Vec ℕ) (b m : ℕ) (x e y z : Filter) (h : HandsOn c fs ws k b m x e y z) (names : AreNamed c k)
     (kept : (n : ℕ) → n < k → M n ≡ L n) (older : AreOlder L k) (there : is_some (L m) ≡ true) (free : x.lent ≡ None) (idle : e.lent ≡ None)
     (lends : (around : Around) (call : Call) → lent b (seen_over M l around y.instance call) ≡ do_pass b (seen_over M l around x.instance call))
-    (takes : (around : Around) (call : Call) → seen_over M l around z.instance call ≡ set_brigade 8 (shown_slot (calls_in around call) M (slot.Made m None Usable)) (seen_over M l around e.instance call)) where
+    (takes : (around : Around) (call : Call)
+    → seen_over M l around z.instance call ≡ set_brigade 8 (shown_slot (calls_in around call) M (slot.Made m None Usable)) (seen_over M l around e.instance call)) where
   runs_after : runs_of (changed c fs ws) ≡ is_running z.call.name ws.items
   runs_after = ap (λ (o : Option Filter). is_running (call_name o) ws.items) (ap (filter_at (changed c fs ws)) (top_rises c fs ws k b m x e y z h) ∙ h.behind_after)
 
@@ -96,7 +97,8 @@ module _ (L M : ℕ → Option Items) (k l : ℕ) (c : Conn) (fs : Vec Filter) (
   unfolding seen_over set_brigade
   entered_instance =
       ap (λ (v : BrigadeVar). set_in v (shown_instance (runs_of c) L e.instance)) (sym slot_in)
-      ∙ (ap (set_in (shown_slot (runs_of (changed c fs ws)) M (slot.Made m None Usable))) (sym (more_instance (runs_of c) (runs_of (changed c fs ws)) k runs_more L M kept older e.instance (λ a n q. names.below (top_of c + 1) a n e h.behind q)))
+      ∙ (ap (set_in (shown_slot (runs_of (changed c fs ws)) M (slot.Made m None Usable)))
+      (sym (more_instance (runs_of c) (runs_of (changed c fs ws)) k runs_more L M kept older e.instance (λ a n q. names.below (top_of c + 1) a n e h.behind q)))
       ∙ (ap (λ (f : ℕ → Bool). set_in (shown_slot f M (slot.Made m None Usable)) (shown_instance f M e.instance)) runs_after
       ∙ (sym (ap (λ (r : Configuration). r.instance) (takes (amid ws.items) z.call))
       ∙ (ap (λ (f : ℕ → Bool). shown_instance f M z.instance) (sym runs_after)
@@ -186,8 +188,10 @@ module _ (L M : ℕ → Option Items) (k l : ℕ) (c : Conn) (fs : Vec Filter) (
         ap (λ (s : Bool). if s then stack_up (frame_at M (changed c fs ws)) c.first (suc (waiting (changed c fs ws))) else []) h.busy
         ∙ (ap (λ (n : ℕ). stack_up (frame_at M (changed c fs ws)) c.first (suc n)) more
         ∙ (ap (λ (g : Frame). g ∷ stack_up (frame_at M (changed c fs ws)) c.first (suc (waiting c))) (new_frame (c.first + suc (waiting c)) refl)
-        ∙ (ap (λ (gs : List Frame). record { of = top_of c + 1; call = fresh_call k; pc = pc } ∷ gs) (frames_same (frame_at L c) (frame_at M (changed c fs ws)) c.first (suc (waiting c)) (λ j low high. frame_kept j high))
-        ∙ (ap (λ (g : Frame). record { of = top_of c + 1; call = fresh_call k; pc = pc } ∷ (g ∷ stack_up (frame_at L c) c.first (waiting c))) (ap (shown_frame (runs_of c) L (top_of c)) t.is ∙ sym t.frame)
+        ∙ (ap (λ (gs : List Frame). record { of = top_of c + 1; call = fresh_call k; pc = pc } ∷ gs)
+        (frames_same (frame_at L c) (frame_at M (changed c fs ws)) c.first (suc (waiting c)) (λ j low high. frame_kept j high))
+        ∙ (ap (λ (g : Frame). record { of = top_of c + 1; call = fresh_call k; pc = pc } ∷ (g ∷ stack_up (frame_at L c) c.first (waiting c)))
+        (ap (shown_frame (runs_of c) L (top_of c)) t.is ∙ sym t.frame)
         ∙ ap (λ (gs : List Frame). record { of = top_of c + 1; call = fresh_call k; pc = pc } ∷ (f ∷ gs)) (sym t.below))))) where
           more : waiting (changed c fs ws) ≡ suc (waiting c)
           more = (let r = top_rises c fs ws k b m x e y z h in omega (arith, r))

@@ -1,5 +1,6 @@
 -- A connection is closed: what is gone, and what is left to others.
-use Rattle.std.proofs.Common.{◌≡◌, ◌≢◌, ◌⊎◌, ◌&&◌, ℕ, zero, suc, ◌+◌, ◌-◌, ◌<◌, ◌≤◌, nat_le, nat_lt, Bool, true, false, List, [], ◌∷◌, Option, Some, None, is_some, refl, sym, ap, subst, ◌∙◌, inl, inr, arith}
+use Rattle.std.proofs.Common.{◌≡◌, ◌≢◌, ◌⊎◌, ◌&&◌, ℕ, zero, suc, ◌+◌, ◌-◌, ◌<◌, ◌≤◌, nat_le, nat_lt, Bool, true, false, List, [], ◌∷◌, Option, Some, None, is_some, refl, sym, ap, subst, ◌∙◌, inl, inr}
+use Rattle.std.proofs.Common.{arith}
 use Rattle.std.proofs.lemmas.Bool.{cases_eq, le-leb, lt-leb, lt-ltb}
 use Rattle.module_code.specs.declared.instr.PoolRef.{PoolRef}
 use Rattle.module_code.specs.declared.instr.PoolRef.TheVariants as pool
@@ -70,7 +71,8 @@ none_kept L M name out n none = elim (cases_eq n name) [
 pub house_ended : {R : Type 0} {g : Ghosts R Stored} (old new : Brigades R g) (ps : Pools Payload) (name : ℕ) → pool_of old name ≡ None → ((n : ℕ) → lists new n ≡ ring.upd (lists old) name None n)
     → pool_of new ≡ pool_of old → references new ≡ references old → IsHouse old ps → IsHouse new ps
 house_ended old new ps name free out pools refs house =
-    house_stays (lists old) (pool_of old) (references old) ps house (lists new) (pool_of new) (references new) still (λ n. ap (λ (f : ℕ → Option ℕ). f n) pools) (λ f. ap (λ (r : ℕ → ℕ). r f) refs) where
+    house_stays (lists old) (pool_of old) (references old) ps house (lists new) (pool_of new) (references new) still (λ n. ap (λ (f : ℕ → Option ℕ). f n) pools)
+    (λ f. ap (λ (r : ℕ → ℕ). r f) refs) where
       still : (n p : ℕ) → pool_of old n ≡ Some p → is_some (lists old n) ≡ true → is_some (lists new n) ≡ true
       still n p on there = ap is_some (out n ∙ ring_off (lists old) name n None (λ e. let both : None ≡ Some p = sym free ∙ (ap (pool_of old) (sym e) ∙ on) in cc)) ∙ there
 
@@ -108,7 +110,8 @@ never_all true true u none all = cc
 never_all true false u none all = cc
 never_all false t u none all = cc
 
-module _ {R : Type 0} {g : Ghosts R Stored} (chain : List Program) (tree : PoolTree Payload) (old : Brigades R g) (dev : Device) (c : Conn) (v : Linked) (stands : StandsFor chain tree old dev c v) where
+module _ {R : Type 0} {g : Ghosts R Stored} (chain : List Program) (tree : PoolTree Payload) (old : Brigades R g) (dev : Device) (c : Conn) (v : Linked)
+    (stands : StandsFor chain tree old dev c v) where
   pools_so : pools_of v.0 v.1 ≡ map_of tree
   pools_so = pools_are (map_of tree) (lists old) (next_name old) c v stands.left.seen
 
@@ -122,7 +125,8 @@ module _ {R : Type 0} {g : Ghosts R Stored} (chain : List Program) (tree : PoolT
   conn_below alone = (let both : c.conn ∷ [] ≡ c.conn ∷ has_part.root ∷ [] = sym alone ∙ has_part.top in cc)
 
   -- The pools that a declaration names lie under the connection's.
-  named_under : (k p : ℕ) (ref : PoolRef) → pool_named (configuration v.0 v.1 (record { of = k; call = fresh_call 0; pc = 0 })) ref ≡ Some p → is_live (map_of tree) p ≡ true → is_under (map_of tree) c.conn p ≡ true
+  named_under : (k p : ℕ) (ref : PoolRef) → pool_named (configuration v.0 v.1 (record { of = k; call = fresh_call 0; pc = 0 })) ref ≡ Some p → is_live (map_of tree) p ≡ true
+      → is_under (map_of tree) c.conn p ≡ true
   unfolding configuration pool_at
   named_under k p pool.Conn is live = subst (λ (n : ℕ). is_under (map_of tree) c.conn n ≡ true) (sym conn_so ∙ some_is v.1.conn p is) (part_under (map_of tree) c.conn has_part)
   named_under k p pool.Req is live = request_under chain tree old dev c v stands p (sym (req_is (map_of tree) (lists old) (next_name old) c v stands.left.seen) ∙ is)
@@ -141,8 +145,10 @@ module _ {R : Type 0} {g : Ghosts R Stored} (chain : List Program) (tree : PoolT
           o,
           (
             ap (pool_of old) (sym same) ∙ (stands.left.stacked.held k f is).on b m o mark own at there_now,
-            subst (λ (i : model.Instance). ReadsLive o (i.brigades b)) (sym (ap (λ (is : ℕ → model.Instance). is k) (instances_are (map_of tree) (lists old) (next_name old) c v stands.left.seen) ∙ ap (shown_filter (runs_of c) (lists old)) is))
-                (lent_live o f.lent (shown_instance (runs_of c) (lists old) f.instance) b (subst (λ (s : Slot). ReadsLive o (shown_slot (runs_of c) (lists old) s)) (sym at) (shown_live (runs_of c) (lists old) m o mark there_now))),
+            subst (λ (i : model.Instance). ReadsLive o (i.brigades b))
+                (sym (ap (λ (is : ℕ → model.Instance). is k) (instances_are (map_of tree) (lists old) (next_name old) c v stands.left.seen) ∙ ap (shown_filter (runs_of c) (lists old)) is))
+                (lent_live o f.lent (shown_instance (runs_of c) (lists old) f.instance) b
+                (subst (λ (s : Slot). ReadsLive o (shown_slot (runs_of c) (lists old) s)) (sym at) (shown_live (runs_of c) (lists old) m o mark there_now))),
           ),
         )
 
@@ -230,7 +236,8 @@ module _ {R : Type 0} {g : Ghosts R Stored} (chain : List Program) (tree : PoolT
       go None e = out n ∙ ap (cleared_ring (is_under (map_of tree) c.conn) (is_in n []) (pool_of old n)) e
       go (Some xs) e =
           let at = own_under o.at o.slot n o.filter o.is o.own o.named (ap is_some e) in
-          out n ∙ (ap (cleared_ring (is_under (map_of tree) c.conn) (is_in n []) (pool_of old n)) e ∙ (ap (λ (p : Option ℕ). cleared_ring (is_under (map_of tree) c.conn) (is_in n []) p (Some xs)) at.1.0 ∙ rw at.1.1 refl))
+          out n ∙ (ap (cleared_ring (is_under (map_of tree) c.conn) (is_in n []) (pool_of old n)) e
+          ∙ (ap (λ (p : Option ℕ). cleared_ring (is_under (map_of tree) c.conn) (is_in n []) p (Some xs)) at.1.0 ∙ rw at.1.1 refl))
 
     -- What the connection held is gone, where its calls' loose buckets and what was brought are.
     pub all_gone : (L : ℕ → Option Items) → ((n : ℕ) → lists mid n ≡ None → L n ≡ None) → ((k : ℕ) (f : Filter) → filter_at c k ≡ Some f → L f.call.name ≡ None)

@@ -20,8 +20,10 @@ use Rattle.module_run.specs.Proceeding.{LeftAs}
 use Rattle.module_run.specs.Stacked.{IsStacked}
 use Rattle.module_run.proofs.HeldStays.{held_stays}
 
-module _ {R : Type 0} {g : Ghosts R Stored} (chain : List Program) (tree : PoolTree Payload) (store new : Brigades R g) (device : Device) (c : Conn) (v : Linked) (out : (n : ℕ) → lists new n ≡ lists store n)
-    (next : next_name new ≡ next_name store) (pools : pool_of new ≡ pool_of store) (refs : references new ≡ references store) (names : NoneRevived (brigade_of store) (brigade_of new) (next_name store)) where
+module _ {R : Type 0} {g : Ghosts R Stored} (chain : List Program) (tree : PoolTree Payload) (store new : Brigades R g) (device : Device) (c : Conn) (v : Linked)
+    (out : (n : ℕ) → lists new n ≡ lists store n)
+    (next : next_name new ≡ next_name store) (pools : pool_of new ≡ pool_of store) (refs : references new ≡ references store)
+    (names : NoneRevived (brigade_of store) (brigade_of new) (next_name store)) where
   house : IsHouse store (map_of tree) → IsHouse new (map_of tree)
   house old = record {
     held = λ name p. old.held name p ∙ ap (λ (q : ℕ → Option ℕ). once_in p (q name)) (sym pools);
@@ -34,7 +36,8 @@ module _ {R : Type 0} {g : Ghosts R Stored} (chain : List Program) (tree : PoolT
     many = old.many;
     within = old.within;
     queue = old.queue;
-    held = λ k f is. held_stays (brigade_of store) (brigade_of new) (lists store) (lists new) (pool_of store) (pool_of new) (next_name store) (next_name new) f.instance f.call (omega (arith, next)) pools names
+    held = λ k f is. held_stays (brigade_of store) (brigade_of new) (lists store) (lists new) (pool_of store) (pool_of new) (next_name store) (next_name new) f.instance f.call
+        (omega (arith, next)) pools names
         (λ b n named. out n) (λ pos. out f.call.name) (old.held k f is);
     apart = old.apart;
     called = old.called;

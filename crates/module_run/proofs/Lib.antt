@@ -64,5 +64,6 @@ pub mod ConnRuns
 pub mod Leaving
 pub mod Alone
 pub mod InStore
+pub mod InStoreSteps
 pub mod QuietGoes
 pub mod OnlyAsked

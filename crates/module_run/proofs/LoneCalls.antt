@@ -31,7 +31,8 @@ module _ (chain : List Program) (at : BucketId → Option ℕ) (L M : ℕ → Op
 
   pub apart_lone : FiltersApart d
   apart_lone = record {
-    own = λ i j a b m f e low high is_i is_j n_i n_j. st.apart.own i j a b m (from i f is_i).0 (from j e is_j).0 low high (from i f is_i).1.was (from j e is_j).1.was ((from i f is_i).1.names a m n_i) ((from j e is_j).1.names b m n_j);
+    own = λ i j a b m f e low high is_i is_j n_i n_j. st.apart.own i j a b m (from i f is_i).0 (from j e is_j).0 low high (from i f is_i).1.was (from j e is_j).1.was
+        ((from i f is_i).1.names a m n_i) ((from j e is_j).1.names b m n_j);
     later = λ i j b m f e lt low is_i is_j n_i. absurd (no_in i m f is_i n_i);
     handed = λ i j a m f e lt is_i is_j n_i n_j. absurd (no_in j m e is_j n_j);
     loose = loose;
@@ -57,7 +58,8 @@ module _ (chain : List Program) (at : BucketId → Option ℕ) (L M : ℕ → Op
   called_lone = record {
     runs = one.runs;
     idle = one.idle;
-    lent = λ k f is. ap is_some (from k f is).1.lent ∙ sym (ap (λ (n : ℕ). nat_le d.first k && nat_lt k n) (let e = one.none in let q : top_of d ≡ d.first = omega (arith, e) in q) ∙ none_between d.first k);
+    lent = λ k f is. ap is_some (from k f is).1.lent
+        ∙ sym (ap (λ (n : ℕ). nat_le d.first k && nat_lt k n) (let e = one.none in let q : top_of d ≡ d.first = omega (arith, e) in q) ∙ none_between d.first k);
     passes = λ k b f is lent. absurd (not_lent k b f is lent);
     passed = λ k b f is lent. absurd (not_lent k b f is lent);
     inward = λ k b f e is later lent. absurd (not_lent k b f is lent);

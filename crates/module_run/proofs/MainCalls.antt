@@ -35,7 +35,8 @@ use Rattle.module_run.specs.declared.conn.Filter.{Filter}
 use Rattle.ring_calls.specs.declared.machine.Slot.{Slot}
 use Rattle.ring_calls.specs.declared.machine.Slot.TheVariants as slot
 use Rattle.module_run.specs.CalledMain.{CalledMain, StartsWith}
-use Rattle.module_run.specs.Conns.{call_name, conn_of, counting, filter_at, labels_handed, lengths, lent_by, runs_of, shown_call, shown_filter, shown_frame, shown_instance, stack_of, stack_up, top_of, waiting}
+use Rattle.module_run.specs.Conns.{call_name, conn_of, counting, filter_at, labels_handed, lengths, lent_by, runs_of, shown_call, shown_filter, shown_frame, shown_instance, stack_of, stack_up, top_of}
+use Rattle.module_run.specs.Conns.{waiting}
 use Rattle.ring_calls.specs.Seen.{is_running, shown, shown_as, shown_cursor, shown_slot}
 use Rattle.ring_calls.specs.Slots.{cursor_at, slot_at, name_in}
 use Rattle.module_run.specs.Stacked.{IsStacked}
@@ -108,7 +109,8 @@ module _ {R : Type 0} {g : Ghosts R Stored} (chain : List Program) (old new : Br
       older : (id : BucketId) → 0 < times id xs → id.birth < next_name old
       older id h = young old id (ap is_some (in_listed old id n (subst (λ (o : Option Items). 0 < times id (option_map_or (λ bs. bs) o [])) (sym e) h)))
 
-  slot_at_as : (k : ℕ) (f : Filter) → filter_at c k ≡ Some f → (b : ℕ) → shown_slot (is_running (next_name old) []) (lists new) (slot_at f.instance b) ≡ shown_slot (is_running 0 []) (lists old) (slot_at f.instance b)
+  slot_at_as : (k : ℕ) (f : Filter) → filter_at c k ≡ Some f → (b : ℕ)
+      → shown_slot (is_running (next_name old) []) (lists new) (slot_at f.instance b) ≡ shown_slot (is_running 0 []) (lists old) (slot_at f.instance b)
   slot_at_as k f is b = slot_as (slot_at f.instance b) (λ n e. (stacked.held k f is).named b n e)
 
   abbrev in_var : BrigadeVar
@@ -127,10 +129,12 @@ module _ {R : Type 0} {g : Ghosts R Stored} (chain : List Program) (old new : Br
     shows : (ℕ → BrigadeVar) → model.Instance
     shows vars = lent_by f.lent (record (shown_instance (is_running 0 []) (lists old) f.instance) { brigades = vars })
 
-  first_slots : (b : ℕ) → shown_slot (is_running (next_name old) []) (lists new) (slot_at after.instance b) ≡ upd (λ (a : ℕ). shown_slot (is_running 0 []) (lists old) (slot_at before.instance a)) 8 in_var b
+  first_slots : (b : ℕ)
+      → shown_slot (is_running (next_name old) []) (lists new) (slot_at after.instance b) ≡ upd (λ (a : ℕ). shown_slot (is_running 0 []) (lists old) (slot_at before.instance a)) 8 in_var b
   unfolding upd
   first_slots b = ap (shown_slot (is_running (next_name old) []) (lists new)) (starts.slots b) ∙ go (b == 8) where
-    go : (t : Bool) → shown_slot (is_running (next_name old) []) (lists new) (if t then slot.Made (next_name old + 1) None Usable else slot_at before.instance b) ≡ (if t then in_var else shown_slot (is_running 0 []) (lists old) (slot_at before.instance b))
+    go : (t : Bool) → shown_slot (is_running (next_name old) []) (lists new)
+        (if t then slot.Made (next_name old + 1) None Usable else slot_at before.instance b) ≡ (if t then in_var else shown_slot (is_running 0 []) (lists old) (slot_at before.instance b))
     go true = in_as
     go false = slot_at_as 0 before before_is b
 
@@ -138,7 +142,8 @@ module _ {R : Type 0} {g : Ghosts R Stored} (chain : List Program) (old new : Br
   first_as =
       ap (λ (o : Option ℕ). lent_by o (shown_instance (is_running (next_name old) []) (lists new) after.instance)) (starts.lent ∙ alone)
       ∙ (ap (λ (vars : ℕ → BrigadeVar). record (shown_instance (is_running (next_name old) []) (lists new) after.instance) { brigades = vars }) (fun_ext first_slots)
-      ∙ (ap (λ (ps : _). record (shows (slots_then)) { pools = λ p. slice_index_or ps p poolvar.Null; numbers = λ n. slice_index_or after.instance.numbers n 0; sent = after.instance.sent }) starts.rest.pools
+      ∙ (ap (λ (ps : _). record (shows (slots_then)) { pools = λ p. slice_index_or ps p poolvar.Null; numbers = λ n. slice_index_or after.instance.numbers n 0; sent = after.instance.sent })
+      starts.rest.pools
       ∙ (ap (λ (ns : _). record (shows (slots_then)) { numbers = λ n. slice_index_or ns n 0; sent = after.instance.sent }) starts.rest.numbers
       ∙ (ap (λ (s : Bool). record (shows (slots_then)) { sent = s }) starts.rest.sent
       ∙ ap (λ (o : Option ℕ). set_in in_var (lent_by o (shown_instance (is_running 0 []) (lists old) before.instance))) (sym alone))))) where
@@ -157,7 +162,8 @@ module _ {R : Type 0} {g : Ghosts R Stored} (chain : List Program) (old new : Br
   abbrev shown_before : ℕ → model.Instance
   shown_before k = shown_filter (runs_of c) (lists old) (filter_at c k)
 
-  instance_as : (k : ℕ) → shown_filter (is_running (next_name old) []) (lists new) (filter_at d k) ≡ upd (λ (j : ℕ). shown_filter (is_running 0 []) (lists old) (filter_at c j)) 0 (set_in in_var (shown_filter (is_running 0 []) (lists old) (filter_at c 0))) k
+  instance_as : (k : ℕ) → shown_filter (is_running (next_name old) []) (lists new) (filter_at d k) ≡ upd (λ (j : ℕ). shown_filter (is_running 0 []) (lists old) (filter_at c j)) 0
+      (set_in in_var (shown_filter (is_running 0 []) (lists old) (filter_at c 0))) k
   unfolding upd
   instance_as zero =
       ap (shown_filter (is_running (next_name old) []) (lists new)) after_is
@@ -165,7 +171,8 @@ module _ {R : Type 0} {g : Ghosts R Stored} (chain : List Program) (old new : Br
   instance_as (suc k) =
       ap (shown_filter (is_running (next_name old) []) (lists new)) (begins.others (suc k) (λ e. omega (arith, e)))
       ∙ (go (filter_at c (suc k)) refl
-      ∙ sym (ap (λ (t : Bool). if t then set_in in_var (shown_filter (is_running 0 []) (lists old) (filter_at c 0)) else shown_filter (is_running 0 []) (lists old) (filter_at c (suc k))) (ne_eqb (suc k) 0 (λ e. omega (arith, e))))) where
+      ∙ sym (ap (λ (t : Bool). if t then set_in in_var (shown_filter (is_running 0 []) (lists old) (filter_at c 0)) else shown_filter (is_running 0 []) (lists old) (filter_at c (suc k)))
+      (ne_eqb (suc k) 0 (λ e. omega (arith, e))))) where
         go : (o : Option Filter) → filter_at c (suc k) ≡ o → shown_filter (is_running (next_name old) []) (lists new) o ≡ shown_filter (is_running 0 []) (lists old) o
         go None is = refl
         go (Some f) is = filter_as (suc k) f is
@@ -173,7 +180,8 @@ module _ {R : Type 0} {g : Ghosts R Stored} (chain : List Program) (old new : Br
   instances_as : shown_now ≡ upd shown_before 0 (set_in in_var (shown_before 0))
   instances_as = fun_ext (λ k.
       ap (λ (runs : ℕ → Bool). shown_filter runs (lists new) (filter_at d k)) runs_now
-      ∙ (instance_as k ∙ ap (λ (runs : ℕ → Bool). upd (λ (j : ℕ). shown_filter runs (lists old) (filter_at c j)) 0 (set_in in_var (shown_filter runs (lists old) (filter_at c 0))) k) (sym (no_runs chain old c stacked idle))))
+      ∙ (instance_as k ∙ ap (λ (runs : ℕ → Bool). upd (λ (j : ℕ). shown_filter runs (lists old) (filter_at c j)) 0 (set_in in_var (shown_filter runs (lists old) (filter_at c 0))) k)
+      (sym (no_runs chain old c stacked idle))))
 
   call_as : (runs : ℕ → Bool) → shown_call runs (lists new) after.call ≡ fresh_call (next_name old)
   call_as runs =

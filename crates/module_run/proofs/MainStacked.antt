@@ -48,7 +48,8 @@ last_and false t false e = refl
 
 module _ {R : Type 0} {g : Ghosts R Stored} (chain : List Program) (old new : Brigades R g) (c d : Conn) (req : ℕ) (pieces : List Piece) (stacked : IsStacked chain old c) (idle : c.busy ≡ false)
     (begins : CalledMain chain (next_name old) (next_name old + 1) c d) (made : HasBrought old new req pieces)
-    (next : next_name old + 2 ≤ next_name new) (names : NoneRevived (brigade_of old) (brigade_of new) (next_name old)) (pools : pool_of new ≡ pool_of old) (free : (n : ℕ) → next_name old ≤ n → pool_of old n ≡ None) where
+    (next : next_name old + 2 ≤ next_name new) (names : NoneRevived (brigade_of old) (brigade_of new) (next_name old)) (pools : pool_of new ≡ pool_of old)
+    (free : (n : ℕ) → next_name old ≤ n → pool_of old n ≡ None) where
   abbrev first : Filter
   first = after chain old new c d req pieces stacked idle begins made
 
@@ -219,7 +220,8 @@ module _ {R : Type 0} {g : Ghosts R Stored} (chain : List Program) (old new : Br
   first_is_called : is_called d 0 ≡ true
   first_is_called =
       ap (λ (b : Bool). b && (nat_le d.first 0 && nat_le 0 (top_of d))) (ap (λ (x : Conn). x.busy) begins.rest)
-      ∙ (ap (λ (b : Bool). b && nat_le 0 (top_of d)) (le-leb d.first 0 (let e = first_is chain old new c d req pieces stacked idle begins made in omega (arith, e))) ∙ le-leb 0 (top_of d) (omega arith))
+      ∙ (ap (λ (b : Bool). b && nat_le 0 (top_of d)) (le-leb d.first 0 (let e = first_is chain old new c d req pieces stacked idle begins made in omega (arith, e)))
+      ∙ le-leb 0 (top_of d) (omega arith))
 
   called_then : AreCalled chain d
   called_then = record {
@@ -255,7 +257,8 @@ module _ {R : Type 0} {g : Ghosts R Stored} (chain : List Program) (old new : Br
   }
 
   -- All of it.
-  pub left_brought : (tree : PoolTree Payload) (dev : Device) (k : Common) (x : Connection) → LeftAs chain tree old dev c (k, x) → references new ≡ references old → next_name new ≡ next_name old + 2 + length pieces
+  pub left_brought : (tree : PoolTree Payload) (dev : Device) (k : Common) (x : Connection) → LeftAs chain tree old dev c (k, x) → references new ≡ references old
+      → next_name new ≡ next_name old + 2 + length pieces
       → ((n : ℕ) → lists new n ≡ ring.upd (ring.upd (lists old) (next_name old) (Some [])) (next_name old + 1) (Some made.items) n)
       → LeftAs chain tree new dev d (brought_in chain pieces req (k, x))
   unfolding conn_of
@@ -263,7 +266,8 @@ module _ {R : Type 0} {g : Ghosts R Stored} (chain : List Program) (old new : Br
     seen = record {
       pools = left.seen.pools;
       given = ap (λ (n : ℕ). n + 2 + length pieces) left.seen.given ∙ sym after_all;
-      conn = ap (λ (y : Connection). (brought_in chain pieces req (k, y)).1) left.seen.conn ∙ sym (conn_brought chain old new c d req pieces stacked idle begins made (map_of tree) x.opened k left.seen.given);
+      conn = ap (λ (y : Connection). (brought_in chain pieces req (k, y)).1) left.seen.conn
+          ∙ sym (conn_brought chain old new c d req pieces stacked idle begins made (map_of tree) x.opened k left.seen.given);
     };
     opens = left.opens;
     formed = left.formed;
@@ -274,12 +278,15 @@ module _ {R : Type 0} {g : Ghosts R Stored} (chain : List Program) (old new : Br
   }
 
 -- the rings of the call and the brigade
-abbrev pub has_brought : {R : Type 0} {g : Ghosts R Stored} (old new : Brigades R g) (req : ℕ) (pieces : List Piece) (xs : Items) → named xs ≡ named_from (bucket_of (next_name old) req) (next_name old + 2) pieces
+abbrev pub has_brought : {R : Type 0} {g : Ghosts R Stored} (old new : Brigades R g) (req : ℕ) (pieces : List Piece) (xs : Items)
+    → named xs ≡ named_from (bucket_of (next_name old) req) (next_name old + 2) pieces
     → ((n : ℕ) → lists new n ≡ ring.upd (ring.upd (lists old) (next_name old) (Some [])) (next_name old + 1) (Some xs) n) → HasBrought old new req pieces
 has_brought old new req pieces xs reads over = record {
   items = xs;
   reads = reads;
-  before = λ n lt. over n ∙ (ring_off (ring.upd (lists old) (next_name old) (Some [])) (next_name old + 1) n (Some xs) (λ e. omega (arith, e, lt)) ∙ ring_off (lists old) (next_name old) n (Some []) (λ e. omega (arith, e, lt)));
-  loose = over (next_name old) ∙ (ring_off (ring.upd (lists old) (next_name old) (Some [])) (next_name old + 1) (next_name old) (Some xs) (λ e. omega (arith, e)) ∙ ring_here (lists old) (next_name old) (Some []));
+  before = λ n lt. over n ∙ (ring_off (ring.upd (lists old) (next_name old) (Some [])) (next_name old + 1) n (Some xs) (λ e. omega (arith, e, lt))
+      ∙ ring_off (lists old) (next_name old) n (Some []) (λ e. omega (arith, e, lt)));
+  loose = over (next_name old)
+      ∙ (ring_off (ring.upd (lists old) (next_name old) (Some [])) (next_name old + 1) (next_name old) (Some xs) (λ e. omega (arith, e)) ∙ ring_here (lists old) (next_name old) (Some []));
   brigade = over (next_name old + 1) ∙ ring_here (ring.upd (lists old) (next_name old) (Some [])) (next_name old + 1) (Some xs);
 }

@@ -27,7 +27,8 @@ use Rattle.module_run.specs.Stacked.{IsStacked, named_at}
 use Rattle.module_run.proofs.Untouched.{slot_same}
 
 -- Nothing changed but names that were given out.
-pub unchanged : {R : Type 0} {g : Ghosts R Stored} (ps : Pools Payload) (old new : Brigades R g) (c d : Conn) → ((n : ℕ) → lists new n ≡ lists old n) → pool_of new ≡ pool_of old → next_name old ≤ next_name new
+pub unchanged : {R : Type 0} {g : Ghosts R Stored} (ps : Pools Payload) (old new : Brigades R g) (c d : Conn) → ((n : ℕ) → lists new n ≡ lists old n) → pool_of new ≡ pool_of old
+    → next_name old ≤ next_name new
     → NoneRevived (brigade_of old) (brigade_of new) (next_name old) → ((k : ℕ) → filter_at d k ≡ filter_at c k) → LeavesOthers ps old new c d
 unchanged ps old new c d same pools rises names filters = record {
   rises = rises;

@@ -104,7 +104,8 @@ module _ {R : Type 0} {g : Ghosts R Stored} (ps : Pools Payload) (old new : Brig
     ]
 
 -- The pool of a request went, and no EOS was passed in the next one.
-pub destroyed_leaves : {R : Type 0} {g : Ghosts R Stored} (chain : List Program) (tree newer : PoolTree Payload) (old new : Brigades R g) (d e : Device) (c after : Conn) (pool : ℕ) → is_under (map_of tree) c.conn pool ≡ true → IsPoolMap (map_of tree)
+pub destroyed_leaves : {R : Type 0} {g : Ghosts R Stored} (chain : List Program) (tree newer : PoolTree Payload) (old new : Brigades R g) (d e : Device) (c after : Conn) (pool : ℕ)
+    → is_under (map_of tree) c.conn pool ≡ true → IsPoolMap (map_of tree)
     → WasDestroyed pool tree newer old new d e c → after.filters.items ≡ map quieted c.filters.items → LeavesOthers (map_of tree) old new c after
 unfolding filter_at slot_at
 destroyed_leaves chain tree newer old new d e c after pool under formed gone quiet = record {
@@ -114,7 +115,8 @@ destroyed_leaves chain tree newer old new d e c after pool under formed gone qui
   holds = λ n pos h. inl (held n h (slice_get c.filters.items h.at) refl);
 } where
   held : (n : ℕ) (h : Holds after n) (o : Option Filter) → slice_get c.filters.items h.at ≡ o → Holds c n
-  held n h None is = absurd (let none : None ≡ Some h.filter = sym (ap (λ (fs : List Filter). slice_get fs h.at) quiet ∙ (slice_get-map quieted c.filters.items h.at ∙ ap (option_map quieted) is)) ∙ h.is in cc)
+  held n h None is = absurd (let none : None ≡ Some h.filter =
+      sym (ap (λ (fs : List Filter). slice_get fs h.at) quiet ∙ (slice_get-map quieted c.filters.items h.at ∙ ap (option_map quieted) is)) ∙ h.is in cc)
   held n h (Some f) is =
       let same : Some (quieted f) ≡ Some h.filter = sym (ap (λ (fs : List Filter). slice_get fs h.at) quiet ∙ (slice_get-map quieted c.filters.items h.at ∙ ap (option_map quieted) is)) ∙ h.is in
       let one : h.filter ≡ quieted f = cc in

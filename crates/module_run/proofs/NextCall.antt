@@ -43,10 +43,12 @@ module _ {R : Type 0} {g : Ghosts R Stored} (store : Brigades R g) (M : ℕ → 
 
   pub filter_begun : (o : Option Filter) → ((f : Filter) → o ≡ Some f → AreAsWere (lists store) M f.instance) → shown_filter (is_running (next_name store) []) M o ≡ shown_filter (is_running 0 []) M o
   filter_begun None same = refl
-  filter_begun (Some f) same = ap (λ (bs : ℕ → BrigadeVar). lent_by f.lent (record (shown_instance (is_running 0 []) M f.instance) { brigades = bs })) (fun_ext (λ b. slot_begun (slot_at f.instance b) (same f refl b)))
+  filter_begun (Some f) same =
+      ap (λ (bs : ℕ → BrigadeVar). lent_by f.lent (record (shown_instance (is_running 0 []) M f.instance) { brigades = bs })) (fun_ext (λ b. slot_begun (slot_at f.instance b) (same f refl b)))
 
 -- a call that begins, which has no loose buckets
-pub frame_begun : (runs : ℕ → Bool) (M : ℕ → Option Items) (k name pc : ℕ) (f : Filter) → IsBegun name pc f.call → M name ≡ Some [] → shown_frame runs M k (Some f) ≡ record { of = k; call = fresh_call name; pc = pc }
+pub frame_begun : (runs : ℕ → Bool) (M : ℕ → Option Items) (k name pc : ℕ) (f : Filter) → IsBegun name pc f.call → M name ≡ Some []
+    → shown_frame runs M k (Some f) ≡ record { of = k; call = fresh_call name; pc = pc }
 frame_begun runs M k name pc f begun empty =
     ap (λ (cs : ℕ → Cursor). made f.call.name cs f.call.buffer (shown runs (list_at M f.call.name)) f.call.pc) (fun_ext (λ n. ap shown_cursor (begun.cursors n)))
     ∙ (ap (λ (bytes : List ℕ). made f.call.name unset bytes (shown runs (list_at M f.call.name)) f.call.pc) begun.buffer

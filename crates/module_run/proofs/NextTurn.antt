@@ -56,7 +56,8 @@ pub record Turns (chain : List Program) (next : ℕ) (c d : Conn) : Type 0 where
   pub others : (k : ℕ) → k ≢ c.first → k ≢ c.queue → filter_at d k ≡ filter_at c k
   pub count : length d.filters.items ≡ length c.filters.items
 
-module _ {R : Type 0} {g : Ghosts R Stored} (chain : List Program) (s : Status) (tree : PoolTree Payload) (store : Brigades R g) (device : Device) (c : Conn) (v : Linked) (f : Frame) (rest : List Frame)
+module _ {R : Type 0} {g : Ghosts R Stored} (chain : List Program) (s : Status) (tree : PoolTree Payload) (store : Brigades R g) (device : Device) (c : Conn) (v : Linked) (f : Frame)
+    (rest : List Frame)
     (ready : IsReady chain (instr.Ret s) tree store device c v f rest) (none : waiting c ≡ 0) (new : Brigades R g) (filters : Vec Filter)
     (x : EndsLast (lists store) (lists new) (next_name store) c (turned c filters)) (y : Turns chain (next_name store) c (turned c filters)) (empty : lists new (next_name store) ≡ Some []) where
   abbrev d : Conn
@@ -74,9 +75,11 @@ module _ {R : Type 0} {g : Ghosts R Stored} (chain : List Program) (s : Status) 
       ∙ (ap (λ (m : ℕ). is_running m c.waits.items n) y.call.named
       ∙ ap (λ (ws : List ℕ). is_running (next_name store) ws n) no_waits)))
 
-  each : (k : ℕ) → left_as chain (brigade_of store) (lists store) (lists new) (pool_of store) (next_name store) c d ready.stands.left.stacked (nine chain s tree store device c v f rest ready none) x k ≡ shown_filter (runs_of d) (lists new) (filter_at d k)
+  each : (k : ℕ) → left_as chain (brigade_of store) (lists store) (lists new) (pool_of store) (next_name store) c d ready.stands.left.stacked
+      (nine chain s tree store device c v f rest ready none) x k ≡ shown_filter (runs_of d) (lists new) (filter_at d k)
   each k = sym (each_left chain (brigade_of store) (lists store) (lists new) (pool_of store) (next_name store) c d ready.stands.left.stacked (nine chain s tree store device c v f rest ready none) x k)
-      ∙ (sym (filter_begun store (lists new) (filter_at d k) (λ e is. stays_after chain (brigade_of store) (lists store) (lists new) (pool_of store) (next_name store) c d ready.stands.left.stacked (nine chain s tree store device c v f rest ready none) x k e is))
+      ∙ (sym (filter_begun store (lists new) (filter_at d k) (λ e is. stays_after chain (brigade_of store) (lists store) (lists new) (pool_of store) (next_name store) c d ready.stands.left.stacked
+      (nine chain s tree store device c v f rest ready none) x k e is))
       ∙ ap (λ (runs : ℕ → Bool). shown_filter runs (lists new) (filter_at d k)) (fun_ext runs_one))
 
   abbrev next_frame : ℕ → Frame
@@ -114,7 +117,8 @@ module _ {R : Type 0} {g : Ghosts R Stored} (chain : List Program) (s : Status) 
   idle_name : (k : ℕ) (e : Filter) → filter_at d k ≡ Some e → k ≢ c.queue → e.call.name ≡ 0
   idle_name k e is off = elim (cases_eq k c.first) [
     | inl q ↦ ap (λ (h : Filter). h.call.name) (some_is e x.ended (sym is ∙ (ap (filter_at d) q ∙ x.top_after))) ∙ x.name
-    | inr ne ↦ idle chain (brigade_of store) (lists store) (lists new) (pool_of store) (next_name store) c d ready.stands.left.stacked (nine chain s tree store device c v f rest ready none) x k e (sym (y.others k ne off) ∙ is) ne
+    | inr ne ↦ idle chain (brigade_of store) (lists store) (lists new) (pool_of store) (next_name store) c d ready.stands.left.stacked (nine chain s tree store device c v f rest ready none) x k e
+        (sym (y.others k ne off) ∙ is) ne
   ]
 
   new_name : (k : ℕ) (e : Filter) → filter_at d k ≡ Some e → k ≡ c.queue → e.call.name ≡ next_name store
@@ -148,12 +152,14 @@ module _ {R : Type 0} {g : Ghosts R Stored} (chain : List Program) (s : Status) 
       | inr ne ↦ idle_name k e is ne
     ]
 
-  module _ (next : next_name new ≡ next_name store + 1) (pools : pool_of new ≡ pool_of store) (names : NoneRevived (brigade_of store) (brigade_of new) (next_name store)) (held : IsHeld new x.ended.instance x.ended.call) where
+  module _ (next : next_name new ≡ next_name store + 1) (pools : pool_of new ≡ pool_of store) (names : NoneRevived (brigade_of store) (brigade_of new) (next_name store))
+      (held : IsHeld new x.ended.instance x.ended.call) where
     held_idle : (k : ℕ) (e : Filter) → filter_at c k ≡ Some e → k ≢ c.first → IsHeld new e.instance e.call
     held_idle k e was ne =
         held_stays (brigade_of store) (brigade_of new) (lists store) (lists new) (pool_of store) (pool_of new) (next_name store) (next_name new) e.instance e.call (omega (arith, next)) pools names
         (stays chain (brigade_of store) (lists store) (lists new) (pool_of store) (next_name store) c d ready.stands.left.stacked (nine chain s tree store device c v f rest ready none) x k e was ne)
-        (λ pos. absurd (let z = idle chain (brigade_of store) (lists store) (lists new) (pool_of store) (next_name store) c d ready.stands.left.stacked (nine chain s tree store device c v f rest ready none) x k e was ne in omega (arith, pos, z)))
+        (λ pos. absurd (let z = idle chain (brigade_of store) (lists store) (lists new) (pool_of store) (next_name store) c d ready.stands.left.stacked
+        (nine chain s tree store device c v f rest ready none) x k e was ne in omega (arith, pos, z)))
         (ready.stands.left.stacked.held k e was)
 
     held_begun : IsHeld new y.begun.instance y.begun.call
@@ -187,6 +193,8 @@ module _ {R : Type 0} {g : Ghosts R Stored} (chain : List Program) (s : Status) 
         led chain s tree store device c v f rest ready none new d x pools refs stepped.Went after
         (returned_so chain s tree store device c v f rest ready none x.top x.on_top ∙ turned_is) refl
         (record { pools = ready.stands.left.seen.pools; given = ap (λ (n : ℕ). n + 1) ready.stands.left.seen.given ∙ sym next; conn = refl })
-        (stacked_lone chain (brigade_of store) (lists store) (lists new) (pool_of store) (next_name store) c d ready.stands.left.stacked (nine chain s tree store device c v f rest ready none) x c.queue lone
-        (brigade_of new) (pool_of new) (next_name new) (y.count ∙ ready.stands.left.stacked.many) (let a = y.within in let b = ready.stands.left.stacked.many in omega (arith, a, b)) (let a = y.within in let b = ready.stands.left.stacked.many in omega (arith, a, b))
+        (stacked_lone chain (brigade_of store) (lists store) (lists new) (pool_of store) (next_name store) c d ready.stands.left.stacked
+        (nine chain s tree store device c v f rest ready none) x c.queue lone
+        (brigade_of new) (pool_of new) (next_name new) (y.count ∙ ready.stands.left.stacked.many) (let a = y.within in let b = ready.stands.left.stacked.many in omega (arith, a, b))
+        (let a = y.within in let b = ready.stands.left.stacked.many in omega (arith, a, b))
         held_each)

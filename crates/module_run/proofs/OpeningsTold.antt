@@ -62,14 +62,16 @@ may_tell_unasked next d name below = go (d.named name) refl where
   go (device.Holds bytes) is = (subst (λ (h : Held). MayHold h bytes) (sym is) refl, rest_of next d.next below)
 
 -- and it is as it was
-pub stays_unasked : (name : List ℕ) (d : Device) (broken : Option Cause) (busy : Bool) (req : Option ℕ) (r : Refusal) → Some r ≡ first_refusal (request_tests broken busy req) → IsAfterOpening name (Some r) d d
+pub stays_unasked : (name : List ℕ) (d : Device) (broken : Option Cause) (busy : Bool) (req : Option ℕ) (r : Refusal) → Some r ≡ first_refusal (request_tests broken busy req)
+    → IsAfterOpening name (Some r) d d
 stays_unasked name d (Some cause) busy req r is = subst (λ (o : Option Refusal). IsAfterOpening name o d d) (sym is) refl
 stays_unasked name d None true req r is = subst (λ (o : Option Refusal). IsAfterOpening name o d d) (sym is) refl
 stays_unasked name d None false None r is = subst (λ (o : Option Refusal). IsAfterOpening name o d d) (sym is) refl
 stays_unasked name d None false (Some pool) r is = absurd (cc)
 
 module _ {R : Type 0} {g : Ghosts R Stored} (chain : List Program) (tree : PoolTree Payload) (store : Brigades R g) (d e : Device) (c : Conn) (name : List ℕ) (v : Linked) where
-  pub was_opened : (answer : Result (ℕ × ℕ) Refusal) (opening : Opening) (w : Linked) → MayTell v.0.file d name opening → opens_file (lasted answer) opening v ≡ (answer, w) → LeftAs chain tree store e c w → w.0.file ≤ e.next → IsAfterOpening name (refusal_of answer) d e → TellsShort answer
+  pub was_opened : (answer : Result (ℕ × ℕ) Refusal) (opening : Opening) (w : Linked) → MayTell v.0.file d name opening → opens_file (lasted answer) opening v ≡ (answer, w)
+      → LeftAs chain tree store e c w → w.0.file ≤ e.next → IsAfterOpening name (refusal_of answer) d e → TellsShort answer
       → WasOpened chain tree store d e c name answer v
   was_opened answer opening w told is left numbers after short = record {
     opening = opening;
@@ -92,16 +94,19 @@ module _ {R : Type 0} {g : Ghosts R Stored} (chain : List Program) (tree : PoolT
   was_refused fault.NamesSpent (there, last, went) none left below =
       let bytes = there_bytes (d.named name) there in
       was_opened (Err refusal.NamesSpent) (Found (d.next - v.0.file) bytes.0) v (bytes.1, rest_of v.0.file d.next below)
-      (open_spent (map_of tree) (lists store) (next_name store) c v left.seen true (d.next - v.0.file) bytes.0 none (last_spent (v.0.file + (d.next - v.0.file)) (rest_of v.0.file d.next below ∙ last)))
+      (open_spent (map_of tree) (lists store) (next_name store) c v left.seen true (d.next - v.0.file) bytes.0 none
+      (last_spent (v.0.file + (d.next - v.0.file)) (rest_of v.0.file d.next below ∙ last)))
       (left_device chain tree store d e c v (λ file. ap (λ (x : Device). x.numbered file) went.1) left) (subst (λ (x : Device). v.0.file ≤ x.next) (sym went.1) below) went tt
   was_refused fault.NoMemory (there, lt, went) none left below =
       let bytes = there_bytes (d.named name) there in
       was_opened (Err refusal.NoMemory) (Found (d.next - v.0.file) bytes.0) v (bytes.1, rest_of v.0.file d.next below)
-      (open_left (map_of tree) (lists store) (next_name store) c v left.seen false (d.next - v.0.file) bytes.0 none (not_spent (v.0.file + (d.next - v.0.file)) (let at = rest_of v.0.file d.next below in omega (arith, lt, at))))
+      (open_left (map_of tree) (lists store) (next_name store) c v left.seen false (d.next - v.0.file) bytes.0 none
+      (not_spent (v.0.file + (d.next - v.0.file)) (let at = rest_of v.0.file d.next below in omega (arith, lt, at))))
       (left_device chain tree store d e c v (λ file. ap (λ (x : Device). x.numbered file) went.1) left) (subst (λ (x : Device). v.0.file ≤ x.next) (sym went.1) below) (went.0, inl went.1) tt
 
 -- the file was found, and its number and length are told
-pub opening_is : (ps : Pools Payload) (rings : ℕ → Option Items) (next : ℕ) (c : Conn) (v : Linked) → IsSeenAs ps rings next c v → (number len next_number req : ℕ) (bytes : List ℕ) → number ≡ next_number → number < last_number → v.0.file ≤ next_number → len ≡ length bytes → c.req ≡ Some req
+pub opening_is : (ps : Pools Payload) (rings : ℕ → Option Items) (next : ℕ) (c : Conn) (v : Linked) → IsSeenAs ps rings next c v → (number len next_number req : ℕ) (bytes : List ℕ)
+    → number ≡ next_number → number < last_number → v.0.file ≤ next_number → len ≡ length bytes → c.req ≡ Some req
     → first_refusal (request_tests c.broken c.busy c.req) ≡ None → opens_file true (Found (next_number - v.0.file) bytes) v ≡ (Ok (number, len), file_taken req number bytes v)
 opening_is ps rings next c v seen number len next_number req bytes at lt below long in_request none =
     let same : v.0.file + (next_number - v.0.file) ≡ number = rest_of v.0.file next_number below ∙ sym at in

@@ -1,5 +1,6 @@
 -- A connection is opened: what it stands for before its first call, and then.
-use Rattle.std.proofs.Common.{◌≡◌, ℕ, zero, suc, ◌+◌, ◌-◌, ◌<◌, ◌≤◌, ◌&&◌, nat_le, Bool, false, List, [], ◌∷◌, ◌++◌, length, Option, Some, None, is_some, ◌⊎◌, inl, inr, refl, sym, ap, subst, ◌∙◌, arith}
+use Rattle.std.proofs.Common.{◌≡◌, ℕ, zero, suc, ◌+◌, ◌-◌, ◌<◌, ◌≤◌, ◌&&◌, nat_le, Bool, false, List, [], ◌∷◌, ◌++◌, length, Option, Some, None, is_some, ◌⊎◌, inl, inr, refl, sym, ap, subst, ◌∙◌}
+use Rattle.std.proofs.Common.{arith}
 use Rattle.std.specs.Prelude.{if◌then◌else◌, slice_get, slice_index_or}
 use Rattle.std.specs.Global.{Vec}
 use Rattle.std.proofs.Math.Path.{fun_ext}
@@ -175,7 +176,8 @@ module _ {R : Type 0} {g : Ghosts R Stored} (chain : List Program) (tree : PoolT
         rest : ℕ → Option ℕ → List (List ℕ) → List (ℕ × ℕ) → List ℕ → Bool → ℕ → Option Cause → Connection
         rest = view shown_at (stack_of (lists old) c) (counting c.queue (length c.filters.items - c.queue))
 
-  pub new_left : (dev : Device) (k : Common) → AreOpen (references old) dev → k.pools ≡ (map_of tree).next → k.next ≡ next_name old → IsPoolMap (map_of tree) → LeftAs chain tree old dev c (k, before k)
+  pub new_left : (dev : Device) (k : Common) → AreOpen (references old) dev → k.pools ≡ (map_of tree).next → k.next ≡ next_name old → IsPoolMap (map_of tree)
+      → LeftAs chain tree old dev c (k, before k)
   new_left dev k open_files named given formed = record {
     seen = record { pools = named; given = given; conn = new_conn k named };
     opens = λ file bytes e. absurd (cc);
@@ -186,16 +188,20 @@ module _ {R : Type 0} {g : Ghosts R Stored} (chain : List Program) (tree : PoolT
     stacked = new_stacked;
   }
 
-  pub opened_left : (newer : PoolTree Payload) (store : Brigades R g) (d : Conn) (dev : Device) (k : Common) (root : ℕ) → AreOpen (references old) dev → k.pools ≡ (map_of tree).next → k.next ≡ next_name old → IsPoolMap (map_of tree)
-      → CalledFirst chain (next_name old) (record c { req = None }) d → map_of newer ≡ created root (map_of tree) → IsPoolMap (map_of newer) → ((n : ℕ) → lists store n ≡ ring.upd (lists old) (next_name old) (Some []) n)
+  pub opened_left : (newer : PoolTree Payload) (store : Brigades R g) (d : Conn) (dev : Device) (k : Common) (root : ℕ) → AreOpen (references old) dev → k.pools ≡ (map_of tree).next
+      → k.next ≡ next_name old → IsPoolMap (map_of tree)
+      → CalledFirst chain (next_name old) (record c { req = None }) d → map_of newer ≡ created root (map_of tree) → IsPoolMap (map_of newer)
+      → ((n : ℕ) → lists store n ≡ ring.upd (lists old) (next_name old) (Some []) n)
       → next_name store ≡ next_name old + 1 → NoneRevived (brigade_of old) (brigade_of store) (next_name old) → pool_of store ≡ pool_of old → references store ≡ references old
       → LeftAs chain newer store dev d (over (map_of newer) (opened chain k))
   unfolding opened all_called created
   opened_left newer store d dev k root open_files named given formed begins map new_formed out next names pools refs =
       subst (λ (w : Linked). LeftAs chain newer store dev d w) (sym same)
-      (left_called chain old store c d None new_stacked is.busy begins out next names pools (next_off_pools old (map_of tree) new.house) tree newer dev k (before k) (new_left dev k open_files named given formed) refs new_formed house) where
+      (left_called chain old store c d None new_stacked is.busy begins out next names pools (next_off_pools old (map_of tree) new.house) tree newer dev k (before k)
+      (new_left dev k open_files named given formed) refs new_formed house) where
         same : over (map_of newer) (opened chain k) ≡ all_called chain (with_pools (map_of newer) (k, before k))
-        same = ap (λ (n : ℕ). over (map_of newer) (all_called chain (record k { pools = n }, fresh_connection k))) (let e : k.pools + 1 ≡ (map_of newer).next = ap (λ (n : ℕ). n + 1) named ∙ sym (ap (λ (ps : Pools Payload). ps.next) map) in e)
+        same = ap (λ (n : ℕ). over (map_of newer) (all_called chain (record k { pools = n }, fresh_connection k)))
+            (let e : k.pools + 1 ≡ (map_of newer).next = ap (λ (n : ℕ). n + 1) named ∙ sym (ap (λ (ps : Pools Payload). ps.next) map) in e)
 
         house : IsHouse old (map_of newer)
         house = subst (AreHoused (lists old) (pool_of old) (references old)) (sym map) (house_created (lists old) (pool_of old) (references old) (map_of tree) new.house root formed)

@@ -73,7 +73,8 @@ module _ (ps : Pools Payload) (rings : ℕ → Option Items) (next : ℕ) (c : C
       ap (λ (o : Option Refusal). unless_refused o v (begun chain v))
       (one_refused (begin_tests v.1.broken (is_busy v.1.stack) v.1.req v.0.pools v.0.next) (refused_if (not memory) refusal.NoMemory) r (ap first_refusal begin_tests_are ∙ is))
 
-  pub begin_passed : (memory : Bool) (chain : List Program) → first_refusal (begin_tests c.broken c.busy c.req ps.next next) ≡ None → begins memory chain v ≡ unless_refused (refused_if (not memory) refusal.NoMemory) v (begun chain v)
+  pub begin_passed : (memory : Bool) (chain : List Program) → first_refusal (begin_tests c.broken c.busy c.req ps.next next) ≡ None
+      → begins memory chain v ≡ unless_refused (refused_if (not memory) refusal.NoMemory) v (begun chain v)
   unfolding begins
   begin_passed memory chain none =
       ap (λ (o : Option Refusal). unless_refused o v (begun chain v))
@@ -105,7 +106,8 @@ module _ (ps : Pools Payload) (rings : ℕ → Option Items) (next : ℕ) (c : C
       ∙ ap (λ (n : ℕ). bring_tests c.broken c.busy c.req (lengths c.files.items) n pieces) seen.given)
 
   -- a brigade is brought, or refused
-  pub bring_refused : (memory : Bool) (chain : List Program) (pieces : List Piece) (r : Refusal) → first_refusal (bring_tests c.broken c.busy c.req (lengths c.files.items) next pieces) ≡ Some r → brings memory chain pieces v ≡ (Some r, v)
+  pub bring_refused : (memory : Bool) (chain : List Program) (pieces : List Piece) (r : Refusal) → first_refusal (bring_tests c.broken c.busy c.req (lengths c.files.items) next pieces) ≡ Some r
+      → brings memory chain pieces v ≡ (Some r, v)
   unfolding brings
   bring_refused memory chain pieces r is =
       ap (λ (o : Option Refusal). unless_refused o v (brought chain pieces v.1.req v))
@@ -138,7 +140,8 @@ module _ (ps : Pools Payload) (rings : ℕ → Option Items) (next : ℕ) (c : C
   pub open_failing : (memory : Bool) → first_refusal (request_tests c.broken c.busy c.req) ≡ None → opens_file memory Failing v ≡ (Err refusal.FileFailed, v)
   open_failing memory none = open_tests_are Failing memory none
 
-  pub open_spent : (memory : Bool) (skipped : ℕ) (bytes : List ℕ) → first_refusal (request_tests c.broken c.busy c.req) ≡ None → is_spent (v.0.file + skipped) 1 ≡ true → opens_file memory (Found skipped bytes) v ≡ (Err refusal.NamesSpent, v)
+  pub open_spent : (memory : Bool) (skipped : ℕ) (bytes : List ℕ) → first_refusal (request_tests c.broken c.busy c.req) ≡ None → is_spent (v.0.file + skipped) 1 ≡ true
+      → opens_file memory (Found skipped bytes) v ≡ (Err refusal.NamesSpent, v)
   open_spent memory skipped bytes none spent =
       open_tests_are (Found skipped bytes) memory none
       ∙ ap (λ (t : Bool). file_answer (first_refusal (refused_if t refusal.NamesSpent ∷ (refused_if (not memory) refusal.NoMemory ∷ []))) v.1.req (Found skipped bytes) v) spent

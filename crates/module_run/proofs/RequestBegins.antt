@@ -54,7 +54,8 @@ begin_idle broken busy req pools next none = idle_when broken busy (refused_if (
 pub request_idle : (broken : Option Cause) (busy : Bool) (req : Option ℕ) → first_refusal (request_tests broken busy req) ≡ None → busy ≡ false
 request_idle broken busy req none = idle_when broken busy (refused_if (not (is_some req)) refusal.NotInRequest ∷ []) none
 
-pub bring_idle : (broken : Option Cause) (busy : Bool) (req : Option ℕ) (files : List (ℕ × ℕ)) (next : ℕ) (pieces : List Piece) → first_refusal (bring_tests broken busy req files next pieces) ≡ None → busy ≡ false
+pub bring_idle : (broken : Option Cause) (busy : Bool) (req : Option ℕ) (files : List (ℕ × ℕ)) (next : ℕ) (pieces : List Piece)
+    → first_refusal (bring_tests broken busy req files next pieces) ≡ None → busy ≡ false
 bring_idle broken busy req files next pieces none =
     idle_when broken busy (refused_if (not (is_some req)) refusal.NotInRequest
     ∷ (refused_if (data_behind_eos pieces) refusal.DataAfterEos
@@ -77,7 +78,8 @@ module _ (ps : Pools Payload) (rings : ℕ → Option Items) (next : ℕ) (c : C
   unfolding conn_of
   req_is = ap (λ (x : Connection). x.req) seen.conn
 
-module _ {R : Type 0} {g : Ghosts R Stored} (chain : List Program) (tree : PoolTree Payload) (old : Brigades R g) (dev : Device) (c : Conn) (v : Linked) (stands : StandsFor chain tree old dev c v) where
+module _ {R : Type 0} {g : Ghosts R Stored} (chain : List Program) (tree : PoolTree Payload) (old : Brigades R g) (dev : Device) (c : Conn) (v : Linked)
+    (stands : StandsFor chain tree old dev c v) where
   pub conn_live : is_live (map_of tree) c.conn ≡ true
   unfolding configuration
   conn_live =
@@ -110,7 +112,8 @@ module _ {R : Type 0} {g : Ghosts R Stored} (chain : List Program) (tree : PoolT
   request_under pool is = ap (is_in c.conn) (request_path pool is) ∙ or_right (pool == c.conn) (is_in c.conn ((map_of tree).path c.conn)) own where
     own : is_under (map_of tree) c.conn c.conn ≡ true
     own = subst (λ (n : ℕ). is_under (map_of tree) n n ≡ true) (conn_is (map_of tree) (lists old) (next_name old) c v stands.left.seen)
-        (subst (λ (ps : Pools Payload). is_under ps v.1.conn v.1.conn ≡ true) (pools_are (map_of tree) (lists old) (next_name old) c v stands.left.seen) (part_under (pools_of v.0 v.1) v.1.conn stands.lawful.pools.has))
+        (subst (λ (ps : Pools Payload). is_under ps v.1.conn v.1.conn ≡ true) (pools_are (map_of tree) (lists old) (next_name old) c v stands.left.seen)
+        (part_under (pools_of v.0 v.1) v.1.conn stands.lawful.pools.has))
 
   pub next_free : pool_of old (next_name old) ≡ None
   next_free = next_off_pools old (map_of tree) stands.left.house
@@ -130,10 +133,12 @@ module _ {R : Type 0} {g : Ghosts R Stored} (chain : List Program) (tree : PoolT
             ∙ ap (created v.1.conn) (sym (pools_are (map_of tree) (lists old) (next_name old) c v stands.left.seen)))
 
         house : IsHouse old (map_of newer)
-        house = subst (AreHoused (lists old) (pool_of old) (references old)) (sym map) (house_created (lists old) (pool_of old) (references old) (map_of tree) stands.left.house c.conn stands.left.formed)
+        house = subst (AreHoused (lists old) (pool_of old) (references old)) (sym map)
+            (house_created (lists old) (pool_of old) (references old) (map_of tree) stands.left.house c.conn stands.left.formed)
 
 -- an event that answers this, and leaves what this one leaves
-pub happened_as : {R : Type 0} {g : Ghosts R Stored} {A : Type 0} (chain : List Program) (tree : PoolTree Payload) (store : Brigades R g) (dev : Device) (c : Conn) (answer : A) (w : A × Linked) (v : Linked)
+pub happened_as : {R : Type 0} {g : Ghosts R Stored} {A : Type 0} (chain : List Program) (tree : PoolTree Payload) (store : Brigades R g) (dev : Device) (c : Conn) (answer : A) (w : A × Linked)
+    (v : Linked)
     → w ≡ (answer, v) → LeftAs chain tree store dev c v → Happened chain tree store dev c answer w
 happened_as {R} {g} {A} chain tree store dev c answer w v is left = record {
   answers = ap (λ (x : A × Linked). x.0) is;

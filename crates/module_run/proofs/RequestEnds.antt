@@ -56,7 +56,8 @@ pub same_items : {X : Type 0} (xs ys : List X) → length xs ≡ length ys → (
 same_items [] [] many same = refl
 same_items [] (y ∷ ys) many same = absurd (omega (arith, many))
 same_items (x ∷ xs) [] many same = absurd (omega (arith, many))
-same_items (x ∷ xs) (y ∷ ys) many same = (let head = some_same x y (same 0 (omega arith)) in ap (λ (z : _). z ∷ xs) head ∙ ap (λ (zs : List _). y ∷ zs) (same_items xs ys (omega (arith, many)) (λ j lt. same (suc j) (omega (arith, lt)))))
+same_items (x ∷ xs) (y ∷ ys) many same = (let head = some_same x y (same 0 (omega arith)) in
+    ap (λ (z : _). z ∷ xs) head ∙ ap (λ (zs : List _). y ∷ zs) (same_items xs ys (omega (arith, many)) (λ j lt. same (suc j) (omega (arith, lt)))))
 
 slots_quiet : (f : Filter) (b : ℕ) → slot_at (quieted f).instance b ≡ slot_at f.instance b
 unfolding slot_at
@@ -66,7 +67,8 @@ abbrev OpenThen : Device → Files → Type 0
 OpenThen d fs = (file : ℕ) (bytes : List ℕ) → fs.opened file ≡ Some bytes → MayHold (d.numbered file) bytes
 
 -- No call runs over these rings, and one pool was destroyed.
-module _ {R : Type 0} {g : Ghosts R Stored} (chain : List Program) (tree newer : PoolTree Payload) (old new : Brigades R g) (dev e : Device) (c : Conn) (stacked : IsStacked chain old c) (idle : c.busy ≡ false)
+module _ {R : Type 0} {g : Ghosts R Stored} (chain : List Program) (tree newer : PoolTree Payload) (old new : Brigades R g) (dev e : Device) (c : Conn) (stacked : IsStacked chain old c)
+    (idle : c.busy ≡ false)
     (pool : ℕ) (gone : WasDestroyed pool tree newer old new dev e c) where
   abbrev reached : ℕ → Bool
   reached = is_under (map_of tree) pool
@@ -81,11 +83,13 @@ module _ {R : Type 0} {g : Ghosts R Stored} (chain : List Program) (tree newer :
   held_gone : (k : ℕ) (f : Filter) → filter_at c k ≡ Some f → IsHeld new f.instance f.call
   held_gone k f is = held_cleared old new gone.looked reached f.instance f.call (stacked.held k f is) (looks k f is) gone.out gone.next gone.names gone.off
 
-  slot_gone : (runs : ℕ → Bool) (k : ℕ) (f : Filter) → filter_at c k ≡ Some f → (b : ℕ) → shown_slot runs (lists new) (slot_at f.instance b) ≡ cleared_var reached (shown_slot runs (lists old) (slot_at f.instance b))
+  slot_gone : (runs : ℕ → Bool) (k : ℕ) (f : Filter) → filter_at c k ≡ Some f → (b : ℕ)
+      → shown_slot runs (lists new) (slot_at f.instance b) ≡ cleared_var reached (shown_slot runs (lists old) (slot_at f.instance b))
   slot_gone runs k f is b = by_slot old new gone.looked reached f.instance f.call (stacked.held k f is) (looks k f is) gone.out runs b
 
   -- a filter that has no call, in the next request
-  filter_gone : (runs : ℕ → Bool) (k : ℕ) (f : Filter) → filter_at c k ≡ Some f → shown_filter runs (lists new) (Some (quieted f)) ≡ between_requests (touched_instance (cleared_var reached) (shown_filter runs (lists old) (Some f)))
+  filter_gone : (runs : ℕ → Bool) (k : ℕ) (f : Filter) → filter_at c k ≡ Some f
+      → shown_filter runs (lists new) (Some (quieted f)) ≡ between_requests (touched_instance (cleared_var reached) (shown_filter runs (lists old) (Some f)))
   unfolding slot_at
   filter_gone runs k f is =
       ap (λ (o : Option ℕ). lent_by o (shown_instance runs (lists new) (quieted f).instance)) alone
@@ -103,7 +107,8 @@ module _ {R : Type 0} {g : Ghosts R Stored} (chain : List Program) (tree newer :
   open_gone fs opens file bytes is = go (list_any (λ x. is_file_ref file x.1) (run_order (map_of tree) pool) && not (is_referred (map_of newer) file)) refl where
     go : (t : Bool) → (list_any (λ x. is_file_ref file x.1) (run_order (map_of tree) pool) && not (is_referred (map_of newer) file)) ≡ t → MayHold (e.numbered file) bytes
     go true t = absurd (let closed : None ≡ Some bytes = sym (ap (λ (b : Bool). if b then None else fs.opened file) t) ∙ is in cc)
-    go false t = subst (λ (h : Held). MayHold h bytes) (sym (gone.closed file ∙ ap (λ (b : Bool). if b then Missing else dev.numbered file) t)) (opens file bytes (sym (ap (λ (b : Bool). if b then None else fs.opened file) t) ∙ is))
+    go false t = subst (λ (h : Held). MayHold h bytes) (sym (gone.closed file ∙ ap (λ (b : Bool). if b then Missing else dev.numbered file) t))
+        (opens file bytes (sym (ap (λ (b : Bool). if b then None else fs.opened file) t) ∙ is))
 
   -- The request is over, and no filter has passed an EOS in the next one.
   module _ (filters : Vec Filter) (labels : Vec LabelsRun) (files : Vec OpenFile) (quiet : filters.items ≡ map quieted c.filters.items) where
@@ -153,10 +158,12 @@ module _ {R : Type 0} {g : Ghosts R Stored} (chain : List Program) (tree newer :
       queue = stacked.queue;
       held = held_then;
       apart = record {
-        own = λ i j a b m f x la lb fi xj na nb. (let w = was_at i f fi in let u = was_at j x xj in stacked.apart.own i j a b m w.0 u.0 la lb w.1.0 u.1.0 (named_then i a m f w na) (named_then j b m x u nb));
+        own = λ i j a b m f x la lb fi xj na nb.
+            (let w = was_at i f fi in let u = was_at j x xj in stacked.apart.own i j a b m w.0 u.0 la lb w.1.0 u.1.0 (named_then i a m f w na) (named_then j b m x u nb));
         later = λ i j b m f x lt lb fi xj nf. absurd (no_lent (named_at f 8) m (nothing_in_then i f fi) nf);
         handed = λ i j a m f x lt fi xj na nb. absurd (no_lent (named_at x 8) m (nothing_in_then j x xj) nb);
-        loose = λ i j b f x fi xj n. (let w = was_at i f fi in let u = was_at j x xj in stacked.apart.loose i j b w.0 u.0 w.1.0 u.1.0 (named_then i b x.call.name f w n ∙ ap (λ (y : Filter). Some y.call.name) u.1.1));
+        loose = λ i j b f x fi xj n.
+            (let w = was_at i f fi in let u = was_at j x xj in stacked.apart.loose i j b w.0 u.0 w.1.0 u.1.0 (named_then i b x.call.name f w n ∙ ap (λ (y : Filter). Some y.call.name) u.1.1));
         calls = λ i j f x fi xj pos same. absurd (let none = no_call_then i f fi in omega (arith, none, pos));
       };
       called = record {
@@ -195,7 +202,8 @@ module _ {R : Type 0} {g : Ghosts R Stored} (chain : List Program) (tree newer :
     instances_then = fun_ext (λ k. sym (
         ap (λ (runs : ℕ → Bool). shown_filter runs (lists new) (filter_at after k)) runs_then
         ∙ (ap (shown_filter (runs_of c) (lists new)) (quiet_at k) ∙ go k (filter_at c k) refl))) where
-          go : (k : ℕ) (o : Option Filter) → filter_at c k ≡ o → shown_filter (runs_of c) (lists new) (option_map quieted o) ≡ between_requests (touched_instance (cleared_var reached) (shown_filter (runs_of c) (lists old) o))
+          go : (k : ℕ) (o : Option Filter) → filter_at c k ≡ o
+              → shown_filter (runs_of c) (lists new) (option_map quieted o) ≡ between_requests (touched_instance (cleared_var reached) (shown_filter (runs_of c) (lists old) o))
           go k None at = refl
           go k (Some f) at = filter_gone (runs_of c) k f at
 
@@ -203,7 +211,8 @@ module _ {R : Type 0} {g : Ghosts R Stored} (chain : List Program) (tree newer :
     no_stack rings d quiet_now = ap (λ (b : Bool). if b then stack_up (frame_at rings d) d.first (suc (waiting d)) else []) quiet_now
 
     -- what it stands for
-    module _ (v : Linked) (left : LeftAs chain tree old dev c v) (more : labels_handed labels.items ≡ labels_handed c.labels.items ++ labels_in (run_order (map_of tree) pool)) (none_open : files.items ≡ []) where
+    module _ (v : Linked) (left : LeftAs chain tree old dev c v) (more : labels_handed labels.items ≡ labels_handed c.labels.items ++ labels_in (run_order (map_of tree) pool))
+        (none_open : files.items ≡ []) where
       pools_as : pools_of v.0 v.1 ≡ map_of tree
       pools_as = pools_are (map_of tree) (lists old) (next_name old) c v left.seen
 
@@ -221,12 +230,16 @@ module _ {R : Type 0} {g : Ghosts R Stored} (chain : List Program) (tree newer :
       conn_then =
           ap (over v.1) pools_as
           ∙ (ap (λ (x : Connection). over x (map_of tree)) left.seen.conn
-          ∙ (ap (λ (i : ℕ → model.Instance). view i (stack_of (lists old) c) (counting c.queue (length c.filters.items - c.queue)) (destroyed pool (map_of tree)) (labels_handed c.labels.items ++ labels_in (run_order (map_of tree) pool)) []) instances_then
-          ∙ (ap (λ (s : List Frame). view shown_then s (counting c.queue (length c.filters.items - c.queue)) (destroyed pool (map_of tree)) (labels_handed c.labels.items ++ labels_in (run_order (map_of tree) pool)) []) (no_stack (lists old) c idle ∙ sym (no_stack (lists new) after idle))
+          ∙ (ap (λ (i : ℕ → model.Instance). view i (stack_of (lists old) c) (counting c.queue (length c.filters.items - c.queue)) (destroyed pool (map_of tree))
+          (labels_handed c.labels.items ++ labels_in (run_order (map_of tree) pool)) []) instances_then
+          ∙ (ap (λ (s : List Frame). view shown_then s (counting c.queue (length c.filters.items - c.queue)) (destroyed pool (map_of tree))
+          (labels_handed c.labels.items ++ labels_in (run_order (map_of tree) pool)) []) (no_stack (lists old) c idle ∙ sym (no_stack (lists new) after idle))
           ∙ (ap (λ (q : List ℕ). view shown_then (stack_of (lists new) after) q (destroyed pool (map_of tree)) (labels_handed c.labels.items ++ labels_in (run_order (map_of tree) pool)) []) queue_then
-          ∙ (ap (λ (ps : Pools Payload). view shown_then (stack_of (lists new) after) (counting c.queue (length filters.items - c.queue)) ps (labels_handed c.labels.items ++ labels_in (run_order (map_of tree) pool)) []) (sym gone.pools)
+          ∙ (ap (λ (ps : Pools Payload). view shown_then (stack_of (lists new) after) (counting c.queue (length filters.items - c.queue)) ps
+          (labels_handed c.labels.items ++ labels_in (run_order (map_of tree) pool)) []) (sym gone.pools)
           ∙ (ap (λ (ls : List (List ℕ)). view shown_then (stack_of (lists new) after) (counting c.queue (length filters.items - c.queue)) (map_of newer) ls []) labels_then
-          ∙ ap (λ (fs : List (ℕ × ℕ)). view shown_then (stack_of (lists new) after) (counting c.queue (length filters.items - c.queue)) (map_of newer) (labels_handed labels.items) fs) (sym (ap lengths none_open)))))))) where
+          ∙ ap (λ (fs : List (ℕ × ℕ)). view shown_then (stack_of (lists new) after) (counting c.queue (length filters.items - c.queue)) (map_of newer) (labels_handed labels.items) fs)
+          (sym (ap lengths none_open)))))))) where
             over : Connection → Pools Payload → Connection
             over x ps = record x {
               instances = λ k. between_requests (touched_instance (cleared_var (is_under ps pool)) (x.instances k));

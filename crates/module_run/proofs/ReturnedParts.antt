@@ -107,7 +107,8 @@ module _ (old new : ℕ → Bool) (name : ℕ) (gone : RunsWithout old new name)
       ap (λ (i : ℕ). shown_as new n pool mark (M i)) n_is ∙ (ap (λ (o : Option Items). shown_as new n pool mark o) same ∙ (ap (λ (k : Mark). shown_as new n pool k (L m)) e ∙ (go (L m)
       ∙ ap (λ (i : ℕ). with_items (map (returned_bucket name) (items_of (shown_as old j on usable (L m)))) (returned_var name (handed_over (shown_as old n pool mark (L i))))) (sym n_is)
       ∙ ap (λ (i : ℕ). with_items (map (returned_bucket name) (items_of (shown_as old j on usable (L i)))) (returned_var name (handed_over (shown_as old n pool mark (L n))))) (sym j_is)))) where
-        go : (o : Option Items) → shown_as new n pool Passed o ≡ with_items (map (returned_bucket name) (items_of (shown_as old j on usable o))) (returned_var name (handed_over (shown_as old n pool mark o)))
+        go : (o : Option Items)
+            → shown_as new n pool Passed o ≡ with_items (map (returned_bucket name) (items_of (shown_as old j on usable o))) (returned_var name (handed_over (shown_as old n pool mark o)))
         go None = refl
         go (Some xs) = ap (λ (items : List NamedBucket). var.Live (record { name = n; on = pool; mark = Passed; items = items })) (returned_items old new name gone xs)
 

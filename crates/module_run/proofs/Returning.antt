@@ -32,14 +32,17 @@ use Rattle.module_run.proofs.StackedBack.{stacked_back}
 use Rattle.module_run.proofs.TopFilter.{on_top_of, top_frame}
 use Rattle.module_run.proofs.Tops.{frame_at}
 
-module _ {R : Type 0} {g : Ghosts R Stored} (chain : List Program) (s : Status) (tree : PoolTree Payload) (store : Brigades R g) (device : Device) (c : Conn) (v : Linked) (f : Frame) (rest : List Frame)
+module _ {R : Type 0} {g : Ghosts R Stored} (chain : List Program) (s : Status) (tree : PoolTree Payload) (store : Brigades R g) (device : Device) (c : Conn) (v : Linked) (f : Frame)
+    (rest : List Frame)
     (ready : IsReady chain (instr.Ret s) tree store device c v f rest) where
   -- the frames of the calls that wait
-  below_frames : (w : ℕ) (t : Filter) → waiting c ≡ suc w → filter_at c (c.first + w) ≡ Some t → rest ≡ shown_frame (runs_of c) (lists store) (c.first + w) (Some t) ∷ stack_up (frame_at (lists store) c) c.first w
+  below_frames : (w : ℕ) (t : Filter) → waiting c ≡ suc w → filter_at c (c.first + w) ≡ Some t
+      → rest ≡ shown_frame (runs_of c) (lists store) (c.first + w) (Some t) ∷ stack_up (frame_at (lists store) c) c.first w
   unfolding stack_up
   below_frames w t many is =
       let o = on_top_of chain (instr.Ret s) tree store device c v f rest ready in
-      o.below ∙ (ap (stack_up (frame_at (lists store) c) c.first) many ∙ ap (λ (h : Option Filter). shown_frame (runs_of c) (lists store) (c.first + w) h ∷ stack_up (frame_at (lists store) c) c.first w) is)
+      o.below ∙ (ap (stack_up (frame_at (lists store) c) c.first) many
+      ∙ ap (λ (h : Option Filter). shown_frame (runs_of c) (lists store) (c.first + w) h ∷ stack_up (frame_at (lists store) c) c.first w) is)
 
   -- the one that waits stands at an instruction of its module
   pub wait_placed : (w : ℕ) (t : Filter) → waiting c ≡ suc w → filter_at c (c.first + w) ≡ Some t → t.call.pc < length (module_at chain (c.first + w)).code
@@ -54,7 +57,8 @@ module _ {R : Type 0} {g : Ghosts R Stored} (chain : List Program) (s : Status) 
     passes = subst (All (WaitsAtPass chain)) (below_frames w t many is) (ready.stands.lawful.sound.calls.waiting f rest ready.on_top)
 
   module _ (new : Brigades R g) (filters : Vec Filter) (waits : Vec ℕ) (w : ℕ) (x : GivesBack chain s (lists store) (lists new) c (with_calls c filters waits) w)
-      (next : next_name new ≡ next_name store) (pools : pool_of new ≡ pool_of store) (refs : references new ≡ references store) (names : NoneRevived (brigade_of store) (brigade_of new) (next_name store))
+      (next : next_name new ≡ next_name store) (pools : pool_of new ≡ pool_of store) (refs : references new ≡ references store)
+      (names : NoneRevived (brigade_of store) (brigade_of new) (next_name store))
       (held : IsHeld new x.ended.instance x.ended.call) where
     abbrev after : Linked
     after = (v.0, conn_of (map_of tree) (lists new) v.1.opened (with_calls c filters waits))
@@ -69,9 +73,11 @@ module _ {R : Type 0} {g : Ghosts R Stored} (chain : List Program) (s : Status) 
     unfolding proceeds
     proceeds_is =
         let left = ready.stands.left in
-        ap (λ (h : Frame). proceeds chain no_reads (instr.Ret s) h rest v) (top_frame chain (instr.Ret s) tree store device c v f rest ready x.top top_is ∙ ap (λ (n : ℕ). shown_frame (runs_of c) (lists store) (c.first + n) (Some x.top)) x.many)
+        ap (λ (h : Frame). proceeds chain no_reads (instr.Ret s) h rest v)
+        (top_frame chain (instr.Ret s) tree store device c v f rest ready x.top top_is ∙ ap (λ (n : ℕ). shown_frame (runs_of c) (lists store) (c.first + n) (Some x.top)) x.many)
         ∙ (ap (λ (fs : List Frame). proceeds chain no_reads (instr.Ret s) (shown_frame (runs_of c) (lists store) (c.first + suc w) (Some x.top)) fs v) (below_frames w x.wait x.many x.below)
-        ∙ (ap (λ (C : Connection). proceeds chain no_reads (instr.Ret s) (shown_frame (runs_of c) (lists store) (c.first + suc w) (Some x.top)) (shown_frame (runs_of c) (lists store) (c.first + w) (Some x.wait) ∷ stack_up (frame_at (lists store) c) c.first w) (v.0, C)) left.seen.conn
+        ∙ (ap (λ (C : Connection). proceeds chain no_reads (instr.Ret s) (shown_frame (runs_of c) (lists store) (c.first + suc w) (Some x.top))
+        (shown_frame (runs_of c) (lists store) (c.first + w) (Some x.wait) ∷ stack_up (frame_at (lists store) c) c.first w) (v.0, C)) left.seen.conn
         ∙ ap went (returned_is chain s (brigade_of store) (lists store) (lists new) (pool_of store) (next_name store) c filters waits w left.stacked x (map_of tree) v.1.opened v.0)))
 
     house : IsHouse new (map_of tree)
@@ -98,8 +104,10 @@ module _ {R : Type 0} {g : Ghosts R Stored} (chain : List Program) (s : Status) 
           formed = left.formed;
           house = house;
           references = subst (λ (r : ℕ → ℕ). Rattle.brigade_ops.specs.House.AreOpen r device) (sym refs) left.references;
-          none = x.rings 0 ∙ (ring_off (lists store) x.top.call.name 0 None (λ e. (let p = runs_top chain s (brigade_of store) (lists store) (lists new) (pool_of store) (next_name store) c filters waits w left.stacked x in omega (arith, p, e))) ∙ left.none);
-          stacked = stacked_back chain s (brigade_of store) (brigade_of new) (lists store) (lists new) (pool_of store) (pool_of new) (next_name store) (next_name new) c filters waits w left.stacked x next pools names held;
+          none = x.rings 0 ∙ (ring_off (lists store) x.top.call.name 0 None
+              (λ e. (let p = runs_top chain s (brigade_of store) (lists store) (lists new) (pool_of store) (next_name store) c filters waits w left.stacked x in omega (arith, p, e))) ∙ left.none);
+          stacked = stacked_back chain s (brigade_of store) (brigade_of new) (lists store) (lists new) (pool_of store) (pool_of new) (next_name store)
+              (next_name new) c filters waits w left.stacked x next pools names held;
         }
 
     pub returning : RefinesStep chain (instr.Ret s) device device v f rest tree new (with_calls c filters waits) stepped.Went

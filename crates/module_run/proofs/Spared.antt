@@ -18,7 +18,7 @@ use Rattle.stored_rings.specs.Items.{Items}
 use Rattle.brigade_ops.specs.Store.{lists, brigade_of, pool_of, references, next_name}
 use Rattle.module_run.specs.declared.conn.Filter.{Filter}
 use Rattle.module_run.specs.declared.conn.Conn.{Conn}
-use Rattle.module_run.specs.Conns.{conn_of, filter_at, call_name, top_of, runs_of, stack_up, shown_frame, shown_filter, counting}
+use Rattle.module_run.specs.Conns.{conn_of, filter_at, call_name, top_of, stack_up, shown_frame, shown_filter, counting}
 use Rattle.module_run.specs.Proceeding.{LeftAs}
 use Rattle.ring_calls.specs.Seen.{is_running}
 use Rattle.module_run.specs.Stacked.{FiltersApart, AreCalled, IsStacked, is_called, is_waiting, names_up}
@@ -66,12 +66,6 @@ module _ (c : Conn) (fs : Vec Filter) (ws : Vec ℕ) (filters : fs.items ≡ c.f
         ∙ sym (names_same c (changed c fs ws) c.first (length ws.items) (λ j low high. ap call_name (at_same j)))));
     quiet = λ idle. ap (λ (ns : List ℕ). length ns) waits ∙ called.quiet idle;
   }
-
-  same_runs : runs_of (changed c fs ws) ≡ runs_of c
-  same_runs =
-      ap (λ (t : ℕ). is_running (call_name (filter_at (changed c fs ws) t)) ws.items) same_top
-      ∙ (ap (λ (o : Option Filter). is_running (call_name o) ws.items) (at_same (top_of c))
-      ∙ ap (is_running (call_name (filter_at c (top_of c)))) waits)
 
   module _ (L M : ℕ → Option Items) (same : (n : ℕ) → M n ≡ L n) where
     shown_spared : (ps : Pools Payload) (opened : ℕ → Option (List ℕ)) → conn_of ps L opened c ≡ conn_of ps M opened (changed c fs ws)

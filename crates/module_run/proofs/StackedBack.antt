@@ -51,7 +51,8 @@ lt_step k t ne = go (nat_lt k t) refl where
   go true e = sym (lt-ltb k (suc t) (let a = ltb-true k t e in omega (arith, a)))
   go false e = sym (le-ltb k (suc t) (let a = Rattle.std.proofs.lemmas.Bool.ltb-false k t e in omega (arith, a, ne)))
 
-module _ (chain : List Program) (s : Status) (at new_at : BucketId → Option ℕ) (L M : ℕ → Option Items) (pools new_pools : ℕ → Option ℕ) (next new_next : ℕ) (c : Conn) (filters : Vec Filter) (waits : Vec ℕ) (w : ℕ)
+module _ (chain : List Program) (s : Status) (at new_at : BucketId → Option ℕ) (L M : ℕ → Option Items) (pools new_pools : ℕ → Option ℕ) (next new_next : ℕ) (c : Conn) (filters : Vec Filter)
+    (waits : Vec ℕ) (w : ℕ)
     (st : StackedOver chain at L pools next c) (x : GivesBack chain s L M c (with_calls c filters waits) w) where
   abbrev d : Conn
   d = with_calls c filters waits
@@ -118,7 +119,8 @@ module _ (chain : List Program) (s : Status) (at new_at : BucketId → Option �
   called_after k = ap (λ (b : Bool). b && (nat_le c.first k && nat_le k (top_of d))) x.busy ∙ ap (λ (n : ℕ). nat_le c.first k && nat_le k n) (top_now chain s at L M pools next c filters waits w st x)
 
   same_called : (k : ℕ) → k ≢ t → is_called d k ≡ is_called c k
-  same_called k ne = called_after k ∙ (ap (λ (b : Bool). nat_le c.first k && b) (le_step k (c.first + w) (λ e. ne (omega (arith, e))) ∙ ap (nat_le k) (let e : suc (c.first + w) ≡ t = omega arith in e)) ∙ sym (called_before chain s at L M pools next c filters waits w st x k))
+  same_called k ne = called_after k ∙ (ap (λ (b : Bool). nat_le c.first k && b) (le_step k (c.first + w) (λ e. ne (omega (arith, e)))
+      ∙ ap (nat_le k) (let e : suc (c.first + w) ≡ t = omega arith in e)) ∙ sym (called_before chain s at L M pools next c filters waits w st x k))
 
   top_over : is_called d t ≡ false
   top_over = called_after t ∙ (ap (λ (b : Bool). nat_le c.first t && b) (lt-leb t (c.first + w) (omega arith)) ∙ and_false (nat_le c.first t))
@@ -127,7 +129,8 @@ module _ (chain : List Program) (s : Status) (at new_at : BucketId → Option �
   waiting_now k = ap (λ (n : ℕ). nat_le c.first k && nat_lt k n) (top_now chain s at L M pools next c filters waits w st x)
 
   same_waiting : (k : ℕ) → k ≢ c.first + w → is_waiting d k ≡ is_waiting c k
-  same_waiting k ne = waiting_now k ∙ (ap (λ (b : Bool). nat_le c.first k && b) (lt_step k (c.first + w) ne ∙ ap (nat_lt k) (let e : suc (c.first + w) ≡ t = omega arith in e)) ∙ sym (waited chain s at L M pools next c filters waits w st x k))
+  same_waiting k ne = waiting_now k ∙ (ap (λ (b : Bool). nat_le c.first k && b) (lt_step k (c.first + w) ne ∙ ap (nat_lt k) (let e : suc (c.first + w) ≡ t = omega arith in e))
+      ∙ sym (waited chain s at L M pools next c filters waits w st x k))
 
   wait_over : is_waiting d (c.first + w) ≡ false
   wait_over = waiting_now (c.first + w) ∙ (ap (λ (b : Bool). nat_le c.first (c.first + w) && b) (le-ltb (c.first + w) (c.first + w) (omega arith)) ∙ and_false (nat_le c.first (c.first + w)))
@@ -150,8 +153,10 @@ module _ (chain : List Program) (s : Status) (at new_at : BucketId → Option �
 
   apart_after : FiltersApart d
   apart_after = record {
-    own = λ i j a b m f e low high is_i is_j n_i n_j. st.apart.own i j a b m (came i f is_i).0 (came j e is_j).0 low high (came i f is_i).1.was (came j e is_j).1.was ((came i f is_i).1.names a m n_i) ((came j e is_j).1.names b m n_j);
-    later = λ i j b m f e lt low is_i is_j n_i n_j. st.apart.later i j b m (came i f is_i).0 (came j e is_j).0 lt low (came i f is_i).1.was (came j e is_j).1.was ((came i f is_i).1.names 8 m n_i) ((came j e is_j).1.names b m n_j);
+    own = λ i j a b m f e low high is_i is_j n_i n_j. st.apart.own i j a b m (came i f is_i).0 (came j e is_j).0 low high (came i f is_i).1.was (came j e is_j).1.was
+        ((came i f is_i).1.names a m n_i) ((came j e is_j).1.names b m n_j);
+    later = λ i j b m f e lt low is_i is_j n_i n_j. st.apart.later i j b m (came i f is_i).0 (came j e is_j).0 lt low (came i f is_i).1.was (came j e is_j).1.was ((came i f is_i).1.names 8 m n_i)
+        ((came j e is_j).1.names b m n_j);
     handed = handed;
     loose = loose;
     calls = calls;
@@ -173,7 +178,8 @@ module _ (chain : List Program) (s : Status) (at new_at : BucketId → Option �
     loose : (i j b : ℕ) (f e : Filter) → filter_at d i ≡ Some f → filter_at d j ≡ Some e → named_at f b ≢ Some e.call.name
     loose i j b f e is_i is_j named = elim (cases_eq j t) [
       | inl same ↦ real_name i b (came i f is_i).0 (came i f is_i).1.was ((came i f is_i).1.names b 0 (named ∙ ap (λ (n : ℕ). Some n) ((came j e is_j).1.none same)))
-      | inr ne ↦ st.apart.loose i j b (came i f is_i).0 (came j e is_j).0 (came i f is_i).1.was (came j e is_j).1.was ((came i f is_i).1.names b _ (named ∙ ap (λ (n : ℕ). Some n) ((came j e is_j).1.name ne)))
+      | inr ne ↦ st.apart.loose i j b (came i f is_i).0 (came j e is_j).0 (came i f is_i).1.was (came j e is_j).1.was
+          ((came i f is_i).1.names b _ (named ∙ ap (λ (n : ℕ). Some n) ((came j e is_j).1.name ne)))
     ]
 
     calls : (i j : ℕ) (f e : Filter) → filter_at d i ≡ Some f → filter_at d j ≡ Some e → 0 < f.call.name → f.call.name ≡ e.call.name → i ≡ j
@@ -194,7 +200,8 @@ module _ (chain : List Program) (s : Status) (at new_at : BucketId → Option �
     passed = passed;
     inward = inward;
     incoming = incoming;
-    waits = x.waits ∙ (sym (names_same c d c.first w (λ j from below. ap call_name (x.others j (λ e. omega (arith, e, below)) (λ e. omega (arith, e, below))))) ∙ ap (names_up d c.first) (sym (waiting_after chain s at L M pools next c filters waits w st x)));
+    waits = x.waits ∙ (sym (names_same c d c.first w (λ j from below. ap call_name (x.others j (λ e. omega (arith, e, below)) (λ e. omega (arith, e, below)))))
+        ∙ ap (names_up d c.first) (sym (waiting_after chain s at L M pools next c filters waits w st x)));
     quiet = λ quiet. absurd (false≢true (sym quiet ∙ x.busy));
   } where
     runs : (k : ℕ) (f : Filter) → filter_at d k ≡ Some f → is_called d k ≡ true → 0 < f.call.name
@@ -250,7 +257,8 @@ module _ (chain : List Program) (s : Status) (at new_at : BucketId → Option �
     held_wait : HeldOver new_at M new_pools new_next x.resumed.instance x.resumed.call
     unfolding Rattle.ring_calls.specs.Slots.cursor_at
     held_wait = subst (λ (i : Instance). HeldOver new_at M new_pools new_next i x.resumed.call) (sym x.instance)
-        (held_cursors new_at M new_pools new_next x.wait.instance x.wait.call x.resumed.call (ap (λ (k : Call). k.name) x.call) (λ n. ap (λ (k : Call). Rattle.ring_calls.specs.Slots.cursor_at k n) x.call)
+        (held_cursors new_at M new_pools new_next x.wait.instance x.wait.call x.resumed.call (ap (λ (k : Call). k.name) x.call)
+        (λ n. ap (λ (k : Call). Rattle.ring_calls.specs.Slots.cursor_at k n) x.call)
         (held_same (c.first + w) x.wait x.below (λ e. omega (arith, e))))
 
     held_each : (k : ℕ) (f : Filter) → filter_at d k ≡ Some f → HeldOver new_at M new_pools new_next f.instance f.call

@@ -47,10 +47,12 @@ module _ {R : Type 0} {g : Ghosts R Stored} where
         (subst (λ (on : ℕ → Option ℕ). StackedOver chain (brigade_of old) (lists old) on (next_name new) c) (sym pools)
         (subst (λ (n : ℕ). StackedOver chain (brigade_of old) (lists old) (pool_of old) n c) (sym next) stacked)))
 
-    pub left_same : (chain : List Program) (tree newer : PoolTree Payload) (d : Device) (c : Conn) (v : Linked) → map_of newer ≡ map_of tree → references new ≡ references old → LeftAs chain tree old d c v → LeftAs chain newer new d c v
+    pub left_same : (chain : List Program) (tree newer : PoolTree Payload) (d : Device) (c : Conn) (v : Linked) → map_of newer ≡ map_of tree → references new ≡ references old
+        → LeftAs chain tree old d c v → LeftAs chain newer new d c v
     left_same chain tree newer d c v map refs left = record {
       seen = subst (λ (ps : Pools Payload). IsSeenAs ps (lists new) (next_name new) c v) (sym map)
-          (subst (λ (rings : ℕ → Option Items). IsSeenAs (map_of tree) rings (next_name new) c v) (sym (fun_ext same)) (subst (λ (n : ℕ). IsSeenAs (map_of tree) (lists old) n c v) (sym next) left.seen));
+          (subst (λ (rings : ℕ → Option Items). IsSeenAs (map_of tree) rings (next_name new) c v) (sym (fun_ext same))
+          (subst (λ (n : ℕ). IsSeenAs (map_of tree) (lists old) n c v) (sym next) left.seen));
       opens = left.opens;
       formed = subst IsPoolMap (sym map) left.formed;
       house = subst (λ (ps : Pools Payload). IsHouse new ps) (sym map) (house_still old new (map_of tree) pools refs left.house (λ n. ap is_some (same n)));

@@ -17,14 +17,17 @@ none_counted test xs none = go (count_by test xs) refl where
   go zero e = e
   go (suc n) e = absurd (let some = any_some test xs (omega (arith, e)) in let both : true ≡ false = sym some ∙ none in cc)
 
-none_handed : (ps : Pools Payload) → IsPoolMap ps → (pool : ℕ) → is_live ps pool ≡ true → (file : ℕ) → ((p : ℕ) → is_under ps pool p ≡ true → refers ps p file ≡ false) → list_any (λ (x : ℕ × Payload). is_file_ref file x.1) (run_order ps pool) ≡ false
+none_handed : (ps : Pools Payload) → IsPoolMap ps → (pool : ℕ) → is_live ps pool ≡ true → (file : ℕ) → ((p : ℕ) → is_under ps pool p ≡ true → refers ps p file ≡ false)
+    → list_any (λ (x : ℕ × Payload). is_file_ref file x.1) (run_order ps pool) ≡ false
 none_handed ps formed pool live file none =
     any_none (λ (x : ℕ × Payload). is_file_ref file x.1) (run_order ps pool)
-    (run_counted (is_file_ref file) ps formed pool live ∙ all_none ps.next (λ p. cond (is_under ps pool p) (count_by (is_file_ref file) (ps.payloads p)) 0) (λ p lt. none_at p (is_under ps pool p) refl)) where
+    (run_counted (is_file_ref file) ps formed pool live
+    ∙ all_none ps.next (λ p. cond (is_under ps pool p) (count_by (is_file_ref file) (ps.payloads p)) 0) (λ p lt. none_at p (is_under ps pool p) refl)) where
       none_at : (p : ℕ) (b : Bool) → is_under ps pool p ≡ b → cond b (count_by (is_file_ref file) (ps.payloads p)) 0 ≡ 0
       none_at p true under = none_counted (is_file_ref file) (ps.payloads p) (none p under)
       none_at p false under = refl
 
-pub unreferred_stays : (ps : Pools Payload) → IsPoolMap ps → (pool : ℕ) → is_live ps pool ≡ true → (file : ℕ) → ((p : ℕ) → is_under ps pool p ≡ true → refers ps p file ≡ false) → (left : Bool) (now before : Held)
+pub unreferred_stays : (ps : Pools Payload) → IsPoolMap ps → (pool : ℕ) → is_live ps pool ≡ true → (file : ℕ) → ((p : ℕ) → is_under ps pool p ≡ true → refers ps p file ≡ false)
+    → (left : Bool) (now before : Held)
     → now ≡ (if list_any (λ (x : ℕ × Payload). is_file_ref file x.1) (run_order ps pool) && not left then Missing else before) → now ≡ before
 unreferred_stays ps formed pool live file none left now before is = is ∙ ap (λ (t : Bool). if t && not left then Missing else before) (none_handed ps formed pool live file none)

@@ -19,6 +19,7 @@ mod conn_return_to_caller;
 mod conn_rings;
 mod conn_run;
 mod conn_step;
+mod conn_step_in_store;
 mod conn_take;
 mod filter_calls;
 mod look;

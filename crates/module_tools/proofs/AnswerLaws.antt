@@ -20,7 +20,8 @@ front_of P out e n is =
     (drop n out, e, subst Q (sym (take-append-drop n out)) is)
 
 -- What a reader gave up to its end is all that it had.
-pub writes_all : (P : List ℕ → List ℕ → Type 0) (old rest w v : Option (List ℕ)) (script read : List ℕ) → Consumes old rest read → IsAtEnd rest → script ≡ read → ((text : List ℕ) × P script text × Appends w v text) → Writes old w v P
+pub writes_all : (P : List ℕ → List ℕ → Type 0) (old rest w v : Option (List ℕ)) (script read : List ℕ) → Consumes old rest read → IsAtEnd rest → script ≡ read
+    → ((text : List ℕ) × P script text × Appends w v text) → Writes old w v P
 writes_all P None rest w v script read c e same t = tt
 writes_all P (Some xs) None w v script read c e same t = absurd c
 writes_all P (Some xs) (Some ys) w v script read c e same (text, is, appends) =
@@ -28,28 +29,34 @@ writes_all P (Some xs) (Some ys) w v script read c e same (text, is, appends) =
     (text, subst Q (same ∙ sym (append-nil read) ∙ ap (λ l. read ++ l) (sym e) ∙ sym c) is, appends)
 
 -- Where the writer failed, what it took is a front of the answer to all that the reader had.
-pub writes_front : (P : List ℕ → List ℕ → Ended → Type 0) (old rest w v : Option (List ℕ)) (script read out : List ℕ) (e : Ended) (r : Result Ended PlayFault) → Consumes old rest read → IsAtEnd rest → script ≡ read → P script out e → WritesText w v out r → r ≡ Err fault.Write → Writes old w v (λ text out. IsOutputFront (P text) out)
+pub writes_front : (P : List ℕ → List ℕ → Ended → Type 0) (old rest w v : Option (List ℕ)) (script read out : List ℕ) (e : Ended) (r : Result Ended PlayFault) → Consumes old rest read
+    → IsAtEnd rest → script ≡ read → P script out e → WritesText w v out r → r ≡ Err fault.Write → Writes old w v (λ text out. IsOutputFront (P text) out)
 writes_front P old rest w v script read out e r taken end same is front failed =
     let Q : Result Ended PlayFault → Type 0 = λ x. WritesText w v out x in
     let f : Q (Err fault.Write) = subst Q failed front in
     writes_all (λ text out. IsOutputFront (P text) out) old rest w v script read taken end same (take f.0 out, front_of (P script) out e f.0 is, f.2)
 
 -- Where the writer took all, it is the answer to all that the reader had.
-pub writes_answer : (P : List ℕ → List ℕ → Ended → Type 0) (old rest w v : Option (List ℕ)) (script read out : List ℕ) (e : Ended) (r : Result Ended PlayFault) → Consumes old rest read → IsAtEnd rest → script ≡ read → P script out e → IfOk r (λ x. x ≡ e) → WritesText w v out r → IfOk r (λ x. Writes old w v (λ text t. P text t x))
+pub writes_answer : (P : List ℕ → List ℕ → Ended → Type 0) (old rest w v : Option (List ℕ)) (script read out : List ℕ) (e : Ended) (r : Result Ended PlayFault) → Consumes old rest read
+    → IsAtEnd rest → script ≡ read → P script out e → IfOk r (λ x. x ≡ e) → WritesText w v out r → IfOk r (λ x. Writes old w v (λ text t. P text t x))
 writes_answer P old rest w v script read out e (Ok x) taken end same is told appends =
     let Q : Ended → Type 0 = λ y. P script out y in
     writes_all (λ text t. P text t x) old rest w v script read taken end same (out, subst Q (sym told) is, appends)
 writes_answer P old rest w v script read out e (Err f) taken end same is told wrote = tt
 
 -- The same of two readers, of which the second is known where this is.
-pub writes_second : (P : List ℕ → List ℕ → List ℕ → Ended → Type 0) (second old rest w v : Option (List ℕ)) (script read out : List ℕ) (e : Ended) (r : Result Ended PlayFault) → Consumes old rest read → IsAtEnd rest → script ≡ read → IfSome second (λ s. P s script out e) → IfOk r (λ x. x ≡ e) → WritesText w v out r → IfOk r (λ x. IfSome second (λ s. Writes old w v (λ text t. P s text t x)))
+pub writes_second : (P : List ℕ → List ℕ → List ℕ → Ended → Type 0) (second old rest w v : Option (List ℕ)) (script read out : List ℕ) (e : Ended) (r : Result Ended PlayFault)
+    → Consumes old rest read → IsAtEnd rest → script ≡ read → IfSome second (λ s. P s script out e) → IfOk r (λ x. x ≡ e) → WritesText w v out r
+    → IfOk r (λ x. IfSome second (λ s. Writes old w v (λ text t. P s text t x)))
 writes_second P None old rest w v script read out e (Ok x) taken end same is told wrote = tt
 writes_second P None old rest w v script read out e (Err f) taken end same is told wrote = tt
 writes_second P (Some s) old rest w v script read out e (Ok x) taken end same is told wrote =
     writes_answer (P s) old rest w v script read out e (Ok x) taken end same is told wrote
 writes_second P (Some s) old rest w v script read out e (Err f) taken end same is told wrote = tt
 
-pub writes_second_front : (P : List ℕ → List ℕ → List ℕ → Ended → Type 0) (second old rest w v : Option (List ℕ)) (script read out : List ℕ) (e : Ended) (r : Result Ended PlayFault) → Consumes old rest read → IsAtEnd rest → script ≡ read → IfSome second (λ s. P s script out e) → WritesText w v out r → r ≡ Err fault.Write → IfSome second (λ s. Writes old w v (λ text t. IsOutputFront (P s text) t))
+pub writes_second_front : (P : List ℕ → List ℕ → List ℕ → Ended → Type 0) (second old rest w v : Option (List ℕ)) (script read out : List ℕ) (e : Ended) (r : Result Ended PlayFault)
+    → Consumes old rest read → IsAtEnd rest → script ≡ read → IfSome second (λ s. P s script out e) → WritesText w v out r → r ≡ Err fault.Write
+    → IfSome second (λ s. Writes old w v (λ text t. IsOutputFront (P s text) t))
 writes_second_front P None old rest w v script read out e r taken end same is front failed = tt
 writes_second_front P (Some s) old rest w v script read out e r taken end same is front failed =
     writes_front (P s) old rest w v script read out e r taken end same is front failed
@@ -67,11 +74,13 @@ of_any P None all = tt
 of_any P (Some xs) all = all xs
 
 -- The fault of a certificate text is what is answered of it and any module.
-pub tells_cert_fault : {E : Type 0} (q : Result CommandOutput E) (text : List ℕ) (p : Program) (r : CertRefusal) → IsTold text r → IfOk q (λ a. TellsCertFault r a.text.items a.ended) → IfOk q (λ a. IsCheckOf text p a.text.items a.ended)
+pub tells_cert_fault : {E : Type 0} (q : Result CommandOutput E) (text : List ℕ) (p : Program) (r : CertRefusal) → IsTold text r → IfOk q (λ a. TellsCertFault r a.text.items a.ended)
+    → IfOk q (λ a. IsCheckOf text p a.text.items a.ended)
 tells_cert_fault (Ok a) text p r told tells = inr (r, told, tells)
 tells_cert_fault (Err e) text p r told tells = tt
 
 -- The verdict on a certificate text is what is answered of it.
-pub tells_verdict : {E : Type 0} (q : Result CommandOutput E) (text : List ℕ) (p : Program) (c : Cert) → IsCertText text c.slim (seen_cert c) → IfOk q (λ a. IsVerdict p c a.text.items a.ended) → IfOk q (λ a. IsCheckOf text p a.text.items a.ended)
+pub tells_verdict : {E : Type 0} (q : Result CommandOutput E) (text : List ℕ) (p : Program) (c : Cert) → IsCertText text c.slim (seen_cert c) → IfOk q (λ a. IsVerdict p c a.text.items a.ended)
+    → IfOk q (λ a. IsCheckOf text p a.text.items a.ended)
 tells_verdict (Ok a) text p c is tells = inl (c, is, tells)
 tells_verdict (Err e) text p c is tells = tt

@@ -17,4 +17,5 @@ pub any_below_some : (n k : ℕ) (p : ℕ → Bool) → k < n → p k ≡ true �
 unfolding any_below
 any_below_some zero k p below here = absurd (omega arith)
 any_below_some (suc n) k p below here =
-    ⊎_elim (λ (same : k ≡ n). ap (λ b. b || any_below n p) (subst (λ (m : ℕ). p m ≡ true) same here)) (λ (other : k ≡ n → ⊥). ap (λ b. p n || b) (any_below_some n k p (omega arith) here) ∙ or_true (p n)) (cases_eq k n)
+    ⊎_elim (λ (same : k ≡ n). ap (λ b. b || any_below n p) (subst (λ (m : ℕ). p m ≡ true) same here))
+    (λ (other : k ≡ n → ⊥). ap (λ b. p n || b) (any_below_some n k p (omega arith) here) ∙ or_true (p n)) (cases_eq k n)

@@ -9,7 +9,8 @@ use Rattle.pool_tree.specs.Records.{names, changed, parent_of, newest_of, older_
 use Rattle.pool_tree.specs.Links.{IsChildAdded, HasNeighbours, IsRemoved}
 use Rattle.pool_tree.proofs.Newest.{named_is}
 
-keep_link : {T : Type 0} (g : Pool T → Option ℕ) (f : Pool T → Pool T) → ((q : Pool T) → g (f q) ≡ g q) → (b : Bool) (o : Option (Pool T)) → option_and_then g (if b then option_map f o else o) ≡ option_and_then g o
+keep_link : {T : Type 0} (g : Pool T → Option ℕ) (f : Pool T → Pool T) → ((q : Pool T) → g (f q) ≡ g q) → (b : Bool) (o : Option (Pool T))
+    → option_and_then g (if b then option_map f o else o) ≡ option_and_then g o
 keep_link g f same false o = refl
 keep_link g f same true None = refl
 keep_link g f same true (Some q) = same q

@@ -80,7 +80,8 @@ module _ {T : Type 0} (root next p : ℕ) (goes : ℕ → Bool) (old new : ℕ �
                 was,
                 (
                   is q ∙ ap (λ b. b && not (q == p)) aside,
-                  λ e. both_ways (is_under (map_at next old) p q) aside (subst (λ k. is_under (map_at next old) p k ≡ true) (sym e) (under_itself (map_at next old) (formed root next old linked) p map_live)),
+                  λ e. both_ways (is_under (map_at next old) p q) aside
+                      (subst (λ k. is_under (map_at next old) p k ≡ true) (sym e) (under_itself (map_at next old) (formed root next old linked) p map_live)),
                 ),
               ),
             )
@@ -232,7 +233,8 @@ module _ {T : Type 0} (root next p : ℕ) (goes : ℕ → Bool) (old new : ℕ �
       map_payloads root next new cleared_linked n ∙ clear.payloads n
       ∙ rw (map_payloads root next old linked n) (elim (cases_eq n p) [
         | inl here ↦
-            let under : is_under (map_at next old) p n ≡ true = subst (λ k. is_under (map_at next old) p k ≡ true) (sym here) (under_itself (map_at next old) (formed root next old linked) p map_live) in
+            let under : is_under (map_at next old) p n ≡ true =
+            subst (λ k. is_under (map_at next old) p k ≡ true) (sym here) (under_itself (map_at next old) (formed root next old linked) p map_live) in
             let stay : goes n ≡ false = ap goes here ∙ stays in
             rw (stay, eq-eqb n p here, under)
         | inr apart ↦

@@ -15,7 +15,8 @@ gone_link : {T : Type 0} (g : Pool T → Option ℕ) (b : Bool) (o : Option (Poo
 gone_link g true o = refl
 gone_link g false o = refl
 
-gone_newest : {T : Type 0} (g : Pool T → Option ℕ) (b here : Bool) (o : Option (Pool T)) → (if here then None else option_and_then g (if b then None else o)) ≡ (if b then None else if here then None else option_and_then g o)
+gone_newest : {T : Type 0} (g : Pool T → Option ℕ) (b here : Bool) (o : Option (Pool T))
+    → (if here then None else option_and_then g (if b then None else o)) ≡ (if b then None else if here then None else option_and_then g o)
 gone_newest g true true o = refl
 gone_newest g true false o = refl
 gone_newest g false true o = refl

@@ -1,5 +1,6 @@
 -- The walk goes on where the text does.
-use Rattle.std.specs.Prelude.{◌≡◌, ℕ, zero, suc, ◌+◌, ◌-◌, ◌<◌, ◌≤◌, Bool, true, false, ◌==◌, not, if◌then◌else◌, Option, None, Some, MatchOption, IfSome, codes, decimal, List, [], ◌∷◌, ◌++◌, reverse, length, refl}
+use Rattle.std.specs.Prelude.{◌≡◌, ℕ, zero, suc, ◌+◌, ◌-◌, ◌<◌, ◌≤◌, Bool, true, false, ◌==◌, not, if◌then◌else◌, Option, None, Some, MatchOption, IfSome, codes, decimal, List, [], ◌∷◌, ◌++◌, reverse}
+use Rattle.std.specs.Prelude.{length, refl}
 use Rattle.std.specs.List.{flat_map}
 use Rattle.std.proofs.Common.{sym, ◌∙◌, ap, subst, inl, inr, arith}
 use Rattle.std.proofs.lemmas.List.{append-nil, append_assoc, append_cancel_left, length-append}
@@ -44,14 +45,16 @@ module _ {T : Type 0} (tree : PoolTree T) where
 
   from_same : (pool k l : ℕ) (o : Option ℕ) → IsChildOf pool o → still tree.next o ≤ k → still tree.next o ≤ l → from_on k (record_of tree.records) o ≡ from_on l (record_of tree.records) o
   from_same pool k l o child first second =
-      append_cancel_left (reverse (done tree pool o)) (from_on k (record_of tree.records) o) (from_on l (record_of tree.records) o) (from_whole pool k o child first ∙ sym (from_whole pool l o child second))
+      append_cancel_left (reverse (done tree pool o)) (from_on k (record_of tree.records) o) (from_on l (record_of tree.records) o)
+      (from_whole pool k o child first ∙ sym (from_whole pool l o child second))
 
   still_low : (o : Option ℕ) → still tree.next o ≤ tree.next
   still_low None = omega arith
   still_low (Some c) = omega arith
 
   -- one, and the younger ones
-  from_step : (pool c : ℕ) → parent_of (record_of tree.records) c ≡ Some pool → from_on tree.next (record_of tree.records) (Some c) ≡ c ∷ from_on tree.next (record_of tree.records) (younger_of (record_of tree.records) c)
+  from_step : (pool c : ℕ) → parent_of (record_of tree.records) c ≡ Some pool
+      → from_on tree.next (record_of tree.records) (Some c) ≡ c ∷ from_on tree.next (record_of tree.records) (younger_of (record_of tree.records) c)
   unfolding from_on IsChildOf
   from_step pool c at = go tree.next refl where
     younger : Option ℕ
@@ -113,7 +116,8 @@ module _ {T : Type 0} (tree : PoolTree T) where
         sym (behind_child n p at apart ∙ ap (λ (xs : List ℕ). flat_map (text (level n)) xs ++ behind p) (ap (from_on tree.next (record_of tree.records)) none ∙ from_none tree.next))
 
     -- the next younger one comes
-    pub behind_beside : (n p y : ℕ) → parent_of (record_of tree.records) n ≡ Some p → (n ≡ top → ⊥) → (y ≡ top → ⊥) → younger_of (record_of tree.records) n ≡ Some y → text_left text tree top start (Some (y, level n)) ≡ behind n
+    pub behind_beside : (n p y : ℕ) → parent_of (record_of tree.records) n ≡ Some p → (n ≡ top → ⊥) → (y ≡ top → ⊥) → younger_of (record_of tree.records) n ≡ Some y
+        → text_left text tree top start (Some (y, level n)) ≡ behind n
     behind_beside n p y at apart apart_y young =
         let at_y = (younger_child tree p n y at young).0 in
         let same : level y ≡ level n = level_child y p at_y apart_y ∙ sym (level_child n p at apart) in
@@ -123,14 +127,16 @@ module _ {T : Type 0} (tree : PoolTree T) where
         ∙ (ap (λ (xs : List ℕ). flat_map (text (level n)) xs ++ behind p) (sym all) ∙ sym (behind_child n p at apart)))
 
     -- below a pool its oldest child comes, and what is behind that
-    pub behind_below : (n o : ℕ) → MatchOption (Some o) (newest_of (record_of tree.records) n ≡ None) (λ c. (parent_of (record_of tree.records) c ≡ Some n) × (older_of (record_of tree.records) c ≡ None)) → (o ≡ top → ⊥)
+    pub behind_below : (n o : ℕ)
+        → MatchOption (Some o) (newest_of (record_of tree.records) n ≡ None) (λ c. (parent_of (record_of tree.records) c ≡ Some n) × (older_of (record_of tree.records) c ≡ None)) → (o ≡ top → ⊥)
         → text_left text tree top start (Some (o, level n + 1)) ≡ flat_map (text (level n + 1)) (reverse (children (map_of tree) n)) ++ behind n
     unfolding IsChildOf
     behind_below n o first apart =
         let at = first.0 in
         let none : done tree n (Some o) ≡ [] = done_start tree n (Some o) first in
         let all : o ∷ younger_from o ≡ reverse (children (map_of tree) n)
-        = sym (from_step n o at) ∙ (sym (ap (λ (xs : List ℕ). reverse xs ++ from_on tree.next (record_of tree.records) (Some o)) none) ∙ from_whole n tree.next (Some o) (λ c is. oldest_is tree n c (Some o) first is) (still_low (Some o))) in
+        = sym (from_step n o at) ∙ (sym (ap (λ (xs : List ℕ). reverse xs ++ from_on tree.next (record_of tree.records) (Some o)) none)
+        ∙ from_whole n tree.next (Some o) (λ c is. oldest_is tree n c (Some o) first is) (still_low (Some o))) in
         ap (λ (xs : List ℕ). text (level n + 1) o ++ xs) (behind_child o n at apart ∙ ap (λ (l : ℕ). flat_map (text l) (younger_from o) ++ behind n) (level_child o n at apart))
         ∙ (sym (append_assoc (text (level n + 1) o) (flat_map (text (level n + 1)) (younger_from o)) (behind n))
         ∙ ap (λ (xs : List ℕ). flat_map (text (level n + 1)) xs ++ behind n) all)
@@ -191,7 +197,8 @@ module _ {T : Type 0} (tree : PoolTree T) where
         )
 
     -- the next younger one beside a place
-    pub place_beside : (n level p y : ℕ) → IsPlace tree top start n level → (n ≡ top → ⊥) → parent_of (record_of tree.records) n ≡ Some p → younger_of (record_of tree.records) n ≡ Some y → IsPlace tree top start y level × (y ≡ top → ⊥)
+    pub place_beside : (n level p y : ℕ) → IsPlace tree top start n level → (n ≡ top → ⊥) → parent_of (record_of tree.records) n ≡ Some p → younger_of (record_of tree.records) n ≡ Some y
+        → IsPlace tree top start y level × (y ≡ top → ⊥)
     place_beside n level p y at apart up young =
         let beside = (younger_child tree p n y up young).0 in
         let above = place_child p (level - 1) y (place_above n level p at apart up) beside in

@@ -93,7 +93,8 @@ first_placed above n m xs None at = cc
 first_placed above n m xs (Some None) at = cc
 first_placed above n m xs (Some (Some p)) at = cc
 
-rest_placed : (above : ℕ → List ℕ) (n m p : ℕ) (xs : List ℕ) → ((q k : ℕ) (ys : List ℕ) → above q ≡ k ∷ ys → k ≡ q) → (place : Option (Option ℕ)) → placed_path above n place ≡ m ∷ p ∷ xs → (place ≡ Some (Some p)) × (above p ≡ p ∷ xs)
+rest_placed : (above : ℕ → List ℕ) (n m p : ℕ) (xs : List ℕ) → ((q k : ℕ) (ys : List ℕ) → above q ≡ k ∷ ys → k ≡ q) → (place : Option (Option ℕ)) → placed_path above n place ≡ m ∷ p ∷ xs
+    → (place ≡ Some (Some p)) × (above p ≡ p ∷ xs)
 rest_placed above n m p xs first None at = cc
 rest_placed above n m p xs first (Some None) at = cc
 rest_placed above n m p xs first (Some (Some q)) at =
@@ -114,7 +115,8 @@ top_placed above n k (Some pool) closed at = under pool.parent closed at
         let bad : true ≡ false = sym (closed q refl) ∙ ap (λ xs. not (is_empty xs)) rest in
         cc
 
-bare_placed : {T : Type 0} (above : ℕ → List ℕ) (n : ℕ) (pool : Option (Pool T)) → placed_path above n (option_map (λ pool. pool.parent) pool) ≡ [] → option_map_or (λ pool. pool.payloads.items) pool [] ≡ []
+bare_placed : {T : Type 0} (above : ℕ → List ℕ) (n : ℕ) (pool : Option (Pool T)) → placed_path above n (option_map (λ pool. pool.parent) pool) ≡ []
+    → option_map_or (λ pool. pool.payloads.items) pool [] ≡ []
 bare_placed above n None at = refl
 bare_placed above n (Some pool) at = some pool.parent at
   where
@@ -192,7 +194,8 @@ place_by None = refl
 place_by (Some pool) = refl
 
 -- the place of a pool is told by whether it is there and by its link to the pool above
-pub place_same : {T : Type 0} (records records' : ℕ → Option (Pool T)) (n m : ℕ) → is_some (records n) ≡ is_some (records' m) → parent_of records n ≡ parent_of records' m → place_of records n ≡ place_of records' m
+pub place_same : {T : Type 0} (records records' : ℕ → Option (Pool T)) (n m : ℕ) → is_some (records n) ≡ is_some (records' m) → parent_of records n ≡ parent_of records' m
+    → place_of records n ≡ place_of records' m
 place_same records records' n m live parent =
     place_by (records n) ∙ ap (λ b. if b then Some (parent_of records n) else None) live ∙ ap (λ o. if is_some (records' m) then Some o else None) parent ∙ sym (place_by (records' m))
 

@@ -21,7 +21,8 @@ use Rattle.pool_tree.proofs.Walks.{children_from, children_start, children_rest}
 pub turned_more : (f : ℕ → List ℕ) (c : ℕ) (xs : List ℕ) → flat_map f (reverse (c ∷ xs)) ≡ flat_map f (reverse xs) ++ f c
 turned_more f c xs = ap (flat_map f) (reverse-append (c ∷ []) xs) ∙ flat_map-append f (reverse xs) (c ∷ []) ∙ ap (λ ys. flat_map f (reverse xs) ++ ys) (append-nil (f c))
 
-pub turned_same : {T : Type 0} (ps : Pools T) (p : ℕ) (f g : ℕ → List ℕ) → ((c : ℕ) → is_child ps p c ≡ true → f c ≡ g c) → (m : ℕ) → flat_map f (reverse (children_below ps p m)) ≡ flat_map g (reverse (children_below ps p m))
+pub turned_same : {T : Type 0} (ps : Pools T) (p : ℕ) (f g : ℕ → List ℕ) → ((c : ℕ) → is_child ps p c ≡ true → f c ≡ g c) → (m : ℕ)
+    → flat_map f (reverse (children_below ps p m)) ≡ flat_map g (reverse (children_below ps p m))
 unfolding children_below
 turned_same ps p f g same zero = refl
 turned_same ps p f g same (suc m) =

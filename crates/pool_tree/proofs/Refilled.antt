@@ -94,7 +94,8 @@ last_at test xs i y at is =
     let some = last_some test (take i xs) y (drop (suc i) xs) (ap test is ∙ at.passes y) at.behind in
     (sym (ap (last_that test) split) ∙ some.0, sym (ap (without_last test) split) ∙ some.1)
 
-pub last_found : {X : Type 0} (test : X → Bool) (xs : List X) (i : ℕ) (y : X) → 0 < i → i ≤ length xs → y ≡ get_or xs (i - 1) y → test y ≡ true → list_any test (drop i xs) ≡ false → IsLastAt test xs (i - 1)
+pub last_found : {X : Type 0} (test : X → Bool) (xs : List X) (i : ℕ) (y : X) → 0 < i → i ≤ length xs → y ≡ get_or xs (i - 1) y → test y ≡ true → list_any test (drop i xs) ≡ false
+    → IsLastAt test xs (i - 1)
 last_found test xs i y some low is passes behind =
     let within : i - 1 < length xs = omega arith in
     let e : suc (i - 1) ≡ i = omega arith in

@@ -133,7 +133,8 @@ module _ {T : Type 0} (root next p q : ℕ) (old new : ℕ → Option (Pool T)) 
       ]
 
   -- the links of the others: past p, or as they were
-  newest_cases : (r : ℕ) → (r ≡ p → ⊥) → (((r ≡ q) × ((younger_of old p ≡ None) × (newest_of new r ≡ older_of old p))) ⊎ (((r ≡ q) → younger_of old p ≡ None → ⊥) × (newest_of new r ≡ newest_of old r)))
+  newest_cases : (r : ℕ) → (r ≡ p → ⊥)
+      → (((r ≡ q) × ((younger_of old p ≡ None) × (newest_of new r ≡ older_of old p))) ⊎ (((r ≡ q) → younger_of old p ≡ None → ⊥) × (newest_of new r ≡ newest_of old r)))
   newest_cases r apart =
       let at : newest_of new r ≡ (if names (parent_of old p) r && not (is_some (younger_of old p)) then older_of old p else newest_of old r)
       = removed.newest r ∙ ap (λ b. if b then None else if names (parent_of old p) r && not (is_some (younger_of old p)) then older_of old p else newest_of old r) (ne_eqb r p apart) in

@@ -70,7 +70,8 @@ module _ {T : Type 0} (tree : PoolTree T) where
       → run_order (map_of tree) pool ≡ flat_map (own_of (record_of tree.records)) (reverse names) ++ own_of (record_of tree.records) pool
   run_by_records pool names live under =
       run_order_step (map_of tree) (tree_formed tree) pool live
-      ∙ rw (under, own_is pool) (ap (λ xs. xs ++ own_of (record_of tree.records) pool) (own_same_list (own_run (map_of tree)) (own_of (record_of tree.records)) own_is (order_under (map_of tree) pool)))
+      ∙ rw (under, own_is pool)
+      (ap (λ xs. xs ++ own_of (record_of tree.records) pool) (own_same_list (own_run (map_of tree)) (own_of (record_of tree.records)) own_is (order_under (map_of tree) pool)))
 
   pub run_parts : (pool : ℕ) (names : List ℕ) → is_live (map_of tree) pool ≡ true → reverse names ≡ order_under (map_of tree) pool
       → length (run_order (map_of tree) pool) ≡ length (flat_map (own_of (record_of tree.records)) (reverse names)) + length (own_of (record_of tree.records) pool)

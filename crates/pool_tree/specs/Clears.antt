@@ -5,6 +5,6 @@ use Rattle.pool_tree.specs.declared.tree.clear.ClearKind.{ClearKind}
 use Rattle.pool_tree.specs.declared.tree.clear.ClearKind.TheVariants.{Clear, Destroy}
 
 -- apr_pool_clear, apr_pool_destroy
-abbrev pub emptied : {T : Type 0} → ClearKind → ℕ → Pools T → Pools T
-emptied Clear = cleared
-emptied Destroy = destroyed
+abbrev pub pools_after : {T : Type 0} → ClearKind → ℕ → Pools T → Pools T
+pools_after Clear = cleared
+pools_after Destroy = destroyed

@@ -77,7 +77,8 @@ module _ (E : El) {M : Type 1} {𝓤 : Ura M} (𝓛 : Logic 𝓤) (b : ℕ) wher
         via 𝓤 (Shared (o + s) ps) (snd∗ 𝓤 (sem 𝓛 (place_shared (R E) b o p κ)) (Shared (o + s) ps))
         (subst (λ at. ent 𝓤 (Shared (o + s) ps) (sem 𝓛 (place_shared (R E) b at (get_or ps k None) κ))) (next_at k s o) (seen ps k (o + s) (omega (arith, lt))))
 
-    seen_first : (ps : Places) (n o : ℕ) → n ≤ length ps → ((j : ℕ) → j < n → is_some (get_or ps j None) ≡ true) → ent 𝓤 (Shared o ps) (sem 𝓛 (elements_shared (R E) (read (λ j. get_or ps j None) zero n) b o κ))
+    seen_first : (ps : Places) (n o : ℕ) → n ≤ length ps → ((j : ℕ) → j < n → is_some (get_or ps j None) ≡ true)
+        → ent 𝓤 (Shared o ps) (sem 𝓛 (elements_shared (R E) (read (λ j. get_or ps j None) zero n) b o κ))
     seen_first ps zero o within full = qed 𝓛 (‵ (run_shared (R E) b o ps κ) ∷ []) ∵ keep ! [] $ done !
     seen_first [] (suc n) o within full = absurd (omega (arith, within))
     seen_first (None ∷ ps) (suc n) o within full = let bad = full zero (omega arith) in absurd (cc)

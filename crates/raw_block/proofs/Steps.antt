@@ -1,5 +1,6 @@
 -- The names and steps that the walks of this crate share. Assumes `Logic`.
-pub use Rattle.std.proofs.Common.{◌≡◌, ℕ, zero, suc, ◌+◌, ◌*◌, ◌<◌, ◌≤◌, ◌^◌, List, [], ◌∷◌, ◌++◌, length, set, get_or, replicate, Option, None, Some, is_some, true, refl, ap, sym, subst, ◌∙◌, arith, w64, lit<}
+pub use Rattle.std.proofs.Common.{◌≡◌, ℕ, zero, suc, ◌+◌, ◌*◌, ◌<◌, ◌≤◌, ◌^◌, List, [], ◌∷◌, ◌++◌, length, set, get_or, replicate, Option, None, Some, is_some, true, refl, ap, sym, subst, ◌∙◌, arith}
+pub use Rattle.std.proofs.Common.{w64, lit<}
 pub use Rattle.std.proofs.raw_atomic.Walks.{proved, proved_at}
 pub use seplogic.Ra.Ura.{Ura}
 pub use base.Fraction.{full_share}
@@ -14,7 +15,8 @@ pub use contract.Monad.{fact}
 pub use contract.Running.{tables, tables_of}
 pub use contract.BorrowLft.{◌⊑◌}
 pub use types.Logic.{Logic, sem}
-pub use types.Kit.{Item, ‵, raw, ◌⊛◌, some, given, later, prop, at_ret, ◌$◌, ◌∵◌, !, qed, by, move, keep, drop, use1, use2, use3, split, join, group, learn, pick, await, rewrite, fsplit, fsplit3, fjoin, fjoin3, fpack, feq_i, feq_l, flt_l, flt_i, suffices, frame, done}
+pub use types.Kit.{Item, ‵, raw, ◌⊛◌, some, given, later, prop, at_ret, ◌$◌, ◌∵◌, !, qed, by, move, keep, drop, use1, use2, use3, split, join, group, learn, pick, await, rewrite, fsplit, fsplit3}
+pub use types.Kit.{fjoin, fjoin3, fpack, feq_i, feq_l, flt_l, flt_i, suffices, frame, done}
 pub use types.Part.{whole, sub, agg}
 pub use types.Run.{stop, fld, lit, unit_lit, load, look, init, of_opd, addr, bin, size_word, align_word, and_then, no_more, assigns_last, first, blocks, exec, returns, enter}
 pub use types.ByLocal.{alloc_all, pass_all, free_all, look_at, take_at, give_at, get, get_in, through, sets, sets_last, is, env}

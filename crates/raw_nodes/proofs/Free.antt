@@ -88,7 +88,8 @@ module _ {T : Type 0} where
           }
 
     -- a node comes to be the first free one
-    pub freed : (free spare old : ℕ) → IsListed p free spare old → once_free (p k) ≡ 0 → free_load m.load ≡ 1 → m.behind ≡ free → k < len → old ≤ len → ((j : ℕ) → j < len → j ≢ k → j < old) → IsListed q k (spare + 1) len
+    pub freed : (free spare old : ℕ) → IsListed p free spare old → once_free (p k) ≡ 0 → free_load m.load ≡ 1 → m.behind ≡ free → k < len → old ≤ len → ((j : ℕ) → j < len → j ≢ k → j < old)
+        → IsListed q k (spare + 1) len
     freed free spare old l was is links lt more others = go (spare + 1) (omega arith) where
       ks : List ℕ
       ks = walk (behind p) free spare
@@ -146,9 +147,11 @@ module _ {T : Type 0} where
       → IsListed (place (Some t)) free spare t.len × ((n : Node T) → used (place o k) ≡ Some n → (j : ℕ) → used (place (Some t) j) ≡ upd (λ i. used (place o i)) k (Some (f n)) j)
   unfolding place
   changed o b t k free spare f is l some new len stays =
-      subst (λ (o : Option (Block (Node T))). IsListed (place o) free spare (size o) → is_some (used (place o k)) ≡ true → IsListed (at t) free spare t.len × ((n : Node T) → used (place o k) ≡ Some n → (j : ℕ) → used (at t j) ≡ upd (λ i. used (place o i)) k (Some (f n)) j)) (sym is) core l some
+      subst (λ (o : Option (Block (Node T))). IsListed (place o) free spare (size o) → is_some (used (place o k)) ≡ true → IsListed (at t) free spare t.len
+      × ((n : Node T) → used (place o k) ≡ Some n → (j : ℕ) → used (at t j) ≡ upd (λ i. used (place o i)) k (Some (f n)) j)) (sym is) core l some
     where
-      core : IsListed (at b) free spare b.len → is_some (used (at b k)) ≡ true → IsListed (at t) free spare t.len × ((n : Node T) → used (at b k) ≡ Some n → (j : ℕ) → used (at t j) ≡ upd (λ i. used (at b i)) k (Some (f n)) j)
+      core : IsListed (at b) free spare b.len → is_some (used (at b k)) ≡ true → IsListed (at t) free spare t.len
+          × ((n : Node T) → used (at b k) ≡ Some n → (j : ℕ) → used (at t j) ≡ upd (λ i. used (at b i)) k (Some (f n)) j)
       core l some =
           let u = used_is (at b k) some in
           let step : (j : ℕ) → at t j ≡ upd (at b) k (Some (f u.0)) j = new u.0 u.1 in (
@@ -166,7 +169,8 @@ module _ {T : Type 0} where
   is_free o h = free_some o (omega (arith, h))
 
   -- the first free node of a block is written over
-  pub taken_in : (o : Option (Block (Node T))) (b t : Block (Node T)) (free spare : ℕ) (n m : Node T) → o ≡ Some b → IsListed (place o) free spare (size o) → 0 < spare → at b free ≡ Some n → ((j : ℕ) → at t j ≡ upd (at b) free (Some m) j) → t.len ≡ b.len → free_load m.load ≡ 0
+  pub taken_in : (o : Option (Block (Node T))) (b t : Block (Node T)) (free spare : ℕ) (n m : Node T) → o ≡ Some b → IsListed (place o) free spare (size o) → 0 < spare → at b free ≡ Some n
+      → ((j : ℕ) → at t j ≡ upd (at b) free (Some m) j) → t.len ≡ b.len → free_load m.load ≡ 0
       → IsListed (place (Some t)) n.behind (spare - 1) t.len
   unfolding place
   taken_in o b t free spare n m is l some was new len load =
@@ -175,19 +179,22 @@ module _ {T : Type 0} where
       (taken (at b) (at t) free b.len m new spare (spare - 1) l (omega (arith, some)) (ap is_some was) load))) l
 
   -- a node of a block is freed
-  pub freed_in : (o : Option (Block (Node T))) (b t : Block (Node T)) (k free spare : ℕ) (m : Node T) → o ≡ Some b → IsListed (place o) free spare (size o) → is_some (used (place o k)) ≡ true → ((j : ℕ) → at t j ≡ upd (at b) k (Some m) j) → t.len ≡ b.len → free_load m.load ≡ 1 → m.behind ≡ free
+  pub freed_in : (o : Option (Block (Node T))) (b t : Block (Node T)) (k free spare : ℕ) (m : Node T) → o ≡ Some b → IsListed (place o) free spare (size o) → is_some (used (place o k)) ≡ true
+      → ((j : ℕ) → at t j ≡ upd (at b) k (Some m) j) → t.len ≡ b.len → free_load m.load ≡ 1 → m.behind ≡ free
       → IsListed (place (Some t)) k (spare + 1) t.len
   unfolding place
   freed_in o b t k free spare m is l some new len load links =
       subst (λ (o : Option (Block (Node T))). IsListed (place o) free spare (size o) → is_some (used (place o k)) ≡ true → IsListed (at t) k (spare + 1) t.len) (sym is)
       (λ l some. let u = used_is (at b k) some in
-      subst (λ i. IsListed (at t) k (spare + 1) i) (sym len) (freed (at b) (at t) k b.len m new free spare b.len l (ap once_free u.1 ∙ u.2) load links (l.within k (ap is_some u.1)) (omega arith) (λ j lt ne. lt))) l some
+      subst (λ i. IsListed (at t) k (spare + 1) i) (sym len)
+      (freed (at b) (at t) k b.len m new free spare b.len l (ap once_free u.1 ∙ u.2) load links (l.within k (ap is_some u.1)) (omega arith) (λ j lt ne. lt))) l some
 
   pub listed_as : (p q : ℕ → Option (Node T)) (free spare len : ℕ) → ((k : ℕ) → q k ≡ p k) → IsListed p free spare len → IsListed q free spare len
   listed_as p q free spare len e l = record {
     full = λ k lt. ap is_some (e k) ∙ l.full k lt;
     within = λ k some. l.within k (sym (ap is_some (e k)) ∙ some);
-    listed = λ k. ap (count k) (walk_same (behind p) (behind q) free spare (λ j some. ap (λ (o : Option (Node T)). option_map_or (λ (n : Node T). n.behind) o j) (e j))) ∙ l.listed k ∙ sym (ap once_free (e k));
+    listed = λ k. ap (count k) (walk_same (behind p) (behind q) free spare (λ j some. ap (λ (o : Option (Node T)). option_map_or (λ (n : Node T). n.behind) o j) (e j))) ∙ l.listed k
+        ∙ sym (ap once_free (e k));
   }
 
   -- no node is past the places
@@ -198,8 +205,10 @@ module _ {T : Type 0} where
     go (Some n) e = absurd (omega (arith, le, l.within k (ap is_some e)))
 
   -- a free node is put behind the others
-  pub listed_more : (p q : ℕ → Option (Node T)) (k free spare : ℕ) (m : Node T) → ((j : ℕ) → q j ≡ upd p k (Some m) j) → IsListed p free spare k → free_load m.load ≡ 1 → m.behind ≡ free → IsListed q k (spare + 1) (k + 1)
-  listed_more p q k free spare m new l load links = freed p q k (k + 1) m new free spare k l (past p free spare k k l (omega arith)) load links (omega arith) (omega arith) (λ j lt ne. omega (arith, lt, ne))
+  pub listed_more : (p q : ℕ → Option (Node T)) (k free spare : ℕ) (m : Node T) → ((j : ℕ) → q j ≡ upd p k (Some m) j) → IsListed p free spare k → free_load m.load ≡ 1 → m.behind ≡ free
+      → IsListed q k (spare + 1) (k + 1)
+  listed_more p q k free spare m new l load links =
+      freed p q k (k + 1) m new free spare k l (past p free spare k k l (omega arith)) load links (omega arith) (omega arith) (λ j lt ne. omega (arith, lt, ne))
 
   pub past_none : (p : ℕ → Option (Node T)) (free spare len k : ℕ) → IsListed p free spare len → len ≤ k → p k ≡ None
   past_none p free spare len k l le = go (p k) refl where

@@ -69,14 +69,17 @@ module _ (L : ℕ → Option Items) (k : ℕ) (around : Around) (i : Instance) (
     pub short_live : (n p : ℕ) → live_in L (slot_at i b) ≡ Some n → nat_lt (length_in (named (list_at L n))) p ≡ is_short p (items_at (seen_over L k around i call) b)
     short_live n p is = ap (λ m. nat_lt m p) (sym (ap length_in (items_live n is) ∙ length_shown (calls_in around call) (list_at L n)))
 
-    pub empty_live : (n : ℕ) (first : Option BucketId) (t : Bool) → live_in L (slot_at i b) ≡ Some n → first ≡ first_of (list_at L n) → is_some first ≡ not t → t ≡ is_empty (items_at (seen_over L k around i call) b)
+    pub empty_live : (n : ℕ) (first : Option BucketId) (t : Bool) → live_in L (slot_at i b) ≡ Some n → first ≡ first_of (list_at L n) → is_some first ≡ not t
+        → t ≡ is_empty (items_at (seen_over L k around i call) b)
     empty_live n first t is at none = none_first (calls_in around call) (list_at L n) t (sym (ap is_some at) ∙ none) ∙ ap is_empty (sym (items_live n is))
 
-    pub across_live : (n p : ℕ) (o : Option NamedBucket) → live_in L (slot_at i b) ≡ Some n → o ≡ bucket_across p (shown (calls_in around call) (list_at L n)) → names_if (is_some o) ≡ names_to_part p (items_at (seen_over L k around i call) b)
+    pub across_live : (n p : ℕ) (o : Option NamedBucket) → live_in L (slot_at i b) ≡ Some n → o ≡ bucket_across p (shown (calls_in around call) (list_at L n))
+        → names_if (is_some o) ≡ names_to_part p (items_at (seen_over L k around i call) b)
     across_live n p o is at = ap (λ (y : Option NamedBucket). names_if (is_some y)) (at ∙ ap (bucket_across p) (sym (items_live n is)))
 
   -- a buffer is full by its length
-  pub full_is : (x : Value) (n m : ℕ) (t : Bool) → t ≡ (nat_lt 255 n || nat_le buffer_limit m) → n ≡ value_of (seen_over L k around i call) x → m ≡ length call.buffer → t ≡ is_full (seen_over L k around i call) x
+  pub full_is : (x : Value) (n m : ℕ) (t : Bool) → t ≡ (nat_lt 255 n || nat_le buffer_limit m) → n ≡ value_of (seen_over L k around i call) x → m ≡ length call.buffer
+      → t ≡ is_full (seen_over L k around i call) x
   unfolding seen_over
   full_is x n m t is number len =
       is
@@ -88,7 +91,8 @@ module _ (L : ℕ → Option Items) (k : ℕ) (around : Around) (i : Instance) (
   unfolding seen_over lacks_names
   store_spent instr t is spent = spent ∙ sym (ap (λ (u : Bool). u || is_spent around.pools.next (pool_names_of instr)) (sym is ∙ spent))
 
-  pub pools_spent : (instr : Instr) (t u : Bool) → t ≡ is_spent k (names_of (seen_over L k around i call) instr) → t ≡ false → u ≡ is_spent around.pools.next (pool_names_of instr) → u ≡ lacks_names (seen_over L k around i call) instr
+  pub pools_spent : (instr : Instr) (t u : Bool) → t ≡ is_spent k (names_of (seen_over L k around i call) instr) → t ≡ false → u ≡ is_spent around.pools.next (pool_names_of instr)
+      → u ≡ lacks_names (seen_over L k around i call) instr
   unfolding seen_over lacks_names
   pools_spent instr t u is left at = at ∙ sym (ap (λ (v : Bool). v || is_spent around.pools.next (pool_names_of instr)) (sym is ∙ left))
 

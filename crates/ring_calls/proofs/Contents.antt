@@ -7,7 +7,7 @@ use Rattle.std.specs.Prelude.{[]}
 use Rattle.std.proofs.lemmas.Bool.{false≢true}
 use Rattle.std.specs.Option.{option_map_or}
 use Rattle.std.specs.List.{list_any}
-use Rattle.run_model.specs.State.{items_of}
+use Rattle.run_model.specs.State.{items_of, Configuration}
 use Rattle.run_model.specs.Faults.{homes_fault, send_fault, home_fault, keeps_stray, is_stray}
 use Rattle.run_model.specs.BrigadeLists.{bucket_across}
 use Rattle.module_code.specs.declared.instr.Value.{Value}
@@ -22,7 +22,6 @@ use Rattle.ring_calls.specs.Contents.{contents}
 use Rattle.ring_calls.specs.Tests.{late_data}
 use Rattle.ring_calls.proofs.LateData.{late_data_is}
 use Rattle.bucket_ring.specs.Lists.{list_at}
-use Rattle.run_model.specs.State.{Configuration}
 use Rattle.ring_calls.specs.Seen.{seen_over, calls_in, shown, shown_as, shown_slot}
 use Rattle.ring_calls.specs.Slots.{slot_at, live_in}
 
@@ -51,7 +50,8 @@ module _ (L : ℕ → Option Items) (k : ℕ) (around : Around) (i : Instance) (
   pub send_told : cond (late_data i.sent (contents (calls_in around call) L (live_in L (slot_at i b)))) (Some F8) None
       ≡ send_fault (seen_over L k around i call).instance.sent (items_of ((seen_over L k around i call).instance.brigades b))
   unfolding seen_over
-  send_told = ap (λ t. cond t (Some F8) None) (late_data_is i.sent (contents (calls_in around call) L (live_in L (slot_at i b)))) ∙ ap (send_fault i.sent) (items_told (calls_in around call) L (slot_at i b))
+  send_told = ap (λ t. cond t (Some F8) None) (late_data_is i.sent (contents (calls_in around call) L (live_in L (slot_at i b))))
+      ∙ ap (send_fault i.sent) (items_told (calls_in around call) L (slot_at i b))
 
 -- What a return asks of a variable: where a usable brigade is there, where none is, where it was passed.
 pub stray_null : (r : Configuration) (runs : ℕ → Bool) (L : ℕ → Option Items) (s : Slot) → s ≡ slot.Null → false ≡ keeps_stray r (shown_slot runs L s)
@@ -79,3 +79,5 @@ module _ (r : Configuration) (runs : ℕ → Bool) (L : ℕ → Option Items) (s
     go : (o : Option Items) → false ≡ keeps_stray r (shown_as runs n pool Passed o)
     go None = refl
     go (Some xs) = refl
+
+pub ruleset stray_told = (stray_null, stray_gone, stray_passed)

@@ -1,5 +1,5 @@
 -- The bucket that a point lies inside, bucket by bucket.
-use Rattle.std.proofs.Common.{◌≡◌, ℕ, zero, suc, ◌-◌, ◌<◌, ◌≤◌, cond, List, [], ◌∷◌, Some, None, refl, ap, arith}
+use Rattle.std.proofs.Common.{◌≡◌, ℕ, zero, suc, ◌-◌, ◌<◌, ◌≤◌, cond, List, ◌∷◌, Some, None, refl, ap, arith}
 use Rattle.std.proofs.lemmas.Bool.{le-leb, lt-leb}
 use Rattle.run_model.specs.declared.bucket.NamedBucket.{NamedBucket}
 use Rattle.run_model.specs.Cutting.{length_of}
@@ -9,11 +9,6 @@ pub at_zero : (p : ℕ) (bs : List NamedBucket) → p ≡ 0 → bucket_across p 
 unfolding bucket_across
 at_zero zero bs is = refl
 at_zero (suc p) bs is = absurd (omega arith)
-
-pub none_there : (p : ℕ) → bucket_across p [] ≡ None
-unfolding bucket_across
-none_there zero = refl
-none_there (suc p) = refl
 
 pub first_inside : (p : ℕ) (b : NamedBucket) (bs : List NamedBucket) → 0 < p → p < length_of b.bucket.content → bucket_across p (b ∷ bs) ≡ Some b
 unfolding bucket_across

@@ -15,7 +15,8 @@ home_later runs a b home.Free alive older = refl
 home_later runs a b (home.Pool n) alive older = refl
 home_later runs a b home.Ended alive older = refl
 home_later runs a b (home.Call n) alive older = go (runs n) (nat_lt n a) refl alive where
-  go : (t u : Bool) → nat_lt n a ≡ u → is_ended (if t && u then home.Call n else home.Ended) ≡ false → (if t && nat_lt n b then home.Call n else home.Ended) ≡ (if t && u then home.Call n else home.Ended)
+  go : (t u : Bool) → nat_lt n a ≡ u → is_ended (if t && u then home.Call n else home.Ended) ≡ false
+      → (if t && nat_lt n b then home.Call n else home.Ended) ≡ (if t && u then home.Call n else home.Ended)
   go true true young alive = ap (λ (v : Bool). if v then home.Call n else home.Ended) (lt-ltb n b (let y = ltb-true n a young in omega (arith, y, older)))
   go true false young alive = absurd (false≢true (sym alive))
   go false u young alive = refl

@@ -23,3 +23,4 @@ pub mod LeftAlone
 pub mod OpenFiles
 pub mod Pushed
 pub mod Standing
+pub mod Needed

@@ -95,30 +95,36 @@ pub refs_same : (d : Device) (old new : ℕ → ℕ) → ((f : ℕ) → new f �
 refs_same d old new same all file held = all file (subst (λ (n : ℕ). 0 < n) (same file) held)
 
 -- one more reference
-pub refs_one : (d : Device) (ps : Pools Payload) (pool : ℕ) (x : Bucket) (old new : ℕ → ℕ) → ((f : ℕ) → new f ≡ count_for f (file_for ps pool x) (old f)) → IsOpenFor d x.content → house.AreOpen old d → house.AreOpen new d
+pub refs_one : (d : Device) (ps : Pools Payload) (pool : ℕ) (x : Bucket) (old new : ℕ → ℕ) → ((f : ℕ) → new f ≡ count_for f (file_for ps pool x) (old f)) → IsOpenFor d x.content
+    → house.AreOpen old d → house.AreOpen new d
 refs_one d ps pool x old new counts opens all file held = go (file_for ps pool x) refl where
   go : (o : Option ℕ) → file_for ps pool x ≡ o → is_there (d.numbered file) ≡ true
   go None is = all file (subst (λ (n : ℕ). 0 < n) (counts file ∙ ap (λ (o : Option ℕ). count_for file o (old file)) is) held)
   go (Some f) is = elim (cases_eq file f) [
     | inl e ↦ subst (λ (n : ℕ). is_there (d.numbered n) ≡ true) (sym e) (ref_open d (is_above ps pool x.home) x.kind x.content f is opens)
-    | inr ne ↦ all file (subst (λ (n : ℕ). 0 < n) (counts file ∙ (ap (λ (o : Option ℕ). count_for file o (old file)) is ∙ ap (λ (t : Bool). if t then old file + 1 else old file) (ne_eqb file f ne))) held)
+    | inr ne ↦ all file (subst (λ (n : ℕ). 0 < n)
+        (counts file ∙ (ap (λ (o : Option ℕ). count_for file o (old file)) is ∙ ap (λ (t : Bool). if t then old file + 1 else old file) (ne_eqb file f ne))) held)
   ]
 
 -- A file of which setting aside takes references is opens.
-refs_open : (d : Device) (runs : ℕ → Bool) (ps : Pools Payload) (pool file : ℕ) (xs : Items) → All (RangeIsOpen d) (shown runs xs) → 0 < times_in file (filter_map (new_ref ps pool) (named xs)) → is_there (d.numbered file) ≡ true
+refs_open : (d : Device) (runs : ℕ → Bool) (ps : Pools Payload) (pool file : ℕ) (xs : Items) → All (RangeIsOpen d) (shown runs xs) → 0 < times_in file (filter_map (new_ref ps pool) (named xs))
+    → is_there (d.numbered file) ≡ true
 unfolding times_in
 refs_open d runs ps pool file [] opens some = absurd (let n = some in omega (arith, n))
-refs_open d runs ps pool file (y ∷ ys) opens some = go (if is_above ps pool y.1.home then None else file_of y.1.kind y.1.content) refl (refs_open d runs ps pool file ys (All-tail (RangeIsOpen d) _ (shown runs ys) opens)) some where
-  go : (o : Option ℕ) → (if is_above ps pool y.1.home then None else file_of y.1.kind y.1.content) ≡ o → (0 < times_in file (filter_map (new_ref ps pool) (named ys)) → is_there (d.numbered file) ≡ true)
-      → 0 < times_in file (cons_option o (filter_map (new_ref ps pool) (named ys))) → is_there (d.numbered file) ≡ true
-  go None is later more = later more
-  go (Some f) is later more = elim (cases_eq f file) [
-    | inl e ↦ subst (λ (n : ℕ). is_there (d.numbered n) ≡ true) e (ref_open d (is_above ps pool y.1.home) y.1.kind y.1.content f is (All-head (RangeIsOpen d) _ (shown runs ys) opens))
-    | inr ne ↦ later (rw (ne_eqb f file ne) at more)
-  ]
+refs_open d runs ps pool file (y ∷ ys) opens some =
+    go (if is_above ps pool y.1.home then None else file_of y.1.kind y.1.content) refl (refs_open d runs ps pool file ys (All-tail (RangeIsOpen d) _ (shown runs ys) opens)) some where
+      go : (o : Option ℕ) → (if is_above ps pool y.1.home then None else file_of y.1.kind y.1.content) ≡ o
+          → (0 < times_in file (filter_map (new_ref ps pool) (named ys)) → is_there (d.numbered file) ≡ true)
+          → 0 < times_in file (cons_option o (filter_map (new_ref ps pool) (named ys))) → is_there (d.numbered file) ≡ true
+      go None is later more = later more
+      go (Some f) is later more = elim (cases_eq f file) [
+        | inl e ↦ subst (λ (n : ℕ). is_there (d.numbered n) ≡ true) e (ref_open d (is_above ps pool y.1.home) y.1.kind y.1.content f is (All-head (RangeIsOpen d) _ (shown runs ys) opens))
+        | inr ne ↦ later (rw (ne_eqb f file ne) at more)
+      ]
 
 -- those of a brigade
-pub refs_all : (d : Device) (runs : ℕ → Bool) (ps : Pools Payload) (pool : ℕ) (xs : Items) (old new : ℕ → ℕ) → ((f : ℕ) → new f ≡ old f + times_in f (filter_map (new_ref ps pool) (named xs))) → All (RangeIsOpen d) (shown runs xs)
+pub refs_all : (d : Device) (runs : ℕ → Bool) (ps : Pools Payload) (pool : ℕ) (xs : Items) (old new : ℕ → ℕ) → ((f : ℕ) → new f ≡ old f + times_in f (filter_map (new_ref ps pool) (named xs)))
+    → All (RangeIsOpen d) (shown runs xs)
     → house.AreOpen old d → house.AreOpen new d
 refs_all d runs ps pool xs old new counts opens all file held = by_count (old file) refl where
   by_count : (n : ℕ) → old file ≡ n → is_there (d.numbered file) ≡ true

@@ -27,26 +27,30 @@ short_of {P} {S} {pt} law = S
 abbrev pub Short : Point
 Short = short_of points_are_the_models.short
 
-abbrev at_of : {P : Type 0} {A : Option BucketId → P} {pt : ℕ → Items → P} → ((new p : ℕ) (place : Option BucketId) (xs : Items) → pt p xs ≡ A place → partition_answer new p (named xs) ≡ place_cut place) → Option BucketId → P
+abbrev at_of : {P : Type 0} {A : Option BucketId → P} {pt : ℕ → Items → P}
+    → ((new p : ℕ) (place : Option BucketId) (xs : Items) → pt p xs ≡ A place → partition_answer new p (named xs) ≡ place_cut place) → Option BucketId → P
 at_of {P} {A} {pt} law = A
 
 abbrev pub At : Option BucketId → Point
 At = at_of points_are_the_models.at
 
-abbrev inside_of : {P : Type 0} {I : BucketId → ℕ → P} {pt : ℕ → Items → P} → ((new p n : ℕ) (id : BucketId) (xs : Items) → pt p xs ≡ I id n → partition_answer new p (named xs) ≡ model.Found new) → BucketId → ℕ → P
+abbrev inside_of : {P : Type 0} {I : BucketId → ℕ → P} {pt : ℕ → Items → P} → ((new p n : ℕ) (id : BucketId) (xs : Items) → pt p xs ≡ I id n → partition_answer new p (named xs) ≡ model.Found new)
+    → BucketId → ℕ → P
 inside_of {P} {I} {pt} law = I
 
 abbrev pub Inside : BucketId → ℕ → Point
 Inside = inside_of points_are_the_models.inside
 
 -- where a point lies
-pub by_point : (p : ℕ) (xs : Items) (C : Type 0) → (point_in p xs ≡ Short → C) → ((place : Option BucketId) → point_in p xs ≡ At place → C) → ((id : BucketId) (n : ℕ) → point_in p xs ≡ Inside id n → C) → C
+pub by_point : (p : ℕ) (xs : Items) (C : Type 0) → (point_in p xs ≡ Short → C) → ((place : Option BucketId) → point_in p xs ≡ At place → C)
+    → ((id : BucketId) (n : ℕ) → point_in p xs ≡ Inside id n → C) → C
 unfolding point_in
 by_point zero [] C short at inside = at None refl
 by_point zero (x ∷ xs) C short at inside = at (Some x.0) refl
 by_point (suc p) [] C short at inside = short refl
 by_point (suc p) (x ∷ xs) C short at inside = go (by_point (suc p - length_of x.1.content) xs C) (nat_le (length_of x.1.content) (suc p)) refl where
-  go : ((point_in (suc p - length_of x.1.content) xs ≡ Short → C) → ((place : Option BucketId) → point_in (suc p - length_of x.1.content) xs ≡ At place → C) → ((id : BucketId) (n : ℕ) → point_in (suc p - length_of x.1.content) xs ≡ Inside id n → C) → C)
+  go : ((point_in (suc p - length_of x.1.content) xs ≡ Short → C) → ((place : Option BucketId) → point_in (suc p - length_of x.1.content) xs ≡ At place → C)
+      → ((id : BucketId) (n : ℕ) → point_in (suc p - length_of x.1.content) xs ≡ Inside id n → C) → C)
       → (t : Bool) → nat_le (length_of x.1.content) (suc p) ≡ t → C
   go later true fits = later (λ e. short (rw fits e)) (λ place e. at place (rw fits e)) (λ id n e. inside id n (rw fits e))
   go later false over = inside x.0 (suc p) (rw over refl)
@@ -81,7 +85,8 @@ rest_once true n h = omega arith
 rest_once false n h = h
 
 -- the bucket that the point lies inside
-pub inside_found : (p n : ℕ) (id : BucketId) (xs : Items) → ((i : BucketId) → times i xs ≤ 1) → point_in p xs ≡ Inside id n → (x : Bucket) × ((found id xs ≡ Some x) × (bucket_across p (named xs) ≡ Some (named_item (id, x))))
+pub inside_found : (p n : ℕ) (id : BucketId) (xs : Items) → ((i : BucketId) → times i xs ≤ 1) → point_in p xs ≡ Inside id n → (x : Bucket)
+    × ((found id xs ≡ Some x) × (bucket_across p (named xs) ≡ Some (named_item (id, x))))
 unfolding point_in bucket_across
 inside_found zero n id [] once e = absurd (cc)
 inside_found zero n id (x ∷ xs) once e = absurd (cc)

@@ -44,7 +44,8 @@ slot_within (s ∷ ss) (suc b) n e = (let h = slot_within ss b n e in omega (ari
 abbrev pub AreIn : List Slot → ℕ → List ℕ → Type 0
 AreIn slots k xs = (b n : ℕ) → b < k → name_in (slice_index_or slots b slot.Null) ≡ Some n → is_in n xs ≡ true
 
-pub slots_pushed : (slots : List Slot) (k x : ℕ) (pool : Option ℕ) (mark : Mark) (xs ys : List ℕ) → slice_index_or slots k slot.Null ≡ slot.Made x pool mark → ys ≡ xs ++ x ∷ [] → AreIn slots k xs → AreIn slots (k + 1) ys
+pub slots_pushed : (slots : List Slot) (k x : ℕ) (pool : Option ℕ) (mark : Mark) (xs ys : List ℕ) → slice_index_or slots k slot.Null ≡ slot.Made x pool mark → ys ≡ xs ++ x ∷ [] → AreIn slots k xs
+    → AreIn slots (k + 1) ys
 slots_pushed slots k x pool mark xs ys is now before b n lt e = elim (cases_eq b k) [
   | inl here ↦ (let same : Some x ≡ Some n = sym (ap name_in (ap (λ (j : ℕ). slice_index_or slots j slot.Null) here ∙ is)) ∙ e in ap (is_in n) now ∙ pushed_in n x xs (let q : x ≡ n = cc in q))
   | inr ne ↦ ap (is_in n) now ∙ pushed_kept n x xs (before b n (omega (arith, ne, lt)) e)

@@ -1,6 +1,7 @@
 -- What takes no memory: nothing is named, cut, referred to or read.
-use Rattle.std.proofs.Common.{◌≡◌, ℕ, zero, suc, ◌+◌, ◌-◌, ◌<◌, nat_lt, nat_le, Bool, true, false, ◌&&◌, ◌||◌, not, List, [], ◌∷◌, Option, None, Some, is_some, Result, Ok, Err, filter_map, refl, ap, ◌⊎◌, inl, inr, arith}
-use Rattle.std.specs.Prelude.{if◌then◌else◌, IsOk}
+use Rattle.std.proofs.Common.{◌≡◌, ℕ, zero, suc, ◌+◌, ◌-◌, ◌<◌, nat_lt, nat_le, Bool, true, false, ◌&&◌, ◌||◌, not, List, [], ◌∷◌, Option, None, Some, is_some, Result, Ok, Err, filter_map, refl, ap}
+use Rattle.std.proofs.Common.{◌⊎◌, inl, inr, arith}
+use Rattle.std.specs.Prelude.{if◌then◌else◌, IsOk, OnErr}
 use Rattle.std.specs.List.{list_any, cons_option}
 use Rattle.std.proofs.lemmas.Bool.{ltb-true}
 use Rattle.std.proofs.lemmas.Bool.Decides.{nat_tests}
@@ -48,7 +49,8 @@ uncut false h = absurd (not_one h)
 -- why a bucket is not split
 pub refused_why : (n : ℕ) (y : NamedBucket) → is_some (split_refusal n y) ≡ true → (is_data_kind y.bucket.kind ≡ false) ⊎ ((is_data_kind y.bucket.kind ≡ true) × (length_of y.bucket.content < n))
 refused_why n y h = go (is_data_kind y.bucket.kind) h where
-  go : (t : Bool) → is_some (if t then (if nat_lt (length_of y.bucket.content) n then Some Rattle.run_model.specs.BrigadeLists.TooLong else None) else Some Rattle.run_model.specs.BrigadeLists.Metadata) ≡ true → (t ≡ false) ⊎ ((t ≡ true) × (length_of y.bucket.content < n))
+  go : (t : Bool) → is_some (if t then (if nat_lt (length_of y.bucket.content) n then Some Rattle.run_model.specs.BrigadeLists.TooLong else None)
+      else Some Rattle.run_model.specs.BrigadeLists.Metadata) ≡ true → (t ≡ false) ⊎ ((t ≡ true) × (length_of y.bucket.content < n))
   go true h = inr (refl, long (nat_lt (length_of y.bucket.content) n) refl h) where
     long : (u : Bool) → nat_lt (length_of y.bucket.content) n ≡ u → is_some (if u then Some Rattle.run_model.specs.BrigadeLists.TooLong else None) ≡ true → length_of y.bucket.content < n
     long true e h = ltb-true (length_of y.bucket.content) n e
@@ -78,7 +80,8 @@ cut_shown zero runs (x ∷ xs) = refl
 cut_shown (suc p) runs [] = refl
 cut_shown (suc p) runs (x ∷ xs) = go (nat_le (length_of x.1.content) (suc p)) (cut_shown (suc p - length_of x.1.content) runs xs) where
   go : (t : Bool) → is_some (bucket_across (suc p - length_of x.1.content) (shown runs xs)) ≡ is_inside (point_in (suc p - length_of x.1.content) xs)
-      → is_some (if t then bucket_across (suc p - length_of x.1.content) (shown runs xs) else Some (named_item (item_in runs x))) ≡ is_inside (if t then point_in (suc p - length_of x.1.content) xs else Inside x.0 (suc p))
+      → is_some (if t then bucket_across (suc p - length_of x.1.content) (shown runs xs) else Some (named_item (item_in runs x))) ≡ is_inside
+      (if t then point_in (suc p - length_of x.1.content) xs else Inside x.0 (suc p))
   go true later = later
   go false later = refl
 
@@ -101,3 +104,12 @@ same_err d e is = cc
 pub ok_never : {X E : Type 0} (r : Result X E) → IsOk r → ((x : X) → r ≡ Ok x → ⊥) → ⊥
 ok_never (Ok x) sure never = never x refl
 ok_never (Err e) sure never = absurd (cc)
+
+pub ok_unless : {X E P : Type 0} (r : Result X E) → OnErr r P → (P → ⊥) → IsOk r
+ok_unless (Ok x) told never = refl
+ok_unless (Err e) told never = absurd (never told)
+
+-- a fact that is so whatever was answered
+pub told_err : {T E : Type 0} (r : Result T E) (P : Type 0) → P → OnErr r P
+told_err (Ok x) P so = tt
+told_err (Err e) P so = so

@@ -29,32 +29,38 @@ use Rattle.ring_calls.proofs.Changes.{ApartIn, ring_here, live_is, seen_same, se
 abbrev instance_as : (ℕ → PoolVar) → (ℕ → BrigadeVar) → (ℕ → ℕ) → Bool → Configuration → Configuration
 instance_as pools brigades numbers sent r = record r { instance = record { pools = pools; brigades = brigades; numbers = numbers; sent = sent } }
 
-pub seen_var : (L : ℕ → Option Items) (k : ℕ) (around : Around) (i new : Instance) (call : Call) (b : ℕ) (s : Slot) → SameButSlots i new → ((a : ℕ) → slot_at new a ≡ (if a == b then s else slot_at i a))
+pub seen_var : (L : ℕ → Option Items) (k : ℕ) (around : Around) (i new : Instance) (call : Call) (b : ℕ) (s : Slot) → SameButSlots i new
+    → ((a : ℕ) → slot_at new a ≡ (if a == b then s else slot_at i a))
     → seen_over L k around new call ≡ set_brigade b (shown_slot (calls_in around call) L s) (seen_over L k around i call)
 unfolding seen_over set_brigade upd
 seen_var L k around i new call b s same sets =
     let r = seen_over L k around i call in
     let runs = calls_in around call in
-    ap (λ (f : ℕ → BrigadeVar). record r { instance = record { pools = λ p. slice_index_or new.pools p poolvar.Null; brigades = f; numbers = λ n. slice_index_or new.numbers n 0; sent = new.sent } }) (fun_ext by_slot)
+    ap (λ (f : ℕ → BrigadeVar).
+    record r { instance = record { pools = λ p. slice_index_or new.pools p poolvar.Null; brigades = f; numbers = λ n. slice_index_or new.numbers n 0; sent = new.sent } }) (fun_ext by_slot)
     ∙ (ap (λ (ps : List PoolVar). record r { instance = record { pools = λ p. slice_index_or ps p poolvar.Null; brigades = upd r.instance.brigades b (shown_slot runs L s); numbers = λ n. slice_index_or new.numbers n 0; sent = new.sent } }) same.pools
-    ∙ (ap (λ (ns : List ℕ). record r { instance = record { pools = r.instance.pools; brigades = upd r.instance.brigades b (shown_slot runs L s); numbers = λ n. slice_index_or ns n 0; sent = new.sent } }) same.numbers
-    ∙ ap (λ (t : Bool). record r { instance = record { pools = r.instance.pools; brigades = upd r.instance.brigades b (shown_slot runs L s); numbers = r.instance.numbers; sent = t } }) same.sent)) where
-      by_slot : (a : ℕ) → shown_slot (calls_in around call) L (slot_at new a) ≡ upd (λ c. shown_slot (calls_in around call) L (slot_at i c)) b (shown_slot (calls_in around call) L s) a
-      by_slot a = ap (shown_slot (calls_in around call) L) (sets a) ∙ go (a == b) where
-        go : (t : Bool) → shown_slot (calls_in around call) L (if t then s else slot_at i a) ≡ (if t then shown_slot (calls_in around call) L s else shown_slot (calls_in around call) L (slot_at i a))
-        go true = refl
-        go false = refl
+    ∙ (ap (λ (ns : List ℕ).
+    record r { instance = record { pools = r.instance.pools; brigades = upd r.instance.brigades b (shown_slot runs L s); numbers = λ n. slice_index_or ns n 0; sent = new.sent } }) same.numbers
+    ∙ ap (λ (t : Bool). record r { instance = record { pools = r.instance.pools; brigades = upd r.instance.brigades b (shown_slot runs L s); numbers = r.instance.numbers; sent = t } }) same.sent))
+  where
+    by_slot : (a : ℕ) → shown_slot (calls_in around call) L (slot_at new a) ≡ upd (λ c. shown_slot (calls_in around call) L (slot_at i c)) b (shown_slot (calls_in around call) L s) a
+    by_slot a = ap (shown_slot (calls_in around call) L) (sets a) ∙ go (a == b) where
+      go : (t : Bool) → shown_slot (calls_in around call) L (if t then s else slot_at i a) ≡ (if t then shown_slot (calls_in around call) L s else shown_slot (calls_in around call) L (slot_at i a))
+      go true = refl
+      go false = refl
 
 set_twice : (b : ℕ) (v w : BrigadeVar) (r : Configuration) → set_brigade b w (set_brigade b v r) ≡ set_brigade b w r
 unfolding set_brigade
 set_twice b v w r = ap (λ (f : ℕ → BrigadeVar). record r { instance = record r.instance { brigades = f } }) (upd_upd r.instance.brigades b v w)
 
-clean_shown : (runs : ℕ → Bool) (n : ℕ) (pool : Option ℕ) (mark : Mark) (o : Option Items) → is_some o ≡ true → shown_as runs n pool Usable (option_map (λ xs. []) o) ≡ cleaned (shown_as runs n pool mark o)
+clean_shown : (runs : ℕ → Bool) (n : ℕ) (pool : Option ℕ) (mark : Mark) (o : Option Items) → is_some o ≡ true
+    → shown_as runs n pool Usable (option_map (λ xs. []) o) ≡ cleaned (shown_as runs n pool mark o)
 clean_shown runs n pool mark None there = absurd (cc)
 clean_shown runs n pool mark (Some xs) there = refl
 
 module _ (L M : ℕ → Option Items) (k l : ℕ) (around : Around) (i new : Instance) (call : Call) (b : ℕ) where
-  pub cleaned_step : (n : ℕ) → ApartIn i call → live_in L (slot_at i b) ≡ Some n → SameButSlots i new → ((a : ℕ) → slot_at new a ≡ (if a == b then marked Usable (slot_at i b) else slot_at i a)) → l ≡ k → ((j : ℕ) → M j ≡ on n (λ xs. []) L j)
+  pub cleaned_step : (n : ℕ) → ApartIn i call → live_in L (slot_at i b) ≡ Some n → SameButSlots i new → ((a : ℕ) → slot_at new a ≡ (if a == b then marked Usable (slot_at i b) else slot_at i a))
+      → l ≡ k → ((j : ℕ) → M j ≡ on n (λ xs. []) L j)
       → seen_over M l around new call ≡ do_clean b (seen_over L k around i call)
   unfolding seen_over
   cleaned_step n held is rest sets same out =
@@ -64,7 +70,8 @@ module _ (L M : ℕ → Option Items) (k l : ℕ) (around : Around) (i new : Ins
       let r = seen_over L k around i call in
       let mark : marked Usable (slot_at i b) ≡ slot.Made n t.0 Usable = ap (marked Usable) t.1.1.0 in
       let v : shown_slot runs N (marked Usable (slot_at i b)) ≡ cleaned (r.instance.brigades b) =
-      ap (shown_slot runs N) mark ∙ (ap (shown_as runs n t.0 Usable) (ring_here L n (option_map (λ xs. []) (L n))) ∙ (clean_shown runs n t.0 t.1.0 (L n) t.1.1.1 ∙ ap (λ (s : Slot). cleaned (shown_slot runs L s)) (sym t.1.1.0))) in
+      ap (shown_slot runs N) mark ∙ (ap (shown_as runs n t.0 Usable) (ring_here L n (option_map (λ xs. []) (L n)))
+      ∙ (clean_shown runs n t.0 t.1.0 (L n) t.1.1.1 ∙ ap (λ (s : Slot). cleaned (shown_slot runs L s)) (sym t.1.1.0))) in
       seen_same N k around new call M l same out
       ∙ (seen_var N k around i new call b (marked Usable (slot_at i b)) rest sets
       ∙ (ap (λ (y : Configuration). set_brigade b (shown_slot runs N (marked Usable (slot_at i b))) y) (seen_slot L k around i call b n t.0 t.1.0 (λ xs. []) [] held t.1.1.0 refl)
@@ -79,7 +86,8 @@ live_marked L mark slot.Null = refl
 live_marked L mark (slot.Made n pool old) = refl
 
 -- a variable keeps its brigade where it is marked
-pub held_marked : (at : BucketId → Option ℕ) (L : ℕ → Option Items) (p : ℕ → Option ℕ) (next : ℕ) (i new : Instance) (call : Call) (b : ℕ) (mark : Mark) → ((a : ℕ) → slot_at new a ≡ (if a == b then marked mark (slot_at i b) else slot_at i a))
+pub held_marked : (at : BucketId → Option ℕ) (L : ℕ → Option Items) (p : ℕ → Option ℕ) (next : ℕ) (i new : Instance) (call : Call) (b : ℕ) (mark : Mark)
+    → ((a : ℕ) → slot_at new a ≡ (if a == b then marked mark (slot_at i b) else slot_at i a))
     → HeldOver at L p next i call → HeldOver at L p next new call
 held_marked at L p next i new call b mark sets held = record {
   apart = λ a c n e f. held.apart a c n (sym (same a) ∙ e) (sym (same c) ∙ f);
@@ -99,12 +107,14 @@ held_marked at L p next i new call b mark sets held = record {
 
   unmarked : (a n : ℕ) (pool : Option ℕ) (m : Mark) → slot_at new a ≡ slot.Made n pool m → (old : Mark) × (slot_at i a ≡ slot.Made n pool old)
   unmarked a n pool m is = elim (cases_eq a b) [
-    | inl e ↦ let was = of_marked (slot_at i b) n pool m (sym (sets a ∙ ap (λ (t : Bool). if t then marked mark (slot_at i b) else slot_at i a) (eq-eqb a b e)) ∙ is) in (was.0, ap (λ (c : ℕ). slot_at i c) e ∙ was.1)
+    | inl e ↦ let was = of_marked (slot_at i b) n pool m (sym (sets a ∙ ap (λ (t : Bool). if t then marked mark (slot_at i b) else slot_at i a) (eq-eqb a b e)) ∙ is) in
+        (was.0, ap (λ (c : ℕ). slot_at i c) e ∙ was.1)
     | inr ne ↦ (m, sym (sets a ∙ ap (λ (t : Bool). if t then marked mark (slot_at i b) else slot_at i a) (ne_eqb a b ne)) ∙ is)
   ]
 
   same : (a : ℕ) → name_in (slot_at new a) ≡ name_in (slot_at i a)
   same a = elim (cases_eq a b) [
-    | inl e ↦ ap name_in (sets a ∙ ap (λ (t : Bool). if t then marked mark (slot_at i b) else slot_at i a) (eq-eqb a b e)) ∙ (named_marked mark (slot_at i b) ∙ ap (λ (c : ℕ). name_in (slot_at i c)) (sym e))
+    | inl e ↦ ap name_in (sets a ∙ ap (λ (t : Bool). if t then marked mark (slot_at i b) else slot_at i a) (eq-eqb a b e))
+        ∙ (named_marked mark (slot_at i b) ∙ ap (λ (c : ℕ). name_in (slot_at i c)) (sym e))
     | inr ne ↦ ap name_in (sets a ∙ ap (λ (t : Bool). if t then marked mark (slot_at i b) else slot_at i a) (ne_eqb a b ne))
   ]

@@ -5,6 +5,7 @@ pub mod Seen
 pub mod Places
 pub mod Ends
 pub mod Needs
+pub mod EffectNeeds
 pub mod Outside
 pub mod Shown
 pub mod Tests

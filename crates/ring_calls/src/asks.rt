@@ -3,12 +3,12 @@
 ghost use Rattle.std.specs.Prelude.{◌≡◌, ◌<◌, ◌≤◌, ℕ, None, Some, true, is_some, length};
 ghost use Rattle.module_code.specs.Program.{fits, is_variable};
 ghost use Rattle.run_model.specs.BrigadeLists.{is_short, split_refusal};
-ghost use Rattle.run_model.specs.BucketSteps.{has_rest, is_of_kind, is_unsplit, items_at, kind_is, names_to_part, names_to_read, names_to_split};
+ghost use Rattle.run_model.specs.BucketSteps.{has_rest, is_of_kind, is_unsplit, items_at, kind_is, names_if, names_to_part, names_to_read};
 ghost use Rattle.run_model.specs.Cursors.{bucket_at as model_bucket_at, is_end, spot};
 ghost use Rattle.run_model.specs.Faults.{Anywhere, InBrigade, OnBucket, fault};
 ghost use Rattle.run_model.specs.Pools.{is_empty};
 ghost use Rattle.run_model.specs.State.{items_of};
-ghost use Rattle.run_model.specs.Steps.{is_null, is_spent, lacks_names, names_of, pool_names_of, value_of};
+ghost use Rattle.run_model.specs.Steps.{is_null, is_spent, lacks_names, names_for, pool_names_for, value_of};
 ghost use Rattle.run_model.specs.declared.bucket.NamedBucket.{NamedBucket};
 ghost use Rattle.pool_tree.specs.Tree.{map_of};
 ghost use Rattle.brigade_ops.specs.Store.{lists, next_name};
@@ -16,6 +16,7 @@ ghost use Rattle.stored_rings.specs.Views.{content_of};
 ghost use Rattle.ring_calls.specs.declared.machine.Call.{Call};
 ghost use Rattle.ring_calls.specs.Around.{Around};
 ghost use Rattle.ring_calls.specs.Held.{IsHeld};
+ghost use Rattle.ring_calls.specs.EffectNeeds.{HasNoFault, instr_with};
 ghost use Rattle.ring_calls.specs.Needs.{StandsAs};
 ghost use Rattle.ring_calls.specs.Outside.{with_outside};
 ghost use Rattle.ring_calls.specs.Seen.{seen};
@@ -27,13 +28,13 @@ use crate::outside::Outside;
 use crate::pool_names;
 use crate::values::value_of;
 use brigade_ops::{Brigades, ContentView, Kind, Rings, Stored, View};
-use run_model::{Instr, KindTest, Module, PoolVar, Value, VarRef};
+use run_model::{Effect, Instr, KindTest, Module, PoolVar, Value, VarRef, effect_of};
 
 /// How many bytes a read takes from a file, at most.
 const READ_LIMIT: u64 = 8000;
 
 /// Whether a cursor stands at the end of a brigade.
-pub fn is_end<R: Rings<Stored> + Drop>(
+pub(crate) fn is_end<R: Rings<Stored> + Drop>(
     instance: &Instance,
     call: &Call,
     store: &Brigades<R>,
@@ -52,7 +53,7 @@ pub fn is_end<R: Rings<Stored> + Drop>(
 }
 
 /// The bucket at which a cursor stands, as it is seen.
-pub fn view_at<'a, R: Rings<Stored> + Drop>(
+pub(crate) fn view_at<'a, R: Rings<Stored> + Drop>(
     instance: &Instance,
     call: &Call,
     store: &'a Brigades<R>,
@@ -84,7 +85,7 @@ fn is_of_kind(test: KindTest, kind: Kind) -> bool
 }
 
 /// Whether the bucket at a cursor is of a kind.
-pub fn kind_is<R: Rings<Stored> + Drop>(
+pub(crate) fn kind_is<R: Rings<Stored> + Drop>(
     instance: &Instance,
     call: &Call,
     store: &Brigades<R>,
@@ -107,7 +108,8 @@ fn is_refused(bucket: View<'_>, n: u32) -> bool
 }
 
 /// Whether a split at a cursor is refused.
-pub fn is_unsplit<R: Rings<Stored> + Drop>(
+#[tactic(auto, using(crate::proofs::Standing::on_bucket))]
+pub(crate) fn is_unsplit<R: Rings<Stored> + Drop>(
     instance: &Instance,
     call: &Call,
     store: &Brigades<R>,
@@ -122,24 +124,11 @@ pub fn is_unsplit<R: Rings<Stored> + Drop>(
     is_refused(view_at(instance, call, store, c), value_of(instance, x))
 }
 
-/// How many names a split takes.
-fn names_to_split<R: Rings<Stored> + Drop>(
-    instance: &Instance,
-    call: &Call,
-    store: &Brigades<R>,
-    x: Value,
-    c: u8,
-) -> u64
-    requires cursor { c < 9 }
-    requires held { IsHeld store.now instance.now call.now }
-    requires stands { StandsAs store.now instance.now call.now c InBrigade }
-    ensures { (around : Around) → let r = seen store.now around instance.now call.now in result ≡ names_to_split (value_of r x) (spot r c) }
+/// One name where something is so, and else none.
+fn names_if(wanted: bool) -> u64
+    ensures { result ≡ names_if wanted }
 {
-    if is_unsplit(instance, call, store, x, c) {
-        0
-    } else {
-        1
-    }
+    if wanted { 1 } else { 0 }
 }
 
 /// Whether a read leaves a rest.
@@ -153,7 +142,8 @@ fn has_rest(content: ContentView<'_>) -> bool
 }
 
 /// How many names a read takes.
-pub fn names_to_read<R: Rings<Stored> + Drop>(
+#[tactic(auto, using(crate::proofs::Standing::on_bucket))]
+fn names_to_read<R: Rings<Stored> + Drop>(
     instance: &Instance,
     call: &Call,
     store: &Brigades<R>,
@@ -164,15 +154,12 @@ pub fn names_to_read<R: Rings<Stored> + Drop>(
     requires stands { StandsAs store.now instance.now call.now c InBrigade }
     ensures { (around : Around) → result ≡ names_to_read (spot (seen store.now around instance.now call.now) c) }
 {
-    if has_rest(view_at(instance, call, store, c).content) {
-        1
-    } else {
-        0
-    }
+    names_if(has_rest(view_at(instance, call, store, c).content))
 }
 
 /// Whether a brigade has fewer bytes than a partition wants.
-pub fn is_incomplete<R: Rings<Stored> + Drop>(
+#[tactic(auto, using(crate::proofs::Slots::made_in))]
+pub(crate) fn is_incomplete<R: Rings<Stored> + Drop>(
     instance: &Instance,
     store: &Brigades<R>,
     b: u8,
@@ -187,6 +174,7 @@ pub fn is_incomplete<R: Rings<Stored> + Drop>(
 }
 
 /// How many names a partition takes.
+#[tactic(auto, using(crate::proofs::Slots::made_in))]
 fn names_to_part<R: Rings<Stored> + Drop>(
     instance: &Instance,
     store: &Brigades<R>,
@@ -198,14 +186,16 @@ fn names_to_part<R: Rings<Stored> + Drop>(
     ensures { (around : Around) (call : Call) → let r = seen store.now around instance.now call in result ≡ names_to_part (value_of r x) (items_at r b) }
 {
     let point = u64::from(value_of(instance, x));
-    match bucket_across(store, instance.brigade(b), point) {
-        Some(_) => 1,
-        None => 0,
-    }
+    names_if(bucket_across(store, instance.brigade(b), point).is_some())
 }
 
 /// Whether a brigade has no buckets.
-pub fn is_empty<R: Rings<Stored> + Drop>(instance: &Instance, store: &Brigades<R>, b: u8) -> bool
+#[tactic(auto, using(crate::proofs::Slots::made_in))]
+pub(crate) fn is_empty<R: Rings<Stored> + Drop>(
+    instance: &Instance,
+    store: &Brigades<R>,
+    b: u8,
+) -> bool
     requires slot { b < 9 }
     requires live { is_some (live_in (lists store.now) (slot_at instance.now b)) ≡ true }
     ensures { (around : Around) (call : Call) → result ≡ is_empty (items_of ((seen store.now around instance.now call).instance.brigades b)) }
@@ -230,42 +220,40 @@ pub fn is_null<R: Rings<Stored> + Drop>(
     }
 }
 
-/// How many names of buckets, brigades and calls an instruction gives out.
+/// How many names of buckets and brigades an effect gives out.
+#[inline(always)]
 fn names<R: Rings<Stored> + Drop>(
     code: &Module,
     instance: &Instance,
     call: &Call,
     store: &Brigades<R>,
-    instr: Instr,
+    effect: Effect,
 ) -> u64
-    requires fit { fits code.now instr ≡ true }
+    requires fit { fits code.now (instr_with effect) ≡ true }
     requires few { length code.now.brigades ≤ 8 }
     requires held { IsHeld store.now instance.now call.now }
-    requires faultless { (around : Around) × (fault code.now (seen store.now around instance.now call.now) instr ≡ None) }
-    ensures { (around : Around) → result ≡ names_of (seen store.now around instance.now call.now) instr }
+    requires faultless { (around : Around) × HasNoFault code.now store.now around instance.now call.now effect }
+    ensures { (around : Around) → result ≡ names_for (seen store.now around instance.now call.now) effect }
 {
-    match instr {
-        Instr::BCreate(_)
-        | Instr::Heap(_, _)
-        | Instr::Immortal(_, _)
-        | Instr::FromBuf(_)
-        | Instr::Transient(_)
-        | Instr::PoolB(_, _)
-        | Instr::Flush(_)
-        | Instr::Eos(_)
-        | Instr::Copy(_, _) => 1,
-        Instr::BPart(b, x, _, _) => names_to_part(instance, store, b, x),
-        Instr::Split(c, x, _) => names_to_split(instance, call, store, x, c),
-        Instr::Read(c, _) => names_to_read(instance, call, store, c),
+    match effect {
+        Effect::MakeBrigade(_) | Effect::Make(_, _) => 1,
+        Effect::PartBrigade(b, x, _) => names_to_part(instance, store, b, x),
+        Effect::Split(c, x) => names_if(!is_unsplit(instance, call, store, x, c)),
+        Effect::Read(c) => names_to_read(instance, call, store, c),
         _ => 0,
     }
 }
 
-/// How many names of pools an instruction gives out.
-fn pool_names(instr: Instr) -> u64
-    ensures { result ≡ pool_names_of instr }
+/// How many names of pools an effect gives out.
+#[inline(always)]
+fn pool_names(effect: Effect) -> u64
+    ensures { result ≡ pool_names_for effect }
 {
-    if let Instr::PCreate(_) = instr { 1 } else { 0 }
+    if let Effect::MakePool(_) = effect {
+        1
+    } else {
+        0
+    }
 }
 
 /// Whether so many names are not left, where this one is the next.
@@ -291,6 +279,7 @@ pub fn lacks_names<R: Rings<Stored> + Drop>(
     requires faultless { (around : Around) × (fault code.now (seen store.now around instance.now call.now) instr ≡ None) }
     ensures { (around : Around) → result ≡ lacks_names (seen store.now (with_outside outside.now around) instance.now call.now) instr }
 {
-    let names = names(code, instance, call, store, instr);
-    is_spent(store.next_name(), names) || is_spent(outside.tree.next_name(), pool_names(instr))
+    let effect = effect_of(instr);
+    let names = names(code, instance, call, store, effect);
+    is_spent(store.next_name(), names) || is_spent(outside.tree.next_name(), pool_names(effect))
 }

@@ -110,7 +110,7 @@ pub fn byte_of(content: ContentView<'_>, k: u32) -> Option<u8>
 }
 
 /// A byte of the bucket at the read cursor.
-pub fn byte_read<R: Rings<Stored> + Drop>(
+pub(crate) fn byte_read<R: Rings<Stored> + Drop>(
     instance: &Instance,
     call: &Call,
     store: &Brigades<R>,

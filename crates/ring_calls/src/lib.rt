@@ -4,6 +4,7 @@
 
 pub mod across;
 pub mod asks;
+pub mod bucket_tests;
 pub mod bytes;
 pub mod cursors;
 pub mod exits;

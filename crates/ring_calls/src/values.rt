@@ -40,7 +40,7 @@ impl Instance {
 #[tactic(auto, unfolding(crate::specs::Seen::seen_over, crate::specs::Slots::cursor_at))]
 impl Call {
     /// Appends a byte to the buffer. Without memory nothing is changed.
-    pub fn buffer_byte(&mut self, byte: u8) -> Result<(), AllocError>
+    pub(crate) fn buffer_byte(&mut self, byte: u8) -> Result<(), AllocError>
         ensures ok { OnOk result ((rings : ℕ → Option Items) (next : ℕ) (around : Around) (i : Instance) → let r = seen_over rings next around i self.old in
             seen_over rings next around i self.new ≡ record r { call = record r.call { buffer = r.call.buffer ++ byte ∷ [] } }) }
         ensures err { OnErr result ((rings : ℕ → Option Items) (next : ℕ) (around : Around) (i : Instance) → seen_over rings next around i self.new ≡ seen_over rings next around i self.old) }

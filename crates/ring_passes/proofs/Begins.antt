@@ -75,42 +75,50 @@ items_begun k waits (x ∷ xs) older =
         go false = there
 
 module _ {R : Type 0} {g : Ghosts R Stored} (old new : Brigades R g) (i : Instance) (call begun : Call) (held : IsHeld old i call)
-    (idle : call.name ≡ 0) (over : (n : ℕ) → lists new n ≡ ring.upd (lists old) (next_name old) (Some []) n) (name : begun.name ≡ next_name old) (unset : (c : ℕ) → cursor_at begun c ≡ cursor_value.Unset) where
+    (idle : call.name ≡ 0) (over : (n : ℕ) → lists new n ≡ ring.upd (lists old) (next_name old) (Some []) n) (name : begun.name ≡ next_name old)
+    (unset : (c : ℕ) → cursor_at begun c ≡ cursor_value.Unset) where
   as_was : (n : ℕ) → n < next_name old → lists new n ≡ lists old n
   as_was n below = over n ∙ ring_off (lists old) (next_name old) n (Some []) (λ e. omega (arith, below, e))
 
   pub by_slot : (waits : List ℕ) (b : ℕ) → shown_slot (is_running begun.name waits) (lists new) (slot_at i b) ≡ shown_slot (is_running call.name waits) (lists old) (slot_at i b)
-  by_slot waits b = ap (λ n. shown_slot (is_running n waits) (lists new) (slot_at i b)) name ∙ (go (slot_at i b) refl ∙ ap (λ n. shown_slot (is_running n waits) (lists old) (slot_at i b)) (sym idle)) where
-    there : (n : ℕ) (pool : Option ℕ) (mark : Mark) (o : Option Items) → lists old n ≡ o → shown_as (is_running (next_name old) waits) n pool mark o ≡ shown_as (is_running 0 waits) n pool mark o
-    there n pool mark None e = refl
-    there n pool mark (Some xs) e = ap live (items_begun (next_name old) waits xs older) where
-      live : List NamedBucket → BrigadeVar
-      live items = Rattle.run_model.specs.declared.bucket.BrigadeVar.TheVariants.Live (record { name = n; on = pool; mark = mark; items = items })
+  by_slot waits b = ap (λ n. shown_slot (is_running n waits) (lists new) (slot_at i b)) name
+      ∙ (go (slot_at i b) refl ∙ ap (λ n. shown_slot (is_running n waits) (lists old) (slot_at i b)) (sym idle)) where
+        there : (n : ℕ) (pool : Option ℕ) (mark : Mark) (o : Option Items) → lists old n ≡ o → shown_as (is_running (next_name old) waits) n pool mark o ≡ shown_as (is_running 0 waits) n pool mark o
+        there n pool mark None e = refl
+        there n pool mark (Some xs) e = ap live (items_begun (next_name old) waits xs older) where
+          live : List NamedBucket → BrigadeVar
+          live items = Rattle.run_model.specs.declared.bucket.BrigadeVar.TheVariants.Live (record { name = n; on = pool; mark = mark; items = items })
 
-      older : (id : BucketId) → 0 < times id xs → id.birth < next_name old
-      older id h = young old id (ap is_some (in_listed old id n (subst (λ (o : Option Items). 0 < times id (option_map_or (λ bs. bs) o [])) (sym e) h)))
+          older : (id : BucketId) → 0 < times id xs → id.birth < next_name old
+          older id h = young old id (ap is_some (in_listed old id n (subst (λ (o : Option Items). 0 < times id (option_map_or (λ bs. bs) o [])) (sym e) h)))
 
-    go : (s : Slot) → slot_at i b ≡ s → shown_slot (is_running (next_name old) waits) (lists new) s ≡ shown_slot (is_running 0 waits) (lists old) s
-    go slot.Null e = refl
-    go (slot.Made n pool mark) e = ap (shown_as (is_running (next_name old) waits) n pool mark) (as_was n (held.named b n (ap name_in e))) ∙ there n pool mark (lists old n) refl
+        go : (s : Slot) → slot_at i b ≡ s → shown_slot (is_running (next_name old) waits) (lists new) s ≡ shown_slot (is_running 0 waits) (lists old) s
+        go slot.Null e = refl
+        go (slot.Made n pool mark) e = ap (shown_as (is_running (next_name old) waits) n pool mark) (as_was n (held.named b n (ap name_in e))) ∙ there n pool mark (lists old n) refl
 
-  pub seen_begun : (pc : ℕ) (around : Around) → next_name new ≡ next_name old + 1 → begun.buffer ≡ [] → begun.pc ≡ pc → seen_over (lists new) (next_name new) around i begun ≡ begun_as pc (seen_over (lists old) (next_name old) around i call)
+  pub seen_begun : (pc : ℕ) (around : Around) → next_name new ≡ next_name old + 1 → begun.buffer ≡ [] → begun.pc ≡ pc
+      → seen_over (lists new) (next_name new) around i begun ≡ begun_as pc (seen_over (lists old) (next_name old) around i call)
   unfolding seen_over
   seen_begun pc around next empty at =
       let r = seen_over (lists old) (next_name old) around i call in
       let made : (ℕ → BrigadeVar) → ℕ → (ℕ → Cursor) → List ℕ → List NamedBucket → ℕ → ℕ → Configuration =
-      λ bs name cursors buffer items next pc. record r { instance = record r.instance { brigades = bs }; call = record { name = name; cursors = cursors; buffer = buffer; loose = items }; shared = record r.shared { next = next }; pc = pc } in
-      ap (λ bs. made bs begun.name (λ c. shown_cursor (cursor_at begun c)) begun.buffer (shown (calls_in around begun) (list_at (lists new) begun.name)) (next_name new) begun.pc) (fun_ext (by_slot around.waits))
-      ∙ (ap (λ cs. made r.instance.brigades begun.name cs begun.buffer (shown (calls_in around begun) (list_at (lists new) begun.name)) (next_name new) begun.pc) (fun_ext (λ c. ap shown_cursor (unset c)))
+      λ bs name cursors buffer items next pc. record r
+      { instance = record r.instance { brigades = bs }; call = record { name = name; cursors = cursors; buffer = buffer; loose = items }; shared = record r.shared { next = next }; pc = pc } in
+      ap (λ bs. made bs begun.name (λ c. shown_cursor (cursor_at begun c)) begun.buffer (shown (calls_in around begun) (list_at (lists new) begun.name)) (next_name new) begun.pc)
+      (fun_ext (by_slot around.waits))
+      ∙ (ap (λ cs. made r.instance.brigades begun.name cs begun.buffer (shown (calls_in around begun) (list_at (lists new) begun.name)) (next_name new) begun.pc)
+      (fun_ext (λ c. ap shown_cursor (unset c)))
       ∙ (ap (λ bytes. made r.instance.brigades begun.name (λ c. cursor.Unset) bytes (shown (calls_in around begun) (list_at (lists new) begun.name)) (next_name new) begun.pc) empty
       ∙ (ap (λ items. made r.instance.brigades begun.name (λ c. cursor.Unset) [] items (next_name new) begun.pc) no_loose
       ∙ (ap (λ n. made r.instance.brigades n (λ c. cursor.Unset) [] [] (next_name new) begun.pc) name
       ∙ (ap (λ n. made r.instance.brigades (next_name old) (λ c. cursor.Unset) [] [] n begun.pc) next
       ∙ ap (λ n. made r.instance.brigades (next_name old) (λ c. cursor.Unset) [] [] (next_name old + 1) n) at))))) where
         no_loose : shown (calls_in around begun) (list_at (lists new) begun.name) ≡ []
-        no_loose = ap (λ (o : Option Items). shown (calls_in around begun) (option_map_or (λ bs. bs) o [])) (ap (lists new) name ∙ (over (next_name old) ∙ ring_here (lists old) (next_name old) (Some [])))
+        no_loose = ap (λ (o : Option Items). shown (calls_in around begun) (option_map_or (λ bs. bs) o []))
+            (ap (lists new) name ∙ (over (next_name old) ∙ ring_here (lists old) (next_name old) (Some [])))
 
-  pub held_begun : next_name new ≡ next_name old + 1 → NoneRevived (brigade_of old) (brigade_of new) (next_name old) → pool_of new ≡ pool_of old → pool_of old (next_name old) ≡ None → IsHeld new i begun
+  pub held_begun : next_name new ≡ next_name old + 1 → NoneRevived (brigade_of old) (brigade_of new) (next_name old) → pool_of new ≡ pool_of old → pool_of old (next_name old) ≡ None
+      → IsHeld new i begun
   held_begun next names pools free = record {
     apart = held.apart;
     loose = λ b e. (let a = held.named b (next_name old) (e ∙ ap (λ (n : ℕ). Some n) name) in omega (arith, a));

@@ -1,5 +1,6 @@
 -- What is taken of a brigade, read by read.
-use Rattle.std.proofs.Common.{◌≡◌, ◌⊎◌, ℕ, zero, suc, ◌+◌, ◌-◌, ◌<◌, ◌≤◌, Bool, true, false, min, List, [], ◌∷◌, ◌++◌, length, Option, Some, None, refl, sym, ap, subst, ⊎_elim, ◌∙◌, append_assoc, arith}
+use Rattle.std.proofs.Common.{◌≡◌, ◌⊎◌, ℕ, zero, suc, ◌+◌, ◌-◌, ◌<◌, ◌≤◌, Bool, true, false, min, List, [], ◌∷◌, ◌++◌, length, Option, Some, None, refl, sym, ap, subst, ⊎_elim, ◌∙◌, append_assoc}
+use Rattle.std.proofs.Common.{arith}
 use Rattle.std.proofs.lemmas.Bool.{false≢true, cases_lt}
 use Rattle.std.specs.Prelude.{if◌then◌else◌}
 use Rattle.std.proofs.lemmas.List.{append-nil, length-append}
@@ -80,7 +81,8 @@ module _ (e : Device) (file : ℕ) (rs : Reads) (next : Device → ℕ → Type 
   part_given d m at j o =
       PartGiven d e file at (min m read_limit) o (PartsGiven (moved d) e (parts_of (m - 8000)) file (at + read_limit) (m - read_limit) rs next (j + 1))
 
-  step_given : (d : Device) (m at n j : ℕ) (bytes : List ℕ) → 0 < m → n ≡ min m 8000 → rs j ≡ Some bytes → MayGiveBytes (d.numbered file) at n bytes → MayGoWell d.plan → rest_given (moved d) (m - n) (at + n) (j + 1) → rest_given d m at j
+  step_given : (d : Device) (m at n j : ℕ) (bytes : List ℕ) → 0 < m → n ≡ min m 8000 → rs j ≡ Some bytes → MayGiveBytes (d.numbered file) at n bytes → MayGoWell d.plan
+      → rest_given (moved d) (m - n) (at + n) (j + 1) → rest_given d m at j
   unfolding PartsGiven
   step_given d m at n j bytes some is read gives well h =
       subst (λ (p : ℕ). PartsGiven d e p file at m rs next j) (sym (parts_more m some))
@@ -98,14 +100,16 @@ module _ (e : Device) (file : ℕ) (rs : Reads) (next : Device → ℕ → Type 
 pub record RangeSoFar (d now : Device) (file start len count : ℕ) (front : List ℕ) : Type 0 where
   pub reads : List (Option (List ℕ))
   pub takes : (k : ℕ) (rs : Reads) → HasReads rs k reads → parts_taken (parts_of len) k rs ≡ and_taken front (parts_taken (parts_of (len - count)) (k + length reads) rs)
-  pub goes_on : (last : Device) (bs : List NamedBucket) (k : ℕ) (rs : Reads) → HasReads rs k reads → rest_given last file rs (λ f j. ReadsGiven f last bs rs j) now (len - count) (start + count) (k + length reads)
+  pub goes_on : (last : Device) (bs : List NamedBucket) (k : ℕ) (rs : Reads) → HasReads rs k reads
+      → rest_given last file rs (λ f j. ReadsGiven f last bs rs j) now (len - count) (start + count) (k + length reads)
       → PartsGiven d last (parts_of len) file start len rs (λ f j. ReadsGiven f last bs rs j) k
 
 module _ (d : Device) (file start len : ℕ) where
   pub range_none : (front : List ℕ) → front ≡ [] → RangeSoFar d d file start len 0 front
   range_none front none = record {
     reads = [];
-    takes = λ k rs h. ap (λ (n : ℕ). parts_taken (parts_of n) k rs) (let e : len ≡ len - 0 = omega arith in e) ∙ (ap (λ (j : ℕ). and_taken [] (parts_taken (parts_of (len - 0)) j rs)) (let e : k ≡ k + 0 = omega arith in e) ∙ ap (λ (bytes : List ℕ). and_taken bytes (parts_taken (parts_of (len - 0)) (k + 0) rs)) (sym none));
+    takes = λ k rs h. ap (λ (n : ℕ). parts_taken (parts_of n) k rs) (let e : len ≡ len - 0 = omega arith in e) ∙ (ap (λ (j : ℕ). and_taken [] (parts_taken (parts_of (len - 0)) j rs))
+        (let e : k ≡ k + 0 = omega arith in e) ∙ ap (λ (bytes : List ℕ). and_taken bytes (parts_taken (parts_of (len - 0)) (k + 0) rs)) (sym none));
     goes_on = λ last bs k rs h rest.
         let next : Device → ℕ → Type 0 = λ f j. ReadsGiven f last bs rs j in
         subst (λ (n : ℕ). rest_given last file rs next d n start k) (let e : len - 0 ≡ len = omega arith in e)
@@ -113,7 +117,8 @@ module _ (d : Device) (file start len : ℕ) where
         (subst (λ (i : ℕ). rest_given last file rs next d (len - 0) (start + 0) i) (let e : k + 0 ≡ k = omega arith in e) rest));
   }
 
-  pub range_read : (now : Device) (count n past : ℕ) (front bytes more : List ℕ) → RangeSoFar d now file start len count front → count < len → n ≡ min (len - count) 8000 → MayGiveBytes (now.numbered file) (start + count) n bytes → MayGoWell now.plan → more ≡ front ++ bytes → past ≡ count + n
+  pub range_read : (now : Device) (count n past : ℕ) (front bytes more : List ℕ) → RangeSoFar d now file start len count front → count < len → n ≡ min (len - count) 8000
+      → MayGiveBytes (now.numbered file) (start + count) n bytes → MayGoWell now.plan → more ≡ front ++ bytes → past ≡ count + n
       → RangeSoFar d (moved now) file start len past more
   range_read now count n past front bytes more s below is gives well grown on = record {
     reads = s.reads ++ Some bytes ∷ [];
@@ -138,7 +143,8 @@ module _ (d : Device) (file start len : ℕ) where
     left : past ≡ count + n → len - count - n ≡ len - past
     left e = omega (arith, e)
 
-  pub range_failed : (now e : Device) (count n : ℕ) (front : List ℕ) → RangeSoFar d now file start len count front → count < len → n ≡ min (len - count) 8000 → HasFailed now e ⊎ (WentWell now e × MayEnd (now.numbered file) (start + count) n)
+  pub range_failed : (now e : Device) (count n : ℕ) (front : List ℕ) → RangeSoFar d now file start len count front → count < len → n ≡ min (len - count) 8000
+      → HasFailed now e ⊎ (WentWell now e × MayEnd (now.numbered file) (start + count) n)
       → ContentTaken d e (content.Range file start len) front false
   range_failed now e count n front s below is why = record {
     reads = s.reads ++ None ∷ [];
@@ -155,7 +161,8 @@ module _ (d : Device) (file start len : ℕ) where
         s.goes_on e bs k rs p.0 (failed_given e file rs (λ f j. ReadsGiven f e bs rs j) now (len - count) (start + count) n (k + length s.reads) (omega (arith, below)) is p.1.0 why);
   }
 
-  pub range_done : (now : Device) (count : ℕ) (front : List ℕ) → RangeSoFar d now file start len count front → len ≤ count → SomeWentWell d now → ContentTaken d now (content.Range file start len) front true
+  pub range_done : (now : Device) (count : ℕ) (front : List ℕ) → RangeSoFar d now file start len count front → len ≤ count → SomeWentWell d now
+      → ContentTaken d now (content.Range file start len) front true
   range_done now count front s all went = record {
     reads = s.reads;
     takes = λ k rs h.
@@ -172,7 +179,8 @@ module _ (d : Device) (file start len : ℕ) where
 
 -- Bytes in memory.
 
-memory : (d : Device) (c : Content) (bs : List ℕ) → ((k : ℕ) (rs : Reads) → content_taken c k rs ≡ taken_whole bs k) → ((last : Device) (rs : Reads) (next : Device → ℕ → Type 0) (k : ℕ) → next d k → ContentGiven d last c rs next k) → ContentTaken d d c bs true
+memory : (d : Device) (c : Content) (bs : List ℕ) → ((k : ℕ) (rs : Reads) → content_taken c k rs ≡ taken_whole bs k)
+    → ((last : Device) (rs : Reads) (next : Device → ℕ → Type 0) (k : ℕ) → next d k → ContentGiven d last c rs next k) → ContentTaken d d c bs true
 memory d c bs takes gives = record {
   reads = [];
   takes = λ k rs h. takes k rs ∙ ap (λ (j : ℕ). taken_whole bs j) (let e : k ≡ k + 0 = omega arith in e);
@@ -198,12 +206,14 @@ module _ (b : NamedBucket) (bs : List NamedBucket) (k : ℕ) (rs : Reads) where
   unfolding taken
   plain_taken plain = ap (λ (t : Bool). if t then taken_whole [] k else followed (content_taken b.bucket.content k rs) (λ j. taken bs j rs)) plain
 
-  part_taken : (bytes : List ℕ) (w : Bool) (j : ℕ) → is_eos b ≡ false → content_taken b.bucket.content k rs ≡ record { bytes = bytes; whole = w; reads = j } → w ≡ false → taken (b ∷ bs) k rs ≡ record { bytes = bytes; whole = false; reads = j }
+  part_taken : (bytes : List ℕ) (w : Bool) (j : ℕ) → is_eos b ≡ false → content_taken b.bucket.content k rs ≡ record { bytes = bytes; whole = w; reads = j } → w ≡ false
+      → taken (b ∷ bs) k rs ≡ record { bytes = bytes; whole = false; reads = j }
   part_taken bytes w j plain is failed =
       plain_taken plain
       ∙ ap (λ (t : Taken). followed t (λ i. taken bs i rs)) (is ∙ ap (λ (v : Bool). let t : Taken = record { bytes = bytes; whole = v; reads = j } in t) failed)
 
-  more_taken : (bytes : List ℕ) (w : Bool) (j : ℕ) → is_eos b ≡ false → content_taken b.bucket.content k rs ≡ record { bytes = bytes; whole = w; reads = j } → w ≡ true → taken (b ∷ bs) k rs ≡ and_taken bytes (taken bs j rs)
+  more_taken : (bytes : List ℕ) (w : Bool) (j : ℕ) → is_eos b ≡ false → content_taken b.bucket.content k rs ≡ record { bytes = bytes; whole = w; reads = j } → w ≡ true
+      → taken (b ∷ bs) k rs ≡ and_taken bytes (taken bs j rs)
   more_taken bytes w j plain is went =
       plain_taken plain
       ∙ ap (λ (t : Taken). followed t (λ i. taken bs i rs)) (is ∙ ap (λ (v : Bool). let t : Taken = record { bytes = bytes; whole = v; reads = j } in t) went)
@@ -238,7 +248,8 @@ module _ (d : Device) (xs : Items) where
         ap (λ (zs : Items). taken (shown runs zs) k rs) (sym all)
         ∙ (ap (λ (j : ℕ). and_taken [] (taken (shown runs left) j rs)) (let e : k ≡ k + 0 = omega arith in e)
         ∙ ap (λ (bytes : List ℕ). and_taken bytes (taken (shown runs left) (k + 0) rs)) (sym none));
-    goes_on = λ runs last k rs h rest. subst (λ (zs : Items). ReadsGiven d last (shown runs zs) rs k) all (subst (λ (j : ℕ). ReadsGiven d last (shown runs left) rs j) (let e : k + 0 ≡ k = omega arith in e) rest);
+    goes_on = λ runs last k rs h rest. subst (λ (zs : Items). ReadsGiven d last (shown runs zs) rs k) all
+        (subst (λ (j : ℕ). ReadsGiven d last (shown runs left) rs j) (let e : k + 0 ≡ k = omega arith in e) rest);
   }
 
   pub items_end : (now : Device) (left : Items) (front : List ℕ) → ItemsSoFar d now xs left front → left ≡ [] → ItemsTaken d now xs front true
@@ -249,29 +260,35 @@ module _ (d : Device) (xs : Items) where
         ∙ (ap (λ (zs : Items). and_taken front (taken (shown runs zs) (k + length s.reads) rs)) none
         ∙ (ap (and_taken front) (none_taken (k + length s.reads) rs)
         ∙ ap (λ (bytes : List ℕ). taken_whole bytes (k + length s.reads)) (append-nil front)));
-    given = λ runs k rs h. s.goes_on runs now k rs h (subst (λ (zs : Items). ReadsGiven now now (shown runs zs) rs (k + length s.reads)) (sym none) (nothing_given now now (k + length s.reads) rs refl));
+    given = λ runs k rs h. s.goes_on runs now k rs h
+        (subst (λ (zs : Items). ReadsGiven now now (shown runs zs) rs (k + length s.reads)) (sym none) (nothing_given now now (k + length s.reads) rs refl));
   }
 
   module _ (now : Device) (left : Items) (id : BucketId) (x : Bucket) (ys : Items) (front : List ℕ) (s : ItemsSoFar d now xs left front) (head : left ≡ (id, x) ∷ ys) where
     first : (ℕ → Bool) → NamedBucket
     first runs = named_item (item_in runs (id, x))
 
+    -- what is taken of all is what was taken so far, and what the first of the others begins
+    taken_on : (runs : ℕ → Bool) (k : ℕ) (rs : Reads) (t : Taken) → HasReads rs k s.reads → taken (first runs ∷ shown runs ys) (k + length s.reads) rs ≡ t
+        → taken (shown runs xs) k rs ≡ and_taken front t
+    unfolding first
+    taken_on runs k rs t h is = s.takes runs k rs h ∙ (ap (λ (zs : Items). and_taken front (taken (shown runs zs) (k + length s.reads) rs)) head ∙ ap (and_taken front) is)
+
+    given_on : (runs : ℕ → Bool) (last : Device) (k : ℕ) (rs : Reads) → HasReads rs k s.reads → ReadsGiven now last (first runs ∷ shown runs ys) rs (k + length s.reads)
+        → ReadsGiven d last (shown runs xs) rs k
+    unfolding first
+    given_on runs last k rs h more = s.goes_on runs last k rs h (subst (λ (zs : Items). ReadsGiven now last (shown runs zs) rs (k + length s.reads)) (sym head) more)
+
     pub items_eos : is_eos_kind x.kind ≡ true → ItemsTaken d now xs front true
     unfolding first
     items_eos eos = record {
       reads = s.reads;
       takes = λ runs k rs h.
-          s.takes runs k rs h
-          ∙ (ap (λ (zs : Items). and_taken front (taken (shown runs zs) (k + length s.reads) rs)) head
-          ∙ (ap (and_taken front) (eos_taken (first runs) (shown runs ys) (k + length s.reads) rs eos)
-          ∙ ap (λ (bytes : List ℕ). taken_whole bytes (k + length s.reads)) (append-nil front)));
-      given = λ runs k rs h. s.goes_on runs now k rs h (subst (λ (zs : Items). ReadsGiven now now (shown runs zs) rs (k + length s.reads)) (sym head) (eos_given (first runs) (shown runs ys) (k + length s.reads) rs now now eos refl));
+          taken_on runs k rs _ h (eos_taken (first runs) (shown runs ys) (k + length s.reads) rs eos) ∙ ap (λ (bytes : List ℕ). taken_whole bytes (k + length s.reads)) (append-nil front);
+      given = λ runs k rs h. given_on runs now k rs h (eos_given (first runs) (shown runs ys) (k + length s.reads) rs now now eos refl);
     }
 
     module _ (e : Device) (whole : Bool) (part : List ℕ) (plain : is_eos_kind x.kind ≡ false) (c : ContentTaken now e x.content part whole) where
-      all_reads : List (Option (List ℕ))
-      all_reads = s.reads ++ c.reads
-
       all_long : (k : ℕ) → k + length s.reads + length c.reads ≡ k + length (s.reads ++ c.reads)
       all_long k = let l = length-append s.reads c.reads in omega (arith, l)
 
@@ -281,14 +298,12 @@ module _ (d : Device) (xs : Items) where
         reads = s.reads ++ c.reads;
         takes = λ runs k rs h.
             let p = has_both s.reads c.reads k (k + length s.reads) rs refl h in
-            s.takes runs k rs p.0
-            ∙ (ap (λ (zs : Items). and_taken front (taken (shown runs zs) (k + length s.reads) rs)) head
-            ∙ (ap (and_taken front) (part_taken (first runs) (shown runs ys) (k + length s.reads) rs part whole (k + length s.reads + length c.reads) plain (c.takes (k + length s.reads) rs p.1) failed)
-            ∙ ap (taken_by (front ++ part) false) (all_long k)));
+            taken_on runs k rs _ p.0
+            (part_taken (first runs) (shown runs ys) (k + length s.reads) rs part whole (k + length s.reads + length c.reads) plain (c.takes (k + length s.reads) rs p.1) failed)
+            ∙ ap (taken_by (front ++ part) false) (all_long k);
         given = λ runs k rs h.
             let p = has_both s.reads c.reads k (k + length s.reads) rs refl h in
-            s.goes_on runs e k rs p.0 (subst (λ (zs : Items). ReadsGiven now e (shown runs zs) rs (k + length s.reads)) (sym head)
-            (more_given (first runs) (shown runs ys) (k + length s.reads) rs now e plain (c.fails failed (shown runs ys) (k + length s.reads) rs p.1)));
+            given_on runs e k rs p.0 (more_given (first runs) (shown runs ys) (k + length s.reads) rs now e plain (c.fails failed (shown runs ys) (k + length s.reads) rs p.1));
       }
 
       pub items_more : whole ≡ true → ItemsSoFar d e xs ys (front ++ part)
@@ -297,16 +312,13 @@ module _ (d : Device) (xs : Items) where
         reads = s.reads ++ c.reads;
         takes = λ runs k rs h.
             let p = has_both s.reads c.reads k (k + length s.reads) rs refl h in
-            s.takes runs k rs p.0
-            ∙ (ap (λ (zs : Items). and_taken front (taken (shown runs zs) (k + length s.reads) rs)) head
-            ∙ (ap (and_taken front) (more_taken (first runs) (shown runs ys) (k + length s.reads) rs part whole (k + length s.reads + length c.reads) plain (c.takes (k + length s.reads) rs p.1) went)
+            taken_on runs k rs _ p.0 (more_taken (first runs) (shown runs ys) (k + length s.reads) rs part whole (k + length s.reads + length c.reads) plain (c.takes (k + length s.reads) rs p.1) went)
             ∙ (both_taken front part (taken (shown runs ys) (k + length s.reads + length c.reads) rs)
-            ∙ ap (λ (j : ℕ). and_taken (front ++ part) (taken (shown runs ys) j rs)) (all_long k))));
+            ∙ ap (λ (j : ℕ). and_taken (front ++ part) (taken (shown runs ys) j rs)) (all_long k));
         goes_on = λ runs last k rs h rest.
             let p = has_both s.reads c.reads k (k + length s.reads) rs refl h in
-            s.goes_on runs last k rs p.0 (subst (λ (zs : Items). ReadsGiven now last (shown runs zs) rs (k + length s.reads)) (sym head)
-            (more_given (first runs) (shown runs ys) (k + length s.reads) rs now last plain (c.goes_on went last (shown runs ys) (k + length s.reads) rs p.1
-            (subst (λ (j : ℕ). ReadsGiven e last (shown runs ys) rs j) (sym (all_long k)) rest))));
+            given_on runs last k rs p.0 (more_given (first runs) (shown runs ys) (k + length s.reads) rs now last plain (c.goes_on went last (shown runs ys) (k + length s.reads) rs p.1
+            (subst (λ (j : ℕ). ReadsGiven e last (shown runs ys) rs j) (sym (all_long k)) rest)));
       }
 
 -- a walk that stands at no bucket
@@ -343,7 +355,8 @@ was_ended d bytes ended items is = record {
   told = ap (λ (t : Bool). if t then (out_of bytes ended, true) else (out_of (bytes ++ (taken items 0 (λ k. None)).bytes) (has_eos items), (taken items 0 (λ k. None)).whole)) is;
 }
 
-pub was_delivered : (d e : Device) (runs : ℕ → Bool) (xs : Items) (whole : Bool) (more bytes after : List ℕ) (ended eos : Bool) → ended ≡ false → ItemsTaken d e xs more whole → after ≡ bytes ++ more → eos ≡ has_eos (shown runs xs)
+pub was_delivered : (d e : Device) (runs : ℕ → Bool) (xs : Items) (whole : Bool) (more bytes after : List ℕ) (ended eos : Bool) → ended ≡ false → ItemsTaken d e xs more whole
+    → after ≡ bytes ++ more → eos ≡ has_eos (shown runs xs)
     → WasDelivered d e (out_of bytes ended) (shown runs xs) (out_of after eos) whole
 unfolding delivered
 was_delivered d e runs xs whole more bytes after ended eos open_to s grown ends =

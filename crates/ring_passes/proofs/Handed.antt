@@ -48,10 +48,12 @@ module _ (L : ℕ → Option Items) (k : ℕ) (around : Around) (i noted new : I
   seen_noted =
       let r = seen_over L k around i call in
       ap (λ (f : ℕ → BrigadeVar). record r { instance = record { pools = λ p. slice_index_or noted.pools p poolvar.Null; brigades = f; numbers = λ n. slice_index_or noted.numbers n 0; sent = noted.sent } }) (fun_ext (λ a. ap (shown_slot (calls_in around call) L) (same a)))
-      ∙ (ap (λ (ps : List PoolVar). record r { instance = record r.instance { pools = λ p. slice_index_or ps p poolvar.Null; numbers = λ n. slice_index_or noted.numbers n 0; sent = noted.sent } }) pools
+      ∙ (ap (λ (ps : List PoolVar). record r { instance = record r.instance { pools = λ p. slice_index_or ps p poolvar.Null; numbers = λ n. slice_index_or noted.numbers n 0; sent = noted.sent } })
+      pools
       ∙ ap (λ (ns : List ℕ). record r { instance = record r.instance { numbers = λ n. slice_index_or ns n 0; sent = noted.sent } }) numbers)
 
-  pub seen_lent : noted.sent ≡ (i.sent || has_eos (contents (calls_in around call) L (live_in L (slot_at i b)))) → SameButSlots noted new → ((a : ℕ) → slot_at new a ≡ (if a == b then marked Passed (slot_at noted b) else slot_at noted a))
+  pub seen_lent : noted.sent ≡ (i.sent || has_eos (contents (calls_in around call) L (live_in L (slot_at i b)))) → SameButSlots noted new
+      → ((a : ℕ) → slot_at new a ≡ (if a == b then marked Passed (slot_at noted b) else slot_at noted a))
       → lent b (seen_over L k around new call) ≡ do_pass b (seen_over L k around i call)
   unfolding seen_over
   seen_lent sent rest sets =
@@ -64,7 +66,8 @@ module _ (L : ℕ → Option Items) (k : ℕ) (around : Around) (i noted new : I
       ∙ ap (λ t. set_brigade b (handed_over (r.instance.brigades b)) (with_sent t r)) (sent ∙ ap (λ items. i.sent || has_eos items) (items_told runs L (slot_at i b))))))
 
 -- `in` takes a brigade that is in no other variable
-pub held_taken : (at : BucketId → Option ℕ) (L : ℕ → Option Items) (p : ℕ → Option ℕ) (next : ℕ) (i new : Instance) (call : Call) (name : ℕ) → ((a : ℕ) → slot_at new a ≡ (if a == 8 then slot.Made name None Usable else slot_at i a))
+pub held_taken : (at : BucketId → Option ℕ) (L : ℕ → Option Items) (p : ℕ → Option ℕ) (next : ℕ) (i new : Instance) (call : Call) (name : ℕ)
+    → ((a : ℕ) → slot_at new a ≡ (if a == 8 then slot.Made name None Usable else slot_at i a))
     → ((a : ℕ) → name_in (slot_at i a) ≢ Some name) → name ≢ call.name → 0 < name → name < next → HeldOver at L p next i call → HeldOver at L p next new call
 held_taken at L p next i new call name sets free other pos given held = record {
   apart = λ a b n e f. elim (which a n e) [

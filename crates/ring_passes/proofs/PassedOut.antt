@@ -36,4 +36,5 @@ module _ (L : ℕ → Option Items) (k : ℕ) (around : Around) (i : Instance) (
       let passed : slot_at i b ≡ slot.Made n t.0 Passed = t.1.1.0 ∙ ap (λ (m : Mark). slot.Made n t.0 m) (mark_is old n t.0 t.1.0 (sym set ∙ t.1.1.0)) in
       seen_same (on n (λ xs. []) L) k around i call M l same out
       ∙ (seen_slot L k around i call b n t.0 Passed (λ xs. []) [] held passed refl
-      ∙ ap (λ (v : BrigadeVar). set_brigade b v r) (ap (λ (s : Slot). with_items [] (shown_slot runs L s)) passed ∙ (empty_shown runs n t.0 (L n) ∙ ap (λ (s : Slot). handed_over (shown_slot runs L s)) (sym passed))))
+      ∙ ap (λ (v : BrigadeVar). set_brigade b v r)
+      (ap (λ (s : Slot). with_items [] (shown_slot runs L s)) passed ∙ (empty_shown runs n t.0 (L n) ∙ ap (λ (s : Slot). handed_over (shown_slot runs L s)) (sym passed))))

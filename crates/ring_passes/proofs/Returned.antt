@@ -37,7 +37,8 @@ module _ (old new : ℕ → Bool) (name : ℕ) (gone : RunsWithout old new name)
   returned_items (x ∷ xs) = ap (λ (b : NamedBucket). b ∷ shown new xs) (returned_item x) ∙ ap (λ (bs : List NamedBucket). returned_bucket name (named_item (item_in old x)) ∷ bs) (returned_items xs)
 
   -- a variable whose brigade is as it was
-  pub returned_slot : (L M : ℕ → Option Items) (s : Slot) → ((n : ℕ) (pool : Option ℕ) (mark : Rattle.run_model.specs.declared.bucket.Mark.Mark) → s ≡ slot.Made n pool mark → M n ≡ L n) → shown_slot new M s ≡ returned_var name (shown_slot old L s)
+  pub returned_slot : (L M : ℕ → Option Items) (s : Slot) → ((n : ℕ) (pool : Option ℕ) (mark : Rattle.run_model.specs.declared.bucket.Mark.Mark) → s ≡ slot.Made n pool mark → M n ≡ L n)
+      → shown_slot new M s ≡ returned_var name (shown_slot old L s)
   returned_slot L M slot.Null same = refl
   returned_slot L M (slot.Made n pool mark) same = ap (shown_as new n pool mark) (same n pool mark refl) ∙ go (L n) where
     go : (o : Option Items) → shown_as new n pool mark o ≡ returned_var name (shown_as old n pool mark o)

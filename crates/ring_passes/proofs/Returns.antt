@@ -71,7 +71,8 @@ module _ (L M : ℕ → Option Items) (i new : Instance) (call ended : Call)
   pub stays : (b n : ℕ) (pool : Option ℕ) (mark : Mark) → slot_at i b ≡ slot.Made n pool mark → M n ≡ L n
   stays b n pool mark is = over n ∙ ring_off L call.name n None (λ e. loose b (ap name_in is ∙ ap (λ (j : ℕ). Some j) e))
 
-  pub held_returned : (at new_at : BucketId → Option ℕ) (p q : ℕ → Option ℕ) (k l : ℕ) → l ≡ k → q ≡ p → p 0 ≡ None → ended.name ≡ 0 → ((c : ℕ) → cursor_at ended c ≡ cursor_value.Unset) → HeldOver at L p k i call → HeldOver new_at M q l new ended
+  pub held_returned : (at new_at : BucketId → Option ℕ) (p q : ℕ → Option ℕ) (k l : ℕ) → l ≡ k → q ≡ p → p 0 ≡ None → ended.name ≡ 0 → ((c : ℕ) → cursor_at ended c ≡ cursor_value.Unset)
+      → HeldOver at L p k i call → HeldOver new_at M q l new ended
   held_returned at new_at p q k l next pools free name unset held = record {
     apart = λ a b n e f. held.apart a b n (was_named a n e).1 (was_named b n f).1;
     loose = λ b e. (let pos = held.real b 0 ((was_named b 0 (e ∙ ap (λ (n : ℕ). Some n) name)).1) in omega (arith, pos));
@@ -86,7 +87,8 @@ module _ (L M : ℕ → Option Items) (i new : Instance) (call ended : Call)
     incoming = λ n pool mark is. absurd ((was 8 n pool mark is).0 refl);
   }
 
-  pub seen_returned : (k l : ℕ) (around : Around) → l ≡ k → SameButSlots i new → L 0 ≡ None → 0 < call.name → ended.name ≡ 0 → ((c : ℕ) → cursor_at ended c ≡ cursor_value.Unset) → ended.buffer ≡ [] → ended.pc ≡ call.pc
+  pub seen_returned : (k l : ℕ) (around : Around) → l ≡ k → SameButSlots i new → L 0 ≡ None → 0 < call.name → ended.name ≡ 0 → ((c : ℕ) → cursor_at ended c ≡ cursor_value.Unset) → ended.buffer ≡ []
+      → ended.pc ≡ call.pc
       → list_any (λ w. call.name == w) around.waits ≡ false → seen_over M l around new ended ≡ do_return (seen_over L k around i call)
   unfolding seen_over
   seen_returned k l around next same none pos name unset empty at other =
@@ -99,7 +101,8 @@ module _ (L M : ℕ → Option Items) (i new : Instance) (call ended : Call)
         shared = record r.shared { next = next };
         pc = pc;
       } in
-      ap (λ bs. made new.pools bs new.numbers new.sent ended.name (λ c. shown_cursor (cursor_at ended c)) ended.buffer (shown (calls_in around ended) (list_at M ended.name)) l ended.pc) (fun_ext by_slot)
+      ap (λ bs. made new.pools bs new.numbers new.sent ended.name (λ c. shown_cursor (cursor_at ended c)) ended.buffer (shown (calls_in around ended) (list_at M ended.name)) l ended.pc)
+      (fun_ext by_slot)
       ∙ (ap (λ ps. made ps brigades new.numbers new.sent ended.name (λ c. shown_cursor (cursor_at ended c)) ended.buffer (shown (calls_in around ended) (list_at M ended.name)) l ended.pc) same.pools
       ∙ (ap (λ ns. made i.pools brigades ns new.sent ended.name (λ c. shown_cursor (cursor_at ended c)) ended.buffer (shown (calls_in around ended) (list_at M ended.name)) l ended.pc) same.numbers
       ∙ (ap (λ t. made i.pools brigades i.numbers t ended.name (λ c. shown_cursor (cursor_at ended c)) ended.buffer (shown (calls_in around ended) (list_at M ended.name)) l ended.pc) same.sent
@@ -114,10 +117,12 @@ module _ (L M : ℕ → Option Items) (i new : Instance) (call ended : Call)
 
         by_slot : (b : ℕ) → shown_slot (calls_in around ended) M (slot_at new b) ≡ (if b == 8 then var.Null else returned_var call.name (shown_slot (calls_in around call) L (slot_at i b)))
         by_slot b = elim (cases_eq b 8) [
-          | inl e ↦ ap (shown_slot (calls_in around ended) M) (in_null b e) ∙ sym (ap (λ (t : Bool). if t then var.Null else returned_var call.name (shown_slot (calls_in around call) L (slot_at i b))) (eq-eqb b 8 e))
+          | inl e ↦ ap (shown_slot (calls_in around ended) M) (in_null b e)
+              ∙ sym (ap (λ (t : Bool). if t then var.Null else returned_var call.name (shown_slot (calls_in around call) L (slot_at i b))) (eq-eqb b 8 e))
           | inr ne ↦ ap (shown_slot (calls_in around ended) M) (as_was b ne) ∙ (returned_slot (calls_in around call) (calls_in around ended) call.name without L M (slot_at i b) (stays b)
               ∙ sym (ap (λ (t : Bool). if t then var.Null else returned_var call.name (shown_slot (calls_in around call) L (slot_at i b))) (ne_eqb b 8 ne)))
         ]
 
         no_loose : shown (calls_in around ended) (list_at M ended.name) ≡ []
-        no_loose = ap (λ (o : Option Items). shown (calls_in around ended) (option_map_or (λ bs. bs) o [])) (ap M name ∙ (over 0 ∙ (ring_off L call.name 0 None (λ e. (let p = pos in omega (arith, p, e))) ∙ none)))
+        no_loose = ap (λ (o : Option Items). shown (calls_in around ended) (option_map_or (λ bs. bs) o []))
+            (ap M name ∙ (over 0 ∙ (ring_off L call.name 0 None (λ e. (let p = pos in omega (arith, p, e))) ∙ none)))

@@ -1,5 +1,6 @@
 -- Bytes that are fetched at once are those of the reads of which they are made.
-use Rattle.std.proofs.Common.{◌≡◌, ◌≢◌, ◌⊎◌, inl, inr, ℕ, zero, suc, ◌+◌, ◌-◌, ◌*◌, ◌<◌, ◌≤◌, min, Bool, true, false, cond, List, [], ◌++◌, length, take, drop, refl, sym, ap, subst, ⊎_elim, ◌∙◌, append_assoc, arith}
+use Rattle.std.proofs.Common.{◌≡◌, ◌≢◌, ◌⊎◌, inl, inr, ℕ, zero, suc, ◌+◌, ◌-◌, ◌*◌, ◌<◌, ◌≤◌, min, Bool, true, false, cond, List, [], ◌++◌, length, take, drop, refl, sym, ap, subst, ⊎_elim, ◌∙◌}
+use Rattle.std.proofs.Common.{append_assoc, arith}
 use Rattle.std.proofs.Math.Seq.{drop-append_seam, take-append_seam}
 use Rattle.std.proofs.lemmas.Bool.{cases_lt}
 use Rattle.std.proofs.lemmas.List.{append-nil, length-take-le, length-drop, nil_from_length, take-take, drop-take, drop-drop, take-append-drop}
@@ -68,14 +69,16 @@ none_given fetched.Failed bytes _ = refl
 
 module _ (d : Device) (file start len : ℕ) where
   module _ (now : Device) where
-    span_none : (count n : ℕ) (front bytes : List ℕ) → RangeSoFar d now file start len count front → n ≡ 0 → MayGiveBytes (now.numbered file) (start + count) n bytes → RangeSoFar d now file start len (count + n) (front ++ bytes)
+    span_none : (count n : ℕ) (front bytes : List ℕ) → RangeSoFar d now file start len count front → n ≡ 0 → MayGiveBytes (now.numbered file) (start + count) n bytes
+        → RangeSoFar d now file start len (count + n) (front ++ bytes)
     span_none count n front bytes s none gives =
         subst (λ (c : ℕ). RangeSoFar d now file start len c (front ++ bytes)) (let e : count ≡ count + n = omega (arith, none) in e)
         (subst (λ (bs : List ℕ). RangeSoFar d now file start len count bs)
         (sym (ap (λ (bs : List ℕ). front ++ bs) (nil_from_length bytes (given_len (now.numbered file) (start + count) n bytes gives ∙ none)) ∙ append-nil front)) s)
 
     -- So many bytes are those of k reads, or of fewer at the end of the range.
-    span_still : moved now ≡ now → MayGoWell now.plan → (k count n : ℕ) (front bytes : List ℕ) → RangeSoFar d now file start len count front → n ≡ min (len - count) (8000 * k) → MayGiveBytes (now.numbered file) (start + count) n bytes
+    span_still : moved now ≡ now → MayGoWell now.plan → (k count n : ℕ) (front bytes : List ℕ) → RangeSoFar d now file start len count front → n ≡ min (len - count) (8000 * k)
+        → MayGiveBytes (now.numbered file) (start + count) n bytes
         → RangeSoFar d now file start len (count + n) (front ++ bytes)
     span_still same well zero count n front bytes s is gives = span_none count n front bytes s (omega (arith, is)) gives
     span_still same well (suc k) count n front bytes s is gives =
@@ -85,7 +88,8 @@ module _ (d : Device) (file start len : ℕ) where
         let within : m ≤ n = omega (arith, is) in
         let parts : n ≡ m + (n - m) = omega (arith, within) in
         let first = subst (λ (x : Device). RangeSoFar d x file start len (count + m) (front ++ take m bytes)) same
-        (range_read d file start len now count m (count + m) front (take m bytes) (front ++ take m bytes) s below refl (give_first (now.numbered file) (start + count) m n bytes within gives) well refl refl) in
+        (range_read d file start len now count m (count + m) front (take m bytes) (front ++ take m bytes) s below refl
+        (give_first (now.numbered file) (start + count) m n bytes within gives) well refl refl) in
         let on : start + count + m ≡ start + (count + m) = omega arith in
         let later = span_still same well k (count + m) (n - m) (front ++ take m bytes) (drop m bytes) first (omega (arith, is, below))
         (subst (λ (at : ℕ). MayGiveBytes (now.numbered file) at (n - m) (drop m bytes)) on (give_rest (now.numbered file) (start + count) m n (n - m) bytes parts gives)) in
@@ -96,7 +100,8 @@ module _ (d : Device) (file start len : ℕ) where
         (cases_lt count len)
 
     -- One read leaves the device moved; some leave it as it was, and so does one.
-    pub span_read : (e : Device) (limit count n : ℕ) (front bytes : List ℕ) → WentWell now e → SpanOf now limit → count < len → n ≡ min limit (len - count) → RangeSoFar d now file start len count front → MayGiveBytes (now.numbered file) (start + count) n bytes
+    pub span_read : (e : Device) (limit count n : ℕ) (front bytes : List ℕ) → WentWell now e → SpanOf now limit → count < len → n ≡ min limit (len - count)
+        → RangeSoFar d now file start len count front → MayGiveBytes (now.numbered file) (start + count) n bytes
         → RangeSoFar d e file start len (count + n) (front ++ bytes)
     span_read e limit count n front bytes well span below is s gives =
         let of = span.limit_is in
@@ -108,7 +113,8 @@ module _ (d : Device) (file start len : ℕ) where
         ]
 
   -- So far `out` stands behind what was there before. A span more was asked for.
-  module _ (now e : Device) (count n : ℕ) (before out new : List ℕ) (front : HasFront before out) (went : SomeWentWell d now) (s : RangeSoFar d now file start len count (drop (length before) out)) where
+  module _ (now e : Device) (count n : ℕ) (before out new : List ℕ) (front : HasFront before out) (went : SomeWentWell d now)
+      (s : RangeSoFar d now file start len count (drop (length before) out)) where
     abbrev Asked : Fetched → Type 0
     Asked f = SpanAdded now e file (start + count) n f out new
 
@@ -128,7 +134,8 @@ module _ (d : Device) (file start len : ℕ) where
         )
 
     -- The file ends within it, and it was more than one read.
-    pub span_ended : (limit : ℕ) (f : Fetched) → SpanOf now limit → 8000 < n → n ≡ min limit (len - count) → Asked f → f ≡ fetched.Ended → HasFront before new × SomeWentWell d e × RangeSoFar d e file start len count (drop (length before) new)
+    pub span_ended : (limit : ℕ) (f : Fetched) → SpanOf now limit → 8000 < n → n ≡ min limit (len - count) → Asked f → f ≡ fetched.Ended → HasFront before new × SomeWentWell d e
+        × RangeSoFar d e file start len count (drop (length before) new)
     span_ended limit fetched.All span more is a never = absurd (cc never)
     span_ended limit fetched.Failed span more is a never = absurd (cc never)
     span_ended limit fetched.Ended span more is a _ =
@@ -143,8 +150,10 @@ module _ (d : Device) (file start len : ℕ) where
               ]),
         )
 
-    lacks : (m : ℕ) → new ≡ out → count < len → m ≡ min (len - count) 8000 → HasFailed now e ⊎ (WentWell now e × MayEnd (now.numbered file) (start + count) m) → ContentAdded d e (content.Range file start len) false before new
-    lacks m alike below is why = record { added = drop (length before) out; grown = alike ∙ both_parts before out front; taken_so = range_failed d file start len now e count m (drop (length before) out) s below is why }
+    lacks : (m : ℕ) → new ≡ out → count < len → m ≡ min (len - count) 8000 → HasFailed now e ⊎ (WentWell now e × MayEnd (now.numbered file) (start + count) m)
+        → ContentAdded d e (content.Range file start len) false before new
+    lacks m alike below is why =
+        record { added = drop (length before) out; grown = alike ∙ both_parts before out front; taken_so = range_failed d file start len now e count m (drop (length before) out) s below is why }
 
     -- It is one read, and was not given; or the device failed.
     pub span_lacks : (f : Fetched) → count < len → Asked f → f ≢ fetched.All → (f ≡ fetched.Ended → n ≡ min (len - count) 8000) → ContentAdded d e (content.Range file start len) false before new

@@ -1,5 +1,5 @@
 -- Devices after calls that went well.
-use Rattle.std.proofs.Common.{◌≡◌, ℕ, zero, suc, false, refl, Result, Ok, Err, OnErr, sym, ap, subst, ◌∙◌}
+use Rattle.std.proofs.Common.{◌≡◌, ℕ, zero, suc, false, refl, sym, ap, subst, ◌∙◌}
 use Rattle.std.proofs.lemmas.Bool.{false≢true}
 use Rattle.bucket_kinds.specs.Device.{Device, Plan, Sound, At, AnyTime, nearer, counts, moved, WentWell, AllWentWell, SomeWentWell}
 use Rattle.bucket_kinds.specs.Reading.{IsOpenFor}
@@ -45,8 +45,3 @@ pub open_still : (d e : Device) (c : Content) → e.numbered ≡ d.numbered → 
 open_still d e (content.Bytes bs) same opens = tt
 open_still d e (content.Range file start len) same opens = rw same opens
 open_still d e content.Nothing same opens = tt
-
--- a fact that is so whatever was answered
-pub told_err : {T E : Type 0} (r : Result T E) (P : Type 0) → P → OnErr r P
-told_err (Ok x) P so = tt
-told_err (Err e) P so = so

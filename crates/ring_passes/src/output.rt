@@ -193,6 +193,7 @@ pub fn add_brigade<R: Rings<Stored> + Drop, F: Files>(
 
 /// The brigade of a variable was taken by the output: its buckets are destroyed, and the variable is marked passed. It is remembered where
 /// an EOS went with it.
+#[tactic(auto, using(ring_calls::proofs::Slots::made_in))]
 fn empty_passed<R: Rings<Stored> + Drop>(instance: &mut Instance, store: &mut Brigades<R>, b: u8)
     requires slot { b < 9 }
     requires live { is_some (live_in (lists store.old) (slot_at instance.old b)) ≡ true }
@@ -209,6 +210,7 @@ fn empty_passed<R: Rings<Stored> + Drop>(instance: &mut Instance, store: &mut Br
 
 /// The last filter passes the brigade of a variable to the end of the chain, and it is told whether that went well. Without memory
 /// nothing is changed; parts may have been read.
+#[tactic(auto, using(ring_calls::proofs::Slots::made_in))]
 pub fn pass_out<R: Rings<Stored> + Drop, F: Files>(
     instance: &mut Instance,
     store: &mut Brigades<R>,

@@ -15,6 +15,7 @@ ghost use Rattle.ring_calls.specs.Seen.{seen, calls_in, shown, shown_slot};
 ghost use Rattle.ring_calls.specs.Slots.{live_in, marked, name_in, slot_at};
 
 use brigade_ops::{BrigadeId, Brigades, Rings, Stored};
+use ring_calls::bucket_tests::any_bucket;
 use ring_calls::machine::{Instance, Slot};
 use run_model::{Kind, Mark};
 
@@ -30,17 +31,11 @@ pub(crate) fn has_eos<R: Rings<Stored> + Drop>(store: &Brigades<R>, b: BrigadeId
     requires { is_some (lists store.now b) ≡ true }
     ensures { (runs : ℕ → Bool) → result ≡ has_eos (shown runs (list_at (lists store.now) b)) }
 {
-    let mut place = store.start(b);
-    while let Some(id) = place {
-        if is_eos(store.payload(id).kind) {
-            return true;
-        }
-        place = store.behind(id);
-    }
-    false
+    any_bucket(store, b, |id| is_eos(store.payload(id).kind))
 }
 
 /// Whether an EOS stands in the brigade of a variable.
+#[tactic(auto, using(ring_calls::proofs::Slots::made_in))]
 fn holds_eos<R: Rings<Stored> + Drop>(instance: &Instance, store: &Brigades<R>, b: u8) -> bool
     requires slot { b < 9 }
     requires live { is_some (live_in (lists store.now) (slot_at instance.now b)) ≡ true }

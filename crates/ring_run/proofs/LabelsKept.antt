@@ -35,10 +35,12 @@ none_kept ((p, Brigade name) ∷ xs) none = none_kept xs none
 -- the labels of one more list
 pub labels_more : (handed : List LabelsRun) (ran : LabelsRun) → labels_handed (handed ++ ran ∷ []) ≡ labels_handed handed ++ labels_in ran.payloads.items
 labels_more [] ran = append-nil (labels_in ran.payloads.items)
-labels_more (first ∷ handed) ran = ap (λ (xs : List (List ℕ)). labels_in first.payloads.items ++ xs) (labels_more handed ran) ∙ sym (append_assoc (labels_in first.payloads.items) (labels_handed handed) (labels_in ran.payloads.items))
+labels_more (first ∷ handed) ran = ap (λ (xs : List (List ℕ)). labels_in first.payloads.items ++ xs) (labels_more handed ran)
+    ∙ sym (append_assoc (labels_in first.payloads.items) (labels_handed handed) (labels_in ran.payloads.items))
 
 -- labels of what is kept of ran, added as one more list
-pub labels_added : (handed new : List LabelsRun) (ran : List (ℕ × Payload)) (left : LabelsRun) → left.payloads.items ≡ kept ran → new ≡ handed ++ left ∷ [] → labels_handed new ≡ labels_handed handed ++ labels_in ran
+pub labels_added : (handed new : List LabelsRun) (ran : List (ℕ × Payload)) (left : LabelsRun) → left.payloads.items ≡ kept ran → new ≡ handed ++ left ∷ []
+    → labels_handed new ≡ labels_handed handed ++ labels_in ran
 labels_added handed new ran left is added =
     ap labels_handed added ∙ (labels_more handed left ∙ ap (λ (ls : List (List ℕ)). labels_handed handed ++ ls) (ap labels_in is ∙ labels_kept ran))
 

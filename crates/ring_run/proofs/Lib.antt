@@ -2,7 +2,6 @@ pub mod Joins
 pub mod Moves
 pub mod Steps
 pub mod Makes
-pub mod Needed
 pub mod Splits
 pub mod Cuts
 pub mod Parts

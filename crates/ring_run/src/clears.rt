@@ -13,7 +13,7 @@ ghost use Rattle.ring_calls.specs.LeftAlone.{LeavesRest, LeavesUncleared};
 ghost use Rattle.ring_calls.specs.Seen.{seen};
 ghost use Rattle.ring_run.specs.CarriedOut.{WasDone, during, with_files};
 ghost use Rattle.ring_run.specs.Cleared.{LooksAt};
-ghost use Rattle.ring_run.specs.Operands.{clear_kind, cleared_by};
+ghost use Rattle.ring_run.specs.Operands.{clear_kind, pool_to_clear};
 
 use crate::labels::add_labels;
 use crate::labels_run::LabelsRun;
@@ -25,8 +25,8 @@ use run_model::{Effect, Payload};
 use std::alloc::AllocError;
 
 /// The pool that an effect clears or destroys.
-fn cleared_by(instance: &Instance, effect: Effect) -> Option<PoolId>
-    ensures { result ≡ cleared_by instance.now effect }
+fn pool_to_clear(instance: &Instance, effect: Effect) -> Option<PoolId>
+    ensures { result ≡ pool_to_clear instance.now effect }
 {
     match effect {
         Effect::ClearPool(q) | Effect::DestroyPool(q) => name_in(variable(instance, q)),
@@ -59,9 +59,9 @@ pub(crate) fn clear_pool<R: Rings<Stored> + Drop, F: Files>(
     requires held { IsHeld store.old instance.now call.now }
     requires house { IsHouse store.old (map_of tree.old) }
     requires open { AreOpen (references store.old) (F.device files.old) }
-    requires live { (pool : ℕ) × (cleared_by instance.now effect ≡ Some pool) × IsTrue (is_live (map_of tree.old) pool) }
-    requires below { (pool : ℕ) → cleared_by instance.now effect ≡ Some pool → (map_of tree.old).path pool ≢ pool ∷ [] }
-    requires looks { (pool : ℕ) → cleared_by instance.now effect ≡ Some pool → LooksAt setting.now.rings.now (is_under (map_of tree.old) pool) (pool_of store.old) instance.now call.now }
+    requires live { (pool : ℕ) × (pool_to_clear instance.now effect ≡ Some pool) × IsTrue (is_live (map_of tree.old) pool) }
+    requires below { (pool : ℕ) → pool_to_clear instance.now effect ≡ Some pool → (map_of tree.old).path pool ≢ pool ∷ [] }
+    requires looks { (pool : ℕ) → pool_to_clear instance.now effect ≡ Some pool → LooksAt setting.now.rings.now (is_under (map_of tree.old) pool) (pool_of store.old) instance.now call.now }
     ensures ok { OnOk result ((code : Program) (around : Around)
         → WasDone (F.device files.old) (F.device files.new) code effect (seen store.old (during setting.now
         (map_of tree.old) handed.old.items around) instance.now call.now) (λ fs. seen store.new (with_files fs (during setting.now
@@ -77,11 +77,11 @@ pub(crate) fn clear_pool<R: Rings<Stored> + Drop, F: Files>(
     ensures open { AreOpen (references store.new) (F.device files.new) }
     ensures next { next_name store.new ≡ next_name store.old }
     ensures names { NoneRevived (brigade_of store.old) (brigade_of store.new) (next_name store.old) }
-    ensures cleared { OnOk result ((pool : ℕ) → cleared_by instance.now effect ≡ Some pool → LeavesUncleared (is_under (map_of tree.old) pool) setting.now.rings.now store.old store.new) }
+    ensures cleared { OnOk result ((pool : ℕ) → pool_to_clear instance.now effect ≡ Some pool → LeavesUncleared (is_under (map_of tree.old) pool) setting.now.rings.now store.old store.new) }
     ensures unasked { store.new.asked ≡ store.old.asked }
     ensures tree_unasked { tree.new.asked ≡ tree.old.asked }
 {
-    let Some(pool) = cleared_by(instance, effect) else {
+    let Some(pool) = pool_to_clear(instance, effect) else {
         unreachable!()
     };
     handed.reserve(1)?;

@@ -19,6 +19,7 @@ use brigade_ops::{Brigades, BucketId, Rings, Stored};
 use ring_calls::machine::{Call, CursorValue, Instance};
 
 /// The first place of a brigade: its first bucket or its end.
+#[tactic(auto, using(ring_calls::proofs::Slots::made_in))]
 fn first_cursor_value<R: Rings<Stored> + Drop>(
     instance: &Instance,
     store: &Brigades<R>,

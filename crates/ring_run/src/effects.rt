@@ -16,6 +16,7 @@ use run_model::Mark;
 use std::alloc::AllocError;
 
 /// Moves the buckets of a brigade to the tail of another. It takes no memory.
+#[tactic(auto, using(ring_calls::proofs::Slots::made_in))]
 pub(crate) fn concat<R: Rings<Stored> + Drop>(
     instance: &Instance,
     store: &mut Brigades<R>,
@@ -41,6 +42,7 @@ pub(crate) fn concat<R: Rings<Stored> + Drop>(
 }
 
 /// Destroys the buckets of a brigade, which is usable then.
+#[tactic(auto, using(ring_calls::proofs::Slots::made_in))]
 pub(crate) fn clean<R: Rings<Stored> + Drop>(
     instance: &mut Instance,
     store: &mut Brigades<R>,

@@ -2,15 +2,14 @@
 
 ghost use Rattle.std.specs.Prelude.{◌≡◌, ◌≢◌, ◌∷◌, ◌≤◌, ◌<◌, ℕ, [], None, Some, true, false, length, IsOk, IfOk, OnOk, OnErr};
 ghost use Rattle.module_code.specs.Program.{fits};
-ghost use Rattle.bucket_kinds.specs.Device.{Device};
 ghost use Rattle.bucket_ring.specs.Kept.{NoneRevived};
 ghost use Rattle.run_model.specs.Faults.{fault};
 ghost use Rattle.run_model.specs.Pools.{is_under};
-ghost use Rattle.run_model.specs.Steps.{Choice, do_effect, grows};
+ghost use Rattle.run_model.specs.Steps.{grows};
 ghost use Rattle.pool_tree.specs.Tree.{map_of};
 ghost use Rattle.brigade_ops.specs.House.{IsHouse, AreOpen};
 ghost use Rattle.brigade_ops.specs.Store.{brigade_of, pool_of, references, next_name};
-ghost use Rattle.ring_run.specs.Apart.{clears_pool, is_carried, keeps_files_by};
+ghost use Rattle.ring_run.specs.Apart.{clears_pool, is_carried};
 ghost use Rattle.ring_calls.specs.Around.{Around};
 ghost use Rattle.ring_run.specs.CarriedOut.{KeepNames, WasCarriedOut, during, with_files};
 ghost use Rattle.ring_run.specs.Cleared.{LooksAt};
@@ -18,82 +17,20 @@ ghost use Rattle.ring_calls.specs.Ends.{EndInFiles, FitKinds};
 ghost use Rattle.ring_calls.specs.Given.{RangesOpen};
 ghost use Rattle.ring_calls.specs.Held.{IsHeld};
 ghost use Rattle.ring_calls.specs.LeftAlone.{LeavesRest, LeavesUncleared};
-ghost use Rattle.ring_run.specs.Needs.{HasNoFault, grows_by, instr_with};
 ghost use Rattle.ring_run.specs.Operands.{cleared_in};
 ghost use Rattle.ring_calls.specs.Seen.{seen};
 ghost use Rattle.ring_calls.specs.Setting.{in_setting};
 
 use crate::clears::clear_pool;
-use crate::execute_on_pools::execute_on_pools;
-use crate::execute_on_store::execute_on_store;
+use crate::execute_without_files::execute_without_files;
 use crate::labels_run::LabelsRun;
 use crate::reads::read;
 use brigade_ops::{Brigades, Files, PoolTree, Rings, Stored};
 use ring_calls::exits::{exit, jumps_if};
 use ring_calls::machine::{Call, Instance};
-use ring_calls::outside::Outside;
 use ring_calls::setting::Setting;
 use run_model::{Effect, Exit, Instr, Module, Payload, effect_of};
 use std::alloc::{AllocError, Global};
-
-/// What an effect does that neither clears a pool nor reads, where there is no fault. Without memory, and where the names are spent, nothing
-/// is changed.
-#[inline(always)]
-fn execute_without_files<R: Rings<Stored> + Drop>(
-    alloc: Global,
-    code: &Module,
-    instance: &mut Instance,
-    call: &mut Call,
-    setting: &Setting<'_>,
-    tree: &mut PoolTree<Payload>,
-    store: &mut Brigades<R>,
-    effect: Effect,
-) -> Result<(), AllocError>
-    requires fit { fits code.now (instr_with effect) ≡ true }
-    requires few { length code.now.brigades ≤ 8 }
-    requires pools { length code.now.pools ≤ 8 }
-    requires kind { keeps_files_by effect ≡ true }
-    requires held { IsHeld store.old instance.old call.old }
-    requires runs { 0 < call.old.name }
-    requires house { IsHouse store.old (map_of tree.old) }
-    requires fits { FitKinds store.old instance.old }
-    requires ends { EndInFiles store.old instance.old }
-    requires faultless { (around : Around) → HasNoFault code.now store.old (in_setting setting.now (map_of tree.old) around) instance.old call.old effect }
-    ensures ok { OnOk result ((around : Around) (choice : Choice) → let r = seen store.old (in_setting setting.now (map_of tree.old) around) instance.old call.old in
-        seen store.new (in_setting setting.now (map_of tree.new) around) instance.new call.new ≡ do_effect code.now choice effect r) }
-    ensures err { OnErr result ((around : Around)
-        → seen store.new (record around { pools = map_of tree.new }) instance.new call.new
-        ≡ seen store.old (record around { pools = map_of tree.old }) instance.old call.old) }
-    ensures sure { (around : Around) → let r = seen store.old (in_setting setting.now (map_of tree.old) around) instance.old call.old in grows_by r effect ≡ false → IsOk result }
-    ensures held { IsHeld store.new instance.new call.new }
-    ensures house { IsHouse store.new (map_of tree.new) }
-    ensures open { (d : Device) → ((around : Around) → RangesOpen d (seen store.old (in_setting setting.now (map_of tree.old) around) instance.old call.old))
-        → AreOpen (references store.old) d → AreOpen (references store.new) d }
-    ensures name { call.new.name ≡ call.old.name }
-    ensures slots { KeepNames (next_name store.old) (next_name store.new) instance.old instance.new }
-    ensures left { LeavesRest store.old store.new instance.old call.old }
-    ensures tree_unasked { tree.new.asked ≡ tree.old.asked }
-{
-    match effect {
-        Effect::MakePool(_)
-        | Effect::Register(_, _)
-        | Effect::Kill(_, _)
-        | Effect::MakeBrigade(_)
-        | Effect::Save(_, _)
-        | Effect::Aside(_, _) => {
-            execute_on_pools(alloc, code, instance, call, setting, tree, store, effect)
-        }
-        _ => {
-            let outside = Outside {
-                tree,
-                conn: setting.conn,
-                req: setting.req,
-                waits: setting.waits,
-            };
-            execute_on_store(alloc, code, instance, call, &outside, store, effect)
-        }
-    }
-}
 
 /// Carries out an instruction that has no fault and whose names are there, other than a pass and a return, and tells where it leads. To the
 /// labels that clears ran, the oldest first, are added those that this one runs. Without memory nothing is changed.

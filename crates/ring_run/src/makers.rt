@@ -12,7 +12,7 @@ ghost use Rattle.run_model.specs.Steps.{Choice, do_effect, made_of, text_of};
 ghost use Rattle.brigade_ops.specs.Store.{lists, brigade_of, pool_of, references, next_name};
 ghost use Rattle.stored_rings.specs.Items.{Items};
 ghost use Rattle.ring_run.specs.Making.{WasAdded, is_no_copy};
-ghost use Rattle.ring_run.specs.Needs.{HasNoFault, instr_with};
+ghost use Rattle.ring_calls.specs.EffectNeeds.{HasNoFault, instr_with};
 ghost use Rattle.ring_calls.specs.Outside.{with_outside};
 ghost use Rattle.ring_calls.specs.Around.{Around};
 ghost use Rattle.ring_calls.specs.Held.{IsHeld};

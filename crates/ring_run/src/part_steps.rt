@@ -48,6 +48,7 @@ fn place_in<R: Rings<Stored> + Drop>(
 }
 
 /// What stands in a brigade from the place of a cursor on goes to another, which is emptied first. It takes no memory.
+#[tactic(auto, using(ring_calls::proofs::Slots::made_in))]
 pub(crate) fn bsplit<R: Rings<Stored> + Drop>(
     instance: &Instance,
     call: &Call,
@@ -89,6 +90,7 @@ fn cursor_value_of(b: BrigadeId, cut: Cut) -> CursorValue
 
 /// Parts a brigade at a point and sets a cursor to the place behind it; a bucket that the point lies inside is split. Where the brigade
 /// is shorter the place is its end. Only a bucket that is split takes memory. Without it, and where the names are spent, nothing is changed.
+#[tactic(auto, using(ring_calls::proofs::Slots::made_in))]
 pub(crate) fn bpart<R: Rings<Stored> + Drop>(
     instance: &Instance,
     call: &mut Call,

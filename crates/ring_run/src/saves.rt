@@ -24,6 +24,7 @@ use std::alloc::AllocError;
 
 /// Sets the buckets of a second brigade aside into the pool of a first, and moves them to its tail. Where the first is on no pool nothing
 /// is changed. Only further references to files take memory. Without it nothing is changed.
+#[tactic(auto, using(ring_calls::proofs::Slots::made_in))]
 pub(crate) fn save<R: Rings<Stored> + Drop>(
     instance: &Instance,
     tree: &mut PoolTree<Payload>,

@@ -1,6 +1,6 @@
 //! A bucket is split (apr_buckets.h, apr_bucket_split).
 
-ghost use Rattle.std.specs.Prelude.{◌≡◌, ◌<◌, None, IsOk, OnOk, OnErr};
+ghost use Rattle.std.specs.Prelude.{◌≡◌, ◌⊎◌, ◌<◌, None, IsOk, OnOk, OnErr};
 ghost use Rattle.run_model.specs.BucketSteps.{do_split, names_to_split};
 ghost use Rattle.run_model.specs.Cursors.{bucket_at, spot};
 ghost use Rattle.run_model.specs.Faults.{InBrigade, home_fault};
@@ -14,6 +14,17 @@ ghost use Rattle.ring_calls.specs.Seen.{seen};
 use brigade_ops::{Brigades, Rings, SplitRefusal, Stored};
 use ring_calls::machine::{Call, Instance};
 use std::alloc::AllocError;
+
+/// `Ok` where a split was refused for what the bucket is, when nothing is done; an error where memory or a name was lacking.
+fn unless_lacking(refusal: SplitRefusal) -> Result<(), AllocError>
+    ensures ok { OnOk result ((refusal ≡ SplitRefusal.Metadata) ⊎ (refusal ≡ SplitRefusal.TooLong)) }
+    ensures err { OnErr result ((refusal ≡ SplitRefusal.NoMemory) ⊎ (refusal ≡ SplitRefusal.NamesSpent)) }
+{
+    match refusal {
+        SplitRefusal::Metadata | SplitRefusal::TooLong => Ok(()),
+        SplitRefusal::NoMemory | SplitRefusal::NamesSpent => Err(AllocError),
+    }
+}
 
 /// Splits the bucket of a cursor after its first `n` bytes, where that is not refused: only then it takes memory. Without it, and where the
 /// names are spent, nothing is changed.
@@ -37,9 +48,6 @@ pub(crate) fn split<R: Rings<Stored> + Drop>(
 {
     match store.split(call.bucket(c), n) {
         Ok(_) => Ok(()),
-        Err(SplitRefusal::Metadata) => Ok(()),
-        Err(SplitRefusal::TooLong) => Ok(()),
-        Err(SplitRefusal::NoMemory) => Err(AllocError),
-        Err(SplitRefusal::NamesSpent) => Err(AllocError),
+        Err(refusal) => unless_lacking(refusal),
     }
 }

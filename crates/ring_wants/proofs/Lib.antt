@@ -1,3 +1,4 @@
 pub mod QuietRuns
 pub mod OnlyAsked
 pub mod FirstFault
+pub mod LiveContents

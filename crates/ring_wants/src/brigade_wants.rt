@@ -24,6 +24,7 @@ use ring_calls::values::value_of;
 use run_model::{FaultKind, Mark, Value};
 
 /// The brigade of a variable, where it is there.
+#[tactic(auto, using(crate::proofs::OnlyAsked::asks_once))]
 fn live<R: Rings<Stored> + Drop>(
     instance: &Instance,
     store: &mut Brigades<R>,
@@ -41,7 +42,7 @@ fn live<R: Rings<Stored> + Drop>(
 }
 
 /// The fault of a brigade in which some bucket's home is dead.
-#[tactic(auto, using(ring_calls::proofs::Contents::homes_told, crate::proofs::OnlyAsked::lists_same))]
+#[tactic(auto, using(ring_calls::proofs::Contents::homes_told))]
 pub(crate) fn want_homes<R: Rings<Stored> + Drop>(
     instance: &Instance,
     call: &Call,
@@ -56,11 +57,7 @@ pub(crate) fn want_homes<R: Rings<Stored> + Drop>(
     let Some(name) = live(instance, store, b) else {
         return None;
     };
-    if has_dead(call, setting, store, name) {
-        Some(FaultKind::F5)
-    } else {
-        None
-    }
+    has_dead(call, setting, store, name).then_some(FaultKind::F5)
 }
 
 /// The fault of a brigade in which the bucket that a point lies inside has a home that is dead.
@@ -85,7 +82,7 @@ pub(crate) fn want_home_across<R: Rings<Stored> + Drop>(
 }
 
 /// The fault of a brigade that may not be sent on: data stands behind an EOS of its own, or of the request.
-#[tactic(auto, using(ring_calls::proofs::Contents::send_told, crate::proofs::OnlyAsked::lists_same))]
+#[tactic(auto, using(ring_calls::proofs::Contents::send_told))]
 pub(crate) fn want_send<R: Rings<Stored> + Drop>(
     instance: &Instance,
     store: &mut Brigades<R>,
@@ -98,14 +95,11 @@ pub(crate) fn want_send<R: Rings<Stored> + Drop>(
     let Some(name) = live(instance, store, b) else {
         return None;
     };
-    if has_late_data(store, name, instance.sent) {
-        Some(FaultKind::F8)
-    } else {
-        None
-    }
+    has_late_data(store, name, instance.sent).then_some(FaultKind::F8)
 }
 
 /// Whether a variable is a usable brigade with a bucket that does not outlast the call.
+#[tactic(auto, using(crate::proofs::OnlyAsked::asks_once, ring_calls::proofs::Contents::stray_told), unfolding(ring_calls::specs::Seen::seen_over))]
 fn keeps_stray<R: Rings<Stored> + Drop>(
     instance: &Instance,
     call: &Call,
@@ -127,6 +121,7 @@ fn keeps_stray<R: Rings<Stored> + Drop>(
 }
 
 /// The fault of a return that keeps a bucket which does not outlast the call.
+#[tactic(auto, using(crate::proofs::OnlyAsked::asked_again))]
 pub(crate) fn want_return<R: Rings<Stored> + Drop>(
     instance: &Instance,
     call: &Call,

@@ -1,13 +1,10 @@
 //! The faults of brigade variables: nothing is there, or it was passed, or something is there already.
 
 ghost use Rattle.std.specs.Prelude.{◌≡◌, ◌<◌};
-ghost use Rattle.run_model.specs.Faults.{WBrigade, WUsable, WNew, fault_want, or_else, brigade_fault, usable_fault, passed_fault, new_fault};
+ghost use Rattle.run_model.specs.Faults.{or_else, brigade_fault, usable_fault, passed_fault, new_fault};
 ghost use Rattle.brigade_ops.specs.Store.{lists};
-ghost use Rattle.ring_calls.specs.declared.machine.Call.{Call};
-ghost use Rattle.ring_calls.specs.Around.{Around};
 ghost use Rattle.ring_calls.specs.Needs.{bare, mark_in};
 ghost use Rattle.ring_wants.specs.OnlyAsked.{OnlyAsked};
-ghost use Rattle.ring_calls.specs.Seen.{seen};
 ghost use Rattle.ring_calls.specs.Slots.{slot_at};
 
 use brigade_ops::{Brigades, Rings, Stored};
@@ -25,7 +22,8 @@ pub(crate) fn or_else(first: Option<FaultKind>, second: Option<FaultKind>) -> Op
 }
 
 /// The mark of the brigade in a variable, where it is there.
-fn mark_of<R: Rings<Stored> + Drop>(
+#[tactic(auto, using(crate::proofs::OnlyAsked::asks_once))]
+pub(crate) fn mark_of<R: Rings<Stored> + Drop>(
     instance: &Instance,
     store: &mut Brigades<R>,
     b: u8,
@@ -40,7 +38,8 @@ fn mark_of<R: Rings<Stored> + Drop>(
     if store.has(name) { Some(mark) } else { None }
 }
 
-fn brigade_fault(mark: Option<Mark>) -> Option<FaultKind>
+/// The fault of a brigade that is to be there.
+pub(crate) fn brigade_fault(mark: Option<Mark>) -> Option<FaultKind>
     ensures { result ≡ brigade_fault (bare mark) }
 {
     match mark {
@@ -49,7 +48,8 @@ fn brigade_fault(mark: Option<Mark>) -> Option<FaultKind>
     }
 }
 
-fn usable_fault(mark: Option<Mark>) -> Option<FaultKind>
+/// The fault of a brigade that is to be there, and was not passed.
+pub(crate) fn usable_fault(mark: Option<Mark>) -> Option<FaultKind>
     ensures { result ≡ usable_fault (bare mark) }
 {
     match mark {
@@ -59,7 +59,8 @@ fn usable_fault(mark: Option<Mark>) -> Option<FaultKind>
     }
 }
 
-fn passed_by(mark: Option<Mark>) -> Option<FaultKind>
+/// The fault of a brigade that was passed.
+pub(crate) fn passed_fault(mark: Option<Mark>) -> Option<FaultKind>
     ensures { result ≡ passed_fault (bare mark) }
 {
     match mark {
@@ -68,67 +69,12 @@ fn passed_by(mark: Option<Mark>) -> Option<FaultKind>
     }
 }
 
-fn new_fault(mark: Option<Mark>) -> Option<FaultKind>
+/// The fault of a variable in which no brigade is to be.
+pub(crate) fn new_fault(mark: Option<Mark>) -> Option<FaultKind>
     ensures { result ≡ new_fault (bare mark) }
 {
     match mark {
         Some(_) => Some(FaultKind::F10),
         None => None,
     }
-}
-
-/// The fault of a brigade that is to be there.
-#[tactic(auto, using(ring_calls::proofs::Wanted::brigade_told))]
-pub(crate) fn want_brigade<R: Rings<Stored> + Drop>(
-    instance: &Instance,
-    store: &mut Brigades<R>,
-    b: u8,
-) -> Option<FaultKind>
-    requires { b < 9 }
-    ensures value { (around : Around) (call : Call) → result ≡ fault_want (seen store.old around instance.now call) (WBrigade b) }
-    ensures asked { OnlyAsked store.old store.new }
-{
-    brigade_fault(mark_of(instance, store, b))
-}
-
-/// The fault of a brigade that is to be there, and was not passed.
-#[tactic(auto, using(ring_calls::proofs::Wanted::usable_told))]
-pub(crate) fn want_usable<R: Rings<Stored> + Drop>(
-    instance: &Instance,
-    store: &mut Brigades<R>,
-    b: u8,
-) -> Option<FaultKind>
-    requires { b < 9 }
-    ensures value { (around : Around) (call : Call) → result ≡ fault_want (seen store.old around instance.now call) (WUsable b) }
-    ensures asked { OnlyAsked store.old store.new }
-{
-    usable_fault(mark_of(instance, store, b))
-}
-
-/// The fault of a variable in which no brigade is to be.
-#[tactic(auto, using(ring_calls::proofs::Wanted::new_told))]
-pub(crate) fn want_new<R: Rings<Stored> + Drop>(
-    instance: &Instance,
-    store: &mut Brigades<R>,
-    b: u8,
-) -> Option<FaultKind>
-    requires { b < 9 }
-    ensures value { (around : Around) (call : Call) → result ≡ fault_want (seen store.old around instance.now call) (WNew b) }
-    ensures asked { OnlyAsked store.old store.new }
-{
-    new_fault(mark_of(instance, store, b))
-}
-
-/// The fault of a brigade that was passed.
-#[tactic(auto, using(ring_calls::proofs::Wanted::passed_told))]
-pub(crate) fn passed_fault<R: Rings<Stored> + Drop>(
-    instance: &Instance,
-    store: &mut Brigades<R>,
-    b: u8,
-) -> Option<FaultKind>
-    requires { b < 9 }
-    ensures value { (around : Around) (call : Call) → result ≡ passed_fault ((seen store.old around instance.now call).instance.brigades b) }
-    ensures asked { OnlyAsked store.old store.new }
-{
-    passed_by(mark_of(instance, store, b))
 }

@@ -16,6 +16,7 @@ ghost use Rattle.ring_calls.specs.Tests.{late_data};
 use crate::home_wants::{home_of, is_ended};
 use crate::pool_wants::is_stray;
 use brigade_ops::{BrigadeId, Brigades, Rings, Stored};
+use ring_calls::bucket_tests::any_bucket;
 use ring_calls::machine::{Call, Instance};
 use ring_calls::setting::Setting;
 use run_model::Kind;
@@ -30,14 +31,7 @@ pub(crate) fn has_dead<R: Rings<Stored> + Drop>(
     requires { is_some (lists store.now b) ≡ true }
     ensures { result ≡ list_any is_dead (shown (is_running call.now.name setting.now.waits.now) (list_at (lists store.now) b)) }
 {
-    let mut place = store.start(b);
-    while let Some(id) = place {
-        if is_ended(home_of(call, setting, store, id)) {
-            return true;
-        }
-        place = store.behind(id);
-    }
-    false
+    any_bucket(store, b, |id| is_ended(home_of(call, setting, store, id)))
 }
 
 /// Whether the home of some bucket does not outlast the call, or lies in a pool of another filter.
@@ -53,14 +47,9 @@ pub(crate) fn has_stray<R: Rings<Stored> + Drop>(
         → result ≡ list_any (λ b. is_stray (seen store.now (in_setting setting.now pools around) instance.now call.now) b.bucket.home) (shown
         (is_running call.now.name setting.now.waits.now) (list_at (lists store.now) b)) }
 {
-    let mut place = store.start(b);
-    while let Some(id) = place {
-        if is_stray(instance, setting, home_of(call, setting, store, id)) {
-            return true;
-        }
-        place = store.behind(id);
-    }
-    false
+    any_bucket(store, b, |id| {
+        is_stray(instance, setting, home_of(call, setting, store, id))
+    })
 }
 
 /// Whether it is data, behind an EOS.

@@ -111,11 +111,7 @@ pub(crate) fn home_fault<R: Rings<Stored> + Drop>(
     let Some(id) = bucket else {
         return None;
     };
-    if is_ended(home_of(call, setting, store, id)) {
-        Some(FaultKind::F5)
-    } else {
-        None
-    }
+    is_ended(home_of(call, setting, store, id)).then_some(FaultKind::F5)
 }
 
 /// The fault of a cursor at a bucket whose home is dead.

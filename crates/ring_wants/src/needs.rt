@@ -12,13 +12,15 @@ ghost use Rattle.ring_wants.specs.OnlyAsked.{OnlyAsked};
 ghost use Rattle.ring_calls.specs.Places.{by_birth, IsInBrigade};
 ghost use Rattle.ring_calls.specs.Seen.{seen};
 
-use crate::faults::{or_else, passed_fault};
+use crate::faults::{mark_of, or_else, passed_fault};
 use crate::places::place_of;
 use brigade_ops::{Brigades, Rings, Stored};
 use ring_calls::cursors::Place;
 use ring_calls::machine::{Call, Instance};
 use run_model::{FaultKind, Need};
 
+/// The fault of a cursor that stands there.
+#[tactic(auto, using(crate::proofs::OnlyAsked::asked_nothing, ring_calls::proofs::Wanted::passed_told))]
 fn place_fault_at<R: Rings<Stored> + Drop>(
     instance: &Instance,
     call: &Call,
@@ -33,8 +35,11 @@ fn place_fault_at<R: Rings<Stored> + Drop>(
     match spot {
         Place::Nowhere => Some(FaultKind::F3),
         Place::Loose(_) => need.loose_fault(),
-        Place::Within(b, _) => or_else(passed_fault(instance, store, b), need.within_fault(b)),
-        Place::End(b) => or_else(passed_fault(instance, store, b), need.end_fault(b)),
+        Place::Within(b, _) => or_else(
+            passed_fault(mark_of(instance, store, b)),
+            need.within_fault(b),
+        ),
+        Place::End(b) => or_else(passed_fault(mark_of(instance, store, b)), need.end_fault(b)),
     }
 }
 

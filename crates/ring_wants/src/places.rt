@@ -37,6 +37,7 @@ fn slot_of(instance: &Instance, name: BrigadeId) -> Option<u8>
     None
 }
 
+#[tactic(auto, using(crate::proofs::OnlyAsked::asks_once))]
 fn bucket_place<R: Rings<Stored> + Drop>(
     instance: &Instance,
     call: &Call,
@@ -62,6 +63,7 @@ fn bucket_place<R: Rings<Stored> + Drop>(
 }
 
 /// The variable of a brigade, where it is there.
+#[tactic(auto, using(crate::proofs::OnlyAsked::asks_once))]
 fn end_place<R: Rings<Stored> + Drop>(
     instance: &Instance,
     store: &mut Brigades<R>,
@@ -79,6 +81,7 @@ fn end_place<R: Rings<Stored> + Drop>(
 }
 
 /// Where a cursor stands.
+#[tactic(auto, using(crate::proofs::OnlyAsked::asked_nothing))]
 pub(crate) fn place_of<R: Rings<Stored> + Drop>(
     instance: &Instance,
     call: &Call,

@@ -1,7 +1,7 @@
 //! The faults where a pool is not there, or is there already.
 
 ghost use Rattle.std.specs.Prelude.{◌≡◌, ℕ, Option, slice_index_or};
-ghost use Rattle.run_model.specs.Faults.{WPool, WNewPool, fault_want, has_pool, is_live_named, is_stray};
+ghost use Rattle.run_model.specs.Faults.{has_pool, is_live_named, is_stray};
 ghost use Rattle.run_model.specs.Indexed.{any_below};
 ghost use Rattle.run_model.specs.State.{name_in, is_named, is_own};
 ghost use Rattle.run_model.specs.declared.payload.Payload.{Payload};
@@ -19,7 +19,7 @@ use ring_calls::machine::Instance;
 use ring_calls::outside::Outside;
 use ring_calls::pool_names::{is_named, name_in, pool_named, variable};
 use ring_calls::setting::Setting;
-use run_model::{FaultKind, Home, Payload, PoolRef, PoolVar};
+use run_model::{Home, Payload, PoolRef, PoolVar};
 
 /// Whether one of the eight pool variables names a pool.
 fn any_names(instance: &Instance, name: PoolId) -> bool
@@ -46,7 +46,7 @@ fn is_there(tree: &mut PoolTree<Payload>, name: Option<PoolId>) -> bool
 
 /// Whether an operand names a live pool.
 #[tactic(auto, unfolding(ring_calls::specs::Seen::seen_over, run_model::specs::Faults::has_pool_at))]
-fn has_pool(
+pub(crate) fn has_pool(
     instance: &Instance,
     setting: &Setting<'_>,
     tree: &mut PoolTree<Payload>,
@@ -64,42 +64,6 @@ fn has_pool(
     };
     let name = pool_named(instance, &outside, pool);
     is_there(tree, name)
-}
-
-/// The fault of an operand that is to name a live pool.
-pub(crate) fn want_pool(
-    instance: &Instance,
-    setting: &Setting<'_>,
-    tree: &mut PoolTree<Payload>,
-    pool: PoolRef,
-) -> Option<FaultKind>
-    ensures value { (rings : ℕ → Option Items) (next : ℕ) (around : Around) (call : Call)
-        → result ≡ fault_want (seen_over rings next (in_setting setting.now (map_of tree.old) around) instance.now call) (WPool pool) }
-    ensures asked { TreeOnlyAsked tree.old tree.new }
-{
-    if has_pool(instance, setting, tree, pool) {
-        None
-    } else {
-        Some(FaultKind::F1)
-    }
-}
-
-/// The fault of a variable that is to name no live pool.
-pub(crate) fn want_new_pool(
-    instance: &Instance,
-    setting: &Setting<'_>,
-    tree: &mut PoolTree<Payload>,
-    q: u8,
-) -> Option<FaultKind>
-    ensures value { (rings : ℕ → Option Items) (next : ℕ) (around : Around) (call : Call)
-        → result ≡ fault_want (seen_over rings next (in_setting setting.now (map_of tree.old) around) instance.now call) (WNewPool q) }
-    ensures asked { TreeOnlyAsked tree.old tree.new }
-{
-    if has_pool(instance, setting, tree, PoolRef::Own(q)) {
-        Some(FaultKind::F10)
-    } else {
-        None
-    }
 }
 
 /// Whether a pool is one that a pool variable names, the connection's or the open request's.

@@ -12,17 +12,17 @@ ghost use Rattle.ring_calls.specs.Seen.{seen};
 ghost use Rattle.ring_calls.specs.Setting.{in_setting};
 
 use crate::brigade_wants::{want_home_across, want_homes, want_return, want_send};
-use crate::faults::{want_brigade, want_new, want_usable};
+use crate::faults::{brigade_fault, mark_of, new_fault, usable_fault};
 use crate::home_wants::want_home;
 use crate::needs::want_cursor;
-use crate::pool_wants::{want_new_pool, want_pool};
+use crate::pool_wants::has_pool;
 use brigade_ops::{Brigades, PoolTree, Rings, Stored};
 use ring_calls::machine::{Call, Instance};
 use ring_calls::setting::Setting;
-use run_model::{FaultKind, Instr, Module, Payload, Want, wants};
+use run_model::{FaultKind, Instr, Module, Payload, PoolRef, Want, wants};
 
 /// The fault of a want, if it is not so.
-#[tactic(auto, using(crate::proofs::OnlyAsked::asked_nothing, crate::proofs::OnlyAsked::tree_asked_nothing))]
+#[tactic(auto, using(crate::proofs::OnlyAsked::asked_nothing, crate::proofs::OnlyAsked::tree_asked_nothing, ring_calls::proofs::Wanted::marks_told))]
 #[inline(always)]
 fn fault_of<R: Rings<Stored> + Drop>(
     instance: &Instance,
@@ -39,11 +39,13 @@ fn fault_of<R: Rings<Stored> + Drop>(
     ensures asked { OnlyAsked store.old store.new }
 {
     match want {
-        Want::Pool(pool) => want_pool(instance, setting, tree, pool),
-        Want::Brigade(b) => want_brigade(instance, store, b),
-        Want::Usable(b) => want_usable(instance, store, b),
-        Want::New(b) => want_new(instance, store, b),
-        Want::NewPool(q) => want_new_pool(instance, setting, tree, q),
+        Want::Pool(pool) => (!has_pool(instance, setting, tree, pool)).then_some(FaultKind::F1),
+        Want::Brigade(b) => brigade_fault(mark_of(instance, store, b)),
+        Want::Usable(b) => usable_fault(mark_of(instance, store, b)),
+        Want::New(b) => new_fault(mark_of(instance, store, b)),
+        Want::NewPool(q) => {
+            has_pool(instance, setting, tree, PoolRef::Own(q)).then_some(FaultKind::F10)
+        }
         Want::Cursor(c, need) => want_cursor(instance, call, store, c, need),
         Want::Homes(b) => want_homes(instance, call, setting, store, b),
         Want::Home(c) => want_home(instance, call, setting, store, c),

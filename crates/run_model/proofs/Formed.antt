@@ -97,7 +97,8 @@ cleared_bare q ps f n is = by_test (is_under ps q n) (not (n == q)) is where
 
 pub cleared_formed : {T : Type 0} (q : ℕ) (ps : Pools T) → IsPoolMap ps → IsPoolMap (cleared q ps)
 cleared_formed q ps f =
-    thinned_formed ps (cleared q ps) (cleared_next q ps) (cleared_path q ps) (λ n m p above is. let off = cleared_off q ps n m (p ∷ above) is in stays n m p above off.1 off.0) (cleared_bare q ps f) f where
+    thinned_formed ps (cleared q ps) (cleared_next q ps) (cleared_path q ps) (λ n m p above is. let off = cleared_off q ps n m (p ∷ above) is in stays n m p above off.1 off.0)
+    (cleared_bare q ps f) f where
       stays : (n m p : ℕ) (above : List ℕ) → ps.path n ≡ m ∷ p ∷ above → (is_under ps q n ≡ false) ⊎ (n ≡ q) → (cleared q ps).path p ≡ ps.path p
       stays n m p above is (inl off) = (cleared_apart q ps p (above_off ps f q n m p above is off)).0
       stays n m p above is (inr same) =
@@ -128,7 +129,8 @@ created_formed parent ps live f = record {
     | inr p ↦ f.first n m above (sym p.1 ∙ is)
   ];
   rises = λ n m k above is. elim (created_cases parent ps n) [
-    | inl p ↦ (let top : k ≡ parent = f.first parent k above (tails ps.next m (ps.path parent) (k ∷ above) (sym p.1 ∙ is)) in let lt : parent < ps.next = f.named parent live in omega (arith, top, p.0))
+    | inl p ↦ (let top : k ≡ parent = f.first parent k above (tails ps.next m (ps.path parent) (k ∷ above) (sym p.1 ∙ is)) in let lt : parent < ps.next = f.named parent live in
+        omega (arith, top, p.0))
     | inr p ↦ f.rises n m k above (sym p.1 ∙ is)
   ];
   closed = λ n m k above is. elim (created_cases parent ps n) [

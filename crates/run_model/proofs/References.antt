@@ -80,10 +80,11 @@ registered_refers n x ps p file h = elim (upd_either ps.payloads n p (ps.payload
 pub registered_back : (n : ℕ) (x : Payload) (ps : Pools Payload) (p file : ℕ) → refers (registered n x ps) p file ≡ true → (refers ps p file ≡ true) ⊎ (is_file_ref file x ≡ true)
 unfolding registered
 registered_back n x ps p file h = elim (upd_either ps.payloads n p (ps.payloads n ++ x ∷ [])) [
-  | inl q ↦ (elim (one_of (list_any (is_file_ref file) (ps.payloads n)) (is_file_ref file x || false) (sym (list_any-append (is_file_ref file) (ps.payloads n) (x ∷ [])) ∙ (sym (ap (list_any (is_file_ref file)) q.1) ∙ h))) [
-    | inl old ↦ inl (ap (λ (k : ℕ). refers ps k file) q.0 ∙ old)
-    | inr new ↦ inr (alone (is_file_ref file x) new)
-  ])
+  | inl q ↦ (elim (one_of (list_any (is_file_ref file) (ps.payloads n)) (is_file_ref file x || false)
+      (sym (list_any-append (is_file_ref file) (ps.payloads n) (x ∷ [])) ∙ (sym (ap (list_any (is_file_ref file)) q.1) ∙ h))) [
+        | inl old ↦ inl (ap (λ (k : ℕ). refers ps k file) q.0 ∙ old)
+        | inr new ↦ inr (alone (is_file_ref file x) new)
+      ])
   | inr q ↦ inl (sym (ap (list_any (is_file_ref file)) q.1) ∙ h)
 ] where
   alone : (b : Bool) → (b || false) ≡ true → b ≡ true
@@ -93,7 +94,8 @@ registered_back n x ps p file h = elim (upd_either ps.payloads n p (ps.payloads 
 pub registered_itself : (n : ℕ) (file : ℕ) (ps : Pools Payload) → refers (registered n (FileRef file) ps) n file ≡ true
 unfolding registered
 registered_itself n file ps = elim (upd_either ps.payloads n n (ps.payloads n ++ FileRef file ∷ [])) [
-  | inl q ↦ ap (list_any (is_file_ref file)) q.1 ∙ (list_any-append (is_file_ref file) (ps.payloads n) (FileRef file ∷ []) ∙ or_right (list_any (is_file_ref file) (ps.payloads n)) _ (or_left (file == file) false (nat_same file)))
+  | inl q ↦ ap (list_any (is_file_ref file)) q.1
+      ∙ (list_any-append (is_file_ref file) (ps.payloads n) (FileRef file ∷ []) ∙ or_right (list_any (is_file_ref file) (ps.payloads n)) _ (or_left (file == file) false (nat_same file)))
   | inr q ↦ absurd (q.0 refl)
 ] where
   nat_same : (k : ℕ) → (k == k) ≡ true
@@ -110,11 +112,13 @@ pub all_there : (target : ℕ) (files : List ℕ) (ps : Pools Payload) (file : �
 unfolding all_referred
 all_there target [] ps file h = absurd (cc)
 all_there target (f ∷ fs) ps file h = elim (one_of (f == file) (list_any (λ g. g == file) fs) h) [
-  | inl here ↦ all_grow target fs (registered target (FileRef f) ps) target file (subst (λ (k : ℕ). refers (registered target (FileRef f) ps) target k ≡ true) (eqb-true f file here) (registered_itself target f ps))
+  | inl here ↦ all_grow target fs (registered target (FileRef f) ps) target file
+      (subst (λ (k : ℕ). refers (registered target (FileRef f) ps) target k ≡ true) (eqb-true f file here) (registered_itself target f ps))
   | inr rest ↦ all_there target fs (registered target (FileRef f) ps) file rest
 ]
 
-pub all_back : (target : ℕ) (files : List ℕ) (ps : Pools Payload) (p file : ℕ) → refers (all_referred target files ps) p file ≡ true → (refers ps p file ≡ true) ⊎ (list_any (λ g. g == file) files ≡ true)
+pub all_back : (target : ℕ) (files : List ℕ) (ps : Pools Payload) (p file : ℕ) → refers (all_referred target files ps) p file ≡ true
+    → (refers ps p file ≡ true) ⊎ (list_any (λ g. g == file) files ≡ true)
 unfolding all_referred
 all_back target [] ps p file h = inl h
 all_back target (f ∷ fs) ps p file h = elim (all_back target fs (registered target (FileRef f) ps) p file h) [

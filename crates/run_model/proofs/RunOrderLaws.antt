@@ -235,7 +235,8 @@ order_once ps formed n (suc depth) p deep live =
     ]
 
 -- the children's pools do not hang on the depth where those of each child do not
-children_same : {T : Type 0} (ps : Pools T) (p : ℕ) (f g : ℕ → List ℕ) → ((c : ℕ) → is_child ps p c ≡ true → f c ≡ g c) → (m : ℕ) → flat_map f (children_below ps p m) ≡ flat_map g (children_below ps p m)
+children_same : {T : Type 0} (ps : Pools T) (p : ℕ) (f g : ℕ → List ℕ) → ((c : ℕ) → is_child ps p c ≡ true → f c ≡ g c) → (m : ℕ)
+    → flat_map f (children_below ps p m) ≡ flat_map g (children_below ps p m)
 unfolding children_below
 children_same ps p f g same zero = refl
 children_same ps p f g same (suc m) =

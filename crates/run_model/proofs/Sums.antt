@@ -27,7 +27,8 @@ unfolding sum_below
 sum_below_upd zero i g v f h = absurd (omega arith)
 sum_below_upd (suc n) i g v f h = elim (upd_either g i n v) [
   | inl p ↦
-      (let off : sum_below n (λ k. f (upd g i v k)) ≡ sum_below n (λ k. f (g k)) = sum_below_same n (λ k. f (upd g i v k)) (λ k. f (g k)) (λ k lt. ap f (upd_off g i k v (λ e. absurd (omega (arith, e, p.0))))) in
+      (let off : sum_below n (λ k. f (upd g i v k)) ≡ sum_below n (λ k. f (g k)) =
+      sum_below_same n (λ k. f (upd g i v k)) (λ k. f (g k)) (λ k lt. ap f (upd_off g i k v (λ e. absurd (omega (arith, e, p.0))))) in
       let new : f (upd g i v n) ≡ f v = ap f p.1 in
       let old : f (g n) ≡ f (g i) = ap (λ k. f (g k)) p.0 in
       omega arith)
@@ -93,6 +94,7 @@ pub sum_written : {X : Type 0} (n i : ℕ) (g : ℕ → X) (v : X) (f : X → �
 sum_written n i g v f = elim (cases_lt i n) [
   | inl lt ↦ (let all : sum_below n (λ k. f (upd g i v k)) + f (g i) ≡ sum_below n (λ k. f (g k)) + f v = sum_below_upd n i g v f lt in omega arith)
   | inr le ↦
-      (let same : sum_below n (λ k. f (upd g i v k)) ≡ sum_below n (λ k. f (g k)) = sum_below_same n (λ k. f (upd g i v k)) (λ k. f (g k)) (λ k less. ap f (upd_off g i k v (λ e. absurd (omega (arith, e))))) in
+      (let same : sum_below n (λ k. f (upd g i v k)) ≡ sum_below n (λ k. f (g k)) =
+      sum_below_same n (λ k. f (upd g i v k)) (λ k. f (g k)) (λ k less. ap f (upd_off g i k v (λ e. absurd (omega (arith, e))))) in
       omega arith)
 ]

@@ -40,10 +40,10 @@ fails_now None = false
 fails_now (Some zero) = true
 fails_now (Some (suc n)) = false
 
-abbrev pub after_read : Option ℕ → Option ℕ
-after_read None = None
-after_read (Some zero) = None
-after_read (Some (suc n)) = Some n
+abbrev pub fails_after_read : Option ℕ → Option ℕ
+fails_after_read None = None
+fails_after_read (Some zero) = None
+fails_after_read (Some (suc n)) = Some n
 
 -- n bytes of a file from a place on, where it is open and reaches so far
 abbrev pub part_of : Option (List ℕ) → ℕ → ℕ → Option (List ℕ)
@@ -55,7 +55,7 @@ unfoldable pub read_part : ℕ → ℕ → ℕ → Files → Option (List ℕ)
 read_part file at n fs = if fails_now fs.fails_in then None else part_of (fs.opened file) at n
 
 abbrev pub read_done : Files → Files
-read_done fs = record fs { fails_in = after_read fs.fails_in }
+read_done fs = record fs { fails_in = fails_after_read fs.fails_in }
 
 -- how many reads a range takes: each is of 8000 bytes at most
 abbrev pub parts_of : ℕ → ℕ

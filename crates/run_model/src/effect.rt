@@ -1,7 +1,7 @@
 //! What an instruction does, and where it may lead.
 
 ghost use Rattle.std.specs.Prelude.{◌≡◌};
-ghost use Rattle.run_model.specs.EffectOf.{effect_of, flow_of};
+ghost use Rattle.run_model.specs.EffectOf.{effect_of, branch_of};
 
 use module_code::{Instr, KindTest, PoolRef, Value, VarRef};
 
@@ -142,7 +142,7 @@ pub enum Condition {
 
 /// Where an instruction may lead.
 #[derive(Clone, Copy)]
-pub enum Flow {
+pub enum Branch {
     /// To the next instruction.
     ToNext,
     /// To its target where the condition holds, and else to the next instruction.
@@ -210,25 +210,25 @@ pub fn effect_of(instr: Instr) -> Effect
 
 /// Where an instruction may lead.
 #[inline(always)]
-pub fn flow_of(instr: Instr) -> Flow
-    ensures { result ≡ flow_of instr }
+pub fn branch_of(instr: Instr) -> Branch
+    ensures { result ≡ branch_of instr }
 {
     match instr {
-        Instr::BPart(b, x, c, _) => Flow::JumpIf(Condition::TooShort(b, x, c)),
-        Instr::JEmpty(b, _) => Flow::JumpIf(Condition::NoBucket(b)),
-        Instr::Pass(_, _) => Flow::JumpIf(Condition::PassFailed),
-        Instr::JEnd(c, _) => Flow::JumpIf(Condition::AtEnd(c)),
-        Instr::JKind(c, kind, _) => Flow::JumpIf(Condition::OfKind(c, kind)),
-        Instr::Split(c, x, _) => Flow::JumpIf(Condition::NoSplit(c, x)),
-        Instr::Read(c, _) => Flow::JumpIf(Condition::ReadFailed(c)),
-        Instr::Get(_, x, _) => Flow::JumpIf(Condition::NoByte(x)),
-        Instr::Put(x, _) => Flow::JumpIf(Condition::NoRoom(x)),
-        Instr::JLt(n, x, _) => Flow::JumpIf(Condition::Less(n, x)),
-        Instr::JEq(n, x, _) => Flow::JumpIf(Condition::Equal(n, x)),
-        Instr::JNull(variable, _) => Flow::JumpIf(Condition::IsNull(variable)),
-        Instr::JSent(_) => Flow::JumpIf(Condition::WasSent),
-        Instr::Jump(_) => Flow::JumpAlways,
-        Instr::Ret(_) => Flow::EndCall,
-        _ => Flow::ToNext,
+        Instr::BPart(b, x, c, _) => Branch::JumpIf(Condition::TooShort(b, x, c)),
+        Instr::JEmpty(b, _) => Branch::JumpIf(Condition::NoBucket(b)),
+        Instr::Pass(_, _) => Branch::JumpIf(Condition::PassFailed),
+        Instr::JEnd(c, _) => Branch::JumpIf(Condition::AtEnd(c)),
+        Instr::JKind(c, kind, _) => Branch::JumpIf(Condition::OfKind(c, kind)),
+        Instr::Split(c, x, _) => Branch::JumpIf(Condition::NoSplit(c, x)),
+        Instr::Read(c, _) => Branch::JumpIf(Condition::ReadFailed(c)),
+        Instr::Get(_, x, _) => Branch::JumpIf(Condition::NoByte(x)),
+        Instr::Put(x, _) => Branch::JumpIf(Condition::NoRoom(x)),
+        Instr::JLt(n, x, _) => Branch::JumpIf(Condition::Less(n, x)),
+        Instr::JEq(n, x, _) => Branch::JumpIf(Condition::Equal(n, x)),
+        Instr::JNull(variable, _) => Branch::JumpIf(Condition::IsNull(variable)),
+        Instr::JSent(_) => Branch::JumpIf(Condition::WasSent),
+        Instr::Jump(_) => Branch::JumpAlways,
+        Instr::Ret(_) => Branch::EndCall,
+        _ => Branch::ToNext,
     }
 }

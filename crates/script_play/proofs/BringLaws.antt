@@ -21,7 +21,8 @@ use Rattle.script_play.specs.Sessions.{IsMemHostAlive, IsServed, device}
 
 module _ (budget : ℕ) (chain : List Program) (number : ℕ) (ready : List Piece) where
   -- A piece that was made ready goes before the others.
-  brings_on : (x : ScriptPiece) (xs : List ScriptPiece) (y : Piece) (s m t : HostView) (r : Reply) → IsReadied budget chain number x s (Ok y) m → BringsPieces budget chain number (ready ++ y ∷ []) xs m r t → BringsPieces budget chain number ready (x ∷ xs) s r t
+  brings_on : (x : ScriptPiece) (xs : List ScriptPiece) (y : Piece) (s m t : HostView) (r : Reply) → IsReadied budget chain number x s (Ok y) m
+      → BringsPieces budget chain number (ready ++ y ∷ []) xs m r t → BringsPieces budget chain number ready (x ∷ xs) s r t
   unfolding BringsPieces
   brings_on (script_piece.Ready z) xs y s m t r (is, same) rest =
       let made : y ≡ z = cc in
@@ -32,7 +33,8 @@ module _ (budget : ℕ) (chain : List Program) (number : ℕ) (ready : List Piec
       (Ok file, m, acts, subst (λ (v : Piece). BringsPieces budget chain number (ready ++ v ∷ []) xs m r t) made rest)
 
   -- The first refusal is the answer.
-  brings_stop : (x : ScriptPiece) (xs : List ScriptPiece) (why : Refusal) (s m : HostView) → IsReadied budget chain number x s (Err why) m → BringsPieces budget chain number ready (x ∷ xs) s (reply.Refused why) m
+  brings_stop : (x : ScriptPiece) (xs : List ScriptPiece) (why : Refusal) (s m : HostView) → IsReadied budget chain number x s (Err why) m
+      → BringsPieces budget chain number ready (x ∷ xs) s (reply.Refused why) m
   unfolding BringsPieces
   brings_stop (script_piece.Ready z) xs why s m (is, same) = absurd (cc)
   brings_stop (script_piece.Range name start len) xs why s m (Err e, acts, is) =
@@ -44,7 +46,8 @@ module _ (budget : ℕ) (chain : List Program) (number : ℕ) (ready : List Piec
 pub record BringsFrom (old now : Host MemFiles) (number : ℕ) (pieces : List ScriptPiece) (ready : List Piece) (left : List ScriptPiece) (w : World) : Type 0 where
   pub to : World
   pub hosts : IsHosting (device now) now to
-  pub rest : (r : Reply) (new : HostView) → BringsPieces (budget_of old) (chain_of old) number ready left (host_view to (device now)) r new → BringsPieces (budget_of old) (chain_of old) number [] pieces (host_view w (device old)) r new
+  pub rest : (r : Reply) (new : HostView) → BringsPieces (budget_of old) (chain_of old) number ready left (host_view to (device now)) r new
+      → BringsPieces (budget_of old) (chain_of old) number [] pieces (host_view w (device old)) r new
 
 pub record IsBringing (old now : Host MemFiles) (number : ℕ) (pieces : List ScriptPiece) (ready : List Piece) (left : List ScriptPiece) : Type 0 where
   pub alive : IsMemHostAlive now
@@ -62,7 +65,8 @@ module _ (old now : Host MemFiles) (number : ℕ) (pieces : List ScriptPiece) wh
     here T t = subst (λ (b : ℕ). T b (chain_of old)) so.budget (subst (λ (c : List Program). T (budget_of now) c) so.chain t)
 
     module _ (x : ScriptPiece) (xs : List ScriptPiece) (whole : all ≡ x ∷ xs) where
-      pub bring_goes : (y : Piece) (more : List Piece) → more ≡ ready ++ y ∷ [] → ((w : World) → IsHosting (device now) now w → MakesReady now new number x (Ok y) w) → IsBringing old new number pieces more xs
+      pub bring_goes : (y : Piece) (more : List Piece) → more ≡ ready ++ y ∷ [] → ((w : World) → IsHosting (device now) now w → MakesReady now new number x (Ok y) w)
+          → IsBringing old new number pieces more xs
       bring_goes y more pushed made = record {
         alive = (let m = made so.alive.0 so.alive.1 in (m.to, m.hosts));
         chain = (made so.alive.0 so.alive.1).chain ∙ so.chain;
@@ -77,14 +81,16 @@ module _ (old now : Host MemFiles) (number : ℕ) (pieces : List ScriptPiece) wh
         });
       }
 
-      pub bring_stops : (why : Refusal) → ((w : World) → IsHosting (device now) now w → MakesReady now new number x (Err why) w) → (w : World) → IsHosting (device old) old w → IsServed old new (command.Bring number pieces) (reply.Refused why) w
+      pub bring_stops : (why : Refusal) → ((w : World) → IsHosting (device now) now w → MakesReady now new number x (Err why) w) → (w : World) → IsHosting (device old) old w
+          → IsServed old new (command.Bring number pieces) (reply.Refused why) w
       unfolding AnswersCommand
       bring_stops why made w hosts =
           let from = so.goes w hosts in
           let m = made from.to from.hosts in
           record {
             to = m.to;
-            serves = from.rest (reply.Refused why) (host_view m.to (device new)) (subst (λ (ps : List ScriptPiece). BringsPieces (budget_of old) (chain_of old) number ready ps (host_view from.to (device now)) (reply.Refused why) (host_view m.to (device new))) (sym whole)
+            serves = from.rest (reply.Refused why) (host_view m.to (device new)) (subst (λ (ps : List ScriptPiece). BringsPieces (budget_of old) (chain_of old) number ready ps
+                (host_view from.to (device now)) (reply.Refused why) (host_view m.to (device new))) (sym whole)
                 (brings_stop (budget_of old) (chain_of old) number ready x xs why (host_view from.to (device now)) (host_view m.to (device new))
                 (here (λ b c. IsReadied b c number x (host_view from.to (device now)) (Err why) (host_view m.to (device new))) m.readied)));
             hosts = m.hosts;
@@ -93,7 +99,8 @@ module _ (old now : Host MemFiles) (number : ℕ) (pieces : List ScriptPiece) wh
           }
 
     -- No piece is left, and those that are ready are brought.
-    pub bring_ends : (answer : Answer) (r : Reply) → all ≡ [] → r ≡ reply_of answer → ((w : World) → IsHosting (device now) now w → Happens (device now) (device new) now new number (event.Bring ready) answer w) → (w : World) → IsHosting (device old) old w
+    pub bring_ends : (answer : Answer) (r : Reply) → all ≡ [] → r ≡ reply_of answer
+        → ((w : World) → IsHosting (device now) now w → Happens (device now) (device new) now new number (event.Bring ready) answer w) → (w : World) → IsHosting (device old) old w
         → IsServed old new (command.Bring number pieces) r w
     unfolding AnswersCommand BringsPieces
     bring_ends answer r none told brought w hosts =
@@ -103,7 +110,8 @@ module _ (old now : Host MemFiles) (number : ℕ) (pieces : List ScriptPiece) wh
         record { answer = answer; acts = here (λ b c. Answers b c number (event.Bring ready) (host_view from.to (device now)) answer (host_view h.to (device new))) h.acts; told = told } in
         record {
           to = h.to;
-          serves = from.rest r (host_view h.to (device new)) (subst (λ (ps : List ScriptPiece). BringsPieces (budget_of old) (chain_of old) number ready ps (host_view from.to (device now)) r (host_view h.to (device new))) (sym none) tells);
+          serves = from.rest r (host_view h.to (device new))
+              (subst (λ (ps : List ScriptPiece). BringsPieces (budget_of old) (chain_of old) number ready ps (host_view from.to (device now)) r (host_view h.to (device new))) (sym none) tells);
           hosts = h.hosts;
           chain = h.chain ∙ so.chain;
           budget = h.budget ∙ so.budget;

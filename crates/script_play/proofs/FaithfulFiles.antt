@@ -45,7 +45,8 @@ module _ (s : CodeSession) (v : Session) (hosted : IsHosted s v) where
   abbrev d : Device
   d = device s.host
 
-  opens_there : (o : Option Conn) (b : Option Connection) (c : Connection) (file : ℕ) (bytes : List ℕ) → IsHostedIf (chain_of s.host) s.host.tree s.host.store d o b → b ≡ Some c → c.opened file ≡ Some bytes → MayHold (d.numbered file) bytes
+  opens_there : (o : Option Conn) (b : Option Connection) (c : Connection) (file : ℕ) (bytes : List ℕ) → IsHostedIf (chain_of s.host) s.host.tree s.host.store d o b → b ≡ Some c
+      → c.opened file ≡ Some bytes → MayHold (d.numbered file) bytes
   opens_there None None c file bytes hosted_as is opened = absurd (cc)
   opens_there None (Some b) c file bytes hosted_as is opened = absurd hosted_as
   opens_there (Some conn) None c file bytes hosted_as is opened = absurd hosted_as
@@ -97,7 +98,8 @@ module _ (budget : ℕ) (chain : List Program) where
       let steps = makes.steps in
       let before : steps.before.device.plan ≡ Sound = goes_kind budget chain number steps.count old steps.before steps.goes sound in
       record {
-        unfailing = λ is. acts_unfailing budget chain number steps.before new before event.Step (step_answer makes.answer) steps.last (refused_steps n makes.answer refusal.FileFailed (sym makes.told ∙ is));
+        unfailing = λ is. acts_unfailing budget chain number steps.before new before event.Step (step_answer makes.answer) steps.last
+            (refused_steps n makes.answer refusal.FileFailed (sym makes.told ∙ is));
         sound = acts_kind budget chain number event.Step steps.before new (step_answer makes.answer) steps.last before;
       }
 
@@ -106,19 +108,22 @@ module _ (budget : ℕ) (chain : List Program) where
       let runs = to.runs in
       let before : runs.before.device.plan ≡ Sound = goes_kind budget chain number runs.count old runs.before runs.goes sound in
       record {
-        unfailing = λ is. acts_unfailing budget chain number runs.before new before event.Step (step_answer to.answer) runs.last (refused_answer (step_answer to.answer) refusal.FileFailed (sym to.told ∙ is));
+        unfailing = λ is. acts_unfailing budget chain number runs.before new before event.Step (step_answer to.answer) runs.last
+            (refused_answer (step_answer to.answer) refusal.FileFailed (sym to.told ∙ is));
         sound = acts_kind budget chain number event.Step runs.before new (step_answer to.answer) runs.last before;
       }
 
   opening_refused : (why : Refusal) (r : Reply) → r ≡ reply.Refused why → r ≡ reply.Refused refusal.FileFailed → Refused why ≡ Refused refusal.FileFailed
   opening_refused why r told is = (let same : why ≡ refusal.FileFailed = cc in ap Refused same)
 
-  brings_sound : (number : ℕ) (ready : List Piece) (pieces : List ScriptPiece) (old new : HostView) (r : Reply) → old.device.plan ≡ Sound → BringsPieces budget chain number ready pieces old r new → IsSound r new
+  brings_sound : (number : ℕ) (ready : List Piece) (pieces : List ScriptPiece) (old new : HostView) (r : Reply) → old.device.plan ≡ Sound → BringsPieces budget chain number ready pieces old r new
+      → IsSound r new
   unfolding BringsPieces
   brings_sound number ready [] old new r sound brings = tells_sound number (event.Bring ready) old new r sound brings
   brings_sound number ready (script_piece.Ready x ∷ xs) old new r sound brings = brings_sound number (ready ++ x ∷ []) xs old new r sound brings
   brings_sound number ready (script_piece.Range name start len ∷ xs) old new r sound (answer, mid, acts, rest) =
-      by_answer answer (λ is. acts_unfailing budget chain number old mid sound (event.OpenFile name) (file_answer answer) acts is) (acts_kind budget chain number (event.OpenFile name) old mid (file_answer answer) acts sound)
+      by_answer answer (λ is. acts_unfailing budget chain number old mid sound (event.OpenFile name) (file_answer answer) acts is)
+      (acts_kind budget chain number (event.OpenFile name) old mid (file_answer answer) acts sound)
       (λ file still more. brings_sound number (ready ++ piece.File file start len ∷ []) xs mid new r still more) rest where
         by_answer : (a : Result (ℕ × ℕ) Refusal) → file_answer a ≢ Refused refusal.FileFailed → mid.device.plan ≡ Sound
             → ((file : ℕ) → mid.device.plan ≡ Sound → BringsPieces budget chain number (ready ++ piece.File file start len ∷ []) xs mid r new → IsSound r new)

@@ -130,24 +130,28 @@ module _ (from to before mid : Option (List ℕ)) (p : Player) (held bytes unrea
         }
 
 -- Where no memory was left or the writer failed.
-pub going_failed : (from to next before mid after : Option (List ℕ)) (p new : Player) (held bytes left : List ℕ) (bound : ℕ) (g : Going from to before mid p held bound) → Consumes to next bytes → length bytes ≤ 8192 → PlaysBytes p new mid after (held ++ bytes) left g.stage (Err fault.NoMemory) → Writes from before after (λ script text. IsFrontOf script text next)
+pub going_failed : (from to next before mid after : Option (List ℕ)) (p new : Player) (held bytes left : List ℕ) (bound : ℕ) (g : Going from to before mid p held bound) → Consumes to next bytes
+    → length bytes ≤ 8192 → PlaysBytes p new mid after (held ++ bytes) left g.stage (Err fault.NoMemory) → Writes from before after (λ script text. IsFrontOf script text next)
 going_failed from to next before mid after p new held bytes left bound g second few (whole, rest, is, split, (text, k, added)) =
     of_left from next (g.whole ++ (held ++ bytes)) (λ script. (t : List ℕ) × IsFrontOf script t next × Appends before after t) (read_more from to next g.whole held bytes g.read second)
     (λ unread leaves. (g.told ++ text, front_behind from to before mid p held bytes unread bound g next few leaves whole rest (split, inl is) text k, Appends-trans before mid after g.told text g.wrote added))
 
-pub going_cut : (from to next before mid after : Option (List ℕ)) (p new : Player) (held bytes left : List ℕ) (bound : ℕ) (g : Going from to before mid p held bound) → Consumes to next bytes → length bytes ≤ 8192 → PlaysBytes p new mid after (held ++ bytes) left g.stage (Err fault.Write) → Writes from before after (λ script text. IsCutOf script text next)
+pub going_cut : (from to next before mid after : Option (List ℕ)) (p new : Player) (held bytes left : List ℕ) (bound : ℕ) (g : Going from to before mid p held bound) → Consumes to next bytes
+    → length bytes ≤ 8192 → PlaysBytes p new mid after (held ++ bytes) left g.stage (Err fault.Write) → Writes from before after (λ script text. IsCutOf script text next)
 going_cut from to next before mid after p new held bytes left bound g second few (whole, rest, is, split, (text, k, added)) =
     of_left from next (g.whole ++ (held ++ bytes)) (λ script. (t : List ℕ) × IsCutOf script t next × Appends before after t) (read_more from to next g.whole held bytes g.read second)
     (λ unread leaves. (g.told ++ text, cut_behind from to before mid p held bytes unread bound g next few leaves whole rest (split, inl is) text k, Appends-trans before mid after g.told text g.wrote added))
 
 -- The reader failed, or was read too often.
-pub going_read : (from to before after : Option (List ℕ)) (p : Player) (held : List ℕ) (bound : ℕ) → Going from to before after p held bound → Writes from before after (λ script text. AnswersLinesRead script text to)
+pub going_read : (from to before after : Option (List ℕ)) (p : Player) (held : List ℕ) (bound : ℕ) → Going from to before after p held bound
+    → Writes from before after (λ script text. AnswersLinesRead script text to)
 going_read from to before after p held bound g =
     of_left from to (g.whole ++ held) (λ script. (t : List ℕ) × AnswersLinesRead script t to × Appends before after t) g.read
     (λ rest leaves. (g.told, record { whole = g.whole; seen = held; unread = rest; stage = g.stage; splits = append_assoc g.whole held rest; is_whole = g.is_whole; unended = g.unended; takes = g.takes; running = g.running; leaves = leaves }, g.wrote))
 
 -- Nothing more was read by a further read.
-going_to : (from to next before after : Option (List ℕ)) (p : Player) (held : List ℕ) (bound : ℕ) (g : Going from to before after p held bound) → Consumes from next (g.whole ++ held) → Going from next before after p held bound
+going_to : (from to next before after : Option (List ℕ)) (p : Player) (held : List ℕ) (bound : ℕ) (g : Going from to before after p held bound) → Consumes from next (g.whole ++ held)
+    → Going from next before after p held bound
 going_to from to next before after p held bound g read =
     record {
       whole = g.whole;
@@ -165,7 +169,8 @@ going_to from to next before after p held bound g read =
     }
 
 -- A read gave nothing, and the play goes on.
-pub going_idle : (from to next before after : Option (List ℕ)) (p : Player) (held : List ℕ) (bound more : ℕ) → Going from to before after p held bound → Keeps to next → bound ≤ more → Going from next before after p held more
+pub going_idle : (from to next before after : Option (List ℕ)) (p : Player) (held : List ℕ) (bound more : ℕ) → Going from to before after p held bound → Keeps to next → bound ≤ more
+    → Going from next before after p held more
 going_idle from to next before after p held bound more g kept wide =
     record {
       whole = g.whole;
@@ -188,7 +193,8 @@ refused_kept left rest before after was is buffer counted.Failed (one, kept, fai
 refused_kept left rest before after was is buffer counted.TooManyReads (none, still, kept, same) = kept
 
 -- A read that failed gave nothing.
-pub going_kept : (from to next before after : Option (List ℕ)) (p : Player) (held : List ℕ) (bound : ℕ) → Going from to before after p held bound → Keeps to next → Writes from before after (λ script text. AnswersLinesRead script text next)
+pub going_kept : (from to next before after : Option (List ℕ)) (p : Player) (held : List ℕ) (bound : ℕ) → Going from to before after p held bound → Keeps to next
+    → Writes from before after (λ script text. AnswersLinesRead script text next)
 going_kept from to next before after p held bound g kept =
     going_read from next before after p held bound (going_to from to next before after p held bound g (Consumes-kept from to next (g.whole ++ held) g.read kept))
 
@@ -198,43 +204,51 @@ pub record Last (from next before mid : Option (List ℕ)) (p : Player) (last : 
   pub going : Going from next before mid p last bound
   pub end : IsAtEnd next
 
-pub going_last : (from to next before mid : Option (List ℕ)) (p : Player) (held last : List ℕ) (bound : ℕ) → Going from to before mid p held bound → Keeps to next × IsAtEnd next → last ≡ held → Last from next before mid p last
+pub going_last : (from to next before mid : Option (List ℕ)) (p : Player) (held last : List ℕ) (bound : ℕ) → Going from to before mid p held bound → Keeps to next × IsAtEnd next → last ≡ held
+    → Last from next before mid p last
 going_last from to next before mid p held last bound g (kept, end) is =
     let all : Consumes from next (g.whole ++ held) = Consumes-kept from to next (g.whole ++ held) g.read kept in
     record { bound = bound; going = subst (λ l. Going from next before mid p l bound) (sym is) (going_to from to next before mid p held bound g all); end = end }
 
 module _ (from next before mid after : Option (List ℕ)) (p : Player) (last : List ℕ) where
   -- what is true of what was read, and of nothing behind it, is true of what the reader had
-  of_end : (k : Last from next before mid p last) (P : List ℕ → Type 0) → ((unread : List ℕ) → next ≡ Some unread → lines_of (last ++ ([] ++ unread)) ≡ lines_of last → P (k.going.whole ++ (last ++ []) ++ unread)) → IfSome from P
+  of_end : (k : Last from next before mid p last) (P : List ℕ → Type 0)
+      → ((unread : List ℕ) → next ≡ Some unread → lines_of (last ++ ([] ++ unread)) ≡ lines_of last → P (k.going.whole ++ (last ++ []) ++ unread)) → IfSome from P
   of_end k P all =
       of_left from next (k.going.whole ++ (last ++ [])) P (subst (λ l. Consumes from next (k.going.whole ++ l)) (sym (append-nil last)) k.going.read)
       (λ unread leaves.
       let none : unread ≡ [] = subst IsAtEnd leaves k.end in
       all unread leaves (ap (λ l. lines_of (last ++ l)) none ∙ ap lines_of (append-nil last)))
 
-  pub last_ok : (r : Result Ended PlayFault) (k : Last from next before mid p last) → PlaysEnd (p.lines + 1) mid after (lines_of last) k.going.stage r → IfOk r (λ e. Writes from before after (λ script text. IsWrittenFor script text e))
+  pub last_ok : (r : Result Ended PlayFault) (k : Last from next before mid p last) → PlaysEnd (p.lines + 1) mid after (lines_of last) k.going.stage r
+      → IfOk r (λ e. Writes from before after (λ script text. IsWrittenFor script text e))
   last_ok (Err f) k ends = tt
   last_ok (Ok e) k (text, ends, added) =
       of_end k (λ script. (t : List ℕ) × IsWrittenFor script t e × Appends before after t)
       (λ unread leaves lines. (k.going.told ++ text, written_behind from next before mid p last [] unread k.bound k.going (lines_of last) text e lines ends, Appends-trans before mid after k.going.told text k.going.wrote added))
 
-  pub last_read : (r : Result Ended PlayFault) (k : Last from next before mid p last) → PlaysEnd (p.lines + 1) mid after (lines_of last) k.going.stage r → r ≡ Err fault.Read → (P : List ℕ → List ℕ → Type 0) → Writes from before after P
+  pub last_read : (r : Result Ended PlayFault) (k : Last from next before mid p last) → PlaysEnd (p.lines + 1) mid after (lines_of last) k.going.stage r → r ≡ Err fault.Read
+      → (P : List ℕ → List ℕ → Type 0) → Writes from before after P
   last_read r k ends is P = absurd (subst (λ x. PlaysEnd (p.lines + 1) mid after (lines_of last) k.going.stage x) is ends)
 
-  memory_by : (k : Last from next before mid p last) → PlaysEnd (p.lines + 1) mid after (lines_of last) k.going.stage (Err fault.NoMemory) → Writes from before after (λ script text. IsFrontOf script text next)
+  memory_by : (k : Last from next before mid p last) → PlaysEnd (p.lines + 1) mid after (lines_of last) k.going.stage (Err fault.NoMemory)
+      → Writes from before after (λ script text. IsFrontOf script text next)
   memory_by k (text, some, added) =
       of_end k (λ script. (t : List ℕ) × IsFrontOf script t next × Appends before after t)
       (λ unread leaves lines. (k.going.told ++ text, front_behind from next before mid p last [] unread k.bound k.going next (omega arith) leaves last [] (refl, inr (refl, refl)) text some, Appends-trans before mid after k.going.told text k.going.wrote added))
 
-  pub last_memory : (r : Result Ended PlayFault) (k : Last from next before mid p last) → PlaysEnd (p.lines + 1) mid after (lines_of last) k.going.stage r → r ≡ Err fault.NoMemory → Writes from before after (λ script text. IsFrontOf script text next)
+  pub last_memory : (r : Result Ended PlayFault) (k : Last from next before mid p last) → PlaysEnd (p.lines + 1) mid after (lines_of last) k.going.stage r → r ≡ Err fault.NoMemory
+      → Writes from before after (λ script text. IsFrontOf script text next)
   last_memory r k ends is = memory_by k (subst (λ x. PlaysEnd (p.lines + 1) mid after (lines_of last) k.going.stage x) is ends)
 
-  write_by : (k : Last from next before mid p last) → PlaysEnd (p.lines + 1) mid after (lines_of last) k.going.stage (Err fault.Write) → Writes from before after (λ script text. IsCutOf script text next)
+  write_by : (k : Last from next before mid p last) → PlaysEnd (p.lines + 1) mid after (lines_of last) k.going.stage (Err fault.Write)
+      → Writes from before after (λ script text. IsCutOf script text next)
   write_by k (text, cut, added) =
       of_end k (λ script. (t : List ℕ) × IsCutOf script t next × Appends before after t)
       (λ unread leaves lines. (k.going.told ++ text, cut_end_behind from next before mid p last [] unread k.bound k.going next (omega arith) leaves last [] (refl, inr (refl, refl)) text lines cut, Appends-trans before mid after k.going.told text k.going.wrote added))
 
-  pub last_write : (r : Result Ended PlayFault) (k : Last from next before mid p last) → PlaysEnd (p.lines + 1) mid after (lines_of last) k.going.stage r → r ≡ Err fault.Write → Writes from before after (λ script text. IsCutOf script text next)
+  pub last_write : (r : Result Ended PlayFault) (k : Last from next before mid p last) → PlaysEnd (p.lines + 1) mid after (lines_of last) k.going.stage r → r ≡ Err fault.Write
+      → Writes from before after (λ script text. IsCutOf script text next)
   last_write r k ends is = write_by k (subst (λ x. PlaysEnd (p.lines + 1) mid after (lines_of last) k.going.stage x) is ends)
 
 -- the fault that a `?` hands on
@@ -248,11 +262,13 @@ module _ (from to next before mid after : Option (List ℕ)) (p new : Player) (h
   pub bytes_read : (r : Result Ended PlayFault) (y e : PlayFault) → r ≡ Err y → y ≡ e → Taken (Err e) → r ≡ Err fault.Read → (P : List ℕ → List ℕ → Type 0) → Writes from before after P
   bytes_read r y e is same taken told P = absurd (subst (λ f. Taken (Err f)) (same_fault r y e fault.Read is same told) taken)
 
-  pub bytes_memory : (r : Result Ended PlayFault) (y e : PlayFault) → length bytes ≤ 8192 → r ≡ Err y → y ≡ e → Taken (Err e) → r ≡ Err fault.NoMemory → Writes from before after (λ script text. IsFrontOf script text next)
+  pub bytes_memory : (r : Result Ended PlayFault) (y e : PlayFault) → length bytes ≤ 8192 → r ≡ Err y → y ≡ e → Taken (Err e) → r ≡ Err fault.NoMemory
+      → Writes from before after (λ script text. IsFrontOf script text next)
   bytes_memory r y e few is same taken told =
       going_failed from to next before mid after p new held bytes left bound g second few (subst (λ f. Taken (Err f)) (same_fault r y e fault.NoMemory is same told) taken)
 
-  pub bytes_write : (r : Result Ended PlayFault) (y e : PlayFault) → length bytes ≤ 8192 → r ≡ Err y → y ≡ e → Taken (Err e) → r ≡ Err fault.Write → Writes from before after (λ script text. IsCutOf script text next)
+  pub bytes_write : (r : Result Ended PlayFault) (y e : PlayFault) → length bytes ≤ 8192 → r ≡ Err y → y ≡ e → Taken (Err e) → r ≡ Err fault.Write
+      → Writes from before after (λ script text. IsCutOf script text next)
   bytes_write r y e few is same taken told =
       going_cut from to next before mid after p new held bytes left bound g second few (subst (λ f. Taken (Err f)) (same_fault r y e fault.Write is same told) taken)
 
@@ -261,11 +277,14 @@ whole_more a b is (inl none) = subst IsWhole (sym (append-nil a) ∙ ap (λ l. a
 whole_more a b is (inr ends) = inr (whole_append a b ends)
 
 -- The bytes were taken, and the play goes on.
-pub going_on : (from to next before mid after : Option (List ℕ)) (p new : Player) (held bytes left : List ℕ) (bound more : ℕ) (g : Going from to before mid p held bound) → Consumes to next bytes → bound + length bytes ≤ more → (whole : List ℕ) → IsWhole whole → held ++ bytes ≡ whole ++ left → (k : PlaysOn p new mid after (lines_of whole) g.stage) → HasNoLf left → is_over k.stage ≡ false → Going from next before after new left more
+pub going_on : (from to next before mid after : Option (List ℕ)) (p new : Player) (held bytes left : List ℕ) (bound more : ℕ) (g : Going from to before mid p held bound) → Consumes to next bytes
+    → bound + length bytes ≤ more → (whole : List ℕ) → IsWhole whole → held ++ bytes ≡ whole ++ left → (k : PlaysOn p new mid after (lines_of whole) g.stage) → HasNoLf left
+    → is_over k.stage ≡ false → Going from next before after new left more
 going_on from to next before mid after p new held bytes left bound more g second wide whole is split k unended running =
     let lines : lines_of (g.whole ++ whole) ≡ lines_of g.whole ++ lines_of whole = lines_append g.whole whole g.is_whole in
     let count : new.lines ≡ p.lines + length (lines_of whole) = k.lines running in
-    let takes = taken_append 1 (lines_of g.whole) (lines_of whole) (Reading no_head) g.stage k.stage g.told k.told g.takes (subst (λ n. TakesAll n (lines_of whole) g.stage k.told k.stage) (let c = g.lines in let e : p.lines + 1 ≡ 1 + length (lines_of g.whole) = omega (arith, c) in e) k.takes) in
+    let takes = taken_append 1 (lines_of g.whole) (lines_of whole) (Reading no_head) g.stage k.stage g.told k.told g.takes
+    (subst (λ n. TakesAll n (lines_of whole) g.stage k.told k.stage) (let c = g.lines in let e : p.lines + 1 ≡ 1 + length (lines_of g.whole) = omega (arith, c) in e) k.takes) in
     let few = lines_few whole in
     let both = length-append held bytes in
     let parts = length-append whole left in
@@ -286,7 +305,9 @@ going_on from to next before mid after p new held bytes left bound more g second
     }
 
 -- A fault was told, and what is left of the script is not looked at.
-pub going_over : (from to next before mid after : Option (List ℕ)) (p new : Player) (held bytes left : List ℕ) (bound : ℕ) (g : Going from to before mid p held bound) → Consumes to next bytes → (whole : List ℕ) → IsWhole whole → held ++ bytes ≡ whole ++ left → (k : PlaysOn p new mid after (lines_of whole) g.stage) → is_over k.stage ≡ true → Writes from before after (λ script text. IsWrittenFor script text ended.Refused)
+pub going_over : (from to next before mid after : Option (List ℕ)) (p new : Player) (held bytes left : List ℕ) (bound : ℕ) (g : Going from to before mid p held bound) → Consumes to next bytes
+    → (whole : List ℕ) → IsWhole whole → held ++ bytes ≡ whole ++ left → (k : PlaysOn p new mid after (lines_of whole) g.stage) → is_over k.stage ≡ true
+    → Writes from before after (λ script text. IsWrittenFor script text ended.Refused)
 going_over from to next before mid after p new held bytes left bound g second whole is split k over = by k.stage k.takes over
   where
     by : (t : Stage) → TakesAll (p.lines + 1) (lines_of whole) g.stage k.told t → is_over t ≡ true → Writes from before after (λ script text. IsWrittenFor script text ended.Refused)

@@ -18,7 +18,8 @@ use Rattle.script_play.proofs.ScriptLines.{whole_append, ends_at}
 -- Lines are played.
 
 -- all answers were written
-pub played_all : (old new : Player) (w v : Option (List ℕ)) (before after : List ℕ) (ls : List RawLine) (s : Stage) → before ≡ [] → TakesOn old new before after ls s → Appends w v after → PlaysOn old new w v ls s
+pub played_all : (old new : Player) (w v : Option (List ℕ)) (before after : List ℕ) (ls : List RawLine) (s : Stage) → before ≡ [] → TakesOn old new before after ls s → Appends w v after
+    → PlaysOn old new w v ls s
 played_all old new w v before after ls s none t wrote =
     record { told = t.told; stage = t.stage; takes = t.takes; at = t.at; lines = t.lines; added = subst (Appends w v) (t.added ∙ ap (λ l. l ++ t.told) none) wrote }
 
@@ -31,7 +32,8 @@ some_of number ls s before after none t =
     record { count = t.0; stage = t.2; takes = subst (λ l. TakesAll number (take t.0 ls) s l t.2) told_is t.3 }
 
 -- those of the lines that were taken
-pub played_some : (number : ℕ) (w v : Option (List ℕ)) (before after : List ℕ) (ls : List RawLine) (s : Stage) → before ≡ [] → SomeTaken number ls s before after → Appends w v after → AddsText w v (IsSomeOf number ls s)
+pub played_some : (number : ℕ) (w v : Option (List ℕ)) (before after : List ℕ) (ls : List RawLine) (s : Stage) → before ≡ [] → SomeTaken number ls s before after → Appends w v after
+    → AddsText w v (IsSomeOf number ls s)
 played_some number w v before after ls s none t wrote = (after, some_of number ls s before after none t, wrote)
 
 all_some : (number : ℕ) (ls : List RawLine) (s last : Stage) (told : List ℕ) → TakesAll number ls s told last → IsSomeOf number ls s told
@@ -42,7 +44,8 @@ all_some number ls s last told takes =
 some_left : (text : List ℕ) (n : ℕ) → n < length text → drop n text ≢ []
 some_left text n lt none = (let long = length-drop n text in let empty : length (drop n text) ≡ 0 = ap (λ (xs : List ℕ). length xs) none in omega (arith, long, empty, lt))
 
-cut_some : (number : ℕ) (w v : Option (List ℕ)) (text : List ℕ) (ls : List RawLine) (s : Stage) (n : ℕ) → n < length text → IsSomeOf number ls s text → Appends w v (take n text) → AddsText w v (IsCutOfSome number ls s)
+cut_some : (number : ℕ) (w v : Option (List ℕ)) (text : List ℕ) (ls : List RawLine) (s : Stage) (n : ℕ) → n < length text → IsSomeOf number ls s text → Appends w v (take n text)
+    → AddsText w v (IsCutOfSome number ls s)
 cut_some number w v text ls s n lt some wrote = (take n text, (drop n text, some_left text n lt, subst (IsSomeOf number ls s) (sym (take-append-drop n text)) some), wrote)
 
 -- what a player left of its lines
@@ -50,7 +53,8 @@ abbrev pub Took : Player → Player → List ℕ → List ℕ → List RawLine �
 Took old new before after ls s (Ok u) = TakesOn old new before after ls s
 Took old new before after ls s (Err e) = SomeTaken (old.lines + 1) ls s before after
 
-took_some : {E : Type 0} (old new : Player) (before after : List ℕ) (ls : List RawLine) (s : Stage) (r : Result (Unit {0}) E) → before ≡ [] → IfOk r (λ u. TakesOn old new before after ls s) → IfErr r (λ e. SomeTaken (old.lines + 1) ls s before after) → IsSomeOf (old.lines + 1) ls s after
+took_some : {E : Type 0} (old new : Player) (before after : List ℕ) (ls : List RawLine) (s : Stage) (r : Result (Unit {0}) E) → before ≡ [] → IfOk r (λ u. TakesOn old new before after ls s)
+    → IfErr r (λ e. SomeTaken (old.lines + 1) ls s before after) → IsSomeOf (old.lines + 1) ls s after
 took_some old new before after ls s (Ok u) none t other =
     subst (IsSomeOf (old.lines + 1) ls s) (sym (t.added ∙ ap (λ l. l ++ t.told) none)) (all_some (old.lines + 1) ls s t.stage t.told t.takes)
 took_some old new before after ls s (Err e) none other t = some_of (old.lines + 1) ls s before after none t
@@ -64,7 +68,9 @@ unfolding TakesAll
 none_some number w v ls s kept = ([], record { count = 0; stage = s; takes = (refl, refl) }, kept_none w v kept)
 
 -- not all answers were written
-pub played_cut : {E : Type 0} (old new : Player) (w v : Option (List ℕ)) (before after text : List ℕ) (ls : List RawLine) (s : Stage) (r : Result (Unit {0}) E) (f : PlayFault) → before ≡ [] → IfOk r (λ u. TakesOn old new before after ls s) → IfErr r (λ e. SomeTaken (old.lines + 1) ls s before after) → text ≡ after → WritesText {T = Unit {0}} w v text (Err f) → PlaysLines old new w v ls s (Err f)
+pub played_cut : {E : Type 0} (old new : Player) (w v : Option (List ℕ)) (before after text : List ℕ) (ls : List RawLine) (s : Stage) (r : Result (Unit {0}) E) (f : PlayFault) → before ≡ []
+    → IfOk r (λ u. TakesOn old new before after ls s) → IfErr r (λ e. SomeTaken (old.lines + 1) ls s before after) → text ≡ after → WritesText {T = Unit {0}} w v text (Err f)
+    → PlaysLines old new w v ls s (Err f)
 played_cut old new w v before after text ls s r fault.Read none ok err same wrote = wrote
 played_cut old new w v before after text ls s r fault.NoMemory none ok err same kept = none_some (old.lines + 1) w v ls s kept
 played_cut old new w v before after text ls s r fault.Write none ok err same (n, lt, wrote) =
@@ -84,7 +90,8 @@ ended_none w v before after s none same wrote = subst (Appends w v) (same ∙ no
 cut_end : (w v : Option (List ℕ)) (after : List ℕ) (s : Stage) (e : Ended) (n : ℕ) → n < length after → EndsAt s after e → Appends w v (take n after) → EndsLines w v s (Err fault.Write)
 cut_end w v after s e n lt ends wrote = (take n after, (drop n after, some_left after n lt, (e, subst (λ l. EndsAt s l e) (sym (take-append-drop n after)) ends)), wrote)
 
-pub ended_cut : {E : Type 0} (w v : Option (List ℕ)) (before after text : List ℕ) (s : Stage) (r : Result Ended E) (f : PlayFault) → before ≡ [] → IfOk r (λ e. EndsOn before after s e) → IfErr r (λ e. after ≡ before) → text ≡ after → WritesText {T = Unit {0}} w v text (Err f) → EndsLines w v s (Err f)
+pub ended_cut : {E : Type 0} (w v : Option (List ℕ)) (before after text : List ℕ) (s : Stage) (r : Result Ended E) (f : PlayFault) → before ≡ [] → IfOk r (λ e. EndsOn before after s e)
+    → IfErr r (λ e. after ≡ before) → text ≡ after → WritesText {T = Unit {0}} w v text (Err f) → EndsLines w v s (Err f)
 ended_cut w v before after text s r fault.Read none ends quiet same wrote = wrote
 ended_cut w v before after text s r fault.NoMemory none ends quiet same kept = kept_none w v kept
 ended_cut w v before after text s (Ok e) fault.Write none ends quiet same (n, lt, wrote) =
@@ -94,7 +101,8 @@ ended_cut w v before after text s (Err e) fault.Write none ends quiet same (n, l
     absurd (let empty : length text ≡ 0 = ap (λ (xs : List ℕ). length xs) (same ∙ quiet ∙ none) in omega (arith, lt, empty))
 
 -- The last lines are played, and then the play ends.
-pub ends_behind : (old mid : Player) (w u v : Option (List ℕ)) (ls : List RawLine) (s : Stage) (r : Result Ended PlayFault) → (k : PlaysOn old mid w u ls s) → EndsLines u v k.stage r → PlaysEnd (old.lines + 1) w v ls s r
+pub ends_behind : (old mid : Player) (w u v : Option (List ℕ)) (ls : List RawLine) (s : Stage) (r : Result Ended PlayFault) → (k : PlaysOn old mid w u ls s) → EndsLines u v k.stage r
+    → PlaysEnd (old.lines + 1) w v ls s r
 ends_behind old mid w u v ls s (Ok e) k (text, ends, added) =
     (k.told ++ text, record { stage = k.stage; answers = k.told; last = text; takes = k.takes; ends = ends; written = refl }, Appends-trans w u v k.told text k.added added)
 ends_behind old mid w u v ls s (Err fault.Read) k none = none
@@ -127,7 +135,8 @@ whole_front held bytes n some within lf = inr (whole_append held (take n bytes) 
 front_is : (held bytes : List ℕ) (n : ℕ) → held ++ bytes ≡ (held ++ take n bytes) ++ drop n bytes
 front_is held bytes n = ap (λ l. held ++ l) (sym (take-append-drop n bytes)) ∙ sym (append_assoc held (take n bytes) (drop n bytes))
 
-pub bytes_failed : (old new : Player) (w v : Option (List ℕ)) (held bytes whole left : List ℕ) (n : ℕ) (s : Stage) (f : PlayFault) → 0 < n → n ≤ length bytes → get_or bytes (n - 1) 0 ≡ 10 → whole ≡ held ++ take n bytes → PlaysLines old new w v (lines_of whole) s (Err f) → PlaysBytes old new w v (held ++ bytes) left s (Err f)
+pub bytes_failed : (old new : Player) (w v : Option (List ℕ)) (held bytes whole left : List ℕ) (n : ℕ) (s : Stage) (f : PlayFault) → 0 < n → n ≤ length bytes → get_or bytes (n - 1) 0 ≡ 10
+    → whole ≡ held ++ take n bytes → PlaysLines old new w v (lines_of whole) s (Err f) → PlaysBytes old new w v (held ++ bytes) left s (Err f)
 bytes_failed old new w v held bytes whole left n s fault.Read some within lf is k = k
 bytes_failed old new w v held bytes whole left n s fault.NoMemory some within lf is k =
     (whole, drop n bytes, subst IsWhole (sym is) (whole_front held bytes n some within lf), front_is held bytes n ∙ ap (λ l. l ++ drop n bytes) (sym is), k)
@@ -149,7 +158,8 @@ no_lf bytes n none = λ k d less.
     let here : get_or (drop n bytes) k d ≡ get_or bytes (n + k) 0 = get_or-drop n bytes k d ∙ get_or_default bytes (n + k) d 0 (omega (arith, less, long)) in
     subst (λ b. b ≢ 10) (sym here) (none (n + k) (omega arith) (omega (arith, less, long)))
 
-pub joined_none : (p new : Player) (w v : Option (List ℕ)) (held bytes kept : List ℕ) (n : ℕ) (s : Stage) → HasNoLf held → ((k : ℕ) → n ≤ k → k < length bytes → get_or bytes k 0 ≢ 10) → n ≤ 0 → IsAt p s → new ≡ p → v ≡ w → kept ≡ held → Joined p new w v (held ++ bytes) kept (drop n bytes) s
+pub joined_none : (p new : Player) (w v : Option (List ℕ)) (held bytes kept : List ℕ) (n : ℕ) (s : Stage) → HasNoLf held → ((k : ℕ) → n ≤ k → k < length bytes → get_or bytes k 0 ≢ 10) → n ≤ 0
+    → IsAt p s → new ≡ p → v ≡ w → kept ≡ held → Joined p new w v (held ++ bytes) kept (drop n bytes) s
 joined_none p new w v held bytes kept n s unended lacks none at same wrote is =
     let zero : n ≡ 0 = omega (arith, none) in
     let P : Player → Option (List ℕ) → Type 0 = λ q o. PlaysOn p q w o (lines_of []) s in
@@ -161,7 +171,9 @@ joined_none p new w v held bytes kept n s unended lacks none at same wrote is =
       unended = subst (λ l. HasNoLf (l ++ drop n bytes)) (sym is) (All-append (λ b. b ≢ 10) held (drop n bytes) unended (no_lf bytes n lacks));
     }
 
-pub joined_some : (old new now : Player) (w v u : Option (List ℕ)) (held bytes whole kept : List ℕ) (n : ℕ) (s : Stage) → ((k : ℕ) → n ≤ k → k < length bytes → get_or bytes k 0 ≢ 10) → 0 < n → n ≤ length bytes → get_or bytes (n - 1) 0 ≡ 10 → whole ≡ held ++ take n bytes → PlaysOn old now w u (lines_of whole) s → new ≡ now → v ≡ u → kept ≡ [] → Joined old new w v (held ++ bytes) kept (drop n bytes) s
+pub joined_some : (old new now : Player) (w v u : Option (List ℕ)) (held bytes whole kept : List ℕ) (n : ℕ) (s : Stage) → ((k : ℕ) → n ≤ k → k < length bytes → get_or bytes k 0 ≢ 10) → 0 < n
+    → n ≤ length bytes → get_or bytes (n - 1) 0 ≡ 10 → whole ≡ held ++ take n bytes → PlaysOn old now w u (lines_of whole) s → new ≡ now → v ≡ u → kept ≡ []
+    → Joined old new w v (held ++ bytes) kept (drop n bytes) s
 joined_some old new now w v u held bytes whole kept n s lacks some within lf is k same wrote none =
     let P : Player → Option (List ℕ) → Type 0 = λ q o. PlaysOn old q w o (lines_of whole) s in
     record {
@@ -173,7 +185,8 @@ joined_some old new now w v u held bytes whole kept n s lacks some within lf is 
     }
 
 -- what is left was held back
-pub joined_held : (old new : Player) (w v : Option (List ℕ)) (all held rest left : List ℕ) (s : Stage) (u : Unit {0}) → Joined old new w v all held rest s → left ≡ held ++ rest → PlaysBytes old new w v all left s (Ok u)
+pub joined_held : (old new : Player) (w v : Option (List ℕ)) (all held rest left : List ℕ) (s : Stage) (u : Unit {0}) → Joined old new w v all held rest s → left ≡ held ++ rest
+    → PlaysBytes old new w v all left s (Ok u)
 joined_held old new w v all held rest left s u j is = (j.whole, j.is_whole, j.split ∙ ap (λ l. j.whole ++ l) (sym is), j.plays, subst HasNoLf (sym is) j.unended)
 
 -- there was no memory for what is left

@@ -57,7 +57,8 @@ module _ (old new : Host MemFiles) (w : World) (answer : Answer) (r : Reply) (to
   close_served number h = by_event (command.Close number) number event.Close (λ s t x. x) h
 
 -- The pools are told, and nothing happens.
-pub pools_served : (host : Host MemFiles) (w : World) (text : List ℕ) → text ≡ printed payload_text (tree_of w) 0 w.common.root → IsHosting (device host) host w → IsServed host host command.Pools (reply.Pools text) w
+pub pools_served : (host : Host MemFiles) (w : World) (text : List ℕ) → text ≡ printed payload_text (tree_of w) 0 w.common.root → IsHosting (device host) host w
+    → IsServed host host command.Pools (reply.Pools text) w
 unfolding AnswersCommand happens_on TellsEvent
 pools_served host w text is hosts =
     let told : Told = record { reads = λ k. None; opening = Missing } in
@@ -66,7 +67,8 @@ pools_served host w text is hosts =
     record { to = w; serves = record { answer = Tree w.common.root (tree_of w); acts = acts; told = ap reply.Pools is }; hosts = hosts; chain = refl; budget = refl }
 
 -- A file of a free name.
-pub file_served : (old new : Host MemFiles) (w : World) (file : FileLine) (name bytes : List ℕ) → name ≡ file.name → bytes ≡ file_bytes file → Happens (device old) (device new) old new 0 (event.AddFile name bytes) Done w → IsServed old new (command.File file) reply.Done w
+pub file_served : (old new : Host MemFiles) (w : World) (file : FileLine) (name bytes : List ℕ) → name ≡ file.name → bytes ≡ file_bytes file
+    → Happens (device old) (device new) old new 0 (event.AddFile name bytes) Done w → IsServed old new (command.File file) reply.Done w
 unfolding AnswersCommand
 file_served old new w file name bytes named is h =
     record {

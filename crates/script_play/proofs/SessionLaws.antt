@@ -24,7 +24,8 @@ module _ (new old : CodeSession) (c : Command) (r : Reply) (v : Session) (hosted
   serves_so : AnswersCommand v.budget v.chain c v.host_view r (host_view served.to (device new.host))
   serves_so =
       let after : HostView = host_view served.to (device new.host) in
-      let at : AnswersCommand (budget_of old.host) (chain_of old.host) c v.host_view r after = subst (λ (d : Device). AnswersCommand (budget_of old.host) (chain_of old.host) c (host_view v.host_view.world d) r after) hosted.device served.serves in
+      let at : AnswersCommand (budget_of old.host) (chain_of old.host) c v.host_view r after =
+      subst (λ (d : Device). AnswersCommand (budget_of old.host) (chain_of old.host) c (host_view v.host_view.world d) r after) hosted.device served.serves in
       subst (λ (b : ℕ). AnswersCommand b v.chain c v.host_view r after) hosted.budget (subst (λ (x : List Program). AnswersCommand (budget_of old.host) x c v.host_view r after) hosted.chain at)
 
   still_hosted : IsHosted new then
@@ -37,7 +38,8 @@ module _ (new old : CodeSession) (c : Command) (r : Reply) (v : Session) (hosted
     safe = λ on. subst ChainNeverFaults (sym served.chain) (hosted.safe on);
   }
 
-  pub told_reply : (before after : List ℕ) (number : ℕ) (l : RawLine) → (IsSafe old.host → is_fault r ≡ false) → due_at (device old.host) l ≡ Some c → after ≡ before ++ reply_line r → TakesOne new before after number l v true
+  pub told_reply : (before after : List ℕ) (number : ℕ) (l : RawLine) → (IsSafe old.host → is_fault r ≡ false) → due_at (device old.host) l ≡ Some c → after ≡ before ++ reply_line r
+      → TakesOne new before after number l v true
   told_reply before after number l safe due added =
       let text : List ℕ = reply_line r in
       let replies : Replies c v text (Serving then) = record {

@@ -48,7 +48,8 @@ line_is rest text ended wide f =
     let of : List ℕ → Bool → RawLine = λ t e. record { text = t; ended = e } in
     ap (λ t. of t ended) f.text_is ∙ ap (of (first_line rest).text) f.ended_is
 
-taking_line : (old now new : Player) (before mid after all rest text : List ℕ) (ended : Bool) (wide : ℕ) (s : Stage) → (k : Taking old now before mid all rest s) → IsFirst rest text ended wide → Leaves new mid after (λ told t. PlaysLine (now.lines + 1) (record { text = text; ended = ended }) k.stage told t) → new.lines ≡ now.lines + 1 → Taking old new before after all (drop wide rest) s
+taking_line : (old now new : Player) (before mid after all rest text : List ℕ) (ended : Bool) (wide : ℕ) (s : Stage) → (k : Taking old now before mid all rest s) → IsFirst rest text ended wide
+    → Leaves new mid after (λ told t. PlaysLine (now.lines + 1) (record { text = text; ended = ended }) k.stage told t) → new.lines ≡ now.lines + 1 → Taking old new before after all (drop wide rest) s
 taking_line old now new before mid after all rest text ended wide s k f l more =
     let line : RawLine = record { text = text; ended = ended } in
     let number : now.lines + 1 ≡ old.lines + 1 + length k.done = let c = k.count in omega (arith, c) in
@@ -58,7 +59,8 @@ taking_line old now new before mid after all rest text ended wide s k f l more =
       done = k.done ++ line ∷ [];
       told = k.told ++ l.told;
       stage = l.stage;
-      lines = k.lines ∙ ap (λ ls. k.done ++ ls) (f.lines ∙ ap (λ x. x ∷ lines_of (drop (width (first_line rest)) rest)) (sym (line_is rest text ended wide f)) ∙ ap (λ n. line ∷ lines_of (drop n rest)) (sym f.wide_is)) ∙ sym (append_assoc k.done (line ∷ []) (lines_of (drop wide rest)));
+      lines = k.lines ∙ ap (λ ls. k.done ++ ls) (f.lines ∙ ap (λ x. x ∷ lines_of (drop (width (first_line rest)) rest)) (sym (line_is rest text ended wide f))
+          ∙ ap (λ n. line ∷ lines_of (drop n rest)) (sym f.wide_is)) ∙ sym (append_assoc k.done (line ∷ []) (lines_of (drop wide rest)));
       takes = taken_append (old.lines + 1) k.done (line ∷ []) s k.stage l.stage k.told l.told k.takes one;
       at = l.at;
       count = let c = k.count in omega (arith, c, more, long);
@@ -67,12 +69,15 @@ taking_line old now new before mid after all rest text ended wide s k f l more =
     }
 
 -- One line more is taken.
-pub taking_more : (old now new : Player) (before mid after all rest text : List ℕ) (ended : Bool) (wide : ℕ) (s : Stage) → (k : Taking old now before mid all rest s) → IsFirst rest text ended wide → Leaves new mid after (λ told t. PlaysLine (now.lines + 1) (record { text = text; ended = ended }) k.stage told t) → new.lines ≡ now.lines + 1 → Taking old new before after all (take (length rest - wide) (drop wide rest)) s
+pub taking_more : (old now new : Player) (before mid after all rest text : List ℕ) (ended : Bool) (wide : ℕ) (s : Stage) → (k : Taking old now before mid all rest s) → IsFirst rest text ended wide
+    → Leaves new mid after (λ told t. PlaysLine (now.lines + 1) (record { text = text; ended = ended }) k.stage told t) → new.lines ≡ now.lines + 1
+    → Taking old new before after all (take (length rest - wide) (drop wide rest)) s
 taking_more old now new before mid after all rest text ended wide s k f l more =
     subst (λ r. Taking old new before after all r s) (sym (take_rest rest wide)) (taking_line old now new before mid after all rest text ended wide s k f l more)
 
 -- Without memory the lines that were taken are the first of all.
-pub taking_some : (old now : Player) (before mid after all rest : List ℕ) (s : Stage) → Taking old now before mid all rest s → after ≡ mid → (n : ℕ) × (told : List ℕ) × (last : Stage) × TakesAll (old.lines + 1) (take n (lines_of all)) s told last × (after ≡ before ++ told)
+pub taking_some : (old now : Player) (before mid after all rest : List ℕ) (s : Stage) → Taking old now before mid all rest s → after ≡ mid → (n : ℕ) × (told : List ℕ) × (last : Stage)
+    × TakesAll (old.lines + 1) (take n (lines_of all)) s told last × (after ≡ before ++ told)
 taking_some old now before mid after all rest s k same =
     let front : take (length k.done) (lines_of all) ≡ k.done = ap (take (length k.done)) k.lines ∙ take_at k.done (lines_of rest) (length k.done) refl in
     (length k.done, k.told, k.stage, subst (λ ls. TakesAll (old.lines + 1) ls s k.told k.stage) (sym front) k.takes, same ∙ k.added)
@@ -111,6 +116,7 @@ taking_over old now before after all rest s k over = by k.stage k.takes k.at ove
           added = k.added;
         }
 
-pub taking_end : (old now : Player) (before after all rest : List ℕ) (s : Stage) (k : Taking old now before after all rest s) → (length rest ≡ 0) ⊎ (is_over k.stage ≡ true) → TakesOn old now before after (lines_of all) s
+pub taking_end : (old now : Player) (before after all rest : List ℕ) (s : Stage) (k : Taking old now before after all rest s) → (length rest ≡ 0) ⊎ (is_over k.stage ≡ true)
+    → TakesOn old now before after (lines_of all) s
 taking_end old now before after all rest s k (inl none) = taking_all old now before after all rest s k none
 taking_end old now before after all rest s k (inr over) = taking_over old now before after all rest s k over

@@ -1,5 +1,6 @@
 -- How many modules and lines a head has, line by line.
-use Rattle.std.proofs.Common.{◌≡◌, ℕ, ◌+◌, ◌^◌, ◌<◌, ◌≤◌, Bool, true, false, if◌then◌else◌, nat_lt, ◌&&◌, List, [], ◌∷◌, length, Option, Some, None, Result, Ok, Err, MatchBool, refl, ap, sym, subst, ◌∙◌, arith}
+use Rattle.std.proofs.Common.{◌≡◌, ℕ, ◌+◌, ◌^◌, ◌<◌, ◌≤◌, Bool, true, false, if◌then◌else◌, nat_lt, ◌&&◌, List, [], ◌∷◌, length, Option, Some, None, Result, Ok, Err, MatchBool, refl, ap, sym, subst}
+use Rattle.std.proofs.Common.{◌∙◌, arith}
 use Rattle.std.proofs.lemmas.List.{length_push}
 use Rattle.std.proofs.lemmas.Bool.Decides.{nat_tests}
 use Rattle.module_code.specs.Program.{Program}
@@ -15,7 +16,8 @@ use Rattle.script_text.specs.declared.texts.LineTaken.{LineTaken}
 use Rattle.script_text.specs.declared.texts.LineTaken.TheVariants as taken
 use Rattle.script_text.specs.Lines.{is_end, begins_cert}
 use Rattle.script_text.specs.Scripts.{budget_at, is_checked}
-use Rattle.script_text.specs.Heads.{ScriptPart, ScriptHead, no_head, with_cert, with_line, at_line, more, over, is_skipped, begins_module, goes_on, EndsModule, IsModuleRead, EndsCert, IsCertRead, TakesInModule, TakesInCert, TakesChecked, TakesHeading, TakesBehind, TakesBehindModule, TakesBehindSkipped, TakesLineAt, TakesLine}
+use Rattle.script_text.specs.Heads.{ScriptPart, ScriptHead, no_head, with_cert, with_line, at_line, more, over, is_skipped, begins_module, goes_on, EndsModule, IsModuleRead, EndsCert, IsCertRead}
+use Rattle.script_text.specs.Heads.{TakesInModule, TakesInCert, TakesChecked, TakesHeading, TakesBehind, TakesBehindModule, TakesBehindSkipped, TakesLineAt, TakesLine}
 use Rattle.script_text.specs.Bounds.{IsBounded, has_module}
 
 -- What a line leaves. The commands may begin where a module was read, and nothing is told of that.
@@ -55,7 +57,8 @@ with_cert_long c [] = refl
 with_cert_long c (x ∷ []) = refl
 with_cert_long c (x ∷ (y ∷ ys)) = let e = with_cert_long c (y ∷ ys) in omega (arith, e)
 
-cert_kept : (n : ℕ) (h : ScriptHead) (t : LineTaken) (out : List ℕ) (new : ScriptHead) → 0 < length h.parts → length h.parts ≤ 16 → (h.before ≤ n) × (h.before < 2 ^ 63) → EndsCert h t out new → Kept n t out new
+cert_kept : (n : ℕ) (h : ScriptHead) (t : LineTaken) (out : List ℕ) (new : ScriptHead) → 0 < length h.parts → length h.parts ≤ 16 → (h.before ≤ n) × (h.before < 2 ^ 63) → EndsCert h t out new
+    → Kept n t out new
 cert_kept n h t out new some few before e = by e.0 e.2
   where
     by : (m : Result Cert CertRefusal) → IsCertRead m h t out new → Kept n t out new
@@ -65,12 +68,14 @@ cert_kept n h t out new some few before e = by e.0 e.2
     by (Err (cert.Fault k c)) m = over_kept n _ t out new m
     by (Err cert.NoMemory) m = absurd m
 
-in_module_kept : (n : ℕ) (l : RawLine) (h : ScriptHead) (t : LineTaken) (out : List ℕ) (new : ScriptHead) → length h.parts < 16 → (h.before ≤ n) × (h.before < 2 ^ 63) → TakesInModule l h t out new → Kept n t out new
+in_module_kept : (n : ℕ) (l : RawLine) (h : ScriptHead) (t : LineTaken) (out : List ℕ) (new : ScriptHead) → length h.parts < 16 → (h.before ≤ n) × (h.before < 2 ^ 63) → TakesInModule l h t out new
+    → Kept n t out new
 in_module_kept n l h t out new room before m =
     let read : IsBounded n (with_line l place.InModule h) = record { few = omega (arith, room); room = λ _. room; before = before.0; small = before.1; some = λ e. absurd (cc e) } in
     either (is_end l) (λ _ e. module_kept n (with_line l place.InModule h) t out new room before e) (λ _ e. more_kept n _ new t out read e) m
 
-in_cert_kept : (n : ℕ) (l : RawLine) (h : ScriptHead) (t : LineTaken) (out : List ℕ) (new : ScriptHead) → 0 < length h.parts → length h.parts ≤ 16 → (h.before ≤ n) × (h.before < 2 ^ 63) → TakesInCert l h t out new → Kept n t out new
+in_cert_kept : (n : ℕ) (l : RawLine) (h : ScriptHead) (t : LineTaken) (out : List ℕ) (new : ScriptHead) → 0 < length h.parts → length h.parts ≤ 16 → (h.before ≤ n) × (h.before < 2 ^ 63)
+    → TakesInCert l h t out new → Kept n t out new
 in_cert_kept n l h t out new some few before m =
     let read : IsBounded n (with_line l place.InCert h) = record { few = few; room = λ e. absurd (cc e); before = before.0; small = before.1; some = λ _. some } in
     either (is_end l) (λ _ e. cert_kept n (with_line l place.InCert h) t out new some few before e) (λ _ e. more_kept n _ new t out read e) m
@@ -82,7 +87,8 @@ checked_kept n l h t out new some b m = subst (λ x. Kept n x out new) (sym m.0)
     by true k = k
     by false k = k
 
-heading_kept : (n : ℕ) (o : Option ℕ) (l : RawLine) (h : ScriptHead) (t : LineTaken) (out : List ℕ) (new : ScriptHead) → has_module h.place ≡ true → IsBounded n h → TakesHeading o l h t out new → Kept n t out new
+heading_kept : (n : ℕ) (o : Option ℕ) (l : RawLine) (h : ScriptHead) (t : LineTaken) (out : List ℕ) (new : ScriptHead) → has_module h.place ≡ true → IsBounded n h → TakesHeading o l h t out new
+    → Kept n t out new
 heading_kept n None l h t out new some b m = checked_kept n l h t out new some b m
 heading_kept n (Some k) l h t out new some b m =
     more_kept n _ new t out (record { few = b.few; room = λ e. absurd (cc e); before = b.before; small = b.small; some = λ _. b.some some }) m
@@ -102,11 +108,13 @@ behind_kept n l h t out new some b m =
     either (is_skipped l) (λ _ e. more_kept n _ new t out (skipped_bounded n l h (b.some some) b) e)
     (λ _ e. either (goes_on l h) (λ g x. in_module_kept n l h t out new (has_room l h g) (b.before, b.small) x) (λ _ x. heading_kept n (budget_at l) l h t out new some b x) e) m
 
-behind_module_kept : (n : ℕ) (l : RawLine) (h : ScriptHead) (t : LineTaken) (out : List ℕ) (new : ScriptHead) → has_module h.place ≡ true → IsBounded n h → TakesBehindModule l h t out new → Kept n t out new
+behind_module_kept : (n : ℕ) (l : RawLine) (h : ScriptHead) (t : LineTaken) (out : List ℕ) (new : ScriptHead) → has_module h.place ≡ true → IsBounded n h → TakesBehindModule l h t out new
+    → Kept n t out new
 behind_module_kept n l h t out new some b m =
     either (begins_cert l) (λ _ e. in_cert_kept n l h t out new (b.some some) b.few (b.before, b.small) e) (λ _ e. behind_kept n l h t out new some b e) m
 
-behind_skipped_kept : (n : ℕ) (l : RawLine) (h : ScriptHead) (t : LineTaken) (out : List ℕ) (new : ScriptHead) → has_module h.place ≡ true → IsBounded n h → TakesBehindSkipped l h t out new → Kept n t out new
+behind_skipped_kept : (n : ℕ) (l : RawLine) (h : ScriptHead) (t : LineTaken) (out : List ℕ) (new : ScriptHead) → has_module h.place ≡ true → IsBounded n h → TakesBehindSkipped l h t out new
+    → Kept n t out new
 behind_skipped_kept n l h t out new some b m =
     either (is_skipped l) (λ _ e. more_kept n _ new t out (skipped_bounded n l h (b.some some) b) e)
     (λ _ e. either (goes_on l h) (λ g x. in_module_kept n l h t out new (has_room l h g) (b.before, b.small) x) (λ _ x. over_kept n _ t out new x) e) m

@@ -35,12 +35,14 @@ unfolding with_cert
 given_none c old new none same = ap (map seen_part) (same ∙ none) ∙ ap (λ l. with_cert c (map seen_part l)) (sym none)
 
 -- The first fault of a certificate text is told.
-pub cert_over : (h new : ScriptHead) (n m k : ℕ) (c : CertCode) (old text read : List ℕ) → read ≡ h.text → IsTold read (cert.Fault n c) → m ≡ n → k ≡ code_number c → text ≡ old ++ cert_line (h.before + m) k → TellsMore old text (λ told. EndsCert h taken.Over told new)
+pub cert_over : (h new : ScriptHead) (n m k : ℕ) (c : CertCode) (old text read : List ℕ) → read ≡ h.text → IsTold read (cert.Fault n c) → m ≡ n → k ≡ code_number c
+    → text ≡ old ++ cert_line (h.before + m) k → TellsMore old text (λ told. EndsCert h taken.Over told new)
 cert_over h new n m k c old text read is told same number written =
     (cert_line (h.before + m) k, written, (Err (cert.Fault n c), subst (λ x. IsTold x (cert.Fault n c)) is told, (refl, ap (λ x. cert_line (h.before + x) k) same ∙ ap (cert_line (h.before + n)) number)))
 
 -- A certificate text was read, and the last module has its certificate.
-pub cert_taken : (h : ScriptHead) (c : Cert) (old read cleared : List ℕ) (parts : List ScriptPart) → read ≡ h.text → IsCertText read c.slim (seen_cert c) → parts ≡ with_cert c h.parts → cleared ≡ [] → TellsMore old old (λ told. EndsCert h taken.More told (record h { parts = parts; text = cleared; place = place.BehindCert }))
+pub cert_taken : (h : ScriptHead) (c : Cert) (old read cleared : List ℕ) (parts : List ScriptPart) → read ≡ h.text → IsCertText read c.slim (seen_cert c) → parts ≡ with_cert c h.parts
+    → cleared ≡ [] → TellsMore old old (λ told. EndsCert h taken.More told (record h { parts = parts; text = cleared; place = place.BehindCert }))
 cert_taken h c old read cleared parts is right given none =
     let made : List ScriptPart → List ℕ → ScriptHead = λ ps x. record h { parts = ps; text = x; place = place.BehindCert } in
     ([], sym (append-nil old), (Ok c, subst (λ x. IsCertText x c.slim (seen_cert c)) is right, (refl, refl, ap (λ ps. made ps cleared) given ∙ ap (made (with_cert c h.parts)) none)))

@@ -26,8 +26,10 @@ given p o = record { code = p; cert = o }
 made_none : (p : Program) (m : Certificate) → IsTyped p m → m ≡ made p → first_refusal p (made p) ≡ None
 made_none p m typed is = none_typed p (made p) (subst (IsTyped p) is typed)
 
-pub made_certified : (p : Program) (o : Option Cert) (c : Cert) → o ≡ None → c.slim ≡ false → IsTyped p (seen_cert c) → seen_cert c ≡ made p → (unmade (given p o) ≡ None) × (cert_refusal p c ≡ refusal_of (given p o))
-made_certified p o c none whole typed is = (ap (λ x. unmade (given p x)) none ∙ made_none p (seen_cert c) typed is, whole_refusal p c whole ∙ (ap (first_refusal p) is ∙ ap (λ x. refusal_of (given p x)) (sym none)))
+pub made_certified : (p : Program) (o : Option Cert) (c : Cert) → o ≡ None → c.slim ≡ false → IsTyped p (seen_cert c) → seen_cert c ≡ made p → (unmade (given p o) ≡ None)
+    × (cert_refusal p c ≡ refusal_of (given p o))
+made_certified p o c none whole typed is =
+    (ap (λ x. unmade (given p x)) none ∙ made_none p (seen_cert c) typed is, whole_refusal p c whole ∙ (ap (first_refusal p) is ∙ ap (λ x. refusal_of (given p x)) (sym none)))
 
 -- The first of some refusals.
 
@@ -45,13 +47,15 @@ none_left k = refl
 
 -- One part more is taken from those that are left.
 
-pub maps_on : {X Y : Type 0} (f : X → Y) (g : ScriptPart → Y) (xs new : List X) (left rest all : List Part) (p : Part) (x : X) → map f xs ++ map g (map seen_part left) ≡ map g (map seen_part all) → left ≡ p ∷ rest → new ≡ xs ++ x ∷ [] → f x ≡ g (seen_part p)
+pub maps_on : {X Y : Type 0} (f : X → Y) (g : ScriptPart → Y) (xs new : List X) (left rest all : List Part) (p : Part) (x : X) → map f xs ++ map g (map seen_part left) ≡ map g (map seen_part all)
+    → left ≡ p ∷ rest → new ≡ xs ++ x ∷ [] → f x ≡ g (seen_part p)
     → map f new ++ map g (map seen_part rest) ≡ map g (map seen_part all)
 maps_on f g xs new left rest all p x so_far steps pushed same =
     ap (λ l. l ++ map g (map seen_part rest)) (ap (map f) pushed ∙ map-append f xs (x ∷ [])) ∙ append_assoc (map f xs) (f x ∷ []) (map g (map seen_part rest))
     ∙ ap (λ y. map f xs ++ (y ∷ map g (map seen_part rest))) same ∙ ap (λ l. map f xs ++ map g (map seen_part l)) (sym steps) ∙ so_far
 
-pub codes_on : (mods new : List Program) (left rest all : List Part) (p : Part) (m : Program) → mods ++ codes_of (map seen_part left) ≡ codes_of (map seen_part all) → left ≡ p ∷ rest → new ≡ mods ++ m ∷ [] → m ≡ p.code
+pub codes_on : (mods new : List Program) (left rest all : List Part) (p : Part) (m : Program) → mods ++ codes_of (map seen_part left) ≡ codes_of (map seen_part all) → left ≡ p ∷ rest
+    → new ≡ mods ++ m ∷ [] → m ≡ p.code
     → new ++ codes_of (map seen_part rest) ≡ codes_of (map seen_part all)
 codes_on mods new left rest all p m so_far steps pushed same =
     ap (λ l. l ++ codes_of (map seen_part rest)) pushed ∙ append_assoc mods (m ∷ []) (codes_of (map seen_part rest))
@@ -61,17 +65,20 @@ pub all_on : {X : Type 0} (P : X → Type 0) (xs new : List X) (x : X) → All P
 all_on P xs new x all pushed here = subst (All P) (sym pushed) (All-push P xs x all here)
 
 -- A certificate was made or given: the others decide.
-pub unmade_on : (pairs new : List Pair) (left rest all : List Part) (p : Part) (x : Pair) → first_from (length pairs) (map unmade (map seen_part left)) ≡ first_from 0 (map unmade (map seen_part all)) → left ≡ p ∷ rest → new ≡ pairs ++ x ∷ []
+pub unmade_on : (pairs new : List Pair) (left rest all : List Part) (p : Part) (x : Pair)
+    → first_from (length pairs) (map unmade (map seen_part left)) ≡ first_from 0 (map unmade (map seen_part all)) → left ≡ p ∷ rest → new ≡ pairs ++ x ∷ []
     → unmade (seen_part p) ≡ None → first_from (length new) (map unmade (map seen_part rest)) ≡ first_from 0 (map unmade (map seen_part all))
 unmade_on pairs new left rest all p x so_far steps pushed none =
     let longer : length new ≡ length pairs + 1 = ap length pushed ∙ length-append pairs (x ∷ []) in
     ap (λ n. first_from n (map unmade (map seen_part rest))) longer ∙ sym (goes_on (length pairs) (unmade (seen_part p)) (map unmade (map seen_part rest)) none)
     ∙ ap (λ l. first_from (length pairs) (map unmade (map seen_part l))) (sym steps) ∙ so_far
 
-pub unmade_at : (pairs : List Pair) (left rest all : List Part) (p : Part) (index : ℕ) (r : CheckRefusal) → first_from (length pairs) (map unmade (map seen_part left)) ≡ first_from 0 (map unmade (map seen_part all)) → left ≡ p ∷ rest → unmade (seen_part p) ≡ Some r
+pub unmade_at : (pairs : List Pair) (left rest all : List Part) (p : Part) (index : ℕ) (r : CheckRefusal)
+    → first_from (length pairs) (map unmade (map seen_part left)) ≡ first_from 0 (map unmade (map seen_part all)) → left ≡ p ∷ rest → unmade (seen_part p) ≡ Some r
     → index ≡ length pairs → first_from 0 (map unmade (map seen_part all)) ≡ Some (index, r)
 unmade_at pairs left rest all p index r so_far steps refused is =
-    sym so_far ∙ ap (λ l. first_from (length pairs) (map unmade (map seen_part l))) steps ∙ stops (length pairs) (unmade (seen_part p)) (map unmade (map seen_part rest)) r refused ∙ ap (λ n. Some (n, r)) (sym is)
+    sym so_far ∙ ap (λ l. first_from (length pairs) (map unmade (map seen_part l))) steps ∙ stops (length pairs) (unmade (seen_part p)) (map unmade (map seen_part rest)) r refused
+    ∙ ap (λ n. Some (n, r)) (sym is)
 
 -- None is left.
 
@@ -79,11 +86,13 @@ pub nothing_left : (left : List Part) (n : ℕ) → n ≡ length left → n ≡ 
 nothing_left [] n is none = refl
 nothing_left (p ∷ ps) n is none = absurd (omega arith)
 
-whole : {X Y : Type 0} (f : X → Y) (g : ScriptPart → Y) (xs : List X) (left all : List Part) → left ≡ [] → map f xs ++ map g (map seen_part left) ≡ map g (map seen_part all) → map f xs ≡ map g (map seen_part all)
+whole : {X Y : Type 0} (f : X → Y) (g : ScriptPart → Y) (xs : List X) (left all : List Part) → left ≡ [] → map f xs ++ map g (map seen_part left) ≡ map g (map seen_part all)
+    → map f xs ≡ map g (map seen_part all)
 whole f g xs left all none so_far = sym (append-nil (map f xs)) ∙ ap (λ l. map f xs ++ map g (map seen_part l)) (sym none) ∙ so_far
 
 pub all_certified : (pairs : List Pair) (left all : List Part) → left ≡ [] → modules_of pairs ++ codes_of (map seen_part left) ≡ codes_of (map seen_part all)
-    → map refusal_with pairs ++ map refusal_of (map seen_part left) ≡ map refusal_of (map seen_part all) → first_from (length pairs) (map unmade (map seen_part left)) ≡ first_from 0 (map unmade (map seen_part all))
+    → map refusal_with pairs ++ map refusal_of (map seen_part left) ≡ map refusal_of (map seen_part all)
+    → first_from (length pairs) (map unmade (map seen_part left)) ≡ first_from 0 (map unmade (map seen_part all))
     → AreCertified pairs (map seen_part all)
 all_certified pairs left all none codes refusals made = record {
   codes = whole (λ (x : Pair). x.0) (λ (x : ScriptPart). x.code) pairs left all none codes;

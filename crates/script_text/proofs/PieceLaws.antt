@@ -16,7 +16,8 @@ rest_is text at = grind (arith, common_steps)
 pub length_rest : (text : List ℕ) (at : ℕ) → length (rest_at text at) ≡ length text - at
 length_rest text at = grind (arith, common_steps)
 
-goes : (n : ℕ) (done : List ScriptPiece) (bytes : List ℕ) (r : PieceRead) → 0 < length bytes → piece_at bytes ≡ Some r → pieces_from (suc n) done bytes ≡ pieces_from n (done ++ r.piece ∷ []) (drop r.used bytes)
+goes : (n : ℕ) (done : List ScriptPiece) (bytes : List ℕ) (r : PieceRead) → 0 < length bytes → piece_at bytes ≡ Some r
+    → pieces_from (suc n) done bytes ≡ pieces_from n (done ++ r.piece ∷ []) (drop r.used bytes)
 goes n done [] r h e = absurd (omega arith)
 goes n done (b ∷ bs) r h e = rw e refl
 
@@ -33,14 +34,16 @@ spent done [] h = absurd (omega arith)
 spent done (b ∷ bs) h = refl
 
 -- the same at a place of the bytes, with the turns that are left
-pub turn_goes : (bytes : List ℕ) (at k : ℕ) (done : List ScriptPiece) (r : PieceRead) → k < length bytes → at < length bytes → piece_at (rest_at bytes at) ≡ Some r → pieces_from (length bytes - k) done (drop at bytes) ≡ pieces_from (length bytes - (k + 1)) (done ++ r.piece ∷ []) (drop (at + r.used) bytes)
+pub turn_goes : (bytes : List ℕ) (at k : ℕ) (done : List ScriptPiece) (r : PieceRead) → k < length bytes → at < length bytes → piece_at (rest_at bytes at) ≡ Some r
+    → pieces_from (length bytes - k) done (drop at bytes) ≡ pieces_from (length bytes - (k + 1)) (done ++ r.piece ∷ []) (drop (at + r.used) bytes)
 turn_goes bytes at k done r h i e =
     let left : length bytes - k ≡ suc (length bytes - (k + 1)) = omega arith in
     let some : 0 < length (drop at bytes) = grind (arith, common_steps) in
     let read : piece_at (drop at bytes) ≡ Some r = ap piece_at (sym (rest_is bytes at)) ∙ e in
     rw left (goes (length bytes - (k + 1)) done (drop at bytes) r some read ∙ ap (pieces_from (length bytes - (k + 1)) (done ++ r.piece ∷ [])) (drop-drop r.used at bytes))
 
-pub turn_fails : (bytes : List ℕ) (at k : ℕ) (done : List ScriptPiece) → k < length bytes → at < length bytes → piece_at (rest_at bytes at) ≡ None → pieces_from (length bytes - k) done (drop at bytes) ≡ None
+pub turn_fails : (bytes : List ℕ) (at k : ℕ) (done : List ScriptPiece) → k < length bytes → at < length bytes → piece_at (rest_at bytes at) ≡ None
+    → pieces_from (length bytes - k) done (drop at bytes) ≡ None
 turn_fails bytes at k done h i e =
     let left : length bytes - k ≡ suc (length bytes - (k + 1)) = omega arith in
     let some : 0 < length (drop at bytes) = grind (arith, common_steps) in

@@ -86,7 +86,8 @@ module _ (reached : ℕ → Bool) (ready : List Morph) (names : List BucketId) (
   kept : (m : Morph) (y : Bucket) → same id m.id ≡ false → morph_one m id y ≡ y
   kept m y miss = rw miss refl
 
-  pub plan_step : (r : Option Morph) → (same id name ≡ true → r ≡ None → ⊥) → IfSome r (λ m. m.id ≡ name) → (same id name ≡ true → IfSome r (λ m. m.kind ≡ to_heap reached x.kind)) → (same id name ≡ true → IfSome r (λ m. m.home ≡ end_pools reached x.home))
+  pub plan_step : (r : Option Morph) → (same id name ≡ true → r ≡ None → ⊥) → IfSome r (λ m. m.id ≡ name) → (same id name ≡ true → IfSome r (λ m. m.kind ≡ to_heap reached x.kind))
+      → (same id name ≡ true → IfSome r (λ m. m.home ≡ end_pools reached x.home))
       → morphed (ready ++ cons_option r []) id x ≡ cond (is_named id (names ++ name ∷ [])) (cleared_as reached x) x
   unfolding morphed
   plan_step None there is k h = go (same id name) refl where
@@ -143,7 +144,8 @@ module _ (m : Morph) where
     one_here : times m.id (list_at lists b) ≡ 1
     one_here = count b ∙ rw (eq-eqb b b refl) refl
 
-    at : (o : Option Items) → times m.id (option_map_or (λ xs. xs) o []) ≡ once_in b (Some b) → found m.id (option_map_or (λ xs. xs) o []) ≡ Some x → option_map (with_payload m.id (given_by m x)) o ≡ option_map (all_morphed one) o
+    at : (o : Option Items) → times m.id (option_map_or (λ xs. xs) o []) ≡ once_in b (Some b) → found m.id (option_map_or (λ xs. xs) o []) ≡ Some x
+        → option_map (with_payload m.id (given_by m x)) o ≡ option_map (all_morphed one) o
     at None c is = refl
     at (Some xs) c is = let few : times m.id xs ≡ 1 = c ∙ rw (eq-eqb b b refl) refl in ap (λ (zs : Items). Some zs) (sym (once x xs (omega arith) is))
 

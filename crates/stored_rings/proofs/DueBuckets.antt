@@ -83,7 +83,8 @@ due_parts reached rings None bucket is = absurd (false≢true is)
 due_parts reached rings (Some b) None is = absurd (false≢true is)
 due_parts reached rings (Some b) (Some x) is = (b, x, refl, refl, (and_parts (is_in b rings) (depends reached x) is).1)
 
-pub due_is : (reached : ℕ → Bool) (rings : List ℕ) (at : Option ℕ) (bucket : Option Bucket) (b : ℕ) (x : Bucket) → at ≡ Some b → bucket ≡ Some x → is_due reached rings at bucket ≡ (is_in b rings && depends reached x)
+pub due_is : (reached : ℕ → Bool) (rings : List ℕ) (at : Option ℕ) (bucket : Option Bucket) (b : ℕ) (x : Bucket) → at ≡ Some b → bucket ≡ Some x
+    → is_due reached rings at bucket ≡ (is_in b rings && depends reached x)
 due_is reached rings at bucket b x in_b is = rw (in_b, is) refl
 
 -- a name among those that pass a test

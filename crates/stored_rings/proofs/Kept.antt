@@ -29,7 +29,8 @@ module _ (old new : Look) (q : StoredItem → Bool) (each : (x : StoredItem) →
   items_same [] a = refl
   items_same (x ∷ xs) a =
       let parts = and_parts (q x) (list_all q xs) a in
-      let one : shown_item new x ≡ shown_item old x = ap (λ (c : Content). (let b : Bucket = record { kind = x.1.kind; content = c; home = x.1.home } in let i : Item = (x.0, b) in i)) (each x parts.0).0 in
+      let one : shown_item new x ≡ shown_item old x =
+      ap (λ (c : Content). (let b : Bucket = record { kind = x.1.kind; content = c; home = x.1.home } in let i : Item = (x.0, b) in i)) (each x parts.0).0 in
       rw (one, items_same xs parts.1) refl
 
   items_whole : (xs : StoredItems) → list_all q xs ≡ true → list_all (held_item new) xs ≡ true

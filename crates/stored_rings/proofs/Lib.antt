@@ -7,7 +7,7 @@ pub mod Parts
 pub mod Saves
 pub mod Cleared
 pub mod Noted
-pub mod Passing
+pub mod Tested
 pub mod DueBuckets
 pub mod Pruned
 pub mod Shown

@@ -49,7 +49,8 @@ module _ {T : Type 0} where
       → with_payload id f (put_after id y xs) ≡ front id xs ++ (id, f) ∷ y ∷ drop 1 (rest id xs)
   set_behind id y f [] e = cc
   set_behind id y f (b ∷ bs) e = go (set_behind id y f bs) (same b.0 id) refl where
-    go : (is_some (found id bs) ≡ true → with_payload id f (put_after id y bs) ≡ front id bs ++ (id, f) ∷ y ∷ drop 1 (rest id bs)) → (s : Bool) → same b.0 id ≡ s → with_payload id f (put_after id y (b ∷ bs)) ≡ front id (b ∷ bs) ++ (id, f) ∷ y ∷ drop 1 (rest id (b ∷ bs))
+    go : (is_some (found id bs) ≡ true → with_payload id f (put_after id y bs) ≡ front id bs ++ (id, f) ∷ y ∷ drop 1 (rest id bs)) → (s : Bool) → same b.0 id ≡ s
+        → with_payload id f (put_after id y (b ∷ bs)) ≡ front id (b ∷ bs) ++ (id, f) ∷ y ∷ drop 1 (rest id (b ∷ bs))
     go later true hit = simp hit refl
     go later false miss = simp miss (ap (λ zs. b ∷ zs) (later (rw miss at e)))
 
@@ -72,7 +73,8 @@ module _ {T : Type 0} where
   pub set_twice : (id : BucketId) (x y : T) (xs : List (BucketId × T)) → is_some (found id xs) ≡ true → with_payload id y (with_payload id x xs) ≡ with_payload id y xs
   set_twice id x y [] e = cc
   set_twice id x y (b ∷ bs) e = go (set_twice id x y bs) (same b.0 id) refl where
-    go : (is_some (found id bs) ≡ true → with_payload id y (with_payload id x bs) ≡ with_payload id y bs) → (s : Bool) → same b.0 id ≡ s → with_payload id y (with_payload id x (b ∷ bs)) ≡ with_payload id y (b ∷ bs)
+    go : (is_some (found id bs) ≡ true → with_payload id y (with_payload id x bs) ≡ with_payload id y bs) → (s : Bool) → same b.0 id ≡ s
+        → with_payload id y (with_payload id x (b ∷ bs)) ≡ with_payload id y (b ∷ bs)
     go later true hit = simp (hit, same_self id) refl
     go later false miss = simp miss (ap (λ zs. b ∷ zs) (later (rw miss at e)))
 
@@ -95,7 +97,8 @@ module _ {T : Type 0} where
   pub found_put : (id : BucketId) (y : BucketId × T) (xs : List (BucketId × T)) → is_some (found id xs) ≡ true → times y.0 xs ≡ 0 → is_some (found y.0 (put_after id y xs)) ≡ true
   found_put id y [] e none = cc
   found_put id y (b ∷ bs) e none = go (found_put id y bs) (same b.0 id) refl (same b.0 y.0) refl where
-    go : (is_some (found id bs) ≡ true → times y.0 bs ≡ 0 → is_some (found y.0 (put_after id y bs)) ≡ true) → (s : Bool) → same b.0 id ≡ s → (t : Bool) → same b.0 y.0 ≡ t → is_some (found y.0 (put_after id y (b ∷ bs))) ≡ true
+    go : (is_some (found id bs) ≡ true → times y.0 bs ≡ 0 → is_some (found y.0 (put_after id y bs)) ≡ true) → (s : Bool) → same b.0 id ≡ s → (t : Bool) → same b.0 y.0 ≡ t
+        → is_some (found y.0 (put_after id y (b ∷ bs))) ≡ true
     go later s is true again = let some : suc (times y.0 bs) ≡ 0 = rw again at none in absurd (omega arith)
     go later true hit false other = simp (hit, other, same_self y.0) refl
     go later false miss false other = simp (miss, other) (later (rw miss at e) (rw other at none))
@@ -104,13 +107,15 @@ module _ {T : Type 0} where
   pub without_behind : (id : BucketId) (y : BucketId × T) (xs : List (BucketId × T)) → is_some (found id xs) ≡ true → times y.0 xs ≡ 0 → without y.0 (put_after id y xs) ≡ xs
   without_behind id y [] e none = cc
   without_behind id y (b ∷ bs) e none = go (without_behind id y bs) (same b.0 id) refl (same b.0 y.0) refl where
-    go : (is_some (found id bs) ≡ true → times y.0 bs ≡ 0 → without y.0 (put_after id y bs) ≡ bs) → (s : Bool) → same b.0 id ≡ s → (t : Bool) → same b.0 y.0 ≡ t → without y.0 (put_after id y (b ∷ bs)) ≡ b ∷ bs
+    go : (is_some (found id bs) ≡ true → times y.0 bs ≡ 0 → without y.0 (put_after id y bs) ≡ bs) → (s : Bool) → same b.0 id ≡ s → (t : Bool) → same b.0 y.0 ≡ t
+        → without y.0 (put_after id y (b ∷ bs)) ≡ b ∷ bs
     go later s is true again = let some : suc (times y.0 bs) ≡ 0 = rw again at none in absurd (omega arith)
     go later true hit false other = simp (hit, other, same_self y.0) refl
     go later false miss false other = simp (miss, other) (ap (λ zs. b ∷ zs) (later (rw miss at e) (rw other at none)))
 
   -- the list of a ring that was changed
-  pub list_on : (b : ℕ) (f : List (BucketId × T) → List (BucketId × T)) (lists new : ℕ → Option (List (BucketId × T))) → ((n : ℕ) → new n ≡ on b f lists n) → is_some (lists b) ≡ true → list_at new b ≡ f (list_at lists b)
+  pub list_on : (b : ℕ) (f : List (BucketId × T) → List (BucketId × T)) (lists new : ℕ → Option (List (BucketId × T))) → ((n : ℕ) → new n ≡ on b f lists n) → is_some (lists b) ≡ true
+      → list_at new b ≡ f (list_at lists b)
   unfolding upd
   list_on b f lists new change there = ap (λ o. option_map_or (λ xs. xs) o []) (change b) ∙ at (lists b) there where
     at : (o : Option (List (BucketId × T))) → is_some o ≡ true → option_map_or (λ xs. xs) (cond (b == b) (option_map f o) (lists b)) [] ≡ f (option_map_or (λ xs. xs) o [])
@@ -194,7 +199,8 @@ module _ {T : Type 0} where
     go later false miss = simp miss later
 
   -- A ring is split at a place that is none.
-  pub none_place : (a b n : ℕ) (lists : ℕ → Option (List (BucketId × T))) (stays : Option BucketId → List (BucketId × T) → List (BucketId × T)) (goes : Option BucketId → List (BucketId × T) → List (BucketId × T)) (place : Option BucketId)
+  pub none_place : (a b n : ℕ) (lists : ℕ → Option (List (BucketId × T))) (stays : Option BucketId → List (BucketId × T) → List (BucketId × T))
+      (goes : Option BucketId → List (BucketId × T) → List (BucketId × T)) (place : Option BucketId)
       → ((id : BucketId) → place ≡ Some id → ⊥) → ((xs : List (BucketId × T)) → stays None xs ≡ xs) → ((xs : List (BucketId × T)) → goes None xs ≡ [])
       → on a (λ xs. []) lists n ≡ on a (λ xs. goes place (list_at lists b)) (on b (stays place) lists) n
   none_place a b n lists stays goes None never all none =

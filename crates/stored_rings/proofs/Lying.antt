@@ -93,7 +93,8 @@ read_told bytes x y rest told lies = ap (λ (p : Bucket × Option Bucket). lies_
 
 pub left_lies : (x y : Bucket) → (read_of [] x).1 ≡ Some y → lies_right y.kind (kept.Own y.content) ≡ true
 left_lies x y is = go x.content refl is where
-  at : (b : Bool) (file start len : ℕ) → cond b None (Some (let z : Bucket = record x { content = rest_of read_limit (content.Range file start len) } in z)) ≡ Some y → lies_right y.kind (kept.Own y.content) ≡ true
+  at : (b : Bool) (file start len : ℕ) → cond b None (Some (let z : Bucket = record x { content = rest_of read_limit (content.Range file start len) } in z)) ≡ Some y
+      → lies_right y.kind (kept.Own y.content) ≡ true
   at true file start len e = cc
   at false file start len e =
       let z : Bucket = record x { content = rest_of read_limit (content.Range file start len) } in
@@ -102,7 +103,8 @@ left_lies x y is = go x.content refl is where
 
   go : (c : Content) → x.content ≡ c → (read_as [] x c).1 ≡ Some y → lies_right y.kind (kept.Own y.content) ≡ true
   go (content.Bytes bs) e told = cc
-  go (content.Range file start len) e told = at (nat_le len read_limit) file start len (ap (λ (d : Content). cond (nat_le len read_limit) None (Some (let z : Bucket = record x { content = rest_of read_limit d } in z))) (sym e) ∙ told)
+  go (content.Range file start len) e told =
+      at (nat_le len read_limit) file start len (ap (λ (d : Content). cond (nat_le len read_limit) None (Some (let z : Bucket = record x { content = rest_of read_limit d } in z))) (sym e) ∙ told)
   go content.Nothing e told = cc
 
 -- a POOL bucket whose bytes were placed, and a bucket that has none to place

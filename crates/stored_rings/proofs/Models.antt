@@ -49,7 +49,8 @@ stays_law : (id : BucketId) (xs : Items) → IsGiven id xs → named (front id x
 unfolding buckets_before
 stays_law id [] given = refl
 stays_law id (b ∷ bs) given = go (stays_law id bs (given_rest id b bs given)) (b.0.birth == id.birth) refl where
-  go : named (front id bs) ≡ buckets_before id.birth (named bs) → (t : Bool) → (b.0.birth == id.birth) ≡ t → named (front id (b ∷ bs)) ≡ cond (b.0.birth == id.birth) [] (named_item b ∷ buckets_before id.birth (named bs))
+  go : named (front id bs) ≡ buckets_before id.birth (named bs) → (t : Bool) → (b.0.birth == id.birth) ≡ t
+      → named (front id (b ∷ bs)) ≡ cond (b.0.birth == id.birth) [] (named_item b ∷ buckets_before id.birth (named bs))
   go later true is = rw (same_birth_test id b bs given ∙ is, is) refl
   go later false is = rw (same_birth_test id b bs given ∙ is, is) (ap (λ (ys : List NamedBucket). named_item b ∷ ys) later)
 
@@ -57,7 +58,8 @@ moves_law : (id : BucketId) (xs : Items) → IsGiven id xs → named (rest id xs
 unfolding buckets_from
 moves_law id [] given = refl
 moves_law id (b ∷ bs) given = go (moves_law id bs (given_rest id b bs given)) (b.0.birth == id.birth) refl where
-  go : named (rest id bs) ≡ buckets_from id.birth (named bs) → (t : Bool) → (b.0.birth == id.birth) ≡ t → named (rest id (b ∷ bs)) ≡ cond (b.0.birth == id.birth) (named (b ∷ bs)) (buckets_from id.birth (named bs))
+  go : named (rest id bs) ≡ buckets_from id.birth (named bs) → (t : Bool) → (b.0.birth == id.birth) ≡ t
+      → named (rest id (b ∷ bs)) ≡ cond (b.0.birth == id.birth) (named (b ∷ bs)) (buckets_from id.birth (named bs))
   go later true is = rw (same_birth_test id b bs given ∙ is, is) refl
   go later false is = rw (same_birth_test id b bs given ∙ is, is) later
 
@@ -103,7 +105,8 @@ aside_law : (ps : Pools Payload) (pool : ℕ) (xs : Items) → named (map (aside
 aside_law ps pool [] = refl
 aside_law ps pool (x ∷ xs) = ap (λ (ys : List NamedBucket). aside_named ps pool (named_item x) ∷ ys) (aside_law ps pool xs)
 
-cleared_law : (reached : ℕ → Bool) (ms : List Morph) (xs : Items) → AllByRecursion (λ (x : Item). morphed ms x.0 x.1 ≡ cleared_as reached x.1) xs → named (all_morphed ms xs) ≡ map (cleared_bucket reached) (named xs)
+cleared_law : (reached : ℕ → Bool) (ms : List Morph) (xs : Items) → AllByRecursion (λ (x : Item). morphed ms x.0 x.1 ≡ cleared_as reached x.1) xs
+    → named (all_morphed ms xs) ≡ map (cleared_bucket reached) (named xs)
 cleared_law reached ms [] all = refl
 cleared_law reached ms (x ∷ xs) all =
     ap (λ (y : Bucket). named_item (x.0, y) ∷ named (all_morphed ms xs)) all.0

@@ -74,7 +74,8 @@ module _ (p : StoredItem → Bool) where
   pub all_after : (at : BucketId) (x : StoredItem) (xs : StoredItems) → p x ≡ true → All xs → All (put_after at x xs)
   all_after at x xs e a =
       let later = all_rest at xs a in
-      all_amid (front at xs ++ take 1 (rest at xs)) x (drop 1 (rest at xs)) e (all_joined (front at xs) (take 1 (rest at xs)) (all_front at xs a) (all_take (rest at xs) later)) (all_drop (rest at xs) later)
+      all_amid (front at xs ++ take 1 (rest at xs)) x (drop 1 (rest at xs)) e (all_joined (front at xs) (take 1 (rest at xs)) (all_front at xs a) (all_take (rest at xs) later))
+      (all_drop (rest at xs) later)
 
   pub all_set : (id : BucketId) (x : Stored) (xs : StoredItems) → p (id, x) ≡ true → All xs → All (with_payload id x xs)
   all_set id x xs e a = all_amid (front id xs) (id, x) (drop 1 (rest id xs)) e (all_front id xs a) (all_drop (rest id xs) (all_rest id xs a))

@@ -112,20 +112,22 @@ unfolding point_in front_to back_from
 inside_whole new id zero n x [] once e here = absurd (cc)
 inside_whole new id zero n x (y ∷ xs) once e here = absurd (cc)
 inside_whole new id (suc p) n x [] once e here = absurd (cc)
-inside_whole new id (suc p) n x (y ∷ xs) once e here = elim (first_case (nat_le (length_of y.1.content) (suc p)) (point_in (suc p - length_of y.1.content) xs) (point.Inside y.0 (suc p)) (point.Inside id n) e) [
-  | inl q ↦ (let fits : nat_le (length_of y.1.content) (suc p) ≡ true = q.0 in
-      let miss : same y.0 id ≡ false = miss_first (same y.0 id) (times id xs) (once id) (inside_times (suc p - length_of y.1.content) n id xs q.1) in
-      simp (fits, miss) (ap (λ (ys : List NamedBucket). named_item y ∷ ys) (inside_whole new id (suc p - length_of y.1.content) n x xs (λ i. rest_once (same y.0 i) (times i xs) (once i)) q.1 (rw miss at here))))
-  | inr q ↦ (let over : nat_le (length_of y.1.content) (suc p) ≡ false = q.0 in
-      let at : y.0 ≡ id = cc in
-      let size : suc p ≡ n = cc in
-      let hit : same y.0 id ≡ true = ap (λ i. same i id) at ∙ same_self id in
-      let is : Some y.1 ≡ Some x = rw hit at here in
-      let one : y.1 ≡ x = cc in
-      simp (over, hit) (ap (λ (i : BucketId). named ((i, (split_at (suc p) y.1).0) ∷ (new, (split_at (suc p) y.1).1) ∷ xs)) at
-      ∙ (ap (λ (k : ℕ). named ((id, (split_at k y.1).0) ∷ (new, (split_at k y.1).1) ∷ xs)) size
-      ∙ ap (λ (b : Bucket). named ((id, (split_at n b).0) ∷ (new, (split_at n b).1) ∷ xs)) one)))
-]
+inside_whole new id (suc p) n x (y ∷ xs) once e here =
+    elim (first_case (nat_le (length_of y.1.content) (suc p)) (point_in (suc p - length_of y.1.content) xs) (point.Inside y.0 (suc p)) (point.Inside id n) e) [
+      | inl q ↦ (let fits : nat_le (length_of y.1.content) (suc p) ≡ true = q.0 in
+          let miss : same y.0 id ≡ false = miss_first (same y.0 id) (times id xs) (once id) (inside_times (suc p - length_of y.1.content) n id xs q.1) in
+          simp (fits, miss) (ap (λ (ys : List NamedBucket). named_item y ∷ ys)
+          (inside_whole new id (suc p - length_of y.1.content) n x xs (λ i. rest_once (same y.0 i) (times i xs) (once i)) q.1 (rw miss at here))))
+      | inr q ↦ (let over : nat_le (length_of y.1.content) (suc p) ≡ false = q.0 in
+          let at : y.0 ≡ id = cc in
+          let size : suc p ≡ n = cc in
+          let hit : same y.0 id ≡ true = ap (λ i. same i id) at ∙ same_self id in
+          let is : Some y.1 ≡ Some x = rw hit at here in
+          let one : y.1 ≡ x = cc in
+          simp (over, hit) (ap (λ (i : BucketId). named ((i, (split_at (suc p) y.1).0) ∷ (new, (split_at (suc p) y.1).1) ∷ xs)) at
+          ∙ (ap (λ (k : ℕ). named ((id, (split_at k y.1).0) ∷ (new, (split_at k y.1).1) ∷ xs)) size
+          ∙ ap (λ (b : Bucket). named ((id, (split_at n b).0) ∷ (new, (split_at n b).1) ∷ xs)) one)))
+    ]
 
 -- a bucket that a point lies inside is longer than what stands before the point
 pub inside_short : (id : BucketId) (p n : ℕ) (x : Bucket) (xs : Items) → ((i : BucketId) → times i xs ≤ 1) → point_in p xs ≡ point.Inside id n → found id xs ≡ Some x → n < length_of x.content
@@ -133,18 +135,19 @@ unfolding point_in
 inside_short id zero n x [] once e here = absurd (cc)
 inside_short id zero n x (y ∷ xs) once e here = absurd (cc)
 inside_short id (suc p) n x [] once e here = absurd (cc)
-inside_short id (suc p) n x (y ∷ xs) once e here = elim (first_case (nat_le (length_of y.1.content) (suc p)) (point_in (suc p - length_of y.1.content) xs) (point.Inside y.0 (suc p)) (point.Inside id n) e) [
-  | inl q ↦ (let miss : same y.0 id ≡ false = miss_first (same y.0 id) (times id xs) (once id) (inside_times (suc p - length_of y.1.content) n id xs q.1) in
-      inside_short id (suc p - length_of y.1.content) n x xs (λ i. rest_once (same y.0 i) (times i xs) (once i)) q.1 (rw miss at here))
-  | inr q ↦ (let at : y.0 ≡ id = cc in
-      let size : suc p ≡ n = cc in
-      let hit : same y.0 id ≡ true = ap (λ i. same i id) at ∙ same_self id in
-      let is : Some y.1 ≡ Some x = rw hit at here in
-      let one : y.1 ≡ x = cc in
-      let over : suc p < length_of y.1.content = past (length_of y.1.content) (suc p) q.0 in
-      let long : length_of y.1.content ≡ length_of x.content = ap (λ (b : Bucket). length_of b.content) one in
-      omega arith)
-]
+inside_short id (suc p) n x (y ∷ xs) once e here =
+    elim (first_case (nat_le (length_of y.1.content) (suc p)) (point_in (suc p - length_of y.1.content) xs) (point.Inside y.0 (suc p)) (point.Inside id n) e) [
+      | inl q ↦ (let miss : same y.0 id ≡ false = miss_first (same y.0 id) (times id xs) (once id) (inside_times (suc p - length_of y.1.content) n id xs q.1) in
+          inside_short id (suc p - length_of y.1.content) n x xs (λ i. rest_once (same y.0 i) (times i xs) (once i)) q.1 (rw miss at here))
+      | inr q ↦ (let at : y.0 ≡ id = cc in
+          let size : suc p ≡ n = cc in
+          let hit : same y.0 id ≡ true = ap (λ i. same i id) at ∙ same_self id in
+          let is : Some y.1 ≡ Some x = rw hit at here in
+          let one : y.1 ≡ x = cc in
+          let over : suc p < length_of y.1.content = past (length_of y.1.content) (suc p) q.0 in
+          let long : length_of y.1.content ≡ length_of x.content = ap (λ (b : Bucket). length_of b.content) one in
+          omega arith)
+    ]
 
 -- a bucket with bytes is data, where its content fits its kind
 pub bytes_are_data : (k : Kind) (c : Content) (n : ℕ) → form_of c ≡ form_of_kind k → n < length_of c → is_data_kind k ≡ true
@@ -177,5 +180,6 @@ points_are_the_models = record {
   at = λ new p place xs e. let is : is_short p (named xs) ≡ false = not_less (length_in (named xs)) p (at_size p place xs e) in rw is (place_at new p place xs e);
   at_same = λ new p place xs e. let is : is_short p (named xs) ≡ false = not_less (length_in (named xs)) p (at_size p place xs e) in rw is (whole_at new p place xs e);
   inside = λ new p n id xs e. let is : is_short p (named xs) ≡ false = not_less (length_in (named xs)) p (inside_size p n id xs e) in rw is (inside_place new p n id xs e);
-  inside_split = λ new id p n x xs once e here. let is : is_short p (named xs) ≡ false = not_less (length_in (named xs)) p (inside_size p n id xs e) in rw is (inside_whole new id p n x xs once e here);
+  inside_split = λ new id p n x xs once e here. let is : is_short p (named xs) ≡ false = not_less (length_in (named xs)) p (inside_size p n id xs e) in
+      rw is (inside_whole new id p n x xs once e here);
 }

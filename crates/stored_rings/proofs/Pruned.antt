@@ -48,7 +48,8 @@ module _ (at : BucketId → Option ℕ) (lists : ℕ → Option StoredItems) (ne
     | inl gone ↦ first_named new.lost (is_named id (names_of new p)) (still ∙ gone)
     | inr named ↦ second_named new.lost (is_named id (names_of new p)) (ap (is_named id) (out p) ∙ by_pool (cases_eq p pool) named)
   ] where
-    by_pool : (p ≡ pool) ⊎ (p ≢ pool) → is_named id (names_of old p) ≡ true → is_named id (cond (p == pool) (filter (λ i. still_under pool (bucket_named at lists i)) (names_of old p)) (names_of old p)) ≡ true
+    by_pool : (p ≡ pool) ⊎ (p ≢ pool) → is_named id (names_of old p) ≡ true
+        → is_named id (cond (p == pool) (filter (λ i. still_under pool (bucket_named at lists i)) (names_of old p)) (names_of old p)) ≡ true
     by_pool (inl here) named =
         rw (eq-eqb p pool here) (named_filtered (λ i. still_under pool (bucket_named at lists i)) id (names_of old p)
         ∙ rw (ap (still_under pool) there ∙ (ap (λ (q : ℕ). held_under (λ n. n == q) x) (sym here) ∙ on), named) refl)

@@ -26,14 +26,16 @@ module _ {T : Type 0} where
     go (Some x) is h = (x, is)
 
 -- the bucket of a name, by the brigade that it is in
-pub here_at : {T : Type 0} (at : Option ℕ) (lists : ℕ → Option (List (BucketId × T))) (id : BucketId) (b : ℕ) (x : T) → at ≡ Some b → found id (list_at lists b) ≡ Some x → option_and_then (λ q. found id (list_at lists q)) at ≡ Some x
+pub here_at : {T : Type 0} (at : Option ℕ) (lists : ℕ → Option (List (BucketId × T))) (id : BucketId) (b : ℕ) (x : T) → at ≡ Some b → found id (list_at lists b) ≡ Some x
+    → option_and_then (λ q. found id (list_at lists q)) at ≡ Some x
 here_at at lists id b x is here = ap (option_and_then (λ q. found id (list_at lists q))) is ∙ here
 
 -- what stands from a bucket on after it got another payload
 rest_set : (id : BucketId) (v : Bucket) (xs : Items) → is_some (found id xs) ≡ true → rest id (with_payload id v xs) ≡ (id, v) ∷ drop 1 (rest id xs)
 rest_set id v [] e = cc
 rest_set id v (b ∷ bs) e = go (rest_set id v bs) (same b.0 id) refl where
-  go : (is_some (found id bs) ≡ true → rest id (with_payload id v bs) ≡ (id, v) ∷ drop 1 (rest id bs)) → (s : Bool) → same b.0 id ≡ s → rest id (with_payload id v (b ∷ bs)) ≡ (id, v) ∷ drop 1 (rest id (b ∷ bs))
+  go : (is_some (found id bs) ≡ true → rest id (with_payload id v bs) ≡ (id, v) ∷ drop 1 (rest id bs)) → (s : Bool) → same b.0 id ≡ s
+      → rest id (with_payload id v (b ∷ bs)) ≡ (id, v) ∷ drop 1 (rest id (b ∷ bs))
   go later true hit = simp (hit, same_self id) refl
   go later false miss = simp miss (later (rw miss at e))
 
@@ -52,7 +54,8 @@ pub found_append : (id : BucketId) (xs ys : Items) → times id xs ≡ 0 → is_
 found_append id xs ys none there = ap (λ (zs : Items). is_some (payload_of zs)) (rest_append id xs ys none) ∙ there
 
 -- the buckets of one brigade moved behind those of another
-pub joined : (o b : ℕ) (lists new : ℕ → Option Items) → (o ≡ b → ⊥) → is_some (lists o) ≡ true → ((n : ℕ) → new n ≡ on o (λ xs. xs ++ list_at lists b) (on b (λ xs. []) lists) n) → list_at new o ≡ list_at lists o ++ list_at lists b
+pub joined : (o b : ℕ) (lists new : ℕ → Option Items) → (o ≡ b → ⊥) → is_some (lists o) ≡ true → ((n : ℕ) → new n ≡ on o (λ xs. xs ++ list_at lists b) (on b (λ xs. []) lists) n)
+    → list_at new o ≡ list_at lists o ++ list_at lists b
 joined o b lists new apart there change =
     list_on o (λ xs. xs ++ list_at lists b) (on b (λ xs. []) lists) new change (ap is_some (there_off o b (λ xs. []) lists apart) ∙ there)
     ∙ ap (λ (zs : Items). zs ++ list_at lists b) (list_off o b (λ xs. []) lists apart)
@@ -65,7 +68,8 @@ module _ (ps : Pools Payload) (pool : ℕ) where
   abbrev aside : Bucket → Bucket
   aside x = set_aside pool (is_above ps pool x.home) x
 
-  module _ (id : BucketId) (place : Option BucketId) (x : Bucket) (xs : Items) (here : found id xs ≡ Some x) (behind : from_place place (with_payload id (aside x) xs) ≡ drop 1 (rest id (with_payload id (aside x) xs))) where
+  module _ (id : BucketId) (place : Option BucketId) (x : Bucket) (xs : Items) (here : found id xs ≡ Some x)
+      (behind : from_place place (with_payload id (aside x) xs) ≡ drop 1 (rest id (with_payload id (aside x) xs))) where
     left : from_place place (with_payload id (aside x) xs) ≡ drop 1 (rest id xs)
     left = behind ∙ ap (λ (zs : Items). drop 1 zs) (rest_set id (aside x) xs (ap is_some here))
 
@@ -92,7 +96,8 @@ module _ (ps : Pools Payload) (pool : ℕ) where
   none_left xs = append-nil xs
 
   -- what was moved behind others is set aside
-  pub moved_aside : (first : Option BucketId) (xs bs : Items) → from_place first bs ≡ bs → IfSome first (λ id. times id xs ≡ 0) → aside_behind ps pool first (xs ++ bs) ≡ xs ++ map (aside_item ps pool) bs
+  pub moved_aside : (first : Option BucketId) (xs bs : Items) → from_place first bs ≡ bs → IfSome first (λ id. times id xs ≡ 0)
+      → aside_behind ps pool first (xs ++ bs) ≡ xs ++ map (aside_item ps pool) bs
   moved_aside None xs [] whole none = append-nil (xs ++ [])
   moved_aside None xs (b ∷ bs) whole none = cc
   moved_aside (Some id) xs bs whole none =

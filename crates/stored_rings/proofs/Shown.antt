@@ -7,7 +7,8 @@ use Rattle.std.specs.Option.{option_map, option_map_or}
 use Rattle.std.proofs.lemmas.Bool.{and_parts}
 use Rattle.std.proofs.lemmas.List.{map-append}
 use Rattle.bucket_ring.specs.declared.names.BucketId.{BucketId}
-use Rattle.bucket_ring.specs.Lists.{upd, on, list_at, same, times, front, rest, first_of, next_in, or_end, found, payload_of, put_tail, put_head, put_before, put_after, without, with_payload, by_birth, numbered}
+use Rattle.bucket_ring.specs.Lists.{upd, on, list_at, same, times, front, rest, first_of, next_in, or_end, found, payload_of, put_tail, put_head, put_before, put_after, without, with_payload}
+use Rattle.bucket_ring.specs.Lists.{by_birth, numbered}
 use Rattle.bucket_ring.specs.Kept.{IsKept}
 use Rattle.run_model.specs.declared.bucket.Bucket.{Bucket}
 use Rattle.bucket_kinds.specs.declared.stored.Stored.{Stored}
@@ -32,14 +33,16 @@ module _ (look : Look) where
   pub front_shown : (id : BucketId) (xs : StoredItems) → shown_items look (front id xs) ≡ front id (shown_items look xs)
   front_shown id [] = refl
   front_shown id (x ∷ xs) = go (front_shown id xs) (same x.0 id) where
-    go : shown_items look (front id xs) ≡ front id (shown_items look xs) → (s : Bool) → shown_items look (if s then [] else x ∷ front id xs) ≡ (if s then [] else shown_item look x ∷ front id (shown_items look xs))
+    go : shown_items look (front id xs) ≡ front id (shown_items look xs) → (s : Bool)
+        → shown_items look (if s then [] else x ∷ front id xs) ≡ (if s then [] else shown_item look x ∷ front id (shown_items look xs))
     go later true = refl
     go later false = ap (λ ys. shown_item look x ∷ ys) later
 
   pub rest_shown : (id : BucketId) (xs : StoredItems) → shown_items look (rest id xs) ≡ rest id (shown_items look xs)
   rest_shown id [] = refl
   rest_shown id (x ∷ xs) = go (rest_shown id xs) (same x.0 id) where
-    go : shown_items look (rest id xs) ≡ rest id (shown_items look xs) → (s : Bool) → shown_items look (if s then x ∷ xs else rest id xs) ≡ (if s then shown_item look x ∷ shown_items look xs else rest id (shown_items look xs))
+    go : shown_items look (rest id xs) ≡ rest id (shown_items look xs) → (s : Bool)
+        → shown_items look (if s then x ∷ xs else rest id xs) ≡ (if s then shown_item look x ∷ shown_items look xs else rest id (shown_items look xs))
     go later true = refl
     go later false = later
 
@@ -104,7 +107,8 @@ module _ (look : Look) where
       let one : ◌≡◌ {A = ℕ × Bucket} (x.0.birth, shown look x.1) (next, shown look y) = ap (λ (p : ℕ × Stored). (p.0, shown look p.1)) head in
       rw (one, births_shown (next + 1) xs ys later) refl
 
-  pub brought_shown : (next : ℕ) (xs : StoredItems) (held : List Stored) (given : List Bucket) → by_birth xs ≡ numbered next held → map (shown look) held ≡ given → by_birth (shown_items look xs) ≡ numbered next given
+  pub brought_shown : (next : ℕ) (xs : StoredItems) (held : List Stored) (given : List Bucket) → by_birth xs ≡ numbered next held → map (shown look) held ≡ given
+      → by_birth (shown_items look xs) ≡ numbered next given
   brought_shown next xs held given e is = births_shown next xs held e ∙ ap (numbered next) is
 
   -- new buckets are held as they were brought

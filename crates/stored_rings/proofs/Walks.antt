@@ -59,7 +59,8 @@ pub count_head : {T : Type 0} (id : BucketId) (xs : List (BucketId × T)) (x : T
 count_head id xs x e = ap length (rest_head id xs x e)
 
 -- fewer buckets are left behind one of them
-pub fewer_behind : {T : Type 0} (id : BucketId) (place behind : Option BucketId) (xs : List (BucketId × T)) (x : T) → found id xs ≡ Some x → place ≡ Some id → from_place behind xs ≡ drop 1 (rest id xs)
+pub fewer_behind : {T : Type 0} (id : BucketId) (place behind : Option BucketId) (xs : List (BucketId × T)) (x : T) → found id xs ≡ Some x → place ≡ Some id
+    → from_place behind xs ≡ drop 1 (rest id xs)
     → length (from_place behind xs) < length (from_place place xs)
 fewer_behind id place behind xs x e here told =
     let less = ap length told in

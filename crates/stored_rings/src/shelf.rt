@@ -1,6 +1,7 @@
 //! Rings of stored buckets, seen as the buckets that they show.
 
-ghost use Rattle.std.specs.Prelude.{◌≡◌, ◌≢◌, ◌↔◌, ℕ, ◌+◌, ◌<◌, ◌≤◌, ◌++◌, List, [], map, length, Some, None, true, false, is_some, is_ok, if◌then◌else◌, IsOk, IfOk, IfErr, IfSome, OnOk, OnErr, IsErrOf};
+ghost use Rattle.std.specs.Prelude.{◌≡◌, ◌≢◌, ◌↔◌, ℕ, ◌+◌, ◌<◌, ◌≤◌, ◌++◌, List, [], map, length, Some, None, true, false, is_some, is_ok, if◌then◌else◌, IsOk};
+ghost use Rattle.std.specs.Prelude.{IfOk, IfErr, IfSome, OnOk, OnErr, IsErrOf};
 ghost use Rattle.bucket_ring.specs.declared.names.BucketId.{BucketId};
 ghost use Rattle.bucket_ring.specs.Lists.{upd, on, list_at, same, front, rest, first_of, next_in, found, put_tail, put_head, put_before, put_after, without, with_payload, by_birth, numbered};
 ghost use Rattle.bucket_ring.specs.Kept.{NoneRevived};

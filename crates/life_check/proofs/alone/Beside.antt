@@ -22,7 +22,8 @@ use Rattle.run_model.specs.Sound.{Sound}
 use Rattle.run_model.specs.State.{Configuration, Shared, Out, pool_view, pool_named, named_at, name_in, is_own}
 use Rattle.run_model.specs.Steps.{current}
 use Rattle.model_laws.specs.AsDeclared.{AsDeclared}
-use Rattle.model_laws.specs.OpenRuns.{Phase, Due, Rests, Runs, Waits, Broken, Lasting, Standing, lasts, MayEnd, Becomes, changed_var, gone_on, LeaveShared, gone_elsewhere, answered, IsLeftAlone, GoOn, GoOnElsewhere, Answers, StandsSound}
+use Rattle.model_laws.specs.OpenRuns.{Phase, Due, Rests, Runs, Waits, Broken, Lasting, Standing, lasts, MayEnd, Becomes, changed_var, gone_on, LeaveShared, gone_elsewhere, answered, IsLeftAlone, GoOn}
+use Rattle.model_laws.specs.OpenRuns.{GoOnElsewhere, Answers, StandsSound}
 use Rattle.model_laws.proofs.alone.Beside as model
 use Rattle.model_laws.proofs.chains.Places.{SameHandler, stays_in_handler, after_leads}
 use Rattle.life_state.specs.States.{Homes, State}
@@ -59,7 +60,8 @@ stays_home : (l : Lasting) (r : Configuration) (h x : Home) → lasts l r h ≡ 
 stays_home l r h x kept (inl same) = same
 stays_home l r h x kept (inr ended) = absurd (let both : true ≡ false = sym kept ∙ ended.0 in cc)
 
-module _ (p : Program) (l : Lasting) (r : Configuration) (change : NamedBucket → NamedBucket) (becomes : (x : NamedBucket) → Becomes l r x (change x)) (shared : Shared) (left : LeaveShared l r shared) (out : Out) (s : Sound r) (d : AsDeclared p r)
+module _ (p : Program) (l : Lasting) (r : Configuration) (change : NamedBucket → NamedBucket) (becomes : (x : NamedBucket) → Becomes l r x (change x)) (shared : Shared)
+    (left : LeaveShared l r shared) (out : Out) (s : Sound r) (d : AsDeclared p r)
     (lives : Home → Type 0) (kept : (x : Home) → lives x → lasts l r x ≡ true) where
   abbrev gone : Configuration
   gone = gone_on change shared out r
@@ -176,7 +178,8 @@ module _ (p : Program) (m : Certificate) (proper : IsModule p) (bounded : AllBou
 
   -- Other connections go on.
 
-  elsewhere_some : (l : Lasting) (r : Configuration) (next pools : ℕ) (files : Files) (out : Out) (o : Option State) → FitsSome (InCall p l r) o r → FitsSome (InCall p l (gone_elsewhere next pools files out r)) o (gone_elsewhere next pools files out r)
+  elsewhere_some : (l : Lasting) (r : Configuration) (next pools : ℕ) (files : Files) (out : Out) (o : Option State) → FitsSome (InCall p l r) o r
+      → FitsSome (InCall p l (gone_elsewhere next pools files out r)) o (gone_elsewhere next pools files out r)
   unfolding is_live named_at
   elsewhere_some l r next pools files out None h = absurd h
   elsewhere_some l r next pools files out (Some a) h =
@@ -220,11 +223,13 @@ module _ (p : Program) (m : Certificate) (proper : IsModule p) (bounded : AllBou
     placed = record { at = place.inside; opening = λ lt. h.placed.opening (place.opening lt); serving = λ le. h.placed.serving (place.serving le) }
 
     given : FitsSome (InCall p s.lasting (by_pass t items s.now (instr.Pass h.passes h.to))) (Some h.state) (by_pass t items s.now (instr.Pass h.passes h.to))
-    given = fits_aside p (Lives s.lasting s.now.shared.req) (after_pass t (instr.Pass h.passes h.to) s.now.pc) s.now.out s.now.shared.files (Some h.state) (record s.now { instance = given_back h.passes items s.now.instance })
+    given = fits_aside p (Lives s.lasting s.now.shared.req) (after_pass t (instr.Pass h.passes h.to) s.now.pc) s.now.out s.now.shared.files (Some h.state)
+        (record s.now { instance = given_back h.passes items s.now.instance })
         (given_fits (InCall p s.lasting s.now) s.now h.passes items h.handed h.passed.0 h.passed.1 h.state h.fits)
 
     fits : FitsSome (InCall p s.lasting (answered p t items s.now)) (m.at (after_pass t (current p s.now.pc) s.now.pc)) (answered p t items s.now)
-    fits = fits_flow p (Lives s.lasting s.now.shared.req) (greater_fits {lives = Lives s.lasting s.now.shared.req}) (answered p t items s.now) (Some h.state) (m.at (after_pass t (current p s.now.pc) s.now.pc)) there.sound there.declared
+    fits = fits_flow p (Lives s.lasting s.now.shared.req) (greater_fits {lives = Lives s.lasting s.now.shared.req}) (answered p t items s.now) (Some h.state)
+        (m.at (after_pass t (current p s.now.pc) s.now.pc)) there.sound there.declared
         (bounded.at (after_pass t (current p s.now.pc) s.now.pc))
         (subst (λ (i : Instr). flows (Some h.state) (m.at (after_pass t i s.now.pc)) ≡ true) (sym h.at) (answer_flows s.lasting s.now h t))
         (subst (λ (i : Instr). FitsSome (InCall p s.lasting (by_pass t items s.now i)) (Some h.state) (by_pass t items s.now i)) (sym h.at) given)

@@ -1,7 +1,7 @@
 -- Open runs that reach a fault, step by step.
 use Rattle.std.proofs.Common.{◌≡◌, ℕ, ◌≤◌, Bool, true, false, ◌||◌, ◌==◌, cond, List, [], ◌∷◌, map, Option, Some, None, refl, sym, ◌∙◌, ap, subst, inl, inr, arith, eqb-true, ne_eqb}
 use Rattle.std.proofs.lemmas.List.Elements.{All-nil, All-cons}
-use Rattle.module_code.specs.Program.{Program}
+use Rattle.module_code.specs.Program.{Program, pool_of_brigade, pool_of_pool}
 use Rattle.module_code.specs.declared.instr.Instr.{Instr}
 use Rattle.module_code.specs.declared.instr.Instr.TheVariants as instr
 use Rattle.module_code.specs.declared.instr.PoolRef.{PoolRef}
@@ -20,7 +20,6 @@ use Rattle.run_model.specs.declared.payload.Payload.{Payload}
 use Rattle.run_model.specs.Buckets.{returned_bucket}
 use Rattle.module_code.specs.declared.instr.KindTest.TheVariants.{File}
 use Rattle.run_model.specs.Effects.{do_create, do_return, returned_var, with_brigade}
-use Rattle.module_code.specs.Program.{pool_of_brigade, pool_of_pool}
 use Rattle.run_model.specs.BrigadeLists.{buckets_before, buckets_from}
 use Rattle.run_model.specs.Cutting.{FitsKind}
 use Rattle.run_model.specs.Cursors.{spot_of, holder_of, variable_of, found_below}
@@ -38,7 +37,8 @@ use Rattle.run_model.proofs.PoolMap.{created_lives}
 use Rattle.run_model.proofs.Sums.{all_none}
 use Rattle.run_model.proofs.Updates.{upd_either}
 use Rattle.model_laws.specs.Examples.{never_creates}
-use Rattle.model_laws.specs.OpenRuns.{Due, Rests, Runs, Broken, Attempts, Calls, Returns, none_lasts, Standing, Move, Start, Execute, Begin, Main, Told, Done, Faults, executed, IsOthers, called, may_come, request_begun, IsMove, IsOpenRun, IsOpened, AreHarmless, InstancesAreSafe}
+use Rattle.model_laws.specs.OpenRuns.{Due, Rests, Runs, Broken, Attempts, Calls, Returns, none_lasts, Standing, Move, Start, Execute, Begin, Main, Told, Done, Faults, executed, IsOthers, called}
+use Rattle.model_laws.specs.OpenRuns.{may_come, request_begun, IsMove, IsOpenRun, IsOpened, AreHarmless, InstancesAreSafe}
 use Rattle.life_check.specs.Examples.{given, whole, keeps_a_file, BesideRows}
 use Rattle.life_state.specs.Examples.{identity, resting}
 use Rattle.life_check.proofs.alone.Safe.{typed_is_safe}
@@ -56,7 +56,8 @@ goes p i s new moves told runs is none last rest = (
   rest,
 )
 
-ends : (p : Program) (i : Instr) (s : Standing) (k : FaultKind) → s.phase ≡ Runs → current p s.now.pc ≡ i → fault p s.now i ≡ Some k → IsOpenRun p s (Execute None ∷ []) (Faults k ∷ []) (record s { phase = Broken })
+ends : (p : Program) (i : Instr) (s : Standing) (k : FaultKind) → s.phase ≡ Runs → current p s.now.pc ≡ i → fault p s.now i ≡ Some k
+    → IsOpenRun p s (Execute None ∷ []) (Faults k ∷ []) (record s { phase = Broken })
 unfolding IsOpenRun IsMove
 ends p i s k runs is at = (
   record s { phase = Broken },
@@ -121,7 +122,8 @@ fine_counts : (r : Configuration) → AllFine r → r.call.loose ≡ [] → (n :
 unfolding AllFine Fine
 fine_counts r f none n =
     let loose : count_named n r.call.loose ≡ 0 = ap (count_named n) none ∙ count_none n in
-    let brigades : sum_below 9 (λ b. count_named n (items_of (r.instance.brigades b))) ≡ 0 = all_none 9 (λ b. count_named n (items_of (r.instance.brigades b))) (λ b lt. ap (count_named n) (f b).0 ∙ count_none n) in
+    let brigades : sum_below 9 (λ b. count_named n (items_of (r.instance.brigades b))) ≡ 0 =
+    all_none 9 (λ b. count_named n (items_of (r.instance.brigades b))) (λ b lt. ap (count_named n) (f b).0 ∙ count_none n) in
     omega arith
 
 -- A module that cleans what it never created.
@@ -179,11 +181,13 @@ abbrev cleans_at_last : Standing
 cleans_at_last = record main_call { phase = Broken }
 
 from_main : IsOpenRun never_creates second_done (Main [] ∷ (Execute None ∷ [])) (Done ∷ (Faults F2 ∷ [])) cleans_at_last
-unfolding IsOpenRun IsMove executed current planted created upd is_spent lacks_names is_live is_under any_below named_at is_own_at has_pool_at is_stray keeps_stray cursor_fault spot_of holder_of variable_of found_below buckets_before buckets_from set_brigade set_cursor set_loose set_pool set_number with_pools with_brigade registered pool_of_brigade pool_of_pool
+unfolding IsOpenRun IsMove executed current planted created upd is_spent lacks_names is_live is_under any_below named_at is_own_at has_pool_at is_stray keeps_stray cursor_fault spot_of holder_of
+    variable_of found_below buckets_before buckets_from set_brigade set_cursor set_loose set_pool set_number with_pools with_brigade registered pool_of_brigade pool_of_pool
 from_main = (main_call, (refl, main_begins), ends never_creates (instr.BClean 0) main_call F2 refl refl refl)
 
 from_init : IsOpenRun never_creates request_open (Start ∷ (Execute None ∷ (Main [] ∷ (Execute None ∷ [])))) (Done ∷ (Returns Success [] ∷ (Done ∷ (Faults F2 ∷ [])))) cleans_at_last
-unfolding IsOpenRun IsMove executed current planted created upd is_spent lacks_names is_live is_under any_below named_at is_own_at has_pool_at is_stray keeps_stray cursor_fault spot_of holder_of variable_of found_below buckets_before buckets_from set_brigade set_cursor set_loose set_pool set_number with_pools with_brigade registered pool_of_brigade pool_of_pool
+unfolding IsOpenRun IsMove executed current planted created upd is_spent lacks_names is_live is_under any_below named_at is_own_at has_pool_at is_stray keeps_stray cursor_fault spot_of holder_of
+    variable_of found_below buckets_before buckets_from set_brigade set_cursor set_loose set_pool set_number with_pools with_brigade registered pool_of_brigade pool_of_pool
 from_init = (
   second_call,
   (refl, record { phase = refl; name = 2; next = 3; named = record { new = omega arith; given = omega arith; limit = omega arith }; is = refl }),
@@ -191,16 +195,19 @@ from_init = (
 )
 
 from_request : IsOpenRun never_creates first_done (Begin ∷ (Start ∷ (Execute None ∷ (Main [] ∷ (Execute None ∷ []))))) (Done ∷ (Done ∷ (Returns Success [] ∷ (Done ∷ (Faults F2 ∷ []))))) cleans_at_last
-unfolding IsOpenRun IsMove executed current planted created upd is_spent lacks_names is_live is_under any_below named_at is_own_at has_pool_at is_stray keeps_stray cursor_fault spot_of holder_of variable_of found_below buckets_before buckets_from set_brigade set_cursor set_loose set_pool set_number with_pools with_brigade registered pool_of_brigade pool_of_pool
+unfolding IsOpenRun IsMove executed current planted created upd is_spent lacks_names is_live is_under any_below named_at is_own_at has_pool_at is_stray keeps_stray cursor_fault spot_of holder_of
+    variable_of found_below buckets_before buckets_from set_brigade set_cursor set_loose set_pool set_number with_pools with_brigade registered pool_of_brigade pool_of_pool
 from_request = (request_open, (refl, record { phase = refl; none = refl; names = refl; is = refl }), from_init)
 
 cleans_none_run : IsOpenRun never_creates (record { phase = Due; lasting = none_lasts; now = opened }) (Start ∷ (Execute None ∷ (Begin ∷ (Start ∷ (Execute None ∷ (Main [] ∷ (Execute None ∷ [])))))))
     (Done ∷ (Returns Success [] ∷ (Done ∷ (Done ∷ (Returns Success [] ∷ (Done ∷ (Faults F2 ∷ []))))))) cleans_at_last
-unfolding IsOpenRun IsMove executed current planted created upd is_spent lacks_names is_live is_under any_below named_at is_own_at has_pool_at is_stray keeps_stray cursor_fault spot_of holder_of variable_of found_below buckets_before buckets_from set_brigade set_cursor set_loose set_pool set_number with_pools with_brigade registered pool_of_brigade pool_of_pool
+unfolding IsOpenRun IsMove executed current planted created upd is_spent lacks_names is_live is_under any_below named_at is_own_at has_pool_at is_stray keeps_stray cursor_fault spot_of holder_of
+    variable_of found_below buckets_before buckets_from set_brigade set_cursor set_loose set_pool set_number with_pools with_brigade registered pool_of_brigade pool_of_pool
 cleans_none_run = (
   first_call,
   (refl, record { phase = refl; name = 1; next = 2; named = record { new = omega arith; given = omega arith; limit = omega arith }; is = refl }),
-  goes never_creates (instr.Ret Success) first_call cleans_at_last (Begin ∷ (Start ∷ (Execute None ∷ (Main [] ∷ (Execute None ∷ []))))) (Done ∷ (Done ∷ (Returns Success [] ∷ (Done ∷ (Faults F2 ∷ []))))) refl refl refl refl from_request,
+  goes never_creates (instr.Ret Success) first_call cleans_at_last (Begin ∷ (Start ∷ (Execute None ∷ (Main [] ∷ (Execute None ∷ [])))))
+      (Done ∷ (Done ∷ (Returns Success [] ∷ (Done ∷ (Faults F2 ∷ []))))) refl refl refl refl from_request,
 )
 
 cleans_none : InstancesAreSafe never_creates → ⊥
@@ -264,7 +271,8 @@ none_at : (y : ℕ) → None ≡ Some y → ⊥
 none_at y e = cc
 
 two_is_others : IsOthers resting_second.now 2
-unfolding IsOpenRun IsMove executed current planted created upd is_spent lacks_names is_live is_under any_below named_at is_own_at has_pool_at is_stray keeps_stray cursor_fault spot_of holder_of variable_of found_below buckets_before buckets_from set_brigade set_cursor set_loose set_pool set_number with_pools with_brigade registered pool_of_brigade pool_of_pool
+unfolding IsOpenRun IsMove executed current planted created upd is_spent lacks_names is_live is_under any_below named_at is_own_at has_pool_at is_stray keeps_stray cursor_fault spot_of holder_of
+    variable_of found_below buckets_before buckets_from set_brigade set_cursor set_loose set_pool set_number with_pools with_brigade registered pool_of_brigade pool_of_pool
 two_is_others = record {
   live = refl;
   above = λ k n e. by_ref k n e;
@@ -286,7 +294,8 @@ abbrev LentMayCome : NamedBucket → Type 0
 LentMayCome x = may_come (record { calls = 4 ∷ []; pools = 2 ∷ [] }) resting_second.now x.bucket.home ≡ true
 
 serving_begins : Calls keeps_a_file (lent ∷ []) resting_second serving
-unfolding IsOpenRun IsMove executed current planted created upd is_spent lacks_names is_live is_under any_below named_at is_own_at has_pool_at is_stray keeps_stray cursor_fault spot_of holder_of variable_of found_below buckets_before buckets_from set_brigade set_cursor set_loose set_pool set_number with_pools with_brigade registered pool_of_brigade pool_of_pool Fine AllFine
+unfolding IsOpenRun IsMove executed current planted created upd is_spent lacks_names is_live is_under any_below named_at is_own_at has_pool_at is_stray keeps_stray cursor_fault spot_of holder_of
+    variable_of found_below buckets_before buckets_from set_brigade set_cursor set_loose set_pool set_number with_pools with_brigade registered pool_of_brigade pool_of_pool Fine AllFine
 serving_begins = record {
   phase = refl;
   request = refl;
@@ -331,52 +340,75 @@ abbrev keeps_at_last : Standing
 keeps_at_last = record kept_there { phase = Broken }
 
 keeps_5 : IsOpenRun keeps_a_file kept_there (Execute None ∷ []) (Faults F6 ∷ []) keeps_at_last
-unfolding IsOpenRun IsMove executed current planted created upd is_spent lacks_names is_live is_under any_below named_at is_own_at has_pool_at is_stray keeps_stray cursor_fault spot_of holder_of variable_of found_below buckets_before buckets_from set_brigade set_cursor set_loose set_pool set_number with_pools with_brigade registered pool_of_brigade pool_of_pool
+unfolding IsOpenRun IsMove executed current planted created upd is_spent lacks_names is_live is_under any_below named_at is_own_at has_pool_at is_stray keeps_stray cursor_fault spot_of holder_of
+    variable_of found_below buckets_before buckets_from set_brigade set_cursor set_loose set_pool set_number with_pools with_brigade registered pool_of_brigade pool_of_pool
 keeps_5 = ends keeps_a_file (instr.Ret Success) kept_there F6 refl refl refl
 
 keeps_4 : IsOpenRun keeps_a_file taken (Execute None ∷ (Execute None ∷ [])) (Done ∷ (Faults F6 ∷ [])) keeps_at_last
-unfolding IsOpenRun IsMove executed current planted created upd is_spent lacks_names is_live is_under any_below named_at is_own_at has_pool_at is_stray keeps_stray cursor_fault spot_of holder_of variable_of found_below buckets_before buckets_from set_brigade set_cursor set_loose set_pool set_number with_pools with_brigade registered pool_of_brigade pool_of_pool
+unfolding IsOpenRun IsMove executed current planted created upd is_spent lacks_names is_live is_under any_below named_at is_own_at has_pool_at is_stray keeps_stray cursor_fault spot_of holder_of
+    variable_of found_below buckets_before buckets_from set_brigade set_cursor set_loose set_pool set_number with_pools with_brigade registered pool_of_brigade pool_of_pool
 keeps_4 = goes keeps_a_file (instr.Tail 0 0) taken keeps_at_last (Execute None ∷ []) (Faults F6 ∷ []) refl refl refl refl keeps_5
 
 keeps_3 : IsOpenRun keeps_a_file at_kind (Execute None ∷ (Execute None ∷ (Execute None ∷ []))) (Done ∷ (Done ∷ (Faults F6 ∷ []))) keeps_at_last
-unfolding IsOpenRun IsMove executed current planted created upd is_spent lacks_names is_live is_under any_below named_at is_own_at has_pool_at is_stray keeps_stray cursor_fault spot_of holder_of variable_of found_below buckets_before buckets_from set_brigade set_cursor set_loose set_pool set_number with_pools with_brigade registered pool_of_brigade pool_of_pool
+unfolding IsOpenRun IsMove executed current planted created upd is_spent lacks_names is_live is_under any_below named_at is_own_at has_pool_at is_stray keeps_stray cursor_fault spot_of holder_of
+    variable_of found_below buckets_before buckets_from set_brigade set_cursor set_loose set_pool set_number with_pools with_brigade registered pool_of_brigade pool_of_pool
 keeps_3 = goes keeps_a_file (instr.Unlink 0) at_kind keeps_at_last (Execute None ∷ (Execute None ∷ [])) (Done ∷ (Faults F6 ∷ [])) refl refl refl refl keeps_4
 
 keeps_2 : IsOpenRun keeps_a_file at_end_test (Execute None ∷ (Execute None ∷ (Execute None ∷ (Execute None ∷ [])))) (Done ∷ (Done ∷ (Done ∷ (Faults F6 ∷ [])))) keeps_at_last
-unfolding IsOpenRun IsMove executed current planted created upd is_spent lacks_names is_live is_under any_below named_at is_own_at has_pool_at is_stray keeps_stray cursor_fault spot_of holder_of variable_of found_below buckets_before buckets_from set_brigade set_cursor set_loose set_pool set_number with_pools with_brigade registered pool_of_brigade pool_of_pool
+unfolding IsOpenRun IsMove executed current planted created upd is_spent lacks_names is_live is_under any_below named_at is_own_at has_pool_at is_stray keeps_stray cursor_fault spot_of holder_of
+    variable_of found_below buckets_before buckets_from set_brigade set_cursor set_loose set_pool set_number with_pools with_brigade registered pool_of_brigade pool_of_pool
 keeps_2 = goes keeps_a_file (instr.JKind 0 File 7) at_end_test keeps_at_last (Execute None ∷ (Execute None ∷ (Execute None ∷ []))) (Done ∷ (Done ∷ (Faults F6 ∷ []))) refl refl refl refl keeps_3
 
 keeps_1 : IsOpenRun keeps_a_file at_first (Execute None ∷ (Execute None ∷ (Execute None ∷ (Execute None ∷ (Execute None ∷ []))))) (Done ∷ (Done ∷ (Done ∷ (Done ∷ (Faults F6 ∷ []))))) keeps_at_last
-unfolding IsOpenRun IsMove executed current planted created upd is_spent lacks_names is_live is_under any_below named_at is_own_at has_pool_at is_stray keeps_stray cursor_fault spot_of holder_of variable_of found_below buckets_before buckets_from set_brigade set_cursor set_loose set_pool set_number with_pools with_brigade registered pool_of_brigade pool_of_pool
-keeps_1 = goes keeps_a_file (instr.JEnd 0 6) at_first keeps_at_last (Execute None ∷ (Execute None ∷ (Execute None ∷ (Execute None ∷ [])))) (Done ∷ (Done ∷ (Done ∷ (Faults F6 ∷ [])))) refl refl refl refl keeps_2
+unfolding IsOpenRun IsMove executed current planted created upd is_spent lacks_names is_live is_under any_below named_at is_own_at has_pool_at is_stray keeps_stray cursor_fault spot_of holder_of
+    variable_of found_below buckets_before buckets_from set_brigade set_cursor set_loose set_pool set_number with_pools with_brigade registered pool_of_brigade pool_of_pool
+keeps_1 = goes keeps_a_file (instr.JEnd 0 6) at_first keeps_at_last (Execute None ∷ (Execute None ∷ (Execute None ∷ (Execute None ∷ []))))
+    (Done ∷ (Done ∷ (Done ∷ (Faults F6 ∷ [])))) refl refl refl refl keeps_2
 
-keeps_0 : IsOpenRun keeps_a_file serving (Execute None ∷ (Execute None ∷ (Execute None ∷ (Execute None ∷ (Execute None ∷ (Execute None ∷ [])))))) (Done ∷ (Done ∷ (Done ∷ (Done ∷ (Done ∷ (Faults F6 ∷ [])))))) keeps_at_last
-unfolding IsOpenRun IsMove executed current planted created upd is_spent lacks_names is_live is_under any_below named_at is_own_at has_pool_at is_stray keeps_stray cursor_fault spot_of holder_of variable_of found_below buckets_before buckets_from set_brigade set_cursor set_loose set_pool set_number with_pools with_brigade registered pool_of_brigade pool_of_pool
-keeps_0 = goes keeps_a_file (instr.First 0 8) serving keeps_at_last (Execute None ∷ (Execute None ∷ (Execute None ∷ (Execute None ∷ (Execute None ∷ []))))) (Done ∷ (Done ∷ (Done ∷ (Done ∷ (Faults F6 ∷ []))))) refl refl refl refl keeps_1
+keeps_0 : IsOpenRun keeps_a_file serving (Execute None ∷ (Execute None ∷ (Execute None ∷ (Execute None ∷ (Execute None ∷ (Execute None ∷ []))))))
+    (Done ∷ (Done ∷ (Done ∷ (Done ∷ (Done ∷ (Faults F6 ∷ [])))))) keeps_at_last
+unfolding IsOpenRun IsMove executed current planted created upd is_spent lacks_names is_live is_under any_below named_at is_own_at has_pool_at is_stray keeps_stray cursor_fault spot_of holder_of
+    variable_of found_below buckets_before buckets_from set_brigade set_cursor set_loose set_pool set_number with_pools with_brigade registered pool_of_brigade pool_of_pool
+keeps_0 = goes keeps_a_file (instr.First 0 8) serving keeps_at_last (Execute None ∷ (Execute None ∷ (Execute None ∷ (Execute None ∷ (Execute None ∷ [])))))
+    (Done ∷ (Done ∷ (Done ∷ (Done ∷ (Faults F6 ∷ []))))) refl refl refl refl keeps_1
 
-keeps_main : IsOpenRun keeps_a_file resting_second (Main (lent ∷ []) ∷ (Execute None ∷ (Execute None ∷ (Execute None ∷ (Execute None ∷ (Execute None ∷ (Execute None ∷ []))))))) (Done ∷ (Done ∷ (Done ∷ (Done ∷ (Done ∷ (Done ∷ (Faults F6 ∷ []))))))) keeps_at_last
-unfolding IsOpenRun IsMove executed current planted created upd is_spent lacks_names is_live is_under any_below named_at is_own_at has_pool_at is_stray keeps_stray cursor_fault spot_of holder_of variable_of found_below buckets_before buckets_from set_brigade set_cursor set_loose set_pool set_number with_pools with_brigade registered pool_of_brigade pool_of_pool
+keeps_main : IsOpenRun keeps_a_file resting_second (Main (lent ∷ []) ∷ (Execute None ∷ (Execute None ∷ (Execute None ∷ (Execute None ∷ (Execute None ∷ (Execute None ∷ [])))))))
+    (Done ∷ (Done ∷ (Done ∷ (Done ∷ (Done ∷ (Done ∷ (Faults F6 ∷ []))))))) keeps_at_last
+unfolding IsOpenRun IsMove executed current planted created upd is_spent lacks_names is_live is_under any_below named_at is_own_at has_pool_at is_stray keeps_stray cursor_fault spot_of holder_of
+    variable_of found_below buckets_before buckets_from set_brigade set_cursor set_loose set_pool set_number with_pools with_brigade registered pool_of_brigade pool_of_pool
 keeps_main = (serving, (refl, serving_begins), keeps_0)
 
-keeps_init : IsOpenRun keeps_a_file requested (Start ∷ (Execute None ∷ (Main (lent ∷ []) ∷ (Execute None ∷ (Execute None ∷ (Execute None ∷ (Execute None ∷ (Execute None ∷ (Execute None ∷ []))))))))) (Done ∷ (Returns Success [] ∷ (Done ∷ (Done ∷ (Done ∷ (Done ∷ (Done ∷ (Done ∷ (Faults F6 ∷ []))))))))) keeps_at_last
-unfolding IsOpenRun IsMove executed current planted created upd is_spent lacks_names is_live is_under any_below named_at is_own_at has_pool_at is_stray keeps_stray cursor_fault spot_of holder_of variable_of found_below buckets_before buckets_from set_brigade set_cursor set_loose set_pool set_number with_pools with_brigade registered pool_of_brigade pool_of_pool
+keeps_init : IsOpenRun keeps_a_file requested (Start ∷ (Execute None ∷ (Main (lent ∷ []) ∷ (Execute None ∷ (Execute None
+    ∷ (Execute None ∷ (Execute None ∷ (Execute None ∷ (Execute None ∷ []))))))))) (Done ∷ (Returns Success [] ∷ (Done ∷ (Done ∷ (Done ∷ (Done ∷ (Done ∷ (Done ∷ (Faults F6 ∷ []))))))))) keeps_at_last
+unfolding IsOpenRun IsMove executed current planted created upd is_spent lacks_names is_live is_under any_below named_at is_own_at has_pool_at is_stray keeps_stray cursor_fault spot_of holder_of
+    variable_of found_below buckets_before buckets_from set_brigade set_cursor set_loose set_pool set_number with_pools with_brigade registered pool_of_brigade pool_of_pool
 keeps_init = (beginning, (refl, record { phase = refl; name = 3; next = 4; named = record { new = omega arith; given = omega arith; limit = omega arith }; is = refl }), goes keeps_a_file (instr.Ret Success) beginning keeps_at_last (Main (lent ∷ []) ∷ (Execute None ∷ (Execute None ∷ (Execute None ∷ (Execute None ∷ (Execute None ∷ (Execute None ∷ []))))))) (Done ∷ (Done ∷ (Done ∷ (Done ∷ (Done ∷ (Done ∷ (Faults F6 ∷ []))))))) refl refl refl refl keeps_main)
 
-keeps_request : IsOpenRun keeps_a_file resting_first (Begin ∷ (Start ∷ (Execute None ∷ (Main (lent ∷ []) ∷ (Execute None ∷ (Execute None ∷ (Execute None ∷ (Execute None ∷ (Execute None ∷ (Execute None ∷ [])))))))))) (Done ∷ (Done ∷ (Returns Success [] ∷ (Done ∷ (Done ∷ (Done ∷ (Done ∷ (Done ∷ (Done ∷ (Faults F6 ∷ [])))))))))) keeps_at_last
-unfolding IsOpenRun IsMove executed current planted created upd is_spent lacks_names is_live is_under any_below named_at is_own_at has_pool_at is_stray keeps_stray cursor_fault spot_of holder_of variable_of found_below buckets_before buckets_from set_brigade set_cursor set_loose set_pool set_number with_pools with_brigade registered pool_of_brigade pool_of_pool
+keeps_request : IsOpenRun keeps_a_file resting_first (Begin ∷ (Start ∷ (Execute None ∷ (Main (lent ∷ []) ∷ (Execute None ∷ (Execute None ∷ (Execute None
+    ∷ (Execute None ∷ (Execute None ∷ (Execute None ∷ [])))))))))) (Done ∷ (Done ∷ (Returns Success [] ∷ (Done ∷ (Done ∷ (Done ∷ (Done ∷ (Done ∷ (Done ∷ (Faults F6 ∷ [])))))))))) keeps_at_last
+unfolding IsOpenRun IsMove executed current planted created upd is_spent lacks_names is_live is_under any_below named_at is_own_at has_pool_at is_stray keeps_stray cursor_fault spot_of holder_of
+    variable_of found_below buckets_before buckets_from set_brigade set_cursor set_loose set_pool set_number with_pools with_brigade registered pool_of_brigade pool_of_pool
 keeps_request = (requested, (refl, record { phase = refl; none = refl; names = refl; is = refl }), keeps_init)
 
-keeps_open : IsOpenRun keeps_a_file made (Execute None ∷ (Begin ∷ (Start ∷ (Execute None ∷ (Main (lent ∷ []) ∷ (Execute None ∷ (Execute None ∷ (Execute None ∷ (Execute None ∷ (Execute None ∷ (Execute None ∷ []))))))))))) (Returns Success [] ∷ (Done ∷ (Done ∷ (Returns Success [] ∷ (Done ∷ (Done ∷ (Done ∷ (Done ∷ (Done ∷ (Done ∷ (Faults F6 ∷ []))))))))))) keeps_at_last
-unfolding IsOpenRun IsMove executed current planted created upd is_spent lacks_names is_live is_under any_below named_at is_own_at has_pool_at is_stray keeps_stray cursor_fault spot_of holder_of variable_of found_below buckets_before buckets_from set_brigade set_cursor set_loose set_pool set_number with_pools with_brigade registered pool_of_brigade pool_of_pool
-keeps_open = goes keeps_a_file (instr.Ret Success) made keeps_at_last (Begin ∷ (Start ∷ (Execute None ∷ (Main (lent ∷ []) ∷ (Execute None ∷ (Execute None ∷ (Execute None ∷ (Execute None ∷ (Execute None ∷ (Execute None ∷ [])))))))))) (Done ∷ (Done ∷ (Returns Success [] ∷ (Done ∷ (Done ∷ (Done ∷ (Done ∷ (Done ∷ (Done ∷ (Faults F6 ∷ [])))))))))) refl refl refl refl keeps_request
+keeps_open : IsOpenRun keeps_a_file made (Execute None ∷ (Begin ∷ (Start ∷ (Execute None ∷ (Main (lent ∷ []) ∷ (Execute None ∷ (Execute None ∷ (Execute None ∷ (Execute None ∷ (Execute None
+    ∷ (Execute None ∷ []))))))))))) (Returns Success [] ∷ (Done ∷ (Done ∷ (Returns Success [] ∷ (Done ∷ (Done ∷ (Done ∷ (Done ∷ (Done ∷ (Done ∷ (Faults F6 ∷ []))))))))))) keeps_at_last
+unfolding IsOpenRun IsMove executed current planted created upd is_spent lacks_names is_live is_under any_below named_at is_own_at has_pool_at is_stray keeps_stray cursor_fault spot_of holder_of
+    variable_of found_below buckets_before buckets_from set_brigade set_cursor set_loose set_pool set_number with_pools with_brigade registered pool_of_brigade pool_of_pool
+keeps_open = goes keeps_a_file (instr.Ret Success) made keeps_at_last (Begin ∷ (Start ∷ (Execute None ∷ (Main (lent ∷ []) ∷ (Execute None ∷ (Execute None ∷ (Execute None ∷ (Execute None
+    ∷ (Execute None ∷ (Execute None ∷ [])))))))))) (Done ∷ (Done ∷ (Returns Success [] ∷ (Done ∷ (Done ∷ (Done ∷ (Done ∷ (Done ∷ (Done ∷ (Faults F6 ∷ [])))))))))) refl refl refl refl keeps_request
 
-keeps_run : IsOpenRun keeps_a_file (record { phase = Due; lasting = none_lasts; now = opened }) (Start ∷ (Execute None ∷ (Execute None ∷ (Begin ∷ (Start ∷ (Execute None ∷ (Main (lent ∷ []) ∷ (Execute None ∷ (Execute None ∷ (Execute None ∷ (Execute None ∷ (Execute None ∷ (Execute None ∷ []))))))))))))) (Done ∷ (Done ∷ (Returns Success [] ∷ (Done ∷ (Done ∷ (Returns Success [] ∷ (Done ∷ (Done ∷ (Done ∷ (Done ∷ (Done ∷ (Done ∷ (Faults F6 ∷ []))))))))))))) keeps_at_last
-unfolding IsOpenRun IsMove executed current planted created upd is_spent lacks_names is_live is_under any_below named_at is_own_at has_pool_at is_stray keeps_stray cursor_fault spot_of holder_of variable_of found_below buckets_before buckets_from set_brigade set_cursor set_loose set_pool set_number with_pools with_brigade registered pool_of_brigade pool_of_pool
+keeps_run : IsOpenRun keeps_a_file (record { phase = Due; lasting = none_lasts; now = opened }) (Start ∷ (Execute None ∷ (Execute None
+    ∷ (Begin ∷ (Start ∷ (Execute None ∷ (Main (lent ∷ []) ∷ (Execute None ∷ (Execute None ∷ (Execute None ∷ (Execute None ∷ (Execute None ∷ (Execute None ∷ [])))))))))))))
+    (Done ∷ (Done ∷ (Returns Success [] ∷ (Done ∷ (Done ∷ (Returns Success [] ∷ (Done ∷ (Done ∷ (Done ∷ (Done ∷ (Done ∷ (Done ∷ (Faults F6 ∷ []))))))))))))) keeps_at_last
+unfolding IsOpenRun IsMove executed current planted created upd is_spent lacks_names is_live is_under any_below named_at is_own_at has_pool_at is_stray keeps_stray cursor_fault spot_of holder_of
+    variable_of found_below buckets_before buckets_from set_brigade set_cursor set_loose set_pool set_number with_pools with_brigade registered pool_of_brigade pool_of_pool
 keeps_run = (opening, (refl, record { phase = refl; name = 1; next = 2; named = record { new = omega arith; given = omega arith; limit = omega arith }; is = refl }), goes keeps_a_file (instr.BCreate 0) opening keeps_at_last (Execute None ∷ (Begin ∷ (Start ∷ (Execute None ∷ (Main (lent ∷ []) ∷ (Execute None ∷ (Execute None ∷ (Execute None ∷ (Execute None ∷ (Execute None ∷ (Execute None ∷ []))))))))))) (Returns Success [] ∷ (Done ∷ (Done ∷ (Returns Success [] ∷ (Done ∷ (Done ∷ (Done ∷ (Done ∷ (Done ∷ (Done ∷ (Faults F6 ∷ []))))))))))) refl refl refl refl keeps_open)
 
 keeps_what_is_lent : InstancesAreSafe keeps_a_file → ⊥
 unfolding AreHarmless
-keeps_what_is_lent safe = (safe opened (Start ∷ (Execute None ∷ (Execute None ∷ (Begin ∷ (Start ∷ (Execute None ∷ (Main (lent ∷ []) ∷ (Execute None ∷ (Execute None ∷ (Execute None ∷ (Execute None ∷ (Execute None ∷ (Execute None ∷ []))))))))))))) (Done ∷ (Done ∷ (Returns Success [] ∷ (Done ∷ (Done ∷ (Returns Success [] ∷ (Done ∷ (Done ∷ (Done ∷ (Done ∷ (Done ∷ (Done ∷ (Faults F6 ∷ []))))))))))))) keeps_at_last is_opened keeps_run).1.1.1.1.1.1.1.1.1.1.1.1.0
+keeps_what_is_lent safe = (safe opened (Start ∷ (Execute None ∷ (Execute None ∷ (Begin ∷ (Start ∷ (Execute None ∷ (Main (lent ∷ []) ∷ (Execute None
+    ∷ (Execute None ∷ (Execute None ∷ (Execute None ∷ (Execute None ∷ (Execute None ∷ []))))))))))))) (Done ∷ (Done ∷ (Returns Success []
+    ∷ (Done ∷ (Done ∷ (Returns Success [] ∷ (Done ∷ (Done ∷ (Done ∷ (Done ∷ (Done ∷ (Done ∷ (Faults F6 ∷ []))))))))))))) keeps_at_last is_opened keeps_run).1.1.1.1.1.1.1.1.1.1.1.1.0
 
 pub beside_rows : BesideRows
 beside_rows = record {

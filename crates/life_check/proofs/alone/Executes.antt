@@ -77,7 +77,8 @@ module _ (p : Program) (m : Certificate) (proper : IsModule p) (bounded : AllBou
           (record { at = place.inside; opening = λ lt. runs.placed.opening (place.opening lt); serving = λ le. runs.placed.serving (place.serving le) })
 
       -- what an edge says is there
-      along : (e : Option State) → StandsSound p (record s { now = after }) → flows e (m.at pc) ≡ true → FitsSome (Covers p (pool_view stepped.state) lives) e stepped.state → FitsSome (InCall p s.lasting after) (m.at pc) after
+      along : (e : Option State) → StandsSound p (record s { now = after }) → flows e (m.at pc) ≡ true → FitsSome (Covers p (pool_view stepped.state) lives) e stepped.state
+          → FitsSome (InCall p s.lasting after) (m.at pc) after
       along e k flow fit =
           subst (λ (req : Option ℕ). FitsSome (Covers p (pool_view after) (Lives s.lasting req)) (m.at pc) after) (sym changes.req)
           (fits_flow p lives (greater_fits {lives = lives}) after e (m.at pc) k.sound k.declared (bounded.at pc) flow
@@ -100,11 +101,13 @@ module _ (p : Program) (m : Certificate) (proper : IsModule p) (bounded : AllBou
       }
 
   -- A pass.
-  pub passes_stand : (b l : ℕ) → current p s.now.pc ≡ instr.Pass b l → (a : State) → MeetsNeeds (Lives s.lasting s.now.shared.req) p (instr.Pass b l) s.now a → leads_on m s.now.pc (instr.Pass b l) (edges p (instr.Pass b l) a) ≡ true
+  pub passes_stand : (b l : ℕ) → current p s.now.pc ≡ instr.Pass b l → (a : State) → MeetsNeeds (Lives s.lasting s.now.shared.req) p (instr.Pass b l) s.now a
+      → leads_on m s.now.pc (instr.Pass b l) (edges p (instr.Pass b l) a) ≡ true
       → WaitFits p m s.lasting (do_pass b s.now)
   unfolding set_brigade
   passes_stand b l is a ready leads =
-      let usable : usable_fault (s.now.instance.brigades b) ≡ None = (both_none (fault_want s.now (WUsable b)) (or_else (fault_want s.now (WHomes b)) (or_else (fault_want s.now (WSend b)) None)) ready.may.faultless).0 in
+      let usable : usable_fault (s.now.instance.brigades b) ≡ None =
+      (both_none (fault_want s.now (WUsable b)) (or_else (fault_want s.now (WHomes b)) (or_else (fault_want s.now (WSend b)) None)) ready.may.faultless).0 in
       let live = handed_live (s.now.instance.brigades b) usable in
       let both = split2 (flows (Some (after_pass b a)) (m.at (s.now.pc + 1))) (flows (Some (after_pass b a)) (m.at l)) leads in
       record {
@@ -134,7 +137,8 @@ module _ (p : Program) (m : Certificate) (proper : IsModule p) (bounded : AllBou
   abbrev Lasts : Told × Standing → Type 0
   Lasts x = IsHarmless x.0 × Stands p m x.1
 
-  executed_stand : s.phase ≡ Runs → (i : Instr) → current p s.now.pc ≡ i → (a : State) → MeetsNeeds (Lives s.lasting s.now.shared.req) p i s.now a → leads_on m s.now.pc i (edges p i a) ≡ true → exits p m s.now.pc i a ≡ true
+  executed_stand : s.phase ≡ Runs → (i : Instr) → current p s.now.pc ≡ i → (a : State) → MeetsNeeds (Lives s.lasting s.now.shared.req) p i s.now a → leads_on m s.now.pc i (edges p i a) ≡ true
+      → exits p m s.now.pc i a ≡ true
       → StandsSound p (executed p given i s).1 → Lasts (executed p given i s)
   unfolding executed
   executed_stand phase (instr.Pass b l) is a ready leads leaves k = (tt, passes_stand b l is a ready leads)
@@ -148,8 +152,10 @@ module _ (p : Program) (m : Certificate) (proper : IsModule p) (bounded : AllBou
   attempt_stands given s new told phase runs was k None none a =
       let met : Met p m s.lasting s.now = met_in p m s proper typed was runs in
       subst (λ (x : Told × Standing). IsHarmless x.0 × Stands p m x.1) a.1
-      (executed_stand p m proper bounded given s runs phase (current p s.now.pc) refl met.state (ready_in p m s proper was a.0 met) met.leads met.exits (subst (λ (x : Told × Standing). StandsSound p x.1) (sym a.1) k))
-  attempt_stands given s new told phase runs was k (Some kind) is a = absurd (let none : fault p s.now (current p s.now.pc) ≡ None = (met_in p m s proper typed was runs).faultless in let both : Some kind ≡ None = sym is ∙ none in cc)
+      (executed_stand p m proper bounded given s runs phase (current p s.now.pc) refl met.state (ready_in p m s proper was a.0 met) met.leads met.exits
+      (subst (λ (x : Told × Standing). StandsSound p x.1) (sym a.1) k))
+  attempt_stands given s new told phase runs was k (Some kind) is a =
+      absurd (let none : fault p s.now (current p s.now.pc) ≡ None = (met_in p m s proper typed was runs).faultless in let both : Some kind ≡ None = sym is ∙ none in cc)
 
   pub executes_stand : (given : Option (List ℕ)) (s new : Standing) (told : Told) → Stands p m s → Executes p given s told new → StandsSound p s → StandsSound p new → IsHarmless told × Stands p m new
   executes_stand given s new told h e was k = attempt_stands given s new told e.0 (in_phase p m s Runs e.0 h) was k (fault p s.now (current p s.now.pc)) refl e.1

@@ -93,7 +93,8 @@ outside p s k named = record {
       req_apart n m s.now own.0 (λ same. own.2 (subst (λ (x : ℕ). s.now.shared.req ≡ Some x) same begun)) begun k.sound.pools
   stays q n m at (inr lasts) = (k.others m lasts).under q n at
 
-  over : (d : PoolRef) (target m : ℕ) → pool_named s.now d ≡ Some target → is_under s.now.shared.pools m target ≡ true → Lives s.lasting s.now.shared.req (home.Pool m) → (s.now.shared.req ≡ Some m) ⊎ (m ≡ s.now.shared.conn)
+  over : (d : PoolRef) (target m : ℕ) → pool_named s.now d ≡ Some target → is_under s.now.shared.pools m target ≡ true → Lives s.lasting s.now.shared.req (home.Pool m)
+      → (s.now.shared.req ≡ Some m) ⊎ (m ≡ s.now.shared.conn)
   over d target m at under (inl begun) = inl begun
   over d target m at under (inr lasts) = absurd (let both : true ≡ false = sym under ∙ (k.others m lasts).above d target at in cc)
 

@@ -1,7 +1,8 @@
 -- The instances of a typed module are safe.
 use Rattle.std.proofs.Common.{◌≡◌, List, [], ◌∷◌, sym, subst}
 use Rattle.module_code.specs.Program.{Program, IsModule}
-use Rattle.model_laws.specs.OpenRuns.{Standing, Move, Start, Execute, Answer, Others, Elsewhere, Begin, Main, End, Told, Done, IsMove, IsOpenRun, IsHarmless, AreHarmless, StandsSound, InstancesAreSafe}
+use Rattle.model_laws.specs.OpenRuns.{Standing, Move, Start, Execute, Answer, Others, Elsewhere, Begin, Main, End, Told, Done, IsMove, IsOpenRun, IsHarmless, AreHarmless, StandsSound}
+use Rattle.model_laws.specs.OpenRuns.{InstancesAreSafe}
 use Rattle.model_laws.proofs.alone.Kept.{move_kept, opened_kept}
 use Rattle.life_check.specs.Certificates.{Certificate, AllBounded}
 use Rattle.life_check.specs.Typed.{IsTyped}

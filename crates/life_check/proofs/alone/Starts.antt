@@ -75,7 +75,8 @@ module _ (p : Program) (m : Certificate) (proper : IsModule p) (bounded : AllBou
   starts_stand s new h t k = subst (Stands p m) (sym t.is) (record {
     placed = handler_placed s.now.shared.req;
     named = named_first t.name [];
-    fits = fits_flow p (Lives l s.now.shared.req) (greater_fits {lives = Lives l s.now.shared.req}) after (before p m s.now.shared.req) (m.at (handler_at s.now.shared.req p)) there.sound there.declared (bounded.at (handler_at s.now.shared.req p))
+    fits = fits_flow p (Lives l s.now.shared.req) (greater_fits {lives = Lives l s.now.shared.req}) after (before p m s.now.shared.req)
+        (m.at (handler_at s.now.shared.req p)) there.sound there.declared (bounded.at (handler_at s.now.shared.req p))
         (before_flows p m s.now.shared.req typed)
         (called_fits l s.now t.name t.next (handler_at s.now.shared.req p) (before p m s.now.shared.req) (λ u is. before_unset p m s.now.shared.req u bounded typed is) (in_phase p m s Due t.phase h));
   }) where
@@ -90,7 +91,8 @@ module _ (p : Program) (m : Certificate) (proper : IsModule p) (bounded : AllBou
 
   -- `main` begins.
 
-  come_covered : (l : Lasting) (r new : Configuration) → new.shared.pools ≡ r.shared.pools → new.shared.conn ≡ r.shared.conn → new.shared.req ≡ r.shared.req → is_live r.shared.pools r.shared.conn ≡ true
+  come_covered : (l : Lasting) (r new : Configuration) → new.shared.pools ≡ r.shared.pools → new.shared.conn ≡ r.shared.conn → new.shared.req ≡ r.shared.req
+      → is_live r.shared.pools r.shared.conn ≡ true
       → ((n : ℕ) → r.shared.req ≡ Some n → is_live r.shared.pools n ≡ true) → ((n : ℕ) → is_in n l.pools ≡ true → is_live r.shared.pools n ≡ true)
       → (x : Home) → may_come l r x ≡ true → InCall p l new only_call x
   come_covered l r new pools conn req conn_lives req_lives lasts home.Free may = tt
@@ -104,7 +106,8 @@ module _ (p : Program) (m : Certificate) (proper : IsModule p) (bounded : AllBou
     named_is (Some k) e = ap (λ (j : ℕ). Some j) (sym (eqb-true n k e))
 
     by_test : (a b c : Bool) → (n == r.shared.conn) ≡ a → is_named r.shared.req n ≡ b → is_in n l.pools ≡ c → (a || b || c) ≡ true → InCall p l new only_call (home.Pool n)
-    by_test true b c is_conn is_req is_kept e = (let same = eqb-true n r.shared.conn is_conn in (there (subst (λ (k : ℕ). is_live r.shared.pools k ≡ true) (sym same) conn_lives), ByConnection (same ∙ sym conn)))
+    by_test true b c is_conn is_req is_kept e =
+        (let same = eqb-true n r.shared.conn is_conn in (there (subst (λ (k : ℕ). is_live r.shared.pools k ≡ true) (sym same) conn_lives), ByConnection (same ∙ sym conn)))
     by_test false true c is_conn is_req is_kept e = (let named = named_is r.shared.req is_req in (there (req_lives n named), ByCall refl (inl (req ∙ named))))
     by_test false false true is_conn is_req is_kept e = (there (lasts n is_kept), ByCall refl (inr is_kept))
     by_test false false false is_conn is_req is_kept e = absurd (let no : false ≡ true = e in cc)
@@ -115,7 +118,8 @@ module _ (p : Program) (m : Certificate) (proper : IsModule p) (bounded : AllBou
   some_ready (Some n) e = refl
 
   main_fits : (l : Lasting) (r : Configuration) (name next : ℕ) (made : Brigade) (o : Option State) → IsBoundedSome o → fits_between p o ≡ true
-      → (let new = called name next p.main (record r { instance = set_in (var.Live made) r.instance }) in FitsBrigade (InCall p l new) (holds NoLateData only_call) (var.Live made) → FitsSome (Between p r) o r → FitsSome (InCall p l new) (main_from o) new)
+      → (let new = called name next p.main (record r { instance = set_in (var.Live made) r.instance }) in FitsBrigade (InCall p l new) (holds NoLateData only_call) (var.Live made)
+      → FitsSome (Between p r) o r → FitsSome (InCall p l new) (main_from o) new)
   main_fits l r name next made None bound shape handed h = absurd h
   main_fits l r name next made (Some s) bound shape handed h =
       main_begins p (Lives l r.shared.req) (var.Live made) s r name next p.main (between_unset p (Some s) s bound shape refl) handed h
@@ -144,7 +148,8 @@ module _ (p : Program) (m : Certificate) (proper : IsModule p) (bounded : AllBou
 
     covered : All (λ x. InCall p l after only_call x.bucket.home) items
     covered = All-weaker (λ x. may_come l s.now x.bucket.home ≡ true) (λ x. InCall p l after only_call x.bucket.home)
-        (λ x may. come_covered l s.now after refl refl refl was.sound.pools.conn (λ n e. path_live s.now.shared.pools n n _ (was.sound.pools.req n e).0) (λ n kept. (t.others n kept).live) x.bucket.home may) items t.homes
+        (λ x may. come_covered l s.now after refl refl refl was.sound.pools.conn (λ n e. path_live s.now.shared.pools n n _ (was.sound.pools.req n e).0)
+        (λ n kept. (t.others n kept).live) x.bucket.home may) items t.homes
 
   -- A request begins.
 
@@ -158,12 +163,14 @@ module _ (p : Program) (m : Certificate) (proper : IsModule p) (bounded : AllBou
   unfolding is_live
   live_kept r n lt = ap (λ (xs : List ℕ). not (is_empty xs)) (created_kept r.shared.conn r.shared.pools n lt)
 
-  begun_fits : (r : Configuration) → r.shared.req ≡ None → ((q n : ℕ) → r.instance.pools q ≡ poolvar.Made n → n < r.shared.pools.next) → (o : Option State) → FitsSome (Between p r) o r → FitsSome (Between p (request_begun r)) o (request_begun r)
+  begun_fits : (r : Configuration) → r.shared.req ≡ None → ((q n : ℕ) → r.instance.pools q ≡ poolvar.Made n → n < r.shared.pools.next) → (o : Option State) → FitsSome (Between p r) o r
+      → FitsSome (Between p (request_begun r)) o (request_begun r)
   begun_fits r none given None h = absurd h
   begun_fits r none given (Some s) h =
       let new : Configuration = request_begun r in
       fits_among (Between p r) (Between p new) s r new.shared r.pc r.out
-      (covers_more p (pool_view r) (pool_view new) NoneLives NoneLives refl (λ n live. created_lives r.shared.conn r.shared.pools n live) (begun_named r none) (λ x l. l)) (λ q n made. live_kept r n (given q n made)) h
+      (covers_more p (pool_view r) (pool_view new) NoneLives NoneLives refl (λ n live. created_lives r.shared.conn r.shared.pools n live) (begun_named r none) (λ x l. l))
+      (λ q n made. live_kept r n (given q n made)) h
 
   pub begins_stand : (s new : Standing) → Stands p m s → Begins s new → StandsSound p s → Stands p m new
   begins_stand s new h t k =
@@ -177,4 +184,5 @@ module _ (p : Program) (m : Certificate) (proper : IsModule p) (bounded : AllBou
       let ready : FitsSome (Between p s.now) m.ready s.now = subst (λ (req : Option ℕ). FitsSome (Between p s.now) (resting m req) s.now) t.opened (in_phase p m s Rests t.phase h) in
       let there : StandsSound p (record { phase = Rests; lasting = none_lasts; now = request_ended t.req s.now }) = subst (StandsSound p) t.is k in
       subst (Stands p m) (sym t.is)
-      (fits_flow p NoneLives (greater_fits {lives = NoneLives}) (request_ended t.req s.now) (request_end p m.ready) m.idle there.sound there.declared bounded.idle typed.requests (ended_fits p t.req s.now m.ready proper was.sound was.declared t.opened ready))
+      (fits_flow p NoneLives (greater_fits {lives = NoneLives}) (request_ended t.req s.now) (request_end p m.ready) m.idle there.sound there.declared bounded.idle typed.requests
+      (ended_fits p t.req s.now m.ready proper was.sound was.declared t.opened ready))

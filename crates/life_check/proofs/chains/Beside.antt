@@ -30,7 +30,8 @@ covers_more p v w lives more conn live named still h home.Ended c = c
 
 -- the same instance and call, among others
 pub fits_among : (C D : Homes → Home → Type 0) (s : State) (r : Configuration) (shared : Shared) (pc : ℕ) (out : Out) → ((h : Homes) (x : Home) → C h x → D h x)
-    → ((q n : ℕ) → r.instance.pools q ≡ poolvar.Made n → is_live shared.pools n ≡ is_live r.shared.pools n) → Fits C s r → Fits D s (record { instance = r.instance; call = r.call; shared = shared; pc = pc; out = out })
+    → ((q n : ℕ) → r.instance.pools q ≡ poolvar.Made n → is_live shared.pools n ≡ is_live r.shared.pools n) → Fits C s r
+    → Fits D s (record { instance = r.instance; call = r.call; shared = shared; pc = pc; out = out })
 fits_among C D s r shared pc out more lives f =
     let new : Configuration = record { instance = r.instance; call = r.call; shared = shared; pc = pc; out = out } in
     record {
@@ -64,7 +65,8 @@ module _ (chain : List Program) (certs : ℕ → Certificate) (g h : Common) (c 
   lives_beside f rest home.Ended l = l
 
   fits_beside : (lives more : Home → Type 0) → ((x : Home) → lives x → more x) → (s : State) (f : Frame)
-      → Fits (Covers (module_at chain f.of) (pool_view (configuration g c f)) lives) s (configuration g c f) → Fits (Covers (module_at chain f.of) (pool_view (configuration h now f)) more) s (configuration h now f)
+      → Fits (Covers (module_at chain f.of) (pool_view (configuration g c f)) lives) s (configuration g c f)
+      → Fits (Covers (module_at chain f.of) (pool_view (configuration h now f)) more) s (configuration h now f)
   unfolding configuration is_live named_at
   fits_beside lives more still s f fits =
       let p = module_at chain f.of in

@@ -81,19 +81,24 @@ module _ (chain : List Program) (certs : ℕ → Certificate) (g : Common) (c : 
         (fits_flow p lives (greater_fits {lives = lives}) (configuration after.0 after.1 called_frame) o (m.at called_frame.pc) sounds (sound.pools.declared called_frame) (all.at called_frame.pc)
         (before_flows p m c.req typed) (handler_fits o (λ u is. before_unset p m c.req u all typed is) rests))
 
-    pub called_stands : AllTyped chain certs → IsRising f.of (k ∷ ks) → ChainSound chain after.0 after.1 → Sound (configuration after.0 after.1 called_frame) → Sound (configuration after.0 after.1 (resting_frame f.of))
+    pub called_stands : AllTyped chain certs → IsRising f.of (k ∷ ks) → ChainSound chain after.0 after.1 → Sound (configuration after.0 after.1 called_frame)
+        → Sound (configuration after.0 after.1 (resting_frame f.of))
         → ChainStands chain certs after.0 after.1
     unfolding IsRising AllWait
     called_stands typed rising sound sounds left =
         let next : IsFramePlaced chain c.req called_frame = All-head (IsFramePlaced chain c.req) called_frame [] sound.calls.placed in
         let differ : k ≢ f.of = λ e. absurd (omega (arith, e, rising.0)) in
         let was : RestsIn chain g c k (before (module_at chain k) (certs k) c.req) =
-        subst (λ (b : Bool). RestsIn chain g c k (cond b (before (module_at chain k) (certs k) c.req) (between (certs k) c.req))) (ap (is_in k) queue ∙ here) (stands.rests k next.of (off_stack k differ)) in
-        let rests = other_rests chain certs g c f (g.next + 1) instances (called_frame ∷ []) ks (returned_own chain certs g c f) k (before (module_at chain k) (certs k) c.req) (returned_there chain certs g c f k differ) was in
+        subst (λ (b : Bool). RestsIn chain g c k (cond b (before (module_at chain k) (certs k) c.req) (between (certs k) c.req))) (ap (is_in k) queue ∙ here)
+        (stands.rests k next.of (off_stack k differ)) in
+        let rests = other_rests chain certs g c f (g.next + 1) instances (called_frame ∷ []) ks (returned_own chain certs g c f) k (before (module_at chain k) (certs k) c.req)
+        (returned_there chain certs g c f k differ) was in
         record {
           stack = (handler_runs (typed k next.of).0 (typed k next.of).1 sound sounds rests, tt);
-          rests = all_rest chain certs g c f (g.next + 1) instances (called_frame ∷ []) ks (returned_own chain certs g c f) (Lives c f []) t s ready (returned_here chain certs g c f) bounded placed below sound left stands
-              (λ j d off. returned_there chain certs g c f j d) (λ j d off. off_stack j d) (λ j d off. later j (off_parts j called_frame [] off).0) (not_rising k f.of ks rising.1 (omega (arith, rising.0)));
+          rests = all_rest chain certs g c f (g.next + 1) instances (called_frame ∷ []) ks (returned_own chain certs g c f) (Lives c f []) t s ready
+              (returned_here chain certs g c f) bounded placed below sound left stands
+              (λ j d off. returned_there chain certs g c f j d) (λ j d off. off_stack j d) (λ j d off. later j (off_parts j called_frame [] off).0)
+              (not_rising k f.of ks rising.1 (omega (arith, rising.0)));
         } where
           here : is_in k (k ∷ ks) ≡ true
           here = ap (λ (b : Bool). b || is_in k ks) (eq-eqb k k refl)

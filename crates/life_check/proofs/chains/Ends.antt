@@ -2,7 +2,7 @@
 use Rattle.std.proofs.Common.{◌≡◌, ℕ, ◌<◌, cond, List, [], length, Option, Some, None, refl, sym, subst}
 use Rattle.module_code.specs.Program.{Program, IsModule}
 use Rattle.model_laws.specs.AsDeclared.{AsDeclared}
-use Rattle.life_check.specs.Soundness.{request_ended}
+use Rattle.life_check.specs.Soundness.{request_ended, FitsSome}
 use Rattle.run_model.specs.Pools.{is_in}
 use Rattle.run_model.specs.Clearing.{run_down}
 use Rattle.run_model.specs.Sound.{Sound}
@@ -16,7 +16,6 @@ use Rattle.life_check.specs.Certificates.{Certificate}
 use Rattle.life_check.specs.ChainMeaning.{StackStands, before, between, resting_frame, RestsIn, ChainStands}
 use Rattle.life_check.specs.ChainTheorem.{AllTyped}
 use Rattle.life_check.specs.Meaning.{NoneLives, Between}
-use Rattle.life_check.specs.Soundness.{FitsSome}
 use Rattle.life_check.specs.Typed.{request_end}
 use Rattle.life_check.proofs.Cleared.{request_end_lands}
 use Rattle.life_check.proofs.Orders.{greater_fits}
@@ -24,7 +23,8 @@ use Rattle.life_check.proofs.Standards.{fits_flow}
 use Rattle.life_check.proofs.chains.Starts.{rests_of, fits_resting, rests_between}
 
 -- what the end leaves of one instance, seen from there
-same_end : (req : ℕ) (g : Common) (c : Connection) (k : ℕ) → configuration (request_over req (g, c)).0 (request_over req (g, c)).1 (resting_frame k) ≡ request_ended req (configuration g c (resting_frame k))
+same_end : (req : ℕ) (g : Common) (c : Connection) (k : ℕ)
+    → configuration (request_over req (g, c)).0 (request_over req (g, c)).1 (resting_frame k) ≡ request_ended req (configuration g c (resting_frame k))
 unfolding configuration run_down with_pools
 same_end req g c k = refl
 
@@ -46,7 +46,8 @@ module _ (chain : List Program) (certs : ℕ → Certificate) (modules : (k : �
       let ends = ended_fits p req r (certs k).ready (modules k) (sound_resting chain g c k inside was) (was.pools.declared f) is (fits_resting chain g c k (certs k).ready h) in
       let there = subst (λ (x : Configuration). FitsSome (Between p x) (request_end p (certs k).ready) x) (sym (same_end req g c k)) ends in
       rests_of chain new d k (certs k).idle
-      (fits_flow p NoneLives (greater_fits {lives = NoneLives}) (configuration new d f) (request_end p (certs k).ready) (certs k).idle (sound_resting chain new d k inside sound) (sound.pools.declared f)
+      (fits_flow p NoneLives (greater_fits {lives = NoneLives}) (configuration new d f) (request_end p (certs k).ready) (certs k).idle (sound_resting chain new d k inside sound)
+      (sound.pools.declared f)
       (typed k inside).0.idle (typed k inside).1.requests there)
 
   pub over_stands : (req : ℕ) (g : Common) (c : Connection) → c.stack ≡ [] → c.req ≡ Some req → ChainSound chain g c → ChainStands chain certs g c

@@ -15,7 +15,8 @@ use Rattle.run_model.specs.Pools.{registered}
 use Rattle.run_model.specs.Refusals.{if_broken}
 use Rattle.run_model.specs.Pieces.{data_behind_eos}
 use Rattle.run_model.specs.Chains.{Connection, Common, Linked, pools_of, IsChain}
-use Rattle.run_model.specs.Turns.{Opening, Found, Missing, Failing, is_busy, unless_refused, opened, begun, begins, file_taken, file_answer, opens_file, brought, brought_in, brings, ended, request_over, ends, steps}
+use Rattle.run_model.specs.Turns.{Opening, Found, Missing, Failing, is_busy, unless_refused, opened, begun, begins, file_taken, file_answer, opens_file, brought, brought_in, brings, ended}
+use Rattle.run_model.specs.Turns.{request_over, ends, steps}
 use Rattle.run_model.specs.Worlds as worlds
 use Rattle.run_model.specs.Worlds.{World, Answer, put_conn, answered, file_answered, step_answered, opens_if, opens, adds_file, closes, happens_on, happens}
 use Rattle.model_laws.specs.ChainSound.{ChainSound, WorldSound}
@@ -41,7 +42,8 @@ pub record EventsLand (chain : List Program) (certs : ℕ → Certificate) : Typ
   pub begun : (g : Common) (c : Connection) → c.stack ≡ [] → c.req ≡ None → ChainSound chain g c → ChainStands chain certs g c
       → ChainSound chain (begun chain (g, c)).0 (begun chain (g, c)).1 → ChainStands chain certs (begun chain (g, c)).0 (begun chain (g, c)).1
   pub brought : (pieces : List Piece) (req : ℕ) (g : Common) (c : Connection) → c.stack ≡ [] → c.req ≡ Some req → data_behind_eos pieces ≡ false → ChainSound chain g c → ChainStands chain certs g c
-      → ChainSound chain (brought_in chain pieces req (g, c)).0 (brought_in chain pieces req (g, c)).1 → ChainStands chain certs (brought_in chain pieces req (g, c)).0 (brought_in chain pieces req (g, c)).1
+      → ChainSound chain (brought_in chain pieces req (g, c)).0 (brought_in chain pieces req (g, c)).1
+      → ChainStands chain certs (brought_in chain pieces req (g, c)).0 (brought_in chain pieces req (g, c)).1
   pub over : (req : ℕ) (g : Common) (c : Connection) → c.stack ≡ [] → c.req ≡ Some req → ChainSound chain g c → ChainStands chain certs g c
       → ChainSound chain (request_over req (g, c)).0 (request_over req (g, c)).1 → ChainStands chain certs (request_over req (g, c)).0 (request_over req (g, c)).1
 
@@ -57,7 +59,8 @@ module _ (chain : List Program) (certs : ℕ → Certificate) where
 
   put_stands : (k : ℕ) (v : Linked) (w : World) → WorldStands chain certs w → StandsUnbroken chain certs v → WorldStands chain certs (put_conn k v w)
   put_stands k v w stands here j c at = elim (cases_eq j k) [
-    | inl same ↦ subst (λ (d : Connection). StandsUnbroken chain certs (v.0, d)) (same_some v.1 c (sym (upd_at w.conns k (Some v.1)) ∙ subst (λ (i : ℕ). upd w.conns k (Some v.1) i ≡ Some c) same at)) here
+    | inl same ↦ subst (λ (d : Connection). StandsUnbroken chain certs (v.0, d))
+        (same_some v.1 c (sym (upd_at w.conns k (Some v.1)) ∙ subst (λ (i : ℕ). upd w.conns k (Some v.1) i ≡ Some c) same at)) here
     | inr differ ↦ others_stand w.common v.0 c (stands j c (sym (upd_off w.conns k j (Some v.1) differ) ∙ at))
   ]
 
@@ -97,7 +100,8 @@ module _ (chain : List Program) (certs : ℕ → Certificate) where
       let ps = registered req (FileRef file) (pools_of w.common c) in (
         tt,
         put_stands k (file_taken req file bytes (w.common, c)) w stands (λ none.
-            stands_beside chain certs w.common (record w.common { file = file + 1 }) c ps.payloads c.labels (upd c.opened file (Some bytes)) (c.files ++ (file, length bytes) ∷ []) c.out c.count (here none)),
+            stands_beside chain certs w.common (record w.common { file = file + 1 }) c ps.payloads c.labels (upd c.opened file (Some bytes)) (c.files ++ (file, length bytes) ∷ []) c.out c.count
+            (here none)),
       )
 
   added_told : (memory : Bool) (w : World) → WorldStands chain certs w → Told chain certs (adds_file memory w)
@@ -151,7 +155,8 @@ module _ (chain : List Program) (certs : ℕ → Certificate) where
         let b = none_if (is_busy c.stack) refusal.Busy _ (none_first (if_broken c.broken) _ none) in
         over_stands c.req w.common c refl (not_busy c.stack b.0) was (here (not_broken c.broken _ none)) new)
 
-    opens_file_told : (k : ℕ) (c : Connection) (w : World) → StandsUnbroken chain certs (w.common, c) → WorldStands chain certs w → Told chain certs (file_answered k w (opens_file memory told.opening (w.common, c)))
+    opens_file_told : (k : ℕ) (c : Connection) (w : World) → StandsUnbroken chain certs (w.common, c) → WorldStands chain certs w
+        → Told chain certs (file_answered k w (opens_file memory told.opening (w.common, c)))
     unfolding opens_file
     opens_file_told k c w here stands = file_told k w c _ c.req told.opening stands here
 
@@ -181,14 +186,16 @@ module _ (chain : List Program) (certs : ℕ → Certificate) where
     there_told event.Close k c w at was stands sound = closed_told memory k c w stands
 
     -- one of a connection that is not
-    nowhere_told : (e : Event) (k : ℕ) (w : World) → WorldStands chain certs w → WorldSound chain (happens_on memory budget chain told e k None w).1 → Told chain certs (happens_on memory budget chain told e k None w)
+    nowhere_told : (e : Event) (k : ℕ) (w : World) → WorldStands chain certs w → WorldSound chain (happens_on memory budget chain told e k None w).1
+        → Told chain certs (happens_on memory budget chain told e k None w)
     unfolding happens_on
     nowhere_told event.Open k w stands sound = opens_told w stands sound
     nowhere_told (event.AddFile name bytes) k w stands sound = added_told memory w stands
     nowhere_told event.TellPools k w stands sound = (tt, stands)
     nowhere_told e k w stands sound = (tt, stands)
 
-    pub happens_told : (e : Event) (k : ℕ) (w : World) → WorldSound chain w → WorldStands chain certs w → WorldSound chain (happens memory budget chain told k e w).1 → Told chain certs (happens memory budget chain told k e w)
+    pub happens_told : (e : Event) (k : ℕ) (w : World) → WorldSound chain w → WorldStands chain certs w → WorldSound chain (happens memory budget chain told k e w).1
+        → Told chain certs (happens memory budget chain told k e w)
     happens_told e k w was stands sound = by_conn (w.conns k) refl sound where
       by_conn : (o : Option Connection) → w.conns k ≡ o → WorldSound chain (happens_on memory budget chain told e k o w).1 → Told chain certs (happens_on memory budget chain told e k o w)
       by_conn None at new = nowhere_told e k w stands new

@@ -59,13 +59,15 @@ module _ (C : Homes → Home → Type 0) (r : Configuration) (b : ℕ) (left : L
   mark_given k Passed e g = g
 
   brigade_given : (k : BrigadeKnown) (x : BrigadeVar) → x ≡ var.Live v → FitsBrigade C k x → FitsBrigade C k (with_items left x)
-  brigade_given k x is g = subst (λ (y : BrigadeVar). FitsBrigade C k (with_items left y)) (sym is) (let h : FitsBrigade C k (var.Live v) = subst (FitsBrigade C k) is g in (h.0, mark_given k v.mark passed h.1))
+  brigade_given k x is g =
+      subst (λ (y : BrigadeVar). FitsBrigade C k (with_items left y)) (sym is) (let h : FitsBrigade C k (var.Live v) = subst (FitsBrigade C k) is g in (h.0, mark_given k v.mark passed h.1))
 
   pub given_fits : (s : State) → Fits C s r → Fits C s given
   given_fits s f = record {
     sent = f.sent;
     pools = f.pools;
     facts = f.facts;
-    brigades = upd_second (λ (k : ℕ) (y : BrigadeVar). FitsBrigade C (s.brigades k) y) r.instance.brigades b (with_items left (r.instance.brigades b)) (brigade_given (s.brigades b) (r.instance.brigades b) at (f.brigades b)) (λ k ne. f.brigades k);
+    brigades = upd_second (λ (k : ℕ) (y : BrigadeVar). FitsBrigade C (s.brigades k) y) r.instance.brigades b (with_items left (r.instance.brigades b))
+        (brigade_given (s.brigades b) (r.instance.brigades b) at (f.brigades b)) (λ k ne. f.brigades k);
     cursors = λ c. cursor_given (s.cursors c) (r.call.cursors c) (f.cursors c);
   }

@@ -134,7 +134,8 @@ module _ (chain : List Program) (certs : ℕ → Certificate) (g : Common) (c : 
     abbrev begun : Instance → Configuration
     begun i = record { instance = i; call = fresh_call g.next; shared = shared_of after.0 after.1; pc = callee.pc; out = c.out }
 
-    incoming_fits : FitsBrigade (Covers (module_at chain (f.of + 1)) (pool_view (begun (set_in incoming (c.instances (f.of + 1))))) (Lives after.1 callee (f ∷ rest))) (holds NoLateData only_call) incoming
+    incoming_fits : FitsBrigade (Covers (module_at chain (f.of + 1)) (pool_view (begun (set_in incoming (c.instances (f.of + 1))))) (Lives after.1 callee (f ∷ rest)))
+        (holds NoLateData only_call) incoming
     unfolding configuration
     incoming_fits =
         let p = module_at chain f.of in
@@ -171,7 +172,8 @@ module _ (chain : List Program) (certs : ℕ → Certificate) (g : Common) (c : 
         let m = certs (f.of + 1) in
         let shapes = split3 (fits_between q m.idle) (fits_between q m.ready) (fits_lines q m) typed.shape in
         runs_of chain certs after.0 after.1 callee (f ∷ rest) (m.at callee.pc) refl
-        (fits_flow q (Lives after.1 callee (f ∷ rest)) (greater_fits {lives = Lives after.1 callee (f ∷ rest)}) (configuration after.0 after.1 callee) (main_from m.ready) (m.at callee.pc) sounds (sound.pools.declared callee) (bounded.at callee.pc) typed.serves
+        (fits_flow q (Lives after.1 callee (f ∷ rest)) (greater_fits {lives = Lives after.1 callee (f ∷ rest)}) (configuration after.0 after.1 callee) (main_from m.ready) (m.at callee.pc) sounds
+        (sound.pools.declared callee) (bounded.at callee.pc) typed.serves
         (main_runs m.ready bounded.ready shapes.1 rests))
 
     -- The others.

@@ -48,7 +48,8 @@ covers_more p v old new more h (home.Pool n) c = (c.0, why c.1) where
   why (ByCall call alive) = ByCall call (more (home.Pool n) alive)
 covers_more p v old new more h home.Ended c = c
 
-some_more : (p : Program) (old new : Home → Type 0) → ((x : Home) → old x → new x) → (r : Configuration) (e : Option State) → FitsSome (Covers p (pool_view r) old) e r → FitsSome (Covers p (pool_view r) new) e r
+some_more : (p : Program) (old new : Home → Type 0) → ((x : Home) → old x → new x) → (r : Configuration) (e : Option State) → FitsSome (Covers p (pool_view r) old) e r
+    → FitsSome (Covers p (pool_view r) new) e r
 some_more p old new more r None f = absurd f
 some_more p old new more r (Some s) f =
     let wider = covers_more p (pool_view r) old new more in
@@ -140,7 +141,8 @@ module _ (chain : List Program) (certs : ℕ → Certificate) (g : Common) (c : 
       → FitsSome (Covers (module_at chain f.of) (pool_view seen) (Lives left_in_place.1 onward waiting)) e seen
   moved e fit =
       some_more (module_at chain f.of) (Lives c f rest) (Lives left_in_place.1 onward waiting)
-      (lives_left chain certs g c f rest (next_of chain f) stepped.state onward out proper sound.pools touches same_conn same_req f onward rest f.of same_name (omega arith) (nested_below f rest (nested_top chain certs g c f rest sound on_top)))
+      (lives_left chain certs g c f rest (next_of chain f) stepped.state onward out proper sound.pools touches same_conn same_req f onward rest f.of same_name (omega arith)
+      (nested_below f rest (nested_top chain certs g c f rest sound on_top)))
       seen e
       (subst (λ (x : Configuration). FitsSome (Covers (module_at chain f.of) (pool_view x) (Lives c f rest)) e x) (sym seen_is)
       (fits_aside (module_at chain f.of) (Lives c f rest) onward.pc out (files_of left_in_place.0 left_in_place.1) e stepped.state fit))
@@ -151,7 +153,8 @@ module _ (chain : List Program) (certs : ℕ → Certificate) (g : Common) (c : 
   unfolding put_back
   flowed e new flow fit =
       fits_flow (module_at chain f.of) (Lives left_in_place.1 onward waiting) (greater_fits {lives = Lives left_in_place.1 onward waiting}) seen e ((certs f.of).at onward.pc)
-      (sound_top chain left_in_place.0 left_in_place.1 onward waiting refl new) (new.pools.declared onward) ((typed f.of (placed_top chain certs g c f rest sound on_top).of).0.at onward.pc) flow (moved e fit)
+      (sound_top chain left_in_place.0 left_in_place.1 onward waiting refl new) (new.pools.declared onward) ((typed f.of (placed_top chain certs g c f rest sound on_top).of).0.at onward.pc) flow
+      (moved e fit)
 
   -- the instruction's edges
   abbrev led : Edges
@@ -191,7 +194,8 @@ module _ (chain : List Program) (certs : ℕ → Certificate) (g : Common) (c : 
   in_place_stands new = record {
     stack = (
       top_runs new,
-      waits_left chain certs g c f rest (next_of chain f) stepped.state onward out proper sound.pools touches same_conn same_req rest f.of (omega arith) (nested_below f rest (nested_top chain certs g c f rest sound on_top)) (waits_top chain certs g c f rest stands on_top),
+      waits_left chain certs g c f rest (next_of chain f) stepped.state onward out proper sound.pools touches same_conn same_req rest f.of (omega arith)
+          (nested_below f rest (nested_top chain certs g c f rest sound on_top)) (waits_top chain certs g c f rest stands on_top),
     );
     rests = rests_there;
   }

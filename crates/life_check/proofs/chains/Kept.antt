@@ -87,7 +87,8 @@ covers_lives p v w old new own conn req pools more h home.Ended c = c
 pub refits : (C D : Homes → Home → Type 0) → ((h : Homes) (x : Home) → C h x → D h x) → (i : Instance) (k : Call) (old new : Shared) (pc to : ℕ) (out put : Out) → new.pools ≡ old.pools → (s : State)
     → Fits C s (record { instance = i; call = k; shared = old; pc = pc; out = out }) → Fits D s (record { instance = i; call = k; shared = new; pc = to; out = put })
 refits C D more i k old new pc to out put pools s f =
-    fits_beside C D more (record { instance = i; call = k; shared = old; pc = pc; out = out }) (record { instance = i; call = k; shared = new; pc = to; out = put }) refl (λ b usable. refl) s s.pools s.brigades refl refl
+    fits_beside C D more (record { instance = i; call = k; shared = old; pc = pc; out = out }) (record { instance = i; call = k; shared = new; pc = to; out = put }) refl
+    (λ b usable. refl) s s.pools s.brigades refl refl
     (λ q. subst (λ (ps : Pools Payload). FitsPool ps (s.pools q) (i.pools q)) (sym pools) (f.pools q)) (λ b. brigade_more C D more (s.brigades b) (i.brigades b) (f.brigades b)) f
 
 pub calls_kept : (f : NamedBucket → NamedBucket) (rest : List Frame) (n : ℕ) → IsCallIn rest n → IsCallIn (map (touched_frame f) rest) n
@@ -97,13 +98,15 @@ calls_kept f (w ∷ rest) n (inl here) = inl here
 calls_kept f (w ∷ rest) n (inr there) = inr (calls_kept f rest n there)
 
 -- what lives where no instance names a pool more or less
-named_kept : (old new : Connection) → ((k : ℕ) → (new.instances k).pools ≡ (old.instances k).pools) → (f : NamedBucket → NamedBucket) (rest : List Frame) (n : ℕ) → IsNamedIn old rest n → IsNamedIn new (map (touched_frame f) rest) n
+named_kept : (old new : Connection) → ((k : ℕ) → (new.instances k).pools ≡ (old.instances k).pools) → (f : NamedBucket → NamedBucket) (rest : List Frame) (n : ℕ) → IsNamedIn old rest n
+    → IsNamedIn new (map (touched_frame f) rest) n
 unfolding IsNamedIn
 named_kept old new own f [] n h = absurd h
 named_kept old new own f (w ∷ rest) n (inl here) = inl (here.0, ap (λ (pools : ℕ → PoolVar). pools here.0) (own w.of) ∙ here.1)
 named_kept old new own f (w ∷ rest) n (inr there) = inr (named_kept old new own f rest n there)
 
-pub lives_same : (old new : Connection) → new.req ≡ old.req → ((k : ℕ) → (new.instances k).pools ≡ (old.instances k).pools) → (w : Frame) (rest : List Frame) (x : Home) → Lives old w rest x → Lives new w rest x
+pub lives_same : (old new : Connection) → new.req ≡ old.req → ((k : ℕ) → (new.instances k).pools ≡ (old.instances k).pools) → (w : Frame) (rest : List Frame) (x : Home) → Lives old w rest x
+    → Lives new w rest x
 lives_same old new req own w rest home.Free l = l
 lives_same old new req own w rest (home.Call n) l = l
 lives_same old new req own w rest (home.Pool n) (inl begun) = inl (req ∙ begun)
@@ -151,7 +154,8 @@ module _ (chain : List Program) (certs : ℕ → Certificate) (g : Common) (c : 
   pub frame_kept : (w : Frame) (to : ℕ) (rest : List Frame) (s : State) → IsBeside f (c.instances w.of) (instances w.of) → Keeps f (Lives c w rest)
       → FitsFrame chain g c s w rest → FitsFrame chain after.0 after.1 s (record (touched_frame f w) { pc = to }) (map (touched_frame f) rest)
   frame_kept w to rest s beside keeps fits =
-      seen_kept (module_at chain w.of) w.of w.call w.pc to (Lives c w rest) (Lives after.1 (record (touched_frame f w) { pc = to }) (map (touched_frame f) rest)) s beside keeps (lives_kept w to rest) fits
+      seen_kept (module_at chain w.of) w.of w.call w.pc to (Lives c w rest) (Lives after.1 (record (touched_frame f w) { pc = to }) (map (touched_frame f) rest)) s beside keeps
+      (lives_kept w to rest) fits
 
   wait_kept : (w : Frame) (rest : List Frame) → IsBeside f (c.instances w.of) (instances w.of) → Keeps f (Lives c w rest)
       → WaitingFits chain certs g c w rest → WaitingFits chain certs after.0 after.1 (touched_frame f w) (map (touched_frame f) rest)

@@ -125,7 +125,8 @@ module _ (chain : List Program) (certs : ℕ → Certificate) (g : Common) (c : 
     home_left hs (home.Call n) e = (e.0, more (home.Call n) e.1)
     home_left hs (home.Pool n) e =
         let off = unhit hs n e.1 in
-        subst (λ (b : Bool). Covers (module_at chain w.of) (pool_view new_seen) new hs (cond b home.Ended (home.Pool n))) (sym off) (live_left n ((h.sound w).formed.named n e.0) off ∙ e.0, why_left hs n e.1)
+        subst (λ (b : Bool). Covers (module_at chain w.of) (pool_view new_seen) new hs (cond b home.Ended (home.Pool n))) (sym off)
+        (live_left n ((h.sound w).formed.named n e.0) off ∙ e.0, why_left hs n e.1)
     home_left hs home.Ended e = e
 
     pool_left : (q : ℕ) (k : PoolState) → FitsPool old_seen.shared.pools k (old_seen.instance.pools q) → FitsPool new_seen.shared.pools k (new_seen.instance.pools q)
@@ -161,7 +162,8 @@ module _ (chain : List Program) (certs : ℕ → Certificate) (g : Common) (c : 
   named_left (w ∷ more) top n lt nested (inr there) = inr (named_left more w.of n (omega (arith, (nested w more refl).0)) (nested_below w more ((nested w more refl).1)) there)
 
   -- w: a call, which is then v, under the same name
-  pub lives_left : (w v : Frame) (more : List Frame) (top : ℕ) → v.call.name ≡ w.call.name → top < f.of + 1 → WaitBelow top more → (x : Home) → Lives c w more x → Lives after.1 v (map (touched_frame bucket) more) x
+  pub lives_left : (w v : Frame) (more : List Frame) (top : ℕ) → v.call.name ≡ w.call.name → top < f.of + 1 → WaitBelow top more → (x : Home) → Lives c w more x
+      → Lives after.1 v (map (touched_frame bucket) more) x
   unfolding IsCallIn put_back
   lives_left w v more top named lt nested home.Free e = e
   lives_left w v more top named lt nested (home.Call n) (inl this) = inl (this ∙ sym named)
@@ -172,7 +174,8 @@ module _ (chain : List Program) (certs : ℕ → Certificate) (g : Common) (c : 
 
   -- The calls that wait.
 
-  wait_left : (w : Frame) (more : List Frame) → w.of < f.of → WaitBelow w.of more → WaitingFits chain certs g c w more → WaitingFits chain certs after.0 after.1 (touched_frame bucket w) (map (touched_frame bucket) more)
+  wait_left : (w : Frame) (more : List Frame) → w.of < f.of → WaitBelow w.of more → WaitingFits chain certs g c w more
+      → WaitingFits chain certs after.0 after.1 (touched_frame bucket w) (map (touched_frame bucket) more)
   wait_left w more lt nested e = record {
     passes = e.passes;
     to = e.to;

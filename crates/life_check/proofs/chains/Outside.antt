@@ -23,7 +23,8 @@ nested_below f rest nested w more e = subst (IsNested f) e nested
 
 module _ (chain : List Program) (g : Common) (c : Connection) (proper : (k : ℕ) → IsModule (module_at chain k)) (h : ChainPools chain g c) where
   -- no pool of an instance that waits stands under one of f's
-  pub spared_in : (f : Frame) (q n : ℕ) → (c.instances f.of).pools q ≡ poolvar.Made n → (rest : List Frame) (top m : ℕ) → top < f.of + 1 → WaitBelow top rest → IsNamedIn c rest m → is_under (pools_of g c) n m ≡ false
+  pub spared_in : (f : Frame) (q n : ℕ) → (c.instances f.of).pools q ≡ poolvar.Made n → (rest : List Frame) (top m : ℕ) → top < f.of + 1 → WaitBelow top rest → IsNamedIn c rest m
+      → is_under (pools_of g c) n m ≡ false
   unfolding IsNamedIn
   spared_in f q n at [] top m lt nested named = absurd named
   spared_in f q n at (w ∷ rest) top m lt nested (inl here) =
@@ -36,7 +37,8 @@ module _ (chain : List Program) (g : Common) (c : Connection) (proper : (k : ℕ
   stays_apart f rest q n m nested at (inr named) = spared_in f q n at rest f.of m (omega arith) (nested_below f rest nested) named
 
   -- and the other way: what a waiting instance names is above nothing of f's
-  over_in : (f : Frame) (rest : List Frame) (top : ℕ) (k : PoolRef) (target m : ℕ) → top < f.of + 1 → WaitBelow top rest → pool_named (configuration g c f) k ≡ Some target → IsNamedIn c rest m → is_under (pools_of g c) m target ≡ false
+  over_in : (f : Frame) (rest : List Frame) (top : ℕ) (k : PoolRef) (target m : ℕ) → top < f.of + 1 → WaitBelow top rest → pool_named (configuration g c f) k ≡ Some target → IsNamedIn c rest m
+      → is_under (pools_of g c) m target ≡ false
   unfolding IsNamedIn
   over_in f [] top k target m lt nested e named = absurd named
   over_in f (w ∷ rest) top k target m lt nested e (inl here) = under_no_other chain g c proper h w f here.0 m (λ same. absurd (omega (arith, same, (nested w rest refl).0))) here.1 k target e
@@ -49,6 +51,7 @@ module _ (chain : List Program) (g : Common) (c : Connection) (proper : (k : ℕ
     over = λ k target m e lives under. by_lives k target m e under lives;
     this = inl refl;
   } where
-    by_lives : (k : PoolRef) (target m : ℕ) → pool_named (configuration g c f) k ≡ Some target → is_under (pools_of g c) m target ≡ true → Lives c f rest (home.Pool m) → (c.req ≡ Some m) ⊎ (m ≡ c.conn)
+    by_lives : (k : PoolRef) (target m : ℕ) → pool_named (configuration g c f) k ≡ Some target → is_under (pools_of g c) m target ≡ true → Lives c f rest (home.Pool m)
+        → (c.req ≡ Some m) ⊎ (m ≡ c.conn)
     by_lives k target m e under (inl begun) = inl begun
     by_lives k target m e under (inr named) = absurd (let both : true ≡ false = sym under ∙ over_in f rest f.of k target m (omega arith) (nested_below f rest nested) e named in cc)

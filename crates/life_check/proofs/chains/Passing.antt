@@ -31,7 +31,8 @@ pub record Through (v : PoolView) (old new : Home → Type 0) : Type 0 where
   pub more : (x : Home) → old x → new x
   pub named : (k : PoolRef) (n : ℕ) → is_clearable k ≡ true → named_at v k ≡ Some n → new (home.Pool n)
 
-pool_handed : (p callee : Program) (v w : PoolView) (old new : Home → Type 0) (h : Homes) (n : ℕ) → w.conn ≡ v.conn → Through v old new → h.dead ≡ false → CoversPool p v old h n → CoversPool callee w new only_call n
+pool_handed : (p callee : Program) (v w : PoolView) (old new : Home → Type 0) (h : Homes) (n : ℕ) → w.conn ≡ v.conn → Through v old new → h.dead ≡ false → CoversPool p v old h n
+    → CoversPool callee w new only_call n
 pool_handed p callee v w old new h n conn t dead (ByConnection e) = ByConnection (e ∙ sym conn)
 pool_handed p callee v w old new h n conn t dead (ByMember k d kc dc e at under) = ByCall refl (t.named k n kc e)
 pool_handed p callee v w old new h n conn t dead (ByDead k kc e is) = ByCall refl (t.named k n kc e)

@@ -97,14 +97,16 @@ module _ (chain : List Program) (certs : ℕ → Certificate) (g : Common) (c : 
         let m = certs w.of in
         let lives = Lives after.1 going (map (touched_frame ends) rest) in
         runs_of chain certs after.0 after.1 going (map (touched_frame ends) rest) (m.at to) refl
-        (fits_flow (module_at chain w.of) lives (greater_fits {lives = lives}) (configuration after.0 after.1 going) (Some h.state) (m.at to) sounds (sound.pools.declared going) (bounded.at to) flow (going_fits h is))
+        (fits_flow (module_at chain w.of) lives (greater_fits {lives = lives}) (configuration after.0 after.1 going) (Some h.state) (m.at to) sounds (sound.pools.declared going)
+        (bounded.at to) flow (going_fits h is))
 
     -- The others.
 
     others_wait : AllWait chain certs g c rest → AllWait chain certs after.0 after.1 (map (touched_frame ends) rest)
     unfolding IsNested IsCallIn
     others_wait wait =
-        waits_kept chain certs g c g.next instances (going ∷ map (touched_frame ends) rest) c.queue ends (returned_mild f.call.name) own (λ fs. IsCallIn fs f.call.name → ⊥) (λ v fs away h. away (inr h)) keeps w.of
+        waits_kept chain certs g c g.next instances (going ∷ map (touched_frame ends) rest) c.queue ends (returned_mild f.call.name) own (λ fs. IsCallIn fs f.call.name → ⊥)
+        (λ v fs away h. away (inr h)) keeps w.of
         (λ k lt. returned_beside chain certs g c f (instances k) k (there k (λ e. absurd (omega (arith, e))) (λ e. absurd (omega (arith, e, above))))) w rest (omega arith) nested.1
         (none_called f.call.name rest (All-tail (λ v. v.call.name ≢ f.call.name) w rest apart)) wait
 
@@ -116,7 +118,8 @@ module _ (chain : List Program) (certs : ℕ → Certificate) (g : Common) (c : 
 
     pub resumed_stands : AllBounded (certs f.of) → AllBounded (certs w.of) → IsFramePlaced chain c.req f → IsRising f.of c.queue → (t : Status) (s : State)
         → MeetsNeeds (Lives c f (w ∷ rest)) (module_at chain f.of) (instr.Ret t) (configuration g c f) s → is_below (at_return s) (left_by (module_at chain f.of) (certs f.of) f.pc) ≡ true
-        → ChainSound chain after.0 after.1 → Sound (configuration after.0 after.1 going) → Sound (configuration after.0 after.1 (resting_frame f.of)) → ChainStands chain certs g c → c.stack ≡ f ∷ (w ∷ rest)
+        → ChainSound chain after.0 after.1 → Sound (configuration after.0 after.1 going) → Sound (configuration after.0 after.1 (resting_frame f.of)) → ChainStands chain certs g c
+        → c.stack ≡ f ∷ (w ∷ rest)
         → (h : WaitingFits chain certs g c w rest) → h.passes ≡ b → flows (Some h.state) ((certs w.of).at to) ≡ true → AllWait chain certs g c rest → ChainStands chain certs after.0 after.1
     resumed_stands bounded waiting placed rising t s ready below sound sounds left_sounds stands top h is flow wait =
         let here = upd_off before_it w.of f.of (given_back b left (before_it w.of)) (λ e. absurd (omega (arith, e, above))) ∙ returned_here chain certs g c f in

@@ -80,7 +80,8 @@ module _ (chain : List Program) (certs : ℕ → Certificate) (g : Common) (c : 
     after = turned g c next instances stack queue
 
     pub other_rests : (k : ℕ) (o : Option State) → instances k ≡ touched_instance (returned_var f.call.name) (c.instances k) → RestsIn chain g c k o → RestsIn chain after.0 after.1 k o
-    other_rests k o is rests = rests_kept chain certs g c next instances stack queue (returned_bucket f.call.name) (returned_mild f.call.name) own k o (returned_beside (instances k) k is) none_returned rests
+    other_rests k o is rests =
+        rests_kept chain certs g c next instances stack queue (returned_bucket f.call.name) (returned_mild f.call.name) own k o (returned_beside (instances k) k is) none_returned rests
 
     -- the instance of the call that ended
     module _ (lives : Home → Type 0) (t : Status) (s : State) (ready : MeetsNeeds lives (module_at chain f.of) (instr.Ret t) (configuration g c f) s) (here : instances f.of ≡ left_behind) where
@@ -91,7 +92,8 @@ module _ (chain : List Program) (certs : ℕ → Certificate) (g : Common) (c : 
           let in_place : Instance → Configuration = λ i. record { instance = i; call = fresh_call 0; shared = shared_of after.0 after.1; pc = 0; out = c.out } in
           let old = do_return (configuration g c f) in
           subst (λ (i : Instance). Fits (Between p (in_place i)) (at_return s) (in_place i)) (sym here)
-          (refits (Between p old) (Between p (in_place left_behind)) (λ h x covered. covered) left_behind (fresh_call 0) (shared_of g c) (shared_of after.0 after.1) f.pc 0 c.out c.out refl (at_return s)
+          (refits (Between p old) (Between p (in_place left_behind)) (λ h x covered. covered) left_behind (fresh_call 0) (shared_of g c) (shared_of after.0 after.1) f.pc 0 c.out c.out refl
+          (at_return s)
           (law_ret t p (record { answer = Success; given = None }) (configuration g c f) s ready))
 
       left_rests_in : AllBounded (certs f.of) → IsFramePlaced chain c.req f → is_below (at_return s) (left_by (module_at chain f.of) (certs f.of) f.pc) ≡ true
@@ -101,7 +103,8 @@ module _ (chain : List Program) (certs : ℕ → Certificate) (g : Common) (c : 
           let m = certs f.of in
           let r = configuration after.0 after.1 (resting_frame f.of) in
           let under = subst (λ (o : Option State). is_below (at_return s) o ≡ true) (left_rests p m f.pc c.req placed.opening placed.serving ∙ resting_between m c.req) below in
-          rests_of (between m c.req) (fits_under p NoneLives (greater_fits {lives = NoneLives}) r (at_return s) (between m c.req) sounds (sound.pools.declared (resting_frame f.of)) (between_bounded m c.req bounded) under left_fits) where
+          rests_of (between m c.req) (fits_under p NoneLives (greater_fits {lives = NoneLives}) r (at_return s) (between m c.req) sounds (sound.pools.declared (resting_frame f.of))
+          (between_bounded m c.req bounded) under left_fits) where
             rests_of : (o : Option State) → (let r = configuration after.0 after.1 (resting_frame f.of) in FitsSome (Between (module_at chain f.of) r) o r) → RestsIn chain after.0 after.1 f.of o
             rests_of None h = h
             rests_of (Some t) h = h
@@ -115,7 +118,8 @@ module _ (chain : List Program) (certs : ℕ → Certificate) (g : Common) (c : 
           → (j : ℕ) → j < length chain → is_on j stack ≡ false → RestsIn chain after.0 after.1 j (known_of chain certs after.1 j)
       all_rest bounded placed below sound sounds stands there off same gone j lt rests = elim (cases_eq j f.of) [
         | inl e ↦ subst (λ (i : ℕ). RestsIn chain after.0 after.1 i (known_of chain certs after.1 i)) (sym e)
-            (subst (λ (b : Bool). RestsIn chain after.0 after.1 f.of (cond b (before (module_at chain f.of) (certs f.of) c.req) (between (certs f.of) c.req))) (sym gone) (left_rests_in bounded placed below sound sounds))
+            (subst (λ (b : Bool). RestsIn chain after.0 after.1 f.of (cond b (before (module_at chain f.of) (certs f.of) c.req) (between (certs f.of) c.req))) (sym gone)
+            (left_rests_in bounded placed below sound sounds))
         | inr d ↦ subst (λ (b : Bool). RestsIn chain after.0 after.1 j (cond b (before (module_at chain j) (certs j) c.req) (between (certs j) c.req))) (same j d rests)
             (other_rests j (known_of chain certs c j) (there j d rests) (stands.rests j lt (off j d rests)))
       ]

@@ -121,7 +121,8 @@ module _ (C D : Homes → Home → Type 0) (f : NamedBucket → NamedBucket) (r 
   }
 
 -- A return of another call, which does not live through this one.
-pub covers_returned : (p : Program) (v : PoolView) (lives : Home → Type 0) (call : ℕ) → (lives (home.Call call) → ⊥) → (h : Homes) (x : Home) → Covers p v lives h x → Covers p v lives h (end_call call x)
+pub covers_returned : (p : Program) (v : PoolView) (lives : Home → Type 0) (call : ℕ) → (lives (home.Call call) → ⊥) → (h : Homes) (x : Home) → Covers p v lives h x
+    → Covers p v lives h (end_call call x)
 covers_returned p v lives call not h home.Free c = tt
 covers_returned p v lives call not h (home.Call n) c = elim (cases_eq n call) [
   | inl same ↦ absurd (not (subst (λ (k : ℕ). lives (home.Call k)) same c.1))

@@ -1,5 +1,6 @@
 -- What stands where a connection is opened, where a request begins and where a brigade is brought.
-use Rattle.std.proofs.Common.{◌≡◌, ◌≢◌, ℕ, zero, suc, ◌+◌, ◌<◌, Bool, true, false, ◌||◌, not, ◌==◌, cond, List, [], ◌∷◌, ◌++◌, length, Option, Some, None, refl, inl, inr, sym, ◌∙◌, ap, subst, arith, eq-eqb}
+use Rattle.std.proofs.Common.{◌≡◌, ◌≢◌, ℕ, zero, suc, ◌+◌, ◌<◌, Bool, true, false, ◌||◌, not, ◌==◌, cond, List, [], ◌∷◌, ◌++◌, length, Option, Some, None, refl, inl, inr, sym, ◌∙◌, ap, subst, arith}
+use Rattle.std.proofs.Common.{eq-eqb}
 use Rattle.std.proofs.lemmas.Bool.{cases_eq}
 use Rattle.std.proofs.lemmas.List.Folds.{list_any-append}
 use Rattle.module_code.specs.declared.instr.PoolRef.{PoolRef}
@@ -106,8 +107,10 @@ lives_first c f home.Ended l = l
 
 module _ (chain : List Program) (certs : ℕ → Certificate) (some : 0 < length chain) (typed : AllTyped chain certs) where
   pub between_shape : (k : ℕ) → k < length chain → (req : Option ℕ) → fits_between (module_at chain k) (between (certs k) req) ≡ true
-  between_shape k inside None = (split3 (fits_between (module_at chain k) (certs k).idle) (fits_between (module_at chain k) (certs k).ready) (fits_lines (module_at chain k) (certs k)) (typed k inside).1.shape).0
-  between_shape k inside (Some n) = (split3 (fits_between (module_at chain k) (certs k).idle) (fits_between (module_at chain k) (certs k).ready) (fits_lines (module_at chain k) (certs k)) (typed k inside).1.shape).1
+  between_shape k inside None =
+      (split3 (fits_between (module_at chain k) (certs k).idle) (fits_between (module_at chain k) (certs k).ready) (fits_lines (module_at chain k) (certs k)) (typed k inside).1.shape).0
+  between_shape k inside (Some n) =
+      (split3 (fits_between (module_at chain k) (certs k).idle) (fits_between (module_at chain k) (certs k).ready) (fits_lines (module_at chain k) (certs k)) (typed k inside).1.shape).1
 
   pub between_bounded : (k : ℕ) → k < length chain → (req : Option ℕ) → IsBoundedSome (between (certs k) req)
   between_bounded k inside None = (typed k inside).0.idle
@@ -115,7 +118,8 @@ module _ (chain : List Program) (certs : ℕ → Certificate) (some : 0 < length
 
   -- A connection is opened.
 
-  fresh_fits : (C : Homes → Home → Type 0) (pools brigades : ℕ) (g : Common) (f : Frame) (name : ℕ) → f.call ≡ fresh_call name → Fits C (at_open pools brigades) (configuration (opened chain g).0 (opened chain g).1 f)
+  fresh_fits : (C : Homes → Home → Type 0) (pools brigades : ℕ) (g : Common) (f : Frame) (name : ℕ) → f.call ≡ fresh_call name
+      → Fits C (at_open pools brigades) (configuration (opened chain g).0 (opened chain g).1 f)
   unfolding opened configuration all_called
   fresh_fits C pools brigades g f name is = record {
     sent = λ e. e;
@@ -135,7 +139,8 @@ module _ (chain : List Program) (certs : ℕ → Certificate) (some : 0 < length
       record {
         stack = (
           runs_of chain certs new c f [] ((certs 0).at 0) refl
-              (fits_under p (Lives c f []) (greater_fits {lives = Lives c f []}) (configuration new c f) (at_open (length p.pools) (length p.brigades)) ((certs 0).at 0) (sound_top chain new c f [] refl sound) (sound.pools.declared f)
+              (fits_under p (Lives c f []) (greater_fits {lives = Lives c f []}) (configuration new c f) (at_open (length p.pools) (length p.brigades)) ((certs 0).at 0)
+              (sound_top chain new c f [] refl sound) (sound.pools.declared f)
               ((typed 0 some).0.at 0) (typed 0 some).1.opens (fresh_fits (Covers p (pool_view (configuration new c f)) (Lives c f [])) (length p.pools) (length p.brigades) g f g.next refl)),
           tt,
         );
@@ -162,8 +167,10 @@ module _ (chain : List Program) (certs : ℕ → Certificate) (some : 0 < length
   live_kept g c n lt = ap (λ (xs : List ℕ). not (is_empty xs)) (created_kept c.conn (pools_of g c) n lt)
 
   -- what is known between calls holds after it, in a call that begins or in none
-  begun_fits : (g : Common) (c : Connection) (lives : Home → Type 0) (k name pc : ℕ) (o : Option State) → IsBoundedSome o → fits_between (module_at chain k) o ≡ true → c.req ≡ None → ChainSound chain g c → RestsIn chain g c k o
-      → (let new = configuration (begun chain (g, c)).0 (begun chain (g, c)).1 (record { of = k; call = fresh_call name; pc = pc }) in FitsSome (Covers (module_at chain k) (pool_view new) lives) o new)
+  begun_fits : (g : Common) (c : Connection) (lives : Home → Type 0) (k name pc : ℕ) (o : Option State) → IsBoundedSome o → fits_between (module_at chain k) o ≡ true → c.req ≡ None
+      → ChainSound chain g c → RestsIn chain g c k o
+      → (let new = configuration (begun chain (g, c)).0 (begun chain (g, c)).1 (record { of = k; call = fresh_call name; pc = pc }) in
+      FitsSome (Covers (module_at chain k) (pool_view new) lives) o new)
   unfolding begun configuration all_called
   begun_fits g c lives k name pc None bounded shape none sound h = absurd h
   begun_fits g c lives k name pc (Some s) bounded shape none sound h =
@@ -186,9 +193,11 @@ module _ (chain : List Program) (certs : ℕ → Certificate) (some : 0 < length
       record {
         stack = (
           runs_of chain certs new d f [] ((certs 0).at p.init) refl
-              (fits_flow p (Lives d f []) (greater_fits {lives = Lives d f []}) (configuration new d f) (certs 0).idle ((certs 0).at p.init) (sound_top chain new d f [] refl sound) (sound.pools.declared f)
+              (fits_flow p (Lives d f []) (greater_fits {lives = Lives d f []}) (configuration new d f) (certs 0).idle ((certs 0).at p.init) (sound_top chain new d f [] refl sound)
+              (sound.pools.declared f)
               ((typed 0 some).0.at p.init) (typed 0 some).1.inits
-              (begun_fits g c (Lives d f []) 0 g.next p.init (certs 0).idle (between_bounded 0 some None) (between_shape 0 some None) none was (rests_between chain certs g c idle was stands 0 some None none))),
+              (begun_fits g c (Lives d f []) 0 g.next p.init (certs 0).idle (between_bounded 0 some None) (between_shape 0 some None) none was
+              (rests_between chain certs g c idle was stands 0 some None none))),
           tt,
         );
         rests = λ k inside off.
@@ -201,10 +210,12 @@ module _ (chain : List Program) (certs : ℕ → Certificate) (some : 0 < length
 
   -- A brigade is brought.
 
-  brought_fits : (pieces : List Piece) (req : ℕ) (g : Common) (c : Connection) (o : Option State) → IsBoundedSome o → fits_between (module_at chain 0) o ≡ true → c.req ≡ Some req → data_behind_eos pieces ≡ false
+  brought_fits : (pieces : List Piece) (req : ℕ) (g : Common) (c : Connection) (o : Option State) → IsBoundedSome o → fits_between (module_at chain 0) o ≡ true → c.req ≡ Some req
+      → data_behind_eos pieces ≡ false
       → ChainSound chain g c → RestsIn chain g c 0 o
       → (let f : Frame = record { of = 0; call = fresh_call g.next; pc = (module_at chain 0).main } in
-      let d = (brought_in chain pieces req (g, c)).1 in let new = configuration (brought_in chain pieces req (g, c)).0 d f in FitsSome (Covers (module_at chain 0) (pool_view new) (Lives d f [])) (main_from o) new)
+      let d = (brought_in chain pieces req (g, c)).1 in let new = configuration (brought_in chain pieces req (g, c)).0 d f in
+      FitsSome (Covers (module_at chain 0) (pool_view new) (Lives d f [])) (main_from o) new)
   unfolding configuration upd
   brought_fits pieces req g c None bounded shape is late was h = absurd h
   brought_fits pieces req g c (Some s) bounded shape is late was h =
@@ -216,9 +227,11 @@ module _ (chain : List Program) (certs : ℕ → Certificate) (some : 0 < length
       let n = g.next in
       let in_brigade : Brigade = record { name = n + 1; on = None; mark = Usable; items = named_from (bucket_of n req) (n + 2) pieces } in
       let live : is_live (pools_of g c) req ≡ true = path_live (pools_of g c) req req _ ((was.pools.sound (resting_frame 0)).req req is).0 in
-      let fits : FitsBrigade (InCall p new) (holds NoLateData only_call) (var.Live in_brigade) = (refl, (refl, buckets_as_pieces n req (n + 2) pieces ∙ late, pieces_covered p new req (n + 2) pieces is live)) in
+      let fits : FitsBrigade (InCall p new) (holds NoLateData only_call) (var.Live in_brigade) =
+      (refl, (refl, buckets_as_pieces n req (n + 2) pieces ∙ late, pieces_covered p new req (n + 2) pieces is live)) in
       main_begins p (Lives d f []) (var.Live in_brigade) s r n (n + 2 + length pieces) p.main (between_unset p (Some s) s bounded shape refl)
-      (brigade_more (InCall p new) (Covers p (pool_view new) (Lives d f [])) (covers_more p (pool_view new) (pool_view new) (LivesIn n c.req) (Lives d f []) refl (λ m l. l) (λ k m e. e) (lives_first d f)) (holds NoLateData only_call) (var.Live in_brigade) fits) h
+      (brigade_more (InCall p new) (Covers p (pool_view new) (Lives d f []))
+      (covers_more p (pool_view new) (pool_view new) (LivesIn n c.req) (Lives d f []) refl (λ m l. l) (λ k m e. e) (lives_first d f)) (holds NoLateData only_call) (var.Live in_brigade) fits) h
 
   brought_named : (pieces : List Piece) (req : ℕ) (g : Common) (c : Connection) (k : ℕ) (j : PoolRef) (n : ℕ) → named_at (pool_view (configuration g c (resting_frame k))) j ≡ Some n
       → named_at (pool_view (record (configuration (brought_in chain pieces req (g, c)).0 (brought_in chain pieces req (g, c)).1 (resting_frame k)) { instance = c.instances k })) j ≡ Some n
@@ -240,10 +253,13 @@ module _ (chain : List Program) (certs : ℕ → Certificate) (some : 0 < length
       let same : d.instances k ≡ c.instances k = upd_off c.instances 0 k (set_in _ (c.instances 0)) differ in
       subst (λ (i : Instance). (let x = record (configuration new d (resting_frame k)) { instance = i } in Fits (Between p x) s x)) (sym same)
       (let x = record (configuration new d (resting_frame k)) { instance = c.instances k } in
-      fits_among (Between p r) (Between p x) s r x.shared 0 x.out (covers_more p (pool_view r) (pool_view x) NoneLives NoneLives refl (λ n live. live) (brought_named pieces req g c k) (λ y l. l)) (λ q n made. refl) h)
+      fits_among (Between p r) (Between p x) s r x.shared 0 x.out (covers_more p (pool_view r) (pool_view x) NoneLives NoneLives refl (λ n live. live) (brought_named pieces req g c k) (λ y l. l))
+      (λ q n made. refl) h)
 
-  pub brought_stands : (pieces : List Piece) (req : ℕ) (g : Common) (c : Connection) → c.stack ≡ [] → c.req ≡ Some req → data_behind_eos pieces ≡ false → ChainSound chain g c → ChainStands chain certs g c
-      → ChainSound chain (brought_in chain pieces req (g, c)).0 (brought_in chain pieces req (g, c)).1 → ChainStands chain certs (brought_in chain pieces req (g, c)).0 (brought_in chain pieces req (g, c)).1
+  pub brought_stands : (pieces : List Piece) (req : ℕ) (g : Common) (c : Connection) → c.stack ≡ [] → c.req ≡ Some req → data_behind_eos pieces ≡ false → ChainSound chain g c
+      → ChainStands chain certs g c
+      → ChainSound chain (brought_in chain pieces req (g, c)).0 (brought_in chain pieces req (g, c)).1
+      → ChainStands chain certs (brought_in chain pieces req (g, c)).0 (brought_in chain pieces req (g, c)).1
   unfolding AllWait
   brought_stands pieces req g c idle is late was stands sound =
       let new = (brought_in chain pieces req (g, c)).0 in
@@ -253,9 +269,11 @@ module _ (chain : List Program) (certs : ℕ → Certificate) (some : 0 < length
       record {
         stack = (
           runs_of chain certs new d f [] ((certs 0).at p.main) refl
-              (fits_flow p (Lives d f []) (greater_fits {lives = Lives d f []}) (configuration new d f) (main_from (certs 0).ready) ((certs 0).at p.main) (sound_top chain new d f [] refl sound) (sound.pools.declared f)
+              (fits_flow p (Lives d f []) (greater_fits {lives = Lives d f []}) (configuration new d f) (main_from (certs 0).ready) ((certs 0).at p.main) (sound_top chain new d f [] refl sound)
+              (sound.pools.declared f)
               ((typed 0 some).0.at p.main) (typed 0 some).1.serves
-              (brought_fits pieces req g c (certs 0).ready (between_bounded 0 some (Some req)) (between_shape 0 some (Some req)) is late was (rests_between chain certs g c idle was stands 0 some (Some req) is))),
+              (brought_fits pieces req g c (certs 0).ready (between_bounded 0 some (Some req)) (between_shape 0 some (Some req)) is late was
+              (rests_between chain certs g c idle was stands 0 some (Some req) is))),
           tt,
         );
         rests = λ k inside off. brought_rests pieces req g c k (off_parts k f [] off).0 (known_of chain certs d k) (stands.rests k inside (ap (is_on k) idle));

@@ -13,7 +13,8 @@ use Rattle.life_check.proofs.chains.Turning.{TopLands}
 use Rattle.life_check.proofs.chains.Events.{WorldStands, EventsLand, happens_told}
 
 module _ (chain : List Program) (certs : ℕ → Certificate) (proper : IsChain chain) (top : TopLands chain certs) (events : EventsLand chain certs) (keeps : EventKeepsWorld) where
-  run_answers : (budget : ℕ) (old new : World) (es : List (ℕ × Event)) (answers : List Answer) → WorldSound chain old → WorldStands chain certs old → IsRun budget chain old es answers new → NoFaults answers
+  run_answers : (budget : ℕ) (old new : World) (es : List (ℕ × Event)) (answers : List Answer) → WorldSound chain old → WorldStands chain certs old → IsRun budget chain old es answers new
+      → NoFaults answers
   unfolding NoFaults IsRun
   run_answers budget old new [] [] sound stands run = tt
   run_answers budget old new [] (a ∷ answers) sound stands run = absurd run

@@ -58,12 +58,14 @@ module _ (chain : List Program) (certs : ℕ → Certificate) (g : Common) (c : 
   -- its instruction wants the request's pool only where there is one
   requested : IsModule (module_at chain f.of) → IsFramePlaced chain c.req f → wants_request (wants (module_at chain f.of) (next_of chain f)) ≡ true → is_some c.req ≡ true
   requested proper placed wanted = elim (cases_lt f.pc (module_at chain f.of).init) [
-    | inl lt ↦ absurd (no_request (module_at chain f.of) (next_of chain f) (proper.opening.inside f.pc (next_of chain f) (omega arith) lt (current_at (module_at chain f.of) f.pc placed.at)).allowed wanted)
+    | inl lt ↦ absurd (no_request (module_at chain f.of) (next_of chain f)
+        (proper.opening.inside f.pc (next_of chain f) (omega arith) lt (current_at (module_at chain f.of) f.pc placed.at)).allowed wanted)
     | inr le ↦ placed.serving le
   ]
 
   -- sounds: what the call sees is sound
-  pub top_met : ((k : ℕ) → IsModule (module_at chain k)) → AllTyped chain certs → ChainSound chain g c → Sound (configuration g c f) → ChainStands chain certs g c → c.stack ≡ f ∷ rest → Met chain certs g c f rest
+  pub top_met : ((k : ℕ) → IsModule (module_at chain k)) → AllTyped chain certs → ChainSound chain g c → Sound (configuration g c f) → ChainStands chain certs g c → c.stack ≡ f ∷ rest
+      → Met chain certs g c f rest
   unfolding configuration
   top_met proper typed sound sounds stands top =
       let p = module_at chain f.of in

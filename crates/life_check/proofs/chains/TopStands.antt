@@ -35,7 +35,8 @@ use Rattle.life_check.proofs.chains.TopStays.{is_in_place, top_stays}
 abbrev pub MayStand : List Program → (ℕ → Certificate) → Linked → Type 0
 MayStand chain certs w = ChainSound chain w.0 w.1 → ChainStands chain certs w.0 w.1
 
-module _ (chain : List Program) (reads : Reads) (certs : ℕ → Certificate) (g : Common) (c : Connection) (f : Frame) (rest : List Frame) (may : MayProceed chain g c f rest) (typed : AllTyped chain certs)
+module _ (chain : List Program) (reads : Reads) (certs : ℕ → Certificate) (g : Common) (c : Connection) (f : Frame) (rest : List Frame) (may : MayProceed chain g c f rest)
+    (typed : AllTyped chain certs)
     (sound : ChainSound chain g c) (stands : ChainStands chain certs g c) where
   proper : (k : ℕ) → IsModule (module_at chain k)
   proper = module_at_proper chain may.chained
@@ -83,9 +84,11 @@ module _ (chain : List Program) (reads : Reads) (certs : ℕ → Certificate) (g
 
     by_queue : (queue : List ℕ) → c.queue ≡ queue → MayStand chain certs (next_called chain t queue (put_back (instr.Ret t) f (do_return (configuration g c f)) [] [] (g, c))).1
     by_queue [] empty new =
-        ended_stands chain certs g c f t met.state returning (typed f.of placed.of).0 placed (leaves (instr.Ret t) is) stands top (sound.calls.later f rest may.on_top) new (sound_resting chain _ _ f.of placed.of new)
+        ended_stands chain certs g c f t met.state returning (typed f.of placed.of).0 placed (leaves (instr.Ret t) is) stands top (sound.calls.later f rest may.on_top) new
+        (sound_resting chain _ _ f.of placed.of new)
     by_queue (k ∷ ks) more new =
-        called_stands chain certs g c f t met.state returning (typed f.of placed.of).0 placed (leaves (instr.Ret t) is) stands top k ks more typed (subst (IsRising f.of) more (sound.calls.later f rest may.on_top)) new
+        called_stands chain certs g c f t met.state returning (typed f.of placed.of).0 placed (leaves (instr.Ret t) is) stands top k ks more typed
+        (subst (IsRising f.of) more (sound.calls.later f rest may.on_top)) new
         (sound_top chain _ _ _ [] refl new) (sound_resting chain _ _ f.of placed.of new)
 
   -- A call returns to the one that waits for it.
@@ -118,18 +121,22 @@ module _ (chain : List Program) (reads : Reads) (certs : ℕ → Certificate) (g
       named : AreNamed g.next (f ∷ (w ∷ more))
       named = subst (AreNamed g.next) top sound.calls.named
 
-      goes_on : (h : WaitingFits chain certs g c w more) → MayStand chain certs (gone_on t (instr.Pass h.passes h.to) w left (put_back (instr.Ret t) f (do_return (configuration g c f)) [] (w ∷ more) (g, c)))
+      goes_on : (h : WaitingFits chain certs g c w more)
+          → MayStand chain certs (gone_on t (instr.Pass h.passes h.to) w left (put_back (instr.Ret t) f (do_return (configuration g c f)) [] (w ∷ more) (g, c)))
       goes_on h new =
           resumed_stands chain certs g c f w more h.passes h.to left (after_pass t (instr.Pass h.passes h.to) w.pc) (nested_top chain certs g c f (w ∷ more) sound top) named.2
-          (typed f.of placed.of).0 (typed w.of below.of).0 placed (sound.calls.later f rest may.on_top) t met.state returning (leaves (instr.Ret t) is) new (sound_top chain _ _ _ _ refl new) (sound_resting chain _ _ f.of placed.of new)
+          (typed f.of placed.of).0 (typed w.of below.of).0 placed (sound.calls.later f rest may.on_top) t met.state returning (leaves (instr.Ret t) is) new (sound_top chain _ _ _ _ refl new)
+          (sound_resting chain _ _ f.of placed.of new)
           stands top h refl (flow h t) waiting.1
 
   return_turns : (t : Status) → next_of chain f ≡ instr.Ret t → (fs : List Frame) → rest ≡ fs → MayStand chain certs (after_top chain reads g c f rest)
   unfolding proceeds
   return_turns t is [] alone new =
-      subst (MayStand chain certs) (sym (ap (λ (i : Instr). (proceeds chain reads i f rest (g, c)).1) is ∙ ap (λ (fs : List Frame). (proceeds chain reads (instr.Ret t) f fs (g, c)).1) alone)) (last_stands t is alone) new
+      subst (MayStand chain certs) (sym (ap (λ (i : Instr). (proceeds chain reads i f rest (g, c)).1) is ∙ ap (λ (fs : List Frame). (proceeds chain reads (instr.Ret t) f fs (g, c)).1) alone))
+      (last_stands t is alone) new
   return_turns t is (w ∷ more) waits new =
-      subst (MayStand chain certs) (sym (ap (λ (i : Instr). (proceeds chain reads i f rest (g, c)).1) is ∙ ap (λ (fs : List Frame). (proceeds chain reads (instr.Ret t) f fs (g, c)).1) waits)) (waiting_stands t w more is waits) new
+      subst (MayStand chain certs) (sym (ap (λ (i : Instr). (proceeds chain reads i f rest (g, c)).1) is ∙ ap (λ (fs : List Frame). (proceeds chain reads (instr.Ret t) f fs (g, c)).1) waits))
+      (waiting_stands t w more is waits) new
 
   by_instruction : (i : Instr) → next_of chain f ≡ i → MayStand chain certs (after_top chain reads g c f rest)
   by_instruction (instr.Pass b l) is = pass_turns b l is (is_last chain f.of) refl
@@ -137,6 +144,7 @@ module _ (chain : List Program) (reads : Reads) (certs : ℕ → Certificate) (g
   by_instruction i is = top_stays chain reads certs g c f rest may typed sound stands (ap (is_in_place chain f) is)
 
 -- In a chain that stands, the call on top leaves what stands.
-pub top_stands : (chain : List Program) (reads : Reads) (certs : ℕ → Certificate) (g : Common) (c : Connection) (f : Frame) (rest : List Frame) → MayProceed chain g c f rest → AllTyped chain certs → ChainSound chain g c
+pub top_stands : (chain : List Program) (reads : Reads) (certs : ℕ → Certificate) (g : Common) (c : Connection) (f : Frame) (rest : List Frame) → MayProceed chain g c f rest → AllTyped chain certs
+    → ChainSound chain g c
     → ChainStands chain certs g c → MayStand chain certs (after_top chain reads g c f rest)
 top_stands chain reads certs g c f rest may typed sound stands = by_instruction chain reads certs g c f rest may typed sound stands (next_of chain f) refl

@@ -20,9 +20,11 @@ use Rattle.life_check.proofs.chains.InPlace.{in_place_stands}
 use Rattle.life_check.proofs.chains.Top.{next_of, top_faultless}
 
 -- In a chain that stands, the call on top has no fault.
-pub top_never_faults : (chain : List Program) (certs : ℕ → Certificate) (g : Common) (c : Connection) (f : Frame) (rest : List Frame) → IsChain chain → AllTyped chain certs → ChainSound chain g c → ChainStands chain certs g c
+pub top_never_faults : (chain : List Program) (certs : ℕ → Certificate) (g : Common) (c : Connection) (f : Frame) (rest : List Frame) → IsChain chain → AllTyped chain certs → ChainSound chain g c
+    → ChainStands chain certs g c
     → c.stack ≡ f ∷ rest → fault (module_at chain f.of) (configuration g c f) (next_of chain f) ≡ None
-top_never_faults chain certs g c f rest chained typed sound stands top = top_faultless chain certs g c f rest (module_at_proper chain chained) typed sound (sound_top chain g c f rest top sound) stands top
+top_never_faults chain certs g c f rest chained typed sound stands top =
+    top_faultless chain certs g c f rest (module_at_proper chain chained) typed sound (sound_top chain g c f rest top sound) stands top
 
 -- whether the stack stays as high as it is
 abbrev pub is_in_place : List Program → Frame → Instr → Bool
@@ -49,17 +51,21 @@ left_by chain reads i f rest (g, c) =
     let left = put_back i f o.state (record f { call = o.state.call; pc = led_to o.exit i f.pc } ∷ []) rest (g, c) in
     (left.0, record left.1 { out = put_by chain reads i f (g, c) })
 
-proceeds_so : (chain : List Program) (reads : Reads) (i : Instr) (f : Frame) (rest : List Frame) (g : Common) (c : Connection) → is_in_place chain f i ≡ true → (proceeds chain reads i f rest (g, c)).1 ≡ left_by chain reads i f rest (g, c)
+proceeds_so : (chain : List Program) (reads : Reads) (i : Instr) (f : Frame) (rest : List Frame) (g : Common) (c : Connection) → is_in_place chain f i ≡ true
+    → (proceeds chain reads i f rest (g, c)).1 ≡ left_by chain reads i f rest (g, c)
 unfolding proceeds delivered_by stepped_in put_back
 proceeds_so chain reads (instr.Pass b l) f rest g c here =
     ap (λ (last : Bool). cond last (delivered_by (module_at chain f.of) reads b (instr.Pass b l) f rest (g, c)) (passed_to (module_at chain (f.of + 1)) b f rest (g, c))) here
 proceeds_so chain reads (instr.Ret s) f rest g c here = absurd (cc)
 proceeds_so chain reads i f rest g c here = refl
 
-pub top_stays : (chain : List Program) (reads : Reads) (certs : ℕ → Certificate) (g : Common) (c : Connection) (f : Frame) (rest : List Frame) → MayProceed chain g c f rest → AllTyped chain certs → ChainSound chain g c → ChainStands chain certs g c
-    → is_in_place chain f (next_of chain f) ≡ true → ChainSound chain (after_top chain reads g c f rest).0 (after_top chain reads g c f rest).1 → ChainStands chain certs (after_top chain reads g c f rest).0 (after_top chain reads g c f rest).1
+pub top_stays : (chain : List Program) (reads : Reads) (certs : ℕ → Certificate) (g : Common) (c : Connection) (f : Frame) (rest : List Frame) → MayProceed chain g c f rest → AllTyped chain certs
+    → ChainSound chain g c → ChainStands chain certs g c
+    → is_in_place chain f (next_of chain f) ≡ true → ChainSound chain (after_top chain reads g c f rest).0 (after_top chain reads g c f rest).1
+    → ChainStands chain certs (after_top chain reads g c f rest).0 (after_top chain reads g c f rest).1
 top_stays chain reads certs g c f rest may typed sound stands here new =
     let so = proceeds_so chain reads (next_of chain f) f rest g c here in
     subst (λ (w : Linked). ChainStands chain certs w.0 w.1) (sym so)
-    (in_place_stands chain certs g c f rest may.chained typed sound stands may.on_top (given_to reads (next_of chain f) f c) (put_by chain reads (next_of chain f) f (g, c)) (no_return chain f (next_of chain f) here) may.names_last
+    (in_place_stands chain certs g c f rest may.chained typed sound stands may.on_top (given_to reads (next_of chain f) f c) (put_by chain reads (next_of chain f) f (g, c))
+    (no_return chain f (next_of chain f) here) may.names_last
     (subst (λ (w : Linked). ChainSound chain w.0 w.1) so new))

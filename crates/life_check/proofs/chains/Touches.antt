@@ -69,13 +69,16 @@ cleared_mapped reached var.Null off = refl
 cleared_mapped reached var.Gone off = refl
 cleared_mapped reached (var.Live v) off = ap (λ b. cond b var.Gone (var.Live (record v { items = map (cleared_bucket reached) v.items }))) off
 
-under_only : (q : ℕ) (r : Configuration) → ((n : ℕ) → cleared_by r q n ≡ false) ⊎ ((j : ℕ) × (n : ℕ) × (r.instance.pools j ≡ poolvar.Made n) × ((m : ℕ) → cleared_by r q m ≡ is_under r.shared.pools n m))
+under_only : (q : ℕ) (r : Configuration)
+    → ((n : ℕ) → cleared_by r q n ≡ false) ⊎ ((j : ℕ) × (n : ℕ) × (r.instance.pools j ≡ poolvar.Made n) × ((m : ℕ) → cleared_by r q m ≡ is_under r.shared.pools n m))
 under_only q r = by_name (pool_named r (pool.Own q)) refl where
-  by_name : (o : Option ℕ) → pool_named r (pool.Own q) ≡ o → ((n : ℕ) → cleared_by r q n ≡ false) ⊎ ((j : ℕ) × (n : ℕ) × (r.instance.pools j ≡ poolvar.Made n) × ((m : ℕ) → cleared_by r q m ≡ is_under r.shared.pools n m))
+  by_name : (o : Option ℕ) → pool_named r (pool.Own q) ≡ o
+      → ((n : ℕ) → cleared_by r q n ≡ false) ⊎ ((j : ℕ) × (n : ℕ) × (r.instance.pools j ≡ poolvar.Made n) × ((m : ℕ) → cleared_by r q m ≡ is_under r.shared.pools n m))
   by_name None e = inl (λ n. ap (λ (o : Option ℕ). is_under_named r.shared.pools o n) e)
   by_name (Some n) e = inr (q, n, own_named q n r e, λ m. ap (λ (o : Option ℕ). is_under_named r.shared.pools o m) e)
 
-clear_touches : (q : ℕ) (r s : Configuration) → ((n : ℕ) → cleared_by r q n ≡ false → s.shared.pools.path n ≡ r.shared.pools.path n) → Touches (cleared_var (cleared_by r q)) (cleared_bucket (cleared_by r q)) r s
+clear_touches : (q : ℕ) (r s : Configuration) → ((n : ℕ) → cleared_by r q n ≡ false → s.shared.pools.path n ≡ r.shared.pools.path n)
+    → Touches (cleared_var (cleared_by r q)) (cleared_bucket (cleared_by r q)) r s
 clear_touches q r s kept = record {
   reached = cleared_by r q;
   names = λ x. refl;
@@ -100,7 +103,8 @@ destroyed_kept (Some k) r n off = (destroyed_apart k r.shared.pools n off).0
 pub touches_of : (p : Program) (choice : Choice) (i : Instr) (r : Configuration) → MayExecute p r i → is_return i ≡ false → Touches (touched_var r i) (touched_bucket r i) r (step p choice i r).state
 unfolding set_pool with_pools
 touches_of p choice (instr.PCreate q) r may on =
-    nothing_touched r _ (made_under_named (λ x. (n : ℕ) → n < r.shared.pools.next → x.shared.pools.path n ≡ r.shared.pools.path n) p q r (λ n lt. refl) (λ parent e n lt. created_kept parent r.shared.pools n lt))
+    nothing_touched r _ (made_under_named (λ x. (n : ℕ) → n < r.shared.pools.next → x.shared.pools.path n ≡ r.shared.pools.path n) p q r (λ n lt. refl)
+    (λ parent e n lt. created_kept parent r.shared.pools n lt))
 touches_of p choice (instr.PClear q) r may on = clear_touches q r _ (cleared_kept (pool_named r (pool.Own q)) r)
 touches_of p choice (instr.PDestroy q) r may on = clear_touches q r _ (destroyed_kept (pool_named r (pool.Own q)) r)
 touches_of p choice (instr.Ret s) r may on = absurd (cc)

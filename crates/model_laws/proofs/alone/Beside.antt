@@ -104,7 +104,8 @@ becomes_proper l r x y b e = record {
   lives = home_becomes l r y.bucket.kind x.bucket.home y.bucket.home b.home (turns_keeps (λ (k : Kind). LivesAs k x.bucket.home) r x.bucket.kind y.bucket.kind (λ n h. h) b.kind e.lives);
 }
 
-module _ (p : Program) (l : Lasting) (r : Configuration) (change : NamedBucket → NamedBucket) (becomes : (x : NamedBucket) → Becomes l r x (change x)) (shared : Shared) (left : LeaveShared l r shared) (out : Out) (s : Sound r) (d : AsDeclared p r) where
+module _ (p : Program) (l : Lasting) (r : Configuration) (change : NamedBucket → NamedBucket) (becomes : (x : NamedBucket) → Becomes l r x (change x)) (shared : Shared)
+    (left : LeaveShared l r shared) (out : Out) (s : Sound r) (d : AsDeclared p r) where
   abbrev new : Configuration
   new = gone_on change shared out r
 

@@ -19,7 +19,8 @@ use Rattle.run_model.proofs.Names.{count_none, fewer_same}
 use Rattle.run_model.proofs.Sums.{all_none}
 use Rattle.model_laws.specs.AsDeclared.{AsDeclared}
 use Rattle.model_laws.specs.Laws.{MayExecute}
-use Rattle.model_laws.specs.OpenRuns.{Phase, Due, none_lasts, Standing, Move, Start, Execute, Answer, Others, Elsewhere, Begin, Main, End, Told, executed, Attempts, IsOthers, IsMove, IsOpenRun, IsOpened, StandsSound, OpenRunsStaySound, Starts, Begins, Calls, Answers, GoOn, GoOnElsewhere, Ends}
+use Rattle.model_laws.specs.OpenRuns.{Phase, Due, none_lasts, Standing, Move, Start, Execute, Answer, Others, Elsewhere, Begin, Main, End, Told, executed, Attempts, IsOthers, IsMove, IsOpenRun}
+use Rattle.model_laws.specs.OpenRuns.{IsOpened, StandsSound, OpenRunsStaySound, Starts, Begins, Calls, Answers, GoOn, GoOnElsewhere, Ends}
 use Rattle.model_laws.proofs.AsDeclared.{kept, same_vars, step_declared}
 use Rattle.model_laws.proofs.EventsKeep.{may_execute}
 use Rattle.model_laws.proofs.NamesStay.{names_stay, keeps_slots}
@@ -29,7 +30,8 @@ use Rattle.model_laws.proofs.StepNames.{step_names}
 use Rattle.model_laws.proofs.StepPools.{step_pools}
 use Rattle.model_laws.proofs.alone.Beside.{gone_on_sound, gone_on_declared, gone_on_others, elsewhere_sound, elsewhere_declared, elsewhere_others}
 use Rattle.model_laws.proofs.alone.Spared.{step_others}
-use Rattle.model_laws.proofs.alone.Turns.{called_sound, called_declared, main_sound, main_declared, given_sound, given_declared, request_begun_sound, request_begun_declared, request_ended_sound, request_ended_declared}
+use Rattle.model_laws.proofs.alone.Turns.{called_sound, called_declared, main_sound, main_declared, given_sound, given_declared, request_begun_sound, request_begun_declared, request_ended_sound}
+use Rattle.model_laws.proofs.alone.Turns.{request_ended_declared}
 
 nothing_in : (n : ℕ) → is_in n [] ≡ true → ⊥
 nothing_in n e = cc

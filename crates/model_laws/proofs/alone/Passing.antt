@@ -34,12 +34,15 @@ pass_may p s b l none =
     let send = sent_so (data_after_eos items) s.now.instance.sent (has_data items) F8 (first_none (send_fault s.now.instance.sent items) None (second_none (homes_fault items) _ after)) in
     (send.0, send.1, no_dead items (first_none (homes_fault items) _ after))
 
-by_instruction : (p : Program) (given : Option (List ℕ)) (i : Instr) (s new : Standing) (items : List NamedBucket) → fault p s.now i ≡ None → executed p given i s ≡ (Passes items, new) → MayBeBrought s items
+by_instruction : (p : Program) (given : Option (List ℕ)) (i : Instr) (s new : Standing) (items : List NamedBucket) → fault p s.now i ≡ None → executed p given i s ≡ (Passes items, new)
+    → MayBeBrought s items
 unfolding executed
-by_instruction p given (instr.Pass b l) s new items none is = subst (MayBeBrought s) (passed_is (items_of (s.now.instance.brigades b)) items (ap (λ (x : Told × Standing). x.0) is)) (pass_may p s b l none)
+by_instruction p given (instr.Pass b l) s new items none is =
+    subst (MayBeBrought s) (passed_is (items_of (s.now.instance.brigades b)) items (ap (λ (x : Told × Standing). x.0) is)) (pass_may p s b l none)
 by_instruction p given i s new items none is = absurd (let told = ap (λ (x : Told × Standing). x.0) is in cc)
 
-by_fault : (p : Program) (given : Option (List ℕ)) (s new : Standing) (items : List NamedBucket) (f : Option FaultKind) → fault p s.now (current p s.now.pc) ≡ f → Attempts f p given s (Passes items) new → MayBeBrought s items
+by_fault : (p : Program) (given : Option (List ℕ)) (s new : Standing) (items : List NamedBucket) (f : Option FaultKind) → fault p s.now (current p s.now.pc) ≡ f
+    → Attempts f p given s (Passes items) new → MayBeBrought s items
 by_fault p given s new items None none a = by_instruction p given (current p s.now.pc) s new items none a.1
 by_fault p given s new items (Some k) is a = absurd (let told = a.0 in cc)
 

@@ -51,7 +51,8 @@ module _ (r : Configuration) (s : Sound r) (m : ℕ) (o : IsOthers r m) where
       let next : ℕ = r.shared.pools.next in
       let stays : ps.path m ≡ r.shared.pools.path m = created_kept parent r.shared.pools m low in
       let same : (j : PoolRef) (n : ℕ) → pool_named r j ≡ Some n → is_under ps m n ≡ false = λ j n e. ap (is_in m) (created_kept parent r.shared.pools n (named_given j n e)) ∙ o.above j n e in
-      let new : is_under ps m next ≡ false = ap (is_in m) (created_at parent r.shared.pools) ∙ (ap (λ (b : Bool). b || is_in m (r.shared.pools.path parent)) (ne_eqb next m (λ e. absurd (omega (arith, e, low)))) ∙ o.above k parent at) in
+      let new : is_under ps m next ≡ false = ap (is_in m) (created_at parent r.shared.pools)
+      ∙ (ap (λ (b : Bool). b || is_in m (r.shared.pools.path parent)) (ne_eqb next m (λ e. absurd (omega (arith, e, low)))) ∙ o.above k parent at) in
       let fresh : is_in next (r.shared.pools.path m) ≡ false = not_under next r.shared.pools m (formed_older r.shared.pools s.pools.formed) low in
       record {
         live = same_live r.shared.pools ps m stays ∙ o.live;
@@ -62,7 +63,8 @@ module _ (r : Configuration) (s : Sound r) (m : ℕ) (o : IsOthers r m) where
         ];
       } where
         by_ref : ((j : PoolRef) (n : ℕ) → pool_named r j ≡ Some n → is_under (created parent r.shared.pools) m n ≡ false) → is_under (created parent r.shared.pools) m r.shared.pools.next ≡ false
-            → (j : PoolRef) (n : ℕ) → pool_named (set_pool q (poolvar.Made r.shared.pools.next) (with_pools (created parent r.shared.pools) r)) j ≡ Some n → is_under (created parent r.shared.pools) m n ≡ false
+            → (j : PoolRef) (n : ℕ) → pool_named (set_pool q (poolvar.Made r.shared.pools.next) (with_pools (created parent r.shared.pools) r)) j ≡ Some n
+            → is_under (created parent r.shared.pools) m n ≡ false
         by_ref same new pool.Conn n e = same pool.Conn n e
         by_ref same new pool.Req n e = same pool.Req n e
         by_ref same new (pool.Own j) n e = elim (upd_either r.instance.pools q j (poolvar.Made r.shared.pools.next)) [

@@ -13,10 +13,9 @@ use Rattle.run_model.specs.Pools.{is_live, is_under, destroyed}
 use Rattle.run_model.specs.Sound.{sum_below, count_named, count, brigade_name, brigade_pool, SoundNames, Sound}
 use Rattle.run_model.specs.State.{Configuration, items_of, set_brigade, with_pools}
 use Rattle.run_model.specs.Steps.{with_items, pool_destroyed}
-use Rattle.run_model.proofs.Formed.{path_live}
+use Rattle.run_model.proofs.Formed.{path_live, destroyed_formed}
 use Rattle.run_model.proofs.Names.{count_none, fewer_same, Carried, filled_carried, filled_items, at_each}
 use Rattle.run_model.proofs.PoolMap.{destroyed_next, destroyed_apart, destroyed_under}
-use Rattle.run_model.proofs.Formed.{destroyed_formed}
 use Rattle.run_model.proofs.RunOrderLaws.{under_itself}
 use Rattle.run_model.proofs.Sums.{sum_written}
 use Rattle.run_model.proofs.Updates.{upd_either}
@@ -108,7 +107,8 @@ main_sound r name next pc made come rises limit on given apart s =
       named : (n : ℕ) → Some made.name ≡ Some n → (n < next) × ((k : ℕ) → k ≢ 8 → brigade_name (r.instance.brigades k) ≡ Some n → ⊥)
       named n e = (let is : made.name ≡ n = same_Some made.name n e in (omega (arith, is), λ k off h. apart k (h ∙ ap (λ (m : ℕ). Some m) (sym is))))
 
-pub main_declared : (p : Program) (r : Configuration) (name next pc : ℕ) (made : Brigade) → made.on ≡ None → AsDeclared p r → AsDeclared p (called name next pc (record r { instance = set_in (var.Live made) r.instance }))
+pub main_declared : (p : Program) (r : Configuration) (name next pc : ℕ) (made : Brigade) → made.on ≡ None → AsDeclared p r
+    → AsDeclared p (called name next pc (record r { instance = set_in (var.Live made) r.instance }))
 unfolding set_brigade
 main_declared p r name next pc made on d = called_declared p (set_brigade 8 (var.Live made) r) name next pc (written_declared p 8 made r (λ off. absurd (off refl)) (λ eight. on) d)
 
@@ -137,7 +137,8 @@ given_sound r b pc items come s =
       }
 
 pub given_declared : (p : Program) (r : Configuration) (b pc : ℕ) (items : List NamedBucket) → AsDeclared p r → AsDeclared p (record r { instance = given_back b items r.instance; pc = pc })
-given_declared p r b pc items d = kept p r _ refl refl refl refl (at_each KeepsPool r.instance.brigades b (with_items items (r.instance.brigades b)) (filled_on items (r.instance.brigades b)) same_on) d
+given_declared p r b pc items d =
+    kept p r _ refl refl refl refl (at_each KeepsPool r.instance.brigades b (with_items items (r.instance.brigades b)) (filled_on items (r.instance.brigades b)) same_on) d
 
 -- A request begins.
 
@@ -170,4 +171,5 @@ module _ (r : Configuration) (req : ℕ) (is : r.shared.req ≡ Some req) (s : S
   request_ended_declared p d =
       went p req r (request_ended req r) s.pools.formed refl (λ k off. (destroyed_apart req r.shared.pools k off).0)
       (λ k under live. absurd (not_live (destroyed req r.shared.pools) k (destroyed_under req r.shared.pools k under).0 live))
-      (over_named r (request_ended req r) req refl refl is (destroyed_under req r.shared.pools req (under_itself r.shared.pools s.pools.formed req (path_live r.shared.pools req req _ (s.pools.req req is).0))).0) (λ b. refl) d
+      (over_named r (request_ended req r) req refl refl is
+      (destroyed_under req r.shared.pools req (under_itself r.shared.pools s.pools.formed req (path_live r.shared.pools req req _ (s.pools.req req is).0))).0) (λ b. refl) d

@@ -52,7 +52,8 @@ dead_under ps n k dead = by_path (ps.path k) dead where
   by_path (x ∷ xs) e = absurd (cc)
 
 -- No pool that an instance names stands under a pool that it does not name and that the connection's is not under.
-module _ (p : Program) (r : Configuration) (m : IsModule p) (s : SoundPools r) (d : AsDeclared p r) (n : ℕ) (foreign : (k : PoolRef) (j : ℕ) → pool_named r k ≡ Some j → j ≢ n) (above : is_under r.shared.pools n r.shared.conn ≡ false) where
+module _ (p : Program) (r : Configuration) (m : IsModule p) (s : SoundPools r) (d : AsDeclared p r) (n : ℕ) (foreign : (k : PoolRef) (j : ℕ) → pool_named r k ≡ Some j → j ≢ n)
+    (above : is_under r.shared.pools n r.shared.conn ≡ false) where
   apart_at : (looks : ℕ) (low : PoolRef) (k : ℕ) → rank low < looks → pool_named r low ≡ Some k → is_live r.shared.pools k ≡ true → is_under r.shared.pools n k ≡ false
   unfolding named_at
   apart_at zero low k lt e live = absurd (omega arith)
@@ -87,7 +88,8 @@ module _ (chain : List Program) (g : Common) (c : Connection) (proper : (k : ℕ
   foreign_own f w q n differ at (pool.Own s) j e same = differ (h.apart f.of w.of q s n at (own_named s n (configuration g c w) (e ∙ ap (λ (k : ℕ). Some k) same)))
 
   -- nothing that another instance names stands under a pool of this one
-  pub under_no_other : (f w : Frame) (q n : ℕ) → f.of ≢ w.of → (c.instances f.of).pools q ≡ poolvar.Made n → (low : PoolRef) (k : ℕ) → pool_named (configuration g c w) low ≡ Some k → is_under (pools_of g c) n k ≡ false
+  pub under_no_other : (f w : Frame) (q n : ℕ) → f.of ≢ w.of → (c.instances f.of).pools q ≡ poolvar.Made n → (low : PoolRef) (k : ℕ) → pool_named (configuration g c w) low ≡ Some k
+      → is_under (pools_of g c) n k ≡ false
   unfolding configuration
   under_no_other f w q n differ at low k e =
       apart_from (module_at chain w.of) (configuration g c w) (proper w.of) (h.sound w) (h.declared w) n (foreign_own f w q n differ at) (above_conn f q n at) low k e

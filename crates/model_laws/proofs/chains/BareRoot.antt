@@ -107,13 +107,15 @@ module _ (root : ℕ) where
   unfolding configuration
   went_bare chain reads f rest g c s newer bare =
       let i : Instr = current (module_at chain f.of) f.pc in
-      proceeds_so (λ ps files next req. IsBare ps) chain reads i f rest g c (λ choice. step_bare (module_at chain f.of) (configuration g c f) (s.pools.sound f) (s.pools.declared f) newer choice i bare) bare
+      proceeds_so (λ ps files next req. IsBare ps) chain reads i f rest g c
+      (λ choice. step_bare (module_at chain f.of) (configuration g c f) (s.pools.sound f) (s.pools.declared f) newer choice i bare) bare
 
   pub turn_bare : (chain : List Program) (g : Common) (c : Connection) (v : Linked) → Turn chain AnyLength g c v → ChainSound chain g c → root < c.conn → c.payloads root ≡ [] → v.1.payloads root ≡ []
   unfolding begun all_called configuration run_down with_pools
   turn_bare chain g c v (Stood out broken) s newer bare = bare
   turn_bare chain g c v (Went reads f rest whole may) s newer bare = went_bare chain reads f rest g c s newer bare
-  turn_bare chain g c v (Begun whole idle none pools next) s newer bare = created_bare c.conn (pools_of g c) (let lt = conn_given (configuration g c (looking 0)) (s.pools.sound (looking 0)) in omega arith) bare
+  turn_bare chain g c v (Begun whole idle none pools next) s newer bare =
+      created_bare c.conn (pools_of g c) (let lt = conn_given (configuration g c (looking 0)) (s.pools.sound (looking 0)) in omega arith) bare
   turn_bare chain g c v (Brought pieces req whole idle is there next) s newer bare = bare
   turn_bare chain g c v (FileTaken req file bytes whole idle is short newest last) s newer bare =
       registered_bare req (FileRef file) (pools_of g c) (let lt = ((s.pools.sound (looking 0)).req req is).1 in omega arith) bare

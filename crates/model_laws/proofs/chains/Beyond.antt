@@ -44,17 +44,20 @@ all_other : (P : NamedBucket → Type 0) (n : ℕ) (xs : List NamedBucket) → c
 all_other P n [] none = All-nil (λ y. y.name ≡ n → P y)
 all_other P n (x ∷ xs) none =
     let both = count_cons n x xs in
-    All-cons (λ y. y.name ≡ n → P y) x xs (λ same. absurd (let one : ◌≡◌ {A = ℕ} (cond (x.name == n) 1 0) 1 = ap (λ (t : Bool). cond t 1 0) (eq-eqb x.name n same) in omega arith)) (all_other P n xs (omega arith))
+    All-cons (λ y. y.name ≡ n → P y) x xs (λ same. absurd (let one : ◌≡◌ {A = ℕ} (cond (x.name == n) 1 0) 1 = ap (λ (t : Bool). cond t 1 0) (eq-eqb x.name n same) in omega arith))
+    (all_other P n xs (omega arith))
 
 module _ (chain : List Program) (g : Common) (c : Connection) (names : ChainNames chain g c) (beyond : NoneBeyond chain c) (j d n : ℕ) (z : NamedBucket) (placed : j < length chain)
     (there : bucket_named n (items_of ((c.instances j).brigades d)) ≡ Some z) where
   here : 1 ≤ count_named n (items_of ((c.instances j).brigades d))
-  here = subst (λ (m : ℕ). 1 ≤ count_named m (items_of ((c.instances j).brigades d))) (named_is n (items_of ((c.instances j).brigades d)) z there) (found_there n z (items_of ((c.instances j).brigades d)) there)
+  here = subst (λ (m : ℕ). 1 ≤ count_named m (items_of ((c.instances j).brigades d))) (named_is n (items_of ((c.instances j).brigades d)) z there)
+      (found_there n z (items_of ((c.instances j).brigades d)) there)
 
   low : d < 9
   low = elim (cases_lt d 9) [
     | inl lt ↦ lt
-    | inr le ↦ absurd (let none : count_named n (items_of ((c.instances j).brigades d)) ≡ 0 = ap (λ (v : BrigadeVar). count_named n (items_of v)) (names.slots j d le) ∙ count_none n in let some = here in omega arith)
+    | inr le ↦ absurd (let none : count_named n (items_of ((c.instances j).brigades d)) ≡ 0 = ap (λ (v : BrigadeVar). count_named n (items_of v)) (names.slots j d le) ∙ count_none n in let some =
+        here in omega arith)
   ]
 
   in_place : count_named n (items_of ((c.instances j).brigades d)) ≤ count_at (c.instances j) n
@@ -76,12 +79,15 @@ module _ (chain : List Program) (g : Common) (c : Connection) (names : ChainName
       | inl slot ↦ (let some = here in let all = total in let first = in_place in let second = of_chain in
           let one : count_named n (items_of ((c.instances k).brigades b)) ≤ count_at (c.instances k) n = term_below 9 b (λ a. count_named n (items_of ((c.instances k).brigades a))) slot in
           elim (cases_eq k j) [
-            | inr off ↦ (let both : count_at (c.instances k) n + count_at (c.instances j) n ≤ sum_below (length chain) (λ i. count_at (c.instances i) n) = two_below (length chain) k j (λ i. count_at (c.instances i) n) inside placed off in omega arith)
+            | inr off ↦ (let both : count_at (c.instances k) n + count_at (c.instances j) n ≤ sum_below (length chain) (λ i. count_at (c.instances i) n) =
+                two_below (length chain) k j (λ i. count_at (c.instances i) n) inside placed off in omega arith)
             | inl same ↦ elim differ [
               | inl off ↦ absurd (off same)
-              | inr off ↦ (let both : count_named n (items_of ((c.instances k).brigades b)) + count_named n (items_of ((c.instances k).brigades d)) ≤ count_at (c.instances k) n = two_below 9 b d (λ a. count_named n (items_of ((c.instances k).brigades a))) slot low off in
+              | inr off ↦ (let both : count_named n (items_of ((c.instances k).brigades b)) + count_named n (items_of ((c.instances k).brigades d)) ≤ count_at (c.instances k) n =
+                  two_below 9 b d (λ a. count_named n (items_of ((c.instances k).brigades a))) slot low off in
                   let is : count_at (c.instances k) n ≡ count_at (c.instances j) n = ap (λ (i : ℕ). count_at (c.instances i) n) same in
-                  let too : count_named n (items_of ((c.instances k).brigades d)) ≡ count_named n (items_of ((c.instances j).brigades d)) = ap (λ (i : ℕ). count_named n (items_of ((c.instances i).brigades d))) same in
+                  let too : count_named n (items_of ((c.instances k).brigades d)) ≡ count_named n (items_of ((c.instances j).brigades d)) =
+                  ap (λ (i : ℕ). count_named n (items_of ((c.instances i).brigades d))) same in
                   omega arith)
             ]
           ])
@@ -134,16 +140,20 @@ module _ (chain : List Program) (g : Common) (c : Connection) (f : Frame) (beyon
   passed_beyond : (callee : Program) (b : ℕ) (rest : List Frame) → f.of + 1 < length chain → NoneBeyond chain (passed_to callee b f rest (g, c)).1
   unfolding passed_to
   passed_beyond callee b rest next k d past =
-      ap (λ (x : Instance). x.brigades d) (upd_off (upd c.instances f.of (do_pass b (configuration g c f)).instance) (f.of + 1) k _ (λ e. absurd (omega (arith, e, past, next))) ∙ upd_off c.instances f.of k _ (λ e. absurd (omega (arith, e, past, placed)))) ∙ beyond k d past
+      ap (λ (x : Instance). x.brigades d) (upd_off (upd c.instances f.of (do_pass b (configuration g c f)).instance) (f.of + 1) k _ (λ e. absurd (omega (arith, e, past, next)))
+      ∙ upd_off c.instances f.of k _ (λ e. absurd (omega (arith, e, past, placed)))) ∙ beyond k d past
 
   returned_beyond : (caller : Program) (s : Status) (w : Frame) (rest : List Frame) → w.of < length chain → NoneBeyond chain (returned_to caller s f w rest (g, c)).1
   unfolding returned_to
-  returned_beyond caller s w rest waits k d past = ap (λ (x : Instance). x.brigades d) (upd_off _ w.of k _ (λ e. absurd (omega (arith, e, past, waits)))) ∙ put_beyond (instr.Ret s) (do_return (configuration g c f)) [] (w ∷ rest) k d past
+  returned_beyond caller s w rest waits k d past =
+      ap (λ (x : Instance). x.brigades d) (upd_off _ w.of k _ (λ e. absurd (omega (arith, e, past, waits)))) ∙ put_beyond (instr.Ret s) (do_return (configuration g c f)) [] (w ∷ rest) k d past
 
-  proceeds_beyond : (reads : Reads) (i : Instr) (rest : List Frame) → ((w : Frame) (more : List Frame) → rest ≡ w ∷ more → w.of < length chain) → NoneBeyond chain (proceeds chain reads i f rest (g, c)).1.1
+  proceeds_beyond : (reads : Reads) (i : Instr) (rest : List Frame) → ((w : Frame) (more : List Frame) → rest ≡ w ∷ more → w.of < length chain)
+      → NoneBeyond chain (proceeds chain reads i f rest (g, c)).1.1
   unfolding proceeds delivered_by returned_from
   proceeds_beyond reads (instr.Pass b l) rest waits = by_last (is_last chain f.of) refl where
-    by_last : (t : Bool) → is_last chain f.of ≡ t → NoneBeyond chain (cond t (delivered_by (module_at chain f.of) reads b (instr.Pass b l) f rest (g, c)) (passed_to (module_at chain (f.of + 1)) b f rest (g, c))).1
+    by_last : (t : Bool) → is_last chain f.of ≡ t
+        → NoneBeyond chain (cond t (delivered_by (module_at chain f.of) reads b (instr.Pass b l) f rest (g, c)) (passed_to (module_at chain (f.of + 1)) b f rest (g, c))).1
     by_last true is = stepped_beyond (module_at chain f.of) (record { answer = answer_to (delivered c.out (items_of ((c.instances f.of).brigades b)) reads).1; given = None }) (instr.Pass b l) rest
     by_last false is = passed_beyond (module_at chain (f.of + 1)) b rest (next_in_chain chain f.of is)
   proceeds_beyond reads (instr.Ret s) [] waits = by_queue c.queue where
@@ -166,6 +176,7 @@ turn_beyond chain g c v some (Went reads f rest whole may) s h = proceeds_beyond
   waits : (w : Frame) (more : List Frame) → rest ≡ w ∷ more → IsFramePlaced chain c.req w
   waits w more e = All-head (IsFramePlaced chain c.req) w more (subst (λ (fs : List Frame). All (IsFramePlaced chain c.req) fs) e (All-tail (IsFramePlaced chain c.req) f rest all))
 turn_beyond chain g c v some (Begun whole idle no_request pools next) s h = h
-turn_beyond chain g c v some (Brought pieces req whole idle is there next) s h = λ k b past. ap (λ (x : Instance). x.brigades b) (upd_off c.instances 0 k _ (λ e. absurd (omega (arith, e, past, some)))) ∙ h k b past
+turn_beyond chain g c v some (Brought pieces req whole idle is there next) s h =
+    λ k b past. ap (λ (x : Instance). x.brigades b) (upd_off c.instances 0 k _ (λ e. absurd (omega (arith, e, past, some)))) ∙ h k b past
 turn_beyond chain g c v some (FileTaken req file bytes whole idle is short newer last) s h = h
 turn_beyond chain g c v some (Ended req whole idle is) s h = λ k b past. ap (cleared_var (is_under (pools_of g c) req)) (h k b past)

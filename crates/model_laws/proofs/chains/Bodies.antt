@@ -36,7 +36,8 @@ in_parts (suc parts) k bytes reads few told =
       later j lt =
           let here : (k + 1) + j ≡ k + suc j = omega arith in
           let place : suc j * read_limit ≡ read_limit + j * read_limit = omega arith in
-          ap reads here ∙ (told (suc j) (omega (arith, lt)) ∙ (ap (λ (n : ℕ). Some (take read_limit (drop n bytes))) place ∙ ap (λ (bs : List ℕ). Some (take read_limit bs)) (sym (drop-drop (j * read_limit) read_limit bytes))))
+          ap reads here ∙ (told (suc j) (omega (arith, lt))
+          ∙ (ap (λ (n : ℕ). Some (take read_limit (drop n bytes))) place ∙ ap (λ (bs : List ℕ). Some (take read_limit bs)) (sym (drop-drop (j * read_limit) read_limit bytes))))
 
 pub reads_give_the_file : ReadsGiveTheFile
 reads_give_the_file k bytes reads told = in_parts (parts_of (length bytes)) k bytes reads (enough (length bytes)) told where
@@ -61,6 +62,8 @@ top_read_gives_the_file chain reads g c f rest file cur l b x is at told =
           record {
             call = o.state.call;
             below = map (touched_frame (touched_bucket (configuration g c f) (instr.Read cur l))) rest;
-            next = ap (λ (e : Exit). (let w : Frame = record { of = f.of; call = o.state.call; pc = led_to e (instr.Read cur l) f.pc } in w) ∷ map (touched_frame (touched_bucket (configuration g c f) (instr.Read cur l))) rest) left.exit;
-            bytes = ap (λ (t : Bool). all_bytes file (items_of ((cond t o.state.instance (touched_instance (touched_var (configuration g c f) (instr.Read cur l)) (c.instances f.of))).brigades b))) (eq-eqb f.of f.of refl) ∙ left.bytes;
+            next = ap (λ (e : Exit). (let w : Frame = record { of = f.of; call = o.state.call; pc = led_to e (instr.Read cur l) f.pc } in w) ∷ map
+                (touched_frame (touched_bucket (configuration g c f) (instr.Read cur l))) rest) left.exit;
+            bytes = ap (λ (t : Bool). all_bytes file (items_of ((cond t o.state.instance (touched_instance (touched_var (configuration g c f) (instr.Read cur l)) (c.instances f.of))).brigades b)))
+                (eq-eqb f.of f.of refl) ∙ left.bytes;
           }

@@ -85,4 +85,5 @@ event_buffers memory budget chain told k e w h = event_each RangeIn memory budge
 })
 
 pub run_buffers : RunKeepsBuffers
-run_buffers budget chain es answers w run = run_each WorldBuffers budget chain (λ memory told k e v h. event_buffers memory budget chain told k e v h) es answers (new_world run.first) w run.run (λ k c e. absurd (cc))
+run_buffers budget chain es answers w run =
+    run_each WorldBuffers budget chain (λ memory told k e v h. event_buffers memory budget chain told k e v h) es answers (new_world run.first) w run.run (λ k c e. absurd (cc))

@@ -15,7 +15,8 @@ use Rattle.run_model.specs.Buckets.{cleared_bucket, returned_bucket}
 use Rattle.run_model.specs.State.{Instance, Configuration, items_of, set_brigade}
 use Rattle.run_model.specs.Effects.{do_pass, do_return, handed_over}
 use Rattle.run_model.specs.Steps.{Choice, answer_to, current, step}
-use Rattle.run_model.specs.Chains.{Frame, Connection, Common, Linked, module_at, is_last, configuration, pools_of, touched_var, touched_bucket, touched_instance, touched_frame, cleared_by, led_to, put_back, stepped_in}
+use Rattle.run_model.specs.Chains.{Frame, Connection, Common, Linked, module_at, is_last, configuration, pools_of, touched_var, touched_bucket, touched_instance, touched_frame, cleared_by, led_to}
+use Rattle.run_model.specs.Chains.{put_back, stepped_in}
 use Rattle.run_model.specs.Passing.{Reads, handed_in, set_in, passed_to, passed_by, given_back, returned_to, called, delivered, delivered_by, next_called, returned_from, proceeds}
 use Rattle.model_laws.specs.Laws.{is_return}
 use Rattle.model_laws.specs.ChainFiles.{OfEachBucket}
@@ -60,7 +61,8 @@ module _ (T : NamedBucket → Type 0) where
   pub called_each : (chain : List Program) (k : ℕ) (queue : List ℕ) (g : Common) (c : Connection) → OfEachBucket T c → OfEachBucket T (called chain k queue (g, c)).1
   called_each chain k queue g c h = record { brigades = h.brigades; loose = one_call _ [] (none T) no_calls }
 
-  pub passed_to_each : (callee : Program) (b : ℕ) (f : Frame) (rest : List Frame) (g : Common) (c : Connection) → c.stack ≡ f ∷ rest → OfEachBucket T c → OfEachBucket T (passed_to callee b f rest (g, c)).1
+  pub passed_to_each : (callee : Program) (b : ℕ) (f : Frame) (rest : List Frame) (g : Common) (c : Connection) → c.stack ≡ f ∷ rest → OfEachBucket T c
+      → OfEachBucket T (passed_to callee b f rest (g, c)).1
   unfolding passed_to configuration set_brigade
   passed_to_each callee b f rest g c is h = record {
     brigades = written_instances here (f.of + 1) (set_in (handed_in ((c.instances f.of).brigades b)) (here (f.of + 1))) in_here
@@ -126,7 +128,8 @@ module _ (T U : Pools Payload → NamedBucket → Type 0) (chain : List Program)
   -- what the instruction does to buckets that the call sees, and to others
   pub record Steps (i : Instr) : Type 0 where
     pub held : (choice : Choice) → (let s = (step (module_at chain f.of) choice i (configuration g c f)).state in HoldsNamed (U s.shared.pools) s)
-    pub touched : (choice : Choice) (x : NamedBucket) → T (pools_of g c) x → U (step (module_at chain f.of) choice i (configuration g c f)).state.shared.pools (touched_bucket (configuration g c f) i x)
+    pub touched : (choice : Choice) (x : NamedBucket) → T (pools_of g c) x
+        → U (step (module_at chain f.of) choice i (configuration g c f)).state.shared.pools (touched_bucket (configuration g c f) i x)
 
   abbrev Left : Linked → Type 0
   Left v = OfEachBucket (U (pools_of v.0 v.1)) v.1
@@ -161,10 +164,12 @@ module _ (T U : Pools Payload → NamedBucket → Type 0) (chain : List Program)
       let choice : Choice = record { answer = answer_to true; given = None } in
       let left = back_each s (w ∷ rest) is steps old in
       let V : NamedBucket → Type 0 = U (pools_of g c) in
-      let there : All V (map (returned_bucket f.call.name) (items_of ((c.instances f.of).brigades 8))) = mapped_each (T (pools_of g c)) V (returned_bucket f.call.name) (steps.touched choice) (items_of ((c.instances f.of).brigades 8)) (old.brigades f.of 8) in
+      let there : All V (map (returned_bucket f.call.name) (items_of ((c.instances f.of).brigades 8))) =
+      mapped_each (T (pools_of g c)) V (returned_bucket f.call.name) (steps.touched choice) (items_of ((c.instances f.of).brigades 8)) (old.brigades f.of 8) in
       record {
         brigades = given_each V (passed_by (current caller w.pc)) _ w.of _ left.brigades there;
-        loose = one_call V _ (map (touched_frame (touched_bucket (configuration g c f) (instr.Ret s))) rest) (All-head (λ v. All V v.call.loose) _ _ left.loose) (All-tail (λ v. All V v.call.loose) _ _ left.loose);
+        loose = one_call V _ (map (touched_frame (touched_bucket (configuration g c f) (instr.Ret s))) rest) (All-head (λ v. All V v.call.loose) _ _ left.loose)
+            (All-tail (λ v. All V v.call.loose) _ _ left.loose);
       }
 
   pub proceeds_each : (reads : Reads) (i : Instr) (rest : List Frame) → c.stack ≡ f ∷ rest → Steps i → Before → Left (proceeds chain reads i f rest (g, c)).1
@@ -172,7 +177,8 @@ module _ (T U : Pools Payload → NamedBucket → Type 0) (chain : List Program)
   proceeds_each reads (instr.Pass b l) rest is steps old = by_last (is_last chain f.of) where
     by_last : (t : Bool) → Left (cond t (delivered_by (module_at chain f.of) reads b (instr.Pass b l) f rest (g, c)) (passed_to (module_at chain (f.of + 1)) b f rest (g, c)))
     by_last true = delivered_each reads b (instr.Pass b l) rest is steps old
-    by_last false = each_bucket_so (T (pools_of g c)) (U (pools_of g c)) (steps.touched (record { answer = answer_to true; given = None })) _ (passed_to_each (T (pools_of g c)) (module_at chain (f.of + 1)) b f rest g c is old)
+    by_last false = each_bucket_so (T (pools_of g c)) (U (pools_of g c)) (steps.touched (record { answer = answer_to true; given = None })) _
+        (passed_to_each (T (pools_of g c)) (module_at chain (f.of + 1)) b f rest g c is old)
   proceeds_each reads (instr.Ret s) [] is steps old = next_left c.queue where
     back : Linked
     back = put_back (instr.Ret s) f (do_return (configuration g c f)) [] [] (g, c)

@@ -48,7 +48,8 @@ module _ (Ready : Program → Instr → Configuration → Type 0) (T : ℕ → C
 
   touched_on : (n m : ℕ) (change : NamedBucket → NamedBucket) (fs : List Frame) → n ≤ m → On n fs → On m (map (touched_frame change) fs)
   touched_on n m change [] le h = no_call m
-  touched_on n m change (f ∷ fs) le h = and_call m (touched_frame change f) (map (touched_frame change) fs) (keeps.risen n m f.call (map change f.call.loose) le (first_call n f fs h)) (touched_on n m change fs le (other_calls n f fs h))
+  touched_on n m change (f ∷ fs) le h = and_call m (touched_frame change f) (map (touched_frame change) fs) (keeps.risen n m f.call (map change f.call.loose) le (first_call n f fs h))
+      (touched_on n m change fs le (other_calls n f fs h))
 
   risen_on : (n m : ℕ) (fs : List Frame) → n ≤ m → On n fs → On m fs
   risen_on n m [] le h = no_call m

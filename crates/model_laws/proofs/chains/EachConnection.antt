@@ -21,7 +21,8 @@ pub opening_turn : (chain : List Program) (g : Common) (c : Connection) (memory 
 opening_turn chain g c memory opening = opens_file_turn chain AnyLength g c memory opening (any_opens _)
 
 -- each event makes a turn of its connection
-pub made_turn : (memory : Bool) (budget : ℕ) (chain : List Program) (told : Told) (g : Common) (c : Connection) (e : Event) (v : Linked) → IsChain chain → Made memory budget chain told g c e v → Turn chain AnyLength g c v
+pub made_turn : (memory : Bool) (budget : ℕ) (chain : List Program) (told : Told) (g : Common) (c : Connection) (e : Event) (v : Linked) → IsChain chain → Made memory budget chain told g c e v
+    → Turn chain AnyLength g c v
 made_turn memory budget chain told g c e v chained made = turn_made AnyLength memory budget chain told g c e v chained (λ name is. any_opens _) made
 
 abbrev pub EachOf : (Common → Connection → Type 0) → World → Type 0

@@ -54,7 +54,8 @@ pub begun_raises : (chain : List Program) (g : Common) (c : Connection) → g.ne
 unfolding begun all_called created
 begun_raises chain g c next pools = record { next = omega arith; next_limit = next; pools = omega arith; pools_limit = pools; root = refl }
 
-pub brought_in_raises : (chain : List Program) (pieces : List Piece) (req : ℕ) (g : Common) (c : Connection) → g.next + (2 + length pieces) < 2 ^ 64 → g.pools < 2 ^ 64 → Rises g (brought_in chain pieces req (g, c)).0
+pub brought_in_raises : (chain : List Program) (pieces : List Piece) (req : ℕ) (g : Common) (c : Connection) → g.next + (2 + length pieces) < 2 ^ 64 → g.pools < 2 ^ 64
+    → Rises g (brought_in chain pieces req (g, c)).0
 brought_in_raises chain pieces req g c next pools = record { next = omega arith; next_limit = omega arith; pools = omega arith; pools_limit = pools; root = refl }
 
 pub file_taken_raises : (req file : ℕ) (bytes : List ℕ) (g : Common) (c : Connection) → g.next < 2 ^ 64 → g.pools < 2 ^ 64 → Rises g (file_taken req file bytes (g, c)).0

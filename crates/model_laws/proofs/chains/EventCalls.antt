@@ -52,7 +52,8 @@ due_rising (suc n) lt =
 -- `open` or `init` of all modules is to run
 pub all_called_calls : (chain : List Program) (w : Linked) → IsModule (module_at chain 0) → 0 < length chain → 0 < w.0.next → LinkedCalls chain (all_called chain w)
 unfolding all_called
-all_called_calls chain w m some first = (let due = due_rising (length chain) some in called_calls chain 0 (tail_of (numbers_below (length chain))) (w.0, record w.1 { count = 0 }) m some first due.1 due.0)
+all_called_calls chain w m some first =
+    (let due = due_rising (length chain) some in called_calls chain 0 (tail_of (numbers_below (length chain))) (w.0, record w.1 { count = 0 }) m some first due.1 due.0)
 
 pub opened_calls : (chain : List Program) (g : Common) → IsModule (module_at chain 0) → 0 < length chain → 0 < g.next → LinkedCalls chain (opened chain g)
 unfolding opened
@@ -66,7 +67,8 @@ pub file_taken_calls : (chain : List Program) (req file : ℕ) (bytes : List ℕ
 file_taken_calls chain req file bytes g c h = same_calls chain g _ c _ refl refl refl refl h
 
 -- `main` of the first filter begins
-pub brought_in_calls : (chain : List Program) (pieces : List Piece) (req : ℕ) (g : Common) (c : Connection) → IsModule (module_at chain 0) → 0 < length chain → 0 < g.next → c.stack ≡ [] → c.req ≡ Some req → ChainCalls chain g c
+pub brought_in_calls : (chain : List Program) (pieces : List Piece) (req : ℕ) (g : Common) (c : Connection) → IsModule (module_at chain 0) → 0 < length chain → 0 < g.next → c.stack ≡ []
+    → c.req ≡ Some req → ChainCalls chain g c
     → LinkedCalls chain (brought_in chain pieces req (g, c))
 unfolding IsNested AreNamed
 brought_in_calls chain pieces req g c m some first idle is h =

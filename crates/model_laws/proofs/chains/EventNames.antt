@@ -87,7 +87,8 @@ request_over_names chain req g c s =
     chain_names_stay chain g c v.0 v.1 (carried_names chain g c v.0 v.1 (λ k b. (cleared_fewer (is_under (pools_of g c) req) ((c.instances k).brigades b)).carried) fewer (omega arith) s.limit) s where
       fewer : (n : ℕ) → count_in chain (request_over req (g, c)).1 n ≤ count_in chain c n
       fewer n =
-          let left : sum_below (length chain) (λ k. count_at (touched_instance (cleared_var (is_under (pools_of g c) req)) (c.instances k)) n) ≤ sum_below (length chain) (λ k. count_at (c.instances k) n) =
+          let left : sum_below (length chain) (λ k. count_at (touched_instance (cleared_var (is_under (pools_of g c) req)) (c.instances k)) n) ≤ sum_below (length chain)
+          (λ k. count_at (c.instances k) n) =
           sum_below_le (length chain) _ _ (λ k. touched_at (cleared_var (is_under (pools_of g c) req)) (cleared_fewer (is_under (pools_of g c) req)) (c.instances k) n) in
           omega arith
 
@@ -103,7 +104,8 @@ module _ (chain : List Program) (pieces : List Piece) (req : ℕ) (g : Common) (
   counted : (n : ℕ) → count_in chain (brought_in chain pieces req (g, c)).1 n ≤ count_in chain c n + count_named n in_brigade.items
   unfolding count_in count_loose
   counted n =
-      let all : sum_below (length chain) (λ k. count_at (new k) n) + count_at (c.instances 0) n ≡ sum_below (length chain) (λ k. count_at (c.instances k) n) + count_at (set_in (var.Live in_brigade) (c.instances 0)) n =
+      let all : sum_below (length chain) (λ k. count_at (new k) n) + count_at (c.instances 0) n ≡ sum_below (length chain) (λ k. count_at (c.instances k) n) + count_at
+      (set_in (var.Live in_brigade) (c.instances 0)) n =
       sum_below_upd (length chain) 0 c.instances (set_in (var.Live in_brigade) (c.instances 0)) (λ x. count_at x n) some in
       let here : count_at (set_in (var.Live in_brigade) (c.instances 0)) n ≤ count_at (c.instances 0) n + count_named n in_brigade.items =
       sum_written 9 8 (c.instances 0).brigades (var.Live in_brigade) (λ x. count_named n (items_of x)) in
@@ -114,7 +116,8 @@ module _ (chain : List Program) (pieces : List Piece) (req : ℕ) (g : Common) (
   named k b n h = elim (upd_either c.instances 0 k (set_in (var.Live in_brigade) (c.instances 0))) [
     | inl p ↦ elim (upd_either (c.instances 0).brigades 8 b (var.Live in_brigade)) [
       | inl q ↦ inr (p.0, q.0, some_is (g.next + 1) n (subst (λ v. brigade_name v ≡ Some n) q.1 (subst (λ (x : Instance). brigade_name (x.brigades b) ≡ Some n) p.1 h)))
-      | inr q ↦ inl (subst (λ (m : ℕ). brigade_name ((c.instances m).brigades b) ≡ Some n) (sym p.0) (subst (λ v. brigade_name v ≡ Some n) q.1 (subst (λ (x : Instance). brigade_name (x.brigades b) ≡ Some n) p.1 h)))
+      | inr q ↦ inl (subst (λ (m : ℕ). brigade_name ((c.instances m).brigades b) ≡ Some n) (sym p.0)
+          (subst (λ v. brigade_name v ≡ Some n) q.1 (subst (λ (x : Instance). brigade_name (x.brigades b) ≡ Some n) p.1 h)))
     ]
     | inr p ↦ inl (subst (λ (x : Instance). brigade_name (x.brigades b) ≡ Some n) p.1 h)
   ]

@@ -128,16 +128,19 @@ pub begun_pools : (chain : List Program) (g : Common) (c : Connection) → c.req
 unfolding begun configuration created
 begun_pools chain g c none limit h = all_called_pools chain _ (record {
   sound = λ f. same_sound (request_begun (configuration g c f)) _ refl refl refl refl (begun_sound (configuration g c f) limit (h.sound f));
-  declared = λ f. same_declared (module_at chain f.of) (request_begun (configuration g c f)) _ refl refl refl refl (begun_declared (module_at chain f.of) (configuration g c f) none (h.sound f) (h.declared f));
+  declared = λ f. same_declared (module_at chain f.of) (request_begun (configuration g c f)) _ refl refl refl refl
+      (begun_declared (module_at chain f.of) (configuration g c f) none (h.sound f) (h.declared f));
   apart = h.apart;
 })
 
 -- A file is opened: the request's pool refers to it.
 
-pub file_taken_pools : (chain : List Program) (req file : ℕ) (bytes : List ℕ) (g : Common) (c : Connection) → c.req ≡ Some req → ChainPools chain g c → LinkedPools chain (file_taken req file bytes (g, c))
+pub file_taken_pools : (chain : List Program) (req file : ℕ) (bytes : List ℕ) (g : Common) (c : Connection) → c.req ≡ Some req → ChainPools chain g c
+    → LinkedPools chain (file_taken req file bytes (g, c))
 unfolding configuration registered
 file_taken_pools chain req file bytes g c is h = record {
-  sound = λ f. (let s = h.sound f in keeps_paths (configuration g c f) _ (registered_formed req (FileRef file) (pools_of g c) (path_live (pools_of g c) req req _ (s.req req is).0) s.formed) refl refl refl refl refl s.brigades s);
+  sound = λ f. (let s = h.sound f in
+      keeps_paths (configuration g c f) _ (registered_formed req (FileRef file) (pools_of g c) (path_live (pools_of g c) req req _ (s.req req is).0) s.formed) refl refl refl refl refl s.brigades s);
   declared = λ f. kept (module_at chain f.of) (configuration g c f) _ refl refl refl refl (same_vars (configuration g c f)) (h.declared f);
   apart = h.apart;
 }
@@ -146,7 +149,8 @@ file_taken_pools chain req file bytes g c is h = record {
 
 pub brought_in_pools : (chain : List Program) (pieces : List Piece) (req : ℕ) (g : Common) (c : Connection) → ChainPools chain g c → LinkedPools chain (brought_in chain pieces req (g, c))
 brought_in_pools chain pieces req g c h =
-    one_instance chain g _ c _ 0 (set_in _ (c.instances 0)) refl refl refl refl (one_brigade (c.instances 0) 8 _ (inr (refl, λ w e. (let same = live_same _ w e in ap (λ (v : Brigade). v.on) (sym same))))) h where
+    one_instance chain g _ c _ 0 (set_in _ (c.instances 0)) refl refl refl refl
+    (one_brigade (c.instances 0) 8 _ (inr (refl, λ w e. (let same = live_same _ w e in ap (λ (v : Brigade). v.on) (sym same))))) h where
       live_same : (v w : Brigade) → var.Live v ≡ var.Live w → v ≡ w
       live_same v w e = cc
 
@@ -166,10 +170,12 @@ pub request_over_pools : (chain : List Program) (req : ℕ) (g : Common) (c : Co
 unfolding configuration run_down with_pools
 request_over_pools chain req g c is h = let left : Linked = request_over req (g, c) in record {
   sound = λ f. (let s = h.sound f in
-      went_pools req (configuration g c f) (configuration left.0 left.1 f) (destroyed_next req (pools_of g c)) (destroyed_formed req (pools_of g c) s.formed) (λ k apart. (destroyed_apart req (pools_of g c) k apart).0) refl (λ m e. absurd (cc)) refl (λ b. refl) (s.req req is).1 s);
+      went_pools req (configuration g c f) (configuration left.0 left.1 f) (destroyed_next req (pools_of g c)) (destroyed_formed req (pools_of g c) s.formed)
+      (λ k apart. (destroyed_apart req (pools_of g c) k apart).0) refl (λ m e. absurd (cc)) refl (λ b. refl) (s.req req is).1 s);
   declared = λ f. (let s = h.sound f in
       went (module_at chain f.of) req (configuration g c f) (configuration left.0 left.1 f) s.formed refl (λ k off. (destroyed_apart req (pools_of g c) k off).0)
       (λ k under live. absurd (not_live (destroyed req (pools_of g c)) k (destroyed_under req (pools_of g c) k under).0 live))
-      (over_named (configuration g c f) (configuration left.0 left.1 f) req refl refl is (destroyed_under req (pools_of g c) req (under_itself (pools_of g c) s.formed req (path_live (pools_of g c) req req _ (s.req req is).0))).0) (λ b. refl) (h.declared f));
+      (over_named (configuration g c f) (configuration left.0 left.1 f) req refl refl is
+      (destroyed_under req (pools_of g c) req (under_itself (pools_of g c) s.formed req (path_live (pools_of g c) req req _ (s.req req is).0))).0) (λ b. refl) (h.declared f));
   apart = h.apart;
 }

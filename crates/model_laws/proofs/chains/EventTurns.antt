@@ -13,7 +13,8 @@ use Rattle.run_model.specs.Pieces.{data_behind_eos, lacks_file}
 use Rattle.run_model.specs.State.{Out}
 use Rattle.run_model.specs.Chains.{Frame, Connection, Common, Linked, IsChain}
 use Rattle.run_model.specs.Passing.{Reads}
-use Rattle.run_model.specs.Turns.{Opening, Found, Missing, Failing, is_missing, is_failing, number_given, steps, unless_refused, is_busy, begun, begins, file_taken, file_answer, opens_file, brought_in, brought, brings, request_over, ended, ends}
+use Rattle.run_model.specs.Turns.{Opening, Found, Missing, Failing, is_missing, is_failing, number_given, steps, unless_refused, is_busy, begun, begins, file_taken, file_answer, opens_file}
+use Rattle.run_model.specs.Turns.{brought_in, brought, brings, request_over, ended, ends}
 use Rattle.model_laws.specs.ChainLaws.{MayProceed, after_top}
 use Rattle.model_laws.proofs.StepNames.{not_spent}
 use Rattle.model_laws.proofs.StepFiles.{neither}
@@ -35,9 +36,11 @@ pub data Turn (chain : List Program) (Lengths : ℕ → Type 0) (g : Common) (c 
   -- a request begins
   Begun : c.broken ≡ None → c.stack ≡ [] → c.req ≡ None → g.pools + 1 < 2 ^ 64 → g.next + 1 < 2 ^ 64 → Turn chain Lengths g c (begun chain (g, c))
   -- a brigade is brought
-  Brought : (pieces : List Piece) (req : ℕ) → c.broken ≡ None → c.stack ≡ [] → c.req ≡ Some req → list_any (lacks_file c.files) pieces ≡ false → g.next + (2 + length pieces) < 2 ^ 64 → Turn chain Lengths g c (brought_in chain pieces req (g, c))
+  Brought : (pieces : List Piece) (req : ℕ) → c.broken ≡ None → c.stack ≡ [] → c.req ≡ Some req → list_any (lacks_file c.files) pieces ≡ false → g.next + (2 + length pieces) < 2 ^ 64
+      → Turn chain Lengths g c (brought_in chain pieces req (g, c))
   -- a file is opened, under a number that was not given out
-  FileTaken : (req file : ℕ) (bytes : List ℕ) → c.broken ≡ None → c.stack ≡ [] → c.req ≡ Some req → Lengths (length bytes) → g.file ≤ file → is_spent file 1 ≡ false → Turn chain Lengths g c (file_taken req file bytes (g, c))
+  FileTaken : (req file : ℕ) (bytes : List ℕ) → c.broken ≡ None → c.stack ≡ [] → c.req ≡ Some req → Lengths (length bytes) → g.file ≤ file → is_spent file 1 ≡ false
+      → Turn chain Lengths g c (file_taken req file bytes (g, c))
   -- a request ends
   Ended : (req : ℕ) → c.broken ≡ None → c.stack ≡ [] → c.req ≡ Some req → Turn chain Lengths g c (request_over req (g, c))
 
@@ -74,7 +77,8 @@ module _ (chain : List Program) (Lengths : ℕ → Type 0) (g : Common) (c : Con
       let last = neither (is_spent g.pools 1) (is_spent g.next 1) e.0 in
       Begun (not_broken c.broken _ none) (not_busy c.stack b.0) (no_request c.req d.0) (not_spent g.pools 1 last.0) (not_spent g.next 1 last.1))
 
-  brought_turn : (pieces : List Piece) (req : Option ℕ) → c.req ≡ req → c.broken ≡ None → c.stack ≡ [] → list_any (lacks_file c.files) pieces ≡ false → g.next + (2 + length pieces) < 2 ^ 64 → Turn chain Lengths g c (brought chain pieces req (g, c))
+  brought_turn : (pieces : List Piece) (req : Option ℕ) → c.req ≡ req → c.broken ≡ None → c.stack ≡ [] → list_any (lacks_file c.files) pieces ≡ false → g.next + (2 + length pieces) < 2 ^ 64
+      → Turn chain Lengths g c (brought chain pieces req (g, c))
   brought_turn pieces None is whole idle there last = Same
   brought_turn pieces (Some req) is whole idle there last = Brought pieces req whole idle is there last
 
@@ -89,7 +93,8 @@ module _ (chain : List Program) (Lengths : ℕ → Type 0) (g : Common) (c : Con
       let i = none_if (is_spent g.next (2 + length pieces)) refusal.NamesSpent _ h.1 in
       brought_turn pieces c.req refl (not_broken c.broken _ none) (not_busy c.stack b.0) h.0 (not_spent g.next (2 + length pieces) i.0))
 
-  file_turn : (o : Option Refusal) (req : Option ℕ) (opening : Opening) → c.req ≡ req → OpensAs Lengths (file_answer o req opening (g, c)).0 → (o ≡ None → (c.broken ≡ None) × (c.stack ≡ []) × (is_spent (number_given g opening) 1 ≡ false))
+  file_turn : (o : Option Refusal) (req : Option ℕ) (opening : Opening) → c.req ≡ req → OpensAs Lengths (file_answer o req opening (g, c)).0
+      → (o ≡ None → (c.broken ≡ None) × (c.stack ≡ []) × (is_spent (number_given g opening) 1 ≡ false))
       → Turn chain Lengths g c (file_answer o req opening (g, c)).1
   file_turn (Some r) req opening is told known = Same
   file_turn None None opening is told known = Same
@@ -122,4 +127,5 @@ module _ (chain : List Program) (Lengths : ℕ → Type 0) (g : Common) (c : Con
   pub steps_turn : IsChain chain → (memory : Bool) (budget : ℕ) (reads : Reads) → Turn chain Lengths g c (steps memory budget chain reads (g, c)).1
   steps_turn chained memory budget reads =
       step_cases (Turn chain Lengths g c) memory budget chain reads g c Same (λ k other. Stood c.out (Some k)) (λ f rest k whole top is. Stood c.out (Some cause.Faulted))
-      (λ f rest whole few ready. Went reads f rest whole (record { chained = chained; on_top = ready.on_top; faultless = ready.faultless; names_last = ready.names_last; calls_last = ready.calls_last }))
+      (λ f rest whole few ready. Went reads f rest whole
+      (record { chained = chained; on_top = ready.on_top; faultless = ready.faultless; names_last = ready.names_last; calls_last = ready.calls_last }))

@@ -48,8 +48,10 @@ closes_some handed left fs = (λ file is_open. by_test (list_any (λ x. is_file_
 
 step_opens : (p : Program) (choice : Choice) (i : Instr) (r : Configuration) → Leaves r (step p choice i r).state
 unfolding with_pools run_down
-step_opens p choice (instr.PClear q) r = on_named (Leaves r) pool_cleared (pool_named r (pool.Own q)) r (λ file is_open. is_open, refl) (λ n e. closes_some (run_order r.shared.pools n) (cleared n r.shared.pools) r.shared.files)
-step_opens p choice (instr.PDestroy q) r = on_named (Leaves r) pool_destroyed (pool_named r (pool.Own q)) r (λ file is_open. is_open, refl) (λ n e. closes_some (run_order r.shared.pools n) (destroyed n r.shared.pools) r.shared.files)
+step_opens p choice (instr.PClear q) r =
+    on_named (Leaves r) pool_cleared (pool_named r (pool.Own q)) r (λ file is_open. is_open, refl) (λ n e. closes_some (run_order r.shared.pools n) (cleared n r.shared.pools) r.shared.files)
+step_opens p choice (instr.PDestroy q) r =
+    on_named (Leaves r) pool_destroyed (pool_named r (pool.Own q)) r (λ file is_open. is_open, refl) (λ n e. closes_some (run_order r.shared.pools n) (destroyed n r.shared.pools) r.shared.files)
 step_opens p choice i r =
     let same = (step_changes_only p choice i r).files refl in
     (λ file is_open. subst (λ (fs : Files). is_some (fs.opened file) ≡ true) same is_open, ap (λ (fs : Files). fs.next) same)
@@ -68,7 +70,8 @@ went_opens : (chain : List Program) (reads : Reads) (f : Frame) (rest : List Fra
 unfolding configuration
 went_opens chain reads f rest g c =
     let i : Instr = current (module_at chain f.of) f.pc in
-    none_new g c (after_top chain reads g c f rest) (proceeds_so (λ ps files next req. OpensNone c.opened g.file files next) chain reads i f rest g c (λ choice. step_opens (module_at chain f.of) choice i (configuration g c f)) (λ file is_open. is_open, refl))
+    none_new g c (after_top chain reads g c f rest) (proceeds_so (λ ps files next req. OpensNone c.opened g.file files next) chain reads i f rest g c
+    (λ choice. step_opens (module_at chain f.of) choice i (configuration g c f)) (λ file is_open. is_open, refl))
 
 taken_opens : (req new : ℕ) (bytes : List ℕ) (g : Common) (c : Connection) → g.file ≤ new → (v : Linked) → v.0.file ≡ new + 1 → v.1.opened ≡ upd c.opened new (Some bytes) → OpensNew g c v
 taken_opens req new bytes g c newer v last files = record {

@@ -1,5 +1,6 @@
 -- The files of FILE buckets stay open in each connection with a chain.
-use Rattle.std.proofs.Common.{◌≡◌, ◌⊎◌, ℕ, ◌+◌, Bool, true, false, ◌&&◌, ◌||◌, ◌==◌, List, [], ◌∷◌, length, nat_le, filter_map, Option, Some, None, is_some, inl, inr, refl, sym, ◌∙◌, ap, subst, eqb-true}
+use Rattle.std.proofs.Common.{◌≡◌, ◌⊎◌, ℕ, ◌+◌, Bool, true, false, ◌&&◌, ◌||◌, ◌==◌, List, [], ◌∷◌, length, nat_le, filter_map, Option, Some, None, is_some, inl, inr, refl, sym, ◌∙◌, ap, subst}
+use Rattle.std.proofs.Common.{eqb-true}
 use Rattle.std.proofs.lemmas.Option.{none-some, same_Some}
 use Rattle.std.proofs.lemmas.List.Folds.{list_any-append}
 use Rattle.module_code.specs.declared.instr.PoolRef.TheVariants as pool
@@ -33,7 +34,8 @@ use Rattle.run_model.proofs.Updates.{upd_either}
 use Rattle.model_laws.proofs.StepPools.{aside_pools}
 use Rattle.model_laws.proofs.NamedPools.{on_named, made_under_named}
 use Rattle.model_laws.proofs.MadeBrigades.{brigade_refers}
-use Rattle.run_model.proofs.References.{Emptied, one_of, created_refers, created_back, registered_refers, registered_back, registered_itself, all_grow, killed_refers, emptied_refers, cleared_emptied, destroyed_emptied}
+use Rattle.run_model.proofs.References.{Emptied, one_of, created_refers, created_back, registered_refers, registered_back, registered_itself, all_grow, killed_refers, emptied_refers, cleared_emptied}
+use Rattle.run_model.proofs.References.{destroyed_emptied}
 use Rattle.model_laws.proofs.StepFiles.{cleared_held, returned_held, went_and, step_files}
 use Rattle.model_laws.proofs.EachItem.{none}
 use Rattle.model_laws.proofs.PieceFiles.{pieces_held}
@@ -67,20 +69,27 @@ gone_held : (gone : ℕ → Configuration → Configuration) (o : Option ℕ) (r
 gone_held gone None r e x h = cleared_held (λ m. false) r.shared.pools r.shared.pools (λ m file off there. there) x h
 gone_held gone (Some n) r e x h = cleared_held (is_under r.shared.pools n) r.shared.pools (gone n r).shared.pools (λ m file off there. emptied_refers n r.shared.pools _ (e n) m file off there) x h
 
-touched_held : (p : Program) (choice : Choice) (i : Instr) (r : Configuration) → IsPoolMap r.shared.pools → (x : NamedBucket) → HasReference r.shared.pools x → HasReference (step p choice i r).state.shared.pools (touched_bucket r i x)
+touched_held : (p : Program) (choice : Choice) (i : Instr) (r : Configuration) → IsPoolMap r.shared.pools → (x : NamedBucket) → HasReference r.shared.pools x
+    → HasReference (step p choice i r).state.shared.pools (touched_bucket r i x)
 unfolding with_pools set_pool run_down set_brigade
 touched_held p choice (instr.PClear q) r formed x h = gone_held pool_cleared (pool_named r (pool.Own q)) r (λ n. cleared_emptied n r.shared.pools) x h
 touched_held p choice (instr.PDestroy q) r formed x h = gone_held pool_destroyed (pool_named r (pool.Own q)) r (λ n. destroyed_emptied n r.shared.pools) x h
 touched_held p choice (instr.Ret s) r formed x h = returned_held r.call.name r.shared.pools x h
-touched_held p choice (instr.PCreate q) r formed x h = made_under_named (Leaves r x) p q r h (λ parent e. held_so r.shared.pools (created parent r.shared.pools) (λ m file there. created_refers parent r.shared.pools m file formed there) x h)
+touched_held p choice (instr.PCreate q) r formed x h =
+    made_under_named (Leaves r x) p q r h (λ parent e. held_so r.shared.pools (created parent r.shared.pools) (λ m file there. created_refers parent r.shared.pools m file formed there) x h)
 touched_held p choice (instr.Label q t) r formed x h =
-    on_named (Leaves r x) (label_registered (text_of p t)) (pool_named r q) r h (λ n e. held_so r.shared.pools (registered n (Label (text_of p t)) r.shared.pools) (λ m file there. registered_refers n (Label (text_of p t)) r.shared.pools m file there) x h)
+    on_named (Leaves r x) (label_registered (text_of p t)) (pool_named r q) r h
+    (λ n e. held_so r.shared.pools (registered n (Label (text_of p t)) r.shared.pools) (λ m file there. registered_refers n (Label (text_of p t)) r.shared.pools m file there) x h)
 touched_held p choice (instr.Unlabel q t) r formed x h =
-    on_named (Leaves r x) (label_killed (text_of p t)) (pool_named r q) r h (λ n e. held_so r.shared.pools (killed n (is_label (text_of p t)) r.shared.pools) (λ m file there. killed_refers n (text_of p t) r.shared.pools m file ∙ there) x h)
-touched_held p choice (instr.BCreate o) r formed x h = held_so r.shared.pools (with_brigade (pool_named r (pool_of_brigade p o)) r.shared.next r.shared.pools) (λ m file there. brigade_refers (pool_named r (pool_of_brigade p o)) r.shared.next r.shared.pools m file there) x h
+    on_named (Leaves r x) (label_killed (text_of p t)) (pool_named r q) r h
+    (λ n e. held_so r.shared.pools (killed n (is_label (text_of p t)) r.shared.pools) (λ m file there. killed_refers n (text_of p t) r.shared.pools m file ∙ there) x h)
+touched_held p choice (instr.BCreate o) r formed x h = held_so r.shared.pools (with_brigade (pool_named r (pool_of_brigade p o)) r.shared.next r.shared.pools)
+    (λ m file there. brigade_refers (pool_named r (pool_of_brigade p o)) r.shared.next r.shared.pools m file there) x h
 touched_held p choice (instr.BSave o b) r formed x h = on_named (Leaves r x) (saved_into o b) (made_on (r.instance.brigades o)) r h (λ target e.
-    held_so r.shared.pools (all_referred target (filter_map (new_ref r.shared.pools target) (items_of (r.instance.brigades b))) r.shared.pools) (λ m file there. all_grow target (filter_map (new_ref r.shared.pools target) (items_of (r.instance.brigades b))) r.shared.pools m file there) x h)
-touched_held p choice (instr.Aside c q) r formed x h = on_named (Leaves r x) (aside_into (spot r c)) (pool_named r q) r h (λ target e. held_so r.shared.pools (aside_into (spot r c) target r).shared.pools (aside_grows (spot r c) target r) x h)
+    held_so r.shared.pools (all_referred target (filter_map (new_ref r.shared.pools target) (items_of (r.instance.brigades b))) r.shared.pools)
+    (λ m file there. all_grow target (filter_map (new_ref r.shared.pools target) (items_of (r.instance.brigades b))) r.shared.pools m file there) x h)
+touched_held p choice (instr.Aside c q) r formed x h =
+    on_named (Leaves r x) (aside_into (spot r c)) (pool_named r q) r h (λ target e. held_so r.shared.pools (aside_into (spot r c) target r).shared.pools (aside_grows (spot r c) target r) x h)
 touched_held p choice i r formed x h = subst (λ (ps : Pools Payload). HasReference ps x) (sym ((step_changes_only p choice i r).tree refl)) h
 
 -- Connections.
@@ -135,7 +144,8 @@ went_files chain reads f rest g c may s h = record {
   same_files = proceeds_files chain reads i f rest g c
 
   stepped : (choice : Choice) → SoundFiles c.files (step (module_at chain f.of) choice i (configuration g c f)).state
-  stepped choice = step_files (module_at chain f.of) choice i c.files (configuration g c f) (may_step chain g c f rest may s) (sound_top chain g c f rest may.on_top s) (seen_files g c f rest may.on_top h)
+  stepped choice = step_files (module_at chain f.of) choice i c.files (configuration g c f) (may_step chain g c f rest may s) (sound_top chain g c f rest may.on_top s)
+      (seen_files g c f rest may.on_top h)
 
   others : Others c (pools_of left.0 left.1) left.1.opened left.0.file left.1.req
   others = proceeds_so (Others c) chain reads i f rest g c
@@ -181,13 +191,15 @@ taken_files req new_file bytes g c is h =
     let grow : Grows ps new = λ p file there. registered_refers req (FileRef new_file) ps p file there in
     let all = each_bucket_so (HasReference ps) (HasReference new) (held_so ps new grow) c h.held in
     record {
-      lasts = λ p file there. stays_open c.opened new_file file bytes (elim (registered_back req (FileRef new_file) ps p file there) [ inl old ↦ inl (h.lasts p file old) | inr same ↦ inr (eqb-true new_file file same) ]);
+      lasts = λ p file there. stays_open c.opened new_file file bytes
+          (elim (registered_back req (FileRef new_file) ps p file there) [ inl old ↦ inl (h.lasts p file old) | inr same ↦ inr (eqb-true new_file file same) ]);
       held = record { brigades = all.brigades; loose = all.loose };
       request = λ file end q has at. elim (one_of (has_range c.files file end) (has_range ((new_file, length bytes) ∷ []) file end)
           (sym (list_any-append (λ (f : ℕ × ℕ). f.0 == file && nat_le end f.1) c.files ((new_file, length bytes) ∷ [])) ∙ has)) [
             | inl old ↦ grow q file (h.request file end q old at)
             | inr last ↦ (let same : req ≡ q = same_Some req q (sym is ∙ at) in
-                subst (λ (k : ℕ). refers new k file ≡ true) same (subst (λ (k : ℕ). refers new req k ≡ true) (eqb-true new_file file (first_of (new_file == file) (nat_le end (length bytes)) last)) (registered_itself req new_file ps)))
+                subst (λ (k : ℕ). refers new k file ≡ true) same
+                (subst (λ (k : ℕ). refers new req k ≡ true) (eqb-true new_file file (first_of (new_file == file) (nat_le end (length bytes)) last)) (registered_itself req new_file ps)))
           ];
       between = λ none. absurd (none-some req (sym none ∙ is));
     } where
@@ -219,7 +231,8 @@ turn_files chain g c v (Went reads f rest whole may) s h =
 turn_files chain g c v (Begun whole idle none pools next) s h = begun_files chain g c (s.pools.sound (looking 0)).formed none h
 turn_files chain g c v (Brought pieces req whole idle is there next) s h = record {
   lasts = h.lasts;
-  held = brought_in_each (HasReference (pools_of g c)) chain pieces req g c (pieces_held (pools_of g c) c.files g.next req (g.next + 2) pieces there (λ file end has. h.request file end req has is)) h.held;
+  held = brought_in_each (HasReference (pools_of g c)) chain pieces req g c
+      (pieces_held (pools_of g c) c.files g.next req (g.next + 2) pieces there (λ file end has. h.request file end req has is)) h.held;
   request = h.request;
   between = h.between;
 }

@@ -28,7 +28,8 @@ calls_begin chain pieces req g c = (refl, refl, refl)
 -- The instruction on top.
 
 module _ (chain : List Program) (proper : (k : ℕ) → IsModule (module_at chain k)) (g : Common) (c : Connection) (f : Frame) where
-  stepped_after : (rest : List Frame) (choice : Choice) (i : Instr) → i ≡ current (module_at chain f.of) f.pc → is_return i ≡ false → CallsAfter chain g c (f ∷ rest) (stepped_in (module_at chain f.of) choice i f rest (g, c)).1.stack
+  stepped_after : (rest : List Frame) (choice : Choice) (i : Instr) → i ≡ current (module_at chain f.of) f.pc → is_return i ≡ false
+      → CallsAfter chain g c (f ∷ rest) (stepped_in (module_at chain f.of) choice i f rest (g, c)).1.stack
   unfolding stepped_in put_back configuration
   stepped_after rest choice i is on =
       let o = step (module_at chain f.of) choice i (configuration g c f) in
@@ -46,7 +47,8 @@ module _ (chain : List Program) (proper : (k : ℕ) → IsModule (module_at chai
   passed_after rest reads b l true e is = stepped_after rest (record { answer = answer_to (delivered c.out (items_of ((c.instances f.of).brigades b)) reads).1; given = None }) (instr.Pass b l) is refl
   passed_after rest reads b l false e is = Passes f rest e
 
-  ended_after : (s : Status) (queue : List ℕ) → c.queue ≡ queue → CallsAfter chain g c (f ∷ []) (next_called chain s queue (put_back (instr.Ret s) f (do_return (configuration g c f)) [] [] (g, c))).1.1.stack
+  ended_after : (s : Status) (queue : List ℕ) → c.queue ≡ queue
+      → CallsAfter chain g c (f ∷ []) (next_called chain s queue (put_back (instr.Ret s) f (do_return (configuration g c f)) [] [] (g, c))).1.1.stack
   unfolding put_back configuration
   ended_after s [] is = Ends f is
   ended_after s (k ∷ ks) is = Follows f k ks is
@@ -60,7 +62,8 @@ module _ (chain : List Program) (proper : (k : ℕ) → IsModule (module_at chai
         after_leads (StandsIn from to) s (current (module_at chain w.of) w.pc) at.0 at.1 w.pc at.2 (code_leads (module_at chain w.of) (proper w.of) from to w.pc code stands);
   })
 
-  proceeds_after : (rest : List Frame) (reads : Reads) (i : Instr) → i ≡ current (module_at chain f.of) f.pc → All (WaitsAtPass chain) rest → CallsAfter chain g c (f ∷ rest) (proceeds chain reads i f rest (g, c)).1.1.stack
+  proceeds_after : (rest : List Frame) (reads : Reads) (i : Instr) → i ≡ current (module_at chain f.of) f.pc → All (WaitsAtPass chain) rest
+      → CallsAfter chain g c (f ∷ rest) (proceeds chain reads i f rest (g, c)).1.1.stack
   unfolding proceeds returned_from
   proceeds_after rest reads (instr.Pass b l) is waits = passed_after rest reads b l (is_last chain f.of) refl is
   proceeds_after [] reads (instr.Ret s) is waits = ended_after s c.queue refl

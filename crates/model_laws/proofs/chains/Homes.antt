@@ -50,7 +50,8 @@ map_called change (f ∷ fs) n (inr there) = inr (map_called change fs n there)
 Stays : Instr → Frame → List Frame → List Frame → Type 0
 Stays i f fs new = (n : ℕ) → IsCalled (f ∷ fs) n → (is_return i ≡ true → n ≢ f.call.name) → IsCalled new n
 
-stepped_calls : (chain : List Program) (choice : Choice) (i : Instr) (f : Frame) (rest : List Frame) (g : Common) (c : Connection) → is_return i ≡ false → Stays i f rest (stepped_in (module_at chain f.of) choice i f rest (g, c)).1.stack
+stepped_calls : (chain : List Program) (choice : Choice) (i : Instr) (f : Frame) (rest : List Frame) (g : Common) (c : Connection) → is_return i ≡ false
+    → Stays i f rest (stepped_in (module_at chain f.of) choice i f rest (g, c)).1.stack
 unfolding Stays IsCalled stepped_in put_back configuration
 stepped_calls chain choice i f rest g c on n (inl here) others = inl ((step_changes_only (module_at chain f.of) choice i (configuration g c f)).call_name on ∙ here)
 stepped_calls chain choice i f rest g c on n (inr there) others = inr (map_called _ rest n there)
@@ -58,7 +59,8 @@ stepped_calls chain choice i f rest g c on n (inr there) others = inr (map_calle
 passed_calls : (chain : List Program) (reads : Reads) (b l : ℕ) (f : Frame) (rest : List Frame) (g : Common) (c : Connection) (t : Bool)
     → Stays (instr.Pass b l) f rest (cond t (delivered_by (module_at chain f.of) reads b (instr.Pass b l) f rest (g, c)) (passed_to (module_at chain (f.of + 1)) b f rest (g, c))).1.stack
 unfolding Stays IsCalled delivered_by passed_to
-passed_calls chain reads b l f rest g c true n h others = stepped_calls chain (record { answer = answer_to (delivered c.out (items_of ((c.instances f.of).brigades b)) reads).1; given = None }) (instr.Pass b l) f rest g c refl n h others
+passed_calls chain reads b l f rest g c true n h others =
+    stepped_calls chain (record { answer = answer_to (delivered c.out (items_of ((c.instances f.of).brigades b)) reads).1; given = None }) (instr.Pass b l) f rest g c refl n h others
 passed_calls chain reads b l f rest g c false n h others = inr h
 
 gone : (i : Instr) (f : Frame) (new : List Frame) → is_return i ≡ true → Stays i f [] new
@@ -96,7 +98,8 @@ module _ (chain : List Program) (g : Common) (c : Connection) (f : Frame) (rest 
           brigades = λ b. each_so (AliveAs C s.shared.pools) (AliveAs D s.shared.pools) (weaker s.shared.pools calls) (items_of (s.instance.brigades b)) (left.brigades b);
           loose = each_so (AliveAs C s.shared.pools) (AliveAs D s.shared.pools) (weaker s.shared.pools calls) s.call.loose left.loose;
         };
-    touched = λ choice x a. weaker (step (module_at chain f.of) choice i (configuration g c f)).state.shared.pools calls (touched_bucket (configuration g c f) i x) (touched_alive C (module_at chain f.of) choice i (configuration g c f) on x a);
+    touched = λ choice x a. weaker (step (module_at chain f.of) choice i (configuration g c f)).state.shared.pools calls (touched_bucket (configuration g c f) i x)
+        (touched_alive C (module_at chain f.of) choice i (configuration g c f) on x a);
   }
 
   homes_step : (i : Instr) → ((n : ℕ) → C n → (is_return i ≡ true → n ≢ f.call.name) → D n)
@@ -130,7 +133,8 @@ went_homes chain reads f rest g c may s h =
 -- Events between calls.
 
 -- no call runs
-idle_so : (D : ℕ → Type 0) (fs : List Frame) (ps new : Pools Payload) → fs ≡ [] → ((n : ℕ) → is_live ps n ≡ true → is_live new n ≡ true) → (x : NamedBucket) → AliveAs (IsCalled fs) ps x → AliveAs D new x
+idle_so : (D : ℕ → Type 0) (fs : List Frame) (ps new : Pools Payload) → fs ≡ [] → ((n : ℕ) → is_live ps n ≡ true → is_live new n ≡ true) → (x : NamedBucket) → AliveAs (IsCalled fs) ps x
+    → AliveAs D new x
 unfolding IsCalled
 idle_so D fs ps new idle lives x a = home_so (IsCalled fs) D ps new (λ n h. absurd (subst (λ (w : List Frame). IsCalled w n) idle h)) lives x.bucket.home a
 
@@ -139,7 +143,8 @@ unfolding begun all_called
 begun_homes chain g c idle h =
     let left : Linked = begun chain (g, c) in
     begun_each (HomeIsAlive left.0 left.1) chain g c
-    (each_bucket_so (HomeIsAlive g c) (HomeIsAlive left.0 left.1) (idle_so (IsCalled left.1.stack) c.stack (pools_of g c) (created c.conn (pools_of g c)) idle (created_lives c.conn (pools_of g c))) c h)
+    (each_bucket_so (HomeIsAlive g c) (HomeIsAlive left.0 left.1)
+    (idle_so (IsCalled left.1.stack) c.stack (pools_of g c) (created c.conn (pools_of g c)) idle (created_lives c.conn (pools_of g c))) c h)
 
 pieces_alive : (D : ℕ → Type 0) (ps : Pools Payload) (call req n : ℕ) (xs : List Piece) → D call → is_live ps req ≡ true → All (AliveAs D ps) (named_from (bucket_of call req) n xs)
 pieces_alive D ps call req n [] runs live = none (AliveAs D ps)
@@ -149,7 +154,8 @@ pieces_alive D ps call req n (x ∷ xs) runs live = All-cons (AliveAs D ps) _ (n
   one (piece.File file start len) = live
   one y = tt
 
-brought_homes : (chain : List Program) (pieces : List Piece) (req : ℕ) (g : Common) (c : Connection) → c.stack ≡ [] → is_live (pools_of g c) req ≡ true → ChainHomes g c → ChainHomes (brought_in chain pieces req (g, c)).0 (brought_in chain pieces req (g, c)).1
+brought_homes : (chain : List Program) (pieces : List Piece) (req : ℕ) (g : Common) (c : Connection) → c.stack ≡ [] → is_live (pools_of g c) req ≡ true → ChainHomes g c
+    → ChainHomes (brought_in chain pieces req (g, c)).0 (brought_in chain pieces req (g, c)).1
 unfolding IsCalled is_live
 brought_homes chain pieces req g c idle live h =
     let left : Linked = brought_in chain pieces req (g, c) in

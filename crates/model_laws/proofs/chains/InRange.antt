@@ -15,7 +15,8 @@ use Rattle.run_model.specs.State.{Instance, Configuration, items_of, fresh_call,
 use Rattle.run_model.specs.Effects.{do_pass, do_return}
 use Rattle.run_model.specs.Steps.{Choice, answer_to, current, step}
 use Rattle.model_laws.specs.Ranges.{AreBytes, HoldsBytes, BufferInRange, InRange, GivesBytes, IsOfBytes, BringsBytes}
-use Rattle.run_model.specs.Chains.{Frame, Connection, Common, Linked, module_at, is_last, configuration, pools_of, touched_bucket, touched_var, touched_instance, touched_frame, led_to, put_back, stepped_in, IsChain}
+use Rattle.run_model.specs.Chains.{Frame, Connection, Common, Linked, module_at, is_last, configuration, pools_of, touched_bucket, touched_var, touched_instance, touched_frame, led_to, put_back}
+use Rattle.run_model.specs.Chains.{stepped_in, IsChain}
 use Rattle.run_model.specs.Passing.{Reads, passed_to, passed_by, returned_to, called, delivered, delivered_by, next_called, returned_from, proceeds}
 use Rattle.run_model.specs.Turns.{file_taken, steps, all_called, opened, begun, begins, opens_file, brought, brings, ended, ends}
 use Rattle.run_model.specs.Worlds.{World, Told, Answer, new_world, IsRun}
@@ -127,17 +128,20 @@ returned_to_range : (chain : List Program) (chained : IsChain chain) (s : Status
 unfolding returned_to put_back configuration
 returned_to_range chain chained s f w rest g c is fit buffer h =
     let left = back_range chain chained s f (w ∷ rest) g c is fit buffer h in
-    let there : All IsOf (map (returned_bucket f.call.name) (items_of ((c.instances f.of).brigades 8))) = mapped_each IsOf IsOf (returned_bucket f.call.name) (λ x e. e) (items_of ((c.instances f.of).brigades 8)) (h.held.brigades f.of 8) in
+    let there : All IsOf (map (returned_bucket f.call.name) (items_of ((c.instances f.of).brigades 8))) =
+    mapped_each IsOf IsOf (returned_bucket f.call.name) (λ x e. e) (items_of ((c.instances f.of).brigades 8)) (h.held.brigades f.of 8) in
     record {
       numbers = written_numbers _ w.of _ left.numbers (left.numbers w.of);
       held = record {
         brigades = given_each IsOf (passed_by (current (module_at chain w.of) w.pc)) _ w.of _ left.held.brigades there;
-        loose = one_call IsOf _ (map (touched_frame (touched_bucket (configuration g c f) (instr.Ret s))) rest) (All-head (λ v. All IsOf v.call.loose) _ _ left.held.loose) (All-tail (λ v. All IsOf v.call.loose) _ _ left.held.loose);
+        loose = one_call IsOf _ (map (touched_frame (touched_bucket (configuration g c f) (instr.Ret s))) rest) (All-head (λ v. All IsOf v.call.loose) _ _ left.held.loose)
+            (All-tail (λ v. All IsOf v.call.loose) _ _ left.held.loose);
       };
       opened = left.opened;
     }
 
-proceeds_range : (chain : List Program) (chained : IsChain chain) (reads : Reads) → ((k : ℕ) (bytes : List ℕ) → reads k ≡ Some bytes → AreBytes bytes) → (i : Instr) (f : Frame) (rest : List Frame) (g : Common) (c : Connection)
+proceeds_range : (chain : List Program) (chained : IsChain chain) (reads : Reads) → ((k : ℕ) (bytes : List ℕ) → reads k ≡ Some bytes → AreBytes bytes)
+    → (i : Instr) (f : Frame) (rest : List Frame) (g : Common) (c : Connection)
     → c.stack ≡ f ∷ rest → fits (module_at chain f.of) i ≡ true → BufferInRange f.call.buffer → BytesInRange c → BytesInRange (proceeds chain reads i f rest (g, c)).1.1
 unfolding proceeds returned_from
 proceeds_range chain chained reads gives (instr.Pass b l) f rest g c is fit buffer h = by_last (is_last chain f.of) where
@@ -229,7 +233,8 @@ bytes_range memory budget chain told g c e v chained OnEnd brings tells buffers 
 bytes_range memory budget chain told g c e v chained OnTake brings tells buffers h =
     record { numbers = h.numbers; held = record { brigades = h.held.brigades; loose = h.held.loose }; opened = h.opened }
 
-made_range : (memory : Bool) (budget : ℕ) (chain : List Program) (told : Told) (g : Common) (c : Connection) (e : Event) (v : Linked) → IsChain chain → Made memory budget chain told g c e v → BringsBytes e → TellsBytes told
+made_range : (memory : Bool) (budget : ℕ) (chain : List Program) (told : Told) (g : Common) (c : Connection) (e : Event) (v : Linked) → IsChain chain → Made memory budget chain told g c e v
+    → BringsBytes e → TellsBytes told
     → ChainInRange c → ChainInRange v.1
 made_range memory budget chain told g c e v chained made brings tells h =
     let bytes = bytes_range memory budget chain told g c e v chained made brings tells h.buffers (record { numbers = h.numbers; held = h.held; opened = h.opened }) in
@@ -246,7 +251,8 @@ event_in_range memory budget chain told k e w chained brings tells h = event_eac
   unopened = λ x there. there;
 })
 
-from_world : (budget : ℕ) (chain : List Program) (es : List (ℕ × Event)) (answers : List Answer) (old new : World) → IsChain chain → IsRunOfBytes budget chain old es answers new → WorldInRange old → WorldInRange new
+from_world : (budget : ℕ) (chain : List Program) (es : List (ℕ × Event)) (answers : List Answer) (old new : World) → IsChain chain → IsRunOfBytes budget chain old es answers new → WorldInRange old
+    → WorldInRange new
 unfolding IsRunOfBytes
 from_world budget chain [] [] old new chained run h = subst WorldInRange (sym run) h
 from_world budget chain [] (a ∷ answers) old new chained run h = absurd run

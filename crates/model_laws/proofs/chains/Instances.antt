@@ -56,7 +56,8 @@ changed_declared p r x t d = record {
   named : (k : PoolRef) → pool_named (record r { instance = x }) k ≡ pool_named r k
   named k = named_same r (record r { instance = x }) t.own refl refl k
 
-  by_brigade : (b : ℕ) (v : Brigade) → b ≢ 8 → x.brigades b ≡ var.Live v → StaysOn b (r.instance.brigades b) (x.brigades b) → (v.on ≡ pool_named (record r { instance = x }) (pool_of_brigade p b)) × (is_live_named r.shared.pools v.on ≡ true)
+  by_brigade : (b : ℕ) (v : Brigade) → b ≢ 8 → x.brigades b ≡ var.Live v → StaysOn b (r.instance.brigades b) (x.brigades b) → (v.on ≡ pool_named (record r { instance = x }) (pool_of_brigade p b))
+      × (is_live_named r.shared.pools v.on ≡ true)
   by_brigade b v ne e (inl keeps) =
       let old = keeps v e in
       let lies = d.brigades b old.0 ne old.1 in
@@ -71,8 +72,10 @@ pub instances_pools : (chain : List Program) (g new : Common) (c left : Connecti
     → ((k : ℕ) → StaysInstance (c.instances k) (left.instances k)) → ChainPools chain g c → ChainPools chain new left
 unfolding configuration
 instances_pools chain g new c left pools conn req stays h = record {
-  sound = λ f. same_sound (record (configuration g c f) { instance = left.instances f.of }) (configuration new left f) pools conn req refl (changed_sound (configuration g c f) (left.instances f.of) (stays f.of) (h.sound f));
-  declared = λ f. same_declared (module_at chain f.of) (record (configuration g c f) { instance = left.instances f.of }) (configuration new left f) pools conn req refl (changed_declared (module_at chain f.of) (configuration g c f) (left.instances f.of) (stays f.of) (h.declared f));
+  sound = λ f. same_sound (record (configuration g c f) { instance = left.instances f.of }) (configuration new left f) pools conn req refl
+      (changed_sound (configuration g c f) (left.instances f.of) (stays f.of) (h.sound f));
+  declared = λ f. same_declared (module_at chain f.of) (record (configuration g c f) { instance = left.instances f.of }) (configuration new left f) pools conn req refl
+      (changed_declared (module_at chain f.of) (configuration g c f) (left.instances f.of) (stays f.of) (h.declared f));
   apart = λ j k q s n e d. h.apart j k q s n (sym (ap (λ (own : ℕ → PoolVar). own q) (stays j).own) ∙ e) (sym (ap (λ (own : ℕ → PoolVar). own s) (stays k).own) ∙ d);
 }
 
@@ -88,7 +91,8 @@ one_instance chain g new c left k x pools conn req instances stays h =
       ]
 
 -- where no instance changes
-pub same_instances : (chain : List Program) (g new : Common) (c left : Connection) → pools_of new left ≡ pools_of g c → left.conn ≡ c.conn → left.req ≡ c.req → left.instances ≡ c.instances → ChainPools chain g c → ChainPools chain new left
+pub same_instances : (chain : List Program) (g new : Common) (c left : Connection) → pools_of new left ≡ pools_of g c → left.conn ≡ c.conn → left.req ≡ c.req → left.instances ≡ c.instances
+    → ChainPools chain g c → ChainPools chain new left
 same_instances chain g new c left pools conn req instances h =
     instances_pools chain g new c left pools conn req (λ k. subst (λ (xs : ℕ → Instance). StaysInstance (c.instances k) (xs k)) (sym instances) (same_instance (c.instances k))) h
 

@@ -67,7 +67,8 @@ module _ (chain : List Program) (ps : Pools Payload) (g : Common) (c : Connectio
   turn_within v (Stood out broken) = unturned v refl refl refl
   turn_within v (Went reads f rest sane may) =
       let i : Instr = current (module_at chain f.of) f.pc in
-      let left = proceeds_so (λ new files next req. StaysWithin c.conn whole new) chain reads i f rest g all (λ choice. step_within c.conn (module_at chain f.of) (configuration g all f) (l.lies f) choice i may.faultless) (unturned (g, all) refl refl refl) in
+      let left = proceeds_so (λ new files next req. StaysWithin c.conn whole new) chain reads i f rest g all
+      (λ choice. step_within c.conn (module_at chain f.of) (configuration g all f) (l.lies f) choice i may.faultless) (unturned (g, all) refl refl refl) in
       record { rises = left.rises; off = left.off; inside = left.inside }
   turn_within v (Begun sane idle none pools next) = changes_within Made c.conn c.conn whole has (part_under whole c.conn has)
   turn_within v (Brought pieces req sane idle is there next) = unturned v refl refl refl
@@ -140,7 +141,8 @@ module _ (chain : List Program) (w : World) (ps : Pools Payload) (k : ℕ) (c : 
   same_root = (turn_rises chain AnyLength w.common (over ps c) v s.names t (sound_over chain ps w.common c s.lies s.sound)).root
 
   root_off : is_under (pools_of w.common (over ps c)) c.conn w.common.root ≡ false
-  root_off = false_from_ne_true (is_under (pools_of w.common (over ps c)) c.conn w.common.root) (λ under. both_ways (is_top (ps.path w.common.root)) (top_apart (pools_of w.common (over ps c)) c.conn w.common.root (has chain ps w.common c s.lies) under) (ap is_top s.pools.root))
+  root_off = false_from_ne_true (is_under (pools_of w.common (over ps c)) c.conn w.common.root)
+      (λ under. both_ways (is_top (ps.path w.common.root)) (top_apart (pools_of w.common (over ps c)) c.conn w.common.root (has chain ps w.common c s.lies) under) (ap is_top s.pools.root))
 
   root_stays : (now.path w.common.root ≡ ps.path w.common.root) × (now.payloads w.common.root ≡ ps.payloads w.common.root)
   root_stays = within.off w.common.root s.names.pools.0 root_off
@@ -150,7 +152,8 @@ module _ (chain : List Program) (w : World) (ps : Pools Payload) (k : ℕ) (c : 
   formed = ((turn_sound chain AnyLength w.common (over ps c) v s.chained s.names t (sound_over chain ps w.common c s.lies s.sound)).pools.sound (looking 0)).formed
 
   its_own : HasItsPart now (linked_in_part c.conn v).1
-  its_own = (let same : v.1.conn ≡ c.conn = turn_conn chain ps w.common c s.lies v t in record { path = ap (λ (n : ℕ). (part n now).path) (sym same); payloads = ap (λ (n : ℕ). (part n now).payloads) (sym same) })
+  its_own = (let same : v.1.conn ≡ c.conn = turn_conn chain ps w.common c s.lies v t in
+      record { path = ap (λ (n : ℕ). (part n now).path) (sym same); payloads = ap (λ (n : ℕ). (part n now).payloads) (sym same) })
 
   others_part : (j : ℕ) (d : Connection) → w.conns j ≡ Some d → j ≢ k → HasItsPart now d
   unfolding part
@@ -185,7 +188,8 @@ module _ (chain : List Program) (w : World) (ps : Pools Payload) (k : ℕ) (c : 
   covered n live other = elim (cases_Bool (is_under (pools_of w.common (over ps c)) c.conn n)) [
     | inl under ↦ mine n (within.inside n (inl under) live)
     | inr apart ↦ (elim (cases_Bool (nat_lt n w.common.pools)) [
-      | inl given ↦ (let same : now.path n ≡ ps.path n = (within.off n (ltb-true n w.common.pools given) apart).0 in another n apart same (s.pools.covered n (ap (λ (path : List ℕ). not (is_empty path)) (sym same) ∙ live) other))
+      | inl given ↦ (let same : now.path n ≡ ps.path n = (within.off n (ltb-true n w.common.pools given) apart).0 in
+          another n apart same (s.pools.covered n (ap (λ (path : List ℕ). not (is_empty path)) (sym same) ∙ live) other))
       | inr fresh ↦ mine n (within.inside n (inr (ltb-false n w.common.pools fresh)) live)
     ])
   ]
@@ -233,7 +237,8 @@ module _ (budget : ℕ) (chain : List Program) (w : World) (k : ℕ) (c : Connec
   }
 
   -- the event, seen in the part
-  leaves : {A : Type 0} (event : Linked → A × Linked) → event (w.common, c) ≡ seen_in c.conn (event (w.common, over (tree_of w) c)) → Turn chain AnyLength w.common (over (tree_of w) c) (event (w.common, over (tree_of w) c)).1
+  leaves : {A : Type 0} (event : Linked → A × Linked) → event (w.common, c) ≡ seen_in c.conn (event (w.common, over (tree_of w) c))
+      → Turn chain AnyLength w.common (over (tree_of w) c) (event (w.common, over (tree_of w) c)).1
       → (let v = (event (w.common, over (tree_of w) c)).1 in tree_of (put_conn k (event (w.common, c)).1 w) ≡ pools_of v.0 v.1)
   leaves {A = A} event seen turn = ap (λ (a : A × Linked). tree_of (put_conn k a.1 w)) seen ∙ left_tree chain w (tree_of w) k c reached_stands (event (w.common, over (tree_of w) c)).1 turn
 
@@ -241,19 +246,24 @@ module _ (budget : ℕ) (chain : List Program) (w : World) (k : ℕ) (c : Connec
   lies = reached_lies_over budget chain w k c chained r at
 
 pub steps_leave : StepsLeaveTheTree
-steps_leave memory budget chain reads w k c chained r at = leaves budget chain w k c chained r at (steps memory budget chain reads) (steps_in_part memory budget chain reads (tree_of w) w.common c (lies budget chain w k c chained r at)) (steps_turn chain AnyLength w.common (over (tree_of w) c) chained memory budget reads)
+steps_leave memory budget chain reads w k c chained r at = leaves budget chain w k c chained r at (steps memory budget chain reads)
+    (steps_in_part memory budget chain reads (tree_of w) w.common c (lies budget chain w k c chained r at)) (steps_turn chain AnyLength w.common (over (tree_of w) c) chained memory budget reads)
 
 pub begins_leave : BeginsLeaveTheTree
-begins_leave memory budget chain w k c chained r at = leaves budget chain w k c chained r at (begins memory chain) (begins_in_part memory chain (tree_of w) w.common c (lies budget chain w k c chained r at)) (begins_turn chain AnyLength w.common (over (tree_of w) c) memory)
+begins_leave memory budget chain w k c chained r at = leaves budget chain w k c chained r at (begins memory chain)
+    (begins_in_part memory chain (tree_of w) w.common c (lies budget chain w k c chained r at)) (begins_turn chain AnyLength w.common (over (tree_of w) c) memory)
 
 pub brings_leave : BringsLeaveTheTree
-brings_leave memory budget chain pieces w k c chained r at = leaves budget chain w k c chained r at (brings memory chain pieces) (brings_in_part memory chain pieces (tree_of w) w.common c (lies budget chain w k c chained r at)) (brings_turn chain AnyLength w.common (over (tree_of w) c) memory pieces)
+brings_leave memory budget chain pieces w k c chained r at = leaves budget chain w k c chained r at (brings memory chain pieces)
+    (brings_in_part memory chain pieces (tree_of w) w.common c (lies budget chain w k c chained r at)) (brings_turn chain AnyLength w.common (over (tree_of w) c) memory pieces)
 
 pub ends_leave : EndsLeaveTheTree
-ends_leave memory budget chain w k c chained r at = leaves budget chain w k c chained r at (ends memory) (ends_in_part memory (tree_of w) w.common c (lies budget chain w k c chained r at)) (ends_turn chain AnyLength w.common (over (tree_of w) c) memory)
+ends_leave memory budget chain w k c chained r at = leaves budget chain w k c chained r at (ends memory) (ends_in_part memory (tree_of w) w.common c (lies budget chain w k c chained r at))
+    (ends_turn chain AnyLength w.common (over (tree_of w) c) memory)
 
 pub opens_file_leave : OpenFilesLeaveTheTree
-opens_file_leave memory budget chain opening w k c chained r at = leaves budget chain w k c chained r at (opens_file memory opening) (opens_file_in_part memory opening (tree_of w) w.common c (lies budget chain w k c chained r at))
+opens_file_leave memory budget chain opening w k c chained r at =
+    leaves budget chain w k c chained r at (opens_file memory opening) (opens_file_in_part memory opening (tree_of w) w.common c (lies budget chain w k c chained r at))
     (opens_file_turn chain AnyLength w.common (over (tree_of w) c) memory opening (any _)) where
       any : (a : Result (ℕ × ℕ) Refusal) → OpensAs AnyLength a
       any (Ok f) = tt

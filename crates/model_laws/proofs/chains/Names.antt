@@ -95,7 +95,8 @@ names_carried chain g c new carried once fresh s = record {
 -- Brigades stay, and loose buckets go.
 pub fewer_loose : (chain : List Program) (c new : Connection) (n : ℕ) → new.instances ≡ c.instances → count_loose new.stack n ≤ count_loose c.stack n → count_in chain new n ≤ count_in chain c n
 unfolding count_in
-fewer_loose chain c new n same fewer = (let instances : sum_below (length chain) (λ k. count_at (new.instances k) n) ≡ sum_below (length chain) (λ k. count_at (c.instances k) n) = ap (λ (g : ℕ → Instance). sum_below (length chain) (λ k. count_at (g k) n)) same in omega arith)
+fewer_loose chain c new n same fewer = (let instances : sum_below (length chain) (λ k. count_at (new.instances k) n) ≡ sum_below (length chain) (λ k. count_at (c.instances k) n) =
+    ap (λ (g : ℕ → Instance). sum_below (length chain) (λ k. count_at (g k) n)) same in omega arith)
 
 -- Brigades and loose buckets stay.
 pub same_names : (chain : List Program) (g : Common) (c new : Connection) → new.instances ≡ c.instances → new.stack ≡ c.stack → ChainNames chain g c → ChainNames chain g new
@@ -174,8 +175,10 @@ module _ (chain : List Program) (i : Instr) (f : Frame) (s : Configuration) (top
   unfolding put_back count_in left configuration count_loose
   put_back_counted n =
       let instances = counted_left n in
-      let stack : count_loose (top ++ map (touched_frame (touched_bucket (configuration g c f) i)) rest) n ≡ count_loose top n + count_loose (map (touched_frame (touched_bucket (configuration g c f) i)) rest) n = loose_append n top (map (touched_frame (touched_bucket (configuration g c f) i)) rest) in
-      let waiting : count_loose (map (touched_frame (touched_bucket (configuration g c f) i)) rest) n ≡ count_loose rest n = touched_loose (touched_bucket (configuration g c f) i) (touched_named (configuration g c f) i) n rest in
+      let stack : count_loose (top ++ map (touched_frame (touched_bucket (configuration g c f) i)) rest) n ≡ count_loose top n + count_loose
+      (map (touched_frame (touched_bucket (configuration g c f) i)) rest) n = loose_append n top (map (touched_frame (touched_bucket (configuration g c f) i)) rest) in
+      let waiting : count_loose (map (touched_frame (touched_bucket (configuration g c f) i)) rest) n ≡ count_loose rest n =
+      touched_loose (touched_bucket (configuration g c f) i) (touched_named (configuration g c f) i) n rest in
       let old : count_loose c.stack n ≡ count_named n f.call.loose + count_loose rest n = ap (λ (fs : List Frame). count_loose fs n) is in
       let new : count_loose top n ≤ count_named n s.call.loose = loose n in
       omega arith
@@ -222,5 +225,6 @@ module _ (chain : List Program) (i : Instr) (f : Frame) (s : Configuration) (top
   } where
     unseen : (n : ℕ) → count_in chain c n ≡ 0 → count (configuration g c f) n ≡ 0
     unseen n none =
-        let all : count (configuration g c f) n ≤ count_in chain c n = count_within chain g c f n placed (subst (λ (fs : List Frame). count_named n f.call.loose ≤ count_loose fs n) (sym is) (loose_within n [] f rest)) in
+        let all : count (configuration g c f) n ≤ count_in chain c n =
+        count_within chain g c f n placed (subst (λ (fs : List Frame). count_named n f.call.loose ≤ count_loose fs n) (sym is) (loose_within n [] f rest)) in
         omega arith

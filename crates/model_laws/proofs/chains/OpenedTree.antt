@@ -37,7 +37,8 @@ module _ (chain : List Program) (w : World) (ps : Pools Payload) (k : ℕ) (c : 
   has = s.tops k c s.here
 
   root_stays : (gone.path w.common.root ≡ ps.path w.common.root) × (gone.payloads w.common.root ≡ ps.payloads w.common.root)
-  root_stays = destroyed_apart c.conn ps w.common.root (false_from_ne_true (is_under ps c.conn w.common.root) (λ under. both_ways (is_top (ps.path w.common.root)) (top_apart ps c.conn w.common.root has under) (ap is_top s.pools.root)))
+  root_stays = destroyed_apart c.conn ps w.common.root
+      (false_from_ne_true (is_under ps c.conn w.common.root) (λ under. both_ways (is_top (ps.path w.common.root)) (top_apart ps c.conn w.common.root has under) (ap is_top s.pools.root)))
 
   -- who is there then was there before, and is another
   was : (j : ℕ) (d : Connection) → closed.conns j ≡ Some d → (w.conns j ≡ Some d) × (j ≢ k)
@@ -98,7 +99,8 @@ module _ (budget : ℕ) (chain : List Program) (w : World) (chained : IsChain ch
   unfolding opened all_called
   its_conn = refl
 
-  its_pools : (fresh.path ≡ (created {T = Payload} w.common.root (record (planted w.common.root) { next = w.common.pools })).path) × (fresh.payloads ≡ (created {T = Payload} w.common.root (record (planted w.common.root) { next = w.common.pools })).payloads)
+  its_pools : (fresh.path ≡ (created {T = Payload} w.common.root (record (planted w.common.root) { next = w.common.pools })).path)
+      × (fresh.payloads ≡ (created {T = Payload} w.common.root (record (planted w.common.root) { next = w.common.pools })).payloads)
   unfolding opened all_called
   its_pools = (refl, refl)
 
@@ -130,7 +132,8 @@ module _ (budget : ℕ) (chain : List Program) (w : World) (chained : IsChain ch
     conn = fresh;
     given = omega arith;
     there = ap (upd w.conns (w.last + 1) (Some fresh)) (sym one_more) ∙ upd_at w.conns (w.last + 1) (Some fresh);
-    under = ap (λ (m : ℕ). is_in m (now.path n)) (its_conn ∙ sym pools.next) ∙ ap (is_in ps.next) (ap now.path is ∙ created_at w.common.root ps) ∙ or_left (ps.next == ps.next) (is_in ps.next (ps.path w.common.root)) (eq-eqb ps.next ps.next refl);
+    under = ap (λ (m : ℕ). is_in m (now.path n)) (its_conn ∙ sym pools.next) ∙ ap (is_in ps.next) (ap now.path is ∙ created_at w.common.root ps)
+        ∙ or_left (ps.next == ps.next) (is_in ps.next (ps.path w.common.root)) (eq-eqb ps.next ps.next refl);
   } where
     one_more : w.last + 1 ≡ suc w.last
     one_more = omega arith

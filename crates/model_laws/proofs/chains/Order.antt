@@ -13,7 +13,8 @@ use Rattle.run_model.specs.Clearing.{cleared_var}
 use Rattle.run_model.specs.State.{Instance, Configuration, items_of}
 use Rattle.run_model.specs.Effects.{do_return, returned_var}
 use Rattle.run_model.specs.Steps.{Choice, answer_to, current, step}
-use Rattle.run_model.specs.Chains.{Frame, Connection, Common, Linked, module_at, is_last, configuration, pools_of, touched_var, touched_bucket, cleared_by, led_to, touched_instance, touched_frame, put_back, stepped_in, IsChain}
+use Rattle.run_model.specs.Chains.{Frame, Connection, Common, Linked, module_at, is_last, configuration, pools_of, touched_var, touched_bucket, cleared_by, led_to, touched_instance, touched_frame}
+use Rattle.run_model.specs.Chains.{put_back, stepped_in, IsChain}
 use Rattle.run_model.specs.Passing.{Reads, delivered, delivered_by, passed_to, after_pass, returned_to, next_called, returned_from, proceeds}
 use Rattle.run_model.specs.Turns.{Opening, all_called, opened, begun, begins, opens_file, brought, brings, ended, ends, steps}
 use Rattle.model_laws.specs.ChainOrder.{has_call, ChainOrder, EventKeepsWorldOrder, RunKeepsWorldOrder}
@@ -61,7 +62,8 @@ module _ (chain : List Program) (g : Common) (c : Connection) (f : Frame) (rest 
   elsewhere k differ off = h k (subst (λ (fs : List Frame). has_call fs k ≡ false) (sym top) (ap (λ (b : Bool). b || has_call rest k) (ne_eqb f.of k (λ same. differ (sym same))) ∙ off))
 
   -- after put_back, of a module that has no call left
-  put_vacant : (i : Instr) (s : Configuration) (above below : List Frame) (k : ℕ) → (k ≡ f.of → s.instance.brigades 8 ≡ var.Null) → has_call rest k ≡ false → ((put_back i f s above below (g, c)).1.instances k).brigades 8 ≡ var.Null
+  put_vacant : (i : Instr) (s : Configuration) (above below : List Frame) (k : ℕ) → (k ≡ f.of → s.instance.brigades 8 ≡ var.Null) → has_call rest k ≡ false
+      → ((put_back i f s above below (g, c)).1.instances k).brigades 8 ≡ var.Null
   unfolding put_back
   put_vacant i s above below k at off = elim (left_either f.of s.instance (touched_instance (touched_var r i)) c.instances k) [
     | inl p ↦ ap (λ (x : Instance). x.brigades 8) p.1 ∙ at p.0
@@ -83,12 +85,14 @@ module _ (chain : List Program) (g : Common) (c : Connection) (f : Frame) (rest 
       let below = others_free f rest k parts.1 in
       ap (λ (x : Instance). x.brigades 8) (upd_off _ (f.of + 1) k _ parts.0 ∙ upd_off c.instances f.of k _ below.0) ∙ elsewhere k below.0 below.1
 
-  passes_vacant : (reads : Reads) (b : ℕ) (i : Instr) (last : Bool) → Vacant (cond last (delivered_by (module_at chain f.of) reads b i f rest (g, c)) (passed_to (module_at chain (f.of + 1)) b f rest (g, c))).1
+  passes_vacant : (reads : Reads) (b : ℕ) (i : Instr) (last : Bool)
+      → Vacant (cond last (delivered_by (module_at chain f.of) reads b i f rest (g, c)) (passed_to (module_at chain (f.of + 1)) b f rest (g, c))).1
   unfolding delivered_by
   passes_vacant reads b i true = stepped_vacant (record { answer = answer_to (delivered c.out (items_of ((c.instances f.of).brigades b)) reads).1; given = None }) i
   passes_vacant reads b i false = passed_vacant (module_at chain (f.of + 1)) b
 
-returned_vacant : (chain : List Program) (s : Status) (f w : Frame) (rest : List Frame) (g : Common) (c : Connection) → c.stack ≡ f ∷ (w ∷ rest) → Vacant c → Vacant (returned_to (module_at chain w.of) s f w rest (g, c)).1
+returned_vacant : (chain : List Program) (s : Status) (f w : Frame) (rest : List Frame) (g : Common) (c : Connection) → c.stack ≡ f ∷ (w ∷ rest) → Vacant c
+    → Vacant (returned_to (module_at chain w.of) s f w rest (g, c)).1
 unfolding returned_to put_back has_call
 returned_vacant chain s f w rest g c top h k free =
     let bucket : NamedBucket → NamedBucket = touched_bucket (configuration g c f) (instr.Ret s) in
@@ -105,7 +109,8 @@ ended_vacant chain s f g c top h = by_queue c.queue where
   by_queue [] k free = put_vacant chain g c f [] top h (instr.Ret s) (do_return (configuration g c f)) [] [] k (λ is. refl) refl
   by_queue (j ∷ js) k free = put_vacant chain g c f [] top h (instr.Ret s) (do_return (configuration g c f)) [] [] k (λ is. refl) refl
 
-proceeds_vacant : (chain : List Program) (reads : Reads) (i : Instr) (f : Frame) (rest : List Frame) (g : Common) (c : Connection) → c.stack ≡ f ∷ rest → Vacant c → Vacant (proceeds chain reads i f rest (g, c)).1.1
+proceeds_vacant : (chain : List Program) (reads : Reads) (i : Instr) (f : Frame) (rest : List Frame) (g : Common) (c : Connection) → c.stack ≡ f ∷ rest → Vacant c
+    → Vacant (proceeds chain reads i f rest (g, c)).1.1
 unfolding proceeds
 proceeds_vacant chain reads (instr.Pass b l) f rest g c top h = passes_vacant chain g c f rest top h reads b (instr.Pass b l) (is_last chain f.of)
 proceeds_vacant chain reads (instr.Ret s) f [] g c top h = ended_vacant chain s f g c top h
@@ -122,7 +127,8 @@ unfolding begun all_called
 turn_vacant chain g c v (Stood out broken) h = h
 turn_vacant chain g c v (Went reads f rest whole may) h = proceeds_vacant chain reads (current (module_at chain f.of) f.pc) f rest g c may.on_top h
 turn_vacant chain g c v (Begun whole idle none pools next) h = λ k free. idle_vacant c idle h k
-turn_vacant chain g c v (Brought pieces req whole idle is there next) h = λ k free. (let parts = others_free _ _ k free in ap (λ (x : Instance). x.brigades 8) (upd_off c.instances 0 k _ parts.0) ∙ idle_vacant c idle h k)
+turn_vacant chain g c v (Brought pieces req whole idle is there next) h =
+    λ k free. (let parts = others_free _ _ k free in ap (λ (x : Instance). x.brigades 8) (upd_off c.instances 0 k _ parts.0) ∙ idle_vacant c idle h k)
 turn_vacant chain g c v (FileTaken req file bytes whole idle is short newer last) h = h
 turn_vacant chain g c v (Ended req whole idle is) h = λ k free. ap (cleared_var (is_under (pools_of g c) req)) (h k free)
 
@@ -167,7 +173,8 @@ module _ (budget : ℕ) (chain : List Program) (chained : IsChain chain) where
     open_file =
         λ memory opening g c h. record { nothing_brought = turn_vacant chain g c _ (opening_turn chain g c memory opening) h.nothing_brought; spent = opens_file_few memory opening g c h.spent };
     bring = λ memory pieces g c h. record { nothing_brought = turn_vacant chain g c _ (brings_turn chain AnyLength g c memory pieces) h.nothing_brought; spent = brings_few memory pieces g c h.spent };
-    step = λ memory reads g c h. record { nothing_brought = turn_vacant chain g c _ (steps_turn chain AnyLength g c chained memory budget reads) h.nothing_brought; spent = steps_few memory reads g c h.spent };
+    step = λ memory reads g c h.
+        record { nothing_brought = turn_vacant chain g c _ (steps_turn chain AnyLength g c chained memory budget reads) h.nothing_brought; spent = steps_few memory reads g c h.spent };
     end = λ memory g c h. record { nothing_brought = turn_vacant chain g c _ (ends_turn chain AnyLength g c memory) h.nothing_brought; spent = ends_few memory g c h.spent };
     take = λ c h. record { nothing_brought = h.nothing_brought; spent = h.spent };
   } where

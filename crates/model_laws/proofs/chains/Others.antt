@@ -35,7 +35,8 @@ module _ (k j : ℕ) (differ : j ≢ k) (w : World) where
   added_elsewhere true = refl
   added_elsewhere false = refl
 
-  happens_elsewhere : (memory : Bool) (budget : ℕ) (chain : List Program) (told : Told) (e : Event) (c : Option Connection) → e ≢ event.Open → (happens_on memory budget chain told e k c w).1.conns j ≡ w.conns j
+  happens_elsewhere : (memory : Bool) (budget : ℕ) (chain : List Program) (told : Told) (e : Event) (c : Option Connection) → e ≢ event.Open
+      → (happens_on memory budget chain told e k c w).1.conns j ≡ w.conns j
   unfolding happens_on
   happens_elsewhere memory budget chain told event.Open c not_open = absurd (not_open refl)
   happens_elsewhere memory budget chain told (event.AddFile name bytes) c not_open = added_elsewhere memory

@@ -31,7 +31,8 @@ use Rattle.model_laws.proofs.chains.Reached.{reached_holds}
 use Rattle.model_laws.proofs.chains.TreeParts.{in_all, its_part, own_conn, same_conn, through_own, top_in, tree}
 use Rattle.model_laws.proofs.chains.Trees.{Grown, StandsBelow}
 
-module _ (chain : List Program) (w : World) (sound : WorldSound chain w) (numbers : WorldNumbers w) (paths : WorldPaths w) (h : WorldPoolsApart w) (files : WorldFiles w) (apart : WorldFilesApart w) (k : ℕ) (c : Connection) (at : w.conns k ≡ Some c) where
+module _ (chain : List Program) (w : World) (sound : WorldSound chain w) (numbers : WorldNumbers w) (paths : WorldPaths w) (h : WorldPoolsApart w) (files : WorldFiles w) (apart : WorldFilesApart w)
+    (k : ℕ) (c : Connection) (at : w.conns k ≡ Some c) where
   abbrev whole : Pools Payload
   whole = pools_of w.common (over (tree_of w) c)
 
@@ -71,7 +72,8 @@ module _ (chain : List Program) (w : World) (sound : WorldSound chain w) (number
   brigade_under : (f : Frame) (b n : ℕ) → brigade_pool ((c.instances f.of).brigades b) ≡ Some n → is_under whole c.conn n ≡ true
   unfolding configuration is_under
   brigade_under f b n is = elim ((paths k c at).pools n ((seen_sound f).brigades b n is)) [
-    | inl root ↦ absurd (let newer = brigade_newer (module_at chain f.of) (configuration w.common c f) (seen_sound f) ((sound.conns k c at).pools.declared f) b n (made_is ((c.instances f.of).brigades b) ∙ is) in let older = root_older in omega (arith, root))
+    | inl root ↦ absurd (let newer = brigade_newer (module_at chain f.of) (configuration w.common c f) (seen_sound f) ((sound.conns k c at).pools.declared f) b n
+        (made_is ((c.instances f.of).brigades b) ∙ is) in let older = root_older in omega (arith, root))
     | inr own ↦ own_under n own
   ]
 

@@ -42,7 +42,8 @@ made_owns r s q same k n is = elim (upd_either r.instance.pools q k (poolvar.Mad
 
 step_owns : (p : Program) (choice : Choice) (i : Instr) (r : Configuration) → Owns r (step p choice i r).state
 unfolding set_pool with_pools
-step_owns p choice (instr.PCreate q) r = made_under_named (Owns r) p q r (same_owns r.shared.pools.next r.instance.pools r.instance.pools refl) (λ parent e. made_owns r (set_pool q (poolvar.Made r.shared.pools.next) (with_pools (created parent r.shared.pools) r)) q refl)
+step_owns p choice (instr.PCreate q) r = made_under_named (Owns r) p q r (same_owns r.shared.pools.next r.instance.pools r.instance.pools refl)
+    (λ parent e. made_owns r (set_pool q (poolvar.Made r.shared.pools.next) (with_pools (created parent r.shared.pools) r)) q refl)
 step_owns p choice i r = λ q n is. inl (sym ((step_changes_only p choice i r).pools q refl) ∙ is)
 
 -- Connections.

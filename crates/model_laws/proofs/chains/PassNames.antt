@@ -63,17 +63,20 @@ module _ (chain : List Program) (callee : Program) (b : ℕ) (f : Frame) (rest :
       let none : count_named n (items_of (handed_over handed)) ≡ 0 = handed_none n handed in
       elim (cases_lt b 9) [
         | inl lt ↦
-            (let all : count_at passed n + count_named n (items_of handed) ≡ count_at (c.instances f.of) n + count_named n (items_of (handed_over handed)) = sum_below_upd 9 b (c.instances f.of).brigades (handed_over handed) (λ x. count_named n (items_of x)) lt in
+            (let all : count_at passed n + count_named n (items_of handed) ≡ count_at (c.instances f.of) n + count_named n (items_of (handed_over handed)) =
+            sum_below_upd 9 b (c.instances f.of).brigades (handed_over handed) (λ x. count_named n (items_of x)) lt in
             omega arith)
         | inr le ↦
-            (let all : count_at passed n ≤ count_at (c.instances f.of) n + count_named n (items_of (handed_over handed)) = sum_written 9 b (c.instances f.of).brigades (handed_over handed) (λ x. count_named n (items_of x)) in
+            (let all : count_at passed n ≤ count_at (c.instances f.of) n + count_named n (items_of (handed_over handed)) =
+            sum_written 9 b (c.instances f.of).brigades (handed_over handed) (λ x. count_named n (items_of x)) in
             let empty : count_named n (items_of handed) ≡ 0 = ap (λ v. count_named n (items_of v)) (s.slots f.of b le) ∙ count_none n in
             omega arith)
       ]
 
   into_counted : (n : ℕ) → count_at into n ≤ count_at (here (f.of + 1)) n + count_named n (items_of handed)
   into_counted n =
-      let all : count_at into n ≤ count_at (here (f.of + 1)) n + count_named n (items_of (handed_in handed)) = sum_written 9 8 (here (f.of + 1)).brigades (handed_in handed) (λ x. count_named n (items_of x)) in
+      let all : count_at into n ≤ count_at (here (f.of + 1)) n + count_named n (items_of (handed_in handed)) =
+      sum_written 9 8 (here (f.of + 1)).brigades (handed_in handed) (λ x. count_named n (items_of x)) in
       let same : count_named n (items_of (handed_in handed)) ≡ count_named n (items_of handed) = handed_items n handed in
       omega arith
 
@@ -82,8 +85,10 @@ module _ (chain : List Program) (callee : Program) (b : ℕ) (f : Frame) (rest :
   passed_in_counted n =
       let caller = passed_counted n in
       let next = into_counted n in
-      let first : sum_below (length chain) (λ k. count_at (here k) n) + count_at (c.instances f.of) n ≡ sum_below (length chain) (λ k. count_at (c.instances k) n) + count_at passed n = sum_below_upd (length chain) f.of c.instances passed (λ x. count_at x n) (omega arith) in
-      let second : sum_below (length chain) (λ k. count_at (new k) n) + count_at (here (f.of + 1)) n ≡ sum_below (length chain) (λ k. count_at (here k) n) + count_at into n = sum_below_upd (length chain) (f.of + 1) here into (λ x. count_at x n) placed in
+      let first : sum_below (length chain) (λ k. count_at (here k) n) + count_at (c.instances f.of) n ≡ sum_below (length chain) (λ k. count_at (c.instances k) n) + count_at passed n =
+      sum_below_upd (length chain) f.of c.instances passed (λ x. count_at x n) (omega arith) in
+      let second : sum_below (length chain) (λ k. count_at (new k) n) + count_at (here (f.of + 1)) n ≡ sum_below (length chain) (λ k. count_at (here k) n) + count_at into n =
+      sum_below_upd (length chain) (f.of + 1) here into (λ x. count_at x n) placed in
       let stack : count_loose c.stack n ≡ count_named n f.call.loose + count_loose rest n = ap (λ (fs : List Frame). count_loose fs n) is in
       let none : count_named n [] ≡ 0 = count_none n in
       omega arith
@@ -104,7 +109,8 @@ module _ (chain : List Program) (callee : Program) (b : ℕ) (f : Frame) (rest :
     in_here j d n h = elim (upd_either c.instances f.of j passed) [
       | inl p ↦
           (let at : brigade_name (upd (c.instances f.of).brigades b (handed_over handed) d) ≡ Some n = subst (λ (x : Instance). brigade_name (x.brigades d) ≡ Some n) p.1 h in
-          let was : brigade_name ((c.instances f.of).brigades d) ≡ Some n = (at_each Carried (c.instances f.of).brigades b (handed_over handed) (handed_fewer handed).carried carried_same d).name n at in
+          let was : brigade_name ((c.instances f.of).brigades d) ≡ Some n =
+          (at_each Carried (c.instances f.of).brigades b (handed_over handed) (handed_fewer handed).carried carried_same d).name n at in
           subst (λ (m : ℕ). brigade_name ((c.instances m).brigades d) ≡ Some n) (sym p.0) was)
       | inr p ↦ subst (λ (x : Instance). brigade_name (x.brigades d) ≡ Some n) p.1 h
     ]
@@ -169,8 +175,10 @@ returned_slot n call false v = (returned_fewer call v).items n
 return_counted : (n : ℕ) (r : Configuration) → count (do_return r) n + count_named n (items_of (r.instance.brigades 8)) ≤ count r n
 return_counted n r =
     let none : count_named n [] ≡ 0 = count_none n in
-    let all : sum_below 9 (λ b. count_named n (items_of ((do_return r).instance.brigades b))) + count_named n (items_of (r.instance.brigades 8)) ≤ sum_below 9 (λ b. count_named n (items_of (r.instance.brigades b))) + count_named n [] =
-    sum_below_but 9 8 (λ b. count_named n (items_of (r.instance.brigades b))) (λ b. count_named n (items_of ((do_return r).instance.brigades b))) (omega arith) (λ b ne. returned_slot n r.call.name (b == 8) (r.instance.brigades b)) in
+    let all : sum_below 9 (λ b. count_named n (items_of ((do_return r).instance.brigades b))) + count_named n (items_of (r.instance.brigades 8)) ≤ sum_below 9
+    (λ b. count_named n (items_of (r.instance.brigades b))) + count_named n [] =
+    sum_below_but 9 8 (λ b. count_named n (items_of (r.instance.brigades b))) (λ b. count_named n (items_of ((do_return r).instance.brigades b))) (omega arith)
+    (λ b ne. returned_slot n r.call.name (b == 8) (r.instance.brigades b)) in
     omega arith
 
 module _ (chain : List Program) (caller : Program) (status : Status) (f w : Frame) (rest : List Frame) (g : Common) (c : Connection)
@@ -191,7 +199,8 @@ module _ (chain : List Program) (caller : Program) (status : Status) (f w : Fram
   back_names : ChainNames chain back.0 back.1
   unfolding configuration
   back_names =
-      chain_names_stay chain g c back.0 back.1 (put_back_names chain (instr.Ret status) f (do_return (configuration g c f)) [] (w ∷ rest) g c is f_placed (return_names (configuration g c f) s.limit) no_loose) s
+      chain_names_stay chain g c back.0 back.1
+      (put_back_names chain (instr.Ret status) f (do_return (configuration g c f)) [] (w ∷ rest) g c is f_placed (return_names (configuration g c f) s.limit) no_loose) s
 
   resting_counted : (n : ℕ) → count_at resting n ≤ count_at (back.1.instances w.of) n + count_named n remaining
   resting_counted n =
@@ -207,16 +216,19 @@ module _ (chain : List Program) (caller : Program) (status : Status) (f w : Fram
       let there : count_in chain back.1 n + count (configuration g c f) n ≤ count_in chain c n + count (do_return (configuration g c f)) n =
       put_back_counted chain (instr.Ret status) f (do_return (configuration g c f)) [] (w ∷ rest) g c is f_placed (return_names (configuration g c f) s.limit) no_loose n in
       let gone : count (do_return (configuration g c f)) n + count_named n (items_of ((c.instances f.of).brigades 8)) ≤ count (configuration g c f) n = return_counted n (configuration g c f) in
-      let same : count_named n remaining ≡ count_named n (items_of ((c.instances f.of).brigades 8)) = count_map n (returned_bucket f.call.name) (λ x. refl) (items_of ((c.instances f.of).brigades 8)) in
+      let same : count_named n remaining ≡ count_named n (items_of ((c.instances f.of).brigades 8)) =
+      count_map n (returned_bucket f.call.name) (λ x. refl) (items_of ((c.instances f.of).brigades 8)) in
       let given = resting_counted n in
-      let all : sum_below (length chain) (λ k. count_at (upd back.1.instances w.of resting k) n) + count_at (back.1.instances w.of) n ≡ sum_below (length chain) (λ k. count_at (back.1.instances k) n) + count_at resting n =
+      let all : sum_below (length chain) (λ k. count_at (upd back.1.instances w.of resting k) n) + count_at (back.1.instances w.of) n ≡ sum_below (length chain)
+      (λ k. count_at (back.1.instances k) n) + count_at resting n =
       sum_below_upd (length chain) w.of back.1.instances resting (λ x. count_at x n) w_placed in
       omega arith
 
   returned_carried : (k b : ℕ) → Carried ((back.1.instances k).brigades b) ((upd back.1.instances w.of resting k).brigades b)
   returned_carried k b = elim (upd_either back.1.instances w.of k resting) [
     | inl p ↦ subst (λ (x : Instance). Carried ((back.1.instances k).brigades b) (x.brigades b)) (sym p.1) (subst (λ (m : ℕ). Carried ((back.1.instances m).brigades b) (resting.brigades b)) (sym p.0)
-        (at_each Carried (back.1.instances w.of).brigades at (with_items remaining ((back.1.instances w.of).brigades at)) (filled_carried remaining ((back.1.instances w.of).brigades at)) carried_same b))
+        (at_each Carried (back.1.instances w.of).brigades at (with_items remaining ((back.1.instances w.of).brigades at))
+        (filled_carried remaining ((back.1.instances w.of).brigades at)) carried_same b))
     | inr p ↦ subst (λ (x : Instance). Carried ((back.1.instances k).brigades b) (x.brigades b)) (sym p.1) (carried_same ((back.1.instances k).brigades b))
   ] where
     at : ℕ

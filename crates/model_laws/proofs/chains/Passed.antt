@@ -1,5 +1,6 @@
 -- A brigade that was passed stays passed through the events of chains until its module cleans it or returns, or it goes with its pool.
-use Rattle.std.proofs.Common.{◌≡◌, ◌≢◌, ℕ, ◌+◌, ◌<◌, Bool, true, false, ◌&&◌, ◌||◌, ◌==◌, cond, List, [], ◌∷◌, Option, None, Some, Result, Ok, Err, inl, inr, refl, sym, ◌∙◌, ap, subst, arith, eq-eqb, ne_eqb}
+use Rattle.std.proofs.Common.{◌≡◌, ◌≢◌, ℕ, ◌+◌, ◌<◌, Bool, true, false, ◌&&◌, ◌||◌, ◌==◌, cond, List, [], ◌∷◌, Option, None, Some, Result, Ok, Err, inl, inr, refl, sym, ◌∙◌, ap, subst, arith, eq-eqb}
+use Rattle.std.proofs.Common.{ne_eqb}
 use Rattle.std.proofs.lemmas.Bool.Decides.{eqb_tells}
 use Rattle.module_code.specs.Program.{Program}
 use Rattle.module_code.specs.declared.instr.Instr.{Instr}
@@ -100,7 +101,8 @@ module _ (chain : List Program) (g : Common) (c : Connection) (f : Frame) (rest 
     back_stays : (s : Status) (below : List Frame) → i ≡ instr.Ret s → Stays (put_back (instr.Ret s) f (do_return r) [] below (g, c))
     back_stays s below is =
         put_stays (instr.Ret s) (do_return r) [] below
-        (λ at. stepped_here (record { answer = answer_to true; given = None }) (instr.Ret s) (subst (λ (x : Instr). fault (module_at chain f.of) r x ≡ None) is none) (subst (λ (x : Instr). ((f.of == j) && lets_go x b) ≡ false) is other) at)
+        (λ at. stepped_here (record { answer = answer_to true; given = None }) (instr.Ret s) (subst (λ (x : Instr). fault (module_at chain f.of) r x ≡ None) is none)
+        (subst (λ (x : Instr). ((f.of == j) && lets_go x b) ≡ false) is other) at)
 
   -- a pass to the next filter
   passed_stays : (callee : Program) (a l : ℕ) → fault (module_at chain f.of) r (instr.Pass a l) ≡ None → (c.instances (f.of + 1)).brigades 8 ≡ var.Null → Stays (passed_to callee a f rest (g, c))
@@ -114,7 +116,8 @@ module _ (chain : List Program) (g : Common) (c : Connection) (f : Frame) (rest 
 
     in_here : StaysPassed ((c.instances j).brigades b) ((here j).brigades b)
     in_here = elim (upd_either c.instances f.of j (do_pass a r).instance) [
-      | inl p ↦ subst (λ (x : Instance). StaysPassed ((c.instances j).brigades b) (x.brigades b)) (sym p.1) (stepped_here (record { answer = answer_to true; given = None }) (instr.Pass a l) none (off (f.of == j)) p.0)
+      | inl p ↦ subst (λ (x : Instance). StaysPassed ((c.instances j).brigades b) (x.brigades b)) (sym p.1)
+          (stepped_here (record { answer = answer_to true; given = None }) (instr.Pass a l) none (off (f.of == j)) p.0)
       | inr p ↦ as_it_is ((c.instances j).brigades b) ((here j).brigades b) (ap (λ (x : Instance). x.brigades b) p.1) h
     ] where
       off : (t : Bool) → (t && false) ≡ false
@@ -134,10 +137,11 @@ given_stays v j b at left h k old = elim (upd_either h k j (given_back at left (
   | inr p ↦ subst (λ (x : Instance). StaysPassed v (x.brigades b)) (sym p.1) old
 ] where
   within : j ≡ k → StaysPassed v (upd (h k).brigades at (with_items left ((h k).brigades at)) b)
-  within is = (let there : StaysPassed v ((h k).brigades b) = subst (λ (m : ℕ). StaysPassed v ((h m).brigades b)) is old in elim (upd_either (h k).brigades at b (with_items left ((h k).brigades at))) [
-    | inl q ↦ subst (StaysPassed v) (sym q.1) (filled_stays left v ((h k).brigades at) (subst (λ (d : ℕ). StaysPassed v ((h k).brigades d)) q.0 there))
-    | inr q ↦ subst (StaysPassed v) (sym q.1) there
-  ])
+  within is = (let there : StaysPassed v ((h k).brigades b) = subst (λ (m : ℕ). StaysPassed v ((h m).brigades b)) is old in
+      elim (upd_either (h k).brigades at b (with_items left ((h k).brigades at))) [
+        | inl q ↦ subst (StaysPassed v) (sym q.1) (filled_stays left v ((h k).brigades at) (subst (λ (d : ℕ). StaysPassed v ((h k).brigades d)) q.0 there))
+        | inr q ↦ subst (StaysPassed v) (sym q.1) there
+      ])
 
 -- an instruction without a fault, where the next filter has nothing brought if it is passed to
 proceeds_stays : (chain : List Program) (reads : Reads) (i : Instr) (f : Frame) (rest : List Frame) (g : Common) (c : Connection) (j b : ℕ) → HoldsPassed ((c.instances j).brigades b)
@@ -145,11 +149,13 @@ proceeds_stays : (chain : List Program) (reads : Reads) (i : Instr) (f : Frame) 
     → StaysPassed ((c.instances j).brigades b) (((proceeds chain reads i f rest (g, c)).1.1.instances j).brigades b)
 unfolding proceeds returned_to returned_from
 proceeds_stays chain reads (instr.Pass a l) f rest g c j b h none other free = by_last (is_last chain f.of) where
-  by_last : (t : Bool) → StaysPassed ((c.instances j).brigades b) (((cond t (delivered_by (module_at chain f.of) reads a (instr.Pass a l) f rest (g, c)) (passed_to (module_at chain (f.of + 1)) a f rest (g, c))).1.instances j).brigades b)
+  by_last : (t : Bool) → StaysPassed ((c.instances j).brigades b)
+      (((cond t (delivered_by (module_at chain f.of) reads a (instr.Pass a l) f rest (g, c)) (passed_to (module_at chain (f.of + 1)) a f rest (g, c))).1.instances j).brigades b)
   by_last true = delivered_stays chain g c f rest j b h (instr.Pass a l) none other reads a
   by_last false = passed_stays chain g c f rest j b h (module_at chain (f.of + 1)) a l none free
 proceeds_stays chain reads (instr.Ret s) f [] g c j b h none other free = by_queue c.queue where
-  by_queue : (queue : List ℕ) → StaysPassed ((c.instances j).brigades b) (((next_called chain s queue (put_back (instr.Ret s) f (do_return (configuration g c f)) [] [] (g, c))).1.1.instances j).brigades b)
+  by_queue : (queue : List ℕ)
+      → StaysPassed ((c.instances j).brigades b) (((next_called chain s queue (put_back (instr.Ret s) f (do_return (configuration g c f)) [] [] (g, c))).1.1.instances j).brigades b)
   by_queue [] = back_stays chain g c f [] j b h (instr.Ret s) none other s [] refl
   by_queue (k ∷ ks) = back_stays chain g c f [] j b h (instr.Ret s) none other s [] refl
 proceeds_stays chain reads (instr.Ret s) f (w ∷ rest) g c j b h none other free =
@@ -159,7 +165,8 @@ proceeds_stays chain reads i f rest g c j b h none other free = stepped_stays ch
 
 -- One event of the connection c, whose instance j holds a passed brigade in b.
 
-module _ (budget : ℕ) (chain : List Program) (chained : IsChain chain) (g : Common) (c : Connection) (nested : IsNestedStack c.stack) (order : ChainOrder budget c) (j b : ℕ) (h : HoldsPassed ((c.instances j).brigades b)) where
+module _ (budget : ℕ) (chain : List Program) (chained : IsChain chain) (g : Common) (c : Connection) (nested : IsNestedStack c.stack) (order : ChainOrder budget c) (j b : ℕ)
+    (h : HoldsPassed ((c.instances j).brigades b)) where
   abbrev Kept : Linked → Type 0
   Kept v = StaysPassed ((c.instances j).brigades b) ((v.1.instances j).brigades b)
 
@@ -203,7 +210,8 @@ module _ (budget : ℕ) (chain : List Program) (chained : IsChain chain) (g : Co
   unfolding IsNestedStack
   steps_stay memory reads other = steps_so Kept memory budget chain reads g c unchanged (λ k. unchanged) (λ f rest few ready.
       proceeds_stays chain reads (current (module_at chain f.of) f.pc) f rest g c j b h ready.faultless (subst (λ (fs : List Frame). top_lets_go chain fs j b ≡ false) ready.on_top other)
-      (order.nothing_brought (f.of + 1) (subst (λ (fs : List Frame). has_call fs (f.of + 1) ≡ false) (sym ready.on_top) (later_free f rest (f.of + 1) (subst IsNestedStack ready.on_top nested) (omega arith)))))
+      (order.nothing_brought (f.of + 1)
+      (subst (λ (fs : List Frame). has_call fs (f.of + 1) ≡ false) (sym ready.on_top) (later_free f rest (f.of + 1) (subst IsNestedStack ready.on_top nested) (omega arith)))))
 
 -- In a world.
 
@@ -235,7 +243,8 @@ module _ (k j b : ℕ) (v : BrigadeVar) (w : World) where
   added_in true old = old
 
 -- an event of another connection, or an opening
-elsewhere : (memory : Bool) (budget : ℕ) (chain : List Program) (told : Told) (i k : ℕ) (e : Event) (w : World) → k ≢ w.last + 1 → k ≢ i → (happens memory budget chain told i e w).1.conns k ≡ w.conns k
+elsewhere : (memory : Bool) (budget : ℕ) (chain : List Program) (told : Told) (i k : ℕ) (e : Event) (w : World) → k ≢ w.last + 1 → k ≢ i
+    → (happens memory budget chain told i e w).1.conns k ≡ w.conns k
 elsewhere memory budget chain told i k event.Open w old differ = opening_stays memory budget chain told i k w old
 elsewhere memory budget chain told i k e w old differ = others_stay memory budget chain told i k e w (λ is. absurd (cc)) differ
 

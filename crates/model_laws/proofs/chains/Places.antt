@@ -23,7 +23,8 @@ branch P i l pc true jump next is = subst P (sym is) jump
 branch P i l pc false jump next is = next
 
 pub led : (P : ℕ → Type 0) (p : Program) (choice : Choice) (i : Instr) (r : Configuration) (pc : ℕ) → is_return i ≡ false → Leads P pc i → P (led_to (step p choice i r).exit i pc)
-led P p choice (instr.BPart b x c l) r pc on placed = branch P (instr.BPart b x c l) l pc (is_incomplete (partition_answer r.shared.next (value_of r x) (items_at r b))) placed.jump (placed.next refl) refl
+led P p choice (instr.BPart b x c l) r pc on placed =
+    branch P (instr.BPart b x c l) l pc (is_incomplete (partition_answer r.shared.next (value_of r x) (items_at r b))) placed.jump (placed.next refl) refl
 led P p choice (instr.JEmpty b l) r pc on placed = branch P (instr.JEmpty b l) l pc (is_empty (items_of (r.instance.brigades b))) placed.jump (placed.next refl) refl
 led P p choice (instr.Pass b l) r pc on placed = branch P (instr.Pass b l) l pc (is_fail choice.answer) placed.jump (placed.next refl) refl
 led P p choice (instr.JEnd c l) r pc on placed = branch P (instr.JEnd c l) l pc (is_end (spot r c)) placed.jump (placed.next refl) refl

@@ -69,14 +69,17 @@ Leaves r s = From r.shared.pools s.shared.pools
 step_from : (p : Program) (choice : Choice) (i : Instr) (r : Configuration) → Leaves r (step p choice i r).state
 unfolding with_pools set_pool run_down registered killed set_brigade
 step_from p choice (instr.PCreate q) r = made_under_named (Leaves r) p q r (same_from r.shared.pools r.shared.pools refl) (λ parent e. created_from parent r.shared.pools)
-step_from p choice (instr.PClear q) r = on_named (Leaves r) pool_cleared (pool_named r (pool.Own q)) r (same_from r.shared.pools r.shared.pools refl) (λ n e. stays_from r.shared.pools _ (cleared_path n r.shared.pools))
-step_from p choice (instr.PDestroy q) r = on_named (Leaves r) pool_destroyed (pool_named r (pool.Own q)) r (same_from r.shared.pools r.shared.pools refl) (λ n e. stays_from r.shared.pools _ (destroyed_path n r.shared.pools))
+step_from p choice (instr.PClear q) r =
+    on_named (Leaves r) pool_cleared (pool_named r (pool.Own q)) r (same_from r.shared.pools r.shared.pools refl) (λ n e. stays_from r.shared.pools _ (cleared_path n r.shared.pools))
+step_from p choice (instr.PDestroy q) r =
+    on_named (Leaves r) pool_destroyed (pool_named r (pool.Own q)) r (same_from r.shared.pools r.shared.pools refl) (λ n e. stays_from r.shared.pools _ (destroyed_path n r.shared.pools))
 step_from p choice (instr.Label q t) r = on_named (Leaves r) (label_registered (text_of p t)) (pool_named r q) r (same_from r.shared.pools r.shared.pools refl) (λ n e. same_from r.shared.pools _ refl)
 step_from p choice (instr.Unlabel q t) r = on_named (Leaves r) (label_killed (text_of p t)) (pool_named r q) r (same_from r.shared.pools r.shared.pools refl) (λ n e. same_from r.shared.pools _ refl)
 step_from p choice (instr.BCreate o) r = same_from r.shared.pools _ (brigade_path (pool_named r (pool_of_brigade p o)) r.shared.next r.shared.pools)
 step_from p choice (instr.BSave o b) r = on_named (Leaves r) (saved_into o b) (made_on (r.instance.brigades o)) r (same_from r.shared.pools r.shared.pools refl) (λ target e.
     same_from r.shared.pools _ (referred_path target (filter_map (new_ref r.shared.pools target) (items_of (r.instance.brigades b))) r.shared.pools))
-step_from p choice (instr.Aside c q) r = on_named (Leaves r) (aside_into (spot r c)) (pool_named r q) r (same_from r.shared.pools r.shared.pools refl) (λ target e. same_from r.shared.pools _ (aside_path (spot r c) target r))
+step_from p choice (instr.Aside c q) r =
+    on_named (Leaves r) (aside_into (spot r c)) (pool_named r q) r (same_from r.shared.pools r.shared.pools refl) (λ target e. same_from r.shared.pools _ (aside_path (spot r c) target r))
 step_from p choice i r = same_from r.shared.pools _ (ap (λ (ps : Pools Payload). ps.path) ((step_changes_only p choice i r).tree refl))
 
 -- Turns.
@@ -95,7 +98,8 @@ went_from chain reads f rest g c =
     let i : Instr = current (module_at chain f.of) f.pc in
     record {
       conn = proceeds_conn chain reads i f rest g c;
-      from = proceeds_so (λ ps files next req. From (pools_of g c) ps) chain reads i f rest g c (λ choice. step_from (module_at chain f.of) choice i (configuration g c f)) (same_from (pools_of g c) (pools_of g c) refl);
+      from = proceeds_so (λ ps files next req. From (pools_of g c) ps) chain reads i f rest g c (λ choice. step_from (module_at chain f.of) choice i (configuration g c f))
+          (same_from (pools_of g c) (pools_of g c) refl);
     }
 
 turn_from : (chain : List Program) (g : Common) (c : Connection) (v : Linked) → Turn chain AnyLength g c v → TurnsFrom g c v
@@ -212,7 +216,8 @@ module _ (chain : List Program) (k : ℕ) (w : World) (v : Linked) (sound : Worl
     ]);
     own = λ i j n x y at_i at_j own_x own_y. both i j n (comes i n x at_i own_x) (comes j n y at_j own_y);
     named = λ l j i q n x y at_l at_j made own_y. same_of l j i q n (names_come l i q n x at_l made) (comes j n y at_j own_y);
-    bare = λ j x e. subst (λ (m : ℕ). x.payloads m ≡ []) (sym new.root) (elim (which j x e) [ inl at ↦ subst (λ (y : Connection). y.payloads w.common.root ≡ []) at.1 new.bare | inr old ↦ h.bare j x old ]);
+    bare = λ j x e. subst (λ (m : ℕ). x.payloads m ≡ []) (sym new.root)
+        (elim (which j x e) [ inl at ↦ subst (λ (y : Connection). y.payloads w.common.root ≡ []) at.1 new.bare | inr old ↦ h.bare j x old ]);
     rising = λ i j x y at_i at_j lt. rises i j x y (which i x at_i) (which j y at_j) lt;
   }
 
@@ -249,7 +254,8 @@ module _ (chain : List Program) (chained : IsChain chain) (k : ℕ) (c : Connect
       | inl gone ↦ absurd (live_path (pools_of v.0 v.1) v.1.conn (conn_there chain v.0 v.1 left).0 gone)
       | inr stays ↦ (elim stays [
         | inl same ↦ same ∙ subst (λ (m : ℕ). c.path m ≡ m ∷ w.common.root ∷ []) (sym turns.conn) (h.top k c here)
-        | inr fresh ↦ (let is : v.1.conn ≡ c.conn = turns.conn in let lt : c.conn < w.common.pools = (conn_there chain w.common c (sound.conns k c here)).1 in let le : w.common.pools ≤ v.1.conn = fresh.0 in absurd (omega (arith, is, lt, le)))
+        | inr fresh ↦ (let is : v.1.conn ≡ c.conn = turns.conn in let lt : c.conn < w.common.pools = (conn_there chain w.common c (sound.conns k c here)).1 in let le : w.common.pools ≤ v.1.conn =
+            fresh.0 in absurd (omega (arith, is, lt, le)))
       ])
     ]
 

@@ -40,7 +40,8 @@ proceeds_count chain reads i f rest g c = ap (λ (x : List (ℕ × ℕ) × ℕ �
 
 -- What is true of pools, open files, the next number of a file and the request, as the instruction alone leaves them, is true of the connection's.
 module _ (P : Pools Payload → (ℕ → Option (List ℕ)) → ℕ → Option ℕ → Type 0) (chain : List Program) (i : Instr) (f : Frame) (g : Common) (c : Connection)
-    (stepped : (choice : Choice) → (let s = (step (module_at chain f.of) choice i (configuration g c f)).state.shared in P s.pools s.files.opened s.files.next s.req)) (here : P (pools_of g c) c.opened g.file c.req) where
+    (stepped : (choice : Choice) → (let s = (step (module_at chain f.of) choice i (configuration g c f)).state.shared in P s.pools s.files.opened s.files.next s.req))
+    (here : P (pools_of g c) c.opened g.file c.req) where
   abbrev Left : Linked → Type 0
   Left v = P (pools_of v.0 v.1) v.1.opened v.0.file v.1.req
 
@@ -57,7 +58,8 @@ pub proceeds_so : (P : Pools Payload → (ℕ → Option (List ℕ)) → ℕ →
     → (let v = (proceeds chain reads i f rest (g, c)).1 in P (pools_of v.0 v.1) v.1.opened v.0.file v.1.req)
 unfolding proceeds returned_from returned_to passed_to put_back configuration
 proceeds_so P chain reads (instr.Pass b l) f rest g c stepped here = by_last (is_last chain f.of) where
-  by_last : (t : Bool) → (let v = cond t (delivered_by (module_at chain f.of) reads b (instr.Pass b l) f rest (g, c)) (passed_to (module_at chain (f.of + 1)) b f rest (g, c)) in P (pools_of v.0 v.1) v.1.opened v.0.file v.1.req)
+  by_last : (t : Bool) → (let v = cond t (delivered_by (module_at chain f.of) reads b (instr.Pass b l) f rest (g, c)) (passed_to (module_at chain (f.of + 1)) b f rest (g, c)) in
+      P (pools_of v.0 v.1) v.1.opened v.0.file v.1.req)
   by_last true = delivered_so P chain (instr.Pass b l) f g c stepped here reads b rest
   by_last false = here
 proceeds_so P chain reads (instr.Ret s) f [] g c stepped here = by_queue c.queue where

@@ -36,16 +36,19 @@ abbrev pub looking : ℕ → Frame
 looking k = record { of = k; call = fresh_call 0; pc = 0 }
 
 -- r with another instance, and the rest of what s has
-pub same_sound : (r new : Configuration) → new.shared.pools ≡ r.shared.pools → new.shared.conn ≡ r.shared.conn → new.shared.req ≡ r.shared.req → new.instance ≡ r.instance → SoundPools r → SoundPools new
+pub same_sound : (r new : Configuration) → new.shared.pools ≡ r.shared.pools → new.shared.conn ≡ r.shared.conn → new.shared.req ≡ r.shared.req → new.instance ≡ r.instance → SoundPools r
+    → SoundPools new
 same_sound r new pools conn req instance s =
     keeps_pools r new pools conn req (ap (λ (i : Instance). i.pools) instance) (λ b n e. s.brigades b n (ap (λ (i : Instance). brigade_pool (i.brigades b)) (sym instance) ∙ e)) s
 
-pub same_declared : (p : Program) (r new : Configuration) → new.shared.pools ≡ r.shared.pools → new.shared.conn ≡ r.shared.conn → new.shared.req ≡ r.shared.req → new.instance ≡ r.instance → AsDeclared p r → AsDeclared p new
+pub same_declared : (p : Program) (r new : Configuration) → new.shared.pools ≡ r.shared.pools → new.shared.conn ≡ r.shared.conn → new.shared.req ≡ r.shared.req → new.instance ≡ r.instance
+    → AsDeclared p r → AsDeclared p new
 same_declared p r new pools conn req instance d =
     kept p r new (ap (λ (i : Instance). i.pools) instance) conn req (ap (λ (ps : Pools Payload). ps.path) pools)
     (λ b. subst (λ (i : Instance). KeepsPool (r.instance.brigades b) (i.brigades b)) (sym instance) (same_on (r.instance.brigades b))) d
 
-module _ (reached : ℕ → Bool) (chain : List Program) (g : Common) (c : Connection) (i : Instr) (f : Frame) (s : Configuration) (top rest : List Frame) (t : IsTop reached chain g c i f s) (h : ChainPools chain g c) where
+module _ (reached : ℕ → Bool) (chain : List Program) (g : Common) (c : Connection) (i : Instr) (f : Frame) (s : Configuration) (top rest : List Frame) (t : IsTop reached chain g c i f s)
+    (h : ChainPools chain g c) where
   left : Linked
   left = put_back i f s top rest (g, c)
 
@@ -78,7 +81,8 @@ module _ (reached : ℕ → Bool) (chain : List Program) (g : Common) (c : Conne
 
   declared_at : (w : Frame) (b : Bool) → (w.of == f.of) ≡ b → AsDeclared (module_at chain w.of) (seen w (cond b s.instance (other w.of)))
   unfolding seen
-  declared_at w true is = subst (λ (k : ℕ). AsDeclared (module_at chain k) (seen w s.instance)) (sym (eqb-true w.of f.of is)) (same_declared (module_at chain f.of) s _ refl (sym t.conn) refl refl t.declared)
+  declared_at w true is =
+      subst (λ (k : ℕ). AsDeclared (module_at chain k) (seen w s.instance)) (sym (eqb-true w.of f.of is)) (same_declared (module_at chain f.of) s _ refl (sym t.conn) refl refl t.declared)
   declared_at w false off = spared_declared reached (module_at chain w.of) (configuration g c w) _ (spared w off) (h.sound w) (h.declared w)
 
   owner : (k q n : ℕ) → (left.1.instances k).pools q ≡ poolvar.Made n → ((c.instances k).pools q ≡ poolvar.Made n) ⊎ ((k ≡ f.of) × (g.pools ≤ n))

@@ -28,10 +28,12 @@ moves_pools (instr.PClear q) = true
 moves_pools (instr.PDestroy q) = true
 moves_pools i = false
 
-pub as_before : (r new : Configuration) → new.shared.pools.path ≡ r.shared.pools.path → new.shared.pools.next ≡ r.shared.pools.next → new.instance.pools ≡ r.instance.pools → new.shared.conn ≡ r.shared.conn → new.shared.req ≡ r.shared.req → IsQuiet r new
+pub as_before : (r new : Configuration) → new.shared.pools.path ≡ r.shared.pools.path → new.shared.pools.next ≡ r.shared.pools.next → new.instance.pools ≡ r.instance.pools
+    → new.shared.conn ≡ r.shared.conn → new.shared.req ≡ r.shared.req → IsQuiet r new
 as_before r new path next own conn req = record { path = path; next = next; own = own; conn = conn; req = req }
 
-still : (r x new : Configuration) → new.shared.pools.path ≡ x.shared.pools.path → new.shared.pools.next ≡ x.shared.pools.next → new.instance.pools ≡ x.instance.pools → new.shared.conn ≡ x.shared.conn → new.shared.req ≡ x.shared.req → IsQuiet r x → IsQuiet r new
+still : (r x new : Configuration) → new.shared.pools.path ≡ x.shared.pools.path → new.shared.pools.next ≡ x.shared.pools.next → new.instance.pools ≡ x.instance.pools
+    → new.shared.conn ≡ x.shared.conn → new.shared.req ≡ x.shared.req → IsQuiet r x → IsQuiet r new
 still r x new path next own conn req s = record { path = path ∙ s.path; next = next ∙ s.next; own = own ∙ s.own; conn = conn ∙ s.conn; req = req ∙ s.req }
 
 quiet_frame : (r : Configuration) → IsFrame (IsQuiet r)

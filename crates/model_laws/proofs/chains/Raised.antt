@@ -48,7 +48,8 @@ risen_placed m c v r h = h
 saved_risen : (m o b target : ℕ) (r : Configuration) → HasRisen m r → HasRisen m (saved_into o b target r)
 unfolding set_brigade with_pools
 saved_risen m o b target r h =
-    let same : (saved_into o b target r).shared.pools.next ≡ r.shared.pools.next = referred_next target (filter_map (new_ref r.shared.pools target) (items_of (r.instance.brigades b))) r.shared.pools in
+    let same : (saved_into o b target r).shared.pools.next ≡ r.shared.pools.next =
+    referred_next target (filter_map (new_ref r.shared.pools target) (items_of (r.instance.brigades b))) r.shared.pools in
     omega arith
 
 pub step_raises : (m : ℕ) (p : Program) (choice : Choice) (i : Instr) (r : Configuration) → MayExecute p r i → HasRisen m r → HasRisen m (step p choice i r).state

@@ -1,5 +1,6 @@
 -- The ranges of each connection with a chain stay in their files.
-use Rattle.std.proofs.Common.{◌≡◌, ◌≢◌, ℕ, ◌+◌, ◌<◌, ◌≤◌, Bool, true, false, ◌&&◌, not, ◌==◌, cond, nat_le, List, [], ◌∷◌, length, Option, Some, None, is_some, All, inl, inr, refl, sym, ◌∙◌, ap, subst, eqb-true, arith}
+use Rattle.std.proofs.Common.{◌≡◌, ◌≢◌, ℕ, ◌+◌, ◌<◌, ◌≤◌, Bool, true, false, ◌&&◌, not, ◌==◌, cond, nat_le, List, [], ◌∷◌, length, Option, Some, None, is_some, All, inl, inr, refl, sym, ◌∙◌, ap}
+use Rattle.std.proofs.Common.{subst, eqb-true, arith}
 use Rattle.std.specs.List.{list_any}
 use Rattle.std.proofs.lemmas.Bool.Decides.{nat_tests}
 use Rattle.std.proofs.lemmas.List.Elements.{All-nil, All-cons, All-head, All-tail, All-append}
@@ -71,7 +72,8 @@ reach_told fs (f ∷ rest) file end h has = elim (one_of (f.0 == file && nat_le 
   reaches : (n : ℕ) → nat_le end n ≡ true → end ≤ n
   reaches n e = grind (arith, nat_tests)
 
-pieces_lie : (fs : Files) (files : List (ℕ × ℕ)) (call req n : ℕ) (xs : List Piece) → list_any (lacks_file files) xs ≡ false → All (HasLength fs) files → LieList fs (named_from (bucket_of call req) n xs)
+pieces_lie : (fs : Files) (files : List (ℕ × ℕ)) (call req n : ℕ) (xs : List Piece) → list_any (lacks_file files) xs ≡ false → All (HasLength fs) files
+    → LieList fs (named_from (bucket_of call req) n xs)
 pieces_lie fs files call req n xs there lengths =
     pieces_ranges (λ file start len p. Reaches fs file (start + len)) files call req (λ file start len has. reach_told fs files file (start + len) lengths has) n xs there
 
@@ -91,8 +93,10 @@ Leaves r s = Closes r.shared.files.opened s.shared.files.opened
 
 step_closes : (p : Program) (choice : Choice) (i : Instr) (r : Configuration) → Leaves r (step p choice i r).state
 unfolding with_pools run_down
-step_closes p choice (instr.PClear q) r = on_named (Leaves r) pool_cleared (pool_named r (pool.Own q)) r (λ file bytes is. is) (λ n e. let_go_closes (run_order r.shared.pools n) (cleared n r.shared.pools) r.shared.files)
-step_closes p choice (instr.PDestroy q) r = on_named (Leaves r) pool_destroyed (pool_named r (pool.Own q)) r (λ file bytes is. is) (λ n e. let_go_closes (run_order r.shared.pools n) (destroyed n r.shared.pools) r.shared.files)
+step_closes p choice (instr.PClear q) r =
+    on_named (Leaves r) pool_cleared (pool_named r (pool.Own q)) r (λ file bytes is. is) (λ n e. let_go_closes (run_order r.shared.pools n) (cleared n r.shared.pools) r.shared.files)
+step_closes p choice (instr.PDestroy q) r =
+    on_named (Leaves r) pool_destroyed (pool_named r (pool.Own q)) r (λ file bytes is. is) (λ n e. let_go_closes (run_order r.shared.pools n) (destroyed n r.shared.pools) r.shared.files)
 step_closes p choice i r = (let same = (step_changes_only p choice i r).files refl in λ file bytes is. subst (λ (fs : Files). fs.opened file ≡ Some bytes) same is)
 
 -- a range lies in what these files held
@@ -121,11 +125,13 @@ stays old new file closes is_open = by_file (new file) refl is_open where
   by_file (Some bytes) at is_open = at ∙ sym (closes file bytes at)
 
 -- Where files close, ranges go on lying in those that stay open.
-closed_ranges : (g : Common) (c : Connection) (v : Linked) → ChainFiles v.0 v.1 → Closes c.opened v.1.opened → OfEachBucket (LiesIn c.opened) v.1 → ((req : ℕ) → v.1.req ≡ Some req → All (HasLength (files_of g c)) v.1.files)
+closed_ranges : (g : Common) (c : Connection) (v : Linked) → ChainFiles v.0 v.1 → Closes c.opened v.1.opened → OfEachBucket (LiesIn c.opened) v.1
+    → ((req : ℕ) → v.1.req ≡ Some req → All (HasLength (files_of g c)) v.1.files)
     → ((p file : ℕ) → refers (pools_of v.0 v.1) p file ≡ true → file < v.0.file) → ChainRanges v.0 v.1
 closed_ranges g c v held closes lie told given = record {
   lie = each_bucket_so (λ x. LiesIn c.opened x × IsOpen v.1 x) (LiesInFile (files_of v.0 v.1)) still v.1 (both_each (LiesIn c.opened) (IsOpen v.1) v.1 lie held.open_files);
-  told = λ req is. still_told (pools_of v.0 v.1) (files_of g c) (files_of v.0 v.1) (λ p file h. stays c.opened v.1.opened file closes (held.lasts p file h)) v.1.files req (λ file end has. held.request file end req has is) (told req is);
+  told = λ req is. still_told (pools_of v.0 v.1) (files_of g c) (files_of v.0 v.1) (λ p file h. stays c.opened v.1.opened file closes (held.lasts p file h)) v.1.files req
+      (λ file end has. held.request file end req has is) (told req is);
   given = given;
 } where
   still : (x : NamedBucket) → LiesIn c.opened x × IsOpen v.1 x → LiesInFile (files_of v.0 v.1) x
@@ -143,7 +149,8 @@ went_ranges chain reads f rest g c may s held left h =
       i = current (module_at chain f.of) f.pc
 
       seen_files : SoundFiles c.files (configuration g c f)
-      seen_files = (let seen = seen_each (HasReference (pools_of g c)) g c f rest may.on_top held.held in record { lasts = held.lasts; brigades = seen.brigades; loose = seen.loose; request = held.request })
+      seen_files = (let seen = seen_each (HasReference (pools_of g c)) g c f rest may.on_top held.held in
+          record { lasts = held.lasts; brigades = seen.brigades; loose = seen.loose; request = held.request })
 
       seen_ranges : SoundRanges c.files (configuration g c f)
       seen_ranges = (let seen = seen_each (LiesInFile (files_of g c)) g c f rest may.on_top h.lie in record { brigades = seen.brigades; loose = seen.loose; told = h.told; given = h.given })
@@ -164,15 +171,18 @@ went_ranges chain reads f rest g c may s held left h =
       same_req = proceeds_so (λ ps files next req. req ≡ c.req) chain reads i f rest g c (λ choice. (step_changes_only (module_at chain f.of) choice i (configuration g c f)).req) refl
 
 -- A file is opened under a number that was not given out.
-taken_ranges : (req new : ℕ) (bytes : List ℕ) (g : Common) (c : Connection) → c.req ≡ Some req → g.file ≤ new → ChainFiles g c → ChainRanges g c → ChainRanges (file_taken req new bytes (g, c)).0 (file_taken req new bytes (g, c)).1
+taken_ranges : (req new : ℕ) (bytes : List ℕ) (g : Common) (c : Connection) → c.req ≡ Some req → g.file ≤ new → ChainFiles g c → ChainRanges g c
+    → ChainRanges (file_taken req new bytes (g, c)).0 (file_taken req new bytes (g, c)).1
 unfolding registered
 taken_ranges req new bytes g c is newer held h =
     let v : Linked = file_taken req new bytes (g, c) in
-    let all = each_bucket_so (λ x. LiesInFile (files_of g c) x × HasReference ps x) (LiesInFile (files_of v.0 v.1)) still c (both_each (LiesInFile (files_of g c)) (HasReference ps) c h.lie held.held) in
+    let all = each_bucket_so (λ x. LiesInFile (files_of g c) x × HasReference ps x) (LiesInFile (files_of v.0 v.1)) still c
+    (both_each (LiesInFile (files_of g c)) (HasReference ps) c h.lie held.held) in
     record {
       lie = record { brigades = all.brigades; loose = all.loose };
       told = λ q at.
-          All-append (HasLength (files_of v.0 v.1)) c.files ((new, length bytes) ∷ []) (still_told ps (files_of g c) (files_of v.0 v.1) same c.files q (λ file end has. held.request file end q has at) (h.told q at))
+          All-append (HasLength (files_of v.0 v.1)) c.files ((new, length bytes) ∷ [])
+          (still_told ps (files_of g c) (files_of v.0 v.1) same c.files q (λ file end has. held.request file end q has at) (h.told q at))
           (All-cons (HasLength (files_of v.0 v.1)) (new, length bytes) [] (bytes, upd_at c.opened new (Some bytes), refl) (All-nil (HasLength (files_of v.0 v.1))));
       given = λ p file there. elim (registered_back req (FileRef new) ps p file there) [
         | inl old ↦ (let lt : file < g.file = h.given p file old in omega arith)
@@ -188,7 +198,8 @@ taken_ranges req new bytes g c is newer held h =
       still : (x : NamedBucket) → LiesInFile (files_of g c) x × HasReference ps x → LiesInFile (files_of (file_taken req new bytes (g, c)).0 (file_taken req new bytes (g, c)).1) x
       still x there file start len p e at = (let reach = there.0 file start len p e at in (reach.0, same p file (there.1 file start len p e at) ∙ reach.1, reach.2))
 
-over_ranges : (req : ℕ) (g : Common) (c : Connection) → c.stack ≡ [] → ChainFiles (request_over req (g, c)).0 (request_over req (g, c)).1 → ChainRanges g c → ChainRanges (request_over req (g, c)).0 (request_over req (g, c)).1
+over_ranges : (req : ℕ) (g : Common) (c : Connection) → c.stack ≡ [] → ChainFiles (request_over req (g, c)).0 (request_over req (g, c)).1 → ChainRanges g c
+    → ChainRanges (request_over req (g, c)).0 (request_over req (g, c)).1
 unfolding configuration run_down with_pools
 over_ranges req g c idle left h =
     closed_ranges g c (request_over req (g, c)) left (let_go_closes (run_order (pools_of g c) req) (destroyed req (pools_of g c)) (files_of g c))
@@ -212,7 +223,8 @@ opened_ranges chain g = record {
   given = λ p file there. absurd (let none : false ≡ true = created_back g.root (pools_of g (fresh_connection g)) p file there in cc);
 }
 
-turn_ranges : (chain : List Program) (g : Common) (c : Connection) (v : Linked) → Turn chain AnyLength g c v → ChainSound chain g c → ChainFiles g c → ChainFiles v.0 v.1 → ChainRanges g c → ChainRanges v.0 v.1
+turn_ranges : (chain : List Program) (g : Common) (c : Connection) (v : Linked) → Turn chain AnyLength g c v → ChainSound chain g c → ChainFiles g c → ChainFiles v.0 v.1 → ChainRanges g c
+    → ChainRanges v.0 v.1
 turn_ranges chain g c v (Stood out broken) s held left h = record { lie = record { brigades = h.lie.brigades; loose = h.lie.loose }; told = h.told; given = h.given }
 turn_ranges chain g c v (Went reads f rest whole may) s held left h =
     let files : ChainFiles (after_top chain reads g c f rest).0 (after_top chain reads g c f rest).1 = record {

@@ -36,7 +36,8 @@ touched_ends r (instr.PDestroy q) x h = h
 touched_ends r (instr.Ret s) x h = h
 touched_ends r i x h = h
 
-steps_end : (chain : List Program) (g : Common) (c : Connection) (f : Frame) (rest : List Frame) (i : Instr) → c.stack ≡ f ∷ rest → OfEachBucket (λ x. EndsInFile x.bucket.content) c → Steps Ends Ends chain g c f i
+steps_end : (chain : List Program) (g : Common) (c : Connection) (f : Frame) (rest : List Frame) (i : Instr) → c.stack ≡ f ∷ rest → OfEachBucket (λ x. EndsInFile x.bucket.content) c
+    → Steps Ends Ends chain g c f i
 steps_end chain g c f rest i is h = record {
   held = λ choice.
       let seen = seen_each (λ x. EndsInFile x.bucket.content) g c f rest is h in
@@ -48,7 +49,8 @@ steps_end chain g c f rest i is h = record {
 abbrev EndsIn : Common → Connection → Type 0
 EndsIn g c = ChainEnds c
 
-proceeds_end : (chain : List Program) (reads : Reads) (f : Frame) (rest : List Frame) (i : Instr) (g : Common) (c : Connection) → c.stack ≡ f ∷ rest → BucketsEnd c → BucketsEnd (proceeds chain reads i f rest (g, c)).1.1
+proceeds_end : (chain : List Program) (reads : Reads) (f : Frame) (rest : List Frame) (i : Instr) (g : Common) (c : Connection) → c.stack ≡ f ∷ rest → BucketsEnd c
+    → BucketsEnd (proceeds chain reads i f rest (g, c)).1.1
 proceeds_end chain reads f rest i g c is h = proceeds_each Ends Ends chain g c f reads i rest is (steps_end chain g c f rest i is h) h
 
 pub connection_step_ends : ConnectionStepKeepsEnds
@@ -67,7 +69,8 @@ no_lengths chain g = All-nil (λ f. IsShortLength f.1)
 
 turn_ends : (chain : List Program) (Lengths : ℕ → Type 0) (g : Common) (c : Connection) (v : Linked) → Turn chain Lengths g c v → ChainEnds c → BucketsEnd v.1
 turn_ends chain Lengths g c v (Stood out broken) h = record { brigades = h.ends.brigades; loose = h.ends.loose }
-turn_ends chain Lengths g c v (Went reads f rest whole may) h = (let left = proceeds_end chain reads f rest (current (module_at chain f.of) f.pc) g c may.on_top h.ends in record { brigades = left.brigades; loose = left.loose })
+turn_ends chain Lengths g c v (Went reads f rest whole may) h =
+    (let left = proceeds_end chain reads f rest (current (module_at chain f.of) f.pc) g c may.on_top h.ends in record { brigades = left.brigades; loose = left.loose })
 turn_ends chain Lengths g c v (Begun whole idle none pools next) h = begun_each (λ x. EndsInFile x.bucket.content) chain g c h.ends
 turn_ends chain Lengths g c v (Brought pieces req whole idle is there next) h = bring_ends chain pieces req g c (told_end c.files pieces h.lengths there) h.ends
 turn_ends chain Lengths g c v (FileTaken req file bytes whole idle is short newer last) h = record { brigades = h.ends.brigades; loose = h.ends.loose }
@@ -86,7 +89,8 @@ turn_lengths chain g c v (Ended req whole idle is) h = All-nil (λ f. IsShortLen
 abbrev EndIn : Common → Connection → Type 0
 EndIn g c = BucketsEnd c
 
-made_ends : (memory : Bool) (budget : ℕ) (chain : List Program) (told : Told) (g : Common) (c : Connection) (e : Event) (v : Linked) → Made memory budget chain told g c e v → ChainEnds c → BucketsEnd v.1
+made_ends : (memory : Bool) (budget : ℕ) (chain : List Program) (told : Told) (g : Common) (c : Connection) (e : Event) (v : Linked) → Made memory budget chain told g c e v → ChainEnds c
+    → BucketsEnd v.1
 made_ends memory budget chain told g c e v (OnOpening name) h = turn_ends chain AnyLength g c v (opening_turn chain g c memory told.opening) h
 made_ends memory budget chain told g c e v OnBegin h = turn_ends chain AnyLength g c v (begins_turn chain AnyLength g c memory) h
 made_ends memory budget chain told g c e v (OnBring pieces) h = turn_ends chain AnyLength g c v (brings_turn chain AnyLength g c memory pieces) h
@@ -106,7 +110,8 @@ ends_kept : (chain : List Program) → TurnsKeep chain IsShortLength EndsIn
 ends_kept chain = record { rising = λ g new c rises s h. h; opening = λ g has s. record { ends = opened_ends chain g; lengths = no_lengths chain g }; turns = λ g c v has t s new h. record { ends = turn_ends chain IsShortLength g c v t h; lengths = turn_lengths chain g c v t h.lengths } }
 
 pub event_keeps_ends : EventKeepsWorldEnds
-event_keeps_ends memory budget chain told k e w chained s short h = (event_kept chain chained IsShortLength EndsIn (ends_kept chain) memory budget told k e w short (record { sound = s; kept = h })).kept
+event_keeps_ends memory budget chain told k e w chained s short h =
+    (event_kept chain chained IsShortLength EndsIn (ends_kept chain) memory budget told k e w short (record { sound = s; kept = h })).kept
 
 pub run_ends_world : RunEndsWorld
 run_ends_world budget chain es answers w chained run short = (whole_run_kept chain chained IsShortLength EndsIn (ends_kept chain) budget es answers w run short).kept

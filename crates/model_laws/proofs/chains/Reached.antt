@@ -15,7 +15,8 @@ use Rattle.model_laws.proofs.chains.Registered.{registered_in_runs}
 
 pub new_is_reached : NewIsReached
 unfolding IsRun
-new_is_reached first budget chain named given = record { events = []; answers = []; run = record { first = first; named = named; given = given; run = refl }; short = All-nil (TellsLengths IsShortLength) }
+new_is_reached first budget chain named given =
+    record { events = []; answers = []; run = record { first = first; named = named; given = given; run = refl }; short = All-nil (TellsLengths IsShortLength) }
 
 pub world_run_goes_on : WorldRunGoesOn
 unfolding IsRun

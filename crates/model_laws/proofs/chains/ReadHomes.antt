@@ -1,5 +1,6 @@
 -- What a call read has a home that lasts as long as the call, in every run of a chain.
-use Rattle.std.proofs.Common.{◌≡◌, ◌≢◌, ℕ, ◌+◌, ◌<◌, Bool, true, false, ◌&&◌, ◌==◌, cond, nat_lt, List, [], ◌∷◌, ◌++◌, map, length, Option, Some, None, All, inl, inr, refl, sym, ◌∙◌, ap, subst, arith, eq-eqb, ne_eqb}
+use Rattle.std.proofs.Common.{◌≡◌, ◌≢◌, ℕ, ◌+◌, ◌<◌, Bool, true, false, ◌&&◌, ◌==◌, cond, nat_lt, List, [], ◌∷◌, ◌++◌, map, length, Option, Some, None, All, inl, inr, refl, sym, ◌∙◌, ap, subst, arith}
+use Rattle.std.proofs.Common.{eq-eqb, ne_eqb}
 use Rattle.std.proofs.lemmas.Option.{}
 use Rattle.std.proofs.lemmas.List.Elements.{All-head, All-tail}
 use Rattle.module_code.specs.declared.instr.Instr.{Instr}
@@ -25,7 +26,8 @@ use Rattle.run_model.specs.declared.fault.FaultKind.TheVariants.{F5}
 use Rattle.run_model.specs.BrigadeLists.{first_bucket, buckets_before, buckets_from, bucket_named}
 use Rattle.run_model.specs.BucketSteps.{items_at, bucket_read, first_read, rest_named, read_given, read_within, do_read}
 use Rattle.run_model.specs.Buckets.{is_dead, is_ended}
-use Rattle.run_model.specs.Chains.{Frame, Connection, Common, Linked, module_at, is_last, configuration, touched_bucket, touched_frame, put_back, stepped_in, led_to, IsChain, touched_var, touched_instance, pools_of}
+use Rattle.run_model.specs.Chains.{Frame, Connection, Common, Linked, module_at, is_last, configuration, touched_bucket, touched_frame, put_back, stepped_in, led_to, IsChain, touched_var}
+use Rattle.run_model.specs.Chains.{touched_instance, pools_of}
 use Rattle.run_model.specs.Cursors.{Place, Nowhere, AtLoose, Within, AtEndOf, spot, bucket_at, read_cursor, loose_spot, brigade_spot, bucket_spot, end_spot, spot_of, holder_of, variable_of}
 use Rattle.run_model.specs.Cutting.{FitsKind, LivesAs, form_of, form_of_kind, read_as, read_of}
 use Rattle.run_model.specs.Effects.{do_return}
@@ -182,10 +184,12 @@ first_is new bytes x (y ∷ ys) is =
       one : (a b : NamedBucket) → Some a ≡ Some b → a ≡ b
       one a b e = cc
 
-read_found : (new : ℕ) (bytes : List ℕ) (x : NamedBucket) (bs : List NamedBucket) → bucket_named x.name bs ≡ Some x → bucket_named x.name (bucket_read new x.name bytes bs) ≡ Some (record x { bucket = (read_of bytes x.bucket).0 })
+read_found : (new : ℕ) (bytes : List ℕ) (x : NamedBucket) (bs : List NamedBucket) → bucket_named x.name bs ≡ Some x
+    → bucket_named x.name (bucket_read new x.name bytes bs) ≡ Some (record x { bucket = (read_of bytes x.bucket).0 })
 read_found new bytes x bs is =
     let first = first_is new bytes x (buckets_from x.name bs) is in
-    subst (λ (ys : List NamedBucket). bucket_named x.name (buckets_before x.name bs ++ ys) ≡ Some (record x { bucket = (read_of bytes x.bucket).0 })) (sym first.1) (found_again x.name bs first.0 (record x { bucket = (read_of bytes x.bucket).0 }) (eq-eqb x.name x.name refl))
+    subst (λ (ys : List NamedBucket). bucket_named x.name (buckets_before x.name bs ++ ys) ≡ Some (record x { bucket = (read_of bytes x.bucket).0 })) (sym first.1)
+    (found_again x.name bs first.0 (record x { bucket = (read_of bytes x.bucket).0 }) (eq-eqb x.name x.name refl))
 
 no_file : (k : Kind) → form_of_kind k ≡ form_of_kind kind.Heap → k ≡ kind.File → ⊥
 no_file k same is = (let clash : form_of_kind kind.File ≡ form_of_kind kind.Heap = sym (ap form_of_kind is) ∙ same in cc)
@@ -203,7 +207,8 @@ home_lasts C live k (home.Pool n) never lives on alive = by_kind k never lives w
   by_kind k never lives = lives
 home_lasts C live k home.Ended never lives on alive = absurd (cc)
 
-read_lasts : (C : ℕ → Type 0) (live : ℕ → Type 0) (bytes : List ℕ) (b : Bucket) (c : Content) → c ≡ b.content → FitsKind b → is_ended b.home ≡ false → MatchHome b.home C live → Lasts C (read_as bytes b c).0
+read_lasts : (C : ℕ → Type 0) (live : ℕ → Type 0) (bytes : List ℕ) (b : Bucket) (c : Content) → c ≡ b.content → FitsKind b → is_ended b.home ≡ false → MatchHome b.home C live
+    → Lasts C (read_as bytes b c).0
 read_lasts C live bytes b (content.Bytes bs) is fits on alive =
     let never = no_file b.kind (sym fits.holds ∙ ap form_of (sym is)) in record { file = never; home = home_lasts C live b.kind b.home never fits.lives on alive }
 read_lasts C live bytes b (content.Range file start len) is fits on alive = record { file = heap_no; home = tt } where
@@ -214,7 +219,8 @@ read_lasts C live bytes b content.Nothing is fits on alive =
 
 -- The instruction on top.
 
-module _ (chain : List Program) (reads : Reads) (g : Common) (c : Connection) (f : Frame) (rest : List Frame) (i : Instr) (may : MayExecute (module_at chain f.of) (configuration g c f) i) (top : c.stack ≡ f ∷ rest)
+module _ (chain : List Program) (reads : Reads) (g : Common) (c : Connection) (f : Frame) (rest : List Frame) (i : Instr) (may : MayExecute (module_at chain f.of) (configuration g c f) i)
+    (top : c.stack ≡ f ∷ rest)
     (placed : f.of < length chain) (named : AreNamed g.next (f ∷ rest)) (given : All (λ w. HoldsGiven g.next w.call) (f ∷ rest)) (homes : ChainHomes g c) (stack : StackReads c (f ∷ rest)) where
   abbrev left : Linked
   left = (proceeds chain reads i f rest (g, c)).1
@@ -283,7 +289,8 @@ module _ (chain : List Program) (reads : Reads) (g : Common) (c : Connection) (f
   unfolding AreAlike configuration
   in_place choice on other =
       let changes = step_changes_only (module_at chain f.of) choice i (configuration g c f) in
-      same_top (onward choice) waiting on (changes.call_name on, changes.cursors read_cursor (read_is (module_at chain f.of) i may.fit on other), alike_touched (touched_bucket (configuration g c f) i) rest)
+      same_top (onward choice) waiting on
+      (changes.call_name on, changes.cursors read_cursor (read_is (module_at chain f.of) i may.fit on other), alike_touched (touched_bucket (configuration g c f) i) rest)
 
 -- A read, as a step.
 
@@ -305,7 +312,8 @@ filled_items b x items var.Null is = absurd (cc)
 filled_items b x items var.Gone is = absurd (cc)
 filled_items b x items (var.Live v) is = refl
 
-read_sets : (given : Option (List ℕ)) (s : Place) (r : Configuration) → Stands r s → cursor_fault r InBrigade s ≡ None → home_fault (bucket_at s) ≡ None → (n : ℕ) → (do_read given s r).call.cursors read_cursor ≡ cursor.At n → WasRead r (do_read given s r) n
+read_sets : (given : Option (List ℕ)) (s : Place) (r : Configuration) → Stands r s → cursor_fault r InBrigade s ≡ None → home_fault (bucket_at s) ≡ None → (n : ℕ)
+    → (do_read given s r).call.cursors read_cursor ≡ cursor.At n → WasRead r (do_read given s r) n
 unfolding cursor_fault set_brigade set_cursor
 read_sets given Nowhere r there none live n e = absurd (cc)
 read_sets given (AtLoose x) r there none live n e = absurd (cc)
@@ -329,7 +337,8 @@ read_sets given (Within b x) r there none live n e = by_given (read_given given 
       }
 
 module _ (chain : List Program) (reads : Reads) (g : Common) (c : Connection) (f : Frame) (rest : List Frame) (top : c.stack ≡ f ∷ rest)
-    (placed : f.of < length chain) (named : AreNamed g.next (f ∷ rest)) (given : All (λ w. HoldsGiven g.next w.call) (f ∷ rest)) (homes : ChainHomes g c) (sound : ChainSound chain g c) (stack : StackReads c (f ∷ rest)) where
+    (placed : f.of < length chain) (named : AreNamed g.next (f ∷ rest)) (given : All (λ w. HoldsGiven g.next w.call) (f ∷ rest)) (homes : ChainHomes g c) (sound : ChainSound chain g c)
+    (stack : StackReads c (f ∷ rest)) where
   abbrev Leaves : Instr → Type 0
   Leaves i = StackReads (proceeds chain reads i f rest (g, c)).1.1 (proceeds chain reads i f rest (g, c)).1.1.stack
 
@@ -337,7 +346,8 @@ module _ (chain : List Program) (reads : Reads) (g : Common) (c : Connection) (f
   Single i = ChainNames chain (proceeds chain reads i f rest (g, c)).1.0 (proceeds chain reads i f rest (g, c)).1.1
 
   -- A read sets the cursor at what it read.
-  module _ (k l : ℕ) (may : MayExecute (module_at chain f.of) (configuration g c f) (instr.Read k l)) (new : Single (instr.Read k l)) (none : NoneBeyond chain (proceeds chain reads (instr.Read k l) f rest (g, c)).1.1) where
+  module _ (k l : ℕ) (may : MayExecute (module_at chain f.of) (configuration g c f) (instr.Read k l)) (new : Single (instr.Read k l))
+      (none : NoneBeyond chain (proceeds chain reads (instr.Read k l) f rest (g, c)).1.1) where
     abbrev r : Configuration
     r = configuration g c f
 
@@ -363,7 +373,8 @@ module _ (chain : List Program) (reads : Reads) (g : Common) (c : Connection) (f
     found_in : (n : ℕ) (w : WasRead r st n) → bucket_named n (items_of ((left_by.instances f.of).brigades w.b)) ≡ Some (record w.x { bucket = (read_of w.bytes w.x.bucket).0 })
     unfolding proceeds stepped_in put_back
     found_in n w =
-        subst (λ (t : Bool). bucket_named n (items_of ((cond t st.instance (touched_instance (touched_var r (instr.Read k l)) (c.instances f.of))).brigades w.b)) ≡ Some (record w.x { bucket = (read_of w.bytes w.x.bucket).0 })) (sym (eq-eqb f.of f.of refl)) w.after
+        subst (λ (t : Bool). bucket_named n (items_of ((cond t st.instance (touched_instance (touched_var r (instr.Read k l)) (c.instances f.of))).brigades w.b)) ≡ Some
+        (record w.x { bucket = (read_of w.bytes w.x.bucket).0 })) (sym (eq-eqb f.of f.of refl)) w.after
 
     read_so : (n : ℕ) (w : WasRead r st n) → Lasts (IsCalled (v ∷ waits)) (read_of w.bytes w.x.bucket).0
     unfolding configuration
@@ -376,7 +387,8 @@ module _ (chain : List Program) (reads : Reads) (g : Common) (c : Connection) (f
     at_bucket : (n : ℕ) → WasRead r st n → OfEachBucket (NamedLasts n (IsCalled (v ∷ waits))) left_by
     at_bucket n w =
         let z : NamedBucket = record w.x { bucket = (read_of w.bytes w.x.bucket).0 } in
-        each_bucket_so (λ y. y.name ≡ n → y ≡ z) (NamedLasts n (IsCalled (v ∷ waits))) (λ y only is. subst (λ (q : NamedBucket). Lasts (IsCalled (v ∷ waits)) q.bucket) (sym (only is)) (read_so n w)) left_by
+        each_bucket_so (λ y. y.name ≡ n → y ≡ z) (NamedLasts n (IsCalled (v ∷ waits)))
+        (λ y only is. subst (λ (q : NamedBucket). Lasts (IsCalled (v ∷ waits)) q.bucket) (sym (only is)) (read_so n w)) left_by
         (only_here chain (proceeds chain reads (instr.Read k l) f rest (g, c)).1.0 left_by new none f.of w.b n z placed (found_in n w))
 
     read_leaves : Leaves (instr.Read k l)
@@ -411,15 +423,18 @@ unfolding put_back StackReads
 first_leaves chain g c f s [] = tt
 first_leaves chain g c f s (k ∷ ks) = (λ n e. absurd (unset_at n cursor.Unset refl e), tt)
 
-top_leaves : (chain : List Program) (reads : Reads) (g : Common) (c : Connection) (f : Frame) (rest : List Frame) (i : Instr) → MayExecute (module_at chain f.of) (configuration g c f) i → c.stack ≡ f ∷ rest → f.of < length chain
+top_leaves : (chain : List Program) (reads : Reads) (g : Common) (c : Connection) (f : Frame) (rest : List Frame) (i : Instr) → MayExecute (module_at chain f.of) (configuration g c f) i
+    → c.stack ≡ f ∷ rest → f.of < length chain
     → AreNamed g.next (f ∷ rest) → All (λ w. HoldsGiven g.next w.call) (f ∷ rest) → ChainHomes g c → ChainSound chain g c → StackReads c (f ∷ rest)
     → ChainNames chain (proceeds chain reads i f rest (g, c)).1.0 (proceeds chain reads i f rest (g, c)).1.1 → NoneBeyond chain (proceeds chain reads i f rest (g, c)).1.1
     → StackReads (proceeds chain reads i f rest (g, c)).1.1 (proceeds chain reads i f rest (g, c)).1.1.stack
 unfolding proceeds stepped_in put_back returned_from returned_to AreAlike
-top_leaves chain reads g c f rest (instr.Pass b l) may top placed named given homes sound stack new none = pass_leaves chain reads g c f rest top placed named given homes sound stack b l may (is_last chain f.of) refl
+top_leaves chain reads g c f rest (instr.Pass b l) may top placed named given homes sound stack new none =
+    pass_leaves chain reads g c f rest top placed named given homes sound stack b l may (is_last chain f.of) refl
 top_leaves chain reads g c f [] (instr.Ret s) may top placed named given homes sound stack new none = first_leaves chain g c f s c.queue
 top_leaves chain reads g c f (w ∷ more) (instr.Ret s) may top placed named given homes sound stack new none =
-    rest_stays chain reads g c f (w ∷ more) (instr.Ret s) may top placed named given homes stack (proceeds chain reads (instr.Ret s) f (w ∷ more) (g, c)).1.1.stack (refl, refl, alike_touched (touched_bucket (configuration g c f) (instr.Ret s)) more)
+    rest_stays chain reads g c f (w ∷ more) (instr.Ret s) may top placed named given homes stack (proceeds chain reads (instr.Ret s) f (w ∷ more) (g, c)).1.1.stack
+    (refl, refl, alike_touched (touched_bucket (configuration g c f) (instr.Ret s)) more)
 top_leaves chain reads g c f rest (instr.Read k l) may top placed named given homes sound stack new none = read_leaves chain reads g c f rest top placed named given homes sound stack k l may new none
 top_leaves chain reads g c f rest i may top placed named given homes sound stack new none =
     in_place chain reads g c f rest i may top placed named given homes stack (record { answer = answer_to true; given = reads 0 }) refl refl
@@ -453,13 +468,15 @@ fresh_reads : (d : Connection) (v : Frame) → v.call.cursors read_cursor ≡ cu
 unfolding StackReads
 fresh_reads d v unset = (λ n e. absurd (unset_at n (v.call.cursors read_cursor) unset e), tt)
 
-turn_reads : (chain : List Program) (g : Common) (c : Connection) (v : Linked) → Turn chain AnyLength g c v → ChainSound chain g c → NoneBeyond chain v.1 → ReadsKept chain g c → StackReads v.1 v.1.stack
+turn_reads : (chain : List Program) (g : Common) (c : Connection) (v : Linked) → Turn chain AnyLength g c v → ChainSound chain g c → NoneBeyond chain v.1 → ReadsKept chain g c
+    → StackReads v.1 v.1.stack
 unfolding begun all_called
 turn_reads chain g c v (Stood out broken) s none h = same_reads c _ refl refl c.stack h.reads
 turn_reads chain g c v (Went reads f rest whole may) s none h =
     let left : Linked = after_top chain reads g c f rest in
     same_reads left.1 _ refl refl left.1.stack
-    (top_leaves chain reads g c f rest (current (module_at chain f.of) f.pc) (may_step chain g c f rest may s) may.on_top (All-head (IsFramePlaced chain c.req) f rest (subst (All (IsFramePlaced chain c.req)) may.on_top s.calls.placed)).of
+    (top_leaves chain reads g c f rest (current (module_at chain f.of) f.pc) (may_step chain g c f rest may s) may.on_top
+    (All-head (IsFramePlaced chain c.req) f rest (subst (All (IsFramePlaced chain c.req)) may.on_top s.calls.placed)).of
     (subst (AreNamed g.next) may.on_top s.calls.named) (subst (λ (fs : List Frame). All (λ w. HoldsGiven g.next w.call) fs) may.on_top h.cursors) h.homes s (subst (StackReads c) may.on_top h.reads)
     (top_keeps_names chain reads g c f rest may s) none)
 turn_reads chain g c v (Begun whole idle no_request pools next) s none h = fresh_reads _ _ refl
@@ -482,7 +499,8 @@ reads_kept chain chained =
 
 -- What a read cursor stands at.
 
-below_of : (c : Connection) (above : List Frame) (f : Frame) (below : List Frame) → StackReads c (above ++ f ∷ below) → (n : ℕ) → f.call.cursors read_cursor ≡ cursor.At n → OfEachBucket (NamedLasts n (IsCalled (f ∷ below))) c
+below_of : (c : Connection) (above : List Frame) (f : Frame) (below : List Frame) → StackReads c (above ++ f ∷ below) → (n : ℕ) → f.call.cursors read_cursor ≡ cursor.At n
+    → OfEachBucket (NamedLasts n (IsCalled (f ∷ below))) c
 unfolding StackReads
 below_of c [] f below h = h.0
 below_of c (w ∷ above) f below h = below_of c above f below h.1
@@ -510,7 +528,8 @@ end_at : (o : Option ℕ) (x : NamedBucket) → bucket_at (end_spot o) ≡ Some 
 end_at None x e = none_is x e
 end_at (Some b) x e = none_is x e
 
-spot_lasts : (r : Configuration) (C : ℕ → Type 0) (v : Cursor) (x : NamedBucket) → ((n : ℕ) → v ≡ cursor.At n → ((b : ℕ) → All (NamedLasts n C) (items_of (r.instance.brigades b))) × All (NamedLasts n C) r.call.loose)
+spot_lasts : (r : Configuration) (C : ℕ → Type 0) (v : Cursor) (x : NamedBucket)
+    → ((n : ℕ) → v ≡ cursor.At n → ((b : ℕ) → All (NamedLasts n C) (items_of (r.instance.brigades b))) × All (NamedLasts n C) r.call.loose)
     → bucket_at (spot_of r v) ≡ Some x → IsNoPool C x.bucket.home
 unfolding spot_of
 spot_lasts r C cursor.Unset x all e = absurd (none_is x e)

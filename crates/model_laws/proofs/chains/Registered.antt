@@ -35,7 +35,8 @@ use Rattle.model_laws.specs.KeptInRuns.{KeptInRuns}
 use Rattle.run_model.proofs.Updates.{upd_either}
 use Rattle.run_model.proofs.Names.{at_each}
 use Rattle.run_model.proofs.References.{destroyed_emptied}
-use Rattle.model_laws.proofs.Registered.{LiesOn, SameBrigade, same_brigade, handed_same, filled_same, spared, made_same, made_spared, kept_as, went_as, still, held_beside, held_created, in_on_none, no_brigade, IsMadeOr, takes_from, touched_made, step_leaves}
+use Rattle.model_laws.proofs.Registered.{LiesOn, SameBrigade, same_brigade, handed_same, filled_same, spared, made_same, made_spared, kept_as, went_as, still, held_beside, held_created, in_on_none}
+use Rattle.model_laws.proofs.Registered.{no_brigade, IsMadeOr, takes_from, touched_made, step_leaves}
 use Rattle.model_laws.proofs.chains.PutBack.{looking}
 use Rattle.model_laws.proofs.chains.Views.{sound_top}
 use Rattle.model_laws.proofs.chains.TopSteps.{may_step}
@@ -83,11 +84,13 @@ module _ (chain : List Program) (g : Common) (c : Connection) (f : Frame) (s : C
   Rest : Instr → Configuration → Type 0
   Rest i s = AreRegistered (IsMadeOr (λ name q. Elsewhere c.instances f.of name q × (takes_from (configuration g c f) i q ≡ false)) s.instance) s.shared.pools
 
-  stepped_rest : (choice : Choice) (i : Instr) → MayExecute (module_at chain f.of) (configuration g c f) i → Sound (configuration g c f) → Rest i (step (module_at chain f.of) choice i (configuration g c f)).state
+  stepped_rest : (choice : Choice) (i : Instr) → MayExecute (module_at chain f.of) (configuration g c f) i → Sound (configuration g c f)
+      → Rest i (step (module_at chain f.of) choice i (configuration g c f)).state
   unfolding Rest configuration
   stepped_rest choice i may sound =
       step_leaves (Elsewhere c.instances f.of) (module_at chain f.of) choice i (configuration g c f) may sound (s.pools.declared f) (λ name q o. s.names.given o.0 o.2.0 name o.2.1)
-      (kept_as (IsMadeInOne c.instances) (IsMadeOr (Elsewhere c.instances f.of) (c.instances f.of)) (pools_of g c) (pools_of g c) (still (pools_of g c)) (split c.instances f.of) (joined c.instances f.of) old)
+      (kept_as (IsMadeInOne c.instances) (IsMadeOr (Elsewhere c.instances f.of) (c.instances f.of)) (pools_of g c) (pools_of g c) (still (pools_of g c)) (split c.instances f.of)
+      (joined c.instances f.of) old)
 
   -- what a change of the calls leaves of it
   module _ (i : Instr) (t : Configuration) (top rest : List Frame) where
@@ -108,7 +111,8 @@ module _ (chain : List Program) (g : Common) (c : Connection) (f : Frame) (s : C
     from name q m = by_test (m.0 == f.of) refl m.1 where
       by_test : (b : Bool) → (m.0 == f.of) ≡ b → IsMadeIn (cond b t.instance (touched_instance (touched_var (configuration g c f) i) (c.instances m.0))) name q → There name q
       by_test true is here = inl here
-      by_test false is there = (let was = (touched_made (configuration g c f) i (c.instances m.0) name q).1 there in inr ((m.0, (λ same. let yes : true ≡ false = sym (eq-eqb m.0 f.of same) ∙ is in cc), was.0), was.1))
+      by_test false is there =
+          (let was = (touched_made (configuration g c f) i (c.instances m.0) name q).1 there in inr ((m.0, (λ same. let yes : true ≡ false = sym (eq-eqb m.0 f.of same) ∙ is in cc), was.0), was.1))
 
     back_registered : Rest i t → Left (put_back i f t top rest (g, c))
     unfolding Rest after put_back
@@ -119,14 +123,16 @@ module _ (chain : List Program) (g : Common) (c : Connection) (f : Frame) (s : C
     unfolding stepped_in
     stepped_registered choice i rest may = back_registered i _ _ rest (stepped_rest choice i may sound)
 
-    delivered_registered : (reads : Reads) (b : ℕ) (i : Instr) (rest : List Frame) → MayExecute (module_at chain f.of) (configuration g c f) i → Left (delivered_by (module_at chain f.of) reads b i f rest (g, c))
+    delivered_registered : (reads : Reads) (b : ℕ) (i : Instr) (rest : List Frame) → MayExecute (module_at chain f.of) (configuration g c f) i
+        → Left (delivered_by (module_at chain f.of) reads b i f rest (g, c))
     unfolding delivered_by
     delivered_registered reads b i rest may =
         let left = stepped_registered (record { answer = answer_to (delivered c.out (items_of ((c.instances f.of).brigades b)) reads).1; given = None }) i rest may in
         record { once = left.once; only = left.only }
 
     -- what a return leaves
-    left_registered : (st : Status) (top rest : List Frame) → MayExecute (module_at chain f.of) (configuration g c f) (instr.Ret st) → Left (put_back (instr.Ret st) f (do_return (configuration g c f)) top rest (g, c))
+    left_registered : (st : Status) (top rest : List Frame) → MayExecute (module_at chain f.of) (configuration g c f) (instr.Ret st)
+        → Left (put_back (instr.Ret st) f (do_return (configuration g c f)) top rest (g, c))
     left_registered st top rest may = back_registered (instr.Ret st) _ top rest (stepped_rest (record { answer = answer_to true; given = None }) (instr.Ret st) may sound)
 
     -- the brigade is marked, and it is the `in` of the next filter
@@ -135,7 +141,8 @@ module _ (chain : List Program) (g : Common) (c : Connection) (f : Frame) (s : C
 
     passed_same : (b : ℕ) → SameAll c.instances (here b)
     unfolding here set_brigade configuration
-    passed_same b = one_same c.instances f.of (do_pass b (configuration g c f)).instance (at_each SameBrigade (c.instances f.of).brigades b (handed_over ((c.instances f.of).brigades b)) (handed_same ((c.instances f.of).brigades b)) same_brigade)
+    passed_same b = one_same c.instances f.of (do_pass b (configuration g c f)).instance
+        (at_each SameBrigade (c.instances f.of).brigades b (handed_over ((c.instances f.of).brigades b)) (handed_same ((c.instances f.of).brigades b)) same_brigade)
 
     in_before : (k name q : ℕ) → LiesOn ((c.instances k).brigades 8) name q → ⊥
     unfolding configuration
@@ -149,17 +156,21 @@ module _ (chain : List Program) (g : Common) (c : Connection) (f : Frame) (s : C
     handed_same_in : (b k : ℕ) (v : BrigadeVar) → SameAll (here b) (upd (here b) k (set_in (handed_in v) (here b k)))
     handed_same_in b k v =
         one_same (here b) k (set_in (handed_in v) (here b k))
-        (at_each SameBrigade (here b k).brigades 8 (handed_in v) (no_brigade ((here b k).brigades 8) (handed_in v) (λ name q h. in_before k name q ((passed_same b k 8 name q).1 h)) (on_none v)) same_brigade)
+        (at_each SameBrigade (here b k).brigades 8 (handed_in v)
+        (no_brigade ((here b k).brigades 8) (handed_in v) (λ name q h. in_before k name q ((passed_same b k 8 name q).1 h)) (on_none v)) same_brigade)
 
     passed_registered : (callee : Program) (b : ℕ) (rest : List Frame) → Left (passed_to callee b f rest (g, c))
     unfolding passed_to here
     passed_registered callee b rest =
-        same_all (here b) (upd (here b) (f.of + 1) (set_in (handed_in ((configuration g c f).instance.brigades b)) (here b (f.of + 1)))) (pools_of g c) (handed_same_in b (f.of + 1) ((configuration g c f).instance.brigades b)) (same_all c.instances (here b) (pools_of g c) (passed_same b) old)
+        same_all (here b) (upd (here b) (f.of + 1) (set_in (handed_in ((configuration g c f).instance.brigades b)) (here b (f.of + 1)))) (pools_of g c)
+        (handed_same_in b (f.of + 1) ((configuration g c f).instance.brigades b)) (same_all c.instances (here b) (pools_of g c) (passed_same b) old)
 
     gone_on_registered : (st : Status) (i : Instr) (w : Frame) (left : List NamedBucket) (v : Linked) → Left v → Left (gone_on st i w left v)
     gone_on_registered st i w left v h =
-        same_all v.1.instances (upd v.1.instances w.of (given_back (passed_by i) left (v.1.instances w.of))) (pools_of v.0 v.1) (one_same v.1.instances w.of (given_back (passed_by i) left (v.1.instances w.of))
-        (at_each SameBrigade (v.1.instances w.of).brigades (passed_by i) (with_items left ((v.1.instances w.of).brigades (passed_by i))) (filled_same left ((v.1.instances w.of).brigades (passed_by i))) same_brigade)) h
+        same_all v.1.instances (upd v.1.instances w.of (given_back (passed_by i) left (v.1.instances w.of))) (pools_of v.0 v.1)
+        (one_same v.1.instances w.of (given_back (passed_by i) left (v.1.instances w.of))
+        (at_each SameBrigade (v.1.instances w.of).brigades (passed_by i) (with_items left ((v.1.instances w.of).brigades (passed_by i)))
+        (filled_same left ((v.1.instances w.of).brigades (passed_by i))) same_brigade)) h
 
     returned_registered : (st : Status) (queue : List ℕ) → MayExecute (module_at chain f.of) (configuration g c f) (instr.Ret st)
         → Left (next_called chain st queue (put_back (instr.Ret st) f (do_return (configuration g c f)) [] [] (g, c))).1
@@ -196,25 +207,29 @@ opened_registered chain g = record {
   ]
 
 -- payloads count alike, and instances are as before
-instances_kept : (instances : ℕ → Instance) (ps new : Pools Payload) → ((name p : ℕ) → times_held new name p ≡ times_held ps name p) → AreRegistered (IsMadeInOne instances) ps → AreRegistered (IsMadeInOne instances) new
+instances_kept : (instances : ℕ → Instance) (ps new : Pools Payload) → ((name p : ℕ) → times_held new name p ≡ times_held ps name p) → AreRegistered (IsMadeInOne instances) ps
+    → AreRegistered (IsMadeInOne instances) new
 instances_kept instances ps new times s = kept_as (IsMadeInOne instances) (IsMadeInOne instances) ps new times (λ name p m. m) (λ name p m. m) s
 
 begun_registered : (chain : List Program) (g : Common) (c : Connection) → ChainSound chain g c → ChainRegistered g c → ChainRegistered (begun chain (g, c)).0 (begun chain (g, c)).1
 unfolding begun all_called configuration
 begun_registered chain g c s h = instances_kept c.instances (pools_of g c) (created c.conn (pools_of g c)) (held_created c.conn (pools_of g c) (s.pools.sound (looking 0)).formed) h
 
-brought_registered : (chain : List Program) (pieces : List Piece) (req : ℕ) (g : Common) (c : Connection) → ChainSound chain g c → ChainRegistered g c → ChainRegistered (brought_in chain pieces req (g, c)).0 (brought_in chain pieces req (g, c)).1
+brought_registered : (chain : List Program) (pieces : List Piece) (req : ℕ) (g : Common) (c : Connection) → ChainSound chain g c → ChainRegistered g c
+    → ChainRegistered (brought_in chain pieces req (g, c)).0 (brought_in chain pieces req (g, c)).1
 unfolding configuration
-brought_registered chain pieces req g c s h = same_all c.instances (upd c.instances 0 (set_in there (c.instances 0))) (pools_of g c) (one_same c.instances 0 (set_in there (c.instances 0)) (at_each SameBrigade (c.instances 0).brigades 8 there new_in same_brigade)) h where
-  there : BrigadeVar
-  there = var.Live (record { name = g.next + 1; on = None; mark = Usable; items = named_from (bucket_of g.next req) (g.next + 2) pieces })
+brought_registered chain pieces req g c s h = same_all c.instances (upd c.instances 0 (set_in there (c.instances 0))) (pools_of g c)
+    (one_same c.instances 0 (set_in there (c.instances 0)) (at_each SameBrigade (c.instances 0).brigades 8 there new_in same_brigade)) h where
+      there : BrigadeVar
+      there = var.Live (record { name = g.next + 1; on = None; mark = Usable; items = named_from (bucket_of g.next req) (g.next + 2) pieces })
 
-  new_in : SameBrigade ((c.instances 0).brigades 8) there
-  new_in = no_brigade ((c.instances 0).brigades 8) there (in_on_none (module_at chain 0) (configuration g c (looking 0)) (s.pools.declared (looking 0))) (λ name q h. let no = h.1 in cc)
+      new_in : SameBrigade ((c.instances 0).brigades 8) there
+      new_in = no_brigade ((c.instances 0).brigades 8) there (in_on_none (module_at chain 0) (configuration g c (looking 0)) (s.pools.declared (looking 0))) (λ name q h. let no = h.1 in cc)
 
 taken_registered : (req file : ℕ) (bytes : List ℕ) (g : Common) (c : Connection) → ChainRegistered g c → ChainRegistered (file_taken req file bytes (g, c)).0 (file_taken req file bytes (g, c)).1
 unfolding registered
-taken_registered req file bytes g c h = (let left = instances_kept c.instances (pools_of g c) (registered req (FileRef file) (pools_of g c)) (λ name p. held_beside req (FileRef file) (pools_of g c) name p refl) h in record { once = left.once; only = left.only })
+taken_registered req file bytes g c h = (let left = instances_kept c.instances (pools_of g c) (registered req (FileRef file) (pools_of g c))
+    (λ name p. held_beside req (FileRef file) (pools_of g c) name p refl) h in record { once = left.once; only = left.only })
 
 over_registered : (req : ℕ) (g : Common) (c : Connection) → ChainRegistered g c → ChainRegistered (request_over req (g, c)).0 (request_over req (g, c)).1
 unfolding configuration run_down with_pools
@@ -223,7 +238,8 @@ over_registered req g c h =
     (λ name p m off. (m.0, (spared_in m.0 name p).0 m.1 off)) (λ name p m. (let old = (spared_in m.0 name p).1 m.1 in ((m.0, old.0), old.1))) h where
       spared_in : (k name p : ℕ) → (IsMadeIn (c.instances k) name p → is_under (pools_of g c) req p ≡ false → IsMadeIn ((request_over req (g, c)).1.instances k) name p)
           × (IsMadeIn ((request_over req (g, c)).1.instances k) name p → IsMadeIn (c.instances k) name p × (is_under (pools_of g c) req p ≡ false))
-      spared_in k name p = made_spared (is_under (pools_of g c) req) (c.instances k) ((request_over req (g, c)).1.instances k) (λ b. spared (is_under (pools_of g c) req) ((c.instances k).brigades b)) name p
+      spared_in k name p =
+          made_spared (is_under (pools_of g c) req) (c.instances k) ((request_over req (g, c)).1.instances k) (λ b. spared (is_under (pools_of g c) req) ((c.instances k).brigades b)) name p
 
 turn_registered : (chain : List Program) (g : Common) (c : Connection) (v : Linked) → Turn chain AnyLength g c v → ChainSound chain g c → ChainRegistered g c → ChainRegistered v.0 v.1
 turn_registered chain g c v (Stood out broken) s h = record { once = h.once; only = h.only }

@@ -67,7 +67,8 @@ unfolding named_at
 spared_declared reached p r new t s d =
     carried p r new (record {
       own = t.own;
-      older = λ q n e live. (let free : reached n ≡ false = t.named (pool.Own q) n (ap name_in e) in (t.paths n (s.own q n e).1 free, λ m at there. t.paths m (s.formed.named m there) (t.up n m at free)));
+      older = λ q n e live.
+          (let free : reached n ≡ false = t.named (pool.Own q) n (ap name_in e) in (t.paths n (s.own q n e).1 free, λ m at there. t.paths m (s.formed.named m there) (t.up n m at free)));
       named = λ k m e live stays. named_same r new t.own t.conn t.req k ∙ e;
       brigades = λ b w e. (let old = t.brigades b w e in (old.0, old.1, old.2, λ m at. t.paths m (s.formed.named m (s.brigades b m (ap brigade_pool old.1 ∙ at))) (old.3 m at)));
     }) d

@@ -28,7 +28,8 @@ module _ (bucket : NamedBucket → NamedBucket) where
   named_touched next (f ∷ fs) h = (h.0, h.1, All-map (λ (w : Frame). w.call.name ≢ f.call.name) (touched_frame bucket) fs h.2, named_touched next fs h.3)
 
   pub placed_touched : (chain : List Program) (req : Option ℕ) (fs : List Frame) → All (IsFramePlaced chain req) fs → All (IsFramePlaced chain req) (map (touched_frame bucket) fs)
-  placed_touched chain req fs h = All-map (IsFramePlaced chain req) (touched_frame bucket) fs (all_to (IsFramePlaced chain req) (λ (f : Frame). IsFramePlaced chain req (touched_frame bucket f)) fs (λ f p. record { of = p.of; at = p.at; opening = p.opening; serving = p.serving }) h)
+  placed_touched chain req fs h = All-map (IsFramePlaced chain req) (touched_frame bucket) fs
+      (all_to (IsFramePlaced chain req) (λ (f : Frame). IsFramePlaced chain req (touched_frame bucket f)) fs (λ f p. record { of = p.of; at = p.at; opening = p.opening; serving = p.serving }) h)
 
   pub waiting_touched : (chain : List Program) (fs : List Frame) → All (WaitsAtPass chain) fs → All (WaitsAtPass chain) (map (touched_frame bucket) fs)
   waiting_touched chain fs h = All-map (WaitsAtPass chain) (touched_frame bucket) fs h

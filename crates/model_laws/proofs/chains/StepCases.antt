@@ -29,24 +29,28 @@ below budget count h = grind (arith, nat_tests)
 
 module _ (Q : Linked → Type 0) (memory : Bool) (budget : ℕ) (chain : List Program) (reads : Reads) (g : Common) (c : Connection)
     (same : Q (g, c)) (broke : (k : Cause) → k ≢ cause.Faulted → Q (g, record c { broken = Some k }))
-    (faulted : (f : Frame) (rest : List Frame) (k : FaultKind) → c.broken ≡ None → c.stack ≡ f ∷ rest → fault (module_at chain f.of) (configuration g c f) (current (module_at chain f.of) f.pc) ≡ Some k
+    (faulted : (f : Frame) (rest : List Frame) (k : FaultKind) → c.broken ≡ None → c.stack ≡ f ∷ rest
+    → fault (module_at chain f.of) (configuration g c f) (current (module_at chain f.of) f.pc) ≡ Some k
     → Q (g, record c { broken = Some cause.Faulted }))
     (went : (f : Frame) (rest : List Frame) → c.broken ≡ None → c.count < budget → IsReady chain g c f rest → Q (counted_top chain reads g c f rest)) where
-  executed_so : (f : Frame) (rest : List Frame) → c.broken ≡ None → c.count < budget → c.stack ≡ f ∷ rest → fault (module_at chain f.of) (configuration g c f) (current (module_at chain f.of) f.pc) ≡ None
+  executed_so : (f : Frame) (rest : List Frame) → c.broken ≡ None → c.count < budget → c.stack ≡ f ∷ rest
+      → fault (module_at chain f.of) (configuration g c f) (current (module_at chain f.of) f.pc) ≡ None
       → Q (executed memory chain reads (current (module_at chain f.of) f.pc) f rest (g, c)).1
   unfolding executed
-  executed_so f rest whole few top none = by_names (lacks_names (configuration g c f) (current (module_at chain f.of) f.pc) || is_spent g.next (calls_of chain (current (module_at chain f.of) f.pc) f rest c.queue)) refl where
-    by_memory : (b : Bool) → IsReady chain g c f rest → Q (cond b (counted (proceeds chain reads (current (module_at chain f.of) f.pc) f rest (g, c))) (broken_by cause.NoMemory (g, c))).1
-    by_memory true ready = went f rest whole few ready
-    by_memory false ready = broke cause.NoMemory (λ e. cc)
+  executed_so f rest whole few top none =
+      by_names (lacks_names (configuration g c f) (current (module_at chain f.of) f.pc) || is_spent g.next (calls_of chain (current (module_at chain f.of) f.pc) f rest c.queue)) refl where
+        by_memory : (b : Bool) → IsReady chain g c f rest → Q (cond b (counted (proceeds chain reads (current (module_at chain f.of) f.pc) f rest (g, c))) (broken_by cause.NoMemory (g, c))).1
+        by_memory true ready = went f rest whole few ready
+        by_memory false ready = broke cause.NoMemory (λ e. cc)
 
-    by_names : (b : Bool) → (lacks_names (configuration g c f) (current (module_at chain f.of) f.pc) || is_spent g.next (calls_of chain (current (module_at chain f.of) f.pc) f rest c.queue)) ≡ b
-        → Q (cond b (broken_by cause.NamesSpent (g, c)) (cond (memory || not (grows (configuration g c f) (current (module_at chain f.of) f.pc) || nat_lt 0 (calls_of chain (current (module_at chain f.of) f.pc) f rest c.queue)))
-        (counted (proceeds chain reads (current (module_at chain f.of) f.pc) f rest (g, c))) (broken_by cause.NoMemory (g, c)))).1
-    by_names true spent = broke cause.NamesSpent (λ e. cc)
-    by_names false there =
-        let last = neither (lacks_names (configuration g c f) (current (module_at chain f.of) f.pc)) (is_spent g.next (calls_of chain (current (module_at chain f.of) f.pc) f rest c.queue)) there in
-        by_memory _ (record { on_top = top; faultless = none; names_last = last.0; calls_last = last.1 })
+        by_names : (b : Bool) → (lacks_names (configuration g c f) (current (module_at chain f.of) f.pc) || is_spent g.next (calls_of chain (current (module_at chain f.of) f.pc) f rest c.queue)) ≡ b
+            → Q (cond b (broken_by cause.NamesSpent (g, c))
+            (cond (memory || not (grows (configuration g c f) (current (module_at chain f.of) f.pc) || nat_lt 0 (calls_of chain (current (module_at chain f.of) f.pc) f rest c.queue)))
+            (counted (proceeds chain reads (current (module_at chain f.of) f.pc) f rest (g, c))) (broken_by cause.NoMemory (g, c)))).1
+        by_names true spent = broke cause.NamesSpent (λ e. cc)
+        by_names false there =
+            let last = neither (lacks_names (configuration g c f) (current (module_at chain f.of) f.pc)) (is_spent g.next (calls_of chain (current (module_at chain f.of) f.pc) f rest c.queue)) there in
+            by_memory _ (record { on_top = top; faultless = none; names_last = last.0; calls_last = last.1 })
 
   watched_so : (f : Frame) (rest : List Frame) → c.broken ≡ None → c.count < budget → c.stack ≡ f ∷ rest → Q (watched memory chain reads f rest (g, c)).1
   watched_so f rest whole few top = by_fault (fault (module_at chain f.of) (configuration g c f) (current (module_at chain f.of) f.pc)) refl where

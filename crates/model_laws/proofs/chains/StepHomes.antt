@@ -21,7 +21,8 @@ use Rattle.run_model.specs.Faults.{WCursor, OnBucket, usable_fault, homes_fault,
 use Rattle.run_model.specs.BrigadeLists.{bucket_named}
 use Rattle.run_model.specs.Cursors.{Place, Nowhere, AtLoose, Within, AtEndOf, bucket_at, spot}
 use Rattle.run_model.specs.BucketSteps.{items_at, changed_at, aside_into}
-use Rattle.run_model.specs.Steps.{Choice, step, on_pool, with_brigade, all_referred, do_return, made_on, new_ref, aside_named, saved_into, pool_cleared, pool_destroyed, label_registered, label_killed, text_of}
+use Rattle.run_model.specs.Steps.{Choice, step, on_pool, with_brigade, all_referred, do_return, made_on, new_ref, aside_named, saved_into, pool_cleared, pool_destroyed, label_registered, label_killed}
+use Rattle.run_model.specs.Steps.{text_of}
 use Rattle.run_model.specs.Sound.{Sound, count_named}
 use Rattle.model_laws.specs.Laws.{MayExecute, MatchHome, is_return}
 use Rattle.run_model.specs.Chains.{is_under_named, touched_bucket}
@@ -55,7 +56,8 @@ home_so C D ps new calls pools (home.Call n) a = calls n a
 home_so C D ps new calls pools (home.Pool n) a = pools n a
 home_so C D ps new calls pools home.Ended a = tt
 
-pub cleared_home : (C : ℕ → Type 0) (ps new : Pools Payload) (reached : ℕ → Bool) → ((n : ℕ) → reached n ≡ false → is_live ps n ≡ true → is_live new n ≡ true) → (h : Home) → AliveHome C ps h → AliveHome C new (end_pools reached h)
+pub cleared_home : (C : ℕ → Type 0) (ps new : Pools Payload) (reached : ℕ → Bool) → ((n : ℕ) → reached n ≡ false → is_live ps n ≡ true → is_live new n ≡ true) → (h : Home) → AliveHome C ps h
+    → AliveHome C new (end_pools reached h)
 cleared_home C ps new reached apart home.Free a = tt
 cleared_home C ps new reached apart (home.Call n) a = a
 cleared_home C ps new reached apart (home.Pool n) a = by_test (reached n) refl where
@@ -92,20 +94,25 @@ module _ (C : ℕ → Type 0) where
   gone_alive gone None r so x a = cleared_home C r.shared.pools r.shared.pools (λ m. false) (λ n off live. live) x.bucket.home a
   gone_alive gone (Some n) r so x a = cleared_home C r.shared.pools (gone n r).shared.pools (is_under r.shared.pools n) (apart_lives n r.shared.pools (gone n r).shared.pools (so n)) x.bucket.home a
 
-  pub touched_alive : (p : Program) (choice : Choice) (i : Instr) (r : Configuration) → is_return i ≡ false → (x : NamedBucket) → AliveAs C r.shared.pools x → AliveAs C (step p choice i r).state.shared.pools (touched_bucket r i x)
+  pub touched_alive : (p : Program) (choice : Choice) (i : Instr) (r : Configuration) → is_return i ≡ false → (x : NamedBucket) → AliveAs C r.shared.pools x
+      → AliveAs C (step p choice i r).state.shared.pools (touched_bucket r i x)
   unfolding with_pools set_pool run_down set_brigade registered killed
   touched_alive p choice (instr.PClear q) r on x a = gone_alive pool_cleared (pool_named r (pool.Own q)) r (λ n. cleared_so n r.shared.pools) x a
   touched_alive p choice (instr.PDestroy q) r on x a = gone_alive pool_destroyed (pool_named r (pool.Own q)) r (λ n. destroyed_so n r.shared.pools) x a
   touched_alive p choice (instr.Ret s) r on x a = absurd (cc)
   touched_alive p choice (instr.PCreate q) r on x a = made_under_named (Left x) p q r a (λ parent e. stays r.shared.pools (created parent r.shared.pools) (created_lives parent r.shared.pools) x a)
-  touched_alive p choice (instr.Label q t) r on x a = on_named (Left x) (label_registered (text_of p t)) (pool_named r q) r a (λ n e. stays r.shared.pools _ (same_path r.shared.pools (label_registered (text_of p t) n r).shared.pools refl) x a)
-  touched_alive p choice (instr.Unlabel q t) r on x a = on_named (Left x) (label_killed (text_of p t)) (pool_named r q) r a (λ n e. stays r.shared.pools _ (same_path r.shared.pools (label_killed (text_of p t) n r).shared.pools refl) x a)
+  touched_alive p choice (instr.Label q t) r on x a =
+      on_named (Left x) (label_registered (text_of p t)) (pool_named r q) r a (λ n e. stays r.shared.pools _ (same_path r.shared.pools (label_registered (text_of p t) n r).shared.pools refl) x a)
+  touched_alive p choice (instr.Unlabel q t) r on x a =
+      on_named (Left x) (label_killed (text_of p t)) (pool_named r q) r a (λ n e. stays r.shared.pools _ (same_path r.shared.pools (label_killed (text_of p t) n r).shared.pools refl) x a)
   touched_alive p choice (instr.BCreate o) r on x a =
-      stays r.shared.pools (with_brigade (pool_named r (pool_of_brigade p o)) r.shared.next r.shared.pools) (same_path r.shared.pools _ (brigade_path (pool_named r (pool_of_brigade p o)) r.shared.next r.shared.pools)) x a
+      stays r.shared.pools (with_brigade (pool_named r (pool_of_brigade p o)) r.shared.next r.shared.pools)
+      (same_path r.shared.pools _ (brigade_path (pool_named r (pool_of_brigade p o)) r.shared.next r.shared.pools)) x a
   touched_alive p choice (instr.BSave o b) r on x a = on_named (Left x) (saved_into o b) (made_on (r.instance.brigades o)) r a (λ target e.
       let refs : List ℕ = filter_map (new_ref r.shared.pools target) (items_of (r.instance.brigades b)) in
       stays r.shared.pools (all_referred target refs r.shared.pools) (same_path r.shared.pools _ (referred_path target refs r.shared.pools)) x a)
-  touched_alive p choice (instr.Aside c q) r on x a = on_named (Left x) (aside_into (spot r c)) (pool_named r q) r a (λ target e. stays r.shared.pools (aside_into (spot r c) target r).shared.pools (same_path r.shared.pools _ (aside_path (spot r c) target r)) x a)
+  touched_alive p choice (instr.Aside c q) r on x a = on_named (Left x) (aside_into (spot r c)) (pool_named r q) r a
+      (λ target e. stays r.shared.pools (aside_into (spot r c) target r).shared.pools (same_path r.shared.pools _ (aside_path (spot r c) target r)) x a)
   touched_alive p choice i r on x a = subst (λ (ps : Pools Payload). AliveAs C ps x) (sym ((step_changes_only p choice i r).tree refl)) a
 
   -- What the call sees.
@@ -113,7 +120,8 @@ module _ (C : ℕ → Type 0) where
   abbrev Seen : Configuration → Type 0
   Seen r = HoldsNamed (AliveAs C r.shared.pools) r
 
-  grown : (r s : Configuration) → Lasting r.shared.pools s.shared.pools → ((b : ℕ) → All (AliveAs C r.shared.pools) (items_of (s.instance.brigades b))) → All (AliveAs C r.shared.pools) s.call.loose → Seen s
+  grown : (r s : Configuration) → Lasting r.shared.pools s.shared.pools → ((b : ℕ) → All (AliveAs C r.shared.pools) (items_of (s.instance.brigades b))) → All (AliveAs C r.shared.pools) s.call.loose
+      → Seen s
   grown r s pools brigades loose = record {
     brigades = λ b. each_so (AliveAs C r.shared.pools) (AliveAs C s.shared.pools) (stays r.shared.pools s.shared.pools pools) (items_of (s.instance.brigades b)) (brigades b);
     loose = each_so (AliveAs C r.shared.pools) (AliveAs C s.shared.pools) (stays r.shared.pools s.shared.pools pools) s.call.loose loose;
@@ -143,16 +151,19 @@ module _ (C : ℕ → Type 0) where
   aside_all target ps formed live (x ∷ xs) fits dead =
       let parts = neither (is_dead x) (list_any is_dead xs) dead in
       let aside = aside_lasts ps target x (All-head (λ y. FitsKind y.bucket) x xs fits) parts.0 in
-      All-cons (AliveAs C ps) (aside_named ps target x) (map (aside_named ps target) xs) (lasting ps _ (aside.there formed live)) (aside_all target ps formed live xs (All-tail (λ y. FitsKind y.bucket) x xs fits) parts.1)
+      All-cons (AliveAs C ps) (aside_named ps target x) (map (aside_named ps target) xs) (lasting ps _ (aside.there formed live))
+      (aside_all target ps formed live xs (All-tail (λ y. FitsKind y.bucket) x xs fits) parts.1)
 
-  save_alive : (o b target : ℕ) (r : Configuration) → Sound r → made_on (r.instance.brigades o) ≡ Some target → list_any is_dead (items_of (r.instance.brigades b)) ≡ false → Seen r → Seen (saved_into o b target r)
+  save_alive : (o b target : ℕ) (r : Configuration) → Sound r → made_on (r.instance.brigades o) ≡ Some target → list_any is_dead (items_of (r.instance.brigades b)) ≡ false → Seen r
+      → Seen (saved_into o b target r)
   unfolding set_brigade with_pools
   save_alive o b target r sound on dead h =
       grown r (saved_into o b target r) (same_path r.shared.pools _ (referred_path target (filter_map (new_ref r.shared.pools target) (items_of (r.instance.brigades b))) r.shared.pools))
       (moved_each (AliveAs C r.shared.pools) r.instance.brigades o b _ (aside_all target r.shared.pools sound.pools.formed
       (sound.pools.brigades o target (sym (made_is (r.instance.brigades o)) ∙ on)) (items_of (r.instance.brigades b)) (sound.buckets.brigades b) dead) h.brigades) h.loose
 
-  aside_in : (ps : Pools Payload) (target : ℕ) (x : NamedBucket) (xs : List NamedBucket) → bucket_named x.name xs ≡ Some x → count_named x.name xs ≤ 1 → All (λ y. FitsKind y.bucket) xs → is_dead x ≡ false
+  aside_in : (ps : Pools Payload) (target : ℕ) (x : NamedBucket) (xs : List NamedBucket) → bucket_named x.name xs ≡ Some x → count_named x.name xs ≤ 1 → All (λ y. FitsKind y.bucket) xs
+      → is_dead x ≡ false
       → is_live ps target ≡ true → IsPoolMap ps → All (AliveAs C ps) xs → All (AliveAs C ps) (changed_at x.name (aside_named ps target) xs)
   aside_in ps target x xs there once proper live target_lives formed h =
       let aside = aside_lasts ps target x (of_named (λ y. FitsKind y.bucket) x.name x xs there proper) live in
@@ -191,8 +202,10 @@ module _ (C : ℕ → Type 0) where
   step_alive p choice (instr.PCreate q) r on may sound named h = made_under_named Seen p q r h (λ parent e. grown r _ (created_lives parent r.shared.pools) h.brigades h.loose)
   step_alive p choice (instr.PClear q) r on may sound named h = (on_emptied Seen q r h (λ n left e so. emptied n left r so h)).0
   step_alive p choice (instr.PDestroy q) r on may sound named h = (on_emptied Seen q r h (λ n left e so. emptied n left r so h)).1
-  step_alive p choice (instr.Label q t) r on may sound named h = on_named Seen (label_registered (text_of p t)) (pool_named r q) r h (λ n e. grown r _ (same_path r.shared.pools (label_registered (text_of p t) n r).shared.pools refl) h.brigades h.loose)
-  step_alive p choice (instr.Unlabel q t) r on may sound named h = on_named Seen (label_killed (text_of p t)) (pool_named r q) r h (λ n e. grown r _ (same_path r.shared.pools (label_killed (text_of p t) n r).shared.pools refl) h.brigades h.loose)
+  step_alive p choice (instr.Label q t) r on may sound named h =
+      on_named Seen (label_registered (text_of p t)) (pool_named r q) r h (λ n e. grown r _ (same_path r.shared.pools (label_registered (text_of p t) n r).shared.pools refl) h.brigades h.loose)
+  step_alive p choice (instr.Unlabel q t) r on may sound named h =
+      on_named Seen (label_killed (text_of p t)) (pool_named r q) r h (λ n e. grown r _ (same_path r.shared.pools (label_killed (text_of p t) n r).shared.pools refl) h.brigades h.loose)
   step_alive p choice (instr.BCreate o) r on may sound named h =
       grown r _ (same_path r.shared.pools _ (brigade_path (pool_named r (pool_of_brigade p o)) r.shared.next r.shared.pools))
       (written_each (AliveAs C r.shared.pools) r.instance.brigades o _ (none (AliveAs C r.shared.pools)) h.brigades) h.loose
@@ -202,11 +215,13 @@ module _ (C : ℕ → Type 0) where
       grown r _ (λ n live. live) (moved_each (AliveAs C r.shared.pools) r.instance.brigades a b (items_of (r.instance.brigades b)) (h.brigades b) h.brigades) h.loose
   step_alive p choice (instr.BSave o b) r on may sound named h = on_named Seen (saved_into o b) (made_on (r.instance.brigades o)) r h (λ target e.
       save_alive o b target r sound e
-      (no_dead (items_of (r.instance.brigades b)) (first_none (homes_fault (items_of (r.instance.brigades b))) None (second_none (usable_fault (r.instance.brigades b)) _ (second_none (usable_fault (r.instance.brigades o)) _ may.faultless)))) h)
+      (no_dead (items_of (r.instance.brigades b)) (first_none (homes_fault (items_of (r.instance.brigades b))) None
+      (second_none (usable_fault (r.instance.brigades b)) _ (second_none (usable_fault (r.instance.brigades o)) _ may.faultless)))) h)
   step_alive p choice (instr.Pass b l) r on may sound named h =
       grown r _ (λ n live. live) (written_each (AliveAs C r.shared.pools) r.instance.brigades b _ (handed_over_each (AliveAs C r.shared.pools) (r.instance.brigades b)) h.brigades) h.loose
   step_alive p choice (instr.Aside c q) r on may sound named h = on_named Seen (aside_into (spot r c)) (pool_named r q) r h (λ target e.
-      aside_alive (spot r c) target r (stands r (r.call.cursors c)) (aside_live r c q may.faultless) (named_lives r q target (wanted_pool r q _ (second_none (fault_want r (WCursor c OnBucket)) _ may.faultless)) e) sound h)
+      aside_alive (spot r c) target r (stands r (r.call.cursors c)) (aside_live r c q may.faultless)
+      (named_lives r q target (wanted_pool r q _ (second_none (fault_want r (WCursor c OnBucket)) _ may.faultless)) e) sound h)
   step_alive p choice (instr.Ret s) r on may sound named h = absurd (cc)
   step_alive p choice i r on may sound named h =
       let left = quiet_leaves (AliveBucket r.shared.pools) p choice i r refl (alive_on r named) (record { brigades = h.brigades; loose = h.loose }) in

@@ -24,7 +24,8 @@ abbrev pub LinkedCalls : List Program → Linked → Type 0
 LinkedCalls chain w = ChainCalls chain w.0 w.1
 
 -- where the calls stay as they are
-pub same_calls : (chain : List Program) (g new : Common) (c left : Connection) → new.next ≡ g.next → left.req ≡ c.req → left.stack ≡ c.stack → left.queue ≡ c.queue → ChainCalls chain g c → ChainCalls chain new left
+pub same_calls : (chain : List Program) (g new : Common) (c left : Connection) → new.next ≡ g.next → left.req ≡ c.req → left.stack ≡ c.stack → left.queue ≡ c.queue → ChainCalls chain g c
+    → ChainCalls chain new left
 same_calls chain g new c left next req stack queue h = record {
   placed = subst (λ (o : Option ℕ). All (IsFramePlaced chain o) left.stack) (sym req) (subst (λ (fs : List Frame). All (IsFramePlaced chain c.req) fs) (sym stack) h.placed);
   nested = subst IsNestedStack (sym stack) h.nested;
@@ -61,7 +62,8 @@ unfolding IsRising
 rising_none k queue none = subst (IsRising k) (sym none) tt
 
 -- one call of such a handler, and no other
-pub called_calls : (chain : List Program) (k : ℕ) (queue : List ℕ) (w : Linked) → IsModule (module_at chain k) → k < length chain → 0 < w.0.next → All (λ j. j < length chain) queue → IsRising k queue → LinkedCalls chain (called chain k queue w)
+pub called_calls : (chain : List Program) (k : ℕ) (queue : List ℕ) (w : Linked) → IsModule (module_at chain k) → k < length chain → 0 < w.0.next → All (λ j. j < length chain) queue
+    → IsRising k queue → LinkedCalls chain (called chain k queue w)
 unfolding IsNested AreNamed
 called_calls chain k queue w m lt some due later =
     let placed = handler_placed chain w.1.req k w.0.next m lt in
@@ -77,7 +79,8 @@ called_calls chain k queue w m lt some due later =
       alone = λ f more e. absurd (cc);
     })
 
-module _ (chain : List Program) (g : Common) (c : Connection) (proper : (k : ℕ) → IsModule (module_at chain k)) (f : Frame) (rest : List Frame) (t : StandsOnTop chain g.next c.req c.queue f rest) where
+module _ (chain : List Program) (g : Common) (c : Connection) (proper : (k : ℕ) → IsModule (module_at chain k)) (f : Frame) (rest : List Frame)
+    (t : StandsOnTop chain g.next c.req c.queue f rest) where
   stepped_place : (choice : Choice) (i : Instr) → i ≡ current (module_at chain f.of) f.pc → is_return i ≡ false
       → SameHandler (module_at chain f.of) f.pc (led_to (step (module_at chain f.of) choice i (configuration g c f)).exit i f.pc)
   stepped_place choice i is on =
@@ -99,7 +102,8 @@ module _ (chain : List Program) (g : Common) (c : Connection) (proper : (k : ℕ
         top = subst (λ (x : Option ℕ). IsFramePlaced chain x new) (sym req) (goes_placed chain c.req f new refl place t.top);
         below = subst (λ (x : Option ℕ). All (IsFramePlaced chain x) (map (touched_frame bucket) rest)) (sym req) (placed_touched bucket chain c.req rest t.below);
         nested = nested_alike f new (map (touched_frame bucket) rest) refl (nested_touched bucket f rest t.nested);
-        named = named_below g.next s.shared.next (new ∷ map (touched_frame bucket) rest) changes.names (renamed f new (map (touched_frame bucket) rest) name (named_touched bucket g.next (f ∷ rest) t.named));
+        named = named_below g.next s.shared.next (new ∷ map (touched_frame bucket) rest) changes.names
+            (renamed f new (map (touched_frame bucket) rest) name (named_touched bucket g.next (f ∷ rest) t.named));
         waiting = waiting_touched bucket chain rest t.waiting;
         queue = t.queue;
         later = t.later;
@@ -109,13 +113,16 @@ module _ (chain : List Program) (g : Common) (c : Connection) (proper : (k : ℕ
         renamed : (f new : Frame) (fs : List Frame) → new.call.name ≡ f.call.name → AreNamed g.next (touched_frame (touched_bucket (configuration g c f) i) f ∷ fs) → AreNamed g.next (new ∷ fs)
         renamed f new fs is h = (subst (λ (n : ℕ). 0 < n) (sym is) h.0, subst (λ (n : ℕ). n < g.next) (sym is) h.1, subst (λ (n : ℕ). All (λ w. w.call.name ≢ n) fs) (sym is) h.2, h.3)
 
-        t_alone : (bucket : NamedBucket → NamedBucket) (rest : List Frame) (w : Frame) (more : List Frame) → map (touched_frame bucket) rest ≡ w ∷ more → ((w : Frame) (more : List Frame) → rest ≡ w ∷ more → c.queue ≡ []) → c.queue ≡ []
+        t_alone : (bucket : NamedBucket → NamedBucket) (rest : List Frame) (w : Frame) (more : List Frame) → map (touched_frame bucket) rest ≡ w ∷ more
+            → ((w : Frame) (more : List Frame) → rest ≡ w ∷ more → c.queue ≡ []) → c.queue ≡ []
         t_alone bucket [] w more e alone = absurd (cc)
         t_alone bucket (v ∷ rest) w more e alone = alone v rest refl
 
-  delivered_calls : (reads : Reads) (b : ℕ) (i : Instr) → i ≡ current (module_at chain f.of) f.pc → is_return i ≡ false → LinkedCalls chain (delivered_by (module_at chain f.of) reads b i f rest (g, c))
+  delivered_calls : (reads : Reads) (b : ℕ) (i : Instr) → i ≡ current (module_at chain f.of) f.pc → is_return i ≡ false
+      → LinkedCalls chain (delivered_by (module_at chain f.of) reads b i f rest (g, c))
   unfolding delivered_by
-  delivered_calls reads b i is on = same_calls chain _ _ _ _ refl refl refl refl (stepped_calls (record { answer = answer_to (delivered c.out (items_of ((c.instances f.of).brigades b)) reads).1; given = None }) i is on)
+  delivered_calls reads b i is on =
+      same_calls chain _ _ _ _ refl refl refl refl (stepped_calls (record { answer = answer_to (delivered c.out (items_of ((c.instances f.of).brigades b)) reads).1; given = None }) i is on)
 
   -- to the next filter: the call waits at its pass, in `main`
   passed_calls : (b l : ℕ) → instr.Pass b l ≡ current (module_at chain f.of) f.pc → is_last chain f.of ≡ false → LinkedCalls chain (passed_to (module_at chain (f.of + 1)) b f rest (g, c))
@@ -141,7 +148,8 @@ module _ (chain : List Program) (g : Common) (c : Connection) (proper : (k : ℕ
 
   passes_calls : (reads : Reads) (b l : ℕ) → instr.Pass b l ≡ current (module_at chain f.of) f.pc → LinkedCalls chain (passes chain reads b (instr.Pass b l) f rest (g, c))
   passes_calls reads b l is = by_test (is_last chain f.of) refl where
-    by_test : (last : Bool) → is_last chain f.of ≡ last → LinkedCalls chain (cond last (delivered_by (module_at chain f.of) reads b (instr.Pass b l) f rest (g, c)) (passed_to (module_at chain (f.of + 1)) b f rest (g, c)))
+    by_test : (last : Bool) → is_last chain f.of ≡ last
+        → LinkedCalls chain (cond last (delivered_by (module_at chain f.of) reads b (instr.Pass b l) f rest (g, c)) (passed_to (module_at chain (f.of + 1)) b f rest (g, c)))
     by_test true e = delivered_calls reads b (instr.Pass b l) is refl
     by_test false e = passed_calls b l is e
 
@@ -155,17 +163,20 @@ module _ (chain : List Program) (g : Common) (c : Connection) (proper : (k : ℕ
         let due : All (λ j. j < length chain) (k ∷ ks) = subst (λ (js : List ℕ). All (λ j. j < length chain) js) is t.queue in
         let later : IsRising f.of (k ∷ ks) = subst (IsRising f.of) is t.later in
         let named = t.named in
-        called_calls chain k ks (put_back (instr.Ret s) f (do_return (configuration g c f)) [] [] (g, c)) (proper k) (All-head (λ (j : ℕ). j < length chain) k ks due) (omega (arith, named.0, named.1)) (All-tail (λ (j : ℕ). j < length chain) k ks due) later.1
+        called_calls chain k ks (put_back (instr.Ret s) f (do_return (configuration g c f)) [] [] (g, c)) (proper k) (All-head (λ (j : ℕ). j < length chain) k ks due)
+        (omega (arith, named.0, named.1)) (All-tail (λ (j : ℕ). j < length chain) k ks due) later.1
 
 -- a return to the call that waits: it goes on behind its pass, or where that leads
-returned_calls : (chain : List Program) (g : Common) (c : Connection) (proper : (k : ℕ) → IsModule (module_at chain k)) (s : Status) (f w : Frame) (rest : List Frame) → StandsOnTop chain g.next c.req c.queue f (w ∷ rest)
+returned_calls : (chain : List Program) (g : Common) (c : Connection) (proper : (k : ℕ) → IsModule (module_at chain k)) (s : Status) (f w : Frame) (rest : List Frame)
+    → StandsOnTop chain g.next c.req c.queue f (w ∷ rest)
     → LinkedCalls chain (returned_to (module_at chain w.of) s f w rest (g, c))
 unfolding returned_to put_back configuration IsNested AreNamed
 returned_calls chain g c proper s f w rest t =
     let pass : Instr = current (module_at chain w.of) w.pc in
     let at : WaitsAtPass chain w = All-head (WaitsAtPass chain) w rest t.waiting in
     let placed : IsFramePlaced chain c.req w = All-head (IsFramePlaced chain c.req) w rest t.below in
-    let place : SameHandler (module_at chain w.of) w.pc (after_pass s pass w.pc) = stays_in_handler (module_at chain w.of) w.pc _ (proper w.of) placed.at (λ P leads. after_leads P s pass at.0 at.1 w.pc at.2 leads) in
+    let place : SameHandler (module_at chain w.of) w.pc (after_pass s pass w.pc) =
+    stays_in_handler (module_at chain w.of) w.pc _ (proper w.of) placed.at (λ P leads. after_leads P s pass at.0 at.1 w.pc at.2 leads) in
     let bucket : NamedBucket → NamedBucket = touched_bucket (configuration g c f) (instr.Ret s) in
     let new : Frame = record (touched_frame bucket w) { pc = after_pass s pass w.pc } in
     let none : c.queue ≡ [] = t.alone w rest refl in
@@ -183,12 +194,14 @@ returned_calls chain g c proper s f w rest t =
       alone = λ v more e. none;
     })
 
-returns_calls : (chain : List Program) (g : Common) (c : Connection) (proper : (k : ℕ) → IsModule (module_at chain k)) (s : Status) (f : Frame) (rest : List Frame) → StandsOnTop chain g.next c.req c.queue f rest
+returns_calls : (chain : List Program) (g : Common) (c : Connection) (proper : (k : ℕ) → IsModule (module_at chain k)) (s : Status) (f : Frame) (rest : List Frame)
+    → StandsOnTop chain g.next c.req c.queue f rest
     → LinkedCalls chain (returns chain s f rest (g, c)).1
 returns_calls chain g c proper s f [] t = ended_calls chain g c proper f [] t s
 returns_calls chain g c proper s f (w ∷ rest) t = returned_calls chain g c proper s f w rest t
 
-top_calls : (chain : List Program) (reads : Reads) (g : Common) (c : Connection) (proper : (k : ℕ) → IsModule (module_at chain k)) (i : Instr) (f : Frame) (rest : List Frame) → i ≡ current (module_at chain f.of) f.pc
+top_calls : (chain : List Program) (reads : Reads) (g : Common) (c : Connection) (proper : (k : ℕ) → IsModule (module_at chain k)) (i : Instr) (f : Frame) (rest : List Frame)
+    → i ≡ current (module_at chain f.of) f.pc
     → StandsOnTop chain g.next c.req c.queue f rest → LinkedCalls chain (proceeds chain reads i f rest (g, c)).1
 unfolding proceeds
 top_calls chain reads g c proper (instr.Pass b l) f rest is t = passes_calls chain g c proper f rest t reads b l is

@@ -60,7 +60,8 @@ returned_from_names chain status f g c is placed last s = by_queue c.queue last 
   back = put_back (instr.Ret status) f (do_return (configuration g c f)) [] [] (g, c)
 
   left : ChainNames chain back.0 back.1
-  left = chain_names_stay chain g c back.0 back.1 (put_back_names chain (instr.Ret status) f (do_return (configuration g c f)) [] [] g c is placed (return_names (configuration g c f) s.limit) (λ n. omega arith)) s
+  left = chain_names_stay chain g c back.0 back.1
+      (put_back_names chain (instr.Ret status) f (do_return (configuration g c f)) [] [] g c is placed (return_names (configuration g c f) s.limit) (λ n. omega arith)) s
 
   by_queue : (queue : List ℕ) → is_spent g.next (calls_of chain (instr.Ret status) f [] queue) ≡ false → NamesOf chain (next_called chain status queue back).1
   by_queue [] last = left
@@ -77,7 +78,8 @@ proceeds_names chain reads (instr.Pass b l) f rest g c may last is placed s = by
   by_last false here last = passed_to_names chain (module_at chain (f.of + 1)) b f rest g c is (next_in_chain chain f.of here) (not_spent g.next 1 last) s
 proceeds_names chain reads (instr.Ret status) f [] g c may last is placed s = returned_from_names chain status f g c is (All-head (IsFramePlaced chain c.req) f [] placed).of last s
 proceeds_names chain reads (instr.Ret status) f (w ∷ rest) g c may last is placed s =
-    returned_to_names chain (module_at chain w.of) status f w rest g c is (All-head (IsFramePlaced chain c.req) f (w ∷ rest) placed).of (All-head (IsFramePlaced chain c.req) w rest (All-tail (IsFramePlaced chain c.req) f (w ∷ rest) placed)).of s
+    returned_to_names chain (module_at chain w.of) status f w rest g c is (All-head (IsFramePlaced chain c.req) f (w ∷ rest) placed).of
+    (All-head (IsFramePlaced chain c.req) w rest (All-tail (IsFramePlaced chain c.req) f (w ∷ rest) placed)).of s
 proceeds_names chain reads i f rest g c may last is placed s = stepped_names chain _ i f rest g c may is (All-head (IsFramePlaced chain c.req) f rest placed).of s
 
 pub top_keeps_names : TopKeepsNames

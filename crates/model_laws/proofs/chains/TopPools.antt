@@ -17,7 +17,8 @@ use Rattle.run_model.specs.Steps.{Choice, answer_to, current}
 use Rattle.run_model.specs.Sound.{Sound}
 use Rattle.model_laws.specs.Laws.{MayExecute}
 use Rattle.run_model.specs.Chains.{Frame, Connection, Common, Linked, module_at, is_last, configuration, put_back, stepped_in}
-use Rattle.run_model.specs.Passing.{Reads, delivered, delivered_by, handed_in, set_in, passed_to, passed_by, given_back, gone_on, returned_to, called, next_called, returned_from, passes, returns, proceeds}
+use Rattle.run_model.specs.Passing.{Reads, delivered, delivered_by, handed_in, set_in, passed_to, passed_by, given_back, gone_on, returned_to, called, next_called, returned_from, passes, returns}
+use Rattle.run_model.specs.Passing.{proceeds}
 use Rattle.model_laws.specs.ChainSound.{ChainPools}
 use Rattle.model_laws.specs.ChainLaws.{TopKeepsPools}
 use Rattle.model_laws.proofs.BrigadePools.{handed_on, filled_on}
@@ -34,20 +35,24 @@ LinkedPools chain w = ChainPools chain w.0 w.1
 no_pool : (v w : BrigadeVar) → w ≡ handed_in v → (x : Brigade) → w ≡ var.Live x → x.on ≡ None
 no_pool var.Null w is x e = absurd (let no : var.Null ≡ var.Live x = sym is ∙ e in cc)
 no_pool var.Gone w is x e = absurd (let no : var.Null ≡ var.Live x = sym is ∙ e in cc)
-no_pool (var.Live v) w is x e = (let same : var.Live (record v { on = None; mark = Usable }) ≡ var.Live x = sym is ∙ e in let y : record v { on = None; mark = Usable } ≡ x = cc in ap (λ (z : Brigade). z.on) (sym y))
+no_pool (var.Live v) w is x e =
+    (let same : var.Live (record v { on = None; mark = Usable }) ≡ var.Live x = sym is ∙ e in let y : record v { on = None; mark = Usable } ≡ x = cc in ap (λ (z : Brigade). z.on) (sym y))
 
 -- the handler of another module begins
 pub called_pools : (chain : List Program) (k : ℕ) (queue : List ℕ) (w : Linked) → LinkedPools chain w → LinkedPools chain (called chain k queue w)
 called_pools chain k queue w h = same_instances chain w.0 _ w.1 _ refl refl refl refl h
 
 module _ (chain : List Program) (g : Common) (c : Connection) (proper : (k : ℕ) → IsModule (module_at chain k)) (h : ChainPools chain g c) (f : Frame) (sound : Sound (configuration g c f)) where
-  stepped_pools : (choice : Choice) (i : Instr) (rest : List Frame) → MayExecute (module_at chain f.of) (configuration g c f) i → LinkedPools chain (stepped_in (module_at chain f.of) choice i f rest (g, c))
+  stepped_pools : (choice : Choice) (i : Instr) (rest : List Frame) → MayExecute (module_at chain f.of) (configuration g c f) i
+      → LinkedPools chain (stepped_in (module_at chain f.of) choice i f rest (g, c))
   unfolding stepped_in
   stepped_pools choice i rest may = (let t = top_step chain g c proper h f choice i may sound in put_back_pools t.0 chain g c i f _ _ rest t.1 h)
 
-  delivered_pools : (reads : Reads) (b : ℕ) (i : Instr) (rest : List Frame) → MayExecute (module_at chain f.of) (configuration g c f) i → LinkedPools chain (delivered_by (module_at chain f.of) reads b i f rest (g, c))
+  delivered_pools : (reads : Reads) (b : ℕ) (i : Instr) (rest : List Frame) → MayExecute (module_at chain f.of) (configuration g c f) i
+      → LinkedPools chain (delivered_by (module_at chain f.of) reads b i f rest (g, c))
   unfolding delivered_by
-  delivered_pools reads b i rest may = same_instances chain _ _ _ _ refl refl refl refl (stepped_pools (record { answer = answer_to (delivered c.out (items_of ((c.instances f.of).brigades b)) reads).1; given = None }) i rest may)
+  delivered_pools reads b i rest may =
+      same_instances chain _ _ _ _ refl refl refl refl (stepped_pools (record { answer = answer_to (delivered c.out (items_of ((c.instances f.of).brigades b)) reads).1; given = None }) i rest may)
 
   -- the brigade is marked, and it is the `in` of the next filter
   here : ℕ → ℕ → Instance
@@ -55,7 +60,8 @@ module _ (chain : List Program) (g : Common) (c : Connection) (proper : (k : ℕ
 
   passed_instance : (b : ℕ) → StaysInstance (c.instances f.of) (do_pass b (configuration g c f)).instance
   unfolding set_brigade configuration
-  passed_instance b = (let changed = one_brigade (c.instances f.of) b (handed_over ((c.instances f.of).brigades b)) (inl (handed_on ((c.instances f.of).brigades b))) in record { own = refl; brigades = changed.brigades })
+  passed_instance b = (let changed = one_brigade (c.instances f.of) b (handed_over ((c.instances f.of).brigades b)) (inl (handed_on ((c.instances f.of).brigades b))) in
+      record { own = refl; brigades = changed.brigades })
 
   passed_pools : (callee : Program) (b : ℕ) (rest : List Frame) → LinkedPools chain (passed_to callee b f rest (g, c))
   unfolding passed_to here
@@ -64,15 +70,18 @@ module _ (chain : List Program) (g : Common) (c : Connection) (proper : (k : ℕ
       (one_brigade (here b (f.of + 1)) 8 (handed_in ((configuration g c f).instance.brigades b)) (inr (refl, no_pool ((configuration g c f).instance.brigades b) _ refl)))
       (one_instance chain g g c (record c { instances = here b }) f.of (do_pass b (configuration g c f)).instance refl refl refl refl (passed_instance b) h)
 
-  passes_pools : (reads : Reads) (b l : ℕ) (rest : List Frame) → MayExecute (module_at chain f.of) (configuration g c f) (instr.Pass b l) → LinkedPools chain (passes chain reads b (instr.Pass b l) f rest (g, c))
+  passes_pools : (reads : Reads) (b l : ℕ) (rest : List Frame) → MayExecute (module_at chain f.of) (configuration g c f) (instr.Pass b l)
+      → LinkedPools chain (passes chain reads b (instr.Pass b l) f rest (g, c))
   passes_pools reads b l rest may = by_test (is_last chain f.of) where
     by_test : (last : Bool) → LinkedPools chain (cond last (delivered_by (module_at chain f.of) reads b (instr.Pass b l) f rest (g, c)) (passed_to (module_at chain (f.of + 1)) b f rest (g, c)))
     by_test true = delivered_pools reads b (instr.Pass b l) rest may
     by_test false = passed_pools (module_at chain (f.of + 1)) b rest
 
   -- what a return leaves
-  left_pools : (s : Status) (top rest : List Frame) → MayExecute (module_at chain f.of) (configuration g c f) (instr.Ret s) → LinkedPools chain (put_back (instr.Ret s) f (do_return (configuration g c f)) top rest (g, c))
-  left_pools s top rest may = (let t = top_step chain g c proper h f (record { answer = answer_to true; given = None }) (instr.Ret s) may sound in put_back_pools t.0 chain g c (instr.Ret s) f _ top rest t.1 h)
+  left_pools : (s : Status) (top rest : List Frame) → MayExecute (module_at chain f.of) (configuration g c f) (instr.Ret s)
+      → LinkedPools chain (put_back (instr.Ret s) f (do_return (configuration g c f)) top rest (g, c))
+  left_pools s top rest may =
+      (let t = top_step chain g c proper h f (record { answer = answer_to true; given = None }) (instr.Ret s) may sound in put_back_pools t.0 chain g c (instr.Ret s) f _ top rest t.1 h)
 
   gone_on_pools : (s : Status) (i : Instr) (w : Frame) (left : List NamedBucket) (v : Linked) → LinkedPools chain v → LinkedPools chain (gone_on s i w left v)
   gone_on_pools s i w left v old =

@@ -64,7 +64,8 @@ quiet_top chain g c i f s sound declared q touched = record {
 
 -- a pool is made
 made_top : (chain : List Program) (g : Common) (c : Connection) (q parent : ℕ) (f : Frame) (s : Configuration)
-    → s ≡ set_pool q (poolvar.Made g.pools) (with_pools (created parent (pools_of g c)) (configuration g c f)) → SoundPools s → AsDeclared (module_at chain f.of) s → IsTop nothing chain g c (instr.PCreate q) f s
+    → s ≡ set_pool q (poolvar.Made g.pools) (with_pools (created parent (pools_of g c)) (configuration g c f)) → SoundPools s → AsDeclared (module_at chain f.of) s
+    → IsTop nothing chain g c (instr.PCreate q) f s
 unfolding nothing configuration set_pool with_pools
 made_top chain g c q parent f s is sound declared = record {
   sound = sound;
@@ -87,7 +88,8 @@ made_top chain g c q parent f s is sound declared = record {
 module _ (chain : List Program) (g : Common) (c : Connection) (proper : (k : ℕ) → IsModule (module_at chain k)) (h : ChainPools chain g c) (f : Frame) where
   -- a pool of the instance is cleared or destroyed: what is done leaves what is not under it
   gone_top : (q : ℕ) (i : Instr) (change : ℕ → Configuration → Configuration) (o : Option ℕ) → pool_named (configuration g c f) (pool.Own q) ≡ o
-      → ((n : ℕ) (r : Configuration) → ((change n r).shared.conn ≡ r.shared.conn) × ((change n r).shared.req ≡ r.shared.req) × ((change n r).shared.pools.next ≡ r.shared.pools.next) × ((change n r).instance.pools ≡ r.instance.pools)
+      → ((n : ℕ) (r : Configuration) → ((change n r).shared.conn ≡ r.shared.conn) × ((change n r).shared.req ≡ r.shared.req) × ((change n r).shared.pools.next ≡ r.shared.pools.next)
+      × ((change n r).instance.pools ≡ r.instance.pools)
       × ((k : ℕ) → is_under r.shared.pools n k ≡ false → (change n r).shared.pools.path k ≡ r.shared.pools.path k))
       → ((v : BrigadeVar) → touched_var (configuration g c f) i v ≡ cleared_var (cleared_by (configuration g c f) q) v)
       → SoundPools (on_pool change o (configuration g c f)) → AsDeclared (module_at chain f.of) (on_pool change o (configuration g c f))
@@ -120,12 +122,14 @@ module _ (chain : List Program) (g : Common) (c : Connection) (proper : (k : ℕ
         touched = λ v. cleared_on (is_under_named (pools_of g c) (Some n)) v _ (touched v ∙ ap (λ (x : Option ℕ). cleared_var (is_under_named (pools_of g c) x) v) e);
       }
 
-  clear_leaves : (n : ℕ) (r : Configuration) → ((pool_cleared n r).shared.conn ≡ r.shared.conn) × ((pool_cleared n r).shared.req ≡ r.shared.req) × ((pool_cleared n r).shared.pools.next ≡ r.shared.pools.next) × ((pool_cleared n r).instance.pools ≡ r.instance.pools)
+  clear_leaves : (n : ℕ) (r : Configuration) → ((pool_cleared n r).shared.conn ≡ r.shared.conn) × ((pool_cleared n r).shared.req ≡ r.shared.req)
+      × ((pool_cleared n r).shared.pools.next ≡ r.shared.pools.next) × ((pool_cleared n r).instance.pools ≡ r.instance.pools)
       × ((k : ℕ) → is_under r.shared.pools n k ≡ false → (pool_cleared n r).shared.pools.path k ≡ r.shared.pools.path k)
   unfolding run_down with_pools
   clear_leaves n r = (refl, refl, cleared_next n r.shared.pools, refl, λ k off. (cleared_apart n r.shared.pools k off).0)
 
-  destroy_leaves : (n : ℕ) (r : Configuration) → ((pool_destroyed n r).shared.conn ≡ r.shared.conn) × ((pool_destroyed n r).shared.req ≡ r.shared.req) × ((pool_destroyed n r).shared.pools.next ≡ r.shared.pools.next) × ((pool_destroyed n r).instance.pools ≡ r.instance.pools)
+  destroy_leaves : (n : ℕ) (r : Configuration) → ((pool_destroyed n r).shared.conn ≡ r.shared.conn) × ((pool_destroyed n r).shared.req ≡ r.shared.req)
+      × ((pool_destroyed n r).shared.pools.next ≡ r.shared.pools.next) × ((pool_destroyed n r).instance.pools ≡ r.instance.pools)
       × ((k : ℕ) → is_under r.shared.pools n k ≡ false → (pool_destroyed n r).shared.pools.path k ≡ r.shared.pools.path k)
   unfolding run_down with_pools
   destroy_leaves n r = (refl, refl, destroyed_next n r.shared.pools, refl, λ k off. (destroyed_apart n r.shared.pools k off).0)
@@ -134,15 +138,19 @@ module _ (chain : List Program) (g : Common) (c : Connection) (proper : (k : ℕ
   pub top_step : (choice : Choice) (i : Instr) → MayExecute (module_at chain f.of) (configuration g c f) i → Sound (configuration g c f)
       → (reached : ℕ → Bool) × IsTop reached chain g c i f (step (module_at chain f.of) choice i (configuration g c f)).state
   unfolding configuration
-  top_step choice i may sound = by_instr i may (step_pools (module_at chain f.of) choice i (configuration g c f) may sound.pools) (step_declared (module_at chain f.of) choice i (configuration g c f) may sound (h.declared f)) where
-    by_instr : (i : Instr) → MayExecute (module_at chain f.of) (configuration g c f) i → SoundPools (step (module_at chain f.of) choice i (configuration g c f)).state
-        → AsDeclared (module_at chain f.of) (step (module_at chain f.of) choice i (configuration g c f)).state → (reached : ℕ → Bool) × IsTop reached chain g c i f (step (module_at chain f.of) choice i (configuration g c f)).state
-    by_instr (instr.PCreate q) may sound declared = (
-      nothing,
-      made_under_named (λ x. SoundPools x → AsDeclared (module_at chain f.of) x → IsTop nothing chain g c (instr.PCreate q) f x) (module_at chain f.of) q (configuration g c f)
-          (λ s d. quiet_top chain g c (instr.PCreate q) f (configuration g c f) s d (as_before _ _ refl refl refl refl refl) same_on) (λ parent e s d. made_top chain g c q parent f _ refl s d) sound declared,
-    )
-    by_instr (instr.PClear q) may sound declared = (_, gone_top q (instr.PClear q) pool_cleared (pool_named (configuration g c f) (pool.Own q)) refl clear_leaves (λ v. refl) sound declared)
-    by_instr (instr.PDestroy q) may sound declared = (_, gone_top q (instr.PDestroy q) pool_destroyed (pool_named (configuration g c f) (pool.Own q)) refl destroy_leaves (λ v. refl) sound declared)
-    by_instr (instr.Ret s) may sound declared = (nothing, quiet_top chain g c (instr.Ret s) f _ sound declared (quiet_step (module_at chain f.of) choice (instr.Ret s) (configuration g c f) refl may) (returned_on f.call.name))
-    by_instr i may sound declared = (nothing, quiet_top chain g c i f _ sound declared (quiet_step (module_at chain f.of) choice i (configuration g c f) refl may) same_on)
+  top_step choice i may sound = by_instr i may (step_pools (module_at chain f.of) choice i (configuration g c f) may sound.pools)
+      (step_declared (module_at chain f.of) choice i (configuration g c f) may sound (h.declared f)) where
+        by_instr : (i : Instr) → MayExecute (module_at chain f.of) (configuration g c f) i → SoundPools (step (module_at chain f.of) choice i (configuration g c f)).state
+            → AsDeclared (module_at chain f.of) (step (module_at chain f.of) choice i (configuration g c f)).state → (reached : ℕ → Bool)
+            × IsTop reached chain g c i f (step (module_at chain f.of) choice i (configuration g c f)).state
+        by_instr (instr.PCreate q) may sound declared = (
+          nothing,
+          made_under_named (λ x. SoundPools x → AsDeclared (module_at chain f.of) x → IsTop nothing chain g c (instr.PCreate q) f x) (module_at chain f.of) q (configuration g c f)
+              (λ s d. quiet_top chain g c (instr.PCreate q) f (configuration g c f) s d (as_before _ _ refl refl refl refl refl) same_on)
+              (λ parent e s d. made_top chain g c q parent f _ refl s d) sound declared,
+        )
+        by_instr (instr.PClear q) may sound declared = (_, gone_top q (instr.PClear q) pool_cleared (pool_named (configuration g c f) (pool.Own q)) refl clear_leaves (λ v. refl) sound declared)
+        by_instr (instr.PDestroy q) may sound declared = (_, gone_top q (instr.PDestroy q) pool_destroyed (pool_named (configuration g c f) (pool.Own q)) refl destroy_leaves (λ v. refl) sound declared)
+        by_instr (instr.Ret s) may sound declared =
+            (nothing, quiet_top chain g c (instr.Ret s) f _ sound declared (quiet_step (module_at chain f.of) choice (instr.Ret s) (configuration g c f) refl may) (returned_on f.call.name))
+        by_instr i may sound declared = (nothing, quiet_top chain g c i f _ sound declared (quiet_step (module_at chain f.of) choice i (configuration g c f) refl may) same_on)

@@ -95,11 +95,13 @@ module _ (chain : List Program) (w : World) (sound : WorldSound chain w) (number
       | inl root ↦ absurd (other root)
       | inr s ↦ by_name s (eqb_tells c.conn s.conn.conn)
     ] where
-      by_name : (s : StandsBelow chain w sound paths h w.last n) → (((c.conn == s.conn.conn) ≡ true) × (c.conn ≡ s.conn.conn)) ⊎ (((c.conn == s.conn.conn) ≡ false) × (c.conn ≢ s.conn.conn)) → is_own c n ≡ true
+      by_name : (s : StandsBelow chain w sound paths h w.last n) → (((c.conn == s.conn.conn) ≡ true) × (c.conn ≡ s.conn.conn)) ⊎ (((c.conn == s.conn.conn) ≡ false) × (c.conn ≢ s.conn.conn))
+          → is_own c n ≡ true
       by_name s (inl same) =
           let number : s.number ≡ k = sym (same_number k s.number c s.conn at s.there same.1) in
           subst (λ (x : Connection). is_own x n ≡ true) (same_conn s.conn c (sym s.there ∙ ap w.conns number ∙ at)) s.own
-      by_name s (inr apart) = absurd (both_ways (is_under all s.conn.conn n) (apart_under all c.conn s.conn.conn n (top_in k c at) (top_in s.number s.conn s.there) apart.1 under) (ap (is_in s.conn.conn) s.path ∙ s.own))
+      by_name s (inr apart) = absurd (both_ways (is_under all s.conn.conn n) (apart_under all c.conn s.conn.conn n (top_in k c at) (top_in s.number s.conn s.there) apart.1 under)
+          (ap (is_in s.conn.conn) s.path ∙ s.own))
 
     root_path : c.path w.common.root ≡ w.common.root ∷ []
     root_path = (part_formed chain w sound paths h k c at).closed c.conn c.conn w.common.root [] (h.top k c at)
@@ -147,7 +149,8 @@ module _ (chain : List Program) (w : World) (sound : WorldSound chain w) (number
   unfolding is_under
   stands n live other = elim (tree.from n (live_path all n live)) [
     | inl root ↦ absurd (other root)
-    | inr s ↦ (let is = numbered s.number s.conn s.there in record { number = is.0; conn = s.conn; given = is.2; there = ap w.conns (sym is.1) ∙ s.there; under = ap (is_in s.conn.conn) s.path ∙ s.own })
+    | inr s ↦ (let is = numbered s.number s.conn s.there in
+        record { number = is.0; conn = s.conn; given = is.2; there = ap w.conns (sym is.1) ∙ s.there; under = ap (is_in s.conn.conn) s.path ∙ s.own })
   ]
 
   pub tree_parts : ArePoolsOf w (tree_of w)

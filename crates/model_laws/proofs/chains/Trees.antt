@@ -40,7 +40,8 @@ module _ (root : ℕ) (c : Connection) (ps : Pools Payload) (h : MayJoin root c 
   -- the pool above an own one is an own one, or that is the connection's
   pub above_own : (n p : ℕ) (above : List ℕ) → c.path n ≡ n ∷ p ∷ above → is_own c n ≡ true → ((n ≡ c.conn) × (p ≡ root) × (above ≡ [])) ⊎ (is_own c p ≡ true)
   above_own n p above is own = elim (or_cases (n == c.conn) (is_in c.conn (p ∷ above)) (ap (is_in c.conn) (sym is) ∙ own)) [
-    | inl here ↦ (let at : n ≡ c.conn = eqb-true n c.conn here in let whole : (n ∷ p ∷ above) ≡ (c.conn ∷ root ∷ []) = sym is ∙ ap c.path at ∙ h.top in inl (at, the_second n c.conn p root above [] whole, the_rest n c.conn p root above [] whole))
+    | inl here ↦ (let at : n ≡ c.conn = eqb-true n c.conn here in let whole : (n ∷ p ∷ above) ≡ (c.conn ∷ root ∷ []) = sym is ∙ ap c.path at ∙ h.top in
+        inl (at, the_second n c.conn p root above [] whole, the_rest n c.conn p root above [] whole))
     | inr further ↦ inr (ap (is_in c.conn) (h.own.closed n n p above is) ∙ further)
   ] where
     the_second : (n m p q : ℕ) (xs ys : List ℕ) → (n ∷ p ∷ xs) ≡ (m ∷ q ∷ ys) → p ≡ q
@@ -221,17 +222,19 @@ module _ (chain : List Program) (w : World) (sound : WorldSound chain w) (paths 
     root = ap (λ (ps : Pools Payload). ps.path w.common.root) is ∙ g.root;
     bare = ap (λ (ps : Pools Payload). ps.payloads w.common.root) is ∙ g.bare;
     next = ap (λ (ps : Pools Payload). ps.next) is ∙ g.next;
-    from = λ n there. (let same : (tree_up_to (suc k) w).path n ≡ (tree_up_to k w).path n = ap (λ (ps : Pools Payload). ps.path n) is in elim (g.from n (λ none. there (same ∙ none))) [ inl one ↦ inl one | inr s ↦ inr (raised k n s same) ]);
+    from = λ n there. (let same : (tree_up_to (suc k) w).path n ≡ (tree_up_to k w).path n = ap (λ (ps : Pools Payload). ps.path n) is in
+        elim (g.from n (λ none. there (same ∙ none))) [ inl one ↦ inl one | inr s ↦ inr (raised k n s same) ]);
   }
   grows k (Some c) at is g = record {
     formed = subst IsPoolMap (sym is) (joined_formed w.common.root c (tree_up_to k w) (joins_next k c g at));
     root = ap (λ (ps : Pools Payload). ps.path w.common.root) is ∙ joined_root w.common.root c (tree_up_to k w) (joins_next k c g at);
     bare = ap (λ (ps : Pools Payload). ps.payloads w.common.root) is ∙ joined_bare w.common.root c (tree_up_to k w) (joins_next k c g at) ∙ g.bare;
     next = ap (λ (ps : Pools Payload). ps.next) is ∙ g.next;
-    from = λ n there. (let same : (tree_up_to (suc k) w).path n ≡ (with_part (Some c) (tree_up_to k w)).path n = ap (λ (ps : Pools Payload). ps.path n) is in elim (joined_either w.common.root c (tree_up_to k w) (joins_next k c g at) n) [
-      | inl own ↦ inr (record { number = suc k; conn = c; below = omega arith; there = at; own = own.0; path = same ∙ own.1 })
-      | inr off ↦ (elim (g.from n (λ none. there (same ∙ off.1 ∙ none))) [ inl one ↦ inl one | inr s ↦ inr (raised k n s (same ∙ off.1)) ])
-    ]);
+    from = λ n there. (let same : (tree_up_to (suc k) w).path n ≡ (with_part (Some c) (tree_up_to k w)).path n = ap (λ (ps : Pools Payload). ps.path n) is in
+        elim (joined_either w.common.root c (tree_up_to k w) (joins_next k c g at) n) [
+          | inl own ↦ inr (record { number = suc k; conn = c; below = omega arith; there = at; own = own.0; path = same ∙ own.1 })
+          | inr off ↦ (elim (g.from n (λ none. there (same ∙ off.1 ∙ none))) [ inl one ↦ inl one | inr s ↦ inr (raised k n s (same ∙ off.1)) ])
+        ]);
   }
 
   pub grown : (k : ℕ) → Grown k

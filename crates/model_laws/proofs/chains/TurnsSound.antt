@@ -14,7 +14,8 @@ use Rattle.model_laws.proofs.chains.TopNames.{top_keeps_names}
 use Rattle.model_laws.proofs.chains.Buckets.{top_keeps_buckets}
 use Rattle.model_laws.proofs.chains.Raised.{top_raises_names}
 use Rattle.model_laws.proofs.chains.EventNames.{rising_names, opened_names, begun_names, brought_in_names, file_taken_names, request_over_names}
-use Rattle.model_laws.proofs.chains.EventBuckets.{opened_buckets, begun_buckets, brought_in_buckets, file_taken_buckets, request_over_buckets, same_chain_buckets, begun_raises, brought_in_raises, file_taken_raises, request_over_raises}
+use Rattle.model_laws.proofs.chains.EventBuckets.{opened_buckets, begun_buckets, brought_in_buckets, file_taken_buckets, request_over_buckets, same_chain_buckets, begun_raises, brought_in_raises}
+use Rattle.model_laws.proofs.chains.EventBuckets.{file_taken_raises, request_over_raises}
 use Rattle.model_laws.proofs.chains.EventPools.{rising_pools, opened_pools, begun_pools, brought_in_pools, file_taken_pools, request_over_pools}
 use Rattle.model_laws.proofs.chains.EventCalls.{rising_calls, opened_calls, begun_calls, brought_in_calls, file_taken_calls, request_over_calls}
 use Rattle.model_laws.proofs.chains.EventTurns.{Turn, Stood, Went, Begun, Brought, FileTaken, Ended}
@@ -28,7 +29,8 @@ rising_sound chain g new c rises s = record {
 }
 
 -- where only the output, the count and the cause change
-pub marked_sound : (chain : List Program) (g : Common) (c new : Connection) → new.instances ≡ c.instances → new.stack ≡ c.stack → new.queue ≡ c.queue → new.req ≡ c.req → new.conn ≡ c.conn → pools_of g new ≡ pools_of g c
+pub marked_sound : (chain : List Program) (g : Common) (c new : Connection) → new.instances ≡ c.instances → new.stack ≡ c.stack → new.queue ≡ c.queue → new.req ≡ c.req → new.conn ≡ c.conn
+    → pools_of g new ≡ pools_of g c
     → ChainSound chain g c → ChainSound chain g new
 marked_sound chain g c new instances stack queue req conn pools s = record {
   names = same_names chain g c new instances stack s.names;
@@ -48,7 +50,8 @@ opened_sound chain g chained has next pools = record {
 pub same_rises : (g : Common) → HasNames g → Rises g g
 same_rises g has = record { next = omega arith; next_limit = has.next; pools = omega arith; pools_limit = has.pools.1; root = refl }
 
-pub turn_sound : (chain : List Program) (Lengths : ℕ → Type 0) (g : Common) (c : Connection) (v : Linked) → IsChain chain → HasNames g → Turn chain Lengths g c v → ChainSound chain g c → ChainSound chain v.0 v.1
+pub turn_sound : (chain : List Program) (Lengths : ℕ → Type 0) (g : Common) (c : Connection) (v : Linked) → IsChain chain → HasNames g → Turn chain Lengths g c v → ChainSound chain g c
+    → ChainSound chain v.0 v.1
 turn_sound chain Lengths g c v chained has (Stood out broken) s = marked_sound chain g c _ refl refl refl refl refl refl s
 turn_sound chain Lengths g c v chained has (Went reads f rest whole may) s =
     let left : Linked = after_top chain reads g c f rest in

@@ -73,7 +73,8 @@ names_seen chain g c f placed loose s = record {
 }
 
 -- The call f sees a sound state, wherever it stands on the stack.
-pub sound_of : (chain : List Program) (g : Common) (c : Connection) (above : List Frame) (f : Frame) (below : List Frame) → c.stack ≡ above ++ f ∷ below → ChainSound chain g c → Sound (configuration g c f)
+pub sound_of : (chain : List Program) (g : Common) (c : Connection) (above : List Frame) (f : Frame) (below : List Frame) → c.stack ≡ above ++ f ∷ below → ChainSound chain g c
+    → Sound (configuration g c f)
 unfolding configuration
 sound_of chain g c above f below is s =
     let placed : IsFramePlaced chain c.req f = all_within (IsFramePlaced chain c.req) above f below (subst (λ (fs : List Frame). All (IsFramePlaced chain c.req) fs) is s.calls.placed) in

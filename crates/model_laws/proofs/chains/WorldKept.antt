@@ -33,7 +33,8 @@ pub record KeptWorld (chain : List Program) (P : Common → Connection → Type 
   pub kept : OfConnections P w
 
 still_named : (g new : Common) → Rises g new → HasNames g → HasNames new
-still_named g new rises has = (let some : g.root < g.pools = has.pools.0 in let same : new.root ≡ g.root = rises.root in record { first = omega (arith, rises.next, has.first); next = rises.next_limit; pools = (omega (arith, rises.pools, same), rises.pools_limit) })
+still_named g new rises has = (let some : g.root < g.pools = has.pools.0 in let same : new.root ≡ g.root = rises.root in
+    record { first = omega (arith, rises.next, has.first); next = rises.next_limit; pools = (omega (arith, rises.pools, same), rises.pools_limit) })
 
 module _ (chain : List Program) (chained : IsChain chain) (Lengths : ℕ → Type 0) (P : Common → Connection → Type 0) (keeps : TurnsKeep chain Lengths P) where
   -- names rise, and the connections are as before, but this one
@@ -75,7 +76,8 @@ module _ (chain : List Program) (chained : IsChain chain) (Lengths : ℕ → Typ
     of_answer (Ok f, v) may = may
     of_answer (Err r, v) may = tt
 
-  pub event_kept : (memory : Bool) (budget : ℕ) (told : Told) (k : ℕ) (e : Event) (w : World) → TellsLengths Lengths (happens memory budget chain told k e w).0 → KeptWorld chain P w → KeptWorld chain P (happens memory budget chain told k e w).1
+  pub event_kept : (memory : Bool) (budget : ℕ) (told : Told) (k : ℕ) (e : Event) (w : World) → TellsLengths Lengths (happens memory budget chain told k e w).0 → KeptWorld chain P w
+      → KeptWorld chain P (happens memory budget chain told k e w).1
   event_kept memory budget told k e w may h = event_cases (KeptWorld chain P) memory budget chain told k w h e (record {
     made = λ c v at made. turned k c w v at (turn_made Lengths memory budget chain told w.common c e v chained
         (λ name is. opens_as memory budget told k name c w at (subst (λ (x : Event). TellsLengths Lengths (happens memory budget chain told k x w).0) is may)) made) h;
@@ -86,14 +88,17 @@ module _ (chain : List Program) (chained : IsChain chain) (Lengths : ℕ → Typ
     };
   })
 
-  pub run_kept : (budget : ℕ) (es : List (ℕ × Event)) (answers : List Answer) (old new : World) → IsRun budget chain old es answers new → All (TellsLengths Lengths) answers → KeptWorld chain P old → KeptWorld chain P new
+  pub run_kept : (budget : ℕ) (es : List (ℕ × Event)) (answers : List Answer) (old new : World) → IsRun budget chain old es answers new → All (TellsLengths Lengths) answers → KeptWorld chain P old
+      → KeptWorld chain P new
   unfolding IsRun
   run_kept budget [] [] old new run may h = subst (KeptWorld chain P) (sym run) h
   run_kept budget [] (a ∷ answers) old new run may h = absurd run
   run_kept budget (e ∷ es) [] old new run may h = absurd run
   run_kept budget (e ∷ es) (a ∷ answers) old new run may h =
-      let first : TellsLengths Lengths (happens run.0 budget chain run.1 e.0 e.1 old).0 = subst (λ (x : Answer × World). TellsLengths Lengths x.0) (sym run.3) (All-head (TellsLengths Lengths) a answers may) in
-      run_kept budget es answers run.2 new run.4 (All-tail (TellsLengths Lengths) a answers may) (subst (KeptWorld chain P) (ap (λ (x : Answer × World). x.1) run.3) (event_kept run.0 budget run.1 e.0 e.1 old first h))
+      let first : TellsLengths Lengths (happens run.0 budget chain run.1 e.0 e.1 old).0 =
+      subst (λ (x : Answer × World). TellsLengths Lengths x.0) (sym run.3) (All-head (TellsLengths Lengths) a answers may) in
+      run_kept budget es answers run.2 new run.4 (All-tail (TellsLengths Lengths) a answers may)
+      (subst (KeptWorld chain P) (ap (λ (x : Answer × World). x.1) run.3) (event_kept run.0 budget run.1 e.0 e.1 old first h))
 
 -- Where nothing is there, all of it is so.
 pub new_sound : (chain : List Program) (first : ℕ) → 0 < first → first + 1 < 2 ^ 64 → WorldSound chain (new_world first)

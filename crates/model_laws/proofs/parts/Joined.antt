@@ -73,9 +73,10 @@ module _ (conns : ℕ → Option Connection) (ps root : Pools Payload) (parts : 
   more : (d m n : ℕ) → IsAt n ps (tree_below m conns root) → IsAt n ps (tree_below (d + m) conns root)
   unfolding tree_below
   more zero m n at = subst (λ (k : ℕ). IsAt n ps (tree_below k conns root)) (omega arith) at
-  more (suc d) m n at = subst (λ (k : ℕ). IsAt n ps (tree_below k conns root)) (sum d m) (with_next (tree_below (d + m) conns root) n (conns (suc (d + m))) (λ c is. parts (suc (d + m)) c is) (more d m n at)) where
-    sum : (d m : ℕ) → suc (d + m) ≡ suc d + m
-    sum d m = omega arith
+  more (suc d) m n at =
+      subst (λ (k : ℕ). IsAt n ps (tree_below k conns root)) (sum d m) (with_next (tree_below (d + m) conns root) n (conns (suc (d + m))) (λ c is. parts (suc (d + m)) c is) (more d m n at)) where
+        sum : (d m : ℕ) → suc (d + m) ≡ suc d + m
+        sum d m = omega arith
 
   up_to : (m last n : ℕ) → m ≤ last → IsAt n ps (tree_below m conns root) → IsAt n ps (tree_below last conns root)
   up_to m last n le at = (let sum : (d : ℕ) × (d + m ≡ last) = le_difference m last le in subst (λ (k : ℕ). IsAt n ps (tree_below k conns root)) sum.1 (more sum.0 m n at)) where
@@ -116,7 +117,8 @@ module _ (w : World) (ps : Pools Payload) (h : ArePoolsOf w ps) where
 
   joined_at : (n : ℕ) → IsAt n ps (tree_of w)
   joined_at n = elim (cases_eq n w.common.root) [
-    | inl same ↦ up_to w.conns ps _ h.parts 0 w.last n (omega arith) (start w.conns ps _ h.parts n (subst (λ (k : ℕ). IsAt k ps (record (planted w.common.root) { next = w.common.pools })) (sym same) at_root))
+    | inl same ↦ up_to w.conns ps _ h.parts 0 w.last n (omega arith)
+        (start w.conns ps _ h.parts n (subst (λ (k : ℕ). IsAt k ps (record (planted w.common.root) { next = w.common.pools })) (sym same) at_root))
     | inr ne ↦ (elim (cases_Bool (is_live ps n)) [
       | inl live ↦ (let s = h.covered n live ne in up_to w.conns ps _ h.parts (suc s.number) w.last n (omega (arith, s.given)) (joined w.conns ps _ h.parts s.number s.conn n s.there s.under))
       | inr dead ↦ up_to w.conns ps _ h.parts 0 w.last n (omega arith) (start w.conns ps _ h.parts n (at_dead n ne dead))

@@ -88,7 +88,8 @@ all_stay c target f ps under [] all = All-nil (IsOwn c (registered target (FileR
 all_stay c target f ps under (g ∷ gs) all =
     All-cons (IsOwn c (registered target (FileRef f) ps)) g gs (stays_own c target f ps under g (All-head (IsOwn c ps) g gs all)) (all_stay c target f ps under gs (All-tail (IsOwn c ps) g gs all))
 
-all_own : (c d target : ℕ) (files : List ℕ) (ps : Pools Payload) → HasPart ps c → HasPart ps d → is_under ps c target ≡ true → All (IsOwn c ps) files → OwnFiles d ps → OwnFiles d (all_referred target files ps)
+all_own : (c d target : ℕ) (files : List ℕ) (ps : Pools Payload) → HasPart ps c → HasPart ps d → is_under ps c target ≡ true → All (IsOwn c ps) files → OwnFiles d ps
+    → OwnFiles d (all_referred target files ps)
 unfolding all_referred
 all_own c d target [] ps hc hd under all own = own
 all_own c d target (f ∷ fs) ps hc hd under all own =
@@ -147,11 +148,15 @@ module _ (c d : ℕ) (p : Program) (r : Configuration) (s : LiesIn c r) (k : Kee
   aside_keeps : (at : Place) (target : ℕ) → Stands r at → home_fault (bucket_at at) ≡ None → is_under r.shared.pools c target ≡ true → Keeps d r.shared.pools (aside_into at target r)
   unfolding set_brigade set_loose with_pools
   aside_keeps (Within b x) target there live under = referred_kept c d r.shared.pools s.has other target _ under
-      (refs_own c target r.shared.pools s.files (x ∷ []) (All-cons (λ y. FitsKind y.bucket) x [] (of_named (λ y. FitsKind y.bucket) x.name x (items_at r b) there.1 (k.buckets.brigades b)) (All-nil (λ y. FitsKind y.bucket)))
-      (one_dead x (not_dead x live)) (All-cons (IsHeldUnder c r.shared.pools) x [] (of_named (IsHeldUnder c r.shared.pools) x.name x (items_at r b) there.1 (k.brigades b)) (All-nil (IsHeldUnder c r.shared.pools))))
+      (refs_own c target r.shared.pools s.files (x ∷ [])
+      (All-cons (λ y. FitsKind y.bucket) x [] (of_named (λ y. FitsKind y.bucket) x.name x (items_at r b) there.1 (k.buckets.brigades b)) (All-nil (λ y. FitsKind y.bucket)))
+      (one_dead x (not_dead x live))
+      (All-cons (IsHeldUnder c r.shared.pools) x [] (of_named (IsHeldUnder c r.shared.pools) x.name x (items_at r b) there.1 (k.brigades b)) (All-nil (IsHeldUnder c r.shared.pools))))
   aside_keeps (AtLoose x) target there live under = referred_kept c d r.shared.pools s.has other target _ under
-      (refs_own c target r.shared.pools s.files (x ∷ []) (All-cons (λ y. FitsKind y.bucket) x [] (of_named (λ y. FitsKind y.bucket) x.name x r.call.loose there k.buckets.loose) (All-nil (λ y. FitsKind y.bucket)))
-      (one_dead x (not_dead x live)) (All-cons (IsHeldUnder c r.shared.pools) x [] (of_named (IsHeldUnder c r.shared.pools) x.name x r.call.loose there k.loose) (All-nil (IsHeldUnder c r.shared.pools))))
+      (refs_own c target r.shared.pools s.files (x ∷ [])
+      (All-cons (λ y. FitsKind y.bucket) x [] (of_named (λ y. FitsKind y.bucket) x.name x r.call.loose there k.buckets.loose) (All-nil (λ y. FitsKind y.bucket)))
+      (one_dead x (not_dead x live))
+      (All-cons (IsHeldUnder c r.shared.pools) x [] (of_named (IsHeldUnder c r.shared.pools) x.name x r.call.loose there k.loose) (All-nil (IsHeldUnder c r.shared.pools))))
   aside_keeps Nowhere target there live under = itself d r.shared.pools other
   aside_keeps (AtEndOf b) target there live under = itself d r.shared.pools other
 
@@ -178,7 +183,8 @@ module _ (c d : ℕ) (p : Program) (r : Configuration) (s : LiesIn c r) (k : Kee
 
   pcreate_keeps : (q : ℕ) → has_pool r (pool_of_pool p q) ≡ true → Keeps d r.shared.pools (do_pcreate p q r)
   unfolding set_pool with_pools
-  pcreate_keeps q lives = made_under_named (Keeps d r.shared.pools) p q r (itself d r.shared.pools other) (λ parent is. kept Made parent (wanted_under c p r s (pool_of_pool p q) lives parent is) tt tt)
+  pcreate_keeps q lives =
+      made_under_named (Keeps d r.shared.pools) p q r (itself d r.shared.pools other) (λ parent is. kept Made parent (wanted_under c p r s (pool_of_pool p q) lives parent is) tt tt)
 
   brigade_keeps : (on : Option ℕ) (name : ℕ) → ((n : ℕ) → on ≡ Some n → is_under r.shared.pools c n ≡ true) → PartKept d r.shared.pools (with_brigade on name r.shared.pools)
   unfolding with_brigade
@@ -193,19 +199,23 @@ pub steps_keep : StepsKeepParts
 unfolding set_brigade
 steps_keep c d p choice (instr.PCreate q) r s k other none = pcreate_keeps c d p r s k other q (wanted_pool r (pool_of_pool p q) _ none)
 steps_keep c d p choice (instr.PClear q) r s k other none =
-    on_named (Keeps d r.shared.pools) pool_cleared (pool_named r (pool.Own q)) r (itself d r.shared.pools other) (λ n is. cleared_keeps c d p r s k other n (wanted_under c p r s (pool.Own q) (wanted_pool r (pool.Own q) None none) n is))
+    on_named (Keeps d r.shared.pools) pool_cleared (pool_named r (pool.Own q)) r (itself d r.shared.pools other)
+    (λ n is. cleared_keeps c d p r s k other n (wanted_under c p r s (pool.Own q) (wanted_pool r (pool.Own q) None none) n is))
 steps_keep c d p choice (instr.PDestroy q) r s k other none =
     on_named (Keeps d r.shared.pools) pool_destroyed (pool_named r (pool.Own q)) r (itself d r.shared.pools other)
     (λ n is. destroyed_keeps c d p r s k other n (wanted_under c p r s (pool.Own q) (wanted_pool r (pool.Own q) None none) n is) (k.below q n (own_named q n r is)))
 steps_keep c d p choice (instr.Label q t) r s k other none =
-    on_named (Keeps d r.shared.pools) (label_registered (text_of p t)) (pool_named r q) r (itself d r.shared.pools other) (λ n is. labelled_keeps c d p r s k other (text_of p t) n (wanted_under c p r s q (wanted_pool r q None none) n is))
+    on_named (Keeps d r.shared.pools) (label_registered (text_of p t)) (pool_named r q) r (itself d r.shared.pools other)
+    (λ n is. labelled_keeps c d p r s k other (text_of p t) n (wanted_under c p r s q (wanted_pool r q None none) n is))
 steps_keep c d p choice (instr.Unlabel q t) r s k other none =
-    on_named (Keeps d r.shared.pools) (label_killed (text_of p t)) (pool_named r q) r (itself d r.shared.pools other) (λ n is. unlabelled_keeps c d p r s k other (text_of p t) n (wanted_under c p r s q (wanted_pool r q None none) n is))
+    on_named (Keeps d r.shared.pools) (label_killed (text_of p t)) (pool_named r q) r (itself d r.shared.pools other)
+    (λ n is. unlabelled_keeps c d p r s k other (text_of p t) n (wanted_under c p r s q (wanted_pool r q None none) n is))
 steps_keep c d p choice (instr.BCreate o) r s k other none =
     brigade_keeps c d p r s k other (pool_named r (pool_of_brigade p o)) r.shared.next (λ n is. wanted_under c p r s (pool_of_brigade p o) (wanted_pool r (pool_of_brigade p o) _ none) n is)
 steps_keep c d p choice (instr.BSave o b) r s k other none =
     on_named (Keeps d r.shared.pools) (saved_into o b) (made_on (r.instance.brigades o)) r (itself d r.shared.pools other)
-    (λ n is. saved_keeps c d p r s k other o b n (no_dead (items_of (r.instance.brigades b)) (alone (homes_fault (items_of (r.instance.brigades b))) (second_want (usable_fault (r.instance.brigades b)) _ (second_want (usable_fault (r.instance.brigades o)) _ none)))) (s.brigades o n (sym (made_is (r.instance.brigades o)) ∙ is)))
+    (λ n is. saved_keeps c d p r s k other o b n (no_dead (items_of (r.instance.brigades b)) (alone (homes_fault (items_of (r.instance.brigades b)))
+    (second_want (usable_fault (r.instance.brigades b)) _ (second_want (usable_fault (r.instance.brigades o)) _ none)))) (s.brigades o n (sym (made_is (r.instance.brigades o)) ∙ is)))
 steps_keep c d p choice (instr.Aside at q) r s k other none =
     on_named (Keeps d r.shared.pools) (aside_into (spot r at)) (pool_named r q) r (itself d r.shared.pools other)
     (λ n is. aside_keeps c d p r s k other (spot r at) n (stands r (r.call.cursors at)) (aside_live r at q none) (wanted_under c p r s q (wanted_pool r q _ (second_want _ _ none)) n is))

@@ -38,8 +38,10 @@ top_off ps c d p hc hd under ne = ap (is_in p) hd.top ∙ (ap (λ (t : Bool). t 
       both_ways (is_under ps p hc.root) off there
 
 pub parts_last : PartsLast
-parts_last Made c d p ps hc hd under ne = record { formed = created_formed p ps (under_live ps c p under) hc.formed; root = hd.root; top = created_kept p ps d (hd.formed.named d (path_live ps d d (hd.root ∷ []) hd.top)) ∙ hd.top }
-parts_last (Registered x) c d p ps hc hd under ne = record { formed = registered_formed p x ps (under_live ps c p under) hc.formed; root = hd.root; top = ap (λ (f : ℕ → List ℕ). f d) (registered_path p x ps) ∙ hd.top }
+parts_last Made c d p ps hc hd under ne =
+    record { formed = created_formed p ps (under_live ps c p under) hc.formed; root = hd.root; top = created_kept p ps d (hd.formed.named d (path_live ps d d (hd.root ∷ []) hd.top)) ∙ hd.top }
+parts_last (Registered x) c d p ps hc hd under ne =
+    record { formed = registered_formed p x ps (under_live ps c p under) hc.formed; root = hd.root; top = ap (λ (f : ℕ → List ℕ). f d) (registered_path p x ps) ∙ hd.top }
 parts_last (Killed test) c d p ps hc hd under ne = record { formed = killed_formed p test ps hc.formed; root = hd.root; top = ap (λ (f : ℕ → List ℕ). f d) (killed_path p test ps) ∙ hd.top }
 parts_last Cleared c d p ps hc hd under ne = record { formed = cleared_formed p ps hc.formed; root = hd.root; top = cleared_top ∙ hd.top } where
   cleared_top : (cleared p ps).path d ≡ ps.path d
@@ -111,10 +113,11 @@ killed_back p test ps q file h = elim (upd_either ps.payloads p q (without_last 
 pub refers_new : (p : ℕ) (x : Payload) (ps : Pools Payload) (q file : ℕ) → refers (registered p x ps) q file ≡ true → (refers ps q file ≡ true) ⊎ ((q ≡ p) × (is_file_ref file x ≡ true))
 unfolding registered
 refers_new p x ps q file h = elim (upd_either ps.payloads p q (ps.payloads p ++ x ∷ [])) [
-  | inl at ↦ (elim (or_cases (list_any (is_file_ref file) (ps.payloads p)) (is_file_ref file x || false) (sym (list_any-append (is_file_ref file) (ps.payloads p) (x ∷ [])) ∙ (sym (ap (list_any (is_file_ref file)) at.1) ∙ h))) [
-    | inl old ↦ inl (ap (λ (k : ℕ). refers ps k file) at.0 ∙ old)
-    | inr new ↦ inr (at.0, sym (or-false (is_file_ref file x)) ∙ new)
-  ])
+  | inl at ↦ (elim (or_cases (list_any (is_file_ref file) (ps.payloads p)) (is_file_ref file x || false)
+      (sym (list_any-append (is_file_ref file) (ps.payloads p) (x ∷ [])) ∙ (sym (ap (list_any (is_file_ref file)) at.1) ∙ h))) [
+        | inl old ↦ inl (ap (λ (k : ℕ). refers ps k file) at.0 ∙ old)
+        | inr new ↦ inr (at.0, sym (or-false (is_file_ref file x)) ∙ new)
+      ])
   | inr off ↦ inl (sym (ap (list_any (is_file_ref file)) off.1) ∙ h)
 ]
 
@@ -158,6 +161,7 @@ made_kept p ps c hc q file h = (let was = created_back p ps q file h in record {
 pub own_last : OwnFilesLast
 own_last Made c d p ps hc hd under is own = all_kept d ps (created p ps) (made_kept p ps c hc) own
 own_last (Registered x) c d p ps hc hd under is own = registered_own c d p x ps hc hd under is own
-own_last (Killed test) c d p ps hc hd under is own = all_kept d ps (killed p test ps) (λ q file h. record { path = ap (λ (f : ℕ → List ℕ). f q) (killed_path p test ps); refers = killed_back p test ps q file h }) own
+own_last (Killed test) c d p ps hc hd under is own =
+    all_kept d ps (killed p test ps) (λ q file h. record { path = ap (λ (f : ℕ → List ℕ). f q) (killed_path p test ps); refers = killed_back p test ps q file h }) own
 own_last Cleared c d p ps hc hd under is own = all_kept d ps (cleared p ps) (emptied_kept p ps (cleared p ps) (cleared_so p ps)) own
 own_last Destroyed c d p ps hc hd under is own = all_kept d ps (destroyed p ps) (emptied_kept p ps (destroyed p ps) (destroyed_so p ps)) own

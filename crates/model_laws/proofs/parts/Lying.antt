@@ -83,16 +83,20 @@ gone_brigades : (c : ℕ) (r : Configuration) (gone : ℕ → Configuration → 
 gone_brigades c r gone None s so left b = s.brigades b
 gone_brigades c r gone (Some n) s so left b = subst (LiesUnder c (gone n r).shared.pools) (sym (left n b)) (gone_lies c r s (r.instance.brigades b) (s.brigades b) gone (Some n) so)
 
-step_brigades : (c : ℕ) (p : Program) (choice : Choice) (i : Instr) (r : Configuration) → LiesIn c r → MayExecute p r i → (b : ℕ) → LiesUnder c (step p choice i r).state.shared.pools ((step p choice i r).state.instance.brigades b)
+step_brigades : (c : ℕ) (p : Program) (choice : Choice) (i : Instr) (r : Configuration) → LiesIn c r → MayExecute p r i → (b : ℕ)
+    → LiesUnder c (step p choice i r).state.shared.pools ((step p choice i r).state.instance.brigades b)
 unfolding set_brigade set_pool with_pools run_down
 step_brigades c p choice (instr.PClear q) r s may = gone_brigades c r pool_cleared (pool_named r (pool.Own q)) s (λ n. cleared_so n r.shared.pools) (λ n b. refl)
 step_brigades c p choice (instr.PDestroy q) r s may = gone_brigades c r pool_destroyed (pool_named r (pool.Own q)) s (λ n. destroyed_so n r.shared.pools) (λ n b. refl)
 step_brigades c p choice (instr.Ret status) r s may = kept_on c r.shared.pools r.instance.brigades _ (return_on r.instance.brigades r.call.name) s.brigades
 step_brigades c p choice (instr.PCreate q) r s may = moved c p choice (instr.PCreate q) r s may (made_under_named (On c r.shared.pools) p q r s.brigades (λ parent is. s.brigades))
-step_brigades c p choice (instr.Label q t) r s may = moved c p choice (instr.Label q t) r s may (on_named (On c r.shared.pools) (label_registered (text_of p t)) (pool_named r q) r s.brigades (λ n is. s.brigades))
-step_brigades c p choice (instr.Unlabel q t) r s may = moved c p choice (instr.Unlabel q t) r s may (on_named (On c r.shared.pools) (label_killed (text_of p t)) (pool_named r q) r s.brigades (λ n is. s.brigades))
+step_brigades c p choice (instr.Label q t) r s may =
+    moved c p choice (instr.Label q t) r s may (on_named (On c r.shared.pools) (label_registered (text_of p t)) (pool_named r q) r s.brigades (λ n is. s.brigades))
+step_brigades c p choice (instr.Unlabel q t) r s may =
+    moved c p choice (instr.Unlabel q t) r s may (on_named (On c r.shared.pools) (label_killed (text_of p t)) (pool_named r q) r s.brigades (λ n is. s.brigades))
 step_brigades c p choice (instr.BCreate o) r s may =
-    moved c p choice (instr.BCreate o) r s may (written_on c r.shared.pools r.instance.brigades o (var.Live (record { name = r.shared.next; on = pool_named r (pool_of_brigade p o); mark = Usable; items = [] }))
+    moved c p choice (instr.BCreate o) r s may
+    (written_on c r.shared.pools r.instance.brigades o (var.Live (record { name = r.shared.next; on = pool_named r (pool_of_brigade p o); mark = Usable; items = [] }))
     (λ n is. wanted_under c p r s (pool_of_brigade p o) (wanted_pool r (pool_of_brigade p o) _ may.faultless) n is) s.brigades)
 step_brigades c p choice (instr.BClean a) r s may =
     moved c p choice (instr.BClean a) r s may (kept_on c r.shared.pools r.instance.brigades _ (clean_on r.instance.brigades a) s.brigades)
@@ -135,7 +139,8 @@ quiet_owned c r x q = record { conn = q.conn; req = q.req; own = λ k n is. inl 
 
 step_owned : (c : ℕ) (p : Program) (choice : Choice) (i : Instr) (r : Configuration) → LiesIn c r → MayExecute p r i → Owned c r (step p choice i r).state
 unfolding with_pools run_down
-step_owned c p choice (instr.PCreate q) r s may = made_under_named (Owned c r) p q r (itself c r) (λ parent is. made_owned c q parent r (wanted_under c p r s (pool_of_pool p q) (wanted_pool r (pool_of_pool p q) _ may.faultless) parent is))
+step_owned c p choice (instr.PCreate q) r s may =
+    made_under_named (Owned c r) p q r (itself c r) (λ parent is. made_owned c q parent r (wanted_under c p r s (pool_of_pool p q) (wanted_pool r (pool_of_pool p q) _ may.faultless) parent is))
 step_owned c p choice (instr.PClear q) r s may = on_named (Owned c r) pool_cleared (pool_named r (pool.Own q)) r (itself c r) (λ n is. record { conn = refl; req = refl; own = λ k m at. inl at })
 step_owned c p choice (instr.PDestroy q) r s may = on_named (Owned c r) pool_destroyed (pool_named r (pool.Own q)) r (itself c r) (λ n is. record { conn = refl; req = refl; own = λ k m at. inl at })
 step_owned c p choice i r s may = quiet_owned c r (step p choice i r).state (quiet_step p choice i r refl may)

@@ -94,7 +94,8 @@ module _ {T : Type 0} (c : ℕ) (ps : Pools T) (h : HasPart ps c) where
   runs_alike (suc depth) p under =
       ap (λ (k : ℕ). flat_map (runs_within depth (part c ps)) (children_below (part c ps) p k) ++ own_run (part c ps) p) same_next
       ∙ (ap (λ (ms : List ℕ). flat_map (runs_within depth (part c ps)) ms ++ own_run (part c ps) p) (children_alike p under ps.next)
-      ∙ (ap (λ (xs : List (ℕ × T)). xs ++ own_run (part c ps) p) (brought_alike p (runs_within depth (part c ps)) (runs_within depth ps) (λ n child. runs_alike depth n (child_under p n under child)) ps.next)
+      ∙ (ap (λ (xs : List (ℕ × T)). xs ++ own_run (part c ps) p)
+      (brought_alike p (runs_within depth (part c ps)) (runs_within depth ps) (λ n child. runs_alike depth n (child_under p n under child)) ps.next)
       ∙ ap (λ (xs : List (ℕ × T)). flat_map (runs_within depth ps) (children_below ps p ps.next) ++ xs) (own_alike p under)))
 
   pub order_alike : (p : ℕ) → is_under ps c p ≡ true → run_order (part c ps) p ≡ run_order ps p
@@ -134,8 +135,10 @@ module _ {T : Type 0} (root : ℕ) (ps : Pools T) (f : IsPoolMap ps) (at : ps.pa
   new_path : (n : ℕ) → (part ps.next (created root ps)).path n ≡ (created root (record (planted {T = T} root) { next = ps.next })).path n
   unfolding part created planted upd
   new_path n = by_test (n == ps.next) (n == root) refl where
-    by_test : (b e : Bool) → (n == root) ≡ e → cond (belongs ps.next (cond b (ps.next ∷ ps.path root) (ps.path n))) (cond b (ps.next ∷ ps.path root) (ps.path n)) [] ≡ cond b (ps.next ∷ cond (root == root) (root ∷ []) []) (cond e (root ∷ []) [])
-    by_test true e is = ap (λ (t : Bool). cond t (ps.next ∷ ps.path root) []) (itself_belongs ps.next (ps.path root)) ∙ ap (λ (xs : List ℕ). ps.next ∷ xs) (at ∙ ap (λ (t : Bool). cond t (root ∷ []) []) (sym (eq-eqb root root refl)))
+    by_test : (b e : Bool) → (n == root) ≡ e → cond (belongs ps.next (cond b (ps.next ∷ ps.path root) (ps.path n))) (cond b (ps.next ∷ ps.path root) (ps.path n)) [] ≡ cond b
+        (ps.next ∷ cond (root == root) (root ∷ []) []) (cond e (root ∷ []) [])
+    by_test true e is = ap (λ (t : Bool). cond t (ps.next ∷ ps.path root) []) (itself_belongs ps.next (ps.path root))
+        ∙ ap (λ (xs : List ℕ). ps.next ∷ xs) (at ∙ ap (λ (t : Bool). cond t (root ∷ []) []) (sym (eq-eqb root root refl)))
     by_test false true is = ap (λ (xs : List ℕ). cond (belongs ps.next xs) xs []) (ap ps.path (eqb-true n root is) ∙ at)
     by_test false false is = ap (λ (t : Bool). cond t (ps.path n) []) (older_off n is)
 

@@ -31,7 +31,8 @@ module _ {T : Type 0} (d : ℕ) (ps : Pools T) where
     at : (n : ℕ) → (n == ps.next) ≡ true → belongs d (ps.path n) ≡ false
     at n same = ap (λ (k : ℕ). belongs d (ps.path k)) (eqb-true n ps.next same) ∙ fresh
 
-    path : (n : ℕ) (b : Bool) → (n == ps.next) ≡ b → cond (belongs d (cond b (ps.next ∷ ps.path p) (ps.path n))) (cond b (ps.next ∷ ps.path p) (ps.path n)) [] ≡ cond (belongs d (ps.path n)) (ps.path n) []
+    path : (n : ℕ) (b : Bool) → (n == ps.next) ≡ b
+        → cond (belongs d (cond b (ps.next ∷ ps.path p) (ps.path n))) (cond b (ps.next ∷ ps.path p) (ps.path n)) [] ≡ cond (belongs d (ps.path n)) (ps.path n) []
     path n true same = ap (λ (t : Bool). cond t (ps.next ∷ ps.path p) []) off ∙ sym (ap (λ (t : Bool). cond t (ps.path n) []) (at n same))
     path n false same = refl
 

@@ -65,7 +65,8 @@ module _ {T : Type 0} (c p : ℕ) (ps : Pools T) (h : HasPart ps c) (under : is_
     next : (part c (record ps { payloads = upd ps.payloads p items })).next ≡ (part c ps).next
     next = refl
 
-  own_filled : (change : List T → List T) → part c (record ps { payloads = upd ps.payloads p (change (ps.payloads p)) }) ≡ record (part c ps) { payloads = upd (part c ps).payloads p (change ((part c ps).payloads p)) }
+  own_filled : (change : List T → List T)
+      → part c (record ps { payloads = upd ps.payloads p (change (ps.payloads p)) }) ≡ record (part c ps) { payloads = upd (part c ps).payloads p (change ((part c ps).payloads p)) }
   own_filled change =
       own_refilled (change (ps.payloads p))
       ∙ ap (λ (items : List T). record (part c ps) { payloads = upd (part c ps).payloads p (change items) }) (sym (part_payloads ps c p (under_belongs ps c p under)))

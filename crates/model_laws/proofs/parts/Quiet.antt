@@ -86,7 +86,8 @@ module _ (change : Pools Payload → Pools Payload) where
 
   into_alike : (x : Value) (r : Configuration) → do_put x (amended change r) ≡ amended change (do_put x r)
   into_alike x r = by_test (is_full r x) where
-    by_test : (t : Bool) → cond t (amended change r) (amended change (with_buffer (r.call.buffer ++ value_of r x ∷ []) r)) ≡ amended change (cond t r (with_buffer (r.call.buffer ++ value_of r x ∷ []) r))
+    by_test : (t : Bool)
+        → cond t (amended change r) (amended change (with_buffer (r.call.buffer ++ value_of r x ∷ []) r)) ≡ amended change (cond t r (with_buffer (r.call.buffer ++ value_of r x ∷ []) r))
     by_test true = refl
     by_test false = refl
 

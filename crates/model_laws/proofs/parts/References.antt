@@ -27,10 +27,11 @@ hands file run = list_any (λ x. is_file_ref file x.1) run
 
 turned : (file : ℕ) (xs : List Payload) → list_any (is_file_ref file) (reverse xs) ≡ true → list_any (is_file_ref file) xs ≡ true
 turned file [] h = h
-turned file (x ∷ xs) h = elim (or_cases (list_any (is_file_ref file) (reverse xs)) (is_file_ref file x || false) (sym (list_any-append (is_file_ref file) (reverse xs) (x ∷ [])) ∙ (sym (ap (list_any (is_file_ref file)) (reverse-append (x ∷ []) xs)) ∙ h))) [
-  | inl later ↦ or_right (is_file_ref file x) (list_any (is_file_ref file) xs) (turned file xs later)
-  | inr here ↦ or_left (is_file_ref file x) (list_any (is_file_ref file) xs) (sym (or-false (is_file_ref file x)) ∙ here)
-]
+turned file (x ∷ xs) h = elim (or_cases (list_any (is_file_ref file) (reverse xs)) (is_file_ref file x || false)
+    (sym (list_any-append (is_file_ref file) (reverse xs) (x ∷ [])) ∙ (sym (ap (list_any (is_file_ref file)) (reverse-append (x ∷ []) xs)) ∙ h))) [
+      | inl later ↦ or_right (is_file_ref file x) (list_any (is_file_ref file) xs) (turned file xs later)
+      | inr here ↦ or_left (is_file_ref file x) (list_any (is_file_ref file) xs) (sym (or-false (is_file_ref file x)) ∙ here)
+    ]
 
 with_pool : (file p : ℕ) (xs : List Payload) → hands file (map (λ x. (p, x)) xs) ≡ true → list_any (is_file_ref file) xs ≡ true
 with_pool file p [] h = h
@@ -50,7 +51,8 @@ pub record HasRef (c file : ℕ) (ps : Pools Payload) : Type 0 where
   pub refers : refers ps at file ≡ true
 
 module _ (c file : ℕ) (ps : Pools Payload) (h : HasPart ps c) where
-  brought : (p : ℕ) (f : ℕ → List (ℕ × Payload)) → ((n : ℕ) → is_child ps p n ≡ true → hands file (f n) ≡ true → HasRef c file ps) → (m : ℕ) → hands file (flat_map f (children_below ps p m)) ≡ true → HasRef c file ps
+  brought : (p : ℕ) (f : ℕ → List (ℕ × Payload)) → ((n : ℕ) → is_child ps p n ≡ true → hands file (f n) ≡ true → HasRef c file ps) → (m : ℕ) → hands file (flat_map f (children_below ps p m)) ≡ true
+      → HasRef c file ps
   unfolding children_below
   brought p f each zero handed = absurd (cc)
   brought p f each (suc m) handed = elim (cases_Bool (is_child ps p m)) [

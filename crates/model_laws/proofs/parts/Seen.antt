@@ -18,7 +18,8 @@ use Rattle.run_model.specs.State.{Configuration, Shared, fresh_call}
 use Rattle.run_model.specs.Steps.{current, grows, is_spent, lacks_names}
 use Rattle.run_model.specs.Chains.{Frame, Connection, Common, Linked, common_after, configuration, module_at, parts_after, pools_of, touched_instance}
 use Rattle.run_model.specs.Passing.{Reads, proceeds}
-use Rattle.run_model.specs.Turns.{Opening, Found, Missing, Failing, all_called, begins, begun, between_requests, brings, broken_by, brought, calls_of, closing_labels, counted, ended, ends, executed, file_answer, file_taken, opens_file, pool_gone, request_over, step_top, step_unless, steps, unless_fault, unless_refused, watched, with_pools}
+use Rattle.run_model.specs.Turns.{Opening, Found, Missing, Failing, all_called, begins, begun, between_requests, brings, broken_by, brought, calls_of, closing_labels, counted, ended, ends, executed}
+use Rattle.run_model.specs.Turns.{file_answer, file_taken, opens_file, pool_gone, request_over, step_top, step_unless, steps, unless_fault, unless_refused, watched, with_pools}
 use Rattle.model_laws.specs.Parts.{part, HasPart, Made, Registered}
 use Rattle.model_laws.specs.PartSteps.{LiesIn, in_part, linked_in_part}
 use Rattle.model_laws.specs.SharedPools.{BeginsSeenInPart, BringsSeenInPart, EndsSeenInPart, LabelsSeenInPart, LiesOver, OpensFileSeenInPart, StepsSeenInPart, over, seen_in}
@@ -73,11 +74,13 @@ module _ (d : ℕ) (memory : Bool) (chain : List Program) (reads : Reads) (f : F
     room : grows (configuration here.0 here.1 f) i ≡ grow
     room = ap (λ (r : Configuration). grows r i) seen ∙ grows_alike d (module_at chain f.of) i (configuration g c f) lies none
 
-    by_memory : (t : Bool) → cond t (counted (proceeds chain reads i f rest here)) (broken_by cause.NoMemory here) ≡ seen_in d (cond t (counted (proceeds chain reads i f rest (g, c))) (broken_by cause.NoMemory (g, c)))
+    by_memory : (t : Bool) → cond t (counted (proceeds chain reads i f rest here)) (broken_by cause.NoMemory here) ≡ seen_in d
+        (cond t (counted (proceeds chain reads i f rest (g, c))) (broken_by cause.NoMemory (g, c)))
     by_memory true = ap counted (top_alike d chain reads i f rest g c lies none)
     by_memory false = refl
 
-    by_names : (t : Bool) → choose t grow ≡ seen_in d (cond t (broken_by cause.NamesSpent (g, c)) (cond (enough grow) (counted (proceeds chain reads i f rest (g, c))) (broken_by cause.NoMemory (g, c))))
+    by_names : (t : Bool)
+        → choose t grow ≡ seen_in d (cond t (broken_by cause.NamesSpent (g, c)) (cond (enough grow) (counted (proceeds chain reads i f rest (g, c))) (broken_by cause.NoMemory (g, c))))
     by_names true = refl
     by_names false = by_memory (enough grow)
 
@@ -89,7 +92,8 @@ module _ (d : ℕ) (memory : Bool) (chain : List Program) (reads : Reads) (f : F
     told : fault (module_at chain f.of) (configuration here.0 here.1 f) i ≡ fault (module_at chain f.of) (configuration g c f) i
     told = ap (λ (r : Configuration). fault (module_at chain f.of) r i) seen ∙ faults_alike d (module_at chain f.of) i (configuration g c f) lies
 
-    by_fault : (o : Option FaultKind) → fault (module_at chain f.of) (configuration g c f) i ≡ o → unless_fault o f here (executed memory chain reads i f rest here) ≡ seen_in d (unless_fault o f (g, c) (executed memory chain reads i f rest (g, c)))
+    by_fault : (o : Option FaultKind) → fault (module_at chain f.of) (configuration g c f) i ≡ o
+        → unless_fault o f here (executed memory chain reads i f rest here) ≡ seen_in d (unless_fault o f (g, c) (executed memory chain reads i f rest (g, c)))
     by_fault None e = executed_alike i e
     by_fault (Some k) e = refl
 
@@ -121,15 +125,17 @@ refused_alike d None old new left is = ap (λ (v : Linked). (None, v)) is
 
 -- A request begins.
 
-called_part : (d : ℕ) (chain : List Program) (g : Common) (c : Connection) (ps : Pools Payload) → all_called chain (with_pools (part d ps) (g, c)) ≡ linked_in_part d (all_called chain (with_pools ps (g, c)))
+called_part : (d : ℕ) (chain : List Program) (g : Common) (c : Connection) (ps : Pools Payload)
+    → all_called chain (with_pools (part d ps) (g, c)) ≡ linked_in_part d (all_called chain (with_pools ps (g, c)))
 unfolding all_called part
 called_part d chain g c ps = refl
 
 begun_alike : (d : ℕ) (chain : List Program) (g : Common) (c : Connection) → HasPart (pools_of g c) d → c.conn ≡ d → begun chain (linked_in_part d (g, c)) ≡ linked_in_part d (begun chain (g, c))
 unfolding begun part
-begun_alike d chain g c h is = ap (λ (ps : Pools Payload). all_called chain (with_pools ps (g, record c { req = Some g.pools }))) made ∙ called_part d chain g (record c { req = Some g.pools }) (created c.conn (pools_of g c)) where
-  made : created c.conn (part d (pools_of g c)) ≡ part d (created c.conn (pools_of g c))
-  made = sym (own_changes Made d c.conn (pools_of g c) h (ap (is_under (pools_of g c) d) is ∙ part_under (pools_of g c) d h))
+begun_alike d chain g c h is = ap (λ (ps : Pools Payload). all_called chain (with_pools ps (g, record c { req = Some g.pools }))) made
+    ∙ called_part d chain g (record c { req = Some g.pools }) (created c.conn (pools_of g c)) where
+      made : created c.conn (part d (pools_of g c)) ≡ part d (created c.conn (pools_of g c))
+      made = sym (own_changes Made d c.conn (pools_of g c) h (ap (is_under (pools_of g c) d) is ∙ part_under (pools_of g c) d h))
 
 pub begins_in_part : BeginsSeenInPart
 unfolding begins configuration
@@ -145,7 +151,8 @@ brought_alike d chain pieces (Some req) v = refl
 pub brings_in_part : BringsSeenInPart
 unfolding brings
 brings_in_part memory chain pieces ps g c l = ap (brings memory chain pieces) (its_part ps g c l)
-    ∙ refused_alike c.conn _ (g, over ps c) (brought chain pieces c.req (linked_in_part c.conn (g, over ps c))) (brought chain pieces c.req (g, over ps c)) (brought_alike c.conn chain pieces c.req (g, over ps c))
+    ∙ refused_alike c.conn _ (g, over ps c) (brought chain pieces c.req (linked_in_part c.conn (g, over ps c))) (brought chain pieces c.req (g, over ps c))
+    (brought_alike c.conn chain pieces c.req (g, over ps c))
 
 -- A file is opened.
 
@@ -189,17 +196,18 @@ module _ (ps : Pools Payload) (g : Common) (c : Connection) (l : LiesOver ps g c
 
   over_alike : (req : ℕ) → c.req ≡ Some req → request_over req (linked_in_part c.conn all) ≡ linked_in_part c.conn (request_over req all)
   unfolding part
-  over_alike req is = ap (λ (r : Configuration). left r.shared (is_under (part c.conn (pools_of g (over ps c))) req)) (gone_alike req (under req is)) ∙ ap (left (in_part c.conn (pool_gone req all)).shared) (reached req (under req is)) where
-    left : Shared → (ℕ → Bool) → Linked
-    left s goes = (
-      common_after s g,
-      record (parts_after s c) {
-        instances = λ k. between_requests (touched_instance (cleared_var goes) (c.instances k));
-        req = None;
-        files = [];
-        out = record c.out { ended = false };
-      },
-    )
+  over_alike req is = ap (λ (r : Configuration). left r.shared (is_under (part c.conn (pools_of g (over ps c))) req)) (gone_alike req (under req is))
+      ∙ ap (left (in_part c.conn (pool_gone req all)).shared) (reached req (under req is)) where
+        left : Shared → (ℕ → Bool) → Linked
+        left s goes = (
+          common_after s g,
+          record (parts_after s c) {
+            instances = λ k. between_requests (touched_instance (cleared_var goes) (c.instances k));
+            req = None;
+            files = [];
+            out = record c.out { ended = false };
+          },
+        )
 
   ended_alike : (req : Option ℕ) → c.req ≡ req → ended req (linked_in_part c.conn all) ≡ linked_in_part c.conn (ended req all)
   ended_alike None is = refl
@@ -211,7 +219,8 @@ opens_file_in_part memory opening ps g c l = ap (opens_file memory opening) (its
 
 pub ends_in_part : EndsSeenInPart
 unfolding ends
-ends_in_part memory ps g c l = ap (ends memory) (its_part ps g c l) ∙ refused_alike c.conn _ (g, over ps c) (ended c.req (linked_in_part c.conn (g, over ps c))) (ended c.req (g, over ps c)) (ended_alike ps g c l c.req refl)
+ends_in_part memory ps g c l =
+    ap (ends memory) (its_part ps g c l) ∙ refused_alike c.conn _ (g, over ps c) (ended c.req (linked_in_part c.conn (g, over ps c))) (ended c.req (g, over ps c)) (ended_alike ps g c l c.req refl)
 
 pub labels_in_part : LabelsSeenInPart
 unfolding closing_labels

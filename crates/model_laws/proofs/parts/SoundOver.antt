@@ -89,5 +89,6 @@ sound_over chain ps g c l s = record {
   names = (let n = s.names in record { once = n.once; fresh = n.fresh; own = n.own; incoming = n.incoming; given = n.given; limit = n.limit; slots = n.slots });
   buckets = record { brigades = s.buckets.brigades; loose = s.buckets.loose };
   pools = record { sound = sound_pools chain ps g c l s.pools; declared = declared chain ps g c l s.pools; apart = s.pools.apart };
-  calls = (let k = s.calls in record { placed = k.placed; nested = k.nested; named = k.named; waiting = k.waiting; queue = k.queue; later = k.later; serving = k.serving; alone = k.alone; idle = k.idle });
+  calls = (let k = s.calls in
+      record { placed = k.placed; nested = k.nested; named = k.named; waiting = k.waiting; queue = k.queue; later = k.later; serving = k.serving; alone = k.alone; idle = k.idle });
 }

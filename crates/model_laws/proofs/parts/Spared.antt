@@ -31,7 +31,8 @@ Spares d ps r = part d r.shared.pools ≡ record (part d ps) { next = r.shared.p
 itself : (d : ℕ) (r : Configuration) → Spares d r.shared.pools r
 itself d r = same_next d r.shared.pools r.shared.pools refl
 
-pub quiet_pools : (p : Program) (choice : Choice) (i : Instr) (r : Configuration) → step p choice i r ≡ record (step p choice i r) { state = record (step p choice i r).state { shared = record (step p choice i r).state.shared { pools = r.shared.pools } } }
+pub quiet_pools : (p : Program) (choice : Choice) (i : Instr) (r : Configuration)
+    → step p choice i r ≡ record (step p choice i r) { state = record (step p choice i r).state { shared = record (step p choice i r).state.shared { pools = r.shared.pools } } }
     → (step p choice i r).state.shared.pools ≡ r.shared.pools
 quiet_pools p choice i r same = ap (λ (o : Outcome). o.state.shared.pools) same
 
@@ -49,7 +50,8 @@ module _ (c d : ℕ) (p : Program) (r : Configuration) (s : LiesIn c r) (other :
   changes : (change : Change) (n : ℕ) → is_under r.shared.pools c n ≡ true → part d (changed change n r.shared.pools) ≡ record (part d r.shared.pools) { next = (changed change n r.shared.pools).next }
   changes change n under = others_stay change c d n r.shared.pools s.has other ne under
 
-  refers : (target : ℕ) (files : List ℕ) → is_under r.shared.pools c target ≡ true → part d (all_referred target files r.shared.pools) ≡ record (part d r.shared.pools) { next = (all_referred target files r.shared.pools).next }
+  refers : (target : ℕ) (files : List ℕ) → is_under r.shared.pools c target ≡ true
+      → part d (all_referred target files r.shared.pools) ≡ record (part d r.shared.pools) { next = (all_referred target files r.shared.pools).next }
   refers target files under =
       all_off d target files r.shared.pools (off_belongs r.shared.pools c d target s.has other ne under)
       ∙ same_next d r.shared.pools (all_referred target files r.shared.pools) (referred_next target files r.shared.pools)
@@ -95,17 +97,23 @@ pub steps_spare : StepsSpareOthers
 unfolding set_brigade
 steps_spare c d p choice (instr.PCreate q) r s other ne none = pcreate_spares c d p r s other ne q (wanted_pool r (pool_of_pool p q) _ none)
 steps_spare c d p choice (instr.PClear q) r s other ne none =
-    on_named (Spares d r.shared.pools) pool_cleared (pool_named r (pool.Own q)) r (itself d r) (λ n is. cleared_spares c d p r s other ne n (wanted_under c p r s (pool.Own q) (wanted_pool r (pool.Own q) None none) n is))
+    on_named (Spares d r.shared.pools) pool_cleared (pool_named r (pool.Own q)) r (itself d r)
+    (λ n is. cleared_spares c d p r s other ne n (wanted_under c p r s (pool.Own q) (wanted_pool r (pool.Own q) None none) n is))
 steps_spare c d p choice (instr.PDestroy q) r s other ne none =
-    on_named (Spares d r.shared.pools) pool_destroyed (pool_named r (pool.Own q)) r (itself d r) (λ n is. destroyed_spares c d p r s other ne n (wanted_under c p r s (pool.Own q) (wanted_pool r (pool.Own q) None none) n is))
+    on_named (Spares d r.shared.pools) pool_destroyed (pool_named r (pool.Own q)) r (itself d r)
+    (λ n is. destroyed_spares c d p r s other ne n (wanted_under c p r s (pool.Own q) (wanted_pool r (pool.Own q) None none) n is))
 steps_spare c d p choice (instr.Label q t) r s other ne none =
-    on_named (Spares d r.shared.pools) (label_registered (text_of p t)) (pool_named r q) r (itself d r) (λ n is. labelled_spares c d p r s other ne (text_of p t) n (wanted_under c p r s q (wanted_pool r q None none) n is))
+    on_named (Spares d r.shared.pools) (label_registered (text_of p t)) (pool_named r q) r (itself d r)
+    (λ n is. labelled_spares c d p r s other ne (text_of p t) n (wanted_under c p r s q (wanted_pool r q None none) n is))
 steps_spare c d p choice (instr.Unlabel q t) r s other ne none =
-    on_named (Spares d r.shared.pools) (label_killed (text_of p t)) (pool_named r q) r (itself d r) (λ n is. unlabelled_spares c d p r s other ne (text_of p t) n (wanted_under c p r s q (wanted_pool r q None none) n is))
+    on_named (Spares d r.shared.pools) (label_killed (text_of p t)) (pool_named r q) r (itself d r)
+    (λ n is. unlabelled_spares c d p r s other ne (text_of p t) n (wanted_under c p r s q (wanted_pool r q None none) n is))
 steps_spare c d p choice (instr.BCreate o) r s other ne none =
     with_brigade_spares c d p r s other ne (pool_named r (pool_of_brigade p o)) r.shared.next (λ n is. wanted_under c p r s (pool_of_brigade p o) (wanted_pool r (pool_of_brigade p o) _ none) n is)
 steps_spare c d p choice (instr.BSave o b) r s other ne none =
-    on_named (Spares d r.shared.pools) (saved_into o b) (made_on (r.instance.brigades o)) r (itself d r) (λ n is. saved_spares c d p r s other ne o b n (s.brigades o n (sym (made_is (r.instance.brigades o)) ∙ is)))
+    on_named (Spares d r.shared.pools) (saved_into o b) (made_on (r.instance.brigades o)) r (itself d r)
+    (λ n is. saved_spares c d p r s other ne o b n (s.brigades o n (sym (made_is (r.instance.brigades o)) ∙ is)))
 steps_spare c d p choice (instr.Aside at q) r s other ne none =
-    on_named (Spares d r.shared.pools) (aside_into (spot r at)) (pool_named r q) r (itself d r) (λ n is. aside_spares c d p r s other ne (spot r at) n (wanted_under c p r s q (wanted_pool r q _ (second_want _ _ none)) n is))
+    on_named (Spares d r.shared.pools) (aside_into (spot r at)) (pool_named r q) r (itself d r)
+    (λ n is. aside_spares c d p r s other ne (spot r at) n (wanted_under c p r s q (wanted_pool r q _ (second_want _ _ none)) n is))
 steps_spare c d p choice i r s other ne none = stays d p choice i r (quiet_pools p choice i r (quiet_alike (λ (old : Pools Payload). r.shared.pools) p choice i r refl))

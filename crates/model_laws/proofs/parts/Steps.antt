@@ -25,7 +25,8 @@ use Rattle.run_model.specs.Cutting.{set_aside}
 use Rattle.run_model.specs.Files.{Files, let_go}
 use Rattle.run_model.specs.State.{Configuration, items_of, named_at, pool_named, set_brigade, set_loose, set_pool, with_pools}
 use Rattle.run_model.specs.Cursors.{Place, Nowhere, AtLoose, Within, AtEndOf, spot, spot_of, holder_of, variable_of}
-use Rattle.run_model.specs.Effects.{on_pool, is_above, file_of, new_ref, all_referred, aside_named, with_items, with_brigade, saved_into, made_on, pool_cleared, pool_destroyed, label_registered, label_killed, text_of, do_pcreate, do_create}
+use Rattle.run_model.specs.Effects.{on_pool, is_above, file_of, new_ref, all_referred, aside_named, with_items, with_brigade, saved_into, made_on, pool_cleared, pool_destroyed, label_registered}
+use Rattle.run_model.specs.Effects.{label_killed, text_of, do_pcreate, do_create}
 use Rattle.run_model.specs.BucketSteps.{items_at, set_items, changed_at, aside_into}
 use Rattle.run_model.specs.declared.fault.FaultKind.{FaultKind}
 use Rattle.run_model.specs.Faults.{has_pool, or_else}
@@ -92,10 +93,12 @@ module _ (c target : ℕ) (r : Configuration) (s : LiesIn c r) (under : is_under
   aside_alike : (at : Place) → aside_into at target (in_part c r) ≡ in_part c (aside_into at target r)
   unfolding set_brigade set_loose with_pools
   aside_alike (Within b x) =
-      ap (λ (f : NamedBucket → NamedBucket). set_items b (changed_at x.name f (items_at r b)) (with_pools (all_referred target (filter_map (new_ref (part c r.shared.pools) target) (x ∷ [])) (part c r.shared.pools)) r)) (aside_part c target r.shared.pools under)
+      ap (λ (f : NamedBucket → NamedBucket). set_items b (changed_at x.name f (items_at r b))
+      (with_pools (all_referred target (filter_map (new_ref (part c r.shared.pools) target) (x ∷ [])) (part c r.shared.pools)) r)) (aside_part c target r.shared.pools under)
       ∙ ap (λ (ps : Pools Payload). set_items b (changed_at x.name (aside_named r.shared.pools target) (items_at r b)) (with_pools ps r)) (refs_part c target (x ∷ []) r.shared.pools s.has under)
   aside_alike (AtLoose x) =
-      ap (λ (f : NamedBucket → NamedBucket). set_loose (changed_at x.name f r.call.loose) (with_pools (all_referred target (filter_map (new_ref (part c r.shared.pools) target) (x ∷ [])) (part c r.shared.pools)) r)) (aside_part c target r.shared.pools under)
+      ap (λ (f : NamedBucket → NamedBucket). set_loose (changed_at x.name f r.call.loose)
+      (with_pools (all_referred target (filter_map (new_ref (part c r.shared.pools) target) (x ∷ [])) (part c r.shared.pools)) r)) (aside_part c target r.shared.pools under)
       ∙ ap (λ (ps : Pools Payload). set_loose (changed_at x.name (aside_named r.shared.pools target) r.call.loose) (with_pools ps r)) (refs_part c target (x ∷ []) r.shared.pools s.has under)
   aside_alike Nowhere = refl
   aside_alike (AtEndOf b) = refl
@@ -103,7 +106,8 @@ module _ (c target : ℕ) (r : Configuration) (s : LiesIn c r) (under : is_under
   saved_alike : (o b : ℕ) → saved_into o b target (in_part c r) ≡ in_part c (saved_into o b target r)
   unfolding set_brigade with_pools
   saved_alike o b =
-      ap (λ (f : NamedBucket → NamedBucket). saved f (all_referred target (filter_map (new_ref (part c r.shared.pools) target) (items_of (r.instance.brigades b))) (part c r.shared.pools))) (aside_part c target r.shared.pools under)
+      ap (λ (f : NamedBucket → NamedBucket). saved f (all_referred target (filter_map (new_ref (part c r.shared.pools) target) (items_of (r.instance.brigades b))) (part c r.shared.pools)))
+      (aside_part c target r.shared.pools under)
       ∙ ap (saved (aside_named r.shared.pools target)) (refs_part c target (items_of (r.instance.brigades b)) r.shared.pools s.has under) where
         saved : (NamedBucket → NamedBucket) → Pools Payload → Configuration
         saved f ps =
@@ -124,7 +128,8 @@ module _ (c target : ℕ) (r : Configuration) (s : LiesIn c r) (under : is_under
   unfolding part
   next_kept = refl
 
-  made_alike : (q : ℕ) → set_pool q (poolvar.Made (part c r.shared.pools).next) (with_pools (created target (part c r.shared.pools)) (in_part c r)) ≡ in_part c (set_pool q (poolvar.Made r.shared.pools.next) (with_pools (created target r.shared.pools) r))
+  made_alike : (q : ℕ) → set_pool q (poolvar.Made (part c r.shared.pools).next) (with_pools (created target (part c r.shared.pools)) (in_part c r)) ≡ in_part c
+      (set_pool q (poolvar.Made r.shared.pools.next) (with_pools (created target r.shared.pools) r))
   unfolding with_pools set_pool
   made_alike q =
       ap (λ (n : ℕ). set_pool q (poolvar.Made n) (with_pools (created target (part c r.shared.pools)) r)) next_kept
@@ -160,11 +165,13 @@ module _ (c target : ℕ) (r : Configuration) (s : LiesIn c r) (under : is_under
 
 -- What is done where a pool is named.
 
-on_alike : (c : ℕ) (r : Configuration) (change : ℕ → Configuration → Configuration) (o : Option ℕ) → ((n : ℕ) → o ≡ Some n → change n (in_part c r) ≡ in_part c (change n r)) → on_pool change o (in_part c r) ≡ in_part c (on_pool change o r)
+on_alike : (c : ℕ) (r : Configuration) (change : ℕ → Configuration → Configuration) (o : Option ℕ) → ((n : ℕ) → o ≡ Some n → change n (in_part c r) ≡ in_part c (change n r))
+    → on_pool change o (in_part c r) ≡ in_part c (on_pool change o r)
 on_alike c r change None each = refl
 on_alike c r change (Some n) each = each n refl
 
-with_part_brigade : (c : ℕ) (on : Option ℕ) (name : ℕ) (ps : Pools Payload) → HasPart ps c → ((n : ℕ) → on ≡ Some n → is_under ps c n ≡ true) → with_brigade on name (part c ps) ≡ part c (with_brigade on name ps)
+with_part_brigade : (c : ℕ) (on : Option ℕ) (name : ℕ) (ps : Pools Payload) → HasPart ps c → ((n : ℕ) → on ≡ Some n → is_under ps c n ≡ true)
+    → with_brigade on name (part c ps) ≡ part c (with_brigade on name ps)
 unfolding with_brigade
 with_part_brigade c None name ps h under = refl
 with_part_brigade c (Some n) name ps h under = sym (own_registered c n ps h (under n refl) (payload.Brigade name))

@@ -31,7 +31,8 @@ module _ (d : ℕ) (chain : List Program) (reads : Reads) (f : Frame) (rest : Li
   delivers : (b l : ℕ) → LiesIn c.conn (configuration g c f) → HasPart (pools_of g c) d → c.conn ≢ d → fault (module_at chain f.of) (configuration g c f) (instr.Pass b l) ≡ None
       → Same d (pools_of g c) (delivered_by (module_at chain f.of) reads b (instr.Pass b l) f rest (g, c))
   unfolding delivered_by stepped_in put_back configuration
-  delivers b l lies other ne none = steps_spare c.conn d (module_at chain f.of) (record { answer = answer_to (delivered c.out (items_of ((c.instances f.of).brigades b)) reads).1; given = None }) (instr.Pass b l) (configuration g c f) lies other ne none
+  delivers b l lies other ne none = steps_spare c.conn d (module_at chain f.of) (record { answer = answer_to (delivered c.out (items_of ((c.instances f.of).brigades b)) reads).1; given = None })
+      (instr.Pass b l) (configuration g c f) lies other ne none
 
   passes : (b : ℕ) → Same d (pools_of g c) (passed_to (module_at chain (f.of + 1)) b f rest (g, c))
   unfolding passed_to configuration

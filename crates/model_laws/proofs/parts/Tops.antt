@@ -16,7 +16,8 @@ use Rattle.run_model.specs.State.{Configuration, Out, items_of, named_at, pool_n
 use Rattle.run_model.specs.Effects.{do_return}
 use Rattle.run_model.specs.Faults.{fault}
 use Rattle.run_model.specs.Steps.{Choice, Outcome, answer_to, step, current}
-use Rattle.run_model.specs.Chains.{Frame, Connection, Common, Linked, module_at, is_last, configuration, common_after, parts_after, is_under_named, cleared_by, touched_var, touched_bucket, touched_instance, touched_frame, put_back, led_to, stepped_in}
+use Rattle.run_model.specs.Chains.{Frame, Connection, Common, Linked, module_at, is_last, configuration, common_after, parts_after, is_under_named, cleared_by, touched_var, touched_bucket}
+use Rattle.run_model.specs.Chains.{touched_instance, touched_frame, put_back, led_to, stepped_in}
 use Rattle.run_model.specs.Passing.{Reads, delivered, delivered_by, passed_to, gone_on, returned_to, next_called, returned_from, went, proceeds}
 use Rattle.model_laws.specs.Parts.{part}
 use Rattle.model_laws.specs.PartSteps.{in_part, LiesIn, linked_in_part, TopStaysInPart}
@@ -26,7 +27,8 @@ use Rattle.model_laws.proofs.parts.Steps.{wanted_under, steps_alike}
 
 -- What a step touches of others.
 
-reached_alike : (d : ℕ) (r : Configuration) → LiesIn d r → (o : Option ℕ) → ((n : ℕ) → o ≡ Some n → is_under r.shared.pools d n ≡ true) → is_under_named (part d r.shared.pools) o ≡ is_under_named r.shared.pools o
+reached_alike : (d : ℕ) (r : Configuration) → LiesIn d r → (o : Option ℕ) → ((n : ℕ) → o ≡ Some n → is_under r.shared.pools d n ≡ true)
+    → is_under_named (part d r.shared.pools) o ≡ is_under_named r.shared.pools o
 reached_alike d r s None under = refl
 reached_alike d r s (Some n) under = fun_ext (λ m. under_alike r.shared.pools d n m s.has (under n refl))
 
@@ -44,7 +46,8 @@ buckets_alike d p (instr.PClear q) r s none = ap (λ (reached : ℕ → Bool). c
 buckets_alike d p (instr.PDestroy q) r s none = ap (λ (reached : ℕ → Bool). cleared_bucket reached) (cleared_alike d p r q s none)
 buckets_alike d p i r s none = refl
 
-module _ (d : ℕ) (chain : List Program) (i : Instr) (f : Frame) (g : Common) (c : Connection) (s : LiesIn d (configuration g c f)) (none : fault (module_at chain f.of) (configuration g c f) i ≡ None) where
+module _ (d : ℕ) (chain : List Program) (i : Instr) (f : Frame) (g : Common) (c : Connection) (s : LiesIn d (configuration g c f))
+    (none : fault (module_at chain f.of) (configuration g c f) i ≡ None) where
   -- What it leaves.
   left_alike : (left : Configuration) (top rest : List Frame) → put_back i f (in_part d left) top rest (linked_in_part d (g, c)) ≡ linked_in_part d (put_back i f left top rest (g, c))
   unfolding put_back configuration part
@@ -65,7 +68,8 @@ module _ (d : ℕ) (chain : List Program) (i : Instr) (f : Frame) (g : Common) (
   unfolding configuration part
   seen_alike = refl
 
-  stepped_alike : (choice : Choice) (rest : List Frame) → stepped_in (module_at chain f.of) choice i f rest (linked_in_part d (g, c)) ≡ linked_in_part d (stepped_in (module_at chain f.of) choice i f rest (g, c))
+  stepped_alike : (choice : Choice) (rest : List Frame)
+      → stepped_in (module_at chain f.of) choice i f rest (linked_in_part d (g, c)) ≡ linked_in_part d (stepped_in (module_at chain f.of) choice i f rest (g, c))
   unfolding stepped_in
   stepped_alike choice rest =
       ap (λ (r : Configuration). put (step (module_at chain f.of) choice i r)) seen_alike
@@ -77,7 +81,8 @@ module _ (d : ℕ) (chain : List Program) (i : Instr) (f : Frame) (g : Common) (
         put : Outcome → Linked
         put w = put_back i f w.state (record { of = f.of; call = w.state.call; pc = led_to w.exit i f.pc } ∷ []) rest (linked_in_part d (g, c))
 
-  delivered_alike : (reads : Reads) (b : ℕ) (rest : List Frame) → delivered_by (module_at chain f.of) reads b i f rest (linked_in_part d (g, c)) ≡ linked_in_part d (delivered_by (module_at chain f.of) reads b i f rest (g, c))
+  delivered_alike : (reads : Reads) (b : ℕ) (rest : List Frame)
+      → delivered_by (module_at chain f.of) reads b i f rest (linked_in_part d (g, c)) ≡ linked_in_part d (delivered_by (module_at chain f.of) reads b i f rest (g, c))
   unfolding delivered_by
   delivered_alike reads b rest = ap put (stepped_alike (record { answer = answer_to told.1; given = None }) rest) where
     told : Out × Bool
@@ -97,7 +102,8 @@ called_alike : (d : ℕ) (chain : List Program) (s : Status) (queue : List ℕ) 
 called_alike d chain s [] v = refl
 called_alike d chain s (k ∷ ks) v = refl
 
-module _ (d : ℕ) (chain : List Program) (s : Status) (f : Frame) (g : Common) (c : Connection) (lies : LiesIn d (configuration g c f)) (none : fault (module_at chain f.of) (configuration g c f) (instr.Ret s) ≡ None) where
+module _ (d : ℕ) (chain : List Program) (s : Status) (f : Frame) (g : Common) (c : Connection) (lies : LiesIn d (configuration g c f))
+    (none : fault (module_at chain f.of) (configuration g c f) (instr.Ret s) ≡ None) where
   ended_alike : returned_from chain s f (linked_in_part d (g, c)) ≡ InPart d (returned_from chain s f (g, c))
   unfolding returned_from
   ended_alike =
@@ -108,7 +114,8 @@ module _ (d : ℕ) (chain : List Program) (s : Status) (f : Frame) (g : Common) 
   returned_alike : (w : Frame) (rest : List Frame) → returned_to (module_at chain w.of) s f w rest (linked_in_part d (g, c)) ≡ linked_in_part d (returned_to (module_at chain w.of) s f w rest (g, c))
   unfolding returned_to configuration put_back part
   returned_alike w rest =
-      ap (gone_on s (current (module_at chain w.of) w.pc) w (map (returned_bucket f.call.name) (items_of ((c.instances f.of).brigades 8)))) (left_alike d chain (instr.Ret s) f g c lies none (do_return (configuration g c f)) [] (w ∷ rest))
+      ap (gone_on s (current (module_at chain w.of) w.pc) w (map (returned_bucket f.call.name) (items_of ((c.instances f.of).brigades 8))))
+      (left_alike d chain (instr.Ret s) f g c lies none (do_return (configuration g c f)) [] (w ∷ rest))
 
 pub top_alike : TopStaysInPart
 unfolding proceeds

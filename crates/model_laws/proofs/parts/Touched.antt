@@ -59,7 +59,8 @@ stays_on reached (var.Live v) m is = by_test (is_reached reached v.on) refl is w
   on_it None off at = absurd (cc)
   on_it (Some k) off at = (let same : k ≡ m = cc in ap reached (sym same) ∙ off)
 
-  by_test : (t : Bool) → is_reached reached v.on ≡ t → brigade_pool (cond t var.Gone (var.Live (record v { items = map (cleared_bucket reached) v.items }))) ≡ Some m → (v.on ≡ Some m) × (reached m ≡ false)
+  by_test : (t : Bool) → is_reached reached v.on ≡ t → brigade_pool (cond t var.Gone (var.Live (record v { items = map (cleared_bucket reached) v.items }))) ≡ Some m → (v.on ≡ Some m)
+      × (reached m ≡ false)
   by_test true off is = absurd (cc)
   by_test false off is = (is, on_it v.on off is)
 
@@ -89,7 +90,8 @@ module _ (c : ℕ) (r : Configuration) (s : LiesIn c r) (v : BrigadeVar) (lies :
 
   saved_lies : (o b target : ℕ) → LiesUnder c (saved_into o b target r).shared.pools v
   unfolding with_pools set_brigade
-  saved_lies o b target = over (saved_into o b target r).shared.pools (λ m under. ap (λ (f : ℕ → List ℕ). f m) (referred_path target (filter_map (new_ref r.shared.pools target) (items_of (r.instance.brigades b))) r.shared.pools))
+  saved_lies o b target = over (saved_into o b target r).shared.pools
+      (λ m under. ap (λ (f : ℕ → List ℕ). f m) (referred_path target (filter_map (new_ref r.shared.pools target) (items_of (r.instance.brigades b))) r.shared.pools))
 
   aside_lies : (at : Place) (target : ℕ) → LiesUnder c (aside_into at target r).shared.pools v
   aside_lies at target = over (aside_into at target r).shared.pools (λ m under. ap (λ (f : ℕ → List ℕ). f m) (aside_path at target r))
@@ -99,12 +101,17 @@ unfolding set_brigade with_pools
 touched_lies c p choice (instr.PCreate q) r v s none lies = made_under_named (λ x. LiesUnder c x.shared.pools v) p q r lies (λ parent is. made_lies c r s v lies q parent)
 touched_lies c p choice (instr.PClear q) r v s none lies = gone_lies c r s v lies pool_cleared (pool_named r (pool.Own q)) (λ n. cleared_so n r.shared.pools)
 touched_lies c p choice (instr.PDestroy q) r v s none lies = gone_lies c r s v lies pool_destroyed (pool_named r (pool.Own q)) (λ n. destroyed_so n r.shared.pools)
-touched_lies c p choice (instr.Label q t) r v s none lies = on_named (λ x. LiesUnder c x.shared.pools v) (label_registered (text_of p t)) (pool_named r q) r lies (λ n is. labelled_lies c r s v lies (text_of p t) n)
-touched_lies c p choice (instr.Unlabel q t) r v s none lies = on_named (λ x. LiesUnder c x.shared.pools v) (label_killed (text_of p t)) (pool_named r q) r lies (λ n is. unlabelled_lies c r s v lies (text_of p t) n)
+touched_lies c p choice (instr.Label q t) r v s none lies =
+    on_named (λ x. LiesUnder c x.shared.pools v) (label_registered (text_of p t)) (pool_named r q) r lies (λ n is. labelled_lies c r s v lies (text_of p t) n)
+touched_lies c p choice (instr.Unlabel q t) r v s none lies =
+    on_named (λ x. LiesUnder c x.shared.pools v) (label_killed (text_of p t)) (pool_named r q) r lies (λ n is. unlabelled_lies c r s v lies (text_of p t) n)
 touched_lies c p choice (instr.BCreate o) r v s none lies =
-    over c r s v lies (with_brigade (pool_named r (pool_of_brigade p o)) r.shared.next r.shared.pools) (λ m under. ap (λ (f : ℕ → List ℕ). f m) (brigade_path (pool_named r (pool_of_brigade p o)) r.shared.next r.shared.pools))
-touched_lies c p choice (instr.BSave o b) r v s none lies = on_named (λ x. LiesUnder c x.shared.pools v) (saved_into o b) (made_on (r.instance.brigades o)) r lies (λ n is. saved_lies c r s v lies o b n)
-touched_lies c p choice (instr.Aside at q) r v s none lies = on_named (λ x. LiesUnder c x.shared.pools v) (aside_into (spot r at)) (pool_named r q) r lies (λ n is. aside_lies c r s v lies (spot r at) n)
+    over c r s v lies (with_brigade (pool_named r (pool_of_brigade p o)) r.shared.next r.shared.pools)
+    (λ m under. ap (λ (f : ℕ → List ℕ). f m) (brigade_path (pool_named r (pool_of_brigade p o)) r.shared.next r.shared.pools))
+touched_lies c p choice (instr.BSave o b) r v s none lies =
+    on_named (λ x. LiesUnder c x.shared.pools v) (saved_into o b) (made_on (r.instance.brigades o)) r lies (λ n is. saved_lies c r s v lies o b n)
+touched_lies c p choice (instr.Aside at q) r v s none lies =
+    on_named (λ x. LiesUnder c x.shared.pools v) (aside_into (spot r at)) (pool_named r q) r lies (λ n is. aside_lies c r s v lies (spot r at) n)
 touched_lies c p choice (instr.Ret status) r v s none lies = λ m is. lies m (pool_kept v (returned_var r.call.name v) (returned_on r.call.name v) m is)
 touched_lies c p choice i r v s none lies =
     subst (λ (ps : Pools Payload). LiesUnder c ps v) (sym (quiet_pools p choice i r (quiet_alike (λ (old : Pools Payload). r.shared.pools) p choice i r refl))) lies

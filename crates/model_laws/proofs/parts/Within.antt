@@ -52,10 +52,12 @@ fewer c ps new formed next stays off = record {
 }
 
 -- where only payloads of a pool under c change
-refilled : (c p : ℕ) (ps new : Pools Payload) → IsPoolMap ps → is_under ps c p ≡ true → new.next ≡ ps.next → new.path ≡ ps.path → ((n : ℕ) → n ≢ p → new.payloads n ≡ ps.payloads n) → StaysWithin c ps new
-refilled c p ps new formed under next paths rest = fewer c ps new formed next (λ n. inr (at n)) (λ n apart. (at n, rest n (λ same. both_ways (is_under ps c n) apart (ap (is_under ps c) same ∙ under)))) where
-  at : (n : ℕ) → new.path n ≡ ps.path n
-  at n = ap (λ (path : ℕ → List ℕ). path n) paths
+refilled : (c p : ℕ) (ps new : Pools Payload) → IsPoolMap ps → is_under ps c p ≡ true → new.next ≡ ps.next → new.path ≡ ps.path → ((n : ℕ) → n ≢ p → new.payloads n ≡ ps.payloads n)
+    → StaysWithin c ps new
+refilled c p ps new formed under next paths rest =
+    fewer c ps new formed next (λ n. inr (at n)) (λ n apart. (at n, rest n (λ same. both_ways (is_under ps c n) apart (ap (is_under ps c) same ∙ under)))) where
+      at : (n : ℕ) → new.path n ≡ ps.path n
+      at n = ap (λ (path : ℕ → List ℕ). path n) paths
 
 -- no pool under p, where it is not under c
 not_reached : (c p n : ℕ) (ps : Pools Payload) → IsPoolMap ps → is_under ps c p ≡ true → is_under ps c n ≡ false → is_under ps p n ≡ false
@@ -81,10 +83,12 @@ changes_within Made c p ps h under = made_within c p ps h.formed under
 changes_within (Registered x) c p ps h under = refilled c p ps (registered p x ps) h.formed under refl refl (λ n ne. upd_off ps.payloads p n _ ne)
 changes_within (Killed test) c p ps h under = refilled c p ps (killed p test ps) h.formed under refl refl (λ n ne. upd_off ps.payloads p n _ ne)
 changes_within Cleared c p ps h under = fewer c ps (cleared p ps) h.formed (cleared_next p ps) (cleared_path p ps) (λ n apart. cleared_apart p ps n (not_reached c p n ps h.formed under apart))
-changes_within Destroyed c p ps h under = fewer c ps (destroyed p ps) h.formed (destroyed_next p ps) (destroyed_path p ps) (λ n apart. destroyed_apart p ps n (not_reached c p n ps h.formed under apart))
+changes_within Destroyed c p ps h under =
+    fewer c ps (destroyed p ps) h.formed (destroyed_next p ps) (destroyed_path p ps) (λ n apart. destroyed_apart p ps n (not_reached c p n ps h.formed under apart))
 
 pub same_within : (c : ℕ) (ps new : Pools Payload) → HasPart ps c → new.next ≡ ps.next → new.path ≡ ps.path → new.payloads ≡ ps.payloads → StaysWithin c ps new
-same_within c ps new h next paths payloads = fewer c ps new h.formed next (λ n. inr (ap (λ (path : ℕ → List ℕ). path n) paths)) (λ n apart. (ap (λ (path : ℕ → List ℕ). path n) paths, ap (λ (xs : ℕ → List Payload). xs n) payloads))
+same_within c ps new h next paths payloads =
+    fewer c ps new h.formed next (λ n. inr (ap (λ (path : ℕ → List ℕ). path n) paths)) (λ n apart. (ap (λ (path : ℕ → List ℕ). path n) paths, ap (λ (xs : ℕ → List Payload). xs n) payloads))
 
 referred_off : (target : ℕ) (files : List ℕ) (ps : Pools Payload) (n : ℕ) → n ≢ target → (all_referred target files ps).payloads n ≡ ps.payloads n
 unfolding all_referred registered
@@ -101,7 +105,8 @@ module _ (c : ℕ) (p : Program) (r : Configuration) (s : LiesIn c r) where
   itself = same_within c r.shared.pools r.shared.pools s.has refl refl refl
 
   refers : (target : ℕ) (files : List ℕ) → is_under r.shared.pools c target ≡ true → StaysWithin c r.shared.pools (all_referred target files r.shared.pools)
-  refers target files under = refilled c target r.shared.pools (all_referred target files r.shared.pools) s.has.formed under (referred_next target files r.shared.pools) (referred_path target files r.shared.pools) (referred_off target files r.shared.pools)
+  refers target files under = refilled c target r.shared.pools (all_referred target files r.shared.pools) s.has.formed under (referred_next target files r.shared.pools)
+      (referred_path target files r.shared.pools) (referred_off target files r.shared.pools)
 
   aside_within : (at : Place) (target : ℕ) → is_under r.shared.pools c target ≡ true → Stays c r (aside_into at target r)
   unfolding set_brigade set_loose with_pools
@@ -117,16 +122,22 @@ module _ (c : ℕ) (p : Program) (r : Configuration) (s : LiesIn c r) where
 
   pub step_within : (choice : Choice) (i : Instr) → fault p r i ≡ None → Stays c r (step p choice i r).state
   unfolding set_brigade set_pool with_pools run_down
-  step_within choice (instr.PCreate q) none = made_under_named (Stays c r) p q r itself (λ parent is. changes_within Made c parent r.shared.pools s.has (wanted_under c p r s (pool_of_pool p q) (wanted_pool r (pool_of_pool p q) _ none) parent is))
+  step_within choice (instr.PCreate q) none = made_under_named (Stays c r) p q r itself
+      (λ parent is. changes_within Made c parent r.shared.pools s.has (wanted_under c p r s (pool_of_pool p q) (wanted_pool r (pool_of_pool p q) _ none) parent is))
   step_within choice (instr.PClear q) none =
-      on_named (Stays c r) pool_cleared (pool_named r (pool.Own q)) r itself (λ n is. changes_within Cleared c n r.shared.pools s.has (wanted_under c p r s (pool.Own q) (wanted_pool r (pool.Own q) None none) n is))
+      on_named (Stays c r) pool_cleared (pool_named r (pool.Own q)) r itself
+      (λ n is. changes_within Cleared c n r.shared.pools s.has (wanted_under c p r s (pool.Own q) (wanted_pool r (pool.Own q) None none) n is))
   step_within choice (instr.PDestroy q) none =
-      on_named (Stays c r) pool_destroyed (pool_named r (pool.Own q)) r itself (λ n is. changes_within Destroyed c n r.shared.pools s.has (wanted_under c p r s (pool.Own q) (wanted_pool r (pool.Own q) None none) n is))
+      on_named (Stays c r) pool_destroyed (pool_named r (pool.Own q)) r itself
+      (λ n is. changes_within Destroyed c n r.shared.pools s.has (wanted_under c p r s (pool.Own q) (wanted_pool r (pool.Own q) None none) n is))
   step_within choice (instr.Label q t) none =
-      on_named (Stays c r) (label_registered (text_of p t)) (pool_named r q) r itself (λ n is. changes_within (Registered (Label (text_of p t))) c n r.shared.pools s.has (wanted_under c p r s q (wanted_pool r q None none) n is))
+      on_named (Stays c r) (label_registered (text_of p t)) (pool_named r q) r itself
+      (λ n is. changes_within (Registered (Label (text_of p t))) c n r.shared.pools s.has (wanted_under c p r s q (wanted_pool r q None none) n is))
   step_within choice (instr.Unlabel q t) none =
-      on_named (Stays c r) (label_killed (text_of p t)) (pool_named r q) r itself (λ n is. changes_within (Killed (is_label (text_of p t))) c n r.shared.pools s.has (wanted_under c p r s q (wanted_pool r q None none) n is))
-  step_within choice (instr.BCreate o) none = with_brigade_within (pool_named r (pool_of_brigade p o)) r.shared.next (λ n is. wanted_under c p r s (pool_of_brigade p o) (wanted_pool r (pool_of_brigade p o) _ none) n is)
+      on_named (Stays c r) (label_killed (text_of p t)) (pool_named r q) r itself
+      (λ n is. changes_within (Killed (is_label (text_of p t))) c n r.shared.pools s.has (wanted_under c p r s q (wanted_pool r q None none) n is))
+  step_within choice (instr.BCreate o) none =
+      with_brigade_within (pool_named r (pool_of_brigade p o)) r.shared.next (λ n is. wanted_under c p r s (pool_of_brigade p o) (wanted_pool r (pool_of_brigade p o) _ none) n is)
   step_within choice (instr.BSave o b) none = on_named (Stays c r) (saved_into o b) (made_on (r.instance.brigades o)) r itself (λ n is.
       refers n (filter_map (new_ref r.shared.pools n) (items_of (r.instance.brigades b))) (s.brigades o n (sym (made_is (r.instance.brigades o)) ∙ is)))
   step_within choice (instr.Aside at q) none =

@@ -4,7 +4,7 @@ ghost use Rattle.std.specs.Prelude.{◌≡◌, ◌≢◌, ◌≤◌, IsTrue, IfO
 ghost use Rattle.run_model.specs.Pools.{is_live, cleared, destroyed};
 ghost use Rattle.run_model.specs.RunOrder.{children, run_order, IsPoolMap, order_under};
 ghost use Rattle.pool_tree.specs.declared.tree.clear.ClearKind.TheVariants.{Destroy};
-ghost use Rattle.pool_tree.specs.Clears.{emptied};
+ghost use Rattle.pool_tree.specs.Clears.{pools_after};
 ghost use Rattle.pool_tree.specs.Room.{IsRoomFor};
 ghost use Rattle.pool_tree.specs.Tree.{map_of};
 
@@ -132,7 +132,7 @@ impl<T: Drop> PoolTree<T> {
         requires live { IsTrue (is_live (map_of self.old) pool) }
         requires below { kind ≡ Destroy → (map_of self.old).path pool ≢ pool ∷ [] }
         ensures ran { IfOk result (λ ran. ran.items ≡ run_order (map_of self.old) pool) }
-        ensures ok { OnOk result (map_of self.new ≡ emptied kind pool (map_of self.old)) }
+        ensures ok { OnOk result (map_of self.new ≡ pools_after kind pool (map_of self.old)) }
         ensures formed { IsPoolMap (map_of self.new) }
         ensures err { OnErr result (map_of self.new ≡ map_of self.old) }
         ensures unasked { self.new.asked ≡ self.old.asked }

@@ -9,5 +9,6 @@ use Rattle.bucket_kinds.proofs.placing.stored_halves.Goals as goal
 pub returns-clause-shown : goal.returns-clause-shown
 returns-clause-shown c look =
     let x = c.args.stored.now in
-    ap (λ (p : Kept × Kept). let a : Stored = record x { kept = p.0 } in let b : Stored = record x { kept = p.1 } in let both : Bucket × Bucket = (shown look a, shown look b) in both) c.in_ok-front.ensures.ok
+    ap (λ (p : Kept × Kept). let a : Stored = record x { kept = p.0 } in let b : Stored = record x { kept = p.1 } in let both : Bucket × Bucket = (shown look a, shown look b) in both)
+    c.in_ok-front.ensures.ok
     ∙ both_shown look c.args.n x (let e = c.kept_length.ensures in let f = c.if-n-kept_length.false in omega (arith, e, f))

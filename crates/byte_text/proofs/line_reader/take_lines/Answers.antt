@@ -11,11 +11,13 @@ loop-i-preserved g c =
     let i = c.loop-i.i in
     elim c.if-byte-eq10.branch [
       | then-byte-eq10+in_ok-take_line w ↦ record {
-        so_far = rw (w.reader-is, w.number-is, w.start-is) (so_far_line g.R.TakesLines.takes c.args.reader.now c.loop-i.reader text c.loop-i.number c.loop-i.start i inv.so_far c.loop-i-test.true (eq-eqb _ _ w.if-byte-eq10.true) _ w.in_ok-take_line.ensures.takes);
+        so_far = rw (w.reader-is, w.number-is, w.start-is) (so_far_line g.R.TakesLines.takes c.args.reader.now c.loop-i.reader text c.loop-i.number c.loop-i.start i inv.so_far c.loop-i-test.true
+            (eq-eqb _ _ w.if-byte-eq10.true) _ w.in_ok-take_line.ensures.takes);
         ready = rw w.reader-is w.in_ok-take_line.ensures.next;
       }
       | else-byte-eq10 w ↦ record {
-        so_far = rw (w.reader-is, w.number-is, w.start-is) (so_far_on g.R.TakesLines.takes c.args.reader.now c.loop-i.reader text c.loop-i.number c.loop-i.start i inv.so_far c.loop-i-test.true (ne_eqb _ _ w.if-byte-eq10.false));
+        so_far = rw (w.reader-is, w.number-is, w.start-is)
+            (so_far_on g.R.TakesLines.takes c.args.reader.now c.loop-i.reader text c.loop-i.number c.loop-i.start i inv.so_far c.loop-i-test.true (ne_eqb _ _ w.if-byte-eq10.false));
         ready = rw w.reader-is inv.ready;
       }
     ]

@@ -9,7 +9,8 @@ returns-in_err-put_spelled g c =
     let text = spelled_all c.args.text.now in
     let whole = spelling c.args.text.now in
     let one = leaves_less (w c.args.out.now) (w c.args.out.now) (w c.put_all.new.out) whole (34 ∷ []) (text ++ 34 ∷ []) (leaves_all (w c.args.out.now) whole) c.in_ok-put_all.ensures in
-    leaves_fault (w c.args.out.now) (w c.put_all.new.out) (w c.put_spelled.new.out) whole text (34 ∷ []) c.in_err-put_spelled.field-0.0 c.from_residual-in_err-put_spelled.result c.from_residual-in_err-put_spelled.ensures.0 one c.in_err-put_spelled.ensures
+    leaves_fault (w c.args.out.now) (w c.put_all.new.out) (w c.put_spelled.new.out) whole text
+    (34 ∷ []) c.in_err-put_spelled.field-0.0 c.from_residual-in_err-put_spelled.result c.from_residual-in_err-put_spelled.ensures.0 one c.in_err-put_spelled.ensures
 
 pub returns : goal.returns
 returns g c =

@@ -15,7 +15,8 @@ returns-in_err-put_all g c =
     let here : spelled_all (drop i text) ≡ x ++ rest = ap spelled_all (drop_here text i 0 (omega arith)) in
     let left = subst (Leaves (w c.args.out.now) (w c.loop-byte.out) whole) here c.loop-byte.invariant in
     let same : c.as_slice.result.now ≡ x = c.as_slice.ensures ∙ c.spelled_byte.ensures in
-    leaves_fault (w c.args.out.now) (w c.loop-byte.out) (w c.put_all.new.out) whole x rest c.in_err-put_all.field-0.0 c.from_residual.result c.from_residual.ensures.0 left (rw same at c.in_err-put_all.ensures)
+    leaves_fault (w c.args.out.now) (w c.loop-byte.out) (w c.put_all.new.out) whole x rest c.in_err-put_all.field-0.0 c.from_residual.result c.from_residual.ensures.0 left
+    (rw same at c.in_err-put_all.ensures)
 
 pub loop-byte-preserved : goal.loop-byte-preserved
 loop-byte-preserved g c =

@@ -15,7 +15,8 @@ returns-then-not-branch-clause-line c = λ k e.
     let line = c.first_line-line in
     let no : c.in_ok-add_line.field-0 ≡ false = search rules in
     let nothing : AddsNothing (record { text = line.result.text.now; ended = line.result.ended }) (route_of c.loop-rest.site) = c.in_ok-add_line.ensures.refused no in
-    subst (λ x. SiteFailsAt 1 (lines_of c.args.text.now) no_routes x) same (so_far_fails c.args.text.now c.loop-rest.rest.now c.loop-rest.number _ _ _ c.loop-rest.invariant.0 (line.ensures.lines some) (nothing_first c.loop-rest.rest.now line.result.text.now line.result.ended _ line.ensures.text line.ensures.ended nothing))
+    subst (λ x. SiteFailsAt 1 (lines_of c.args.text.now) no_routes x) same (so_far_fails c.args.text.now c.loop-rest.rest.now c.loop-rest.number _ _ _ c.loop-rest.invariant.0
+    (line.ensures.lines some) (nothing_first c.loop-rest.rest.now line.result.text.now line.result.ended _ line.ensures.text line.ensures.ended nothing))
 
 pub returns-clause-site : goal.returns-clause-site
 returns-clause-site c =
@@ -28,7 +29,8 @@ loop-rest-preserved c =
     let line = c.first_line-line in
     let yes : c.in_ok-add_line.field-0 ≡ true = search rules in
     let one : AddsLine (record { text = line.result.text.now; ended = line.result.ended }) (route_of c.loop-rest.site) (route_of c.add_line.new.site) = c.in_ok-add_line.ensures.added yes in
-    let next = so_far_adds c.args.text.now c.loop-rest.rest.now c.loop-rest.number _ _ _ (route_of c.add_line.new.site) c.loop-rest.invariant.0 (line.ensures.lines some) (added_first c.loop-rest.rest.now line.result.text.now line.result.ended _ _ line.ensures.text line.ensures.ended one) in
+    let next = so_far_adds c.args.text.now c.loop-rest.rest.now c.loop-rest.number _ _ _ (route_of c.add_line.new.site) c.loop-rest.invariant.0 (line.ensures.lines some)
+    (added_first c.loop-rest.rest.now line.result.text.now line.result.ended _ _ line.ensures.text line.ensures.ended one) in
     let rest : c.behind-rest.result.now ≡ drop (width (first_line c.loop-rest.rest.now)) c.loop-rest.rest.now = c.behind-rest.ensures ∙ ap (λ w. drop w c.loop-rest.rest.now) line.ensures.width in
     let moves = line.ensures.moves some in
     let within = line.ensures.within in

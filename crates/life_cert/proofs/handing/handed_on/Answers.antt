@@ -40,5 +40,6 @@ returns-clause-handed c =
 
 pub returns-clause-fit : goal.returns-clause-fit
 returns-clause-fit c =
-    let all = handed_all c.args.code.now (seen_cert c.args.growth.now.cert) c.args.growth.now.grown.items c.loop-place.place-index (seen_arrivals c.loop-place.arrivals.items) (handed_on c.args.code.now (seen_cert c.args.growth.now.cert) c.args.growth.now.grown.items) (omega arith) c.loop-place.invariant.left in
+    let all = handed_all c.args.code.now (seen_cert c.args.growth.now.cert) c.args.growth.now.grown.items c.loop-place.place-index (seen_arrivals c.loop-place.arrivals.items)
+    (handed_on c.args.code.now (seen_cert c.args.growth.now.cert) c.args.growth.now.grown.items) (omega arith) c.loop-place.invariant.left in
     subst (λ (hs : List Arrival). All (IsFit c.args.code.now) hs) all c.loop-place.invariant.fit

@@ -11,8 +11,11 @@ returns-in_err-put_all g c =
 
 pub returns-in_err-put_state_or_none : goal.returns-in_err-put_state_or_none
 returns-in_err-put_state_or_none g c =
-    wrote_then _ _ _ (c.args.word.now) ((state_or_none (seen_some c.args.state.now) ++ codes "\n")) c.from_residual-in_err-put_state_or_none.result c.in_ok-put_all.ensures (wrote_front _ _ (state_or_none (seen_some c.args.state.now)) (codes "\n") c.from_residual-in_err-put_state_or_none.result c.from_residual-in_err-put_state_or_none.ensures.0 c.in_err-put_state_or_none.ensures)
+    wrote_then _ _ _ (c.args.word.now) ((state_or_none (seen_some c.args.state.now) ++ codes "\n")) c.from_residual-in_err-put_state_or_none.result c.in_ok-put_all.ensures
+    (wrote_front _ _ (state_or_none (seen_some c.args.state.now))
+    (codes "\n") c.from_residual-in_err-put_state_or_none.result c.from_residual-in_err-put_state_or_none.ensures.0 c.in_err-put_state_or_none.ensures)
 
 pub returns : goal.returns
 returns g c =
-    wrote_then _ _ _ (c.args.word.now) ((state_or_none (seen_some c.args.state.now) ++ codes "\n")) c.put_all-2.result c.in_ok-put_all.ensures (wrote_then _ _ _ (state_or_none (seen_some c.args.state.now)) (codes "\n") c.put_all-2.result c.in_ok-put_state_or_none.ensures (c.put_all-2.ensures))
+    wrote_then _ _ _ (c.args.word.now) ((state_or_none (seen_some c.args.state.now) ++ codes "\n")) c.put_all-2.result c.in_ok-put_all.ensures
+    (wrote_then _ _ _ (state_or_none (seen_some c.args.state.now)) (codes "\n") c.put_all-2.result c.in_ok-put_state_or_none.ensures (c.put_all-2.ensures))

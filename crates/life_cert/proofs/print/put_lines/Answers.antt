@@ -17,7 +17,8 @@ returns-in_err-put_line g c =
     let at = c.args.at.now in
     let pc = c.loop-pc.pc in
     let here = sym (line_at at pc None c.loop-pc-test.true) in
-    each_fault _ _ _ (length at) pc (λ k. pc_line k (seen_line (slice_get at k))) _ c.loop-pc.invariant (omega arith) c.from_residual.ensures.0 (subst (λ (s : Option State). Front (w c.loop-pc.out) (w c.put_line.new.out) (pc_line pc s)) here c.in_err-put_line.ensures)
+    each_fault _ _ _ (length at) pc (λ k. pc_line k (seen_line (slice_get at k))) _ c.loop-pc.invariant (omega arith) c.from_residual.ensures.0
+    (subst (λ (s : Option State). Front (w c.loop-pc.out) (w c.put_line.new.out) (pc_line pc s)) here c.in_err-put_line.ensures)
 
 pub loop-pc-preserved : goal.loop-pc-preserved
 loop-pc-preserved g c =
@@ -25,7 +26,8 @@ loop-pc-preserved g c =
     let at = c.args.at.now in
     let pc = c.loop-pc.pc in
     let here = sym (line_at at pc None c.loop-pc-test.true) in
-    each_written _ _ _ (length at) pc (λ k. pc_line k (seen_line (slice_get at k))) c.loop-pc.invariant (omega arith) (subst (λ (s : Option State). Appends (w c.loop-pc.out) (w c.put_line.new.out) (pc_line pc s)) here c.in_ok-put_line.ensures)
+    each_written _ _ _ (length at) pc (λ k. pc_line k (seen_line (slice_get at k))) c.loop-pc.invariant (omega arith)
+    (subst (λ (s : Option State). Appends (w c.loop-pc.out) (w c.put_line.new.out) (pc_line pc s)) here c.in_ok-put_line.ensures)
 
 pub returns : goal.returns
 returns g c = each_ends _ _ (length c.args.at.now) c.loop-pc.pc (λ k. pc_line k (seen_line (slice_get c.args.at.now k))) c.loop-pc.invariant (omega arith)

@@ -9,7 +9,8 @@ loop-c-init g c = each_begins _ 9 (λ d. cursor_text d ((seen c.args.state.now).
 
 pub returns-in_err-put_cursor : goal.returns-in_err-put_cursor
 returns-in_err-put_cursor g c =
-    each_fault _ _ _ 9 c.loop-c.c (λ d. cursor_text d ((seen c.args.state.now).cursors d)) _ c.loop-c.invariant (omega arith) c.from_residual.ensures.0 (rw c.cursor.ensures at c.in_err-put_cursor.ensures)
+    each_fault _ _ _ 9 c.loop-c.c (λ d. cursor_text d ((seen c.args.state.now).cursors d)) _ c.loop-c.invariant (omega arith) c.from_residual.ensures.0
+    (rw c.cursor.ensures at c.in_err-put_cursor.ensures)
 
 pub loop-c-preserved : goal.loop-c-preserved
 loop-c-preserved g c =

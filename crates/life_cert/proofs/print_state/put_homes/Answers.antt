@@ -13,13 +13,15 @@ returns-in_err-put_if g c =
 
 pub returns-in_err-put_home : goal.returns-in_err-put_home
 returns-in_err-put_home g c =
-    name_fault _ _ _ _ c.loop-home.home-index c.loop-home.invariant c.loop-home-test.true _ _ _ (sym c.has_home.ensures ∙ c.if-has_home.true) c.from_residual-in_err-put_home.ensures.0 c.in_ok-put_if.ensures c.in_err-put_home.ensures
+    name_fault _ _ _ _ c.loop-home.home-index c.loop-home.invariant c.loop-home-test.true _ _ _
+    (sym c.has_home.ensures ∙ c.if-has_home.true) c.from_residual-in_err-put_home.ensures.0 c.in_ok-put_if.ensures c.in_err-put_home.ensures
 
 pub loop-home-preserved : goal.loop-home-preserved
 loop-home-preserved g c =
     let h = seen_homes c.args.homes.now in
     elim c.if-has_home.branch [
-      | then-has_home+in_ok-put_if+in_ok-put_home w ↦ rw (w.out-is, w.any-is) (home_written _ _ _ h c.loop-home.home-index c.loop-home.invariant c.loop-home-test.true _ _ (sym c.has_home.ensures ∙ w.if-has_home.true) w.in_ok-put_if.ensures w.in_ok-put_home.ensures)
+      | then-has_home+in_ok-put_if+in_ok-put_home w ↦ rw (w.out-is, w.any-is)
+          (home_written _ _ _ h c.loop-home.home-index c.loop-home.invariant c.loop-home-test.true _ _ (sym c.has_home.ensures ∙ w.if-has_home.true) w.in_ok-put_if.ensures w.in_ok-put_home.ensures)
       | else-has_home w ↦ rw (w.out-is, w.any-is) (home_lacks _ _ _ h c.loop-home.home-index c.loop-home.invariant c.loop-home-test.true (sym c.has_home.ensures ∙ w.if-has_home.false))
     ]
 

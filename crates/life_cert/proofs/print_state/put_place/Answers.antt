@@ -10,8 +10,10 @@ returns-in_err-put_brigade_name g c =
 
 pub returns-in_err-put_all : goal.returns-in_err-put_all
 returns-in_err-put_all g c =
-    wrote_then _ _ _ (brigade_name c.args.brigade) ((c.args.sign.now ++ classes_text c.args.classes)) c.from_residual-in_err-put_all.result c.in_ok-put_brigade_name.ensures (wrote_front _ _ (c.args.sign.now) (classes_text c.args.classes) c.from_residual-in_err-put_all.result c.from_residual-in_err-put_all.ensures.0 c.in_err-put_all.ensures)
+    wrote_then _ _ _ (brigade_name c.args.brigade) ((c.args.sign.now ++ classes_text c.args.classes)) c.from_residual-in_err-put_all.result c.in_ok-put_brigade_name.ensures
+    (wrote_front _ _ (c.args.sign.now) (classes_text c.args.classes) c.from_residual-in_err-put_all.result c.from_residual-in_err-put_all.ensures.0 c.in_err-put_all.ensures)
 
 pub returns : goal.returns
 returns g c =
-    wrote_then _ _ _ (brigade_name c.args.brigade) ((c.args.sign.now ++ classes_text c.args.classes)) c.put_classes.result c.in_ok-put_brigade_name.ensures (wrote_then _ _ _ (c.args.sign.now) (classes_text c.args.classes) c.put_classes.result c.in_ok-put_all.ensures (c.put_classes.ensures))
+    wrote_then _ _ _ (brigade_name c.args.brigade) ((c.args.sign.now ++ classes_text c.args.classes)) c.put_classes.result c.in_ok-put_brigade_name.ensures
+    (wrote_then _ _ _ (c.args.sign.now) (classes_text c.args.classes) c.put_classes.result c.in_ok-put_all.ensures (c.put_classes.ensures))

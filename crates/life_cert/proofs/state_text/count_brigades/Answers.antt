@@ -8,18 +8,23 @@ pub loop-count-init : goal.loop-count-init
 loop-count-init c = counted_begins (codes " b") own_past 8 c.args.unread.now.bytes.now
 
 pub loop-count-preserved : goal.loop-count-preserved
-loop-count-preserved c = counted_more (codes " b") own_past 8 c.args.unread.now.bytes.now c.loop-count.unread.bytes.now _ c.loop-count.count c.loop-count.invariant c.loop-count-test.true (sym c.has.ensures ∙ c.if-not-has.false) c.read_brigade.ensures.rest
+loop-count-preserved c = counted_more (codes " b") own_past 8 c.args.unread.now.bytes.now c.loop-count.unread.bytes.now _ c.loop-count.count c.loop-count.invariant c.loop-count-test.true
+    (sym c.has.ensures ∙ c.if-not-has.false) c.read_brigade.ensures.rest
 
 pub returns-then-not-has-clause-value : goal.returns-then-not-has-clause-value
-returns-then-not-has-clause-value c = (counted_ends (codes " b") own_past 8 c.args.unread.now.bytes.now c.loop-count.unread.bytes.now c.loop-count.count c.loop-count.invariant (none_there (codes " b") own_past _ c.loop-count.unread.bytes.now (sym c.has.ensures ∙ c.if-not-has.true))).0
+returns-then-not-has-clause-value c = (counted_ends (codes " b") own_past 8 c.args.unread.now.bytes.now c.loop-count.unread.bytes.now c.loop-count.count c.loop-count.invariant
+    (none_there (codes " b") own_past _ c.loop-count.unread.bytes.now (sym c.has.ensures ∙ c.if-not-has.true))).0
 
 pub returns-then-not-has-clause-rest : goal.returns-then-not-has-clause-rest
-returns-then-not-has-clause-rest c = (counted_ends (codes " b") own_past 8 c.args.unread.now.bytes.now c.loop-count.unread.bytes.now c.loop-count.count c.loop-count.invariant (none_there (codes " b") own_past _ c.loop-count.unread.bytes.now (sym c.has.ensures ∙ c.if-not-has.true))).1
+returns-then-not-has-clause-rest c = (counted_ends (codes " b") own_past 8 c.args.unread.now.bytes.now c.loop-count.unread.bytes.now c.loop-count.count c.loop-count.invariant
+    (none_there (codes " b") own_past _ c.loop-count.unread.bytes.now (sym c.has.ensures ∙ c.if-not-has.true))).1
 
 pub returns-clause-value : goal.returns-clause-value
 returns-clause-value c =
-    let all = (counted_ends (codes " b") own_past 8 c.args.unread.now.bytes.now c.loop-count.unread.bytes.now c.loop-count.count c.loop-count.invariant (none_left (codes " b") own_past 8 c.loop-count.count c.loop-count.unread.bytes.now (omega arith))).0 in
+    let all = (counted_ends (codes " b") own_past 8 c.args.unread.now.bytes.now c.loop-count.unread.bytes.now c.loop-count.count c.loop-count.invariant
+    (none_left (codes " b") own_past 8 c.loop-count.count c.loop-count.unread.bytes.now (omega arith))).0 in
     omega (arith, all)
 
 pub returns-clause-rest : goal.returns-clause-rest
-returns-clause-rest c = (counted_ends (codes " b") own_past 8 c.args.unread.now.bytes.now c.loop-count.unread.bytes.now c.loop-count.count c.loop-count.invariant (none_left (codes " b") own_past 8 c.loop-count.count c.loop-count.unread.bytes.now (omega arith))).1
+returns-clause-rest c = (counted_ends (codes " b") own_past 8 c.args.unread.now.bytes.now c.loop-count.unread.bytes.now c.loop-count.count c.loop-count.invariant
+    (none_left (codes " b") own_past 8 c.loop-count.count c.loop-count.unread.bytes.now (omega arith))).1

@@ -10,7 +10,10 @@ pub loop-b-init : goal.loop-b-init
 loop-b-init c = folded_begins told_brigade (λ b. own_past) (seen c.args.state.now).brigade_count c.args.words.bytes.now (seen c.args.state.now)
 
 pub loop-b-preserved : goal.loop-b-preserved
-loop-b-preserved c = folded_more told_brigade (λ b. own_past) (seen c.args.state.now).brigade_count c.args.words.bytes.now (seen c.args.state.now) c.loop-b.unread.bytes.now (seen c.loop-b.state) c.loop-b.b _ _ c.loop-b.invariant (omega arith) (c.set_brigade.ensures ∙ ap (λ v. set_brigade c.loop-b.b v (seen c.loop-b.state)) c.read_brigade-brigade.ensures.value) c.read_brigade-brigade.ensures.rest
+loop-b-preserved c = folded_more told_brigade (λ b. own_past) (seen c.args.state.now).brigade_count c.args.words.bytes.now (seen c.args.state.now) c.loop-b.unread.bytes.now
+    (seen c.loop-b.state) c.loop-b.b _ _ c.loop-b.invariant (omega arith)
+    (c.set_brigade.ensures ∙ ap (λ v. set_brigade c.loop-b.b v (seen c.loop-b.state)) c.read_brigade-brigade.ensures.value) c.read_brigade-brigade.ensures.rest
 
 pub returns : goal.returns
-returns c = (folded_ends told_brigade (λ b. own_past) (seen c.args.state.now).brigade_count c.args.words.bytes.now (seen c.args.state.now) c.loop-b.unread.bytes.now (seen c.loop-b.state) c.loop-b.b c.loop-b.invariant (omega arith)).0
+returns c = (folded_ends told_brigade (λ b. own_past) (seen c.args.state.now).brigade_count c.args.words.bytes.now (seen c.args.state.now) c.loop-b.unread.bytes.now
+    (seen c.loop-b.state) c.loop-b.b c.loop-b.invariant (omega arith)).0

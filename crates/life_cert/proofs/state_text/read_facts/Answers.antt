@@ -9,7 +9,8 @@ pub loop-c-init : goal.loop-c-init
 loop-c-init c = folded_begins told_row row_past 9 c.args.words.bytes.now (seen c.args.state.now)
 
 pub loop-c-preserved : goal.loop-c-preserved
-loop-c-preserved c = folded_more told_row row_past 9 c.args.words.bytes.now (seen c.args.state.now) c.loop-c.unread.bytes.now (seen c.loop-c.state) c.loop-c.c _ _ c.loop-c.invariant (omega arith) (c.read_facts_of.ensures.value) c.read_facts_of.ensures.rest
+loop-c-preserved c = folded_more told_row row_past 9 c.args.words.bytes.now (seen c.args.state.now) c.loop-c.unread.bytes.now (seen c.loop-c.state) c.loop-c.c _ _ c.loop-c.invariant (omega arith)
+    (c.read_facts_of.ensures.value) c.read_facts_of.ensures.rest
 
 pub returns : goal.returns
 returns c = (folded_ends told_row row_past 9 c.args.words.bytes.now (seen c.args.state.now) c.loop-c.unread.bytes.now (seen c.loop-c.state) c.loop-c.c c.loop-c.invariant (omega arith)).0

@@ -20,7 +20,9 @@ loop-d-preserved c =
     folded_more (told_fact c.args.c) (fact_past c.args.c) 9 c.args.unread.now.bytes.now (seen c.args.state.now) t s c.loop-d.d _ _ c.loop-d.invariant (omega arith) now c.take_fact.ensures.rest
 
 pub returns-clause-value : goal.returns-clause-value
-returns-clause-value c = (folded_ends (told_fact c.args.c) (fact_past c.args.c) 9 c.args.unread.now.bytes.now (seen c.args.state.now) c.loop-d.unread.bytes.now (seen c.loop-d.state) c.loop-d.d c.loop-d.invariant (omega arith)).0
+returns-clause-value c = (folded_ends (told_fact c.args.c) (fact_past c.args.c) 9 c.args.unread.now.bytes.now (seen c.args.state.now) c.loop-d.unread.bytes.now
+    (seen c.loop-d.state) c.loop-d.d c.loop-d.invariant (omega arith)).0
 
 pub returns-clause-rest : goal.returns-clause-rest
-returns-clause-rest c = (folded_ends (told_fact c.args.c) (fact_past c.args.c) 9 c.args.unread.now.bytes.now (seen c.args.state.now) c.loop-d.unread.bytes.now (seen c.loop-d.state) c.loop-d.d c.loop-d.invariant (omega arith)).1
+returns-clause-rest c = (folded_ends (told_fact c.args.c) (fact_past c.args.c) 9 c.args.unread.now.bytes.now (seen c.args.state.now) c.loop-d.unread.bytes.now
+    (seen c.loop-d.state) c.loop-d.d c.loop-d.invariant (omega arith)).1

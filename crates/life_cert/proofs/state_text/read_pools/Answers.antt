@@ -10,7 +10,9 @@ pub loop-q-init : goal.loop-q-init
 loop-q-init c = folded_begins told_pool (λ q. pool_past) (seen c.args.state.now).pool_count c.args.words.bytes.now (seen c.args.state.now)
 
 pub loop-q-preserved : goal.loop-q-preserved
-loop-q-preserved c = folded_more told_pool (λ q. pool_past) (seen c.args.state.now).pool_count c.args.words.bytes.now (seen c.args.state.now) c.loop-q.unread.bytes.now (seen c.loop-q.state) c.loop-q.q _ _ c.loop-q.invariant (omega arith) (c.set_pool.ensures ∙ ap (λ v. set_pool c.loop-q.q v (seen c.loop-q.state)) c.read_pool-pool.ensures.value) c.read_pool-pool.ensures.rest
+loop-q-preserved c = folded_more told_pool (λ q. pool_past) (seen c.args.state.now).pool_count c.args.words.bytes.now (seen c.args.state.now) c.loop-q.unread.bytes.now (seen c.loop-q.state)
+    c.loop-q.q _ _ c.loop-q.invariant (omega arith) (c.set_pool.ensures ∙ ap (λ v. set_pool c.loop-q.q v (seen c.loop-q.state)) c.read_pool-pool.ensures.value) c.read_pool-pool.ensures.rest
 
 pub returns : goal.returns
-returns c = (folded_ends told_pool (λ q. pool_past) (seen c.args.state.now).pool_count c.args.words.bytes.now (seen c.args.state.now) c.loop-q.unread.bytes.now (seen c.loop-q.state) c.loop-q.q c.loop-q.invariant (omega arith)).0
+returns c = (folded_ends told_pool (λ q. pool_past) (seen c.args.state.now).pool_count c.args.words.bytes.now (seen c.args.state.now) c.loop-q.unread.bytes.now
+    (seen c.loop-q.state) c.loop-q.q c.loop-q.invariant (omega arith)).0

@@ -16,8 +16,10 @@ read_brigades-requires c =
 
 pub returns : goal.returns
 returns c = λ s formed is.
-    steps_read c.args.text.now c.read_sent-sent.new.unread.bytes.now c.count_pools-pool_count.new.unread.bytes.now c.count_brigades-brigade_count.new.unread.bytes.now c.read_in.new.unread.bytes.now c.read_cursors.new.unread.bytes.now _ _ _ _ _ _ _ _ _ _ _
-    c.read_sent-sent.ensures.value c.read_sent-sent.ensures.rest c.count_pools-pool_count.ensures.value c.count_pools-pool_count.ensures.rest c.count_brigades-brigade_count.ensures.value c.count_brigades-brigade_count.ensures.rest
+    steps_read c.args.text.now c.read_sent-sent.new.unread.bytes.now c.count_pools-pool_count.new.unread.bytes.now c.count_brigades-brigade_count.new.unread.bytes.now c.read_in.new.unread.bytes.now
+    c.read_cursors.new.unread.bytes.now _ _ _ _ _ _ _ _ _ _ _
+    c.read_sent-sent.ensures.value c.read_sent-sent.ensures.rest c.count_pools-pool_count.ensures.value c.count_pools-pool_count.ensures.rest c.count_brigades-brigade_count.ensures.value
+    c.count_brigades-brigade_count.ensures.rest
     c.read_in.ensures.value c.read_in.ensures.rest c.read_cursors.ensures.rest
     c.at_open-state.ensures c.set_sent.ensures c.read_pools.ensures c.read_brigades.ensures c.set_brigade.ensures c.read_cursors.ensures.value c.read_facts.ensures
     ∙ told_back s formed c.args.text.now is

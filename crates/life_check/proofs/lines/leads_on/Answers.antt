@@ -19,4 +19,5 @@ returns c = λ i here.
     let same : c.at.result ≡ i = some_is (sym c.at.ensures.value ∙ here) in
     let named = c.target.ensures ∙ ap (λ (j : Instr). unwrap_or (target j) 0) same in
     let jump = c.state-jump.ensures ∙ (ap (seen_cert s).at named ∙ sym (meant_head p s (unwrap_or (target i) 0) (target_head p c.args.pc i here c.requires.inside))) in
-    leads_is (meant p s) c.args.pc i (seen_edges c.args.edges.now) c.flows.result c.flows-2.result (seen_some c.args.next) (seen_some c.state-jump.result) c.flows.ensures c.flows-2.ensures c.requires.next jump
+    leads_is (meant p s) c.args.pc i (seen_edges c.args.edges.now) c.flows.result c.flows-2.result (seen_some c.args.next)
+    (seen_some c.state-jump.result) c.flows.ensures c.flows-2.ensures c.requires.next jump

@@ -38,4 +38,5 @@ returns-clause-value c =
     sym (all_below_holds (length c.args.cert.now.at.items) holds (λ k below. (c.loop-pc.invariant k (omega arith)).0))
 
 pub returns-clause-formed : goal.returns-clause-formed
-returns-clause-formed c = λ fit pc. ⊎_elim (λ (lt : pc < length c.args.cert.now.at.items). (c.loop-pc.invariant pc (omega arith)).1) (λ (le : length c.args.cert.now.at.items ≤ pc). past_sound c.args.cert.now pc le) (cases_lt pc (length c.args.cert.now.at.items))
+returns-clause-formed c = λ fit pc. ⊎_elim (λ (lt : pc < length c.args.cert.now.at.items). (c.loop-pc.invariant pc (omega arith)).1)
+    (λ (le : length c.args.cert.now.at.items ≤ pc). past_sound c.args.cert.now pc le) (cases_lt pc (length c.args.cert.now.at.items))

@@ -1,4 +1,5 @@
-use Rattle.model_laws.proofs.BrigadeLists.{brigade_splits_in_order, moves_keep_names, bucket_splits_in_order, split_keeps_bytes, parts_at_point, short_is_incomplete, partition_keeps_bytes, unsplit_is_unchanged, metadata_is_not_split, place_is_behind_front}
+use Rattle.model_laws.proofs.BrigadeLists.{brigade_splits_in_order, moves_keep_names, bucket_splits_in_order, split_keeps_bytes, parts_at_point, short_is_incomplete, partition_keeps_bytes}
+use Rattle.model_laws.proofs.BrigadeLists.{unsplit_is_unchanged, metadata_is_not_split, place_is_behind_front}
 use Rattle.model_laws.proofs.laws.brigades_are_cut_in_order.Goals as goal
 
 pub returns-clause-brigade_split : goal.returns-clause-brigade_split

@@ -15,7 +15,8 @@ pub returns-in_err-end_lines-clause-draft : goal.returns-in_err-end_lines-clause
 returns-in_err-end_lines-clause-draft c =
     let p = err_from_is_err_and c.from_residual-in_err-end_lines.result c.from_residual-in_err-end_lines.ensures.1 in
     let l = c.in_ok-last.ensures in
-    rw (p.1, p.2) (text_end_refused c.args.text.now c.args.long empty_draft c.new-draft.result c.take_lines.new.reader c.in_ok-last.last.number c.in_ok-last.last.start c.in_err-end_lines.field-0.0 c.new-draft.ensures l.last.0 l.last.1 l.taken c.in_err-end_lines.ensures)
+    rw (p.1, p.2) (text_end_refused c.args.text.now c.args.long empty_draft c.new-draft.result c.take_lines.new.reader c.in_ok-last.last.number c.in_ok-last.last.start c.in_err-end_lines.field-0.0
+    c.new-draft.ensures l.last.0 l.last.1 l.taken c.in_err-end_lines.ensures)
 
 pub returns-clause-draft : goal.returns-clause-draft
 returns-clause-draft c =

@@ -27,7 +27,8 @@ returns-in_err-resolve_handler-3 c =
     let seen1 = c.in_ok-resolve_handler.ensures.seen [] seen in
     let two = c.in_ok-resolve_handler-2.ensures.code c.args.draft.open.labels seen1 in
     let seen2 = c.in_ok-resolve_handler-2.ensures.seen c.args.draft.open.labels seen1 in
-    rw (p.1, p.2) (stop3 c.args.draft _ c.new-code.result c.new-code.ensures c.resolve_handler.new.code c.resolve_handler-2.new.code one two (c.in_err-resolve_handler-3.ensures.fault (c.args.draft.open.labels ++ c.args.draft.init.labels) seen2))
+    rw (p.1, p.2) (stop3 c.args.draft _ c.new-code.result c.new-code.ensures c.resolve_handler.new.code c.resolve_handler-2.new.code one two
+    (c.in_err-resolve_handler-3.ensures.fault (c.args.draft.open.labels ++ c.args.draft.init.labels) seen2))
 
 pub new-requires : goal.new-requires
 new-requires c =
@@ -37,7 +38,8 @@ new-requires c =
     let two = c.in_ok-resolve_handler-2.ensures.code c.args.draft.open.labels seen1 in
     let seen2 = c.in_ok-resolve_handler-2.ensures.seen c.args.draft.open.labels seen1 in
     let three = c.in_ok-resolve_handler-3.ensures.code (c.args.draft.open.labels ++ c.args.draft.init.labels) seen2 in
-    rw (c.len-init.ensures, c.len-main.ensures) (module_of c.args.draft c.new-code.result c.resolve_handler.new.code c.resolve_handler-2.new.code c.resolve_handler-3.new.code c.new-code.ensures c.requires one two three)
+    rw (c.len-init.ensures, c.len-main.ensures)
+    (module_of c.args.draft c.new-code.result c.resolve_handler.new.code c.resolve_handler-2.new.code c.resolve_handler-3.new.code c.new-code.ensures c.requires one two three)
 
 pub returns : goal.returns
 returns c =
@@ -47,4 +49,5 @@ returns c =
     let two = c.in_ok-resolve_handler-2.ensures.code c.args.draft.open.labels seen1 in
     let seen2 = c.in_ok-resolve_handler-2.ensures.seen c.args.draft.open.labels seen1 in
     let three = c.in_ok-resolve_handler-3.ensures.code (c.args.draft.open.labels ++ c.args.draft.init.labels) seen2 in
-    rw (c.new.ensures, c.len-init.ensures, c.len-main.ensures) (done c.args.draft c.new-code.result c.resolve_handler.new.code c.resolve_handler-2.new.code c.resolve_handler-3.new.code c.new-code.ensures one two three)
+    rw (c.new.ensures, c.len-init.ensures, c.len-main.ensures)
+    (done c.args.draft c.new-code.result c.resolve_handler.new.code c.resolve_handler-2.new.code c.resolve_handler-3.new.code c.new-code.ensures one two three)

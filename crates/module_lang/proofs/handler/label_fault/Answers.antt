@@ -37,7 +37,8 @@ loop-label-preserved c =
           let inv = c.loop-label.invariant.1 before h in
           let named = named_before c.loop-label.seen (before ++ take i ls) (get_or ls i d).name c.in_ok-insert.field-0 inv.0 c.in_ok-insert.ensures.added ∙ ap not c.if-not-branch.false in
           let on = fault_on (before ++ take i ls) ls c.args.count i d (omega arith) named c.if-count-label.false in
-          let more : before ++ take (i + 1) ls ≡ (before ++ take i ls) ++ get_or ls i d ∷ [] = ap (λ xs. before ++ xs) (take_more ls i d (omega arith)) ∙ sym (append_assoc before (take i ls) (get_or ls i d ∷ [])) in
+          let more : before ++ take (i + 1) ls ≡ (before ++ take i ls) ++ get_or ls i d ∷ [] =
+          ap (λ xs. before ++ xs) (take_more ls i d (omega arith)) ∙ sym (append_assoc before (take i ls) (get_or ls i d ∷ [])) in
           let seen = seen_more c.loop-label.seen c.insert.new.self (before ++ take i ls) (get_or ls i d) inv.0 c.in_ok-insert.ensures.updates in
           (subst (λ xs. IsSeen c.insert.new.self xs) (sym more) seen, ap (λ xs. label_fault xs c.args.count (drop (i + 1) ls)) more ∙ sym on ∙ inv.1),
     )

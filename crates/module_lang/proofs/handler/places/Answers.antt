@@ -13,4 +13,5 @@ pub loop-label-preserved : goal.loop-label-preserved
 loop-label-preserved c =
     let d : Label = record { line = 0; name = []; place = 0 } in
     let more = take_more c.args.labels.now c.loop-label.label-index d (omega arith) in
-    subst (λ ls. IsPlaces c.insert.new.self ls) (sym more) (places_more c.loop-label.places c.insert.new.self (take c.loop-label.label-index c.args.labels.now) (get_or c.args.labels.now c.loop-label.label-index d) c.loop-label.invariant c.in_ok-insert.ensures.updates)
+    subst (λ ls. IsPlaces c.insert.new.self ls) (sym more) (places_more c.loop-label.places c.insert.new.self (take c.loop-label.label-index c.args.labels.now)
+    (get_or c.args.labels.now c.loop-label.label-index d) c.loop-label.invariant c.in_ok-insert.ensures.updates)

@@ -1,4 +1,4 @@
-use Rattle.std.proofs.Common.{◌+◌, codes, drop, get_or, subst}
+use Rattle.std.proofs.Common.{◌+◌, ◌++◌, codes, drop, get_or, subst}
 use Rattle.module_code.specs.Args.{two_args}
 use Rattle.module_lang.specs.Shown.{shown_line}
 use Rattle.module_lang.specs.Texts.{joined, brigade_texts}
@@ -6,26 +6,24 @@ use Rattle.module_code.specs.declared.arg.Arg.TheVariants as arg
 use Rattle.module_code.specs.declared.instr.PoolRef.TheVariants as pool
 use Rattle.module_lang.proofs.ShownLaws.{brigades_more}
 use Rattle.byte_text.proofs.WritingLaws.{Leaves, leaves_fault, leaves_less}
+use Rattle.module_lang.proofs.print.put_brigades.Given.{Over}
 use Rattle.module_lang.proofs.print.put_brigades.Goals as goal
+use Rattle.module_lang.proofs.print.put_brigades.Goals.{After-put_line}
+
+-- the line that is written, and those behind it
+left : (g : Over) (c : After-put_line g) → Leaves (g.W.Write.contents c.args.out.now) (g.W.Write.contents c.loop-i.out)
+    (joined (brigade_texts 0 c.args.brigades.now))
+    (shown_line c.args.module.now.texts (codes "brigade") (two_args (arg.Brigade c.loop-i.i)
+    (arg.Place (get_or c.args.brigades.now c.loop-i.i pool.Conn))) ++ joined (brigade_texts (c.loop-i.i + 1) (drop (c.loop-i.i + 1) c.args.brigades.now)))
+left g c =
+    subst (Leaves (g.W.Write.contents c.args.out.now) (g.W.Write.contents c.loop-i.out) (joined (brigade_texts 0 c.args.brigades.now)))
+    (brigades_more c.args.module.now.texts c.args.brigades.now c.loop-i.i pool.Conn c.loop-i-test.true) c.loop-i.invariant
 
 pub returns-in_err-put_line : goal.returns-in_err-put_line
 returns-in_err-put_line g c =
-    let w = g.W.Write.contents in
-    let ps = c.args.brigades.now in
-    let i = c.loop-i.i in
-    let ts = c.args.module.now.texts in
-    let whole = joined (brigade_texts 0 ps) in
-    let line = shown_line ts (codes "brigade") (two_args (arg.Brigade i) (arg.Place (get_or ps i pool.Conn))) in
-    let left = subst (Leaves (w c.args.out.now) (w c.loop-i.out) whole) (brigades_more ts ps i pool.Conn c.loop-i-test.true) c.loop-i.invariant in
-    leaves_fault (w c.args.out.now) (w c.loop-i.out) (w c.put_line.new.out) whole line (joined (brigade_texts (i + 1) (drop (i + 1) ps))) c.in_err-put_line.field-0.0 c.from_residual.result c.from_residual.ensures.0 left (rw c.two-args.ensures at c.in_err-put_line.ensures)
+    leaves_fault _ _ _ _ _ _ c.in_err-put_line.field-0.0 _ c.from_residual.ensures.0 (left g (goal.at.returns-in_err-put_line g c).After-put_line)
+    (rw c.two-args.ensures at c.in_err-put_line.ensures)
 
 pub loop-i-preserved : goal.loop-i-preserved
-loop-i-preserved g c =
-    let w = g.W.Write.contents in
-    let ps = c.args.brigades.now in
-    let i = c.loop-i.i in
-    let ts = c.args.module.now.texts in
-    let whole = joined (brigade_texts 0 ps) in
-    let line = shown_line ts (codes "brigade") (two_args (arg.Brigade i) (arg.Place (get_or ps i pool.Conn))) in
-    let left = subst (Leaves (w c.args.out.now) (w c.loop-i.out) whole) (brigades_more ts ps i pool.Conn c.loop-i-test.true) c.loop-i.invariant in
-    leaves_less (w c.args.out.now) (w c.loop-i.out) (w c.put_line.new.out) whole line (joined (brigade_texts (i + 1) (drop (i + 1) ps))) left (rw c.two-args.ensures at c.in_ok-put_line.ensures)
+loop-i-preserved g c = leaves_less _ (g.W.Write.contents c.loop-i.out) _ _ _ _ (left g (goal.at.loop-i-preserved g c).After-put_line)
+    (rw c.two-args.ensures at c.in_ok-put_line.ensures)

@@ -6,4 +6,5 @@ pub returns : goal.returns
 returns g c =
     let w = g.W.Write.contents in
     let digits : c.as_bytes.result.now ≡ decimal c.args.constant = c.as_bytes.ensures.value ∙ c.format.ensures.text in
-    rw (append-nil (decimal c.args.constant)) (wrote_then (w c.args.out.now) (w c.put_all.new.out) (w c.put_all-2.new.out) (codes " ") (decimal c.args.constant) c.put_all-2.result c.in_ok-put_all.ensures (rw digits at c.put_all-2.ensures))
+    rw (append-nil (decimal c.args.constant)) (wrote_then (w c.args.out.now) (w c.put_all.new.out) (w c.put_all-2.new.out) (codes " ")
+    (decimal c.args.constant) c.put_all-2.result c.in_ok-put_all.ensures (rw digits at c.put_all-2.ensures))

@@ -11,7 +11,8 @@ returns-in_err-put_line g c =
     let line = shown_line c.args.module.now.texts c.args.word.now no_arg in
     let code = shown_code c.args.module.now.texts c.args.module.now.code c.args.range.start c.args.range.end in
     let whole = line ++ code in
-    leaves_fault (w c.args.out.now) (w c.args.out.now) (w c.put_line.new.out) whole line (code) c.in_err-put_line.field-0.0 c.from_residual.result c.from_residual.ensures.0 (leaves_all (w c.args.out.now) whole) (rw c.none.ensures at c.in_err-put_line.ensures)
+    leaves_fault (w c.args.out.now) (w c.args.out.now) (w c.put_line.new.out) whole line (code) c.in_err-put_line.field-0.0 c.from_residual.result c.from_residual.ensures.0
+    (leaves_all (w c.args.out.now) whole) (rw c.none.ensures at c.in_err-put_line.ensures)
 
 pub returns : goal.returns
 unfolding shown_handler

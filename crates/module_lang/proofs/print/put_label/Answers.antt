@@ -9,7 +9,8 @@ returns-in_err-put_name g c =
     let name = target_name c.args.number in
     let whole = 58 ∷ name ++ 10 ∷ [] in
     let one = leaves_less (w c.args.out.now) (w c.args.out.now) (w c.put_all.new.out) whole (58 ∷ []) (name ++ 10 ∷ []) (leaves_all (w c.args.out.now) whole) c.in_ok-put_all.ensures in
-    leaves_fault (w c.args.out.now) (w c.put_all.new.out) (w c.put_name.new.out) whole name (10 ∷ []) c.in_err-put_name.field-0.0 c.from_residual-in_err-put_name.result c.from_residual-in_err-put_name.ensures.0 one c.in_err-put_name.ensures
+    leaves_fault (w c.args.out.now) (w c.put_all.new.out) (w c.put_name.new.out) whole name
+    (10 ∷ []) c.in_err-put_name.field-0.0 c.from_residual-in_err-put_name.result c.from_residual-in_err-put_name.ensures.0 one c.in_err-put_name.ensures
 
 pub returns : goal.returns
 returns g c =

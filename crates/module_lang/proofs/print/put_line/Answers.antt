@@ -10,7 +10,8 @@ returns-in_err-put_args g c =
     let a = shown_args c.args.module.now.texts c.args.args in
     let whole = shown_line c.args.module.now.texts word c.args.args in
     let one = leaves_less (w c.args.out.now) (w c.args.out.now) (w c.put_all.new.out) whole word (a ++ 10 ∷ []) (leaves_all (w c.args.out.now) whole) c.in_ok-put_all.ensures in
-    leaves_fault (w c.args.out.now) (w c.put_all.new.out) (w c.put_args.new.out) whole a (10 ∷ []) c.in_err-put_args.field-0.0 c.from_residual-in_err-put_args.result c.from_residual-in_err-put_args.ensures.0 one c.in_err-put_args.ensures
+    leaves_fault (w c.args.out.now) (w c.put_all.new.out) (w c.put_args.new.out) whole a
+    (10 ∷ []) c.in_err-put_args.field-0.0 c.from_residual-in_err-put_args.result c.from_residual-in_err-put_args.ensures.0 one c.in_err-put_args.ensures
 
 pub returns : goal.returns
 returns g c =

@@ -15,5 +15,6 @@ returns g c =
     let w = g.W.Write.contents in
     let i = c.args.instr in
     let ts = c.args.module.now.texts in
-    let same : shown_line ts c.text.result.now c.parts-op.result.1 ≡ shown_step ts i = ap (λ z. shown_line ts z c.parts-op.result.1) c.text.ensures ∙ ap (λ (z : Op × Args). shown_line ts (op_text z.0) z.1) c.parts-op.ensures.value ∙ step_shown ts i in
+    let same : shown_line ts c.text.result.now c.parts-op.result.1 ≡ shown_step ts i =
+    ap (λ z. shown_line ts z c.parts-op.result.1) c.text.ensures ∙ ap (λ (z : Op × Args). shown_line ts (op_text z.0) z.1) c.parts-op.ensures.value ∙ step_shown ts i in
     wrote_same (w c.args.out.now) (w c.put_line.new.out) (shown_line ts c.text.result.now c.parts-op.result.1) (shown_step ts i) c.put_line.result same c.put_line.ensures

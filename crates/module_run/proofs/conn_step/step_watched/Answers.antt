@@ -9,7 +9,8 @@ use Rattle.module_run.proofs.OnlyAsked.{ends_asked, leaves_asked, left_asked, on
 use Rattle.module_run.proofs.conn_step.step_watched.Goals as goal
 
 pub next_instr-next-requires : goal.next_instr-next-requires
-next_instr-next-requires g c = (let p = c.requires.on_top in stands_at c.args.modules.now c.args.tree.now c.args.store.now (g.F.Files.device c.args.files.now) c.args.conn.now p.0 p.1.0 p.1.1.0 p.1.1.1)
+next_instr-next-requires g c =
+    (let p = c.requires.on_top in stands_at c.args.modules.now c.args.tree.now c.args.store.now (g.F.Files.device c.args.files.now) c.args.conn.now p.0 p.1.0 p.1.1.0 p.1.1.1)
 
 pub fault_of-requires : goal.fault_of-requires
 fault_of-requires g c =
@@ -61,7 +62,8 @@ returns-clause-steps g c v f rest before =
 
 pub returns-clause-leaves : goal.returns-clause-leaves
 returns-clause-leaves g c =
-    leaves_asked c.args.conn.now c.execute_next.new.conn c.args.tree.now c.fault_of.new.tree c.args.store.now c.fault_of.new.store c.execute_next.new.store c.fault_of.ensures.tree_asked c.fault_of.ensures.asked c.execute_next.ensures.leaves
+    leaves_asked c.args.conn.now c.execute_next.new.conn c.args.tree.now c.fault_of.new.tree c.args.store.now c.fault_of.new.store c.execute_next.new.store c.fault_of.ensures.tree_asked
+    c.fault_of.ensures.asked c.execute_next.ensures.leaves
 
 pub returns-clause-ended : goal.returns-clause-ended
 returns-clause-ended g c = ends_asked c.args.conn.now c.execute_next.new.conn c.args.store.now c.fault_of.new.store c.execute_next.new.store c.fault_of.ensures.asked c.execute_next.ensures.ended

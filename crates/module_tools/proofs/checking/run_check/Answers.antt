@@ -4,7 +4,8 @@ use Rattle.module_tools.proofs.checking.run_check.Goals as goal
 
 pub returns-clause-ok : goal.returns-clause-ok
 returns-clause-ok g c =
-    writes_second IsCheckOutput _ _ _ _ _ _ _ _ _ _ c.in_ok-text.ensures.taken c.in_ok-text.ensures.end c.as_slice.ensures.value c.in_ok-answer.ensures.ok c.write_answer.ensures.ended c.write_answer.ensures.text
+    writes_second IsCheckOutput _ _ _ _ _ _ _ _ _ _ c.in_ok-text.ensures.taken c.in_ok-text.ensures.end c.as_slice.ensures.value c.in_ok-answer.ensures.ok c.write_answer.ensures.ended
+    c.write_answer.ensures.text
 
 pub returns-clause-write : goal.returns-clause-write
 returns-clause-write g c = λ h.

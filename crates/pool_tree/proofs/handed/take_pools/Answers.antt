@@ -14,7 +14,8 @@ loop-name-preserved g c =
     let turned : reverse c.loop-name.names.items ≡ x ∷ names = last_first c.loop-name.names.items c.pop.new.self.items x c.in-Some.ensures.items in
     let once : IsOnce (x ∷ names) = subst IsOnce turned c.loop-name.invariant.once in
     let same = own_same (record_of c.loop-name.records) (record_of c.take_pool.new.records) x c.take_pool.ensures.rest names (once_head x names once) in
-    let whole : c.take_pool.new.ran.items ++ flat_map (own_of (record_of c.take_pool.new.records)) names ≡ c.loop-name.ran.items ++ flat_map (own_of (record_of c.loop-name.records)) (reverse c.loop-name.names.items)
+    let whole : c.take_pool.new.ran.items ++ flat_map (own_of (record_of c.take_pool.new.records)) names ≡ c.loop-name.ran.items ++ flat_map (own_of (record_of c.loop-name.records))
+    (reverse c.loop-name.names.items)
     = rw (turned, c.take_pool.ensures.items, same) (append_assoc c.loop-name.ran.items (own_of (record_of c.loop-name.records) x) (flat_map (own_of (record_of c.loop-name.records)) names)) in
     let lengths = simp length-append at (ap length whole) in
     record {

@@ -1,5 +1,10 @@
 -- `allocate` makes empty places of the new bytes, and keeps the right to free them. Assumes `Logic`.
-use Rattle.raw_block.proofs.Steps.{ℕ, ◌*◌, ◌<◌, ◌^◌, [], ◌∷◌, length, replicate, None, true, refl, ap, sym, subst, arith, w64, lit<, proved, Incl-trans, ftrue, flft, named, ty_array, inst_fn, Val, vint, vstruct, vcons, vnil, fact, tables, ◌⊑◌, Item, ‵, raw, ◌⊛◌, later, at_ret, ◌$◌, ◌∵◌, !, qed, move, keep, use1, use2, use3, split, join, await, fsplit, fjoin, flt_i, suffices, frame, done, whole, agg, stop, fld, lit, of_opd, bin, size_word, align_word, and_then, no_more, first, exec, returns, enter, alloc_all, pass_all, free_all, look_at, get, get_in, sets, sets_last, is, env, usize, RefOf, yes, layout, uint_vals, uint_Tells, RattleType, Ptr, block_ptr, ptr_val, ShrRef, shr_vals, shr_Tells, pure_i, plain, nothing, heard, says, Stays, stay_dropped, walk_of, ends_at, Goes-dropped, Good, word, word-Good, as_written, after, El, R, elτ, uncapped, Cr, Br, Rr, Mark, size_of, mark}
+use Rattle.raw_block.proofs.Steps.{ℕ, ◌*◌, ◌<◌, ◌^◌, [], ◌∷◌, length, replicate, None, true, refl, ap, sym, subst, arith, w64, lit<, proved, Incl-trans, ftrue, flft, named, ty_array, inst_fn, Val}
+use Rattle.raw_block.proofs.Steps.{vint, vstruct, vcons, vnil, fact, tables, ◌⊑◌, Item, ‵, raw, ◌⊛◌, later, at_ret, ◌$◌, ◌∵◌, !, qed, move, keep, use1, use2, use3, split, join, await, fsplit, fjoin}
+use Rattle.raw_block.proofs.Steps.{flt_i, suffices, frame, done, whole, agg, stop, fld, lit, of_opd, bin, size_word, align_word, and_then, no_more, first, exec, returns, enter, alloc_all, pass_all}
+use Rattle.raw_block.proofs.Steps.{free_all, look_at, get, get_in, sets, sets_last, is, env, usize, RefOf, yes, layout, uint_vals, uint_Tells, RattleType, Ptr, block_ptr, ptr_val, ShrRef, shr_vals}
+use Rattle.raw_block.proofs.Steps.{shr_Tells, pure_i, plain, nothing, heard, says, Stays, stay_dropped, walk_of, ends_at, Goes-dropped, Good, word, word-Good, as_written, after, El, R, elτ, uncapped}
+use Rattle.raw_block.proofs.Steps.{Cr, Br, Rr, Mark, size_of, mark}
 use prog.Memory.{align, capped}
 use prog.Capped.{capped_fits}
 use denote.Triple.Call.{calls_at}
@@ -54,10 +59,13 @@ allocate_spec 𝓤 𝓛 𝓜 𝓡 wired X W LX LW g₀ di dd met md =
     enter ! _ _ _ _ _ $ alloc_all ! (λ l. pass_all ! refl ((tt, tt), ((tt, record { fits = are.1.0.1 }), tt)) $
     let En = env fn.locals l in let both : Body = head (after 2 fn.body) in
     let Then : After 𝓤 𝓛.H = any_q (after_seq 𝓤 𝓛.H (Wp 𝓤 𝓛.H 𝓣.C 𝓣.Λ En (after 3 fn.body) (at_return 𝓤 𝓛.H En (V.post y))) (at_return 𝓤 𝓛.H En (V.post y))) in
-    sets ! (is ! (bin ! (get ! refl) (size_word !) (record { fits = subst (λ (m : ℕ). m < 2 ^ 64) (sym (uncapped n s far)) far })) (ap (vint w64) (uncapped n s far))) refl (tt, record { fits = far }) $
-    use2 𝓛 (raw (G.pre z)) (Takes-goes Z 𝓛 𝓜.mem 𝓡.returns κ qs.0 (rb, ro) self.now (Incl-trans bounds.0 within) (n * s) al (block_ty E n) (block_size E n far) (block_align E n) far (capped_fits (align (elτ E)))) $
+    sets ! (is ! (bin ! (get ! refl) (size_word !) (record { fits = subst (λ (m : ℕ). m < 2 ^ 64) (sym (uncapped n s far)) far })) (ap (vint w64) (uncapped n s far))) refl
+    (tt, record { fits = far }) $
+    use2 𝓛 (raw (G.pre z))
+    (Takes-goes Z 𝓛 𝓜.mem 𝓡.returns κ qs.0 (rb, ro) self.now (Incl-trans bounds.0 within) (n * s) al (block_ty E n) (block_size E n far) (block_align E n) far (capped_fits (align (elτ E)))) $
     calls_at ! (framed 𝓤 𝓛.H 𝓜 𝓣) G (met.allocate dd) z (and_then ! (get ! refl) (and_then ! (get ! refl) (and_then ! (align_word !) (no_more !)))) (λ v.
-    use1 𝓛 (later (raw (Answered Z 𝓛 𝓜.mem 𝓡.returns self.now (block_ty E n) v) ⊛ ‵ (flft κ qs.0))) (Takes-gives Z 𝓛 𝓜.mem 𝓡.returns κ qs.0 (rb, ro) self.now (n * s) al (block_ty E n) v) $ await ! tt $ split ! $
+    use1 𝓛 (later (raw (Answered Z 𝓛 𝓜.mem 𝓡.returns self.now (block_ty E n) v) ⊛ ‵ (flft κ qs.0)))
+    (Takes-gives Z 𝓛 𝓜.mem 𝓡.returns κ qs.0 (rb, ro) self.now (n * s) al (block_ty E n) v) $ await ! tt $ split ! $
     answers Z ! 𝓜.mem 𝓡.returns self.now (block_ty E n) v
     (λ b o e.
     let p : Ptr = block_ptr b o in let base : (Br E).Denot = record { ptr = p } in

@@ -1,5 +1,10 @@
 -- `deallocate` makes bytes of the empty places, and hands them back with the right to free. Assumes `Logic`.
-use Rattle.raw_block.proofs.Steps.{◌≡◌, ℕ, ◌*◌, ◌<◌, ◌^◌, List, [], ◌∷◌, length, replicate, Option, None, refl, ap, sym, subst, ◌∙◌, arith, w64, proved, id⊢, Incl-trans, ftrue, flft, froom, named, ty_array, ty_unit, inst_fn, Val, vint, vunit, has_ty, WT, T, fact, tables, ◌⊑◌, Item, ‵, raw, ◌⊛◌, given, later, at_ret, ◌$◌, ◌∵◌, !, qed, move, keep, use1, split, join, group, learn, await, rewrite, fsplit, fjoin, feq_i, flt_l, suffices, done, whole, sub, stop, fld, unit_lit, of_opd, bin, size_word, align_word, and_then, no_more, first, blocks, exec, returns, enter, alloc_all, pass_all, free_all, look_at, get, get_in, sets, is, env, usize, RefOf, yes, no, uint_vals, uint_Tells, Ptr, ptr_val, in_a_block, ShrRef, shr_vals, shr_Tells, plain, nothing, heard, Stays, stay_dropped, walk_of, ends_at, Goes-dropped, word-Good, as_raw, after, El, R, el_x, elτ, uncapped, Cr, Br, Rr, size_of, base_vals, base_tells, right_tells, cells_tell, mark}
+use Rattle.raw_block.proofs.Steps.{◌≡◌, ℕ, ◌*◌, ◌<◌, ◌^◌, List, [], ◌∷◌, length, replicate, Option, None, refl, ap, sym, subst, ◌∙◌, arith, w64, proved, id⊢, Incl-trans, ftrue, flft, froom, named}
+use Rattle.raw_block.proofs.Steps.{ty_array, ty_unit, inst_fn, Val, vint, vunit, has_ty, WT, T, fact, tables, ◌⊑◌, Item, ‵, raw, ◌⊛◌, given, later, at_ret, ◌$◌, ◌∵◌, !, qed, move, keep, use1, split}
+use Rattle.raw_block.proofs.Steps.{join, group, learn, await, rewrite, fsplit, fjoin, feq_i, flt_l, suffices, done, whole, sub, stop, fld, unit_lit, of_opd, bin, size_word, align_word, and_then}
+use Rattle.raw_block.proofs.Steps.{no_more, first, blocks, exec, returns, enter, alloc_all, pass_all, free_all, look_at, get, get_in, sets, is, env, usize, RefOf, yes, no, uint_vals, uint_Tells, Ptr}
+use Rattle.raw_block.proofs.Steps.{ptr_val, in_a_block, ShrRef, shr_vals, shr_Tells, plain, nothing, heard, Stays, stay_dropped, walk_of, ends_at, Goes-dropped, word-Good, as_raw, after, El, R, el_x}
+use Rattle.raw_block.proofs.Steps.{elτ, uncapped, Cr, Br, Rr, size_of, base_vals, base_tells, right_tells, cells_tell, mark}
 use prog.Memory.{align, capped}
 use prog.Capped.{capped_fits}
 use denote.Triple.Call.{calls_at_last}
@@ -54,8 +59,10 @@ deallocate_spec 𝓤 𝓛 𝓜 𝓡 wired X W LX LW g₀ di dd met md =
     rewrite ! 1 (λ (r : W.Denot × Ptr × ℕ). ‵ (right_owned (R E) (token Z r.0) r.1 r.2)) (λ i. (asked.4 i, (asked.2 ∙ e) i, asked.3 i)) refl $
     use1 𝓛 (‵ (froom (ty_array (elτ E) n) b o)) (to_room E 𝓛 b n o) $ as_raw ! (ty_array (elτ E) n) b o $ first ! $ blocks ! $
     sets ! (is ! (of_opd ! (get_in ! (fld ! refl (stop !)) (sub ! 0 refl (whole !)))) (ap ptr_val e)) refl (tt, tt) $
-    sets ! (is ! (bin ! (get ! refl) (size_word !) (record { fits = subst (λ (m : ℕ). m < 2 ^ 64) (sym (uncapped n s far)) far })) (ap (vint w64) (uncapped n s far))) refl (tt, record { fits = far }) $
-    group ! 4 $ use1 𝓛 (raw (G.pre z)) (Gives-goes Z 𝓛 𝓜.mem 𝓡.returns κ qs.0 (rb, ro) self.now (Incl-trans bounds.0 within) b o (n * s) al (block_ty E n) (block_size E n far) (block_align E n) far (capped_fits (align (elτ E)))) $
+    sets ! (is ! (bin ! (get ! refl) (size_word !) (record { fits = subst (λ (m : ℕ). m < 2 ^ 64) (sym (uncapped n s far)) far })) (ap (vint w64) (uncapped n s far))) refl
+    (tt, record { fits = far }) $
+    group ! 4 $ use1 𝓛 (raw (G.pre z)) (Gives-goes Z 𝓛 𝓜.mem 𝓡.returns κ qs.0 (rb, ro) self.now (Incl-trans bounds.0 within) b o (n * s) al (block_ty E n) (block_size E n far) (block_align E n) far
+    (capped_fits (align (elτ E)))) $
     calls_at_last ! (framed 𝓤 𝓛.H 𝓜 𝓣) G (met.deallocate dd) z (and_then ! (get ! refl) (and_then ! (get ! refl) (and_then ! (get ! refl) (and_then ! (align_word !) (no_more !))))) (λ v.
     use1 𝓛 (later (given (v ≡ vunit) (‵ (flft κ qs.0)))) (Gives-Gives Z 𝓛 𝓜.mem 𝓡.returns κ qs.0 (rb, ro) self.now b o (n * s) al (block_ty E n) v) $ await ! tt $ learn ! (λ is_unit.
     lands_last ! refl (subst (λ (u : Val). T (has_ty ty_unit u) × WT u) (sym is_unit) (tt, tt)) $ exec ! 𝓣.C 𝓣.Λ (env fn.locals l) (after 1 fn.body) (at_ret _ (V.post y)) $

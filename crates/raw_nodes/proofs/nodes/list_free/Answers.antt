@@ -18,7 +18,8 @@ loop-k-preserved g c =
     let e = c.write.ensures in
     record {
       listed = listed_more (at l.block) (at t) l.k l.first l.count _ e.at i.listed refl refl;
-      used = λ j. used_new (at l.block) (at t) l.k _ e.at j ∙ upd_same (λ i. used (at l.block i)) l.k None (ap used (past_none (at l.block) l.first l.count l.k l.k i.listed (omega arith))) j ∙ i.used j;
+      used = λ j. used_new (at l.block) (at t) l.k _ e.at j ∙ upd_same (λ i. used (at l.block i)) l.k None (ap used (past_none (at l.block) l.first l.count l.k l.k i.listed (omega arith))) j
+          ∙ i.used j;
       len = e.len ∙ i.len;
       within = omega (arith, e.len, c.loop-k-test.true, c.len.ensures.value);
       count = omega (arith, i.count);

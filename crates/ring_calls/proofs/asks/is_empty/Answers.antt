@@ -1,13 +1,9 @@
 -- The first bucket tells whether there is one.
 use Rattle.brigade_ops.specs.Store.{lists, next_name}
-use Rattle.ring_calls.specs.Slots.{slot_at}
 use Rattle.ring_calls.proofs.Asked.{empty_live}
-use Rattle.ring_calls.proofs.Slots.{made_in}
 use Rattle.ring_calls.proofs.asks.is_empty.Goals as goal
-
-pub brigade-requires-clause-made : goal.brigade-requires-clause-made
-brigade-requires-clause-made g c = made_in (lists c.args.store.now) (slot_at c.args.instance.now c.args.b) c.requires.live
 
 pub returns : goal.returns
 returns g c =
-    λ around call. empty_live (lists c.args.store.now) (next_name c.args.store.now) around c.args.instance.now call c.args.b c.brigade.result c.start.result c.is_none.result (c.brigade.ensures.live (lists c.args.store.now) c.requires.live) c.start.ensures.first c.is_none.ensures
+    λ around call. empty_live (lists c.args.store.now) (next_name c.args.store.now) around c.args.instance.now call c.args.b c.brigade.result c.start.result c.is_none.result
+    (c.brigade.ensures.live (lists c.args.store.now) c.requires.live) c.start.ensures.first c.is_none.ensures

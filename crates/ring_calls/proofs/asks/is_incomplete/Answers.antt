@@ -4,13 +4,8 @@ use Rattle.run_model.specs.BrigadeLists.{is_short}
 use Rattle.run_model.specs.BucketSteps.{items_at}
 use Rattle.brigade_ops.specs.Store.{lists, next_name}
 use Rattle.ring_calls.specs.Seen.{seen_over}
-use Rattle.ring_calls.specs.Slots.{slot_at}
 use Rattle.ring_calls.proofs.Asked.{short_live}
-use Rattle.ring_calls.proofs.Slots.{made_in}
 use Rattle.ring_calls.proofs.asks.is_incomplete.Goals as goal
-
-pub brigade-requires-clause-made : goal.brigade-requires-clause-made
-brigade-requires-clause-made g c = made_in (lists c.args.store.now) (slot_at c.args.instance.now c.args.b) c.requires.live
 
 pub returns : goal.returns
 returns g c =

@@ -29,5 +29,6 @@ returns-in-Null-matches g c =
 pub returns-in_default-matches : goal.returns-in_default-matches
 returns-in_default-matches g c =
     λ around call.
-    null_brigade (lists c.args.store.now) (next_name c.args.store.now) around c.args.instance.now call c.in-Brigade.b (slot.Made c.in_default-matches.field-0 c.in_default-matches.field-1 c.in_default-matches.field-2) (sym c.slot.ensures ∙ c.in_default-matches.is)
+    null_brigade (lists c.args.store.now) (next_name c.args.store.now) around c.args.instance.now call c.in-Brigade.b
+    (slot.Made c.in_default-matches.field-0 c.in_default-matches.field-1 c.in_default-matches.field-2) (sym c.slot.ensures ∙ c.in_default-matches.is)
     ∙ ap (is_null (seen_over (lists c.args.store.now) (next_name c.args.store.now) around c.args.instance.now call)) (sym c.in-Brigade.is)

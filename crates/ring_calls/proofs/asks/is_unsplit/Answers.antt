@@ -6,11 +6,8 @@ use Rattle.run_model.specs.Cursors.{Place}
 use Rattle.run_model.specs.Steps.{value_of}
 use Rattle.brigade_ops.specs.Store.{lists, next_name}
 use Rattle.ring_calls.specs.Seen.{seen_over}
-use Rattle.ring_calls.proofs.Standing.{on_bucket, within_seen}
+use Rattle.ring_calls.proofs.Standing.{within_seen}
 use Rattle.ring_calls.proofs.asks.is_unsplit.Goals as goal
-
-pub view_at-requires-clause-stands : goal.view_at-requires-clause-stands
-view_at-requires-clause-stands g c = on_bucket c.args.store.now c.args.instance.now c.args.call.now c.args.c c.requires.held c.requires.stands
 
 pub returns : goal.returns
 returns g c =
@@ -19,4 +16,5 @@ returns g c =
     let v = c.view_at.ensures around in
     let w = within_seen c.args.store.now c.args.instance.now c.args.call.now c.args.c c.requires.held c.requires.stands around v.0 v.1.0 in
     c.is_refused.ensures v.0 v.1.1 v.1.2
-    ∙ (ap (λ (n : ℕ). is_some (split_refusal n v.0)) (c.value_of.ensures (lists c.args.store.now) (next_name c.args.store.now) around c.args.call.now) ∙ ap (λ (s : Place). is_unsplit (value_of r c.args.x) s) (sym w.1))
+    ∙ (ap (λ (n : ℕ). is_some (split_refusal n v.0)) (c.value_of.ensures (lists c.args.store.now) (next_name c.args.store.now) around c.args.call.now)
+    ∙ ap (λ (s : Place). is_unsplit (value_of r c.args.x) s) (sym w.1))

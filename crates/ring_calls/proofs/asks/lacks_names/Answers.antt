@@ -1,29 +1,43 @@
 -- The names of the store are spent, or those of the pools.
-use Rattle.std.proofs.Common.{ap, ◌∙◌}
-use Rattle.run_model.specs.Steps.{is_spent}
+use Rattle.std.proofs.Common.{◌≡◌, ap, ◌∙◌}
+use Rattle.run_model.specs.Steps.{is_spent, names_for, names_of, pool_names_for}
 use Rattle.pool_tree.specs.Tree.{map_of}
 use Rattle.brigade_ops.specs.Store.{lists, next_name}
+use Rattle.ring_calls.specs.Around.{Around}
 use Rattle.ring_calls.specs.Outside.{with_outside}
+use Rattle.ring_calls.specs.Seen.{seen_over}
 use Rattle.ring_calls.proofs.Asked.{store_spent, pools_spent}
+use Rattle.ring_calls.proofs.Needed.{faultless_by, fits_by}
 use Rattle.ring_calls.proofs.asks.lacks_names.Goals as goal
+use Rattle.ring_calls.proofs.asks.lacks_names.Goals.{After-is_spent}
+
+of_store : (g : _) (c : After-is_spent g) (around : Around)
+    → c.is_spent.result ≡ is_spent (next_name c.args.store.now)
+    (names_of (seen_over (lists c.args.store.now) (next_name c.args.store.now) (with_outside c.args.outside.now around) c.args.instance.now c.args.call.now) c.args.instr)
+of_store g c around =
+    let k = next_name c.args.store.now in
+    let over = with_outside c.args.outside.now around in
+    c.is_spent.ensures
+    ∙ (ap (λ n. is_spent n c.names-names.result) c.next_name.ensures
+    ∙ ap (is_spent k) (c.names-names.ensures over ∙ ap (names_for (seen_over (lists c.args.store.now) k over c.args.instance.now c.args.call.now)) c.effect_of-effect.ensures))
+
+pub names-names-requires-clause-fit : goal.names-names-requires-clause-fit
+names-names-requires-clause-fit g c = fits_by c.args.code.now c.args.instr c.effect_of-effect.result c.effect_of-effect.ensures c.requires.fit
+
+pub names-names-requires-clause-faultless : goal.names-names-requires-clause-faultless
+names-names-requires-clause-faultless g c =
+    let around = c.requires.faultless.0 in
+    (around, faultless_by c.args.code.now c.args.store.now around c.args.instance.now c.args.call.now c.args.instr c.effect_of-effect.result c.effect_of-effect.ensures c.requires.faultless.1)
 
 pub returns-then-is_spent : goal.returns-then-is_spent
-returns-then-is_spent g c =
-    λ around.
-    let s = c.args.store.now in
-    let k = next_name s in
-    let over = with_outside c.args.outside.now around in
-    store_spent (lists s) k over c.args.instance.now c.args.call.now c.args.instr c.is_spent.result
-    (c.is_spent.ensures ∙ (ap (λ n. is_spent n c.names-names.result) c.next_name.ensures ∙ ap (is_spent k) (c.names-names.ensures over)))
-    c.if-is_spent.true
+returns-then-is_spent g c around =
+    store_spent (lists c.args.store.now) (next_name c.args.store.now) (with_outside c.args.outside.now around) c.args.instance.now c.args.call.now c.args.instr c.is_spent.result
+    (of_store g (goal.at.returns-then-is_spent g c).After-is_spent around) c.if-is_spent.true
 
 pub returns-else-is_spent : goal.returns-else-is_spent
-returns-else-is_spent g c =
-    λ around.
-    let s = c.args.store.now in
-    let k = next_name s in
-    let over = with_outside c.args.outside.now around in
-    pools_spent (lists s) k over c.args.instance.now c.args.call.now c.args.instr c.is_spent.result c.is_spent-else-is_spent.result
-    (c.is_spent.ensures ∙ (ap (λ n. is_spent n c.names-names.result) c.next_name.ensures ∙ ap (is_spent k) (c.names-names.ensures over)))
-    c.if-is_spent.false
-    (c.is_spent-else-is_spent.ensures ∙ (ap (λ n. is_spent n c.pool_names.result) c.next_name-else-is_spent.ensures ∙ ap (is_spent (map_of c.args.outside.now.tree.now).next) c.pool_names.ensures))
+returns-else-is_spent g c around =
+    pools_spent (lists c.args.store.now) (next_name c.args.store.now)
+    (with_outside c.args.outside.now around) c.args.instance.now c.args.call.now c.args.instr c.is_spent.result c.is_spent-else-is_spent.result
+    (of_store g (goal.at.returns-else-is_spent g c).After-is_spent around) c.if-is_spent.false
+    (c.is_spent-else-is_spent.ensures ∙ (ap (λ n. is_spent n c.pool_names.result) c.next_name-else-is_spent.ensures
+    ∙ ap (is_spent (map_of c.args.outside.now.tree.now).next) (c.pool_names.ensures ∙ ap pool_names_for c.effect_of-effect.ensures)))

@@ -11,4 +11,5 @@ pub returns : goal.returns
 returns g c =
     λ around.
     let v = c.view_at.ensures around in
-    c.len.ensures ∙ ap length_of (sym (content_of_bucket (spot (seen_over (lists c.args.store.now) (next_name c.args.store.now) around c.args.instance.now c.args.call.now) c.args.c) v.0 v.1.0 ∙ v.1.2))
+    c.len.ensures ∙ ap length_of
+    (sym (content_of_bucket (spot (seen_over (lists c.args.store.now) (next_name c.args.store.now) around c.args.instance.now c.args.call.now) c.args.c) v.0 v.1.0 ∙ v.1.2))

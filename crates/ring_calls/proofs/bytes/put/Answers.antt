@@ -10,13 +10,16 @@ pub returns-then-has_no_room-clause-ok : goal.returns-then-has_no_room-clause-ok
 returns-then-has_no_room-clause-ok c =
     λ rings next around.
     not_put c.args.x (seen_over rings next around c.args.instance.now c.args.call.now)
-    (sym (full_is rings next around c.args.instance.now c.args.call.now c.args.x c.value_of-number.result c.len.result c.has_no_room.result c.has_no_room.ensures (c.value_of-number.ensures rings next around c.args.call.now) c.len.ensures) ∙ c.if-has_no_room.true)
+    (sym (full_is rings next around c.args.instance.now c.args.call.now c.args.x c.value_of-number.result c.len.result c.has_no_room.result c.has_no_room.ensures
+    (c.value_of-number.ensures rings next around c.args.call.now) c.len.ensures) ∙ c.if-has_no_room.true)
 
 pub returns-clause-ok : goal.returns-clause-ok
 returns-clause-ok c =
     on_ok_weaker c.buffer_byte.result
-    (λ out rings next around. put_is c.args.x (seen_over rings next around c.args.instance.now c.args.call.now) (seen_over rings next around c.args.instance.now c.buffer_byte.new.self) c.value_of-number.result
-    (sym (full_is rings next around c.args.instance.now c.args.call.now c.args.x c.value_of-number.result c.len.result c.has_no_room.result c.has_no_room.ensures (c.value_of-number.ensures rings next around c.args.call.now) c.len.ensures) ∙ c.if-has_no_room.false)
+    (λ out rings next around. put_is c.args.x (seen_over rings next around c.args.instance.now c.args.call.now)
+    (seen_over rings next around c.args.instance.now c.buffer_byte.new.self) c.value_of-number.result
+    (sym (full_is rings next around c.args.instance.now c.args.call.now c.args.x c.value_of-number.result c.len.result c.has_no_room.result c.has_no_room.ensures
+    (c.value_of-number.ensures rings next around c.args.call.now) c.len.ensures) ∙ c.if-has_no_room.false)
     (c.value_of-number.ensures rings next around c.args.call.now) (out rings next around c.args.instance.now))
     c.buffer_byte.ensures.ok
 
@@ -25,4 +28,5 @@ returns-clause-held c = λ at rings pools next. held_cursors at rings pools next
 
 pub returns-clause-sure : goal.returns-clause-sure
 returns-clause-sure c rings next around full =
-    absurd (let no = sym (full_is rings next around c.args.instance.now c.args.call.now c.args.x c.value_of-number.result c.len.result c.has_no_room.result c.has_no_room.ensures (c.value_of-number.ensures rings next around c.args.call.now) c.len.ensures) ∙ c.if-has_no_room.false in cc)
+    absurd (let no = sym (full_is rings next around c.args.instance.now c.args.call.now c.args.x c.value_of-number.result c.len.result c.has_no_room.result c.has_no_room.ensures
+    (c.value_of-number.ensures rings next around c.args.call.now) c.len.ensures) ∙ c.if-has_no_room.false in cc)

@@ -6,7 +6,8 @@ use Rattle.stored_rings.specs.declared.view.ContentView.{ContentView}
 use Rattle.stored_rings.specs.Views.{content_of}
 use Rattle.ring_passes.specs.Delivery.{ContentAdded}
 use Rattle.ring_passes.proofs.Delivering.{memory_taken, nothing_taken}
-use Rattle.ring_passes.proofs.WellRead.{none_went, told_err}
+use Rattle.ring_calls.proofs.Quiet.{told_err}
+use Rattle.ring_passes.proofs.WellRead.{none_went}
 use Rattle.ring_passes.proofs.output.add.Goals as goal
 
 pub returns-in_err-extend-in-Bytes-clause-read : goal.returns-in_err-extend-in-Bytes-clause-read

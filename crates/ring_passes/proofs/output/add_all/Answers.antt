@@ -1,5 +1,5 @@
 -- One bucket after another.
-use Rattle.std.proofs.Common.{◌≡◌, true, false, ◌∷◌, ◌++◌, List, ℕ, length, take, drop, refl, sym, ap, subst, ◌∙◌, Some, [], rules}
+use Rattle.std.proofs.Common.{◌≡◌, true, false, ◌++◌, List, ℕ, length, take, drop, refl, sym, ap, subst, ◌∙◌, Some, [], rules}
 use Rattle.std.proofs.Math.Seq.{drop-append_seam, drop-length, take-append_seam}
 use Rattle.std.proofs.lemmas.List.{append-nil}
 use Rattle.bucket_kinds.specs.Device.{SomeWentWell}
@@ -12,10 +12,14 @@ use Rattle.stored_rings.specs.Views.{bucket_of}
 use Rattle.stored_rings.proofs.Walks.{told_some}
 use Rattle.ring_passes.proofs.Buffers.{behind, both_parts}
 use Rattle.ring_passes.proofs.Delivering.{ItemsSoFar, items_none, items_end, items_eos, items_failed, items_more, items_left, place_end as none_left}
-use Rattle.ring_calls.proofs.Quiet.{quiet_more}
-use Rattle.ring_calls.proofs.Walked.{head_here, shorter}
-use Rattle.ring_passes.proofs.WellRead.{none_went, more_went, open_still, told_err}
+use Rattle.ring_calls.proofs.Quiet.{told_err, quiet_more}
+use Rattle.ring_calls.proofs.Walked.{WalkAt, head_here, inside_on, shorter}
+use Rattle.ring_passes.proofs.WellRead.{none_went, more_went, open_still}
 use Rattle.ring_passes.proofs.output.add_all.Goals as goal
+use Rattle.ring_passes.proofs.output.add_all.Goals.{After-payload-bucket}
+
+at : (g : _) (c : After-payload-bucket g) → WalkAt c.args.store.now c.args.b c.loop-place.place c.in-Some.id (bucket_of c.payload-bucket.result)
+at g c = record { at = c.in-Some.is; inside = c.loop-place.invariant.inside c.in-Some.id c.in-Some.is; here = c.payload-bucket.ensures }
 
 pub loop-place-init : goal.loop-place-init
 loop-place-init g c =
@@ -33,35 +37,25 @@ loop-place-init g c =
 pub returns-then-is_eos-clause-added : goal.returns-then-is_eos-clause-added
 returns-then-is_eos-clause-added g c =
     let l = c.loop-place in
-    let s = c.args.store.now in
     let d = g.F.Files.device c.args.files.now in
-    let xs = list_at (lists s) c.args.b in
+    let xs = list_at (lists c.args.store.now) c.args.b in
     let id = c.in-Some.id in
-    let x = bucket_of c.payload-bucket.result in
-    let ys : Items = drop 1 (rest id xs) in
-    let in_b = l.invariant.inside id c.in-Some.is in
-    let head : from_place l.place xs ≡ (id, x) ∷ ys = ap (λ p. from_place p xs) c.in-Some.is ∙ head_here s id c.args.b x in_b c.payload-bucket.ensures in
-    let eos : is_eos_kind x.kind ≡ true = sym c.is_eos.ensures ∙ c.if-is_eos.true in
+    let w = at g (goal.at.returns-then-is_eos-clause-added g c).After-payload-bucket in
     let front = drop (length c.args.out.now) l.out in
     record {
       added = front;
       grown = both_parts c.args.out.now l.out l.invariant.front;
-      taken_so = items_eos d xs (g.F.Files.device l.files) (from_place l.place xs) id x ys front l.invariant.read head eos;
+      taken_so = items_eos d xs (g.F.Files.device l.files) (from_place l.place xs) id (bucket_of c.payload-bucket.result) (drop 1 (rest id xs)) front l.invariant.read (head_here w)
+          (sym c.is_eos.ensures ∙ c.if-is_eos.true);
     }
 
 pub returns-then-not-branch-clause-added : goal.returns-then-not-branch-clause-added
 returns-then-not-branch-clause-added g c =
     let l = c.loop-place in
-    let s = c.args.store.now in
     let d = g.F.Files.device c.args.files.now in
-    let xs = list_at (lists s) c.args.b in
+    let xs = list_at (lists c.args.store.now) c.args.b in
     let id = c.in-Some.id in
-    let x = bucket_of c.payload-bucket.result in
-    let ys : Items = drop 1 (rest id xs) in
-    let in_b = l.invariant.inside id c.in-Some.is in
-    let head : from_place l.place xs ≡ (id, x) ∷ ys = ap (λ p. from_place p xs) c.in-Some.is ∙ head_here s id c.args.b x in_b c.payload-bucket.ensures in
-    let plain : is_eos_kind x.kind ≡ false = sym c.is_eos.ensures ∙ c.if-is_eos.false in
-    let e = g.F.Files.device c.add.new.files in
+    let w = at g (goal.at.returns-then-not-branch-clause-added g c).After-payload-bucket in
     let whole = c.in_ok-add.field-0 in
     let took = c.in_ok-add.ensures.added in
     let front = drop (length c.args.out.now) l.out in
@@ -69,49 +63,43 @@ returns-then-not-branch-clause-added g c =
     record {
       added = front ++ took.added;
       grown = behind c.args.out.now l.out took.added c.add.new.out l.invariant.front took.grown;
-      taken_so = items_failed d xs (g.F.Files.device l.files) (from_place l.place xs) id x ys front l.invariant.read head e whole took.added plain took.taken_so failed;
+      taken_so = items_failed d xs (g.F.Files.device l.files) (from_place l.place xs) id (bucket_of c.payload-bucket.result) (drop 1 (rest id xs)) front l.invariant.read (head_here w)
+          (g.F.Files.device c.add.new.files) whole took.added (sym c.is_eos.ensures ∙ c.if-is_eos.false) took.taken_so failed;
     }
 
 pub loop-place-preserved : goal.loop-place-preserved
 loop-place-preserved g c =
     let l = c.loop-place in
-    let s = c.args.store.now in
     let d = g.F.Files.device c.args.files.now in
-    let xs = list_at (lists s) c.args.b in
+    let e = g.F.Files.device c.add.new.files in
+    let xs = list_at (lists c.args.store.now) c.args.b in
     let id = c.in-Some.id in
     let x = bucket_of c.payload-bucket.result in
     let ys : Items = drop 1 (rest id xs) in
-    let in_b = l.invariant.inside id c.in-Some.is in
-    let head : from_place l.place xs ≡ (id, x) ∷ ys = ap (λ p. from_place p xs) c.in-Some.is ∙ head_here s id c.args.b x in_b c.payload-bucket.ensures in
+    let w = at g (goal.at.loop-place-preserved g c).After-payload-bucket in
     let plain : is_eos_kind x.kind ≡ false = sym c.is_eos.ensures ∙ c.if-is_eos.false in
-    let e = g.F.Files.device c.add.new.files in
     let whole = c.in_ok-add.field-0 in
     let took = c.in_ok-add.ensures.added in
     let old = c.args.out.now in
     let front = drop (length old) l.out in
     let went : whole ≡ true = search rules in
     let all = behind old l.out took.added c.add.new.out l.invariant.front took.grown in
-    let on : from_place c.behind-place.result xs ≡ ys = c.behind-place.ensures.others c.args.b in_b in
-    let more = items_more d xs (g.F.Files.device l.files) (from_place l.place xs) id x ys front l.invariant.read head e whole took.added plain took.taken_so went in
+    let on : from_place c.behind-place.result xs ≡ ys = c.behind-place.ensures.others c.args.b w.inside in
+    let more = items_more d xs (g.F.Files.device l.files) (from_place l.place xs) id x ys front l.invariant.read (head_here w) e whole took.added plain took.taken_so went in
     record {
       front = ap (take (length old)) all ∙ take-append_seam old (front ++ took.added);
       went = more_went d (g.F.Files.device l.files) e l.invariant.went (took.taken_so.went went);
       open_files = c.add.ensures.open_files ∙ l.invariant.open_files;
       read = items_left d e xs ys (from_place c.behind-place.result xs) (drop (length old) c.add.new.out) on
           (subst (λ (bytes : List ℕ). ItemsSoFar d e xs ys bytes) (sym (ap (drop (length old)) all ∙ drop-append_seam old (front ++ took.added))) more);
-      quiet = λ none. ap (λ (zs : Items). has_bytes (named zs)) on ∙ (quiet_more id x ys plain (sym (ap (λ (zs : Items). has_bytes (named zs)) head) ∙ l.invariant.quiet none)).1;
-      inside = told_some (λ j. brigade_of s j ≡ Some c.args.b) c.behind-place.result (c.behind-place.ensures.inside c.args.b in_b);
+      quiet = λ none. ap (λ (zs : Items). has_bytes (named zs)) on ∙ (quiet_more id x ys plain (sym (ap (λ (zs : Items). has_bytes (named zs)) (head_here w)) ∙ l.invariant.quiet none)).1;
+      inside = inside_on w c.behind-place.result on (c.behind-place.ensures.inside c.args.b w.inside);
     }
 
 pub loop-place-smaller : goal.loop-place-smaller
 loop-place-smaller g c =
-    let l = c.loop-place in
-    let s = c.args.store.now in
-    let xs = list_at (lists s) c.args.b in
-    let id = c.in-Some.id in
-    let x = bucket_of c.payload-bucket.result in
-    let in_b = l.invariant.inside id c.in-Some.is in
-    shorter xs (from_place c.behind-place.result xs) l.place id x c.in-Some.is (c.behind-place.ensures.head c.args.b x in_b c.payload-bucket.ensures)
+    let w = at g (goal.at.loop-place-smaller g c).After-payload-bucket in
+    shorter w c.behind-place.result (c.behind-place.ensures.others c.args.b w.inside)
 
 pub returns-clause-added : goal.returns-clause-added
 returns-clause-added g c =
@@ -126,24 +114,18 @@ returns-clause-added g c =
 
 pub returns-in_err-add-clause-sure : goal.returns-in_err-add-clause-sure
 returns-in_err-add-clause-sure g c none =
-    let l = c.loop-place in
-    let s = c.args.store.now in
-    let xs = list_at (lists s) c.args.b in
     let id = c.in-Some.id in
-    let x = bucket_of c.payload-bucket.result in
-    let ys : Items = drop 1 (rest id xs) in
-    let in_b = l.invariant.inside id c.in-Some.is in
-    let head : from_place l.place xs ≡ (id, x) ∷ ys = ap (λ p. from_place p xs) c.in-Some.is ∙ head_here s id c.args.b x in_b c.payload-bucket.ensures in
-    let plain : is_eos_kind x.kind ≡ false = sym c.is_eos.ensures ∙ c.if-is_eos.false in
-    let sure = c.in_err-add.ensures.sure (quiet_more id x ys plain (sym (ap (λ (zs : Items). has_bytes (named zs)) head) ∙ l.invariant.quiet none)).0 in
+    let w = at g (goal.at.returns-in_err-add-clause-sure g c).After-payload-bucket in
+    let plain = sym c.is_eos.ensures ∙ c.if-is_eos.false in
+    let quiet = sym (ap (λ (zs : Items). has_bytes (named zs)) (head_here w)) ∙ c.loop-place.invariant.quiet none in
+    let sure = c.in_err-add.ensures.sure (quiet_more id (bucket_of c.payload-bucket.result) (drop 1 (rest id (list_at (lists c.args.store.now) c.args.b))) plain quiet).0 in
     absurd (cc sure)
 
 pub add-requires-clause-open : goal.add-requires-clause-open
 add-requires-clause-open g c =
-    let l = c.loop-place in
-    let id = c.in-Some.id in
-    let x = bucket_of c.payload-bucket.result in
-    open_still (g.F.Files.device c.args.files.now) (g.F.Files.device l.files) x.content l.invariant.open_files (c.requires.open id x (l.invariant.inside id c.in-Some.is) c.payload-bucket.ensures)
+    let w = at g (goal.at.add-requires-clause-open g c).After-payload-bucket in
+    open_still (g.F.Files.device c.args.files.now) (g.F.Files.device c.loop-place.files) (bucket_of c.payload-bucket.result).content c.loop-place.invariant.open_files
+    (c.requires.open c.in-Some.id (bucket_of c.payload-bucket.result) w.inside w.here)
 
 pub returns-in_err-add-clause-read : goal.returns-in_err-add-clause-read
 returns-in_err-add-clause-read g c =

@@ -19,12 +19,14 @@ returns-clause-ok g c =
     λ runs.
     let t = c.in-Ok.ensures.added in
     let open_to : c.args.ended.now ≡ false = search rules in
-    was_delivered (g.F.Files.device c.args.files.now) (g.F.Files.device c.add_all.new.files) runs (list_at (lists c.args.store.now) c.args.b) c.in-Ok.whole t.added c.args.out.now c.add_all.new.out c.args.ended.now c.has_eos.result open_to t.taken_so t.grown
+    was_delivered (g.F.Files.device c.args.files.now) (g.F.Files.device c.add_all.new.files) runs
+    (list_at (lists c.args.store.now) c.args.b) c.in-Ok.whole t.added c.args.out.now c.add_all.new.out c.args.ended.now c.has_eos.result open_to t.taken_so t.grown
     (c.has_eos.ensures runs)
 
 pub returns-in_default-clause-sure : goal.returns-in_default-clause-sure
 returns-in_default-clause-sure g c runs none =
     let open_to : c.args.ended.now ≡ false = search rules in
-    let quiet : has_bytes (shown runs (list_at (lists c.args.store.now) c.args.b)) ≡ false = sym (ap (λ (t : Bool). not t && has_bytes (shown runs (list_at (lists c.args.store.now) c.args.b))) open_to) ∙ none in
+    let quiet : has_bytes (shown runs (list_at (lists c.args.store.now) c.args.b)) ≡ false =
+    sym (ap (λ (t : Bool). not t && has_bytes (shown runs (list_at (lists c.args.store.now) c.args.b))) open_to) ∙ none in
     let sure = c.add_all.ensures.sure (sym (bytes_shown runs (list_at (lists c.args.store.now) c.args.b)) ∙ quiet) in
     absurd (ok_never c.add_all.result sure c.in_default.not-Ok)

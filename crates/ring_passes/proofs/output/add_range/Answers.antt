@@ -28,7 +28,8 @@ loop-count-preserved-in-All-1 g c =
     let n = c.min-part.result in
     let part : n ≡ min l.limit (c.args.len - l.count) = omega arith in
     let below : l.count < c.args.len = omega arith in
-    let more = span_all (g.F.Files.device c.args.files.now) c.args.file c.args.start c.args.len (g.F.Files.device l.files) (g.F.Files.device c.add_span.new.files) l.count n c.args.out.now l.out c.add_span.new.self i.front i.went i.read
+    let more = span_all (g.F.Files.device c.args.files.now) c.args.file c.args.start c.args.len (g.F.Files.device l.files)
+    (g.F.Files.device c.add_span.new.files) l.count n c.args.out.now l.out c.add_span.new.self i.front i.went i.read
     l.limit c.in_ok-add_span.field-0 i.span below part c.in_ok-add_span.ensures.added c.in-All.is in
     record { within = omega arith; front = more.0; went = more.1; open_files = c.add_span.ensures.open_files ∙ i.open_files; read = more.2; span = more.3 }
 
@@ -39,7 +40,8 @@ loop-count-preserved g c =
     let n = c.min-part.result in
     let part : n ≡ min l.limit (c.args.len - l.count) = omega arith in
     let above : 8000 < n = omega arith in
-    let again = span_ended (g.F.Files.device c.args.files.now) c.args.file c.args.start c.args.len (g.F.Files.device l.files) (g.F.Files.device c.add_span.new.files) l.count n c.args.out.now l.out c.add_span.new.self i.front i.went i.read
+    let again = span_ended (g.F.Files.device c.args.files.now) c.args.file c.args.start c.args.len (g.F.Files.device l.files)
+    (g.F.Files.device c.add_span.new.files) l.count n c.args.out.now l.out c.add_span.new.self i.front i.went i.read
     l.limit c.in_ok-add_span.field-0 i.span above part c.in_ok-add_span.ensures.added c.in-Ended.is in
     record { within = i.within; front = again.0; went = again.1; open_files = c.add_span.ensures.open_files ∙ i.open_files; read = again.2; span = span_one (g.F.Files.device c.add_span.new.files) }
 
@@ -51,7 +53,8 @@ returns-in_default-clause-added g c =
     let of = i.span.limit_is in
     let above = i.span.some in
     let part : c.min-part.result ≡ min (c.args.len - l.count) 8000 = omega (arith, of, above) in
-    span_lacks (g.F.Files.device c.args.files.now) c.args.file c.args.start c.args.len (g.F.Files.device l.files) (g.F.Files.device c.add_span.new.files) l.count c.min-part.result c.args.out.now l.out c.add_span.new.self i.front i.went i.read
+    span_lacks (g.F.Files.device c.args.files.now) c.args.file c.args.start c.args.len (g.F.Files.device l.files)
+    (g.F.Files.device c.add_span.new.files) l.count c.min-part.result c.args.out.now l.out c.add_span.new.self i.front i.went i.read
     c.in_ok-add_span.field-0 below c.in_ok-add_span.ensures.added c.in_default.not-All (λ _. part)
 
 pub returns-in_default-2-clause-added : goal.returns-in_default-2-clause-added
@@ -59,7 +62,8 @@ returns-in_default-2-clause-added g c =
     let l = c.loop-count in
     let i = l.invariant in
     let below : l.count < c.args.len = omega arith in
-    span_lacks (g.F.Files.device c.args.files.now) c.args.file c.args.start c.args.len (g.F.Files.device l.files) (g.F.Files.device c.add_span.new.files) l.count c.min-part.result c.args.out.now l.out c.add_span.new.self i.front i.went i.read
+    span_lacks (g.F.Files.device c.args.files.now) c.args.file c.args.start c.args.len (g.F.Files.device l.files)
+    (g.F.Files.device c.add_span.new.files) l.count c.min-part.result c.args.out.now l.out c.add_span.new.self i.front i.went i.read
     c.in_ok-add_span.field-0 below c.in_ok-add_span.ensures.added c.in_default.not-All (λ ended. absurd (cc (ended, c.in_default.is)))
 
 pub returns-clause-added : goal.returns-clause-added
@@ -69,5 +73,6 @@ returns-clause-added g c =
     record {
       added = drop (length old) l.out;
       grown = both_parts old l.out l.invariant.front;
-      taken_so = range_done (g.F.Files.device c.args.files.now) c.args.file c.args.start c.args.len (g.F.Files.device l.files) l.count (drop (length old) l.out) l.invariant.read (omega arith) l.invariant.went;
+      taken_so = range_done (g.F.Files.device c.args.files.now) c.args.file c.args.start c.args.len (g.F.Files.device l.files) l.count (drop (length old) l.out) l.invariant.read
+          (omega arith) l.invariant.went;
     }

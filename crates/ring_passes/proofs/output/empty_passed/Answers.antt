@@ -6,23 +6,22 @@ use Rattle.run_model.specs.declared.bucket.Mark.TheVariants.{Passed}
 use Rattle.brigade_ops.specs.Store.{lists, brigade_of, pool_of, next_name}
 use Rattle.ring_calls.specs.Slots.{slot_at, live_in, marked}
 use Rattle.ring_calls.proofs.LeftAlone.{left_on, ours_slot}
-use Rattle.ring_calls.proofs.Slots.{made_in}
 use Rattle.ring_calls.proofs.Vars.{live_marked}
 use Rattle.ring_calls.proofs.Names.{apart_in, held_kept, no_less, still_on}
 use Rattle.ring_passes.proofs.PassedOut.{lent_cleaned}
 use Rattle.ring_passes.proofs.output.empty_passed.Goals as goal
-
-pub brigade-name-requires-clause-made : goal.brigade-name-requires-clause-made
-brigade-name-requires-clause-made g c = made_in (lists c.args.store.now) (slot_at c.args.instance.now c.args.b) c.requires.live
 
 pub returns-clause-seen : goal.returns-clause-seen
 returns-clause-seen g c =
     λ around call held.
     let s = c.args.store.now in
     let i = c.hand_over.new.instance in
-    let set : slot_at i c.args.b ≡ marked Passed (slot_at c.args.instance.now c.args.b) = c.hand_over.ensures.slots c.args.b ∙ ap (λ (t : Bool). if t then marked Passed (slot_at c.args.instance.now c.args.b) else slot_at c.args.instance.now c.args.b) (eq-eqb c.args.b c.args.b refl) in
-    lent_cleaned (lists s) (next_name s) around i call c.args.b (lists c.clean.new.self) (next_name c.clean.new.self) c.brigade-name.result (slot_at c.args.instance.now c.args.b) (apart_in (brigade_of s) (lists s) (pool_of s) (next_name s) i call (c.hand_over.ensures.held call held))
-    set (ap (live_in (lists s)) set ∙ (live_marked (lists s) Passed (slot_at c.args.instance.now c.args.b) ∙ c.brigade-name.ensures.live (lists s) c.requires.live)) c.clean.ensures.next c.clean.ensures.out
+    let set : slot_at i c.args.b ≡ marked Passed (slot_at c.args.instance.now c.args.b) = c.hand_over.ensures.slots c.args.b
+    ∙ ap (λ (t : Bool). if t then marked Passed (slot_at c.args.instance.now c.args.b) else slot_at c.args.instance.now c.args.b) (eq-eqb c.args.b c.args.b refl) in
+    lent_cleaned (lists s) (next_name s) around i call c.args.b (lists c.clean.new.self) (next_name c.clean.new.self) c.brigade-name.result (slot_at c.args.instance.now c.args.b)
+    (apart_in (brigade_of s) (lists s) (pool_of s) (next_name s) i call (c.hand_over.ensures.held call held))
+    set (ap (live_in (lists s)) set ∙ (live_marked (lists s) Passed (slot_at c.args.instance.now c.args.b) ∙ c.brigade-name.ensures.live (lists s) c.requires.live)) c.clean.ensures.next
+    c.clean.ensures.out
     ∙ c.hand_over.ensures.seen around call
 
 pub returns-clause-held : goal.returns-clause-held
@@ -37,5 +36,6 @@ returns-clause-left g c =
     λ call.
     let s = c.args.store.now in
     let i = c.hand_over.new.instance in
-    left_on s c.clean.new.self (no_less (next_name s) (next_name c.clean.new.self) c.clean.ensures.next) c.clean.ensures.names c.clean.ensures.pools c.clean.ensures.references c.clean.ensures.unasked c.brigade-name.result (λ xs. []) c.clean.ensures.out c.args.instance.now call
+    left_on s c.clean.new.self (no_less (next_name s) (next_name c.clean.new.self) c.clean.ensures.next) c.clean.ensures.names c.clean.ensures.pools c.clean.ensures.references
+    c.clean.ensures.unasked c.brigade-name.result (λ xs. []) c.clean.ensures.out c.args.instance.now call
     (ours_slot c.args.instance.now call c.args.b c.brigade-name.result c.brigade-name.ensures.name)

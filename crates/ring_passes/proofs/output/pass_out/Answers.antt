@@ -7,15 +7,10 @@ use Rattle.brigade_ops.specs.Store.{lists, next_name}
 use Rattle.ring_passes.specs.Delivery.{WasDelivered, out_of}
 use Rattle.ring_calls.specs.Given.{RangeIsOpen}
 use Rattle.ring_calls.specs.Seen.{calls_in}
-use Rattle.ring_calls.specs.Slots.{slot_at}
 use Rattle.brigade_ops.proofs.Stores.{bucket_found}
 use Rattle.ring_calls.proofs.Items.{items_live}
 use Rattle.ring_calls.proofs.OpenFiles.{open_found}
-use Rattle.ring_calls.proofs.Slots.{made_in}
 use Rattle.ring_passes.proofs.output.pass_out.Goals as goal
-
-pub brigade-name-requires-clause-made : goal.brigade-name-requires-clause-made
-brigade-name-requires-clause-made g c = made_in (lists c.args.store.now) (slot_at c.args.instance.now c.args.b) c.requires.live
 
 pub add_brigade-requires-clause-ends : goal.add_brigade-requires-clause-ends
 add_brigade-requires-clause-ends g c =
@@ -30,7 +25,8 @@ add_brigade-requires-clause-open g c =
     let around = c.requires.open.0 in
     let call = c.requires.open.1 in
     let d = g.F.Files.device c.args.files.now in
-    let has = subst (λ (xs : List NamedBucket). All (RangeIsOpen d) xs) (items_live (lists s) (next_name s) around c.args.instance.now call c.args.b c.brigade-name.result (c.brigade-name.ensures.live (lists c.args.store.now) c.requires.live)) c.requires.open.2 in
+    let has = subst (λ (xs : List NamedBucket). All (RangeIsOpen d) xs) (items_live (lists s) (next_name s) around c.args.instance.now call c.args.b c.brigade-name.result
+    (c.brigade-name.ensures.live (lists c.args.store.now) c.requires.live)) c.requires.open.2 in
     open_found d (calls_in around call) id x (list_at (lists s) c.brigade-name.result) has (bucket_found s id c.brigade-name.result x at is)
 
 pub returns-clause-delivered : goal.returns-clause-delivered
@@ -38,7 +34,8 @@ returns-clause-delivered g c =
     λ around call.
     let s = c.args.store.now in
     let i = c.args.instance.now in
-    subst (λ (items : List NamedBucket). WasDelivered (g.F.Files.device c.args.files.now) (g.F.Files.device c.add_brigade.new.files) (out_of c.args.out.now c.args.ended.now) items (out_of c.add_brigade.new.out c.add_brigade.new.ended) c.in_ok-well.well)
+    subst (λ (items : List NamedBucket). WasDelivered (g.F.Files.device c.args.files.now) (g.F.Files.device c.add_brigade.new.files) (out_of c.args.out.now c.args.ended.now) items
+    (out_of c.add_brigade.new.out c.add_brigade.new.ended) c.in_ok-well.well)
     (sym (items_live (lists s) (next_name s) around i call c.args.b c.brigade-name.result (c.brigade-name.ensures.live (lists c.args.store.now) c.requires.live)))
     (c.in_ok-well.ensures.ok (calls_in around call))
 

@@ -3,12 +3,7 @@ use Rattle.std.proofs.Common.{ℕ, Option, sym, ap, ◌∙◌}
 use Rattle.run_model.specs.Buckets.{has_eos}
 use Rattle.brigade_ops.specs.Store.{lists}
 use Rattle.ring_calls.specs.Contents.{contents}
-use Rattle.ring_calls.specs.Slots.{slot_at}
-use Rattle.ring_calls.proofs.Slots.{made_in}
 use Rattle.ring_passes.proofs.passes.holds_eos.Goals as goal
-
-pub brigade-requires-clause-made : goal.brigade-requires-clause-made
-brigade-requires-clause-made g c = made_in (lists c.args.store.now) (slot_at c.args.instance.now c.args.b) c.requires.live
 
 pub returns : goal.returns
 returns g c runs =

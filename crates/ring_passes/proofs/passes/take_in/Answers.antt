@@ -10,9 +10,11 @@ use Rattle.ring_passes.proofs.passes.take_in.Goals as goal
 
 pub returns-clause-seen : goal.returns-clause-seen
 returns-clause-seen g c around call =
-    seen_var (lists c.args.store.now) (next_name c.args.store.now) around c.args.instance.now c.set_slot.new.self call 8 (slot.Made c.args.name None Usable) c.set_slot.ensures.rest c.set_slot.ensures.slots
+    seen_var (lists c.args.store.now) (next_name c.args.store.now) around c.args.instance.now c.set_slot.new.self call 8
+    (slot.Made c.args.name None Usable) c.set_slot.ensures.rest c.set_slot.ensures.slots
 
 pub returns-clause-held : goal.returns-clause-held
 returns-clause-held g c call free other pos held =
     let s = c.args.store.now in
-    held_taken (brigade_of s) (lists s) (pool_of s) (next_name s) c.args.instance.now c.set_slot.new.self call c.args.name c.set_slot.ensures.slots free other pos (brigades s c.args.name c.requires) held
+    held_taken (brigade_of s) (lists s) (pool_of s) (next_name s) c.args.instance.now c.set_slot.new.self call c.args.name c.set_slot.ensures.slots free other pos
+    (brigades s c.args.name c.requires) held

@@ -40,7 +40,8 @@ returns-clause-ok g c =
           let x = found_some id (list_at (lists s) inside.0) (found_in s id inside.0 inside.1.1) in
           let is = found_bucket s id inside.0 x.0 inside.1.1 x.1 in
           on_both c.aside.result _ _ _ (λ out refs around.
-          aside_within (brigade_of s) (lists s) (lists c.aside.new.self) (pool_of s) (next_name s) (next_name c.aside.new.self) (kept s) c.aside.ensures.next id x.0 c.args.pool (map_of c.args.tree.now) (map_of c.aside.new.tree) around c.args.instance.now c.args.call.now c.args.c c.requires.held (refs x.0 is)
+          aside_within (brigade_of s) (lists s) (lists c.aside.new.self) (pool_of s) (next_name s) (next_name c.aside.new.self) (kept s) c.aside.ensures.next id x.0 c.args.pool
+          (map_of c.args.tree.now) (map_of c.aside.new.tree) around c.args.instance.now c.args.call.now c.args.c c.requires.held (refs x.0 is)
           p.variable (p.told (next_name s) (over_pools (map_of c.args.tree.now) around)) inside x.1 (λ m. out inside.0 m x.0 inside.1.1 is))
           c.aside.ensures.ok c.aside.ensures.registered
       | inr p ↦
@@ -51,7 +52,8 @@ returns-clause-ok g c =
           let x = found_some id (list_at (lists s) name) (found_in s id name inside) in
           let is = found_bucket s id name x.0 inside x.1 in
           on_both c.aside.result _ _ _ (λ out refs around.
-          aside_loose (brigade_of s) (lists s) (lists c.aside.new.self) (pool_of s) (next_name s) (next_name c.aside.new.self) (kept s) c.aside.ensures.next id x.0 c.args.pool (map_of c.args.tree.now) (map_of c.aside.new.tree) around c.args.instance.now c.args.call.now c.args.c c.requires.held (refs x.0 is)
+          aside_loose (brigade_of s) (lists s) (lists c.aside.new.self) (pool_of s) (next_name s) (next_name c.aside.new.self) (kept s) c.aside.ensures.next id x.0 c.args.pool
+          (map_of c.args.tree.now) (map_of c.aside.new.tree) around c.args.instance.now c.args.call.now c.args.c c.requires.held (refs x.0 is)
           (p.told (next_name s) (over_pools (map_of c.args.tree.now) around)) inside x.1 (λ m. out name m x.0 inside is))
           c.aside.ensures.ok c.aside.ensures.registered
     ]
@@ -62,7 +64,8 @@ returns-clause-held g c =
     let p = bucket_here c.args.store.now c.args.instance.now c.args.call.now c.args.c c.requires.held c.requires.stands c.bucket.result c.bucket.ensures in
     held_kept s c.aside.new.self (no_less (next_name s) (next_name c.aside.new.self) c.aside.ensures.next) c.aside.ensures.names c.aside.ensures.pools
     (by_result c.aside.result _ _
-    (λ out. still_on (lists s) (lists c.aside.new.self) p.ring (with_payload c.bucket.result (set_aside c.args.pool (is_above (map_of c.args.tree.now) c.args.pool p.bucket.home) p.bucket)) (λ m. out p.ring m p.bucket p.inside p.here))
+    (λ out. still_on (lists s) (lists c.aside.new.self) p.ring (with_payload c.bucket.result (set_aside c.args.pool (is_above (map_of c.args.tree.now) c.args.pool p.bucket.home) p.bucket))
+    (λ m. out p.ring m p.bucket p.inside p.here))
     (λ out. still_same (lists s) (lists c.aside.new.self) out)
     c.aside.ensures.ok c.aside.ensures.err)
     c.args.instance.now c.args.call.now c.requires.held
@@ -71,7 +74,8 @@ pub returns-clause-err : goal.returns-clause-err
 returns-clause-err g c =
     let s = c.args.store.now in
     on_both_err c.aside.result _ _ _ (λ out kept around.
-    seen_kept (lists s) (lists c.aside.new.self) (next_name s) (next_name c.aside.new.self) (map_of c.args.tree.now) (map_of c.aside.new.tree) around c.args.instance.now c.args.call.now c.aside.ensures.next kept out)
+    seen_kept (lists s) (lists c.aside.new.self) (next_name s) (next_name c.aside.new.self) (map_of c.args.tree.now)
+    (map_of c.aside.new.tree) around c.args.instance.now c.args.call.now c.aside.ensures.next kept out)
     c.aside.ensures.err c.aside.ensures.kept
 
 pub returns-clause-left : goal.returns-clause-left
@@ -80,7 +84,8 @@ returns-clause-left g c =
     let p = bucket_here c.args.store.now c.args.instance.now c.args.call.now c.args.c c.requires.held c.requires.stands c.bucket.result c.bucket.ensures in
     let rises = no_less (next_name s) (next_name c.aside.new.self) c.aside.ensures.next in
     by_result c.aside.result _ _
-    (λ out. rest_on s c.aside.new.self rises c.aside.ensures.names c.aside.ensures.pools c.aside.ensures.unasked p.ring (with_payload c.bucket.result (set_aside c.args.pool (is_above (map_of c.args.tree.now) c.args.pool p.bucket.home) p.bucket)) (λ m. out p.ring m p.bucket p.inside p.here) c.args.instance.now c.args.call.now p.ours)
+    (λ out. rest_on s c.aside.new.self rises c.aside.ensures.names c.aside.ensures.pools c.aside.ensures.unasked p.ring (with_payload c.bucket.result
+    (set_aside c.args.pool (is_above (map_of c.args.tree.now) c.args.pool p.bucket.home) p.bucket)) (λ m. out p.ring m p.bucket p.inside p.here) c.args.instance.now c.args.call.now p.ours)
     (λ out. rest_same s c.aside.new.self rises c.aside.ensures.names (λ n. ap (λ (f : ℕ → Option ℕ). f n) c.aside.ensures.pools) c.aside.ensures.unasked out c.args.instance.now c.args.call.now)
     c.aside.ensures.ok c.aside.ensures.err
 
@@ -90,7 +95,8 @@ returns-clause-open g c =
     let s = c.args.store.now in
     let p = bucket_here c.args.store.now c.args.instance.now c.args.call.now c.args.c c.requires.held c.requires.stands c.bucket.result c.bucket.ensures in
     let r = seen_over (lists s) (next_name s) around c.args.instance.now c.args.call.now in
-    let has : IsOpenFor d p.bucket.content = subst (IsOpenFor d) (content_of_bucket (spot r c.args.c) (named_item (item_in (calls_in around c.args.call.now) (c.bucket.result, p.bucket))) (p.at around)) opens in
+    let has : IsOpenFor d p.bucket.content =
+    subst (IsOpenFor d) (content_of_bucket (spot r c.args.c) (named_item (item_in (calls_in around c.args.call.now) (c.bucket.result, p.bucket))) (p.at around)) opens in
     by_result c.aside.result _ _
     (λ counts. refs_one d (map_of c.args.tree.now) c.args.pool p.bucket (references s) (references c.aside.new.self) (λ f. counts p.bucket f p.here) has)
     (λ same. refs_same d (references s) (references c.aside.new.self) same)
@@ -102,4 +108,5 @@ returns-clause-sure g c around none =
     let ps = map_of c.args.tree.now in
     let over = over_pools ps around in
     c.aside.ensures.sure p.bucket p.here
-    (sym (ref_shown ps c.args.pool (calls_in over c.args.call.now) (c.bucket.result, p.bucket)) ∙ one_referred _ (sym (ap (λ (o : Option NamedBucket). takes_reference ps (Some c.args.pool) (option_to_list o)) (p.at over)) ∙ none))
+    (sym (ref_shown ps c.args.pool (calls_in over c.args.call.now) (c.bucket.result, p.bucket))
+    ∙ one_referred _ (sym (ap (λ (o : Option NamedBucket). takes_reference ps (Some c.args.pool) (option_to_list o)) (p.at over)) ∙ none))

@@ -19,19 +19,25 @@ pub returns-clause-new : goal.returns-clause-new
 returns-clause-new g c =
     λ around.
     elim (bucket_at c.args.store.now c.args.instance.now c.args.call.now c.args.c c.requires.held c.requires.stands c.bucket.result c.bucket.ensures) [
-      | inl s ↦ delete_step (brigade_of c.args.store.now) (lists c.args.store.now) (lists c.drop_bucket.new.self) (pool_of c.args.store.now) (next_name c.args.store.now) (next_name c.drop_bucket.new.self) (kept c.args.store.now) c.drop_bucket.ensures.next c.bucket.result around c.args.instance.now c.args.call.now c.args.c c.requires.held s.variable (s.told (next_name c.args.store.now) around) s.inside.1 (λ j m is. c.drop_bucket.ensures.out j m is)
-      | inr s ↦ delete_loose_step (brigade_of c.args.store.now) (lists c.args.store.now) (lists c.drop_bucket.new.self) (pool_of c.args.store.now) (next_name c.args.store.now) (next_name c.drop_bucket.new.self) (kept c.args.store.now) c.drop_bucket.ensures.next c.bucket.result around c.args.instance.now c.args.call.now c.args.c c.requires.held (s.told (next_name c.args.store.now) around) s.inside (λ j m is. c.drop_bucket.ensures.out j m is)
+      | inl s ↦ delete_step (brigade_of c.args.store.now) (lists c.args.store.now) (lists c.drop_bucket.new.self) (pool_of c.args.store.now) (next_name c.args.store.now)
+          (next_name c.drop_bucket.new.self) (kept c.args.store.now) c.drop_bucket.ensures.next c.bucket.result around c.args.instance.now c.args.call.now c.args.c c.requires.held s.variable
+          (s.told (next_name c.args.store.now) around) s.inside.1 (λ j m is. c.drop_bucket.ensures.out j m is)
+      | inr s ↦ delete_loose_step (brigade_of c.args.store.now) (lists c.args.store.now) (lists c.drop_bucket.new.self) (pool_of c.args.store.now) (next_name c.args.store.now)
+          (next_name c.drop_bucket.new.self) (kept c.args.store.now) c.drop_bucket.ensures.next c.bucket.result around c.args.instance.now c.args.call.now c.args.c c.requires.held
+          (s.told (next_name c.args.store.now) around) s.inside (λ j m is. c.drop_bucket.ensures.out j m is)
     ]
 
 pub returns-clause-held : goal.returns-clause-held
 returns-clause-held g c =
     let s = bucket_here c.args.store.now c.args.instance.now c.args.call.now c.args.c c.requires.held c.requires.stands c.bucket.result c.bucket.ensures in
-    held_kept c.args.store.now c.drop_bucket.new.self (no_less (next_name c.args.store.now) (next_name c.drop_bucket.new.self) c.drop_bucket.ensures.next) c.drop_bucket.ensures.names c.drop_bucket.ensures.pools
+    held_kept c.args.store.now c.drop_bucket.new.self
+    (no_less (next_name c.args.store.now) (next_name c.drop_bucket.new.self) c.drop_bucket.ensures.next) c.drop_bucket.ensures.names c.drop_bucket.ensures.pools
     (still_on (lists c.args.store.now) (lists c.drop_bucket.new.self) s.ring (ring.without c.bucket.result) (λ m. c.drop_bucket.ensures.out s.ring m s.inside))
     c.args.instance.now c.args.call.now c.requires.held
 
 pub returns-clause-left : goal.returns-clause-left
 returns-clause-left g c =
     let s = bucket_here c.args.store.now c.args.instance.now c.args.call.now c.args.c c.requires.held c.requires.stands c.bucket.result c.bucket.ensures in
-    left_on c.args.store.now c.drop_bucket.new.self (no_less (next_name c.args.store.now) (next_name c.drop_bucket.new.self) c.drop_bucket.ensures.next) c.drop_bucket.ensures.names c.drop_bucket.ensures.pools c.drop_bucket.ensures.references c.drop_bucket.ensures.unasked s.ring (ring.without c.bucket.result) (λ m. c.drop_bucket.ensures.out s.ring m s.inside)
+    left_on c.args.store.now c.drop_bucket.new.self (no_less (next_name c.args.store.now) (next_name c.drop_bucket.new.self) c.drop_bucket.ensures.next) c.drop_bucket.ensures.names
+    c.drop_bucket.ensures.pools c.drop_bucket.ensures.references c.drop_bucket.ensures.unasked s.ring (ring.without c.bucket.result) (λ m. c.drop_bucket.ensures.out s.ring m s.inside)
     c.args.instance.now c.args.call.now s.ours

@@ -21,19 +21,25 @@ pub returns-clause-new : goal.returns-clause-new
 returns-clause-new g c =
     λ around.
     let s = within_at c.args.store.now c.args.instance.now c.args.call.now c.args.c c.requires.held c.requires.stands c.bucket.result c.bucket.ensures in
-    unlink_step (brigade_of c.args.store.now) (lists c.args.store.now) (lists c.move_tail.new.self) (pool_of c.args.store.now) (next_name c.args.store.now) (next_name c.move_tail.new.self) (kept c.args.store.now) c.move_tail.ensures.next c.bucket.result around c.args.instance.now c.args.call.now c.args.c c.requires.held s.variable (s.told (next_name c.args.store.now) around) s.inside.1 c.requires.runs c.move_tail.ensures.out
+    unlink_step (brigade_of c.args.store.now) (lists c.args.store.now) (lists c.move_tail.new.self) (pool_of c.args.store.now) (next_name c.args.store.now) (next_name c.move_tail.new.self)
+    (kept c.args.store.now) c.move_tail.ensures.next c.bucket.result around c.args.instance.now c.args.call.now c.args.c c.requires.held s.variable
+    (s.told (next_name c.args.store.now) around) s.inside.1 c.requires.runs c.move_tail.ensures.out
 
 pub returns-clause-held : goal.returns-clause-held
 returns-clause-held g c =
     let s = within_at c.args.store.now c.args.instance.now c.args.call.now c.args.c c.requires.held c.requires.stands c.bucket.result c.bucket.ensures in
     held_kept c.args.store.now c.move_tail.new.self (no_less (next_name c.args.store.now) (next_name c.move_tail.new.self) c.move_tail.ensures.next) c.move_tail.ensures.names c.move_tail.ensures.pools
-    (moved_still (brigade_of c.args.store.now) (lists c.args.store.now) (lists c.move_tail.new.self) (pool_of c.args.store.now) (next_name c.args.store.now) (next_name c.move_tail.new.self) (kept c.args.store.now) c.move_tail.ensures.next c.bucket.result s.inside.1.0 c.args.call.now.name (λ x. ring.put_tail (c.bucket.result, x)) s.inside.1.1.1 c.move_tail.ensures.out)
+    (moved_still (brigade_of c.args.store.now) (lists c.args.store.now) (lists c.move_tail.new.self) (pool_of c.args.store.now) (next_name c.args.store.now) (next_name c.move_tail.new.self)
+    (kept c.args.store.now) c.move_tail.ensures.next c.bucket.result s.inside.1.0 c.args.call.now.name (λ x. ring.put_tail (c.bucket.result, x)) s.inside.1.1.1 c.move_tail.ensures.out)
     c.args.instance.now c.args.call.now c.requires.held
 
 pub returns-clause-left : goal.returns-clause-left
 returns-clause-left g c =
     let s = within_at c.args.store.now c.args.instance.now c.args.call.now c.args.c c.requires.held c.requires.stands c.bucket.result c.bucket.ensures in
-    left_off c.args.store.now c.move_tail.new.self (no_less (next_name c.args.store.now) (next_name c.move_tail.new.self) c.move_tail.ensures.next) c.move_tail.ensures.names c.move_tail.ensures.pools c.move_tail.ensures.references c.move_tail.ensures.unasked c.args.call.now.name s.inside.1.0
-    (moved_still (brigade_of c.args.store.now) (lists c.args.store.now) (lists c.move_tail.new.self) (pool_of c.args.store.now) (next_name c.args.store.now) (next_name c.move_tail.new.self) (kept c.args.store.now) c.move_tail.ensures.next c.bucket.result s.inside.1.0 c.args.call.now.name (λ x. ring.put_tail (c.bucket.result, x)) s.inside.1.1.1 c.move_tail.ensures.out)
-    (moved_off (brigade_of c.args.store.now) (lists c.args.store.now) (lists c.move_tail.new.self) (pool_of c.args.store.now) (next_name c.args.store.now) (next_name c.move_tail.new.self) (kept c.args.store.now) c.move_tail.ensures.next c.bucket.result s.inside.1.0 c.args.call.now.name (λ x. ring.put_tail (c.bucket.result, x)) s.inside.1.1.1 c.move_tail.ensures.out)
+    left_off c.args.store.now c.move_tail.new.self (no_less (next_name c.args.store.now) (next_name c.move_tail.new.self) c.move_tail.ensures.next) c.move_tail.ensures.names
+    c.move_tail.ensures.pools c.move_tail.ensures.references c.move_tail.ensures.unasked c.args.call.now.name s.inside.1.0
+    (moved_still (brigade_of c.args.store.now) (lists c.args.store.now) (lists c.move_tail.new.self) (pool_of c.args.store.now) (next_name c.args.store.now) (next_name c.move_tail.new.self)
+    (kept c.args.store.now) c.move_tail.ensures.next c.bucket.result s.inside.1.0 c.args.call.now.name (λ x. ring.put_tail (c.bucket.result, x)) s.inside.1.1.1 c.move_tail.ensures.out)
+    (moved_off (brigade_of c.args.store.now) (lists c.args.store.now) (lists c.move_tail.new.self) (pool_of c.args.store.now) (next_name c.args.store.now) (next_name c.move_tail.new.self)
+    (kept c.args.store.now) c.move_tail.ensures.next c.bucket.result s.inside.1.0 c.args.call.now.name (λ x. ring.put_tail (c.bucket.result, x)) s.inside.1.1.1 c.move_tail.ensures.out)
     c.args.instance.now c.args.call.now (ours_loose c.args.instance.now c.args.call.now) (ours_slot c.args.instance.now c.args.call.now s.variable s.inside.1.0 s.inside.1.1.0)

@@ -6,7 +6,7 @@ use Rattle.run_model.specs.Effects.{files_let_go}
 use Rattle.run_model.specs.Payloads.{labels_in}
 use Rattle.run_model.specs.Pools.{Pools, is_under}
 use Rattle.run_model.specs.State.{with_pools}
-use Rattle.pool_tree.specs.Clears.{emptied}
+use Rattle.pool_tree.specs.Clears.{pools_after}
 use Rattle.pool_tree.specs.Tree.{map_of}
 use Rattle.pool_tree.specs.declared.tree.clear.ClearKind.{ClearKind}
 use Rattle.brigade_ops.specs.Store.{lists, next_name}
@@ -37,7 +37,7 @@ returns-clause-ok g c =
     (record { closed = c.in_ok-ran.ensures.closed; others = c.clear.ensures.others })
     (seen_cleared old new c.args.setting.now.rings.now (is_under ps pool) i call c.requires.held (c.requires.looks pool (sym c.in-Some.ensures))
     c.in_ok-ran.ensures.out pool ps (map_of c.clear.new.tree) over refl c.clear.ensures.next
-    ∙ ap (λ (left : Pools Payload). files_let_go pool r (with_pools left (run_down pool r))) (c.in_ok-ran.ensures.ok ∙ ap (λ (kind : ClearKind). emptied kind pool ps) c.clear_kind-kind.ensures))
+    ∙ ap (λ (left : Pools Payload). files_let_go pool r (with_pools left (run_down pool r))) (c.in_ok-ran.ensures.ok ∙ ap (λ (kind : ClearKind). pools_after kind pool ps) c.clear_kind-kind.ensures))
 
 pub returns-clause-held : goal.returns-clause-held
 returns-clause-held g c =

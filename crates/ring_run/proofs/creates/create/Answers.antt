@@ -46,8 +46,10 @@ returns-clause-held g c =
 pub returns-clause-left : goal.returns-clause-left
 returns-clause-left g c =
     λ call.
-    rest_made c.args.store.now c.create.new.self c.in-Ok.ensures.names c.create.ensures.unasked c.in-Ok.name c.args.pool c.in-Ok.ensures.name c.in-Ok.ensures.next c.in-Ok.ensures.ok c.in-Ok.ensures.on c.args.instance.now call
+    rest_made c.args.store.now c.create.new.self c.in-Ok.ensures.names c.create.ensures.unasked c.in-Ok.name c.args.pool c.in-Ok.ensures.name c.in-Ok.ensures.next c.in-Ok.ensures.ok
+    c.in-Ok.ensures.on c.args.instance.now call
 
 pub returns-clause-slots : goal.returns-clause-slots
 returns-clause-slots g c =
-    names_made (next_name c.args.store.now) (next_name c.create.new.self) c.in-Ok.name c.args.o c.args.pool c.args.instance.now c.set_slot.new.self c.in-Ok.ensures.name c.in-Ok.ensures.next c.requires.slot c.set_slot.ensures.slots
+    names_made (next_name c.args.store.now)
+    (next_name c.create.new.self) c.in-Ok.name c.args.o c.args.pool c.args.instance.now c.set_slot.new.self c.in-Ok.ensures.name c.in-Ok.ensures.next c.requires.slot c.set_slot.ensures.slots

@@ -18,14 +18,16 @@ returns-in-Ok-clause-place g c =
     let first = next_ok n (first_of (drop 1 (rest c.args.id (list_at (lists c.args.store.now) n)))) c.in-Ok.next (sym (c.next.ensures n is) ∙ c.in-Ok.is) in
     ap (λ (o : Option BucketId). shown_cursor (cursor_value_at n o)) (sym first)
     ∙ next_stands (lists c.args.store.now) (next_name c.args.store.now) around i call b n c.args.id
-    (given_in (brigade_of c.args.store.now) (lists c.args.store.now) (next_name c.args.store.now) c.args.id (kept c.args.store.now) (name_there (brigade_of c.args.store.now) (lists c.args.store.now) (next_name c.args.store.now) n c.args.id (kept c.args.store.now) is) n) named (brigade_there c.args.store.now c.args.id n is)
+    (given_in (brigade_of c.args.store.now) (lists c.args.store.now) (next_name c.args.store.now) c.args.id (kept c.args.store.now) (name_there (brigade_of c.args.store.now)
+    (lists c.args.store.now) (next_name c.args.store.now) n c.args.id (kept c.args.store.now) is) n) named (brigade_there c.args.store.now c.args.id n is)
 
 pub returns-in-Ok-clause-given : goal.returns-in-Ok-clause-given
 returns-in-Ok-clause-given g c =
     λ j e.
     let r = some_of (brigade_of c.args.store.now c.args.id) c.requires in
     let at = in_found c.args.store.now c.in-Ok.next r.0 (next_found r.0 c.args.id c.in-Ok.next (list_at (lists c.args.store.now) r.0) (sym (c.next.ensures r.0 r.1) ∙ c.in-Ok.is)) in
-    subst (IsName (brigade_of c.args.store.now) (next_name c.args.store.now)) (same_at c.in-Ok.next j e) (name_there (brigade_of c.args.store.now) (lists c.args.store.now) (next_name c.args.store.now) r.0 c.in-Ok.next (kept c.args.store.now) at)
+    subst (IsName (brigade_of c.args.store.now) (next_name c.args.store.now)) (same_at c.in-Ok.next j e)
+    (name_there (brigade_of c.args.store.now) (lists c.args.store.now) (next_name c.args.store.now) r.0 c.in-Ok.next (kept c.args.store.now) at)
 
 pub returns-in-Err-clause-place : goal.returns-in-Err-clause-place
 returns-in-Err-clause-place g c =
@@ -33,4 +35,5 @@ returns-in-Err-clause-place g c =
     let end = next_err n c.in-Err.name (first_of (drop 1 (rest c.args.id (list_at (lists c.args.store.now) n)))) (sym (c.next.ensures n is) ∙ c.in-Err.is) in
     ap (λ (m : ℕ). cursor.End m) end.1 ∙ (ap (λ (o : Option BucketId). shown_cursor (cursor_value_at n o)) (sym end.0)
     ∙ next_stands (lists c.args.store.now) (next_name c.args.store.now) around i call b n c.args.id
-    (given_in (brigade_of c.args.store.now) (lists c.args.store.now) (next_name c.args.store.now) c.args.id (kept c.args.store.now) (name_there (brigade_of c.args.store.now) (lists c.args.store.now) (next_name c.args.store.now) n c.args.id (kept c.args.store.now) is) n) named (brigade_there c.args.store.now c.args.id n is))
+    (given_in (brigade_of c.args.store.now) (lists c.args.store.now) (next_name c.args.store.now) c.args.id (kept c.args.store.now) (name_there (brigade_of c.args.store.now)
+    (lists c.args.store.now) (next_name c.args.store.now) n c.args.id (kept c.args.store.now) is) n) named (brigade_there c.args.store.now c.args.id n is))

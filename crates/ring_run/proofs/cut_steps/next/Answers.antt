@@ -33,5 +33,6 @@ returns-clause-new g c =
 
 pub returns-clause-held : goal.returns-clause-held
 returns-clause-held g c =
-    held_cursor (brigade_of c.args.store.now) (lists c.args.store.now) (pool_of c.args.store.now) (next_name c.args.store.now) c.args.instance.now c.args.call.now c.set_cursor.new.self c.args.d c.cursor_value_after-cursor_value.result c.set_cursor.ensures.name c.set_cursor.ensures.cursors
+    held_cursor (brigade_of c.args.store.now) (lists c.args.store.now) (pool_of c.args.store.now) (next_name c.args.store.now) c.args.instance.now c.args.call.now c.set_cursor.new.self c.args.d
+    c.cursor_value_after-cursor_value.result c.set_cursor.ensures.name c.set_cursor.ensures.cursors
     c.cursor_value_after-cursor_value.ensures.given c.requires.held

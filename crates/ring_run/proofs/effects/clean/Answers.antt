@@ -2,27 +2,24 @@
 use Rattle.std.proofs.Common.{[]}
 use Rattle.run_model.specs.declared.bucket.Mark.TheVariants.{Usable}
 use Rattle.brigade_ops.specs.Store.{lists, brigade_of, pool_of, next_name}
-use Rattle.ring_calls.specs.Slots.{slot_at}
 use Rattle.ring_run.proofs.CarriedOut.{names_marked}
 use Rattle.ring_calls.proofs.Names.{apart_in, held_kept, no_less, still_on}
 use Rattle.ring_calls.proofs.Vars.{cleaned_step, held_marked}
-use Rattle.ring_calls.proofs.Slots.{made_in}
 use Rattle.ring_calls.proofs.LeftAlone.{left_on, ours_slot}
 use Rattle.ring_run.proofs.effects.clean.Goals as goal
-
-pub brigade-name-requires-clause-made : goal.brigade-name-requires-clause-made
-brigade-name-requires-clause-made g c = made_in (lists c.args.store.now) (slot_at c.args.instance.now c.args.b) c.requires.live
 
 pub returns-clause-new : goal.returns-clause-new
 returns-clause-new g c =
     λ around call held.
-    cleaned_step (lists c.args.store.now) (lists c.clean.new.self) (next_name c.args.store.now) (next_name c.clean.new.self) around c.args.instance.now c.set_mark.new.self call c.args.b c.brigade-name.result (apart_in (brigade_of c.args.store.now) (lists c.args.store.now) (pool_of c.args.store.now) (next_name c.args.store.now) c.args.instance.now call held)
+    cleaned_step (lists c.args.store.now) (lists c.clean.new.self) (next_name c.args.store.now) (next_name c.clean.new.self) around c.args.instance.now c.set_mark.new.self call c.args.b
+    c.brigade-name.result (apart_in (brigade_of c.args.store.now) (lists c.args.store.now) (pool_of c.args.store.now) (next_name c.args.store.now) c.args.instance.now call held)
     (c.brigade-name.ensures.live (lists c.args.store.now) c.requires.live) c.set_mark.ensures.rest c.set_mark.ensures.slots c.clean.ensures.next c.clean.ensures.out
 
 pub returns-clause-held : goal.returns-clause-held
 returns-clause-held g c =
     λ call held.
-    held_marked (brigade_of c.clean.new.self) (lists c.clean.new.self) (pool_of c.clean.new.self) (next_name c.clean.new.self) c.args.instance.now c.set_mark.new.self call c.args.b Usable c.set_mark.ensures.slots
+    held_marked (brigade_of c.clean.new.self) (lists c.clean.new.self) (pool_of c.clean.new.self)
+    (next_name c.clean.new.self) c.args.instance.now c.set_mark.new.self call c.args.b Usable c.set_mark.ensures.slots
     (held_kept c.args.store.now c.clean.new.self (no_less (next_name c.args.store.now) (next_name c.clean.new.self) c.clean.ensures.next) c.clean.ensures.names c.clean.ensures.pools
     (still_on (lists c.args.store.now) (lists c.clean.new.self) c.brigade-name.result (λ xs. []) c.clean.ensures.out)
     c.args.instance.now call held)
@@ -30,7 +27,8 @@ returns-clause-held g c =
 pub returns-clause-left : goal.returns-clause-left
 returns-clause-left g c =
     λ call.
-    left_on c.args.store.now c.clean.new.self (no_less (next_name c.args.store.now) (next_name c.clean.new.self) c.clean.ensures.next) c.clean.ensures.names c.clean.ensures.pools c.clean.ensures.references c.clean.ensures.unasked c.brigade-name.result (λ xs. []) c.clean.ensures.out c.args.instance.now call
+    left_on c.args.store.now c.clean.new.self (no_less (next_name c.args.store.now) (next_name c.clean.new.self) c.clean.ensures.next) c.clean.ensures.names c.clean.ensures.pools
+    c.clean.ensures.references c.clean.ensures.unasked c.brigade-name.result (λ xs. []) c.clean.ensures.out c.args.instance.now call
     (ours_slot c.args.instance.now call c.args.b c.brigade-name.result c.brigade-name.ensures.name)
 
 pub returns-clause-slots : goal.returns-clause-slots

@@ -1,13 +1,12 @@
 -- The clear, the read, and all others.
-use Rattle.std.proofs.Common.{◌≡◌, true, Result, Ok, Err, refl, sym, ap, ◌∙◌, rules}
-use Rattle.std.specs.Prelude.{OnErr}
+use Rattle.std.proofs.Common.{◌≡◌, true, refl, sym, ap, ◌∙◌, rules}
 use Rattle.run_model.specs.Faults.{InBrigade, WCursor, WHome}
 use Rattle.pool_tree.specs.Tree.{map_of}
 use Rattle.brigade_ops.specs.Store.{lists, next_name}
 use Rattle.ring_run.specs.Apart.{clears_pool_by, is_carried_by, keeps_files_by}
 use Rattle.ring_run.specs.CarriedOut.{during}
-use Rattle.ring_run.specs.Needs.{grows_by}
-use Rattle.ring_run.specs.Operands.{cleared_by}
+use Rattle.ring_run.specs.Grows.{grows_by}
+use Rattle.ring_run.specs.Operands.{pool_to_clear}
 use Rattle.ring_calls.specs.Around.{Around}
 use Rattle.ring_calls.specs.Seen.{seen_over}
 use Rattle.ring_calls.specs.Setting.{in_setting}
@@ -15,13 +14,10 @@ use Rattle.ring_run.proofs.Carried.{read_within}
 use Rattle.ring_run.proofs.CarriedOut.{carried, carried_read, done_inside, pools_same}
 use Rattle.ring_calls.proofs.Faultless.{nowhere}
 use Rattle.ring_run.proofs.Instructions.{clears_live, keeps_rest, pool_cleared, reads_so, unanswered, uncleared}
-use Rattle.ring_run.proofs.Needed.{faultless_by, fits_by, met, stands}
+use Rattle.ring_calls.proofs.Needed.{faultless_by, fits_by, met, stands}
+use Rattle.ring_calls.proofs.Quiet.{told_err}
 use Rattle.ring_calls.proofs.OpenFiles.{open_spot}
 use Rattle.ring_run.proofs.execute_instr.execute_instr.Goals as goal
-
-where_refused : {X E P : Type 0} (r : Result X E) → P → OnErr r P
-where_refused (Ok x) p = tt
-where_refused (Err e) p = p
 
 pub clear_pool-requires-clause-live : goal.clear_pool-requires-clause-live
 clear_pool-requires-clause-live g c =
@@ -32,16 +28,17 @@ clear_pool-requires-clause-live g c =
     clears_live c.args.code.now c.args.setting.now (map_of c.args.tree.now) (lists c.args.store.now) (next_name c.args.store.now) nowhere c.args.instance.now c.args.call.now effect kind met.none
 
 pub clear_pool-requires-clause-below : goal.clear_pool-requires-clause-below
-clear_pool-requires-clause-below g c = λ pool named. c.requires.below pool (ap (cleared_by c.args.instance.now) (sym c.effect_of-effect.ensures) ∙ named)
+clear_pool-requires-clause-below g c = λ pool named. c.requires.below pool (ap (pool_to_clear c.args.instance.now) (sym c.effect_of-effect.ensures) ∙ named)
 
 pub clear_pool-requires-clause-looks : goal.clear_pool-requires-clause-looks
-clear_pool-requires-clause-looks g c = λ pool named. c.requires.looks pool (ap (cleared_by c.args.instance.now) (sym c.effect_of-effect.ensures) ∙ named)
+clear_pool-requires-clause-looks g c = λ pool named. c.requires.looks pool (ap (pool_to_clear c.args.instance.now) (sym c.effect_of-effect.ensures) ∙ named)
 
 pub read-requires-clause-open : goal.read-requires-clause-open
 read-requires-clause-open g c =
     let over = in_setting c.args.setting.now (map_of c.args.tree.now) nowhere in
     let r = seen_over (lists c.args.store.now) (next_name c.args.store.now) over c.args.instance.now c.args.call.now in
-    let none = faultless_by c.args.code.now c.args.store.now over c.args.instance.now c.args.call.now c.args.instr c.effect_of-effect.result c.effect_of-effect.ensures (c.requires.faultless nowhere) in (
+    let none = faultless_by c.args.code.now c.args.store.now over c.args.instance.now c.args.call.now c.args.instr c.effect_of-effect.result c.effect_of-effect.ensures
+    (c.requires.faultless nowhere) in (
       over,
       open_spot (g.F.Files.device c.args.files.now) r c.in-Read.c (c.requires.ranges nowhere)
           (met none c.in-Read.is 1 (WHome c.in-Read.c) refl),
@@ -50,7 +47,8 @@ read-requires-clause-open g c =
 pub read-requires-clause-stands : goal.read-requires-clause-stands
 read-requires-clause-stands g c =
     let over = in_setting c.args.setting.now (map_of c.args.tree.now) nowhere in
-    let none = faultless_by c.args.code.now c.args.store.now over c.args.instance.now c.args.call.now c.args.instr c.effect_of-effect.result c.effect_of-effect.ensures (c.requires.faultless nowhere) in
+    let none = faultless_by c.args.code.now c.args.store.now over c.args.instance.now c.args.call.now c.args.instr c.effect_of-effect.result c.effect_of-effect.ensures
+    (c.requires.faultless nowhere) in
     stands none c.in-Read.is 0 c.in-Read.c InBrigade refl
 
 pub returns-in_ok-clear_pool-in-ClearPool-clause-ok : goal.returns-in_ok-clear_pool-in-ClearPool-clause-ok
@@ -63,7 +61,8 @@ returns-in_ok-clear_pool-in-ClearPool-clause-ok g c =
     (λ choice. sym (clears.goes_on c.args.code.now choice r)) (c.in_ok-clear_pool-in-ClearPool.ensures.ok c.args.code.now around)
 
 pub returns-in_ok-clear_pool-in-ClearPool-clause-cleared : goal.returns-in_ok-clear_pool-in-ClearPool-clause-cleared
-returns-in_ok-clear_pool-in-ClearPool-clause-cleared g c = λ pool named. c.in_ok-clear_pool-in-ClearPool.ensures.cleared pool (ap (cleared_by c.args.instance.now) c.effect_of-effect.ensures ∙ named)
+returns-in_ok-clear_pool-in-ClearPool-clause-cleared g c =
+    λ pool named. c.in_ok-clear_pool-in-ClearPool.ensures.cleared pool (ap (pool_to_clear c.args.instance.now) c.effect_of-effect.ensures ∙ named)
 
 pub returns-in_ok-well-in-Read-clause-ok : goal.returns-in_ok-well-in-Read-clause-ok
 returns-in_ok-well-in-Read-clause-ok g c =
@@ -94,7 +93,8 @@ pub execute_without_files-requires-clause-fit : goal.execute_without_files-requi
 execute_without_files-requires-clause-fit g c = fits_by c.args.code.now c.args.instr c.effect_of-effect.result c.effect_of-effect.ensures c.requires.fit
 
 pub execute_without_files-requires-clause-kind : goal.execute_without_files-requires-clause-kind
-execute_without_files-requires-clause-kind g c = keeps_rest c.effect_of-effect.result (ap is_carried_by c.effect_of-effect.ensures ∙ c.requires.kind) c.in_default.not-ClearPool c.in_default.not-DestroyPool c.in_default.not-Read
+execute_without_files-requires-clause-kind g c =
+    keeps_rest c.effect_of-effect.result (ap is_carried_by c.effect_of-effect.ensures ∙ c.requires.kind) c.in_default.not-ClearPool c.in_default.not-DestroyPool c.in_default.not-Read
 
 pub execute_without_files-requires-clause-faultless : goal.execute_without_files-requires-clause-faultless
 execute_without_files-requires-clause-faultless g c =
@@ -115,7 +115,8 @@ returns-in_ok-execute_without_files-in_default-clause-ok g c =
     let keeps = keeps_rest effect (ap is_carried_by is ∙ c.requires.kind) c.in_default.not-ClearPool c.in_default.not-DestroyPool c.in_default.not-Read in
     carried d d c.args.code.now c.args.instr effect r _ _ is (λ choice. c.exit-leads.ensures over choice)
     (done_inside d c.args.code.now effect keeps (lists c.execute_without_files.new.store) (next_name c.execute_without_files.new.store)
-    (during c.args.setting.now (map_of c.execute_without_files.new.tree) handed around) c.execute_without_files.new.instance c.execute_without_files.new.call r (λ choice. c.in_ok-execute_without_files-in_default.ensures.ok over choice))
+    (during c.args.setting.now (map_of c.execute_without_files.new.tree) handed around) c.execute_without_files.new.instance c.execute_without_files.new.call r
+    (λ choice. c.in_ok-execute_without_files-in_default.ensures.ok over choice))
 
 pub returns-in_ok-execute_without_files-in_default-clause-cleared : goal.returns-in_ok-execute_without_files-in_default-clause-cleared
 returns-in_ok-execute_without_files-in_default-clause-cleared g c =
@@ -123,21 +124,22 @@ returns-in_ok-execute_without_files-in_default-clause-cleared g c =
     let effect = c.effect_of-effect.result in
     let is = c.effect_of-effect.ensures in
     let keeps = keeps_rest effect (ap is_carried_by is ∙ c.requires.kind) c.in_default.not-ClearPool c.in_default.not-DestroyPool c.in_default.not-Read in
-    let none = sym (uncleared c.args.instance.now effect keeps) ∙ (ap (cleared_by c.args.instance.now) is ∙ named) in
+    let none = sym (uncleared c.args.instance.now effect keeps) ∙ (ap (pool_to_clear c.args.instance.now) is ∙ named) in
     absurd (cc)
 
 pub returns-in_err-execute_without_files-in_default-clause-err : goal.returns-in_err-execute_without_files-in_default-clause-err
 returns-in_err-execute_without_files-in_default-clause-err g c =
     let handed = c.args.handed.now.items in
     let same : (around : Around)
-    → seen_over (lists c.execute_without_files.new.store) (next_name c.execute_without_files.new.store) (during c.args.setting.now (map_of c.execute_without_files.new.tree) handed around) c.execute_without_files.new.instance c.execute_without_files.new.call
+    → seen_over (lists c.execute_without_files.new.store) (next_name c.execute_without_files.new.store)
+    (during c.args.setting.now (map_of c.execute_without_files.new.tree) handed around) c.execute_without_files.new.instance c.execute_without_files.new.call
     ≡ seen_over (lists c.args.store.now) (next_name c.args.store.now) (during c.args.setting.now (map_of c.args.tree.now) handed around) c.args.instance.now c.args.call.now
     = λ around. c.in_err-execute_without_files-in_default.ensures.err (during c.args.setting.now (map_of c.args.tree.now) handed around) in
-    where_refused _ same
+    told_err _ _ same
 
 pub returns-in_err-execute_without_files-in_default-clause-kept : goal.returns-in_err-execute_without_files-in_default-clause-kept
 returns-in_err-execute_without_files-in_default-clause-kept g c =
-    where_refused _ (pools_same (lists c.args.store.now) (lists c.execute_without_files.new.store) (next_name c.args.store.now) (next_name c.execute_without_files.new.store)
+    told_err _ _ (pools_same (lists c.args.store.now) (lists c.execute_without_files.new.store) (next_name c.args.store.now) (next_name c.execute_without_files.new.store)
     (map_of c.args.tree.now) (map_of c.execute_without_files.new.tree) nowhere c.args.instance.now c.execute_without_files.new.instance c.args.call.now c.execute_without_files.new.call
     (c.in_err-execute_without_files-in_default.ensures.err nowhere))
 

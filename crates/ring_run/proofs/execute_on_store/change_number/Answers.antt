@@ -4,7 +4,7 @@ use Rattle.run_model.specs.Cursors.{read_cursor}
 use Rattle.run_model.specs.declared.effect.Effect.TheVariants as effect
 use Rattle.run_model.specs.declared.effect.NewNumber.{NewNumber}
 use Rattle.run_model.specs.Faults.{OnBucket}
-use Rattle.ring_run.proofs.Needed.{stands}
+use Rattle.ring_calls.proofs.Needed.{stands}
 use Rattle.ring_run.proofs.execute_on_store.change_number.Goals as goal
 
 pub len-requires-clause-stands : goal.len-requires-clause-stands

@@ -2,19 +2,18 @@
 use Rattle.std.proofs.Common.{ℕ, false, refl, sym, ap, ◌∙◌}
 use Rattle.std.proofs.lemmas.Result.{on_ok_weaker}
 use Rattle.module_code.specs.Program.{fits}
-use Rattle.run_model.specs.BrigadeLists.{bucket_across}
-use Rattle.run_model.specs.BucketSteps.{do_bpart, do_split, items_at, names_to_part}
-use Rattle.run_model.specs.Cursors.{spot}
-use Rattle.run_model.specs.Faults.{InBrigade, InThis, OnBucket, OnLoose, WHome, WHomeAcross, home_fault}
-use Rattle.run_model.specs.Steps.{do_effect, value_of}
+use Rattle.run_model.specs.BucketSteps.{items_at, names_to_part}
+use Rattle.run_model.specs.Faults.{InBrigade, InThis, WHome, WHomeAcross}
+use Rattle.run_model.specs.Steps.{value_of}
 use Rattle.run_model.specs.declared.effect.Effect.{Effect}
 use Rattle.brigade_ops.specs.Store.{lists, next_name}
 use Rattle.ring_calls.specs.Outside.{with_outside}
 use Rattle.ring_calls.specs.Seen.{seen_over}
 use Rattle.ring_calls.proofs.Faultless.{nowhere}
 use Rattle.ring_calls.proofs.Quiet.{grown_none}
-use Rattle.ring_run.specs.Needs.{grows_by, instr_with}
-use Rattle.ring_run.proofs.Needed.{brigade_live, faultless_at, made_cursor, met, stands, usable_live}
+use Rattle.ring_calls.specs.EffectNeeds.{instr_with}
+use Rattle.ring_run.specs.Grows.{grows_by}
+use Rattle.ring_calls.proofs.Needed.{faultless_at, made_cursor, met, stands, usable_live}
 use Rattle.ring_run.proofs.execute_on_store.execute_on_store.Goals as goal
 
 pub make_bucket-requires-clause-cursor : goal.make_bucket-requires-clause-cursor
@@ -27,12 +26,7 @@ pub make_bucket-requires-clause-faultless : goal.make_bucket-requires-clause-fau
 make_bucket-requires-clause-faultless g c = λ around. faultless_at (c.requires.faultless around) c.in-Make.is
 
 pub returns-in-Make-clause-ok : goal.returns-in-Make-clause-ok
-returns-in-Make-clause-ok g c =
-    on_ok_weaker c.make_bucket.result (λ out around choice.
-    let over = with_outside c.args.outside.now around in
-    let r = seen_over (lists c.args.store.now) (next_name c.args.store.now) over c.args.instance.now c.args.call.now in
-    out around choice ∙ ap (λ (e : Effect). do_effect c.args.code.now choice e r) (sym c.in-Make.is))
-    c.make_bucket.ensures.ok
+returns-in-Make-clause-ok g c = rw c.in-Make.is c.make_bucket.ensures.ok
 
 pub move_buckets-requires-clause-faultless : goal.move_buckets-requires-clause-faultless
 move_buckets-requires-clause-faultless g c = (with_outside c.args.outside.now nowhere, c.requires.faultless nowhere)
@@ -42,12 +36,11 @@ split-requires-clause-stands g c = stands (c.requires.faultless nowhere) c.in-Sp
 
 pub returns-in-Split-clause-ok : goal.returns-in-Split-clause-ok
 returns-in-Split-clause-ok g c =
-    on_ok_weaker c.split.result (λ out around choice.
+    rw c.in-Split.is (on_ok_weaker c.split.result (λ out around choice.
     let over = with_outside c.args.outside.now around in
-    let r = seen_over (lists c.args.store.now) (next_name c.args.store.now) over c.args.instance.now c.args.call.now in
-    out over (met (c.requires.faultless around) c.in-Split.is 1 (WHome c.in-Split.c) refl)
-    ∙ (ap (λ (n : ℕ). do_split n (spot r c.in-Split.c) r) (c.from-n.ensures ∙ c.value_of.ensures (lists c.args.store.now) (next_name c.args.store.now) over c.args.call.now) ∙ ap (λ (e : Effect). do_effect c.args.code.now choice e r) (sym c.in-Split.is)))
-    c.split.ensures.ok
+    rw (c.from-n.ensures ∙ c.value_of.ensures (lists c.args.store.now) (next_name c.args.store.now) over c.args.call.now) at
+    (out over (met (c.requires.faultless around) c.in-Split.is 1 (WHome c.in-Split.c) refl)))
+    c.split.ensures.ok)
 
 pub concat-requires-clause-live_first : goal.concat-requires-clause-live_first
 concat-requires-clause-live_first g c = usable_live (c.requires.faultless nowhere) c.in-Concat.is 0 c.in-Concat.a refl
@@ -69,14 +62,11 @@ bsplit-requires-clause-stands g c = stands (c.requires.faultless nowhere) c.in-S
 
 pub returns-in-PartBrigade-clause-ok : goal.returns-in-PartBrigade-clause-ok
 returns-in-PartBrigade-clause-ok g c =
-    on_ok_weaker c.bpart.result (λ out around choice.
+    rw c.in-PartBrigade.is (on_ok_weaker c.bpart.result (λ out around choice.
     let over = with_outside c.args.outside.now around in
-    let r = seen_over (lists c.args.store.now) (next_name c.args.store.now) over c.args.instance.now c.args.call.now in
-    let at = c.from-point.ensures ∙ c.value_of-in-PartBrigade.ensures (lists c.args.store.now) (next_name c.args.store.now) over c.args.call.now in
-    out over (ap (λ (n : ℕ). home_fault (bucket_across n (items_at r c.in-PartBrigade.b))) at
-    ∙ met (c.requires.faultless around) c.in-PartBrigade.is 1 (WHomeAcross c.in-PartBrigade.b c.in-PartBrigade.x) refl)
-    ∙ (ap (λ (n : ℕ). do_bpart c.in-PartBrigade.b n c.in-PartBrigade.c r) at ∙ ap (λ (e : Effect). do_effect c.args.code.now choice e r) (sym c.in-PartBrigade.is)))
-    c.bpart.ensures.ok
+    let point = c.from-point.ensures ∙ c.value_of-in-PartBrigade.ensures (lists c.args.store.now) (next_name c.args.store.now) over c.args.call.now in
+    rw point at (out over (rw point (met (c.requires.faultless around) c.in-PartBrigade.is 1 (WHomeAcross c.in-PartBrigade.b c.in-PartBrigade.x) refl))))
+    c.bpart.ensures.ok)
 
 pub returns-in-Concat-clause-left : goal.returns-in-Concat-clause-left
 returns-in-Concat-clause-left g c = c.concat.ensures.left c.args.call.now

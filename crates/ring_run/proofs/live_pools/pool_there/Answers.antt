@@ -10,7 +10,8 @@ unreachable-requires c =
     let there = c.requires.there in
     let around = there.1.1.0 in
     let call = there.1.1.1.0 in
-    named_some (seen_over there.0 there.1.0 (with_outside c.args.outside.now around) c.args.instance.now call) c.args.pool there.1.1.1.1 (sym (c.pool_named.ensures there.0 there.1.0 around call) ∙ c.in-None.is)
+    named_some (seen_over there.0 there.1.0 (with_outside c.args.outside.now around) c.args.instance.now call) c.args.pool there.1.1.1.1
+    (sym (c.pool_named.ensures there.0 there.1.0 around call) ∙ c.in-None.is)
 
 pub returns-clause-live : goal.returns-clause-live
 unfolding seen_over
@@ -18,4 +19,5 @@ returns-clause-live c =
     let there = c.requires.there in
     let around = there.1.1.0 in
     let call = there.1.1.1.0 in
-    named_live (seen_over there.0 there.1.0 (with_outside c.args.outside.now around) c.args.instance.now call) c.args.pool c.in-Some.name there.1.1.1.1 (sym (c.pool_named.ensures there.0 there.1.0 around call) ∙ c.in-Some.is)
+    named_live (seen_over there.0 there.1.0 (with_outside c.args.outside.now around) c.args.instance.now call) c.args.pool c.in-Some.name there.1.1.1.1
+    (sym (c.pool_named.ensures there.0 there.1.0 around call) ∙ c.in-Some.is)

@@ -16,7 +16,7 @@ use Rattle.ring_calls.proofs.Faultless.{nowhere}
 use Rattle.ring_calls.proofs.Homes.{bucket_later, not_dead}
 use Rattle.ring_calls.proofs.Standing.{bucket_set, bucket_here, bucket_live}
 use Rattle.ring_run.specs.Making.{is_no_copy}
-use Rattle.ring_run.proofs.Needed.{met, stands}
+use Rattle.ring_calls.proofs.Needed.{met, stands}
 use Rattle.ring_run.proofs.makers.add_made.Goals as goal
 
 no_copy : (source : MadeFrom) → ((d : ℕ) → source ≡ CopyAt d → ⊥) → is_no_copy source ≡ true
@@ -56,7 +56,8 @@ returns-in-CopyAt-clause-ok g c =
             let young : id.birth ≤ next_name old = let y = (kept old).young id (bucket_live old i call d c.requires.held on id c.bucket.ensures) in omega (arith, y) in
             let alive = sym (ap home_fault (s.at over)) ∙ met (c.requires.faultless.1 around) (ap (effect.Make at) c.in-CopyAt.is) 1 (WHome d) refl in
             ap (made_of c.args.code.now r) c.in-CopyAt.is
-            ∙ (ap copied_bucket (s.at over) ∙ ap (λ (x : Bucket). Some x) (sym (bucket_later runs id.birth (next_name old) s.bucket (not_dead (named_item (item_in runs (id, s.bucket))) alive) young))),
+            ∙ (ap copied_bucket (s.at over)
+            ∙ ap (λ (x : Bucket). Some x) (sym (bucket_later runs id.birth (next_name old) s.bucket (not_dead (named_item (item_in runs (id, s.bucket))) alive) young))),
       ),
     )
 

@@ -28,7 +28,8 @@ pub returns-clause-held : goal.returns-clause-held
 returns-clause-held g c =
     let new = c.in_ok-id.ensures.ok in
     let rises : next_name c.args.store.now ≤ next_name c.add_made.new.store = let e = new.1.0.next in omega (arith, e) in
-    made_held c.args.store.now c.add_made.new.store c.args.call.now.name c.in_ok-id.id new.0 (c.requires.held.runs c.requires.runs) new.1.0.out c.args.instance.now c.args.call.now c.set_cursor.new.self c.args.c
+    made_held c.args.store.now c.add_made.new.store c.args.call.now.name c.in_ok-id.id new.0
+    (c.requires.held.runs c.requires.runs) new.1.0.out c.args.instance.now c.args.call.now c.set_cursor.new.self c.args.c
     rises c.add_made.ensures.names c.add_made.ensures.pools c.set_cursor.ensures.name c.set_cursor.ensures.cursors c.requires.held
 
 pub returns-clause-left : goal.returns-clause-left

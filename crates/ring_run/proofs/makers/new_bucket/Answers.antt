@@ -1,53 +1,32 @@
 -- What is made of the buffer's bytes.
-use Rattle.std.proofs.Common.{ℕ, List, [], Option, Some, sym, ap, ◌∙◌}
+use Rattle.std.proofs.Common.{ℕ, [], Option, Some, refl, sym, ap, ◌∙◌}
 use Rattle.run_model.specs.declared.bucket.Bucket.{Bucket}
-use Rattle.run_model.specs.declared.bucket.Content.TheVariants as content
-use Rattle.run_model.specs.declared.bucket.Home.TheVariants as home
-use Rattle.run_model.specs.declared.bucket.Kind.TheVariants as kind
 use Rattle.run_model.specs.BucketSteps.{pooled_bucket}
 use Rattle.run_model.specs.Faults.{WPool, fault}
-use Rattle.run_model.specs.Steps.{made_of}
 use Rattle.run_model.specs.declared.effect.Effect.TheVariants as effect
 use Rattle.run_model.specs.declared.effect.MadeFrom.{MadeFrom}
 use Rattle.ring_calls.proofs.Faultless.{first_met}
-use Rattle.ring_run.specs.Needs.{instr_with}
+use Rattle.ring_calls.specs.EffectNeeds.{instr_with}
 use Rattle.ring_calls.specs.Outside.{with_outside}
-use Rattle.ring_calls.specs.Seen.{bucket_in, calls_in, seen_over}
+use Rattle.ring_calls.specs.Seen.{seen_over}
 use Rattle.ring_run.proofs.Makes.{home_now}
 use Rattle.ring_run.proofs.makers.new_bucket.Goals as goal
 
 pub returns-in_ok-buffered-in-HeapBuffer : goal.returns-in_ok-buffered-in-HeapBuffer
 unfolding seen_over
-returns-in_ok-buffered-in-HeapBuffer c =
-    λ rings next around young.
-    let r = seen_over rings next (with_outside c.args.outside.now around) c.args.instance.now c.args.call.now in
-    let runs = calls_in around c.args.call.now in
-    ap (made_of c.args.code.now r) c.in-HeapBuffer.is
-    ∙ ap (λ (bytes : List ℕ). Some (bucket_in runs next (record { kind = kind.Heap; content = content.Bytes bytes; home = home.Free }))) (sym c.in_ok-buffered-in-HeapBuffer.ensures)
-    ∙ ap (λ (b : Bucket). Some (bucket_in runs next b)) (sym c.of_bytes-in-HeapBuffer.ensures)
+returns-in_ok-buffered-in-HeapBuffer c rings next around young = rw (c.in-HeapBuffer.is, c.of_bytes-in-HeapBuffer.ensures, c.in_ok-buffered-in-HeapBuffer.ensures) refl
 
 pub returns-in_ok-buffered-in-TransientBuffer : goal.returns-in_ok-buffered-in-TransientBuffer
 unfolding seen_over
-returns-in_ok-buffered-in-TransientBuffer c =
-    λ rings next around young.
-    let r = seen_over rings next (with_outside c.args.outside.now around) c.args.instance.now c.args.call.now in
-    let runs = calls_in around c.args.call.now in
-    let name = c.args.call.now.name in
-    ap (made_of c.args.code.now r) c.in-TransientBuffer.is
-    ∙ ap (λ (b : Bucket). Some b) (sym (home_now name next around.waits c.args.call.now.buffer c.requires.runs young))
-    ∙ ap (λ (bytes : List ℕ). Some (bucket_in runs next (record { kind = kind.Transient; content = content.Bytes bytes; home = home.Call name }))) (sym c.in_ok-buffered-in-TransientBuffer.ensures)
-    ∙ ap (λ (b : Bucket). Some (bucket_in runs next b)) (sym c.of_bytes-in-TransientBuffer.ensures)
+returns-in_ok-buffered-in-TransientBuffer c rings next around young =
+    rw (c.in-TransientBuffer.is, c.of_bytes-in-TransientBuffer.ensures, c.in_ok-buffered-in-TransientBuffer.ensures)
+    (ap (λ (b : Bucket). Some b) (sym (home_now c.args.call.now.name next around.waits c.args.call.now.buffer c.requires.runs young)))
 
 pub returns-in_ok-buffered-in-PoolBuffer : goal.returns-in_ok-buffered-in-PoolBuffer
 unfolding seen_over
-returns-in_ok-buffered-in-PoolBuffer c =
-    λ rings next around young.
-    let r = seen_over rings next (with_outside c.args.outside.now around) c.args.instance.now c.args.call.now in
-    let runs = calls_in around c.args.call.now in
-    ap (made_of c.args.code.now r) c.in-PoolBuffer.is
-    ∙ ap (λ (o : Option ℕ). pooled_bucket c.args.call.now.buffer o) (c.pool_there.ensures.named rings next around c.args.call.now)
-    ∙ ap (λ (bytes : List ℕ). Some (bucket_in runs next (record { kind = kind.Pool c.pool_there.result; content = content.Bytes bytes; home = home.Free }))) (sym c.in_ok-buffered-in-PoolBuffer.ensures)
-    ∙ ap (λ (b : Bucket). Some (bucket_in runs next b)) (sym c.of_bytes-in-PoolBuffer.ensures)
+returns-in_ok-buffered-in-PoolBuffer c rings next around young =
+    rw (c.in-PoolBuffer.is, c.of_bytes-in-PoolBuffer.ensures, c.in_ok-buffered-in-PoolBuffer.ensures)
+    (ap (λ (o : Option ℕ). pooled_bucket c.args.call.now.buffer o) (c.pool_there.ensures.named rings next around c.args.call.now))
 
 pub pool_there-requires : goal.pool_there-requires
 pool_there-requires c =

@@ -9,26 +9,21 @@ use Rattle.run_model.specs.declared.bucket.NamedBucket.{NamedBucket}
 use Rattle.stored_rings.specs.Items.{before_place, from_place}
 use Rattle.brigade_ops.specs.Store.{lists, brigade_of, pool_of, next_name}
 use Rattle.ring_calls.specs.Seen.{seen_over, calls_in, shown}
-use Rattle.ring_calls.specs.Slots.{slot_at}
 use Rattle.ring_run.proofs.Cuts.{parted}
 use Rattle.ring_calls.proofs.Names.{apart_in, held_kept, no_less, still_same, still_both, by_result}
 use Rattle.ring_calls.proofs.LeftAlone.{left_both, left_same, ours_slot}
-use Rattle.ring_calls.proofs.Slots.{made_in}
 use Rattle.ring_run.proofs.part_steps.bsplit.Goals as goal
-
-pub brigade-from-requires-clause-made : goal.brigade-from-requires-clause-made
-brigade-from-requires-clause-made g c = made_in (lists c.args.store.now) (slot_at c.args.instance.now c.args.b) c.requires.live_from
-
-pub brigade-to-requires-clause-made : goal.brigade-to-requires-clause-made
-brigade-to-requires-clause-made g c = made_in (lists c.args.store.now) (slot_at c.args.instance.now c.args.a) c.requires.live_into
 
 pub returns-clause-ok : goal.returns-clause-ok
 returns-clause-ok g c =
     on_ok_weaker c.split_at.result (λ out around.
     let r = (seen_over (lists c.args.store.now) (next_name c.args.store.now) around c.args.instance.now c.args.call.now) in
-    parted (lists c.args.store.now) (lists c.split_at.new.self) (next_name c.args.store.now) (next_name c.split_at.new.self) around c.args.instance.now c.args.call.now c.args.a c.args.b c.brigade-to.result c.brigade-from.result c.place_in-place.result (apart_in (brigade_of c.args.store.now) (lists c.args.store.now) (pool_of c.args.store.now) (next_name c.args.store.now) c.args.instance.now c.args.call.now c.requires.held) c.requires.apart
+    parted (lists c.args.store.now) (lists c.split_at.new.self) (next_name c.args.store.now) (next_name c.split_at.new.self) around c.args.instance.now c.args.call.now c.args.a c.args.b
+    c.brigade-to.result c.brigade-from.result c.place_in-place.result
+    (apart_in (brigade_of c.args.store.now) (lists c.args.store.now) (pool_of c.args.store.now) (next_name c.args.store.now) c.args.instance.now c.args.call.now c.requires.held) c.requires.apart
     c.brigade-to.ensures.name c.brigade-from.ensures.name c.split_at.ensures.next out
-    ∙ (ap (λ (zs : List NamedBucket). set_items c.args.a zs (set_items c.args.b (shown (calls_in around c.args.call.now) (before_place c.place_in-place.result (list_at (lists c.args.store.now) c.brigade-from.result))) r)) (c.place_in-place.ensures.moves around)
+    ∙ (ap (λ (zs : List NamedBucket). set_items c.args.a zs (set_items c.args.b
+    (shown (calls_in around c.args.call.now) (before_place c.place_in-place.result (list_at (lists c.args.store.now) c.brigade-from.result))) r)) (c.place_in-place.ensures.moves around)
     ∙ ap (λ (ys : List NamedBucket). set_items c.args.a (moves (place_at (spot r c.args.c)) (items_at r c.args.b)) (set_items c.args.b ys r)) (c.place_in-place.ensures.stays around)))
     c.split_at.ensures.ok
 
@@ -36,7 +31,8 @@ pub returns-clause-held : goal.returns-clause-held
 returns-clause-held g c =
     held_kept c.args.store.now c.split_at.new.self (no_less (next_name c.args.store.now) (next_name c.split_at.new.self) c.split_at.ensures.next) c.split_at.ensures.names c.split_at.ensures.pools
     (by_result c.split_at.result _ _
-    (λ out. still_both (lists c.args.store.now) (lists c.split_at.new.self) c.brigade-to.result c.brigade-from.result (λ xs. from_place c.place_in-place.result (list_at (lists c.args.store.now) c.brigade-from.result)) (before_place c.place_in-place.result) out)
+    (λ out. still_both (lists c.args.store.now) (lists c.split_at.new.self) c.brigade-to.result c.brigade-from.result
+    (λ xs. from_place c.place_in-place.result (list_at (lists c.args.store.now) c.brigade-from.result)) (before_place c.place_in-place.result) out)
     (λ out. still_same (lists c.args.store.now) (lists c.split_at.new.self) out)
     c.split_at.ensures.ok c.split_at.ensures.err)
     c.args.instance.now c.args.call.now c.requires.held
@@ -44,8 +40,11 @@ returns-clause-held g c =
 pub returns-clause-left : goal.returns-clause-left
 returns-clause-left g c =
     by_result c.split_at.result _ _
-    (λ out. left_both c.args.store.now c.split_at.new.self (no_less (next_name c.args.store.now) (next_name c.split_at.new.self) c.split_at.ensures.next) c.split_at.ensures.names c.split_at.ensures.pools c.split_at.ensures.references c.split_at.ensures.unasked c.brigade-to.result c.brigade-from.result (λ xs. from_place c.place_in-place.result (list_at (lists c.args.store.now) c.brigade-from.result)) (before_place c.place_in-place.result) out c.args.instance.now c.args.call.now
+    (λ out. left_both c.args.store.now c.split_at.new.self (no_less (next_name c.args.store.now) (next_name c.split_at.new.self) c.split_at.ensures.next) c.split_at.ensures.names
+    c.split_at.ensures.pools c.split_at.ensures.references c.split_at.ensures.unasked c.brigade-to.result c.brigade-from.result
+    (λ xs. from_place c.place_in-place.result (list_at (lists c.args.store.now) c.brigade-from.result)) (before_place c.place_in-place.result) out c.args.instance.now c.args.call.now
     (ours_slot c.args.instance.now c.args.call.now c.args.a c.brigade-to.result c.brigade-to.ensures.name)
     (ours_slot c.args.instance.now c.args.call.now c.args.b c.brigade-from.result c.brigade-from.ensures.name))
-    (λ out. left_same c.args.store.now c.split_at.new.self (no_less (next_name c.args.store.now) (next_name c.split_at.new.self) c.split_at.ensures.next) c.split_at.ensures.names c.split_at.ensures.pools c.split_at.ensures.references c.split_at.ensures.unasked out c.args.instance.now c.args.call.now)
+    (λ out. left_same c.args.store.now c.split_at.new.self (no_less (next_name c.args.store.now) (next_name c.split_at.new.self) c.split_at.ensures.next) c.split_at.ensures.names
+    c.split_at.ensures.pools c.split_at.ensures.references c.split_at.ensures.unasked out c.args.instance.now c.args.call.now)
     c.split_at.ensures.ok c.split_at.ensures.err

@@ -1,7 +1,16 @@
 -- What stands before the cursor, and from it on.
-use Rattle.std.proofs.Common.{[], Some, None, refl, sym, ap, ◌∙◌}
+use Rattle.std.proofs.Common.{◌≡◌, ℕ, [], Some, None, refl, sym, ap, ◌∙◌}
 use Rattle.bucket_ring.specs.Lists.{list_at, front, rest}
+use Rattle.bucket_ring.specs.declared.names.BucketId.{BucketId}
+use Rattle.bucket_ring.specs.declared.rings.Rings.{Ghosts}
+use Rattle.bucket_kinds.specs.declared.stored.Stored.{Stored}
+use Rattle.brigade_ops.specs.declared.store.Brigades.{Brigades}
+use Rattle.stored_rings.specs.Laws.{IsGiven}
 use Rattle.run_model.specs.BucketSteps.{place_at}
+use Rattle.run_model.specs.Cursors.{spot}
+use Rattle.ring_calls.specs.declared.machine.Instance.{Instance}
+use Rattle.ring_calls.specs.declared.machine.Call.{Call}
+use Rattle.ring_calls.specs.Around.{Around}
 use Rattle.brigade_ops.specs.Store.{lists, brigade_of, next_name}
 use Rattle.brigade_ops.proofs.Stores.{kept}
 use Rattle.ring_calls.specs.Seen.{seen_over, calls_in, shown}
@@ -11,39 +20,58 @@ use Rattle.ring_calls.proofs.Standing.{this_at, this_end, this_set}
 use Rattle.ring_calls.proofs.Stands.{spot_end}
 use Rattle.ring_calls.proofs.Walks.{from_shown}
 use Rattle.ring_run.proofs.part_steps.place_in.Goals as goal
+use Rattle.ring_run.proofs.part_steps.place_in.Goals.{In-At, In-End}
+
+-- The cursor c stands at a bucket of the brigade that is in the variable b.
+record IsAt {R : Type 0} {g : Ghosts R Stored} (store : Brigades R g) (i : Instance) (call : Call) (c b name : ℕ) (id : BucketId) : Type 0 where
+  given : IsGiven id (list_at (lists store) name)
+  place : (around : Around) → place_at (spot (seen_over (lists store) (next_name store) around i call) c) ≡ Some id.birth
 
 pub returns-in-At-clause-inside : goal.returns-in-At-clause-inside
-returns-in-At-clause-inside g c = (this_at c.args.store.now c.args.instance.now c.args.call.now c.args.c c.requires.held c.args.b c.args.name c.requires.named c.requires.stands c.in-At.id (sym c.cursor.ensures ∙ c.in-At.is)).0
+returns-in-At-clause-inside g c =
+    (this_at c.args.store.now c.args.instance.now c.args.call.now c.args.c c.requires.held c.args.b c.args.name c.requires.named c.requires.stands c.in-At.id (sym c.cursor.ensures ∙ c.in-At.is)).0
+
+-- The cursor stands at a bucket of the brigade.
+at : (g : _) (c : In-At g) → IsAt c.args.store.now c.args.instance.now c.args.call.now c.args.c c.args.b c.args.name c.in-At.id
+at g c =
+    let s = c.args.store.now in
+    let t = this_at s c.args.instance.now c.args.call.now c.args.c c.requires.held c.args.b c.args.name c.requires.named c.requires.stands c.in-At.id (sym c.cursor.ensures ∙ c.in-At.is) in
+    record {
+      given = given_in (brigade_of s) (lists s) (next_name s) c.in-At.id (kept s) (name_there (brigade_of s) (lists s) (next_name s) c.args.name c.in-At.id (kept s) t.0) c.args.name;
+      place = λ around. place_within (seen_over (lists s) (next_name s) around c.args.instance.now c.args.call.now) c.args.c c.args.b c.in-At.id.birth (t.1 around);
+    }
 
 pub returns-in-At-clause-stays : goal.returns-in-At-clause-stays
-returns-in-At-clause-stays g c =
-    λ around.
-    let t = this_at c.args.store.now c.args.instance.now c.args.call.now c.args.c c.requires.held c.args.b c.args.name c.requires.named c.requires.stands c.in-At.id (sym c.cursor.ensures ∙ c.in-At.is) in
-    let given = given_in (brigade_of c.args.store.now) (lists c.args.store.now) (next_name c.args.store.now) c.in-At.id (kept c.args.store.now) (name_there (brigade_of c.args.store.now) (lists c.args.store.now) (next_name c.args.store.now) c.args.name c.in-At.id (kept c.args.store.now) t.0) c.args.name in
-    let is = place_within (seen_over (lists c.args.store.now) (next_name c.args.store.now) around c.args.instance.now c.args.call.now) c.args.c c.args.b c.in-At.id.birth (t.1 around) in
-    stays_at (lists c.args.store.now) (next_name c.args.store.now) around c.args.instance.now c.args.call.now c.args.c c.args.b c.args.name c.requires.named (Some c.in-At.id.birth) (shown (calls_in around c.args.call.now) (front c.in-At.id (list_at (lists c.args.store.now) c.args.name))) is (sym (before_shown (calls_in around c.args.call.now) c.in-At.id (list_at (lists c.args.store.now) c.args.name) given))
+returns-in-At-clause-stays g c around =
+    let t = at g (goal.at.returns-in-At-clause-stays g c).In-At in
+    let runs = calls_in around c.args.call.now in
+    let xs = list_at (lists c.args.store.now) c.args.name in
+    stays_at (lists c.args.store.now) (next_name c.args.store.now) around c.args.instance.now c.args.call.now c.args.c c.args.b c.args.name c.requires.named (Some c.in-At.id.birth)
+    (shown runs (front c.in-At.id xs)) (t.place around) (sym (before_shown runs c.in-At.id xs t.given))
 
 pub returns-in-At-clause-moves : goal.returns-in-At-clause-moves
-returns-in-At-clause-moves g c =
-    λ around.
-    let t = this_at c.args.store.now c.args.instance.now c.args.call.now c.args.c c.requires.held c.args.b c.args.name c.requires.named c.requires.stands c.in-At.id (sym c.cursor.ensures ∙ c.in-At.is) in
-    let given = given_in (brigade_of c.args.store.now) (lists c.args.store.now) (next_name c.args.store.now) c.in-At.id (kept c.args.store.now) (name_there (brigade_of c.args.store.now) (lists c.args.store.now) (next_name c.args.store.now) c.args.name c.in-At.id (kept c.args.store.now) t.0) c.args.name in
-    let is = place_within (seen_over (lists c.args.store.now) (next_name c.args.store.now) around c.args.instance.now c.args.call.now) c.args.c c.args.b c.in-At.id.birth (t.1 around) in
-    moves_at (lists c.args.store.now) (next_name c.args.store.now) around c.args.instance.now c.args.call.now c.args.c c.args.b c.args.name c.requires.named (Some c.in-At.id.birth) (shown (calls_in around c.args.call.now) (rest c.in-At.id (list_at (lists c.args.store.now) c.args.name))) is (sym (from_shown (calls_in around c.args.call.now) c.in-At.id (list_at (lists c.args.store.now) c.args.name) given))
+returns-in-At-clause-moves g c around =
+    let t = at g (goal.at.returns-in-At-clause-moves g c).In-At in
+    let runs = calls_in around c.args.call.now in
+    let xs = list_at (lists c.args.store.now) c.args.name in
+    moves_at (lists c.args.store.now) (next_name c.args.store.now) around c.args.instance.now c.args.call.now c.args.c c.args.b c.args.name c.requires.named (Some c.in-At.id.birth)
+    (shown runs (rest c.in-At.id xs)) (t.place around) (sym (from_shown runs c.in-At.id xs t.given))
+
+-- It stands at the end of the brigade.
+end : (g : _) (c : In-End g) (around : Around) → place_at (spot (seen_over (lists c.args.store.now) (next_name c.args.store.now) around c.args.instance.now c.args.call.now) c.args.c) ≡ None
+end g c around =
+    ap place_at (spot_end (seen_over (lists c.args.store.now) (next_name c.args.store.now) around c.args.instance.now c.args.call.now) c.args.c c.args.b
+    (this_end c.args.store.now c.args.instance.now c.args.call.now c.args.c c.requires.held c.args.b c.in-End.field-0 c.requires.stands (sym c.cursor.ensures ∙ c.in-End.is) around))
 
 pub returns-in-End-clause-stays : goal.returns-in-End-clause-stays
-returns-in-End-clause-stays g c =
-    λ around.
-    let r = seen_over (lists c.args.store.now) (next_name c.args.store.now) around c.args.instance.now c.args.call.now in
-    let end = spot_end r c.args.c c.args.b (this_end c.args.store.now c.args.instance.now c.args.call.now c.args.c c.requires.held c.args.b c.in-End.field-0 c.requires.stands (sym c.cursor.ensures ∙ c.in-End.is) around) in
-    stays_at (lists c.args.store.now) (next_name c.args.store.now) around c.args.instance.now c.args.call.now c.args.c c.args.b c.args.name c.requires.named None (shown (calls_in around c.args.call.now) (list_at (lists c.args.store.now) c.args.name)) (ap place_at end) refl
+returns-in-End-clause-stays g c around =
+    stays_at (lists c.args.store.now) (next_name c.args.store.now) around c.args.instance.now c.args.call.now c.args.c c.args.b c.args.name c.requires.named None
+    (shown (calls_in around c.args.call.now) (list_at (lists c.args.store.now) c.args.name)) (end g (goal.at.returns-in-End-clause-stays g c).In-End around) refl
 
 pub returns-in-End-clause-moves : goal.returns-in-End-clause-moves
-returns-in-End-clause-moves g c =
-    λ around.
-    let r = seen_over (lists c.args.store.now) (next_name c.args.store.now) around c.args.instance.now c.args.call.now in
-    let end = spot_end r c.args.c c.args.b (this_end c.args.store.now c.args.instance.now c.args.call.now c.args.c c.requires.held c.args.b c.in-End.field-0 c.requires.stands (sym c.cursor.ensures ∙ c.in-End.is) around) in
-    moves_at (lists c.args.store.now) (next_name c.args.store.now) around c.args.instance.now c.args.call.now c.args.c c.args.b c.args.name c.requires.named None [] (ap place_at end) refl
+returns-in-End-clause-moves g c around =
+    moves_at (lists c.args.store.now) (next_name c.args.store.now) around c.args.instance.now c.args.call.now c.args.c c.args.b c.args.name c.requires.named None []
+    (end g (goal.at.returns-in-End-clause-moves g c).In-End around) refl
 
 pub unreachable-requires : goal.unreachable-requires
 unreachable-requires g c = this_set c.args.store.now c.args.instance.now c.args.call.now c.args.c c.requires.held c.args.b c.requires.stands (sym c.cursor.ensures ∙ c.in-Unset.is)

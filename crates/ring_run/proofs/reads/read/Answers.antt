@@ -17,10 +17,10 @@ use Rattle.ring_calls.specs.declared.machine.CursorValue.TheVariants as cursor_v
 use Rattle.ring_calls.specs.Given.{WasRead}
 use Rattle.ring_calls.specs.Held.{WasGiven}
 use Rattle.ring_calls.specs.Seen.{seen_over, calls_in, item_in}
-use Rattle.ring_run.proofs.BucketReads.{read_into, taken_of, none_given, is_wanted, told_none, told_some, done_read, rest_same, same_read, alive_at, next_is, next_rises, next_same, err_ok, name_later}
+use Rattle.ring_run.proofs.BucketReads.{read_into, taken_of, none_given, is_wanted, told_none, told_some, done_read, rest_same, same_read, alive_at, next_is, next_rises, next_same, err_ok}
 use Rattle.ring_calls.proofs.Changes.{seen_same}
 use Rattle.ring_calls.proofs.LeftAlone.{left_on, left_same, ours_slot}
-use Rattle.ring_calls.proofs.Names.{apart_in, held_kept, no_less, still_same, still_on}
+use Rattle.ring_calls.proofs.Names.{name_kept, apart_in, held_kept, no_less, still_same, still_on}
 use Rattle.ring_calls.proofs.Standing.{within_set, within_here, within_live}
 use Rattle.ring_calls.proofs.Stands.{some_same}
 use Rattle.ring_calls.proofs.Walks.{held_cursor, same_at}
@@ -52,14 +52,18 @@ returns-in-Ok-clause-ok g c =
     let alive = alive_at r c.args.c s.variable b y z (s.at around) stands home in
     let rest = read.rest ∙ rest_same [] took.0 s.bucket in
     let next = next_is [] s.bucket (next_name c.args.store.now) (next_name c.read.new.self) read.names in
-    subst (λ (s : Place). WasRead (g.F.Files.device c.args.files.now) (g.F.Files.device c.read.new.files) s r (seen_over (lists c.read.new.self) (next_name c.read.new.self) around c.args.instance.now c.set_cursor.new.self) true) (sym (s.at around))
+    subst (λ (s : Place). WasRead (g.F.Files.device c.args.files.now) (g.F.Files.device c.read.new.files) s r
+    (seen_over (lists c.read.new.self) (next_name c.read.new.self) around c.args.instance.now c.set_cursor.new.self) true) (sym (s.at around))
     (record {
       given = Some gave.0;
       gave = (gave.1, read.asked);
       answer = told_some (Some gave.0) s.variable y took.0 took.1.0;
       state = done_read (Some gave.0) (Some took.0) s.variable y r (seen_over (lists c.read.new.self) (next_name c.read.new.self) around c.args.instance.now c.set_cursor.new.self) took.1.0
-          (read_into (lists c.args.store.now) (lists c.read.new.self) (next_name c.args.store.now) (next_name c.read.new.self) around c.args.instance.now c.args.call.now c.set_cursor.new.self (apart_in (brigade_of c.args.store.now) (lists c.args.store.now) (pool_of c.args.store.now) (next_name c.args.store.now) c.args.instance.now c.args.call.now c.requires.held) c.bucket-id.result c.in-Ok.field-0 s.bucket took.0
-          s.variable s.ring s.named s.given s.found alive s.name.young rest c.in-Ok.ensures.name next wrote (c.set_cursor.ensures.seen (lists c.read.new.self) (next_name c.read.new.self) around c.args.instance.now));
+          (read_into (lists c.args.store.now) (lists c.read.new.self) (next_name c.args.store.now) (next_name c.read.new.self) around c.args.instance.now c.args.call.now c.set_cursor.new.self
+          (apart_in (brigade_of c.args.store.now) (lists c.args.store.now) (pool_of c.args.store.now) (next_name c.args.store.now) c.args.instance.now c.args.call.now c.requires.held)
+          c.bucket-id.result c.in-Ok.field-0 s.bucket took.0
+          s.variable s.ring s.named s.given s.found alive s.name.young rest c.in-Ok.ensures.name next wrote
+          (c.set_cursor.ensures.seen (lists c.read.new.self) (next_name c.read.new.self) around c.args.instance.now));
     })
 
 pub returns-in-Ok-clause-held : goal.returns-in-Ok-clause-held
@@ -71,8 +75,10 @@ returns-in-Ok-clause-held g c =
     let still = held_kept c.args.store.now c.read.new.self rises c.read.ensures.names c.read.ensures.pools
     (still_on (lists c.args.store.now) (lists c.read.new.self) s.ring (replaced c.bucket-id.result (read_of gave.0 s.bucket).0 (rest_item c.in-Ok.field-0 (read_of gave.0 s.bucket).1)) gave.2)
     c.args.instance.now c.args.call.now c.requires.held in
-    held_cursor (brigade_of c.read.new.self) (lists c.read.new.self) (pool_of c.read.new.self) (next_name c.read.new.self) c.args.instance.now c.args.call.now c.set_cursor.new.self 8 (cursor_value.At c.bucket-id.result) c.set_cursor.ensures.name c.set_cursor.ensures.cursors
-    (λ j e. subst (WasGiven c.read.new.self) (same_at c.bucket-id.result j e) (name_later c.args.store.now c.read.new.self rises c.read.ensures.names c.bucket-id.result s.name)) still
+    held_cursor (brigade_of c.read.new.self) (lists c.read.new.self) (pool_of c.read.new.self) (next_name c.read.new.self) c.args.instance.now c.args.call.now c.set_cursor.new.self 8
+    (cursor_value.At c.bucket-id.result) c.set_cursor.ensures.name c.set_cursor.ensures.cursors
+    (λ j e. subst (WasGiven c.read.new.self) (same_at c.bucket-id.result j e)
+    (name_kept (brigade_of c.args.store.now) (brigade_of c.read.new.self) (next_name c.args.store.now) (next_name c.read.new.self) rises c.read.ensures.names c.bucket-id.result s.name)) still
 
 pub returns-in-Err-ReadFault-clause-ok : goal.returns-in-Err-ReadFault-clause-ok
 returns-in-Err-ReadFault-clause-ok g c =
@@ -82,17 +88,20 @@ returns-in-Err-ReadFault-clause-ok g c =
     let y : NamedBucket = named_item (item_in (calls_in around c.args.call.now) (c.bucket-id.result, s.bucket)) in
     let read = c.in-Err-ReadFault.ensures.read s.bucket s.here in
     let no_rest : Option BucketId = None in
-    let fault : ◌≡◌ {A = Result (Option BucketId) ReadRefusal} (Err c.in-Err-ReadFault.field-0) (Err refusal.ReadFault) = ap (λ (e : ReadRefusal). let o : Result (Option BucketId) ReadRefusal = Err e in o) c.in-Err-ReadFault.field-0-is in
+    let fault : ◌≡◌ {A = Result (Option BucketId) ReadRefusal} (Err c.in-Err-ReadFault.field-0) (Err refusal.ReadFault) =
+    ap (λ (e : ReadRefusal). let o : Result (Option BucketId) ReadRefusal = Err e in o) c.in-Err-ReadFault.field-0-is in
     let some = is_wanted (wanted s.bucket.content) (λ zero. err_ok c.in-Err-ReadFault.field-0 no_rest (read.unread zero).0) in
     let none = none_given s.bucket.content some in
-    subst (λ (s : Place). WasRead (g.F.Files.device c.args.files.now) (g.F.Files.device c.read.new.files) s r (seen_over (lists c.read.new.self) (next_name c.read.new.self) around c.args.instance.now c.set_cursor-in-Err-ReadFault.new.self) false) (sym (s.at around))
+    subst (λ (s : Place). WasRead (g.F.Files.device c.args.files.now) (g.F.Files.device c.read.new.files) s r
+    (seen_over (lists c.read.new.self) (next_name c.read.new.self) around c.args.instance.now c.set_cursor-in-Err-ReadFault.new.self) false) (sym (s.at around))
     (record {
       given = None;
       gave = (some, read.fault fault);
       answer = told_none None s.variable y none;
       state = done_read None None s.variable y r (seen_over (lists c.read.new.self) (next_name c.read.new.self) around c.args.instance.now c.set_cursor-in-Err-ReadFault.new.self) none
           (c.set_cursor-in-Err-ReadFault.ensures.seen (lists c.read.new.self) (next_name c.read.new.self) around c.args.instance.now
-          ∙ ap (set_cursor read_cursor cursor.Unset) (seen_same (lists c.args.store.now) (next_name c.args.store.now) around c.args.instance.now c.args.call.now (lists c.read.new.self) (next_name c.read.new.self) (next_same (is_some (read_of [] s.bucket).1) (next_name c.args.store.now) (next_name c.read.new.self) read.names) c.in-Err-ReadFault.ensures.err));
+          ∙ ap (set_cursor read_cursor cursor.Unset) (seen_same (lists c.args.store.now) (next_name c.args.store.now) around c.args.instance.now c.args.call.now (lists c.read.new.self)
+          (next_name c.read.new.self) (next_same (is_some (read_of [] s.bucket).1) (next_name c.args.store.now) (next_name c.read.new.self) read.names) c.in-Err-ReadFault.ensures.err));
     })
 
 pub returns-in-Err-ReadFault-clause-held : goal.returns-in-Err-ReadFault-clause-held
@@ -103,7 +112,8 @@ returns-in-Err-ReadFault-clause-held g c =
     let still = held_kept c.args.store.now c.read.new.self (no_less (next_name c.args.store.now) (next_name c.read.new.self) same) c.read.ensures.names c.read.ensures.pools
     (still_same (lists c.args.store.now) (lists c.read.new.self) c.in-Err-ReadFault.ensures.err)
     c.args.instance.now c.args.call.now c.requires.held in
-    held_cursor (brigade_of c.read.new.self) (lists c.read.new.self) (pool_of c.read.new.self) (next_name c.read.new.self) c.args.instance.now c.args.call.now c.set_cursor-in-Err-ReadFault.new.self 8 cursor_value.Unset c.set_cursor-in-Err-ReadFault.ensures.name c.set_cursor-in-Err-ReadFault.ensures.cursors
+    held_cursor (brigade_of c.read.new.self) (lists c.read.new.self) (pool_of c.read.new.self) (next_name c.read.new.self) c.args.instance.now c.args.call.now c.set_cursor-in-Err-ReadFault.new.self
+    8 cursor_value.Unset c.set_cursor-in-Err-ReadFault.ensures.name c.set_cursor-in-Err-ReadFault.ensures.cursors
     (λ j e. absurd (let never = e in cc)) still
 
 pub returns-in-Err-clause-held : goal.returns-in-Err-clause-held
@@ -121,29 +131,34 @@ returns-in-Err-clause-err g c =
     λ around.
     let s = within_here c.args.store.now c.args.instance.now c.args.call.now c.args.c c.requires.held c.requires.stands c.bucket-id.result c.bucket-id.ensures in
     let read = c.in-Err.ensures.read s.bucket s.here in
-    seen_same (lists c.args.store.now) (next_name c.args.store.now) around c.args.instance.now c.args.call.now (lists c.read.new.self) (next_name c.read.new.self) (next_same (is_some (read_of [] s.bucket).1) (next_name c.args.store.now) (next_name c.read.new.self) read.names) c.in-Err.ensures.err
+    seen_same (lists c.args.store.now) (next_name c.args.store.now) around c.args.instance.now c.args.call.now (lists c.read.new.self) (next_name c.read.new.self)
+    (next_same (is_some (read_of [] s.bucket).1) (next_name c.args.store.now) (next_name c.read.new.self) read.names) c.in-Err.ensures.err
 
 pub returns-in-Ok-clause-left : goal.returns-in-Ok-clause-left
 returns-in-Ok-clause-left g c =
     let s = within_here c.args.store.now c.args.instance.now c.args.call.now c.args.c c.requires.held c.requires.stands c.bucket-id.result c.bucket-id.ensures in
     let read = c.in-Ok.ensures.read s.bucket s.here in
     let gave = read.ok s.ring s.inside in
-    left_on c.args.store.now c.read.new.self (next_rises [] s.bucket (next_name c.args.store.now) (next_name c.read.new.self) read.names) c.read.ensures.names c.read.ensures.pools c.read.ensures.references c.read.ensures.unasked
-    s.ring (replaced c.bucket-id.result (read_of gave.0 s.bucket).0 (rest_item c.in-Ok.field-0 (read_of gave.0 s.bucket).1)) gave.2 c.args.instance.now c.args.call.now (ours_slot c.args.instance.now c.args.call.now s.variable s.ring s.named)
+    left_on c.args.store.now c.read.new.self
+    (next_rises [] s.bucket (next_name c.args.store.now) (next_name c.read.new.self) read.names) c.read.ensures.names c.read.ensures.pools c.read.ensures.references c.read.ensures.unasked
+    s.ring (replaced c.bucket-id.result (read_of gave.0 s.bucket).0 (rest_item c.in-Ok.field-0 (read_of gave.0 s.bucket).1)) gave.2 c.args.instance.now c.args.call.now
+    (ours_slot c.args.instance.now c.args.call.now s.variable s.ring s.named)
 
 pub returns-in-Err-ReadFault-clause-left : goal.returns-in-Err-ReadFault-clause-left
 returns-in-Err-ReadFault-clause-left g c =
     let s = within_here c.args.store.now c.args.instance.now c.args.call.now c.args.c c.requires.held c.requires.stands c.bucket-id.result c.bucket-id.ensures in
     let read = c.in-Err-ReadFault.ensures.read s.bucket s.here in
     let same = next_same (is_some (read_of [] s.bucket).1) (next_name c.args.store.now) (next_name c.read.new.self) read.names in
-    left_same c.args.store.now c.read.new.self (no_less (next_name c.args.store.now) (next_name c.read.new.self) same) c.read.ensures.names c.read.ensures.pools c.read.ensures.references c.read.ensures.unasked c.in-Err-ReadFault.ensures.err c.args.instance.now c.args.call.now
+    left_same c.args.store.now c.read.new.self (no_less (next_name c.args.store.now) (next_name c.read.new.self) same) c.read.ensures.names c.read.ensures.pools c.read.ensures.references
+    c.read.ensures.unasked c.in-Err-ReadFault.ensures.err c.args.instance.now c.args.call.now
 
 pub returns-in-Err-clause-left : goal.returns-in-Err-clause-left
 returns-in-Err-clause-left g c =
     let s = within_here c.args.store.now c.args.instance.now c.args.call.now c.args.c c.requires.held c.requires.stands c.bucket-id.result c.bucket-id.ensures in
     let read = c.in-Err.ensures.read s.bucket s.here in
     let same = next_same (is_some (read_of [] s.bucket).1) (next_name c.args.store.now) (next_name c.read.new.self) read.names in
-    left_same c.args.store.now c.read.new.self (no_less (next_name c.args.store.now) (next_name c.read.new.self) same) c.read.ensures.names c.read.ensures.pools c.read.ensures.references c.read.ensures.unasked c.in-Err.ensures.err c.args.instance.now c.args.call.now
+    left_same c.args.store.now c.read.new.self (no_less (next_name c.args.store.now) (next_name c.read.new.self) same) c.read.ensures.names c.read.ensures.pools c.read.ensures.references
+    c.read.ensures.unasked c.in-Err.ensures.err c.args.instance.now c.args.call.now
 
 pub read-requires-clause-open : goal.read-requires-clause-open
 read-requires-clause-open g c =
@@ -151,7 +166,8 @@ read-requires-clause-open g c =
     let s = within_here c.args.store.now c.args.instance.now c.args.call.now c.args.c c.requires.held c.requires.stands c.bucket-id.result c.bucket-id.ensures in
     let around = c.requires.open.0 in
     let same : s.bucket ≡ y = some_same _ s.bucket y s.here here in
-    subst (λ (x : Bucket). IsOpenFor (g.F.Files.device c.args.files.now) x.content) same (subst (λ (p : Place). IsOpenFor (g.F.Files.device c.args.files.now) (content_at p)) (s.at around) c.requires.open.1)
+    subst (λ (x : Bucket). IsOpenFor (g.F.Files.device c.args.files.now) x.content) same
+    (subst (λ (p : Place). IsOpenFor (g.F.Files.device c.args.files.now) (content_at p)) (s.at around) c.requires.open.1)
 
 pub returns-in-Err-clause-sure : goal.returns-in-Err-clause-sure
 returns-in-Err-clause-sure g c around none =

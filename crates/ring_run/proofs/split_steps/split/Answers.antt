@@ -1,5 +1,6 @@
 -- The bucket is split, or the split is refused.
-use Rattle.std.proofs.Common.{◌≡◌, ℕ, ◌+◌, ◌≤◌, [], ◌∷◌, true, is_some, inl, inr, sym, ap, ◌∙◌, arith}
+use Rattle.std.proofs.Common.{◌≡◌, ℕ, ◌+◌, ◌≤◌, [], ◌∷◌, true, is_some, sym, ap, ◌∙◌, arith}
+use Rattle.std.proofs.lemmas.Result.{on_err_weaker, on_ok_weaker}
 use Rattle.run_model.specs.BrigadeLists.{split_refusal}
 use Rattle.run_model.specs.BucketSteps.{do_split, names_to_split}
 use Rattle.run_model.specs.Buckets.{is_data_kind}
@@ -14,8 +15,8 @@ use Rattle.ring_calls.specs.Seen.{seen_over, calls_in, item_in}
 use Rattle.ring_calls.proofs.Changes.{seen_same}
 use Rattle.ring_calls.proofs.Homes.{not_dead}
 use Rattle.ring_calls.proofs.Names.{apart_in, held_kept, no_less, still_same, still_on}
-use Rattle.ring_calls.proofs.Quiet.{refused_why, same_err, uncut}
-use Rattle.ring_run.proofs.Splits.{split_into, not_refused, refused_data, refused_long, done_split, not_split, ok_data, ok_short, err_data, err_long}
+use Rattle.ring_calls.proofs.Quiet.{ok_unless, uncut}
+use Rattle.ring_run.proofs.Splits.{split_into, not_both, not_refused, refused_as, refused_by, done_split, not_split, ok_data, ok_short}
 use Rattle.ring_calls.proofs.Standing.{within_set, within_here, within_live}
 use Rattle.ring_calls.proofs.LeftAlone.{left_on, left_same, ours_slot}
 use Rattle.ring_run.proofs.split_steps.split.Goals as goal
@@ -42,7 +43,9 @@ returns-in-Ok-clause-ok g c =
     let short = ok_short c.in-Ok.field-0 refusal.TooLong (is_data_kind s.bucket.kind) (length_of s.bucket.content) c.args.n (c.in-Ok.ensures.too_long s.bucket s.here) proper in
     ap (λ (k : ℕ). seen_over (lists c.split.new.self) k around c.args.instance.now c.args.call.now) c.in-Ok.ensures.next
     ∙ (done_split c.args.n s.variable y r (seen_over (lists c.split.new.self) (next_name c.args.store.now + 1) around c.args.instance.now c.args.call.now) (not_refused c.args.n y proper short)
-    (split_into (lists c.args.store.now) (lists c.split.new.self) (next_name c.args.store.now) around c.args.instance.now c.args.call.now (apart_in (brigade_of c.args.store.now) (lists c.args.store.now) (pool_of c.args.store.now) (next_name c.args.store.now) c.args.instance.now c.args.call.now c.requires.held) c.bucket.result c.in-Ok.field-0 c.args.n s.bucket s.variable s.ring s.named s.given s.found
+    (split_into (lists c.args.store.now) (lists c.split.new.self) (next_name c.args.store.now) around c.args.instance.now c.args.call.now
+    (apart_in (brigade_of c.args.store.now) (lists c.args.store.now) (pool_of c.args.store.now) (next_name c.args.store.now) c.args.instance.now c.args.call.now c.requires.held) c.bucket.result
+    c.in-Ok.field-0 c.args.n s.bucket s.variable s.ring s.named s.given s.found
     (not_dead y (sym (ap (λ (s : Place). home_fault (bucket_at s)) (s.at around)) ∙ alive)) s.name.young c.in-Ok.ensures.name (λ m. c.in-Ok.ensures.ok s.ring m s.bucket s.inside s.here))
     ∙ ap (λ (s : Place). do_split c.args.n s r) (sym (s.at around)))
 
@@ -51,89 +54,52 @@ returns-in-Ok-clause-held g c =
     let s = within_here c.args.store.now c.args.instance.now c.args.call.now c.args.c c.requires.held c.requires.stands c.bucket.result c.bucket.ensures in
     let rises : next_name c.args.store.now ≤ next_name c.split.new.self = let e = c.in-Ok.ensures.next in omega (arith, e) in
     held_kept c.args.store.now c.split.new.self rises c.split.ensures.names c.split.ensures.pools
-    (still_on (lists c.args.store.now) (lists c.split.new.self) s.ring (replaced c.bucket.result (split_at c.args.n s.bucket).0 ((c.in-Ok.field-0, (split_at c.args.n s.bucket).1) ∷ [])) (λ m. c.in-Ok.ensures.ok s.ring m s.bucket s.inside s.here))
-    c.args.instance.now c.args.call.now c.requires.held
-
-pub returns-in-Err-Metadata-clause-ok : goal.returns-in-Err-Metadata-clause-ok
-returns-in-Err-Metadata-clause-ok g c =
-    λ around alive.
-    let s = within_here c.args.store.now c.args.instance.now c.args.call.now c.args.c c.requires.held c.requires.stands c.bucket.result c.bucket.ensures in
-    let r = seen_over (lists c.args.store.now) (next_name c.args.store.now) around c.args.instance.now c.args.call.now in
-    let y : NamedBucket = named_item (item_in (calls_in around c.args.call.now) (c.bucket.result, s.bucket)) in
-    seen_same (lists c.args.store.now) (next_name c.args.store.now) around c.args.instance.now c.args.call.now (lists c.split.new.self) (next_name c.split.new.self) c.in-Err-Metadata.ensures.next c.in-Err-Metadata.ensures.err
-    ∙ (not_split c.args.n s.variable y r (refused_data c.args.n y (err_data c.in-Err-Metadata.field-0 refusal.Metadata (is_data_kind s.bucket.kind) (c.in-Err-Metadata.ensures.metadata s.bucket s.here) c.in-Err-Metadata.field-0-is)) ∙ ap (λ (s : Place). do_split c.args.n s r) (sym (s.at around)))
-
-pub returns-in-Err-Metadata-clause-held : goal.returns-in-Err-Metadata-clause-held
-returns-in-Err-Metadata-clause-held g c =
-    held_kept c.args.store.now c.split.new.self (no_less (next_name c.args.store.now) (next_name c.split.new.self) c.in-Err-Metadata.ensures.next) c.split.ensures.names c.split.ensures.pools
-    (still_same (lists c.args.store.now) (lists c.split.new.self) c.in-Err-Metadata.ensures.err)
-    c.args.instance.now c.args.call.now c.requires.held
-
-pub returns-in-Err-TooLong-clause-ok : goal.returns-in-Err-TooLong-clause-ok
-returns-in-Err-TooLong-clause-ok g c =
-    λ around alive.
-    let s = within_here c.args.store.now c.args.instance.now c.args.call.now c.args.c c.requires.held c.requires.stands c.bucket.result c.bucket.ensures in
-    let r = seen_over (lists c.args.store.now) (next_name c.args.store.now) around c.args.instance.now c.args.call.now in
-    let y : NamedBucket = named_item (item_in (calls_in around c.args.call.now) (c.bucket.result, s.bucket)) in
-    seen_same (lists c.args.store.now) (next_name c.args.store.now) around c.args.instance.now c.args.call.now (lists c.split.new.self) (next_name c.split.new.self) c.in-Err-TooLong.ensures.next c.in-Err-TooLong.ensures.err
-    ∙ (not_split c.args.n s.variable y r (let both = err_long c.in-Err-TooLong.field-0 refusal.TooLong (is_data_kind s.bucket.kind) (length_of s.bucket.content) c.args.n (c.in-Err-TooLong.ensures.too_long s.bucket s.here) c.in-Err-TooLong.field-0-is in refused_long c.args.n y both.0 both.1) ∙ ap (λ (s : Place). do_split c.args.n s r) (sym (s.at around)))
-
-pub returns-in-Err-TooLong-clause-held : goal.returns-in-Err-TooLong-clause-held
-returns-in-Err-TooLong-clause-held g c =
-    held_kept c.args.store.now c.split.new.self (no_less (next_name c.args.store.now) (next_name c.split.new.self) c.in-Err-TooLong.ensures.next) c.split.ensures.names c.split.ensures.pools
-    (still_same (lists c.args.store.now) (lists c.split.new.self) c.in-Err-TooLong.ensures.err)
-    c.args.instance.now c.args.call.now c.requires.held
-
-pub returns-in-Err-NoMemory-clause-held : goal.returns-in-Err-NoMemory-clause-held
-returns-in-Err-NoMemory-clause-held g c =
-    held_kept c.args.store.now c.split.new.self (no_less (next_name c.args.store.now) (next_name c.split.new.self) c.in-Err-NoMemory.ensures.next) c.split.ensures.names c.split.ensures.pools
-    (still_same (lists c.args.store.now) (lists c.split.new.self) c.in-Err-NoMemory.ensures.err)
-    c.args.instance.now c.args.call.now c.requires.held
-
-pub returns-in-Err-NamesSpent-clause-held : goal.returns-in-Err-NamesSpent-clause-held
-returns-in-Err-NamesSpent-clause-held g c =
-    held_kept c.args.store.now c.split.new.self (no_less (next_name c.args.store.now) (next_name c.split.new.self) c.in-Err-NamesSpent.ensures.next) c.split.ensures.names c.split.ensures.pools
-    (still_same (lists c.args.store.now) (lists c.split.new.self) c.in-Err-NamesSpent.ensures.err)
+    (still_on (lists c.args.store.now) (lists c.split.new.self) s.ring (replaced c.bucket.result (split_at c.args.n s.bucket).0 ((c.in-Ok.field-0, (split_at c.args.n s.bucket).1) ∷ []))
+    (λ m. c.in-Ok.ensures.ok s.ring m s.bucket s.inside s.here))
     c.args.instance.now c.args.call.now c.requires.held
 
 pub returns-in-Ok-clause-left : goal.returns-in-Ok-clause-left
 returns-in-Ok-clause-left g c =
     let s = within_here c.args.store.now c.args.instance.now c.args.call.now c.args.c c.requires.held c.requires.stands c.bucket.result c.bucket.ensures in
     let rises : next_name c.args.store.now ≤ next_name c.split.new.self = let e = c.in-Ok.ensures.next in omega (arith, e) in
-    left_on c.args.store.now c.split.new.self rises c.split.ensures.names c.split.ensures.pools c.split.ensures.references c.split.ensures.unasked s.ring (replaced c.bucket.result (split_at c.args.n s.bucket).0 ((c.in-Ok.field-0, (split_at c.args.n s.bucket).1) ∷ [])) (λ m. c.in-Ok.ensures.ok s.ring m s.bucket s.inside s.here) c.args.instance.now c.args.call.now (ours_slot c.args.instance.now c.args.call.now s.variable s.ring s.named)
+    left_on c.args.store.now c.split.new.self rises c.split.ensures.names c.split.ensures.pools c.split.ensures.references c.split.ensures.unasked s.ring
+    (replaced c.bucket.result (split_at c.args.n s.bucket).0 ((c.in-Ok.field-0, (split_at c.args.n s.bucket).1) ∷ []))
+    (λ m. c.in-Ok.ensures.ok s.ring m s.bucket s.inside s.here) c.args.instance.now c.args.call.now (ours_slot c.args.instance.now c.args.call.now s.variable s.ring s.named)
 
-pub returns-in-Err-Metadata-clause-left : goal.returns-in-Err-Metadata-clause-left
-returns-in-Err-Metadata-clause-left g c = left_same c.args.store.now c.split.new.self (no_less (next_name c.args.store.now) (next_name c.split.new.self) c.in-Err-Metadata.ensures.next) c.split.ensures.names c.split.ensures.pools c.split.ensures.references c.split.ensures.unasked c.in-Err-Metadata.ensures.err c.args.instance.now c.args.call.now
-
-pub returns-in-Err-TooLong-clause-left : goal.returns-in-Err-TooLong-clause-left
-returns-in-Err-TooLong-clause-left g c = left_same c.args.store.now c.split.new.self (no_less (next_name c.args.store.now) (next_name c.split.new.self) c.in-Err-TooLong.ensures.next) c.split.ensures.names c.split.ensures.pools c.split.ensures.references c.split.ensures.unasked c.in-Err-TooLong.ensures.err c.args.instance.now c.args.call.now
-
-pub returns-in-Err-NoMemory-clause-left : goal.returns-in-Err-NoMemory-clause-left
-returns-in-Err-NoMemory-clause-left g c = left_same c.args.store.now c.split.new.self (no_less (next_name c.args.store.now) (next_name c.split.new.self) c.in-Err-NoMemory.ensures.next) c.split.ensures.names c.split.ensures.pools c.split.ensures.references c.split.ensures.unasked c.in-Err-NoMemory.ensures.err c.args.instance.now c.args.call.now
-
-pub returns-in-Err-NamesSpent-clause-left : goal.returns-in-Err-NamesSpent-clause-left
-returns-in-Err-NamesSpent-clause-left g c = left_same c.args.store.now c.split.new.self (no_less (next_name c.args.store.now) (next_name c.split.new.self) c.in-Err-NamesSpent.ensures.next) c.split.ensures.names c.split.ensures.pools c.split.ensures.references c.split.ensures.unasked c.in-Err-NamesSpent.ensures.err c.args.instance.now c.args.call.now
-
-pub returns-in-Err-NoMemory-clause-sure : goal.returns-in-Err-NoMemory-clause-sure
-returns-in-Err-NoMemory-clause-sure g c around none =
+pub returns-in-Err-clause-ok : goal.returns-in-Err-clause-ok
+returns-in-Err-clause-ok g c =
+    on_ok_weaker c.unless_lacking.result (λ why around alive.
     let s = within_here c.args.store.now c.args.instance.now c.args.call.now c.args.c c.requires.held c.requires.stands c.bucket.result c.bucket.ensures in
     let r = seen_over (lists c.args.store.now) (next_name c.args.store.now) around c.args.instance.now c.args.call.now in
     let y : NamedBucket = named_item (item_in (calls_in around c.args.call.now) (c.bucket.result, s.bucket)) in
-    let refused : is_some (split_refusal c.args.n y) ≡ true = uncut _ (sym (ap (names_to_split c.args.n) (s.at around)) ∙ none) in
-    let other : c.in-Err-NoMemory.field-0 ≡ refusal.NoMemory = c.in-Err-NoMemory.field-0-is in
-    elim (refused_why c.args.n y refused) [
-      | inl meta ↦ absurd (let told : c.in-Err-NoMemory.field-0 ≡ refusal.Metadata = same_err _ _ (sym c.in-Err-NoMemory.is ∙ (c.split.ensures.metadata s.bucket s.here).1 meta) in cc)
-      | inr long ↦ absurd (let told : c.in-Err-NoMemory.field-0 ≡ refusal.TooLong = same_err _ _ (sym c.in-Err-NoMemory.is ∙ (c.split.ensures.too_long s.bucket s.here).1 long) in cc)
-    ]
+    seen_same (lists c.args.store.now) (next_name c.args.store.now) around c.args.instance.now c.args.call.now (lists c.split.new.self)
+    (next_name c.split.new.self) c.in-Err.ensures.next c.in-Err.ensures.err
+    ∙ (not_split c.args.n s.variable y r (refused_by c.in-Err.refusal c.args.n y (c.in-Err.ensures.metadata s.bucket s.here) (c.in-Err.ensures.too_long s.bucket s.here) why)
+    ∙ ap (λ (s : Place). do_split c.args.n s r) (sym (s.at around))))
+    c.unless_lacking.ensures.ok
 
-pub returns-in-Err-NamesSpent-clause-sure : goal.returns-in-Err-NamesSpent-clause-sure
-returns-in-Err-NamesSpent-clause-sure g c around none =
+pub returns-in-Err-clause-err : goal.returns-in-Err-clause-err
+returns-in-Err-clause-err g c =
+    on_err_weaker c.unless_lacking.result (λ why around.
+    seen_same (lists c.args.store.now) (next_name c.args.store.now) around c.args.instance.now c.args.call.now (lists c.split.new.self)
+    (next_name c.split.new.self) c.in-Err.ensures.next c.in-Err.ensures.err)
+    c.unless_lacking.ensures.err
+
+pub returns-in-Err-clause-held : goal.returns-in-Err-clause-held
+returns-in-Err-clause-held g c =
+    held_kept c.args.store.now c.split.new.self (no_less (next_name c.args.store.now) (next_name c.split.new.self) c.in-Err.ensures.next) c.split.ensures.names c.split.ensures.pools
+    (still_same (lists c.args.store.now) (lists c.split.new.self) c.in-Err.ensures.err)
+    c.args.instance.now c.args.call.now c.requires.held
+
+pub returns-in-Err-clause-left : goal.returns-in-Err-clause-left
+returns-in-Err-clause-left g c =
+    left_same c.args.store.now c.split.new.self (no_less (next_name c.args.store.now) (next_name c.split.new.self) c.in-Err.ensures.next) c.split.ensures.names c.split.ensures.pools
+    c.split.ensures.references c.split.ensures.unasked c.in-Err.ensures.err c.args.instance.now c.args.call.now
+
+pub returns-in-Err-clause-sure : goal.returns-in-Err-clause-sure
+returns-in-Err-clause-sure g c around none =
     let s = within_here c.args.store.now c.args.instance.now c.args.call.now c.args.c c.requires.held c.requires.stands c.bucket.result c.bucket.ensures in
-    let r = seen_over (lists c.args.store.now) (next_name c.args.store.now) around c.args.instance.now c.args.call.now in
     let y : NamedBucket = named_item (item_in (calls_in around c.args.call.now) (c.bucket.result, s.bucket)) in
     let refused : is_some (split_refusal c.args.n y) ≡ true = uncut _ (sym (ap (names_to_split c.args.n) (s.at around)) ∙ none) in
-    let other : c.in-Err-NamesSpent.field-0 ≡ refusal.NamesSpent = c.in-Err-NamesSpent.field-0-is in
-    elim (refused_why c.args.n y refused) [
-      | inl meta ↦ absurd (let told : c.in-Err-NamesSpent.field-0 ≡ refusal.Metadata = same_err _ _ (sym c.in-Err-NamesSpent.is ∙ (c.split.ensures.metadata s.bucket s.here).1 meta) in cc)
-      | inr long ↦ absurd (let told : c.in-Err-NamesSpent.field-0 ≡ refusal.TooLong = same_err _ _ (sym c.in-Err-NamesSpent.is ∙ (c.split.ensures.too_long s.bucket s.here).1 long) in cc)
-    ]
+    let why = refused_as c.in-Err.refusal c.args.n y (c.in-Err.ensures.metadata s.bucket s.here) (c.in-Err.ensures.too_long s.bucket s.here) refused in
+    ok_unless c.unless_lacking.result c.unless_lacking.ensures.err (λ lacks. not_both c.in-Err.refusal why lacks)

@@ -25,7 +25,8 @@ returns-in-Some-slot_of-clause-at g c =
     let s = c.args.store.now in
     let is : brigade_of s c.args.id ≡ Some c.in-Some.ring = sym c.ring_of.ensures.value ∙ c.in-Some.is in
     λ next around.
-    placed_within (brigade_of s) (lists s) (pool_of s) (next_name s) c.args.instance.now c.args.call.now (kept s) c.requires.held c.args.id c.requires.given next around c.in-Some.ring c.in-Some-slot_of.b is (sym c.slot_of.ensures.found ∙ c.in-Some-slot_of.is)
+    placed_within (brigade_of s) (lists s) (pool_of s) (next_name s) c.args.instance.now c.args.call.now
+    (kept s) c.requires.held c.args.id c.requires.given next around c.in-Some.ring c.in-Some-slot_of.b is (sym c.slot_of.ensures.found ∙ c.in-Some-slot_of.is)
 
 pub returns-then-ring-call-clause-inside : goal.returns-then-ring-call-clause-inside
 returns-then-ring-call-clause-inside g c =
@@ -45,16 +46,5 @@ returns-in-None-clause-at g c =
     let is : brigade_of s c.args.id ≡ Some c.in-Some.ring = sym c.ring_of.ensures.value ∙ c.in-Some.is in
     let other : c.in-Some.ring ≢ c.args.call.now.name = search rules in
     λ next around.
-    placed_nowhere (brigade_of s) (lists s) (pool_of s) (next_name s) c.args.instance.now c.args.call.now (kept s) c.requires.held c.args.id c.requires.given next around c.in-Some.ring is other (sym c.slot_of.ensures.found ∙ c.in-None.is)
-
-pub returns-in_default-clause-asked : goal.returns-in_default-clause-asked
-returns-in_default-clause-asked g c = asked_once c.args.store.now c.ring_of.new.self _ c.ring_of.ensures.counted
-
-pub returns-then-ring-call-clause-asked : goal.returns-then-ring-call-clause-asked
-returns-then-ring-call-clause-asked g c = asked_once c.args.store.now c.ring_of.new.self _ c.ring_of.ensures.counted
-
-pub returns-in-Some-slot_of-clause-asked : goal.returns-in-Some-slot_of-clause-asked
-returns-in-Some-slot_of-clause-asked g c = asked_once c.args.store.now c.ring_of.new.self _ c.ring_of.ensures.counted
-
-pub returns-in-None-clause-asked : goal.returns-in-None-clause-asked
-returns-in-None-clause-asked g c = asked_once c.args.store.now c.ring_of.new.self _ c.ring_of.ensures.counted
+    placed_nowhere (brigade_of s) (lists s) (pool_of s) (next_name s) c.args.instance.now c.args.call.now (kept s) c.requires.held c.args.id c.requires.given next around c.in-Some.ring is other
+    (sym c.slot_of.ensures.found ∙ c.in-None.is)

@@ -1,7 +1,6 @@
 -- A brigade that is there is in the variable that names it.
 use Rattle.std.proofs.Common.{◌≡◌, true, false, is_some, sym, ◌∙◌}
 use Rattle.brigade_ops.specs.Store.{lists}
-use Rattle.ring_wants.proofs.OnlyAsked.{asked_once}
 use Rattle.ring_calls.proofs.Slots.{variable_slot, variable_none}
 use Rattle.ring_wants.proofs.places.end_place.Goals as goal
 
@@ -16,9 +15,3 @@ returns-else-has-clause-at g c =
     λ next around call.
     let gone : is_some (lists c.args.store.now c.args.b) ≡ false = sym c.has.ensures.value ∙ c.if-has.false in
     sym (variable_none (lists c.args.store.now) next around c.args.instance.now call c.args.b gone)
-
-pub returns-then-has-clause-asked : goal.returns-then-has-clause-asked
-returns-then-has-clause-asked g c = asked_once c.args.store.now c.has.new.self _ c.has.ensures.counted
-
-pub returns-else-has-clause-asked : goal.returns-else-has-clause-asked
-returns-else-has-clause-asked g c = asked_once c.args.store.now c.has.new.self _ c.has.ensures.counted

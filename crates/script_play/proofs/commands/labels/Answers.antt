@@ -8,7 +8,8 @@ use Rattle.script_play.proofs.commands.labels.Goals as goal
 pub returns-in_ok-labels_of-in-Ok-clause-served : goal.returns-in_ok-labels_of-in-Ok-clause-served
 returns-in_ok-labels_of-in-Ok-clause-served c w hosts =
     let told = c.in_ok-labels_of-in-Ok.field-0 in
-    labels_served c.args.host.now c.args.host.now w (Labels (labels_handed c.in-Ok.runs.now)) (reply.Labels told) (ap reply.Labels c.in_ok-labels_of-in-Ok.ensures) c.args.number (c.in-Ok.ensures.told w hosts)
+    labels_served c.args.host.now c.args.host.now w (Labels (labels_handed c.in-Ok.runs.now)) (reply.Labels told) (ap reply.Labels c.in_ok-labels_of-in-Ok.ensures) c.args.number
+    (c.in-Ok.ensures.told w hosts)
 
 pub returns-in-Err-clause-served : goal.returns-in-Err-clause-served
 returns-in-Err-clause-served c w hosts =

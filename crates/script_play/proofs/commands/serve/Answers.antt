@@ -9,4 +9,5 @@ returns-in-Begin-clause-served c w hosts =
 
 pub returns-in-End-clause-served : goal.returns-in-End-clause-served
 returns-in-End-clause-served c w hosts =
-    rw c.in-End.is (end_served c.args.host.now c.end_request.new.self w (done_answer (refusal_of c.end_request.result)) c.done-in-End.result c.done-in-End.ensures.told c.in-End.number (c.end_request.ensures.event w hosts))
+    rw c.in-End.is (end_served c.args.host.now c.end_request.new.self w (done_answer (refusal_of c.end_request.result)) c.done-in-End.result c.done-in-End.ensures.told c.in-End.number
+    (c.end_request.ensures.event w hosts))

@@ -14,7 +14,8 @@ use Rattle.script_play.proofs.commands.step.Goals as goal
 pub returns-then-went-clause-served : goal.returns-then-went-clause-served
 returns-then-went-clause-served c w hosts =
     let went : c.step_up_to-answer.result ≡ Ok stepped.Went = c.went.ensures.0 c.if-went.true in
-    let taken = subst (λ (a : Result Stepped Refusal). RefinesFrom mem_device c.args.host.now c.step_up_to-answer.new.self (λ b d s t. StepsOn b d c.args.number (c.args.count - 1) s a t) w) went (c.step_up_to-answer.ensures.steps w hosts) in
+    let taken = subst (λ (a : Result Stepped Refusal). RefinesFrom mem_device c.args.host.now c.step_up_to-answer.new.self (λ b d s t. StepsOn b d c.args.number (c.args.count - 1) s a t) w) went
+    (c.step_up_to-answer.ensures.steps w hosts) in
     steps_served c.args.host.now c.step_up_to-answer.new.self c.args.number c.args.count (Ok stepped.Went) (reply.Went c.args.count) w refl taken
 
 pub returns-clause-served : goal.returns-clause-served

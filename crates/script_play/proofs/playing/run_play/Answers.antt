@@ -1,7 +1,8 @@
 use Rattle.std.proofs.Common.{◌≡◌, ℕ, ◌*◌, length, ap, sym, ◌∙◌, refl, arith}
 use Rattle.std.proofs.lemmas.List.{length-take, length-replicate}
 use Rattle.std.proofs.lemmas.Result.{err_from_is_err_and}
-use Rattle.script_play.proofs.GoingLaws.{going_first, going_kept, refused_kept, going_last, last_ok, last_read, last_memory, last_write, going_read, bytes_read, bytes_memory, bytes_write, going_on, going_over}
+use Rattle.script_play.proofs.GoingLaws.{going_first, going_kept, refused_kept, going_last, last_ok, last_read, last_memory, last_write, going_read, bytes_read, bytes_memory, bytes_write, going_on}
+use Rattle.script_play.proofs.GoingLaws.{going_over}
 use Rattle.script_play.proofs.playing.run_play.Goals as goal
 
 pub loop-init : goal.loop-init
@@ -74,7 +75,8 @@ returns-in_err-take_bytes-in-Ok-Bytes-clause-memory g c =
     let k = c.loop.invariant.going in
     let long = length-take c.in-Ok-Bytes.count c.read.new.buffer in
     let same : length c.read.new.buffer ≡ 8192 = c.read.auto.buffer ∙ c.loop.invariant.wide in
-    bytes_memory _ _ _ _ _ _ c.loop.player c.take_bytes.new.player _ _ c.take_bytes.new.held.items _ k read.1.2 _ _ _ (omega (arith, long, same)) p.1 p.2 (c.in_err-take_bytes-in-Ok-Bytes.ensures.plays k.stage k.at)
+    bytes_memory _ _ _ _ _ _ c.loop.player c.take_bytes.new.player _ _ c.take_bytes.new.held.items _ k read.1.2 _ _ _ (omega (arith, long, same)) p.1 p.2
+    (c.in_err-take_bytes-in-Ok-Bytes.ensures.plays k.stage k.at)
 
 pub returns-in_err-take_bytes-in-Ok-Bytes-clause-write : goal.returns-in_err-take_bytes-in-Ok-Bytes-clause-write
 returns-in_err-take_bytes-in-Ok-Bytes-clause-write g c =
@@ -83,7 +85,8 @@ returns-in_err-take_bytes-in-Ok-Bytes-clause-write g c =
     let k = c.loop.invariant.going in
     let long = length-take c.in-Ok-Bytes.count c.read.new.buffer in
     let same : length c.read.new.buffer ≡ 8192 = c.read.auto.buffer ∙ c.loop.invariant.wide in
-    bytes_write _ _ _ _ _ _ c.loop.player c.take_bytes.new.player _ _ c.take_bytes.new.held.items _ k read.1.2 _ _ _ (omega (arith, long, same)) p.1 p.2 (c.in_err-take_bytes-in-Ok-Bytes.ensures.plays k.stage k.at)
+    bytes_write _ _ _ _ _ _ c.loop.player c.take_bytes.new.player _ _ c.take_bytes.new.held.items _ k read.1.2 _ _ _ (omega (arith, long, same)) p.1 p.2
+    (c.in_err-take_bytes-in-Ok-Bytes.ensures.plays k.stage k.at)
 
 pub returns-clause-read : goal.returns-clause-read
 returns-clause-read g c = λ _. going_read _ _ _ _ c.loop.player _ _ c.loop.invariant.going
@@ -110,7 +113,8 @@ loop-preserved g c =
     let one = read.0 in
     let counted = c.loop.invariant.counted in
     record {
-      going = going_on _ _ _ _ _ _ c.loop.player c.take_bytes.new.player _ _ _ (8192 * c.loop.counter) _ k read.1.2 (omega (arith, long, same)) t.0 t.1 t.2 t.3 t.4 (sym (c.is_over.ensures t.3.stage t.3.at) ∙ c.if-is_over.false);
+      going = going_on _ _ _ _ _ _ c.loop.player c.take_bytes.new.player _ _ _ (8192 * c.loop.counter) _ k read.1.2 (omega (arith, long, same)) t.0 t.1 t.2 t.3 t.4
+          (sym (c.is_over.ensures t.3.stage t.3.at) ∙ c.if-is_over.false);
       wide = same;
       counted = omega (arith, one, counted);
       reader = read.1.3 ∙ c.loop.invariant.reader;

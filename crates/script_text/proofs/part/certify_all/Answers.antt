@@ -31,7 +31,8 @@ returns-in-Refused-clause-refused c =
     let at = c.loop-part in
     let part = c.in-Some.part in
     let index : c.len-index.result ≡ length at.pairs.items = search rules in
-    unmade_at at.pairs.items (into_iter_items at.part-iterator) (into_iter_items c.next.new.self) c.args.parts.items part c.len-index.result c.in-Refused.refusal at.invariant.unmade c.in-Some.ensures.steps.0
+    unmade_at at.pairs.items (into_iter_items at.part-iterator)
+    (into_iter_items c.next.new.self) c.args.parts.items part c.len-index.result c.in-Refused.refusal at.invariant.unmade c.in-Some.ensures.steps.0
     (subst (IsCertified (seen_part part)) c.in-Refused.is c.in_ok-cert.ensures) index
 
 pub returns-clause-certified : goal.returns-clause-certified

@@ -38,9 +38,11 @@ loop-place-preserved g c =
     let head = rest_head name xs first.0 first.1 ∙ ap (λ (ys : StoredItems). (name, first.0) ∷ ys) (sym c.after-place.ensures.rest) in
     record {
       done = λ id x is none le. elim (cases_Bool (same id name)) [
-        | inl hit ↦ subst (λ (j : BucketId). found j xs ≡ Some x → c.args.from ≤ j.birth → is_noted (noted c.note_bucket.new.dependents) (j, x) ≡ true) (sym (same_name id name hit)) (c.note_bucket.ensures.here x) is le
+        | inl hit ↦ subst (λ (j : BucketId). found j xs ≡ Some x → c.args.from ≤ j.birth → is_noted (noted c.note_bucket.new.dependents) (j, x) ≡ true) (sym (same_name id name hit))
+            (c.note_bucket.ensures.here x) is le
         | inr miss ↦ item_kept (noted c.loop-place.dependents) (noted c.note_bucket.new.dependents) c.note_bucket.ensures.kept (id, x)
-            (c.loop-place.invariant.done id x is (ap (λ (place : Option BucketId). times id (from_place place xs)) c.in-Some.is ∙ later_times id name first.0 (from_place (Some name) xs) (from_place c.after-place.result xs) miss head none) le)
+            (c.loop-place.invariant.done id x is (ap (λ (place : Option BucketId). times id (from_place place xs)) c.in-Some.is
+            ∙ later_times id name first.0 (from_place (Some name) xs) (from_place c.after-place.result xs) miss head none) le)
       ];
       kept = λ p j is. c.note_bucket.ensures.kept p j (c.loop-place.invariant.kept p j is);
       inside = told_some (λ j. g.R.Rings.ring_at s j ≡ Some b) c.after-place.result c.after-place.ensures.inside;

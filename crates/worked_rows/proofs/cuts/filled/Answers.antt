@@ -19,7 +19,8 @@ returns-clause-ends g c =
     λ id x at is.
     let b = c.in_ok-brigade.brigade in
     let put = c.in_ok-add_all.ensures.ok in
-    filled_ends (λ (x : Bucket). EndsInFile x.content) b (next_name c.want_brigade.new.store) id x put.0 c.args.buckets.items (lists c.new-store.result) (lists c.want_brigade.new.store) (lists c.add_all.new.self)
+    filled_ends (λ (x : Bucket). EndsInFile x.content) b (next_name c.want_brigade.new.store) id x put.0 c.args.buckets.items (lists c.new-store.result) (lists c.want_brigade.new.store)
+    (lists c.add_all.new.self)
     (λ m. ap (λ (L : ℕ → Option Items). L m) c.want_brigade.ensures.lists ∙ c.in_ok-brigade.ensures.ok m) put.1 put.2 c.requires.ends (bucket_found c.add_all.new.self id b x at is)
 
 pub returns-clause-fits : goal.returns-clause-fits
@@ -27,5 +28,6 @@ returns-clause-fits g c =
     λ id x at is.
     let b = c.in_ok-brigade.brigade in
     let put = c.in_ok-add_all.ensures.ok in
-    filled_ends (λ (x : Bucket). form_of x.content ≡ form_of_kind x.kind) b (next_name c.want_brigade.new.store) id x put.0 c.args.buckets.items (lists c.new-store.result) (lists c.want_brigade.new.store) (lists c.add_all.new.self)
+    filled_ends (λ (x : Bucket). form_of x.content ≡ form_of_kind x.kind) b (next_name c.want_brigade.new.store) id x put.0 c.args.buckets.items (lists c.new-store.result)
+    (lists c.want_brigade.new.store) (lists c.add_all.new.self)
     (λ m. ap (λ (L : ℕ → Option Items). L m) c.want_brigade.ensures.lists ∙ c.in_ok-brigade.ensures.ok m) put.1 put.2 c.requires.fits (bucket_found c.add_all.new.self id b x at is)

@@ -1,19 +1,23 @@
 use Rattle.std.proofs.Common.{is_some, ap, ◌∙◌}
-use Rattle.run_model.specs.declared.bucket.Bucket.{Bucket}
-use Rattle.bucket_ring.specs.Lists.{on, put_head}
-use Rattle.stored_rings.specs.Shelf.{seen}
-use Rattle.brigade_ops.specs.Store.{lists}
-use Rattle.stored_rings.proofs.Shown.{on_cong}
+use Rattle.bucket_ring.specs.Lists.{put_head}
+use Rattle.bucket_kinds.specs.Stored.{shown}
+use Rattle.stored_rings.specs.Regions.{look}
+use Rattle.brigade_ops.specs.Store.{has_room, lists}
+use Rattle.brigade_ops.proofs.Added.{added}
 use Rattle.brigade_ops.proofs.store.Brigades.add_head.Goals as goal
 
 pub add_head-requires-clause-there : goal.add_head-requires-clause-there
-unfolding lists seen
-add_head-requires-clause-there g c = ap is_some (c.take.ensures.same c.args.b) ∙ c.requires
+unfolding lists
+add_head-requires-clause-there g c = ap is_some (c.in_ok-stored.ensures.lists c.args.b) ∙ c.requires
 
-pub returns-in-Ok-clause-ok : goal.returns-in-Ok-clause-ok
-unfolding lists seen
-returns-in-Ok-clause-ok g c n =
-    let id = c.add_head.result in
+pub add_head-requires-clause-room : goal.add_head-requires-clause-room
+unfolding has_room
+add_head-requires-clause-room g c = c.in_ok-stored.ensures.room
+
+pub returns-clause-ok : goal.returns-clause-ok
+unfolding lists
+returns-clause-ok g c n =
+    let held = c.hold.new.self in
     c.add_head.ensures.out n
-    ∙ (ap (λ (x : Bucket). on c.args.b (put_head (id, x)) (seen c.take.new.self) n) c.in-Ok.ensures.shown
-    ∙ on_cong c.args.b (put_head (id, c.args.bucket)) (seen c.take.new.self) (seen c.args.self.now.held) c.take.ensures.same n)
+    ∙ added c.args.b n put_head c.add_head.result (shown (look held.held.regions) c.in_ok-stored.stored) c.args.bucket (lists c.args.self.now) (lists held)
+    c.in_ok-stored.ensures.shown c.in_ok-stored.ensures.lists

@@ -1,17 +1,17 @@
-use Rattle.std.proofs.Common.{[], ◌∷◌, ◌+◌, ◌≤◌, ◌<◌, List, drop, length, get_or, refl, sym, ap, subst, ◌∙◌, arith}
+use Rattle.std.proofs.Common.{[], ◌∷◌, ◌+◌, ◌≤◌, ◌<◌, List, drop, length, get_or, refl, sym, ap, subst, ◌∙◌}
 use Rattle.std.specs.Option.{option_map}
 use Rattle.std.proofs.lemmas.List.{drop_more, drop_all}
 use Rattle.run_model.specs.declared.bucket.Home.TheVariants as home
 use Rattle.run_model.specs.declared.bucket.Kind.TheVariants as kind
 use Rattle.stored_rings.specs.declared.morph.Morph.{Morph}
 use Rattle.stored_rings.specs.Morphs.{all_morphed}
-use Rattle.bucket_ring.specs.Laws.{none_revived_twice}
-use Rattle.brigade_ops.specs.Store.{lists, brigade_of, next_name}
+use Rattle.brigade_ops.proofs.OnlyLists.{only_none, only_twice}
+use Rattle.brigade_ops.specs.Store.{lists}
 use Rattle.stored_rings.proofs.Cleared.{morphs_step, morphs_none}
 use Rattle.brigade_ops.proofs.store.Brigades.apply_found.Goals as goal
 
 pub loop-morph-init : goal.loop-morph-init
-loop-morph-init g c = record { out = λ n. refl; next = refl; names = λ id there young. there; pools = refl; references = refl; asked = refl }
+loop-morph-init g c = record { out = λ n. refl; others = only_none c.args.self.now }
 
 pub loop-morph-preserved : goal.loop-morph-preserved
 loop-morph-preserved g c =
@@ -27,16 +27,18 @@ loop-morph-preserved g c =
           (c.apply_morph.ensures.out n ∙ ap (λ (xs : List Morph). option_map (all_morphed (get_or xs i none ∷ [])) (now n)) c.as_slice-morph-items.ensures)
           ∙ (morphs_step (get_or found i none) (drop (i + 1) found) (now n)
           ∙ (ap (λ (ms : List Morph). option_map (all_morphed ms) (now n)) (sym (drop_more found i none within)) ∙ c.loop-morph.invariant.out n));
-      next = c.apply_morph.ensures.next ∙ c.loop-morph.invariant.next;
-      names = none_revived_twice (brigade_of c.args.self.now) (brigade_of c.loop-morph.self) (brigade_of c.apply_morph.new.self) (next_name c.args.self.now) (next_name c.loop-morph.self)
-          (omega (arith, c.loop-morph.invariant.next)) c.loop-morph.invariant.names c.apply_morph.ensures.names;
-      pools = c.apply_morph.ensures.pools ∙ c.loop-morph.invariant.pools;
-      references = c.apply_morph.ensures.references ∙ c.loop-morph.invariant.references;
-      asked = c.apply_morph.ensures.unasked ∙ c.loop-morph.invariant.asked;
+      others = only_twice c.loop-morph.invariant.others (record {
+        next = c.apply_morph.ensures.next;
+        names = c.apply_morph.ensures.names;
+        pools = c.apply_morph.ensures.pools;
+        counts = c.apply_morph.ensures.references;
+        asked = c.apply_morph.ensures.unasked;
+      });
     }
 
 pub returns-clause-out : goal.returns-clause-out
 returns-clause-out g c n =
     let found = c.args.found in
     let past : length found ≤ c.loop-morph.morph-index = subst (λ (xs : List Morph). length xs ≤ c.loop-morph.morph-index) c.as_slice-morph-items.ensures c.loop-morph-test.false in
-    sym (ap (λ (ms : List Morph). option_map (all_morphed ms) (lists c.loop-morph.self n)) (drop_all c.loop-morph.morph-index found past) ∙ morphs_none (lists c.loop-morph.self n)) ∙ c.loop-morph.invariant.out n
+    sym (ap (λ (ms : List Morph). option_map (all_morphed ms) (lists c.loop-morph.self n)) (drop_all c.loop-morph.morph-index found past) ∙ morphs_none (lists c.loop-morph.self n))
+    ∙ c.loop-morph.invariant.out n

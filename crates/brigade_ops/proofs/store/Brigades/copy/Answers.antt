@@ -1,28 +1,25 @@
 use Rattle.std.proofs.Common.{◌≡◌, is_some, sym, ap, ◌∙◌}
 use Rattle.std.proofs.lemmas.Option.{same_Some}
-use Rattle.run_model.specs.declared.bucket.Bucket.{Bucket}
-use Rattle.bucket_ring.specs.Lists.{on, put_tail}
+use Rattle.bucket_ring.specs.Lists.{put_tail}
 use Rattle.bucket_kinds.specs.Stored.{shown}
 use Rattle.stored_rings.specs.declared.regions.Regions.{Regions}
-use Rattle.stored_rings.specs.Items.{Item}
 use Rattle.stored_rings.specs.Regions.{look}
-use Rattle.stored_rings.specs.Shelf.{seen}
 use Rattle.brigade_ops.specs.Store.{lists}
-use Rattle.stored_rings.proofs.Shown.{on_cong}
+use Rattle.brigade_ops.proofs.Added.{added}
 use Rattle.brigade_ops.proofs.store.Brigades.copy.Goals as goal
 
 pub add_tail-requires-clause-there : goal.add_tail-requires-clause-there
-unfolding lists seen
-add_tail-requires-clause-there g c = ap is_some (c.make_room.ensures.same c.args.b) ∙ c.requires.brigade
+unfolding lists
+add_tail-requires-clause-there g c = ap is_some (c.room_for.ensures.lists c.args.b) ∙ c.requires.brigade
 
 pub returns-clause-ok : goal.returns-clause-ok
-unfolding lists seen
+unfolding lists
 returns-clause-ok g c m x is =
+    let roomy = c.room_for.new.self in
     let see = look c.args.self.now.held.regions in
-    let b = c.args.b in
-    let new = c.add_tail.result in
-    let same : shown see c.in_ok-copy.copy ≡ x = ap (shown see) c.in_ok-copy.ensures.ok ∙ same_Some (shown see c.stored.result.now) x (sym c.stored.ensures.shown ∙ is) in
+    let copied = c.in_ok-copy.copy in
+    let same : shown (look roomy.held.regions) copied ≡ x =
+    ap (λ (r : Regions). shown (look r) copied) c.room_for.ensures.regions
+    ∙ (ap (shown see) c.in_ok-copy.ensures.ok ∙ same_Some (shown see c.stored.result.now) x (sym c.stored.ensures.shown ∙ is)) in
     c.add_tail.ensures.out m
-    ∙ (ap (λ (r : Regions). on b (put_tail (let z : Item = (new, shown (look r) c.in_ok-copy.copy) in z)) (seen c.make_room.new.self) m) c.make_room.ensures.regions
-    ∙ (ap (λ (y : Bucket). on b (put_tail (new, y)) (seen c.make_room.new.self) m) same
-    ∙ on_cong b (put_tail (new, x)) (seen c.make_room.new.self) (seen c.args.self.now.held) c.make_room.ensures.same m))
+    ∙ added c.args.b m put_tail c.add_tail.result (shown (look roomy.held.regions) copied) x (lists c.args.self.now) (lists roomy) same c.room_for.ensures.lists

@@ -1,4 +1,4 @@
-use Rattle.std.proofs.Common.{◌≡◌, ℕ, suc, ◌+◌, ◌<◌, ◌≤◌, None, List, ◌∷◌, cond, drop, length, get_or, sym, ap, subst, ◌∙◌, arith, rules}
+use Rattle.std.proofs.Common.{◌≡◌, ℕ, suc, ◌+◌, ◌<◌, ◌≤◌, None, List, ◌∷◌, cond, drop, length, get_or, sym, ap, subst, ◌∙◌, arith}
 use Rattle.std.proofs.lemmas.List.{drop_more, drop_all}
 use Rattle.std.specs.List.{list_any}
 use Rattle.run_model.specs.declared.payload.Payload.{Payload}
@@ -11,42 +11,41 @@ use Rattle.brigade_ops.proofs.Ended.{out_step, counted_step, sum_step, closed_st
 use Rattle.brigade_ops.proofs.store.Brigades.end_pool.Goals as goal
 
 -- what is left begins with the payload at hand
-front : (handed : List (ℕ × Payload)) (i : ℕ) (entry : ℕ × Payload) → i < length handed → get_or handed i entry ≡ entry → drop i handed ≡ entry ∷ drop (i + 1) handed
-front handed i entry within here = drop_more handed i entry within ∙ ap (λ (x : ℕ × Payload). x ∷ drop (i + 1) handed) here
+front : (handed : List (ℕ × Payload)) (i : ℕ) (entry : ℕ × Payload) → i < length handed → entry ≡ get_or handed i entry
+    → drop i handed ≡ entry ∷ drop (i + 1) handed
+front handed i entry within here = drop_more handed i entry within ∙ ap (λ (x : ℕ × Payload). x ∷ drop (i + 1) handed) (sym here)
 
-refs_front : (f : ℕ) (xs ys : List (ℕ × Payload)) (entry : ℕ × Payload) → xs ≡ entry ∷ ys → refs_in f xs ≡ cond (is_file_ref f entry.1) (suc (refs_in f ys)) (refs_in f ys)
+refs_front : (f : ℕ) (handed : List (ℕ × Payload)) (i : ℕ) (entry : ℕ × Payload) → i < length handed → entry ≡ get_or handed i entry
+    → refs_in f (drop i handed) ≡ cond (is_file_ref f entry.1) (suc (refs_in f (drop (i + 1) handed))) (refs_in f (drop (i + 1) handed))
 unfolding refs_in
-refs_front f xs ys entry e = ap (refs_in f) e
+refs_front f handed i entry within here = ap (refs_in f) (front handed i entry within here)
 
 pub end_payload-requires-clause-counted : goal.end_payload-requires-clause-counted
 end_payload-requires-clause-counted g c f is =
     let i = c.loop-entry.entry-index in
     let entry : ℕ × Payload = c.entry-item.result in
-    let here : get_or c.args.handed.now i entry ≡ entry = search rules in
-    let ys = drop (i + 1) c.args.handed.now in
-    let e = refs_front f (drop i c.args.handed.now) ys entry (front c.args.handed.now i entry c.loop-entry-test.true here) in
-    enough_here (is_file_ref f entry.1) (refs_in f ys) (references c.loop-entry.self f) is (subst (λ (k : ℕ). k ≤ references c.loop-entry.self f) e (c.loop-entry.invariant.enough f))
+    let refs = refs_front f c.args.handed.now i entry c.loop-entry-test.true c.entry-item.is in
+    enough_here (is_file_ref f entry.1) (refs_in f (drop (i + 1) c.args.handed.now)) (references c.loop-entry.self f) is
+    (subst (λ (k : ℕ). k ≤ references c.loop-entry.self f) refs (c.loop-entry.invariant.enough f))
 
 pub end_payload-requires-clause-open : goal.end_payload-requires-clause-open
 end_payload-requires-clause-open g c f is =
     let i = c.loop-entry.entry-index in
     let entry : ℕ × Payload = c.entry-item.result in
-    let here : get_or c.args.handed.now i entry ≡ entry = search rules in
-    let ys = drop (i + 1) c.args.handed.now in
-    let e = refs_front f (drop i c.args.handed.now) ys entry (front c.args.handed.now i entry c.loop-entry-test.true here) in
-    c.loop-entry.invariant.opened f (subst (λ (k : ℕ). 0 < k) (sym e) (some_here (is_file_ref f entry.1) (refs_in f ys) is))
+    let refs = refs_front f c.args.handed.now i entry c.loop-entry-test.true c.entry-item.is in
+    c.loop-entry.invariant.opened f (subst (λ (k : ℕ). 0 < k) (sym refs) (some_here (is_file_ref f entry.1) (refs_in f (drop (i + 1) c.args.handed.now)) is))
 
 pub loop-entry-preserved : goal.loop-entry-preserved
 loop-entry-preserved g c =
     let handed = c.args.handed.now in
     let i = c.loop-entry.entry-index in
     let entry : ℕ × Payload = c.entry-item.result in
-    let here : get_or handed i entry ≡ entry = search rules in
     let ys = drop (i + 1) handed in
-    let whole : drop i handed ≡ entry ∷ ys = front handed i entry c.loop-entry-test.true here in
+    let whole : drop i handed ≡ entry ∷ ys = front handed i entry c.loop-entry-test.true c.entry-item.is in
     let now = references c.end_payload.new.self in
     let before = references c.loop-entry.self in
-    let refs : ((f : ℕ) → refs_in f (drop i handed) ≡ cond (is_file_ref f entry.1) (suc (refs_in f ys)) (refs_in f ys)) = λ f. refs_front f (drop i handed) ys entry whole in
+    let refs : ((f : ℕ) → refs_in f (drop i handed) ≡ cond (is_file_ref f entry.1) (suc (refs_in f ys)) (refs_in f ys)) =
+    λ f. refs_front f handed i entry c.loop-entry-test.true c.entry-item.is in
     let left : ((f : ℕ) → cond (is_file_ref f entry.1) (suc (refs_in f ys)) (refs_in f ys) ≤ before f) = λ f. subst (λ (k : ℕ). k ≤ before f) (refs f) (c.loop-entry.invariant.enough f) in
     let enough : ((f : ℕ) → refs_in f ys ≤ now f) = λ f. counted_step (is_file_ref f entry.1) (now f) (before f) (refs_in f ys) (c.end_payload.ensures.less f) (left f) in
     let old = g.F.Files.device c.loop-entry.files in

@@ -10,7 +10,8 @@ use Rattle.brigade_ops.proofs.store.Brigades.files_for.Given as goal
 
 abbrev pub invariant-loop-place : goal.invariant-loop-place
 invariant-loop-place g l = record {
-  all : l.files ++ filter_map (new_ref (map_of l.tree) l.pool) (named (from_place l.place (list_at (lists l.self) l.b))) ≡ filter_map (new_ref (map_of l.tree) l.pool) (named (list_at (lists l.self) l.b));
+  all : l.files ++ filter_map (new_ref (map_of l.tree) l.pool) (named (from_place l.place (list_at (lists l.self) l.b))) ≡ filter_map (new_ref (map_of l.tree) l.pool)
+      (named (list_at (lists l.self) l.b));
   inside : (id : BucketId) → l.place ≡ Some id → brigade_of l.self id ≡ Some l.b;
 }
 

@@ -1,19 +1,22 @@
 -- A bucket that the point lies inside is data, and longer than what stands before the point.
-use Rattle.std.proofs.Common.{◌≡◌, ◌<◌, true, false, Err, sym, ap, ◌∙◌, arith}
+use Rattle.std.proofs.Common.{◌≡◌, ◌<◌, true, false, Some, Err, sym, ap, ◌∙◌, arith}
 use Rattle.run_model.specs.Buckets.{is_data_kind}
 use Rattle.run_model.specs.Cutting.{length_of}
+use Rattle.run_model.specs.declared.bucket.Bucket.{Bucket}
 use Rattle.bucket_ring.specs.Lists.{list_at}
 use Rattle.stored_rings.specs.declared.refusal.SplitRefusal.{SplitRefusal}
 use Rattle.stored_rings.specs.Items.{Items}
-use Rattle.brigade_ops.specs.Store.{lists, brigade_of}
+use Rattle.brigade_ops.specs.Store.{lists, brigade_of, bucket_at}
 use Rattle.stored_rings.proofs.Parts.{inside_short, bytes_are_data}
 use Rattle.stored_rings.proofs.Saves.{found_some}
 use Rattle.brigade_ops.proofs.Stores.{counted, found_in, found_bucket}
 use Rattle.stored_rings.proofs.Walks.{once_listed}
 use Rattle.brigade_ops.proofs.store.Brigades.partition.Goals as goal
+use Rattle.brigade_ops.proofs.store.Brigades.partition.Goals.{In-Inside}
 
-pub unreachable-requires : goal.unreachable-requires
-unreachable-requires g c =
+inside : (g : _) (c : In-Inside g)
+    → (x : Bucket) × (bucket_at c.args.self.now c.in-Inside.id ≡ Some x) × (is_data_kind x.kind ≡ true) × (c.in-Inside.n < length_of x.content)
+inside g c =
     let store = c.args.self.now in
     let id = c.in-Inside.id in
     let n = c.in-Inside.n in
@@ -23,20 +26,20 @@ unreachable-requires g c =
     let x = found_some id xs (found_in store id b at) in
     let is = found_bucket store id b x.0 at x.1 in
     let long = inside_short id c.args.point n x.0 xs (λ i. once_listed b (brigade_of store i) _ (counted store i b)) (sym c.find.ensures.value ∙ c.in-Inside.is) x.1 in
-    let is_data : is_data_kind x.0.kind ≡ true = bytes_are_data x.0.kind x.0.content n (c.requires.fits id x.0 at is) long in
-    let none : is_data_kind x.0.kind ≡ false = (c.split.ensures.metadata x.0 is).0 (c.in-Err-Metadata.is ∙ ap (λ (e : SplitRefusal). Err e) c.in-Err-Metadata.field-0-is) in
+    (x.0, is, bytes_are_data x.0.kind x.0.content n (c.requires.fits id x.0 at is) long, long)
+
+pub unreachable-requires : goal.unreachable-requires
+unreachable-requires g c =
+    let x = inside g (goal.at.unreachable-requires g c).In-Inside in
+    let is_data : is_data_kind x.0.kind ≡ true = x.2 in
+    let none : is_data_kind x.0.kind ≡ false =
+    (c.split.ensures.metadata x.0 x.1).0 (c.in-Err-Metadata.is ∙ ap (λ (e : SplitRefusal). Err e) c.in-Err-Metadata.field-0-is) in
     cc
 
 pub unreachable-requires-in-Err-TooLong : goal.unreachable-requires-in-Err-TooLong
 unreachable-requires-in-Err-TooLong g c =
-    let store = c.args.self.now in
-    let id = c.in-Inside.id in
-    let n = c.in-Inside.n in
-    let b = c.args.b in
-    let xs : Items = list_at (lists store) b in
-    let at = c.find.ensures.inside id n c.in-Inside.is in
-    let x = found_some id xs (found_in store id b at) in
-    let is = found_bucket store id b x.0 at x.1 in
-    let long = inside_short id c.args.point n x.0 xs (λ i. once_listed b (brigade_of store i) _ (counted store i b)) (sym c.find.ensures.value ∙ c.in-Inside.is) x.1 in
-    let over : length_of x.0.content < n = ((c.split.ensures.too_long x.0 is).0 (c.in-Err-TooLong.is ∙ ap (λ (e : SplitRefusal). Err e) c.in-Err-TooLong.field-0-is)).1 in
+    let x = inside g (goal.at.unreachable-requires-in-Err-TooLong g c).In-Inside in
+    let long : c.in-Inside.n < length_of x.0.content = x.3 in
+    let over : length_of x.0.content < c.in-Inside.n =
+    ((c.split.ensures.too_long x.0 x.1).0 (c.in-Err-TooLong.is ∙ ap (λ (e : SplitRefusal). Err e) c.in-Err-TooLong.field-0-is)).1 in
     omega arith

@@ -30,7 +30,8 @@ loop-ring-preserved g c id b x at there =
     let ring : ℕ = get_or rings i 0 in
     let done : Bucket = cleared_as (is_reached c.args.reached.now) x in
     let old = c.loop-ring.invariant id b x at there in
-    let step : (ring ≡ b → morphed c.if-has_ring.found id x ≡ done) → (ring ≢ b → morphed c.if-has_ring.found id x ≡ morphed c.loop-ring.found id x) → morphed c.if-has_ring.found id x ≡ cond (is_in b (take (i + 1) rings)) done x
+    let step : (ring ≡ b → morphed c.if-has_ring.found id x ≡ done) → (ring ≢ b → morphed c.if-has_ring.found id x ≡ morphed c.loop-ring.found id x)
+    → morphed c.if-has_ring.found id x ≡ cond (is_in b (take (i + 1) rings)) done x
     = λ here other. (ring_step b ring (take i rings) (morphed c.if-has_ring.found id x) (morphed c.loop-ring.found id x) done x old here other
     ∙ ap (λ (names : List ℕ). cond (is_in b names) done x) (sym (take_more rings i 0 c.loop-ring-test.true))) in
     elim c.if-has_ring.branch [

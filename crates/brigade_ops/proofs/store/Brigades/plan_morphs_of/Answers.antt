@@ -31,6 +31,8 @@ loop-name-preserved g c id x is =
     ∙ (plan_step reached c.loop-name.found (take i names) name id x (c.loop-name.invariant id x is) r
     (λ hit. none_there r (g.R.Rings.ring_at s.rings.rings name) c.morph_of-morph.ensures.there (at_some (g.R.Rings.ring_at s.rings.rings name) (λ b. found name (list_at (seen s) b)) x (here hit)))
     c.morph_of-morph.ensures.name
-    (λ hit. if_some (λ (m : Morph). m.kind ≡ to_heap reached x.kind) r (λ m e. told_some (λ (m : Morph). (y : Bucket) → bucket_at c.args.self.now name ≡ Some y → m.kind ≡ to_heap reached y.kind) r c.morph_of-morph.ensures.kind m e x (here hit)))
-    (λ hit. if_some (λ (m : Morph). m.home ≡ end_pools reached x.home) r (λ m e. told_some (λ (m : Morph). (y : Bucket) → bucket_at c.args.self.now name ≡ Some y → m.home ≡ end_pools reached y.home) r c.morph_of-morph.ensures.home m e x (here hit)))
+    (λ hit. if_some (λ (m : Morph). m.kind ≡ to_heap reached x.kind) r
+    (λ m e. told_some (λ (m : Morph). (y : Bucket) → bucket_at c.args.self.now name ≡ Some y → m.kind ≡ to_heap reached y.kind) r c.morph_of-morph.ensures.kind m e x (here hit)))
+    (λ hit. if_some (λ (m : Morph). m.home ≡ end_pools reached x.home) r
+    (λ m e. told_some (λ (m : Morph). (y : Bucket) → bucket_at c.args.self.now name ≡ Some y → m.home ≡ end_pools reached y.home) r c.morph_of-morph.ensures.home m e x (here hit)))
     ∙ ap (λ (ns : List BucketId). cond (is_named id ns) (cleared_as reached x) x) (sym (take_more names i (record { slot = 0; birth = 0 }) c.loop-name-test.true)))

@@ -53,23 +53,29 @@ loop-place-preserved g c =
     let r = c.morph_for-morph.result in
     let xs : Items = list_at (lists store) b in
     let inside : brigade_of store name ≡ Some b = c.loop-place.invariant.inside name c.in-Some.is in
-    let grown : ((id : BucketId) (x : Bucket) → morphed c.push_some.new.items id x ≡ morphed (ready ++ cons_option r []) id x) = λ id x. ap (λ (ms : List Morph). morphed ms id x) c.in_ok-push_some.ensures.ok in
-    let at_name : ((id : BucketId) (x : Bucket) → same id name ≡ true → bucket_at store id ≡ Some x → bucket_at store name ≡ Some x) = λ id x hit there. (sym (ap (λ (j : BucketId). bucket_at store j) (same_name id name hit)) ∙ there) in
+    let grown : ((id : BucketId) (x : Bucket) → morphed c.push_some.new.items id x ≡ morphed (ready ++ cons_option r []) id x) =
+    λ id x. ap (λ (ms : List Morph). morphed ms id x) c.in_ok-push_some.ensures.ok in
+    let at_name : ((id : BucketId) (x : Bucket) → same id name ≡ true → bucket_at store id ≡ Some x → bucket_at store name ≡ Some x) =
+    λ id x hit there. (sym (ap (λ (j : BucketId). bucket_at store j) (same_name id name hit)) ∙ there) in
     let this : ((id : BucketId) (x : Bucket) → same id name ≡ true → bucket_at store id ≡ Some x → morphed c.push_some.new.items id x ≡ cleared_as reached x) = λ id x hit there.
     (let here = at_name id x hit there in
     grown id x
     ∙ this_ready reached ready name r c.morph_for-morph.ensures.name id x hit (c.loop-place.invariant.begun id x there)
-    (if_some (λ (m : Morph). m.kind ≡ (cleared_as reached x).kind) r (λ m e. told_some (λ (m : Morph). (y : Bucket) → bucket_at store name ≡ Some y → m.kind ≡ (cleared_as reached y).kind) r c.morph_for-morph.ensures.kind m e x here))
-    (if_some (λ (m : Morph). m.home ≡ (cleared_as reached x).home) r (λ m e. told_some (λ (m : Morph). (y : Bucket) → bucket_at store name ≡ Some y → m.home ≡ (cleared_as reached y).home) r c.morph_for-morph.ensures.home m e x here))
+    (if_some (λ (m : Morph). m.kind ≡ (cleared_as reached x).kind) r
+    (λ m e. told_some (λ (m : Morph). (y : Bucket) → bucket_at store name ≡ Some y → m.kind ≡ (cleared_as reached y).kind) r c.morph_for-morph.ensures.kind m e x here))
+    (if_some (λ (m : Morph). m.home ≡ (cleared_as reached x).home) r
+    (λ m e. told_some (λ (m : Morph). (y : Bucket) → bucket_at store name ≡ Some y → m.home ≡ (cleared_as reached y).home) r c.morph_for-morph.ensures.home m e x here))
     (λ none. c.morph_for-morph.ensures.same x none here)) in
-    let other : ((id : BucketId) (x : Bucket) → same id name ≡ false → morphed c.push_some.new.items id x ≡ morphed ready id x) = λ id x miss. (grown id x ∙ other_kept reached ready name r c.morph_for-morph.ensures.name id x miss) in
+    let other : ((id : BucketId) (x : Bucket) → same id name ≡ false → morphed c.push_some.new.items id x ≡ morphed ready id x) =
+    λ id x miss. (grown id x ∙ other_kept reached ready name r c.morph_for-morph.ensures.name id x miss) in
     let first = found_some name xs (found_in store name b inside) in
     let head = c.behind-place.ensures.head b first.0 inside (found_bucket store name b first.0 inside first.1) in
     record {
       ready = λ id x at there none. elim (cases_Bool (same id name)) [
         | inl hit ↦ this id x hit there
         | inr miss ↦ other id x miss
-            ∙ c.loop-place.invariant.ready id x at there (ap (λ (place : Option BucketId). times id (from_place place xs)) c.in-Some.is ∙ later_times id name first.0 (from_place (Some name) xs) (from_place c.behind-place.result xs) miss head none)
+            ∙ c.loop-place.invariant.ready id x at there (ap (λ (place : Option BucketId). times id (from_place place xs)) c.in-Some.is
+            ∙ later_times id name first.0 (from_place (Some name) xs) (from_place c.behind-place.result xs) miss head none)
       ];
       begun = λ id x there. elim (cases_Bool (same id name)) [
         | inl hit ↦ inr (this id x hit there)

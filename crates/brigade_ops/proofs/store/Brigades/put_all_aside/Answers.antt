@@ -1,13 +1,13 @@
-use Rattle.std.proofs.Common.{◌≡◌, ℕ, ◌<◌, Option, None, Some, is_some, drop, length, refl, sym, ap, subst, ◌∙◌, arith}
+use Rattle.std.proofs.Common.{◌≡◌, ℕ, ◌<◌, Option, None, Some, is_some, drop, length, refl, sym, ap, subst, ◌∙◌}
 use Rattle.bucket_ring.specs.declared.names.BucketId.{BucketId}
 use Rattle.run_model.specs.Cutting.{set_aside}
 use Rattle.run_model.specs.Steps.{is_above}
 use Rattle.pool_tree.specs.Tree.{map_of}
-use Rattle.bucket_ring.specs.Laws.{none_revived_twice}
+use Rattle.brigade_ops.proofs.OnlyLists.{only_twice}
 use Rattle.bucket_ring.specs.Lists.{on, list_at, found, rest, with_payload}
 use Rattle.stored_rings.specs.Views.{bucket_of}
 use Rattle.stored_rings.specs.Items.{Items, from_place, aside_behind}
-use Rattle.brigade_ops.specs.Store.{lists, brigade_of, bucket_at, next_name}
+use Rattle.brigade_ops.specs.Store.{lists, brigade_of, bucket_at}
 use Rattle.stored_rings.proofs.Lists.{and_then_told, found_set, list_on, on_after, on_same}
 use Rattle.stored_rings.proofs.Walks.{told_some}
 use Rattle.stored_rings.proofs.Saves.{aside_step, fewer_left, none_left}
@@ -27,7 +27,8 @@ here g c =
     and_then_told (g.R.Rings.ring_at s.rings.rings c.in-Some.id) (λ q. found c.in-Some.id (list_at (seen s) q)) c.args.b (bucket_of c.payload.result) (inside g c) c.payload.ensures
 
 change : (g : _) (c : After-put_aside g) (n : ℕ)
-    → seen c.put_aside.new.self.held n ≡ on c.args.b (with_payload c.in-Some.id (set_aside c.args.pool (is_above (map_of c.args.tree.now) c.args.pool (bucket_of c.payload.result).home) (bucket_of c.payload.result))) (seen c.loop-place.self.held) n
+    → seen c.put_aside.new.self.held n ≡ on c.args.b (with_payload c.in-Some.id
+    (set_aside c.args.pool (is_above (map_of c.args.tree.now) c.args.pool (bucket_of c.payload.result).home) (bucket_of c.payload.result))) (seen c.loop-place.self.held) n
 unfolding lists brigade_of
 change g c n =
     c.put_aside.ensures.out c.args.b n (bucket_of c.payload.result) (inside g c) c.payload.ensures
@@ -35,7 +36,8 @@ change g c n =
 
 list : (g : _) (c : After-put_aside g)
     → list_at (seen c.put_aside.new.self.held) c.args.b
-    ≡ with_payload c.in-Some.id (set_aside c.args.pool (is_above (map_of c.args.tree.now) c.args.pool (bucket_of c.payload.result).home) (bucket_of c.payload.result)) (list_at (seen c.loop-place.self.held) c.args.b)
+    ≡ with_payload c.in-Some.id (set_aside c.args.pool (is_above (map_of c.args.tree.now) c.args.pool (bucket_of c.payload.result).home) (bucket_of c.payload.result))
+    (list_at (seen c.loop-place.self.held) c.args.b)
 list g c =
     let s = c.loop-place.self.held in
     list_on c.args.b (with_payload c.in-Some.id _) (seen s) (seen c.put_aside.new.self.held) (change g c) (ring_there s c.in-Some.id c.args.b (inside g c))
@@ -82,23 +84,27 @@ loop-place-preserved g c =
     let ys = with_payload id (set_aside pool (is_above ps pool x.home) x) xs in
     let told : from_place place ys ≡ drop 1 (rest id ys) = subst (λ (zs : Items). from_place place zs ≡ drop 1 (rest id zs)) (list g d) (c.behind-place.ensures.others b (still g d)) in
     record {
-      out = λ n. on_after b n (with_payload id (set_aside pool (is_above ps pool x.home) x)) (aside_behind ps pool place) (aside_behind ps pool (Some id)) (seen s) (seen c.put_aside.new.self.held) (change g d) (aside_step ps pool id place x xs (here g d) told)
+      out = λ n. on_after b n (with_payload id (set_aside pool (is_above ps pool x.home) x)) (aside_behind ps pool place) (aside_behind ps pool (Some id)) (seen s) (seen c.put_aside.new.self.held)
+          (change g d) (aside_step ps pool id place x xs (here g d) told)
           ∙ (ap (λ (p : Option BucketId). on b (aside_behind ps pool p) (seen s) n) (sym c.in-Some.is) ∙ c.loop-place.invariant.out n);
       inside = told_some (λ j. g.R.Rings.ring_at c.put_aside.new.self.held.rings.rings j ≡ Some b) place (c.behind-place.ensures.inside b (still g d));
-      next = c.put_aside.ensures.next ∙ c.loop-place.invariant.next;
-      names = none_revived_twice (brigade_of c.args.self.now) (brigade_of c.loop-place.self) (brigade_of c.put_aside.new.self) (next_name c.args.self.now) (next_name c.loop-place.self)
-          (omega (arith, c.loop-place.invariant.next)) c.loop-place.invariant.names c.put_aside.ensures.names;
-      pools = c.put_aside.ensures.pools ∙ c.loop-place.invariant.pools;
-      references = c.put_aside.ensures.references ∙ c.loop-place.invariant.references;
-      asked = c.put_aside.ensures.unasked ∙ c.loop-place.invariant.asked;
+      others = only_twice c.loop-place.invariant.others (record {
+        next = c.put_aside.ensures.next;
+        names = c.put_aside.ensures.names;
+        pools = c.put_aside.ensures.pools;
+        counts = c.put_aside.ensures.references;
+        asked = c.put_aside.ensures.unasked;
+      });
     }
 
 pub returns-clause-out : goal.returns-clause-out
 unfolding lists
 returns-clause-out g c n = out c.loop-place.place c.in_default.not-Some (c.loop-place.invariant.out n) where
   out : (p : Option BucketId) → ((id : BucketId) → p ≡ Some id → ⊥)
-      → on c.args.b (aside_behind (map_of c.args.tree.now) c.args.pool p) (seen c.loop-place.self.held) n ≡ on c.args.b (aside_behind (map_of c.args.tree.now) c.args.pool c.args.from) (seen c.args.self.now.held) n
+      → on c.args.b (aside_behind (map_of c.args.tree.now) c.args.pool p) (seen c.loop-place.self.held) n ≡ on c.args.b (aside_behind (map_of c.args.tree.now) c.args.pool c.args.from)
+      (seen c.args.self.now.held) n
       → seen c.loop-place.self.held n ≡ on c.args.b (aside_behind (map_of c.args.tree.now) c.args.pool c.args.from) (seen c.args.self.now.held) n
   out None never told =
-      on_same c.args.b n (aside_behind (map_of c.args.tree.now) c.args.pool None) (seen c.loop-place.self.held) (none_left (map_of c.args.tree.now) c.args.pool (list_at (seen c.loop-place.self.held) c.args.b)) ∙ told
+      on_same c.args.b n (aside_behind (map_of c.args.tree.now) c.args.pool None) (seen c.loop-place.self.held)
+      (none_left (map_of c.args.tree.now) c.args.pool (list_at (seen c.loop-place.self.held) c.args.b)) ∙ told
   out (Some id) never told = absurd (never id refl)

@@ -3,20 +3,16 @@ use Rattle.std.proofs.Common.{◌≡◌, ℕ, Some, length}
 use Rattle.pool_tree.specs.Tree.{map_of}
 use Rattle.bucket_ring.specs.declared.names.BucketId.{BucketId}
 use Rattle.bucket_ring.specs.Lists.{on, list_at}
-use Rattle.bucket_ring.specs.Kept.{NoneRevived}
+use Rattle.brigade_ops.proofs.OnlyLists.{OnlyLists}
 use Rattle.stored_rings.specs.Items.{from_place, aside_behind}
-use Rattle.brigade_ops.specs.Store.{lists, brigade_of, pool_of, next_name, references}
+use Rattle.brigade_ops.specs.Store.{lists, brigade_of}
 use Rattle.brigade_ops.proofs.store.Brigades.put_all_aside.Given as goal
 
 abbrev pub invariant-loop-place : goal.invariant-loop-place
 invariant-loop-place g l = record {
   out : (n : ℕ) → on l.b (aside_behind (map_of l.tree) l.pool l.place) (lists l.self) n ≡ on l.b (aside_behind (map_of l.tree) l.pool l.fn.from) (lists l.initial.self) n;
   inside : (id : BucketId) → l.place ≡ Some id → brigade_of l.self id ≡ Some l.b;
-  next : next_name l.self ≡ next_name l.initial.self;
-  names : NoneRevived (brigade_of l.initial.self) (brigade_of l.self) (next_name l.initial.self);
-  pools : pool_of l.self ≡ pool_of l.initial.self;
-  references : references l.self ≡ references l.initial.self;
-  asked : l.self.asked ≡ l.initial.self.asked;
+  others : OnlyLists l.initial.self l.self;
 }
 
 abbrev pub decreases-loop-place : goal.decreases-loop-place

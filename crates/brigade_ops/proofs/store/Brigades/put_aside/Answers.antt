@@ -53,5 +53,6 @@ returns-clause-out g c b m x at is =
     c.stored_aside.ensures.shown see ∙ ap (λ (y : Bucket). set_aside c.args.pool c.args.above y) had in
     c.put-nothing.ensures.out b m (still g (goal.at.returns-clause-out g c).After-put-bucket b at)
     ∙ (ap (λ (r : Regions). on b (with_payload id (shown (look r) last)) (seen c.put-bucket.new.self) m) c.put-bucket.ensures.regions
-    ∙ on_after b m (with_payload id _) (with_payload id (shown see last)) (with_payload id (set_aside c.args.pool c.args.above x)) (seen s) (seen c.put-bucket.new.self) (λ k. c.put-bucket.ensures.out b k at)
+    ∙ on_after b m (with_payload id _) (with_payload id (shown see last)) (with_payload id (set_aside c.args.pool c.args.above x)) (seen s) (seen c.put-bucket.new.self)
+    (λ k. c.put-bucket.ensures.out b k at)
     (set_twice id _ (shown see last) xs (found_in s id b at) ∙ ap (λ (y : Bucket). with_payload id y xs) put))

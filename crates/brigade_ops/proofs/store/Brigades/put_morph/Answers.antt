@@ -18,7 +18,8 @@ use Rattle.stored_rings.proofs.Shelves.{found_in, in_found, ring_there}
 use Rattle.brigade_ops.proofs.store.Brigades.put_morph.Goals as goal
 use Rattle.brigade_ops.proofs.store.Brigades.put_morph.Goals.{After-put-bucket}
 
-still : (g : _) (c : After-put-bucket g) (b : ℕ) → g.R.Rings.ring_at c.args.self.now.held.rings.rings c.args.morph.id ≡ Some b → g.R.Rings.ring_at c.put-bucket.new.self.rings.rings c.args.morph.id ≡ Some b
+still : (g : _) (c : After-put-bucket g) (b : ℕ) → g.R.Rings.ring_at c.args.self.now.held.rings.rings c.args.morph.id ≡ Some b
+    → g.R.Rings.ring_at c.put-bucket.new.self.rings.rings c.args.morph.id ≡ Some b
 still g c b at =
     let s = c.args.self.now.held in
     let id = c.args.morph.id in
@@ -30,13 +31,15 @@ still g c b at =
 
 pub put-nothing-requires-clause-there : goal.put-nothing-requires-clause-there
 unfolding brigade_of
-put-nothing-requires-clause-there g c = still_in (g.R.Rings.ring_at c.args.self.now.held.rings.rings c.args.morph.id) _ c.requires (still g (goal.at.put-nothing-requires-clause-there g c).After-put-bucket)
+put-nothing-requires-clause-there g c =
+    still_in (g.R.Rings.ring_at c.args.self.now.held.rings.rings c.args.morph.id) _ c.requires (still g (goal.at.put-nothing-requires-clause-there g c).After-put-bucket)
 
 pub put-nothing-requires-clause-whole : goal.put-nothing-requires-clause-whole
 put-nothing-requires-clause-whole g c = ap (λ (r : Regions). is_whole (look r) c.put-bucket.result.kept) c.put-bucket.ensures.regions ∙ c.put-bucket.ensures.had_whole
 
 pub put-nothing-requires-clause-lies : goal.put-nothing-requires-clause-lies
-put-nothing-requires-clause-lies g c = ap (λ (k : Kind). lies_right k c.put-bucket.result.kept) c.kind_given-bucket.ensures ∙ given_lies c.put-bucket.result.kind c.args.morph.kind c.put-bucket.result.kept c.put-bucket.ensures.had_right
+put-nothing-requires-clause-lies g c = ap (λ (k : Kind). lies_right k c.put-bucket.result.kept) c.kind_given-bucket.ensures
+    ∙ given_lies c.put-bucket.result.kind c.args.morph.kind c.put-bucket.result.kept c.put-bucket.ensures.had_right
 
 pub returns-clause-out : goal.returns-clause-out
 unfolding lists brigade_of bucket_at

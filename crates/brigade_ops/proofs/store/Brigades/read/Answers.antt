@@ -18,7 +18,8 @@ read_range-requires-clause-open g c = c.requires.open c.in-Some.bucket c.in-Some
 pub returns-in-Some-clause-read : goal.returns-in-Some-clause-read
 returns-in-Some-clause-read g c x is =
     let same : c.in-Some.bucket ≡ x = same_Some c.in-Some.bucket x (sym c.in-Some.ensures.here ∙ is) in
-    let told : IsRead c.args.id c.in-Some.bucket (brigade_of c.args.self.now c.args.id) (g.F.Files.device c.args.files.now) (g.F.Files.device c.read_range.new.files) (lists c.args.self.now) (lists c.read_range.new.self) (next_name c.args.self.now) (next_name c.read_range.new.self) c.read_range.result = record {
+    let told : IsRead c.args.id c.in-Some.bucket (brigade_of c.args.self.now c.args.id) (g.F.Files.device c.args.files.now) (g.F.Files.device c.read_range.new.files) (lists c.args.self.now)
+    (lists c.read_range.new.self) (next_name c.args.self.now) (next_name c.read_range.new.self) c.read_range.result = record {
       ok = c.read_range.ensures.ok;
       rest = c.read_range.ensures.rest;
       names = c.read_range.ensures.next;
@@ -26,11 +27,13 @@ returns-in-Some-clause-read g c x is =
       asked = c.read_range.ensures.asked;
       fault = c.read_range.ensures.fault;
     } in
-    subst (λ (y : Bucket). IsRead c.args.id y (brigade_of c.args.self.now c.args.id) (g.F.Files.device c.args.files.now) (g.F.Files.device c.read_range.new.files) (lists c.args.self.now) (lists c.read_range.new.self) (next_name c.args.self.now) (next_name c.read_range.new.self) c.read_range.result) same told
+    subst (λ (y : Bucket). IsRead c.args.id y (brigade_of c.args.self.now c.args.id) (g.F.Files.device c.args.files.now) (g.F.Files.device c.read_range.new.files) (lists c.args.self.now)
+    (lists c.read_range.new.self) (next_name c.args.self.now) (next_name c.read_range.new.self) c.read_range.result) same told
 
 pub returns-in-None-clause-read : goal.returns-in-None-clause-read
 unfolding lists brigade_of bucket_at next_name
 returns-in-None-clause-read g c x is =
     let s = c.args.self.now.held in
-    unread_is c.args.id (g.R.Rings.ring_at s.rings.rings c.args.id) (g.F.Files.device c.args.files.now) (seen s) (g.R.Rings.next_name s.rings.rings) x (sym (c.range_at.ensures.range x is) ∙ c.in-None.is)
+    unread_is c.args.id (g.R.Rings.ring_at s.rings.rings c.args.id) (g.F.Files.device c.args.files.now) (seen s) (g.R.Rings.next_name s.rings.rings) x
+    (sym (c.range_at.ensures.range x is) ∙ c.in-None.is)
     (λ b at. and_then_told (g.R.Rings.ring_at s.rings.rings c.args.id) (λ q. found c.args.id (list_at (seen s) q)) b x at is)

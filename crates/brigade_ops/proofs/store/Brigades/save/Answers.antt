@@ -56,7 +56,8 @@ returns-clause-ok g c p n at =
     = if_some (λ id. times id (list_at others o) ≡ 0) first
     (λ id is.
     ap (λ (zs : Items). times id zs) (list_off o b (λ (xs : Items). []) (seen s) c.requires.apart)
-    ∙ none_other o b (times id (list_at (seen s) o)) (g.R.Rings.ring_at s.rings.rings id) c.requires.apart (told_some (λ j. g.R.Rings.ring_at s.rings.rings j ≡ Some b) first c.start-first.ensures.inside id is) (counted s id o)) in
+    ∙ none_other o b (times id (list_at (seen s) o)) (g.R.Rings.ring_at s.rings.rings id) c.requires.apart
+    (told_some (λ j. g.R.Rings.ring_at s.rings.rings j ≡ Some b) first c.start-first.ensures.inside id is) (counted s id o)) in
     c.put_all_aside.ensures.out n
     ∙ (ap (λ (f : Item → Item). on o (λ xs. before_place first xs ++ map f (from_place first xs)) (seen new) n) paths
     ∙ (on_after o n (λ xs. xs ++ bs) (aside_behind ps pool first) (λ xs. xs ++ map (aside_item ps pool) bs) others (seen new) c.splice_tail.ensures.out

@@ -23,7 +23,8 @@ shrink-requires-clause-there g c =
 pub shrink-requires-clause-some : goal.shrink-requires-clause-some
 shrink-requires-clause-some g c =
     let s = c.args.self.now in
-    λ h is. some_count (behind_of s) (before_of s) (mark_of s) (at_of s) (head_of s) c.requires.linked c.args.id.slot c.args.from h (sym (heads_same s c.turn.new.self c.turn.ensures.heads c.args.from) ∙ is)
+    λ h is. some_count (behind_of s) (before_of s) (mark_of s) (at_of s) (head_of s) c.requires.linked c.args.id.slot c.args.from h
+    (sym (heads_same s c.turn.new.self c.turn.ensures.heads c.args.from) ∙ is)
     (place_of s c.requires.linked c.args.id c.args.from c.requires.bucket).3
 
 -- the bucket has left its circle

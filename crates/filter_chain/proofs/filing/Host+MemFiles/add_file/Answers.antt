@@ -7,4 +7,5 @@ pub returns : goal.returns
 returns c w hosts =
     let old = c.args.self.now.files in
     let new = c.add.new.self in
-    tries_to_add c.args.self.now new c.args.name.now c.args.bytes.items w (files_of old) (files_of new) (failures_of old) (failures_of new) c.add.ensures.failures c.add.result hosts c.add.ensures.files
+    tries_to_add c.args.self.now new c.args.name.now c.args.bytes.items w (files_of old) (files_of new) (failures_of old)
+    (failures_of new) c.add.ensures.failures c.add.result hosts c.add.ensures.files

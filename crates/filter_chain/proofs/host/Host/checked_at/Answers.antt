@@ -19,4 +19,5 @@ pub returns-clause-chain : goal.returns-clause-chain
 returns-clause-chain g c = if_ok_weaker c.begun_at.result (λ host same. same ∙ c.into_modules.ensures.value) c.begun_at.ensures.chain
 
 pub returns-clause-safe : goal.returns-clause-safe
-returns-clause-safe g c = if_ok_weaker c.begun_at.result (λ host same. subst (λ (chain : List Program). ChainNeverFaults chain) (sym (same ∙ c.into_modules.ensures.value)) c.into_modules.ensures.safe) c.begun_at.ensures.chain
+returns-clause-safe g c = if_ok_weaker c.begun_at.result
+    (λ host same. subst (λ (chain : List Program). ChainNeverFaults chain) (sym (same ∙ c.into_modules.ensures.value)) c.into_modules.ensures.safe) c.begun_at.ensures.chain

@@ -8,7 +8,6 @@ use Rattle.model_laws.proofs.StepFiles.{neither}
 use Rattle.pool_tree.specs.Tree.{map_of}
 use Rattle.brigade_ops.specs.Store.{next_name}
 use Rattle.module_run.specs.declared.conn.Conn.{Conn}
-use Rattle.filter_chain.specs.Hosted.{conn_at}
 use Rattle.filter_chain.specs.Hosting.{HoldsWorld, IsHosting, chain_of, budget_of}
 use Rattle.filter_chain.proofs.Hosts.{laws}
 use Rattle.filter_chain.proofs.HostOpens.{opens_spent, opens_forgot, opened_on, unchanged_holds, put_after}
@@ -33,26 +32,29 @@ open-requires-clause-some g c = subst (λ (chain : List Program). 0 < length cha
 
 pub open-requires-clause-can : goal.open-requires-clause-can
 unfolding IsHosting
-open-requires-clause-can g c = (let h = c.requires.1 in record { house = h.house; none = h.none; named = (let first = (laws (budget_of c.args.self.now) (chain_of c.args.self.now) (g.F.Files.device c.args.self.now.files) c.args.self.now.tree c.args.self.now.store c.args.self.now.last (conn_at c.args.self.now.conns) c.requires.0 h).sound.names.first in let is = h.names in omega (arith, first, is)) })
+open-requires-clause-can g c = (let h = c.requires.1 in record { house = h.house; none = h.none; named = (let first = (laws h).sound.names.first in let is = h.names in omega (arith, first, is)) })
 
 pub returns-in_default-clause-event : goal.returns-in_default-clause-event
 unfolding chain_of budget_of IsHosting
 returns-in_default-clause-event g c w hosts =
     let host = c.args.self.now in
     opens_forgot (g.F.Files.device host.files) host (record host { conns = c.reserve.new.self }) w hosts refl refl
-    (subst (λ (f : ℕ → Option Conn). HoldsWorld (budget_of host) (chain_of host) (g.F.Files.device host.files) host.tree host.store host.last f w) (sym (fun_ext c.reserve.ensures.same)) hosts) (sym c.lacks_names.ensures ∙ c.if-lacks_names.false)
+    (subst (λ (f : ℕ → Option Conn). HoldsWorld (budget_of host) (chain_of host) (g.F.Files.device host.files) host.tree host.store host.last f w) (sym (fun_ext c.reserve.ensures.same)) hosts)
+    (sym c.lacks_names.ensures ∙ c.if-lacks_names.false)
 
 pub returns-in_default-open-clause-event : goal.returns-in_default-open-clause-event
 unfolding chain_of budget_of
 returns-in_default-open-clause-event g c w hosts =
     let host = c.args.self.now in
     let new = record host { conns = c.reserve.new.self; tree = c.open.new.tree; store = c.open.new.store } in
-    opens_forgot (g.F.Files.device host.files) host new w hosts refl refl (unchanged_holds (g.F.Files.device host.files) host new w hosts refl refl refl (fun_ext c.reserve.ensures.same) c.in_default-open.ensures.err) (sym c.lacks_names.ensures ∙ c.if-lacks_names.false)
+    opens_forgot (g.F.Files.device host.files) host new w hosts refl refl (unchanged_holds (g.F.Files.device host.files) host new w hosts refl refl refl
+    (fun_ext c.reserve.ensures.same) c.in_default-open.ensures.err) (sym c.lacks_names.ensures ∙ c.if-lacks_names.false)
 
 pub returns-clause-event : goal.returns-clause-event
 unfolding chain_of budget_of
 returns-clause-event g c w hosts =
     let host = c.args.self.now in
-    opened_on (g.F.Files.device host.files) host (record host { conns = c.put.new.self; tree = c.open.new.tree; store = c.open.new.store; last = host.last + 1 }) w hosts refl refl refl c.in-Ok-open.conn
+    opened_on (g.F.Files.device host.files) host
+    (record host { conns = c.put.new.self; tree = c.open.new.tree; store = c.open.new.store; last = host.last + 1 }) w hosts refl refl refl c.in-Ok-open.conn
     (put_after host.conns c.reserve.new.self c.put.new.self (host.last + 1) c.in-Ok-open.conn c.reserve.ensures.same c.put.ensures)
     c.as_slice.result.now c.as_slice.ensures.value (sym c.lacks_names.ensures ∙ c.if-lacks_names.false) c.in-Ok-open.ensures.opened c.in-Ok-open.ensures.pools c.in-Ok-open.ensures.beside

@@ -1,41 +1,34 @@
 -- By the connection of the number, as it was found and as it is put back.
-use Rattle.std.proofs.Common.{refl, sym, ◌∙◌, ap, subst}
-use Rattle.std.specs.Option.{option_copied_mut, IsSome}
+use Rattle.std.proofs.Common.{refl}
 use Rattle.run_model.specs.declared.event.Event.TheVariants as event
-use Rattle.filter_chain.specs.declared.conns.Conns.{Conns}
 use Rattle.filter_chain.specs.Hosted.{conn_at}
 use Rattle.filter_chain.specs.Hosting.{chain_of, budget_of, file_answer}
-use Rattle.filter_chain.proofs.HostsLeft.{written}
-use Rattle.filter_chain.proofs.HostEvents.{can_serve, none_found, served_on}
+use Rattle.filter_chain.proofs.HostEvents.{none_found, served, stands}
 use Rattle.filter_chain.proofs.HostFiles.{opens_serves}
+use Rattle.filter_chain.proofs.Lent.{lent_by, nothing_at}
 use Rattle.filter_chain.proofs.host.Host.open_file.Goals as goal
 
 pub open_file-requires : goal.open_file-requires
 unfolding conn_at chain_of
 open_file-requires g c =
-    let host = c.args.self.now in
-    let d = g.F.Files.device host.files in
-    let v = can_serve d host c.args.number c.requires.0 c.requires.1 (chain_of host) c.in-Some.conn.now refl (sym c.get_mut.ensures.value ∙ ap option_copied_mut c.in-Some.is) in
-    record { stands = (chain_of host, record { linked = v.0; so = v.1 }) }
+    let so = stands g.F.Files.device c.args.self.now c.args.number
+    (lent_by c.get_mut.follows.lender c.in-Some.is c.get_mut.ensures.value (λ x there. ((c.get_mut.follows.holds x).3 there).0)) c.requires _ refl in
+    record { stands = (_, so) }
 
 pub returns-in-None : goal.returns-in-None
 unfolding conn_at
 returns-in-None g c =
-    let host = c.args.self.now in
-    record { event = λ w hosts. none_found (g.F.Files.device host.files) host c.args.number w hosts (record { by_number = c.get_mut.follows.lender-at-none }) c.get_mut.follows.holds-at-none (sym c.get_mut.ensures.value ∙ ap option_copied_mut c.in-None.is) (event.OpenFile c.args.name.now) tt }
+    let none = none_found g.F.Files.device c.args.self.now c.args.number _ c.get_mut.follows.holds-at-none (nothing_at c.in-None.is c.get_mut.ensures.value) (event.OpenFile c.args.name.now) tt in
+    record { event = none }
 
 pub returns-in-Some : goal.returns-in-Some
 unfolding conn_at chain_of budget_of
 returns-in-Some g c = record {
   event = λ w hosts.
-      let host = c.args.self.now in
-      let d = g.F.Files.device host.files in
-      let e = g.F.Files.device c.open_file.new.files in
-      let at = sym c.get_mut.ensures.value ∙ ap option_copied_mut c.in-Some.is in
-      let there = subst IsSome (sym at) refl in
-      let conn = c.open_file.new.self in
-      let after : Conns = record { by_number = c.get_mut.follows.lender conn } in
-      served_on d e host (record host { conns = after; tree = c.open_file.new.tree; store = c.open_file.new.store; files = c.open_file.new.files }) c.args.number w hosts refl refl refl (event.OpenFile c.args.name.now) (file_answer c.open_file.result) c.in-Some.conn.now conn at
-      (written host.conns c.args.number conn after ((c.get_mut.follows.holds conn).3 there).0) c.open_file.ensures.leaves
-      (λ k s so given. opens_serves (budget_of host) (chain_of host) d e w host.tree c.args.number k s c.open_file.new.tree c.open_file.new.store conn c.args.name.now c.open_file.result (c.open_file.ensures.opened (chain_of host) _ so given));
+      let new = c.open_file.new in
+      served g.F.Files.device c.args.self.now c.args.number
+      (lent_by c.get_mut.follows.lender c.in-Some.is c.get_mut.ensures.value (λ x there. ((c.get_mut.follows.holds x).3 there).0)) w hosts (event.OpenFile c.args.name.now)
+      (file_answer c.open_file.result)
+      (record { conn = new.self; tree = new.tree; store = new.store; files = new.files }) c.open_file.ensures.leaves
+      (λ k s so given. opens_serves s (c.open_file.ensures.opened (chain_of c.args.self.now) _ so given));
 }

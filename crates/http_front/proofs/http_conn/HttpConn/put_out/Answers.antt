@@ -1,4 +1,4 @@
-use Rattle.std.proofs.Common.{◌≡◌, ◌-◌, length, drop, ap, ◌∙◌, arith, length-drop}
+use Rattle.std.proofs.Common.{length, ap, ◌∙◌, arith, length-drop}
 use Rattle.http_front.specs.Texts.{text_of}
 use Rattle.http_front.proofs.http_conn.HttpConn.put_out.Goals as goal
 

@@ -27,4 +27,5 @@ unfolding route_of
 returns-clause-put c =
     let good : is_site_path c.args.path.now ≡ true = first_of (cc, search rules) in
     let free : route_of c.args.self.now c.args.path.now ≡ None = first_of (search rules, cc) in
-    put-map c.in_ok-name.name c.args.self.now.routes c.insert.new.self c.args.path.now good (λ route. route.value.items) c.args.file.now c.in_ok-insert.field-0 c.in_ok-insert.ensures free c.in_ok-name.ensures.items
+    put-map c.in_ok-name.name c.args.self.now.routes c.insert.new.self c.args.path.now good
+    (λ route. route.value.items) c.args.file.now c.in_ok-insert.field-0 c.in_ok-insert.ensures free c.in_ok-name.ensures.items

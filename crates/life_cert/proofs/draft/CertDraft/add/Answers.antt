@@ -53,7 +53,8 @@ returns-in_ok-self-in-Ready-clause-added c =
     let is = rw c.in-Ready.is at c.requires.due in
     let f = found d.due c.args.bytes.now line.Ready is in
     let has = c.in_ok-self-in-Ready.ensures in
-    added d c.args.bytes.now e line.Ready c.requires.printable is (seen_some c.in_ok-self-in-Ready.field-0, has) refl (ready_text d e c.args.bytes.now f.0 f.1 has refl (counts_at d due.Ready c.requires.draft f.0) refl)
+    added d c.args.bytes.now e line.Ready c.requires.printable is (seen_some c.in_ok-self-in-Ready.field-0, has) refl
+    (ready_text d e c.args.bytes.now f.0 f.1 has refl (counts_at d due.Ready c.requires.draft f.0) refl)
 
 pub returns-in_ok-self-in-Ready-clause-draft : goal.returns-in_ok-self-in-Ready-clause-draft
 returns-in_ok-self-in-Ready-clause-draft c =
@@ -76,7 +77,8 @@ returns-in_ok-add_state-in-Instruction-clause-added c =
     let others = c.in_ok-add_state-in-Instruction.ensures.others in
     let items = c.in_ok-add_state-in-Instruction.ensures.items in
     added d c.args.bytes.now e (line.Instruction pc) c.requires.printable is (seen s, has) (ap (λ (x : CertDraft). x.due) others)
-    (pc_text d e c.args.bytes.now f.0 pc (pc - length d.at.items) s f.1.0 f.1.3 has (ap (λ (x : CertDraft). seen_some x.idle) others) (ap (λ (x : CertDraft). seen_some x.ready) others) items long (ap (λ (x : CertDraft). x.slim) others))
+    (pc_text d e c.args.bytes.now f.0 pc (pc - length d.at.items) s f.1.0 f.1.3 has (ap (λ (x : CertDraft). seen_some x.idle) others) (ap (λ (x : CertDraft). seen_some x.ready) others) items long
+    (ap (λ (x : CertDraft). x.slim) others))
 
 pub returns-in_ok-add_state-in-Instruction-clause-draft : goal.returns-in_ok-add_state-in-Instruction-clause-draft
 returns-in_ok-add_state-in-Instruction-clause-draft c =
@@ -90,7 +92,8 @@ returns-in_ok-add_state-in-Instruction-clause-draft c =
     let has = c.in_ok-state-in-Instruction.ensures in
     let others = c.in_ok-add_state-in-Instruction.ensures.others in
     let items = c.in_ok-add_state-in-Instruction.ensures.items in
-    pc_draft d e f.0 pc (pc - length d.at.items) s c.requires.draft f.1.0 (ap (λ (x : CertDraft). x.due) others) (ap (λ (x : CertDraft). seen_some x.idle) others) (ap (λ (x : CertDraft). seen_some x.ready) others) items long f.1.2 has.0
+    pc_draft d e f.0 pc (pc - length d.at.items) s c.requires.draft f.1.0 (ap (λ (x : CertDraft). x.due) others) (ap (λ (x : CertDraft). seen_some x.idle) others)
+    (ap (λ (x : CertDraft). seen_some x.ready) others) items long f.1.2 has.0
 
 pub returns-in-End-clause-added : goal.returns-in-End-clause-added
 returns-in-End-clause-added c =

@@ -17,7 +17,8 @@ returns-then-found-clause-found c =
 pub returns-then-found-clause-rest : goal.returns-then-found-clause-rest
 returns-then-found-clause-rest c =
     let t = c.args.self.now.bytes.now in
-    rw c.if-not-any.false (c.take-found.ensures.rest ∙ next_past c.args.word.now t c.take-2.new.self.bytes.now (sym c.take-2.ensures.found ∙ c.if-not-take.false) c.take-2.ensures.rest (sym c.take-found.ensures.found ∙ c.if-found.true))
+    rw c.if-not-any.false (c.take-found.ensures.rest
+    ∙ next_past c.args.word.now t c.take-2.new.self.bytes.now (sym c.take-2.ensures.found ∙ c.if-not-take.false) c.take-2.ensures.rest (sym c.take-found.ensures.found ∙ c.if-found.true))
 
 pub returns-else-found-clause-found : goal.returns-else-found-clause-found
 returns-else-found-clause-found c =
@@ -27,4 +28,5 @@ returns-else-found-clause-found c =
 pub returns-else-found-clause-rest : goal.returns-else-found-clause-rest
 returns-else-found-clause-rest c =
     let t = c.args.self.now.bytes.now in
-    rw c.if-not-any.false (next_none c.args.word.now t c.take-2.new.self.bytes.now (sym c.take-2.ensures.found ∙ c.if-not-take.false) c.take-2.ensures.rest (sym c.take-found.ensures.found ∙ c.if-found.false))
+    rw c.if-not-any.false
+    (next_none c.args.word.now t c.take-2.new.self.bytes.now (sym c.take-2.ensures.found ∙ c.if-not-take.false) c.take-2.ensures.rest (sym c.take-found.ensures.found ∙ c.if-found.false))

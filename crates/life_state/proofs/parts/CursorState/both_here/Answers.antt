@@ -13,4 +13,5 @@ returns-in-Loose-Loose c =
     let here = c.in-Loose-Loose in
     ap (λ (s : Classes). Loose s (seen_homes c.both-in-Loose-Loose.result)) c.both.ensures
     ∙ (ap (λ (h : Homes). Loose (both_classes here.s here.t) h) c.both-in-Loose-Loose.ensures
-    ∙ sym (ap (λ (a : CursorState). both_here (seen_cursor a) (seen_cursor c.args.other.now)) here.is-0 ∙ ap (λ (b : CursorState). both_here (seen_cursor (cursor.Loose here.s here.h)) (seen_cursor b)) here.is-1))
+    ∙ sym (ap (λ (a : CursorState). both_here (seen_cursor a) (seen_cursor c.args.other.now)) here.is-0
+    ∙ ap (λ (b : CursorState). both_here (seen_cursor (cursor.Loose here.s here.h)) (seen_cursor b)) here.is-1))

@@ -1,8 +1,8 @@
 -- By whether its pool goes.
 use Rattle.std.proofs.Common.{◌≡◌, true, false, ap, ◌∙◌, rules}
-use Rattle.life_state.specs.States.{ended_brigade, with_homes, dead_where}
+use Rattle.life_state.specs.States.{Homes, ended_brigade, with_homes, dead_where}
 use Rattle.life_state.specs.Rules.{lies_under}
-use Rattle.life_state.specs.Seen.{seen, seen_pools}
+use Rattle.life_state.specs.Seen.{seen, seen_pools, seen_brigade}
 use Rattle.life_state.proofs.ClearLaws.{cleared_gone, cleared_kept}
 use Rattle.life_state.proofs.state.State.cleared_brigade.Goals as goal
 
@@ -14,5 +14,5 @@ returns-then-lies_under c =
 pub returns-else-lies_under : goal.returns-else-lies_under
 returns-else-lies_under c =
     let stays : lies_under c.args.code.now (seen_pools c.args.under.now) c.args.b ≡ false = search rules in
-    c.dead_where.ensures
+    ap (λ (h : Homes). record (seen_brigade c.brigade-brigade.result) { homes = h }) c.dead_where.ensures
     ∙ (ap (with_homes (dead_where (seen_pools c.args.under.now))) c.brigade-brigade.ensures ∙ cleared_kept c.args.code.now (seen_pools c.args.under.now) (seen c.args.self.now) c.args.b stays)

@@ -1,5 +1,5 @@
 -- Row by row; beyond the last cursor there is no fact.
-use Rattle.std.proofs.Common.{◌≡◌, length, sym, arith}
+use Rattle.std.proofs.Common.{◌≡◌, [], length, sym, arith}
 use Rattle.life_state.specs.Facts.{facts_of}
 use Rattle.life_state.specs.Seen.{seen, seen_cursors, keep_of}
 use Rattle.life_state.proofs.Arrays.{table_is}
@@ -12,8 +12,8 @@ returns c =
     let long : length c.args.cursors.now ≡ 9 = omega arith in
     let keep = keep_of c.args.keep (seen c.args.self.now) in
     let cursors = seen_cursors c.args.cursors.now in
-    table_is 9 c.loop-c.rows (facts_of keep cursors) c.loop-c.invariant.0
-    (λ i h. c.loop-c.invariant.1 i (omega arith))
-    (λ i j h k. c.loop-c.invariant.2 i j (omega arith) k)
+    table_is 9 c.filled.result (facts_of keep cursors) c.filled.ensures.long
+    (λ i h. (c.filled.ensures.each i [] h).0)
+    (λ i j h k. (c.filled.ensures.each i [] h).1 j k)
     (λ i j h. sym (none_of_first keep cursors i j (cursor_past c.args.cursors.now i (omega arith))))
     (λ i j h. sym (none_of_second keep cursors i j (cursor_past c.args.cursors.now j (omega arith))))

@@ -3,21 +3,14 @@ use Rattle.life_state.specs.Form.{FormedCursor}
 use Rattle.life_state.specs.InForm.{is_formed_cursor}
 use Rattle.life_state.specs.Seen.{seen}
 use Rattle.life_state.proofs.FormLaws.{both_of}
-use Rattle.life_state.proofs.Tests.{and2}
 use Rattle.life_state.proofs.state.State.is_formed_cursor.Goals as goal
 
 pub returns-in-Loose-clause-value : goal.returns-in-Loose-clause-value
 unfolding seen
-returns-in-Loose-clause-value c = ap₂ ◌&&◌ c.has_class.ensures c.are_declared.ensures.value ∙ ap (is_formed_cursor (seen c.args.self.now)) c.in-Loose.ensures
+returns-in-Loose-clause-value c = ap₂ ◌&&◌ c.is_some.ensures c.are_declared.ensures.value ∙ ap (is_formed_cursor (seen c.args.self.now)) c.in-Loose.ensures
 
 pub returns-in-Loose-clause-sound : goal.returns-in-Loose-clause-sound
 unfolding seen
 returns-in-Loose-clause-sound c = λ h.
-    let p = both_of c.has_class.result c.are_declared.result h in
-    subst (FormedCursor (seen c.args.self.now)) c.in-Loose.ensures (sym c.has_class.ensures ∙ p.0, c.are_declared.ensures.sound p.1)
-
-pub returns-in-Loose-clause-complete : goal.returns-in-Loose-clause-complete
-unfolding seen
-returns-in-Loose-clause-complete c = λ h.
-    let p = subst (FormedCursor (seen c.args.self.now)) (sym c.in-Loose.ensures) h in
-    and2 c.has_class.result c.are_declared.result (c.has_class.ensures ∙ p.0) (c.are_declared.ensures.complete p.1)
+    let p = both_of c.is_some.result c.are_declared.result h in
+    subst (FormedCursor (seen c.args.self.now)) c.in-Loose.ensures (sym c.is_some.ensures ∙ p.0, c.are_declared.ensures.sound p.1)

@@ -13,4 +13,5 @@ pub returns : goal.returns
 returns c =
     let s = seen c.args.self in
     let e : Successors = record { next = c.some_if.result; jump = Some c.bcreate.result } in
-    edges_are e _ _ (c.some_if.ensures ∙ (ap (λ (e : Bool). some_if (not e) s) c.is_empty.ensures ∙ ap (λ (x : Contents). some_if (not (is_empty x)) s) c.content.ensures)) (ap (λ (t : State). Some t) c.bcreate.ensures)
+    edges_are e _ _ (c.some_if.ensures ∙ (ap (λ (e : Bool). some_if (not e) s) c.is_empty.ensures ∙ ap (λ (x : Contents). some_if (not (is_empty x)) s) c.content.ensures))
+    (ap (λ (t : State). Some t) c.bcreate.ensures)

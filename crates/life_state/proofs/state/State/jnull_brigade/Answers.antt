@@ -12,7 +12,7 @@ returns c =
     let v0 = seen_brigade c.brigade-brigade.result in
     edges_are _ _ _
     (c.some_if.ensures
-    ∙ (ap (λ (t : State). some_if (v0.gone || v0.live) t) (c.with_brigade.ensures ∙ ap (λ (v : BrigadeKnown). set_brigade c.args.b v s) c.not_null.ensures)
+    ∙ (ap (λ (t : State). some_if (v0.gone || v0.live) t) c.with_brigade.ensures
     ∙ ap (λ (v : BrigadeKnown). some_if (v.gone || v.live) (set_brigade c.args.b (brigade_not_null v) s)) c.brigade-brigade.ensures))
     (c.some_if-2.ensures
     ∙ (ap (λ (t : State). some_if v0.null t) (c.with_brigade-2.ensures ∙ ap (λ (v : BrigadeKnown). set_brigade c.args.b v s) c.never_made.ensures)

@@ -12,7 +12,7 @@ returns c =
     let s = seen c.args.self in
     edges_are _ _ _
     (c.some_if.ensures
-    ∙ (ap (λ (t : State). some_if (c.pool-pool.result.gone || c.pool-pool.result.live) t) (c.with_pool.ensures ∙ ap (λ (v : PoolState). set_pool c.args.q v s) c.not_null.ensures)
+    ∙ (ap (λ (t : State). some_if (c.pool-pool.result.gone || c.pool-pool.result.live) t) c.with_pool.ensures
     ∙ ap (λ (v : PoolState). some_if (v.gone || v.live) (set_pool c.args.q (pool_not_null v) s)) c.pool-pool.ensures))
     (c.some_if-2.ensures
     ∙ (ap (λ (t : State). some_if c.pool-pool.result.null t) c.with_pool-2.ensures

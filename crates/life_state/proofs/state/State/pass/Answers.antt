@@ -1,5 +1,5 @@
 -- What may have been sent, the brigade, then the cursors.
-use Rattle.std.proofs.Common.{Bool, ◌||◌, ap, ◌∙◌}
+use Rattle.std.proofs.Common.{Bool, true, false, ◌||◌, ap, ◌∙◌}
 use Rattle.life_state.specs.States.{BrigadeKnown, State, passed_on, set_brigade}
 use Rattle.life_state.specs.Facts.{moved}
 use Rattle.life_state.specs.declared.motions.Motion.TheVariants as motion
@@ -15,5 +15,5 @@ returns c =
     c.move_cursors.ensures
     ∙ ap (λ (t : State). moved (motion_of (motion.Left c.args.b) t) t)
     (c.set_brigade.ensures
-    ∙ (ap (λ (v : BrigadeKnown). set_brigade c.args.b v (sent c.may_end.result)) c.passed_on.ensures
+    ∙ (ap (λ (v : BrigadeKnown). set_brigade c.args.b (record v { usable = false; passed = true }) (sent c.may_end.result)) c.empty.ensures
     ∙ ap (λ (e : Bool). set_brigade c.args.b passed_on (sent e)) (c.may_end.ensures ∙ ap may_end c.content.ensures)))

@@ -19,7 +19,8 @@ call_and_pool-requires g c = (let s = c.requires.stands.1 in conn_live c.args.mo
 pub returns-in-Some-clause-happened : goal.returns-in-Some-clause-happened
 returns-in-Some-clause-happened g c d v stands =
     happened_as c.args.modules.now c.args.tree.now c.args.store.now d c.args.self.now (Some c.in-Some.why) (begins (has_lasted c.in-Some.why) c.args.modules.now v) v
-    (begin_refused (map_of c.args.tree.now) (lists c.args.store.now) (next_name c.args.store.now) c.args.self.now v stands.left.seen (has_lasted c.in-Some.why) c.args.modules.now c.in-Some.why (sym c.refusal_to_begin.ensures ∙ c.in-Some.is))
+    (begin_refused (map_of c.args.tree.now) (lists c.args.store.now) (next_name c.args.store.now) c.args.self.now v stands.left.seen (has_lasted c.in-Some.why) c.args.modules.now c.in-Some.why
+    (sym c.refusal_to_begin.ensures ∙ c.in-Some.is))
     stands.left
 
 pub returns-in_default-call_and_pool-clause-happened : goal.returns-in_default-call_and_pool-clause-happened
@@ -46,7 +47,8 @@ returns-clause-happened g c d v stands =
     e.tree e.formed e.rings e.next e.names e.pools e.references)
 
 pub returns-in-Some-clause-leaves : goal.returns-in-Some-clause-leaves
-returns-in-Some-clause-leaves g c = unchanged (map_of c.args.tree.now) c.args.store.now c.args.store.now c.args.self.now c.args.self.now (λ n. refl) refl (omega arith) (λ id there young. there) (λ k. refl)
+returns-in-Some-clause-leaves g c =
+    unchanged (map_of c.args.tree.now) c.args.store.now c.args.store.now c.args.self.now c.args.self.now (λ n. refl) refl (omega arith) (λ id there young. there) (λ k. refl)
 
 pub returns-in_default-call_and_pool-clause-leaves : goal.returns-in_default-call_and_pool-clause-leaves
 returns-in_default-call_and_pool-clause-leaves g c =

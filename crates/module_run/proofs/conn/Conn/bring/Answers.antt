@@ -24,14 +24,16 @@ returns-in-Err-clause-happened g c tree d v stands =
     let self = c.args.self.now in
     happened_as c.args.modules.now tree c.args.store.now d self (Some c.in-Err.why) (brings (has_lasted c.in-Err.why) c.args.modules.now c.args.pieces v) v
     (bring_refused (map_of tree) (lists c.args.store.now) (next_name c.args.store.now) self v stands.left.seen (has_lasted c.in-Err.why) c.args.modules.now c.args.pieces c.in-Err.why
-    (ap (λ (ps : List Piece). first_refusal (bring_tests self.broken self.busy self.req (lengths self.files.items) (next_name c.args.store.now) ps)) (sym c.as_slice.ensures) ∙ sym c.in-Err.ensures.refusal))
+    (ap (λ (ps : List Piece). first_refusal (bring_tests self.broken self.busy self.req (lengths self.files.items) (next_name c.args.store.now) ps)) (sym c.as_slice.ensures)
+    ∙ sym c.in-Err.ensures.refusal))
     stands.left
 
 pub returns-in_default-clause-happened : goal.returns-in_default-clause-happened
 returns-in_default-clause-happened g c tree d v stands =
     let self = c.args.self.now in
     let e = c.in_default.ensures in
-    let none = ap (λ (ps : List Piece). first_refusal (bring_tests self.broken self.busy self.req (lengths self.files.items) (next_name c.args.store.now) ps)) (sym c.as_slice.ensures) ∙ sym c.in-Ok.ensures.refusal in
+    let none = ap (λ (ps : List Piece). first_refusal (bring_tests self.broken self.busy self.req (lengths self.files.items) (next_name c.args.store.now) ps)) (sym c.as_slice.ensures)
+    ∙ sym c.in-Ok.ensures.refusal in
     happened_as c.args.modules.now tree c.call_and_brigade.new.store d self (Some refusal.NoMemory) (brings false c.args.modules.now c.args.pieces v) v
     (bring_passed (map_of tree) (lists c.args.store.now) (next_name c.args.store.now) self v stands.left.seen false c.args.modules.now c.args.pieces none)
     (left_same c.args.store.now c.call_and_brigade.new.store e.err e.next e.pools c.args.modules.now tree tree d self v refl e.references stands.left)
@@ -43,15 +45,18 @@ returns-clause-happened g c tree d v stands =
     let new = c.call_and_brigade.new.store in
     let e = c.in-Ok-call_and_brigade.ensures in
     let made = c.in-Ok-call_and_brigade in
-    let none = ap (λ (ps : List Piece). first_refusal (bring_tests self.broken self.busy self.req (lengths self.files.items) (next_name old) ps)) (sym c.as_slice.ensures) ∙ sym c.in-Ok.ensures.refusal in
+    let none = ap (λ (ps : List Piece). first_refusal (bring_tests self.broken self.busy self.req (lengths self.files.items) (next_name old) ps)) (sym c.as_slice.ensures)
+    ∙ sym c.in-Ok.ensures.refusal in
     let named : made.name ≡ next_name old = ap (λ (p : ℕ × ℕ). p.0) e.made in
     let brigade : made.brigade ≡ next_name old + 1 = ap (λ (p : ℕ × ℕ). p.1) e.made in
     let later : next_name old + 2 ≤ next_name new = (let n = e.next in omega (arith, n)) in
     happened_as c.args.modules.now tree new d c.call_main.new.self None (brings true c.args.modules.now c.args.pieces v) (brought_in c.args.modules.now c.args.pieces c.in-Ok.pool v)
     (bring_passed (map_of tree) (lists old) (next_name old) self v stands.left.seen true c.args.modules.now c.args.pieces none
     ∙ ap (λ (o : Option ℕ). unless_refused None v (brought c.args.modules.now c.args.pieces o v)) (req_is (map_of tree) (lists old) (next_name old) self v stands.left.seen ∙ c.in-Ok.ensures.pool))
-    (left_brought c.args.modules.now old new self c.call_main.new.self c.in-Ok.pool c.args.pieces stands.left.stacked (bring_idle self.broken self.busy self.req (lengths self.files.items) (next_name old) c.args.pieces none)
-    (subst (λ (n : ℕ). CalledMain c.args.modules.now n (next_name old + 1) self c.call_main.new.self) named (subst (λ (b : ℕ). CalledMain c.args.modules.now made.name b self c.call_main.new.self) brigade c.call_main.ensures))
+    (left_brought c.args.modules.now old new self c.call_main.new.self c.in-Ok.pool c.args.pieces stands.left.stacked
+    (bring_idle self.broken self.busy self.req (lengths self.files.items) (next_name old) c.args.pieces none)
+    (subst (λ (n : ℕ). CalledMain c.args.modules.now n (next_name old + 1) self c.call_main.new.self) named
+    (subst (λ (b : ℕ). CalledMain c.args.modules.now made.name b self c.call_main.new.self) brigade c.call_main.ensures))
     (has_brought old new c.in-Ok.pool c.args.pieces e.rings.0 e.rings.1.0 e.rings.1.1) later e.names e.pools (later_off_pools old (map_of tree) stands.left.house)
     tree d v.0 v.1 stands.left e.references e.next e.rings.1.1)
 
@@ -73,7 +78,8 @@ returns-clause-leaves g c ps =
     let s = c.requires.stands in
     let e = c.in-Ok-call_and_brigade.ensures in
     let made = c.in-Ok-call_and_brigade in
-    let none = ap (λ (ps : List Piece). first_refusal (bring_tests self.broken self.busy self.req (lengths self.files.items) (next_name old) ps)) (sym c.as_slice.ensures) ∙ sym c.in-Ok.ensures.refusal in
+    let none = ap (λ (ps : List Piece). first_refusal (bring_tests self.broken self.busy self.req (lengths self.files.items) (next_name old) ps)) (sym c.as_slice.ensures)
+    ∙ sym c.in-Ok.ensures.refusal in
     let named : made.name ≡ next_name old = ap (λ (p : ℕ × ℕ). p.0) e.made in
     let brigade : made.brigade ≡ next_name old + 1 = ap (λ (p : ℕ × ℕ). p.1) e.made in
     let first = filter_first chain old self s.1.1.so.left.stacked (bring_idle self.broken self.busy self.req (lengths self.files.items) (next_name old) c.args.pieces none) in

@@ -45,10 +45,12 @@ end_brigade-requires g c =
     let stacked = s.1.so.left.stacked in
     let self = c.args.self.now in
     let within : self.first < length self.filters.items = (let w = stacked.within in let m = stacked.many in omega (arith, w, m)) in
-    let was = stacked.brought c.in-Some.name c.index.result.now (slice_get_read self.filters.items (length self.filters.items) self.first c.index.result.now refl within c.index.ensures) (sym c.incoming.ensures ∙ c.in-Some.is) in
+    let was = stacked.brought c.in-Some.name c.index.result.now (slice_get_read self.filters.items (length self.filters.items) self.first c.index.result.now refl within c.index.ensures)
+    (sym c.incoming.ensures ∙ c.in-Some.is) in
     record {
       free = ap (λ (f : ℕ → Option ℕ). f c.in-Some.name) c.end_calls.ensures.pools
-          ∙ off_still s.0 c.args.tree.now c.args.store.now (g.F.Files.device c.args.files.now) self s.1.linked s.1.so c.clear.new.self c.in_ok-ran.ensures.out c.in_ok-ran.ensures.off c.in-Some.name was.0;
+          ∙ off_still s.0 c.args.tree.now c.args.store.now
+          (g.F.Files.device c.args.files.now) self s.1.linked s.1.so c.clear.new.self c.in_ok-ran.ensures.out c.in_ok-ran.ensures.off c.in-Some.name was.0;
     }
 
 pub returns-in-Some-clause-leaves : goal.returns-in-Some-clause-leaves
@@ -62,7 +64,8 @@ returns-in-Some-clause-leaves g c =
     let d = c.clear.ensures in
     let next = d.next in
     let within : self.first < length self.filters.items = (let w = stacked.within in let m = stacked.many in omega (arith, w, m)) in
-    leaving s.0 c.args.tree.now c.args.store.now (g.F.Files.device c.args.files.now) self s.1.linked s.1.so c.clear.new.self c.in_ok-ran.ensures.out c.in_ok-ran.ensures.off c.end_brigade.new.store _ (λ k. refl)
+    leaving s.0 c.args.tree.now c.args.store.now
+    (g.F.Files.device c.args.files.now) self s.1.linked s.1.so c.clear.new.self c.in_ok-ran.ensures.out c.in_ok-ran.ensures.off c.end_brigade.new.store _ (λ k. refl)
     (λ n unheld. e.out n ∙ (ring_off (lists c.end_calls.new.store) c.in-Some.name n None
     (λ same. unheld (record { at = self.first; filter = c.index.result.now; is = slice_get_read self.filters.items (length self.filters.items) self.first c.index.result.now refl within c.index.ensures; by = inr (8, sym c.incoming.ensures ∙ (c.in-Some.is ∙ ap (λ (m : ℕ). Some m) (sym same))) }))
     ∙ l.others n (λ h. unheld (record { at = h.at; filter = h.filter; is = h.is; by = h.by }))))
@@ -76,29 +79,36 @@ returns-in_default-clause-leaves g c =
     let l = c.end_calls.ensures in
     let d = c.clear.ensures in
     let next = d.next in
-    leaving s.0 c.args.tree.now c.args.store.now (g.F.Files.device c.args.files.now) c.args.self.now s.1.linked s.1.so c.clear.new.self c.in_ok-ran.ensures.out c.in_ok-ran.ensures.off c.end_calls.new.store _ (λ k. refl)
+    leaving s.0 c.args.tree.now c.args.store.now
+    (g.F.Files.device c.args.files.now) c.args.self.now s.1.linked s.1.so c.clear.new.self c.in_ok-ran.ensures.out c.in_ok-ran.ensures.off c.end_calls.new.store _ (λ k. refl)
     (λ n unheld. l.others n (λ h. unheld (record { at = h.at; filter = h.filter; is = h.is; by = h.by })))
     l.pools (l.next ∙ d.next) (λ id there young. d.names id (l.names id there (omega (arith, young, next))) young)
 
 pub returns-in-Some-clause-labels : goal.returns-in-Some-clause-labels
 returns-in-Some-clause-labels g c chain v stands =
-    (c.add_labels.ensures.told ∙ (ap (λ (hs : List LabelsRun). labels_handed hs ++ labels_in c.in_ok-ran.ran.items) c.reserve.ensures.items ∙ ap (λ (xs : List (ℕ × Payload)). labels_handed c.args.self.now.labels.items ++ labels_in xs) c.in_ok-ran.ensures.ran))
+    (c.add_labels.ensures.told ∙ (ap (λ (hs : List LabelsRun). labels_handed hs ++ labels_in c.in_ok-ran.ran.items) c.reserve.ensures.items
+    ∙ ap (λ (xs : List (ℕ × Payload)). labels_handed c.args.self.now.labels.items ++ labels_in xs) c.in_ok-ran.ensures.ran))
     ∙ closed_labels (map_of c.args.tree.now) (lists c.args.store.now) (next_name c.args.store.now) c.args.self.now v stands.left.seen
 
 pub returns-in-Some-clause-unreferred : goal.returns-in-Some-clause-unreferred
 returns-in-Some-clause-unreferred g c file none =
     let s = c.requires.stands in
-    unreferred_stays (map_of c.args.tree.now) (tree_formed c.args.tree.now) c.args.self.now.conn (conn_live s.0 c.args.tree.now c.args.store.now (g.F.Files.device c.args.files.now) c.args.self.now s.1.linked s.1.so) file none (is_referred (map_of c.clear.new.tree) file) ((g.F.Files.device c.clear.new.files).numbered file) ((g.F.Files.device c.args.files.now).numbered file) (c.in_ok-ran.ensures.closed file)
+    unreferred_stays (map_of c.args.tree.now) (tree_formed c.args.tree.now) c.args.self.now.conn (conn_live s.0 c.args.tree.now c.args.store.now
+    (g.F.Files.device c.args.files.now) c.args.self.now s.1.linked s.1.so) file none (is_referred (map_of c.clear.new.tree) file) ((g.F.Files.device c.clear.new.files).numbered file)
+    ((g.F.Files.device c.args.files.now).numbered file) (c.in_ok-ran.ensures.closed file)
 
 pub returns-in_default-clause-labels : goal.returns-in_default-clause-labels
 returns-in_default-clause-labels g c chain v stands =
-    (c.add_labels.ensures.told ∙ (ap (λ (hs : List LabelsRun). labels_handed hs ++ labels_in c.in_ok-ran.ran.items) c.reserve.ensures.items ∙ ap (λ (xs : List (ℕ × Payload)). labels_handed c.args.self.now.labels.items ++ labels_in xs) c.in_ok-ran.ensures.ran))
+    (c.add_labels.ensures.told ∙ (ap (λ (hs : List LabelsRun). labels_handed hs ++ labels_in c.in_ok-ran.ran.items) c.reserve.ensures.items
+    ∙ ap (λ (xs : List (ℕ × Payload)). labels_handed c.args.self.now.labels.items ++ labels_in xs) c.in_ok-ran.ensures.ran))
     ∙ closed_labels (map_of c.args.tree.now) (lists c.args.store.now) (next_name c.args.store.now) c.args.self.now v stands.left.seen
 
 pub returns-in_default-clause-unreferred : goal.returns-in_default-clause-unreferred
 returns-in_default-clause-unreferred g c file none =
     let s = c.requires.stands in
-    unreferred_stays (map_of c.args.tree.now) (tree_formed c.args.tree.now) c.args.self.now.conn (conn_live s.0 c.args.tree.now c.args.store.now (g.F.Files.device c.args.files.now) c.args.self.now s.1.linked s.1.so) file none (is_referred (map_of c.clear.new.tree) file) ((g.F.Files.device c.clear.new.files).numbered file) ((g.F.Files.device c.args.files.now).numbered file) (c.in_ok-ran.ensures.closed file)
+    unreferred_stays (map_of c.args.tree.now) (tree_formed c.args.tree.now) c.args.self.now.conn (conn_live s.0 c.args.tree.now c.args.store.now
+    (g.F.Files.device c.args.files.now) c.args.self.now s.1.linked s.1.so) file none (is_referred (map_of c.clear.new.tree) file) ((g.F.Files.device c.clear.new.files).numbered file)
+    ((g.F.Files.device c.args.files.now).numbered file) (c.in_ok-ran.ensures.closed file)
 
 pub returns-in-Some-clause-gone : goal.returns-in-Some-clause-gone
 unfolding filter_at
@@ -108,7 +118,8 @@ returns-in-Some-clause-gone g c =
     let e = c.end_brigade.ensures in
     let within : self.first < length self.filters.items = (let w = s.1.so.left.stacked.within in let m = s.1.so.left.stacked.many in omega (arith, w, m)) in
     let here = slice_get_read self.filters.items (length self.filters.items) self.first c.index.result.now refl within c.index.ensures in
-    all_gone s.0 c.args.tree.now c.args.store.now (g.F.Files.device c.args.files.now) c.args.self.now s.1.linked s.1.so c.clear.new.self c.in_ok-ran.ensures.out c.in_ok-ran.ensures.off (lists c.end_brigade.new.store)
+    all_gone s.0 c.args.tree.now c.args.store.now (g.F.Files.device c.args.files.now) c.args.self.now s.1.linked s.1.so c.clear.new.self c.in_ok-ran.ensures.out c.in_ok-ran.ensures.off
+    (lists c.end_brigade.new.store)
     (λ n none. none_kept (lists c.end_calls.new.store) (lists c.end_brigade.new.store) c.in-Some.name e.out n (c.end_calls.ensures.none n none))
     (λ k f is. none_kept (lists c.end_calls.new.store) (lists c.end_brigade.new.store) c.in-Some.name e.out f.call.name (c.end_calls.ensures.gone k f is))
     (λ n brought.
@@ -123,7 +134,8 @@ returns-in_default-clause-gone g c =
     let self = c.args.self.now in
     let within : self.first < length self.filters.items = (let w = s.1.so.left.stacked.within in let m = s.1.so.left.stacked.many in omega (arith, w, m)) in
     let here = slice_get_read self.filters.items (length self.filters.items) self.first c.index.result.now refl within c.index.ensures in
-    all_gone s.0 c.args.tree.now c.args.store.now (g.F.Files.device c.args.files.now) c.args.self.now s.1.linked s.1.so c.clear.new.self c.in_ok-ran.ensures.out c.in_ok-ran.ensures.off (lists c.end_calls.new.store) c.end_calls.ensures.none c.end_calls.ensures.gone
+    all_gone s.0 c.args.tree.now c.args.store.now (g.F.Files.device c.args.files.now) c.args.self.now s.1.linked s.1.so c.clear.new.self c.in_ok-ran.ensures.out c.in_ok-ran.ensures.off
+    (lists c.end_calls.new.store) c.end_calls.ensures.none c.end_calls.ensures.gone
     (λ n brought. absurd (
     let same : brought.0 ≡ c.index.result.now = some_is brought.0 c.index.result.now (sym brought.1.0 ∙ here) in
     c.in_default.not-Some n (c.incoming.ensures ∙ (ap (λ (f : Filter). named_at f 8) (sym same) ∙ brought.1.1))))
@@ -137,8 +149,10 @@ returns-in-Some-clause-house g c =
     let within : self.first < length self.filters.items = (let w = s.1.so.left.stacked.within in let m = s.1.so.left.stacked.many in omega (arith, w, m)) in
     let here = slice_get_read self.filters.items (length self.filters.items) self.first c.index.result.now refl within c.index.ensures in
     let was = s.1.so.left.stacked.brought c.in-Some.name c.index.result.now here (sym c.incoming.ensures ∙ c.in-Some.is) in
-    let off = off_still s.0 c.args.tree.now c.args.store.now (g.F.Files.device c.args.files.now) c.args.self.now s.1.linked s.1.so c.clear.new.self c.in_ok-ran.ensures.out c.in_ok-ran.ensures.off c.in-Some.name was.0 in
-    house_ended c.end_calls.new.store c.end_brigade.new.store (map_of c.clear.new.tree) c.in-Some.name (ap (λ (f : ℕ → Option ℕ). f c.in-Some.name) c.end_calls.ensures.pools ∙ off) e.out e.pools e.references
+    let off = off_still s.0 c.args.tree.now c.args.store.now
+    (g.F.Files.device c.args.files.now) c.args.self.now s.1.linked s.1.so c.clear.new.self c.in_ok-ran.ensures.out c.in_ok-ran.ensures.off c.in-Some.name was.0 in
+    house_ended c.end_calls.new.store c.end_brigade.new.store (map_of c.clear.new.tree) c.in-Some.name
+    (ap (λ (f : ℕ → Option ℕ). f c.in-Some.name) c.end_calls.ensures.pools ∙ off) e.out e.pools e.references
     (c.end_calls.ensures.house (map_of c.clear.new.tree) c.clear.ensures.house)
 
 pub returns-in_default-clause-house : goal.returns-in_default-clause-house
@@ -159,14 +173,16 @@ unfolding filter_at
 returns-in_err-ran-clause-leaves g c =
     let e = c.in_err-ran.ensures in
     let next = c.clear.ensures.next in
-    unchanged (map_of c.args.tree.now) c.args.store.now c.clear.new.self c.args.self.now _ e.err e.pools (omega (arith, next)) (λ id there young. sym (ap is_some (same_brigade c.args.store.now c.clear.new.self e.err id)) ∙ there) (λ k. refl)
+    unchanged (map_of c.args.tree.now) c.args.store.now c.clear.new.self c.args.self.now _ e.err e.pools (omega (arith, next))
+    (λ id there young. sym (ap is_some (same_brigade c.args.store.now c.clear.new.self e.err id)) ∙ there) (λ k. refl)
 
 pub returns-in_err-ran-clause-unreferred : goal.returns-in_err-ran-clause-unreferred
 returns-in_err-ran-clause-unreferred g c file none = ap (λ (d : Device). d.numbered file) c.in_err-ran.ensures.unread
 
 pub returns-in_err-reserve-clause-err : goal.returns-in_err-reserve-clause-err
 returns-in_err-reserve-clause-err g c =
-    on_err c.from_residual.result _ (λ chain v left. left_relabelled chain c.args.tree.now c.args.store.now (g.F.Files.device c.args.files.now) c.args.self.now v c.reserve.new.self c.reserve.ensures.items left)
+    on_err c.from_residual.result _
+    (λ chain v left. left_relabelled chain c.args.tree.now c.args.store.now (g.F.Files.device c.args.files.now) c.args.self.now v c.reserve.new.self c.reserve.ensures.items left)
 
 pub returns-in_err-ran-clause-err : goal.returns-in_err-ran-clause-err
 returns-in_err-ran-clause-err g c =
@@ -186,10 +202,12 @@ returns-in_err-ran-clause-none g c = c.in_err-ran.ensures.err 0 ∙ c.requires.s
 pub returns-in_default-clause-none : goal.returns-in_default-clause-none
 returns-in_default-clause-none g c =
     let s = c.requires.stands in
-    c.end_calls.ensures.none 0 (none_cleared s.0 c.args.tree.now c.args.store.now (g.F.Files.device c.args.files.now) c.args.self.now s.1.linked s.1.so c.clear.new.self c.in_ok-ran.ensures.out c.in_ok-ran.ensures.off)
+    c.end_calls.ensures.none 0
+    (none_cleared s.0 c.args.tree.now c.args.store.now (g.F.Files.device c.args.files.now) c.args.self.now s.1.linked s.1.so c.clear.new.self c.in_ok-ran.ensures.out c.in_ok-ran.ensures.off)
 
 pub returns-in-Some-clause-none : goal.returns-in-Some-clause-none
 returns-in-Some-clause-none g c =
     let s = c.requires.stands in
     none_kept (lists c.end_calls.new.store) (lists c.end_brigade.new.store) c.in-Some.name c.end_brigade.ensures.out 0
-    (c.end_calls.ensures.none 0 (none_cleared s.0 c.args.tree.now c.args.store.now (g.F.Files.device c.args.files.now) c.args.self.now s.1.linked s.1.so c.clear.new.self c.in_ok-ran.ensures.out c.in_ok-ran.ensures.off))
+    (c.end_calls.ensures.none 0
+    (none_cleared s.0 c.args.tree.now c.args.store.now (g.F.Files.device c.args.files.now) c.args.self.now s.1.linked s.1.so c.clear.new.self c.in_ok-ran.ensures.out c.in_ok-ran.ensures.off))

@@ -27,10 +27,12 @@ loop-filter-preserved g c =
     let index = c.loop-filter.filter-index in
     let e = c.end_brigade.ensures in
     let next = inv.next in
-    let at : filter_at c.args.self.now index ≡ Some item = slice_get_read c.args.self.now.filters.items (length c.args.self.now.filters.items) index item refl (let t = c.loop-filter-test.true in omega arith)
+    let at : filter_at c.args.self.now index ≡ Some item =
+    slice_get_read c.args.self.now.filters.items (length c.args.self.now.filters.items) index item refl (let t = c.loop-filter-test.true in omega arith)
     (c.filter-item.is ∙ ap (λ (fs : List Filter). slice_index_or fs index item) c.deref-filter-items.ensures.value) in
     record {
-      others = λ n unheld. e.out n ∙ (ring_off (lists c.loop-filter.store) item.call.name n None (λ same. unheld (record { at = index; filter = item; is = at; by = inl (sym same) })) ∙ inv.others n unheld);
+      others = λ n unheld. e.out n
+          ∙ (ring_off (lists c.loop-filter.store) item.call.name n None (λ same. unheld (record { at = index; filter = item; is = at; by = inl (sym same) })) ∙ inv.others n unheld);
       gone = λ k f lt is. elim (cases_eq f.call.name item.call.name) [
         | inl same ↦ e.out f.call.name ∙ (ap (ring.upd (lists c.loop-filter.store) item.call.name None) same ∙ ring_here (lists c.loop-filter.store) item.call.name None)
         | inr ne ↦
@@ -42,7 +44,8 @@ loop-filter-preserved g c =
       pools = e.pools ∙ inv.pools;
       none = λ n gone. none_kept (lists c.loop-filter.store) (lists c.end_brigade.new.store) item.call.name e.out n (inv.none n gone);
       references = e.references ∙ inv.references;
-      house = λ ps h. house_ended c.loop-filter.store c.end_brigade.new.store ps item.call.name (ap (λ (f : ℕ → Option ℕ). f item.call.name) inv.pools ∙ c.requires.free index item at) e.out e.pools e.references (inv.house ps h);
+      house = λ ps h. house_ended c.loop-filter.store c.end_brigade.new.store ps item.call.name
+          (ap (λ (f : ℕ → Option ℕ). f item.call.name) inv.pools ∙ c.requires.free index item at) e.out e.pools e.references (inv.house ps h);
     }
 
 pub returns-clause-gone : goal.returns-clause-gone

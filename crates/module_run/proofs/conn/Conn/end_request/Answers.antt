@@ -23,15 +23,18 @@ use Rattle.module_run.proofs.Unchanged.{left_same}
 use Rattle.module_run.proofs.conn.Conn.end_request.Goals as goal
 
 pub destroy-requires-clause-below : goal.destroy-requires-clause-below
-destroy-requires-clause-below g c = (let s = c.requires.stands in request_below s.0 c.args.tree.now c.args.store.now (g.F.Files.device c.args.files.now) c.args.self.now s.1.linked s.1.so c.in-Ok.pool c.in-Ok.ensures.pool)
+destroy-requires-clause-below g c =
+    (let s = c.requires.stands in request_below s.0 c.args.tree.now c.args.store.now (g.F.Files.device c.args.files.now) c.args.self.now s.1.linked s.1.so c.in-Ok.pool c.in-Ok.ensures.pool)
 
 pub destroy-requires-clause-live : goal.destroy-requires-clause-live
-destroy-requires-clause-live g c = (let s = c.requires.stands in request_live s.0 c.args.tree.now c.args.store.now (g.F.Files.device c.args.files.now) c.args.self.now s.1.linked s.1.so c.in-Ok.pool c.in-Ok.ensures.pool)
+destroy-requires-clause-live g c =
+    (let s = c.requires.stands in request_live s.0 c.args.tree.now c.args.store.now (g.F.Files.device c.args.files.now) c.args.self.now s.1.linked s.1.so c.in-Ok.pool c.in-Ok.ensures.pool)
 
 pub returns-in-Err-clause-ends : goal.returns-in-Err-clause-ends
 returns-in-Err-clause-ends g c chain v stands =
     happened_as chain c.args.tree.now c.args.store.now (g.F.Files.device c.args.files.now) c.args.self.now (Some c.in-Err.why) (ends (has_lasted c.in-Err.why) v) v
-    (end_refused (map_of c.args.tree.now) (lists c.args.store.now) (next_name c.args.store.now) c.args.self.now v stands.left.seen (has_lasted c.in-Err.why) c.in-Err.why (sym c.in-Err.ensures.refusal))
+    (end_refused (map_of c.args.tree.now) (lists c.args.store.now) (next_name c.args.store.now) c.args.self.now v stands.left.seen (has_lasted c.in-Err.why) c.in-Err.why
+    (sym c.in-Err.ensures.refusal))
     stands.left
 
 pub returns-in_default-clause-ends : goal.returns-in_default-clause-ends
@@ -55,9 +58,11 @@ returns-clause-ends g c chain v stands =
     let none = sym c.in-Ok.ensures.refusal in
     let more = e.labels in
     let left =
-    request_left_as chain c.args.tree.now c.destroy.new.tree c.args.store.now c.destroy.new.store d (g.F.Files.device c.destroy.new.files) self stands.left.stacked (request_idle self.broken self.busy self.req none) c.in-Ok.pool e.ok
+    request_left_as chain c.args.tree.now c.destroy.new.tree c.args.store.now c.destroy.new.store d (g.F.Files.device c.destroy.new.files) self stands.left.stacked
+    (request_idle self.broken self.busy self.req none) c.in-Ok.pool e.ok
     after.filters c.destroy.new.self.labels after.files (c.forget_request.ensures.quiet ∙ ap (λ (x : Conn). map quieted x.filters.items) e.rest) v stands.left more c.forget_request.ensures.files in
-    let same : after ≡ request_left self after.filters c.destroy.new.self.labels after.files = c.forget_request.ensures.rest ∙ ap (λ (x : Conn). request_left x after.filters x.labels after.files) e.rest in
+    let same : after ≡ request_left self after.filters c.destroy.new.self.labels after.files =
+    c.forget_request.ensures.rest ∙ ap (λ (x : Conn). request_left x after.filters x.labels after.files) e.rest in
     happened_as chain c.destroy.new.tree c.destroy.new.store (g.F.Files.device c.destroy.new.files) after None (ends true v) (request_over c.in-Ok.pool v)
     (end_passed (map_of c.args.tree.now) (lists c.args.store.now) (next_name c.args.store.now) self v stands.left.seen true none
     ∙ ap (λ (o : Option ℕ). unless_refused None v (ended o v)) (req_is (map_of c.args.tree.now) (lists c.args.store.now) (next_name c.args.store.now) self v stands.left.seen ∙ c.in-Ok.ensures.pool))
@@ -70,7 +75,8 @@ returns-clause-closed g c =
     (record { closed = e.ok.closed; others = e.others })
 
 pub returns-in-Err-clause-leaves : goal.returns-in-Err-clause-leaves
-returns-in-Err-clause-leaves g c = unchanged (map_of c.args.tree.now) c.args.store.now c.args.store.now c.args.self.now c.args.self.now (λ n. refl) refl (omega arith) (λ id there young. there) (λ k. refl)
+returns-in-Err-clause-leaves g c =
+    unchanged (map_of c.args.tree.now) c.args.store.now c.args.store.now c.args.self.now c.args.self.now (λ n. refl) refl (omega arith) (λ id there young. there) (λ k. refl)
 
 pub returns-in_default-clause-leaves : goal.returns-in_default-clause-leaves
 unfolding filter_at
@@ -88,7 +94,8 @@ returns-clause-leaves g c =
     let s = c.requires.stands.1.so in
     let tree = c.args.tree.now in
     let next = e.next in
-    destroyed_leaves c.requires.stands.0 tree c.destroy.new.tree c.args.store.now c.destroy.new.store (g.F.Files.device c.args.files.now) (g.F.Files.device c.destroy.new.files) self c.forget_request.new.self c.in-Ok.pool
+    destroyed_leaves c.requires.stands.0 tree c.destroy.new.tree c.args.store.now c.destroy.new.store (g.F.Files.device c.args.files.now)
+    (g.F.Files.device c.destroy.new.files) self c.forget_request.new.self c.in-Ok.pool
     (request_under c.requires.stands.0 tree c.args.store.now (g.F.Files.device c.args.files.now) self c.requires.stands.1.linked s c.in-Ok.pool c.in-Ok.ensures.pool) s.left.formed e.ok
     (c.forget_request.ensures.quiet ∙ ap (λ (x : Conn). map quieted x.filters.items) e.rest)
 

@@ -8,12 +8,24 @@ use Rattle.module_run.proofs.Tops.{around_of}
 use Rattle.module_run.proofs.conn.Conn.fault_of.Goals as goal
 
 pub fault-requires-clause-fit : goal.fault-requires-clause-fit
-fault-requires-clause-fit g c = ap (fits c.in-Some-Some.code.now) c.requires.on_top.1.1.1.1.1.instr ∙ (looked c.args.modules.now c.args.tree.now c.args.store.now c.requires.on_top.0 c.args.self.now c.requires.on_top.1.0 c.requires.on_top.1.1.0 c.requires.on_top.1.1.1.0 c.requires.on_top.1.1.1.1.0 c.top-of.result c.in-Some-Some.filter.now c.in-Some-Some.code.now c.top-of.ensures (subst (λ (xs : List Filter). slice_get xs c.top-of.result ≡ Some c.in-Some-Some.filter.now) c.deref.ensures.value (read_at c.deref.result.now c.top-of.result c.in-Some-Some.filter.now c.in-Some-Some.ensures.lookup.3.0 c.in-Some-Some.ensures.lookup.1)) (read_at c.args.modules.now c.top-of.result c.in-Some-Some.code.now c.in-Some-Some.ensures'.lookup.3.0 c.in-Some-Some.ensures'.lookup.1)).fit
+fault-requires-clause-fit g c = ap (fits c.in-Some-Some.code.now) c.requires.on_top.1.1.1.1.1.instr ∙ (looked c.args.modules.now c.args.tree.now c.args.store.now c.requires.on_top.0 c.args.self.now
+    c.requires.on_top.1.0 c.requires.on_top.1.1.0 c.requires.on_top.1.1.1.0 c.requires.on_top.1.1.1.1.0 c.top-of.result c.in-Some-Some.filter.now c.in-Some-Some.code.now c.top-of.ensures
+    (subst (λ (xs : List Filter). slice_get xs c.top-of.result ≡ Some c.in-Some-Some.filter.now) c.deref.ensures.value (read_at c.deref.result.now c.top-of.result c.in-Some-Some.filter.now
+    c.in-Some-Some.ensures.lookup.3.0 c.in-Some-Some.ensures.lookup.1))
+    (read_at c.args.modules.now c.top-of.result c.in-Some-Some.code.now c.in-Some-Some.ensures'.lookup.3.0 c.in-Some-Some.ensures'.lookup.1)).fit
 
 pub fault-requires-clause-held : goal.fault-requires-clause-held
-fault-requires-clause-held g c = (looked c.args.modules.now c.args.tree.now c.args.store.now c.requires.on_top.0 c.args.self.now c.requires.on_top.1.0 c.requires.on_top.1.1.0 c.requires.on_top.1.1.1.0 c.requires.on_top.1.1.1.1.0 c.top-of.result c.in-Some-Some.filter.now c.in-Some-Some.code.now c.top-of.ensures (subst (λ (xs : List Filter). slice_get xs c.top-of.result ≡ Some c.in-Some-Some.filter.now) c.deref.ensures.value (read_at c.deref.result.now c.top-of.result c.in-Some-Some.filter.now c.in-Some-Some.ensures.lookup.3.0 c.in-Some-Some.ensures.lookup.1)) (read_at c.args.modules.now c.top-of.result c.in-Some-Some.code.now c.in-Some-Some.ensures'.lookup.3.0 c.in-Some-Some.ensures'.lookup.1)).held
+fault-requires-clause-held g c = (looked c.args.modules.now c.args.tree.now c.args.store.now c.requires.on_top.0 c.args.self.now c.requires.on_top.1.0 c.requires.on_top.1.1.0
+    c.requires.on_top.1.1.1.0 c.requires.on_top.1.1.1.1.0 c.top-of.result c.in-Some-Some.filter.now c.in-Some-Some.code.now c.top-of.ensures
+    (subst (λ (xs : List Filter). slice_get xs c.top-of.result ≡ Some c.in-Some-Some.filter.now) c.deref.ensures.value (read_at c.deref.result.now c.top-of.result c.in-Some-Some.filter.now
+    c.in-Some-Some.ensures.lookup.3.0 c.in-Some-Some.ensures.lookup.1))
+    (read_at c.args.modules.now c.top-of.result c.in-Some-Some.code.now c.in-Some-Some.ensures'.lookup.3.0 c.in-Some-Some.ensures'.lookup.1)).held
 
 pub returns-clause-value : goal.returns-clause-value
 returns-clause-value g c d v f rest is looks =
-    fault_read c.args.modules.now c.args.tree.now c.args.store.now c.args.self.now v f c.in-Some-Some.filter.now c.in-Some-Some.code.now c.args.next c.fault.result c.as_slice.result.now c.as_slice.ensures.value
-    (looked c.args.modules.now c.args.tree.now c.args.store.now d c.args.self.now v f rest is c.top-of.result c.in-Some-Some.filter.now c.in-Some-Some.code.now c.top-of.ensures (subst (λ (xs : List Filter). slice_get xs c.top-of.result ≡ Some c.in-Some-Some.filter.now) c.deref.ensures.value (read_at c.deref.result.now c.top-of.result c.in-Some-Some.filter.now c.in-Some-Some.ensures.lookup.3.0 c.in-Some-Some.ensures.lookup.1)) (read_at c.args.modules.now c.top-of.result c.in-Some-Some.code.now c.in-Some-Some.ensures'.lookup.3.0 c.in-Some-Some.ensures'.lookup.1)) looks (c.fault.ensures.value (around_of (map_of c.args.tree.now) c.args.self.now v))
+    fault_read c.args.modules.now c.args.tree.now c.args.store.now c.args.self.now v f c.in-Some-Some.filter.now c.in-Some-Some.code.now c.args.next c.fault.result c.as_slice.result.now
+    c.as_slice.ensures.value
+    (looked c.args.modules.now c.args.tree.now c.args.store.now d c.args.self.now v f rest is c.top-of.result c.in-Some-Some.filter.now c.in-Some-Some.code.now c.top-of.ensures
+    (subst (λ (xs : List Filter). slice_get xs c.top-of.result ≡ Some c.in-Some-Some.filter.now) c.deref.ensures.value (read_at c.deref.result.now c.top-of.result c.in-Some-Some.filter.now
+    c.in-Some-Some.ensures.lookup.3.0 c.in-Some-Some.ensures.lookup.1)) (read_at c.args.modules.now c.top-of.result c.in-Some-Some.code.now c.in-Some-Some.ensures'.lookup.3.0
+    c.in-Some-Some.ensures'.lookup.1)) looks (c.fault.ensures.value (around_of (map_of c.args.tree.now) c.args.self.now v))

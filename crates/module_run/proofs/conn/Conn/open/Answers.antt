@@ -28,7 +28,8 @@ returns-clause-opened g c d k open_files named given =
     (subst (λ (n : ℕ). CalledFirst chain n conn c.call_first.new.self) (ap (λ (p : ℕ × ℕ). p.0) e.made) c.call_first.ensures) in
     opened_left chain c.args.tree.now c.args.store.now c.requires.can conn c.requires.some filters is many
     (λ j f at. c.in-Ok.ensures.new j f (ap (λ (fs : Vec Filter). slice_get fs.items j) (sym is.filters_are) ∙ at))
-    c.call_and_pool.new.tree c.call_and_pool.new.store c.call_first.new.self d k c.root-root.result open_files named given (tree_formed c.args.tree.now) begins e.tree e.formed e.rings e.next e.names e.pools e.references
+    c.call_and_pool.new.tree c.call_and_pool.new.store c.call_first.new.self d k c.root-root.result open_files named given
+    (tree_formed c.args.tree.now) begins e.tree e.formed e.rings e.next e.names e.pools e.references
 
 pub returns-clause-beside : goal.returns-clause-beside
 unfolding filter_at

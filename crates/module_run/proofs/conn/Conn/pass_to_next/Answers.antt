@@ -39,7 +39,8 @@ use Rattle.module_run.proofs.conn.Conn.pass_to_next.Given.{Over}
 use Rattle.module_run.proofs.conn.Conn.pass_to_next.Goals as goal
 
 -- The filter that passes a brigade, and the one behind it.
-module _ {R : Type 0} {g : Ghosts R Stored} (chain : List Program) (b : ℕ) (store : Brigades R g) (c : Conn) (last : is_last chain (top_of c) ≡ false) (p : (d : Device) × CanPass chain b store d c) where
+module _ {R : Type 0} {g : Ghosts R Stored} (chain : List Program) (b : ℕ) (store : Brigades R g) (c : Conn) (last : is_last chain (top_of c) ≡ false)
+    (p : (d : Device) × CanPass chain b store d c) where
   abbrev passing : OnTop (lists store) c p.1.f p.1.rest
   passing = passer chain b p.1.label p.1.tree store p.0 c p.1.v p.1.f p.1.rest p.1.ready
 
@@ -55,7 +56,8 @@ module _ {R : Type 0} {g : Ghosts R Stored} (chain : List Program) (b : ℕ) (st
 pub returns-in_err-reserve-clause-err : goal.returns-in_err-reserve-clause-err
 returns-in_err-reserve-clause-err g c =
     on_err c.from_residual.result (λ tree d v left.
-    left_spared c.args.self.now c.args.self.now.filters c.reserve.new.self refl c.reserve.ensures.items c.args.modules.now tree c.args.store.now c.args.store.now d v (λ n. refl) refl (λ id is young. is) refl refl left)
+    left_spared c.args.self.now c.args.self.now.filters c.reserve.new.self refl c.reserve.ensures.items c.args.modules.now tree c.args.store.now c.args.store.now d v (λ n. refl) refl
+    (λ id is young. is) refl refl left)
 
 pub index_mut-requires : goal.index_mut-requires
 index_mut-requires g c =
@@ -113,7 +115,8 @@ pub returns-in_err-begin_in-clause-err : goal.returns-in_err-begin_in-clause-err
 returns-in_err-begin_in-clause-err g c =
     on_err c.from_residual-in_err-begin_in.result (λ tree d v left.
     left_spared c.args.self.now (with_item c.args.self.now.filters (c.top-top.result + 1) c.begin_in.new.self) c.reserve.new.self (put_back g c) c.reserve.ensures.items
-    c.args.modules.now tree c.args.store.now c.begin_in.new.store d v c.in_err-begin_in.ensures.err c.in_err-begin_in.ensures.next c.begin_in.ensures.names c.begin_in.ensures.pools c.begin_in.ensures.references left)
+    c.args.modules.now tree c.args.store.now c.begin_in.new.store d v c.in_err-begin_in.ensures.err c.in_err-begin_in.ensures.next c.begin_in.ensures.names c.begin_in.ensures.pools
+    c.begin_in.ensures.references left)
 
 pub lend-name-requires-clause-slot : goal.lend-name-requires-clause-slot
 lend-name-requires-clause-slot g c =
@@ -128,7 +131,8 @@ lend-name-requires-clause-live g c =
     let within = behind_within c.args.modules.now c.args.b c.args.store.now c.args.self.now c.requires.last c.requires.ready in
     let more : OneMore c.args.store.now c.begin_in.new.store = record { out = c.in_ok-begin_in.ensures.out; next = c.in_ok-begin_in.ensures.next; names = c.begin_in.ensures.names; pools = c.begin_in.ensures.pools; references = c.begin_in.ensures.references } in
     subst (λ (f : Filter). is_some (live_in (lists c.begin_in.new.store) (slot_at f.instance c.args.b)) ≡ true)
-    (sym (reads_top c.args.self.now c.top-top.result c.top-top.ensures c.begin_in.new.self c.begin_in.new.self c.begin_in.new.self t.filter e.0 t.is e.1 within c.index_mut-2.result.now c.index_mut-2.ensures.value))
+    (sym (reads_top c.args.self.now c.top-top.result c.top-top.ensures c.begin_in.new.self c.begin_in.new.self c.begin_in.new.self t.filter e.0 t.is e.1 within c.index_mut-2.result.now
+    c.index_mut-2.ensures.value))
     (live_more c.args.store.now c.begin_in.new.store more (slot_at t.filter.instance c.args.b) ((p.ready.stands.left.stacked.held (top_of c.args.self.now) t.filter t.is).named c.args.b)
     (passed_live c.args.modules.now c.args.b p.label p.tree c.args.store.now c.requires.ready.0 c.args.self.now p.v p.f p.rest p.ready))
 
@@ -153,10 +157,12 @@ module _ (g : Over) (c : goal.After-unwrap g) (p : (d : Device) × CanPass c.arg
   within = behind_within c.args.modules.now c.args.b c.args.store.now c.args.self.now c.requires.last p
 
   here : c.index_mut-2.result.now ≡ top_was.filter
-  here = reads_top c.args.self.now c.top-top.result c.top-top.ensures c.begin_in.new.self c.lend-name.new.self next_is top_was.filter next_was.0 top_was.is next_was.1 within c.index_mut-2.result.now c.index_mut-2.ensures.value
+  here = reads_top c.args.self.now c.top-top.result c.top-top.ensures c.begin_in.new.self c.lend-name.new.self next_is top_was.filter next_was.0 top_was.is next_was.1 within
+      c.index_mut-2.result.now c.index_mut-2.ensures.value
 
   there : c.index_mut-3.result.now ≡ c.begin_in.new.self
-  there = reads_behind c.args.self.now c.top-top.result c.top-top.ensures c.begin_in.new.self c.lend-name.new.self next_is top_was.filter next_was.0 top_was.is next_was.1 within c.index_mut-3.result.now c.index_mut-3.ensures.value
+  there = reads_behind c.args.self.now c.top-top.result c.top-top.ensures c.begin_in.new.self c.lend-name.new.self next_is top_was.filter next_was.0 top_was.is next_was.1 within
+      c.index_mut-3.result.now c.index_mut-3.ensures.value
 
   read_behind : c.index_mut.result.now ≡ next_was.0
   read_behind = reads_next c.args.self.now c.top-top.result c.top-top.ensures next_was.0 c.index_mut.result.now next_was.1 c.index_mut.ensures.value
@@ -180,7 +186,8 @@ module _ (g : Over) (c : goal.After-unwrap g) (p : (d : Device) × CanPass c.arg
 
   waits : c.push.new.self.items ≡ c.args.self.now.waits.items ++ top_was.filter.call.name ∷ []
   waits =
-      let again = reads_again c.args.self.now c.top-top.result c.top-top.ensures c.begin_in.new.self c.lend-name.new.self next_is top_was.filter next_was.0 top_was.is next_was.1 within c.index.result.now c.index.ensures in
+      let again = reads_again c.args.self.now c.top-top.result c.top-top.ensures c.begin_in.new.self c.lend-name.new.self next_is top_was.filter next_was.0 top_was.is next_was.1 within
+      c.index.result.now c.index.ensures in
       let ok : is_ok c.push.result ≡ true = ap (λ r. is_ok r) c.unwrap.ensures in
       pushed_ok c.push.result _ _ ok c.push.new.self.items c.push.ensures.items
       ∙ (ap (λ (ns : List ℕ). ns ++ c.index.result.now.call.name ∷ []) c.reserve.ensures.items
@@ -223,14 +230,17 @@ returns-clause-ok g c tree d l v f rest ready =
     (subst (λ (q : Filter). IsHeld new q.instance t.filter.call) (sym (here g c p)) (held_more old new more t.filter.instance t.filter.call held)) in
     let begins : IsHeld new c.index_mut-3.result.now.instance z.call = subst (λ (q : Filter). IsHeld new q.instance q.call) (sym (there g c p)) c.in_ok-begin_in.ensures.held in
     let enters : IsHeld new z.instance z.call =
-    c.take_in.ensures.held z.call (λ a is. next_lacks chain b l tree old d self v f rest ready c.requires.last m a (handed g c p) (ap (λ (i : Instance). name_in (slot_at i a)) (sym (entered g c p)) ∙ is))
+    c.take_in.ensures.held z.call
+    (λ a is. next_lacks chain b l tree old d self v f rest ready c.requires.last m a (handed g c p) (ap (λ (i : Instance). name_in (slot_at i a)) (sym (entered g c p)) ∙ is))
     (λ q. omega (arith, q, name, below)) (held.real b m (handed g c p)) begins in
     hands_on chain b l tree old new d self v f rest ready c.requires.last more (filters_are g c p) c.push.new.self m y z (hands g c p)
     (c.lend-name.ensures.held y.call stays) enters
     (λ around call. subst (λ (q : Filter). lent b (seen new around y.instance call) ≡ do_pass b (seen new around q.instance call)) (here g c p) (c.lend-name.ensures.seen around call))
-    (λ around call. subst (λ (i : Instance). seen new around z.instance call ≡ set_brigade 8 (shown_slot (calls_in around call) (lists new) (slot.Made m None Usable)) (seen new around i call)) (entered g c p) (c.take_in.ensures.seen around call))
+    (λ around call. subst (λ (i : Instance). seen new around z.instance call ≡ set_brigade 8 (shown_slot (calls_in around call) (lists new) (slot.Made m None Usable)) (seen new around i call))
+    (entered g c p) (c.take_in.ensures.seen around call))
     (ap is_some (sym (lists_kept old new more m below)) ∙ c.lend-name.ensures.there)
-    (subst (λ (k : Call). (waits : List ℕ) → shown_call (is_running k.name waits) (lists new) k ≡ fresh_call (next_name old)) (ap (λ (q : Filter). q.call) (sym (there g c p))) c.in_ok-begin_in.ensures.call)
+    (subst (λ (k : Call). (waits : List ℕ) → shown_call (is_running k.name waits) (lists new) k ≡ fresh_call (next_name old))
+    (ap (λ (q : Filter). q.call) (sym (there g c p))) c.in_ok-begin_in.ensures.call)
     (ap (λ (q : Filter). q.call.pc) (there g c p) ∙ (c.in_ok-begin_in.ensures.pc ∙ (c.main.ensures.value
     ∙ (ap (λ (p : Program). p.main) (sym (module_read chain (c.top-top.result + 1) c.index-modules-top.result (omega (arith, n, top)) c.index-modules-top.is))
     ∙ ap (λ (k : ℕ). (module_at chain (k + 1)).main) top))))
@@ -248,7 +258,8 @@ unfolding filter_at
 returns-in_err-begin_in-clause-leaves g c ps =
     let e = c.in_err-begin_in.ensures in
     let next = e.next in
-    unchanged ps c.args.store.now c.begin_in.new.store c.args.self.now _ e.err c.begin_in.ensures.pools (omega (arith, next)) c.begin_in.ensures.names (λ k. ap (λ (fs : List Filter). slice_get fs k) (put_back g c))
+    unchanged ps c.args.store.now c.begin_in.new.store c.args.self.now _ e.err c.begin_in.ensures.pools (omega (arith, next)) c.begin_in.ensures.names
+    (λ k. ap (λ (fs : List Filter). slice_get fs k) (put_back g c))
 
 pub returns-in_err-begin_in-clause-ended : goal.returns-in_err-begin_in-clause-ended
 unfolding filter_at
@@ -263,5 +274,6 @@ returns-clause-leaves g c ps =
 pub returns-clause-ended : goal.returns-clause-ended
 returns-clause-ended g c =
     let p = c.requires.ready in
-    handed_ends c.args.modules.now (map_of p.1.tree) c.args.store.now c.begin_in.new.store c.args.self.now (filters_are g c p) c.push.new.self c.args.b c.lend-name.result (top_was g c p).filter (next_was g c p).0
+    handed_ends c.args.modules.now (map_of p.1.tree) c.args.store.now c.begin_in.new.store c.args.self.now (filters_are g c p) c.push.new.self c.args.b c.lend-name.result (top_was g c p).filter
+    (next_was g c p).0
     c.lend-name.new.self (next_is g c p) p.1.ready.stands.left.stacked (hands g c p) (one_more g c p) p.1.ready.stands.left.none

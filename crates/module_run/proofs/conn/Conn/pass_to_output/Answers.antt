@@ -52,7 +52,8 @@ use Rattle.module_run.proofs.conn.Conn.pass_to_output.Given.{Over}
 use Rattle.module_run.proofs.conn.Conn.pass_to_output.Goals as goal
 
 -- the filter that passes a brigade
-abbrev passing : {R : Type 0} {g : Ghosts R Stored} (b l : ℕ) (store : Brigades R g) (d : Device) (c : Conn) (p : (chain : List Program) × (tree : PoolTree Payload) × CanProceed chain (instr.Pass b l) tree store d c) → OnTop (lists store) c p.2.top p.2.rest
+abbrev passing : {R : Type 0} {g : Ghosts R Stored} (b l : ℕ) (store : Brigades R g) (d : Device) (c : Conn)
+    (p : (chain : List Program) × (tree : PoolTree Payload) × CanProceed chain (instr.Pass b l) tree store d c) → OnTop (lists store) c p.2.top p.2.rest
 passing b l store d c p = passer p.0 b l p.1 store d c p.2.v p.2.top p.2.rest p.2.ready
 
 -- the filter on top, as it is read before its brigade is put out
@@ -93,7 +94,8 @@ pass_out-requires-clause-open g c =
     let t = passes g c in
     let around = around_of (map_of tree) self p.v in
     let opens = work.open_in chain i tree store d self p.v p.top p.rest p.ready t.filter t.is around.labels around.files around.out around.waits refl in
-    let homes = met_at (seen store around t.filter.instance t.filter.call) (wants (module_at chain (top_of self)) i) 1 (WHomes c.args.b) (work.faultless_in chain i tree store d self p.v p.top p.rest p.ready t.filter t.is around.labels around.files around.out around.waits refl) refl in (
+    let homes = met_at (seen store around t.filter.instance t.filter.call) (wants (module_at chain (top_of self)) i) 1 (WHomes c.args.b)
+    (work.faultless_in chain i tree store d self p.v p.top p.rest p.ready t.filter t.is around.labels around.files around.out around.waits refl) refl in (
       around,
       t.filter.call,
       subst (λ (f : Filter). All (RangeIsOpen d) (items_of ((seen store around f.instance t.filter.call).instance.brigades c.args.b))) (sym (passes_read g c))
@@ -117,7 +119,8 @@ module _ (g : Over) (c : goal.After-from_residual g) where
   as_before : written_back.items ≡ c.args.self.now.filters.items
   as_before =
       let r = c.index_mut-filter.result.now in
-      same_back c.args.self.now.filters c.top-top.result r (record r { instance = c.pass_out.new.instance }) c.index_mut-filter.ensures.value (ap (λ (i : Instance). record r { instance = i }) c.in_err-well.ensures.same.0)
+      same_back c.args.self.now.filters c.top-top.result r (record r { instance = c.pass_out.new.instance }) c.index_mut-filter.ensures.value
+      (ap (λ (i : Instance). record r { instance = i }) c.in_err-well.ensures.same.0)
 
 pub returns-in_err-well-clause-err : goal.returns-in_err-well-clause-err
 returns-in_err-well-clause-err g c =
@@ -128,12 +131,14 @@ returns-in_err-well-clause-err g c =
     let e = g.F.Files.device c.pass_out.new.files in
     let fs = written_back g c in
     let spared = left_spared self fs self.waits (as_before g c) refl chain tree store store d v (λ n. refl) refl (λ id is young. is) refl refl left in
-    left_device chain tree c.pass_out.new.store d e (with_out (changed self fs self.waits) c.pass_out.new.out c.pass_out.new.ended) v (λ file. ap (λ (n : ℕ → Held). n file) c.pass_out.ensures.open_files)
+    left_device chain tree c.pass_out.new.store d e (with_out (changed self fs self.waits) c.pass_out.new.out c.pass_out.new.ended) v
+    (λ file. ap (λ (n : ℕ → Held). n file) c.pass_out.ensures.open_files)
     (subst (λ s. LeftAs chain tree s d (with_out (changed self fs self.waits) c.pass_out.new.out c.pass_out.new.ended) v) (sym c.in_err-well.ensures.same.1)
     (subst (λ (o : Out). LeftAs chain tree store d (with_out (changed self fs self.waits) o.bytes o.ended) v) (sym c.in_err-well.ensures.kept) spared)))
 
 -- The filter on top goes on, and what it passed is put out.
-module _ (g : Over) (c : goal.After-self-2-1 g) (p : (chain : List Program) × (tree : PoolTree Payload) × CanProceed chain (instr.Pass c.args.b c.args.target) tree c.args.store.now (g.F.Files.device c.args.files.now) c.args.self.now) where
+module _ (g : Over) (c : goal.After-self-2-1 g)
+    (p : (chain : List Program) × (tree : PoolTree Payload) × CanProceed chain (instr.Pass c.args.b c.args.target) tree c.args.store.now (g.F.Files.device c.args.files.now) c.args.self.now) where
   abbrev top_was : OnTop (lists c.args.store.now) c.args.self.now p.2.top p.2.rest
   top_was = passing c.args.b c.args.target c.args.store.now (g.F.Files.device c.args.files.now) c.args.self.now p
 
@@ -156,7 +161,8 @@ module _ (g : Over) (c : goal.After-self-2-1 g) (p : (chain : List Program) × (
   others = writes_off c.args.self.now c.top-top.result c.top-top.ensures top_is within
 
   slots : (a : ℕ) → slot_at c.pass_out.new.instance a ≡ (if a == c.args.b then marked Passed (slot_at top_was.filter.instance c.args.b) else slot_at top_was.filter.instance a)
-  slots a = subst (λ (q : Filter). slot_at c.pass_out.new.instance a ≡ (if a == c.args.b then marked Passed (slot_at q.instance c.args.b) else slot_at q.instance a)) top_read (c.in_ok-well.ensures.slots a)
+  slots a = subst (λ (q : Filter). slot_at c.pass_out.new.instance a ≡ (if a == c.args.b then marked Passed (slot_at q.instance c.args.b) else slot_at q.instance a)) top_read
+      (c.in_ok-well.ensures.slots a)
 
   names : (a : ℕ) → named_at top_is a ≡ named_at top_was.filter a
   names = marked_name top_was.filter.instance c.pass_out.new.instance c.args.b slots
@@ -187,7 +193,8 @@ returns-clause-ok g c chain tree v f rest last ready =
     ∙ ap (λ (q : Filter). record q { instance = i; call = record q.call { pc = if well then q.call.pc + 1 else l } }) at in
     let around = around_of (map_of tree) self v in
     let given : WasDelivered d e (out_of self.out self.ended) (items_of ((seen old around x.instance x.call).instance.brigades b)) (out_of c.pass_out.new.out c.pass_out.new.ended) well =
-    subst (λ (q : Filter). WasDelivered d e (out_of self.out self.ended) (items_of ((seen old around q.instance x.call).instance.brigades b)) (out_of c.pass_out.new.out c.pass_out.new.ended) well) at (c.in_ok-well.ensures.delivered around x.call) in
+    subst (λ (q : Filter). WasDelivered d e (out_of self.out self.ended) (items_of ((seen old around q.instance x.call).instance.brigades b)) (out_of c.pass_out.new.out c.pass_out.new.ended) well)
+    at (c.in_ok-well.ensures.delivered around x.call) in
     delivers chain b l tree old new d e self v f rest ready i well (with_item self.filters c.top-top.result w) c.pass_out.new.out c.pass_out.new.ended
     (top_after g c p ∙ ap (λ (q : Filter). Some q) is) (others g c p) (length-set self.filters.items c.top-top.result w) (slots g c p)
     (λ around call. subst (λ (q : Filter). IsHeld old q.instance call → seen new around i call ≡ do_pass b (seen old around q.instance call)) at (c.in_ok-well.ensures.passed around call))
@@ -198,7 +205,8 @@ pub returns-in_err-well-clause-leaves : goal.returns-in_err-well-clause-leaves
 unfolding filter_at
 returns-in_err-well-clause-leaves g c ps =
     let s = c.in_err-well.ensures.same.1 in
-    unchanged ps c.args.store.now c.pass_out.new.store c.args.self.now _ (λ n. ap (λ x. lists x n) s) (ap (λ x. pool_of x) s) (let e = ap (λ x. next_name x) s in omega (arith, e)) (λ id there young. sym (ap (λ x. is_some (brigade_of x id)) s) ∙ there)
+    unchanged ps c.args.store.now c.pass_out.new.store c.args.self.now _ (λ n. ap (λ x. lists x n) s) (ap (λ x. pool_of x) s) (let e = ap (λ x. next_name x) s in omega (arith, e))
+    (λ id there young. sym (ap (λ x. is_some (brigade_of x id)) s) ∙ there)
     (λ k. ap (λ (fs : List Filter). slice_get fs k) (as_before g c))
 
 pub returns-in_err-well-clause-ended : goal.returns-in_err-well-clause-ended
@@ -210,7 +218,8 @@ unfolding filter_at
 returns-clause-leaves g c ps =
     let p = c.requires.ready in
     let t = top_was g c p in
-    one_leaves ps c.args.store.now c.pass_out.new.store c.args.self.now _ (top_of c.args.self.now) t.filter (top_is g c p) t.is (top_after g c p) (others g c p) (call_name g c p) (names g c p) (leaves g c p t.filter.call)
+    one_leaves ps c.args.store.now c.pass_out.new.store c.args.self.now _ (top_of c.args.self.now) t.filter (top_is g c p) t.is (top_after g c p) (others g c p) (call_name g c p) (names g c p)
+    (leaves g c p t.filter.call)
 
 pub returns-clause-ended : goal.returns-clause-ended
 unfolding filter_at
@@ -233,5 +242,6 @@ returns-in_err-well-clause-sure g c chain tree v f rest ready quiet =
     let same = work.config chain i tree store d self v f rest ready t.filter t.is in
     let none : (not self.ended && has_bytes (items_of ((seen store around t.filter.instance t.filter.call).instance.brigades b))) ≡ false
     = (grown_none 0 0 _ (sym (ap (λ (r : Configuration). grows r i) same) ∙ quiet)).1 in
-    let sure = c.in_err-well.ensures.sure around t.filter.call (subst (λ (q : Filter). (not self.ended && has_bytes (items_of ((seen store around q.instance t.filter.call).instance.brigades b))) ≡ false) (sym at) none) in
+    let sure = c.in_err-well.ensures.sure around t.filter.call
+    (subst (λ (q : Filter). (not self.ended && has_bytes (items_of ((seen store around q.instance t.filter.call).instance.brigades b))) ≡ false) (sym at) none) in
     absurd (cc sure)

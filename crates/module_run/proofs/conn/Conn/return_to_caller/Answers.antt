@@ -26,7 +26,8 @@ use Rattle.module_run.proofs.conn.Conn.return_to_caller.Given.{Over}
 use Rattle.module_run.proofs.conn.Conn.return_to_caller.Goals as goal
 
 -- the module of the filter before that on top
-module_before : (chain : List Program) (c : Conn) (n w : ℕ) (q : Program) → n ≡ top_of c → waiting c ≡ suc w → top_of c < length chain → q ≡ slice_index_or chain (n - 1) q → module_at chain (c.first + w) ≡ q
+module_before : (chain : List Program) (c : Conn) (n w : ℕ) (q : Program) → n ≡ top_of c → waiting c ≡ suc w → top_of c < length chain → q ≡ slice_index_or chain (n - 1) q
+    → module_at chain (c.first + w) ≡ q
 module_before chain c n w q at many within is =
     let before : n - 1 ≡ c.first + w = omega (arith, at, many) in
     ap (module_at chain) (sym before) ∙ module_read chain (n - 1) q (omega (arith, at, within)) is
@@ -40,10 +41,12 @@ top_read g c =
     ap (filter_at c.args.self.now) (sym at) ∙ filter_read c.args.self.now c.top-top.result c.index_mut.result.now (omega (arith, within, at)) c.index_mut.ensures.value
 
 pub end-requires-clause-held : goal.end-requires-clause-held
-end-requires-clause-held g c = let p = c.requires.ready in top_held c.args.modules.now (instr.Ret c.args.status) p.0 c.args.store.now p.1 c.args.self.now p.2.v p.2.top p.2.rest p.2.ready c.index_mut.result.now (top_read g c)
+end-requires-clause-held g c = let p = c.requires.ready in
+    top_held c.args.modules.now (instr.Ret c.args.status) p.0 c.args.store.now p.1 c.args.self.now p.2.v p.2.top p.2.rest p.2.ready c.index_mut.result.now (top_read g c)
 
 pub end-requires-clause-runs : goal.end-requires-clause-runs
-end-requires-clause-runs g c = let p = c.requires.ready in top_runs c.args.modules.now (instr.Ret c.args.status) p.0 c.args.store.now p.1 c.args.self.now p.2.v p.2.top p.2.rest p.2.ready c.index_mut.result.now (top_read g c)
+end-requires-clause-runs g c = let p = c.requires.ready in
+    top_runs c.args.modules.now (instr.Ret c.args.status) p.0 c.args.store.now p.1 c.args.self.now p.2.v p.2.top p.2.rest p.2.ready c.index_mut.result.now (top_read g c)
 
 -- The call before that on top stands at its pass.
 module _ (g : Over) (c : goal.After-index-modules-top g) where
@@ -57,7 +60,8 @@ module _ (g : Over) (c : goal.After-index-modules-top g) where
       below_read c.args.self.now c.top-top.result waiter.0 c.end.new.self c.index_mut-2.result.now within c.top-top.ensures waiter.1 c.index_mut-2.ensures.value
 
   waiter_module : module_at c.args.modules.now (c.args.self.now.first + waiter.0) ≡ c.index-modules-top.result
-  waiter_module = module_before c.args.modules.now c.args.self.now c.top-top.result waiter.0 c.index-modules-top.result c.top-top.ensures waiter.1 c.requires.ready.2.ready.stands.left.stacked.within c.index-modules-top.is
+  waiter_module = module_before c.args.modules.now c.args.self.now c.top-top.result waiter.0 c.index-modules-top.result c.top-top.ensures waiter.1
+      c.requires.ready.2.ready.stands.left.stacked.within c.index-modules-top.is
 
 pub go_on-requires-clause-at : goal.go_on-requires-clause-at
 go_on-requires-clause-at g c =
@@ -122,17 +126,20 @@ module _ (g : Over) (c : goal.After-pop g) (p : (tree : PoolTree Payload) × (d 
 pub returns-clause-leads : goal.returns-clause-leads
 unfolding gives_back
 returns-clause-leads g c tree device v f rest ready =
-    let p : (t : PoolTree Payload) × (d : Device) × CanProceed c.args.modules.now (instr.Ret c.args.status) t c.args.store.now d c.args.self.now = (tree, device, record { v = v; top = f; rest = rest; ready = ready }) in
+    let p : (t : PoolTree Payload) × (d : Device)
+    × CanProceed c.args.modules.now (instr.Ret c.args.status) t c.args.store.now d c.args.self.now = (tree, device, record { v = v; top = f; rest = rest; ready = ready }) in
     returning c.args.modules.now c.args.status tree c.args.store.now device c.args.self.now v f rest ready c.end.new.store (left_filters g c p) c.pop.new.self (caller g c p).0 (gives_back g c p)
     c.end.ensures.next c.end.ensures.pools c.end.ensures.references c.end.ensures.names c.end.ensures.held
 
 pub returns-clause-leaves : goal.returns-clause-leaves
 returns-clause-leaves g c ps =
     let p = c.requires.ready in
-    returned_leaves c.args.modules.now c.args.status ps c.args.store.now c.end.new.store c.args.self.now (left_filters g c p) c.pop.new.self (caller g c p).0 p.2.ready.stands.left.stacked (gives_back g c p)
+    returned_leaves c.args.modules.now c.args.status ps c.args.store.now c.end.new.store c.args.self.now (left_filters g c p) c.pop.new.self (caller g c p).0 p.2.ready.stands.left.stacked
+    (gives_back g c p)
     c.end.ensures.next c.end.ensures.names c.end.ensures.pools
 
 pub returns-clause-ended : goal.returns-clause-ended
 returns-clause-ended g c =
     let p = c.requires.ready in
-    returned_ends c.args.modules.now c.args.status (map_of p.0) c.args.store.now c.end.new.store c.args.self.now (left_filters g c p) c.pop.new.self (caller g c p).0 p.2.ready.stands.left.stacked (gives_back g c p)
+    returned_ends c.args.modules.now c.args.status (map_of p.0) c.args.store.now c.end.new.store c.args.self.now (left_filters g c p) c.pop.new.self (caller g c p).0 p.2.ready.stands.left.stacked
+    (gives_back g c p)

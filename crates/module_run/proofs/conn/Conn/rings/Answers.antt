@@ -23,11 +23,14 @@ loop-filter-preserved c = record {
     }
   ];
   named = λ k b n f lt is e. elim (cases_eq k c.loop-filter.filter-index) [
-    | inl here ↦ c.in_ok-add_rings.ensures.named b n (ap (λ (x : Filter). named_at x b) (item_is c.args.self.now.filters.items c.loop-filter.filter-index f c.filter-item.result (c.filter-item.is ∙ ap (λ (fs : List Filter). slice_index_or fs c.loop-filter.filter-index c.filter-item.result) c.deref-filter-items.ensures.value) (ap (filter_at c.args.self.now) (sym here) ∙ is)) ∙ e)
+    | inl here ↦ c.in_ok-add_rings.ensures.named b n (ap (λ (x : Filter). named_at x b) (item_is c.args.self.now.filters.items c.loop-filter.filter-index f c.filter-item.result (c.filter-item.is
+        ∙ ap (λ (fs : List Filter). slice_index_or fs c.loop-filter.filter-index c.filter-item.result) c.deref-filter-items.ensures.value) (ap (filter_at c.args.self.now) (sym here) ∙ is)) ∙ e)
     | inr ne ↦ c.add_rings.ensures.kept n (c.loop-filter.invariant.named k b n f (omega (arith, ne, lt)) is e)
   ];
   loose = λ k f lt is. elim (cases_eq k c.loop-filter.filter-index) [
-    | inl here ↦ subst (λ (x : Filter). is_in x.call.name c.add_rings.new.rings.items ≡ true) (item_is c.args.self.now.filters.items c.loop-filter.filter-index f c.filter-item.result (c.filter-item.is ∙ ap (λ (fs : List Filter). slice_index_or fs c.loop-filter.filter-index c.filter-item.result) c.deref-filter-items.ensures.value) (ap (filter_at c.args.self.now) (sym here) ∙ is)) c.in_ok-add_rings.ensures.loose
+    | inl here ↦ subst (λ (x : Filter). is_in x.call.name c.add_rings.new.rings.items ≡ true) (item_is c.args.self.now.filters.items c.loop-filter.filter-index f c.filter-item.result
+        (c.filter-item.is ∙ ap (λ (fs : List Filter). slice_index_or fs c.loop-filter.filter-index c.filter-item.result) c.deref-filter-items.ensures.value)
+        (ap (filter_at c.args.self.now) (sym here) ∙ is)) c.in_ok-add_rings.ensures.loose
     | inr ne ↦ c.add_rings.ensures.kept f.call.name (c.loop-filter.invariant.loose k f (omega (arith, ne, lt)) is)
   ];
 }

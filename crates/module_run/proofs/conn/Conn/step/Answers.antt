@@ -13,14 +13,17 @@ use Rattle.module_run.proofs.Neighbours.{unchanged}
 use Rattle.module_run.proofs.conn.Conn.step.Goals as goal
 
 pub returns-in-Some-clause-steps : goal.returns-in-Some-clause-steps
-returns-in-Some-clause-steps g c v stands bare = step_broken c.args.modules.now c.args.budget c.args.tree.now c.args.store.now (g.F.Files.device c.args.files.now) c.args.self.now v stands.left c.in-Some.cause c.in-Some.is
+returns-in-Some-clause-steps g c v stands bare =
+    step_broken c.args.modules.now c.args.budget c.args.tree.now c.args.store.now (g.F.Files.device c.args.files.now) c.args.self.now v stands.left c.in-Some.cause c.in-Some.is
 
 pub returns-then-not-self-clause-steps : goal.returns-then-not-self-clause-steps
-returns-then-not-self-clause-steps g c v stands bare = step_idle c.args.modules.now c.args.budget c.args.tree.now c.args.store.now (g.F.Files.device c.args.files.now) c.args.self.now v stands.left (none_there c.args.self.now.broken c.in_default.not-Some) c.if-not-self.true
+returns-then-not-self-clause-steps g c v stands bare = step_idle c.args.modules.now c.args.budget c.args.tree.now c.args.store.now (g.F.Files.device c.args.files.now) c.args.self.now v stands.left
+    (none_there c.args.self.now.broken c.in_default.not-Some) c.if-not-self.true
 
 pub returns-then-self-budget-clause-steps : goal.returns-then-self-budget-clause-steps
 returns-then-self-budget-clause-steps g c v stands bare =
-    step_over c.args.modules.now c.args.budget c.args.tree.now c.args.store.now (g.F.Files.device c.args.files.now) c.args.self.now v stands.left c.break_by.new.self c.break_by.result (none_there c.args.self.now.broken c.in_default.not-Some) c.if-not-self.false c.if-self-budget.true c.break_by.ensures.broken c.break_by.ensures.told
+    step_over c.args.modules.now c.args.budget c.args.tree.now c.args.store.now (g.F.Files.device c.args.files.now) c.args.self.now v stands.left c.break_by.new.self c.break_by.result
+    (none_there c.args.self.now.broken c.in_default.not-Some) c.if-not-self.false c.if-self-budget.true c.break_by.ensures.broken c.break_by.ensures.told
 
 pub step_top-requires : goal.step_top-requires
 step_top-requires g c =
@@ -29,7 +32,8 @@ step_top-requires g c =
     let s = c.requires.stands in
     let left = s.1.0.left in
     let t = runs_on_top chain c.args.budget c.args.tree.now c.args.store.now d c.args.self.now s.0 left c.if-not-self.false in
-    let faultless = can_step chain c.args.budget c.args.tree.now c.args.store.now d c.args.self.now s.0 left (none_there c.args.self.now.broken c.in_default.not-Some) c.if-self-budget.false t.0 t.1.0 t.1.1 in
+    let faultless = can_step chain c.args.budget c.args.tree.now c.args.store.now d c.args.self.now s.0 left
+    (none_there c.args.self.now.broken c.in_default.not-Some) c.if-self-budget.false t.0 t.1.0 t.1.1 in
     record { on_top = (s.0, (t.0, (t.1.0, (record { stands = s.1.0; on_top = t.1.1 }, λ bare. faultless (s.1.1 bare))))) }
 
 pub returns-in-Ok-clause-steps : goal.returns-in-Ok-clause-steps
@@ -63,23 +67,27 @@ returns-in-Err-clause-steps g c v stands bare =
     subst (λ (x : Conn). IsStep chain c.args.budget d e v c.step_top.new.tree c.step_top.new.store x (Err c.break_by-in-Err.result)) (sym c.break_by-in-Err.ensures.broken)
     (subst (λ (r : Refusal). IsStep chain c.args.budget d e v c.step_top.new.tree c.step_top.new.store (record after { broken = Some c.cause_of.result }) (Err r)) (sym told)
     (subst (λ (k : Cause). IsStep chain c.args.budget d e v c.step_top.new.tree c.step_top.new.store (record after { broken = Some k }) (Err (Broken k))) (sym c.cause_of.ensures)
-    (step_goes chain c.args.budget c.args.tree.now c.args.store.now d self v stands.left c.step_top.new.tree c.step_top.new.store e _ t.0 t.1.0 _ (none_there self.broken c.in_default.not-Some) c.if-self-budget.false t.1.1 broke)))
+    (step_goes chain c.args.budget c.args.tree.now c.args.store.now d self v stands.left c.step_top.new.tree c.step_top.new.store e _ t.0 t.1.0 _
+    (none_there self.broken c.in_default.not-Some) c.if-self-budget.false t.1.1 broke)))
 
 pub returns-in-Some-clause-leaves : goal.returns-in-Some-clause-leaves
-returns-in-Some-clause-leaves g c = unchanged (map_of c.args.tree.now) c.args.store.now c.args.store.now c.args.self.now c.args.self.now (λ n. refl) refl (omega arith) (λ id there young. there) (λ k. refl)
+returns-in-Some-clause-leaves g c =
+    unchanged (map_of c.args.tree.now) c.args.store.now c.args.store.now c.args.self.now c.args.self.now (λ n. refl) refl (omega arith) (λ id there young. there) (λ k. refl)
 
 pub returns-in-Some-clause-ended : goal.returns-in-Some-clause-ended
 returns-in-Some-clause-ended g c = ends_unchanged c.args.store.now c.args.store.now c.args.self.now c.args.self.now (λ k. refl)
 
 pub returns-then-not-self-clause-leaves : goal.returns-then-not-self-clause-leaves
-returns-then-not-self-clause-leaves g c = unchanged (map_of c.args.tree.now) c.args.store.now c.args.store.now c.args.self.now c.args.self.now (λ n. refl) refl (omega arith) (λ id there young. there) (λ k. refl)
+returns-then-not-self-clause-leaves g c =
+    unchanged (map_of c.args.tree.now) c.args.store.now c.args.store.now c.args.self.now c.args.self.now (λ n. refl) refl (omega arith) (λ id there young. there) (λ k. refl)
 
 pub returns-then-not-self-clause-ended : goal.returns-then-not-self-clause-ended
 returns-then-not-self-clause-ended g c = ends_unchanged c.args.store.now c.args.store.now c.args.self.now c.args.self.now (λ k. refl)
 
 pub returns-then-self-budget-clause-leaves : goal.returns-then-self-budget-clause-leaves
 unfolding filter_at
-returns-then-self-budget-clause-leaves g c = unchanged (map_of c.args.tree.now) c.args.store.now c.args.store.now c.args.self.now c.break_by.new.self (λ n. refl) refl (omega arith) (λ id there young. there) (λ k. ap (λ (x : Conn). filter_at x k) c.break_by.ensures.broken)
+returns-then-self-budget-clause-leaves g c = unchanged (map_of c.args.tree.now) c.args.store.now c.args.store.now c.args.self.now c.break_by.new.self (λ n. refl) refl (omega arith)
+    (λ id there young. there) (λ k. ap (λ (x : Conn). filter_at x k) c.break_by.ensures.broken)
 
 pub returns-then-self-budget-clause-ended : goal.returns-then-self-budget-clause-ended
 unfolding filter_at
@@ -87,18 +95,22 @@ returns-then-self-budget-clause-ended g c = ends_unchanged c.args.store.now c.ar
 
 pub returns-in-Ok-clause-leaves : goal.returns-in-Ok-clause-leaves
 returns-in-Ok-clause-leaves g c =
-    leaves_alike (map_of c.args.tree.now) c.args.store.now c.step_top.new.store c.args.self.now c.step_top.new.conn c.settle.new.self (λ k. ap (λ (x : Conn). filter_at x k) c.settle.ensures ∙ settled_filters c.in-Ok.stepped c.step_top.new.conn k) c.in-Ok.ensures.leaves
+    leaves_alike (map_of c.args.tree.now) c.args.store.now c.step_top.new.store c.args.self.now c.step_top.new.conn c.settle.new.self
+    (λ k. ap (λ (x : Conn). filter_at x k) c.settle.ensures ∙ settled_filters c.in-Ok.stepped c.step_top.new.conn k) c.in-Ok.ensures.leaves
 
 pub returns-in-Ok-clause-ended : goal.returns-in-Ok-clause-ended
 returns-in-Ok-clause-ended g c =
-    ends_alike (map_of c.args.tree.now) c.args.store.now c.step_top.new.store c.args.self.now c.step_top.new.conn c.settle.new.self (λ k. ap (λ (x : Conn). filter_at x k) c.settle.ensures ∙ settled_filters c.in-Ok.stepped c.step_top.new.conn k) c.in-Ok.ensures.ended
+    ends_alike (map_of c.args.tree.now) c.args.store.now c.step_top.new.store c.args.self.now c.step_top.new.conn c.settle.new.self
+    (λ k. ap (λ (x : Conn). filter_at x k) c.settle.ensures ∙ settled_filters c.in-Ok.stepped c.step_top.new.conn k) c.in-Ok.ensures.ended
 
 pub returns-in-Err-clause-leaves : goal.returns-in-Err-clause-leaves
 unfolding filter_at
 returns-in-Err-clause-leaves g c =
-    leaves_alike (map_of c.args.tree.now) c.args.store.now c.step_top.new.store c.args.self.now c.step_top.new.conn c.break_by-in-Err.new.self (λ k. ap (λ (x : Conn). filter_at x k) c.break_by-in-Err.ensures.broken) c.in-Err.ensures.leaves
+    leaves_alike (map_of c.args.tree.now) c.args.store.now c.step_top.new.store c.args.self.now c.step_top.new.conn c.break_by-in-Err.new.self
+    (λ k. ap (λ (x : Conn). filter_at x k) c.break_by-in-Err.ensures.broken) c.in-Err.ensures.leaves
 
 pub returns-in-Err-clause-ended : goal.returns-in-Err-clause-ended
 unfolding filter_at
 returns-in-Err-clause-ended g c =
-    ends_alike (map_of c.args.tree.now) c.args.store.now c.step_top.new.store c.args.self.now c.step_top.new.conn c.break_by-in-Err.new.self (λ k. ap (λ (x : Conn). filter_at x k) c.break_by-in-Err.ensures.broken) c.in-Err.ensures.ended
+    ends_alike (map_of c.args.tree.now) c.args.store.now c.step_top.new.store c.args.self.now c.step_top.new.conn c.break_by-in-Err.new.self
+    (λ k. ap (λ (x : Conn). filter_at x k) c.break_by-in-Err.ensures.broken) c.in-Err.ensures.ended

@@ -28,12 +28,14 @@ returns-in-Some-clause-left g c text start first =
 pub unreachable-requires : goal.unreachable-requires
 unreachable-requires g c =
     let start = c.requires.0 in
-    no_end c.args.self.now c.args.top start c.loop-name.name c.loop-name.level (c.loop-name.invariant.place start c.requires.1) c.loop-name-test.true (sym c.parent.ensures ∙ none_by c.parent.result c.in_default-parent.not-Some)
+    no_end c.args.self.now c.args.top start c.loop-name.name c.loop-name.level (c.loop-name.invariant.place start c.requires.1) c.loop-name-test.true
+    (sym c.parent.ensures ∙ none_by c.parent.result c.in_default-parent.not-Some)
 
 pub overflow_sub-level : goal.overflow_sub-level
 overflow_sub-level g c =
     let start = c.requires.0 in
-    let l = level_above c.args.self.now c.args.top start c.loop-name.name c.loop-name.level c.in-Some-parent.parent (c.loop-name.invariant.place start c.requires.1) c.loop-name-test.true (sym c.parent.ensures ∙ c.in-Some-parent.is) in
+    let l = level_above c.args.self.now c.args.top start c.loop-name.name c.loop-name.level c.in-Some-parent.parent (c.loop-name.invariant.place start c.requires.1) c.loop-name-test.true
+    (sym c.parent.ensures ∙ c.in-Some-parent.is) in
     omega (arith, l)
 
 pub loop-name-preserved : goal.loop-name-preserved
@@ -44,7 +46,8 @@ loop-name-preserved g c =
     let up = sym c.parent.ensures ∙ c.in-Some-parent.is in
     record {
       place = λ start first. place_above tree top start c.loop-name.name c.loop-name.level c.in-Some-parent.parent (i.place start first) c.loop-name-test.true up;
-      same = λ text start first. behind_up tree text top start c.loop-name.name c.in-Some-parent.parent up c.loop-name-test.true (sym c.younger.ensures ∙ none_by c.younger.result c.in_default.not-Some) ∙ i.same text start first;
+      same = λ text start first. behind_up tree text top start c.loop-name.name c.in-Some-parent.parent up c.loop-name-test.true
+          (sym c.younger.ensures ∙ none_by c.younger.result c.in_default.not-Some) ∙ i.same text start first;
     }
 
 pub returns-clause-left : goal.returns-clause-left

@@ -19,7 +19,8 @@ returns-in-Some-clause-left g c text start at =
     let tree = c.args.self.now in
     let top = c.args.top in
     let pool = c.args.pool in
-    subst (λ (l : ℕ). text_left text tree top start (Some (c.in-Some.child, l + 1)) ≡ flat_map (text (l + 1)) (reverse (children (map_of tree) pool)) ++ text_behind text tree top start pool) (sym at.level_is)
+    subst (λ (l : ℕ). text_left text tree top start (Some (c.in-Some.child, l + 1)) ≡ flat_map (text (l + 1)) (reverse (children (map_of tree) pool)) ++ text_behind text tree top start pool)
+    (sym at.level_is)
     (behind_below tree text top start pool c.in-Some.child c.in-Some.ensures (place_child tree top start pool c.args.depth c.in-Some.child at c.in-Some.ensures.0).1)
 
 pub returns-in-None-clause-left : goal.returns-in-None-clause-left

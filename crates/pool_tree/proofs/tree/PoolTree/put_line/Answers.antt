@@ -17,4 +17,5 @@ returns g c =
     let word = appends_then start (w c.put_margin.new.out) (w c.put_all.new.out) front (codes "pool ") c.in_ok-put_margin.ensures c.in_ok-put_all.ensures in
     let number = appends_then start (w c.put_all.new.out) (w c.put_all-2.new.out) (front ++ codes "pool ") (decimal c.args.pool) word (rw digits at c.in_ok-put_all-2.ensures) in
     let all = appends_then start (w c.put_all-2.new.out) (w c.put_payloads.new.out) (front ++ codes "pool " ++ decimal c.args.pool) texts number (rw payloads at c.in_ok-put_payloads.ensures) in
-    then_ok start (w c.put_payloads.new.out) (w c.put_all-3.new.out) (front ++ codes "pool " ++ decimal c.args.pool ++ texts) (10 ∷ []) c.put_all-3.result all (wrote_ok (w c.put_payloads.new.out) (w c.put_all-3.new.out) (10 ∷ []) c.put_all-3.result c.put_all-3.ensures)
+    then_ok start (w c.put_payloads.new.out) (w c.put_all-3.new.out) (front ++ codes "pool " ++ decimal c.args.pool ++ texts) (10 ∷ []) c.put_all-3.result all
+    (wrote_ok (w c.put_payloads.new.out) (w c.put_all-3.new.out) (10 ∷ []) c.put_all-3.result c.put_all-3.ensures)

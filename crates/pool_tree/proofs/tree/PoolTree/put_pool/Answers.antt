@@ -65,7 +65,8 @@ loop-place-preserved g c =
           appends_then (g.W.Write.contents c.args.out.now) (g.W.Write.contents c.loop-place.out) (g.W.Write.contents c.put_line.new.out) written first i.front.1.0 c.in_ok-put_line.ensures,
           ap (λ (xs : List ℕ). (written ++ first) ++ xs) (c.below-place.ensures.left text depth at)
               ∙ (append_assoc written first (under ++ behind)
-              ∙ (ap (λ (xs : List ℕ). written ++ xs) (sym (append_assoc first under behind) ∙ ap (λ (xs : List ℕ). xs ++ behind) (sym (printed_step g.T.PoolText.shown (map_of tree) (tree_formed tree) level name at.live)))
+              ∙ (ap (λ (xs : List ℕ). written ++ xs)
+              (sym (append_assoc first under behind) ∙ ap (λ (xs : List ℕ). xs ++ behind) (sym (printed_step g.T.PoolText.shown (map_of tree) (tree_formed tree) level name at.live)))
               ∙ (ap (λ o. written ++ text_left text tree pool depth o) (sym c.in-Some.is) ∙ i.front.1.1))),
         ),
       );

@@ -8,7 +8,8 @@ use Rattle.pool_tree.proofs.tree.PoolTree.put_pool.Given as goal
 
 abbrev pub invariant-loop-place : goal.invariant-loop-place
 invariant-loop-place g l = record {
-  front : (written : List ℕ) × (Appends (g.W.Write.contents l.fn.out) (g.W.Write.contents l.out) written × (written ++ text_left (printed g.T.PoolText.shown (map_of l.self)) l.self l.pool l.depth l.place ≡ printed g.T.PoolText.shown (map_of l.self) l.depth l.pool));
+  front : (written : List ℕ) × (Appends (g.W.Write.contents l.fn.out) (g.W.Write.contents l.out) written
+      × (written ++ text_left (printed g.T.PoolText.shown (map_of l.self)) l.self l.pool l.depth l.place ≡ printed g.T.PoolText.shown (map_of l.self) l.depth l.pool));
   place : (p : ℕ × ℕ) → l.place ≡ Some p → IsPlace l.self l.pool l.depth p.0 p.1;
 }
 

@@ -30,5 +30,6 @@ returns-clause-room g c =
     let all : take c.loop-name.name-index c.args.names.now ≡ c.args.names.now = take_all c.loop-name.name-index c.args.names.now c.loop-name-test.false in
     let run = run_length c.args.self.now c.args.pool c.args.names.now c.requires.live c.requires.under in
     IfOk-weaker c.with_capacity.result (λ ran. vec_capacity ran ≡ c.loop-name.count) (λ ran. length (run_order (map_of c.args.self.now) c.args.pool) ≤ vec_capacity ran)
-    (λ ran exact. let counted = c.loop-name.invariant (omega (arith, exact, ran.small)) in omega (arith, exact, run, subst (λ names. c.loop-name.count ≡ length (own_of records c.args.pool) + length (flat_map (own_of records) names)) all counted))
+    (λ ran exact. let counted = c.loop-name.invariant (omega (arith, exact, ran.small)) in
+    omega (arith, exact, run, subst (λ names. c.loop-name.count ≡ length (own_of records c.args.pool) + length (flat_map (own_of records) names)) all counted))
     c.with_capacity.ensures.exact

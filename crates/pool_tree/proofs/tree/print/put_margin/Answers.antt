@@ -1,6 +1,5 @@
-use Rattle.std.proofs.Common.{◌∷◌, []}
+use Rattle.std.proofs.Common.{◌∷◌, [], sym}
 use Rattle.pool_tree.specs.Printed.{margin}
-use Rattle.std.proofs.Common.{sym}
 use Rattle.pool_tree.proofs.Writing.{appends_then, appends_none, appends_same, margin_more}
 use Rattle.pool_tree.proofs.tree.print.put_margin.Goals as goal
 

@@ -1,5 +1,10 @@
 -- `get` computes where the place begins, and shows the value that lies there. Assumes `Logic`.
-use Rattle.raw_block.proofs.Steps.{◌≡◌, ℕ, ◌+◌, ◌*◌, ◌<◌, ◌^◌, List, [], ◌∷◌, length, get_or, Option, None, is_some, true, refl, ap, sym, subst, ◌∙◌, arith, w64, proved, full_share, id⊢, ftrue, fat, flft, named, inst_fn, Val, vptr, vint, fact, tables, ◌⊑◌, Item, ‵, raw, ◌⊛◌, at_ret, ◌$◌, ◌∵◌, !, qed, move, keep, drop, use1, split, rewrite, fsplit, fjoin, feq_i, flt_l, suffices, frame, done, whole, sub, stop, fld, of_opd, addr, bin, size_word, first, blocks, exec, returns, enter, alloc_all, pass_all, free_all, look_at, take_at, give_at, get, get_in, through, sets, sets_last, is, env, usize, RefOf, yes, no, hide, unhide, layout, uint_vals, uint_Tells, Ptr, in_a_block, ShrRef, shr_vals, shr_Tells, plain, nothing, heard, says, Stays, stay_dropped, walk_of, ends_at, Goes-dropped, word, word-Good, after, El, R, args, el_x, uncapped, Cr, Br, size_of, base_vals, base_tells, begins_below}
+use Rattle.raw_block.proofs.Steps.{◌≡◌, ℕ, ◌+◌, ◌*◌, ◌<◌, ◌^◌, List, [], ◌∷◌, length, get_or, Option, None, is_some, true, refl, ap, sym, subst, ◌∙◌, arith, w64, proved, full_share, id⊢, ftrue, fat}
+use Rattle.raw_block.proofs.Steps.{flft, named, inst_fn, Val, vptr, vint, fact, tables, ◌⊑◌, Item, ‵, raw, ◌⊛◌, at_ret, ◌$◌, ◌∵◌, !, qed, move, keep, drop, use1, split, rewrite, fsplit, fjoin, feq_i}
+use Rattle.raw_block.proofs.Steps.{flt_l, suffices, frame, done, whole, sub, stop, fld, of_opd, addr, bin, size_word, first, blocks, exec, returns, enter, alloc_all, pass_all, free_all, look_at}
+use Rattle.raw_block.proofs.Steps.{take_at, give_at, get, get_in, through, sets, sets_last, is, env, usize, RefOf, yes, no, hide, unhide, layout, uint_vals, uint_Tells, Ptr, in_a_block, ShrRef}
+use Rattle.raw_block.proofs.Steps.{shr_vals, shr_Tells, plain, nothing, heard, says, Stays, stay_dropped, walk_of, ends_at, Goes-dropped, word, word-Good, after, El, R, args, el_x, uncapped, Cr, Br}
+use Rattle.raw_block.proofs.Steps.{size_of, base_vals, base_tells, begins_below}
 use Rattle.raw_block.specs.Ownership.{place_shared, row_shared}
 use Rattle.raw_block.proofs.Places.{full_within, there}
 use Rattle.raw_block.proofs.Rows.{seen}
@@ -33,7 +38,8 @@ get_spec 𝓤 𝓛 𝓜 𝓡 wired X LX =
     unhide ! $ fsplit ! $ drop ! $ in_a_block ! self.now.start (λ (p : Ptr). row_shared (R E) p ps κ) (id⊢ 𝓤 _) (λ b o e. fsplit ! $ flt_l ! (λ small.
     let far : k * s < 2 ^ 64 = begins_below k (length ps) s (omega (arith, within)) small in let at : ℕ = k * s + o in
     take_at ! 2 $ rewrite ! 0 (λ (p : Ptr). ‵ (fat full_share (layout (Br E)) (l 2) 0 (word p))) (asked.0 ∙ e) refl $ give_at ! 2 $ first ! $ blocks ! $
-    sets ! (is ! (bin ! (get ! refl) (size_word !) (record { fits = subst (λ (n : ℕ). n < 2 ^ 64) (sym (uncapped k s far)) far })) (ap (vint w64) (uncapped k s far))) refl (tt, record { fits = far }) $
+    sets ! (is ! (bin ! (get ! refl) (size_word !) (record { fits = subst (λ (n : ℕ). n < 2 ^ 64) (sym (uncapped k s far)) far })) (ap (vint w64) (uncapped k s far))) refl
+    (tt, record { fits = far }) $
     sets ! (bin ! (get_in ! (fld ! refl (stop !)) (sub ! 0 refl (whole !))) (get ! refl) tt) refl (tt, tt) $
     use1 𝓛 (‵ (place_shared (R E) b at (get_or ps k None) κ)) (seen E 𝓛 b κ ps k o within) $
     rewrite ! 0 (λ (p : Option (el_x E)). ‵ (place_shared (R E) b at p κ)) here.1 refl $ hide ! $

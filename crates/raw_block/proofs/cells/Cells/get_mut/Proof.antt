@@ -1,5 +1,11 @@
 -- `get_mut` lends the value of one place, and the places follow it. Assumes `Logic`.
-use Rattle.raw_block.proofs.Steps.{◌≡◌, ℕ, ◌+◌, ◌*◌, ◌<◌, ◌^◌, List, [], ◌∷◌, length, get_or, Option, None, Some, is_some, true, refl, ap, sym, subst, ◌∙◌, arith, w64, proved, Ura, full_share, ent, sep, id⊢, GName, Fml, ftrue, fat, flft, fsep, named, inst_fn, Val, vptr, vint, fact, tables, ◌⊑◌, Logic, sem, Item, ‵, raw, ◌⊛◌, some, later, at_ret, ◌$◌, ◌∵◌, !, qed, move, keep, use1, use2, split, join, group, pick, await, rewrite, fsplit, fsplit3, fjoin, fjoin3, fpack, flt_l, flt_i, suffices, frame, done, whole, sub, stop, fld, of_opd, addr, bin, size_word, first, blocks, exec, returns, enter, alloc_all, pass_all, free_all, look_at, take_at, give_at, get, get_in, through, sets, sets_last, is, env, usize, yes, no, cell_at, mem, layout, uint_vals, uint_Tells, Ptr, block_ptr, in_a_block, MutBor, MutRef, mut_vals, mut_Tells, plain, mut_ref_to, nothing, opens, heard, says, Stays, stay_dropped, walk_of, ends_at, Goes-dropped, Goes-spent_ref, word, word-Good, after, El, R, args, el_x, uncapped, Cr, Br, Mark, size_of, base_vals, base_tells, mark, begins_below, small_as}
+use Rattle.raw_block.proofs.Steps.{◌≡◌, ℕ, ◌+◌, ◌*◌, ◌<◌, ◌^◌, List, [], ◌∷◌, length, get_or, Option, None, Some, is_some, true, refl, ap, sym, subst, ◌∙◌, arith, w64, proved, Ura, full_share, ent}
+use Rattle.raw_block.proofs.Steps.{sep, id⊢, GName, Fml, ftrue, fat, flft, fsep, named, inst_fn, Val, vptr, vint, fact, tables, ◌⊑◌, Logic, sem, Item, ‵, raw, ◌⊛◌, some, later, at_ret, ◌$◌, ◌∵◌, ! }
+use Rattle.raw_block.proofs.Steps.{qed, move, keep, use1, use2, split, join, group, pick, await, rewrite, fsplit, fsplit3, fjoin, fjoin3, fpack, flt_l, flt_i, suffices, frame, done, whole, sub, stop}
+use Rattle.raw_block.proofs.Steps.{fld, of_opd, addr, bin, size_word, first, blocks, exec, returns, enter, alloc_all, pass_all, free_all, look_at, take_at, give_at, get, get_in, through, sets}
+use Rattle.raw_block.proofs.Steps.{sets_last, is, env, usize, yes, no, cell_at, mem, layout, uint_vals, uint_Tells, Ptr, block_ptr, in_a_block, MutBor, MutRef, mut_vals, mut_Tells, plain, mut_ref_to}
+use Rattle.raw_block.proofs.Steps.{nothing, opens, heard, says, Stays, stay_dropped, walk_of, ends_at, Goes-dropped, Goes-spent_ref, word, word-Good, after, El, R, args, el_x, uncapped, Cr, Br, Mark}
+use Rattle.raw_block.proofs.Steps.{size_of, base_vals, base_tells, mark, begins_below, small_as}
 use denote.Memory.{part_of}
 use denote.Follow.{follows, Part, lends_Part}
 use Rattle.raw_block.specs.Lends.{with_place}
@@ -53,7 +59,8 @@ get_mut_spec 𝓤 𝓛 𝓜 𝓡 wired X LX =
     in_a_block ! d.start (λ (p : Ptr). row_owned (R E) p ps) (id⊢ 𝓤 _) (λ b o e. fsplit ! $ flt_l ! (λ small.
     let far : k * s < 2 ^ 64 = begins_below k (length ps) s (omega (arith, within)) small in let at : ℕ = k * s + o in
     take_at ! 2 $ rewrite ! 0 (λ (p : Ptr). ‵ (fat full_share (layout (Br E)) (l 2) 0 (word p))) (asked.0 ∙ e) refl $ give_at ! 2 $ first ! $ blocks ! $
-    sets ! (is ! (bin ! (get ! refl) (size_word !) (record { fits = subst (λ (n : ℕ). n < 2 ^ 64) (sym (uncapped k s far)) far })) (ap (vint w64) (uncapped k s far))) refl (tt, record { fits = far }) $
+    sets ! (is ! (bin ! (get ! refl) (size_word !) (record { fits = subst (λ (n : ℕ). n < 2 ^ 64) (sym (uncapped k s far)) far })) (ap (vint w64) (uncapped k s far))) refl
+    (tt, record { fits = far }) $
     sets ! (bin ! (get_in ! (fld ! refl (stop !)) (sub ! 0 refl (whole !))) (get ! refl) tt) refl (tt, tt) $
     use1 𝓛 (‵ (place_owned (R E) b at (get_or ps k None)) ⊛ ‵ (gap_owned (R E) b o ps k)) (taken_out E 𝓛 b ps k o within) $ split ! $
     rewrite ! 0 (λ (p : Option (el_x E)). ‵ (place_owned (R E) b at p)) here.1 refl $

@@ -1,5 +1,10 @@
 -- `read` moves the value out of its place, and leaves bytes there. Assumes `Logic`.
-use Rattle.raw_block.proofs.Steps.{◌≡◌, ℕ, ◌+◌, ◌*◌, ◌<◌, ◌^◌, List, [], ◌∷◌, length, get_or, Option, None, is_some, true, refl, ap, sym, subst, ◌∙◌, arith, w64, proved, full_share, id⊢, ftrue, fat, flft, froom, named, inst_fn, Val, vint, fact, tables, ◌⊑◌, Item, ‵, raw, ◌⊛◌, some, given, at_ret, ◌$◌, ◌∵◌, !, qed, move, keep, use1, use2, split, join, learn, pick, rewrite, fsplit, fsplit3, fjoin, fjoin3, feq_i, flt_l, flt_i, suffices, frame, done, whole, sub, stop, fld, load, look, of_opd, bin, size_word, first, blocks, exec, returns, enter, alloc_all, pass_all, free_all, look_at, take_at, give_at, get, get_in, through, sets, sets_last, is, env, usize, yes, no, layout, uint_vals, uint_Tells, Ptr, in_a_block, MutRef, mut_vals, mut_Tells, plain, nothing, opens, closes, heard, says, Stays, stay_dropped, stay_ref, walk_of, ends_at, Goes-dropped, Goes-ref, Good, word, word-Good, as_raw, after, El, R, args, el_x, elτ, uncapped, Cr, Br, size_of, base_vals, base_tells, mark, begins_below, small_as}
+use Rattle.raw_block.proofs.Steps.{◌≡◌, ℕ, ◌+◌, ◌*◌, ◌<◌, ◌^◌, List, [], ◌∷◌, length, get_or, Option, None, is_some, true, refl, ap, sym, subst, ◌∙◌, arith, w64, proved, full_share, id⊢, ftrue, fat}
+use Rattle.raw_block.proofs.Steps.{flft, froom, named, inst_fn, Val, vint, fact, tables, ◌⊑◌, Item, ‵, raw, ◌⊛◌, some, given, at_ret, ◌$◌, ◌∵◌, !, qed, move, keep, use1, use2, split, join, learn}
+use Rattle.raw_block.proofs.Steps.{pick, rewrite, fsplit, fsplit3, fjoin, fjoin3, feq_i, flt_l, flt_i, suffices, frame, done, whole, sub, stop, fld, load, look, of_opd, bin, size_word, first, blocks}
+use Rattle.raw_block.proofs.Steps.{exec, returns, enter, alloc_all, pass_all, free_all, look_at, take_at, give_at, get, get_in, through, sets, sets_last, is, env, usize, yes, no, layout, uint_vals}
+use Rattle.raw_block.proofs.Steps.{uint_Tells, Ptr, in_a_block, MutRef, mut_vals, mut_Tells, plain, nothing, opens, closes, heard, says, Stays, stay_dropped, stay_ref, walk_of, ends_at, Goes-dropped}
+use Rattle.raw_block.proofs.Steps.{Goes-ref, Good, word, word-Good, as_raw, after, El, R, args, el_x, elτ, uncapped, Cr, Br, size_of, base_vals, base_tells, mark, begins_below, small_as}
 use Rattle.core.proofs.ptr.Rows.{el_out}
 use Rattle.raw_block.specs.Lends.{with_place}
 use Rattle.raw_block.specs.Ownership.{place_owned, run_owned, gap_owned, row_owned}
@@ -35,14 +40,16 @@ read_spec 𝓤 𝓛 𝓜 𝓡 wired X LX =
     in_a_block ! d.start (λ (p : Ptr). row_owned (R E) p ps) (id⊢ 𝓤 _) (λ b o e. fsplit ! $ flt_l ! (λ small.
     let far : k * s < 2 ^ 64 = begins_below k (length ps) s (omega (arith, within)) small in let at : ℕ = k * s + o in
     take_at ! 2 $ rewrite ! 0 (λ (p : Ptr). ‵ (fat full_share (layout (Br E)) (l 2) 0 (word p))) (asked.0 ∙ e) refl $ give_at ! 2 $ first ! $ blocks ! $
-    sets ! (is ! (bin ! (get ! refl) (size_word !) (record { fits = subst (λ (n : ℕ). n < 2 ^ 64) (sym (uncapped k s far)) far })) (ap (vint w64) (uncapped k s far))) refl (tt, record { fits = far }) $
+    sets ! (is ! (bin ! (get ! refl) (size_word !) (record { fits = subst (λ (n : ℕ). n < 2 ^ 64) (sym (uncapped k s far)) far })) (ap (vint w64) (uncapped k s far))) refl
+    (tt, record { fits = far }) $
     sets ! (bin ! (get_in ! (fld ! refl (stop !)) (sub ! 0 refl (whole !))) (get ! refl) tt) refl (tt, tt) $
     use1 𝓛 (‵ (place_owned (R E) b at (get_or ps k None)) ⊛ ‵ (gap_owned (R E) b o ps k)) (taken_out E 𝓛 b ps k o within) $ split ! $
     rewrite ! 0 (λ (p : Option (el_x E)). ‵ (place_owned (R E) b at p)) here.1 refl $
     use1 𝓛 (some (λ (v : Val). given (Good (elτ E) v) (‵ (fat full_share (elτ E) b at v) ⊛ ‵ (X.own_val here.0 (v ∷ []))))) (el_out (record { row = X; laws = LX }) 𝓛 full_share here.0 b at) $
     pick ! (λ v. learn ! (λ good. split ! $
     -- [the value's bytes; what it owns; the other places; the mark; its cell; the open borrow, in three entries; the tokens]
-    sets_last ! (of_opd ! (load ! (through ! refl (stop !)) (look ! 0 refl))) refl good $ exec ! 𝓣.C 𝓣.Λ (env fn.locals l) (after 1 fn.body) (at_ret _ (W.post y)) $ sets ! (of_opd ! (get ! refl)) refl good $
+    sets_last ! (of_opd ! (load ! (through ! refl (stop !)) (look ! 0 refl))) refl good $ exec ! 𝓣.C 𝓣.Λ (env fn.locals l) (after 1 fn.body) (at_ret _ (W.post y)) $ sets !
+    (of_opd ! (get ! refl)) refl good $
     use1 𝓛 (‵ (froom (elτ E) b at)) (𝓛.laws.at_room (elτ E) b at v) $ as_raw ! (elτ E) b at $ move ! (0 ∷ 2 ∷ 3 ∷ 4 ∷ 5 ∷ 6 ∷ 7 ∷ []) $
     use2 𝓛 (‵ (run_owned (R E) b o new.places)) (put_back E 𝓛 b ps k o None within) $
     flt_i ! (length new.places * s) (2 ^ 63) (small_as ps k s None small) $ fjoin ! $ rewrite ! 0 (λ (p : Ptr). ‵ (row_owned (R E) p new.places)) (sym e) refl $
@@ -50,4 +57,5 @@ read_spec 𝓤 𝓛 𝓜 𝓡 wired X LX =
     -- [two parts of self; the first token; what the value owns; the other tokens]
     returns ! (look_at ! 0 refl) $ free_all ! refl $
     suffices ! _ (ends_at 𝓛 (f.ended X) (stayed E) c y v here.0 (new, (tt, (tt, tt))) (tt, (tt, (tt, tt)))) $ says ! (here.1, refl) $
-    move ! (2 ∷ 4 ∷ []) $ join ! $ frame ! $ feq_i ! (List Val) (mut_vals self) (mut_vals self) refl $ fjoin3 ! $ nothing ! $ nothing ! $ fjoin ! $ nothing ! $ fjoin ! $ move ! (1 ∷ []) $ fjoin ! $ done !)))))))))
+    move ! (2 ∷ 4 ∷ []) $ join ! $ frame ! $ feq_i ! (List Val) (mut_vals self) (mut_vals self) refl $ fjoin3 ! $ nothing ! $ nothing ! $ fjoin ! $ nothing ! $ fjoin ! $ move !
+    (1 ∷ []) $ fjoin ! $ done !)))))))))

@@ -1,5 +1,10 @@
 -- `slice` shows the values that lie side by side. Assumes `Logic`.
-use Rattle.raw_block.proofs.Steps.{◌≡◌, ℕ, ◌+◌, ◌*◌, ◌<◌, ◌≤◌, ◌^◌, List, [], ◌∷◌, length, get_or, None, is_some, true, refl, ap, sym, subst, ◌∙◌, arith, w64, proved, full_share, id⊢, ftrue, fat, flft, named, inst_fn, Val, vint, fact, tables, ◌⊑◌, Item, ‵, raw, ◌⊛◌, at_ret, ◌$◌, ◌∵◌, !, qed, move, keep, drop, use1, split, rewrite, fsplit, fjoin, feq_i, flt_l, flt_i, suffices, frame, done, whole, sub, agg, stop, fld, of_opd, bin, size_word, and_then, no_more, first, blocks, exec, returns, enter, alloc_all, pass_all, free_all, look_at, take_at, give_at, get, get_in, sets, sets_last, is, env, usize, RefOf, yes, no, hide, unhide, layout, uint_vals, uint_Tells, Ptr, in_a_block, ShrRef, shr_vals, shr_Tells, plain, nothing, heard, says, Stays, stay_dropped, walk_of, ends_at, Goes-dropped, word, word-Good, after, El, R, args, el_x, uncapped, times_below, Cr, Br, size_of, base_vals, base_tells, begins_below}
+use Rattle.raw_block.proofs.Steps.{◌≡◌, ℕ, ◌+◌, ◌*◌, ◌<◌, ◌≤◌, ◌^◌, List, [], ◌∷◌, length, get_or, None, is_some, true, refl, ap, sym, subst, ◌∙◌, arith, w64, proved, full_share, id⊢, ftrue, fat}
+use Rattle.raw_block.proofs.Steps.{flft, named, inst_fn, Val, vint, fact, tables, ◌⊑◌, Item, ‵, raw, ◌⊛◌, at_ret, ◌$◌, ◌∵◌, !, qed, move, keep, drop, use1, split, rewrite, fsplit, fjoin, feq_i, flt_l}
+use Rattle.raw_block.proofs.Steps.{flt_i, suffices, frame, done, whole, sub, agg, stop, fld, of_opd, bin, size_word, and_then, no_more, first, blocks, exec, returns, enter, alloc_all, pass_all}
+use Rattle.raw_block.proofs.Steps.{free_all, look_at, take_at, give_at, get, get_in, sets, sets_last, is, env, usize, RefOf, yes, no, hide, unhide, layout, uint_vals, uint_Tells, Ptr, in_a_block}
+use Rattle.raw_block.proofs.Steps.{ShrRef, shr_vals, shr_Tells, plain, nothing, heard, says, Stays, stay_dropped, walk_of, ends_at, Goes-dropped, word, word-Good, after, El, R, args, el_x, uncapped}
+use Rattle.raw_block.proofs.Steps.{times_below, Cr, Br, size_of, base_vals, base_tells, begins_below}
 use denote.Slice.{slice_val, elements_shared}
 use Rattle.raw_block.specs.Maps.{read}
 use Rattle.raw_block.specs.Ownership.{row_shared}
@@ -25,7 +30,8 @@ slice_spec 𝓤 𝓛 𝓜 𝓡 wired X LX =
     let y : W.Ghost = ((κs, qs, bounds, a, (shr_vals self, (base_vals E base, (uint_vals w64 k, (uint_vals w64 n, tt))))), g) in
     let Asks : Type 0 = (base.ptr ≡ self.now.start) × (k + n ≤ length ps) × ((j : ℕ) → k ≤ j → j < k + n → is_some (get_or ps j None) ≡ true) in
     let Tokens : Item 𝓤 = ‵ (flft κ qs.0) ⊛ ‵ (flft κs.1.0 qs.1.0) ⊛ ‵ ftrue in
-    qed 𝓛 ((Tokens ⊛ (‵ ((ShrRef (named 0) κ (Cr E)).own_val self (shr_vals self)) ⊛ ‵ ((Br E).own_val base (base_vals E base)) ⊛ ‵ (usize.own_val k (uint_vals w64 k)) ⊛ ‵ (usize.own_val n (uint_vals w64 n)) ⊛ ‵ ftrue))
+    qed 𝓛 ((Tokens ⊛ (‵ ((ShrRef (named 0) κ (Cr E)).own_val self (shr_vals self)) ⊛ ‵ ((Br E).own_val base (base_vals E base)) ⊛ ‵ (usize.own_val k (uint_vals w64 k)) ⊛ ‵
+    (usize.own_val n (uint_vals w64 n)) ⊛ ‵ ftrue))
     ∷ (raw (fact 𝓤 (κs.1.0 ⊑ X.lives)) ⊛ raw (fact 𝓤 Asks)) ∷ []) ∵
     split ! $ move ! (2 ∷ []) $ split ! $ heard ! (κs.1.0 ⊑ X.lives) (λ lives. heard ! Asks (λ asked.
     move ! (1 ∷ []) $ split ! $ fsplit ! $ keep ! (1 ∷ 3 ∷ []) $
@@ -35,12 +41,14 @@ slice_spec 𝓤 𝓛 𝓜 𝓡 wired X LX =
     unhide ! $ fsplit ! $ drop ! $ in_a_block ! self.now.start (λ (p : Ptr). row_shared (R E) p ps κ) (id⊢ 𝓤 _) (λ b o e. fsplit ! $ flt_l ! (λ small.
     let far : k * s < 2 ^ 64 = begins_below k (length ps) s (omega (arith, asked.1)) small in let at : ℕ × ℕ = (b, k * s + o) in
     take_at ! 2 $ rewrite ! 0 (λ (p : Ptr). ‵ (fat full_share (layout (Br E)) (l 2) 0 (word p))) (asked.0 ∙ e) refl $ give_at ! 2 $ first ! $ blocks ! $
-    sets ! (is ! (bin ! (get ! refl) (size_word !) (record { fits = subst (λ (n : ℕ). n < 2 ^ 64) (sym (uncapped k s far)) far })) (ap (vint w64) (uncapped k s far))) refl (tt, record { fits = far }) $
+    sets ! (is ! (bin ! (get ! refl) (size_word !) (record { fits = subst (λ (n : ℕ). n < 2 ^ 64) (sym (uncapped k s far)) far })) (ap (vint w64) (uncapped k s far))) refl
+    (tt, record { fits = far }) $
     sets ! (bin ! (get_in ! (fld ! refl (stop !)) (sub ! 0 refl (whole !))) (get ! refl) tt) refl (tt, tt) $
     use1 𝓛 (‵ (elements_shared (R E) xs b (k * s + o) κ)) (seen_run E 𝓛 b κ ps k n o asked.1 asked.2) $ hide ! $
     sets_last ! (agg ! (and_then ! (get ! refl) (and_then ! (get ! refl) (no_more !)))) refl (tt, (tt, (record { fits = are.1.1.1.0.1 }, tt))) $
     exec ! 𝓣.C 𝓣.Λ (env fn.locals l) (after 1 fn.body) (at_ret _ (W.post y)) $ sets ! (of_opd ! (get ! refl)) refl (tt, (tt, (record { fits = are.1.1.1.0.1 }, tt))) $
-    flt_i ! (length xs * s) (2 ^ 63) (times_below (length xs) (length ps) s (2 ^ 63) (omega (arith, long, asked.1)) small) $ flt_i ! (length xs) (2 ^ 64) (omega (arith, long, are.1.1.1.0.1)) $ fjoin ! $
+    flt_i ! (length xs * s) (2 ^ 63) (times_below (length xs) (length ps) s (2 ^ 63) (omega (arith, long, asked.1)) small) $ flt_i ! (length xs) (2 ^ 64)
+    (omega (arith, long, are.1.1.1.0.1)) $ fjoin ! $
     feq_i ! (List Val) (slice_val at n ∷ []) (slice_val at (length xs) ∷ []) (ap (λ m. slice_val at m ∷ []) (sym long)) $ fjoin ! $ fjoin ! $
     -- [the result; the tokens]
     returns ! (look_at ! 0 refl) $ free_all ! refl $

@@ -1,5 +1,10 @@
 -- `write` moves a value into the bytes of an empty place. Assumes `Logic`.
-use Rattle.raw_block.proofs.Steps.{◌≡◌, ℕ, ◌+◌, ◌*◌, ◌<◌, ◌^◌, List, [], ◌∷◌, length, get_or, Option, None, Some, refl, ap, sym, subst, ◌∙◌, arith, w64, proved_at, full_share, ent, id⊢, ftrue, fat, flft, named, inst_fn, Val, vint, vunit, WpFn, fact, tables, ◌⊑◌, Item, ‵, raw, ◌⊛◌, at_ret, ◌$◌, ◌∵◌, !, qed, move, keep, use1, use2, split, join, rewrite, fsplit, fsplit3, fjoin, fjoin3, feq_i, flt_l, flt_i, suffices, frame, done, whole, sub, stop, fld, unit_lit, init, of_opd, bin, size_word, assigns_last, first, blocks, exec, returns, enter, alloc_all, pass_all, free_all, look_at, take_at, give_at, get, get_in, through, sets, is, env, usize, yes, no, layout, uint_vals, Ptr, in_a_block, MutRef, mut_vals, plain, nothing, opens, closes, heard, says, Stays, stay_dropped, stay_ref, walk_of, ends_at, Goes-dropped, Goes-ref, word, word-Good, as_written, after, El, R, args, el_x, elτ, uncapped, Cr, Br, size_of, base_vals, base_tells, mark, begins_below, small_as}
+use Rattle.raw_block.proofs.Steps.{◌≡◌, ℕ, ◌+◌, ◌*◌, ◌<◌, ◌^◌, List, [], ◌∷◌, length, get_or, Option, None, Some, refl, ap, sym, subst, ◌∙◌, arith, w64, proved_at, full_share, ent, id⊢, ftrue, fat}
+use Rattle.raw_block.proofs.Steps.{flft, named, inst_fn, Val, vint, vunit, WpFn, fact, tables, ◌⊑◌, Item, ‵, raw, ◌⊛◌, at_ret, ◌$◌, ◌∵◌, !, qed, move, keep, use1, use2, split, join, rewrite, fsplit}
+use Rattle.raw_block.proofs.Steps.{fsplit3, fjoin, fjoin3, feq_i, flt_l, flt_i, suffices, frame, done, whole, sub, stop, fld, unit_lit, init, of_opd, bin, size_word, assigns_last, first, blocks, exec}
+use Rattle.raw_block.proofs.Steps.{returns, enter, alloc_all, pass_all, free_all, look_at, take_at, give_at, get, get_in, through, sets, is, env, usize, yes, no, layout, uint_vals, Ptr, in_a_block}
+use Rattle.raw_block.proofs.Steps.{MutRef, mut_vals, plain, nothing, opens, closes, heard, says, Stays, stay_dropped, stay_ref, walk_of, ends_at, Goes-dropped, Goes-ref, word, word-Good, as_written}
+use Rattle.raw_block.proofs.Steps.{after, El, R, args, el_x, elτ, uncapped, Cr, Br, size_of, base_vals, base_tells, mark, begins_below, small_as}
 use Rattle.core.proofs.ptr.Rows.{el_in}
 use Rattle.raw_block.specs.Lends.{with_place}
 use Rattle.raw_block.specs.Ownership.{place_owned, run_owned, gap_owned, row_owned}
@@ -30,7 +35,8 @@ write_spec 𝓤 𝓛 𝓜 𝓡 wired X LX =
     let Others : Item 𝓤 = ‵ (flft κs.1.0 qs.1.0) ⊛ ‵ ftrue in
     subst (λ (us : List Val × List Val × List Val × List Val). ent 𝓤 (W.pre (at_vals us)) (WpFn 𝓤 𝓛.H 𝓣.C 𝓣.Λ fn (W.args (at_vals us)) (W.post (at_vals us))))
     (λ i. (sym are.0.0 i, sym (base_tells E base z.0.4.1.0 are.1.0) i, sym are.1.1.0.0 i, sym got.1 i)) (
-    qed 𝓛 (((‵ (flft κ qs.0) ⊛ Others) ⊛ (‵ ((MutRef (named 0) κ (Cr E)).own_val self (mut_vals self)) ⊛ ‵ ((Br E).own_val base (base_vals E base)) ⊛ ‵ (usize.own_val k (uint_vals w64 k)) ⊛ ‵ ((R E).own_val x (v ∷ [])) ⊛ ‵ ftrue))
+    qed 𝓛 (((‵ (flft κ qs.0) ⊛ Others) ⊛
+    (‵ ((MutRef (named 0) κ (Cr E)).own_val self (mut_vals self)) ⊛ ‵ ((Br E).own_val base (base_vals E base)) ⊛ ‵ (usize.own_val k (uint_vals w64 k)) ⊛ ‵ ((R E).own_val x (v ∷ [])) ⊛ ‵ ftrue))
     ∷ (raw (fact 𝓤 (κs.1.0 ⊑ X.lives)) ⊛ raw (fact 𝓤 Asks)) ∷ []) ∵
     split ! $ move ! (2 ∷ []) $ split ! $ heard ! (κs.1.0 ⊑ X.lives) (λ lives. heard ! Asks (λ asked.
     split ! $ move ! (2 ∷ []) $ split ! $ fsplit3 ! $ move ! (3 ∷ []) $ split ! $ move ! (1 ∷ []) $ split ! $ move ! (1 ∷ []) $ split ! $
@@ -41,7 +47,8 @@ write_spec 𝓤 𝓛 𝓜 𝓡 wired X LX =
     in_a_block ! d.start (λ (p : Ptr). row_owned (R E) p ps) (id⊢ 𝓤 _) (λ b o e. fsplit ! $ flt_l ! (λ small.
     let far : k * s < 2 ^ 64 = begins_below k (length ps) s (omega (arith, within)) small in let at : ℕ = k * s + o in
     take_at ! 2 $ rewrite ! 0 (λ (p : Ptr). ‵ (fat full_share (layout (Br E)) (l 2) 0 (word p))) (asked.0 ∙ e) refl $ give_at ! 2 $ first ! $ blocks ! $
-    sets ! (is ! (bin ! (get ! refl) (size_word !) (record { fits = subst (λ (n : ℕ). n < 2 ^ 64) (sym (uncapped k s far)) far })) (ap (vint w64) (uncapped k s far))) refl (tt, record { fits = far }) $
+    sets ! (is ! (bin ! (get ! refl) (size_word !) (record { fits = subst (λ (n : ℕ). n < 2 ^ 64) (sym (uncapped k s far)) far })) (ap (vint w64) (uncapped k s far))) refl
+    (tt, record { fits = far }) $
     sets ! (bin ! (get_in ! (fld ! refl (stop !)) (sub ! 0 refl (whole !))) (get ! refl) tt) refl (tt, tt) $
     use1 𝓛 (‵ (place_owned (R E) b at (get_or ps k None)) ⊛ ‵ (gap_owned (R E) b o ps k)) (taken_out E 𝓛 b ps k o within) $ split ! $
     rewrite ! 0 (λ (p : Option (el_x E)). ‵ (place_owned (R E) b at p)) asked.2 refl $ as_written ! (elτ E) b at $

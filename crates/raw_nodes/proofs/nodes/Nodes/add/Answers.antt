@@ -10,7 +10,8 @@ pub swap-old-requires : goal.swap-old-requires
 unfolding place
 swap-old-requires g c =
     let s = c.args.self.now in
-    ap (λ (o : Option (Block (Node g.row.T.Denot))). is_some (place o s.free)) (sym c.in-Some.is) ∙ is_free (place s.block s.free) (first_free (place s.block) s.free s.spare (size s.block) s.listed c.requires)
+    ap (λ (o : Option (Block (Node g.row.T.Denot))). is_some (place o s.free)) (sym c.in-Some.is)
+    ∙ is_free (place s.block s.free) (first_free (place s.block) s.free s.spare (size s.block) s.listed c.requires)
 
 pub invariant_of-self : goal.invariant_of-self
 invariant_of-self g c =

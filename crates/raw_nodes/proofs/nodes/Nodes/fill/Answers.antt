@@ -14,4 +14,5 @@ pub returns-clause-at : goal.returns-clause-at
 unfolding node_at
 returns-clause-at g c =
     let s = c.args.self.now in
-    (changed s.block c.in-Some.block c.write_load.new.block c.args.k s.free s.spare (λ n. record n { ring = c.args.ring; load = Bucket c.args.bucket }) c.in-Some.is s.listed c.requires c.write_load.ensures.at c.write_load.ensures.len (λ n h. refl)).1
+    (changed s.block c.in-Some.block c.write_load.new.block c.args.k s.free s.spare
+    (λ n. record n { ring = c.args.ring; load = Bucket c.args.bucket }) c.in-Some.is s.listed c.requires c.write_load.ensures.at c.write_load.ensures.len (λ n h. refl)).1

@@ -13,7 +13,8 @@ pub list_free-self-requires-clause-listed : goal.list_free-self-requires-clause-
 list_free-self-requires-clause-listed g c =
     let s = c.args.self.now in
     subst (λ n. IsListed (at c.move_all.new.larger) s.free s.spare n) (sym c.size-len.ensures.value)
-    (listed_as (place s.block) (at c.move_all.new.larger) s.free s.spare (size s.block) (λ k. c.move_all.ensures.at k ∙ ap (λ (o : Option (Block (Node g.row.T.Denot))). place o k) c.take-2.ensures.value) s.listed)
+    (listed_as (place s.block) (at c.move_all.new.larger) s.free s.spare (size s.block)
+    (λ k. c.move_all.ensures.at k ∙ ap (λ (o : Option (Block (Node g.row.T.Denot))). place o k) c.take-2.ensures.value) s.listed)
 
 pub overflow_add-self : goal.overflow_add-self
 overflow_add-self g c =

@@ -12,4 +12,5 @@ pub returns-in-Some-clause-at : goal.returns-in-Some-clause-at
 unfolding node_at
 returns-in-Some-clause-at g c =
     let s = c.args.self.now in
-    (changed s.block c.in-Some.block c.write_before.new.block c.args.k s.free s.spare (λ n. record n { before = c.args.to }) c.in-Some.is s.listed c.requires c.write_before.ensures.at c.write_before.ensures.len (λ n h. h)).1
+    (changed s.block c.in-Some.block c.write_before.new.block c.args.k s.free s.spare
+    (λ n. record n { before = c.args.to }) c.in-Some.is s.listed c.requires c.write_before.ensures.at c.write_before.ensures.len (λ n h. h)).1

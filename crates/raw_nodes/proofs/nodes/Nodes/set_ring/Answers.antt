@@ -12,4 +12,5 @@ pub returns-in-Some-clause-at : goal.returns-in-Some-clause-at
 unfolding node_at
 returns-in-Some-clause-at g c =
     let s = c.args.self.now in
-    (changed s.block c.in-Some.block c.write_ring.new.block c.args.k s.free s.spare (λ n. record n { ring = c.args.ring }) c.in-Some.is s.listed c.requires c.write_ring.ensures.at c.write_ring.ensures.len (λ n h. h)).1
+    (changed s.block c.in-Some.block c.write_ring.new.block c.args.k s.free s.spare
+    (λ n. record n { ring = c.args.ring }) c.in-Some.is s.listed c.requires c.write_ring.ensures.at c.write_ring.ensures.len (λ n h. h)).1

@@ -15,7 +15,8 @@ loop-slot-preserved c = elim c.match-slot.branch [
       | inr new ↦ inr (c.loop-slot.slot-index, ap name_in w.in-Made.is ∙ ap (λ (m : ℕ). Some m) new)
     ];
     kept = λ n e. ap (is_in n) now ∙ pushed_kept n w.in-Made.name c.loop-slot.names.items (c.loop-slot.invariant.kept n e);
-    named = slots_pushed c.args.self.now.slots c.loop-slot.slot-index w.in-Made.name w.in-Made.field-1 w.in-Made.field-2 c.loop-slot.names.items c.match-slot.names.items w.in-Made.is now c.loop-slot.invariant.named;
+    named = slots_pushed c.args.self.now.slots c.loop-slot.slot-index w.in-Made.name w.in-Made.field-1 w.in-Made.field-2 c.loop-slot.names.items c.match-slot.names.items w.in-Made.is now
+        c.loop-slot.invariant.named;
   })
   | in_default w ↦ (let same = ap (λ (v : Vec ℕ). v.items) w.names-is in record {
     only = λ n e. c.loop-slot.invariant.only n (sym (ap (is_in n) same) ∙ e);

@@ -8,4 +8,5 @@ returns-then-not-is_checked-clause-ok c = λ h ready.
 
 pub returns-in-Ok-clause-ok : goal.returns-in-Ok-clause-ok
 returns-in-Ok-clause-ok c = λ h ready.
-    begun_checked c.in_ok-session.field-0 _ c.args.out.now.items c.args.self.now.stage c.in-Texts.texts h c.in-Ok.session c.args.is_checked (cc) ready c.if-not-is_checked.false c.in-Ok.is c.in_ok-session.ensures.accepted refl
+    begun_checked c.in_ok-session.field-0 _ c.args.out.now.items c.args.self.now.stage c.in-Texts.texts h c.in-Ok.session c.args.is_checked
+    (cc) ready c.if-not-is_checked.false c.in-Ok.is c.in_ok-session.ensures.accepted refl

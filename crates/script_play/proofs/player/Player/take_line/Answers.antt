@@ -7,17 +7,20 @@ use Rattle.script_play.proofs.player.Player.take_line.Goals as goal
 
 pub begin-requires : goal.begin-requires
 begin-requires c =
-    let k = heard c.args.self.now _ c.in-Texts.texts c.take.new.self _ taken.Checked c.args.out.now.items c.take.new.out.items c.requires.at.0 c.requires.few (cc) c.requires.at.1 c.in-Checked.is c.in_ok-take.ensures.ok in
+    let k = heard c.args.self.now _ c.in-Texts.texts c.take.new.self _ taken.Checked c.args.out.now.items c.take.new.out.items c.requires.at.0 c.requires.few
+    (cc) c.requires.at.1 c.in-Checked.is c.in_ok-take.ensures.ok in
     record { ready = (head_of c.take.new.self, heard_ready _ _ _ _ _ _ _ k) }
 
 pub begin-requires-in-Command : goal.begin-requires-in-Command
 begin-requires-in-Command c =
-    let k = heard c.args.self.now _ c.in-Texts.texts c.take.new.self _ taken.Command c.args.out.now.items c.take.new.out.items c.requires.at.0 c.requires.few (cc) c.requires.at.1 c.in-Command.is c.in_ok-take.ensures.ok in
+    let k = heard c.args.self.now _ c.in-Texts.texts c.take.new.self _ taken.Command c.args.out.now.items c.take.new.out.items c.requires.at.0 c.requires.few
+    (cc) c.requires.at.1 c.in-Command.is c.in_ok-take.ensures.ok in
     record { ready = (head_of c.take.new.self, heard_begun _ _ _ _ _ _ _ k) }
 
 pub take_command-requires-in-Command : goal.take_command-requires-in-Command
 take_command-requires-in-Command c =
-    let k = heard c.args.self.now _ c.in-Texts.texts c.take.new.self _ taken.Command c.args.out.now.items c.take.new.out.items c.requires.at.0 c.requires.few (cc) c.requires.at.1 c.in-Command.is c.in_ok-take.ensures.ok in
+    let k = heard c.args.self.now _ c.in-Texts.texts c.take.new.self _ taken.Command c.args.out.now.items c.take.new.out.items c.requires.at.0 c.requires.few
+    (cc) c.requires.at.1 c.in-Command.is c.in_ok-take.ensures.ok in
     let b = c.in_ok-begin-in-Command.ensures.ok (head_of c.take.new.self) (heard_begun _ _ _ _ _ _ _ k) in
     record { begun = (b.stage, b.at, (begun_by _ (head_of c.take.new.self) _ _ b).0) }
 
@@ -38,12 +41,14 @@ returns-in-Checked-clause-ok c = λ s at.
 
 pub returns-in-Checked-clause-err : goal.returns-in-Checked-clause-err
 returns-in-Checked-clause-err c =
-    let k = heard c.args.self.now _ c.in-Texts.texts c.take.new.self _ taken.Checked c.args.out.now.items c.take.new.out.items c.requires.at.0 c.requires.few (cc) c.requires.at.1 c.in-Checked.is c.in_ok-take.ensures.ok in
+    let k = heard c.args.self.now _ c.in-Texts.texts c.take.new.self _ taken.Checked c.args.out.now.items c.take.new.out.items c.requires.at.0 c.requires.few
+    (cc) c.requires.at.1 c.in-Checked.is c.in_ok-take.ensures.ok in
     on_err_weaker c.begin.result (λ e. e ∙ heard_quiet _ _ _ _ _ _ _ k) c.begin.ensures.err
 
 pub returns-in_err-begin-in-Command-clause-err : goal.returns-in_err-begin-in-Command-clause-err
 returns-in_err-begin-in-Command-clause-err c =
-    let k = heard c.args.self.now _ c.in-Texts.texts c.take.new.self _ taken.Command c.args.out.now.items c.take.new.out.items c.requires.at.0 c.requires.few (cc) c.requires.at.1 c.in-Command.is c.in_ok-take.ensures.ok in
+    let k = heard c.args.self.now _ c.in-Texts.texts c.take.new.self _ taken.Command c.args.out.now.items c.take.new.out.items c.requires.at.0 c.requires.few
+    (cc) c.requires.at.1 c.in-Command.is c.in_ok-take.ensures.ok in
     on_err_any c.from_residual-in_err-begin-in-Command.result (c.in_err-begin-in-Command.ensures.err ∙ heard_still _ _ _ _ _ _ _ k)
 
 pub returns-in_ok-begin-in-Command-clause-ok : goal.returns-in_ok-begin-in-Command-clause-ok
@@ -55,6 +60,7 @@ returns-in_ok-begin-in-Command-clause-ok c = λ s at.
 
 pub returns-in_ok-begin-in-Command-clause-err : goal.returns-in_ok-begin-in-Command-clause-err
 returns-in_ok-begin-in-Command-clause-err c =
-    let k = heard c.args.self.now _ c.in-Texts.texts c.take.new.self _ taken.Command c.args.out.now.items c.take.new.out.items c.requires.at.0 c.requires.few (cc) c.requires.at.1 c.in-Command.is c.in_ok-take.ensures.ok in
+    let k = heard c.args.self.now _ c.in-Texts.texts c.take.new.self _ taken.Command c.args.out.now.items c.take.new.out.items c.requires.at.0 c.requires.few
+    (cc) c.requires.at.1 c.in-Command.is c.in_ok-take.ensures.ok in
     let b = c.in_ok-begin-in-Command.ensures.ok (head_of c.take.new.self) (heard_begun _ _ _ _ _ _ _ k) in
     on_err_weaker c.take_command-in-Command.result (λ e. e ∙ (begun_by _ (head_of c.take.new.self) _ _ b).1 ∙ heard_still _ _ _ _ _ _ _ k) c.take_command-in-Command.ensures.err

@@ -9,7 +9,8 @@ pub returns-in_ok-put_cert_fault-in-Err-Fault-clause-ok :
 returns-in_ok-put_cert_fault-in-Err-Fault-clause-ok c =
     let fault = c.in-Err-Fault in
     let told = rw fault.field-0-is at fault.ensures.told in
-    cert_over (head_of c.args.self.now) _ fault.line _ _ fault.code c.args.out.now.items _ _ c.as_slice.ensures.value told fault.line-is (c.number.ensures ∙ ap code_number fault.code-is) c.in_ok-put_cert_fault-in-Err-Fault.ensures.ok
+    cert_over (head_of c.args.self.now) _ fault.line _ _ fault.code c.args.out.now.items _ _ c.as_slice.ensures.value told fault.line-is
+    (c.number.ensures ∙ ap code_number fault.code-is) c.in_ok-put_cert_fault-in-Err-Fault.ensures.ok
 
 pub returns-in_ok-give_cert-in-Ok-clause-ok : goal.returns-in_ok-give_cert-in-Ok-clause-ok
 returns-in_ok-give_cert-in-Ok-clause-ok c =

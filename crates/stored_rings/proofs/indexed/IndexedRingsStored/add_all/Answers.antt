@@ -6,7 +6,7 @@ use Rattle.stored_rings.specs.Items.{StoredItems}
 use Rattle.stored_rings.specs.Noted.{is_noted}
 use Rattle.stored_rings.proofs.Lists.{list_on}
 use Rattle.stored_rings.proofs.Noted.{are_kept, fresh_noted, still_there}
-use Rattle.stored_rings.proofs.Passing.{noted_since, joined_in}
+use Rattle.stored_rings.proofs.Tested.{noted_since, joined_in}
 use Rattle.stored_rings.proofs.Walks.{once_listed}
 use Rattle.stored_rings.proofs.indexed.IndexedRingsStored.add_all.Goals as goal
 
@@ -22,7 +22,8 @@ invariant_of-self-2-clause-indexed g c =
     let ok = c.in_ok-add_all.ensures.ok in
     let bs : StoredItems = ok.0 in
     let whole : list_at new ring ≡ list_at old ring ++ bs = list_on ring (λ xs. xs ++ bs) old new ok.2 c.requires in
-    let once : ((i : BucketId) → times i (list_at old ring ++ bs) ≤ 1) = λ i. once_listed ring (g.R.Rings.ring_at rings i) (times i (list_at old ring ++ bs)) (ap (times i) (sym whole) ∙ g.met.R.Rings.counted rings i ring) in
+    let once : ((i : BucketId) → times i (list_at old ring ++ bs) ≤ 1) =
+    λ i. once_listed ring (g.R.Rings.ring_at rings i) (times i (list_at old ring ++ bs)) (ap (times i) (sym whole) ∙ g.met.R.Rings.counted rings i ring) in
     joined_in (noted_since s c.note_ring.new.dependents
     (are_kept (noted c.make_room_for_all.new.dependents) names c.note_ring.ensures.kept old (c.in_ok-make_room_for_all.ensures old s.indexed)))
     rings ring bs

@@ -1,6 +1,6 @@
 use Rattle.bucket_ring.specs.Lists.{put_tail}
 use Rattle.stored_rings.proofs.Noted.{all_tail}
-use Rattle.stored_rings.proofs.Passing.{new_noted}
+use Rattle.stored_rings.proofs.Tested.{new_noted}
 use Rattle.stored_rings.proofs.indexed.IndexedRingsStored.add_tail.Goals as goal
 
 pub invariant_of-self-2-clause-indexed : goal.invariant_of-self-2-clause-indexed

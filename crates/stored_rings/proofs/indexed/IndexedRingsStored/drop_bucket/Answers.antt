@@ -1,4 +1,4 @@
-use Rattle.stored_rings.proofs.Passing.{noted_in, dropped}
+use Rattle.stored_rings.proofs.Tested.{noted_in, dropped}
 use Rattle.stored_rings.proofs.indexed.IndexedRingsStored.drop_bucket.Goals as goal
 
 pub invariant_of-self-clause-indexed : goal.invariant_of-self-clause-indexed

@@ -1,4 +1,4 @@
-use Rattle.stored_rings.proofs.Passing.{noted_in, ended}
+use Rattle.stored_rings.proofs.Tested.{noted_in, ended}
 use Rattle.stored_rings.proofs.indexed.IndexedRingsStored.end_ring.Goals as goal
 
 pub invariant_of-self-clause-indexed : goal.invariant_of-self-clause-indexed

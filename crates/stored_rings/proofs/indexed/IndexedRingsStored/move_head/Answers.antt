@@ -1,6 +1,6 @@
 use Rattle.bucket_ring.specs.Lists.{put_head}
 use Rattle.stored_rings.proofs.Noted.{all_head}
-use Rattle.stored_rings.proofs.Passing.{noted_in, moved}
+use Rattle.stored_rings.proofs.Tested.{noted_in, moved}
 use Rattle.stored_rings.proofs.indexed.IndexedRingsStored.move_head.Goals as goal
 
 pub invariant_of-self-clause-indexed : goal.invariant_of-self-clause-indexed

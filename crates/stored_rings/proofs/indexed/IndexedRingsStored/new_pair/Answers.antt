@@ -5,7 +5,7 @@ use Rattle.stored_rings.specs.Dependents.{noted}
 use Rattle.stored_rings.specs.Items.{StoredItems}
 use Rattle.stored_rings.specs.Noted.{is_noted}
 use Rattle.stored_rings.proofs.Noted.{are_kept, listed_by_found, list_now}
-use Rattle.stored_rings.proofs.Passing.{noted_since, paired}
+use Rattle.stored_rings.proofs.Tested.{noted_since, paired}
 use Rattle.stored_rings.proofs.Walks.{once_listed}
 use Rattle.stored_rings.proofs.indexed.IndexedRingsStored.new_pair.Goals as goal
 
@@ -21,7 +21,8 @@ invariant_of-self-2-clause-indexed g c =
     let bs : StoredItems = ok.0 in
     let first = g.R.Rings.next_name s.rings in
     let second : c.in_ok-first.second ≡ first + 1 = ap (λ (pair : ℕ × ℕ). pair.1) c.in_ok-first.ensures.name in
-    let list_is : (o : Option StoredItems) → o ≡ Some bs → option_map_or (λ (xs : StoredItems). xs) o [] ≡ bs = λ o e. ap (λ (q : Option StoredItems). option_map_or (λ (xs : StoredItems). xs) q []) e in
+    let list_is : (o : Option StoredItems) → o ≡ Some bs
+    → option_map_or (λ (xs : StoredItems). xs) o [] ≡ bs = λ o e. ap (λ (q : Option StoredItems). option_map_or (λ (xs : StoredItems). xs) q []) e in
     let whole : list_at new c.in_ok-first.second ≡ bs = list_is (new c.in_ok-first.second) (ap new second ∙ (ok.2 (first + 1) ∙ list_now (upd old first (Some [])) (first + 1) (Some bs))) in
     paired (noted_since s c.note_ring.new.dependents
     (are_kept (noted c.make_room_for_all.new.dependents) names c.note_ring.ensures.kept old (c.in_ok-make_room_for_all.ensures old s.indexed)))

@@ -4,7 +4,7 @@ use Rattle.stored_rings.specs.Dependents.{noted}
 use Rattle.stored_rings.specs.Noted.{is_noted, place_under}
 use Rattle.stored_rings.proofs.Lists.{some_of}
 use Rattle.stored_rings.proofs.Noted.{are_kept, all_found, noted_item, noted_parts}
-use Rattle.stored_rings.proofs.Passing.{noted_since, replaced}
+use Rattle.stored_rings.proofs.Tested.{noted_since, replaced}
 use Rattle.stored_rings.proofs.indexed.IndexedRingsStored.set_payload.Goals as goal
 
 pub invariant_of-self-clause-indexed : goal.invariant_of-self-clause-indexed

@@ -1,4 +1,4 @@
-use Rattle.stored_rings.proofs.Passing.{noted_in, spliced_from}
+use Rattle.stored_rings.proofs.Tested.{noted_in, spliced_from}
 use Rattle.stored_rings.proofs.indexed.IndexedRingsStored.splice_from.Goals as goal
 
 pub invariant_of-self-clause-indexed : goal.invariant_of-self-clause-indexed

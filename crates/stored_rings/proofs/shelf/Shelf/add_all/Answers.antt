@@ -3,7 +3,7 @@ use Rattle.bucket_ring.specs.Lists.{numbered}
 use Rattle.stored_rings.specs.Regions.{look}
 use Rattle.stored_rings.specs.Shelf.{seen}
 use Rattle.stored_rings.specs.Shown.{shown_items}
-use Rattle.stored_rings.proofs.Passing.{held_in, by_result, joined_in}
+use Rattle.stored_rings.proofs.Tested.{held_in, by_result, joined_in}
 use Rattle.stored_rings.proofs.Seen.{joined_seen}
 use Rattle.stored_rings.proofs.Shown.{brought_held, brought_shown, ok_then, on_cong}
 use Rattle.stored_rings.proofs.shelf.Shelf.add_all.Goals as goal
@@ -26,6 +26,7 @@ returns-clause-ok g c =
     ok_then _ _ c.add_all.result c.add_all.ensures.ok
     (λ ok. (
       shown_items see ok.0,
-      brought_shown see _ ok.0 c.in_ok-kept.kept.items c.args.given.items (ok.1 ∙ ap (λ r. numbered (g.R.Rings.next_name r.rings) c.in_ok-kept.kept.items) c.hold_all.ensures.rings) c.in_ok-kept.ensures.shown,
+      brought_shown see _ ok.0 c.in_ok-kept.kept.items c.args.given.items
+          (ok.1 ∙ ap (λ r. numbered (g.R.Rings.next_name r.rings) c.in_ok-kept.kept.items) c.hold_all.ensures.rings) c.in_ok-kept.ensures.shown,
       λ n. joined_seen s c.add_all.new.self.rings c.args.ring ok.0 ok.2 n ∙ on_cong c.args.ring (λ ys. ys ++ shown_items see ok.0) (seen s) (seen c.args.self.now) c.hold_all.ensures.same n,
     ))

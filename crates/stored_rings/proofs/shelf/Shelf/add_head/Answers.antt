@@ -1,7 +1,7 @@
 use Rattle.bucket_ring.specs.Lists.{put_head}
 use Rattle.stored_rings.specs.Shelf.{seen}
 use Rattle.stored_rings.proofs.Noted.{both, all_head}
-use Rattle.stored_rings.proofs.Passing.{held_in, added}
+use Rattle.stored_rings.proofs.Tested.{held_in, added}
 use Rattle.stored_rings.proofs.Shown.{head_shown}
 use Rattle.stored_rings.proofs.Seen.{added_seen}
 use Rattle.stored_rings.proofs.shelf.Shelf.add_head.Goals as goal

@@ -1,6 +1,6 @@
 use Rattle.std.proofs.Common.{[], refl}
 use Rattle.stored_rings.specs.Shelf.{seen}
-use Rattle.stored_rings.proofs.Passing.{held_in, emptied}
+use Rattle.stored_rings.proofs.Tested.{held_in, emptied}
 use Rattle.stored_rings.proofs.Seen.{on_seen}
 use Rattle.stored_rings.proofs.shelf.Shelf.drop_all.Goals as goal
 

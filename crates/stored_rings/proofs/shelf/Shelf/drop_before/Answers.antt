@@ -31,7 +31,8 @@ loop-first-preserved g c =
       out = λ n. on_after b n (without first) (rest id) (rest id) (seen s) (seen new) change kept ∙ c.loop-first.invariant.out n;
       inside = in_found new id b (ap (λ ys. is_some (payload_of ys)) (ap (rest id) left ∙ kept) ∙ found_in s id b c.loop-first.invariant.inside);
       next = c.drop_bucket.ensures.next ∙ c.loop-first.invariant.next;
-      names = none_revived_twice (g.R.Rings.ring_at c.args.self.now.rings.rings) (g.R.Rings.ring_at s.rings.rings) (g.R.Rings.ring_at new.rings.rings) (g.R.Rings.next_name c.args.self.now.rings.rings) (g.R.Rings.next_name s.rings.rings)
+      names = none_revived_twice (g.R.Rings.ring_at c.args.self.now.rings.rings) (g.R.Rings.ring_at s.rings.rings) (g.R.Rings.ring_at new.rings.rings)
+          (g.R.Rings.next_name c.args.self.now.rings.rings) (g.R.Rings.next_name s.rings.rings)
           (omega (arith, c.loop-first.invariant.next)) c.loop-first.invariant.names c.drop_bucket.ensures.names;
     }
 

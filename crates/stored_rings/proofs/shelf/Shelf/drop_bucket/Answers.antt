@@ -1,7 +1,7 @@
 use Rattle.bucket_ring.specs.Lists.{without}
 use Rattle.stored_rings.specs.Regions.{look}
 use Rattle.stored_rings.specs.Shelf.{seen}
-use Rattle.stored_rings.proofs.Passing.{held_in, dropped}
+use Rattle.stored_rings.proofs.Tested.{held_in, dropped}
 use Rattle.stored_rings.proofs.Shown.{without_shown}
 use Rattle.stored_rings.proofs.Seen.{on_seen}
 use Rattle.stored_rings.proofs.shelf.Shelf.drop_bucket.Goals as goal

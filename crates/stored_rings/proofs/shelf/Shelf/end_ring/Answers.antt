@@ -1,6 +1,6 @@
 use Rattle.std.proofs.Common.{None}
 use Rattle.stored_rings.specs.Shelf.{seen}
-use Rattle.stored_rings.proofs.Passing.{held_in, ended}
+use Rattle.stored_rings.proofs.Tested.{held_in, ended}
 use Rattle.stored_rings.proofs.Seen.{upd_seen}
 use Rattle.stored_rings.proofs.shelf.Shelf.end_ring.Goals as goal
 

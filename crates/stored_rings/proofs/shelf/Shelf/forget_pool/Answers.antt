@@ -11,7 +11,8 @@ invariant_of-self g c =
     let see = look c.args.self.now.regions in
     let rings = c.forget.new.self in
     record {
-      whole = freed_whole (noted rings.dependents) see (look c.free.new.self) c.args.pool c.free.ensures.others (none_noted rings.dependents c.args.pool (c.has_none.ensures.none c.if-has_none.true) (c.has_none.ensures.kept c.if-has_none.true)) (g.R.Rings.lists rings.rings) rings.indexed
+      whole = freed_whole (noted rings.dependents) see (look c.free.new.self) c.args.pool c.free.ensures.others
+          (none_noted rings.dependents c.args.pool (c.has_none.ensures.none c.if-has_none.true) (c.has_none.ensures.kept c.if-has_none.true)) (g.R.Rings.lists rings.rings) rings.indexed
           (subst (λ r. AreHeld see (g.R.Rings.lists r)) (sym c.forget.ensures.rings) c.args.self.now.whole);
     }
 
@@ -21,6 +22,7 @@ returns-then-has_none-clause-same g c =
     let see = look c.args.self.now.regions in
     let rings = c.forget.new.self in
     λ n.
-    freed_seen (noted rings.dependents) see (look c.free.new.self) c.args.pool c.free.ensures.others (none_noted rings.dependents c.args.pool (c.has_none.ensures.none c.if-has_none.true) (c.has_none.ensures.kept c.if-has_none.true)) (g.R.Rings.lists rings.rings) rings.indexed
+    freed_seen (noted rings.dependents) see (look c.free.new.self) c.args.pool c.free.ensures.others
+    (none_noted rings.dependents c.args.pool (c.has_none.ensures.none c.if-has_none.true) (c.has_none.ensures.kept c.if-has_none.true)) (g.R.Rings.lists rings.rings) rings.indexed
     (subst (λ r. AreHeld see (g.R.Rings.lists r)) (sym c.forget.ensures.rings) c.args.self.now.whole) n
     ∙ ap (λ r. all_shown see (g.R.Rings.lists r) n) c.forget.ensures.rings

@@ -13,7 +13,8 @@ loop-bucket-preserved g c =
     let now = look c.hold.new.self.regions in
     let told = c.in_ok-stored.ensures in
     let before = c.loop-bucket.invariant in
-    let more = held_more (look c.loop-bucket.self.regions) now told.kept c.loop-bucket.held.items c.in_ok-stored.stored c.loop-bucket.yielded c.in-Some.bucket before.held before.shown told.shown (both told.whole told.lies) in
+    let more = held_more (look c.loop-bucket.self.regions) now told.kept c.loop-bucket.held.items c.in_ok-stored.stored c.loop-bucket.yielded c.in-Some.bucket before.held before.shown told.shown
+    (both told.whole told.lies) in
     record {
       shown = ap (λ (xs : List Stored). map (shown now) xs) c.in_ok-push.ensures.items ∙ more.0;
       held = ap (λ (xs : List Stored). list_all (is_held now) xs) c.in_ok-push.ensures.items ∙ more.1;

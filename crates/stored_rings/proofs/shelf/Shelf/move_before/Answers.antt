@@ -1,5 +1,5 @@
 use Rattle.stored_rings.specs.Shelf.{seen}
-use Rattle.stored_rings.proofs.Passing.{held_in, moved_before}
+use Rattle.stored_rings.proofs.Tested.{held_in, moved_before}
 use Rattle.stored_rings.proofs.Seen.{before_seen}
 use Rattle.stored_rings.proofs.shelf.Shelf.move_before.Goals as goal
 

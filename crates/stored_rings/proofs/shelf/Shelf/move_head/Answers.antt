@@ -1,7 +1,7 @@
 use Rattle.bucket_ring.specs.Lists.{put_head}
 use Rattle.stored_rings.specs.Shelf.{seen}
 use Rattle.stored_rings.proofs.Noted.{all_head}
-use Rattle.stored_rings.proofs.Passing.{held_in, moved}
+use Rattle.stored_rings.proofs.Tested.{held_in, moved}
 use Rattle.stored_rings.proofs.Shown.{head_shown}
 use Rattle.stored_rings.proofs.Seen.{moved_seen}
 use Rattle.stored_rings.proofs.shelf.Shelf.move_head.Goals as goal

@@ -3,7 +3,7 @@ use Rattle.bucket_ring.specs.Lists.{upd, numbered}
 use Rattle.stored_rings.specs.Regions.{look}
 use Rattle.stored_rings.specs.Shelf.{seen}
 use Rattle.stored_rings.specs.Shown.{shown_items}
-use Rattle.stored_rings.proofs.Passing.{held_in, by_result, paired}
+use Rattle.stored_rings.proofs.Tested.{held_in, by_result, paired}
 use Rattle.stored_rings.proofs.Seen.{paired_seen}
 use Rattle.stored_rings.proofs.Shown.{brought_held, brought_shown, ok_then, upd_cong}
 use Rattle.stored_rings.proofs.shelf.Shelf.new_pair.Goals as goal

@@ -1,6 +1,6 @@
 use Rattle.std.proofs.Common.{Some, []}
 use Rattle.stored_rings.specs.Shelf.{seen}
-use Rattle.stored_rings.proofs.Passing.{held_in, begun}
+use Rattle.stored_rings.proofs.Tested.{held_in, begun}
 use Rattle.stored_rings.proofs.Shown.{if_ok_then}
 use Rattle.stored_rings.proofs.Seen.{upd_seen}
 use Rattle.stored_rings.proofs.shelf.Shelf.new_ring.Goals as goal

@@ -7,7 +7,7 @@ use Rattle.stored_rings.specs.Shown.{held_item}
 use Rattle.bucket_kinds.specs.Stored.{shown}
 use Rattle.stored_rings.proofs.Lists.{some_of}
 use Rattle.stored_rings.proofs.Noted.{both, all_found}
-use Rattle.stored_rings.proofs.Passing.{held_in, replaced}
+use Rattle.stored_rings.proofs.Tested.{held_in, replaced}
 use Rattle.stored_rings.proofs.Shown.{stored_found, set_shown}
 use Rattle.stored_rings.proofs.Seen.{on_seen}
 use Rattle.stored_rings.proofs.shelf.Shelf.put.Goals as goal
@@ -21,7 +21,8 @@ invariant_of-self g c = record {
 
 pub returns-clause-had : goal.returns-clause-had
 unfolding seen
-returns-clause-had g c r at = stored_found (look c.args.self.now.regions) (g.R.Rings.lists c.args.self.now.rings.rings) (g.R.Rings.lists c.args.self.now.rings.rings) r c.args.id c.set_payload.result (c.set_payload.ensures.had r at)
+returns-clause-had g c r at = stored_found (look c.args.self.now.regions) (g.R.Rings.lists c.args.self.now.rings.rings)
+    (g.R.Rings.lists c.args.self.now.rings.rings) r c.args.id c.set_payload.result (c.set_payload.ensures.had r at)
 
 had : (g : _) (c : After-set_payload g) → held_item (look c.args.self.now.regions) (c.args.id, c.set_payload.result) ≡ true
 had g c =

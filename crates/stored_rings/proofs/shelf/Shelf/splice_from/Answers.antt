@@ -1,5 +1,5 @@
 use Rattle.stored_rings.specs.Shelf.{seen}
-use Rattle.stored_rings.proofs.Passing.{held_in, spliced_from}
+use Rattle.stored_rings.proofs.Tested.{held_in, spliced_from}
 use Rattle.stored_rings.proofs.Seen.{cut_seen}
 use Rattle.stored_rings.proofs.shelf.Shelf.splice_from.Goals as goal
 

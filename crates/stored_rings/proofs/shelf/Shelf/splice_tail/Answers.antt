@@ -1,5 +1,5 @@
 use Rattle.stored_rings.specs.Shelf.{seen}
-use Rattle.stored_rings.proofs.Passing.{held_in, spliced}
+use Rattle.stored_rings.proofs.Tested.{held_in, spliced}
 use Rattle.stored_rings.proofs.Seen.{spliced_seen}
 use Rattle.stored_rings.proofs.shelf.Shelf.splice_tail.Goals as goal
 

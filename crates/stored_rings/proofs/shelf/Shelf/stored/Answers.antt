@@ -12,7 +12,8 @@ use Rattle.stored_rings.proofs.shelf.Shelf.stored.Goals.{After-payload}
 
 pub returns-clause-shown : goal.returns-clause-shown
 unfolding seen
-returns-clause-shown g c r at = stored_found (look c.args.self.now.regions) (g.R.Rings.lists c.args.self.now.rings.rings) (g.R.Rings.lists c.args.self.now.rings.rings) r c.args.id c.payload.result.now (c.payload.ensures r at)
+returns-clause-shown g c r at =
+    stored_found (look c.args.self.now.regions) (g.R.Rings.lists c.args.self.now.rings.rings) (g.R.Rings.lists c.args.self.now.rings.rings) r c.args.id c.payload.result.now (c.payload.ensures r at)
 
 held : (g : _) (c : After-payload g) → held_item (look c.args.self.now.regions) (c.args.id, c.payload.result.now) ≡ true
 held g c =

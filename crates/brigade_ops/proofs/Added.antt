@@ -1,0 +1,18 @@
+-- What is done to a store once there is room in it, as it is seen from the store that was.
+use Rattle.std.proofs.Common.{◌≡◌, ℕ, Option, is_some, sym, ap, subst, ◌<◌, ◌∙◌}
+use Rattle.bucket_ring.specs.declared.names.BucketId.{BucketId}
+use Rattle.bucket_ring.specs.Kept.{NoneRevived}
+use Rattle.bucket_ring.specs.Lists.{on}
+use Rattle.run_model.specs.declared.bucket.Bucket.{Bucket}
+use Rattle.stored_rings.specs.Items.{Item, Items}
+use Rattle.stored_rings.proofs.Shown.{on_cong}
+
+-- a bucket that is put in, and is seen as another one
+pub added : (b n : ℕ) (put : Item → Items → Items) (id : BucketId) (x y : Bucket) (old roomy : ℕ → Option Items) → x ≡ y → ((m : ℕ) → roomy m ≡ old m)
+    → on b (put (id, x)) roomy n ≡ on b (put (id, y)) old n
+added b n put id x y old roomy is same = ap (λ (z : Bucket). on b (put (id, z)) roomy n) is ∙ on_cong b (put (id, y)) roomy old same n
+
+-- no name comes to life
+pub none_since : (old roomy new : BucketId → Option ℕ) (n m : ℕ) → ((id : BucketId) → roomy id ≡ old id) → m ≡ n → NoneRevived roomy new m
+    → NoneRevived old new n
+none_since old roomy new n m same next names id there young = ap is_some (sym (same id)) ∙ names id there (subst (λ (k : ℕ). id.birth < k) (sym next) young)

@@ -1,0 +1,106 @@
+//! What an effect does that neither clears a pool nor reads.
+
+ghost use Rattle.std.specs.Prelude.{◌≡◌, ◌≤◌, ◌<◌, true, false, length, IsOk, OnOk, OnErr};
+ghost use Rattle.module_code.specs.Program.{fits};
+ghost use Rattle.bucket_kinds.specs.Device.{Device};
+ghost use Rattle.run_model.specs.Steps.{Choice, do_effect};
+ghost use Rattle.pool_tree.specs.Tree.{map_of};
+ghost use Rattle.brigade_ops.specs.House.{IsHouse, AreOpen};
+ghost use Rattle.brigade_ops.specs.Store.{references, next_name};
+ghost use Rattle.ring_run.specs.Apart.{keeps_files_by};
+ghost use Rattle.ring_calls.specs.Around.{Around};
+ghost use Rattle.ring_run.specs.CarriedOut.{KeepNames};
+ghost use Rattle.ring_calls.specs.EffectNeeds.{HasNoFault, instr_with};
+ghost use Rattle.ring_run.specs.Grows.{grows_by};
+ghost use Rattle.ring_calls.specs.Ends.{EndInFiles, FitKinds};
+ghost use Rattle.ring_calls.specs.Given.{RangesOpen};
+ghost use Rattle.ring_calls.specs.Held.{IsHeld};
+ghost use Rattle.ring_calls.specs.LeftAlone.{LeavesRest};
+ghost use Rattle.ring_calls.specs.Seen.{seen};
+ghost use Rattle.ring_calls.specs.Setting.{in_setting};
+
+use crate::aside_steps::aside;
+use crate::creates::create;
+use crate::execute_on_store::execute_on_store;
+use crate::live_pools::live_pool;
+use crate::pool_steps::{create_pool, label, unlabel};
+use crate::saves::save;
+use brigade_ops::{Brigades, PoolTree, Rings, Stored};
+use ring_calls::machine::{Call, Instance};
+use ring_calls::outside::Outside;
+use ring_calls::setting::Setting;
+use run_model::{Effect, Module, Payload};
+use std::alloc::{AllocError, Global};
+
+/// What an effect does that neither clears a pool nor reads, where there is no fault. Without memory, and where the names are spent, nothing
+/// is changed.
+#[tactic(auto, using(ring_calls::proofs::LeftAlone::rest_none, crate::proofs::CarriedOut::names_same))]
+#[inline(always)]
+pub(crate) fn execute_without_files<R: Rings<Stored> + Drop>(
+    alloc: Global,
+    code: &Module,
+    instance: &mut Instance,
+    call: &mut Call,
+    setting: &Setting<'_>,
+    tree: &mut PoolTree<Payload>,
+    store: &mut Brigades<R>,
+    effect: Effect,
+) -> Result<(), AllocError>
+    requires fit { fits code.now (instr_with effect) ≡ true }
+    requires few { length code.now.brigades ≤ 8 }
+    requires pools { length code.now.pools ≤ 8 }
+    requires kind { keeps_files_by effect ≡ true }
+    requires held { IsHeld store.old instance.old call.old }
+    requires runs { 0 < call.old.name }
+    requires house { IsHouse store.old (map_of tree.old) }
+    requires fits { FitKinds store.old instance.old }
+    requires ends { EndInFiles store.old instance.old }
+    requires faultless { (around : Around) → HasNoFault code.now store.old (in_setting setting.now (map_of tree.old) around) instance.old call.old effect }
+    ensures ok { OnOk result ((around : Around) (choice : Choice) → let r = seen store.old (in_setting setting.now (map_of tree.old) around) instance.old call.old in
+        seen store.new (in_setting setting.now (map_of tree.new) around) instance.new call.new ≡ do_effect code.now choice effect r) }
+    ensures err { OnErr result ((around : Around)
+        → seen store.new (record around { pools = map_of tree.new }) instance.new call.new
+        ≡ seen store.old (record around { pools = map_of tree.old }) instance.old call.old) }
+    ensures sure { (around : Around) → let r = seen store.old (in_setting setting.now (map_of tree.old) around) instance.old call.old in grows_by r effect ≡ false → IsOk result }
+    ensures held { IsHeld store.new instance.new call.new }
+    ensures house { IsHouse store.new (map_of tree.new) }
+    ensures open { (d : Device) → ((around : Around) → RangesOpen d (seen store.old (in_setting setting.now (map_of tree.old) around) instance.old call.old))
+        → AreOpen (references store.old) d → AreOpen (references store.new) d }
+    ensures name { call.new.name ≡ call.old.name }
+    ensures slots { KeepNames (next_name store.old) (next_name store.new) instance.old instance.new }
+    ensures left { LeavesRest store.old store.new instance.old call.old }
+    ensures tree_unasked { tree.new.asked ≡ tree.old.asked }
+{
+    match effect {
+        Effect::MakePool(q) => {
+            let parent = live_pool(instance, tree, setting, code.pool_parent(q));
+            create_pool(instance, tree, q, parent)
+        }
+        Effect::Register(pool, text) => {
+            let on = live_pool(instance, tree, setting, pool);
+            label(alloc, code, tree, on, text)
+        }
+        Effect::Kill(pool, text) => {
+            let on = live_pool(instance, tree, setting, pool);
+            Ok(unlabel(code, tree, on, text))
+        }
+        Effect::MakeBrigade(o) => {
+            let on = live_pool(instance, tree, setting, code.brigade_pool(o));
+            create(instance, tree, store, o, on)
+        }
+        Effect::Save(o, b) => save(instance, tree, store, o, b),
+        Effect::Aside(c, pool) => {
+            let to = live_pool(instance, tree, setting, pool);
+            aside(instance, call, tree, store, c, to)
+        }
+        _ => {
+            let outside = Outside {
+                tree,
+                conn: setting.conn,
+                req: setting.req,
+                waits: setting.waits,
+            };
+            execute_on_store(alloc, code, instance, call, &outside, store, effect)
+        }
+    }
+}
