@@ -9,6 +9,7 @@ pub mod Kept
 pub mod Taken
 pub mod Read
 pub mod Heads
+pub mod HeadTables
 pub mod Batches
 pub mod Rewritten
 pub mod Short

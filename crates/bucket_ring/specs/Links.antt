@@ -1,7 +1,6 @@
 -- What stands in the rings, read along the links.
-use Rattle.std.specs.Prelude.{◌≡◌, ◌≢◌, ◌≤◌, ℕ, is_some, nat_eq, Bool, true, false, if◌then◌else◌, Option, None, Some, List, [], ◌∷◌}
+use Rattle.std.specs.Prelude.{◌≡◌, ◌≢◌, ◌≤◌, ℕ, is_some, Bool, true, false, if◌then◌else◌, Option, None, Some, List, [], ◌∷◌}
 use Rattle.std.specs.Option.{option_map, option_map_or, option_and_then}
-use Rattle.std.specs.HashMap.{get as get_head}
 use Rattle.raw_nodes.specs.declared.node.SlotBucket.{SlotBucket}
 use Rattle.raw_nodes.specs.declared.node.Node.{Node}
 use Rattle.raw_nodes.specs.Loads.{bucket_in}
@@ -11,6 +10,7 @@ use Rattle.bucket_ring.specs.declared.links.Position.TheVariants.{Tail, Head as 
 use Rattle.bucket_ring.specs.declared.links.RingHead.{RingHead}
 use Rattle.bucket_ring.specs.declared.links.Links.{Links}
 use Rattle.bucket_ring.specs.declared.slots.Slots.{Ghosts}
+use Rattle.bucket_ring.specs.HeadTable.{head_in}
 use Rattle.bucket_ring.specs.Lists.{upd, same}
 use Rattle.bucket_ring.specs.Walks.{id_of, slots, turned, SlotsLinked}
 
@@ -90,7 +90,7 @@ module _ {T N : Type 0} {g : Ghosts N T} where
   bucket_of links k = option_and_then (named_in k) (g.node links.nodes k)
 
   unfoldable pub head_of : Links T N g → ℕ → Option RingHead
-  head_of links r = get_head nat_eq links.heads r
+  head_of links r = head_in links.heads r
 
   -- the slots before and behind each are the same
   pub record KeepsLinks (old new : Links T N g) : Type 0 where

@@ -94,12 +94,12 @@ impl<T: Drop, S: Slots<T> + Drop> Links<T, S> {
         requires linked { AreLinked self.old }
         requires none { lists_of self.old ring ≡ None }
         requires room { 1 ≤ S.room self.old.nodes }
-        requires spare { 0 < spare self.old.heads }
+        requires spare { 0 < spare self.old.heads.far }
         ensures linked { AreLinked self.new }
         ensures lists { (n : ℕ) → lists_of self.new n ≡ upd (lists_of self.old) ring (Some []) n }
         ensures places { (j : _) → ring_at self.new j ≡ ring_at self.old j }
         ensures room { (n : ℕ) → n + 1 ≤ S.room self.old.nodes → n ≤ S.room self.new.nodes }
-        ensures spare { spare self.old.heads ≤ spare self.new.heads + 1 }
+        ensures spare { spare self.old.heads.far ≤ spare self.new.heads.far + 1 }
     {
         let sentinel = self.fresh(ring);
         self.put_head(ring, RingHead { sentinel, count: 0 });

@@ -3,6 +3,7 @@
 
 mod circles;
 mod hashing;
+mod head_table;
 mod laws;
 mod linked_rings;
 mod links;

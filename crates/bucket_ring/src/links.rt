@@ -8,13 +8,11 @@ ghost use Rattle.bucket_ring.specs.Walks.{id_of, turned};
 ghost use Rattle.bucket_ring.specs.declared.names.BucketId.{BucketId};
 ghost use Rattle.bucket_ring.specs.declared.links.RingHead.{RingHead};
 
-use crate::hashing::NameHasher;
+use crate::head_table::HeadTable;
 use crate::names::{BucketId, RingId};
 use crate::slots::Slots;
 use raw_nodes::{Load, SlotBucket};
 use std::alloc::{AllocError, Global};
-use std::collections::HashMap;
-use std::hash::BuildHasherDefault;
 use std::marker::PhantomData;
 
 /// Where buckets are put in a ring.
@@ -38,7 +36,7 @@ pub(crate) struct RingHead {
 pub(crate) struct Links<T, S: Slots<T>> {
     pub(crate) nodes: S,
     pub(crate) mark: PhantomData<T>,
-    pub(crate) heads: HashMap<u64, RingHead, BuildHasherDefault<NameHasher>>,
+    pub(crate) heads: HeadTable,
     ghost slots: { (k : ℕ) → S.node nodes k ≡ S.node nodes k },
 }
 
@@ -54,7 +52,7 @@ impl<T: Drop, S: Slots<T> + Drop> Links<T, S> {
         Links {
             nodes: S::new(alloc),
             mark: PhantomData,
-            heads: HashMap::with_hasher(alloc, BuildHasherDefault::new()),
+            heads: HeadTable::new(alloc),
         }
     }
 
@@ -108,8 +106,8 @@ impl<T: Drop, S: Slots<T> + Drop> Links<T, S> {
     /// Makes room for so many more slots and rings.
     pub(crate) fn reserve(&mut self, slots: usize, rings: usize) -> Result<(), AllocError>
         ensures room { OnOk result (slots ≤ S.room self.new.nodes) }
-        ensures spare { OnOk result (rings ≤ spare self.new.heads) }
-        ensures sure { slots ≤ S.room self.old.nodes → rings ≤ spare self.old.heads → IsOk result }
+        ensures spare { OnOk result (rings ≤ spare self.new.heads.far) }
+        ensures sure { slots ≤ S.room self.old.nodes → rings ≤ spare self.old.heads.far → IsOk result }
         ensures links { KeepsLinks self.old self.new }
         ensures buckets { KeepsBuckets self.old self.new }
         ensures heads { (n : ℕ) → head_of self.new n ≡ head_of self.old n }
@@ -120,15 +118,12 @@ impl<T: Drop, S: Slots<T> + Drop> Links<T, S> {
 
     /// Puts the head of a ring, where there is room.
     pub(crate) fn put_head(&mut self, ring: RingId, head: RingHead)
-        requires { 0 < spare self.old.heads }
+        requires { 0 < spare self.old.heads.far }
         ensures heads { (n : ℕ) → head_of self.new n ≡ upd (head_of self.old) ring (Some head) n }
         ensures nodes { self.new.nodes ≡ self.old.nodes }
-        ensures spare { spare self.old.heads ≤ spare self.new.heads + 1 }
+        ensures spare { spare self.old.heads.far ≤ spare self.new.heads.far + 1 }
     {
-        match self.heads.insert(ring, head) {
-            Ok(_) => {}
-            Err(_) => unreachable!(),
-        }
+        self.heads.put(ring, head);
     }
 
     /// Ends the head of a ring.
@@ -136,14 +131,14 @@ impl<T: Drop, S: Slots<T> + Drop> Links<T, S> {
         ensures heads { (n : ℕ) → head_of self.new n ≡ upd (head_of self.old) ring None n }
         ensures nodes { self.new.nodes ≡ self.old.nodes }
     {
-        self.heads.remove(&ring);
+        self.heads.remove(ring);
     }
 
     /// Whether a ring has a head.
     pub(crate) fn is_head(&self, ring: RingId) -> bool
         ensures { result ≡ is_some (head_of self.now ring) }
     {
-        self.heads.get(&ring).is_some()
+        self.heads.get(ring).is_some()
     }
 
     /// The ring of a bucket.
@@ -162,8 +157,8 @@ impl<T: Drop, S: Slots<T> + Drop> Links<T, S> {
         requires { is_some (head_of self.now ring) ≡ true }
         ensures { head_of self.now ring ≡ Some result }
     {
-        match self.heads.get(&ring) {
-            Some(head) => *head,
+        match self.heads.get(ring) {
+            Some(head) => head,
             None => unreachable!(),
         }
     }
@@ -274,14 +269,9 @@ impl<T: Drop, S: Slots<T> + Drop> Links<T, S> {
         ensures heads { (n : ℕ) → head_of self.new n ≡ upd (head_of self.old) ring (Some (record { sentinel = result.sentinel; count = result.count - 1 })) n }
         ensures nodes { self.new.nodes ≡ self.old.nodes }
     {
-        match self.heads.get_mut(&ring) {
-            Some(head) => {
-                let was = *head;
-                head.count -= 1;
-                was
-            }
-            None => unreachable!(),
-        }
+        let was = self.head(ring);
+        self.heads.set_count(ring, was.count - 1);
+        was
     }
 
     /// A ring has a bucket more. Answers its head as it was.
@@ -292,14 +282,9 @@ impl<T: Drop, S: Slots<T> + Drop> Links<T, S> {
         ensures heads { (n : ℕ) → head_of self.new n ≡ upd (head_of self.old) ring (Some (record { sentinel = result.sentinel; count = result.count + 1 })) n }
         ensures nodes { self.new.nodes ≡ self.old.nodes }
     {
-        match self.heads.get_mut(&ring) {
-            Some(head) => {
-                let was = *head;
-                head.count += 1;
-                was
-            }
-            None => unreachable!(),
-        }
+        let was = self.head(ring);
+        self.heads.set_count(ring, was.count + 1);
+        was
     }
 
     /// `slot` comes before `at`, and what was behind `slot` comes behind what was before `at`.

@@ -65,16 +65,16 @@ module _ (p : Program) (pools : length p.pools ≤ 8) (brigades : length p.briga
   effect_parts (instr.Aside c q) a = cursor_in c (a.first.0)
   effect_parts i a = refl
 
-  flow_parts : (i : Instr) → AreFit p (args i) → branch_fits (branch_of i) ≡ true
-  flow_parts (instr.BPart b x c l) a = cursor_in c (a.third.0)
-  flow_parts (instr.JEmpty b l) a = brigade_in b (a.first.0)
-  flow_parts (instr.JEnd c l) a = cursor_in c (a.first.0)
-  flow_parts (instr.JKind c k l) a = cursor_in c (a.first.0)
-  flow_parts (instr.JNull v l) a = variable_in v (a.first.0)
-  flow_parts i a = refl
+  branch_parts : (i : Instr) → AreFit p (args i) → branch_fits (branch_of i) ≡ true
+  branch_parts (instr.BPart b x c l) a = cursor_in c (a.third.0)
+  branch_parts (instr.JEmpty b l) a = brigade_in b (a.first.0)
+  branch_parts (instr.JEnd c l) a = cursor_in c (a.first.0)
+  branch_parts (instr.JKind c k l) a = cursor_in c (a.first.0)
+  branch_parts (instr.JNull v l) a = variable_in v (a.first.0)
+  branch_parts i a = refl
 
 pub effects_fit : (p : Program) (i : Instr) → length p.pools ≤ 8 → length p.brigades ≤ 8 → fits p i ≡ true → effect_fits (effect_of i) ≡ true
 effects_fit p i pools brigades h = effect_parts p pools brigades i (fits_parts p i h)
 
-pub flows_fit : (p : Program) (i : Instr) → length p.pools ≤ 8 → length p.brigades ≤ 8 → fits p i ≡ true → branch_fits (branch_of i) ≡ true
-flows_fit p i pools brigades h = flow_parts p pools brigades i (fits_parts p i h)
+pub branches_fit : (p : Program) (i : Instr) → length p.pools ≤ 8 → length p.brigades ≤ 8 → fits p i ≡ true → branch_fits (branch_of i) ≡ true
+branches_fit p i pools brigades h = branch_parts p pools brigades i (fits_parts p i h)

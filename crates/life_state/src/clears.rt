@@ -4,7 +4,7 @@ ghost use Rattle.std.specs.Prelude.{◌≡◌, ◌≤◌, length, true};
 ghost use Rattle.module_code.specs.declared.instr.PoolRef.TheVariants as pool;
 ghost use Rattle.module_code.specs.Program.{pool_of_brigade};
 ghost use Rattle.life_state.specs.PoolOrder.{is_same_place, parent_of, is_under, is_clearable};
-ghost use Rattle.life_state.specs.Rules.{lies_under, cleared_pool, cleared_brigade, cleared_cursors, cleared};
+ghost use Rattle.life_state.specs.Rules.{cleared_pool, cleared_brigade, cleared_cursors, cleared};
 ghost use Rattle.life_state.specs.Seen.{seen, seen_pools, seen_brigade, seen_cursor};
 
 use crate::facts::Keep;
@@ -79,13 +79,6 @@ pub(crate) fn pool_of_brigade(code: &Module, count: u8, b: u8) -> PoolRef
     }
 }
 
-fn lies_under(code: &Module, count: u8, under: &PoolSet, b: u8) -> bool
-    requires { count ≡ length code.now.brigades }
-    ensures { result ≡ lies_under code.now (seen_pools under.now) b }
-{
-    under.has(pool_of_brigade(code, count, b))
-}
-
 #[tactic(auto)]
 impl State {
     fn cleared_pool(&self, under: &PoolSet, top: PoolRef, q: u8) -> PoolState
@@ -105,7 +98,7 @@ impl State {
         ensures { seen_brigade result ≡ cleared_brigade code.now (seen_pools under.now) (seen self.now) b }
     {
         let brigade = self.brigade(b);
-        if lies_under(code, self.brigade_count, under, b) {
+        if under.has(pool_of_brigade(code, self.brigade_count, b)) {
             brigade.ended()
         } else {
             BrigadeState {
@@ -127,7 +120,7 @@ impl State {
                 CursorState::Loose(classes, homes.dead_where(under))
             }
             CursorState::In(at, _) | CursorState::End(at) | CursorState::InOrEnd(at, _) => {
-                if lies_under(code, self.brigade_count, under, at) {
+                if under.has(pool_of_brigade(code, self.brigade_count, at)) {
                     CursorState::Unset
                 } else {
                     cursor

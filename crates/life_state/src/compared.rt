@@ -18,7 +18,7 @@ pub fn leq(a: &State, b: &State) -> bool
     { a.brigade(v).is_in(&b.brigade(v)) };
     let is_known = |c: u8|
         ensures { result ≡ all_below 9 (λ d. implies ((seen b.entry.now).facts c d) (known (seen a.entry.now) c d)) }
-    { (0..9u8).all(|d| implies(b.fact(c, d), a.known(c, d))) };
+    { (0..9u8).all(|d| !b.fact(c, d) || a.known(c, d)) };
     (a.pool_count() == b.pool_count())
         & (a.brigade_count() == b.brigade_count())
         & implies(a.sent(), b.sent())

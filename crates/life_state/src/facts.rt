@@ -2,7 +2,7 @@
 
 ghost use Rattle.std.specs.Prelude.{◌≡◌, ◌<◌, ℕ, length, slice_index_or, false};
 ghost use Rattle.life_state.specs.Facts.{known, facts_of};
-ghost use Rattle.life_state.specs.Seen.{seen, seen_cursors, seen_facts, others_of, keep_of};
+ghost use Rattle.life_state.specs.Seen.{seen, seen_cursors, seen_facts, keep_of};
 
 use crate::parts::CursorState;
 use crate::places::filled;
@@ -38,36 +38,26 @@ impl State {
     pub fn known(&self, c: u8, d: u8) -> bool
         ensures { result ≡ known (seen self.now) c d }
     {
-        (c != d) & (self.fact(c, d) | self.cursor(c).is_apart(&self.cursor(d)))
+        c != d && (self.fact(c, d) || self.cursor(c).is_apart(&self.cursor(d)))
     }
 }
 
 #[tactic(auto)]
 impl State {
-    fn is_other(&self, others: Others, k: u8) -> bool
-        ensures { result ≡ others_of others (seen self.now) k }
-    {
-        match others {
-            Others::Nobody => false,
-            Others::All => true,
-            Others::Only(c) => k == c,
-            Others::As(c) => self.known(c, k),
-        }
-    }
-
     fn is_kept(&self, keep: Keep<'_>, i: u8, j: u8) -> bool
         ensures { result ≡ keep_of keep.entry (seen self.now) i j }
     {
         match keep {
             Keep::Known => self.known(i, j),
             Keep::Shared(other) => self.known(i, j) & other.known(i, j),
+            Keep::But(c, _) if i != c && j != c => self.known(i, j),
             Keep::But(c, others) => {
-                if i == c {
-                    self.is_other(others, j)
-                } else if j == c {
-                    self.is_other(others, i)
-                } else {
-                    self.known(i, j)
+                let k = if i == c { j } else { i };
+                match others {
+                    Others::Nobody => false,
+                    Others::All => true,
+                    Others::Only(d) => k == d,
+                    Others::As(d) => self.known(d, k),
                 }
             }
         }
@@ -79,10 +69,10 @@ impl State {
         requires second { d < 9 }
         ensures { result ≡ facts_of (keep_of keep.entry (seen self.now)) (seen_cursors cursors.now) c d }
     {
-        let first = cursors[usize::from(c)];
-        let second = cursors[usize::from(d)];
-        let set = first.is_set() & second.is_set();
-        (c != d) & self.is_kept(keep, c, d) & set & !first.is_apart(&second)
+        let first = &cursors[usize::from(c)];
+        let second = &cursors[usize::from(d)];
+        let is_due = c != d && first.is_set() && second.is_set() && !first.is_apart(second);
+        is_due && self.is_kept(keep, c, d)
     }
 
     /// The facts to write, of what stays known.
@@ -94,7 +84,13 @@ impl State {
             ensures long { length result ≡ 9 }
             ensures each { (d : ℕ) → d < 9 → slice_index_or result d false ≡
                 facts_of (keep_of keep.entry (seen self.entry.now)) (seen_cursors cursors.entry.now) c d }
-        { filled([false; 9], |d| self.is_written(keep, cursors, c, d)) };
+        {
+            if cursors[usize::from(c)].is_set() {
+                filled([false; 9], |d| self.is_written(keep, cursors, c, d))
+            } else {
+                [false; 9]
+            }
+        };
         filled([[false; 9]; 9], row)
     }
 

@@ -83,7 +83,7 @@ impl State {
         ensures sound { result ≡ true → AtHand (seen self.now) b }
     {
         let brigade = self.brigade(b);
-        b < 9 && brigade.is_at_hand()
+        b < 9 && brigade.is_live() && brigade.is_usable()
     }
 
     fn is_formed_cursor(&self, c: u8) -> bool

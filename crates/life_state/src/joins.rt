@@ -1,7 +1,7 @@
 //! The least state above two.
 
 ghost use Rattle.std.specs.Prelude.{◌≡◌};
-ghost use Rattle.life_state.specs.Order.{is_at_hand, both_brigades, both_cursors, kept_cursor, join};
+ghost use Rattle.life_state.specs.Order.{both_brigades, both_cursors, kept_cursor, join};
 ghost use Rattle.life_state.specs.Seen.{seen, seen_brigade, seen_brigades, seen_cursor};
 
 use crate::facts::Keep;
@@ -9,24 +9,14 @@ use crate::parts::{BrigadeState, CursorState, PoolState};
 use crate::places::filled;
 use crate::state::State;
 
-fn is_at_hand(brigades: &[BrigadeState; 9], b: u8) -> bool
-    ensures { result ≡ is_at_hand (seen_brigades brigades.now b) }
-{
-    let b = usize::from(b);
-    if b < 9 {
-        brigades[b].is_at_hand()
-    } else {
-        false
-    }
-}
-
 fn kept(brigades: &[BrigadeState; 9], cursor: CursorState) -> CursorState
     ensures { seen_cursor result ≡ kept_cursor (seen_brigades brigades.now) (seen_cursor cursor) }
 {
     match cursor {
         CursorState::Unset | CursorState::Loose(_, _) => cursor,
         CursorState::In(b, _) | CursorState::End(b) | CursorState::InOrEnd(b, _) => {
-            if is_at_hand(brigades, b) {
+            let b = usize::from(b);
+            if b < 9 && brigades[b].is_live() && brigades[b].is_usable() {
                 cursor
             } else {
                 CursorState::Unset

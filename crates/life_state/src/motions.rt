@@ -62,6 +62,7 @@ impl State {
 
     /// Moves the cursors.
     #[tactic(auto, unfolding(crate::specs::Facts::moved))]
+    #[must_use]
     pub(crate) fn move_cursors(mut self, motion: Motion) -> State
         ensures { seen result ≡ moved (motion_of motion (seen self)) (seen self) }
     {
@@ -83,6 +84,7 @@ impl State {
 
     /// Sets a cursor. Of its bucket is known that it is not that of the others.
     #[tactic(auto, unfolding(crate::specs::Facts::set_cursor, crate::specs::Seen::seen, run_model::specs::Indexed::upd))]
+    #[must_use]
     pub(crate) fn set_cursor(mut self, c: u8, cursor: CursorState, others: Others) -> State
         requires { c < 9 }
         ensures { seen result ≡ set_cursor c (seen_cursor cursor) (others_of others (seen self)) (seen self) }
@@ -95,6 +97,7 @@ impl State {
 
     /// The bucket at a cursor moves, or is destroyed: the other cursors that may be at it are unset.
     #[tactic(auto, unfolding(crate::specs::Facts::moved, run_model::specs::Indexed::upd))]
+    #[must_use]
     pub(crate) fn move_bucket(mut self, c: u8, cursor: CursorState) -> State
         requires { c < 9 }
         ensures { seen result ≡ move_bucket c (seen_cursor cursor) (seen self) }

@@ -59,7 +59,7 @@ impl State {
                     Some(FaultKind::F2)
                 }
             }
-            Want::New(b) => self.may_be_live(b).then_some(FaultKind::F10),
+            Want::New(b) => self.brigade(b).live.then_some(FaultKind::F10),
             Want::NewPool(q) => self.pool(q).live.then_some(FaultKind::F10),
             Want::Cursor(c, need) => self.cursor(c).need(need),
             Want::Homes(b) | Want::HomeAcross(b, _) => self.homes(b).dead.then_some(FaultKind::F5),

@@ -2,11 +2,11 @@
 
 ghost use Rattle.std.specs.Prelude.{◌≡◌};
 ghost use Rattle.life_state.specs.States.{is_live_alone, ended_pool, is_live_brigade, is_usable_alone, holds, never_made, no_homes, ended_brigade};
-ghost use Rattle.life_state.specs.Order.{rank, content_le, greater, classes_le, both_classes, pool_le, both_pools, brigade_le, both_brigades, cursor_le, both_here, both_cursors, is_at_hand};
+ghost use Rattle.life_state.specs.Order.{rank, content_le, greater, classes_le, both_classes, pool_le, both_pools, brigade_le, both_brigades, cursor_le, both_cursors};
 ghost use Rattle.life_state.specs.declared.parts.Contents.TheVariants as Contents;
 ghost use Rattle.life_state.specs.Seen.{seen_homes, seen_brigade, seen_cursor};
 
-use crate::parts::{BrigadeState, Classes, Contents, CursorState, HomeSet, PoolSet, PoolState};
+use crate::parts::{BrigadeState, Classes, Contents, CursorState, HomeSet, PoolState};
 use crate::pools::implies;
 
 impl Contents {
@@ -181,13 +181,6 @@ impl BrigadeState {
             homes: HomeSet::none(),
         }
     }
-
-    /// Whether a cursor may stand at it.
-    pub(crate) fn is_at_hand(&self) -> bool
-        ensures { result ≡ is_at_hand (seen_brigade self.now) }
-    {
-        self.is_live() & self.is_usable()
-    }
 }
 
 impl CursorState {
@@ -206,9 +199,14 @@ impl CursorState {
         }
     }
 
-    fn both_here(&self, other: &CursorState) -> CursorState
-        ensures { seen_cursor result ≡ both_here (seen_cursor self.now) (seen_cursor other.now) }
+    /// The least that is above both.
+    #[tactic(auto, unfolding(crate::specs::Order::both_cursors))]
+    pub(crate) fn both(&self, other: &CursorState) -> CursorState
+        ensures { seen_cursor result ≡ both_cursors (seen_cursor self.now) (seen_cursor other.now) }
     {
+        if self.place() != other.place() {
+            return CursorState::Unset;
+        }
         match (self, other) {
             (CursorState::Loose(s, h), CursorState::Loose(t, k)) => {
                 CursorState::Loose(s.both(t), h.both(k))
@@ -225,18 +223,6 @@ impl CursorState {
             | (CursorState::End(b), CursorState::InOrEnd(_, t)) => CursorState::InOrEnd(*b, *t),
             (CursorState::End(b), CursorState::End(_)) => CursorState::End(*b),
             _ => CursorState::Unset,
-        }
-    }
-
-    /// The least that is above both.
-    #[tactic(auto, unfolding(crate::specs::Order::both_cursors))]
-    pub(crate) fn both(&self, other: &CursorState) -> CursorState
-        ensures { seen_cursor result ≡ both_cursors (seen_cursor self.now) (seen_cursor other.now) }
-    {
-        if self.place() == other.place() {
-            self.both_here(other)
-        } else {
-            CursorState::Unset
         }
     }
 }

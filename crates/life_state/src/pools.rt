@@ -1,6 +1,6 @@
 //! Sets of pools.
 
-ghost use Rattle.std.specs.Prelude.{◌≡◌, ◌<◌, ◌||◌, ◌&&◌, not, slice_index_or, false, nat_lt, ◌==◌, ℕ};
+ghost use Rattle.std.specs.Prelude.{◌≡◌, ◌||◌, ◌&&◌, not, slice_index_or, false};
 ghost use Rattle.life_state.specs.States.{is_home, any_place};
 ghost use Rattle.life_state.specs.Order.{implies, places_le};
 ghost use Rattle.life_state.specs.Seen.{seen_pools};
@@ -41,16 +41,6 @@ impl PoolSet {
         }
     }
 
-    fn own_at(q: u8) -> [bool; 8]
-        ensures { (i : ℕ) → i < 8 → slice_index_or result i false ≡ (q == i && nat_lt q 8) }
-    {
-        let mut own = [false; 8];
-        if q < 8 {
-            own[usize::from(q)] = true;
-        }
-        own
-    }
-
     /// This pool, and none where it is the connection's.
     pub(crate) fn of(pool: PoolRef) -> PoolSet
         ensures { seen_pools result ≡ is_home pool }
@@ -63,7 +53,7 @@ impl PoolSet {
             },
             PoolRef::Own(q) => PoolSet {
                 req: false,
-                own: PoolSet::own_at(q),
+                own: filled([false; 8], |i| q == i),
             },
         }
     }

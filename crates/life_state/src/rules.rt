@@ -167,7 +167,9 @@ impl State {
                 .move_cursors(Motion::SplitOff(b, c, a)),
             Effect::Save(o, b) => self.bsave(code, o, b),
             Effect::Pass(b) => self.pass(b),
-            Effect::First(c, b) | Effect::PartBrigade(b, _, c) => self.first(c, b),
+            Effect::First(c, b) | Effect::PartBrigade(b, _, c) => {
+                self.set_cursor(c, self.content(b).bucket_or_end(b), Others::Nobody)
+            }
             Effect::Next(d, c) => self.next(d, c, self.cursor(c)),
             Effect::Unlink(c) => self.unlink(c),
             Effect::Delete(c) => self.move_bucket(c, CursorState::Unset),
@@ -214,11 +216,14 @@ impl State {
             | Condition::NoByte(_)
             | Condition::NoRoom(_)
             | Condition::Less(_, _)
-            | Condition::Equal(_, _) => Successors::both(after),
+            | Condition::Equal(_, _) => Successors {
+                next: Some(after),
+                jump: Some(after),
+            },
         }
     }
 
-    #[tactic(auto, using(crate::proofs::InStateLaws::effects_fit, crate::proofs::InStateLaws::flows_fit))]
+    #[tactic(auto, using(crate::proofs::InStateLaws::effects_fit, crate::proofs::InStateLaws::branches_fit))]
     fn edges(self, code: &Module, instr: Instr) -> Successors
         requires fit { fits code.now instr ≡ true }
         requires pools { (seen self).pool_count ≡ length code.now.pools }

@@ -73,14 +73,6 @@ impl State {
         }
     }
 
-    /// Whether a brigade variable may be live.
-    pub(crate) fn may_be_live(&self, b: u8) -> bool
-        ensures { result ≡ ((seen self.now).brigades b).live }
-    {
-        let b = usize::from(b);
-        if b < 9 { self.brigades[b].live } else { false }
-    }
-
     /// What may stand in a usable brigade.
     pub(crate) fn content(&self, b: u8) -> Contents
         ensures { result ≡ ((seen self.now).brigades b).content }

@@ -3,14 +3,14 @@
 ghost use Rattle.std.specs.Prelude.{◌≡◌, ◌<◌, length};
 ghost use Rattle.life_state.specs.States.{set_brigade, holds, both_homes, In};
 ghost use Rattle.life_state.specs.Facts.{move_bucket};
-ghost use Rattle.life_state.specs.Rules.{classes_of, homes_at, after_bcreate, after_join, after_bsave, split_part, after_first, after_next, after_unlink};
+ghost use Rattle.life_state.specs.Rules.{classes_of, homes_at, after_bcreate, after_join, after_bsave, split_part, after_next, after_unlink};
 ghost use Rattle.life_state.specs.Rules.{side_content, put_in, after_before, made, after_aside, after_pass};
 ghost use Rattle.life_state.specs.Seen.{seen, seen_homes, seen_brigade, seen_cursor};
 
 use crate::clears::pool_of_brigade;
 use crate::facts::Others;
 use crate::motions::Motion;
-use crate::parts::{BrigadeState, Classes, Contents, CursorState, HomeSet, PoolState};
+use crate::parts::{BrigadeState, Classes, Contents, CursorState, HomeSet};
 use crate::state::State;
 use module_code::{Module, PoolRef};
 use run_model::Side;
@@ -62,13 +62,6 @@ impl State {
         } else {
             BrigadeState::holding(self.content(b), self.homes(b))
         }
-    }
-
-    pub(crate) fn first(self, c: u8, b: u8) -> State
-        requires { c < 9 }
-        ensures { seen result ≡ after_first c b (seen self) }
-    {
-        self.set_cursor(c, self.content(b).bucket_or_end(b), Others::Nobody)
     }
 
     pub(crate) fn next(self, d: u8, c: u8, cursor: CursorState) -> State

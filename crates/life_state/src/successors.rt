@@ -1,7 +1,7 @@
 //! Where an instruction leads.
 
 ghost use Rattle.std.specs.Prelude.{◌≡◌};
-ghost use Rattle.life_state.specs.Rules.{goes_on_with, both_with, some_if};
+ghost use Rattle.life_state.specs.Rules.{goes_on_with, some_if};
 ghost use Rattle.life_state.specs.Seen.{seen, seen_some, seen_edges};
 
 use crate::state::State;
@@ -23,16 +23,6 @@ impl Successors {
         Successors {
             next: Some(state),
             jump: None,
-        }
-    }
-
-    /// Either instruction may follow.
-    pub(crate) fn both(state: State) -> Successors
-        ensures { seen_edges result ≡ both_with (seen state) }
-    {
-        Successors {
-            next: Some(state),
-            jump: Some(state),
         }
     }
 }

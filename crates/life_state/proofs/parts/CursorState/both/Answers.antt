@@ -4,14 +4,15 @@ use Rattle.life_state.specs.declared.parts.Classes.{Classes}
 use Rattle.life_state.specs.declared.parts.CursorState.{CursorState}
 use Rattle.life_state.specs.declared.parts.CursorState.TheVariants as cursor
 use Rattle.life_state.specs.States.{Homes, Loose}
-use Rattle.life_state.specs.Order.{both_classes, both_here}
+use Rattle.life_state.specs.Order.{both_classes, both_cursors}
 use Rattle.life_state.specs.Seen.{seen_cursor, seen_homes}
-use Rattle.life_state.proofs.parts.CursorState.both_here.Goals as goal
+use Rattle.life_state.proofs.parts.CursorState.both.Goals as goal
 
 pub returns-in-Loose-Loose : goal.returns-in-Loose-Loose
+unfolding both_cursors
 returns-in-Loose-Loose c =
     let here = c.in-Loose-Loose in
     ap (λ (s : Classes). Loose s (seen_homes c.both-in-Loose-Loose.result)) c.both.ensures
     ∙ (ap (λ (h : Homes). Loose (both_classes here.s here.t) h) c.both-in-Loose-Loose.ensures
-    ∙ sym (ap (λ (a : CursorState). both_here (seen_cursor a) (seen_cursor c.args.other.now)) here.is-0
-    ∙ ap (λ (b : CursorState). both_here (seen_cursor (cursor.Loose here.s here.h)) (seen_cursor b)) here.is-1))
+    ∙ sym (ap (λ (a : CursorState). both_cursors (seen_cursor a) (seen_cursor c.args.other.now)) here.is-0
+    ∙ ap (λ (b : CursorState). both_cursors (seen_cursor (cursor.Loose here.s here.h)) (seen_cursor b)) here.is-1))
