@@ -3,8 +3,7 @@
 ghost use Rattle.std.specs.Prelude.{◌≡◌, ◌≤◌, IfOk, length};
 ghost use Rattle.byte_streams.specs.Texts.{joined};
 
-use crate::socket_sink::{WritesParts, slices};
-use byte_streams::Parts;
+use byte_streams::{Parts, WritesParts, io_slices};
 use std::cell::Cell;
 use std::io::{self, ErrorKind, Read};
 use std::net::TcpStream;
@@ -145,7 +144,7 @@ fn read_again(mut stream: &TcpStream, buf: &mut [u8]) -> io::Result<usize>
 fn write_again(stream: &TcpStream, parts: Parts<'_>) -> io::Result<usize>
     ensures { IfOk result (λ n. n ≤ length (joined parts.entry)) }
 {
-    let slices = slices(parts);
+    let slices = io_slices(parts);
     for _ in 0..TRIES {
         match stream.write_vectored(&slices) {
             Err(error) if error.kind() == ErrorKind::Interrupted => {}

@@ -9,7 +9,6 @@ mod listening;
 mod request_log;
 mod serve_command;
 mod socket;
-mod socket_sink;
 mod system_clock;
 mod unclosed;
 

@@ -4,10 +4,9 @@ ghost use Rattle.http_front.specs.Driven.{IsAlive};
 
 use crate::head_reader::{Deadline, HeadReader, ReplyWriter};
 use crate::request_log::{RequestLog, tell_refused, tell_unready, told_by};
-use crate::socket_sink::SocketSink;
 use crate::system_clock::SystemClock;
 use crate::unclosed::UnclosedConns;
-use byte_streams::{CountedSource, READS, StdSource};
+use byte_streams::{CountedSource, READS, SocketSink, StdSource};
 use filter_chain::{Files, Host};
 use http_front::{FrontFault, Served, Site, serve};
 use std::io::{self, Read};

@@ -3,8 +3,7 @@
 ghost use Rattle.std.specs.Prelude.{◌≡◌, ◌≤◌, IfOk, length};
 ghost use Rattle.byte_streams.specs.Texts.{joined};
 
-use crate::socket_sink::{WritesParts, slices};
-use byte_streams::Parts;
+use byte_streams::{Parts, WritesParts, io_slices};
 use mio::net::TcpStream;
 use std::io::{self, ErrorKind, Read};
 
@@ -47,7 +46,7 @@ impl Read for Socket<'_> {
 
 impl WritesParts for Socket<'_> {
     fn write_parts(&mut self, parts: Parts<'_>) -> io::Result<usize> {
-        let slices = slices(parts);
+        let slices = io_slices(parts);
         for _ in 0..TRIES {
             match self.stream.write_vectored(&slices) {
                 Err(error) if error.kind() == ErrorKind::Interrupted => {}

@@ -1,7 +1,7 @@
 use Rattle.std.proofs.Common.{◌≡◌, ◌≤◌, ℕ, length, take, drop}
 use Rattle.std.specs.Io.KnownBytes.{Appends}
 use Rattle.byte_streams.specs.Texts.{joined}
-use Rattle.http_serve.proofs.socket_sink.SocketSinkSink.put_parts.Given as goal
+use Rattle.byte_streams.proofs.socket_sink.SocketSinkSink.put_parts.Given as goal
 
 -- a front of the text was taken, the rest is left, and no write failed
 abbrev pub invariant-loop-rest : goal.invariant-loop-rest

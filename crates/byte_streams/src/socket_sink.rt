@@ -5,7 +5,8 @@ ghost use Rattle.std.specs.Io.KnownBytes.{WriteAppends};
 ghost use Rattle.std.specs.Io.Slices.{io_slices_bytes};
 ghost use Rattle.byte_streams.specs.Texts.{IsPut, joined};
 
-use byte_streams::{Parts, Sink, SinkFault, WriteAnswer};
+use crate::parts::Parts;
+use crate::sink::{Sink, SinkFault, WriteAnswer};
 use std::io::{self, ErrorKind, IoSlice};
 
 /// What writes a front of a text in parts in one call of the system.
@@ -115,7 +116,7 @@ impl<W: WritesParts> Sink for SocketSink<W> {
 }
 
 /// The parts as the system takes them.
-pub fn slices(parts: Parts<'_>) -> [IoSlice<'_>; 3]
+pub fn io_slices(parts: Parts<'_>) -> [IoSlice<'_>; 3]
     ensures { io_slices_bytes result ≡ joined parts.entry }
 {
     [

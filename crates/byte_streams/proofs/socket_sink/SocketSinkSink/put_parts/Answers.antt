@@ -3,7 +3,7 @@ use Rattle.std.proofs.lemmas.List.{drop-drop, take-append-drop}
 use Rattle.std.specs.Io.KnownBytes.{Appends}
 use Rattle.byte_streams.proofs.AppendLaws.{appends_take}
 use Rattle.byte_streams.specs.Texts.{joined}
-use Rattle.http_serve.proofs.socket_sink.SocketSinkSink.put_parts.Goals as goal
+use Rattle.byte_streams.proofs.socket_sink.SocketSinkSink.put_parts.Goals as goal
 
 pub loop-rest-preserved : goal.loop-rest-preserved
 loop-rest-preserved g c =
