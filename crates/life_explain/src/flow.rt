@@ -67,14 +67,6 @@ fn answer(code: &Module, pc: usize, state: &State) -> Option<Result<Successors, 
     }
 }
 
-// What an instruction hands on to the next one.
-fn handed_next(code: &Module, pc: usize, state: Option<State>) -> Option<State> {
-    match answer(code, pc, &state?)? {
-        Ok(led) => led.next,
-        Err(_) => None,
-    }
-}
-
 /// The states that a certificate means, one by one: where a slim one gives none, what the instruction before hands on.
 pub fn meant(alloc: Global, code: &Module, cert: &Cert) -> Result<Cert, AllocError> {
     let heads = heads(code);
@@ -86,7 +78,14 @@ pub fn meant(alloc: Global, code: &Module, cert: &Cert) -> Result<Cert, AllocErr
         here = if is_given {
             cert.state(pc + 1)
         } else {
-            handed_next(code, pc, here)
+            let led = match here {
+                Some(state) => answer(code, pc, &state),
+                None => None,
+            };
+            match led {
+                Some(Ok(led)) => led.next,
+                Some(Err(_)) | None => None,
+            }
         };
     }
     Ok(Cert {

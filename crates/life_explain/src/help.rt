@@ -35,14 +35,6 @@ pub fn cert_of(told: &mut Page, text: ScriptText<'_>) -> Result<Option<Cert>, Al
     }
 }
 
-// The states that a refusal is about: those that are given where their shape is refused, else those that are meant.
-fn told_states(alloc: Global, code: &Module, cert: Cert, rule: Rule) -> Result<Cert, AllocError> {
-    match rule {
-        Rule::Shape => Ok(cert),
-        _ => meant(alloc, code, &cert),
-    }
-}
-
 /// Tells what is wrong with the texts of a script, or why a module is refused, alone or with its certificate.
 pub fn tell_texts(
     told: &mut Page,
@@ -62,7 +54,11 @@ pub fn tell_texts(
     match check(&code, &cert) {
         Ok(()) => Ok(()),
         Err(refusal) => {
-            let states = told_states(told.alloc, &code, cert, refusal.rule)?;
+            // Those that are given where their shape is refused, else those that are meant.
+            let states = match refusal.rule {
+                Rule::Shape => cert,
+                _ => meant(told.alloc, &code, &cert)?,
+            };
             tell_unchecked(told, source, &code, &states, refusal)
         }
     }

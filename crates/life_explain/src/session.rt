@@ -72,16 +72,6 @@ fn undoes(source: &Source, edits: &[Edit]) -> bool {
     false
 }
 
-// Whether the line is refused.
-fn refuses(source: &Source, refusals: &[FlowRefusal], line: usize) -> bool {
-    for refusal in refusals {
-        if source.number_of(refusal.pc) == line {
-            return true;
-        }
-    }
-    false
-}
-
 // What is left with these edits; nothing where the text is no module then.
 fn tried(
     case: &Case<'_>,
@@ -96,10 +86,14 @@ fn tried(
         return Ok(None);
     };
     let line = case.source.number_of(case.refusal.pc);
+    let mut settled = true;
+    for refusal in &study.judged.refusals {
+        settled = settled && source.number_of(refusal.pc) != line;
+    }
     Ok(Some(Mended {
         pattern,
         edits,
-        settled: !refuses(&source, study.judged.refusals.as_slice(), line),
+        settled,
         source,
         left: study.judged.failures,
     }))
@@ -284,14 +278,6 @@ fn tell_rest(told: &mut Page, source: Source, seen: Vec<usize>) -> Result<(), Al
     Ok(())
 }
 
-/// How many tests may fail in the module of a source; none where it is no module.
-fn failures_of(alloc: Global, source: &Source) -> Result<usize, AllocError> {
-    match study_of(alloc, source)? {
-        Some(study) => Ok(study.judged.failures),
-        None => Ok(0),
-    }
-}
-
 /// What stands against a module that would be accepted with the certificate that is made of it.
 const NOTHING: &str =
     "  write: nothing; `certify` makes a certificate with which the module is accepted\n";
@@ -303,7 +289,10 @@ fn tell_from(
     module: (&Module, &Cert),
     refusal: FlowRefusal,
 ) -> Result<(), AllocError> {
-    let now = failures_of(told.alloc, &source)?;
+    let now = match study_of(told.alloc, &source)? {
+        Some(study) => study.judged.failures,
+        None => 0,
+    };
     let mut seen = Vec::new(told.alloc);
     let mended = tell(told, &source, module, refusal, now, &mut seen)?;
     if now == 0 {

@@ -58,12 +58,6 @@ struct TrailNode {
     next: usize,
 }
 
-// Whether it comes by this way.
-fn comes_by(way: &Way, place: StatePlace, doubt: Doubt) -> bool {
-    let ends = doubt.is_of_cursor() && !matches!(way.from, StatePlace::At(_));
-    is_same(way.to, place) && !ends && doubt.holds(&way.state)
-}
-
 // Whether it would come by this way also if it were not so before.
 fn is_made(known: &Known<'_>, way: &Way, doubt: Doubt) -> Result<bool, AllocError> {
     let Some(mut state) = state_at(known.states, way.from) else {
@@ -101,7 +95,8 @@ fn look(
 ) -> Result<(bool, Option<Way>), AllocError> {
     let mut comes = false;
     for way in known.ways {
-        if comes_by(way, place, doubt) {
+        let ends = doubt.is_of_cursor() && !matches!(way.from, StatePlace::At(_));
+        if is_same(way.to, place) && !ends && doubt.holds(&way.state) {
             if is_made(known, way, doubt)? {
                 return Ok((true, Some(*way)));
             }
