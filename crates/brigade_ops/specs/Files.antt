@@ -1,8 +1,15 @@
 -- References to files (apr_pool_cleanup_register).
 use Rattle.std.specs.Prelude.{◌≡◌, ℕ, zero, suc, Bool, false, ◌==◌, if◌then◌else◌, List, [], ◌∷◌}
+use Rattle.std.specs.Option.{option_map_or}
+use Rattle.name_table.specs.NameTable.{value_in}
+use Rattle.name_table.specs.declared.table.NameTable.{NameTable}
 use Rattle.run_model.specs.declared.payload.Payload.{Payload}
 use Rattle.run_model.specs.Payloads.{is_file_ref}
 use Rattle.bucket_kinds.specs.Device.{Device}
+
+-- the count that stands under a number; 0 where none does
+unfoldable pub count_at : NameTable ℕ → ℕ → ℕ
+count_at counts n = option_map_or (λ count. count) (value_in counts n) 0
 
 -- how many references to a file are among what a clear handed on
 unfoldable pub refs_in : ℕ → List (ℕ × Payload) → ℕ

@@ -8,7 +8,7 @@ use Rattle.bucket_kinds.specs.declared.stored.Stored.{Stored}
 use Rattle.run_model.specs.declared.bucket.Bucket.{Bucket}
 use Rattle.brigade_ops.specs.declared.store.Brigades.{Brigades}
 use Rattle.stored_rings.specs.Items.{Items}
-use Rattle.stored_rings.specs.Numbers.{number_at}
+use Rattle.name_table.specs.NameTable.{value_in}
 use Rattle.stored_rings.specs.Shelf.{seen, IsGivenUp}
 
 module _ {R : Type 0} {g : Ghosts R Stored} where
@@ -26,11 +26,11 @@ module _ {R : Type 0} {g : Ghosts R Stored} where
 
   -- the pool that a brigade is on; None where it is on none
   unfoldable pub pool_of : Brigades R g → ℕ → Option ℕ
-  pool_of store = number_at store.pools
+  pool_of store = value_in store.pools
 
   -- how many references to a file there are
   unfoldable pub references : Brigades R g → ℕ → ℕ
-  references store file = option_map_or (λ n. n) (number_at store.references file) 0
+  references store file = option_map_or (λ n. n) (value_in store.references file) 0
 
   -- the next name
   unfoldable pub next_name : Brigades R g → ℕ

@@ -59,7 +59,7 @@ impl<R: Rings<Stored> + Drop> Brigades<R> {
         if name == u64::MAX {
             return Err(RingRefusal::NamesSpent);
         }
-        self.pools.reserve()?;
+        self.pools.reserve(1)?;
         let Ok(()) = tree.register(pool, Payload::Brigade(name)) else {
             return Err(RingRefusal::NoMemory);
         };

@@ -20,7 +20,7 @@ use pool_tree::{PoolId, PoolTree};
 use run_model::{Home, Kind, Payload};
 use std::alloc::AllocError;
 
-#[tactic(auto, unfolding(crate::specs::Store::lists, crate::specs::Store::brigade_of, crate::specs::Store::bucket_at, crate::specs::Store::pool_of, crate::specs::Store::next_name, crate::specs::Store::references, stored_rings::specs::Numbers::count_at, bucket_ring::specs::Lists::upd), using(pool_tree::proofs::Trees::tree_formed))]
+#[tactic(auto, unfolding(crate::specs::Store::lists, crate::specs::Store::brigade_of, crate::specs::Store::bucket_at, crate::specs::Store::pool_of, crate::specs::Store::next_name, crate::specs::Store::references, crate::specs::Files::count_at, bucket_ring::specs::Lists::upd), using(pool_tree::proofs::Trees::tree_formed))]
 impl<R: Rings<Stored> + Drop> Brigades<R> {
     ghost use Rattle.brigade_ops.specs.Store.{lists, brigade_of, bucket_at, pool_of, next_name, references};
 
@@ -51,7 +51,7 @@ impl<R: Rings<Stored> + Drop> Brigades<R> {
     }
 
     /// Registers a reference to a file, where one is named, as `refer` does.
-    #[tactic(auto, unfolding(stored_rings::specs::Shelf::seen, crate::specs::Store::lists, crate::specs::Store::brigade_of, crate::specs::Store::bucket_at, crate::specs::Store::pool_of, crate::specs::Store::next_name, crate::specs::Store::references, stored_rings::specs::Numbers::count_at, bucket_ring::specs::Lists::upd), using(pool_tree::proofs::Trees::tree_formed))]
+    #[tactic(auto, unfolding(stored_rings::specs::Shelf::seen, crate::specs::Store::lists, crate::specs::Store::brigade_of, crate::specs::Store::bucket_at, crate::specs::Store::pool_of, crate::specs::Store::next_name, crate::specs::Store::references, crate::specs::Files::count_at, bucket_ring::specs::Lists::upd), using(pool_tree::proofs::Trees::tree_formed))]
     pub(crate) fn refer_for(
         &mut self,
         tree: &mut PoolTree<Payload>,
@@ -96,7 +96,7 @@ impl<R: Rings<Stored> + Drop> Brigades<R> {
         ensures references { (f : ℕ) → references self.new f ≡ references self.old f }
         ensures unasked { self.new.asked ≡ self.old.asked }
     {
-        self.pools.take(b);
+        self.pools.remove(b);
         if self.held.has_ring(b) {
             self.held.end_ring(b);
         }
@@ -119,7 +119,7 @@ impl<R: Rings<Stored> + Drop> Brigades<R> {
         if count > 1 {
             self.references.set(file, count - 1);
         } else {
-            self.references.take(file);
+            self.references.remove(file);
             files.close_file(file);
         }
     }

@@ -7,18 +7,18 @@ ghost use Rattle.run_model.specs.Payloads.{payload_eq};
 ghost use Rattle.run_model.specs.Steps.{all_referred};
 ghost use Rattle.pool_tree.specs.Tree.{map_of};
 ghost use Rattle.brigade_ops.specs.Files.{times_in};
-ghost use Rattle.stored_rings.specs.Numbers.{count_at};
+ghost use Rattle.brigade_ops.specs.Files.{count_at};
 
 use bucket_kinds::FileNo;
+use name_table::NameTable;
 use pool_tree::{PoolId, PoolTree};
 use run_model::Payload;
 use std::alloc::AllocError;
-use stored_rings::Numbers;
 
 /// Registers a reference to a file with a pool, and counts it. Refused, nothing is changed.
-#[tactic(auto, unfolding(stored_rings::specs::Numbers::count_at, bucket_ring::specs::Lists::upd), using(crate::proofs::Undone::live_registered))]
+#[tactic(auto, unfolding(crate::specs::Files::count_at, bucket_ring::specs::Lists::upd), using(crate::proofs::Undone::live_registered))]
 pub(crate) fn refer(
-    counts: &mut Numbers,
+    counts: &mut NameTable<u64>,
     tree: &mut PoolTree<Payload>,
     pool: PoolId,
     file: FileNo,
@@ -31,7 +31,7 @@ pub(crate) fn refer(
     ensures uncounted { OnErr result ((f : ℕ) → count_at counts.new f ≡ count_at counts.old f) }
     ensures tree_unasked { tree.new.asked ≡ tree.old.asked }
 {
-    counts.reserve()?;
+    counts.reserve(1)?;
     let count = counts.get(file).unwrap_or(0);
     let Some(more) = count.checked_add(1) else {
         return Err(AllocError);
@@ -44,8 +44,8 @@ pub(crate) fn refer(
 }
 
 /// Takes out the newest reference to a file that a pool has.
-#[tactic(auto, unfolding(stored_rings::specs::Numbers::count_at, bucket_ring::specs::Lists::upd), using(crate::proofs::Undone::live_killed))]
-fn unrefer(counts: &mut Numbers, tree: &mut PoolTree<Payload>, pool: PoolId, file: FileNo)
+#[tactic(auto, unfolding(crate::specs::Files::count_at, bucket_ring::specs::Lists::upd), using(crate::proofs::Undone::live_killed))]
+fn unrefer(counts: &mut NameTable<u64>, tree: &mut PoolTree<Payload>, pool: PoolId, file: FileNo)
     requires live { IsTrue (is_live (map_of tree.old) pool) }
     requires counted { 0 < count_at counts.old file }
     ensures gone { map_of tree.new ≡ killed pool (λ other. payload_eq other (Payload.FileRef file)) (map_of tree.old) }
@@ -58,13 +58,13 @@ fn unrefer(counts: &mut Numbers, tree: &mut PoolTree<Payload>, pool: PoolId, fil
     if count > 1 {
         counts.set(file, count - 1);
     } else {
-        counts.take(file);
+        counts.remove(file);
     }
 }
 
 /// Takes out the newest references to files that a pool has, the last first.
 pub(crate) fn unrefer_all(
-    counts: &mut Numbers,
+    counts: &mut NameTable<u64>,
     tree: &mut PoolTree<Payload>,
     pool: PoolId,
     files: &[FileNo],
@@ -83,7 +83,7 @@ pub(crate) fn unrefer_all(
 
 /// Registers a reference to each of these files with a pool, and counts them. Of none it takes no memory. Refused, nothing is changed.
 pub(crate) fn refer_all(
-    counts: &mut Numbers,
+    counts: &mut NameTable<u64>,
     tree: &mut PoolTree<Payload>,
     pool: PoolId,
     files: &[FileNo],

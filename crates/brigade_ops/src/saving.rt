@@ -32,7 +32,7 @@ pub(crate) fn push_some<T: Drop>(items: &mut Seq<T>, item: Option<T>) -> Result<
     }
 }
 
-#[tactic(auto, unfolding(crate::specs::Store::lists, crate::specs::Store::brigade_of, crate::specs::Store::pool_of, crate::specs::Store::next_name, crate::specs::Store::references, stored_rings::specs::Numbers::count_at), using(pool_tree::proofs::Trees::tree_formed))]
+#[tactic(auto, unfolding(crate::specs::Store::lists, crate::specs::Store::brigade_of, crate::specs::Store::pool_of, crate::specs::Store::next_name, crate::specs::Store::references, crate::specs::Files::count_at), using(pool_tree::proofs::Trees::tree_formed))]
 impl<R: Rings<Stored> + Drop> Brigades<R> {
     ghost use Rattle.brigade_ops.specs.Store.{lists, brigade_of, pool_of, next_name, references};
 
@@ -85,7 +85,7 @@ impl<R: Rings<Stored> + Drop> Brigades<R> {
 
     /// Sets each bucket of `b` aside into the pool that `o` is on, and moves them to the tail of `o` (`ap_save_brigade`). A FILE bucket
     /// whose home is not above the pool gets a reference to its file there, and no other takes memory. Refused, nothing is changed.
-    #[tactic(auto, unfolding(stored_rings::specs::Shelf::seen, crate::specs::Store::lists, crate::specs::Store::brigade_of, crate::specs::Store::pool_of, crate::specs::Store::next_name, crate::specs::Store::references, stored_rings::specs::Numbers::count_at), using(pool_tree::proofs::Trees::tree_formed))]
+    #[tactic(auto, unfolding(stored_rings::specs::Shelf::seen, crate::specs::Store::lists, crate::specs::Store::brigade_of, crate::specs::Store::pool_of, crate::specs::Store::next_name, crate::specs::Store::references, crate::specs::Files::count_at), using(pool_tree::proofs::Trees::tree_formed))]
     pub fn save(
         &mut self,
         tree: &mut PoolTree<Payload>,

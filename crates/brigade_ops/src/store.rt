@@ -4,8 +4,9 @@ ghost use Rattle.std.specs.Prelude.{◌≡◌, ℕ, None};
 
 use bucket_kinds::Stored;
 use bucket_ring::{RingId, Rings};
+use name_table::NameTable;
 use std::alloc::Global;
-use stored_rings::{Numbers, Shelf};
+use stored_rings::Shelf;
 
 /// The name of a brigade, which is never given again.
 pub type BrigadeId = RingId;
@@ -15,8 +16,8 @@ pub type BrigadeId = RingId;
 pub struct Brigades<R: Rings<Stored>> {
     pub(crate) alloc: Global,
     pub(crate) held: Shelf<R>,
-    pub(crate) pools: Numbers,
-    pub(crate) references: Numbers,
+    pub(crate) pools: NameTable<u64>,
+    pub(crate) references: NameTable<u64>,
     pub(crate) asked: u64,
 }
 
@@ -35,8 +36,8 @@ impl<R: Rings<Stored> + Drop> Brigades<R> {
         Brigades {
             alloc,
             held: Shelf::new(alloc, first),
-            pools: Numbers::new(alloc),
-            references: Numbers::new(alloc),
+            pools: NameTable::new(alloc),
+            references: NameTable::new(alloc),
             asked: 0,
         }
     }

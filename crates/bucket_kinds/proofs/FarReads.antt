@@ -1,6 +1,8 @@
 -- A file in memory is shorter than 2 ^ 63 bytes, so no byte is read from beyond.
 use Rattle.std.proofs.Common.{◌≡◌, ℕ, ◌-◌, ◌^◌, ◌<◌, ◌≤◌, min, Bool, true, false, cond, nat_le, List, length, take, drop, Option, Some, None, refl, sym, ◌∙◌, ap, ⊎_elim, arith}
-use Rattle.std.specs.BTreeMap.{BTreeMap, get, get_by}
+use Rattle.std.specs.BTreeMap.{BTreeMap, get_by}
+use Rattle.std.specs.HashMap.{get}
+use Rattle.std.specs.Prelude.{nat_eq}
 use Rattle.std.specs.Ordering.{nat_cmp}
 use Rattle.std.specs.Cmp.Lexicographic.{slice_cmp}
 use Rattle.std.proofs.lemmas.List.{length-drop}
@@ -32,7 +34,7 @@ either_way false o is = is
 pub far_read : (m : MemFiles) (file at n : ℕ) → 2 ^ 63 ≤ at → 0 < n → read_part file at n (files_of m) ≡ None
 unfolding read_part files_of
 far_read m file at n far some =
-    either_way (fails_now m.fails_in) _ (far_under m.files (get nat_cmp m.opened file) at n far some)
+    either_way (fails_now m.fails_in) _ (far_under m.files (get nat_eq m.opened file) at n far some)
 
 -- A place that is not a number of 64 bits is read as the last one that is.
 pub read_at_last : (m : MemFiles) (file at place n : ℕ) → place ≡ min at (2 ^ 64 - 1) → 0 < n → read_part file at n (files_of m) ≡ read_part file place n (files_of m)

@@ -2,7 +2,9 @@
 use Rattle.std.proofs.Common.{◌≡◌, ℕ, Bool, true, false, cond, List, [], ◌∷◌, Option, Some, None, is_some, refl, sym, ◌∙◌, ap}
 use Rattle.std.proofs.Math.Path.{fun_ext}
 use Rattle.std.specs.Str.{bytes_eq}
-use Rattle.std.specs.BTreeMap.{BTreeMap, get, insert_entry}
+use Rattle.std.specs.BTreeMap.{BTreeMap, insert_entry}
+use Rattle.std.specs.HashMap.{HashMap, get}
+use Rattle.std.specs.Prelude.{nat_eq}
 use Rattle.std.specs.Map.{lookup}
 use Rattle.std.specs.Ordering.{nat_cmp, is_eq, match_ordering}
 use Rattle.std.specs.declared.cmp.Ordering.{Ordering}
@@ -90,13 +92,13 @@ same_under old new name bytes (Some b) h missing there =
           cc
 
 -- The numbers stay those of the same files where a file is added.
-pub same_numbered : (old new : BTreeMap Bytes Bytes) (opened : BTreeMap ℕ Bytes) (name bytes : List ℕ)
+pub same_numbered : {S : Type 0} (old new : BTreeMap Bytes Bytes) (opened : HashMap ℕ Bytes S) (name bytes : List ℕ)
     → ((q : List ℕ) → under new q ≡ cond (bytes_eq q name) (Some bytes) (under old q))
     → under old name ≡ None
-    → ((n : ℕ) (b : Bytes) → get nat_cmp opened n ≡ Some b → is_some (under old b.items) ≡ true)
+    → ((n : ℕ) (b : Bytes) → get nat_eq opened n ≡ Some b → is_some (under old b.items) ≡ true)
     → at_number new opened ≡ at_number old opened
 same_numbered old new opened name bytes h missing there =
-    fun_ext (λ n. same_under old new name bytes (get nat_cmp opened n) h missing (there n))
+    fun_ext (λ n. same_under old new name bytes (get nat_eq opened n) h missing (there n))
 
 pub none_if : (o : Option (List ℕ)) → is_some o ≡ false → o ≡ None
 none_if None h = refl

@@ -1,7 +1,8 @@
 -- Files in memory: their bytes by name, and the names of the open ones by number.
-use Rattle.std.specs.Prelude.{ℕ, List, Option, Some, None, Vec}
+use Rattle.std.specs.Prelude.{ℕ, List, Option, Some, None, Vec, nat_eq}
 use Rattle.std.specs.declared.alloc.Global.{Global}
-use Rattle.std.specs.BTreeMap.{BTreeMap, get, get_by}
+use Rattle.std.specs.BTreeMap.{BTreeMap, get_by}
+use Rattle.std.specs.HashMap.{HashMap, get}
 use Rattle.std.specs.Ordering.{nat_cmp}
 use Rattle.std.specs.Cmp.Lexicographic.{slice_cmp}
 
@@ -21,5 +22,5 @@ under_one files None = None
 under_one files (Some name) = under files name.items
 
 -- the open file of a number
-abbrev pub at_number : BTreeMap Bytes Bytes → BTreeMap ℕ Bytes → ℕ → Option (List ℕ)
-at_number files opened n = under_one files (get nat_cmp opened n)
+abbrev pub at_number : {S : Type 0} → BTreeMap Bytes Bytes → HashMap ℕ Bytes S → ℕ → Option (List ℕ)
+at_number files opened n = under_one files (get nat_eq opened n)

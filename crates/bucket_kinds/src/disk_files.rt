@@ -1,8 +1,7 @@
 //! Files of a disk.
 
-ghost use Rattle.std.specs.Prelude.{◌≡◌, ◌<◌, ◌≤◌, ℕ, IsSome, IfOk, length, true};
-ghost use Rattle.std.specs.Ordering.{nat_cmp};
-ghost use Rattle.std.specs.BTreeMap.{get};
+ghost use Rattle.std.specs.Prelude.{◌≡◌, ◌<◌, ◌≤◌, ℕ, IsSome, nat_eq, IfOk, length, true};
+ghost use Rattle.std.specs.HashMap.{get};
 ghost use Rattle.bucket_kinds.specs.Device.{HasFailed};
 ghost use Rattle.bucket_kinds.specs.DiskDevice.{disk_device, fresh_disk};
 ghost use Rattle.bucket_kinds.specs.declared.refusal.FileFault.TheVariants as fault;
@@ -10,8 +9,8 @@ ghost use Rattle.bucket_kinds.specs.declared.refusal.FileFault.TheVariants as fa
 use crate::files::{FileNo, Files};
 use crate::numbers::{drop_number, put_number};
 use crate::refusal::FileFault;
-use std::collections::BTreeMap;
-use std::fs::OpenFile;
+use std::collections::HashMap;
+use std::io::{Seek, SeekFrom};
 use std::os::unix::fs::FileExt;
 use std::rt::Files as FileSystem;
 use std::{fs, io, str};
@@ -22,12 +21,12 @@ use std::{fs, io, str};
 #[derive(Drop)]
 pub struct DiskFiles<R: FileSystem + AllocGlobal> {
     runtime: R,
-    opened: BTreeMap<FileNo, R::File>,
+    opened: HashMap<FileNo, R::File>,
     next: FileNo,
     failures: u64,
 
     // The number of an open file was given.
-    ghost given: { (n : ℕ) → IsSome (get nat_cmp opened n) → n < next },
+    ghost given: { (n : ℕ) → IsSome (get nat_eq opened n) → n < next },
     // No file has the number 0.
     ghost numbered: { 0 < next },
 }
@@ -83,7 +82,7 @@ where
         let alloc = runtime.alloc();
         DiskFiles {
             runtime,
-            opened: BTreeMap::new(alloc),
+            opened: HashMap::new(alloc),
             next: 1,
             failures: 0,
         }
@@ -114,24 +113,22 @@ where
         if leads_elsewhere(&self.runtime, path) {
             return Err(FileFault::NotThere);
         }
-        let file = match fs::File::open(&self.runtime, path) {
+        let mut file = match fs::File::open(&self.runtime, path) {
             Ok(file) => file,
             Err(error) if leads_nowhere(error.kind()) => return Err(FileFault::NotThere),
             Err(_) => return Err(self.fail()),
         };
-        let Ok(metadata) = file.metadata() else {
+        // Reads are at places, so where the file stands afterwards does not matter.
+        let Ok(len) = file.seek(SeekFrom::End(0)) else {
             return Err(self.fail());
         };
-        if !metadata.is_file() {
-            return Err(FileFault::NotThere);
-        }
         let number = self.next;
         if number == u64::MAX {
             return Err(FileFault::NamesSpent);
         }
         put_number(&mut self.opened, number, file)?;
         self.next += 1;
-        Ok((number, metadata.len()))
+        Ok((number, len))
     }
 
     fn read_at(&mut self, file: FileNo, at: u64, buffer: &mut [u8]) -> Result<usize, FileFault> {

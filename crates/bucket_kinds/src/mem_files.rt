@@ -1,9 +1,8 @@
 //! Files in memory.
 
-ghost use Rattle.std.specs.Prelude.{◌≡◌, ◌<◌, ◌==◌, if◌then◌else◌, ℕ, List, length, true, false, Some, None, IsSome, is_some, MatchOption, OnOk, OnErr, IsErr, ◌↔◌};
+ghost use Rattle.std.specs.Prelude.{◌≡◌, ◌<◌, ◌==◌, if◌then◌else◌, ℕ, List, length, true, false, Some, None, IsSome, is_some, nat_eq, MatchOption, OnOk, OnErr, IsErr, ◌↔◌};
 ghost use Rattle.std.specs.Str.{bytes_eq};
-ghost use Rattle.std.specs.Ordering.{nat_cmp};
-ghost use Rattle.std.specs.BTreeMap.{get};
+ghost use Rattle.std.specs.HashMap.{get};
 ghost use Rattle.bucket_kinds.specs.Device.{Holds};
 ghost use Rattle.bucket_kinds.specs.Answers.{IsFilled};
 ghost use Rattle.bucket_kinds.specs.InMemory.{Bytes, under, at_number};
@@ -12,21 +11,21 @@ use crate::files::{FileNo, Files};
 use crate::numbers::{drop_number, put_number};
 use crate::refusal::{AddRefusal, FileFault, ReadFault};
 use std::alloc::{AllocError, Global};
-use std::collections::BTreeMap;
+use std::collections::{BTreeMap, HashMap};
 
 /// Files in memory: a map from name to bytes. An opening or a read fails only where it was told to.
 #[derive(Drop)]
 pub struct MemFiles {
     alloc: Global,
     files: BTreeMap<Vec<u8>, Vec<u8>>,
-    opened: BTreeMap<u64, Vec<u8>>,
+    opened: HashMap<u64, Vec<u8>>,
     next: u64,
     fails_in: Option<u64>,
     failures: u64,
 
     // An open file is there, and its number was given.
-    ghost there: { (n : ℕ) (name : Bytes) → get nat_cmp opened n ≡ Some name → is_some (under files name.items) ≡ true },
-    ghost given: { (n : ℕ) → IsSome (get nat_cmp opened n) → n < next },
+    ghost there: { (n : ℕ) (name : Bytes) → get nat_eq opened n ≡ Some name → is_some (under files name.items) ≡ true },
+    ghost given: { (n : ℕ) → IsSome (get nat_eq opened n) → n < next },
     // No file has the number 0.
     ghost numbered: { 0 < next },
 }
@@ -74,7 +73,7 @@ impl MemFiles {
         MemFiles {
             alloc,
             files: BTreeMap::new(alloc),
-            opened: BTreeMap::new(alloc),
+            opened: HashMap::new(alloc),
             next: 1,
             fails_in: None,
             failures: 0,

@@ -1,20 +1,19 @@
 //! What stands under the numbers of open files.
 
-ghost use Rattle.std.specs.Prelude.{◌≡◌, ◌==◌, if◌then◌else◌, ℕ, Some, None, OnOk, OnErr};
-ghost use Rattle.std.specs.Ordering.{nat_cmp};
-ghost use Rattle.std.specs.BTreeMap.{get};
+ghost use Rattle.std.specs.Prelude.{◌≡◌, ◌==◌, if◌then◌else◌, ℕ, Some, None, nat_eq, OnOk, OnErr};
+ghost use Rattle.std.specs.HashMap.{get};
 
 use crate::files::FileNo;
 use std::alloc::AllocError;
-use std::collections::BTreeMap;
+use std::collections::HashMap;
 
 /// Puts a value under a number. Without memory nothing is changed.
 pub fn put_number<V: Drop>(
-    opened: &mut BTreeMap<FileNo, V>,
+    opened: &mut HashMap<FileNo, V>,
     number: FileNo,
     value: V,
 ) -> Result<(), AllocError>
-    ensures ok { OnOk result ((n : ℕ) → get nat_cmp opened.new n ≡ (if n == number then Some value else get nat_cmp opened.old n)) }
+    ensures ok { OnOk result ((n : ℕ) → get nat_eq opened.new n ≡ (if n == number then Some value else get nat_eq opened.old n)) }
     ensures err { OnErr result (opened.new.entries ≡ opened.old.entries) }
 {
     opened.insert(number, value)?;
@@ -22,8 +21,8 @@ pub fn put_number<V: Drop>(
 }
 
 /// Drops what stands under a number.
-pub fn drop_number<V: Drop>(opened: &mut BTreeMap<FileNo, V>, number: FileNo)
-    ensures { (n : ℕ) → get nat_cmp opened.new n ≡ (if n == number then None else get nat_cmp opened.old n) }
+pub fn drop_number<V: Drop>(opened: &mut HashMap<FileNo, V>, number: FileNo)
+    ensures { (n : ℕ) → get nat_eq opened.new n ≡ (if n == number then None else get nat_eq opened.old n) }
 {
     let _ = opened.remove(&number);
 }

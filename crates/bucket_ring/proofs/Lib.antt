@@ -9,10 +9,8 @@ pub mod Kept
 pub mod Taken
 pub mod Read
 pub mod Heads
-pub mod HeadTables
 pub mod Batches
 pub mod Rewritten
 pub mod Short
 pub mod Splices
-pub mod Written
 pub mod Carried

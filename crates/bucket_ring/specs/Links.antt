@@ -10,7 +10,7 @@ use Rattle.bucket_ring.specs.declared.links.Position.TheVariants.{Tail, Head as 
 use Rattle.bucket_ring.specs.declared.links.RingHead.{RingHead}
 use Rattle.bucket_ring.specs.declared.links.Links.{Links}
 use Rattle.bucket_ring.specs.declared.slots.Slots.{Ghosts}
-use Rattle.bucket_ring.specs.HeadTable.{head_in}
+use Rattle.name_table.specs.NameTable.{value_in}
 use Rattle.bucket_ring.specs.Lists.{upd, same}
 use Rattle.bucket_ring.specs.Walks.{id_of, slots, turned, SlotsLinked}
 
@@ -90,7 +90,7 @@ module _ {T N : Type 0} {g : Ghosts N T} where
   bucket_of links k = option_and_then (named_in k) (g.node links.nodes k)
 
   unfoldable pub head_of : Links T N g → ℕ → Option RingHead
-  head_of links r = head_in links.heads r
+  head_of links r = value_in links.heads r
 
   -- the slots before and behind each are the same
   pub record KeepsLinks (old new : Links T N g) : Type 0 where

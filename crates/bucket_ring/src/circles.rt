@@ -1,7 +1,7 @@
 //! Rings as circles of slots: buckets that come in and out, and what stands in a ring.
 
 ghost use Rattle.std.specs.Prelude.{◌≡◌, ℕ, ◌+◌, ◌<◌, ◌≤◌, ◌^◌, length, drop, [], ◌∷◌, if◌then◌else◌, Some, None, true, is_some};
-ghost use Rattle.std.specs.HashMap.{spare};
+ghost use Rattle.name_table.specs.NameTable.{room_in};
 ghost use Rattle.bucket_ring.specs.Lists.{upd, on, list_at, same, rest, without, found, first_of, with_payload};
 ghost use Rattle.bucket_ring.specs.Spots.{placed};
 ghost use Rattle.bucket_ring.specs.Walks.{id_of};
@@ -94,12 +94,12 @@ impl<T: Drop, S: Slots<T> + Drop> Links<T, S> {
         requires linked { AreLinked self.old }
         requires none { lists_of self.old ring ≡ None }
         requires room { 1 ≤ S.room self.old.nodes }
-        requires spare { 0 < spare self.old.heads.far }
+        requires spare { 0 < room_in self.old.heads }
         ensures linked { AreLinked self.new }
         ensures lists { (n : ℕ) → lists_of self.new n ≡ upd (lists_of self.old) ring (Some []) n }
         ensures places { (j : _) → ring_at self.new j ≡ ring_at self.old j }
         ensures room { (n : ℕ) → n + 1 ≤ S.room self.old.nodes → n ≤ S.room self.new.nodes }
-        ensures spare { spare self.old.heads.far ≤ spare self.new.heads.far + 1 }
+        ensures spare { room_in self.old.heads ≤ room_in self.new.heads + 1 }
     {
         let sentinel = self.fresh(ring);
         self.put_head(ring, RingHead { sentinel, count: 0 });

@@ -2,8 +2,6 @@
 #![tactic(auto)]
 
 mod circles;
-mod hashing;
-mod head_table;
 mod laws;
 mod linked_rings;
 mod links;
@@ -11,7 +9,6 @@ mod names;
 mod rings;
 mod slots;
 
-pub use hashing::NameHasher;
 pub use laws::{names_run_out, worked_moves};
 pub use linked_rings::{LinkedRings, PlainRings, RawRings};
 pub use names::{BucketId, RingId, RingRefusal};

@@ -3,7 +3,7 @@
 ghost use Rattle.std.specs.Prelude.{◌≡◌, ◌≢◌, ◌↔◌, ℕ, ◌+◌, ◌<◌, ◌≤◌, ◌^◌, length, List, [], ◌∷◌, ◌++◌, Some, None, true, is_some, is_ok, if◌then◌else◌, IsOk, IfOk, IfErr, OnOk, OnErr};
 ghost use Rattle.bucket_ring.specs.Lists.{upd, on, list_at, found, front, rest, without, same, by_birth, numbered};
 ghost use Rattle.bucket_ring.specs.declared.names.BucketId.{BucketId};
-ghost use Rattle.std.specs.HashMap.{spare};
+ghost use Rattle.name_table.specs.NameTable.{room_in};
 ghost use Rattle.bucket_ring.specs.Spots.{placed};
 ghost use Rattle.bucket_ring.specs.Links.{ring_at, lists_of, IsSpot, AreLinked};
 ghost use Rattle.bucket_ring.specs.Kept.{IsKept, NoneRevived};
@@ -79,8 +79,8 @@ impl<T: Drop, S: Slots<T> + Drop> LinkedRings<T, S> {
     /// Makes room for so many slots, and rings. Where there is room, it takes no memory.
     fn reserve(&mut self, slots: usize, rings: usize) -> Result<(), AllocError>
         ensures room { OnOk result (slots ≤ S.room self.new.links.nodes) }
-        ensures spare { OnOk result (rings ≤ spare self.new.links.heads.far) }
-        ensures sure { slots ≤ S.room self.old.links.nodes → rings ≤ spare self.old.links.heads.far → IsOk result }
+        ensures spare { OnOk result (rings ≤ room_in self.new.links.heads) }
+        ensures sure { slots ≤ S.room self.old.links.nodes → rings ≤ room_in self.old.links.heads → IsOk result }
         ensures same { (n : ℕ) → lists_of self.new.links n ≡ lists_of self.old.links n }
         ensures still { (id : BucketId) → ring_at self.new.links id ≡ ring_at self.old.links id }
         ensures next { self.new.next ≡ self.old.next }
@@ -92,7 +92,7 @@ impl<T: Drop, S: Slots<T> + Drop> LinkedRings<T, S> {
     fn ready(&mut self, count: usize, rings: usize) -> Result<(), RingRefusal>
         requires { rings ≤ 2 }
         ensures room { OnOk result (count + rings ≤ S.room self.new.links.nodes) }
-        ensures spare { OnOk result (rings ≤ spare self.new.links.heads.far) }
+        ensures spare { OnOk result (rings ≤ room_in self.new.links.heads) }
         ensures spent { (result ≡ Err RingRefusal.NamesSpent) ↔ (u64.MAX < self.old.next + rings + count) }
         ensures same { (n : ℕ) → lists_of self.new.links n ≡ lists_of self.old.links n }
         ensures still { (id : BucketId) → ring_at self.new.links id ≡ ring_at self.old.links id }
@@ -137,13 +137,13 @@ impl<T: Drop, S: Slots<T> + Drop> LinkedRings<T, S> {
     /// Makes an empty ring. There is room for it, and a name.
     fn put_ring(&mut self) -> RingId
         requires room { 1 ≤ S.room self.old.links.nodes }
-        requires spare { 0 < spare self.old.links.heads.far }
+        requires spare { 0 < room_in self.old.links.heads }
         requires unspent { self.old.next < u64.MAX }
         ensures name { result ≡ self.old.next }
         ensures out { (n : ℕ) → lists_of self.new.links n ≡ upd (lists_of self.old.links) result (Some []) n }
         ensures next { self.new.next ≡ self.old.next + 1 }
         ensures room { (count : ℕ) → count + 1 ≤ S.room self.old.links.nodes → count ≤ S.room self.new.links.nodes }
-        ensures spare { spare self.old.links.heads.far ≤ spare self.new.links.heads.far + 1 }
+        ensures spare { room_in self.old.links.heads ≤ room_in self.new.links.heads + 1 }
         ensures places { (id : BucketId) → ring_at self.new.links id ≡ ring_at self.old.links id }
     {
         let name = self.next;
@@ -189,7 +189,7 @@ impl<T: Drop, S: Slots<T> + Drop> Rings<T> for LinkedRings<T, S> {
 
     ghost next_name = { λ s. s.next };
 
-    ghost has_room = { λ s. (1 ≤ S.room s.links.nodes) × (1 ≤ spare s.links.heads.far) };
+    ghost has_room = { λ s. (1 ≤ S.room s.links.nodes) × (1 ≤ room_in s.links.heads) };
 
     ghost kept = { λ s. s.kept };
 

@@ -2,15 +2,15 @@
 
 ghost use Rattle.std.specs.Prelude.{◌≡◌, ◌≢◌, ℕ, ◌+◌, ◌-◌, ◌^◌, ◌<◌, ◌≤◌, ◌==◌, if◌then◌else◌, Some, None, true, is_some, IsOk, OnOk};
 ghost use Rattle.std.specs.Option.{option_map};
-ghost use Rattle.std.specs.HashMap.{spare};
+ghost use Rattle.name_table.specs.NameTable.{room_in};
 ghost use Rattle.bucket_ring.specs.Lists.{upd};
 ghost use Rattle.bucket_ring.specs.Walks.{id_of, turned};
 ghost use Rattle.bucket_ring.specs.declared.names.BucketId.{BucketId};
 ghost use Rattle.bucket_ring.specs.declared.links.RingHead.{RingHead};
 
-use crate::head_table::HeadTable;
 use crate::names::{BucketId, RingId};
 use crate::slots::Slots;
+use name_table::NameTable;
 use raw_nodes::{Load, SlotBucket};
 use std::alloc::{AllocError, Global};
 use std::marker::PhantomData;
@@ -36,7 +36,7 @@ pub(crate) struct RingHead {
 pub(crate) struct Links<T, S: Slots<T>> {
     pub(crate) nodes: S,
     pub(crate) mark: PhantomData<T>,
-    pub(crate) heads: HeadTable,
+    pub(crate) heads: NameTable<RingHead>,
     ghost slots: { (k : ℕ) → S.node nodes k ≡ S.node nodes k },
 }
 
@@ -52,7 +52,7 @@ impl<T: Drop, S: Slots<T> + Drop> Links<T, S> {
         Links {
             nodes: S::new(alloc),
             mark: PhantomData,
-            heads: HeadTable::new(alloc),
+            heads: NameTable::new(alloc),
         }
     }
 
@@ -106,8 +106,8 @@ impl<T: Drop, S: Slots<T> + Drop> Links<T, S> {
     /// Makes room for so many more slots and rings.
     pub(crate) fn reserve(&mut self, slots: usize, rings: usize) -> Result<(), AllocError>
         ensures room { OnOk result (slots ≤ S.room self.new.nodes) }
-        ensures spare { OnOk result (rings ≤ spare self.new.heads.far) }
-        ensures sure { slots ≤ S.room self.old.nodes → rings ≤ spare self.old.heads.far → IsOk result }
+        ensures spare { OnOk result (rings ≤ room_in self.new.heads) }
+        ensures sure { slots ≤ S.room self.old.nodes → rings ≤ room_in self.old.heads → IsOk result }
         ensures links { KeepsLinks self.old self.new }
         ensures buckets { KeepsBuckets self.old self.new }
         ensures heads { (n : ℕ) → head_of self.new n ≡ head_of self.old n }
@@ -118,10 +118,10 @@ impl<T: Drop, S: Slots<T> + Drop> Links<T, S> {
 
     /// Puts the head of a ring, where there is room.
     pub(crate) fn put_head(&mut self, ring: RingId, head: RingHead)
-        requires { 0 < spare self.old.heads.far }
+        requires { 0 < room_in self.old.heads }
         ensures heads { (n : ℕ) → head_of self.new n ≡ upd (head_of self.old) ring (Some head) n }
         ensures nodes { self.new.nodes ≡ self.old.nodes }
-        ensures spare { spare self.old.heads.far ≤ spare self.new.heads.far + 1 }
+        ensures spare { room_in self.old.heads ≤ room_in self.new.heads + 1 }
     {
         self.heads.put(ring, head);
     }
@@ -153,6 +153,7 @@ impl<T: Drop, S: Slots<T> + Drop> Links<T, S> {
     }
 
     /// The head of a ring.
+    #[inline]
     pub(crate) fn head(&self, ring: RingId) -> RingHead
         requires { is_some (head_of self.now ring) ≡ true }
         ensures { head_of self.now ring ≡ Some result }
@@ -262,6 +263,7 @@ impl<T: Drop, S: Slots<T> + Drop> Links<T, S> {
     }
 
     /// A ring has a bucket less. Answers its head as it was.
+    #[inline]
     pub(crate) fn shrink(&mut self, ring: RingId) -> RingHead
         requires there { is_some (head_of self.old ring) ≡ true }
         requires some { (h : RingHead) → head_of self.old ring ≡ Some h → 1 ≤ h.count }
@@ -270,11 +272,18 @@ impl<T: Drop, S: Slots<T> + Drop> Links<T, S> {
         ensures nodes { self.new.nodes ≡ self.old.nodes }
     {
         let was = self.head(ring);
-        self.heads.set_count(ring, was.count - 1);
+        self.heads.set(
+            ring,
+            RingHead {
+                count: was.count - 1,
+                ..was
+            },
+        );
         was
     }
 
     /// A ring has a bucket more. Answers its head as it was.
+    #[inline]
     pub(crate) fn grow(&mut self, ring: RingId) -> RingHead
         requires there { is_some (head_of self.old ring) ≡ true }
         requires few { (h : RingHead) → head_of self.old ring ≡ Some h → h.count + 1 < 2 ^ 64 }
@@ -283,7 +292,13 @@ impl<T: Drop, S: Slots<T> + Drop> Links<T, S> {
         ensures nodes { self.new.nodes ≡ self.old.nodes }
     {
         let was = self.head(ring);
-        self.heads.set_count(ring, was.count + 1);
+        self.heads.set(
+            ring,
+            RingHead {
+                count: was.count + 1,
+                ..was
+            },
+        );
         was
     }
 

@@ -1,3 +1,4 @@
+pub mod FirstPlace
 pub mod ListLaws
 pub mod CutLaws
 pub mod NumberLaws

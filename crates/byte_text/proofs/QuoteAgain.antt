@@ -2,9 +2,8 @@
 use Rattle.std.proofs.Common.{◌≡◌, ℕ, ◌+◌, ◌-◌, ◌*◌, ◌<◌, Bool, true, false, ◌&&◌, not, cond, eqb, ltb, leb, List, [], ◌∷◌, ◌++◌, length, map, Option, Some, refl, sym, ◌∙◌, ap, subst, arith}
 use Rattle.std.proofs.Common.{append_assoc, append-nil, length-append}
 use Rattle.std.specs.Prelude.{All}
-use Rattle.std.specs.List.{list_all}
-use Rattle.std.proofs.lemmas.Bool.{and_parts, ltb-true, ltb-false, le-leb, lt-leb, ne_eqb, not-true, leb-true}
-use Rattle.byte_text.specs.Bytes.{is_printable, unindented}
+use Rattle.std.proofs.lemmas.Bool.{and_parts, ltb-true, ltb-false, le-leb, lt-leb, not-true, leb-true}
+use Rattle.byte_text.specs.Bytes.{is_printable}
 use Rattle.byte_text.specs.Quoted.{Quoted, hex_digit, hex_value, quoted, text_from}
 use Rattle.byte_text.specs.QuotedTexts.{Piece, plain, quote, backslash, line_feed, carriage_return, hex, Spells, is_piece, piece_byte, pieces_text}
 use Rattle.byte_text.specs.declared.quoted.Scan.TheVariants as scan

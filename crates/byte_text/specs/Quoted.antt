@@ -82,6 +82,9 @@ quoted (b ∷ bs) = if b == 34 then text_from scan.Plain [] 1 bs else None
 abbrev pub text_of : Option Quoted → Option (List ℕ)
 text_of q = option_map (λ t. t.text) q
 
+abbrev pub with_length : Quoted → List ℕ × ℕ
+with_length q = (q.text, q.used)
+
 abbrev pub measure_of : Option Quoted → Option Measured
 measure_of q = option_map (λ t. record { len = length t.text; used = t.used }) q
 

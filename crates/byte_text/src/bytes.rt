@@ -5,6 +5,8 @@ ghost use Rattle.std.specs.Cmp.Lexicographic.{pointwise};
 ghost use Rattle.std.specs.List.{position_or_len};
 ghost use Rattle.byte_text.specs.Bytes.{is_printable, all_printable, token, after_token, unindented, begins, tail};
 
+use memchr::memchr;
+
 /// Whether a byte may stand in a text as it is, from 0x20 to 0x7E.
 pub fn is_printable(byte: u8) -> bool
     ensures { result ≡ is_printable byte }
@@ -45,16 +47,12 @@ pub fn tail(bytes: &[u8]) -> &[u8]
 }
 
 /// How many bytes stand before the first of these, or all where it is not there.
+#[tactic(auto, using(crate::proofs::FirstPlace::none_before, crate::proofs::FirstPlace::some_before))]
 pub fn len_before(bytes: &[u8], stop: u8) -> usize
     ensures value { result ≡ position_or_len (λ b. b == stop) bytes.now }
     ensures within { result ≤ length bytes.now }
 {
-    for (i, byte) in bytes.iter().enumerate() {
-        if *byte == stop {
-            return i;
-        }
-    }
-    bytes.len()
+    memchr(stop, bytes).unwrap_or(bytes.len())
 }
 
 /// The bytes before the first space: the word that a line begins with.
@@ -72,6 +70,16 @@ pub fn after_token(bytes: &[u8]) -> &[u8]
     ensures within { length result.now ≤ length bytes.now }
 {
     &bytes[len_before(bytes, b' ')..]
+}
+
+/// The bytes before the first space, and those from it on.
+#[tactic(auto, unfolding(crate::specs::Bytes::token, crate::specs::Bytes::after_token))]
+pub fn cut_token(bytes: &[u8]) -> (&[u8], &[u8])
+    ensures token { result.0.now ≡ token bytes.now }
+    ensures rest { result.1.now ≡ after_token bytes.now }
+    ensures within { length result.1.now ≤ length bytes.now }
+{
+    bytes.split_at(len_before(bytes, b' '))
 }
 
 /// A line without the spaces that it begins with.

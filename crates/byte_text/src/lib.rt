@@ -9,10 +9,11 @@ mod text_line;
 mod writer;
 
 pub use bytes::{
-    after_token, all_printable, begins, is_printable, is_text, len_before, tail, token, unindented,
+    after_token, all_printable, begins, cut_token, is_printable, is_text, len_before, tail, token,
+    unindented,
 };
 pub use line_reader::{LastLine, TakesLines, take_lines};
 pub use number::{constant_of, decimal_u32, decimal_u64, decimal_up_to};
-pub use quoted::{Measured, measure, print_text, push_spelling, unquote};
+pub use quoted::{Measured, measure, print_text, push_spelling, unquote, unquote_front};
 pub use text_line::{TextLine, first_line};
 pub use writer::{WriteFault, put_all};

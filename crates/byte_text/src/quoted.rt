@@ -2,7 +2,7 @@
 
 ghost use Rattle.std.specs.Prelude.{◌≡◌, ℕ, ◌+◌, ◌<◌, ◌≤◌, ◌++◌, ◌∷◌, [], List, length, take, option_map, option_to_list, IfSome, IfOk, OnOk, OnErr, Some};
 ghost use Rattle.byte_text.specs.QuotedTexts.{Spells, StandsIn};
-ghost use Rattle.byte_text.specs.Quoted.{hex_value, hex_digit, plain, escaped, scanned, IsBelow16, is_done, measured_from, text_from, quoted, measure_of, text_of, spelled, spelled_all, spelling};
+ghost use Rattle.byte_text.specs.Quoted.{hex_value, hex_digit, plain, escaped, scanned, IsBelow16, is_done, measured_from, text_from, quoted, measure_of, text_of, with_length, spelled, spelled_all, spelling};
 ghost use Rattle.byte_text.specs.Writes.{Wrote};
 
 use crate::bytes::is_printable;
@@ -175,17 +175,18 @@ fn push_byte(text: &mut Seq<u8>, byte: Option<u8>) -> Result<(), AllocError>
     }
 }
 
-fn unquote_rest(alloc: Global, rest: &[u8]) -> Result<Option<Seq<u8>>, AllocError>
-    ensures { IfOk result (λ t. t ≡ text_of (text_from Scan.Plain [] 1 rest.now)) }
+fn unquote_rest(alloc: Global, rest: &[u8]) -> Result<Option<(Seq<u8>, usize)>, AllocError>
+    ensures value { IfOk result (λ t. t ≡ option_map with_length (text_from Scan.Plain [] 1 rest.now)) }
+    ensures within { IfOk result (λ t. IfSome t (λ t. t.1 ≤ length rest.now + 1)) }
 {
     let mut scan = Scan::Plain;
     let mut text = Seq::new(alloc);
-    for byte in rest {
+    for (i, byte) in rest.iter().enumerate() {
         let Some(read) = scan_byte(scan, *byte) else {
             return Ok(None);
         };
         if is_done(read.scan) {
-            return Ok(Some(text));
+            return Ok(Some((text, i + 2)));
         }
         scan = read.scan;
         push_byte(&mut text, read.byte)?;
@@ -193,14 +194,25 @@ fn unquote_rest(alloc: Global, rest: &[u8]) -> Result<Option<Seq<u8>>, AllocErro
     Ok(None)
 }
 
+/// The text whose spelling these bytes begin with, and how many bytes the spelling has with both quotes.
 #[tactic(auto, unfolding(crate::specs::Quoted::quoted))]
-fn read_quoted(alloc: Global, bytes: &[u8]) -> Result<Option<Seq<u8>>, AllocError>
-    ensures { IfOk result (λ t. t ≡ text_of (quoted bytes.now)) }
+pub fn unquote_front(alloc: Global, bytes: &[u8]) -> Result<Option<(Seq<u8>, usize)>, AllocError>
+    ensures value { IfOk result (λ t. t ≡ option_map with_length (quoted bytes.now)) }
+    ensures within { IfOk result (λ t. IfSome t (λ t. t.1 ≤ length bytes.now)) }
 {
     if bytes.is_empty() || bytes[0] != b'"' {
         return Ok(None);
     }
     unquote_rest(alloc, &bytes[1..])
+}
+
+fn read_quoted(alloc: Global, bytes: &[u8]) -> Result<Option<Seq<u8>>, AllocError>
+    ensures { IfOk result (λ t. t ≡ text_of (quoted bytes.now)) }
+{
+    match unquote_front(alloc, bytes)? {
+        Some((text, _)) => Ok(Some(text)),
+        None => Ok(None),
+    }
 }
 
 /// The text whose spelling these bytes begin with, as `measure` has its length.
@@ -263,26 +275,41 @@ fn spelled_byte(byte: u8) -> SpelledByte
     }
 }
 
-fn spelled_text(alloc: Global, text: &[u8]) -> Result<Seq<u8>, AllocError>
-    ensures { IfOk result (λ s. s ≡ spelling text.now) }
+/// Adds a byte as it is written in a text. Without memory nothing is changed.
+fn push_spelled(out: &mut Seq<u8>, byte: u8) -> Result<(), AllocError>
+    ensures ok { OnOk result (out.new ≡ out.old ++ spelled byte) }
+    ensures err { OnErr result (out.new ≡ out.old) }
 {
-    let mut spelling = Seq::new(alloc);
-    spelling.push(b'"')?;
-    for byte in text {
-        spelling.extend(spelled_byte(*byte).as_slice())?;
+    if byte != b'"' && byte != b'\\' && is_printable(byte) {
+        return out.push(byte);
     }
-    spelling.push(b'"')?;
-    Ok(spelling)
+    out.extend(spelled_byte(byte).as_slice())
+}
+
+/// Adds a text in quotes. Without memory a front of it is added.
+fn extend_spelling(out: &mut Seq<u8>, text: &[u8]) -> Result<(), AllocError>
+    ensures ok { OnOk result (out.new ≡ out.old ++ spelling text.now) }
+    ensures err { OnErr result (take (length out.old) out.new ≡ out.old) }
+{
+    out.push(b'"')?;
+    for byte in text {
+        push_spelled(out, *byte)?;
+    }
+    out.push(b'"')
 }
 
 /// Writes a text in quotes: `\"`, `\\` and `\xHH` for bytes outside 0x20 to 0x7E, the others as they are. Without
 /// memory nothing is written.
-pub fn push_spelling(alloc: Global, out: &mut Seq<u8>, text: &[u8]) -> Result<(), AllocError>
+pub fn push_spelling(out: &mut Seq<u8>, text: &[u8]) -> Result<(), AllocError>
     ensures ok { OnOk result (out.new ≡ out.old ++ spelling text.now) }
     ensures err { OnErr result (out.new ≡ out.old) }
 {
-    let mut spelling = spelled_text(alloc, text)?;
-    out.append(&mut spelling)
+    let len = out.len();
+    let outcome = extend_spelling(out, text);
+    if outcome.is_err() {
+        out.truncate(len);
+    }
+    outcome
 }
 
 fn put_spelled<W: Write>(out: &mut W, text: &[u8]) -> Result<(), WriteFault>

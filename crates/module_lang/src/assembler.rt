@@ -1,20 +1,20 @@
 //! Modules from their texts.
 
-ghost use Rattle.std.specs.Prelude.{◌≡◌, ◌≢◌, ◌≤◌, [], Ok, Err, Result, IfOk, length};
+ghost use Rattle.std.specs.Prelude.{◌≡◌, ◌≢◌, ◌≤◌, [], Ok, Err, Result, IfErr, IfOk, length};
 ghost use Rattle.module_lang.specs.Assembling.{is_end, lines_read, lines_ended, draft_read, program_of, assembling};
 ghost use Rattle.module_lang.specs.Codes.{Gives};
 ghost use Rattle.module_lang.specs.Drafts.{empty_draft};
 ghost use Rattle.module_lang.specs.Entries.{IsDraft};
 ghost use Rattle.module_lang.specs.FirstFault.{IsReadAs};
 ghost use Rattle.module_lang.specs.Printing.{printed};
-ghost use Rattle.module_code.specs.Program.{IsModule, Program};
+ghost use Rattle.module_code.specs.Program.{IsModule, Program, program};
 ghost use Rattle.module_lang.specs.declared.refusal.AsmRefusal.TheVariants.{NoMemory};
 
 use crate::draft::Draft;
 use crate::handler::resolve_handler;
 use crate::refusal::{AsmRefusal, Code};
 use byte_text::take_lines;
-use module_code::{Module, Part, Seq};
+use module_code::{Instr, Module, Part, Seq};
 use std::alloc::Global;
 use std::collections::BTreeSet;
 
@@ -71,19 +71,35 @@ fn read_draft(alloc: Global, text: &[u8]) -> Result<Draft, AsmRefusal>
     }
 }
 
-/// The module of a draft, unless a handler has a fault.
+/// Where the handlers `init` and `main` begin, once the code of all three stands in `code`, unless one has a fault.
 #[tactic(auto, unfolding(crate::specs::Assembling::program_of))]
+fn resolve_code(
+    alloc: Global,
+    draft: &Draft,
+    code: &mut Seq<Instr>,
+) -> Result<(u16, u16), AsmRefusal>
+    requires draft { IsDraft draft.now }
+    requires empty { code.old ≡ [] }
+    ensures ok { IfOk result (λ at. program_of draft.now ≡ Ok (program draft.now.pools draft.now.brigades draft.now.texts code.new at.0 at.1)) }
+    ensures sound { IfOk result (λ at. IsModule (program draft.now.pools draft.now.brigades draft.now.texts code.new at.0 at.1)) }
+    ensures err { IfErr result (λ e. Gives (λ m. m) (Err e) (program_of draft.now)) }
+{
+    let mut seen = BTreeSet::new(alloc);
+    resolve_handler(alloc, &mut seen, &draft.open, code)?;
+    let init = code.len();
+    resolve_handler(alloc, &mut seen, &draft.init, code)?;
+    let main = code.len();
+    resolve_handler(alloc, &mut seen, &draft.main, code)?;
+    Ok((init as u16, main as u16))
+}
+
+/// The module of a draft, unless a handler has a fault.
 fn resolve(alloc: Global, draft: Draft) -> Result<Module, AsmRefusal>
     requires { IsDraft draft }
     ensures { Gives (λ m. m) result (program_of draft) }
 {
-    let mut seen = BTreeSet::new(alloc);
     let mut code = Seq::new(alloc);
-    resolve_handler(alloc, &mut seen, &draft.open, &mut code)?;
-    let init = code.len();
-    resolve_handler(alloc, &mut seen, &draft.init, &mut code)?;
-    let main = code.len();
-    resolve_handler(alloc, &mut seen, &draft.main, &mut code)?;
+    let (init, main) = resolve_code(alloc, &draft, &mut code)?;
     let Draft {
         part: _,
         pools,
@@ -93,8 +109,7 @@ fn resolve(alloc: Global, draft: Draft) -> Result<Module, AsmRefusal>
         init: _,
         main: _,
     } = draft;
-    let declared = (pools, brigades);
-    Ok(Module::new(declared, texts, code, init as u16, main as u16))
+    Ok(Module::new((pools, brigades), texts, code, init, main))
 }
 
 #[tactic(auto, unfolding(crate::specs::Assembling::assembling))]

@@ -16,5 +16,4 @@ pub mod Writing
 pub mod Printing
 pub mod Left
 pub mod Below
-pub mod Hashing
 pub mod Renamed

@@ -7,4 +7,3 @@ pub mod Left
 pub mod Room
 pub mod Tree
 pub mod Clears
-pub mod Names

@@ -3,7 +3,6 @@
 
 mod handed;
 mod links;
-mod names;
 mod payloads;
 mod records;
 mod refusal;

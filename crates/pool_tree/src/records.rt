@@ -4,7 +4,7 @@ ghost use Rattle.std.specs.Prelude.{◌≡◌, ℕ, None, Some, length, nat_eq, 
 ghost use Rattle.std.specs.Option.{option_copied};
 ghost use Rattle.run_model.specs.Indexed.{upd};
 
-use crate::names::NameHasher;
+use name_table::NameHasher;
 use std::alloc::{AllocError, Global};
 use std::collections::HashMap;
 use std::hash::BuildHasherDefault;

@@ -26,6 +26,7 @@ fn done(outcome: Result<(), Refusal>) -> Reply
     }
 }
 
+#[inline(never)]
 fn open(host: &mut Host<MemFiles>) -> Reply
     requires { IsMemHostAlive host.old }
     ensures served { (w : World) → IsHosting (device host.old) host.old w → IsServed host.old host.new Command.Open result w }
@@ -38,6 +39,7 @@ fn open(host: &mut Host<MemFiles>) -> Reply
 }
 
 /// Adds a file of a name that no file has. An error is want of memory for its bytes or its name.
+#[inline(never)]
 fn file(alloc: Global, host: &mut Host<MemFiles>, file: &FileLine) -> Result<Reply, AllocError>
     requires alive { IsMemHostAlive host.old }
     requires free { is_there ((device host.old).named file.now.name) ≡ false }
@@ -140,6 +142,7 @@ fn output(host: &mut Host<MemFiles>, number: u64) -> Reply
 }
 
 /// The labels run so far. An error is want of memory for the answer.
+#[inline(never)]
 fn labels(alloc: Global, host: &Host<MemFiles>, number: u64) -> Result<Reply, AllocError>
     ensures served { IfOk result (λ r. (w : World) → IsHosting (device host.now) host.now w → IsServed host.now host.now (Command.Labels number) r w) }
     ensures faultless { IfOk result (λ r. is_fault r ≡ false) }
@@ -151,6 +154,7 @@ fn labels(alloc: Global, host: &Host<MemFiles>, number: u64) -> Result<Reply, Al
 }
 
 /// Closes a connection, and tells all labels run. An error is want of memory for the answer.
+#[inline(never)]
 fn close(alloc: Global, host: &mut Host<MemFiles>, number: u64) -> Result<Reply, AllocError>
     requires { IsMemHostAlive host.old }
     ensures served { IfOk result (λ r. (w : World) → IsHosting (device host.old) host.old w → IsServed host.old host.new (Command.Close number) r w) }
@@ -163,6 +167,7 @@ fn close(alloc: Global, host: &mut Host<MemFiles>, number: u64) -> Result<Reply,
 }
 
 /// The pools of all connections. An error is want of memory for the answer.
+#[inline(never)]
 fn pools(alloc: Global, host: &Host<MemFiles>) -> Result<Reply, AllocError>
     requires { IsMemHostAlive host.now }
     ensures served { IfOk result (λ r. (w : World) → IsHosting (device host.now) host.now w → IsServed host.now host.now Command.Pools r w) }

@@ -6,7 +6,7 @@ ghost use Rattle.script_text.specs.Commands.{word_text, takes_of, word_at, comma
 use crate::file_line::{FileLine, file_line_of};
 use crate::operands::{CommandOperands, operands_of};
 use crate::pieces::ScriptPiece;
-use byte_text::{after_token, token};
+use byte_text::cut_token;
 use run_model::Seq;
 use std::alloc::{AllocError, Global};
 
@@ -147,10 +147,11 @@ fn word_at(text: &[u8]) -> Option<CommandWord>
 fn word_command_of(alloc: Global, line: &[u8]) -> Result<Option<Command>, AllocError>
     ensures { IfOk result (λ c. c ≡ word_command_of line.now) }
 {
-    let Some(word) = word_at(token(line)) else {
+    let (word, tail) = cut_token(line);
+    let Some(word) = word_at(word) else {
         return Ok(None);
     };
-    match operands_of(alloc, word.takes(), after_token(line))? {
+    match operands_of(alloc, word.takes(), tail)? {
         Some(operands) => Ok(Some(word.with(operands))),
         None => Ok(None),
     }

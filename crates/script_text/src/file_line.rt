@@ -63,6 +63,7 @@ fn last_text(alloc: Global, bytes: &[u8]) -> Result<Option<Seq<u8>>, AllocError>
 }
 
 /// What stands behind `file` and a space: a name, how often the text stands in the file, and the text.
+#[inline(never)]
 #[tactic(auto, unfolding(crate::specs::FileLines::file_line_of))]
 pub fn file_line_of(alloc: Global, bytes: &[u8]) -> Result<Option<FileLine>, AllocError>
     ensures { IfOk result (λ f. f ≡ file_line_of bytes.now) }

@@ -5,7 +5,7 @@ ghost use Rattle.script_text.specs.Operands.{no_operands, conn_alone, count_alon
 
 use crate::command::CommandForm;
 use crate::pieces::{ScriptPiece, pieces_of};
-use crate::words::{after_number, number_at};
+use crate::words::number_and_rest;
 use run_model::Seq;
 use std::alloc::{AllocError, Global};
 
@@ -53,8 +53,8 @@ fn no_operands(alloc: Global, tail: &[u8]) -> Option<CommandOperands>
 fn conn_alone(alloc: Global, tail: &[u8]) -> Option<CommandOperands>
     ensures { result ≡ conn_alone tail.now }
 {
-    let conn = number_at(tail)?;
-    if !after_number(tail).is_empty() {
+    let (conn, rest) = number_and_rest(tail)?;
+    if !rest.is_empty() {
         return None;
     }
     Some(CommandOperands {
@@ -67,8 +67,8 @@ fn conn_alone(alloc: Global, tail: &[u8]) -> Option<CommandOperands>
 fn count_alone(tail: &[u8]) -> Option<u64>
     ensures { result ≡ count_alone tail.now }
 {
-    let count = number_at(tail)?;
-    if after_number(tail).is_empty() && count != 0 {
+    let (count, rest) = number_and_rest(tail)?;
+    if rest.is_empty() && count != 0 {
         Some(count)
     } else {
         None
@@ -78,8 +78,8 @@ fn count_alone(tail: &[u8]) -> Option<u64>
 fn conn_and_count(alloc: Global, tail: &[u8]) -> Option<CommandOperands>
     ensures { result ≡ conn_and_count tail.now }
 {
-    let conn = number_at(tail)?;
-    let count = count_alone(after_number(tail))?;
+    let (conn, rest) = number_and_rest(tail)?;
+    let count = count_alone(rest)?;
     Some(CommandOperands {
         conn,
         count,
@@ -90,10 +90,10 @@ fn conn_and_count(alloc: Global, tail: &[u8]) -> Option<CommandOperands>
 fn conn_and_pieces(alloc: Global, tail: &[u8]) -> Result<Option<CommandOperands>, AllocError>
     ensures { IfOk result (λ o. o ≡ conn_and_pieces tail.now) }
 {
-    let Some(conn) = number_at(tail) else {
+    let Some((conn, rest)) = number_and_rest(tail) else {
         return Ok(None);
     };
-    match pieces_of(alloc, after_number(tail))? {
+    match pieces_of(alloc, rest)? {
         Some(pieces) => Ok(Some(CommandOperands {
             conn,
             count: 0,

@@ -4,8 +4,8 @@ ghost use Rattle.std.specs.Prelude.{◌≡◌, ◌<◌, ◌≤◌, ◌+◌, ◌^
 ghost use Rattle.std.specs.List.{starts_with};
 ghost use Rattle.script_text.specs.Pieces.{word_of, piece_of, kind_at, text_of_kind, text_at, word_piece, range_at, range_from, or_else, piece_at, pieces_of, IsPieceWithin};
 
-use crate::words::{after_number, copied, is_parted, number_at};
-use byte_text::{after_token, measure, token, unquote};
+use crate::words::{copied, is_parted, number_and_rest};
+use byte_text::{cut_token, unquote_front};
 use module_code::is_name;
 use run_model::{Piece, Seq};
 use std::alloc::{AllocError, Global};
@@ -95,19 +95,16 @@ fn text_of_kind(
 {
     let word = kind.word().len();
     let quoted = &bytes[word..];
-    let Some(measured) = measure(quoted) else {
+    let Some((text, used)) = unquote_front(alloc, quoted)? else {
         return Ok(None);
     };
-    if !is_parted(&quoted[measured.used..]) {
+    if !is_parted(&quoted[used..]) {
         return Ok(None);
     }
-    match unquote(alloc, quoted)? {
-        Some(text) => Ok(Some(PieceRead {
-            piece: ScriptPiece::Ready(kind.piece(text)),
-            used: word + measured.used,
-        })),
-        None => Ok(None),
-    }
+    Ok(Some(PieceRead {
+        piece: ScriptPiece::Ready(kind.piece(text)),
+        used: word + used,
+    }))
 }
 
 #[tactic(auto, unfolding(crate::specs::Pieces::text_at))]
@@ -143,19 +140,17 @@ fn range_from(alloc: Global, bytes: &[u8]) -> Result<Option<PieceRead>, AllocErr
     ensures value { IfOk result (λ r. r ≡ range_from bytes.now) }
     ensures within { IfOk result (λ r. IfSome r (λ r. (0 < r.used) × (r.used ≤ length bytes.now + 6))) }
 {
-    let name = token(bytes);
+    let (name, numbers) = cut_token(bytes);
     if !is_name(name) {
         return Ok(None);
     }
-    let numbers = after_token(bytes);
-    let Some(start) = number_at(numbers) else {
+    let Some((start, second)) = number_and_rest(numbers) else {
         return Ok(None);
     };
-    let second = after_number(numbers);
-    let Some(len) = number_at(second) else {
+    let Some((len, rest)) = number_and_rest(second) else {
         return Ok(None);
     };
-    let used = 6 + (bytes.len() - after_number(second).len());
+    let used = 6 + (bytes.len() - rest.len());
     let name = copied(alloc, name)?;
     Ok(Some(PieceRead {
         piece: ScriptPiece::Range { name, start, len },

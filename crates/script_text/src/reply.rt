@@ -2,7 +2,7 @@
 
 ghost use Rattle.std.specs.Prelude.{◌≡◌, ◌+◌, ◌++◌, ◌∷◌, [], IfOk, OnOk, OnErr};
 ghost use Rattle.byte_text.specs.Quoted.{spelling};
-ghost use Rattle.script_text.specs.Replies.{status_name, refusal_name, stepped_line, went_line, connected_line, refused_line, output_line, labels_line, reply_line, asm_line, script_line};
+ghost use Rattle.script_text.specs.Replies.{refusal_name, stepped_line, went_line, connected_line, refused_line, output_line, labels_line, reply_line, asm_line, script_line};
 ghost use Rattle.script_text.specs.Refusals.{cert_line, refused_at_line, refused_module_line};
 
 use crate::names::{fault_name, rule_name};
@@ -32,12 +32,12 @@ pub enum Reply {
     Pools(Seq<u8>),
 }
 
-fn status_name(status: Status) -> &'static str
-    ensures { result.now ≡ status_name status }
+fn ended_line(status: Status) -> &'static str
+    ensures { result.now ≡ stepped_line (Stepped.CallEnded status) }
 {
     match status {
-        Status::Success => "ok",
-        Status::Fail => "fail",
+        Status::Success => "ended ok\n",
+        Status::Fail => "ended fail\n",
     }
 }
 
@@ -70,6 +70,9 @@ fn put(out: &mut Vec<u8>, line: &str) -> Result<(), AllocError>
     out.extend_from_slice(line.as_bytes())
 }
 
+// The answers that are seldom given stay out of the function that gives them all, whose frame is set to zero at each call.
+
+#[inline(never)]
 fn put_connected(alloc: Global, out: &mut Vec<u8>, number: u64) -> Result<(), AllocError>
     ensures ok { OnOk result (out.new.items ≡ out.old.items ++ connected_line number) }
     ensures err { OnErr result (out.new.items ≡ out.old.items) }
@@ -78,6 +81,7 @@ fn put_connected(alloc: Global, out: &mut Vec<u8>, number: u64) -> Result<(), Al
     put(out, line.as_str())
 }
 
+#[inline(never)]
 fn put_refused(alloc: Global, out: &mut Vec<u8>, refusal: Refusal) -> Result<(), AllocError>
     ensures ok { OnOk result (out.new.items ≡ out.old.items ++ refused_line refusal) }
     ensures err { OnErr result (out.new.items ≡ out.old.items) }
@@ -93,11 +97,12 @@ fn put_stepped(alloc: Global, out: &mut Vec<u8>, stepped: Stepped) -> Result<(),
 {
     match stepped {
         Stepped::Went => put(out, "went 1\n"),
-        Stepped::CallEnded(status) => put_ended(alloc, out, status),
+        Stepped::CallEnded(status) => put(out, ended_line(status)),
         Stepped::Fault { kind, module, pc } => put_fault(alloc, out, kind, module, pc),
     }
 }
 
+#[inline(never)]
 fn put_went(alloc: Global, out: &mut Vec<u8>, count: u64) -> Result<(), AllocError>
     ensures ok { OnOk result (out.new.items ≡ out.old.items ++ went_line count) }
     ensures err { OnErr result (out.new.items ≡ out.old.items) }
@@ -106,15 +111,7 @@ fn put_went(alloc: Global, out: &mut Vec<u8>, count: u64) -> Result<(), AllocErr
     put(out, line.as_str())
 }
 
-fn put_ended(alloc: Global, out: &mut Vec<u8>, status: Status) -> Result<(), AllocError>
-    ensures ok { OnOk result (out.new.items ≡ out.old.items ++ stepped_line (Stepped.CallEnded status)) }
-    ensures err { OnErr result (out.new.items ≡ out.old.items) }
-{
-    let name = status_name(status);
-    let line = format!(in alloc; "ended {name}\n")?;
-    put(out, line.as_str())
-}
-
+#[inline(never)]
 fn put_fault(
     alloc: Global,
     out: &mut Vec<u8>,
@@ -130,19 +127,17 @@ fn put_fault(
     put(out, line.as_str())
 }
 
-fn output_line(alloc: Global, bytes: &Seq<u8>) -> Result<Vec<u8>, AllocError>
-    ensures { IfOk result (λ line. line.items ≡ output_line bytes.now) }
+fn output_line(alloc: Global, bytes: &[u8]) -> Result<Seq<u8>, AllocError>
+    ensures { IfOk result (λ line. line ≡ output_line bytes.now) }
 {
-    let mut spelling = Seq::new(alloc);
-    push_spelling(alloc, &mut spelling, bytes.as_slice())?;
-    let mut line = Vec::new(alloc);
-    line.extend_from_slice(b"output ")?;
-    line.extend_from_slice(spelling.as_slice())?;
+    let mut line = Seq::new(alloc);
+    line.extend(b"output ")?;
+    push_spelling(&mut line, bytes)?;
     line.push(b'\n')?;
     Ok(line)
 }
 
-fn put_output(alloc: Global, out: &mut Vec<u8>, bytes: &Seq<u8>) -> Result<(), AllocError>
+fn put_output(alloc: Global, out: &mut Vec<u8>, bytes: &[u8]) -> Result<(), AllocError>
     ensures ok { OnOk result (out.new.items ≡ out.old.items ++ output_line bytes.now) }
     ensures err { OnErr result (out.new.items ≡ out.old.items) }
 {
@@ -151,11 +146,11 @@ fn put_output(alloc: Global, out: &mut Vec<u8>, bytes: &Seq<u8>) -> Result<(), A
 }
 
 /// Adds a space and the text of a label in quotes.
-fn push_label(alloc: Global, line: &mut Seq<u8>, label: &[u8]) -> Result<(), AllocError>
+fn push_label(line: &mut Seq<u8>, label: &[u8]) -> Result<(), AllocError>
     ensures { OnOk result (line.new ≡ line.old ++ 32 ∷ spelling label.now) }
 {
     line.push(b' ')?;
-    push_spelling(alloc, line, label)
+    push_spelling(line, label)
 }
 
 fn labels_line(alloc: Global, labels: &[Seq<u8>]) -> Result<Seq<u8>, AllocError>
@@ -164,12 +159,13 @@ fn labels_line(alloc: Global, labels: &[Seq<u8>]) -> Result<Seq<u8>, AllocError>
     let mut line = Seq::new(alloc);
     line.extend(b"labels")?;
     for label in labels {
-        push_label(alloc, &mut line, label.as_slice())?;
+        push_label(&mut line, label.as_slice())?;
     }
     line.push(b'\n')?;
     Ok(line)
 }
 
+#[inline(never)]
 fn put_labels(alloc: Global, out: &mut Vec<u8>, labels: &Seq<Seq<u8>>) -> Result<(), AllocError>
     ensures ok { OnOk result (out.new.items ≡ out.old.items ++ labels_line labels.now) }
     ensures err { OnErr result (out.new.items ≡ out.old.items) }
@@ -187,6 +183,7 @@ fn pools_text(alloc: Global, text: &Seq<u8>) -> Result<Seq<u8>, AllocError>
     Ok(lines)
 }
 
+#[inline(never)]
 fn put_pools(alloc: Global, out: &mut Vec<u8>, text: &Seq<u8>) -> Result<(), AllocError>
     ensures ok { OnOk result (out.new.items ≡ out.old.items ++ reply_line (Reply.Pools text.now)) }
     ensures err { OnErr result (out.new.items ≡ out.old.items) }
@@ -206,7 +203,7 @@ pub fn put_reply(alloc: Global, out: &mut Vec<u8>, reply: &Reply) -> Result<(), 
         Reply::Refused(refusal) => put_refused(alloc, out, *refusal),
         Reply::Stepped(stepped) => put_stepped(alloc, out, *stepped),
         Reply::Went(count) => put_went(alloc, out, *count),
-        Reply::Output(bytes) => put_output(alloc, out, bytes),
+        Reply::Output(bytes) => put_output(alloc, out, bytes.as_slice()),
         Reply::Labels(labels) => put_labels(alloc, out, labels),
         Reply::Pools(text) => put_pools(alloc, out, text),
     }

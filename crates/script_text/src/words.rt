@@ -1,9 +1,10 @@
 //! The numbers among the words of a command line.
 
-ghost use Rattle.std.specs.Prelude.{◌≡◌, ◌≤◌, length, IfOk};
+ghost use Rattle.std.specs.Prelude.{◌≡◌, ◌≤◌, length, IfOk, IfSome};
+ghost use Rattle.std.specs.Option.{option_map};
 ghost use Rattle.script_text.specs.Words.{number_at, after_number, is_parted};
 
-use byte_text::{after_token, decimal_u64, token};
+use byte_text::{after_token, cut_token, decimal_u64, token};
 use run_model::Seq;
 use std::alloc::{AllocError, Global};
 
@@ -15,6 +16,19 @@ pub fn number_at(bytes: &[u8]) -> Option<u64>
         return None;
     }
     decimal_u64(token(&bytes[1..]))
+}
+
+/// The number that stands after a space, and what stands behind it.
+pub fn number_and_rest(bytes: &[u8]) -> Option<(u64, &[u8])>
+    ensures number { option_map (λ r. r.0) result ≡ number_at bytes.now }
+    ensures rest { IfSome result (λ r. r.1.now ≡ after_number bytes.now) }
+    ensures within { IfSome result (λ r. length r.1.now ≤ length bytes.now) }
+{
+    if bytes.is_empty() || bytes[0] != b' ' {
+        return None;
+    }
+    let (digits, rest) = cut_token(&bytes[1..]);
+    Some((decimal_u64(digits)?, rest))
 }
 
 /// What stands behind a space and the bytes up to the next space.

@@ -6,10 +6,6 @@ use Rattle.std.proofs.lemmas.Bool.{cases_Bool, cases_eq, eq-eqb, ne_eqb, and_par
 use Rattle.std.proofs.Math.Nat.{le_refl}
 use Rattle.std.proofs.lemmas.List.Folds.{list_all-append}
 use Rattle.bucket_kinds.specs.declared.stored.Stored.{Stored}
-use Rattle.run_model.specs.declared.bucket.Kind.{Kind}
-use Rattle.run_model.specs.declared.bucket.Kind.TheVariants as kind
-use Rattle.run_model.specs.declared.bucket.Home.{Home}
-use Rattle.run_model.specs.declared.bucket.Home.TheVariants as home
 use Rattle.bucket_ring.specs.declared.names.BucketId.{BucketId}
 use Rattle.bucket_ring.specs.Lists.{upd, on, list_at, same, times, by_birth, numbered, front, rest, found, put_tail, put_head, put_before, put_after, without, with_payload}
 use Rattle.bucket_ring.specs.Laws.{found_times, same_self}

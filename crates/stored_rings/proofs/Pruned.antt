@@ -2,10 +2,6 @@
 use Rattle.std.proofs.Common.{◌≡◌, ◌≢◌, ◌==◌, ◌||◌, ℕ, Bool, true, cond, Option, None, Some, List, filter, is_some, ◌⊎◌, refl, sym, ap, ◌∙◌, inl, inr}
 use Rattle.std.proofs.lemmas.Bool.{cases_eq, eq-eqb, ne_eqb}
 use Rattle.bucket_kinds.specs.declared.stored.Stored.{Stored}
-use Rattle.run_model.specs.declared.bucket.Kind.{Kind}
-use Rattle.run_model.specs.declared.bucket.Kind.TheVariants as kind
-use Rattle.run_model.specs.declared.bucket.Home.{Home}
-use Rattle.run_model.specs.declared.bucket.Home.TheVariants as home
 use Rattle.bucket_ring.specs.declared.names.BucketId.{BucketId}
 use Rattle.bucket_ring.specs.Lists.{list_at, times}
 use Rattle.bucket_ring.specs.Kept.{IsKept}
@@ -15,7 +11,7 @@ use Rattle.stored_rings.specs.Dependents.{names_of, noted, StayNoted}
 use Rattle.stored_rings.specs.Due.{kind_pool, home_pool, place_reached, kind_reached, home_reached}
 use Rattle.stored_rings.specs.Items.{StoredItems}
 use Rattle.stored_rings.specs.Morphs.{is_named}
-use Rattle.stored_rings.specs.Noted.{kind_under, home_under, place_under, place_of, held_under, is_noted, AreNoted, bucket_named, still_under}
+use Rattle.stored_rings.specs.Noted.{place_under, place_of, held_under, is_noted, AreNoted, bucket_named, still_under}
 use Rattle.stored_rings.proofs.DueBuckets.{named_filtered, either_named, first_named, second_named}
 use Rattle.stored_rings.proofs.Noted.{all_found, are_kept, listed_by_found, noted_item, noted_parts}
 use Rattle.stored_rings.proofs.Saves.{here_at}

@@ -1,4 +1,3 @@
-pub mod Numbers
 pub mod Items
 pub mod Points
 pub mod Refusals

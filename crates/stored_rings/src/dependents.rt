@@ -6,9 +6,11 @@ ghost use Rattle.stored_rings.specs.Dependents.{StayNoted};
 ghost use Rattle.stored_rings.specs.Noted.{kind_under, home_under, place_under};
 
 use bucket_ring::{BucketId, RingRefusal};
+use name_table::NameHasher;
 use run_model::{Home, Kind};
 use std::alloc::{AllocError, Global};
 use std::collections::HashMap;
+use std::hash::BuildHasherDefault;
 
 /// So many names come under a pool before it is looked at which of them have gone.
 pub(crate) const FIRST_LIMIT: usize = 8;
@@ -27,7 +29,7 @@ pub(crate) struct DependentNames {
 #[derive(Drop)]
 pub struct Dependents {
     pub(crate) alloc: Global,
-    pub(crate) names: HashMap<u64, DependentNames>,
+    pub(crate) names: HashMap<u64, DependentNames, BuildHasherDefault<NameHasher>>,
     pub(crate) lost: bool,
 }
 
@@ -38,7 +40,7 @@ impl Dependents {
     pub(crate) fn new(alloc: Global) -> Self {
         Dependents {
             alloc,
-            names: HashMap::new(alloc),
+            names: HashMap::with_hasher(alloc, BuildHasherDefault::new()),
             lost: false,
         }
     }

@@ -7,15 +7,17 @@ ghost use Rattle.bucket_kinds.specs.Stored.{part, has_part, pool_bucket};
 
 use apr_region::Region;
 use bucket_kinds::{Place, Stored, heap_copy, place_pool, placed_bytes};
+use name_table::NameHasher;
 use run_model::{Bucket, Content};
 use std::alloc::{AllocError, Global};
 use std::collections::HashMap;
+use std::hash::BuildHasherDefault;
 
 /// A region for each pool that bytes were placed in since its last clear.
 #[derive(Drop)]
 pub struct Regions {
     pub(crate) alloc: Global,
-    pub(crate) by_pool: HashMap<u64, Region>,
+    pub(crate) by_pool: HashMap<u64, Region, BuildHasherDefault<NameHasher>>,
 }
 
 #[tactic(auto, unfolding(crate::specs::Regions::look))]
@@ -27,7 +29,7 @@ impl Regions {
     {
         Regions {
             alloc,
-            by_pool: HashMap::new(alloc),
+            by_pool: HashMap::with_hasher(alloc, BuildHasherDefault::new()),
         }
     }
 

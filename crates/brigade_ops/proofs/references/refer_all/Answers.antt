@@ -6,7 +6,7 @@ use Rattle.run_model.specs.Pools.{registered}
 use Rattle.run_model.specs.Steps.{all_referred}
 use Rattle.pool_tree.specs.Tree.{map_of}
 use Rattle.brigade_ops.specs.Files.{times_in}
-use Rattle.stored_rings.specs.Numbers.{count_at}
+use Rattle.brigade_ops.specs.Files.{count_at}
 use Rattle.brigade_ops.proofs.Referred.{referred_none, referred_more, times_none, counted_more, ok_of}
 use Rattle.brigade_ops.proofs.references.refer_all.Goals as goal
 

@@ -6,7 +6,7 @@ use Rattle.run_model.specs.RunOrder.{killed}
 use Rattle.run_model.specs.Payloads.{payload_eq}
 use Rattle.run_model.specs.Steps.{all_referred}
 use Rattle.brigade_ops.specs.Files.{times_in}
-use Rattle.stored_rings.specs.Numbers.{count_at}
+use Rattle.brigade_ops.specs.Files.{count_at}
 use Rattle.brigade_ops.proofs.Referred.{referred_none, unreferred_one, times_none, counted_less, counted_some}
 use Rattle.brigade_ops.proofs.references.unrefer_all.Goals as goal
 

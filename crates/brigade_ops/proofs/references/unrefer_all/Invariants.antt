@@ -5,7 +5,7 @@ use Rattle.run_model.specs.Pools.{Pools, is_live}
 use Rattle.run_model.specs.Steps.{all_referred}
 use Rattle.pool_tree.specs.Tree.{map_of}
 use Rattle.brigade_ops.specs.Files.{times_in}
-use Rattle.stored_rings.specs.Numbers.{count_at}
+use Rattle.brigade_ops.specs.Files.{count_at}
 use Rattle.brigade_ops.proofs.references.unrefer_all.Given as goal
 
 abbrev pub invariant-loop-index : goal.invariant-loop-index

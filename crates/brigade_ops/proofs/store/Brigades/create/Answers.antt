@@ -9,7 +9,7 @@ use Rattle.pool_tree.specs.Tree.{map_of}
 use Rattle.pool_tree.proofs.Trees.{tree_formed}
 use Rattle.bucket_ring.specs.Lists.{upd}
 use Rattle.brigade_ops.specs.House.{AreHoused}
-use Rattle.stored_rings.specs.Numbers.{number_at}
+use Rattle.name_table.specs.NameTable.{value_in}
 use Rattle.brigade_ops.specs.Store.{lists, pool_of, next_name, references}
 use Rattle.brigade_ops.proofs.Housed.{house_stays, house_made}
 use Rattle.brigade_ops.proofs.Stores.{brigades}
@@ -38,19 +38,19 @@ returns-in-Ok-new_ring-clause-house g c house =
     let ps = map_of c.args.tree.now in
     let name : b ≡ next_name store = c.in-Ok-new_ring.ensures.name in
     let same : c.next_name-name.result ≡ b = c.next_name-name.ensures ∙ sym name in
-    subst (AreHoused (seen c.new_ring.new.self) (number_at c.put.new.self) (references store)) (sym (c.in-Ok.ensures.ok ∙ ap (λ (n : ℕ). registered pool (Brigade n) ps) same))
-    (house_made (lists store) (pool_of store) (references store) ps house (seen c.new_ring.new.self) (number_at c.put.new.self) (references store) pool b (tree_formed c.args.tree.now) c.requires
+    subst (AreHoused (seen c.new_ring.new.self) (value_in c.put.new.self) (references store)) (sym (c.in-Ok.ensures.ok ∙ ap (λ (n : ℕ). registered pool (Brigade n) ps) same))
+    (house_made (lists store) (pool_of store) (references store) ps house (seen c.new_ring.new.self) (value_in c.put.new.self) (references store) pool b (tree_formed c.args.tree.now) c.requires
     (λ there. let young = brigades store b there in absurd (omega (arith, young, name)))
     c.in-Ok-new_ring.ensures.ok
-    (λ n. c.put.ensures n ∙ ap (λ (o : Option ℕ). cond (n == b) (Some pool) o) (c.in_ok-reserve.ensures.same n))
+    (λ n. c.put.ensures.values n ∙ ap (λ (o : Option ℕ). cond (n == b) (Some pool) o) (c.in_ok-reserve.ensures.values n))
     (λ f. refl))
 
 pub returns-in-Err-clause-house : goal.returns-in-Err-clause-house
 unfolding lists pool_of references
 returns-in-Err-clause-house g c house =
     let store = c.args.self.now in
-    subst (AreHoused (seen c.new_ring.new.self) (number_at c.reserve.new.self) (references store)) (sym (returns-in-Err-clause-kept g c))
-    (house_stays (lists store) (pool_of store) (references store) (map_of c.args.tree.now) house (seen c.new_ring.new.self) (number_at c.reserve.new.self) (references store)
+    subst (AreHoused (seen c.new_ring.new.self) (value_in c.reserve.new.self) (references store)) (sym (returns-in-Err-clause-kept g c))
+    (house_stays (lists store) (pool_of store) (references store) (map_of c.args.tree.now) house (seen c.new_ring.new.self) (value_in c.reserve.new.self) (references store)
     (λ n p at some. ap is_some (c.in-Err.ensures.err n) ∙ some)
-    c.in_ok-reserve.ensures.same
+    c.in_ok-reserve.ensures.values
     (λ f. refl))

@@ -1,6 +1,6 @@
 use Rattle.pool_tree.specs.Tree.{map_of}
 use Rattle.pool_tree.proofs.Trees.{tree_formed}
-use Rattle.stored_rings.specs.Numbers.{count_at}
+use Rattle.brigade_ops.specs.Files.{count_at}
 use Rattle.brigade_ops.specs.Store.{lists, pool_of, references}
 use Rattle.brigade_ops.proofs.Housed.{house_refer}
 use Rattle.brigade_ops.proofs.store.Brigades.refer.Goals as goal

@@ -8,7 +8,7 @@ use Rattle.pool_tree.specs.Tree.{map_of}
 use Rattle.bucket_ring.specs.Lists.{on, list_at, found, times}
 use Rattle.brigade_ops.specs.Files.{times_in}
 use Rattle.stored_rings.specs.Items.{Item, Items, named, before_place, from_place, aside_item, aside_behind}
-use Rattle.stored_rings.specs.Numbers.{count_at}
+use Rattle.brigade_ops.specs.Files.{count_at}
 use Rattle.brigade_ops.specs.Store.{lists, brigade_of, pool_of, references}
 use Rattle.pool_tree.proofs.Trees.{tree_formed}
 use Rattle.brigade_ops.specs.House.{AreHoused}

@@ -1,9 +1,8 @@
 -- By the pool above and the next younger one.
-use Rattle.std.proofs.Common.{◌≡◌, ◌+◌, ◌∙◌, sym, ap, subst, true, Some, ℕ, List, arith}
+use Rattle.std.proofs.Common.{◌≡◌, ◌∙◌, sym, ap, subst, true, Some, ℕ, arith}
 use Rattle.run_model.specs.Pools.{is_live}
 use Rattle.pool_tree.specs.Tree.{map_of}
-use Rattle.pool_tree.specs.Records.{record_of, parent_of}
-use Rattle.pool_tree.specs.Left.{IsPlace, text_behind, text_left}
+use Rattle.pool_tree.specs.Left.{text_behind, text_left}
 use Rattle.pool_tree.proofs.Left.{parent_is, no_end, level_above, place_above, place_beside, behind_top, behind_up, behind_beside}
 use Rattle.pool_tree.proofs.Printing.{none_by}
 use Rattle.pool_tree.proofs.tree.PoolTree.behind.Goals as goal
