@@ -1,6 +1,6 @@
 //! Rows of files of a real disk, in the folder where the program runs.
 
-use crate::reads::{show_opened, show_read_of};
+use crate::reads::{show_far_read, show_read_of};
 use anyhow::Result;
 use bucket_kinds::{DiskFiles, Files};
 use std::fs;
@@ -39,10 +39,14 @@ pub(crate) fn show_unopened<F: Files>(rt: &HostRuntime, files: &mut F, name: &[u
 /// A device counts its failures. A file that is not there, and a folder, are none.
 pub(crate) fn failures_of_a_disk(rt: &HostRuntime) -> Result<()> {
     println!(rt; "a disk fails")?;
+    let path = Path::new("rows.tmp");
+    fs::write(rt, path, b"abcdefghij")?;
     let mut files = DiskFiles::new(rt.clone()?);
-    // The first page of a process is never there.
-    show_opened(rt, &mut files, b"/proc/self/mem")?;
+    let (file, _) = files.open_file(path.as_str().as_bytes())?;
+    // The system reads no file from so far on.
+    show_far_read(rt, &mut files, file)?;
     println!(rt; "{} failures", files.failures())?;
+    fs::remove_file(rt, path)?;
     // No file system takes a name of 300 bytes.
     let name = vec![in rt.alloc(); b'x'; 300]?;
     for name in [name.as_slice(), b"/no such file", b"/"] {

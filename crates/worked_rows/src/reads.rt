@@ -8,7 +8,7 @@ ghost use Rattle.bucket_kinds.specs.Reading.{IsOpenFor};
 use crate::buckets::{in_memory, range, show_parts, show_refused};
 use crate::disk::show_unopened;
 use anyhow::Result;
-use bucket_kinds::{Bucket, FileNo, Files, Home, Kind, MemFiles, read_bucket};
+use bucket_kinds::{Bucket, Content, FileNo, Files, Home, Kind, MemFiles, read_bucket};
 use std::alloc::Global;
 
 /// Tells what a read made of a bucket, and the rest.
@@ -35,6 +35,24 @@ pub(crate) fn show_read_of<F: Files>(
     show_read(rt, files, range(file, 0, len))
 }
 
+/// Tells what a read of ten bytes from 2^63 on of an open file gives.
+pub(crate) fn show_far_read<F: Files>(rt: &HostRuntime, files: &mut F, file: FileNo) -> Result<()>
+    requires { is_there ((F.device files.old).numbered file) ≡ true }
+{
+    print!(rt; "length 10: ")?;
+    let content = Content::Range {
+        file,
+        start: 1 << 63,
+        len: 10,
+    };
+    let bucket = Bucket {
+        kind: Kind::File,
+        content,
+        home: Home::Pool(2),
+    };
+    show_read(rt, files, bucket)
+}
+
 /// Files in memory, of which one is of so many bytes.
 fn files_of(alloc: Global, size: usize) -> Result<MemFiles> {
     let mut files = MemFiles::new(alloc);
@@ -57,7 +75,7 @@ pub(crate) fn show_memory(rt: &HostRuntime, kind: Kind) -> Result<()> {
 }
 
 /// Opens a file, reads its first bytes, and tells how often the device failed.
-pub(crate) fn show_opened<F: Files>(rt: &HostRuntime, files: &mut F, name: &[u8]) -> Result<()> {
+fn show_opened<F: Files>(rt: &HostRuntime, files: &mut F, name: &[u8]) -> Result<()> {
     let (file, _) = files.open_file(name)?;
     show_read_of(rt, files, file, 10)
 }
