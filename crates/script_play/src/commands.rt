@@ -26,7 +26,6 @@ fn done(outcome: Result<(), Refusal>) -> Reply
     }
 }
 
-#[inline(never)]
 fn open(host: &mut Host<MemFiles>) -> Reply
     requires { IsMemHostAlive host.old }
     ensures served { (w : World) → IsHosting (device host.old) host.old w → IsServed host.old host.new Command.Open result w }
@@ -72,6 +71,7 @@ fn made_ready(host: &mut Host<MemFiles>, number: u64, piece: ScriptPiece) -> Res
 
 /// Opens the files of the pieces, from left to right, and brings the pieces. The first refusal is the answer. An error is want of memory
 /// for the list of pieces.
+#[inline(never)]
 fn bring(
     alloc: Global,
     host: &mut Host<MemFiles>,

@@ -19,6 +19,8 @@ fn is_due(command: &Command, files: &MemFiles) -> bool
 }
 
 /// The command of a line, where it may stand there, with these files.
+// Apart from what is done with commands: the frame of a function, and of all that are inlined into it, is set to zero at each call.
+#[inline(never)]
 pub fn due_command(
     alloc: Global,
     text: &[u8],
