@@ -204,10 +204,10 @@ def faults():
 
 
 def unnamed():
-    """The files of definitions that docs/TRUST.md does not name, by themselves or by their folder."""
+    """The files of definitions that docs/TRUST.md does not name, by themselves or by their folder. Lib and Prelude define nothing."""
     named = {os.path.normpath(os.path.join('docs', target)) for _, target in LINK.findall(read('docs/TRUST.md'))}
     return [file for file in all_files()
-            if re.search(r'/specs/.*\.antt$', file) and not file.endswith('/Lib.antt') and
+            if re.search(r'/specs/.*\.antt$', file) and not file.endswith(('/Lib.antt', '/Prelude.antt')) and
             not named & {file, os.path.dirname(file)}]
 
 

@@ -3,7 +3,7 @@ use Rattle.std.proofs.Common.{◌≡◌, ℕ, refl}
 use Rattle.bucket_ring.specs.declared.rings.Rings.{Ghosts}
 use Rattle.bucket_kinds.specs.declared.stored.Stored.{Stored}
 use Rattle.brigade_ops.specs.declared.store.Brigades.{Brigades}
-use Rattle.brigade_ops.specs.Store.{lists, brigade_of, bucket_at, pool_of, references, next_name, has_room}
+use Rattle.brigade_ops.specs.Store.{lists, brigade_of, pool_of}
 
 module _ {R : Type 0} {g : Ghosts R Stored} (store : Brigades R g) (n : ℕ) where
   pub lists_asked : lists (record store { asked = n }) ≡ lists store
@@ -14,22 +14,6 @@ module _ {R : Type 0} {g : Ghosts R Stored} (store : Brigades R g) (n : ℕ) whe
   unfolding brigade_of
   brigade_of_asked = refl
 
-  pub bucket_at_asked : bucket_at (record store { asked = n }) ≡ bucket_at store
-  unfolding bucket_at
-  bucket_at_asked = refl
-
   pub pool_of_asked : pool_of (record store { asked = n }) ≡ pool_of store
   unfolding pool_of
   pool_of_asked = refl
-
-  pub references_asked : references (record store { asked = n }) ≡ references store
-  unfolding references
-  references_asked = refl
-
-  pub next_name_asked : next_name (record store { asked = n }) ≡ next_name store
-  unfolding next_name
-  next_name_asked = refl
-
-  pub has_room_asked : has_room (record store { asked = n }) ≡ has_room store
-  unfolding has_room
-  has_room_asked = refl

@@ -1,20 +1,8 @@
 //! A bucket of the store is set aside.
 
 ghost use Rattle.std.specs.Prelude.{◌≡◌, ℕ, Some, None, true, is_some, IsTrue, IsOk, OnOk, OnErr};
-ghost use Rattle.run_model.specs.declared.bucket.Bucket.{Bucket};
-ghost use Rattle.run_model.specs.Pools.{is_live};
-ghost use Rattle.run_model.specs.RunOrder.{IsPoolMap};
-ghost use Rattle.run_model.specs.Cutting.{set_aside};
-ghost use Rattle.run_model.specs.Steps.{is_above, file_of};
-ghost use Rattle.pool_tree.specs.Tree.{map_of};
-ghost use Rattle.bucket_ring.specs.Lists.{on, with_payload};
-ghost use Rattle.bucket_ring.specs.Kept.{NoneRevived};
-ghost use Rattle.stored_rings.specs.Items.{file_for, pools_for, count_for};
-ghost use Rattle.bucket_kinds.specs.Stored.{Look, is_whole};
-ghost use Rattle.brigade_ops.specs.House.{IsHouse};
-ghost use Rattle.stored_rings.specs.Noted.{place_of};
-ghost use Rattle.stored_rings.specs.Shown.{lies_right};
-ghost use Rattle.stored_rings.specs.Views.{content_of};
+ghost use Rattle.brigade_ops.specs.Prelude.{Bucket, is_live, IsPoolMap, set_aside, is_above, file_of, map_of, on, with_payload, NoneRevived, file_for, pools_for, count_for, Look, is_whole, IsHouse};
+ghost use Rattle.brigade_ops.specs.Prelude.{place_of, lies_right, content_of};
 
 use crate::store::Brigades;
 use bucket_kinds::{FileNo, Kept, Stored, stored_aside};
@@ -65,6 +53,7 @@ fn file_of(bucket: View<'_>) -> Option<FileNo>
 
 #[tactic(auto, unfolding(crate::specs::Store::lists, crate::specs::Store::brigade_of, crate::specs::Store::pool_of, crate::specs::Store::next_name, crate::specs::Store::references))]
 impl<R: Rings<Stored> + Drop> Brigades<R> {
+    ghost use Rattle.brigade_ops.specs.OnlyLists.{OnlyLists};
     ghost use Rattle.brigade_ops.specs.Store.{lists, brigade_of, bucket_at, pool_of, next_name, references};
 
     /// The file of which setting a bucket aside takes a further reference, and whether its home is the target or above it.
@@ -91,11 +80,7 @@ impl<R: Rings<Stored> + Drop> Brigades<R> {
         requires { is_some (brigade_of self.old id) ≡ true }
         ensures out { (b m : ℕ) (x : Bucket) → brigade_of self.old id ≡ Some b → bucket_at self.old id ≡ Some x
             → lists self.new m ≡ on b (with_payload id (set_aside pool above x)) (lists self.old) m }
-        ensures next { next_name self.new ≡ next_name self.old }
-        ensures names { NoneRevived (brigade_of self.old) (brigade_of self.new) (next_name self.old) }
-        ensures pools { pool_of self.new ≡ pool_of self.old }
-        ensures references { references self.new ≡ references self.old }
-        ensures unasked { self.new.asked ≡ self.old.asked }
+        ensures others { OnlyLists self.old self.new }
     {
         let nothing = hollow(self.stored(id));
         let mut bucket = self.held.put(id, nothing);

@@ -1,14 +1,7 @@
 //! Brigades of the store: made, ended, cleaned and joined.
 
 ghost use Rattle.std.specs.Prelude.{◌≡◌, ◌≢◌, ◌↔◌, ℕ, ◌+◌, ◌<◌, ◌≤◌, ◌++◌, [], length, Some, None, true, is_some, is_ok, if◌then◌else◌, IsTrue, IsOk, IfOk, OnOk, OnErr, IsErrOf};
-ghost use Rattle.run_model.specs.Pools.{Pools, is_live, registered};
-ghost use Rattle.run_model.specs.RunOrder.{IsPoolMap};
-ghost use Rattle.pool_tree.specs.Tree.{map_of, once_more};
-ghost use Rattle.bucket_ring.specs.declared.names.BucketId.{BucketId};
-ghost use Rattle.bucket_ring.specs.Lists.{upd, on, list_at, by_birth, numbered};
-ghost use Rattle.stored_rings.specs.Items.{Items};
-ghost use Rattle.brigade_ops.specs.House.{IsHouse};
-ghost use Rattle.bucket_ring.specs.Kept.{NoneRevived};
+ghost use Rattle.brigade_ops.specs.Prelude.{Pools, is_live, registered, IsPoolMap, map_of, once_more, BucketId, upd, on, list_at, by_birth, numbered, Items, IsHouse, NoneRevived};
 
 use crate::store::{BrigadeId, Brigades};
 use bucket_kinds::Stored;

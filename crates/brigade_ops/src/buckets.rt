@@ -1,14 +1,8 @@
 //! One bucket of the store at a time: put in, moved, found and destroyed.
 
 ghost use Rattle.std.specs.Prelude.{◌≡◌, ◌↔◌, ℕ, ◌+◌, ◌<◌, ◌^◌, ◌++◌, length, Some, true, is_some, is_ok, if◌then◌else◌, IsOk, IfOk, IfErr, OnOk, OnErr};
-ghost use Rattle.pool_tree.specs.Tree.{once_more};
-ghost use Rattle.bucket_ring.specs.Lists.{on, list_at, same, first_of, next_in, found, put_tail, put_head, put_before, put_after, without, by_birth, numbered};
-ghost use Rattle.bucket_ring.specs.Kept.{NoneRevived};
-ghost use Rattle.bucket_kinds.specs.Stored.{is_whole, shown};
-ghost use Rattle.stored_rings.specs.Items.{Items, bytes_in};
-ghost use Rattle.stored_rings.specs.Regions.{look};
-ghost use Rattle.stored_rings.specs.Shown.{lies_right};
-ghost use Rattle.stored_rings.specs.Views.{bucket_of};
+ghost use Rattle.brigade_ops.specs.Prelude.{once_more, on, list_at, same, first_of, next_in, found, put_tail, put_head, put_before, put_after, without, by_birth, numbered, NoneRevived, is_whole};
+ghost use Rattle.brigade_ops.specs.Prelude.{shown, Items, bytes_in, look, lies_right, bucket_of};
 
 use crate::store::{BrigadeId, Brigades};
 use bucket_kinds::{Kept, Stored};

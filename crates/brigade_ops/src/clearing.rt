@@ -3,21 +3,9 @@
 ghost use Rattle.std.specs.Prelude.{◌≡◌, ◌≢◌, [], ◌∷◌, ◌≤◌, ◌<◌, ◌+◌, ◌&&◌, ◌||◌, not, ℕ, None, Some, true, false, is_some, if◌then◌else◌, IsTrue, IfOk, IfSome, OnOk, OnErr};
 ghost use Rattle.std.specs.List.{list_any};
 ghost use Rattle.std.specs.Option.{option_map};
-ghost use Rattle.run_model.specs.Buckets.{to_heap, end_pools};
-ghost use Rattle.run_model.specs.Files.{is_referred};
-ghost use Rattle.run_model.specs.Payloads.{is_brigade, is_file_ref};
-ghost use Rattle.run_model.specs.Pools.{is_live, is_under, is_in};
-ghost use Rattle.run_model.specs.RunOrder.{run_order, IsPoolMap};
-ghost use Rattle.pool_tree.specs.declared.tree.clear.ClearKind.TheVariants.{Destroy};
-ghost use Rattle.pool_tree.specs.Clears.{pools_after};
-ghost use Rattle.pool_tree.specs.Tree.{map_of};
-ghost use Rattle.bucket_kinds.specs.Device.{Missing, is_there};
-ghost use Rattle.bucket_ring.specs.Kept.{NoneRevived};
-ghost use Rattle.brigade_ops.specs.Due.{is_reached};
-ghost use Rattle.stored_rings.specs.Due.{kind_reached, home_reached};
-ghost use Rattle.brigade_ops.specs.Files.{refs_in, is_let_go, SameButOpen};
-ghost use Rattle.brigade_ops.specs.House.{IsHouse, AreOpen, cleared_items, cleared_ring, pool_left};
-ghost use Rattle.stored_rings.specs.Morphs.{morphed, all_morphed, cleared_as, IsAsItWas};
+ghost use Rattle.brigade_ops.specs.Prelude.{to_heap, end_pools, is_referred, is_brigade, is_file_ref, is_live, is_under, is_in, run_order, IsPoolMap, Destroy, pools_after, map_of, Missing};
+ghost use Rattle.brigade_ops.specs.Prelude.{is_there, NoneRevived, is_reached, kind_reached, home_reached, refs_in, is_let_go, SameButOpen, IsHouse, AreOpen, cleared_items, cleared_ring, pool_left};
+ghost use Rattle.brigade_ops.specs.Prelude.{morphed, all_morphed, cleared_as, IsAsItWas};
 
 use crate::morphs::Morphs;
 use crate::reached::Reached;

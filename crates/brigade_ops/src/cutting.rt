@@ -1,15 +1,7 @@
 //! One bucket of the store is split, copied or read.
 
 ghost use Rattle.std.specs.Prelude.{◌≡◌, ◌↔◌, ℕ, ◌+◌, ◌<◌, List, [], ◌∷◌, Some, None, Err, true, false, is_some, is_ok, if◌then◌else◌, IsOk, IfOk, OnOk, OnErr, IsErr};
-ghost use Rattle.bucket_ring.specs.Lists.{on, put_tail, put_after, with_payload};
-ghost use Rattle.bucket_ring.specs.Kept.{NoneRevived};
-ghost use Rattle.run_model.specs.Buckets.{is_data_kind};
-ghost use Rattle.run_model.specs.Cutting.{EndsInFile, length_of, split_at};
-ghost use Rattle.bucket_kinds.specs.declared.stored.Kept.{Kept};
-ghost use Rattle.bucket_kinds.specs.Stored.{is_whole, shown};
-ghost use Rattle.stored_rings.specs.Items.{replaced};
-ghost use Rattle.stored_rings.specs.Regions.{look};
-ghost use Rattle.stored_rings.specs.Shown.{lies_right};
+ghost use Rattle.brigade_ops.specs.Prelude.{on, put_tail, put_after, with_payload, NoneRevived, is_data_kind, EndsInFile, length_of, split_at, Kept, is_whole, shown, replaced, look, lies_right};
 
 use crate::store::{BrigadeId, Brigades};
 use bucket_kinds::{SplitError, Stored, keep_own, stored_copy, stored_halves};

@@ -1,11 +1,7 @@
 //! The buckets that a clear of a pool changes, found by the pools that they depend on.
 
 ghost use Rattle.std.specs.Prelude.{◌≡◌, ◌++◌, filter, false, true, IfOk, OnOk};
-ghost use Rattle.bucket_ring.specs.declared.names.BucketId.{BucketId};
-ghost use Rattle.stored_rings.specs.Dependents.{names_of};
-ghost use Rattle.brigade_ops.specs.Due.{is_reached};
-ghost use Rattle.stored_rings.specs.Due.{is_due};
-ghost use Rattle.stored_rings.specs.Morphs.{is_named};
+ghost use Rattle.brigade_ops.specs.Prelude.{BucketId, names_of, is_reached, is_due, is_named};
 
 use crate::clearing::depends_on;
 use crate::reached::Reached;

@@ -2,15 +2,8 @@
 
 ghost use Rattle.std.specs.Prelude.{◌≡◌, ◌<◌, ◌≤◌, ℕ, ◌+◌, ◌==◌, ◌&&◌, if◌then◌else◌, None, true, IsTrue, IsOk, OnOk, OnErr};
 ghost use Rattle.std.specs.List.{list_any};
-ghost use Rattle.run_model.specs.Pools.{is_live, registered};
-ghost use Rattle.run_model.specs.RunOrder.{IsPoolMap};
-ghost use Rattle.run_model.specs.Payloads.{is_brigade, is_file_ref};
-ghost use Rattle.pool_tree.specs.Tree.{map_of};
-ghost use Rattle.bucket_ring.specs.Kept.{NoneRevived};
-ghost use Rattle.bucket_kinds.specs.Device.{Missing, is_there};
-ghost use Rattle.stored_rings.specs.Items.{pools_for, count_for};
-ghost use Rattle.brigade_ops.specs.Files.{refs_in, is_let_go, SameButOpen};
-ghost use Rattle.brigade_ops.specs.House.{IsHouse};
+ghost use Rattle.brigade_ops.specs.Prelude.{is_live, registered, IsPoolMap, is_brigade, is_file_ref, map_of, NoneRevived, Missing, is_there, pools_for, count_for, refs_in, is_let_go, SameButOpen};
+ghost use Rattle.brigade_ops.specs.Prelude.{IsHouse};
 
 use crate::references::refer;
 use crate::store::{BrigadeId, Brigades};

@@ -2,12 +2,7 @@
 
 ghost use Rattle.std.specs.Prelude.{◌≡◌, ℕ, [], ◌∷◌, Some, true, is_some, if◌then◌else◌, IfOk, IfSome};
 ghost use Rattle.std.specs.Option.{option_map};
-ghost use Rattle.run_model.specs.Buckets.{to_heap, end_pools};
-ghost use Rattle.run_model.specs.Pools.{is_in};
-ghost use Rattle.bucket_ring.specs.Lists.{on, with_payload};
-ghost use Rattle.bucket_ring.specs.Kept.{NoneRevived};
-ghost use Rattle.brigade_ops.specs.Due.{is_reached};
-ghost use Rattle.stored_rings.specs.Morphs.{kind_given, given_by, morphed, all_morphed, cleared_as, is_named};
+ghost use Rattle.brigade_ops.specs.Prelude.{to_heap, end_pools, is_in, on, with_payload, NoneRevived, is_reached, kind_given, given_by, morphed, all_morphed, cleared_as, is_named};
 
 use crate::aside::hollow;
 use crate::reached::Reached;
@@ -42,6 +37,7 @@ fn kind_given(was: Kind, kind: Kind) -> Kind
 
 #[tactic(auto, unfolding(crate::specs::Store::lists, crate::specs::Store::brigade_of, crate::specs::Store::bucket_at, crate::specs::Store::pool_of, crate::specs::Store::next_name, crate::specs::Store::references, crate::specs::Store::IsFreed))]
 impl<R: Rings<Stored> + Drop> Brigades<R> {
+    ghost use Rattle.brigade_ops.specs.OnlyLists.{OnlyLists};
     ghost use Rattle.brigade_ops.specs.Store.{lists, brigade_of, bucket_at, pool_of, next_name, references, IsFreed};
 
     /// What a clear of a pool makes of a bucket; `None` where it was destroyed.
@@ -116,11 +112,7 @@ impl<R: Rings<Stored> + Drop> Brigades<R> {
         requires { is_some (brigade_of self.old morph.id) ≡ true }
         ensures out { (b n : ℕ) (x : Bucket) → brigade_of self.old morph.id ≡ Some b → bucket_at self.old morph.id ≡ Some x
             → lists self.new n ≡ on b (with_payload morph.id (given_by morph x)) (lists self.old) n }
-        ensures next { next_name self.new ≡ next_name self.old }
-        ensures names { NoneRevived (brigade_of self.old) (brigade_of self.new) (next_name self.old) }
-        ensures pools { pool_of self.new ≡ pool_of self.old }
-        ensures references { references self.new ≡ references self.old }
-        ensures unasked { self.new.asked ≡ self.old.asked }
+        ensures others { OnlyLists self.old self.new }
     {
         let nothing = hollow(self.stored(morph.id));
         let mut bucket = self.held.put(morph.id, nothing);
@@ -132,11 +124,7 @@ impl<R: Rings<Stored> + Drop> Brigades<R> {
     /// Gives a bucket, where it is there still, another kind and home.
     fn apply_morph(&mut self, morph: Morph)
         ensures out { (n : ℕ) → lists self.new n ≡ option_map (all_morphed (morph ∷ [])) (lists self.old n) }
-        ensures next { next_name self.new ≡ next_name self.old }
-        ensures names { NoneRevived (brigade_of self.old) (brigade_of self.new) (next_name self.old) }
-        ensures pools { pool_of self.new ≡ pool_of self.old }
-        ensures references { references self.new ≡ references self.old }
-        ensures unasked { self.new.asked ≡ self.old.asked }
+        ensures others { OnlyLists self.old self.new }
     {
         if self.held.ring_of(morph.id).is_some() {
             self.put_morph(morph);
@@ -146,11 +134,7 @@ impl<R: Rings<Stored> + Drop> Brigades<R> {
     /// Does to buckets what was made ready for them.
     fn apply_found(&mut self, found: Seq<Morph>)
         ensures out { (n : ℕ) → lists self.new n ≡ option_map (all_morphed found) (lists self.old n) }
-        ensures next { next_name self.new ≡ next_name self.old }
-        ensures names { NoneRevived (brigade_of self.old) (brigade_of self.new) (next_name self.old) }
-        ensures pools { pool_of self.new ≡ pool_of self.old }
-        ensures references { references self.new ≡ references self.old }
-        ensures unasked { self.new.asked ≡ self.old.asked }
+        ensures others { OnlyLists self.old self.new }
     {
         for morph in found.as_slice() {
             self.apply_morph(*morph);

@@ -1,15 +1,8 @@
 //! A bucket of the store is read.
 
 ghost use Rattle.std.specs.Prelude.{◌≡◌, ◌≢◌, ◌⊎◌, ◌&&◌, ℕ, ◌+◌, ◌<◌, List, [], ◌∷◌, length, Ok, Some, None, Err, true, is_some, is_ok, if◌then◌else◌, IfOk, IfSome, OnOk, OnErr};
-ghost use Rattle.bucket_ring.specs.Lists.{on, with_payload};
-ghost use Rattle.bucket_ring.specs.Kept.{NoneRevived};
-ghost use Rattle.run_model.specs.Cutting.{EndsInFile, wanted, read_of};
-ghost use Rattle.bucket_kinds.specs.declared.stored.Kept.{Kept};
-ghost use Rattle.bucket_kinds.specs.Device.{WentWell, HasFailed, WasAsked};
-ghost use Rattle.bucket_kinds.specs.Reading.{IsOpenFor, GivesFor, EndsWithin};
-ghost use Rattle.stored_rings.specs.Items.{replaced, rest_item, range_in};
-ghost use Rattle.brigade_ops.specs.Reads.{IsRead};
-ghost use Rattle.stored_rings.specs.Shown.{lies_right};
+ghost use Rattle.brigade_ops.specs.Prelude.{on, with_payload, NoneRevived, EndsInFile, wanted, read_of, Kept, WentWell, HasFailed, WasAsked, IsOpenFor, GivesFor, EndsWithin, replaced, rest_item};
+ghost use Rattle.brigade_ops.specs.Prelude.{range_in, IsAskedFor, IsRead, lies_right};
 
 use crate::store::Brigades;
 use bucket_kinds::{Files, ReadFault, Stored, keep_own, read_into, rest_of_read, room_to_read};
@@ -60,11 +53,7 @@ impl<R: Rings<Stored> + Drop> Brigades<R> {
         ensures pools { pool_of self.new ≡ pool_of self.old }
         ensures references { references self.new ≡ references self.old }
         ensures unread { wanted bucket.content ≡ 0 → (result ≡ Ok tt) × (F.device files.new ≡ F.device files.old) }
-        ensures asked { OnOk result (WasAsked (wanted bucket.content) (F.device files.old) (F.device files.new)) }
-        ensures fault { OnErr result
-            (HasFailed (F.device files.old) (F.device files.new)
-            ⊎ (WentWell (F.device files.old) (F.device files.new) × EndsWithin (F.device files.old) bucket.content)) }
-        ensures open_files { (F.device files.new).numbered ≡ (F.device files.old).numbered }
+        ensures device { IsAskedFor bucket.content (F.device files.old) (F.device files.new) result }
         ensures err { OnErr result ((m : ℕ) → lists self.new m ≡ lists self.old m) }
         ensures unasked { self.new.asked ≡ self.old.asked }
     {
@@ -98,11 +87,7 @@ impl<R: Rings<Stored> + Drop> Brigades<R> {
         ensures names { NoneRevived (brigade_of self.old) (brigade_of self.new) (next_name self.old) }
         ensures pools { pool_of self.new ≡ pool_of self.old }
         ensures references { references self.new ≡ references self.old }
-        ensures asked { OnOk result (WasAsked (wanted bucket.content) (F.device files.old) (F.device files.new)) }
-        ensures fault { OnErr result
-            (HasFailed (F.device files.old) (F.device files.new)
-            ⊎ (WentWell (F.device files.old) (F.device files.new) × EndsWithin (F.device files.old) bucket.content)) }
-        ensures open_files { (F.device files.new).numbered ≡ (F.device files.old).numbered }
+        ensures device { IsAskedFor bucket.content (F.device files.old) (F.device files.new) result }
         ensures err { OnErr result ((m : ℕ) → lists self.new m ≡ lists self.old m) }
         ensures unasked { self.new.asked ≡ self.old.asked }
     {

@@ -1,13 +1,7 @@
 //! References to files: registered with a pool, and counted.
 
 ghost use Rattle.std.specs.Prelude.{◌≡◌, ◌<◌, ◌≤◌, ℕ, ◌+◌, ◌==◌, if◌then◌else◌, [], true, IsTrue, IsOk, OnOk, OnErr};
-ghost use Rattle.run_model.specs.Pools.{Pools, is_live, registered};
-ghost use Rattle.run_model.specs.RunOrder.{killed};
-ghost use Rattle.run_model.specs.Payloads.{payload_eq};
-ghost use Rattle.run_model.specs.Steps.{all_referred};
-ghost use Rattle.pool_tree.specs.Tree.{map_of};
-ghost use Rattle.brigade_ops.specs.Files.{times_in};
-ghost use Rattle.brigade_ops.specs.Files.{count_at};
+ghost use Rattle.brigade_ops.specs.Prelude.{Pools, is_live, registered, killed, payload_eq, all_referred, map_of, times_in, count_at};
 
 use bucket_kinds::FileNo;
 use name_table::NameTable;

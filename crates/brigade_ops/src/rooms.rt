@@ -1,10 +1,7 @@
 //! Room for new buckets and their names, made before anything that is seen changes.
 
 ghost use Rattle.std.specs.Prelude.{◌≡◌, ◌↔◌, ℕ, ◌<◌, true, IfOk, IfErr, OnOk};
-ghost use Rattle.bucket_ring.specs.declared.names.BucketId.{BucketId};
-ghost use Rattle.bucket_kinds.specs.Stored.{is_whole, shown};
-ghost use Rattle.stored_rings.specs.Regions.{look};
-ghost use Rattle.stored_rings.specs.Shown.{lies_right};
+ghost use Rattle.brigade_ops.specs.Prelude.{BucketId, is_whole, shown, look, lies_right};
 
 use crate::store::Brigades;
 use bucket_kinds::Stored;
@@ -15,25 +12,8 @@ use run_model::{Bucket, Home, Kind};
 impl<R: Rings<Stored> + Drop> Brigades<R> {
     ghost use Rattle.brigade_ops.specs.Store.{lists, brigade_of, pool_of, next_name, references, has_room};
 
-    /// Sees that a name is left for a new bucket, and makes room for that name under the pool that its kind and home depend on. Nothing that is
-    /// seen of the store changes, also where it is refused.
-    #[inline(always)]
-    fn name_for(&mut self, kind: Kind, home: Home) -> Result<(), RingRefusal>
-        ensures unspent { OnOk result (next_name self.new < u64.MAX) }
-        ensures spent { (result ≡ Err RingRefusal.NamesSpent) ↔ (next_name self.old ≡ u64.MAX) }
-        ensures lists { (n : ℕ) → lists self.new n ≡ lists self.old n }
-        ensures brigades { (id : BucketId) → brigade_of self.new id ≡ brigade_of self.old id }
-        ensures regions { self.new.held.regions ≡ self.old.held.regions }
-        ensures next { next_name self.new ≡ next_name self.old }
-        ensures pools { pool_of self.new ≡ pool_of self.old }
-        ensures references { references self.new ≡ references self.old }
-        ensures unasked { self.new.asked ≡ self.old.asked }
-    {
-        let next = self.held.next_name();
-        self.held.rings.dependents.make_room_for(next, kind, home)
-    }
-
-    /// As `name_for`, and makes room for the bucket itself.
+    /// Sees that a name is left for a new bucket, and makes room for that name under the pool that its kind and home depend on, and for the
+    /// bucket itself. Nothing that is seen of the store changes, also where it is refused.
     #[inline(always)]
     pub(crate) fn room_for(&mut self, kind: Kind, home: Home) -> Result<(), RingRefusal>
         ensures room { OnOk result (has_room self.new) }
@@ -47,7 +27,8 @@ impl<R: Rings<Stored> + Drop> Brigades<R> {
         ensures references { references self.new ≡ references self.old }
         ensures unasked { self.new.asked ≡ self.old.asked }
     {
-        self.name_for(kind, home)?;
+        let next = self.held.next_name();
+        self.held.rings.dependents.make_room_for(next, kind, home)?;
         self.held.make_room()?;
         Ok(())
     }
@@ -58,7 +39,7 @@ impl<R: Rings<Stored> + Drop> Brigades<R> {
         ensures shown { IfOk result (λ x. shown (look self.new.held.regions) x ≡ bucket) }
         ensures whole { IfOk result (λ x. is_whole (look self.new.held.regions) x.kept ≡ true) }
         ensures lies { IfOk result (λ x. lies_right x.kind x.kept ≡ true) }
-        ensures room { OnOk result (has_room self.new) }
+        ensures room { OnOk result (R.has_room self.new.held.rings.rings) }
         ensures unspent { OnOk result (next_name self.new < u64.MAX) }
         ensures spent { next_name self.old ≡ u64.MAX → result ≡ Err (RingRefusal.NamesSpent, bucket) }
         ensures told { IfErr result (λ why. why.0 ≡ RingRefusal.NamesSpent → next_name self.old ≡ u64.MAX) }
@@ -70,7 +51,9 @@ impl<R: Rings<Stored> + Drop> Brigades<R> {
         ensures references { references self.new ≡ references self.old }
         ensures unasked { self.new.asked ≡ self.old.asked }
     {
-        if let Err(why) = self.name_for(bucket.kind, bucket.home) {
+        let next = self.held.next_name();
+        let dependents = &mut self.held.rings.dependents;
+        if let Err(why) = dependents.make_room_for(next, bucket.kind, bucket.home) {
             return Err((why, bucket));
         }
         match self.held.take(bucket) {

@@ -2,15 +2,7 @@
 
 ghost use Rattle.std.specs.Prelude.{◌≡◌, ◌≢◌, ℕ, ◌+◌, ◌++◌, [], map, filter_map, Some, None, true, is_some, IsTrue, IsOk, IfOk, IfSome, OnOk, OnErr};
 ghost use Rattle.std.specs.List.{cons_option};
-ghost use Rattle.run_model.specs.Pools.{is_live};
-ghost use Rattle.run_model.specs.RunOrder.{IsPoolMap};
-ghost use Rattle.run_model.specs.Steps.{all_referred, new_ref};
-ghost use Rattle.pool_tree.specs.Tree.{map_of};
-ghost use Rattle.bucket_ring.specs.Lists.{on, list_at};
-ghost use Rattle.bucket_ring.specs.Kept.{NoneRevived};
-ghost use Rattle.brigade_ops.specs.Files.{times_in};
-ghost use Rattle.stored_rings.specs.Items.{named, aside_item, aside_behind};
-ghost use Rattle.brigade_ops.specs.House.{IsHouse};
+ghost use Rattle.brigade_ops.specs.Prelude.{is_live, IsPoolMap, all_referred, new_ref, map_of, on, list_at, NoneRevived, times_in, named, aside_item, aside_behind, IsHouse};
 
 use crate::aside::is_above;
 use crate::references::refer_all;
@@ -34,6 +26,7 @@ pub(crate) fn push_some<T: Drop>(items: &mut Seq<T>, item: Option<T>) -> Result<
 
 #[tactic(auto, unfolding(crate::specs::Store::lists, crate::specs::Store::brigade_of, crate::specs::Store::pool_of, crate::specs::Store::next_name, crate::specs::Store::references, crate::specs::Files::count_at), using(pool_tree::proofs::Trees::tree_formed))]
 impl<R: Rings<Stored> + Drop> Brigades<R> {
+    ghost use Rattle.brigade_ops.specs.OnlyLists.{OnlyLists};
     ghost use Rattle.brigade_ops.specs.Store.{lists, brigade_of, pool_of, next_name, references};
 
     /// The files of which setting the buckets of a brigade aside takes further references.
@@ -69,11 +62,7 @@ impl<R: Rings<Stored> + Drop> Brigades<R> {
         requires inside { IfSome from (λ id. brigade_of self.old id ≡ Some b) }
         requires live { IsTrue (is_live (map_of tree.now) pool) }
         ensures out { (n : ℕ) → lists self.new n ≡ on b (aside_behind (map_of tree.now) pool from) (lists self.old) n }
-        ensures next { next_name self.new ≡ next_name self.old }
-        ensures names { NoneRevived (brigade_of self.old) (brigade_of self.new) (next_name self.old) }
-        ensures pools { pool_of self.new ≡ pool_of self.old }
-        ensures references { references self.new ≡ references self.old }
-        ensures unasked { self.new.asked ≡ self.old.asked }
+        ensures others { OnlyLists self.old self.new }
     {
         let mut place = from;
         while let Some(id) = place {

@@ -1,12 +1,8 @@
 //! A brigade is walked along: measured, split and parted.
 
 ghost use Rattle.std.specs.Prelude.{◌≡◌, ◌≢◌, ◌&&◌, ℕ, ◌+◌, ◌<◌, ◌^◌, [], ◌∷◌, drop, length, Some, None, Ok, Err, true, false, is_some, is_ok, if◌then◌else◌, IsOk, IfOk, IfSome, OnOk, OnErr};
-ghost use Rattle.bucket_ring.specs.Lists.{on, list_at, rest, first_of};
-ghost use Rattle.bucket_ring.specs.Kept.{NoneRevived};
-ghost use Rattle.run_model.specs.BrigadeLists.{length_in};
-ghost use Rattle.run_model.specs.Cutting.{EndsInFile, form_of, form_of_kind, length_of, split_at};
-ghost use Rattle.stored_rings.specs.Items.{named, replaced, before_place, from_place};
-ghost use Rattle.stored_rings.specs.Points.{point_in, is_inside, cut_at};
+ghost use Rattle.brigade_ops.specs.Prelude.{on, list_at, rest, first_of, NoneRevived, length_in, EndsInFile, form_of, form_of_kind, length_of, split_at, named, replaced, before_place, from_place};
+ghost use Rattle.brigade_ops.specs.Prelude.{point_in, is_inside, cut_at};
 
 use crate::store::{BrigadeId, Brigades};
 use bucket_kinds::Stored;

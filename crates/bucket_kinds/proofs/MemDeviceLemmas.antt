@@ -29,45 +29,35 @@ pub closed_device : (fs : Files) (file failures : ℕ) → device_of (file_close
 closed_device fs file failures = ap (with_numbered (device_of fs failures) fs.next) (held_upd fs.opened file None)
 
 -- The plan of a device after a call is that of the files after it.
-well_planned : (o : Option ℕ) → fails_now o ≡ false → plan_of (fails_after_read o) ≡ nearer (plan_of o)
-well_planned None well = refl
-well_planned (Some zero) well = cc
-well_planned (Some (suc n)) well = refl
+well_planned : (o : Option ℕ) → fails_now o ≡ false → (plan_of (fails_after_read o) ≡ nearer (plan_of o)) × MayGoWell (plan_of o)
+well_planned None well = (refl, tt)
+well_planned (Some zero) well = (cc, cc)
+well_planned (Some (suc n)) well = (refl, tt)
 
-may_go_well : (o : Option ℕ) → fails_now o ≡ false → MayGoWell (plan_of o)
-may_go_well None well = tt
-may_go_well (Some zero) well = cc
-may_go_well (Some (suc n)) well = tt
-
-fails_spent : (o : Option ℕ) → fails_now o ≡ true → plan_of (fails_after_read o) ≡ spent (plan_of o)
-fails_spent None fails = refl
-fails_spent (Some zero) fails = refl
-fails_spent (Some (suc n)) fails = cc
-
-may_fail_now : (o : Option ℕ) → fails_now o ≡ true → MayFail (plan_of o)
-may_fail_now None fails = cc
-may_fail_now (Some zero) fails = tt
-may_fail_now (Some (suc n)) fails = cc
+fails_spent : (o : Option ℕ) → fails_now o ≡ true → (plan_of (fails_after_read o) ≡ spent (plan_of o)) × MayFail (plan_of o)
+fails_spent None fails = (cc, cc)
+fails_spent (Some zero) fails = (refl, tt)
+fails_spent (Some (suc n)) fails = (cc, cc)
 
 abbrev with_plan : Device → Plan → Device
 with_plan d p = record d { plan = p }
 
 moved_device : (fs : Files) (failures : ℕ) → fails_now fs.fails_in ≡ false → device_of (read_done fs) failures ≡ moved (device_of fs failures)
-moved_device fs failures well = ap (with_plan (device_of fs failures)) (well_planned fs.fails_in well)
+moved_device fs failures well = ap (with_plan (device_of fs failures)) (well_planned fs.fails_in well).0
 
 spent_device : (fs : Files) (failures : ℕ) → fails_now fs.fails_in ≡ true → device_of (read_done fs) (one_more failures) ≡ failed (device_of fs failures)
-spent_device fs failures fails = ap (with_plan (device_of fs (one_more failures))) (fails_spent fs.fails_in fails)
+spent_device fs failures fails = ap (with_plan (device_of fs (one_more failures))) (fails_spent fs.fails_in fails).0
 
 -- A call that fails is counted, and one that goes on well brings that nearer.
 pub failed_device : (fs gs : Files) (old new : ℕ) → gs ≡ read_done fs → new ≡ failures_after fs old → fails_now fs.fails_in ≡ true → HasFailed (device_of fs old) (device_of gs new)
 failed_device fs gs old new after counted fails = (
-  may_fail_now fs.fails_in fails,
+  (fails_spent fs.fails_in fails).1,
   ap (λ x. device_of x new) after ∙ (ap (device_of (read_done fs)) (counted ∙ ap (λ f. counted_if f old) fails) ∙ spent_device fs old fails),
 )
 
 pub well_device : (fs gs : Files) (old new : ℕ) → gs ≡ read_done fs → new ≡ failures_after fs old → fails_now fs.fails_in ≡ false → WentWell (device_of fs old) (device_of gs new)
 well_device fs gs old new after counted well = (
-  may_go_well fs.fails_in well,
+  (well_planned fs.fails_in well).1,
   ap (λ x. device_of x new) after ∙ (ap (device_of (read_done fs)) (counted ∙ ap (λ f. counted_if f old) well) ∙ moved_device fs old well),
 )
 
@@ -90,18 +80,18 @@ sound_opening fs gs name (Ok r) failures well h =
       number_fits = rw h.number_is h.number_fits;
       number_is_new = ap (λ n. held_of (fs.opened n)) h.number_is ∙ ap held_of h.number_is_new;
       length_is = has_length (read_done fs) gs name r.0 r.1 h;
-      went_well = may_go_well fs.fails_in well;
+      went_well = (well_planned fs.fails_in well).1;
       after = after;
       is_open = ap (λ n. is_there ((device_of gs failures).numbered n)) h.number_is
           ∙ open_after (moved d) (device_of gs failures) name r.1 (has_length (read_done fs) gs name r.0 r.1 h) after;
     }
 sound_opening fs gs name (Err fault.NotThere) failures well h =
-    (subst (λ o. MayMiss (held_of o)) (sym h.0) tt, (may_go_well fs.fails_in well, ap (λ x. device_of x failures) h.1 ∙ moved_device fs failures well))
+    (subst (λ o. MayMiss (held_of o)) (sym h.0) tt, ((well_planned fs.fails_in well).1, ap (λ x. device_of x failures) h.1 ∙ moved_device fs failures well))
 sound_opening fs gs name (Err fault.Failed) failures well h = absurd h
 sound_opening fs gs name (Err fault.NamesSpent) failures well h =
-    (there_if (fs.named name) h.0, h.1, (may_go_well fs.fails_in well, ap (λ x. device_of x failures) h.2 ∙ moved_device fs failures well))
+    (there_if (fs.named name) h.0, h.1, ((well_planned fs.fails_in well).1, ap (λ x. device_of x failures) h.2 ∙ moved_device fs failures well))
 sound_opening fs gs name (Err fault.NoMemory) failures well h =
-    (there_if (fs.named name) h.0, h.1, (may_go_well fs.fails_in well, ap (λ x. device_of x failures) h.2 ∙ moved_device fs failures well))
+    (there_if (fs.named name) h.0, h.1, ((well_planned fs.fails_in well).1, ap (λ x. device_of x failures) h.2 ∙ moved_device fs failures well))
 
 -- An opening, which fails where that is due.
 pub opening_device : (fs gs : Files) (name : List ℕ) (r : Result (ℕ × ℕ) FileFault) (old new : ℕ)

@@ -10,3 +10,4 @@ pub mod MemDevice
 pub mod MemAnswers
 pub mod DiskDevice
 pub mod Stored
+pub mod Prelude

@@ -2,22 +2,22 @@
 
 ghost use Rattle.std.specs.Prelude.{◌≡◌, ◌<◌, ◌≤◌, ℕ, IsSome, nat_eq, IfOk, length, true};
 ghost use Rattle.std.specs.HashMap.{get};
-ghost use Rattle.bucket_kinds.specs.Device.{HasFailed};
-ghost use Rattle.bucket_kinds.specs.DiskDevice.{disk_device, fresh_disk};
+ghost use Rattle.bucket_kinds.specs.Prelude.{HasFailed, disk_device, fresh_disk};
 ghost use Rattle.bucket_kinds.specs.declared.refusal.FileFault.TheVariants as fault;
 
 use crate::files::{FileNo, Files};
 use crate::numbers::{drop_number, put_number};
 use crate::refusal::FileFault;
 use std::collections::HashMap;
+use std::fs::OpenFile;
 use std::io::{Seek, SeekFrom};
 use std::os::unix::fs::FileExt;
 use std::rt::Files as FileSystem;
 use std::{fs, io, str};
 
-/// Files of a disk, reached by a runtime. What they hold is not told, and they may always fail. A name is a path: one that is not UTF-8, that holds a
-/// NUL, that is too long, or that leads to no regular file is `NotThere`: a folder, a pipe or a device is never opened, nor waited for. Any other
-/// fault of an opening is `Failed`, and is counted.
+/// Files of a disk, reached by a runtime. What they hold is not said, and they may always fail. A name is a path: one that is not UTF-8, that holds a
+/// NUL, that is too long, or that leads to no regular file is `NotThere`. What it leads to is looked at before it is opened, so that no pipe is waited
+/// for; a pipe that takes the place of a file between the two is. Any other fault of an opening is `Failed`, and is counted.
 #[derive(Drop)]
 pub struct DiskFiles<R: FileSystem + AllocGlobal> {
     runtime: R,
@@ -54,6 +54,15 @@ fn leads_nowhere(kind: io::ErrorKind) -> bool {
         kind,
         io::ErrorKind::NotFound | io::ErrorKind::NotADirectory | io::ErrorKind::InvalidFilename
     )
+}
+
+// How long a file is: where it ends, or what the system says of it where its end cannot be sought, as of some files of /proc. Reads are at places,
+// so where the file stands afterwards does not matter.
+fn length_of<F: OpenFile + Seek>(file: &mut F) -> io::Result<u64> {
+    match file.seek(SeekFrom::End(0)) {
+        Ok(end) => Ok(end),
+        Err(_) => Ok(file.metadata()?.len()),
+    }
 }
 
 // Fills the buffer from a place of a file on, as far as the file reaches.
@@ -118,8 +127,7 @@ where
             Err(error) if leads_nowhere(error.kind()) => return Err(FileFault::NotThere),
             Err(_) => return Err(self.fail()),
         };
-        // Reads are at places, so where the file stands afterwards does not matter.
-        let Ok(len) = file.seek(SeekFrom::End(0)) else {
+        let Ok(len) = length_of(&mut file) else {
             return Err(self.fail());
         };
         let number = self.next;

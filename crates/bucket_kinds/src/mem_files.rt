@@ -3,9 +3,7 @@
 ghost use Rattle.std.specs.Prelude.{◌≡◌, ◌<◌, ◌==◌, if◌then◌else◌, ℕ, List, length, true, false, Some, None, IsSome, is_some, nat_eq, MatchOption, OnOk, OnErr, IsErr, ◌↔◌};
 ghost use Rattle.std.specs.Str.{bytes_eq};
 ghost use Rattle.std.specs.HashMap.{get};
-ghost use Rattle.bucket_kinds.specs.Device.{Holds};
-ghost use Rattle.bucket_kinds.specs.Answers.{IsFilled};
-ghost use Rattle.bucket_kinds.specs.InMemory.{Bytes, under, at_number};
+ghost use Rattle.bucket_kinds.specs.Prelude.{Holds, IsFilled, Bytes, under, at_number};
 
 use crate::files::{FileNo, Files};
 use crate::numbers::{drop_number, put_number};

@@ -1,11 +1,8 @@
 //! Buckets whose bytes lie in the region of a pool.
 
 ghost use Rattle.std.specs.Prelude.{◌≡◌, ◌<◌, ◌≤◌, ◌↔◌, Some, Err, true, false, is_some, length, IfOk, OnOk, OnErr};
-ghost use Rattle.apr_region.specs.declared.region.Span.{Span};
-ghost use Rattle.apr_region.specs.Regions.{bytes_at};
-ghost use Rattle.run_model.specs.Buckets.{is_data_kind};
-ghost use Rattle.run_model.specs.Cutting.{heap_of, set_aside, split_at};
-ghost use Rattle.bucket_kinds.specs.Stored.{Look, part, has_part, own, pool_bucket, kept_length, keeps_bytes, EndsInBytes, kept_front, kept_rest, parts_at, shown, aside};
+ghost use Rattle.bucket_kinds.specs.Prelude.{Span, bytes_at, is_data_kind, heap_of, set_aside, split_at, Look, part, has_part, own, pool_bucket, kept_length, keeps_bytes, EndsInBytes, kept_front};
+ghost use Rattle.bucket_kinds.specs.Prelude.{kept_rest, parts_at, shown, aside};
 
 use crate::cutting::{bytes_copy, content_copy, is_metadata, length, parts};
 use crate::refusal::SplitError;

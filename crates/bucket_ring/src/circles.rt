@@ -1,11 +1,7 @@
 //! Rings as circles of slots: buckets that come in and out, and what stands in a ring.
 
 ghost use Rattle.std.specs.Prelude.{◌≡◌, ℕ, ◌+◌, ◌<◌, ◌≤◌, ◌^◌, length, drop, [], ◌∷◌, if◌then◌else◌, Some, None, true, is_some};
-ghost use Rattle.name_table.specs.NameTable.{room_in};
-ghost use Rattle.bucket_ring.specs.Lists.{upd, on, list_at, same, rest, without, found, first_of, with_payload};
-ghost use Rattle.bucket_ring.specs.Spots.{placed};
-ghost use Rattle.bucket_ring.specs.Walks.{id_of};
-ghost use Rattle.bucket_ring.specs.Kept.{IsKept};
+ghost use Rattle.bucket_ring.specs.Prelude.{room_in, upd, on, list_at, same, rest, without, found, first_of, with_payload, placed, id_of, IsKept};
 
 use crate::links::{Links, Position, RingHead};
 use crate::names::{BucketId, RingId};

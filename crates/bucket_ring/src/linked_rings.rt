@@ -1,12 +1,8 @@
 //! Rings as links between slots.
 
 ghost use Rattle.std.specs.Prelude.{◌≡◌, ◌≢◌, ◌↔◌, ℕ, ◌+◌, ◌<◌, ◌≤◌, ◌^◌, length, List, [], ◌∷◌, ◌++◌, Some, None, true, is_some, is_ok, if◌then◌else◌, IsOk, IfOk, IfErr, OnOk, OnErr};
-ghost use Rattle.bucket_ring.specs.Lists.{upd, on, list_at, found, front, rest, without, same, by_birth, numbered};
+ghost use Rattle.bucket_ring.specs.Prelude.{upd, on, list_at, found, front, rest, without, same, by_birth, numbered, room_in, placed, ring_at, lists_of, IsSpot, AreLinked, IsKept, NoneRevived};
 ghost use Rattle.bucket_ring.specs.declared.names.BucketId.{BucketId};
-ghost use Rattle.name_table.specs.NameTable.{room_in};
-ghost use Rattle.bucket_ring.specs.Spots.{placed};
-ghost use Rattle.bucket_ring.specs.Links.{ring_at, lists_of, IsSpot, AreLinked};
-ghost use Rattle.bucket_ring.specs.Kept.{IsKept, NoneRevived};
 
 use crate::links::{Links, Position};
 use crate::names::{BucketId, RingId, RingRefusal};

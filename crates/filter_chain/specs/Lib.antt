@@ -7,3 +7,4 @@ pub mod Failing
 pub mod Safe
 pub mod Led
 pub mod Running
+pub mod Prelude

@@ -1,11 +1,7 @@
 //! Connections are opened.
 
 ghost use Rattle.std.specs.Prelude.{◌≡◌, ◌+◌, ◌||◌};
-ghost use Rattle.run_model.specs.declared.event.Event.TheVariants.{Open};
-ghost use Rattle.run_model.specs.Steps.{is_spent};
-ghost use Rattle.run_model.specs.Worlds.{World};
-ghost use Rattle.pool_tree.specs.Tree.{map_of};
-ghost use Rattle.brigade_ops.specs.Store.{next_name};
+ghost use Rattle.filter_chain.specs.Prelude.{Open, is_spent, World, map_of, next_name};
 
 use crate::host::Host;
 use bucket_kinds::Files;

@@ -1,10 +1,7 @@
 //! What a connection tells.
 
 ghost use Rattle.std.specs.Prelude.{◌≡◌, Err, IfErr, IfOk, Ok};
-ghost use Rattle.run_model.specs.declared.event.Event.TheVariants.{TakeOutput, TellLabels};
-ghost use Rattle.run_model.specs.Worlds.{World, Labels, Refused};
-ghost use Rattle.module_run.specs.Conns.{labels_handed};
-ghost use Rattle.module_run.specs.Happened.{refusal_of};
+ghost use Rattle.filter_chain.specs.Prelude.{TakeOutput, TellLabels, World, Labels, Refused, labels_handed, refusal_of};
 
 use crate::host::Host;
 use bucket_kinds::Files;

@@ -1,5 +1,5 @@
 -- Steps in slices: a head begins a request, and the response to it.
-use Rattle.std.proofs.Common.{◌≡◌, ℕ, ◌≤◌, ◌<◌, Bool, true, false, Ok, Err, Option, Some, None, List, length, take, drop, refl, sym, inl, inr, ◌∙◌, ap, subst, arith, length-take}
+use Rattle.std.proofs.Common.{◌≡◌, ℕ, ◌≤◌, ◌<◌, Bool, true, false, Ok, Err, Option, Some, None, List, length, take, drop, refl, sym, inl, inr, ◌∙◌, ap, subst, arith, length-take, Result}
 use Rattle.std.specs.Prelude.{Result, IfOk, ◌⊎◌, ◌&&◌, nat_le}
 use Rattle.std.proofs.lemmas.List.{take_all}
 use Rattle.httparse.specs.Grammar.{RequestHead}
@@ -23,6 +23,7 @@ use Rattle.http_front.specs.Talking.{Follows, one_more, pending}
 use Rattle.http_front.specs.Texts.{text_of}
 use Rattle.http_front.specs.Turns.{ComesTo, ComesUnless, fields_limit, head_limit}
 use Rattle.http_front.specs.UnderWays.{Answered, BeginsHead, IsAskedBy, IsUnderWay, Sends, Steps, StepsFrom, Wants, WantsPath}
+use Rattle.http_front.specs.declared.fault.FrontKind.{FrontKind}
 use Rattle.http_front.specs.declared.handler.RequestOutcome.{RequestOutcome}
 use Rattle.http_front.specs.declared.handler.Slice.{Slice}
 use Rattle.http_front.specs.declared.handler.Slice.TheVariants as request
@@ -181,13 +182,15 @@ module _ {H T : Type 0} (site : Site) (among : H → Method → List ℕ → Req
         does_so low seen whole u.asked w.head o old new s text by w.begins w.fits (comes_so w.head w.asks.file o old new w.asks.allowed w.asks.named (w.asks.goes o new rest)) (sends w.head by)
 
     -- a slice, from what it was made of
-    pub stepped_so : (y x : StepSlice T) (hand took : Option (UnderWay T)) (now new : H) (seen low : List ℕ) (whole : Bool) (text pend : List ℕ) → y ≡ x → took ≡ hand → low ≡ seen → pend ≡ text
-        → StepsFrom site among rests tells took now before low whole y text new after → StepsFrom site among rests tells hand now before seen whole x pend new after
-    stepped_so y x hand took now new seen low whole text pend same taken front left s =
+    pub stepped_ok : (did : Result (StepSlice T) FrontKind) (y x : StepSlice T) (hand took : Option (UnderWay T)) (now new : H) (seen low : List ℕ) (whole : Bool) (text pend : List ℕ)
+        → did ≡ Ok y → y ≡ x → took ≡ hand → low ≡ seen → pend ≡ text → IfOk did (λ z. StepsFrom site among rests tells took now before low whole z text new after)
+        → StepsFrom site among rests tells hand now before seen whole x pend new after
+    stepped_ok did y x hand took now new seen low whole text pend is same taken front left s =
         subst (λ (z : StepSlice T). StepsFrom site among rests tells hand now before seen whole z pend new after) same
         (subst (λ (h : Option (UnderWay T)). StepsFrom site among rests tells h now before seen whole y pend new after) taken
         (subst (λ (l : List ℕ). StepsFrom site among rests tells took now before l whole y pend new after) front
-        (subst (λ (l : List ℕ). StepsFrom site among rests tells took now before low whole y l new after) (sym left) s)))
+        (subst (λ (l : List ℕ). StepsFrom site among rests tells took now before low whole y l new after) (sym left)
+        (subst (λ (r : Result (StepSlice T) FrontKind). IfOk r (λ z. StepsFrom site among rests tells took now before low whole z text new after)) is s))))
 
     -- a request was in hand
     pub steps_some : (hand : Option (UnderWay T)) (u : UnderWay T) (now new : H) (seen : List ℕ) (whole : Bool) (x : StepSlice T) (text : List ℕ) → hand ≡ Some u

@@ -119,72 +119,65 @@ module _ {H K : Type 0} (site : Site) (handles : H → Method → List ℕ → R
         responses = record { turns = so.turns; stay = so.stay; answers = so.answers; requests = refl; written = refl; count = so.count };
       }
 
+  -- What holds of the texts so far, where the stream begins with the requests so far and goes on so.
+  far_told : (P : List ℕ → List ℕ → Type 0) (old : H) (before : K) (r q w v : Option (List ℕ)) (unread : List ℕ) (n : ℕ) (new : H) (after : K) (so : Far old before r q w v unread n new after)
+      → ((stream left : List ℕ) → q ≡ Some left → stream ≡ (heads_of so.turns ++ unread) ++ left → P stream (texts_of so.turns)) → Writes r w v P
+  far_told P old before None q w v unread n new after so holds = tt
+  far_told P old before (Some stream) q w v unread n new after so holds =
+      let left = left_of stream (heads_of so.turns ++ unread) q so.took in (texts_of so.turns, holds stream left.0 left.1 left.2, so.wrote)
+
   -- Serving fails where all whole requests that were read are answered.
   pub far_wants : (old : H) (before : K) (r q w v : Option (List ℕ)) (unread : List ℕ) (n : ℕ) (new : H) (after : K)
       → Far old before r q w v unread n new after → WantsMore unread → Writes r w v (λ stream text. AnswersRequestsRead site handles tells old before stream text q new after)
-  far_wants old before None q w v unread n new after so wants = tt
-  far_wants old before (Some stream) q w v unread n new after so wants =
-      let left = left_of stream (heads_of so.turns ++ unread) q so.took in (
-        texts_of so.turns,
-        record {
-          first = heads_of so.turns;
-          seen = unread;
-          unread = left.0;
-          n = n;
-          splits = left.2;
-          responses = record { turns = so.turns; stay = so.stay; answers = so.answers; requests = refl; written = refl; count = so.count };
-          wants = wants;
-          leaves = left.1;
-        },
-        so.wrote,
-      )
+  far_wants old before r q w v unread n new after so wants =
+      far_told (λ stream text. AnswersRequestsRead site handles tells old before stream text q new after) old before r q w v unread n new after so (λ stream left leaves splits. record {
+        first = heads_of so.turns;
+        seen = unread;
+        unread = left;
+        n = n;
+        splits = splits;
+        responses = record { turns = so.turns; stay = so.stay; answers = so.answers; requests = refl; written = refl; count = so.count };
+        wants = wants;
+        leaves = leaves;
+      })
 
   -- Memory or names are lacking for the request at hand.
   far_lacks : (Due : H → List ℕ → List ℕ → Type 0) (old : H) (before : K) (r q w v : Option (List ℕ)) (unread : List ℕ) (n : ℕ) (new : H) (after : K)
       → Far old before r q w v unread n new after → ((left : List ℕ) → q ≡ Some left → Due new unread left) → Writes r w v (λ stream text. LacksAt site handles tells Due old before stream text q)
-  far_lacks Due old before None q w v unread n new after so due = tt
-  far_lacks Due old before (Some stream) q w v unread n new after so due =
-      let left = left_of stream (heads_of so.turns ++ unread) q so.took in (
-        texts_of so.turns,
-        record {
-          first = heads_of so.turns;
-          seen = unread;
-          unread = left.0;
-          n = n;
-          new = new;
-          after = after;
-          splits = left.2;
-          responses = record { turns = so.turns; stay = so.stay; answers = so.answers; requests = refl; written = refl; count = so.count };
-          due = due left.0 left.1;
-          leaves = left.1;
-        },
-        so.wrote,
-      )
+  far_lacks Due old before r q w v unread n new after so due =
+      far_told (λ stream text. LacksAt site handles tells Due old before stream text q) old before r q w v unread n new after so (λ stream left leaves splits. record {
+        first = heads_of so.turns;
+        seen = unread;
+        unread = left;
+        n = n;
+        new = new;
+        after = after;
+        splits = splits;
+        responses = record { turns = so.turns; stay = so.stay; answers = so.answers; requests = refl; written = refl; count = so.count };
+        due = due left leaves;
+        leaves = leaves;
+      })
 
   -- Memory is lacking for bytes that were read.
   pub far_loses_read : (old : H) (before : K) (r q p w v : Option (List ℕ)) (unread lost : List ℕ) (n : ℕ) (new : H) (after : K)
       → Far old before r q w v unread n new after → WantsMore unread → ¬ (lost ≡ []) → length lost ≤ 8192 → Consumes q p lost
       → Writes r w v (λ stream text. LacksMemory site handles tells old before stream text p new after)
-  far_loses_read old before None q p w v unread lost n new after so wants some few took = tt
-  far_loses_read old before (Some stream) q p w v unread lost n new after so wants some few took =
-      let left = left_of stream (heads_of so.turns ++ unread) q so.took in
-      let rest = left_of left.0 lost p (subst (λ x. Consumes x p lost) left.1 took) in (
-        texts_of so.turns,
-        inr (inl (record {
-          first = heads_of so.turns;
-          seen = unread;
-          lost = lost;
-          unread = rest.0;
-          n = n;
-          some = some;
-          few = few;
-          splits = left.2 ∙ ap (λ l. heads_of so.turns ++ unread ++ l) rest.2 ∙ sym (append_assoc (heads_of so.turns ++ unread) lost rest.0);
-          responses = record { turns = so.turns; stay = so.stay; answers = so.answers; requests = refl; written = refl; count = so.count };
-          wants = wants;
-          leaves = rest.1;
-        })),
-        so.wrote,
-      )
+  far_loses_read old before r q p w v unread lost n new after so wants some few took =
+      far_told (λ stream text. LacksMemory site handles tells old before stream text p new after) old before r q w v unread n new after so (λ stream left leaves splits.
+      let rest = left_of left lost p (subst (λ x. Consumes x p lost) leaves took) in
+      inr (inl (record {
+        first = heads_of so.turns;
+        seen = unread;
+        lost = lost;
+        unread = rest.0;
+        n = n;
+        some = some;
+        few = few;
+        splits = splits ∙ ap (λ l. heads_of so.turns ++ unread ++ l) rest.2 ∙ sym (append_assoc (heads_of so.turns ++ unread) lost rest.0);
+        responses = record { turns = so.turns; stay = so.stay; answers = so.answers; requests = refl; written = refl; count = so.count };
+        wants = wants;
+        leaves = rest.1;
+      })))
 
   -- The stream has ended.
   pub far_done : (old : H) (before : K) (r q w v : Option (List ℕ)) (unread : List ℕ) (n : ℕ) (new : H) (after : K)

@@ -2,6 +2,8 @@
 use Rattle.std.proofs.Common.{◌≡◌, ℕ, ◌+◌, inl, inr, Bool, true, false, List, [], ◌∷◌, ◌++◌, length, take, drop, Option, Some, None, Result, Ok, Err, refl, sym, subst, ap, ◌∙◌}
 use Rattle.std.proofs.lemmas.List.{append_assoc, append-nil, take-append-drop}
 use Rattle.std.specs.Prelude.{OnOk}
+use Rattle.std.specs.Io.KnownBytes.{Appends, Consumes}
+use Rattle.std.proofs.KnownBytes.{Appends-nil, Consumes-nil}
 use Rattle.httparse.specs.Grammar.{RequestHead, print_request}
 use Rattle.http_message.specs.Clocks.{Said, IsNoted}
 use Rattle.http_message.specs.Inboxes.{unread}
@@ -335,6 +337,10 @@ module _ {H K T : Type 0} (site : Site) (among : H → Method → List ℕ → R
 
     pub stands_lands : (x : StepSlice T) → StepsFrom site among rests tells old.hand now at (unread old.inbox) old.whole x (pending new) to after → Lands x old new → Stand came went new to after
     stands_lands x did l = lands old.hand x s.hand did l
+
+-- A turn that takes nothing in and puts nothing out.
+pub quiet : (r w : Option (List ℕ)) (P : List ℕ → List ℕ → Type 0) → P [] [] → (bytes text : List ℕ) × Consumes r r bytes × Appends w w text × P bytes text
+quiet r w P own = ([], [], Consumes-nil r, Appends-nil w, own)
 
 -- A turn, by what it did. came and went grow by what it took in and put out.
 module _ {H K T : Type 0} (site : Site) (among : H → Method → List ℕ → RequestOutcome → H → Type 0) (rests : H → T → RequestOutcome → H → Type 0)

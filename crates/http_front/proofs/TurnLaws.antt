@@ -1,5 +1,5 @@
 -- How a turn fails.
-use Rattle.std.proofs.Common.{◌≡◌, ◌≢◌, ◌∙◌, ℕ, ◌+◌, ◌<◌, ◌≤◌, Bool, true, List, [], ◌++◌, length, take, Option, Some, None, Result, Ok, Err, refl, sym, ap, subst, inl, inr, arith}
+use Rattle.std.proofs.Common.{◌≡◌, ◌≢◌, ◌∙◌, ℕ, ◌+◌, ◌<◌, ◌≤◌, Bool, true, false, List, [], ◌++◌, length, take, Option, Some, None, Result, Ok, Err, refl, sym, ap, subst, inl, inr, arith}
 use Rattle.std.proofs.lemmas.List.{length-append, length-take-le}
 use Rattle.std.specs.Prelude.{IfErr, IfOk, OnErr, OnOk, ◌⊎◌}
 use Rattle.http_message.specs.Clocks.{Said}
@@ -19,7 +19,9 @@ use Rattle.http_front.specs.declared.under_way.StepSlice.{StepSlice}
 use Rattle.http_front.specs.declared.under_way.StepSlice.TheVariants as slice
 use Rattle.http_front.specs.declared.under_way.UnderWay.{UnderWay}
 use Rattle.http_message.specs.Inboxes.{unread}
-use Rattle.http_front.specs.Talking.{CountsOn, Follows, Lands, WantsSo}
+use Rattle.http_front.specs.Talking.{CountsOn, FailsAs, Follows, IsNext, Lands, WantsSo, pending}
+use Rattle.http_front.specs.declared.http_conn.Next.{Next}
+use Rattle.http_front.specs.declared.http_conn.Next.TheVariants as next
 use Rattle.http_front.specs.Turns.{WantsMore}
 
 -- what is told of source and sink, where neither failed
@@ -180,3 +182,18 @@ module _ {T : Type 0} (c d : HttpConn T) where
     pub counts_made : {A E : Type 0} (r : Result A E) → OnOk r Made → OnOk r (CountsOn c d)
     counts_made (Ok y) m = counts_slice m.0 m.2
     counts_made (Err e) m = tt
+
+-- What waits for neither a write nor its end waits for a read or a slice of a step.
+pub slice_next : {T : Type 0} (c : HttpConn T) (n : Next) → IsNext c n → ¬ (n ≡ next.Writes) → ¬ (n ≡ next.Over) → (pending c ≡ []) × (c.over ≡ false)
+slice_next c next.Writes at writes over = absurd (writes refl)
+slice_next c next.Over at writes over = absurd (over refl)
+slice_next c n at writes over = (at.0, at.1)
+
+-- A slice fails by a lack.
+pub slice_fails : {H T : Type 0} (site : Site) (lacks : H → Method → List ℕ → FrontKind → H → Type 0) (lacks_rest : H → T → FrontKind → H → Type 0) (limit : ℕ) (r q : Option (List ℕ))
+    (now new : H) (c : HttpConn T) (n : Next) (e : FrontKind) → ¬ (n ≡ next.Writes) → ¬ (n ≡ next.Over) → ¬ (n ≡ next.Reads)
+    → LacksSlice site lacks lacks_rest c.hand now (unread c.inbox) c.whole new e → FailsAs site lacks lacks_rest limit r q now new n c e
+slice_fails site lacks lacks_rest limit r q now new c next.Writes e writes over reads how = absurd (writes refl)
+slice_fails site lacks lacks_rest limit r q now new c next.Over e writes over reads how = absurd (over refl)
+slice_fails site lacks lacks_rest limit r q now new c next.Reads e writes over reads how = absurd (reads refl)
+slice_fails site lacks lacks_rest limit r q now new c n e writes over reads how = how

@@ -25,3 +25,4 @@ pub mod Sharing
 pub mod Talking
 pub mod Apart
 pub mod Before
+pub mod Prelude

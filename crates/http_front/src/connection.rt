@@ -1,14 +1,8 @@
 //! A connection of the host, from its opening to its close.
 
-ghost use Rattle.byte_streams.specs.Counted.{reads_left, source_of};
+ghost use Rattle.http_front.specs.Prelude.{reads_left, source_of, Program, Connected, Refused, Open, HostView, Answers, kind_result, ClosesTurns, ServingFails, IsClosed, IsOpened, ServesAll};
+ghost use Rattle.http_front.specs.Prelude.{Visits, kind_of, outcome_of, BlamesSink, BlamesSource, HasConn, IsAlive, NoEventsOf, Refines};
 ghost use Rattle.std.specs.Prelude.{◌≡◌, ◌≢◌, ◌↔◌, ℕ, List, IfOk, IfErr, IfSome, IsTrue};
-ghost use Rattle.module_code.specs.Program.{Program};
-ghost use Rattle.run_model.specs.Worlds.{Connected, Refused};
-ghost use Rattle.run_model.specs.declared.event.Event.TheVariants.{Open};
-ghost use Rattle.filter_chain.specs.HostViews.{HostView, Answers};
-ghost use Rattle.http_front.specs.Connecting.{kind_result, ClosesTurns, ServingFails, IsClosed, IsOpened, ServesAll, Visits, kind_of, outcome_of};
-ghost use Rattle.http_front.specs.Serving.{BlamesSink, BlamesSource};
-ghost use Rattle.http_front.specs.Driven.{HasConn, IsAlive, NoEventsOf, Refines};
 
 use crate::fault::{FrontFault, FrontKind, Served};
 use crate::running::run_call;

@@ -431,8 +431,7 @@ impl<T: Drop> HttpConn<T> {
             Next::Writes => self.put_out(alloc, sink, handler),
             Next::Over => Ok(Turned::Over),
             Next::Reads => self.take_in(reader, buffer),
-            Next::Works => self.step::<H, K, InSlices>(alloc, site, handler, number, clock),
-            Next::Steps => self.step::<H, K, InSlices>(alloc, site, handler, number, clock),
+            _ => self.step::<H, K, InSlices>(alloc, site, handler, number, clock),
         }
     }
 }

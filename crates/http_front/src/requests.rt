@@ -1,12 +1,8 @@
 //! How a request for a file ends on the host of chains, and the host as what handles requests.
 
 ghost use Rattle.std.specs.Prelude.{◌≡◌, ℕ, List, IfOk, IfErr};
-ghost use Rattle.module_code.specs.Program.{Program};
-ghost use Rattle.filter_chain.specs.HostViews.{HostView};
-ghost use Rattle.http_front.specs.Among.{EndsBareIn, EndsWithOutputIn, FinishesIn, MakesSlice, Way, calls_after};
-ghost use Rattle.http_front.specs.Outcomes.{IsLack, IsUnserved};
-ghost use Rattle.http_front.specs.Driven.{LacksFor, OnlyEventsOf, IsAlive, Refines, StepsAtMost};
-ghost use Rattle.http_front.specs.Requests.{TakesOutput, unopened};
+ghost use Rattle.http_front.specs.Prelude.{Program, HostView, EndsBareIn, EndsWithOutputIn, FinishesIn, MakesSlice, Way, calls_after, IsLack, IsUnserved, LacksFor, OnlyEventsOf, IsAlive, Refines};
+ghost use Rattle.http_front.specs.Prelude.{StepsAtMost, TakesOutput, unopened};
 
 use crate::fault::FrontKind;
 use crate::handler::{Handler, RequestOutcome, Slice};

@@ -1,11 +1,7 @@
 //! Calls on the host of chains, each run to its end.
 
 ghost use Rattle.std.specs.Prelude.{◌≡◌, ◌↔◌, ℕ, List, IfErr, IsTrue, OnOk, None, Some};
-ghost use Rattle.module_code.specs.Program.{Program};
-ghost use Rattle.filter_chain.specs.HostViews.{HostView};
-ghost use Rattle.http_front.specs.Outcomes.{IsLack};
-ghost use Rattle.http_front.specs.Driven.{LacksFor, OnlyEventsOf, IsAlive, Refines, StepsAtMost};
-ghost use Rattle.http_front.specs.Requests.{EndsRequest, RunsCall, ended_of, lack_of};
+ghost use Rattle.http_front.specs.Prelude.{Program, HostView, IsLack, LacksFor, OnlyEventsOf, IsAlive, Refines, StepsAtMost, EndsRequest, RunsCall, ended_of, lack_of};
 
 use crate::fault::FrontKind;
 use filter_chain::{Cause, Files, Host, Refusal, Stepped};

@@ -1,12 +1,8 @@
 //! The requests of a connection beside which no other is served, from a source, and the responses, into a sink: both may wait.
 
-ghost use Rattle.byte_streams.specs.Counted.{reads_left, source_of};
+ghost use Rattle.http_front.specs.Prelude.{reads_left, source_of, unread, SoFar, Goes, EndsWell, FailsBy, BlamesSink, BlamesSource, pending, to_do, WantsMore};
 ghost use Rattle.std.specs.Prelude.{◌≡◌, ◌≢◌, ℕ, List, ◌+◌, ◌<◌, ◌≤◌, ◌^◌, Option, length, [], true, false, Ok, Err, IfOk, IfErr, OnOk, OnErr};
 ghost use Rattle.std.specs.Io.KnownBytes.{IsAtEnd};
-ghost use Rattle.http_message.specs.Inboxes.{unread};
-ghost use Rattle.http_front.specs.Serving.{SoFar, Goes, EndsWell, FailsBy, BlamesSink, BlamesSource};
-ghost use Rattle.http_front.specs.Talking.{pending, to_do};
-ghost use Rattle.http_front.specs.Turns.{WantsMore};
 
 use crate::fault::{FrontKind, Served};
 use crate::handler::Handler;

@@ -1,13 +1,8 @@
 //! A request for a file on the host of chains, in slices. Between two of them others may be served.
 
 ghost use Rattle.std.specs.Prelude.{◌≡◌, ◌↔◌, ◌+◌, ◌<◌, ◌≤◌, ◌^◌, ℕ, List, length, Ok, Some, IfOk, IfErr, IsTrue};
-ghost use Rattle.module_code.specs.Program.{Program};
-ghost use Rattle.filter_chain.specs.HostViews.{HostView};
-ghost use Rattle.http_front.specs.Outcomes.{IsLack};
-ghost use Rattle.http_front.specs.Nearing.{slice_steps};
-ghost use Rattle.http_front.specs.Driven.{IsAlive, LacksFor, OnlyEventsOf, Refines, StepsAtMost};
-ghost use Rattle.http_front.specs.Requests.{ComesOf};
-ghost use Rattle.http_front.specs.Among.{CarriesIn, ComesIn, InitsIn, IsOpening, MakesSlice, OpensIn, OpensUnlessIn, Rests, RestsBehind, RunsSlice, Way, brigades_left, calls_after, calls_left};
+ghost use Rattle.http_front.specs.Prelude.{Program, HostView, IsLack, slice_steps, IsAlive, LacksFor, OnlyEventsOf, Refines, StepsAtMost, ComesOf, CarriesIn, ComesIn, InitsIn, IsOpening};
+ghost use Rattle.http_front.specs.Prelude.{MakesSlice, OpensIn, OpensUnlessIn, Rests, RestsBehind, RunsSlice, Way, brigades_left, calls_after, calls_left};
 
 use crate::fault::FrontKind;
 use crate::feeding::{next_brigade, wanted};

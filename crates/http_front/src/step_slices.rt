@@ -1,18 +1,8 @@
 //! A step of a connection, in slices.
 
 ghost use Rattle.std.specs.Prelude.{◌≡◌, ◌≤◌, ◌*◌, ℕ, Bool, List, [], length, IfOk, IfErr};
-ghost use Rattle.httparse.specs.Grammar.{RequestHead};
-ghost use Rattle.httparse.specs.Spans.{IsRequestAt, IsRequestWithin};
-ghost use Rattle.http_message.specs.Asking.{method_of};
-ghost use Rattle.http_message.specs.Looking.{IsFound};
-ghost use Rattle.http_front.specs.Nearing.{slice_steps};
-ghost use Rattle.http_front.specs.Outcomes.{IsLack, LacksNamesAt};
-ghost use Rattle.http_front.specs.Sharing.{Passes};
-ghost use Rattle.http_front.specs.Stepping.{LacksAnswer};
-ghost use Rattle.http_front.specs.Texts.{text_of};
-ghost use Rattle.http_front.specs.Turns.{head_limit, fields_limit};
-ghost use Rattle.http_front.specs.UnderWays.{BeginsHead, IsAskedBy, IsUnderWay, LacksSlice, Sends, Steps, StepsFrom, Wants, most_steps};
-ghost use Rattle.http_message.specs.declared.site.Site.{Site};
+ghost use Rattle.http_front.specs.Prelude.{RequestHead, IsRequestAt, IsRequestWithin, method_of, IsFound, slice_steps, IsLack, LacksNamesAt, Passes, LacksAnswer, text_of, head_limit, fields_limit};
+ghost use Rattle.http_front.specs.Prelude.{BeginsHead, IsAskedBy, IsUnderWay, LacksSlice, Sends, Steps, StepsFrom, Wants, most_steps, Site};
 
 use crate::answering::{bad_reply, bare};
 use crate::fault::FrontKind;

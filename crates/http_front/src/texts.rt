@@ -1,11 +1,7 @@
 //! The text of a response, in buffers that are kept.
 
 ghost use Rattle.std.specs.Prelude.{◌≡◌, ℕ, List, OnOk};
-ghost use Rattle.http_message.specs.Clocks.{IsExchange};
-ghost use Rattle.http_message.specs.Replying.{IsDateLine, reply_text};
-ghost use Rattle.http_front.specs.Stepping.{IsWritten};
-ghost use Rattle.http_front.specs.Sharing.{Passes};
-ghost use Rattle.http_front.specs.Texts.{text_of};
+ghost use Rattle.http_front.specs.Prelude.{IsExchange, IsDateLine, reply_text, IsWritten, Passes, text_of};
 
 use crate::response::ResponseText;
 use filter_chain::Seq;

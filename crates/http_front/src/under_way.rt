@@ -1,10 +1,7 @@
 //! Requests that are under way: what was found of their heads, and what works on them.
 
 ghost use Rattle.std.specs.Prelude.{◌≡◌, List, ℕ, length};
-ghost use Rattle.httparse.specs.Grammar.{RequestHead};
-ghost use Rattle.httparse.specs.Spans.{IsRequestAt, IsRequestWithin, IsWithin, span_bytes};
-ghost use Rattle.http_front.specs.Outcomes.{IsReplyTo};
-ghost use Rattle.http_front.specs.UnderWays.{IsAskedBy};
+ghost use Rattle.http_front.specs.Prelude.{RequestHead, IsRequestAt, IsRequestWithin, IsWithin, span_bytes, IsReplyTo, IsAskedBy};
 
 use crate::answering::closes_with;
 use crate::handler::RequestOutcome;

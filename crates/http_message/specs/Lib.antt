@@ -8,3 +8,4 @@ pub mod Routes
 pub mod Sites
 pub mod SiteFiles
 pub mod Inboxes
+pub mod Prelude

@@ -3,9 +3,8 @@
 ghost use Rattle.std.specs.Prelude.{◌≡◌, map, length, All};
 ghost use Rattle.std.specs.List.{list_all, list_any};
 ghost use Rattle.std.specs.Char.{is_ascii_digit};
-ghost use Rattle.httparse.specs.Spans.{IsHeaderWithin, header_bytes};
+ghost use Rattle.http_message.specs.Prelude.{IsHeaderWithin, header_bytes, hosts_fit, is_digits, is_zeros, is_bad_length, has_content, field_refusal, closes};
 ghost use Rattle.http1.specs.Fields.{known_fields};
-ghost use Rattle.http_message.specs.Fields.{hosts_fit, is_digits, is_zeros, is_bad_length, has_content, field_refusal, closes};
 
 use crate::status::StatusCode;
 use http1::fields::KnownFields;
@@ -45,26 +44,21 @@ fn has_content(name: &[u8], value: &[u8]) -> bool
         || eq_ignore_case(name, b"transfer-encoding")
 }
 
-fn any_bad_length(buf: &[u8], spans: &[HeaderSpan]) -> bool
+/// Whether a Content-Length is no number, and whether a field tells of content.
+fn tests_of_content(buf: &[u8], spans: &[HeaderSpan]) -> (bool, bool)
     requires { All (IsHeaderWithin (length buf.now)) spans.now }
-    ensures { result ≡ list_any is_bad_length (map (header_bytes buf.now) spans.now) }
+    ensures bad { result.0 ≡ list_any is_bad_length (map (header_bytes buf.now) spans.now) }
+    ensures content { result.1 ≡ list_any has_content (map (header_bytes buf.now) spans.now) }
 {
-    let mut found = false;
+    let mut bad = false;
+    let mut content = false;
     for span in spans {
-        found |= is_bad_length(span.name.of(buf), span.value.of(buf));
+        let name = span.name.of(buf);
+        let value = span.value.of(buf);
+        bad |= is_bad_length(name, value);
+        content |= has_content(name, value);
     }
-    found
-}
-
-fn any_content(buf: &[u8], spans: &[HeaderSpan]) -> bool
-    requires { All (IsHeaderWithin (length buf.now)) spans.now }
-    ensures { result ≡ list_any has_content (map (header_bytes buf.now) spans.now) }
-{
-    let mut found = false;
-    for span in spans {
-        found |= has_content(span.name.of(buf), span.value.of(buf));
-    }
-    found
+    (bad, content)
 }
 
 #[tactic(auto, unfolding(crate::specs::Fields::hosts_fit, http1::specs::Fields::known_fields))]
@@ -83,10 +77,11 @@ pub(crate) fn field_refusal(minor: u8, buf: &[u8], spans: &[HeaderSpan]) -> Opti
     requires { All (IsHeaderWithin (length buf.now)) spans.now }
     ensures { result ≡ field_refusal minor (map (header_bytes buf.now) spans.now) }
 {
-    if !hosts_fit(minor, buf, spans) || any_bad_length(buf, spans) {
+    let (bad, content) = tests_of_content(buf, spans);
+    if !hosts_fit(minor, buf, spans) || bad {
         return Some(StatusCode::BadRequest);
     }
-    if any_content(buf, spans) {
+    if content {
         return Some(StatusCode::ContentTooLarge);
     }
     None

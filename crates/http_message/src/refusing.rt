@@ -1,10 +1,8 @@
 //! What a whole head is refused with, and whether its client closes.
 
 ghost use Rattle.std.specs.Prelude.{◌≡◌, map, take, length, All};
-ghost use Rattle.httparse.specs.Grammar.{RequestHead};
-ghost use Rattle.httparse.specs.Spans.{IsHeaderWithin, IsRequestAt, IsRequestWithin, header_bytes, span_bytes};
-ghost use Rattle.http_message.specs.Asking.{method_refusal, target_refusal, or_else, refusal, head_closes, status_closes};
-ghost use Rattle.http_message.specs.Fields.{field_refusal, closes};
+ghost use Rattle.http_message.specs.Prelude.{RequestHead, IsHeaderWithin, IsRequestAt, IsRequestWithin, header_bytes, span_bytes, method_refusal, target_refusal, or_else, refusal, head_closes};
+ghost use Rattle.http_message.specs.Prelude.{status_closes, field_refusal, closes};
 
 use crate::asks::{method_refusal, target_path};
 use crate::fields::{closes, field_refusal};

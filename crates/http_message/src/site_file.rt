@@ -1,9 +1,7 @@
 //! The site file, which says what file stands at what path.
 
 ghost use Rattle.std.specs.Prelude.{◌≡◌, ◌<◌, ◌^◌, ℕ, List, length, true, false, IfOk, IfErr, MatchOption, drop, ◌≤◌};
-ghost use Rattle.byte_text.specs.TextLines.{lines_of};
-ghost use Rattle.http_message.specs.Sites.{route_of};
-ghost use Rattle.http_message.specs.SiteFiles.{no_routes, NamesFile, AddsLine, AddsNothing, AddsLines, SiteFailsAt};
+ghost use Rattle.http_message.specs.Prelude.{lines_of, route_of, no_routes, NamesFile, AddsLine, AddsNothing, AddsLines, SiteFailsAt};
 ghost use Rattle.http_message.specs.declared.site_file.SiteRefusal.TheVariants.{Line, NoMemory};
 
 use crate::site::{Site, SiteFault};

@@ -113,6 +113,16 @@ each_taken f p Says Free h k (suc n) m high e =
       more = ap (past_each p (k + 1) n) left ∙ on.more;
     }
 
+-- texts of which each is taken where an ended one follows, and ends what stands before it
+pub ended_taken : (f : ℕ → List ℕ) (p : List ℕ → List ℕ) (Says : ℕ → List ℕ → Type 0) (n : ℕ) (m : List ℕ) → ((i : ℕ) (r : List ℕ) → i < 9 → Ended r → Says i (f i ++ r) × (p (f i ++ r) ≡ r))
+    → ((i : ℕ) (r : List ℕ) → Ended (f i ++ r)) → n ≤ 9 → Ended m → EachTaken (λ i. p) Says 0 n m (each 0 n f ++ m)
+ended_taken f p Says n m taken ends few e =
+    each_taken f (λ i. p) Says (λ i. Ended) (record {
+      says = λ i r below g. (taken i r below g).0;
+      more = λ i r below g. (taken i r below g).1;
+      free = λ i j r low high g. ends j r;
+    }) 0 n m (omega arith) (λ i below. e)
+
 -- The cursors, in turn.
 abbrev pub FreeOfCursor : ℕ → List ℕ → Type 0
 FreeOfCursor c m = Ended m × (starts (key c) m ≡ false)

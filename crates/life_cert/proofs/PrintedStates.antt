@@ -105,19 +105,19 @@ live_clean sign v h =
 name_clean : (letter : List ℕ) (k : ℕ) → IsClean letter → k < 9 → IsClean (letter ++ decimal k)
 name_clean letter k h low = both letter (decimal k) h (decimal_clean k (omega (arith, low)))
 
-cursor_name_clean : (c : ℕ) → c < 9 → IsClean (cursor_name c)
-cursor_name_clean c low = by (c == 8)
+-- a name of its own for 8, else a letter with the number behind
+eight_clean : (name letter : List ℕ) → IsClean name → IsClean letter → (k : ℕ) → k < 9 → IsClean (if k == 8 then name else letter ++ decimal k)
+eight_clean name letter own front k low = by (k == 8)
   where
-    by : (b : Bool) → IsClean (if b then codes "rd" else codes "c" ++ decimal c)
-    by true = plain (codes "rd") refl
-    by false = name_clean (codes "c") c (plain (codes "c") refl) low
+    by : (b : Bool) → IsClean (if b then name else letter ++ decimal k)
+    by true = own
+    by false = name_clean letter k front low
+
+cursor_name_clean : (c : ℕ) → c < 9 → IsClean (cursor_name c)
+cursor_name_clean = eight_clean (codes "rd") (codes "c") (plain (codes "rd") refl) (plain (codes "c") refl)
 
 brigade_name_clean : (b : ℕ) → b < 9 → IsClean (brigade_name b)
-brigade_name_clean k low = by (k == 8)
-  where
-    by : (b : Bool) → IsClean (if b then codes "in" else codes "b" ++ decimal k)
-    by true = plain (codes "in") refl
-    by false = name_clean (codes "b") k (plain (codes "b") refl) low
+brigade_name_clean = eight_clean (codes "in") (codes "b") (plain (codes "in") refl) (plain (codes "b") refl)
 
 place_clean : (s : State) (v : CursorKnown) → FormedCursor s v → IsClean (place_text_of v)
 place_clean s Unset h = plain [] refl

@@ -7,7 +7,7 @@ use Rattle.life_state.proofs.Tests.{not_true, split3}
 use Rattle.life_cert.specs.StateText.{brigade_text, cursor_name, cursor_text, each, facts_text, in_text, pool_text, sent_text, state_text}
 use Rattle.life_cert.specs.StateFromText.{at_pools, count_each, cursor_past, cursor_read, fact_past, fact_word, in_past, in_read, own_past, own_read, past_each, pool_past, pool_read, row_past, starts}
 use Rattle.life_cert.proofs.Taking.{Ended, skips}
-use Rattle.life_cert.proofs.FactTexts.{EachTaken, cursors_taken, each_taken, facts_taken, is_written}
+use Rattle.life_cert.proofs.FactTexts.{EachTaken, cursors_taken, ended_taken, facts_taken, is_written}
 use Rattle.life_cert.proofs.VariableTexts.{body, in_taken, own_taken, pool_taken}
 use Rattle.life_cert.proofs.StateTexts.{Follows, IsLineEnd, counted, cursors_follow, each_keeps, ended_at, facts_follow, facts_free, line_ended, no_space, says_brigade, says_cursor}
 
@@ -91,12 +91,9 @@ module _ (s : State) (formed : IsFormed s) (m : List ℕ) (h : IsLineEnd m) wher
   pub brigades_told : EachTaken (λ i. own_past) (λ b t. own_read t ≡ s.brigades b) 0 s.brigade_count from_in from_brigades
   brigades_told =
       let few = formed.brigade_count in
-      each_taken (λ b. brigade_text b (s.brigades b)) (λ i. own_past) (λ b t. own_read t ≡ s.brigades b) (λ b r. Ended r)
-      (record {
-        says = λ b r below e. (own_taken b (s.brigades b) r (omega (arith, below)) (says_brigade s (s.brigades b) formed.pool_count (formed.brigades b) (formed.homes b)) e).read;
-        more = λ b r below e. (own_taken b (s.brigades b) r (omega (arith, below)) (says_brigade s (s.brigades b) formed.pool_count (formed.brigades b) (formed.homes b)) e).more;
-        free = λ i j r low high e. inl refl;
-      }) 0 s.brigade_count from_in (omega (arith, few)) (λ i below. brigades_free.ended)
+      ended_taken (λ b. brigade_text b (s.brigades b)) own_past (λ b t. own_read t ≡ s.brigades b) s.brigade_count from_in
+      (λ b r below e. let t = own_taken b (s.brigades b) r (omega (arith, below)) (says_brigade s (s.brigades b) formed.pool_count (formed.brigades b) (formed.homes b)) e in (t.read, t.more))
+      (λ b r. inl refl) (omega (arith, few)) brigades_free.ended
 
   pub brigades_counted : count_each (codes " b") own_past 8 from_brigades ≡ s.brigade_count
   brigades_counted =
@@ -108,12 +105,8 @@ module _ (s : State) (formed : IsFormed s) (m : List ℕ) (h : IsLineEnd m) wher
   pub pools_told : EachTaken (λ i. pool_past) (λ q t. pool_read t ≡ s.pools q) 0 s.pool_count from_brigades from_pools
   pools_told =
       let few = formed.pool_count in
-      each_taken (λ q. pool_text q (s.pools q)) (λ i. pool_past) (λ q t. pool_read t ≡ s.pools q) (λ q r. Ended r)
-      (record {
-        says = λ q r below e. (pool_taken q (s.pools q) r (omega (arith, below)) e).read;
-        more = λ q r below e. (pool_taken q (s.pools q) r (omega (arith, below)) e).more;
-        free = λ i j r low high e. inl refl;
-      }) 0 s.pool_count from_brigades (omega (arith, few)) (λ i below. pools_free.ended)
+      ended_taken (λ q. pool_text q (s.pools q)) pool_past (λ q t. pool_read t ≡ s.pools q) s.pool_count from_brigades
+      (λ q r below e. let t = pool_taken q (s.pools q) r (omega (arith, below)) e in (t.read, t.more)) (λ q r. inl refl) (omega (arith, few)) pools_free.ended
 
   pub pools_counted : count_each (codes " p") pool_past 8 from_pools ≡ s.pool_count
   pools_counted =

@@ -6,7 +6,7 @@ use Rattle.std.specs.Cmp.Lexicographic.{pointwise}
 use Rattle.std.proofs.lemmas.Bool.{eqb-true, eqb-false}
 use Rattle.byte_text.specs.Bytes.{begins}
 use Rattle.life_state.specs.declared.parts.Contents.TheVariants.{Empty, Flushes, NoEos, NoLateData, Any}
-use Rattle.life_cert.specs.StateFromText.{at_past, at_read, behind, behind_name, classes_past, classes_read, content_read, number_in, past, starts}
+use Rattle.life_cert.specs.StateFromText.{at_past, at_read, behind, behind_name, classes_past, classes_read, content_read, loose_past, loose_read, number_in, past, place_past, place_read, starts}
 use Rattle.life_state.specs.States.{In, InOrEnd}
 use Rattle.life_cert.proofs.Taking.{one, past_none}
 
@@ -86,6 +86,22 @@ took w t u h is = is ∙ past_found w t h
 
 pub took_none : (w t u : List ℕ) → starts w t ≡ false → u ≡ past w t → u ≡ t
 took_none w t u h is = is ∙ sym (past_none w t h)
+
+-- A loose cursor, and one in a brigade.
+pub at_loose : (t u : List ℕ) → starts (codes "loose/") t ≡ true → u ≡ past (codes "loose/") t → (loose_read u ≡ place_read t) × (loose_past u ≡ place_past t)
+unfolding place_read place_past
+at_loose t u there is =
+    let left = took (codes "loose/") t u there is in
+    (rw (there, left) refl, rw (there, left) refl)
+
+pub in_brigade : (t u v : List ℕ) (b : ℕ) → starts (codes "loose/") t ≡ false → u ≡ past (codes "loose/") t → b ≡ number_in 110 u → v ≡ behind_name u
+    → (at_read b v ≡ place_read t) × (at_past v ≡ place_past t)
+unfolding place_read place_past
+in_brigade t u v b never is named on =
+    let same = took_none (codes "loose/") t u never is in
+    let number : b ≡ number_in 110 t = named ∙ ap (number_in 110) same in
+    let left : v ≡ behind_name t = on ∙ ap behind_name same in
+    (rw (never, number, left) refl, rw (never, left) refl)
 
 -- A cursor in a brigade: at a bucket or the end, or at a bucket.
 pub at_either : (b : ℕ) (t u v : List ℕ) → starts (codes "$") t ≡ false → u ≡ past (codes "$") t → starts (codes "?/") u ≡ true → v ≡ past (codes "?/") u

@@ -1,5 +1,5 @@
 -- What is taken from the front of a text: where the text was written so, that is what was written.
-use Rattle.std.proofs.Common.{◌≡◌, ℕ, ◌+◌, ◌<◌, Bool, true, false, ◌&&◌, cond, List, [], ◌∷◌, ◌++◌, codes, refl, sym, ap, ◌∙◌, eqb, append_assoc, arith, inl, inr}
+use Rattle.std.proofs.Common.{◌≡◌, ℕ, ◌+◌, ◌<◌, Bool, true, false, ◌&&◌, cond, List, [], ◌∷◌, ◌++◌, refl, sym, ap, ◌∙◌, eqb, append_assoc, arith, inl, inr}
 use Rattle.std.specs.Prelude.{decimal, ◌⊎◌}
 use Rattle.std.proofs.lemmas.Bool.{eqb-true, eq-eqb}
 use Rattle.std.proofs.lemmas.Fmt.{decimal_digit}
@@ -83,19 +83,20 @@ cursor_first c = cond (eqb c 8) 114 99
 abbrev pub brigade_first : ℕ → ℕ
 brigade_first b = cond (eqb b 8) 105 98
 
-pub cursor_named : (c : ℕ) → c < 9 → cursor_name c ≡ cursor_first c ∷ (second_of 100 c ∷ [])
-cursor_named c below = by (eqb c 8) refl
+-- a name of two bytes for 8, else a letter with the digit behind
+two_bytes : (first eight letter : ℕ) (c : ℕ) → c < 9
+    → cond (eqb c 8) (first ∷ (eight ∷ [])) (letter ∷ decimal c) ≡ cond (eqb c 8) first letter ∷ (second_of eight c ∷ [])
+two_bytes first eight letter c below = by (eqb c 8) refl
   where
-    by : (x : Bool) → eqb c 8 ≡ x → cond x (codes "rd") (codes "c" ++ decimal c) ≡ cond x 114 99 ∷ (cond x 100 (48 + c) ∷ [])
+    by : (x : Bool) → eqb c 8 ≡ x → cond x (first ∷ (eight ∷ [])) (letter ∷ decimal c) ≡ cond x first letter ∷ (cond x eight (48 + c) ∷ [])
     by true e = refl
-    by false e = ap (λ t. 99 ∷ t) (decimal_digit c (omega arith))
+    by false e = ap (λ t. letter ∷ t) (decimal_digit c (omega arith))
+
+pub cursor_named : (c : ℕ) → c < 9 → cursor_name c ≡ cursor_first c ∷ (second_of 100 c ∷ [])
+cursor_named = two_bytes 114 100 99
 
 pub brigade_named : (c : ℕ) → c < 9 → brigade_name c ≡ brigade_first c ∷ (second_of 110 c ∷ [])
-brigade_named c below = by (eqb c 8) refl
-  where
-    by : (x : Bool) → eqb c 8 ≡ x → cond x (codes "in") (codes "b" ++ decimal c) ≡ cond x 105 98 ∷ (cond x 110 (48 + c) ∷ [])
-    by true e = refl
-    by false e = ap (λ t. 98 ∷ t) (decimal_digit c (omega arith))
+brigade_named = two_bytes 105 110 98
 
 -- their second bytes tell them apart
 pub second_tells : (eight c d : ℕ) → 56 < eight → c < 9 → d < 9 → second_of eight c ≡ second_of eight d → c ≡ d

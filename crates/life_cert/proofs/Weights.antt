@@ -35,20 +35,22 @@ cursor_weight (In b s) = class_weight s
 cursor_weight (End b) = 0
 cursor_weight (InOrEnd b s) = 4 + class_weight s
 
+-- three bits that rise rise together
+bits_rise : (a b c x y z : Bool) → (implies a x && implies b y && implies c z) ≡ true
+    → Rises (bit a + bit b + bit c) (bit x + bit y + bit z) ((implies x a && implies y b && implies z c) ≡ true)
+bits_rise a b c x y z h =
+    let h3 = split3 (implies a x) (implies b y) (implies c z) h in
+    map_back (λ r. and3 (implies x a) (implies y b) (implies z c) r.0.0 r.0.1 r.1)
+    (both (both (bit_rises a x (h3.0)) (bit_rises b y (h3.1))) (bit_rises c z (h3.2)))
+
 classes_rise : (a b : Classes) → classes_le a b ≡ true → Rises (class_weight a) (class_weight b) (classes_le b a ≡ true)
-classes_rise a b h =
-    let h3 = split3 (implies a.bytes b.bytes) (implies a.flush b.flush) (implies a.eos b.eos) h in
-    map_back (λ c. and3 (implies b.bytes a.bytes) (implies b.flush a.flush) (implies b.eos a.eos) (c.0.0) (c.0.1) (c.1))
-    (both (both (bit_rises a.bytes b.bytes (h3.0)) (bit_rises a.flush b.flush (h3.1))) (bit_rises a.eos b.eos (h3.2)))
+classes_rise a b = bits_rise a.bytes a.flush a.eos b.bytes b.flush b.eos
 
 classes_small : (t : Classes) → class_weight t ≤ 3
 classes_small t = let a = bit_small t.bytes in let b = bit_small t.flush in let c = bit_small t.eos in omega arith
 
 pool_rises : (a b : PoolState) → pool_le a b ≡ true → Rises (pool_weight a) (pool_weight b) (pool_le b a ≡ true)
-pool_rises a b h =
-    let h3 = split3 (implies a.null b.null) (implies a.gone b.gone) (implies a.live b.live) h in
-    map_back (λ c. and3 (implies b.null a.null) (implies b.gone a.gone) (implies b.live a.live) (c.0.0) (c.0.1) (c.1))
-    (both (both (bit_rises a.null b.null (h3.0)) (bit_rises a.gone b.gone (h3.1))) (bit_rises a.live b.live (h3.2)))
+pool_rises a b = bits_rise a.null a.gone a.live b.null b.gone b.live
 
 pool_small : (v : PoolState) → pool_weight v ≤ 3
 pool_small v = let a = bit_small v.null in let b = bit_small v.gone in let c = bit_small v.live in omega arith

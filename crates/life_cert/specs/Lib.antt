@@ -15,3 +15,4 @@ pub mod Made
 pub mod Laws
 pub mod Least
 pub mod Lengths
+pub mod Prelude

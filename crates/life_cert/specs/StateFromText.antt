@@ -89,26 +89,25 @@ homes_read t = homes_from (some_there homes t)
 unfoldable pub homes_past : List ℕ → List ℕ
 homes_past t = past_some homes t
 
+-- three words, each of which may stand there, and what is left behind them
+abbrev pub three_there : List ℕ → List ℕ → List ℕ → List ℕ → Bool × Bool × Bool
+three_there a b c t = (starts a t, starts b (past a t), starts c (past b (past a t)))
+
+abbrev pub past_three : List ℕ → List ℕ → List ℕ → List ℕ → List ℕ
+past_three a b c t = past c (past b (past a t))
+
 -- `dfe` and `ngl`
 abbrev pub classes_read : List ℕ → Classes
-classes_read t = record {
-  bytes = starts (codes "d") t;
-  flush = starts (codes "f") (past (codes "d") t);
-  eos = starts (codes "e") (past (codes "f") (past (codes "d") t));
-}
+classes_read t = let m = three_there (codes "d") (codes "f") (codes "e") t in record { bytes = m.0; flush = m.1; eos = m.2 }
 
 abbrev pub classes_past : List ℕ → List ℕ
-classes_past t = past (codes "e") (past (codes "f") (past (codes "d") t))
+classes_past t = past_three (codes "d") (codes "f") (codes "e") t
 
 abbrev pub set_read : List ℕ → PoolState
-set_read t = record {
-  null = starts (codes "n") t;
-  gone = starts (codes "g") (past (codes "n") t);
-  live = starts (codes "l") (past (codes "g") (past (codes "n") t));
-}
+set_read t = let m = three_there (codes "n") (codes "g") (codes "l") t in record { null = m.0; gone = m.1; live = m.2 }
 
 abbrev pub set_past : List ℕ → List ℕ
-set_past t = past (codes "l") (past (codes "g") (past (codes "n") t))
+set_past t = past_three (codes "n") (codes "g") (codes "l") t
 
 -- A pool.
 abbrev pub pool_read : List ℕ → PoolState

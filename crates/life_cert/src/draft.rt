@@ -1,12 +1,7 @@
 //! What the lines of a certificate text say, taken one after another.
 
 ghost use Rattle.std.specs.Prelude.{◌≡◌, ◌<◌, ◌≤◌, ◌++◌, ◌∷◌, ◌-◌, [], true, IfOk, IfErr, IfSome, OnOk, MatchResult, Some, None, length, replicate, codes};
-ghost use Rattle.byte_text.specs.Bytes.{after_token};
-ghost use Rattle.life_state.specs.Form.{IsFormed};
-ghost use Rattle.life_state.specs.Seen.{seen, seen_some};
-ghost use Rattle.life_cert.specs.StateText.{state_text};
-ghost use Rattle.life_cert.specs.Drafts.{IsNoState, IsReadState, NoStateIsIn, NoStateOrNoneIsIn};
-ghost use Rattle.life_cert.specs.Reading.{IsState, IsStateOrNone};
+ghost use Rattle.life_cert.specs.Prelude.{after_token, IsFormed, seen, seen_some, state_text, IsNoState, IsReadState, NoStateIsIn, NoStateOrNoneIsIn, IsState, IsStateOrNone};
 ghost use Rattle.life_cert.specs.declared.refusal.CertRefusal.TheVariants.{Fault, NoMemory};
 
 use crate::due::{CertLine, Due, due_line};

@@ -1,13 +1,8 @@
 //! States that grow.
 
 ghost use Rattle.std.specs.Prelude.{◌≡◌, ◌<◌, ◌≤◌, true, length, Some, OnOk, IfOk};
-ghost use Rattle.module_code.specs.Program.{IsModule};
+ghost use Rattle.life_cert.specs.Prelude.{IsModule, seen, seen_some, seen_cert, state_at, with_state, grow, arrive, begun, is_inside, seen_arrival, seen_growth};
 ghost use Rattle.life_state.specs.States.{State as known};
-ghost use Rattle.life_state.specs.Seen.{seen, seen_some};
-ghost use Rattle.life_check.specs.Seen.{seen_cert};
-ghost use Rattle.life_cert.specs.Rounds.{state_at, with_state, grow, arrive, begun};
-ghost use Rattle.life_cert.specs.Fitting.{is_inside};
-ghost use Rattle.life_cert.specs.SeenGrowth.{seen_arrival, seen_growth};
 
 use life_check::Cert;
 use life_state::{State, at_open, join, leq};

@@ -1,11 +1,8 @@
 //! What places hand on.
 
 ghost use Rattle.std.specs.Prelude.{◌≡◌, ◌<◌, ◌≤◌, ◌++◌, true, length, Some, OnOk, IfOk, All, slice_get};
-ghost use Rattle.life_state.specs.Seen.{seen, seen_some, seen_edges};
-ghost use Rattle.life_check.specs.Seen.{seen_cert};
-ghost use Rattle.life_cert.specs.Rounds.{state_at, arriving, left_place, returned, edges_arriving, handed_by_line, handed_by, handed_on};
-ghost use Rattle.life_cert.specs.Fitting.{is_inside, IsDeclared, IsFit, IsOf};
-ghost use Rattle.life_cert.specs.SeenGrowth.{seen_arrivals, seen_growth};
+ghost use Rattle.life_cert.specs.Prelude.{seen, seen_some, seen_edges, seen_cert, state_at, arriving, left_place, returned, edges_arriving, handed_by_line, handed_by, handed_on, is_inside};
+ghost use Rattle.life_cert.specs.Prelude.{IsDeclared, IsFit, IsOf, seen_arrivals, seen_growth};
 
 use crate::growth::{Arrival, Growth, StatePlace};
 use life_state::{State, Successors, after, at_end_of_request, at_main, at_return};

@@ -1,16 +1,7 @@
 //! The maker of certificates.
 
 ghost use Rattle.std.specs.Prelude.{◌≡◌, ◌∷◌, [], false, OnOk, IfOk};
-ghost use Rattle.module_code.specs.Program.{IsModule};
-ghost use Rattle.life_check.specs.Certificates.{Certificate, AreFormed};
-ghost use Rattle.life_check.specs.Seen.{seen_cert};
-ghost use Rattle.life_check.specs.ChainTheorem.{ChainNeverFaults};
-ghost use Rattle.life_check.specs.Typed.{IsTyped};
-ghost use Rattle.life_cert.specs.Rounds.{round, enough, made};
-ghost use Rattle.life_cert.specs.Fitting.{IsOf};
-ghost use Rattle.life_cert.specs.SeenGrowth.{seen_growth};
-ghost use Rattle.life_cert.specs.Made.{IsMade, IsRefused};
-ghost use Rattle.life_cert.specs.Least.{IsBelow};
+ghost use Rattle.life_cert.specs.Prelude.{IsModule, Certificate, AreFormed, seen_cert, ChainNeverFaults, IsTyped, round, enough, made, IsOf, seen_growth, IsMade, IsRefused, IsBelow};
 
 use crate::growth::Growth;
 use crate::handing::handed_on;

@@ -1,11 +1,7 @@
 //! Certificates as they are written.
 
 ghost use Rattle.std.specs.Prelude.{◌≡◌, length, Some, slice_get};
-ghost use Rattle.byte_text.specs.Writes.{Wrote};
-ghost use Rattle.life_state.specs.Seen.{seen, seen_some};
-ghost use Rattle.life_check.specs.Seen.{seen_cert, seen_line};
-ghost use Rattle.life_cert.specs.CertText.{first_line, state_or_none, between_line, pc_line, cert_text};
-ghost use Rattle.life_cert.specs.StateText.{each};
+ghost use Rattle.life_cert.specs.Prelude.{Wrote, seen, seen_some, seen_cert, seen_line, first_line, state_or_none, between_line, pc_line, cert_text, each};
 
 use crate::print_state::put_state;
 use byte_text::{WriteFault, put_all};

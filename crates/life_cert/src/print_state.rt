@@ -1,12 +1,8 @@
 //! States as they are written.
 
 ghost use Rattle.std.specs.Prelude.{◌≡◌, ◌++◌, codes};
-ghost use Rattle.byte_text.specs.Writes.{Wrote};
-ghost use Rattle.life_state.specs.Seen.{seen, seen_homes, seen_brigade, seen_cursor};
-ghost use Rattle.life_state.specs.States.{Loose};
-ghost use Rattle.life_cert.specs.StateText.{where_holds, numbered, has_home, home_text, homes_text, set_text, classes_text, content_text, usable_text};
-ghost use Rattle.life_cert.specs.StateText.{live_text, pool_text, brigade_text, brigade_name, cursor_name, place_text_of, cursor_text, fact_text, facts_text};
-ghost use Rattle.life_cert.specs.StateText.{sent_text, state_text, each};
+ghost use Rattle.life_cert.specs.Prelude.{Wrote, seen, seen_homes, seen_brigade, seen_cursor, Loose, where_holds, numbered, has_home, home_text, homes_text, set_text, classes_text, content_text};
+ghost use Rattle.life_cert.specs.Prelude.{usable_text, live_text, pool_text, brigade_text, brigade_name, cursor_name, place_text_of, cursor_text, fact_text, facts_text, sent_text, state_text, each};
 
 use byte_text::{WriteFault, put_all};
 use itoa::Buffer;

@@ -1,9 +1,7 @@
 //! Certificates from their texts.
 
 ghost use Rattle.std.specs.Prelude.{◌≡◌, Bool, ◌≤◌, ◌<◌, ◌++◌, IfOk, IfErr, MatchResult, OnOk, Result, length, take, not, ◌||◌, ◌==◌, true, false};
-ghost use Rattle.life_check.specs.Certificates.{Certificate};
-ghost use Rattle.life_check.specs.Seen.{seen_cert};
-ghost use Rattle.life_cert.specs.Reading.{HaveSameStates, IsPrinted, IsCertText, IsTold, IsToldOf, EndTold, more_than};
+ghost use Rattle.life_cert.specs.Prelude.{Certificate, seen_cert, HaveSameStates, IsPrinted, IsCertText, IsTold, IsToldOf, EndTold, more_than};
 ghost use Rattle.life_cert.specs.declared.refusal.CertRefusal.TheVariants.{NoMemory};
 
 use crate::draft::CertDraft;

@@ -1,11 +1,7 @@
 //! Slim forms of certificates.
 
 ghost use Rattle.std.specs.Prelude.{◌≡◌, true, IfOk};
-ghost use Rattle.module_code.specs.Program.{IsModule};
-ghost use Rattle.life_state.specs.Seen.{seen_some};
-ghost use Rattle.life_check.specs.Certificates.{AreFormed};
-ghost use Rattle.life_check.specs.Seen.{seen_cert};
-ghost use Rattle.life_check.specs.Slim.{AreHeads, slim_form, Accepts};
+ghost use Rattle.life_cert.specs.Prelude.{IsModule, seen_some, AreFormed, seen_cert, AreHeads, slim_form, Accepts};
 
 use life_check::{Cert, heads};
 use life_state::State;

@@ -3,14 +3,10 @@
 //! compares the text with that of this state.
 
 ghost use Rattle.std.specs.Prelude.{◌≡◌, ◌∷◌, ◌<◌, ◌≤◌, [], codes};
-ghost use Rattle.life_state.specs.Seen.{seen, seen_brigade, seen_cursor, seen_homes};
-ghost use Rattle.life_cert.specs.StateText.{cursor_name};
-ghost use Rattle.life_cert.specs.Reading.{IsToldState};
-ghost use Rattle.life_cert.specs.StateFromText.{starts, at_pools, at_past, at_read, behind_name, classes_past, classes_read, content_read, cursor_past};
-ghost use Rattle.life_cert.specs.StateFromText.{cursor_read, fact_past, fact_word, homes_past, homes_read, in_past, in_read, key, live_past, live_read};
-ghost use Rattle.life_cert.specs.StateFromText.{loose_past, loose_read, number_in, own_past, own_read, place_past, place_read, pool_past, pool_read, row_past};
-ghost use Rattle.life_cert.specs.StateFromText.{set_past, set_read, told_brigades, told_cursors, told_facts, told_pools, told_row, past_cursors, past_brigades};
-ghost use Rattle.life_cert.specs.StateFromText.{past_pools, brigades_there, pools_there};
+ghost use Rattle.life_cert.specs.Prelude.{seen, seen_brigade, seen_cursor, seen_homes, cursor_name, IsToldState, starts, at_pools, at_past, at_read, behind_name, classes_past, classes_read};
+ghost use Rattle.life_cert.specs.Prelude.{content_read, cursor_past, cursor_read, fact_past, fact_word, homes_past, homes_read, in_past, in_read, key, live_past, live_read, loose_past, loose_read};
+ghost use Rattle.life_cert.specs.Prelude.{number_in, own_past, own_read, place_past, place_read, pool_past, pool_read, row_past, set_past, set_read, told_brigades, told_cursors, told_facts};
+ghost use Rattle.life_cert.specs.Prelude.{told_pools, told_row, past_three, three_there, past_cursors, past_brigades, past_pools, brigades_there, pools_there};
 
 use crate::unread::Unread;
 use byte_text::begins;
@@ -18,14 +14,28 @@ use life_state::{
     BrigadeState, Classes, Contents, CursorState, HomeSet, PoolSet, PoolState, State, at_open,
 };
 
+/// Three words in turn, each of which may stand there: which do.
+fn take_three(
+    unread: &mut Unread<'_>,
+    first: &[u8],
+    second: &[u8],
+    third: &[u8],
+) -> (bool, bool, bool)
+    ensures value { result ≡ three_there first.now second.now third.now unread.old.bytes.now }
+    ensures rest { unread.new.bytes.now ≡ past_three first.now second.now third.now unread.old.bytes.now }
+{
+    let first = unread.take(first);
+    let second = unread.take(second);
+    let third = unread.take(third);
+    (first, second, third)
+}
+
 /// `ngl`: what a variable may be.
 fn read_set(unread: &mut Unread<'_>) -> PoolState
     ensures value { result ≡ set_read unread.old.bytes.now }
     ensures rest { unread.new.bytes.now ≡ set_past unread.old.bytes.now }
 {
-    let null = unread.take(b"n");
-    let gone = unread.take(b"g");
-    let live = unread.take(b"l");
+    let (null, gone, live) = take_three(unread, b"n", b"g", b"l");
     PoolState { null, gone, live }
 }
 
@@ -34,9 +44,7 @@ fn read_classes(unread: &mut Unread<'_>) -> Classes
     ensures value { result ≡ classes_read unread.old.bytes.now }
     ensures rest { unread.new.bytes.now ≡ classes_past unread.old.bytes.now }
 {
-    let bytes = unread.take(b"d");
-    let flush = unread.take(b"f");
-    let eos = unread.take(b"e");
+    let (bytes, flush, eos) = take_three(unread, b"d", b"f", b"e");
     Classes { bytes, flush, eos }
 }
 

@@ -1,5 +1,5 @@
 -- What is left where a pool goes with all under it, and what a state says then: a clear, a destroy, and the end of a request.
-use Rattle.std.proofs.Common.{◌≡◌, ◌≢◌, ℕ, Bool, true, false, ◌&&◌, ◌||◌, not, cond, List, [], map, Option, Some, None, ◌⊎◌, inl, inr, refl, sym, ◌∙◌, ap, subst, eq-eqb, eqb-true}
+use Rattle.std.proofs.Common.{rules, ◌≡◌, ◌≢◌, ℕ, Bool, true, false, ◌&&◌, ◌||◌, not, cond, List, [], map, Option, Some, None, ◌⊎◌, inl, inr, refl, sym, ◌∙◌, ap, subst, eq-eqb, eqb-true}
 use Rattle.std.proofs.lemmas.Bool.{ltb-true, cases_Bool, cases_eq, cases_lt, lt-ltb}
 use Rattle.module_code.specs.declared.instr.PoolRef.{PoolRef}
 use Rattle.module_code.specs.declared.instr.PoolRef.TheVariants as pool
@@ -28,6 +28,7 @@ use Rattle.run_model.specs.declared.payload.Payload.{Payload}
 use Rattle.run_model.specs.Pools.{Pools, is_empty, is_live, is_under}
 use Rattle.run_model.specs.Pools as pools
 use Rattle.run_model.specs.Sound.{Sound, brigade_name}
+use Rattle.run_model.specs.Effects.{files_let_go}
 use Rattle.run_model.specs.Steps.{on_pool, pool_cleared, pool_destroyed}
 use Rattle.life_check.specs.Soundness.{request_ended, LawOf, RequestEndLands}
 use Rattle.run_model.specs.Indexed.{upd}
@@ -296,33 +297,34 @@ path_dead ps n none = ap (λ (path : List ℕ). not (is_empty path)) none
 still_dead : (ps new : Pools Payload) (n : ℕ) → (new.path n ≡ []) ⊎ (new.path n ≡ ps.path n) → is_live ps n ≡ false → is_live new n ≡ false
 still_dead ps new n path none = elim path [ inl gone ↦ path_dead new n gone | inr same ↦ same_live ps new n same ∙ none ]
 
-cleared_went : (n : ℕ) (r : Configuration) → Went r (pool_cleared n r) n
+-- by the pool map that is left
+abbrev with_map : ℕ → Configuration → Pools Payload → Configuration
+with_map n r left = files_let_go n r (with_pools left (run_down n r))
+
+map_went : (n : ℕ) (r : Configuration) (left : Pools Payload) → ((m : ℕ) → is_under r.shared.pools n m ≡ false → left.path m ≡ r.shared.pools.path m)
+    → ((m : ℕ) → is_under r.shared.pools n m ≡ true → m ≢ n → left.path m ≡ []) → ((m : ℕ) → (left.path m ≡ []) ⊎ (left.path m ≡ r.shared.pools.path m))
+    → Went r (with_map n r left) n
 unfolding run_down with_pools
-cleared_went n r = record {
+map_went n r left apart under path = record {
   own = refl;
   conn = refl;
-  named = λ k m e off. same_names (pool_view r) (pool_view (pool_cleared n r)) refl refl refl k ∙ e;
-  apart = λ m off. (cleared_apart n r.shared.pools m off).0;
-  under = λ m under ne. path_dead (pools.cleared n r.shared.pools) m (pools_cleared_under n r.shared.pools m under ne);
-  dead = λ m none. still_dead r.shared.pools (pools.cleared n r.shared.pools) m (cleared_path n r.shared.pools m) none;
+  named = λ k m e off. same_names (pool_view r) (pool_view (with_map n r left)) refl refl refl k ∙ e;
+  apart = apart;
+  under = λ m at ne. path_dead left m (under m at ne);
+  dead = λ m none. still_dead r.shared.pools left m (path m) none;
   brigades = λ b. refl;
   loose = refl;
   cursors = refl;
 }
 
+cleared_went : (n : ℕ) (r : Configuration) → Went r (pool_cleared n r) n
+cleared_went n r =
+    map_went n r (pools.cleared n r.shared.pools) (λ m off. (cleared_apart n r.shared.pools m off).0) (pools_cleared_under n r.shared.pools) (cleared_path n r.shared.pools)
+
 destroyed_went : (n : ℕ) (r : Configuration) → Went r (pool_destroyed n r) n
-unfolding run_down with_pools
-destroyed_went n r = record {
-  own = refl;
-  conn = refl;
-  named = λ k m e off. same_names (pool_view r) (pool_view (pool_destroyed n r)) refl refl refl k ∙ e;
-  apart = λ m off. (destroyed_apart n r.shared.pools m off).0;
-  under = λ m under ne. path_dead (pools.destroyed n r.shared.pools) m (destroyed_under n r.shared.pools m under).0;
-  dead = λ m none. still_dead r.shared.pools (pools.destroyed n r.shared.pools) m (destroyed_path n r.shared.pools m) none;
-  brigades = λ b. refl;
-  loose = refl;
-  cursors = refl;
-}
+destroyed_went n r =
+    map_went n r (pools.destroyed n r.shared.pools) (λ m off. (destroyed_apart n r.shared.pools m off).0) (λ m under ne. (destroyed_under n r.shared.pools m under).0)
+    (destroyed_path n r.shared.pools)
 
 pub own_clearable : (p : Program) (r : Configuration) → AsDeclared p r → (q n : ℕ) → pool_named r (pool.Own q) ≡ Some n → is_clearable (pool.Own q) ≡ true
 own_clearable p r d q n e = elim (cases_lt q 8) [
@@ -330,24 +332,30 @@ own_clearable p r d q n e = elim (cases_lt q 8) [
   | inr past ↦ absurd (let none : poolvar.Null ≡ poolvar.Made n = sym (d.slots q past) ∙ own_named q n r e in cc)
 ]
 
+-- the pool of a variable that has one is live
+at_live : (r : Configuration) (q : ℕ) (P : Option ℕ → Type 0) → has_pool r (pool.Own q) ≡ true
+    → ((n : ℕ) → pool_named r (pool.Own q) ≡ Some n → is_live r.shared.pools n ≡ true → P (Some n)) → P (pool_named r (pool.Own q))
+unfolding has_pool_at
+at_live r q P there each = by_name (pool_named r (pool.Own q)) refl where
+  by_name : (o : Option ℕ) → pool_named r (pool.Own q) ≡ o → P o
+  by_name None is = absurd (let both : false ≡ true = sym (ap (is_live_named r.shared.pools) is) ∙ there in cc)
+  by_name (Some n) is = each n is (named_lives r (pool.Own q) n there is)
+
 pub law_pclear : {lives : Home → Type 0} (q : ℕ) → LawOf lives (instr.PClear q)
 unfolding cleared_under moved has_pool_at with_pools run_down
-law_pclear {lives} q p choice r s ready = by_pool (pool_named r (pool.Own q)) refl where
-  there : has_pool r (pool.Own q) ≡ true
-  there = wanted_pool r (pool.Own q) None ready.may.faultless
-
-  by_pool : (o : Option ℕ) → pool_named r (pool.Own q) ≡ o → Fits (Covers p (pool_view (on_pool pool_cleared o r)) lives) (after_pclear p q s) (on_pool pool_cleared o r)
-  by_pool None is = absurd (let both : false ≡ true = sym (ap (is_live_named r.shared.pools) is) ∙ there in cc)
-  by_pool (Some n) is =
-      let live : is_live r.shared.pools n ≡ true = named_lives r (pool.Own q) n there is in
-      let clears = own_clearable p r ready.declared q n is in
-      let stays = λ (k : ℕ) (alive : lives (home.Pool k)). ready.outside.stays q n k (own_named q n r is) live alive in
-      let itself : is_live (pools.cleared n r.shared.pools) n ≡ true = same_live r.shared.pools (pools.cleared n r.shared.pools) n (cleared_itself n r.shared.pools) ∙ live in
-      went_fits p r (pool_cleared n r) lives (pool.Own q) n ready.may.proper ready.sound ready.declared clears is stays (cleared_went n r) s
-      (cleared_pool (is_declared_under p (pool.Own q)) (pool.Own q) s) s.sent ready.fits.sent
-      (λ k. pool_went p r (pool_cleared n r) lives (pool.Own q) n ready.may.proper ready.sound ready.declared clears is stays (cleared_went n r) k (s.pools k) (r.instance.pools k) refl
-      (λ same. itself) (ready.fits.pools k))
-      ready.fits
+law_pclear {lives} q p choice r s ready =
+    at_live r q (λ o. Fits (Covers p (pool_view (on_pool pool_cleared o r)) lives) (after_pclear p q s) (on_pool pool_cleared o r)) (wanted_pool r (pool.Own q) None ready.may.faultless) by_pool
+  where
+    by_pool : (n : ℕ) → pool_named r (pool.Own q) ≡ Some n → is_live r.shared.pools n ≡ true → Fits (Covers p (pool_view (pool_cleared n r)) lives) (after_pclear p q s) (pool_cleared n r)
+    by_pool n is live =
+        let clears = own_clearable p r ready.declared q n is in
+        let stays = λ (k : ℕ) (alive : lives (home.Pool k)). ready.outside.stays q n k (own_named q n r is) live alive in
+        let itself : is_live (pools.cleared n r.shared.pools) n ≡ true = same_live r.shared.pools (pools.cleared n r.shared.pools) n (cleared_itself n r.shared.pools) ∙ live in
+        went_fits p r (pool_cleared n r) lives (pool.Own q) n ready.may.proper ready.sound ready.declared clears is stays (cleared_went n r) s
+        (cleared_pool (is_declared_under p (pool.Own q)) (pool.Own q) s) s.sent ready.fits.sent
+        (λ k. pool_went p r (pool_cleared n r) lives (pool.Own q) n ready.may.proper ready.sound ready.declared clears is stays (cleared_went n r) k (s.pools k) (r.instance.pools k) refl
+        (λ same. itself) (ready.fits.pools k))
+        ready.fits
 
 -- the variable of a pool that goes itself
 ended_fits : (r new : Configuration) (k : PoolState) (v : PoolVar) (n : ℕ) → v ≡ poolvar.Made n → is_live r.shared.pools n ≡ true → is_live new.shared.pools n ≡ false
@@ -358,48 +366,35 @@ ended_fits r new k v n at live dead f =
 
 pub law_pdestroy : {lives : Home → Type 0} (q : ℕ) → LawOf lives (instr.PDestroy q)
 unfolding cleared_under moved has_pool_at with_pools run_down
-law_pdestroy {lives} q p choice r s ready = by_pool (pool_named r (pool.Own q)) refl where
-  there : has_pool r (pool.Own q) ≡ true
-  there = wanted_pool r (pool.Own q) None ready.may.faultless
+law_pdestroy {lives} q p choice r s ready =
+    at_live r q (λ o. Fits (Covers p (pool_view (on_pool pool_destroyed o r)) lives) (after_pdestroy p q s) (on_pool pool_destroyed o r)) (wanted_pool r (pool.Own q) None ready.may.faultless) by_pool
+  where
+    others : ℕ → PoolState
+    others = cleared_pool (is_declared_under p (pool.Own q)) (pool.Own q) s
 
-  others : ℕ → PoolState
-  others = cleared_pool (is_declared_under p (pool.Own q)) (pool.Own q) s
-
-  by_pool : (o : Option ℕ) → pool_named r (pool.Own q) ≡ o → Fits (Covers p (pool_view (on_pool pool_destroyed o r)) lives) (after_pdestroy p q s) (on_pool pool_destroyed o r)
-  by_pool None is = absurd (let both : false ≡ true = sym (ap (is_live_named r.shared.pools) is) ∙ there in cc)
-  by_pool (Some n) is =
-      let live : is_live r.shared.pools n ≡ true = named_lives r (pool.Own q) n there is in
-      let clears = own_clearable p r ready.declared q n is in
-      let stays = λ (k : ℕ) (alive : lives (home.Pool k)). ready.outside.stays q n k (own_named q n r is) live alive in
-      let new = pool_destroyed n r in
-      let dead : is_live new.shared.pools n ≡ false = path_dead new.shared.pools n (destroyed_under n r.shared.pools n (under_itself r.shared.pools ready.sound.pools.formed n live)).0 in
-      went_fits p r new lives (pool.Own q) n ready.may.proper ready.sound ready.declared clears is stays (destroyed_went n r) s
-      (upd others q (ended_pool (s.pools q))) s.sent ready.fits.sent
-      (λ k. elim (upd_either others q k (ended_pool (s.pools q))) [
-        | inl at ↦ subst (λ (x : PoolState). FitsPool new.shared.pools x (r.instance.pools k)) (sym at.1)
-            (subst (λ (j : ℕ). FitsPool new.shared.pools (ended_pool (s.pools q)) (r.instance.pools j)) (sym at.0)
-            (ended_fits r new (s.pools q) (r.instance.pools q) n (own_named q n r is) live dead (ready.fits.pools q)))
-        | inr off ↦ subst (λ (x : PoolState). FitsPool new.shared.pools x (r.instance.pools k)) (sym off.1)
-            (pool_went p r new lives (pool.Own q) n ready.may.proper ready.sound ready.declared clears is stays (destroyed_went n r) k (s.pools k) (r.instance.pools k) refl
-            (λ same. absurd (off.0 (sym (eqb-true q k same)))) (ready.fits.pools k))
-      ])
-      ready.fits
+    by_pool : (n : ℕ) → pool_named r (pool.Own q) ≡ Some n → is_live r.shared.pools n ≡ true → Fits (Covers p (pool_view (pool_destroyed n r)) lives) (after_pdestroy p q s) (pool_destroyed n r)
+    by_pool n is live =
+        let clears = own_clearable p r ready.declared q n is in
+        let stays = λ (k : ℕ) (alive : lives (home.Pool k)). ready.outside.stays q n k (own_named q n r is) live alive in
+        let new = pool_destroyed n r in
+        let dead : is_live new.shared.pools n ≡ false = path_dead new.shared.pools n (destroyed_under n r.shared.pools n (under_itself r.shared.pools ready.sound.pools.formed n live)).0 in
+        went_fits p r new lives (pool.Own q) n ready.may.proper ready.sound ready.declared clears is stays (destroyed_went n r) s
+        (upd others q (ended_pool (s.pools q))) s.sent ready.fits.sent
+        (λ k. elim (upd_either others q k (ended_pool (s.pools q))) [
+          | inl at ↦ subst (λ (x : PoolState). FitsPool new.shared.pools x (r.instance.pools k)) (sym at.1)
+              (subst (λ (j : ℕ). FitsPool new.shared.pools (ended_pool (s.pools q)) (r.instance.pools j)) (sym at.0)
+              (ended_fits r new (s.pools q) (r.instance.pools q) n (own_named q n r is) live dead (ready.fits.pools q)))
+          | inr off ↦ subst (λ (x : PoolState). FitsPool new.shared.pools x (r.instance.pools k)) (sym off.1)
+              (pool_went p r new lives (pool.Own q) n ready.may.proper ready.sound ready.declared clears is stays (destroyed_went n r) k (s.pools k) (r.instance.pools k) refl
+              (λ same. absurd (off.0 (sym (eqb-true q k same)))) (ready.fits.pools k))
+        ])
+        ready.fits
 
 -- The end of a request.
 
 ended_went : (req : ℕ) (r : Configuration) → Sound r → r.shared.req ≡ Some req → Went r (request_ended req r) req
 unfolding run_down with_pools named_at
-ended_went req r sound is = record {
-  own = refl;
-  conn = refl;
-  named = named;
-  apart = gone.apart;
-  under = gone.under;
-  dead = gone.dead;
-  brigades = λ b. refl;
-  loose = refl;
-  cursors = refl;
-} where
+ended_went req r sound is = search (rules, named, gone) where
   gone : Went r (pool_destroyed req r) req
   gone = destroyed_went req r
 

@@ -186,22 +186,13 @@ named_map n f same (x ∷ xs) =
 
 -- a bucket of a class that is not among these is not of that sort
 pub no_data : (t : Classes) (k : Kind) → class_has t k ≡ true → t.bytes ≡ false → is_data_kind k ≡ false
-no_data t kind.Heap has none = absurd (let both : true ≡ false = sym has ∙ none in cc)
-no_data t kind.Transient has none = absurd (let both : true ≡ false = sym has ∙ none in cc)
-no_data t kind.Immortal has none = absurd (let both : true ≡ false = sym has ∙ none in cc)
-no_data t (kind.Pool p) has none = absurd (let both : true ≡ false = sym has ∙ none in cc)
-no_data t kind.File has none = absurd (let both : true ≡ false = sym has ∙ none in cc)
 no_data t kind.Flush has none = refl
 no_data t kind.Eos has none = refl
+no_data t k has none = absurd (let both : true ≡ false = sym has ∙ none in cc)
 
 pub no_eos : (t : Classes) (k : Kind) → class_has t k ≡ true → t.eos ≡ false → is_eos_kind k ≡ false
-no_eos t kind.Heap has none = refl
-no_eos t kind.Transient has none = refl
-no_eos t kind.Immortal has none = refl
-no_eos t (kind.Pool p) has none = refl
-no_eos t kind.File has none = refl
-no_eos t kind.Flush has none = refl
 no_eos t kind.Eos has none = absurd (let both : true ≡ false = sym has ∙ none in cc)
+no_eos t k has none = refl
 
 -- What a brigade may hold.
 

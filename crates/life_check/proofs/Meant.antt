@@ -46,6 +46,11 @@ meant_ready p c = by_slim p c (λ m. m.ready ≡ (seen_cert c).ready) refl refl
 pub meant_head : (p : Program) (c : Cert) (pc : ℕ) → is_head p pc ≡ true → (meant p c).at pc ≡ (seen_cert c).at pc
 meant_head p c pc h = by_slim p c (λ m. m.at pc ≡ (seen_cert c).at pc) (head_full p (seen_cert c) pc h) refl
 
+-- what flows into a head is what flows into what is given there
+pub flows_meant : (p : Program) (c : Cert) (pc : ℕ) (from given : Option State) → from ≡ given → is_head p pc ≡ true
+    → flows given ((seen_cert c).at pc) ≡ flows from ((meant p c).at pc)
+flows_meant p c pc from given same h = ap (λ o. flows o ((seen_cert c).at pc)) (sym same) ∙ ap (flows from) (sym (meant_head p c pc h))
+
 pub meant_handed : (p : Program) (c : Cert) (pc : ℕ) → c.slim ≡ true → is_head p (suc pc) ≡ false → (meant p c).at (suc pc) ≡ handed_next p (slice_get p.code pc) ((meant p c).at pc)
 meant_handed p c pc h other =
     subst (λ (m : Certificate). m.at (suc pc) ≡ handed_next p (slice_get p.code pc) (m.at pc)) (sym (slim_means p c h)) (next_full p (seen_cert c) pc other)

@@ -1,5 +1,5 @@
 -- A cursor that is set to the first bucket of a brigade, or to the next one.
-use Rattle.std.proofs.Common.{◌≡◌, ◌≢◌, ℕ, ◌≤◌, Bool, true, false, ◌==◌, cond, List, [], ◌∷◌, ◌++◌, drop, Option, None, Some, ◌⊎◌, inl, inr, refl, sym, ◌∙◌, ap, subst, arith, eq-eqb, eqb-true}
+use Rattle.std.proofs.Common.{◌≡◌, ◌≢◌, ℕ, ◌≤◌, Bool, true, false, ◌==◌, cond, List, [], ◌∷◌, drop, Option, None, Some, ◌⊎◌, inl, inr, refl, sym, ◌∙◌, ap, subst, arith, eq-eqb, eqb-true}
 use Rattle.std.proofs.lemmas.Bool.{or_parts}
 use Rattle.module_code.specs.declared.instr.Instr.TheVariants as instr
 use Rattle.run_model.specs.declared.bucket.BrigadeVar.{BrigadeVar}
@@ -17,8 +17,9 @@ use Rattle.run_model.specs.Cursors.{Place, spot}
 use Rattle.run_model.specs.Faults.{InBrigade, usable_fault}
 use Rattle.run_model.specs.Sound.{SoundNames, brigade_name, count_named}
 use Rattle.run_model.specs.State.{Configuration, pool_view, set_cursor}
+use Rattle.model_laws.proofs.CursorNames.{first_there, next_there}
 use Rattle.model_laws.proofs.Marks.{first_none}
-use Rattle.model_laws.proofs.BrigadeLists.{before_and_from, moves_keep_names}
+use Rattle.model_laws.proofs.BrigadeLists.{moves_keep_names}
 use Rattle.run_model.proofs.Spots.{named_is}
 use Rattle.run_model.proofs.Names.{count_none, count_append, count_cons}
 use Rattle.life_state.specs.declared.parts.Classes.{Classes}
@@ -51,31 +52,16 @@ each_no_eos [] none = tt
 each_no_eos (x ∷ xs) none = (let parts = or_parts (is_eos x) (has_eos xs) none in (parts.0, each_no_eos xs (parts.1)))
 
 any_class : (k : Kind) → class_has all_classes k ≡ true
-any_class kind.Heap = refl
-any_class kind.Transient = refl
-any_class kind.Immortal = refl
-any_class (kind.Pool p) = refl
-any_class kind.File = refl
-any_class kind.Flush = refl
 any_class kind.Eos = refl
+any_class k = refl
 
 no_eos_class : (k : Kind) → is_eos_kind k ≡ false → class_has (record { bytes = true; flush = true; eos = false }) k ≡ true
 no_eos_class kind.Eos none = absurd (cc)
-no_eos_class kind.Heap none = refl
-no_eos_class kind.Transient none = refl
-no_eos_class kind.Immortal none = refl
-no_eos_class (kind.Pool p) none = refl
-no_eos_class kind.File none = refl
-no_eos_class kind.Flush none = refl
+no_eos_class k none = refl
 
 flush_class : (k : Kind) → is_data_kind k ≡ false → is_eos_kind k ≡ false → class_has (record { bytes = false; flush = true; eos = false }) k ≡ true
 flush_class kind.Flush none plain = refl
-flush_class kind.Eos none plain = absurd (cc)
-flush_class kind.Heap none plain = absurd (cc)
-flush_class kind.Transient none plain = absurd (cc)
-flush_class kind.Immortal none plain = absurd (cc)
-flush_class (kind.Pool p) none plain = absurd (cc)
-flush_class kind.File none plain = absurd (cc)
+flush_class k none plain = absurd (cc)
 
 in_of_classes : (r : Configuration) (v : Cursor) (b : ℕ) (t : Classes) → (i : IsAtBucketOf r v b all_classes) → class_has t i.bucket.bucket.kind ≡ true → IsAtBucketOf r v b t
 in_of_classes r v b t i classed = record { bucket = i.bucket; at = i.at; there = i.there; classed = classed; usable = i.usable }
@@ -113,23 +99,6 @@ found_named n (x ∷ xs) some = by_name (x.name == n) refl (found_named n xs) wh
       let none : ◌≡◌ {A = ℕ} (cond (x.name == n) 1 0) 0 = ap (λ (c : Bool). cond c 1 0) is in
       let y = rest (omega (arith, none, count_cons n x xs)) in
       (y.0, named_later n x xs (λ same. (let both : true ≡ false = sym (eq-eqb x.name n same) ∙ is in cc)) ∙ y.1)
-
-first_there : (k : ℕ) (xs : List NamedBucket) → first_place xs ≡ Some k → 1 ≤ count_named k xs
-first_there k [] is = absurd (cc)
-first_there k (x ∷ xs) is =
-    let same : x.name ≡ k = cc in
-    let head : ◌≡◌ {A = ℕ} (cond (x.name == k) 1 0) 1 = ap (λ (c : Bool). cond c 1 0) (eq-eqb x.name k same) in
-    omega (arith, count_cons k x xs)
-
-fewer_behind : (k : ℕ) (xs : List NamedBucket) → count_named k (drop 1 xs) ≤ count_named k xs
-fewer_behind k [] = omega arith
-fewer_behind k (x ∷ xs) = omega (arith, count_cons k x xs)
-
-next_there : (at k : ℕ) (xs : List NamedBucket) → next_place at xs ≡ Some k → 1 ≤ count_named k xs
-next_there at k xs is =
-    let one : 1 ≤ count_named k (drop 1 (buckets_from at xs)) = first_there k (drop 1 (buckets_from at xs)) is in
-    let all : count_named k (buckets_before at xs ++ buckets_from at xs) ≡ count_named k xs = ap (count_named k) (before_and_from at xs) in
-    omega (arith, one, all, count_append k (buckets_before at xs) (buckets_from at xs), fewer_behind k (buckets_from at xs))
 
 named_brigade : (v : BrigadeVar) → usable_fault v ≡ None → (n : ℕ) × (brigade_name v ≡ Some n)
 named_brigade var.Null usable = absurd (cc)

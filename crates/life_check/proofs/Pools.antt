@@ -1,5 +1,5 @@
 -- New pools and labels, and what a state says where pools and brigades change but no cursor does.
-use Rattle.std.proofs.Common.{◌≡◌, ℕ, Bool, true, false, not, cond, List, Option, Some, None, inl, inr, refl, sym, ◌∙◌, ap, subst}
+use Rattle.std.proofs.Common.{◌≡◌, ℕ, true, false, not, cond, List, Option, Some, None, inl, inr, refl, sym, ◌∙◌, ap, subst}
 use Rattle.module_code.specs.declared.instr.PoolRef.{PoolRef}
 use Rattle.module_code.specs.declared.instr.PoolRef.TheVariants as pool
 use Rattle.module_code.specs.declared.instr.Instr.TheVariants as instr
@@ -16,15 +16,14 @@ use Rattle.run_model.specs.declared.bucket.PoolVar.{PoolVar}
 use Rattle.run_model.specs.declared.bucket.PoolVar.TheVariants as poolvar
 use Rattle.run_model.specs.declared.payload.Payload.{Payload}
 use Rattle.run_model.specs.BrigadeLists.{bucket_named}
-use Rattle.run_model.specs.declared.fault.FaultKind.TheVariants.{F1, F10}
-use Rattle.run_model.specs.Faults.{usable_fault, has_pool_at, has_pool, is_live_named, or_else}
+use Rattle.run_model.specs.Faults.{usable_fault, has_pool_at, has_pool, is_live_named}
 use Rattle.run_model.specs.Indexed.{upd}
 use Rattle.run_model.specs.Pools.{Pools, is_empty, is_live, created, registered}
 use Rattle.run_model.specs.RunOrder.{killed}
 use Rattle.run_model.specs.Sound.{brigade_name, Sound}
 use Rattle.run_model.specs.State.{Configuration, PoolView, pool_view, named_at, pool_named, items_of, with_pools, name_in, set_pool as set_variable}
 use Rattle.run_model.specs.Steps.{on_pool, label_registered, label_killed, text_of}
-use Rattle.model_laws.proofs.Marks.{first_none, second_none}
+use Rattle.model_laws.proofs.AsDeclared.{no_live_pool}
 use Rattle.run_model.proofs.PoolMap.{created_lives, new_lives, created_kept}
 use Rattle.model_laws.proofs.StepPools.{wanted_pool}
 use Rattle.run_model.proofs.Updates.{upd_either}
@@ -137,28 +136,24 @@ payloads_fit p lives payloads s r f =
     (record { conn = refl; named = λ k n e live. same_names (pool_view r) (pool_view new) refl refl refl k ∙ e; lives = λ n live. live }) in
     fits_beside C D more r new refl (λ b u. refl) s s.pools s.brigades refl refl f.pools (λ b. brigade_more C D more (s.brigades b) (r.instance.brigades b) (f.brigades b)) f
 
+-- what fits before a change of a pool, and after it, fits whether there is one or not
+on_pool_fits : (p : Program) (lives : Home → Type 0) (change : ℕ → Configuration → Configuration) (s : State) (r : Configuration) → Fits (Covers p (pool_view r) lives) s r
+    → ((n : ℕ) → Fits (Covers p (pool_view (change n r)) lives) s (change n r))
+    → (o : Option ℕ) → Fits (Covers p (pool_view (on_pool change o r)) lives) s (on_pool change o r)
+on_pool_fits p lives change s r before after None = before
+on_pool_fits p lives change s r before after (Some n) = after n
+
 pub law_label : {lives : Home → Type 0} (q : PoolRef) (t : ℕ) → LawOf lives (instr.Label q t)
 unfolding registered
-law_label {lives} q t p choice r s ready = by_pool (pool_named r q) where
-  by_pool : (o : Option ℕ) → Fits (Covers p (pool_view (on_pool (label_registered (text_of p t)) o r)) lives) s (on_pool (label_registered (text_of p t)) o r)
-  by_pool None = ready.fits
-  by_pool (Some n) = payloads_fit p lives _ s r ready.fits
+law_label {lives} q t p choice r s ready =
+    on_pool_fits p lives (label_registered (text_of p t)) s r ready.fits (λ n. payloads_fit p lives _ s r ready.fits) (pool_named r q)
 
 pub law_unlabel : {lives : Home → Type 0} (q : PoolRef) (t : ℕ) → LawOf lives (instr.Unlabel q t)
 unfolding killed
-law_unlabel {lives} q t p choice r s ready = by_pool (pool_named r q) where
-  by_pool : (o : Option ℕ) → Fits (Covers p (pool_view (on_pool (label_killed (text_of p t)) o r)) lives) s (on_pool (label_killed (text_of p t)) o r)
-  by_pool None = ready.fits
-  by_pool (Some n) = payloads_fit p lives _ s r ready.fits
+law_unlabel {lives} q t p choice r s ready =
+    on_pool_fits p lives (label_killed (text_of p t)) s r ready.fits (λ n. payloads_fit p lives _ s r ready.fits) (pool_named r q)
 
 -- A new pool.
-
-no_live_pool : (r : Configuration) (d : PoolRef) (q : ℕ) → or_else (cond (has_pool r d) None (Some F1)) (or_else (cond (has_pool r (pool.Own q)) (Some F10) None) None) ≡ None
-    → has_pool r (pool.Own q) ≡ false
-no_live_pool r d q h = by_test (has_pool r (pool.Own q)) (first_none _ None (second_none (cond (has_pool r d) None (Some F1)) _ h)) where
-  by_test : (b : Bool) → cond b (Some F10) None ≡ None → b ≡ false
-  by_test true e = absurd (cc)
-  by_test false e = refl
 
 -- a variable with no live pool takes a new one
 abbrev made : ℕ → ℕ → Configuration → Configuration

@@ -10,12 +10,13 @@ use Rattle.run_model.specs.Indexed.{upd}
 use Rattle.run_model.specs.BrigadeLists.{bucket_named}
 use Rattle.run_model.specs.BucketSteps.{items_at}
 use Rattle.run_model.specs.Cursors.{Place, Nowhere, AtLoose, Within, AtEndOf, spot_of}
-use Rattle.model_laws.specs.CursorLaws.{LooseOnce, WithinOnce, BucketOnce, BrigadeOnce}
+use Rattle.model_laws.specs.CursorLaws.{LooseOnce, WithinOnce, BucketOnce}
 use Rattle.run_model.specs.Faults.{usable_fault}
 use Rattle.run_model.specs.Sound.{SoundNames, brigade_name, count_named, count}
 use Rattle.run_model.specs.State.{Configuration}
 use Rattle.run_model.proofs.Updates.{upd_at, upd_off}
 use Rattle.run_model.proofs.Spots.{named_is}
+use Rattle.model_laws.proofs.CursorSteps.{stands_behind}
 use Rattle.model_laws.proofs.CursorNames.{in_brigade, found_there}
 use Rattle.model_laws.proofs.CursorSpots.{cursors_stand_once}
 use Rattle.life_state.specs.declared.parts.Classes.{Classes}
@@ -88,14 +89,6 @@ loose_at r n x s is = of_spot (spot_of r (cursor.At n)) (cursors_stand_once r (c
   of_spot (Within k y) once = absurd (omega (arith, once.loose, one))
   of_spot (AtEndOf k) once = absurd once
 
-pub end_at : (r : Configuration) (n b : ℕ) → SoundNames r → brigade_name (r.instance.brigades b) ≡ Some n → spot_of r (cursor.End n) ≡ AtEndOf b
-end_at r n b s is = of_spot (spot_of r (cursor.End n)) (cursors_stand_once r (cursor.End n) s) where
-  of_spot : (at : Place) → BrigadeOnce r n at → at ≡ AtEndOf b
-  of_spot Nowhere none = absurd (none b is)
-  of_spot (AtLoose x) once = absurd once
-  of_spot (Within k x) once = absurd once
-  of_spot (AtEndOf k) once = ap AtEndOf (sym (once.others b is))
-
 pub spot_loose : (C : Homes → Home → Type 0) (r : Configuration) (v : Cursor) (t : Classes) (h : Homes) → SoundNames r → (i : IsAtLoose C r v t h) → spot_of r v ≡ AtLoose i.bucket
 spot_loose C r v t h s i = ap (spot_of r) i.at ∙ loose_at r i.bucket.name i.bucket s i.there
 
@@ -103,7 +96,7 @@ pub spot_in : (r : Configuration) (v : Cursor) (b : ℕ) (t : Classes) → Sound
 spot_in r v b t s i = ap (spot_of r) i.at ∙ within_at r i.bucket.name b i.bucket s i.there
 
 pub spot_end : (r : Configuration) (v : Cursor) (b : ℕ) → SoundNames r → IsEndOf r v b → spot_of r v ≡ AtEndOf b
-spot_end r v b s i = ap (spot_of r) i.at ∙ end_at r i.called b s i.there
+spot_end r v b s i = ap (spot_of r) i.at ∙ stands_behind b i.called r s i.there
 
 -- it is in that list alone
 pub once_in : (r : Configuration) (v : Cursor) (b : ℕ) (t : Classes) → SoundNames r → (i : IsAtBucketOf r v b t) → WithinOnce r i.bucket.name b i.bucket

@@ -10,3 +10,4 @@ pub mod Soundness
 pub mod ChainMeaning
 pub mod ChainTheorem
 pub mod Accepted
+pub mod Prelude

@@ -1,13 +1,8 @@
 //! The check of a certificate.
 
 ghost use Rattle.std.specs.Prelude.{◌≤◌, ◌≡◌, ◌↔◌, ◌∷◌, [], true, length, IsOk};
-ghost use Rattle.module_code.specs.Program.{IsModule};
-ghost use Rattle.model_laws.specs.OpenRuns.{InstancesAreSafe};
-ghost use Rattle.life_check.specs.Seen.{seen_cert};
-ghost use Rattle.life_check.specs.Certificates.{AllBounded, AreFormed};
-ghost use Rattle.life_check.specs.ChainTheorem.{ChainNeverFaults};
-ghost use Rattle.life_check.specs.Slim.{meant, cert_refusal, Accepts, AreHeads};
-ghost use Rattle.life_check.specs.Typed.{has_shape, entry_refusal, first_refusal, IsAnswer};
+ghost use Rattle.life_check.specs.Prelude.{IsModule, InstancesAreSafe, seen_cert, AllBounded, AreFormed, ChainNeverFaults, meant, cert_refusal, Accepts, AreHeads, has_shape, entry_refusal};
+ghost use Rattle.life_check.specs.Prelude.{first_refusal, IsAnswer};
 
 use crate::cert::Cert;
 use crate::entries::{inits, opens, requests, serves};

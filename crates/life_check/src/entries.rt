@@ -1,10 +1,7 @@
 //! Where handlers begin, and where requests end.
 
 ghost use Rattle.std.specs.Prelude.{◌≡◌, ◌≤◌, true, length};
-ghost use Rattle.life_state.specs.Seen.{seen, seen_some};
-ghost use Rattle.life_check.specs.Seen.{seen_cert};
-ghost use Rattle.life_check.specs.Slim.{meant};
-ghost use Rattle.life_check.specs.Typed.{is_below, flows, main_from, fits_between, has_shape, opens, inits, serves, request_end, requests};
+ghost use Rattle.life_check.specs.Prelude.{seen, seen_some, seen_cert, meant, is_below, flows, main_from, fits_between, has_shape, opens, inits, serves, request_end, requests};
 
 use crate::cert::Cert;
 use life_state::{State, at_end_of_request, at_main, at_open, leq};

@@ -1,14 +1,8 @@
 //! Laws of the definitions. Each function does nothing: what its contract says holds of the definitions alone.
 
 ghost use Rattle.std.specs.Prelude.{Bool};
-ghost use Rattle.module_code.specs.Program.{Program};
-ghost use Rattle.run_model.specs.declared.bucket.Home.{Home};
-ghost use Rattle.run_model.specs.State.{PoolView};
-ghost use Rattle.life_check.specs.ChainTheorem.{TypedChainNeverFaults, TypedModulesAreSafe};
-ghost use Rattle.life_check.specs.Examples.{BesideRows, FaultRows, IdentityAnswers};
-ghost use Rattle.life_check.specs.Meaning.{Covers};
-ghost use Rattle.life_check.specs.Soundness.{LivesByTest, StepLands, MetIsFaultless, GreaterFits, RequestEndLands};
-ghost use Rattle.life_check.specs.Slim.{SlimIsTyped};
+ghost use Rattle.life_check.specs.Prelude.{Program, Home, PoolView, TypedChainNeverFaults, TypedModulesAreSafe, BesideRows, FaultRows, IdentityAnswers, Covers, LivesByTest, StepLands};
+ghost use Rattle.life_check.specs.Prelude.{MetIsFaultless, GreaterFits, RequestEndLands, SlimIsTyped};
 
 /// Certificates worked out by hand, of a module that passes on what it gets; a module that never faults, and one that does; one that is
 /// safe beside any filters, and two that are not.

@@ -2,12 +2,8 @@
 
 ghost use Rattle.std.specs.Prelude.{◌≡◌, ◌<◌, ◌+◌, true, length, None, Some, IfOk, IfErr, OnOk, slice_get, unwrap_or, Ok};
 ghost use Rattle.module_code.specs.declared.instr.Instr as instr;
-ghost use Rattle.module_code.specs.Program.{IsModule, target};
-ghost use Rattle.life_state.specs.Seen.{seen, seen_some, seen_edges};
-ghost use Rattle.life_check.specs.Certificates.{AreFormed};
-ghost use Rattle.life_check.specs.Seen.{seen_cert};
-ghost use Rattle.life_check.specs.Slim.{AreHeads, handed_next, meant};
-ghost use Rattle.life_check.specs.Typed.{declares, has_shape, left_by, exits, leads_on, unless, step_refusal, refusal_at, first_below, IsAnswer};
+ghost use Rattle.life_check.specs.Prelude.{IsModule, target, seen, seen_some, seen_edges, AreFormed, seen_cert, AreHeads, handed_next, meant, declares, has_shape, left_by, exits, leads_on, unless};
+ghost use Rattle.life_check.specs.Prelude.{step_refusal, refusal_at, first_below, IsAnswer};
 
 use crate::cert::Cert;
 use crate::entries::{flows, is_below};

@@ -1,16 +1,11 @@
 //! Whether states are in form and of a module's variables, and stand where they may.
 
 ghost use Rattle.std.specs.Prelude.{◌≡◌, ℕ, ◌||◌, ◌<◌, length, true, nat_le, not, if◌then◌else◌, is_some, IfSome};
-ghost use Rattle.life_state.specs.Form.{IsFormed};
-ghost use Rattle.life_state.specs.Facts.{is_set};
-ghost use Rattle.life_state.specs.Seen.{seen, seen_cursor, seen_some};
-ghost use Rattle.life_check.specs.Seen.{seen_cert};
-ghost use Rattle.life_check.specs.Certificates.{AreFormed};
-ghost use Rattle.life_check.specs.Typed.{declares, has_in, has_no_cursor, fits_between, fits_line, fits_lines, has_shape};
-ghost use Rattle.life_check.specs.Slim.{is_head, at_heads, AreHeads};
+ghost use Rattle.life_check.specs.Prelude.{IsFormed, seen, seen_some, seen_cert, AreFormed, declares, has_in, has_no_cursor, fits_between, fits_line, fits_lines, has_shape};
+ghost use Rattle.life_check.specs.Prelude.{is_head, at_heads, AreHeads};
 
 use crate::cert::Cert;
-use life_state::{CursorState, State};
+use life_state::State;
 use module_code::Module;
 
 fn declares(code: &Module, state: &State) -> bool
@@ -25,23 +20,11 @@ fn has_in(state: &State) -> bool
     !state.brigade(8).null
 }
 
-fn is_set(cursor: CursorState) -> bool
-    ensures { result ≡ is_set (seen_cursor cursor) }
-{
-    match cursor {
-        CursorState::Unset => false,
-        CursorState::Loose(_, _)
-        | CursorState::In(_, _)
-        | CursorState::End(_)
-        | CursorState::InOrEnd(_, _) => true,
-    }
-}
-
 fn has_no_cursor(state: &State) -> bool
     ensures { result ≡ has_no_cursor (seen state.now) }
 {
     for c in 0..9u8 {
-        let is_free = !is_set(state.cursor(c));
+        let is_free = !state.cursor(c).is_set();
         if !is_free {
             return false;
         }

@@ -564,9 +564,9 @@ impl<'s> Case<'s> {
         self.names[V] = pool_text(PoolRef::Own(of));
         self.names[X] = self.source.instruction(self.maker);
         self.names[Y] = self.source.instruction(self.refusal.pc);
-        let sort = self.refusal.doubt.sort as u8;
+        let sort = self.refusal.doubt.sort;
         for rule in &RULES {
-            if rule.sort as u8 == sort && self.is_made_by(rule.made) && self.is_when(rule.when) {
+            if rule.is_of(sort) && self.is_made_by(rule.made) && self.is_when(rule.when) {
                 self.add_rule(rule);
             }
         }

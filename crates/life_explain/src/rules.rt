@@ -104,7 +104,7 @@ const NAMES: [[&str; 9]; 5] = [
     ],
 ];
 
-/// Remedies of a sort of refusal. A script is a list of steps, with `;` between: `before`, `behind` or `over`, in place of what is there; a place, which is
+/// Remedies of some sorts of refusals. A script is a list of steps, with `;` between: `before`, `behind` or `over`, in place of what is there; a place, which is
 /// the refused instruction (`here`), the one that made it so (`maker`), the return by which it left an earlier call (`exit`), the
 /// one that fits (`at`), the line with which the handler begins in which the variable is to be made (`begin`), or a line of the
 /// text; and what is written there. Capitals stand for names: those of the doubt's brigade (B), pool (V) and cursor (C, also that of
@@ -114,7 +114,7 @@ const NAMES: [[&str; 9]; 5] = [
 /// label, where it has none.
 #[derive(Clone, Copy)]
 pub struct Rule {
-    pub sort: Sort,
+    pub sorts: &'static [Sort],
     pub when: When,
     /// The words of the instructions that may have made it so: `*` for any, `-` for none; nothing where that is no matter.
     pub made: &'static str,
@@ -128,9 +128,21 @@ pub struct Rule {
     pub last: &'static str,
 }
 
+impl Rule {
+    /// Whether it is about refusals of this sort.
+    pub fn is_of(&self, sort: Sort) -> bool {
+        for of in self.sorts {
+            if *of as u8 == sort as u8 {
+                return true;
+            }
+        }
+        false
+    }
+}
+
 // What most rules have.
 const PLAIN: Rule = Rule {
-    sort: Sort::Unset,
+    sorts: &[],
     when: When::Always,
     made: "",
     pattern: Pattern::Guard,
@@ -142,10 +154,10 @@ const PLAIN: Rule = Rule {
     last: "",
 };
 
-/// The rules, those that are tried first before the others.
-pub const RULES: [Rule; 53] = [
+/// The rules. Of those of one sort, the ones that are tried first stand before the others.
+pub const RULES: [Rule; 36] = [
     Rule {
-        sort: Sort::Sent,
+        sorts: &[Sort::Sent],
         pattern: Pattern::AskJsent,
         per: Per::Each,
         test: Test::Drops,
@@ -153,20 +165,7 @@ pub const RULES: [Rule; 53] = [
         ..PLAIN
     },
     Rule {
-        sort: Sort::Sent,
-        when: When::Gone,
-        pattern: Pattern::Guard,
-        first: "behind main jsent gone",
-        ..PLAIN
-    },
-    Rule {
-        sort: Sort::Sent,
-        pattern: Pattern::Guard,
-        first: "behind main jsent N;before end M;before end bclean in;before end ret ok",
-        ..PLAIN
-    },
-    Rule {
-        sort: Sort::LateData,
+        sorts: &[Sort::LateData],
         when: When::Brought,
         pattern: Pattern::InsertIntoOwn,
         test: Test::Brought,
@@ -174,7 +173,7 @@ pub const RULES: [Rule; 53] = [
         ..PLAIN
     },
     Rule {
-        sort: Sort::LateData,
+        sorts: &[Sort::LateData],
         when: When::Whole,
         pattern: Pattern::MoveOneByOne,
         test: Test::Saves,
@@ -185,7 +184,7 @@ pub const RULES: [Rule; 53] = [
         ..PLAIN
     },
     Rule {
-        sort: Sort::LateData,
+        sorts: &[Sort::LateData],
         when: When::Part,
         pattern: Pattern::LeaveAtEos,
         per: Per::Each,
@@ -194,7 +193,7 @@ pub const RULES: [Rule; 53] = [
         ..PLAIN
     },
     Rule {
-        sort: Sort::LateData,
+        sorts: &[Sort::LateData],
         when: When::Part,
         pattern: Pattern::LeaveAtEos,
         per: Per::Each,
@@ -204,20 +203,20 @@ pub const RULES: [Rule; 53] = [
         ..PLAIN
     },
     Rule {
-        sort: Sort::LateData,
+        sorts: &[Sort::Sent, Sort::LateData],
         when: When::Gone,
         pattern: Pattern::Guard,
         first: "behind main jsent gone",
         ..PLAIN
     },
     Rule {
-        sort: Sort::LateData,
+        sorts: &[Sort::Sent, Sort::LateData],
         pattern: Pattern::Guard,
         first: "behind main jsent N;before end M;before end bclean in;before end ret ok",
         ..PLAIN
     },
     Rule {
-        sort: Sort::Passed,
+        sorts: &[Sort::Passed],
         when: When::Keeps,
         made: "*",
         pattern: Pattern::CleanWhenFailed,
@@ -225,14 +224,14 @@ pub const RULES: [Rule; 53] = [
         ..PLAIN
     },
     Rule {
-        sort: Sort::Passed,
+        sorts: &[Sort::Passed],
         when: When::Left,
         pattern: Pattern::CleanWhenFailed,
         first: "before exit bclean B",
         ..PLAIN
     },
     Rule {
-        sort: Sort::Passed,
+        sorts: &[Sort::Passed],
         when: When::Own,
         pattern: Pattern::CleanWhenFailed,
         test: Test::Leaves,
@@ -240,7 +239,7 @@ pub const RULES: [Rule; 53] = [
         ..PLAIN
     },
     Rule {
-        sort: Sort::Passed,
+        sorts: &[Sort::Passed],
         when: When::Lost,
         made: "*",
         pattern: Pattern::CleanWhenFailed,
@@ -248,27 +247,27 @@ pub const RULES: [Rule; 53] = [
         ..PLAIN
     },
     Rule {
-        sort: Sort::Passed,
+        sorts: &[Sort::Passed],
         pattern: Pattern::CleanWhenFailed,
         first: "before here bclean B",
         ..PLAIN
     },
     Rule {
-        sort: Sort::Kept,
+        sorts: &[Sort::Kept],
         when: When::Fails,
         pattern: Pattern::CleanWhenFailed,
         first: "before here bclean B",
         ..PLAIN
     },
     Rule {
-        sort: Sort::Kept,
+        sorts: &[Sort::Kept],
         made: "bconcat",
         pattern: Pattern::AsideWhatIsKept,
         first: "over maker bsave S T",
         ..PLAIN
     },
     Rule {
-        sort: Sort::Kept,
+        sorts: &[Sort::Kept],
         when: When::Early,
         made: "tail head before",
         pattern: Pattern::AsideWhatIsKept,
@@ -276,14 +275,14 @@ pub const RULES: [Rule; 53] = [
         ..PLAIN
     },
     Rule {
-        sort: Sort::Kept,
+        sorts: &[Sort::Kept],
         made: "tail head before",
         pattern: Pattern::AsideWhatIsKept,
         first: "before maker aside C P",
         ..PLAIN
     },
     Rule {
-        sort: Sort::Kept,
+        sorts: &[Sort::Kept],
         made: "tail head before",
         pattern: Pattern::AsideWhatIsKept,
         test: Test::PutsOfCall,
@@ -291,14 +290,14 @@ pub const RULES: [Rule; 53] = [
         ..PLAIN
     },
     Rule {
-        sort: Sort::Kept,
+        sorts: &[Sort::Kept],
         when: When::Ends,
         pattern: Pattern::CleanWhenFailed,
         first: "before here bclean B",
         ..PLAIN
     },
     Rule {
-        sort: Sort::AtEnd,
+        sorts: &[Sort::AtEnd],
         pattern: Pattern::AskJend,
         per: Per::Label,
         first: "behind maker jend C L",
@@ -306,14 +305,14 @@ pub const RULES: [Rule; 53] = [
         ..PLAIN
     },
     Rule {
-        sort: Sort::AtEnd,
+        sorts: &[Sort::AtEnd],
         pattern: Pattern::AskJend,
         fresh: Fresh::None,
         first: "before here jend C N;before end M;before end ret ok",
         ..PLAIN
     },
     Rule {
-        sort: Sort::Unread,
+        sorts: &[Sort::Unread],
         pattern: Pattern::ReadOnEachWay,
         per: Per::Read,
         test: Test::Reads,
@@ -322,7 +321,7 @@ pub const RULES: [Rule; 53] = [
         ..PLAIN
     },
     Rule {
-        sort: Sort::Unread,
+        sorts: &[Sort::Unread],
         pattern: Pattern::ReadOnEachWay,
         per: Per::Each,
         test: Test::Inside,
@@ -330,20 +329,25 @@ pub const RULES: [Rule; 53] = [
         ..PLAIN
     },
     Rule {
-        sort: Sort::DeadIn,
+        sorts: &[Sort::DeadIn],
         pattern: Pattern::OutliveTheRequest,
         test: Test::Asides,
         each: "over at aside C P",
         ..PLAIN
     },
     Rule {
-        sort: Sort::DeadIn,
+        sorts: &[Sort::DeadIn],
         pattern: Pattern::OutliveTheRequest,
         first: "behind init bclean B",
         ..PLAIN
     },
     Rule {
-        sort: Sort::NullBrigade,
+        sorts: &[
+            Sort::NullBrigade,
+            Sort::GoneBrigade,
+            Sort::NullPool,
+            Sort::GonePool,
+        ],
         made: "pclear pdestroy",
         pattern: Pattern::ClearNotDestroy,
         test: Test::LiesOn,
@@ -352,13 +356,13 @@ pub const RULES: [Rule; 53] = [
         ..PLAIN
     },
     Rule {
-        sort: Sort::NullBrigade,
+        sorts: &[Sort::NullBrigade, Sort::GoneBrigade],
         pattern: Pattern::MakeWhereItBegins,
         first: "behind begin bcreate B",
         ..PLAIN
     },
     Rule {
-        sort: Sort::NullBrigade,
+        sorts: &[Sort::NullBrigade, Sort::GoneBrigade],
         pattern: Pattern::MakeWhereItBegins,
         test: Test::Makes,
         first: "behind begin bcreate B",
@@ -366,45 +370,13 @@ pub const RULES: [Rule; 53] = [
         ..PLAIN
     },
     Rule {
-        sort: Sort::GoneBrigade,
-        made: "pclear pdestroy",
-        pattern: Pattern::ClearNotDestroy,
-        test: Test::LiesOn,
-        first: "over maker pclear Q",
-        each: "behind maker bcreate A",
-        ..PLAIN
-    },
-    Rule {
-        sort: Sort::GoneBrigade,
-        pattern: Pattern::MakeWhereItBegins,
-        first: "behind begin bcreate B",
-        ..PLAIN
-    },
-    Rule {
-        sort: Sort::GoneBrigade,
-        pattern: Pattern::MakeWhereItBegins,
-        test: Test::Makes,
-        first: "behind begin bcreate B",
-        each: "over at ",
-        ..PLAIN
-    },
-    Rule {
-        sort: Sort::NullPool,
-        made: "pclear pdestroy",
-        pattern: Pattern::ClearNotDestroy,
-        test: Test::LiesOn,
-        first: "over maker pclear Q",
-        each: "behind maker bcreate A",
-        ..PLAIN
-    },
-    Rule {
-        sort: Sort::NullPool,
+        sorts: &[Sort::NullPool, Sort::GonePool],
         pattern: Pattern::MakeWhereItBegins,
         first: "behind begin pcreate V",
         ..PLAIN
     },
     Rule {
-        sort: Sort::NullPool,
+        sorts: &[Sort::NullPool, Sort::GonePool],
         pattern: Pattern::MakeWhereItBegins,
         test: Test::Makes,
         first: "behind begin pcreate V",
@@ -412,123 +384,46 @@ pub const RULES: [Rule; 53] = [
         ..PLAIN
     },
     Rule {
-        sort: Sort::GonePool,
-        made: "pclear pdestroy",
-        pattern: Pattern::ClearNotDestroy,
-        test: Test::LiesOn,
-        first: "over maker pclear Q",
-        each: "behind maker bcreate A",
-        ..PLAIN
-    },
-    Rule {
-        sort: Sort::GonePool,
-        pattern: Pattern::MakeWhereItBegins,
-        first: "behind begin pcreate V",
-        ..PLAIN
-    },
-    Rule {
-        sort: Sort::GonePool,
-        pattern: Pattern::MakeWhereItBegins,
-        test: Test::Makes,
-        first: "behind begin pcreate V",
-        each: "over at ",
-        ..PLAIN
-    },
-    Rule {
-        sort: Sort::LiveBrigade,
+        sorts: &[Sort::LiveBrigade, Sort::LivePool],
         pattern: Pattern::MakeWhereItBegins,
         first: "behind begin Y;over here ",
         ..PLAIN
     },
     Rule {
-        sort: Sort::LiveBrigade,
+        sorts: &[Sort::LiveBrigade, Sort::LivePool],
         pattern: Pattern::MakeWhereItBegins,
         first: "over here ",
         ..PLAIN
     },
     Rule {
-        sort: Sort::LivePool,
-        pattern: Pattern::MakeWhereItBegins,
-        first: "behind begin Y;over here ",
-        ..PLAIN
-    },
-    Rule {
-        sort: Sort::LivePool,
-        pattern: Pattern::MakeWhereItBegins,
-        first: "over here ",
-        ..PLAIN
-    },
-    Rule {
-        sort: Sort::InBrigade,
+        sorts: &[Sort::InBrigade],
         pattern: Pattern::MoveInTwoSteps,
         first: "before here unlink C",
         ..PLAIN
     },
     Rule {
-        sort: Sort::Unset,
+        sorts: &[Sort::Unset, Sort::InBrigade, Sort::Loose],
         made: "unlink",
         pattern: Pattern::MoveInTwoSteps,
         first: "over maker ;behind here X",
         ..PLAIN
     },
     Rule {
-        sort: Sort::Unset,
-        made: "unlink",
-        pattern: Pattern::MoveInTwoSteps,
-        first: "over here ",
-        ..PLAIN
-    },
-    Rule {
-        sort: Sort::Unset,
-        made: "bdelete",
-        pattern: Pattern::SetAgain,
-        first: "over maker ;behind here X",
-        ..PLAIN
-    },
-    Rule {
-        sort: Sort::InBrigade,
-        made: "unlink",
-        pattern: Pattern::MoveInTwoSteps,
-        first: "over maker ;behind here X",
-        ..PLAIN
-    },
-    Rule {
-        sort: Sort::InBrigade,
+        sorts: &[Sort::Unset, Sort::InBrigade, Sort::Loose],
         made: "unlink",
         pattern: Pattern::MoveInTwoSteps,
         first: "over here ",
         ..PLAIN
     },
     Rule {
-        sort: Sort::InBrigade,
+        sorts: &[Sort::Unset, Sort::InBrigade, Sort::Loose],
         made: "bdelete",
         pattern: Pattern::SetAgain,
         first: "over maker ;behind here X",
         ..PLAIN
     },
     Rule {
-        sort: Sort::Loose,
-        made: "unlink",
-        pattern: Pattern::MoveInTwoSteps,
-        first: "over maker ;behind here X",
-        ..PLAIN
-    },
-    Rule {
-        sort: Sort::Loose,
-        made: "unlink",
-        pattern: Pattern::MoveInTwoSteps,
-        first: "over here ",
-        ..PLAIN
-    },
-    Rule {
-        sort: Sort::Loose,
-        made: "bdelete",
-        pattern: Pattern::SetAgain,
-        first: "over maker ;behind here X",
-        ..PLAIN
-    },
-    Rule {
-        sort: Sort::Unset,
+        sorts: &[Sort::Unset],
         made: "-",
         pattern: Pattern::SetAgain,
         per: Per::Label,

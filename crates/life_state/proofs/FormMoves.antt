@@ -1,5 +1,5 @@
 -- A state in form stays so where one variable changes, or where cursors move.
-use Rattle.std.proofs.Common.{◌≡◌, ◌≢◌, ℕ, ◌<◌, ◌≤◌, Bool, true, false, not, ◌==◌, if◌then◌else◌, length, refl, ap, sym, subst, ◌∙◌, ◌⊎◌, inl, inr, arith}
+use Rattle.std.proofs.Common.{rules, ◌≡◌, ◌≢◌, ℕ, ◌<◌, ◌≤◌, Bool, true, false, not, ◌==◌, if◌then◌else◌, length, refl, ap, sym, subst, ◌∙◌, ◌⊎◌, inl, inr, arith}
 use Rattle.module_code.specs.Program.{Program}
 use Rattle.run_model.specs.Indexed.{upd}
 use Rattle.run_model.proofs.Updates.{upd_at, upd_off, upd_either}
@@ -104,38 +104,13 @@ written_based p call now s b v f formed named elsewhere brought present = record
 
 module _ (p : Program) (call : Bool) where
   pub based : (s : State) → IsFormedIn p call s → Based p call s
-  based s f = record {
-    pool_count = f.formed.pool_count;
-    brigade_count = f.formed.brigade_count;
-    pools = f.formed.pools;
-    no_pools = f.formed.no_pools;
-    brigades = f.formed.brigades;
-    homes = f.formed.homes;
-    no_brigades = f.formed.no_brigades;
-    brought = f.formed.brought;
-    own_pools = f.pools;
-    own_brigades = f.brigades;
-    present = f.brought;
-  }
+  based s f = search rules
 
   pub assembled : (s : State) → Based p call s → ((c : ℕ) → FormedCursor s (s.cursors c)) → UnsetPast s.cursors
       → ((c d : ℕ) → s.facts c d ≡ true → is_to_write s c d ≡ true)
       → ((c d : ℕ) → s.facts c d ≡ s.facts d c) → IsFormedIn p call s
   assembled s b cursors past facts symmetric = record {
-    formed = record {
-      pool_count = b.pool_count;
-      brigade_count = b.brigade_count;
-      pools = b.pools;
-      no_pools = b.no_pools;
-      brigades = b.brigades;
-      homes = b.homes;
-      no_brigades = b.no_brigades;
-      brought = b.brought;
-      cursors = cursors;
-      no_cursors = past;
-      facts = facts;
-      symmetric = symmetric;
-    };
+    formed = search rules;
     pools = b.own_pools;
     brigades = b.own_brigades;
     brought = b.present;
@@ -209,20 +184,9 @@ module _ (p : Program) (call : Bool) where
   pub pool_formed : (s : State) (q : ℕ) (v : PoolState) → IsFormedIn p call s → q < s.pool_count → some_pool v ≡ true → IsFormedIn p call (set_pool q v s)
   pool_formed s q v f inside some =
       let b = based s f in
-      assembled (set_pool q v s)
-      (record {
-        pool_count = b.pool_count;
-        brigade_count = b.brigade_count;
-        pools = upd_all (λ w. some_pool w ≡ true) s.pools q v some b.pools;
-        no_pools = λ k past. upd_off s.pools q k v (omega arith) ∙ b.no_pools k past;
-        brigades = b.brigades;
-        homes = b.homes;
-        no_brigades = b.no_brigades;
-        brought = b.brought;
-        own_pools = b.own_pools;
-        own_brigades = b.own_brigades;
-        present = b.present;
-      })
+      let pools : (k : ℕ) → some_pool (upd s.pools q v k) ≡ true = upd_all (λ w. some_pool w ≡ true) s.pools q v some b.pools in
+      let no_pools : (k : ℕ) → s.pool_count ≤ k → upd s.pools q v k ≡ only_null = λ k past. upd_off s.pools q k v (omega arith) ∙ b.no_pools k past in
+      assembled (set_pool q v s) (search rules)
       f.formed.cursors f.formed.no_cursors f.formed.facts f.formed.symmetric
 
 -- `in` comes or goes

@@ -47,15 +47,13 @@ content_right a b = pick (content_le a b) refl
 brigade_left : (a b : BrigadeKnown) → brigade_le a (both_brigades a b) ≡ true
 unfolding both_brigades
 brigade_left a b =
-    brigade_by a (both_brigades a b) (pool_left (as_pool a) (as_pool b))
-    (and2 (implies a.usable (a.usable || b.usable)) (implies a.passed (a.passed || b.passed)) (implies_left a.usable b.usable) (implies_left a.passed b.passed))
+    brigade_by a (both_brigades a b) (pool_left (as_pool a) (as_pool b)) (and2 _ _ (implies_left a.usable b.usable) (implies_left a.passed b.passed))
     (content_left a.content b.content) (homes_left a.homes b.homes)
 
 brigade_right : (a b : BrigadeKnown) → brigade_le b (both_brigades a b) ≡ true
 unfolding both_brigades
 brigade_right a b =
-    brigade_by b (both_brigades a b) (pool_right (as_pool a) (as_pool b))
-    (and2 (implies b.usable (a.usable || b.usable)) (implies b.passed (a.passed || b.passed)) (implies_right a.usable b.usable) (implies_right a.passed b.passed))
+    brigade_by b (both_brigades a b) (pool_right (as_pool a) (as_pool b)) (and2 _ _ (implies_right a.usable b.usable) (implies_right a.passed b.passed))
     (content_right a.content b.content) (homes_right a.homes b.homes)
 
 same_number : (b : ℕ) → (b == b) ≡ true

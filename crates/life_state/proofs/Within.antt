@@ -1,5 +1,5 @@
 -- A state is below another, said of all indices; and what is made of both in the same way is so too.
-use Rattle.std.proofs.Common.{◌≡◌, ℕ, ◌<◌, ◌≤◌, Bool, true, false, ◌&&◌, ◌||◌, not, ◌==◌, if◌then◌else◌, refl, ap, sym, subst, ◌∙◌, ⊎_elim, arith}
+use Rattle.std.proofs.Common.{rules, ◌≡◌, ℕ, ◌<◌, ◌≤◌, Bool, true, false, ◌&&◌, ◌||◌, not, ◌==◌, if◌then◌else◌, refl, ap, sym, subst, ◌∙◌, ⊎_elim, arith}
 use Rattle.std.proofs.lemmas.Bool.{eqb-true, cases_lt}
 use Rattle.run_model.specs.Indexed.{upd}
 use Rattle.life_state.specs.declared.parts.PoolState.{PoolState}
@@ -174,33 +174,12 @@ move_within a b c v u w h =
 
 pub pool_within : (a b : State) (q : ℕ) (v u : PoolState) → Within a b → pool_le v u ≡ true → Within (set_pool q v a) (set_pool q u b)
 unfolding known
-pool_within a b q v u w h = record {
-  variables = w.variables;
-  sent = w.sent;
-  pools = upd_within (λ x y. pool_le x y ≡ true) a.pools b.pools q v u h w.pools;
-  brigades = w.brigades;
-  cursors = w.cursors;
-  facts = w.facts;
-}
+pool_within a b q v u w h = search (rules, upd_within (λ x y. pool_le x y ≡ true) a.pools b.pools q v u h w.pools)
 
 pub brigade_within : (a b : State) (n : ℕ) (v u : BrigadeKnown) → Within a b → brigade_le v u ≡ true → Within (set_brigade n v a) (set_brigade n u b)
 unfolding known
-brigade_within a b n v u w h = record {
-  variables = w.variables;
-  sent = w.sent;
-  pools = w.pools;
-  brigades = upd_within (λ x y. brigade_le x y ≡ true) a.brigades b.brigades n v u h w.brigades;
-  cursors = w.cursors;
-  facts = w.facts;
-}
+brigade_within a b n v u w h = search (rules, upd_within (λ x y. brigade_le x y ≡ true) a.brigades b.brigades n v u h w.brigades)
 
 pub sent_within : (a b : State) (x y : Bool) → Within a b → (x ≡ true → y ≡ true) → Within (record a { sent = x }) (record b { sent = y })
 unfolding known
-sent_within a b x y w h = record {
-  variables = w.variables;
-  sent = h;
-  pools = w.pools;
-  brigades = w.brigades;
-  cursors = w.cursors;
-  facts = w.facts;
-}
+sent_within a b x y w h = search rules

@@ -291,23 +291,17 @@ emptied_within n (In b s) (InOrEnd c t) p = at_both (b == n) (c == n) (In b s) (
 emptied_within n (InOrEnd b s) (InOrEnd c t) p = at_both (b == n) (c == n) (InOrEnd b s) (InOrEnd c t) (same_test b c n (number b c s t p)) p
 emptied_within n (End b) (End c) p = p
 emptied_within n (End b) (InOrEnd c t) p = at_second (c == n) (End b) (InOrEnd c t) p
-emptied_within n x (Loose t k) p = cc
-emptied_within n x (In c t) p = cc
-emptied_within n x (End c) p = cc
-emptied_within n x (InOrEnd c t) p = cc
+emptied_within n x y p = cc
 
 pub left_within : (n : ℕ) (x y : CursorKnown) → cursor_le x y ≡ true → cursor_le (left n x) (left n y) ≡ true
 left_within n x Unset p = refl
-left_within n (Loose s h) (Loose t k) p = p
-left_within n (In b s) (In c t) p = at_both (b == n) (c == n) (In b s) (In c t) (same_test b c n (number b c s t p)) p
-left_within n (In b s) (InOrEnd c t) p = at_both (b == n) (c == n) (In b s) (InOrEnd c t) (same_test b c n (number b c s t p)) p
-left_within n (InOrEnd b s) (InOrEnd c t) p = at_both (b == n) (c == n) (InOrEnd b s) (InOrEnd c t) (same_test b c n (number b c s t p)) p
 left_within n (End b) (End c) p = at_both (b == n) (c == n) (End b) (End c) (same_test b c n p) p
 left_within n (End b) (InOrEnd c t) p = at_both (b == n) (c == n) (End b) (InOrEnd c t) (same_test b c n p) p
-left_within n x (Loose t k) p = cc
-left_within n x (In c t) p = cc
 left_within n x (End c) p = cc
-left_within n x (InOrEnd c t) p = cc
+left_within n (Loose s h) y p = emptied_within n (Loose s h) y p
+left_within n (In b s) y p = emptied_within n (In b s) y p
+left_within n (InOrEnd b s) y p = emptied_within n (InOrEnd b s) y p
+left_within n x y p = cc
 
 same_number : (b : ℕ) → (b == b) ≡ true
 same_number b = eq-eqb b b refl

@@ -16,3 +16,4 @@ pub mod InForm
 pub mod Laws
 pub mod FormLaws
 pub mod Monotone
+pub mod Prelude

@@ -2,10 +2,8 @@
 
 ghost use Rattle.std.specs.Prelude.{◌≡◌, ◌≤◌, length, true};
 ghost use Rattle.module_code.specs.declared.instr.PoolRef.TheVariants as pool;
-ghost use Rattle.module_code.specs.Program.{pool_of_brigade};
-ghost use Rattle.life_state.specs.PoolOrder.{is_same_place, parent_of, is_under, is_clearable};
-ghost use Rattle.life_state.specs.Rules.{cleared_pool, cleared_brigade, cleared_cursors, cleared};
-ghost use Rattle.life_state.specs.Seen.{seen, seen_pools, seen_brigade, seen_cursor};
+ghost use Rattle.life_state.specs.Prelude.{pool_of_brigade, is_same_place, parent_of, is_under, is_clearable, cleared_pool, cleared_brigade, cleared_cursors, cleared, seen, seen_pools};
+ghost use Rattle.life_state.specs.Prelude.{seen_brigade, seen_cursor};
 
 use crate::facts::Keep;
 use crate::parts::{BrigadeState, CursorState, PoolSet, PoolState};

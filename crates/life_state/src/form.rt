@@ -1,12 +1,9 @@
 //! Whether a state is in form: each thing is said in one way.
 
 ghost use Rattle.std.specs.Prelude.{◌≡◌, ◌<◌, ℕ, true, length};
-ghost use Rattle.life_state.specs.Form.{AtHand, FormedBrigade, FormedCursor, IsFormed};
-ghost use Rattle.life_state.specs.FormTests.{NamesBelow, FormedPlace, FormedFact, FormedAt};
-ghost use Rattle.life_state.specs.InForm.{names_below, is_free, is_unmade, is_formed_pool, is_formed_brigade, is_formed_place, has_at_hand, is_formed_cursor, is_formed_fact, is_formed_at, is_formed};
-ghost use Rattle.life_state.specs.Order.{all_below};
-ghost use Rattle.life_state.specs.Seen.{seen, seen_homes, seen_brigade};
-ghost use Rattle.life_state.specs.States.{no_homes};
+ghost use Rattle.life_state.specs.Prelude.{AtHand, FormedBrigade, FormedCursor, IsFormed, NamesBelow, FormedPlace, FormedFact, FormedAt, names_below, is_free, is_unmade, is_formed_pool};
+ghost use Rattle.life_state.specs.Prelude.{is_formed_brigade, is_formed_place, has_at_hand, is_formed_cursor, is_formed_fact, is_formed_at, is_formed, all_below, seen, seen_homes, seen_brigade};
+ghost use Rattle.life_state.specs.Prelude.{no_homes};
 
 use crate::parts::{BrigadeState, CursorState, HomeSet};
 use crate::state::State;

@@ -1,11 +1,7 @@
 //! Laws. Each function does nothing: what its contract says holds of the definitions, or of each value of the code.
 
-ghost use Rattle.life_state.specs.Bounded.{IsBounded};
-ghost use Rattle.life_state.specs.Examples.{IdentityRows, OtherRows};
-ghost use Rattle.life_state.specs.FormLaws.{RulesKeepForm, JoinsKeepForm, JoinsAbsorb, EntriesAreFormed};
-ghost use Rattle.life_state.specs.Laws.{LeqSays, LeqHolds, LeqIsReflexive, LeqIsTransitive, LeqIsAntisymmetric, JoinIsAbove, JoinIsLeast};
-ghost use Rattle.life_state.specs.Monotone.{RulesAreMonotone, EntriesAreMonotone};
-ghost use Rattle.life_state.specs.Seen.{seen};
+ghost use Rattle.life_state.specs.Prelude.{IsBounded, IdentityRows, OtherRows, RulesKeepForm, JoinsKeepForm, JoinsAbsorb, EntriesAreFormed, LeqSays, LeqHolds, LeqIsReflexive, LeqIsTransitive};
+ghost use Rattle.life_state.specs.Prelude.{LeqIsAntisymmetric, JoinIsAbove, JoinIsLeast, RulesAreMonotone, EntriesAreMonotone, seen};
 
 use crate::state::State;
 

@@ -1,11 +1,7 @@
 //! What instructions need of a state: one test for each want.
 
 ghost use Rattle.std.specs.Prelude.{◌≡◌, true};
-ghost use Rattle.module_code.specs.Program.{fits};
-ghost use Rattle.run_model.specs.Faults.{wants};
-ghost use Rattle.run_model.specs.Wants.{need_of, want_of};
-ghost use Rattle.life_state.specs.Rules.{cursor_need, homes_at, need, first_need};
-ghost use Rattle.life_state.specs.Seen.{seen, seen_homes, seen_cursor};
+ghost use Rattle.life_state.specs.Prelude.{fits, wants, need_of, want_of, cursor_need, homes_at, need, first_need, seen, seen_homes, seen_cursor};
 
 use crate::parts::{Contents, CursorState, HomeSet};
 use crate::state::State;

@@ -1,10 +1,9 @@
 //! The order of the parts of a state: the greater one says less.
 
 ghost use Rattle.std.specs.Prelude.{◌≡◌};
-ghost use Rattle.life_state.specs.States.{is_live_alone, ended_pool, is_live_brigade, is_usable_alone, holds, never_made, no_homes, ended_brigade};
-ghost use Rattle.life_state.specs.Order.{rank, content_le, greater, classes_le, both_classes, pool_le, both_pools, brigade_le, both_brigades, cursor_le, both_cursors};
+ghost use Rattle.life_state.specs.Prelude.{is_live_alone, ended_pool, is_live_brigade, is_usable_alone, holds, never_made, no_homes, ended_brigade, rank, content_le, greater, classes_le};
+ghost use Rattle.life_state.specs.Prelude.{both_classes, pool_le, both_pools, brigade_le, both_brigades, cursor_le, both_cursors, seen_homes, seen_brigade, seen_cursor};
 ghost use Rattle.life_state.specs.declared.parts.Contents.TheVariants as Contents;
-ghost use Rattle.life_state.specs.Seen.{seen_homes, seen_brigade, seen_cursor};
 
 use crate::parts::{BrigadeState, Classes, Contents, CursorState, HomeSet, PoolState};
 use crate::pools::implies;

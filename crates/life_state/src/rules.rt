@@ -3,11 +3,8 @@
 ghost use Rattle.std.specs.Prelude.{◌≡◌, ◌<◌, ◌≤◌, true, length, Some, slice_get};
 ghost use Rattle.module_code.specs.declared.instr.Instr as instr;
 ghost use Rattle.module_code.specs.declared.instr.VarRef.TheVariants as variable;
-ghost use Rattle.module_code.specs.Program.{fits};
-ghost use Rattle.life_state.specs.States.{set_pool};
-ghost use Rattle.life_state.specs.InState.{effect_fits, condition_fits};
-ghost use Rattle.life_state.specs.Rules.{edges_jempty, edges_jend, told_classes, edges_jkind, after_make, edges_jnull, after, on_condition, edges, rule};
-ghost use Rattle.life_state.specs.Seen.{seen, seen_cursor, seen_some, seen_edges, seen_answer};
+ghost use Rattle.life_state.specs.Prelude.{fits, set_pool, effect_fits, condition_fits, edges_jempty, edges_jend, told_classes, edges_jkind, after_make, edges_jnull, after, on_condition, edges};
+ghost use Rattle.life_state.specs.Prelude.{rule, seen, seen_cursor, seen_some, seen_edges, seen_answer};
 
 use crate::facts::Others;
 use crate::motions::Motion;

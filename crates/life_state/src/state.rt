@@ -19,11 +19,13 @@ pub struct State {
     pub(crate) facts: [[bool; 9]; 9],
 }
 
-fn fact_in(row: &[bool; 9], d: u8) -> bool
-    ensures { result ≡ slice_index_or row.now d false }
+/// An item, or what stands in for one beyond the last.
+#[inline]
+fn item_or<T: Copy>(items: &[T], at: u8, other: T) -> T
+    ensures { result ≡ slice_index_or items.now at other }
 {
-    let d = usize::from(d);
-    if d < 9 { row[d] } else { false }
+    let at = usize::from(at);
+    if at < items.len() { items[at] } else { other }
 }
 
 #[tactic(auto, unfolding(crate::specs::Seen::seen, run_model::specs::Indexed::upd))]
@@ -53,60 +55,35 @@ impl State {
     pub fn pool(&self, q: u8) -> PoolState
         ensures { result ≡ (seen self.now).pools q }
     {
-        let q = usize::from(q);
-        if q < 8 {
-            self.pools[q]
-        } else {
-            PoolState::NULL
-        }
+        item_or(&self.pools, q, PoolState::NULL)
     }
 
     /// What a brigade variable may be.
     pub fn brigade(&self, b: u8) -> BrigadeState
         ensures { seen_brigade result ≡ (seen self.now).brigades b }
     {
-        let b = usize::from(b);
-        if b < 9 {
-            self.brigades[b]
-        } else {
-            BrigadeState::UNMADE
-        }
+        item_or(&self.brigades, b, BrigadeState::UNMADE)
     }
 
     /// What may stand in a usable brigade.
     pub(crate) fn content(&self, b: u8) -> Contents
         ensures { result ≡ ((seen self.now).brigades b).content }
     {
-        let b = usize::from(b);
-        if b < 9 {
-            self.brigades[b].content
-        } else {
-            Contents::Empty
-        }
+        item_or(&self.brigades, b, BrigadeState::UNMADE).content
     }
 
     /// What the buckets of a usable brigade live as long as.
     pub(crate) fn homes(&self, b: u8) -> HomeSet
         ensures { seen_homes result ≡ ((seen self.now).brigades b).homes }
     {
-        let b = usize::from(b);
-        if b < 9 {
-            self.brigades[b].homes
-        } else {
-            HomeSet::NONE
-        }
+        item_or(&self.brigades, b, BrigadeState::UNMADE).homes
     }
 
     /// What is known of a cursor.
     pub fn cursor(&self, c: u8) -> CursorState
         ensures { seen_cursor result ≡ (seen self.now).cursors c }
     {
-        let c = usize::from(c);
-        if c < 9 {
-            self.cursors[c]
-        } else {
-            CursorState::Unset
-        }
+        item_or(&self.cursors, c, CursorState::Unset)
     }
 
     /// Whether it is written that two cursors are at different buckets.
@@ -115,7 +92,7 @@ impl State {
     {
         let c = usize::from(c);
         if c < 9 {
-            fact_in(&self.facts[c], d)
+            item_or(&self.facts[c], d, false)
         } else {
             false
         }

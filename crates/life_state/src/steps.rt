@@ -1,11 +1,8 @@
 //! What effects make of a state.
 
 ghost use Rattle.std.specs.Prelude.{◌≡◌, ◌<◌, length};
-ghost use Rattle.life_state.specs.States.{set_brigade, holds, both_homes, In};
-ghost use Rattle.life_state.specs.Facts.{move_bucket};
-ghost use Rattle.life_state.specs.Rules.{classes_of, homes_at, after_bcreate, after_join, after_bsave, split_part, after_next, after_unlink};
-ghost use Rattle.life_state.specs.Rules.{side_content, put_in, after_before, made, after_aside, after_pass};
-ghost use Rattle.life_state.specs.Seen.{seen, seen_homes, seen_brigade, seen_cursor};
+ghost use Rattle.life_state.specs.Prelude.{set_brigade, holds, both_homes, In, move_bucket, classes_of, homes_at, after_bcreate, after_join, after_bsave, split_part, after_next, after_unlink};
+ghost use Rattle.life_state.specs.Prelude.{side_content, put_in, after_before, made, after_aside, after_pass, seen, seen_homes, seen_brigade, seen_cursor};
 
 use crate::clears::pool_of_brigade;
 use crate::facts::Others;

@@ -261,7 +261,7 @@ written_declared p o made r here incoming s = record {
 
 -- Steps.
 
-no_live_pool : (r : Configuration) (d : PoolRef) (q : ℕ) → or_else (cond (has_pool r d) None (Some F1)) (or_else (cond (has_pool r (pool.Own q)) (Some F10) None) None) ≡ None
+pub no_live_pool : (r : Configuration) (d : PoolRef) (q : ℕ) → or_else (cond (has_pool r d) None (Some F1)) (or_else (cond (has_pool r (pool.Own q)) (Some F10) None) None) ≡ None
     → has_pool r (pool.Own q) ≡ false
 no_live_pool r d q h = by_test (has_pool r (pool.Own q)) (first_none _ None (second_none (cond (has_pool r d) None (Some F1)) _ h)) where
   by_test : (b : Bool) → cond b (Some F10) None ≡ None → b ≡ false

@@ -4,6 +4,7 @@ use Rattle.std.proofs.Common.{Some, None, refl, sym, ◌∙◌, ap, subst, arith
 use Rattle.std.proofs.Math.Seq.{take-add}
 use Rattle.std.proofs.lemmas.List.{drop-drop, length-drop, length-take-le, take-append-drop}
 use Rattle.std.proofs.lemmas.List.Elements.{All-head, All-tail}
+use Rattle.std.proofs.lemmas.Bool.{leb-true, leb-false, le-ltb, lt-ltb, ltb-true}
 use Rattle.std.proofs.lemmas.Bool.Decides.{nat_tests, eqb_tells}
 use Rattle.run_model.specs.declared.bucket.Content.{Content}
 use Rattle.run_model.specs.declared.bucket.Content.TheVariants as content
@@ -19,23 +20,6 @@ use Rattle.run_model.specs.BrigadeLists.{length_in, bytes_of, all_bytes, Cut, In
 use Rattle.model_laws.specs.BrigadeLaws.{BrigadeSplitsInOrder, MovesKeepNames, SplitBytes, BucketSplitsInOrder, SameBytes, may_split, SplitKeepsBytes, PartedAt, PartsAtPoint, ShortIsIncomplete}
 use Rattle.model_laws.specs.BrigadeLaws.{PartitionKeepsBytes, UnsplitIsUnchanged, MetadataIsNotSplit, PlaceIsBehindFront, PartitionRows, BrigadeSplitRows, BucketSplitRows, MoveRows}
 use Rattle.run_model.proofs.Names.{count_append, count_cons}
-
--- What the tests tell.
-
-le_told : (a b : ℕ) → nat_le a b ≡ true → a ≤ b
-le_told a b is = grind (arith, nat_tests)
-
-more_told : (a b : ℕ) → nat_le a b ≡ false → b < a
-more_told a b is = grind (arith, nat_tests)
-
-not_short : (a b : ℕ) → b ≤ a → nat_lt a b ≡ false
-not_short a b le = grind (arith, nat_tests)
-
-short : (a b : ℕ) → a < b → nat_lt a b ≡ true
-short a b lt = grind (arith, nat_tests)
-
-short_told : (a b : ℕ) → nat_lt a b ≡ true → a < b
-short_told a b is = grind (arith, nat_tests)
 
 -- Splits of a brigade.
 
@@ -161,7 +145,7 @@ same_in_parts new (suc p) (b ∷ bs) = by_length (nat_le (length_of b.bucket.con
       (cond c (b ∷ front_to (suc p - length_of b.bucket.content) bs) (first_bytes (suc p) b ∷ []) ++ cond c (back_from new (suc p - length_of b.bucket.content) bs) (rest_as new (suc p) b ∷ bs))
   by_length true is rest = same_behind new (b ∷ []) bs (front_to (suc p - length_of b.bucket.content) bs ++ back_from new (suc p - length_of b.bucket.content) bs) rest
   by_length false is rest =
-      let inside : suc p < length_of b.bucket.content = more_told (length_of b.bucket.content) (suc p) is in
+      let inside : suc p < length_of b.bucket.content = leb-false (length_of b.bucket.content) (suc p) is in
       same_in_two new (suc p) b bs (omega arith)
 
 pub partition_keeps_bytes : PartitionKeepsBytes
@@ -181,10 +165,10 @@ adds_up (suc p) (b ∷ bs) le = by_length (nat_le (length_of b.bucket.content) (
       → (suc p - length_of b.bucket.content ≤ length_in bs → length_in (front_to (suc p - length_of b.bucket.content) bs) ≡ suc p - length_of b.bucket.content)
       → length_in (cond c (b ∷ front_to (suc p - length_of b.bucket.content) bs) (first_bytes (suc p) b ∷ [])) ≡ suc p
   by_length true is rest =
-      let fits : length_of b.bucket.content ≤ suc p = le_told (length_of b.bucket.content) (suc p) is in
+      let fits : length_of b.bucket.content ≤ suc p = leb-true (length_of b.bucket.content) (suc p) is in
       omega (arith, rest (omega arith))
   by_length false is rest =
-      let inside : suc p < length_of b.bucket.content = more_told (length_of b.bucket.content) (suc p) is in
+      let inside : suc p < length_of b.bucket.content = leb-false (length_of b.bucket.content) (suc p) is in
       let first : length_of (front_of (suc p) b.bucket.content) ≡ suc p = (halves (suc p) b.bucket.content (omega arith)).first in
       omega arith
 
@@ -204,24 +188,24 @@ shortest (suc p) (b ∷ bs) k lt = by_length (nat_le (length_of b.bucket.content
 
 pub parts_at_point : PartsAtPoint
 parts_at_point new point bs le = record {
-  whole = ap (λ (c : Bool). cond c bs (front_to point bs ++ back_from new point bs)) (not_short (length_in bs) point le);
-  answer = ap (λ (c : Bool). cond c Incomplete (place_before (back_from new point bs))) (not_short (length_in bs) point le);
+  whole = ap (λ (c : Bool). cond c bs (front_to point bs ++ back_from new point bs)) (le-ltb (length_in bs) point le);
+  answer = ap (λ (c : Bool). cond c Incomplete (place_before (back_from new point bs))) (le-ltb (length_in bs) point le);
   adds_up = adds_up point bs le;
   shortest = shortest point bs;
 }
 
 pub short_is_incomplete : ShortIsIncomplete
 short_is_incomplete new point bs = record {
-  told = λ lt. ap (λ (c : Bool). cond c Incomplete (place_before (back_from new point bs))) (short (length_in bs) point lt);
+  told = λ lt. ap (λ (c : Bool). cond c Incomplete (place_before (back_from new point bs))) (lt-ltb (length_in bs) point lt);
   only = λ is. only (is_short point bs) refl is;
-  unchanged = λ is. ap (λ (c : Bool). cond c bs (front_to point bs ++ back_from new point bs)) (short (length_in bs) point (only (is_short point bs) refl is));
+  unchanged = λ is. ap (λ (c : Bool). cond c bs (front_to point bs ++ back_from new point bs)) (lt-ltb (length_in bs) point (only (is_short point bs) refl is));
 } where
   is_a_place : (xs : List NamedBucket) → place_before xs ≡ Incomplete → ⊥
   is_a_place [] is = cc
   is_a_place (x ∷ xs) is = cc
 
   only : (c : Bool) → nat_lt (length_in bs) point ≡ c → cond c Incomplete (place_before (back_from new point bs)) ≡ Incomplete → length_in bs < point
-  only true tells is = short_told (length_in bs) point tells
+  only true tells is = ltb-true (length_in bs) point tells
   only false tells is = absurd (is_a_place (back_from new point bs) is)
 
 -- The bucket that is split.
@@ -269,7 +253,7 @@ metadata_is_not_split (suc p) (x ∷ bs) b fits is = by_length (nat_le (length_o
       by_length false tells rest is =
           let same : x ≡ b = cc in
           subst (λ (y : NamedBucket). is_data y ≡ true) same
-          (bytes_are_data (suc p) x.bucket (All-head (λ (y : NamedBucket). FitsKind y.bucket) x bs fits) (more_told (length_of x.bucket.content) (suc p) tells))
+          (bytes_are_data (suc p) x.bucket (All-head (λ (y : NamedBucket). FitsKind y.bucket) x bs fits) (leb-false (length_of x.bucket.content) (suc p) tells))
 
 -- The place of a partition.
 

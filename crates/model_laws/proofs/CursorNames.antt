@@ -52,7 +52,7 @@ itself x bs = (let one : ◌≡◌ {A = ℕ} (cond (x.name == x.name) 1 0) 1 = a
 pub found_there : (n : ℕ) (x : NamedBucket) (bs : List NamedBucket) → bucket_named n bs ≡ Some x → 1 ≤ count_named x.name bs
 found_there n x bs is = (let one : 1 ≤ count_named x.name (x ∷ taken_out n bs) = itself x (taken_out n bs) in omega (arith, one, moves_keep_names.taken n x bs x.name is))
 
-first_there : (k : ℕ) (bs : List NamedBucket) → first_place bs ≡ Some k → 1 ≤ count_named k bs
+pub first_there : (k : ℕ) (bs : List NamedBucket) → first_place bs ≡ Some k → 1 ≤ count_named k bs
 first_there k [] is = absurd (cc)
 first_there k (x ∷ bs) is = (let same : x.name ≡ k = cc in subst (λ (m : ℕ). 1 ≤ count_named m (x ∷ bs)) same (itself x bs))
 
@@ -60,7 +60,7 @@ fewer_behind : (n : ℕ) (bs : List NamedBucket) → count_named n (drop 1 bs) �
 fewer_behind n [] = omega arith
 fewer_behind n (x ∷ bs) = omega (arith, count_cons n x bs)
 
-next_there : (at k : ℕ) (bs : List NamedBucket) → next_place at bs ≡ Some k → 1 ≤ count_named k bs
+pub next_there : (at k : ℕ) (bs : List NamedBucket) → next_place at bs ≡ Some k → 1 ≤ count_named k bs
 next_there at k bs is =
     let one : 1 ≤ count_named k (drop 1 (buckets_from at bs)) = first_there k (drop 1 (buckets_from at bs)) is in
     let whole : count_named k bs ≡ count_named k (stays (Some at) bs) + count_named k (buckets_from at bs) =

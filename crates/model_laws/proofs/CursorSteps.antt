@@ -185,7 +185,7 @@ stands_in b n r s there = of_spot (spot_of r (cursor.At n)) (cursors_stand_once 
   of_spot (AtEndOf k) once = absurd once
 
 -- and one at its end stands at that
-stands_behind : (b n : ℕ) (r : Configuration) → SoundNames r → brigade_name (r.instance.brigades b) ≡ Some n → spot_of r (cursor.End n) ≡ AtEndOf b
+pub stands_behind : (b n : ℕ) (r : Configuration) → SoundNames r → brigade_name (r.instance.brigades b) ≡ Some n → spot_of r (cursor.End n) ≡ AtEndOf b
 stands_behind b n r s named = of_spot (spot_of r (cursor.End n)) (cursors_stand_once r (cursor.End n) s) where
   of_spot : (at : Place) → BrigadeOnce r n at → at ≡ AtEndOf b
   of_spot Nowhere none = absurd (none b named)

@@ -36,14 +36,22 @@ abbrev pub FaultBreaks : Type 0
 FaultBreaks = (memory : Bool) (budget : ℕ) (chain : List Program) (reads : Reads) (w new : Linked) (k : FaultKind) (m pc : ℕ)
     → steps memory budget chain reads w ≡ (Ok (stepped.Fault k m pc), new) → new ≡ breaks cause.Faulted w
 
+-- the events of a request
+abbrev pub is_in_request : Event → Bool
+is_in_request (event.OpenFile name) = true
+is_in_request (event.Bring pieces) = true
+is_in_request event.End = true
+is_in_request e = false
+
+-- the events that no call may run at
+abbrev pub waits : Event → Bool
+waits event.Begin = true
+waits e = is_in_request e
+
 -- the events that a broken connection does not serve
 abbrev pub is_work : Event → Bool
-is_work event.Begin = true
-is_work (event.OpenFile name) = true
-is_work (event.Bring pieces) = true
 is_work event.Step = true
-is_work event.End = true
-is_work e = false
+is_work e = waits e
 
 -- the same connections, and the same that they share
 pub record SameWorld (old new : World) : Type 0 where
@@ -70,21 +78,6 @@ place refusal.NoFile = 7
 place refusal.FileFailed = 8
 place refusal.NamesSpent = 9
 place refusal.NoMemory = 10
-
--- the events that no call may run at
-abbrev pub waits : Event → Bool
-waits event.Begin = true
-waits (event.OpenFile name) = true
-waits (event.Bring pieces) = true
-waits event.End = true
-waits e = false
-
--- the events of a request
-abbrev pub is_in_request : Event → Bool
-is_in_request (event.OpenFile name) = true
-is_in_request (event.Bring pieces) = true
-is_in_request event.End = true
-is_in_request e = false
 
 abbrev pub is_step : Event → Bool
 is_step event.Step = true
@@ -143,12 +136,8 @@ lacks_a_name e told w = false
 abbrev pub is_growing : Event → Bool
 is_growing event.Open = true
 is_growing (event.AddFile name bytes) = true
-is_growing event.Begin = true
-is_growing (event.OpenFile name) = true
-is_growing (event.Bring pieces) = true
-is_growing event.End = true
 is_growing event.Close = true
-is_growing e = false
+is_growing e = waits e
 
 -- the test of each refusal
 pub record Tests : Type 0 where

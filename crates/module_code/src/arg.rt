@@ -153,10 +153,7 @@ impl Arg {
     pub fn aim(self) -> u16
         ensures { result ≡ arg_aim self }
     {
-        match self {
-            Arg::Target(number) => number,
-            _ => 0,
-        }
+        self.target().unwrap_or(0)
     }
 
     /// The number of the text that it names, of one that names none 0.

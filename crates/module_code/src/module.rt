@@ -19,27 +19,13 @@ pub struct Module {
 }
 
 impl Model for Module {
-    ghost use Rattle.module_code.specs.Program.{Program, IsModule};
+    ghost use Rattle.module_code.specs.Program.{Program, IsModule, program};
 
     ghost Value = { Program };
 
-    ghost view = { λ m. record {
-      pools = m.pools;
-      brigades = m.brigades;
-      texts = m.texts;
-      code = m.code;
-      init = m.init;
-      main = m.main;
-    } };
+    ghost view = { λ m. program m.pools m.brigades m.texts m.code m.init m.main };
 
-    ghost invariant = { λ m. IsModule (record {
-      pools = m.pools;
-      brigades = m.brigades;
-      texts = m.texts;
-      code = m.code;
-      init = m.init;
-      main = m.main;
-    }) };
+    ghost invariant = { λ m. IsModule (program m.pools m.brigades m.texts m.code m.init m.main) };
 }
 
 impl Module {

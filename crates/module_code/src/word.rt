@@ -4,6 +4,11 @@ ghost use Rattle.std.specs.Prelude.{◌≡◌};
 ghost use Rattle.module_code.specs.Words.{going_on, leaving, op_goes_on, op_text, op_kinds, signature, word_text, word_kinds, word_at, no_operand, one_operand};
 ghost use Rattle.module_code.specs.Words.{two_operands, three_operands, four_operands};
 
+use self::OperandKind::{
+    Brigade, Cursor, Ending, KindTest, Label, Number, One, Place, Pool, Source, Text, Value,
+    Variable,
+};
+
 /// What an operand may be.
 #[derive(Clone, Copy)]
 pub enum OperandKind {
@@ -226,153 +231,38 @@ impl Op {
         ensures { result ≡ signature self }
     {
         match self {
-            Op::PCreate => Signature::goes_on(OperandKinds::one(OperandKind::Pool)),
-            Op::PClear => Signature::goes_on(OperandKinds::one(OperandKind::Pool)),
-            Op::PDestroy => Signature::goes_on(OperandKinds::one(OperandKind::Pool)),
-            Op::Label => Signature::goes_on(OperandKinds::two(
-                OperandKind::Place,
-                OperandKind::Text,
+            Op::PCreate | Op::PClear | Op::PDestroy => Signature::goes_on(OperandKinds::one(Pool)),
+            Op::Label | Op::Unlabel => Signature::goes_on(OperandKinds::two(Place, Text)),
+            Op::BCreate => Signature::goes_on(OperandKinds::one(Brigade)),
+            Op::BClean => Signature::goes_on(OperandKinds::one(Source)),
+            Op::BConcat => Signature::goes_on(OperandKinds::two(Source, Source)),
+            Op::BSplit => Signature::goes_on(OperandKinds::three(Source, Cursor, Source)),
+            Op::BPart => Signature::goes_on(OperandKinds::four(Source, Value, Cursor, Label)),
+            Op::BSave => Signature::goes_on(OperandKinds::two(Brigade, Source)),
+            Op::Pass | Op::JEmpty => Signature::goes_on(OperandKinds::two(Source, Label)),
+            Op::First => Signature::goes_on(OperandKinds::two(Cursor, Source)),
+            Op::Next | Op::Before | Op::Copy => Signature::goes_on(OperandKinds::two(
+                Cursor, Cursor,
             )),
-            Op::Unlabel => Signature::goes_on(OperandKinds::two(
-                OperandKind::Place,
-                OperandKind::Text,
+            Op::JEnd | Op::Read => Signature::goes_on(OperandKinds::two(Cursor, Label)),
+            Op::JKind => Signature::goes_on(OperandKinds::three(Cursor, KindTest, Label)),
+            Op::Unlink | Op::BDelete | Op::FromBuf | Op::Transient | Op::Flush | Op::Eos =>
+                Signature::goes_on(OperandKinds::one(Cursor)),
+            Op::Tail | Op::Head => Signature::goes_on(OperandKinds::two(Source, Cursor)),
+            Op::Heap | Op::Immortal => Signature::goes_on(OperandKinds::two(Cursor, Text)),
+            Op::PoolB | Op::Aside => Signature::goes_on(OperandKinds::two(Cursor, Place)),
+            Op::Split => Signature::goes_on(OperandKinds::three(Cursor, Value, Label)),
+            Op::Len => Signature::goes_on(OperandKinds::two(Number, Cursor)),
+            Op::Get | Op::JLt | Op::JEq => Signature::goes_on(OperandKinds::three(
+                Number, Value, Label,
             )),
-            Op::BCreate => Signature::goes_on(OperandKinds::one(OperandKind::Brigade)),
-            Op::BClean => Signature::goes_on(OperandKinds::one(OperandKind::Source)),
-            Op::BConcat => Signature::goes_on(OperandKinds::two(
-                OperandKind::Source,
-                OperandKind::Source,
-            )),
-            Op::BSplit => Signature::goes_on(OperandKinds::three(
-                OperandKind::Source,
-                OperandKind::Cursor,
-                OperandKind::Source,
-            )),
-            Op::BPart => Signature::goes_on(OperandKinds::four(
-                OperandKind::Source,
-                OperandKind::Value,
-                OperandKind::Cursor,
-                OperandKind::Label,
-            )),
-            Op::BSave => Signature::goes_on(OperandKinds::two(
-                OperandKind::Brigade,
-                OperandKind::Source,
-            )),
-            Op::Pass => Signature::goes_on(OperandKinds::two(
-                OperandKind::Source,
-                OperandKind::Label,
-            )),
-            Op::JEmpty => Signature::goes_on(OperandKinds::two(
-                OperandKind::Source,
-                OperandKind::Label,
-            )),
-            Op::First => Signature::goes_on(OperandKinds::two(
-                OperandKind::Cursor,
-                OperandKind::Source,
-            )),
-            Op::Next => Signature::goes_on(OperandKinds::two(
-                OperandKind::Cursor,
-                OperandKind::Cursor,
-            )),
-            Op::JEnd => Signature::goes_on(OperandKinds::two(
-                OperandKind::Cursor,
-                OperandKind::Label,
-            )),
-            Op::JKind => Signature::goes_on(OperandKinds::three(
-                OperandKind::Cursor,
-                OperandKind::KindTest,
-                OperandKind::Label,
-            )),
-            Op::Unlink => Signature::goes_on(OperandKinds::one(OperandKind::Cursor)),
-            Op::BDelete => Signature::goes_on(OperandKinds::one(OperandKind::Cursor)),
-            Op::Tail => Signature::goes_on(OperandKinds::two(
-                OperandKind::Source,
-                OperandKind::Cursor,
-            )),
-            Op::Head => Signature::goes_on(OperandKinds::two(
-                OperandKind::Source,
-                OperandKind::Cursor,
-            )),
-            Op::Before => Signature::goes_on(OperandKinds::two(
-                OperandKind::Cursor,
-                OperandKind::Cursor,
-            )),
-            Op::Heap => Signature::goes_on(OperandKinds::two(
-                OperandKind::Cursor,
-                OperandKind::Text,
-            )),
-            Op::Immortal => Signature::goes_on(OperandKinds::two(
-                OperandKind::Cursor,
-                OperandKind::Text,
-            )),
-            Op::FromBuf => Signature::goes_on(OperandKinds::one(OperandKind::Cursor)),
-            Op::Transient => Signature::goes_on(OperandKinds::one(OperandKind::Cursor)),
-            Op::PoolB => Signature::goes_on(OperandKinds::two(
-                OperandKind::Cursor,
-                OperandKind::Place,
-            )),
-            Op::Flush => Signature::goes_on(OperandKinds::one(OperandKind::Cursor)),
-            Op::Eos => Signature::goes_on(OperandKinds::one(OperandKind::Cursor)),
-            Op::Split => Signature::goes_on(OperandKinds::three(
-                OperandKind::Cursor,
-                OperandKind::Value,
-                OperandKind::Label,
-            )),
-            Op::Copy => Signature::goes_on(OperandKinds::two(
-                OperandKind::Cursor,
-                OperandKind::Cursor,
-            )),
-            Op::Aside => Signature::goes_on(OperandKinds::two(
-                OperandKind::Cursor,
-                OperandKind::Place,
-            )),
-            Op::Read => Signature::goes_on(OperandKinds::two(
-                OperandKind::Cursor,
-                OperandKind::Label,
-            )),
-            Op::Len => Signature::goes_on(OperandKinds::two(
-                OperandKind::Number,
-                OperandKind::Cursor,
-            )),
-            Op::Get => Signature::goes_on(OperandKinds::three(
-                OperandKind::Number,
-                OperandKind::Value,
-                OperandKind::Label,
-            )),
-            Op::Put => Signature::goes_on(OperandKinds::two(
-                OperandKind::Value,
-                OperandKind::Label,
-            )),
+            Op::Put => Signature::goes_on(OperandKinds::two(Value, Label)),
             Op::ClearBuf => Signature::goes_on(OperandKinds::none()),
-            Op::Set => Signature::goes_on(OperandKinds::two(
-                OperandKind::Number,
-                OperandKind::Value,
-            )),
-            Op::Add => Signature::goes_on(OperandKinds::two(
-                OperandKind::Number,
-                OperandKind::Value,
-            )),
-            Op::Sub => Signature::goes_on(OperandKinds::two(
-                OperandKind::Number,
-                OperandKind::Value,
-            )),
-            Op::JLt => Signature::goes_on(OperandKinds::three(
-                OperandKind::Number,
-                OperandKind::Value,
-                OperandKind::Label,
-            )),
-            Op::JEq => Signature::goes_on(OperandKinds::three(
-                OperandKind::Number,
-                OperandKind::Value,
-                OperandKind::Label,
-            )),
-            Op::JNull => Signature::goes_on(OperandKinds::two(
-                OperandKind::Variable,
-                OperandKind::Label,
-            )),
-            Op::JSent => Signature::goes_on(OperandKinds::one(OperandKind::Label)),
-            Op::Jump => Signature::leaves(OperandKinds::one(OperandKind::Label)),
-            Op::Ret => Signature::leaves(OperandKinds::one(OperandKind::Ending)),
+            Op::Set | Op::Add | Op::Sub => Signature::goes_on(OperandKinds::two(Number, Value)),
+            Op::JNull => Signature::goes_on(OperandKinds::two(Variable, Label)),
+            Op::JSent => Signature::goes_on(OperandKinds::one(Label)),
+            Op::Jump => Signature::leaves(OperandKinds::one(Label)),
+            Op::Ret => Signature::leaves(OperandKinds::one(Ending)),
         }
     }
 
@@ -428,13 +318,10 @@ impl Word {
         ensures { result ≡ word_kinds self }
     {
         match self {
-            Word::Module => OperandKinds::one(OperandKind::One),
-            Word::Pool => OperandKinds::two(OperandKind::Pool, OperandKind::Place),
-            Word::Brigade => OperandKinds::two(OperandKind::Brigade, OperandKind::Place),
-            Word::Open => OperandKinds::none(),
-            Word::Init => OperandKinds::none(),
-            Word::Main => OperandKinds::none(),
-            Word::End => OperandKinds::none(),
+            Word::Module => OperandKinds::one(One),
+            Word::Pool => OperandKinds::two(Pool, Place),
+            Word::Brigade => OperandKinds::two(Brigade, Place),
+            Word::Open | Word::Init | Word::Main | Word::End => OperandKinds::none(),
             Word::Op(op) => op.kinds(),
         }
     }

@@ -1,9 +1,9 @@
 -- An instruction is made again from its word and its operands.
-use Rattle.std.proofs.Common.{◌≡◌, ℕ, Bool, true, false, ◌&&◌, ◌||◌, not, List, Option, Some, None, refl, sym, ◌∙◌, ap, subst}
+use Rattle.std.proofs.Common.{◌≡◌, ℕ, Bool, true, false, ◌&&◌, ◌||◌, not, List, [], Option, Some, None, refl, sym, ◌∙◌, ap, subst}
 use Rattle.std.specs.Prelude.{IfSome, is_some, option_map}
 use Rattle.module_code.specs.Args.{AreOf, args, first_some, four_args, is_of, made, names_target, names_text, op_of, parts}
 use Rattle.module_lang.specs.Handlers.{arg_in, args_in, label_of, op_instr}
-use Rattle.module_lang.specs.Operands.{operand_kind_is_text}
+use Rattle.module_lang.specs.Operands.{of_kind, operand_kind_is_text}
 use Rattle.module_code.proofs.PartsLaws.{made_again, split_again}
 use Rattle.module_code.specs.Program.{target, text_of_instr}
 use Rattle.module_code.specs.Spelling.{operand_of, operands_of}
@@ -14,6 +14,7 @@ use Rattle.module_code.specs.declared.arg.Args.{Args}
 use Rattle.module_code.specs.declared.instr.Instr.{Instr}
 use Rattle.module_code.specs.declared.instr.Instr.TheVariants as instr
 use Rattle.module_code.specs.declared.instr.VarRef.TheVariants as variable
+use Rattle.module_code.specs.declared.operand.Operand.TheVariants as operand
 use Rattle.module_code.specs.declared.operand.Operands.{Operands}
 use Rattle.module_code.specs.declared.word.OperandKind.{OperandKind}
 use Rattle.module_code.specs.declared.word.OperandKind.TheVariants as kind
@@ -54,12 +55,10 @@ formed instr.ClearBuf = record { targets = refl; first = refl; second = refl; th
 formed _ = record { targets = refl; first = refl; second = refl; third = refl; fourth = refl; one_two = refl; one_three = refl; two_three = refl }
 
 abbrev pub is_label : OperandKind → Bool
-is_label kind.Label = true
-is_label _ = false
+is_label k = of_kind k (operand.Label [])
 
 abbrev pub is_version : OperandKind → Bool
-is_version kind.One = true
-is_version _ = false
+is_version k = of_kind k operand.One
 
 -- At most one operand of a word is a label, a text is the second, and none is the version.
 pub record AreOpKinds (k : OperandKinds) : Type 0 where

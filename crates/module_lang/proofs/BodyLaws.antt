@@ -336,6 +336,12 @@ pub record Declares (p : Program) (ps bs : List PoolRef) (d : Draft) : Type 0 wh
   pub second : Matches p [] d.init
   pub third : Matches p [] d.main
 
+-- other declarations, and no instruction yet
+declaring : (p : Program) {ps bs xs ys : List PoolRef} (d : Draft) (r : Part) (qs cs : List PoolRef) → Declares p ps bs d → is_due r word.Brigade ≡ true → is_due r word.Open ≡ true
+    → qs ≡ xs → cs ≡ ys → Declares p xs ys (record d { part = r; pools = qs; brigades = cs })
+declaring p d r qs cs s brigade opening pools brigades =
+    record { brigade = brigade; opening = opening; pools = pools; brigades = brigades; texts = s.texts; first = s.first; second = s.second; third = s.third }
+
 -- each parent is lower, where the first pool has number k
 abbrev pub Lower : ℕ → List PoolRef → Type 0
 Lower k [] = Unit {0}
@@ -371,16 +377,9 @@ pools_go p (q ∷ qs) done k d ss P at s size small low more =
     let one = length-append done (q ∷ []) in
     goes_item d word.Pool (place_text (pool.Own k) ∷ place_text q ∷ []) o (λ n. record d { pools = d.pools ++ q ∷ [] }) (pool_texts (k + 1) qs ++ ss) P (rw at refl) read
     (rw (count, eq-eqb k k refl, low.0) refl) (λ n bytes _. refl) (λ n.
-    pools_go p qs (done ++ q ∷ []) (k + 1) (record d { pools = d.pools ++ q ∷ [] }) ss P at (record {
-      brigade = s.brigade;
-      opening = s.opening;
-      pools = ap (λ x. x ++ q ∷ []) s.pools;
-      brigades = s.brigades;
-      texts = s.texts;
-      first = s.first;
-      second = s.second;
-      third = s.third;
-    }) (omega (arith, one)) (rw same small) low.1 (λ e x. more e (rw same at x)))
+    pools_go p qs (done ++ q ∷ []) (k + 1) (record d { pools = d.pools ++ q ∷ [] }) ss P at
+    (declaring p d d.part (d.pools ++ q ∷ []) d.brigades s s.brigade s.opening (ap (λ x. x ++ q ∷ []) s.pools) s.brigades)
+    (omega (arith, one)) (rw same small) low.1 (λ e x. more e (rw same at x)))
 
 pub brigades_go : (p : Program) (pools qs done : List PoolRef) (k : ℕ) (d : Draft) (ss : List (List ℕ)) (P : Draft → Type 0) → Declares p pools done d → k ≡ length done → length (done ++ qs) ≤ 8
     → length pools ≤ 8 → Homes (length pools) qs → ((e : Draft) → Declares p pools (done ++ qs) e → Goes e ss P) → Goes d (brigade_texts k qs ++ ss) P
@@ -397,13 +396,6 @@ brigades_go p pools (q ∷ qs) done k d ss P s size small few low more =
     let home : place_is_declared (length d.pools) q ≡ true = rw s.pools low.0 in
     goes_item d word.Brigade (own_text k ∷ place_text q ∷ []) o (λ n. record d { part = part.Brigades; brigades = d.brigades ++ q ∷ [] }) (brigade_texts (k + 1) qs ++ ss) P s.brigade read
     (rw (count, eq-eqb k k refl, home) refl) (λ n bytes _. refl) (λ n.
-    brigades_go p pools qs (done ++ q ∷ []) (k + 1) (record d { part = part.Brigades; brigades = d.brigades ++ q ∷ [] }) ss P (record {
-      brigade = refl;
-      opening = refl;
-      pools = s.pools;
-      brigades = ap (λ x. x ++ q ∷ []) s.brigades;
-      texts = s.texts;
-      first = s.first;
-      second = s.second;
-      third = s.third;
-    }) (omega (arith, one)) (rw same small) few low.1 (λ e x. more e (rw same at x)))
+    brigades_go p pools qs (done ++ q ∷ []) (k + 1) (record d { part = part.Brigades; brigades = d.brigades ++ q ∷ [] }) ss P
+    (declaring p d part.Brigades d.pools (d.brigades ++ q ∷ []) s refl refl s.pools (ap (λ x. x ++ q ∷ []) s.brigades))
+    (omega (arith, one)) (rw same small) few low.1 (λ e x. more e (rw same at x)))

@@ -1,7 +1,7 @@
 -- What each line keeps true of a draft.
 use Rattle.std.proofs.Common.{◌≡◌, ℕ, ◌+◌, ◌<◌, Bool, true, false, ◌||◌, ◌≤◌, not, ltb, List, [], ◌∷◌, ◌++◌, length, length-append, append-nil, append_assoc, inl, inr, ◌⊎◌, Some, Ok, refl, sym, ◌∙◌}
 use Rattle.std.proofs.Common.{ap, subst, arith}
-use Rattle.std.specs.Prelude.{All, is_some}
+use Rattle.std.specs.Prelude.{slice_get, All, is_some}
 use Rattle.std.specs.List.{range_with_len}
 use Rattle.std.proofs.lemmas.Bool.{and_parts, or_parts, eqb-true, ltb-true, ltb-false, lt-ltb, not-false}
 use Rattle.std.proofs.lemmas.List.Elements.{All-push, filter_map-append}
@@ -91,29 +91,19 @@ label_keeps part.Main d n name s = turned_keeps d d.part d.open.labels d.init.la
 label_keeps part.End d n name s = turned_keeps d d.part d.open.labels d.init.labels (with_line d.main n name).labels d.open.line d.init.line d.main.line s.none s
 
 -- the instructions that stand in handlers that have not begun, where a word is due
-early_module : (p : Part) (d : Draft) → is_due p word.Module ≡ true → early_steps p d ≡ instruction_count d
-early_module part.Start d h = refl
-early_module part.Pools d h = refl
-early_module part.Brigades d h = refl
-early_module _ d h = absurd (cc h)
+abbrev comes_first : Word → Bool
+comes_first word.Module = true
+comes_first word.Pool = true
+comes_first word.Brigade = true
+comes_first word.Open = true
+comes_first _ = false
 
-early_pool : (p : Part) (d : Draft) → is_due p word.Pool ≡ true → early_steps p d ≡ instruction_count d
-early_pool part.Start d h = refl
-early_pool part.Pools d h = refl
-early_pool part.Brigades d h = refl
-early_pool _ d h = absurd (cc h)
-
-early_brigade : (p : Part) (d : Draft) → is_due p word.Brigade ≡ true → early_steps p d ≡ instruction_count d
-early_brigade part.Start d h = refl
-early_brigade part.Pools d h = refl
-early_brigade part.Brigades d h = refl
-early_brigade _ d h = absurd (cc h)
-
-early_open : (p : Part) (d : Draft) → is_due p word.Open ≡ true → early_steps p d ≡ instruction_count d
-early_open part.Start d h = refl
-early_open part.Pools d h = refl
-early_open part.Brigades d h = refl
-early_open _ d h = absurd (cc h)
+early_first : (w : Word) (p : Part) (d : Draft) → comes_first w ≡ true → is_due p w ≡ true → early_steps p d ≡ instruction_count d
+early_first (word.Op i) p d f h = absurd (cc f)
+early_first _ part.Start d f h = refl
+early_first _ part.Pools d f h = refl
+early_first _ part.Brigades d f h = refl
+early_first _ _ d f h = absurd (cc)
 
 early_init : (p : Part) (d : Draft) → is_due p word.Init ≡ true → early_steps p d ≡ length d.init.steps + length d.main.steps
 early_init part.Open d h = refl
@@ -151,55 +141,51 @@ declaration count pools o h =
       home = home_declared pools o.second (not-false (is_declared pools 0 o.second) (unless_ok (not (is_declared pools 0 o.second)) code.Undeclared tt a.2));
     }
 
+pushed_few : (xs : List PoolRef) (q : PoolRef) → length xs < 8 → length (xs ++ q ∷ []) ≤ 8
+pushed_few xs q low = let one = length-append xs (q ∷ []) in omega arith
+
+-- a draft with no instruction, and with these declarations
+declaring_keeps : (d : Draft) (p : Part) (ps bs : List PoolRef) → IsDraft d → instruction_count d ≡ 0 → length ps ≤ 8 → length bs ≤ 8
+    → ((k : ℕ) (q : PoolRef) → slice_get ps k ≡ Some q → place_is_declared k q ≡ true)
+    → ((k : ℕ) (q : PoolRef) → slice_get bs k ≡ Some q → place_is_declared (length ps) q ≡ true)
+    → early_steps p (record d { part = p; pools = ps; brigades = bs }) ≡ 0 → IsDraft (record d { part = p; pools = ps; brigades = bs })
+declaring_keeps d p ps bs s zero few_pools few_brigades parents homes none = record {
+  count = s.count;
+  pools = few_pools;
+  brigades = few_brigades;
+  parents = parents;
+  homes = homes;
+  texts = s.texts;
+  few = s.few;
+  short = s.short;
+  bytes = s.bytes;
+  none = none;
+  opening = none_of (IsDraftStep ps bs part.Open) d.open.steps (omega arith);
+  init = none_of (IsDraftStep ps bs part.Init) d.init.steps (omega arith);
+  main = none_of (IsDraftStep ps bs part.Main) d.main.steps (omega arith);
+}
+
 pool_keeps : (d : Draft) (b : List ℕ) (o : Operands) → IsDraft d → Item d b word.Pool o → IsDraft (record d { pools = d.pools ++ operand_place o.second ∷ [] })
 unfolding judged word_kinds
 pool_keeps d b o s h =
     let q = operand_place o.second in
-    let zero : instruction_count d ≡ 0 = sym (early_pool d.part d h.due) ∙ s.none in
-    let kinds = kinds_read (word_kinds word.Pool) h.rest o h.read in
-    let say = declaration (length d.pools) (length d.pools) o h.sound in
-    let low = next_pool (length d.pools) o.first kinds.first say.next in
-    let one : length (d.pools ++ q ∷ []) ≡ length d.pools + 1 = length-append d.pools (q ∷ []) in
-    record {
-      count = s.count;
-      pools = omega arith;
-      brigades = s.brigades;
-      parents = pushed_item (λ k x. place_is_declared k x ≡ true) d.pools q s.parents say.home;
-      homes = λ k x e. subst (λ n. place_is_declared n x ≡ true) (sym one) (more_declared (length d.pools) x (s.homes k x e));
-      texts = s.texts;
-      few = s.few;
-      short = s.short;
-      bytes = s.bytes;
-      none = early_pools d.part d (d.pools ++ q ∷ []) ∙ s.none;
-      opening = none_of (IsDraftStep (d.pools ++ q ∷ []) d.brigades part.Open) d.open.steps (omega arith);
-      init = none_of (IsDraftStep (d.pools ++ q ∷ []) d.brigades part.Init) d.init.steps (omega arith);
-      main = none_of (IsDraftStep (d.pools ++ q ∷ []) d.brigades part.Main) d.main.steps (omega arith);
-    }
+    let n = length d.pools in
+    let say = declaration n n o h.sound in
+    let one : length (d.pools ++ q ∷ []) ≡ n + 1 = length-append d.pools (q ∷ []) in
+    declaring_keeps d d.part (d.pools ++ q ∷ []) d.brigades s (sym (early_first word.Pool d.part d refl h.due) ∙ s.none)
+    (pushed_few d.pools q (next_pool n o.first (kinds_read (word_kinds word.Pool) h.rest o h.read).first say.next)) s.brigades
+    (pushed_item (λ k x. place_is_declared k x ≡ true) d.pools q s.parents say.home) (λ k x e. subst (λ n. place_is_declared n x ≡ true) (sym one) (more_declared n x (s.homes k x e)))
+    (early_pools d.part d (d.pools ++ q ∷ []) ∙ s.none)
 
 brigade_keeps : (d : Draft) (b : List ℕ) (o : Operands) → IsDraft d → Item d b word.Brigade o → IsDraft (record d { part = part.Brigades; brigades = d.brigades ++ operand_place o.second ∷ [] })
 unfolding judged word_kinds
 brigade_keeps d b o s h =
     let q = operand_place o.second in
-    let zero : instruction_count d ≡ 0 = sym (early_brigade d.part d h.due) ∙ s.none in
-    let kinds = kinds_read (word_kinds word.Brigade) h.rest o h.read in
+    let zero : instruction_count d ≡ 0 = sym (early_first word.Brigade d.part d refl h.due) ∙ s.none in
     let say = declaration (length d.brigades) (length d.pools) o h.sound in
-    let low = next_brigade (length d.brigades) o.first kinds.first say.next in
-    let one : length (d.brigades ++ q ∷ []) ≡ length d.brigades + 1 = length-append d.brigades (q ∷ []) in
-    record {
-      count = s.count;
-      pools = s.pools;
-      brigades = omega arith;
-      parents = s.parents;
-      homes = pushed_item (λ k x. place_is_declared (length d.pools) x ≡ true) d.brigades q s.homes say.home;
-      texts = s.texts;
-      few = s.few;
-      short = s.short;
-      bytes = s.bytes;
-      none = zero;
-      opening = none_of (IsDraftStep d.pools (d.brigades ++ q ∷ []) part.Open) d.open.steps (omega arith);
-      init = none_of (IsDraftStep d.pools (d.brigades ++ q ∷ []) part.Init) d.init.steps (omega arith);
-      main = none_of (IsDraftStep d.pools (d.brigades ++ q ∷ []) part.Main) d.main.steps (omega arith);
-    }
+    declaring_keeps d part.Brigades d.pools (d.brigades ++ q ∷ []) s zero s.pools
+    (pushed_few d.brigades q (next_brigade (length d.brigades) o.first (kinds_read (word_kinds word.Brigade) h.rest o h.read).first say.next))
+    s.parents (pushed_item (λ k x. place_is_declared (length d.pools) x ≡ true) d.brigades q s.homes say.home) zero
 
 record IsSound (d : Draft) (i : Op) (o : Operands) : Type 0 where
   apart : has_equal_brigades o ≡ false
@@ -380,11 +366,12 @@ op_keeps d n bytes i o s h = texts (text_has i d (unindented bytes) o h)
         added (e.1.text ∷ []) (rw (e.0, at) refl) (with_text d n i o e.1.text s e.0 (ltb-false 255 (length e.1.text) low) e.1.bytes (ltb-true (length d.texts) 64 space))
 
 item_keeps : (d : Draft) (n : ℕ) (bytes : List ℕ) (w : Word) (o : Operands) → IsDraft d → Item d (unindented bytes) w o → IsDraft (item_entered d n bytes w o)
-item_keeps d n bytes word.Module o s h = turned_keeps d part.Pools d.open.labels d.init.labels d.main.labels d.open.line d.init.line d.main.line (sym (early_module d.part d h.due) ∙ s.none) s
+item_keeps d n bytes word.Module o s h =
+    turned_keeps d part.Pools d.open.labels d.init.labels d.main.labels d.open.line d.init.line d.main.line (sym (early_first word.Module d.part d refl h.due) ∙ s.none) s
 item_keeps d n bytes word.Pool o s h = pool_keeps d (unindented bytes) o s h
 item_keeps d n bytes word.Brigade o s h = brigade_keeps d (unindented bytes) o s h
 item_keeps d n bytes word.Open o s h =
-    let zero : instruction_count d ≡ 0 = sym (early_open d.part d h.due) ∙ s.none in
+    let zero : instruction_count d ≡ 0 = sym (early_first word.Open d.part d refl h.due) ∙ s.none in
     turned_keeps d part.Open d.open.labels d.init.labels d.main.labels n d.init.line d.main.line (omega arith) s
 item_keeps d n bytes word.Init o s h =
     let zero : length d.init.steps + length d.main.steps ≡ 0 = sym (early_init d.part d h.due) ∙ s.none in

@@ -1,12 +1,12 @@
 -- A text that is read as a module is a text of it: the lines so far and the draft.
-use Rattle.std.proofs.Common.{◌≡◌, ℕ, ◌+◌, true, List, [], ◌∷◌, ◌++◌, length, refl, sym, ◌∙◌, ap, subst, arith, suc, map, append_assoc, append-nil}
+use Rattle.std.proofs.Common.{◌≡◌, ℕ, ◌+◌, true, false, List, [], ◌∷◌, ◌++◌, length, refl, sym, ◌∙◌, ap, subst, arith, suc, map, append_assoc, append-nil}
 use Rattle.std.specs.Prelude.{codes, IfSome}
 use Rattle.std.proofs.lemmas.Bool.{eqb-true, ltb-true}
 use Rattle.std.proofs.lemmas.List.{map-append}
 use Rattle.module_lang.specs.Entries.{entered, step_entered, step_texts, from_quote, item_entered}
 use Rattle.module_lang.specs.Drafts.{with_part, label_added, step_added}
 use Rattle.module_lang.specs.Lines.{is_due, is_handler, is_next, judged}
-use Rattle.module_lang.specs.Operands.{of_kind, operand_place}
+use Rattle.module_lang.specs.Operands.{of_kind, operand_kind_is_nothing, operand_kind_is_text, operand_place}
 use Rattle.module_lang.specs.Texts.{line_text, place_text, own_text, pool_texts, brigade_texts, operands_text}
 use Rattle.module_code.specs.declared.part.Part.{Part}
 use Rattle.module_code.specs.declared.part.Part.TheVariants as part
@@ -16,13 +16,14 @@ use Rattle.module_lang.proofs.DraftLaws.{declaration}
 use Rattle.module_lang.specs.Handlers.{op_instr}
 use Rattle.module_code.specs.Names.{is_name}
 use Rattle.module_code.specs.Program.{target, text_of_instr}
-use Rattle.module_code.specs.Words.{word_text, word_kinds}
+use Rattle.module_code.specs.Words.{no_operand, two_operands, word_text, word_kinds}
 use Rattle.module_lang.specs.declared.draft.Draft.{Draft}
 use Rattle.module_lang.specs.declared.draft.Label.{Label}
 use Rattle.module_lang.specs.declared.draft.DraftStep.{DraftStep}
 use Rattle.module_code.specs.declared.operand.Operand.{Operand}
 use Rattle.module_code.specs.declared.operand.Operand.TheVariants as operand
 use Rattle.module_code.specs.declared.operand.Operands.{Operands}
+use Rattle.module_code.specs.declared.word.OperandKind.{OperandKind}
 use Rattle.module_code.specs.declared.word.OperandKind.TheVariants as kind
 use Rattle.module_code.specs.declared.word.Op.{Op}
 use Rattle.module_code.specs.declared.word.Word.{Word}
@@ -118,21 +119,10 @@ module_line d s o h =
     let t : x.token ≡ codes "1" = subst (λ y. Spells y x.token) (one_is o.first k.first) x.first in
     h.spelled ∙ ap (λ r. codes "module" ++ r) (x.whole ∙ ap (λ y. operands_text (y ∷ [])) t)
 
-open_line : (d : Draft) (s : List ℕ) (o : Operands) → Item d s word.Open o → s ≡ codes "open"
-unfolding word_kinds word_text
-open_line d s o h = h.spelled ∙ ap (λ r. codes "open" ++ r) (none_spelled h.rest o h.read)
-
-init_line : (d : Draft) (s : List ℕ) (o : Operands) → Item d s word.Init o → s ≡ codes "init"
-unfolding word_kinds word_text
-init_line d s o h = h.spelled ∙ ap (λ r. codes "init" ++ r) (none_spelled h.rest o h.read)
-
-main_line : (d : Draft) (s : List ℕ) (o : Operands) → Item d s word.Main o → s ≡ codes "main"
-unfolding word_kinds word_text
-main_line d s o h = h.spelled ∙ ap (λ r. codes "main" ++ r) (none_spelled h.rest o h.read)
-
-end_line : (d : Draft) (s : List ℕ) (o : Operands) → Item d s word.End o → s ≡ codes "end"
-unfolding word_kinds word_text
-end_line d s o h = h.spelled ∙ ap (λ r. codes "end" ++ r) (none_spelled h.rest o h.read)
+bare_line : (w : Word) (d : Draft) (s : List ℕ) (o : Operands) → word_kinds w ≡ no_operand → Item d s w o → s ≡ word_text w
+bare_line w d s o none h =
+    let empty : h.rest ≡ [] = none_spelled h.rest o (rw none at h.read) in
+    h.spelled ∙ ap (λ r. word_text w ++ r) empty ∙ append-nil (word_text w)
 
 -- a declaration, which is the next one
 next_place : (n : ℕ) (x : Operand) (t : List ℕ) → of_kind kind.Pool x ≡ true → is_next n x ≡ true → Spells x t → t ≡ place_text (pool.Own n)
@@ -147,155 +137,99 @@ home_text : (x : Operand) (t : List ℕ) → of_kind kind.Place x ≡ true → S
 home_text (operand.Place p) t k s = s
 home_text _ t k s = absurd (cc k)
 
+-- the line of a declaration, whose first operand is written so
+declared_line : (w : Word) (k : OperandKind) (first : List ℕ) (d : Draft) (s : List ℕ) (o : Operands)
+    → word_kinds w ≡ two_operands k kind.Place → operand_kind_is_nothing k ≡ false → operand_kind_is_text k ≡ false
+    → ((t : List ℕ) → of_kind k o.first ≡ true → Spells o.first t → t ≡ first) → Item d s w o
+    → s ≡ line_text (word_text w) (first ∷ place_text (operand_place o.second) ∷ [])
+declared_line w k first d s o kinds some plain next h =
+    let read = rw kinds at h.read in
+    let are = kinds_read (two_operands k kind.Place) h.rest o read in
+    let x = two_taken k kind.Place h.rest o some plain refl refl read in
+    h.spelled ∙ ap (λ r. word_text w ++ r) (x.whole ∙ ap (λ y. operands_text (y ∷ x.two ∷ [])) (next x.one are.first x.first)
+    ∙ ap (λ y. operands_text (first ∷ y ∷ [])) (home_text o.second x.two are.second x.second))
+
 pub pool_line : (d : Draft) (s : List ℕ) (o : Operands) → Item d s word.Pool o → s ≡ line_text (codes "pool") (place_text (pool.Own (length d.pools)) ∷ place_text (operand_place o.second) ∷ [])
 unfolding word_kinds word_text judged
 pool_line d s o h =
-    let k = kinds_read (word_kinds word.Pool) h.rest o h.read in
-    let x = two_taken kind.Pool kind.Place h.rest o refl refl refl refl h.read in
-    let say = declaration (length d.pools) (length d.pools) o h.sound in
-    let t = next_place (length d.pools) o.first x.one k.first say.next x.first in
-    let u = home_text o.second x.two k.second x.second in
-    h.spelled ∙ ap (λ r. codes "pool" ++ r) (x.whole ∙ ap (λ y. operands_text (y ∷ x.two ∷ [])) t ∙ ap (λ y. operands_text (place_text (pool.Own (length d.pools)) ∷ y ∷ [])) u)
+    let n = length d.pools in
+    declared_line word.Pool kind.Pool (place_text (pool.Own n)) d s o refl refl refl (λ t k. next_place n o.first t k (declaration n n o h.sound).next) h
 
 pub brigade_line : (d : Draft) (s : List ℕ) (o : Operands) → Item d s word.Brigade o → s ≡ line_text (codes "brigade") (own_text (length d.brigades) ∷ place_text (operand_place o.second) ∷ [])
 unfolding word_kinds word_text judged
 brigade_line d s o h =
-    let k = kinds_read (word_kinds word.Brigade) h.rest o h.read in
-    let x = two_taken kind.Brigade kind.Place h.rest o refl refl refl refl h.read in
-    let say = declaration (length d.brigades) (length d.pools) o h.sound in
-    let t = next_own (length d.brigades) o.first x.one k.first say.next x.first in
-    let u = home_text o.second x.two k.second x.second in
-    h.spelled ∙ ap (λ r. codes "brigade" ++ r) (x.whole ∙ ap (λ y. operands_text (y ∷ x.two ∷ [])) t ∙ ap (λ y. operands_text (own_text (length d.brigades) ∷ y ∷ [])) u)
+    let n = length d.brigades in
+    declared_line word.Brigade kind.Brigade (own_text n) d s o refl refl refl (λ t k. next_own n o.first t k (declaration n (length d.pools) o h.sound).next) h
+
+-- the lines of the handlers are these, and the statements are those of them
+telling : {q : Part} {d : Draft} {ss : List (List ℕ)} (a b c : List Raw) → Built a d.open → Built b d.init → Built c d.main → ss ≡ told q d a b c → Clear q d a b c
+    → AreTexted d.texts a → AreTexted d.texts b → AreTexted d.texts c → Told q d ss
+telling a b c first second third text clear texts_a texts_b texts_c =
+    record { a = a; b = b; c = c; first = first; second = second; third = third; text = text; clear = clear; texts_a = texts_a; texts_b = texts_b; texts_c = texts_c }
+
+-- another statement, and the same lines of the handlers
+kept : {q r : Part} {d e : Draft} {ss us : List (List ℕ)} (t : Told q d ss) → Built t.a e.open → Built t.b e.init → Built t.c e.main → d.texts ≡ e.texts
+    → us ≡ told r e t.a t.b t.c → Clear r e t.a t.b t.c → Told r e us
+kept t first second third same text clear =
+    let held = λ (rs : List Raw) (x : AreTexted _ rs). subst (λ ts. AreTexted ts rs) same x in
+    telling t.a t.b t.c first second third text clear (held t.a t.texts_a) (held t.b t.texts_b) (held t.c t.texts_c)
 
 tell_module : (d : Draft) (n : ℕ) (ss : List (List ℕ)) (s : List ℕ) (o : Operands) → Item d s word.Module o → Told part.Start d ss → Told part.Pools (with_part d part.Pools n) (ss ++ s ∷ [])
-tell_module d n ss s o h t = record {
-  a = t.a;
-  b = t.b;
-  c = t.c;
-  first = t.first;
-  second = t.second;
-  third = t.third;
-  text = ap (λ x. x ++ s ∷ []) t.text ∙ ap (λ x. x ∷ []) (module_line d s o h) ∙ ap (λ ps. codes "module 1" ∷ pool_texts 0 ps) (sym t.clear.0);
-  clear = (t.clear.1, t.clear.2, t.clear.3, t.clear.4);
-  texts_a = t.texts_a;
-  texts_b = t.texts_b;
-  texts_c = t.texts_c;
-}
+tell_module d n ss s o h t =
+    kept t t.first t.second t.third refl
+    (ap (λ x. x ++ s ∷ []) t.text ∙ ap (λ x. x ∷ []) (module_line d s o h) ∙ ap (λ ps. codes "module 1" ∷ pool_texts 0 ps) (sym t.clear.0))
+    (t.clear.1, t.clear.2, t.clear.3, t.clear.4)
 
 tell_pool : (d : Draft) (ss : List (List ℕ)) (s : List ℕ) (o : Operands) → Item d s word.Pool o → Told part.Pools d ss
     → Told part.Pools (record d { pools = d.pools ++ operand_place o.second ∷ [] }) (ss ++ s ∷ [])
 tell_pool d ss s o h t =
     let q = operand_place o.second in
     let z : 0 + length d.pools ≡ length d.pools = omega arith in
-    record {
-      a = t.a;
-      b = t.b;
-      c = t.c;
-      first = t.first;
-      second = t.second;
-      third = t.third;
-      text = ap (λ x. x ++ s ∷ []) t.text ∙ ap (λ x. codes "module 1" ∷ (pool_texts 0 d.pools ++ x ∷ []))
-          (pool_line d s o h ∙ ap (λ k. line_text (codes "pool") (place_text (pool.Own k) ∷ place_text q ∷ [])) (sym z)) ∙ ap (λ x. codes "module 1" ∷ x) (sym (pool_texts-push 0 d.pools q));
-      clear = t.clear;
-      texts_a = t.texts_a;
-      texts_b = t.texts_b;
-      texts_c = t.texts_c;
-    }
+    kept t t.first t.second t.third refl
+    (ap (λ x. x ++ s ∷ []) t.text ∙ ap (λ x. codes "module 1" ∷ (pool_texts 0 d.pools ++ x ∷ []))
+    (pool_line d s o h ∙ ap (λ k. line_text (codes "pool") (place_text (pool.Own k) ∷ place_text q ∷ [])) (sym z)) ∙ ap (λ x. codes "module 1" ∷ x) (sym (pool_texts-push 0 d.pools q)))
+    t.clear
 
 all_pools : (d : Draft) (ss : List (List ℕ)) → Told part.Pools d ss → Told part.Brigades d ss
-all_pools d ss t = record {
-  a = t.a;
-  b = t.b;
-  c = t.c;
-  first = t.first;
-  second = t.second;
-  third = t.third;
-  text = t.text ∙ sym (append-nil (head_of d)) ∙ ap (λ bs. head_of d ++ brigade_texts 0 bs) (sym t.clear.0);
-  clear = (t.clear.1, t.clear.2, t.clear.3);
-  texts_a = t.texts_a;
-  texts_b = t.texts_b;
-  texts_c = t.texts_c;
-}
+all_pools d ss t =
+    kept t t.first t.second t.third refl (t.text ∙ sym (append-nil (head_of d)) ∙ ap (λ bs. head_of d ++ brigade_texts 0 bs) (sym t.clear.0))
+    (t.clear.1, t.clear.2, t.clear.3)
 
 tell_brigade : (d : Draft) (ss : List (List ℕ)) (s : List ℕ) (o : Operands) → Item d s word.Brigade o → Told part.Brigades d ss
     → Told part.Brigades (record d { part = part.Brigades; brigades = d.brigades ++ operand_place o.second ∷ [] }) (ss ++ s ∷ [])
 tell_brigade d ss s o h t =
     let q = operand_place o.second in
     let z : 0 + length d.brigades ≡ length d.brigades = omega arith in
-    record {
-      a = t.a;
-      b = t.b;
-      c = t.c;
-      first = t.first;
-      second = t.second;
-      third = t.third;
-      text = ap (λ x. x ++ s ∷ []) t.text ∙ append_assoc (head_of d) (brigade_texts 0 d.brigades) (s ∷ []) ∙ ap (λ x. head_of d ++ (brigade_texts 0 d.brigades ++ x ∷ []))
-          (brigade_line d s o h ∙ ap (λ k. line_text (codes "brigade") (own_text k ∷ place_text q ∷ [])) (sym z)) ∙ ap (λ x. head_of d ++ x) (sym (brigade_texts-push 0 d.brigades q));
-      clear = t.clear;
-      texts_a = t.texts_a;
-      texts_b = t.texts_b;
-      texts_c = t.texts_c;
-    }
+    kept t t.first t.second t.third refl
+    (ap (λ x. x ++ s ∷ []) t.text ∙ append_assoc (head_of d) (brigade_texts 0 d.brigades) (s ∷ []) ∙ ap (λ x. head_of d ++ (brigade_texts 0 d.brigades ++ x ∷ []))
+    (brigade_line d s o h ∙ ap (λ k. line_text (codes "brigade") (own_text k ∷ place_text q ∷ [])) (sym z)) ∙ ap (λ x. head_of d ++ x) (sym (brigade_texts-push 0 d.brigades q)))
+    t.clear
 
 tell_open : (d : Draft) (n : ℕ) (ss : List (List ℕ)) (s : List ℕ) (o : Operands) → Item d s word.Open o → Told part.Brigades d ss → Told part.Open (with_part d part.Open n) (ss ++ s ∷ [])
-tell_open d n ss s o h t = record {
-  a = t.a;
-  b = t.b;
-  c = t.c;
-  first = record { labels = t.first.labels; steps = t.first.steps; lines = t.first.lines };
-  second = t.second;
-  third = t.third;
-  text = ap (λ x. x ++ s ∷ []) t.text ∙ ap (λ x. declared_of d ++ x ∷ []) (open_line d s o h) ∙ ap (λ r. declared_of d ++ (codes "open" ∷ map raw_text r)) (sym t.clear.0);
-  clear = (t.clear.1, t.clear.2);
-  texts_a = t.texts_a;
-  texts_b = t.texts_b;
-  texts_c = t.texts_c;
-}
+unfolding word_kinds word_text
+tell_open d n ss s o h t =
+    kept t (record { labels = t.first.labels; steps = t.first.steps; lines = t.first.lines }) t.second t.third refl
+    (ap (λ x. x ++ s ∷ []) t.text ∙ ap (λ x. declared_of d ++ x ∷ []) (bare_line word.Open d s o refl h) ∙ ap (λ r. declared_of d ++ (codes "open" ∷ map raw_text r)) (sym t.clear.0))
+    (t.clear.1, t.clear.2)
 
 tell_init : (d : Draft) (n : ℕ) (ss : List (List ℕ)) (s : List ℕ) (o : Operands) → Item d s word.Init o → Told part.Open d ss → Told part.Init (with_part d part.Init n) (ss ++ s ∷ [])
-tell_init d n ss s o h t = record {
-  a = t.a;
-  b = t.b;
-  c = t.c;
-  first = t.first;
-  second = record { labels = t.second.labels; steps = t.second.steps; lines = t.second.lines };
-  third = t.third;
-  text = ap (λ x. x ++ s ∷ []) t.text ∙ ap (λ x. opened d t.a ++ x ∷ []) (init_line d s o h) ∙ ap (λ r. opened d t.a ++ (codes "init" ∷ map raw_text r)) (sym t.clear.0);
-  clear = t.clear.1;
-  texts_a = t.texts_a;
-  texts_b = t.texts_b;
-  texts_c = t.texts_c;
-}
+unfolding word_kinds word_text
+tell_init d n ss s o h t =
+    kept t t.first (record { labels = t.second.labels; steps = t.second.steps; lines = t.second.lines }) t.third refl
+    (ap (λ x. x ++ s ∷ []) t.text ∙ ap (λ x. opened d t.a ++ x ∷ []) (bare_line word.Init d s o refl h) ∙ ap (λ r. opened d t.a ++ (codes "init" ∷ map raw_text r)) (sym t.clear.0))
+    t.clear.1
 
 tell_main : (d : Draft) (n : ℕ) (ss : List (List ℕ)) (s : List ℕ) (o : Operands) → Item d s word.Main o → Told part.Init d ss → Told part.Main (with_part d part.Main n) (ss ++ s ∷ [])
-tell_main d n ss s o h t = record {
-  a = t.a;
-  b = t.b;
-  c = t.c;
-  first = t.first;
-  second = t.second;
-  third = record { labels = t.third.labels; steps = t.third.steps; lines = t.third.lines };
-  text = ap (λ x. x ++ s ∷ []) t.text ∙ ap (λ x. begun d t.a t.b ++ x ∷ []) (main_line d s o h) ∙ ap (λ r. begun d t.a t.b ++ (codes "main" ∷ map raw_text r)) (sym t.clear);
-  clear = tt;
-  texts_a = t.texts_a;
-  texts_b = t.texts_b;
-  texts_c = t.texts_c;
-}
+unfolding word_kinds word_text
+tell_main d n ss s o h t =
+    kept t t.first t.second (record { labels = t.third.labels; steps = t.third.steps; lines = t.third.lines }) refl
+    (ap (λ x. x ++ s ∷ []) t.text ∙ ap (λ x. begun d t.a t.b ++ x ∷ []) (bare_line word.Main d s o refl h) ∙ ap (λ r. begun d t.a t.b ++ (codes "main" ∷ map raw_text r)) (sym t.clear))
+    tt
 
 tell_end : (d : Draft) (n : ℕ) (ss : List (List ℕ)) (s : List ℕ) (o : Operands) → Item d s word.End o → Told part.Main d ss → Told part.End (with_part d part.End n) (ss ++ s ∷ [])
-tell_end d n ss s o h t = record {
-  a = t.a;
-  b = t.b;
-  c = t.c;
-  first = t.first;
-  second = t.second;
-  third = t.third;
-  text = ap (λ x. x ++ s ∷ []) t.text ∙ ap (λ x. served d t.a t.b t.c ++ x ∷ []) (end_line d s o h);
-  clear = tt;
-  texts_a = t.texts_a;
-  texts_b = t.texts_b;
-  texts_c = t.texts_c;
-}
+unfolding word_kinds word_text
+tell_end d n ss s o h t =
+    kept t t.first t.second t.third refl (ap (λ x. x ++ s ∷ []) t.text ∙ ap (λ x. served d t.a t.b t.c ++ x ∷ []) (bare_line word.End d s o refl h)) tt
 
 -- a step that is read into the handler of this part, and a label
 abbrev Did : Part → Type 0
@@ -310,102 +244,45 @@ Marks q = (d : Draft) (n : ℕ) (ss : List (List ℕ)) (s name : List ℕ) → T
 
 did_open : Did part.Open
 did_open d us ss s st name w t e same named one =
-    record {
-      a = t.a ++ did st name w ∷ [];
-      b = t.b;
-      c = t.c;
-      first = step_built t.a d.open st name w t.first same named;
-      second = t.second;
-      third = t.third;
-      text = ap (λ x. x ++ s ∷ []) t.text ∙ snoc (declared_of d) (codes "open") s t.a (did st name w) e;
-      clear = t.clear;
-      texts_a = texted-did (d.texts ++ us) t.a st name w (texted-more d.texts us t.a t.texts_a) one;
-      texts_b = texted-more d.texts us t.b t.texts_b;
-      texts_c = texted-more d.texts us t.c t.texts_c;
-    }
+    let more = texted-more d.texts us in
+    telling (t.a ++ did st name w ∷ []) t.b t.c (step_built t.a d.open st name w t.first same named) t.second t.third
+    (ap (λ x. x ++ s ∷ []) t.text ∙ snoc (declared_of d) (codes "open") s t.a (did st name w) e) t.clear
+    (texted-did (d.texts ++ us) t.a st name w (more t.a t.texts_a) one) (more t.b t.texts_b) (more t.c t.texts_c)
 
 marked_open : Marks part.Open
 marked_open d n ss s name t e named =
     let l : Label = record { line = n; name = padded name; place = length d.open.steps } in
-    record {
-      a = t.a ++ marked l name ∷ [];
-      b = t.b;
-      c = t.c;
-      first = label_built t.a d.open n name t.first named;
-      second = t.second;
-      third = t.third;
-      text = ap (λ x. x ++ s ∷ []) t.text ∙ snoc (declared_of d) (codes "open") s t.a (marked l name) e;
-      clear = t.clear;
-      texts_a = texted-marked d.texts t.a l name t.texts_a;
-      texts_b = t.texts_b;
-      texts_c = t.texts_c;
-    }
+    telling (t.a ++ marked l name ∷ []) t.b t.c (label_built t.a d.open n name t.first named) t.second t.third
+    (ap (λ x. x ++ s ∷ []) t.text ∙ snoc (declared_of d) (codes "open") s t.a (marked l name) e) t.clear
+    (texted-marked d.texts t.a l name t.texts_a) t.texts_b t.texts_c
 
 did_init : Did part.Init
 did_init d us ss s st name w t e same named one =
-    record {
-      a = t.a;
-      b = t.b ++ did st name w ∷ [];
-      c = t.c;
-      first = t.first;
-      second = step_built t.b d.init st name w t.second same named;
-      third = t.third;
-      text = ap (λ x. x ++ s ∷ []) t.text ∙ snoc (opened d t.a) (codes "init") s t.b (did st name w) e;
-      clear = t.clear;
-      texts_a = texted-more d.texts us t.a t.texts_a;
-      texts_b = texted-did (d.texts ++ us) t.b st name w (texted-more d.texts us t.b t.texts_b) one;
-      texts_c = texted-more d.texts us t.c t.texts_c;
-    }
+    let more = texted-more d.texts us in
+    telling t.a (t.b ++ did st name w ∷ []) t.c t.first (step_built t.b d.init st name w t.second same named) t.third
+    (ap (λ x. x ++ s ∷ []) t.text ∙ snoc (opened d t.a) (codes "init") s t.b (did st name w) e) t.clear
+    (more t.a t.texts_a) (texted-did (d.texts ++ us) t.b st name w (more t.b t.texts_b) one) (more t.c t.texts_c)
 
 marked_init : Marks part.Init
 marked_init d n ss s name t e named =
     let l : Label = record { line = n; name = padded name; place = length d.init.steps } in
-    record {
-      a = t.a;
-      b = t.b ++ marked l name ∷ [];
-      c = t.c;
-      first = t.first;
-      second = label_built t.b d.init n name t.second named;
-      third = t.third;
-      text = ap (λ x. x ++ s ∷ []) t.text ∙ snoc (opened d t.a) (codes "init") s t.b (marked l name) e;
-      clear = t.clear;
-      texts_a = t.texts_a;
-      texts_b = texted-marked d.texts t.b l name t.texts_b;
-      texts_c = t.texts_c;
-    }
+    telling t.a (t.b ++ marked l name ∷ []) t.c t.first (label_built t.b d.init n name t.second named) t.third
+    (ap (λ x. x ++ s ∷ []) t.text ∙ snoc (opened d t.a) (codes "init") s t.b (marked l name) e) t.clear
+    t.texts_a (texted-marked d.texts t.b l name t.texts_b) t.texts_c
 
 did_main : Did part.Main
 did_main d us ss s st name w t e same named one =
-    record {
-      a = t.a;
-      b = t.b;
-      c = t.c ++ did st name w ∷ [];
-      first = t.first;
-      second = t.second;
-      third = step_built t.c d.main st name w t.third same named;
-      text = ap (λ x. x ++ s ∷ []) t.text ∙ snoc (begun d t.a t.b) (codes "main") s t.c (did st name w) e;
-      clear = tt;
-      texts_a = texted-more d.texts us t.a t.texts_a;
-      texts_b = texted-more d.texts us t.b t.texts_b;
-      texts_c = texted-did (d.texts ++ us) t.c st name w (texted-more d.texts us t.c t.texts_c) one;
-    }
+    let more = texted-more d.texts us in
+    telling t.a t.b (t.c ++ did st name w ∷ []) t.first t.second (step_built t.c d.main st name w t.third same named)
+    (ap (λ x. x ++ s ∷ []) t.text ∙ snoc (begun d t.a t.b) (codes "main") s t.c (did st name w) e) tt
+    (more t.a t.texts_a) (more t.b t.texts_b) (texted-did (d.texts ++ us) t.c st name w (more t.c t.texts_c) one)
 
 marked_main : Marks part.Main
 marked_main d n ss s name t e named =
     let l : Label = record { line = n; name = padded name; place = length d.main.steps } in
-    record {
-      a = t.a;
-      b = t.b;
-      c = t.c ++ marked l name ∷ [];
-      first = t.first;
-      second = t.second;
-      third = label_built t.c d.main n name t.third named;
-      text = ap (λ x. x ++ s ∷ []) t.text ∙ snoc (begun d t.a t.b) (codes "main") s t.c (marked l name) e;
-      clear = tt;
-      texts_a = t.texts_a;
-      texts_b = t.texts_b;
-      texts_c = texted-marked d.texts t.c l name t.texts_c;
-    }
+    telling t.a t.b (t.c ++ marked l name ∷ []) t.first t.second (label_built t.c d.main n name t.third named)
+    (ap (λ x. x ++ s ∷ []) t.text ∙ snoc (begun d t.a t.b) (codes "main") s t.c (marked l name) e) tt
+    t.texts_a t.texts_b (texted-marked d.texts t.c l name t.texts_c)
 
 -- a statement that begins with this word
 abbrev OnWord : Word → Type 0

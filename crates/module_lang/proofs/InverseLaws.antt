@@ -35,7 +35,7 @@ use Rattle.module_lang.proofs.LineLaws.{bind_ok, unless_ok, not_false}
 use Rattle.byte_text.proofs.NumberLaws.{constant_found, decimal_without}
 use Rattle.module_lang.proofs.OperandLaws.{chain, cond_some, numbered_below}
 use Rattle.module_lang.proofs.QuoteLaws.{unquoted, place_unquoted}
-use Rattle.module_lang.proofs.SpellingLaws.{padded}
+use Rattle.module_lang.proofs.SpellingLaws.{name_without, padded}
 
 cut : (n : ℕ) (xs : List ℕ) → take n xs ++ drop n xs ≡ xs
 cut zero xs = refl
@@ -240,15 +240,6 @@ two_taken k l rest o n q m r h =
       second = token_spelled l y.token o.second y.read;
     }
 
-one_unquoted : (b : ℕ) → is_name_byte b ≡ true → eqb b 34 ≡ false
-one_unquoted b h = ne_eqb b 34 (λ e. absurd (cc (sym h ∙ ap is_name_byte e)))
-
-name_unquoted : (n : List ℕ) → list_all is_name_byte n ≡ true → unquoted n ≡ true
-name_unquoted [] h = refl
-name_unquoted (b ∷ bs) h =
-    let a = and_parts (is_name_byte b) (list_all is_name_byte bs) h in
-    rw (one_unquoted b a.0, name_unquoted bs a.1) refl
-
 all_named : (n : List ℕ) → is_name n ≡ true → list_all is_name_byte n ≡ true
 unfolding is_name all_name_bytes
 all_named n h = (and_parts (leb 1 (length n) && leb (length n) 16 && is_letter (slice_index n 0)) (list_all is_name_byte n) h).1
@@ -269,7 +260,7 @@ token_unquoted (operand.Brigade b) t h = rw h (source (eqb b 8))
     source false = let apart : eqb (48 + b) 34 ≡ false = ne_eqb (48 + b) 34 (λ e. omega arith) in rw apart refl
 token_unquoted (operand.Ending status.Success) t h = rw h refl
 token_unquoted (operand.Ending status.Fail) t h = rw h refl
-token_unquoted (operand.Label n) t h = name_unquoted t (all_named t h.0)
+token_unquoted (operand.Label n) t h = name_without 34 refl t (all_named t h.0)
 token_unquoted (operand.Text n) t h = absurd h
 token_unquoted (operand.Value (value.Number i)) t h = rw h.0 (let apart : eqb (48 + i) 34 ≡ false = ne_eqb (48 + i) 34 (λ e. omega arith) in rw apart refl)
 token_unquoted (operand.Value (value.Constant k)) t h = rw h.0 (decimal_without 34 k refl (ltb-true k (2 ^ 32) h.1))

@@ -15,7 +15,6 @@ use Rattle.byte_text.specs.Quoted.{quoted, measure_of}
 use Rattle.module_code.specs.Spelling.{number_operand, operand_of, operands_of, own_pool, variable_operand}
 use Rattle.module_code.specs.Words.{op_kinds}
 use Rattle.module_code.specs.declared.arg.Args.{Args}
-use Rattle.module_code.specs.declared.instr.KindTest.{KindTest}
 use Rattle.module_code.specs.declared.instr.PoolRef.TheVariants as pool
 use Rattle.module_code.specs.declared.instr.Status.TheVariants as status
 use Rattle.module_code.specs.declared.instr.Value.TheVariants as value
@@ -53,99 +52,60 @@ numbered_below letter t i h =
 is_kind : (k : OperandKind) (x o : Operand) → of_kind k x ≡ true → Some x ≡ Some o → of_kind k o ≡ true
 is_kind k x o h e = let s : x ≡ o = cc e in subst (λ y. of_kind k y ≡ true) s h
 
-numbered_pool : (n : Option ℕ) (o : Operand) → ((i : ℕ) → n ≡ Some i → i < 8) → option_map (λ i. operand.Place (pool.Own i)) n ≡ Some o → of_kind kind.Pool o ≡ true
-numbered_pool None o h e = absurd (cc e)
-numbered_pool (Some i) o h e = is_kind kind.Pool (operand.Place (pool.Own i)) o (lt-ltb i 8 (h i refl)) e
+-- an operand that is made of what is found, and of the number of one of eight
+found_kind : {X : Type 0} (k : OperandKind) (make : X → Operand) (n : Option X) (o : Operand) → ((x : X) → n ≡ Some x → of_kind k (make x) ≡ true) → option_map make n ≡ Some o → of_kind k o ≡ true
+found_kind k make None o h e = absurd (cc e)
+found_kind k make (Some x) o h e = is_kind k (make x) o (h x refl) e
 
-numbered_place : (n : Option ℕ) (o : Operand) → option_map (λ i. operand.Place (pool.Own i)) n ≡ Some o → of_kind kind.Place o ≡ true
-numbered_place None o e = absurd (cc e)
-numbered_place (Some i) o e = is_kind kind.Place (operand.Place (pool.Own i)) o refl e
+eighth_kind : (k : OperandKind) (make : ℕ → Operand) (letter : ℕ) (t : List ℕ) (o : Operand) → ((i : ℕ) → i < 8 → of_kind k (make i) ≡ true) → option_map make (numbered letter t) ≡ Some o
+    → of_kind k o ≡ true
+eighth_kind k make letter t o h e = found_kind k make (numbered letter t) o (λ i at. h i (numbered_below letter t i at)) e
 
 place_kind : (a b : Bool) (n : Option ℕ) (o : Operand) → cond a (Some (operand.Place pool.Conn)) (cond b (Some (operand.Place pool.Req)) (option_map (λ i. operand.Place (pool.Own i)) n)) ≡ Some o
     → of_kind kind.Place o ≡ true
 place_kind true b n o e = is_kind kind.Place (operand.Place pool.Conn) o refl e
 place_kind false true n o e = is_kind kind.Place (operand.Place pool.Req) o refl e
-place_kind false false n o e = numbered_place n o e
-
-numbered_brigade : (n : Option ℕ) (o : Operand) → ((i : ℕ) → n ≡ Some i → i < 8) → option_map (λ i. operand.Brigade i) n ≡ Some o → of_kind kind.Brigade o ≡ true
-numbered_brigade None o h e = absurd (cc e)
-numbered_brigade (Some i) o h e = is_kind kind.Brigade (operand.Brigade i) o (lt-ltb i 8 (h i refl)) e
-
-numbered_source : (n : Option ℕ) (o : Operand) → option_map (λ i. operand.Brigade i) n ≡ Some o → of_kind kind.Source o ≡ true
-numbered_source None o e = absurd (cc e)
-numbered_source (Some i) o e = is_kind kind.Source (operand.Brigade i) o refl e
+place_kind false false n o e = found_kind kind.Place (λ i. operand.Place (pool.Own i)) n o (λ i at. refl) e
 
 source_kind : (a : Bool) (n : Option ℕ) (o : Operand) → cond a (Some (operand.Brigade 8)) (option_map (λ i. operand.Brigade i) n) ≡ Some o → of_kind kind.Source o ≡ true
 source_kind true n o e = is_kind kind.Source (operand.Brigade 8) o refl e
-source_kind false n o e = numbered_source n o e
+source_kind false n o e = found_kind kind.Source (λ i. operand.Brigade i) n o (λ i at. refl) e
 
 ending_kind : (a b : Bool) (o : Operand) → cond a (Some (operand.Ending status.Success)) (cond b (Some (operand.Ending status.Fail)) None) ≡ Some o → of_kind kind.Ending o ≡ true
 ending_kind true b o e = is_kind kind.Ending (operand.Ending status.Success) o refl e
 ending_kind false true o e = is_kind kind.Ending (operand.Ending status.Fail) o refl e
 ending_kind false false o e = absurd (cc e)
 
-label_kind : (n : Option (List ℕ)) (o : Operand) → option_map (λ n. operand.Label n) n ≡ Some o → of_kind kind.Label o ≡ true
-label_kind None o e = absurd (cc e)
-label_kind (Some n) o e = is_kind kind.Label (operand.Label n) o refl e
-
 one_kind : (a : Bool) (o : Operand) → cond a (Some operand.One) None ≡ Some o → of_kind kind.One o ≡ true
 one_kind true o e = is_kind kind.One operand.One o refl e
 one_kind false o e = absurd (cc e)
 
-number_variable : (n : Option ℕ) (o : Operand) → ((i : ℕ) → n ≡ Some i → i < 8) → option_map (λ i. operand.Place (pool.Own i)) n ≡ Some o → of_kind kind.Variable o ≡ true
-number_variable None o h e = absurd (cc e)
-number_variable (Some i) o h e = is_kind kind.Variable (operand.Place (pool.Own i)) o (lt-ltb i 8 (h i refl)) e
-
-brigade_variable : (n : Option ℕ) (o : Operand) → ((i : ℕ) → n ≡ Some i → i < 8) → option_map (λ i. operand.Brigade i) n ≡ Some o → of_kind kind.Variable o ≡ true
-brigade_variable None o h e = absurd (cc e)
-brigade_variable (Some i) o h e = is_kind kind.Variable (operand.Brigade i) o (lt-ltb i 8 (h i refl)) e
-
 variable_kind : (a : Bool) (t : List ℕ) (o : Operand) → cond a (option_map (λ i. operand.Place (pool.Own i)) (numbered 112 t)) (option_map (λ i. operand.Brigade i) (numbered 98 t)) ≡ Some o
     → of_kind kind.Variable o ≡ true
-variable_kind true t o e = number_variable (numbered 112 t) o (numbered_below 112 t) e
-variable_kind false t o e = brigade_variable (numbered 98 t) o (numbered_below 98 t) e
-
-number_kind : (n : Option ℕ) (o : Operand) → ((i : ℕ) → n ≡ Some i → i < 8) → option_map (λ i. operand.Value (value.Number i)) n ≡ Some o → of_kind kind.Number o ≡ true
-number_kind None o h e = absurd (cc e)
-number_kind (Some i) o h e = is_kind kind.Number (operand.Value (value.Number i)) o (lt-ltb i 8 (h i refl)) e
-
-number_value : (n : Option ℕ) (o : Operand) → ((i : ℕ) → n ≡ Some i → i < 8) → option_map (λ i. operand.Value (value.Number i)) n ≡ Some o → of_kind kind.Value o ≡ true
-number_value None o h e = absurd (cc e)
-number_value (Some i) o h e = is_kind kind.Value (operand.Value (value.Number i)) o (lt-ltb i 8 (h i refl)) e
-
-constant_value : (n : Option ℕ) (o : Operand) → ((k : ℕ) → n ≡ Some k → k < 2 ^ 32) → option_map (λ k. operand.Value (value.Constant k)) n ≡ Some o → of_kind kind.Value o ≡ true
-constant_value None o h e = absurd (cc e)
-constant_value (Some k) o h e = is_kind kind.Value (operand.Value (value.Constant k)) o (lt-ltb k (2 ^ 32) (h k refl)) e
+variable_kind true t o e = eighth_kind kind.Variable (λ i. operand.Place (pool.Own i)) 112 t o (λ i low. lt-ltb i 8 low) e
+variable_kind false t o e = eighth_kind kind.Variable (λ i. operand.Brigade i) 98 t o (λ i low. lt-ltb i 8 low) e
 
 value_kind : (a : Bool) (t : List ℕ) (o : Operand)
     → cond a (option_map (λ i. operand.Value (value.Number i)) (numbered 110 t)) (option_map (λ k. operand.Value (value.Constant k)) (constant_of t)) ≡ Some o → of_kind kind.Value o ≡ true
-value_kind true t o e = number_value (numbered 110 t) o (numbered_below 110 t) e
-value_kind false t o e = constant_value (constant_of t) o (λ k h. (constant_found t k h).1) e
-
-cursor_kind : (n : Option ℕ) (o : Operand) → ((i : ℕ) → n ≡ Some i → i < 8) → option_map (λ i. operand.Cursor i) n ≡ Some o → of_kind kind.Cursor o ≡ true
-cursor_kind None o h e = absurd (cc e)
-cursor_kind (Some i) o h e = is_kind kind.Cursor (operand.Cursor i) o (lt-ltb i 8 (h i refl)) e
-
-kind_test_kind : (r : Option KindTest) (o : Operand) → option_map (λ k. operand.KindTest k) r ≡ Some o → of_kind kind.KindTest o ≡ true
-kind_test_kind None o e = absurd (cc e)
-kind_test_kind (Some k) o e = is_kind kind.KindTest (operand.KindTest k) o refl e
+value_kind true t o e = eighth_kind kind.Value (λ i. operand.Value (value.Number i)) 110 t o (λ i low. lt-ltb i 8 low) e
+value_kind false t o e = found_kind kind.Value (λ k. operand.Value (value.Constant k)) (constant_of t) o (λ k at. lt-ltb k (2 ^ 32) (constant_found t k at).1) e
 
 pub token_kind : (k : OperandKind) (t : List ℕ) (o : Operand) → operand_in k t ≡ Some o → of_kind k o ≡ true
 unfolding operand_in
 token_kind kind.Nothing t o e = absurd (cc e)
 token_kind kind.One t o e = one_kind (pointwise nat_eq t (codes "1")) o e
 token_kind kind.Place t o e = place_kind (pointwise nat_eq t (codes "conn")) (pointwise nat_eq t (codes "req")) (numbered 112 t) o e
-token_kind kind.Pool t o e = numbered_pool (numbered 112 t) o (numbered_below 112 t) e
-token_kind kind.Brigade t o e = numbered_brigade (numbered 98 t) o (numbered_below 98 t) e
+token_kind kind.Pool t o e = eighth_kind kind.Pool (λ i. operand.Place (pool.Own i)) 112 t o (λ i low. lt-ltb i 8 low) e
+token_kind kind.Brigade t o e = eighth_kind kind.Brigade (λ i. operand.Brigade i) 98 t o (λ i low. lt-ltb i 8 low) e
 token_kind kind.Source t o e = source_kind (pointwise nat_eq t (codes "in")) (numbered 98 t) o e
 token_kind kind.Ending t o e = ending_kind (pointwise nat_eq t (codes "ok")) (pointwise nat_eq t (codes "fail")) o e
-token_kind kind.Label t o e = label_kind (name_of t) o e
+token_kind kind.Label t o e = found_kind kind.Label (λ n. operand.Label n) (name_of t) o (λ n at. refl) e
 token_kind kind.Text t o e = absurd (cc e)
 token_kind kind.Variable t o e = variable_kind (begins 112 t) t o e
-token_kind kind.Number t o e = number_kind (numbered 110 t) o (numbered_below 110 t) e
+token_kind kind.Number t o e = eighth_kind kind.Number (λ i. operand.Value (value.Number i)) 110 t o (λ i low. lt-ltb i 8 low) e
 token_kind kind.Value t o e = value_kind (begins 110 t) t o e
-token_kind kind.Cursor t o e = cursor_kind (numbered 99 t) o (numbered_below 99 t) e
-token_kind kind.KindTest t o e = kind_test_kind (kind_test_at t) o e
+token_kind kind.Cursor t o e = eighth_kind kind.Cursor (λ i. operand.Cursor i) 99 t o (λ i low. lt-ltb i 8 low) e
+token_kind kind.KindTest t o e = found_kind kind.KindTest (λ k. operand.KindTest k) (kind_test_at t) o (λ k at. refl) e
 
 wrong_or : (k : OperandKind) (t : List ℕ) (r : Option Operand) (o : Operand) → operand_in k t ≡ r → or_wrong r ≡ Ok o → of_kind k o ≡ true
 wrong_or k t None o q e = absurd (cc e)

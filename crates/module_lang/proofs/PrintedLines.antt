@@ -1,6 +1,6 @@
 -- The lines of a printed module: each says something and begins with no space, and together they are short.
 use Rattle.std.proofs.Common.{◌≡◌, ℕ, ◌+◌, ◌*◌, ◌%◌, ◌^◌, ◌||◌, ltb, ◌<◌, ◌≤◌, Bool, true, false, cond, eqb, List, [], ◌∷◌, ◌++◌, length, map, Option, Some, None, refl, sym, ◌∙◌, ap, subst, arith}
-use Rattle.std.proofs.Common.{length-append}
+use Rattle.std.proofs.Common.{length-append, suc}
 use Rattle.std.specs.Prelude.{All, IfSome, codes, filter_map}
 use Rattle.std.specs.List.{cons_option, list_all}
 use Rattle.std.proofs.lemmas.Bool.{ne_eqb, ltb-true}
@@ -268,22 +268,22 @@ declared_line w os ls n h low few s r =
     let one = length-append (line_text w os) (10 ∷ joined ls) in
     ((line_plain w os 0 h x, r.0), omega (arith, one, size, r.1))
 
+-- the line of one declaration, in front of those of others
+declared_plain : (w own : List ℕ) (q : PoolRef) (ls : List (List ℕ)) (n : ℕ) → IsPlain w → length w ≤ 10 → (list_all is_printable own ≡ true) × (length own ≤ 8)
+    → place_is_declared 8 q ≡ true → IsFew (56 * n) ls → IsFew (56 * suc n) (line_text w (own ∷ place_text q ∷ []) ∷ ls)
+declared_plain w own q ls n h low shown home rest =
+    let place = place_shown 8 q (omega arith) home in
+    let x = declared_line w (own ∷ place_text q ∷ []) ls (56 * n) h low (omega arith) (shown.0, omega (arith, shown.1), (place.0, omega (arith, place.1), tt)) rest in
+    (x.0, omega (arith, x.1))
+
 pub pools_plain : (k : ℕ) (ps : List PoolRef) → k + length ps ≤ 8 → All (λ q. place_is_declared 8 q ≡ true) ps → IsFew (56 * length ps) (pool_texts k ps)
 pools_plain k [] few h = (tt, omega arith)
 pools_plain k (q ∷ qs) few h =
-    let own = own_pool_shown k (omega arith) in
-    let place = place_shown 8 q (omega arith) (all_head (λ q. place_is_declared 8 q ≡ true) q qs h) in
-    let rest = pools_plain (k + 1) qs (omega arith) (all_tail (λ q. place_is_declared 8 q ≡ true) q qs h) in
-    let x = declared_line (codes "pool") (place_text (pool.Own k) ∷ place_text q ∷ []) (pool_texts (k + 1) qs) (56 * length qs) (refl, refl, refl) (omega arith) (omega arith)
-    (own.0, omega (arith, own.1), (place.0, omega (arith, place.1), tt)) rest in
-    (x.0, omega (arith, x.1))
+    declared_plain (codes "pool") (place_text (pool.Own k)) q (pool_texts (k + 1) qs) (length qs) (refl, refl, refl) (omega arith) (own_pool_shown k (omega arith))
+    (all_head (λ q. place_is_declared 8 q ≡ true) q qs h) (pools_plain (k + 1) qs (omega arith) (all_tail (λ q. place_is_declared 8 q ≡ true) q qs h))
 
 pub brigades_plain : (k : ℕ) (ps : List PoolRef) → k + length ps ≤ 8 → All (λ q. place_is_declared 8 q ≡ true) ps → IsFew (56 * length ps) (brigade_texts k ps)
 brigades_plain k [] few h = (tt, omega arith)
 brigades_plain k (q ∷ qs) few h =
-    let own = own_shown k (omega arith) in
-    let place = place_shown 8 q (omega arith) (all_head (λ q. place_is_declared 8 q ≡ true) q qs h) in
-    let rest = brigades_plain (k + 1) qs (omega arith) (all_tail (λ q. place_is_declared 8 q ≡ true) q qs h) in
-    let x = declared_line (codes "brigade") (own_text k ∷ place_text q ∷ []) (brigade_texts (k + 1) qs) (56 * length qs) (refl, refl, refl) (omega arith) (omega arith)
-    (own.0, omega (arith, own.1), (place.0, omega (arith, place.1), tt)) rest in
-    (x.0, omega (arith, x.1))
+    declared_plain (codes "brigade") (own_text k) q (brigade_texts (k + 1) qs) (length qs) (refl, refl, refl) (omega arith) (own_shown k (omega arith))
+    (all_head (λ q. place_is_declared 8 q ≡ true) q qs h) (brigades_plain (k + 1) qs (omega arith) (all_tail (λ q. place_is_declared 8 q ≡ true) q qs h))

@@ -162,18 +162,17 @@ ending_operand status.Fail = record { some = refl; bare = refl; read = refl; pla
 abbrev pub padded : List ℕ → List ℕ
 padded n = n ++ replicate (16 - length n) 0
 
-letter_plain : (b : ℕ) → is_name_byte b ≡ true → eqb b 32 ≡ false
-letter_plain b h = ne_eqb b 32 (λ e. absurd (cc (sym h ∙ ap is_name_byte e)))
-
-names_plain : (n : List ℕ) → list_all is_name_byte n ≡ true → unspaced n ≡ true
-names_plain [] h = refl
-names_plain (b ∷ bs) h =
+-- a byte that no name has
+pub name_without : (x : ℕ) → is_name_byte x ≡ false → (n : List ℕ) → list_all is_name_byte n ≡ true → list_all (λ b. not (eqb b x)) n ≡ true
+name_without x never [] h = refl
+name_without x never (b ∷ bs) h =
     let a = and_parts (is_name_byte b) (list_all is_name_byte bs) h in
-    rw (letter_plain b a.0, names_plain bs a.1) refl
+    let other : eqb b x ≡ false = ne_eqb b x (λ e. absurd (cc (sym a.0 ∙ ap is_name_byte e ∙ never))) in
+    rw (other, name_without x never bs a.1) refl
 
 pub name_plain : (n : List ℕ) → is_name n ≡ true → unspaced n ≡ true
 unfolding is_name all_name_bytes
-name_plain n h = names_plain n (and_parts (leb 1 (length n) && leb (length n) 16 && is_letter (slice_index n 0)) (list_all is_name_byte n) h).1
+name_plain n h = name_without 32 refl n (and_parts (leb 1 (length n) && leb (length n) 16 && is_letter (slice_index n 0)) (list_all is_name_byte n) h).1
 
 pub name_again : (n : List ℕ) → is_name n ≡ true → name_of n ≡ Some (padded n)
 unfolding name_of

@@ -11,3 +11,4 @@ pub mod Operands
 pub mod Printing
 pub mod Shown
 pub mod Texts
+pub mod Prelude

@@ -124,12 +124,10 @@ operand_place (operand.Place p) = p
 operand_place _ = pool.Conn
 
 abbrev pub operand_kind_is_nothing : OperandKind → Bool
-operand_kind_is_nothing kind.Nothing = true
-operand_kind_is_nothing _ = false
+operand_kind_is_nothing k = of_kind k operand.Nothing
 
 abbrev pub operand_kind_is_text : OperandKind → Bool
-operand_kind_is_text kind.Text = true
-operand_kind_is_text _ = false
+operand_kind_is_text k = of_kind k (operand.Text 0)
 
 abbrev pub text_measured : Option Measured → Result Operand Code
 text_measured None = Err code.FaultyText

@@ -1,13 +1,7 @@
 //! Modules from their texts.
 
 ghost use Rattle.std.specs.Prelude.{◌≡◌, ◌≢◌, ◌≤◌, [], Ok, Err, Result, IfErr, IfOk, length};
-ghost use Rattle.module_lang.specs.Assembling.{is_end, lines_read, lines_ended, draft_read, program_of, assembling};
-ghost use Rattle.module_lang.specs.Codes.{Gives};
-ghost use Rattle.module_lang.specs.Drafts.{empty_draft};
-ghost use Rattle.module_lang.specs.Entries.{IsDraft};
-ghost use Rattle.module_lang.specs.FirstFault.{IsReadAs};
-ghost use Rattle.module_lang.specs.Printing.{printed};
-ghost use Rattle.module_code.specs.Program.{IsModule, Program, program};
+ghost use Rattle.module_lang.specs.Prelude.{is_end, lines_read, lines_ended, draft_read, program_of, assembling, Gives, empty_draft, IsDraft, IsReadAs, printed, IsModule, Program, program};
 ghost use Rattle.module_lang.specs.declared.refusal.AsmRefusal.TheVariants.{NoMemory};
 
 use crate::draft::Draft;

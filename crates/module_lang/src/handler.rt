@@ -5,10 +5,8 @@ ghost use Rattle.std.specs.BTreeMap.{get};
 ghost use Rattle.std.specs.Cmp.Lexicographic.{slice_cmp};
 ghost use Rattle.std.specs.Ordering.{nat_cmp};
 ghost use Rattle.module_lang.specs.declared.draft.Label.{Label};
-ghost use Rattle.module_lang.specs.Codes.{Tells};
-ghost use Rattle.module_lang.specs.Handlers.{IsPlaces, IsSeen, label_fault, operand_label, label_of, is_lost, jump_fault, ends_open, sooner, place_of};
-ghost use Rattle.module_lang.specs.Handlers.{handler_fault, operand_index, operand_kind_test, operand_status, operand_variable, operand_value, arg_in, args_in};
-ghost use Rattle.module_lang.specs.Handlers.{instr_of, target_place, step_code, handler_resolved, HasPlacesBelow};
+ghost use Rattle.module_lang.specs.Prelude.{Tells, IsPlaces, IsSeen, label_fault, operand_label, label_of, is_lost, jump_fault, ends_open, sooner, place_of, handler_fault, operand_index};
+ghost use Rattle.module_lang.specs.Prelude.{operand_kind_test, operand_status, operand_variable, operand_value, arg_in, args_in, instr_of, target_place, step_code, handler_resolved, HasPlacesBelow};
 
 use crate::draft::{DraftStep, HandlerLines, Label};
 use crate::operand::operand_place;

@@ -1,11 +1,9 @@
 //! What a line says, and whether it may say so there.
 
 ghost use Rattle.std.specs.Prelude.{◌≡◌, ◌≤◌, ◌+◌, length, not, slice_index_or, Ok};
-ghost use Rattle.module_lang.specs.Codes.{unless};
-ghost use Rattle.module_lang.specs.Lines.{is_due, is_handler, is_main, is_open, known_word, same_brigade, has_equal_brigades, is_long_text, has_long_text};
-ghost use Rattle.module_lang.specs.Lines.{is_text_operand, has_text, place_is_declared, is_declared, are_declared, under_req, is_main_only, has_main_only};
-ghost use Rattle.module_lang.specs.Lines.{touches_req, any_touches_req, is_misplaced, instruction_count, has_room, is_next, declaration_judged, op_judged};
-ghost use Rattle.module_lang.specs.Lines.{judged, label_read, item_read, line_read};
+ghost use Rattle.module_lang.specs.Prelude.{unless, is_due, is_handler, is_main, is_open, known_word, same_brigade, has_equal_brigades, is_long_text, has_long_text, is_text_operand, has_text};
+ghost use Rattle.module_lang.specs.Prelude.{place_is_declared, is_declared, are_declared, under_req, is_main_only, has_main_only, touches_req, any_touches_req, is_misplaced, instruction_count};
+ghost use Rattle.module_lang.specs.Prelude.{has_room, is_next, declaration_judged, op_judged, judged, label_read, item_read, line_read};
 
 use crate::draft::Draft;
 use crate::operand::operands_at;

@@ -1,10 +1,8 @@
 //! The operands of a line.
 
 ghost use Rattle.std.specs.Prelude.{◌≡◌, ◌<◌, ◌≤◌, length, IsTrue};
-ghost use Rattle.byte_text.specs.Bytes.{begins, tail};
-ghost use Rattle.module_lang.specs.Operands.{numbered, is_one, place_in, pool_in, brigade_in, source_in, ending_in, label_in, variable_in, number_in};
-ghost use Rattle.module_lang.specs.Operands.{constant_in, value_in, cursor_in, kind_test_at, kind_test_in, operand_place, operand_in, text_operand, operand_at};
-ghost use Rattle.module_lang.specs.Operands.{after_text, after_operand, operands_at, operand_kind_is_nothing, operand_kind_is_text};
+ghost use Rattle.module_lang.specs.Prelude.{begins, tail, numbered, is_one, place_in, pool_in, brigade_in, source_in, ending_in, label_in, variable_in, number_in, constant_in, value_in, cursor_in};
+ghost use Rattle.module_lang.specs.Prelude.{kind_test_at, kind_test_in, operand_place, operand_in, text_operand, operand_at, after_text, after_operand, operands_at};
 
 use crate::refusal::Code;
 use byte_text::{after_token, begins, constant_of, is_text, measure, tail, token};
@@ -176,18 +174,6 @@ pub fn operand_place(operand: Operand) -> PoolRef
     }
 }
 
-fn is_nothing(kind: OperandKind) -> bool
-    ensures { result ≡ operand_kind_is_nothing kind }
-{
-    matches!(kind, OperandKind::Nothing)
-}
-
-fn is_quoted(kind: OperandKind) -> bool
-    ensures { result ≡ operand_kind_is_text kind }
-{
-    matches!(kind, OperandKind::Text)
-}
-
 fn text_operand(bytes: &[u8]) -> Result<Operand, Code>
     ensures { result ≡ text_operand bytes.now }
 {
@@ -205,13 +191,13 @@ fn text_operand(bytes: &[u8]) -> Result<Operand, Code>
 fn operand_at(kind: OperandKind, rest: &[u8]) -> Result<Operand, Code>
     ensures { result ≡ operand_at kind rest.now }
 {
-    if is_nothing(kind) {
+    if matches!(kind, OperandKind::Nothing) {
         return Ok(Operand::Nothing);
     }
     if !begins(rest, b' ') {
         return Err(Code::WrongOperands);
     }
-    if is_quoted(kind) {
+    if matches!(kind, OperandKind::Text) {
         return text_operand(tail(rest));
     }
     match operand_in(kind, token(tail(rest))) {
@@ -234,13 +220,11 @@ fn after_text(bytes: &[u8]) -> &[u8]
 fn after_operand(kind: OperandKind, rest: &[u8]) -> &[u8]
     ensures { result.now ≡ after_operand kind rest.now }
 {
-    if is_nothing(kind) {
-        return rest;
+    match kind {
+        OperandKind::Nothing => rest,
+        OperandKind::Text => after_text(tail(rest)),
+        _ => after_token(tail(rest)),
     }
-    if is_quoted(kind) {
-        return after_text(tail(rest));
-    }
-    after_token(tail(rest))
 }
 
 /// The operands that follow a word. They are wrong where one is not of its kind, where no single space stands before

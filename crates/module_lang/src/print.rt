@@ -1,16 +1,9 @@
 //! Modules as texts.
 
 ghost use Rattle.std.specs.Prelude.{◌≡◌, ℕ, ◌<◌, ◌≤◌, ◌∷◌, ◌++◌, [], Some, true, All, List, decimal, length, map, slice_get, is_some};
-ghost use Rattle.module_lang.specs.Lines.{place_is_declared};
-ghost use Rattle.module_code.specs.Args.{is_value};
-ghost use Rattle.module_lang.specs.Printing.{is_number, label_line, is_target, printed, target_name};
-ghost use Rattle.module_code.specs.Program.{IsModule, fits, target};
-ghost use Rattle.byte_text.specs.Quoted.{spelling};
-ghost use Rattle.module_lang.specs.Shown.{shown_arg, shown_args, AreShort, HasDigit, IsShortArg, shown_line, shown_step, shown_code, shown_declarations, shown_handler};
-ghost use Rattle.module_lang.specs.Texts.{brigade_text, brigade_texts, code_text, cursor_text, joined, operands_text, own_text, place_text, pool_texts};
-ghost use Rattle.module_lang.specs.Texts.{status_text, value_text, variable_text, IsTextOf};
-ghost use Rattle.module_code.specs.Words.{kind_test_text};
-ghost use Rattle.byte_text.specs.Writes.{Wrote};
+ghost use Rattle.module_lang.specs.Prelude.{place_is_declared, is_value, is_number, label_line, is_target, printed, target_name, IsModule, fits, target, spelling, shown_arg, shown_args, AreShort};
+ghost use Rattle.module_lang.specs.Prelude.{HasDigit, IsShortArg, shown_line, shown_step, shown_code, shown_declarations, shown_handler, brigade_text, brigade_texts, code_text, cursor_text, joined};
+ghost use Rattle.module_lang.specs.Prelude.{operands_text, own_text, place_text, pool_texts, status_text, value_text, variable_text, IsTextOf, kind_test_text, Wrote};
 
 use byte_text::{WriteFault, print_text, put_all};
 use itoa::Buffer;

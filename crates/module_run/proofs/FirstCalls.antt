@@ -28,7 +28,7 @@ use Rattle.module_run.specs.declared.conn.Conn.{Conn}
 use Rattle.module_run.specs.declared.conn.Filter.{Filter}
 use Rattle.ring_calls.specs.declared.machine.Instance.{Instance}
 use Rattle.module_run.specs.CalledFirst.{CalledFirst, Starts}
-use Rattle.module_run.specs.Conns.{call_name, conn_of, counting, filter_at, labels_handed, lengths, lent_by, runs_of, shown_call, shown_filter, shown_frame, shown_instance, stack_of, stack_up, top_of}
+use Rattle.module_run.specs.Conns.{call_name, conn_of, counting, filter_at, lent_by, runs_of, shown_call, shown_filter, shown_frame, shown_instance, stack_of, stack_up, top_of}
 use Rattle.module_run.specs.Conns.{waiting}
 use Rattle.ring_calls.specs.Seen.{is_running, shown, shown_cursor, shown_slot}
 use Rattle.ring_calls.specs.Slots.{cursor_at, slot_at}
@@ -104,6 +104,27 @@ module _ {R : Type 0} {g : Ghosts R Stored} (chain : List Program) (store : Brig
       ap (λ (o : Option Filter). is_running (call_name o) c.waits.items) top.1
       ∙ (ap (λ (n : ℕ). is_running n c.waits.items) (no_call (top_of c) top.0 top.1) ∙ ap (is_running 0) none_waits)
 
+-- Where none waits, the first filter's call is the only one.
+module _ (d : Conn) (waits : d.waits.items ≡ []) (first : d.first ≡ 0) where
+  pub none_waiting : waiting d ≡ 0
+  none_waiting = ap (λ (xs : List ℕ). length xs) waits
+
+  pub top_is : top_of d ≡ 0
+  top_is = (let b = none_waiting in omega (arith, first, b))
+
+  pub runs_first : (f : Filter) (n : ℕ) → filter_at d 0 ≡ Some f → f.call.name ≡ n → runs_of d ≡ is_running n []
+  runs_first f n at named =
+      ap (λ (k : ℕ). is_running (call_name (filter_at d k)) d.waits.items) top_is
+      ∙ (ap (λ (o : Option Filter). is_running (call_name o) d.waits.items) at
+      ∙ (ap (λ (m : ℕ). is_running m d.waits.items) named ∙ ap (is_running n) waits))
+
+  pub stack_first : (L : ℕ → Option Items) (f : Frame) → d.busy ≡ true → shown_frame (runs_of d) L 0 (filter_at d 0) ≡ f → stack_of L d ≡ f ∷ []
+  unfolding stack_up
+  stack_first L f busy at =
+      ap (λ (b : Bool). if b then stack_up (frame_at L d) d.first (suc (waiting d)) else []) busy
+      ∙ (ap (λ (k : ℕ). stack_up (frame_at L d) k (suc (waiting d))) first
+      ∙ (ap (λ (n : ℕ). stack_up (frame_at L d) 0 (suc n)) none_waiting ∙ ap (λ (x : Frame). x ∷ []) at))
+
 -- The call of the first filter begins, in a request or in none.
 module _ {R : Type 0} {g : Ghosts R Stored} (chain : List Program) (old new : Brigades R g) (c d : Conn) (r : Option ℕ) (stacked : IsStacked chain old c) (idle : c.busy ≡ false)
     (begins : CalledFirst chain (next_name old) (record c { req = r }) d) (over : (n : ℕ) → lists new n ≡ ring.upd (lists old) (next_name old) (Some []) n) where
@@ -136,17 +157,8 @@ module _ {R : Type 0} {g : Ghosts R Stored} (chain : List Program) (old new : Br
   pub first_is : d.first ≡ 0
   first_is = ap (λ (x : Conn). x.first) begins.rest
 
-  pub none_waiting : waiting d ≡ 0
-  none_waiting = ap (λ (xs : List ℕ). length xs) waits_are
-
-  pub top_is : top_of d ≡ 0
-  top_is = (let a = first_is in let b = none_waiting in omega (arith, a, b))
-
   pub runs_now : runs_of d ≡ is_running (next_name old) []
-  runs_now =
-      ap (λ (k : ℕ). is_running (call_name (filter_at d k)) d.waits.items) top_is
-      ∙ (ap (λ (o : Option Filter). is_running (call_name o) d.waits.items) after_is
-      ∙ (ap (λ (n : ℕ). is_running n d.waits.items) starts.named ∙ ap (is_running (next_name old)) waits_are))
+  runs_now = runs_first d waits_are first_is after (next_name old) after_is starts.named
 
   slot_as : (k : ℕ) (f : Filter) → filter_at c k ≡ Some f → (b : ℕ)
       → shown_slot (is_running (next_name old) []) (lists new) (slot_at f.instance b) ≡ shown_slot (is_running 0 []) (lists old) (slot_at f.instance b)
@@ -203,12 +215,7 @@ module _ {R : Type 0} {g : Ghosts R Stored} (chain : List Program) (old new : Br
         frame x pc = record { of = 0; call = x; pc = pc }
 
   stack_as : stack_of (lists new) d ≡ (record { of = 0; call = fresh_call (next_name old); pc = handler_at r (module_at chain 0) }) ∷ []
-  unfolding stack_up
-  stack_as =
-      ap (λ (b : Bool). if b then stack_up (frame_at (lists new) d) d.first (suc (waiting d)) else []) (ap (λ (x : Conn). x.busy) begins.rest)
-      ∙ (ap (λ (k : ℕ). stack_up (frame_at (lists new) d) k (suc (waiting d))) first_is
-      ∙ (ap (λ (n : ℕ). stack_up (frame_at (lists new) d) 0 (suc n)) none_waiting
-      ∙ ap (λ (f : Frame). f ∷ []) (frame_as (runs_of d))))
+  stack_as = stack_first d waits_are first_is (lists new) _ (ap (λ (x : Conn). x.busy) begins.rest) (frame_as (runs_of d))
 
   queue_as : counting d.queue (length d.filters.items - d.queue) ≡ tail_of (numbers_below (length chain))
   queue_as =
@@ -229,21 +236,7 @@ module _ {R : Type 0} {g : Ghosts R Stored} (chain : List Program) (old new : Br
         top n = record { of = 0; call = fresh_call n; pc = handler_at r (module_at chain 0) }
 
         view : Conn → (ℕ → model.Instance) → List Frame → List ℕ → Connection
-        view x i s q = record {
-          instances = i;
-          stack = s;
-          queue = q;
-          path = ps.path;
-          payloads = ps.payloads;
-          conn = x.conn;
-          req = x.req;
-          labels = labels_handed x.labels.items;
-          opened = opened;
-          files = lengths x.files.items;
-          out = record { bytes = x.out; ended = x.ended };
-          count = x.count;
-          broken = x.broken;
-        }
+        view x i s q = record (conn_of ps (lists new) opened x) { instances = i; stack = s; queue = q }
 
   -- The filter that was there, of one that is there now.
   pub record Was (k : ℕ) (f : Filter) : Type 0 where

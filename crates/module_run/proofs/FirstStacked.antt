@@ -1,8 +1,7 @@
 -- The call of the first filter begins, where no call runs: what is true of the filters and calls.
-use Rattle.std.proofs.Common.{◌≡◌, ◌≢◌, ℕ, zero, suc, ◌+◌, ◌<◌, ◌&&◌, nat_le, Bool, true, false, List, [], length, Option, Some, None, is_some, refl, sym, ap, subst, ◌∙◌, inl, inr, arith}
+use Rattle.std.proofs.Common.{◌≡◌, ◌≢◌, ℕ, zero, suc, ◌+◌, ◌<◌, ◌≤◌, ◌&&◌, nat_le, Bool, true, false, List, [], length, Option, Some, None, is_some, refl, sym, ap, subst, ◌∙◌, inl, inr, arith}
 use Rattle.std.proofs.lemmas.Bool.{le-leb, leb-true}
 use Rattle.bucket_kinds.specs.Device.{Device}
-use Rattle.bucket_ring.specs.declared.names.BucketId.{BucketId}
 use Rattle.bucket_ring.specs.declared.rings.Rings.{Ghosts}
 use Rattle.bucket_ring.specs.Kept.{NoneRevived}
 use Rattle.bucket_ring.specs.Lists as ring
@@ -25,7 +24,7 @@ use Rattle.ring_calls.specs.declared.machine.Call.{Call}
 use Rattle.ring_calls.specs.declared.machine.Instance.{Instance}
 use Rattle.module_run.specs.CalledFirst.{CalledFirst, Starts}
 use Rattle.module_run.specs.Conns.{conn_of, filter_at, top_of, waiting}
-use Rattle.ring_calls.specs.Held.{IsHeld, WasGiven}
+use Rattle.ring_calls.specs.Held.{IsHeld}
 use Rattle.module_run.specs.Proceeding.{LeftAs}
 use Rattle.ring_calls.specs.Slots.{slot_at, name_in}
 use Rattle.module_run.specs.Stacked.{FiltersApart, AreCalled, IsStacked, is_called, is_waiting, named_at, names_up}
@@ -33,6 +32,7 @@ use Rattle.ring_passes.proofs.Begins.{held_begun}
 use Rattle.ring_calls.proofs.Changes.{ring_off}
 use Rattle.module_run.proofs.FirstCalls.{Was, was, others_stay, waits_are, first_is, none_waiting, top_is, starts, before, before_is, after, after_is, conn_called, no_call, nothing_in, not_lent}
 use Rattle.module_run.proofs.FirstCalls.{none_between, no_lent, true_false}
+use Rattle.module_run.proofs.HeldStays.{held_stays}
 use Rattle.module_run.proofs.Looked.{some_same}
 
 pub no_names : (c : Conn) (k n : ℕ) → n ≡ 0 → names_up c k n ≡ []
@@ -43,30 +43,13 @@ no_names c k (suc n) e = absurd (omega (arith, e))
 less : (a b : ℕ) → a < b → a ≢ b
 less a b lt e = omega (arith, lt, e)
 
--- a ring of a new name leaves what is held of a filter that has no call
-module _ {R : Type 0} {g : Ghosts R Stored} (old new : Brigades R g) (over : (n : ℕ) → lists new n ≡ ring.upd (lists old) (next_name old) (Some []) n)
-    (next : next_name new ≡ next_name old + 1) (names : NoneRevived (brigade_of old) (brigade_of new) (next_name old)) (pools : pool_of new ≡ pool_of old) where
-  as_before : (n : ℕ) → n < next_name old → lists new n ≡ lists old n
-  as_before n lt = over n ∙ ring_off (lists old) (next_name old) n (Some []) (less n (next_name old) lt)
-
+-- what is held of a filter is held where the brigades of before stay
+module _ {R : Type 0} {g : Ghosts R Stored} (old new : Brigades R g) (stays : (n : ℕ) → n < next_name old → lists new n ≡ lists old n)
+    (rises : next_name old ≤ next_name new) (names : NoneRevived (brigade_of old) (brigade_of new) (next_name old)) (pools : pool_of new ≡ pool_of old) where
   pub held_beside : (i : Instance) (call : Call) → IsHeld old i call → IsHeld new i call
-  held_beside i call held = record {
-    apart = held.apart;
-    loose = held.loose;
-    given = λ c id e. kept id (held.given c id e);
-    named = λ b n e. (let a = held.named b n e in omega (arith, a, next));
-    real = held.real;
-    called = (let a = held.called in omega (arith, a, next));
-    runs = λ pos. ap is_some (as_before call.name held.called) ∙ held.runs pos;
-    free = ap (λ (f : ℕ → Option ℕ). f call.name) pools ∙ held.free;
-    on = λ b n pool mark own is there. ap (λ (f : ℕ → Option ℕ). f n) pools ∙ held.on b n pool mark own is (sym (ap is_some (as_before n (held.named b n (ap name_in is)))) ∙ there);
-    incoming = held.incoming;
-  } where
-    kept : (id : BucketId) → WasGiven old id → WasGiven new id
-    kept id name = record {
-      young = let a = name.young in omega (arith, a, next);
-      only = λ j there e. name.only j (names j there (let b = name.young in omega (arith, b, e))) e;
-    }
+  held_beside i call held =
+      held_stays (brigade_of old) (brigade_of new) (lists old) (lists new) (pool_of old) (pool_of new) (next_name old) (next_name new) i call rises pools names
+      (λ b n named. stays n (held.named b n named)) (λ pos. stays call.name held.called) held
 
 module _ {R : Type 0} {g : Ghosts R Stored} (chain : List Program) (old new : Brigades R g) (c d : Conn) (r : Option ℕ) (stacked : IsStacked chain old c) (idle : c.busy ≡ false)
     (begins : CalledFirst chain (next_name old) (record c { req = r }) d) (over : (n : ℕ) → lists new n ≡ ring.upd (lists old) (next_name old) (Some []) n)
@@ -122,7 +105,8 @@ module _ {R : Type 0} {g : Ghosts R Stored} (chain : List Program) (old new : Br
   called_there : (k : ℕ) → is_called d k ≡ true → k ≡ 0
   called_there k e = go (nat_le k (top_of d)) refl where
     go : (t : Bool) → nat_le k (top_of d) ≡ t → k ≡ 0
-    go true is = (let low = leb-true k (top_of d) is in let top = top_is chain old new c d r stacked idle begins over in omega (arith, low, top))
+    go true is = (let low = leb-true k (top_of d) is in let top = top_is d (waits_are chain old new c d r stacked idle begins over)
+        (first_is chain old new c d r stacked idle begins over) in omega (arith, low, top))
     go false is = absurd (true_false (is_called d k) e (both d.busy (nat_le d.first k) (nat_le k (top_of d)) is)) where
       both : (s t u : Bool) → u ≡ false → (s && (t && u)) ≡ false
       both s t true q = absurd (cc)
@@ -136,7 +120,7 @@ module _ {R : Type 0} {g : Ghosts R Stored} (chain : List Program) (old new : Br
       ∙ (ap (λ (b : Bool). b && nat_le 0 (top_of d)) (le-leb d.first 0 (let e = first_is chain old new c d r stacked idle begins over in omega (arith, e))) ∙ le-leb 0 (top_of d) (omega arith))
 
   none_wait : (k : ℕ) → is_waiting d k ≡ false
-  none_wait k = none_between d.first k (waiting d) (none_waiting chain old new c d r stacked idle begins over)
+  none_wait k = none_between d.first k (waiting d) (none_waiting d (waits_are chain old new c d r stacked idle begins over) (first_is chain old new c d r stacked idle begins over))
 
   calls_called : AreCalled chain d
   calls_called = record {
@@ -147,7 +131,8 @@ module _ {R : Type 0} {g : Ghosts R Stored} (chain : List Program) (old new : Br
     passed = λ k b f is e. absurd (never_lent k b f is e);
     inward = λ k b f e is behind lends. absurd (never_lent k b f is lends);
     incoming = λ k f is e. (let w = there k f is in named_as k 8 f w ∙ nothing_in chain old c stacked idle k w.filter w.is);
-    waits = waits_are chain old new c d r stacked idle begins over ∙ sym (no_names d d.first (waiting d) (none_waiting chain old new c d r stacked idle begins over));
+    waits = waits_are chain old new c d r stacked idle begins over ∙ sym (no_names d d.first (waiting d) (none_waiting d (waits_are chain old new c d r stacked idle begins over)
+        (first_is chain old new c d r stacked idle begins over)));
     quiet = λ e. absurd (true_false d.busy (ap (λ (x : Conn). x.busy) begins.rest) e);
   } where
     first_runs : (k : ℕ) (f : Filter) → filter_at d k ≡ Some f → There k f → k ≡ 0 → 0 < f.call.name
@@ -173,12 +158,14 @@ module _ {R : Type 0} {g : Ghosts R Stored} (chain : List Program) (old new : Br
         same : first ≡ f
         same = some_same first f (sym (after_is chain old new c d r stacked idle begins over) ∙ is)
   held_called (suc k) f is =
-      held_beside old new over next names pools f.instance f.call (stacked.held (suc k) f (sym (others_stay chain old new c d r stacked idle begins over (suc k) (λ e. omega (arith, e))) ∙ is))
+      held_beside old new (λ n lt. over n ∙ ring_off (lists old) (next_name old) n (Some []) (less n (next_name old) lt)) (omega (arith, next)) names pools f.instance f.call
+      (stacked.held (suc k) f (sym (others_stay chain old new c d r stacked idle begins over (suc k) (λ e. omega (arith, e))) ∙ is))
 
   pub stacked_called : IsStacked chain new d
   stacked_called = record {
     many = begins.many ∙ stacked.many;
-    within = (let top = top_is chain old new c d r stacked idle begins over in let some = stacked.within in omega (arith, top, some));
+    within = (let top = top_is d (waits_are chain old new c d r stacked idle begins over) (first_is chain old new c d r stacked idle begins over) in let some = stacked.within in omega
+        (arith, top, some));
     queue = (let q = ap (λ (x : Conn). x.queue) begins.rest in let some = stacked.within in omega (arith, q, some));
     held = held_called;
     apart = apart_called;

@@ -14,3 +14,4 @@ pub mod Destroyed
 pub mod OpenedFile
 pub mod StepsGo
 pub mod ConnRuns
+pub mod Prelude

@@ -1,20 +1,8 @@
 //! A request begins.
 
 ghost use Rattle.std.specs.Prelude.{◌≡◌, ◌<◌, ◌+◌, ℕ, None, Some, [], is_ok, if◌then◌else◌, IsTrue, IfOk, OnOk, OnErr};
-ghost use Rattle.bucket_ring.specs.Lists.{upd};
-ghost use Rattle.bucket_kinds.specs.Device.{Device};
-ghost use Rattle.run_model.specs.Chains.{Linked};
-ghost use Rattle.run_model.specs.Refusals.{first_refusal};
-ghost use Rattle.run_model.specs.Pools.{created, is_live};
-ghost use Rattle.run_model.specs.RunOrder.{IsPoolMap};
-ghost use Rattle.run_model.specs.Turns.{begins};
-ghost use Rattle.pool_tree.specs.Tree.{map_of};
-ghost use Rattle.bucket_ring.specs.Kept.{NoneRevived};
-ghost use Rattle.brigade_ops.specs.Store.{lists, brigade_of, pool_of, references, next_name};
-ghost use Rattle.module_run.specs.Happened.{Happened, Stands, lasted, refusal_of};
-ghost use Rattle.module_run.specs.Neighbours.{LeavesOthers};
-ghost use Rattle.module_run.specs.Proceeding.{StandsFor};
-ghost use Rattle.module_run.specs.Refused.{begin_tests};
+ghost use Rattle.module_run.specs.Prelude.{upd, Device, Linked, first_refusal, created, is_live, IsPoolMap, begins, map_of, NoneRevived, lists, brigade_of, pool_of, references, next_name, Happened};
+ghost use Rattle.module_run.specs.Prelude.{Stands, lasted, refusal_of, LeavesOthers, StandsFor, begin_tests};
 
 use crate::conn::Conn;
 use brigade_ops::{BrigadeId, Brigades, PoolId, PoolTree, Rings, Stored};

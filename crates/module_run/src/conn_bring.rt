@@ -1,25 +1,8 @@
 //! A brigade is brought to a connection.
 
 ghost use Rattle.std.specs.Prelude.{◌≡◌, ◌<◌, ◌≤◌, ◌+◌, ℕ, List, None, Some, [], length, is_ok, if◌then◌else◌, IfOk, OnOk, OnErr};
-ghost use Rattle.bucket_ring.specs.Lists.{upd};
-ghost use Rattle.bucket_ring.specs.Kept.{NoneRevived};
-ghost use Rattle.bucket_kinds.specs.Device.{Device};
-ghost use Rattle.run_model.specs.declared.payload.Payload.{Payload};
-ghost use Rattle.run_model.specs.Chains.{Linked};
-ghost use Rattle.run_model.specs.Pools.{Pools};
-ghost use Rattle.run_model.specs.Refusals.{first_refusal};
-ghost use Rattle.run_model.specs.Pieces.{bucket_of, named_from};
-ghost use Rattle.run_model.specs.Steps.{is_spent};
-ghost use Rattle.run_model.specs.Turns.{brings};
-ghost use Rattle.pool_tree.specs.declared.tree.PoolTree.{PoolTree};
-ghost use Rattle.stored_rings.specs.Items.{Items, named};
-ghost use Rattle.brigade_ops.specs.Store.{lists, brigade_of, pool_of, references, next_name};
-ghost use Rattle.module_run.specs.CalledMain.{CalledMain, StartsWith};
-ghost use Rattle.module_run.specs.Happened.{Happened, Stands, lasted, refusal_of};
-ghost use Rattle.module_run.specs.Neighbours.{LeavesOthers};
-ghost use Rattle.module_run.specs.Proceeding.{StandsFor};
-ghost use Rattle.module_run.specs.Refused.{bring_tests};
-ghost use Rattle.module_run.specs.Conns.{lengths};
+ghost use Rattle.module_run.specs.Prelude.{upd, NoneRevived, Device, Payload, Linked, Pools, first_refusal, bucket_of, named_from, is_spent, brings, PoolTree, Items, named, lists, brigade_of};
+ghost use Rattle.module_run.specs.Prelude.{pool_of, references, next_name, CalledMain, StartsWith, Happened, Stands, lasted, refusal_of, LeavesOthers, StandsFor, bring_tests, lengths};
 
 use crate::conn::{Conn, Filter};
 use crate::pieces::{buckets_of, has_data_behind_eos, lack_files};

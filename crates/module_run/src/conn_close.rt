@@ -2,27 +2,9 @@
 
 ghost use Rattle.std.specs.Prelude.{◌≡◌, ◌&&◌, not, false, true, if◌then◌else◌, ℕ, List, None, Some, OnOk, OnErr};
 ghost use Rattle.std.specs.List.{list_any};
-ghost use Rattle.bucket_kinds.specs.Device.{Missing};
-ghost use Rattle.bucket_ring.specs.Kept.{NoneRevived};
-ghost use Rattle.bucket_ring.specs.Lists.{upd};
-ghost use Rattle.module_code.specs.Program.{Program};
-ghost use Rattle.run_model.specs.Chains.{Linked};
-ghost use Rattle.run_model.specs.Files.{is_referred};
-ghost use Rattle.run_model.specs.Holding.{refers};
-ghost use Rattle.run_model.specs.Payloads.{is_file_ref};
-ghost use Rattle.run_model.specs.Pools.{Pools, destroyed, is_under};
-ghost use Rattle.run_model.specs.RunOrder.{run_order};
-ghost use Rattle.run_model.specs.Turns.{closing_labels};
-ghost use Rattle.pool_tree.specs.Tree.{map_of};
-ghost use Rattle.brigade_ops.specs.Files.{SameButOpen};
-ghost use Rattle.brigade_ops.specs.House.{AreOpen, IsHouse};
-ghost use Rattle.brigade_ops.specs.Store.{lists, brigade_of, pool_of, references, next_name};
+ghost use Rattle.module_run.specs.Prelude.{Missing, NoneRevived, upd, Program, Linked, is_referred, refers, is_file_ref, Pools, destroyed, is_under, run_order, closing_labels, map_of, SameButOpen};
+ghost use Rattle.module_run.specs.Prelude.{AreOpen, IsHouse, lists, brigade_of, pool_of, references, next_name, filter_at, labels_handed, Stands, Holds, LeavesOthers, LeftAs, StandsFor, named_at};
 ghost use Rattle.module_run.specs.declared.conn.Filter.{Filter};
-ghost use Rattle.module_run.specs.Conns.{filter_at, labels_handed};
-ghost use Rattle.module_run.specs.Happened.{Stands};
-ghost use Rattle.module_run.specs.Neighbours.{Holds, LeavesOthers};
-ghost use Rattle.module_run.specs.Proceeding.{LeftAs, StandsFor};
-ghost use Rattle.module_run.specs.Stacked.{named_at};
 
 use crate::conn::{Conn, Filter};
 use brigade_ops::{BrigadeId, Brigades, ClearKind, Files, PoolTree, Rings, Stored};

@@ -1,26 +1,9 @@
 //! A request ends.
 
 ghost use Rattle.std.specs.Prelude.{◌≡◌, ◌≢◌, ◌<◌, ◌∷◌, ◌++◌, [], ℕ, List, None, Some, true, false, map, IsTrue, IfOk, OnOk, OnErr};
-ghost use Rattle.bucket_kinds.specs.Device.{Device};
-ghost use Rattle.module_code.specs.Program.{Program};
-ghost use Rattle.run_model.specs.Chains.{Linked};
-ghost use Rattle.run_model.specs.Refusals.{first_refusal};
-ghost use Rattle.run_model.specs.Holding.{refers};
-ghost use Rattle.run_model.specs.Payloads.{labels_in};
-ghost use Rattle.run_model.specs.Pools.{is_live, is_under};
-ghost use Rattle.run_model.specs.RunOrder.{run_order};
-ghost use Rattle.run_model.specs.Turns.{ends};
-ghost use Rattle.pool_tree.specs.Tree.{map_of};
-ghost use Rattle.brigade_ops.specs.Files.{SameButOpen};
-ghost use Rattle.brigade_ops.specs.House.{IsHouse, AreOpen};
-ghost use Rattle.brigade_ops.specs.Store.{lists, pool_of, references, next_name};
-ghost use Rattle.ring_run.specs.CarriedOut.{ClosedWith};
-ghost use Rattle.module_run.specs.Conns.{labels_handed};
-ghost use Rattle.module_run.specs.Destroyed.{WasDestroyed, quieted, request_left};
-ghost use Rattle.module_run.specs.Happened.{Happened, Stands, lasted, refusal_of};
-ghost use Rattle.module_run.specs.Neighbours.{LeavesOthers};
-ghost use Rattle.module_run.specs.Proceeding.{StandsFor};
-ghost use Rattle.module_run.specs.Refused.{request_tests};
+ghost use Rattle.module_run.specs.Prelude.{Device, Program, Linked, first_refusal, refers, labels_in, is_live, is_under, run_order, ends, map_of, SameButOpen, IsHouse, AreOpen, lists, pool_of};
+ghost use Rattle.module_run.specs.Prelude.{references, next_name, ClosedWith, labels_handed, WasDestroyed, quieted, request_left, Happened, Stands, lasted, refusal_of, LeavesOthers, StandsFor};
+ghost use Rattle.module_run.specs.Prelude.{request_tests};
 
 use crate::conn::{Conn, Filter};
 use brigade_ops::{Brigades, ClearKind, Files, PoolId, PoolTree, Rings, Stored};

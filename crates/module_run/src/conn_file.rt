@@ -1,19 +1,9 @@
 //! A file is opened in a request.
 
 ghost use Rattle.std.specs.Prelude.{◌≡◌, ◌<◌, ◌≤◌, ◌==◌, ◌+◌, ◌∷◌, ◌++◌, [], ℕ, List, Some, IsTrue, OnOk, OnErr, if◌then◌else◌};
-ghost use Rattle.bucket_ring.specs.Kept.{NoneRevived};
-ghost use Rattle.module_code.specs.Program.{Program};
-ghost use Rattle.run_model.specs.Chains.{Linked};
-ghost use Rattle.run_model.specs.Pools.{is_live, registered};
-ghost use Rattle.run_model.specs.RunOrder.{IsPoolMap};
-ghost use Rattle.pool_tree.specs.Tree.{map_of};
-ghost use Rattle.brigade_ops.specs.House.{IsHouse};
-ghost use Rattle.brigade_ops.specs.Store.{lists, brigade_of, pool_of, references, next_name};
-ghost use Rattle.module_run.specs.Happened.{Stands};
-ghost use Rattle.module_run.specs.Neighbours.{LeavesOthers};
-ghost use Rattle.module_run.specs.OpenedFile.{WasOpened, unopened_by};
+ghost use Rattle.module_run.specs.Prelude.{NoneRevived, Program, Linked, is_live, registered, IsPoolMap, map_of, IsHouse, lists, brigade_of, pool_of, references, next_name, Stands, LeavesOthers};
+ghost use Rattle.module_run.specs.Prelude.{WasOpened, unopened_by, StandsFor};
 ghost use Rattle.std.specs.Vec.{vec_len, vec_capacity};
-ghost use Rattle.module_run.specs.Proceeding.{StandsFor};
 
 use crate::conn::{Conn, OpenFile};
 use brigade_ops::{Brigades, FileNo, Files, PoolId, PoolTree, Rings, Stored};

@@ -1,17 +1,8 @@
 //! A connection is opened.
 
 ghost use Rattle.std.specs.Prelude.{◌≡◌, ◌<◌, ◌||◌, ◌↔◌, ◌∷◌, [], true, ℕ, Some, IfOk, IsErrOf, OnErr, OnOk, length, slice_get};
-ghost use Rattle.bucket_kinds.specs.Device.{Device};
-ghost use Rattle.run_model.specs.Chains.{Common};
-ghost use Rattle.run_model.specs.Pools.{created};
-ghost use Rattle.run_model.specs.Steps.{is_spent};
-ghost use Rattle.run_model.specs.Turns.{opened};
-ghost use Rattle.pool_tree.specs.Tree.{map_of};
-ghost use Rattle.brigade_ops.specs.House.{AreOpen};
-ghost use Rattle.brigade_ops.specs.Store.{next_name, references};
-ghost use Rattle.module_run.specs.Neighbours.{ComesBeside};
-ghost use Rattle.module_run.specs.Opening.{CanOpen, IsNewConn, IsNewFilter, IsUnchanged, over};
-ghost use Rattle.module_run.specs.Proceeding.{LeftAs};
+ghost use Rattle.module_run.specs.Prelude.{Device, Common, created, is_spent, opened, map_of, AreOpen, next_name, references, ComesBeside, CanOpen, IsNewConn, IsNewFilter, IsUnchanged, over};
+ghost use Rattle.module_run.specs.Prelude.{LeftAs};
 
 use crate::conn::{Conn, Filter};
 use crate::conn_begin::call_and_pool;

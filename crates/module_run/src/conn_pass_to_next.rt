@@ -1,26 +1,9 @@
 //! A filter passes a brigade to the next one.
 
 ghost use Rattle.std.specs.Prelude.{◌≡◌, ◌==◌, ◌<◌, ◌+◌, ◌-◌, ◌^◌, ℕ, List, None, Some, [], true, false, is_some, is_ok, if◌then◌else◌, OnOk, OnErr};
-ghost use Rattle.bucket_kinds.specs.Device.{Device};
-ghost use Rattle.bucket_ring.specs.Kept.{NoneRevived};
-ghost use Rattle.bucket_ring.specs.Lists.{upd};
-ghost use Rattle.run_model.specs.Pools.{Pools};
-ghost use Rattle.run_model.specs.Chains.{Frame, Linked, is_last};
-ghost use Rattle.run_model.specs.State.{fresh_call};
-ghost use Rattle.run_model.specs.Steps.{do_pass};
-ghost use Rattle.pool_tree.specs.declared.tree.PoolTree.{PoolTree};
-ghost use Rattle.run_model.specs.declared.payload.Payload.{Payload};
-ghost use Rattle.brigade_ops.specs.Store.{lists, brigade_of, pool_of, references, next_name};
-ghost use Rattle.ring_calls.specs.declared.machine.Call.{Call};
-ghost use Rattle.ring_calls.specs.Around.{Around};
-ghost use Rattle.module_run.specs.Conns.{shown_call, top_of};
-ghost use Rattle.ring_passes.specs.Handed.{lent};
-ghost use Rattle.module_run.specs.Passing.{CanPass};
-ghost use Rattle.ring_calls.specs.Held.{IsHeld};
-ghost use Rattle.module_run.specs.Neighbours.{EndsLoose, LeavesOthers};
-ghost use Rattle.module_run.specs.Proceeding.{IsReady, RefinesStep, LeftAs};
-ghost use Rattle.ring_calls.specs.Seen.{seen, is_running};
-ghost use Rattle.ring_calls.specs.Slots.{live_in, marked, name_in, slot_at};
+ghost use Rattle.module_run.specs.Prelude.{Device, NoneRevived, upd, Pools, Frame, Linked, is_last, fresh_call, do_pass, PoolTree, Payload, lists, brigade_of, pool_of, references, next_name, Call};
+ghost use Rattle.module_run.specs.Prelude.{Around, shown_call, top_of, lent, CanPass, IsHeld, EndsLoose, LeavesOthers, IsReady, RefinesStep, LeftAs, seen, is_running, live_in, marked, name_in};
+ghost use Rattle.module_run.specs.Prelude.{slot_at};
 
 use crate::conn::{Conn, Filter};
 use brigade_ops::{BrigadeId, Brigades, RingRefusal, Rings, Stored};

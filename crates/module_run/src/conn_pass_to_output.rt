@@ -1,16 +1,8 @@
 //! The last filter passes a brigade to the end of the chain.
 
 ghost use Rattle.std.specs.Prelude.{◌≡◌, ◌<◌, ◌+◌, List, true, false, if◌then◌else◌, IsOk, OnOk, OnErr};
-ghost use Rattle.module_code.specs.Program.{Program};
-ghost use Rattle.bucket_kinds.specs.Device.{SomeWentWell};
-ghost use Rattle.run_model.specs.declared.payload.Payload.{Payload};
-ghost use Rattle.run_model.specs.Pools.{Pools};
-ghost use Rattle.run_model.specs.Chains.{Frame, Linked, configuration, is_last};
-ghost use Rattle.run_model.specs.Steps.{grows};
-ghost use Rattle.pool_tree.specs.declared.tree.PoolTree.{PoolTree};
-ghost use Rattle.module_run.specs.Conns.{top_of};
-ghost use Rattle.module_run.specs.Neighbours.{EndsLoose, LeavesOthers};
-ghost use Rattle.module_run.specs.Proceeding.{CanProceed, IsReady, RefinesStep, LeftAs};
+ghost use Rattle.module_run.specs.Prelude.{Program, SomeWentWell, Payload, Pools, Frame, Linked, configuration, is_last, grows, PoolTree, top_of, EndsLoose, LeavesOthers, CanProceed, IsReady};
+ghost use Rattle.module_run.specs.Prelude.{RefinesStep, LeftAs};
 
 use crate::conn::Conn;
 use brigade_ops::{Brigades, Files, Rings, Stored};

@@ -1,14 +1,7 @@
 //! A call returns that none waits for.
 
 ghost use Rattle.std.specs.Prelude.{◌≡◌, ℕ, List, IfOk, IsOk, OnErr};
-ghost use Rattle.bucket_kinds.specs.Device.{Device};
-ghost use Rattle.run_model.specs.Pools.{Pools};
-ghost use Rattle.run_model.specs.Chains.{Frame, Linked};
-ghost use Rattle.run_model.specs.Passing.{handler_at};
-ghost use Rattle.run_model.specs.Turns.{calls_of};
-ghost use Rattle.module_run.specs.Conns.{waiting};
-ghost use Rattle.module_run.specs.Neighbours.{EndsLoose, LeavesOthers};
-ghost use Rattle.module_run.specs.Proceeding.{CanProceed, IsReady, RefinesStep, LeftAs};
+ghost use Rattle.module_run.specs.Prelude.{Device, Pools, Frame, Linked, handler_at, calls_of, waiting, EndsLoose, LeavesOthers, CanProceed, IsReady, RefinesStep, LeftAs};
 
 use crate::conn::Conn;
 use brigade_ops::{Brigades, PoolId, PoolTree, Rings, Stored};

@@ -1,14 +1,7 @@
 //! A call returns to the one that waits for it.
 
 ghost use Rattle.std.specs.Prelude.{◌≡◌, ◌<◌, ℕ, List, None, length};
-ghost use Rattle.bucket_kinds.specs.Device.{Device};
-ghost use Rattle.run_model.specs.Pools.{Pools};
-ghost use Rattle.run_model.specs.Chains.{Frame, Linked};
-ghost use Rattle.run_model.specs.Passing.{after_pass};
-ghost use Rattle.run_model.specs.Steps.{current};
-ghost use Rattle.module_run.specs.Conns.{waiting};
-ghost use Rattle.module_run.specs.Neighbours.{EndsLoose, LeavesOthers};
-ghost use Rattle.module_run.specs.Proceeding.{CanProceed, IsReady, RefinesStep};
+ghost use Rattle.module_run.specs.Prelude.{Device, Pools, Frame, Linked, after_pass, current, waiting, EndsLoose, LeavesOthers, CanProceed, IsReady, RefinesStep};
 
 use crate::conn::{Conn, Filter};
 use brigade_ops::{Brigades, PoolTree, Rings, Stored};

@@ -1,12 +1,7 @@
 //! What a connection has given out: output and labels.
 
 ghost use Rattle.std.specs.Prelude.{◌≡◌, [], ℕ, Option, List};
-ghost use Rattle.bucket_ring.specs.declared.names.BucketId.{BucketId};
-ghost use Rattle.module_code.specs.Program.{Program};
-ghost use Rattle.run_model.specs.Pools.{Pools};
-ghost use Rattle.stored_rings.specs.Items.{Items};
-ghost use Rattle.module_run.specs.Conns.{conn_of, labels_handed};
-ghost use Rattle.module_run.specs.Stacked.{StackedOver};
+ghost use Rattle.module_run.specs.Prelude.{BucketId, Program, Pools, Items, conn_of, labels_handed, StackedOver};
 
 use crate::conn::Conn;
 use brigade_ops::PoolId;

@@ -1,13 +1,7 @@
 //! Calls of a filter begin and end.
 
 ghost use Rattle.std.specs.Prelude.{◌≡◌, ◌≢◌, ◌==◌, ◌<◌, ℕ, None, Some, true, is_some, if◌then◌else◌};
-ghost use Rattle.bucket_ring.specs.Kept.{NoneRevived};
-ghost use Rattle.bucket_ring.specs.Lists.{upd};
-ghost use Rattle.brigade_ops.specs.Store.{lists, brigade_of, pool_of, references, next_name};
-ghost use Rattle.ring_passes.specs.Begun.{IsBegun};
-ghost use Rattle.ring_calls.specs.Held.{IsHeld};
-ghost use Rattle.ring_calls.specs.Slots.{SameButSlots, slot_at};
-ghost use Rattle.module_run.specs.Stacked.{named_at};
+ghost use Rattle.module_run.specs.Prelude.{NoneRevived, upd, lists, brigade_of, pool_of, references, next_name, IsBegun, IsHeld, SameButSlots, slot_at, named_at};
 
 use crate::conn::Filter;
 use brigade_ops::{BrigadeId, Brigades, Rings, Stored};

@@ -1,13 +1,8 @@
 //! A look at the next instruction of a connection.
 
 ghost use Rattle.std.specs.Prelude.{◌≡◌, ◌<◌, ℕ, List, length, Some, None};
-ghost use Rattle.bucket_kinds.specs.Device.{Device};
-ghost use Rattle.run_model.specs.Chains.{Frame, Linked};
-ghost use Rattle.ring_wants.specs.OnlyAsked.{OnlyAsked, TreeOnlyAsked};
+ghost use Rattle.module_run.specs.Prelude.{Device, Frame, Linked, OnlyAsked, TreeOnlyAsked, IsNextInstr, StandsAt, next_of, step_lacks_names, calls_at, filter_at, top_of, IsOnTop, next_fault};
 ghost use Rattle.module_run.specs.declared.conn.Filter.{Filter};
-ghost use Rattle.module_run.specs.Looking.{IsNextInstr, StandsAt, next_of, step_lacks_names, calls_at};
-ghost use Rattle.module_run.specs.Conns.{filter_at, top_of};
-ghost use Rattle.module_run.specs.Stepping.{IsOnTop, next_fault};
 
 use crate::conn::Conn;
 use brigade_ops::{Brigades, PoolTree, Rings, Stored};

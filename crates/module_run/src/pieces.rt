@@ -2,9 +2,7 @@
 
 ghost use Rattle.std.specs.Prelude.{◌≡◌, ◌==◌, ◌&&◌, nat_le, false, ◌+◌, map, IfOk};
 ghost use Rattle.std.specs.List.{list_any};
-ghost use Rattle.run_model.specs.Pieces.{bucket_of, is_data_piece, is_eos_piece, data_behind_eos, lacks_file};
-ghost use Rattle.module_run.specs.Conns.{lengths};
-ghost use Rattle.ring_passes.specs.Pieces.{late_piece};
+ghost use Rattle.module_run.specs.Prelude.{bucket_of, is_data_piece, is_eos_piece, data_behind_eos, lacks_file, lengths, late_piece};
 
 use crate::conn::OpenFile;
 use brigade_ops::{BrigadeId, Bucket, FileNo, PoolId};

@@ -6,3 +6,4 @@ pub mod Streams
 pub mod StreamFaults
 pub mod TextAnswers
 pub mod Loading
+pub mod Prelude

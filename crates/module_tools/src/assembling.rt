@@ -1,11 +1,7 @@
 //! The command `assemble`.
 
 ghost use Rattle.std.specs.Prelude.{◌≡◌, IfOk, IfErr, ◌≢◌};
-ghost use Rattle.byte_streams.specs.Counted.{reads_left, source_of};
-ghost use Rattle.module_code.specs.Program.{Program};
-ghost use Rattle.module_tools.specs.StreamFaults.{TellsOfReader, TellsOfWriter};
-ghost use Rattle.module_tools.specs.Streams.{Writes};
-ghost use Rattle.module_tools.specs.TextAnswers.{IsModuleText, IsAssembled, IsOutputFront};
+ghost use Rattle.module_tools.specs.Prelude.{reads_left, source_of, Program, TellsOfReader, TellsOfWriter, Writes, IsModuleText, IsAssembled, IsOutputFront};
 
 use crate::answer::{CommandOutput, asm_fault, write_answer};
 use crate::ended::Ended;

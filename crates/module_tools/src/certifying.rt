@@ -1,14 +1,8 @@
 //! The command `certify`.
 
 ghost use Rattle.std.specs.Prelude.{◌≡◌, ◌≢◌, false, IfOk, IfErr};
-ghost use Rattle.byte_streams.specs.Counted.{reads_left, source_of};
-ghost use Rattle.life_check.specs.Seen.{seen_cert};
-ghost use Rattle.life_cert.specs.CertText.{cert_text};
-ghost use Rattle.life_cert.specs.Rounds.{made};
+ghost use Rattle.module_tools.specs.Prelude.{reads_left, source_of, seen_cert, cert_text, made, TellsOfReader, TellsOfWriter, Writes, made_form, IsCertification, IsCertified, IsOutputFront};
 ghost use Rattle.module_tools.specs.declared.ended.Ended.TheVariants as ended;
-ghost use Rattle.module_tools.specs.StreamFaults.{TellsOfReader, TellsOfWriter};
-ghost use Rattle.module_tools.specs.Streams.{Writes};
-ghost use Rattle.module_tools.specs.TextAnswers.{made_form, IsCertification, IsCertified, IsOutputFront};
 
 use crate::answer::{CommandOutput, asm_fault, refused_at, write_answer};
 use crate::ended::Ended;

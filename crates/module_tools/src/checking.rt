@@ -1,10 +1,7 @@
 //! The command `check`.
 
 ghost use Rattle.std.specs.Prelude.{◌≡◌, ◌≢◌, IfOk, IfErr, IfSome};
-ghost use Rattle.byte_streams.specs.Counted.{reads_left, source_of};
-ghost use Rattle.module_tools.specs.StreamFaults.{TellsOfReader, TellsOfReaders, TellsOfWriter};
-ghost use Rattle.module_tools.specs.Streams.{Writes};
-ghost use Rattle.module_tools.specs.TextAnswers.{TellsCertFault, IsVerdict, IsCheckOf, IsCheckOutput, IsOutputFront};
+ghost use Rattle.module_tools.specs.Prelude.{reads_left, source_of, TellsOfReader, TellsOfReaders, TellsOfWriter, Writes, TellsCertFault, IsVerdict, IsCheckOf, IsCheckOutput, IsOutputFront};
 
 use crate::answer::{CommandOutput, asm_fault, line_answer, refused_at, write_answer};
 use crate::ended::Ended;

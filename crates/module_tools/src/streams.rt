@@ -2,9 +2,7 @@
 
 ghost use Rattle.std.specs.Prelude.{◌≡◌, ◌≢◌, IfOk, IfErr, OnOk};
 ghost use Rattle.std.specs.Io.KnownBytes.{Consumes, IsAtEnd};
-ghost use Rattle.byte_streams.specs.Counted.{reads_left, source_of};
-ghost use Rattle.module_tools.specs.StreamFaults.{TellsOfReader, TellsOfWriter};
-ghost use Rattle.module_tools.specs.Streams.{WritesText};
+ghost use Rattle.module_tools.specs.Prelude.{reads_left, source_of, TellsOfReader, TellsOfWriter, WritesText};
 
 use crate::fault::PlayFault;
 use byte_streams::{CountedSource, READ_BYTES, ReadAnswer, Sink, SinkFault, Source};

@@ -234,21 +234,22 @@ module _ {T : Type 0} (root next parent : ℕ) (old new : ℕ → Option (Pool T
       ]
 
   pub added_linked : RecordsLinked root (suc next) new
-  added_linked = record {
-    root_live = old_live root linked.root_live;
-    root_above = new_root;
-    root_alone = new_older_old root (λ e. omega (arith, root_below)) ∙ linked.root_alone;
-    named = new_named;
-    rooted = new_rooted;
-    rises = new_rises;
-    closed = new_closed;
-    newest = new_newest;
-    older = new_older;
-    younger = new_younger;
-    elder = new_elder;
-    youngest = new_youngest;
-    last = new_last;
-  }
+  added_linked =
+      assumption (
+        old_live root linked.root_live,
+        new_root,
+        new_older_old root (λ e. omega (arith, root_below)) ∙ linked.root_alone,
+        new_named,
+        new_rooted,
+        new_rises,
+        new_closed,
+        new_newest,
+        new_older,
+        new_younger,
+        new_elder,
+        new_youngest,
+        new_last,
+      )
 
   old_place : (n : ℕ) → (n ≡ next → ⊥) → place_of new n ≡ place_of old n
   old_place n apart =

@@ -32,6 +32,21 @@ keep_payloads f same false o = refl
 keep_payloads f same true None = refl
 keep_payloads f same true (Some q) = ap (λ v. v.items) (same q)
 
+-- Where the pool that a link names is changed, it stays, and so does each link that the change keeps.
+record Step {T : Type 0} (link : Option ℕ) (change : Pool T → Pool T) (was now : ℕ → Option (Pool T)) : Type 0 where
+  live : (n : ℕ) → is_some (now n) ≡ is_some (was n)
+  keeps : (g : Pool T → Option ℕ) → ((q : Pool T) → g (change q) ≡ g q) → (n : ℕ) → option_and_then g (now n) ≡ option_and_then g (was n)
+  sets : (g : Pool T → Option ℕ) (v : Option ℕ) → ((q : Pool T) → g (change q) ≡ v) → (n : ℕ)
+      → option_and_then g (now n) ≡ (if names link n then (if is_some (was n) then v else None) else option_and_then g (was n))
+
+step_of : {T : Type 0} (link : Option ℕ) (change : Pool T → Pool T) (was now : ℕ → Option (Pool T)) → ((n : ℕ) → now n ≡ changed link change was n) → Step link change was now
+unfolding changed
+step_of link change was now is = record {
+  live = λ n. ap is_some (is n) ∙ keep_live change (names link n) (was n);
+  keeps = λ g same n. ap (option_and_then g) (is n) ∙ keep_link g change same (names link n) (was n);
+  sets = λ g v set n. ap (option_and_then g) (is n) ∙ set_link g change v set (names link n) (was n);
+}
+
 put_link : {T : Type 0} (g : Pool T → Option ℕ) (pool : Pool T) (b : Bool) (o : Option (Pool T)) → option_and_then g (if b then Some pool else o) ≡ (if b then g pool else option_and_then g o)
 put_link g pool true o = refl
 put_link g pool false o = refl
@@ -60,36 +75,18 @@ module _ {T : Type 0} (old r1 r2 new : ℕ → Option (Pool T)) (name parent : �
   unfolding upd
   link_1 g n = ap (option_and_then g) (puts n) ∙ put_link g pool (n == name) (old n)
 
-  live_2 : (n : ℕ) → is_some (r2 n) ≡ is_some (r1 n)
-  unfolding changed
-  live_2 n = ap is_some (sets n) ∙ keep_live (λ q. record q { newest = Some name }) (parent == n) (r1 n)
+  second : Step (Some parent) (λ q. record q { newest = Some name }) r1 r2
+  second = step_of (Some parent) (λ q. record q { newest = Some name }) r1 r2 sets
 
-  link_2 : (g : Pool T → Option ℕ) → ((q : Pool T) → g (record q { newest = Some name }) ≡ g q) → (n : ℕ) → option_and_then g (r2 n) ≡ option_and_then g (r1 n)
-  unfolding changed
-  link_2 g same n = ap (option_and_then g) (sets n) ∙ keep_link g (λ q. record q { newest = Some name }) same (parent == n) (r1 n)
-
-  live_3 : (n : ℕ) → is_some (new n) ≡ is_some (r2 n)
-  unfolding changed
-  live_3 n = ap is_some (links n) ∙ keep_live (λ q. record q { younger = Some name }) (names older n) (r2 n)
-
-  link_3 : (g : Pool T → Option ℕ) → ((q : Pool T) → g (record q { younger = Some name }) ≡ g q) → (n : ℕ) → option_and_then g (new n) ≡ option_and_then g (r2 n)
-  unfolding changed
-  link_3 g same n = ap (option_and_then g) (links n) ∙ keep_link g (λ q. record q { younger = Some name }) same (names older n) (r2 n)
-
-  newest_2 : (n : ℕ) → newest_of r2 n ≡ (if parent == n then (if is_some (r1 n) then Some name else None) else newest_of r1 n)
-  unfolding changed
-  newest_2 n = ap (option_and_then (λ q. q.newest)) (sets n) ∙ set_link (λ q. q.newest) (λ q. record q { newest = Some name }) (Some name) (λ _. refl) (parent == n) (r1 n)
-
-  younger_3 : (n : ℕ) → younger_of new n ≡ (if names older n then (if is_some (r2 n) then Some name else None) else younger_of r2 n)
-  unfolding changed
-  younger_3 n = ap (option_and_then (λ q. q.younger)) (links n) ∙ set_link (λ q. q.younger) (λ q. record q { younger = Some name }) (Some name) (λ _. refl) (names older n) (r2 n)
+  third : Step older (λ q. record q { younger = Some name }) r2 new
+  third = step_of older (λ q. record q { younger = Some name }) r2 new links
 
   free_live : is_some (old name) ≡ false
   free_live = ap is_some free
 
   added_newest : (n : ℕ) → newest_of new n ≡ (if n == parent then Some name else if n == name then None else newest_of old n)
   added_newest n =
-      link_3 (λ q. q.newest) (λ _. refl) n ∙ newest_2 n
+      third.keeps (λ q. q.newest) (λ _. refl) n ∙ second.sets (λ q. q.newest) (Some name) (λ _. refl) n
       ∙ elim (cases_eq n parent) [
         | inl here ↦
             let apart : n ≡ name → ⊥ = λ e. both_ways (is_some (old n)) (ap (λ k. is_some (old k)) e ∙ free_live) (ap (λ k. is_some (old k)) here ∙ live) in
@@ -99,13 +96,13 @@ module _ {T : Type 0} (old r1 r2 new : ℕ → Option (Pool T)) (name parent : �
 
   added_younger : (n : ℕ) → younger_of new n ≡ (if names (newest_of old parent) n then Some name else if n == name then None else younger_of old n)
   added_younger n =
-      younger_3 n ∙ rw is_older
+      third.sets (λ q. q.younger) (Some name) (λ _. refl) n ∙ rw is_older
       (elim (cases_Bool (names (newest_of old parent) n)) [
         | inl e ↦
             let was = last n (named_is (newest_of old parent) n e) in
             let apart : n ≡ name → ⊥ = λ here. both_ways (is_some (old n)) (ap (λ k. is_some (old k)) here ∙ free_live) was in
-            rw (e, live_2 n, live_1 n, ne_eqb n name apart, was)
-        | inr e ↦ rw (e, link_2 (λ q. q.younger) (λ _. refl) n, link_1 (λ q. q.younger) n, has_younger)
+            rw (e, second.live n, live_1 n, ne_eqb n name apart, was)
+        | inr e ↦ rw (e, second.keeps (λ q. q.younger) (λ _. refl) n, link_1 (λ q. q.younger) n, has_younger)
       ])
 
   payloads_3 : (n : ℕ) → payloads_of new n ≡ (if n == name then [] else payloads_of old n)
@@ -118,10 +115,11 @@ module _ {T : Type 0} (old r1 r2 new : ℕ → Option (Pool T)) (name parent : �
 
   pub added_by : IsChildAdded name parent old new
   added_by = record {
-    live = λ n. live_3 n ∙ live_2 n ∙ live_1 n;
-    parents = λ n. link_3 (λ q. q.parent) (λ _. refl) n ∙ link_2 (λ q. q.parent) (λ _. refl) n ∙ link_1 (λ q. q.parent) n ∙ ap (λ o. if n == name then o else parent_of old n) has_parent;
+    live = λ n. third.live n ∙ second.live n ∙ live_1 n;
+    parents = λ n. third.keeps (λ q. q.parent) (λ _. refl) n ∙ second.keeps (λ q. q.parent) (λ _. refl) n ∙ link_1 (λ q. q.parent) n ∙ ap (λ o. if n == name then o else parent_of old n) has_parent;
     newest = added_newest;
-    older = λ n. link_3 (λ q. q.older) (λ _. refl) n ∙ link_2 (λ q. q.older) (λ _. refl) n ∙ link_1 (λ q. q.older) n ∙ ap (λ o. if n == name then o else older_of old n) (has_older ∙ is_older);
+    older = λ n.
+        third.keeps (λ q. q.older) (λ _. refl) n ∙ second.keeps (λ q. q.older) (λ _. refl) n ∙ link_1 (λ q. q.older) n ∙ ap (λ o. if n == name then o else older_of old n) (has_older ∙ is_older);
     younger = added_younger;
     payloads = payloads_3;
   }
@@ -174,41 +172,14 @@ module _ {T : Type 0} (old r1 r2 r3 new : ℕ → Option (Pool T)) (p : ℕ) (po
   unfolding upd
   taken_link g n = ap (option_and_then g) (takes n) ∙ gone_link g (n == p) (old n)
 
-  elder_live : (n : ℕ) → is_some (r2 n) ≡ is_some (r1 n)
-  unfolding changed
-  elder_live n = ap is_some (elder n) ∙ keep_live (λ q. record q { younger = pool.younger }) (names pool.older n) (r1 n)
+  left : Step pool.older (λ q. record q { younger = pool.younger }) r1 r2
+  left = step_of pool.older (λ q. record q { younger = pool.younger }) r1 r2 elder
 
-  elder_link : (g : Pool T → Option ℕ) → ((q : Pool T) → g (record q { younger = pool.younger }) ≡ g q) → (n : ℕ) → option_and_then g (r2 n) ≡ option_and_then g (r1 n)
-  unfolding changed
-  elder_link g same n = ap (option_and_then g) (elder n) ∙ keep_link g (λ q. record q { younger = pool.younger }) same (names pool.older n) (r1 n)
+  right : Step pool.younger (λ q. record q { older = pool.older }) r2 r3
+  right = step_of pool.younger (λ q. record q { older = pool.older }) r2 r3 younger
 
-  elder_set : (n : ℕ) → younger_of r2 n ≡ (if names pool.older n then (if is_some (r1 n) then pool.younger else None) else younger_of r1 n)
-  unfolding changed
-  elder_set n = ap (option_and_then (λ q. q.younger)) (elder n) ∙ set_link (λ q. q.younger) (λ q. record q { younger = pool.younger }) pool.younger (λ _. refl) (names pool.older n) (r1 n)
-
-  younger_live : (n : ℕ) → is_some (r3 n) ≡ is_some (r2 n)
-  unfolding changed
-  younger_live n = ap is_some (younger n) ∙ keep_live (λ q. record q { older = pool.older }) (names pool.younger n) (r2 n)
-
-  younger_link : (g : Pool T → Option ℕ) → ((q : Pool T) → g (record q { older = pool.older }) ≡ g q) → (n : ℕ) → option_and_then g (r3 n) ≡ option_and_then g (r2 n)
-  unfolding changed
-  younger_link g same n = ap (option_and_then g) (younger n) ∙ keep_link g (λ q. record q { older = pool.older }) same (names pool.younger n) (r2 n)
-
-  younger_set : (n : ℕ) → older_of r3 n ≡ (if names pool.younger n then (if is_some (r2 n) then pool.older else None) else older_of r2 n)
-  unfolding changed
-  younger_set n = ap (option_and_then (λ q. q.older)) (younger n) ∙ set_link (λ q. q.older) (λ q. record q { older = pool.older }) pool.older (λ _. refl) (names pool.younger n) (r2 n)
-
-  newest_live : (n : ℕ) → is_some (new n) ≡ is_some (r3 n)
-  unfolding changed
-  newest_live n = ap is_some (newest n) ∙ keep_live (λ q. record q { newest = pool.older }) (names above n) (r3 n)
-
-  newest_link : (g : Pool T → Option ℕ) → ((q : Pool T) → g (record q { newest = pool.older }) ≡ g q) → (n : ℕ) → option_and_then g (new n) ≡ option_and_then g (r3 n)
-  unfolding changed
-  newest_link g same n = ap (option_and_then g) (newest n) ∙ keep_link g (λ q. record q { newest = pool.older }) same (names above n) (r3 n)
-
-  newest_set : (n : ℕ) → newest_of new n ≡ (if names above n then (if is_some (r3 n) then pool.older else None) else newest_of r3 n)
-  unfolding changed
-  newest_set n = ap (option_and_then (λ q. q.newest)) (newest n) ∙ set_link (λ q. q.newest) (λ q. record q { newest = pool.older }) pool.older (λ _. refl) (names above n) (r3 n)
+  top : Step above (λ q. record q { newest = pool.older }) r3 new
+  top = step_of above (λ q. record q { newest = pool.older }) r3 new newest
 
   is_older : older_of old p ≡ pool.older
   is_older = ap (option_and_then (λ q. q.older)) was
@@ -221,20 +192,34 @@ module _ {T : Type 0} (old r1 r2 r3 new : ℕ → Option (Pool T)) (p : ℕ) (po
 
   removed_newest : (n : ℕ) → newest_of new n ≡ (if n == p then None else if names (parent_of old p) n && not (is_some (younger_of old p)) then older_of old p else newest_of old n)
   removed_newest n =
-      newest_set n ∙ rw (younger_live n, elder_live n, taken_live n, younger_link (λ q. q.newest) (λ _. refl) n, elder_link (λ q. q.newest) (λ _. refl) n, taken_link (λ q. q.newest) n, is_older, is_younger, is_parent, is_above)
+      top.sets (λ q. q.newest) pool.older (λ _. refl) n
+      ∙ rw (
+        right.live n,
+        left.live n,
+        taken_live n,
+        right.keeps (λ q. q.newest) (λ _. refl) n,
+        left.keeps (λ q. q.newest) (λ _. refl) n,
+        taken_link (λ q. q.newest) n,
+        is_older,
+        is_younger,
+        is_parent,
+        is_above,
+      )
       (set_there (names (if is_some pool.younger then None else pool.parent) n) (names pool.parent n && not (is_some pool.younger)) (n == p) (is_some (old n)) pool.older (newest_of old n)
       (λ _. above_is pool.younger pool.parent n)
       (λ _ at. beside.above n (is_parent ∙ named_is pool.parent n (and_parts (names pool.parent n) (not (is_some pool.younger)) (sym (above_is pool.younger pool.parent n) ∙ at)).0)))
 
   removed_older : (n : ℕ) → older_of new n ≡ (if n == p then None else if names (younger_of old p) n then older_of old p else older_of old n)
   removed_older n =
-      newest_link (λ q. q.older) (λ _. refl) n ∙ younger_set n ∙ rw (elder_live n, taken_live n, elder_link (λ q. q.older) (λ _. refl) n, taken_link (λ q. q.older) n, is_older, is_younger)
+      top.keeps (λ q. q.older) (λ _. refl) n ∙ right.sets (λ q. q.older) pool.older (λ _. refl) n
+      ∙ rw (left.live n, taken_live n, left.keeps (λ q. q.older) (λ _. refl) n, taken_link (λ q. q.older) n, is_older, is_younger)
       (set_there (names pool.younger n) (names pool.younger n) (n == p) (is_some (old n)) pool.older (older_of old n)
       (λ _. refl) (λ _ at. beside.younger n (is_younger ∙ named_is pool.younger n at)))
 
   removed_younger : (n : ℕ) → younger_of new n ≡ (if n == p then None else if names (older_of old p) n then younger_of old p else younger_of old n)
   removed_younger n =
-      newest_link (λ q. q.younger) (λ _. refl) n ∙ younger_link (λ q. q.younger) (λ _. refl) n ∙ elder_set n ∙ rw (taken_live n, taken_link (λ q. q.younger) n, is_older, is_younger)
+      top.keeps (λ q. q.younger) (λ _. refl) n ∙ right.keeps (λ q. q.younger) (λ _. refl) n ∙ left.sets (λ q. q.younger) pool.younger (λ _. refl) n
+      ∙ rw (taken_live n, taken_link (λ q. q.younger) n, is_older, is_younger)
       (set_there (names pool.older n) (names pool.older n) (n == p) (is_some (old n)) pool.younger (younger_of old n)
       (λ _. refl) (λ _ at. beside.older n (is_older ∙ named_is pool.older n at)))
 
@@ -248,8 +233,8 @@ module _ {T : Type 0} (old r1 r2 r3 new : ℕ → Option (Pool T)) (p : ℕ) (po
 
   pub removed_by : IsRemoved p old new
   removed_by = record {
-    live = λ n. newest_live n ∙ younger_live n ∙ elder_live n ∙ taken_live n;
-    parents = λ n. newest_link (λ q. q.parent) (λ _. refl) n ∙ younger_link (λ q. q.parent) (λ _. refl) n ∙ elder_link (λ q. q.parent) (λ _. refl) n ∙ taken_link (λ q. q.parent) n;
+    live = λ n. top.live n ∙ right.live n ∙ left.live n ∙ taken_live n;
+    parents = λ n. top.keeps (λ q. q.parent) (λ _. refl) n ∙ right.keeps (λ q. q.parent) (λ _. refl) n ∙ left.keeps (λ q. q.parent) (λ _. refl) n ∙ taken_link (λ q. q.parent) n;
     newest = removed_newest;
     older = removed_older;
     younger = removed_younger;

@@ -5,6 +5,7 @@ pub mod Changes
 pub mod Planted
 pub mod Trees
 pub mod Refilled
+pub mod RefilledTrees
 pub mod Cleared
 pub mod Handing
 pub mod Walks

@@ -35,18 +35,4 @@ module _ {T : Type 0} (root old new : ℕ) (records : ℕ → Option (Pool T)) (
       ]
 
   pub renamed_linked : RecordsLinked root new records
-  renamed_linked = record {
-    root_live = linked.root_live;
-    root_above = linked.root_above;
-    root_alone = linked.root_alone;
-    named = named;
-    rooted = linked.rooted;
-    rises = linked.rises;
-    closed = linked.closed;
-    newest = new_newest;
-    older = linked.older;
-    younger = linked.younger;
-    elder = linked.elder;
-    youngest = linked.youngest;
-    last = linked.last;
-  }
+  renamed_linked = assumption (linked, named, new_newest)

@@ -7,3 +7,4 @@ pub mod Left
 pub mod Room
 pub mod Tree
 pub mod Clears
+pub mod Prelude

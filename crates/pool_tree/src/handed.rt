@@ -2,11 +2,7 @@
 
 ghost use Rattle.std.specs.Prelude.{◌≡◌, ℕ, ◌+◌, ◌≤◌, None, false, [], ◌++◌, map, reverse, length, vec_len, vec_capacity, if◌then◌else◌};
 ghost use Rattle.std.specs.List.{flat_map};
-ghost use Rattle.run_model.specs.Indexed.{upd};
-ghost use Rattle.run_model.specs.Pools.{is_in};
-ghost use Rattle.pool_tree.specs.Records.{record_of};
-ghost use Rattle.pool_tree.specs.Links.{IsCleared};
-ghost use Rattle.pool_tree.specs.Handed.{own_of, IsOnce};
+ghost use Rattle.pool_tree.specs.Prelude.{upd, is_in, record_of, IsCleared, own_of, IsOnce};
 
 use crate::records::Records;
 

@@ -2,10 +2,7 @@
 
 ghost use Rattle.std.specs.Prelude.{◌≡◌, ◌<◌, ℕ, length, slice_index_or, remove, is_some, true, [], ◌∷◌, ◌++◌, is_ok, if◌then◌else◌, IfErr, MatchOption, false};
 ghost use Rattle.std.specs.List.{list_any};
-ghost use Rattle.run_model.specs.RunOrder.{last_that, without_last};
-ghost use Rattle.pool_tree.specs.Payloads.{IsLastAt};
-ghost use Rattle.pool_tree.specs.Records.{record_of, payloads_of};
-ghost use Rattle.pool_tree.specs.Links.{IsRefilled};
+ghost use Rattle.pool_tree.specs.Prelude.{last_that, without_last, IsLastAt, record_of, payloads_of, IsRefilled};
 
 use crate::records::Records;
 use std::alloc::AllocFailed;

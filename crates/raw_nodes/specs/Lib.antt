@@ -1,3 +1,4 @@
 pub mod Free
+pub mod Links
 pub mod Loads
 pub mod Nodes

@@ -4,6 +4,7 @@ ghost use Rattle.std.specs.Prelude.{◌≡◌, ℕ, Some, true, is_some};
 ghost use Rattle.raw_block.specs.Maps.{upd};
 ghost use Rattle.raw_block.specs.Blocks.{at};
 ghost use Rattle.raw_nodes.specs.declared.node.Node.{Node};
+ghost use Rattle.raw_nodes.specs.Links.{with_link};
 
 use raw_block::Block;
 use std::mem::replace;
@@ -35,34 +36,30 @@ pub struct Node<T> {
     pub load: Load<T>,
 }
 
-/// Writes the place behind a node.
-#[tactic(auto, unfolding(raw_block::specs::Blocks::at, raw_block::specs::Maps::upd))]
-pub(crate) fn write_behind<T>(block: &mut Block<Node<T>>, k: usize, to: usize)
-    requires { is_some (at block.old k) ≡ true }
-    ensures at { (n : Node T) → at block.old k ≡ Some n → (j : ℕ) → at block.new j ≡ upd (at block.old) k (Some (record n { behind = to })) j }
-    ensures len { block.new.len ≡ block.old.len }
-{
-    block.get_mut(k).behind = to;
+/// What is written of a node, which keeps what it holds.
+#[derive(Clone, Copy)]
+pub(crate) enum Link {
+    /// The place before it.
+    Before(usize),
+    /// The place behind it.
+    Behind(usize),
+    /// Its ring.
+    Ring(u64),
 }
 
-/// Writes the place before a node.
+/// Writes one link of a node.
+#[inline]
 #[tactic(auto, unfolding(raw_block::specs::Blocks::at, raw_block::specs::Maps::upd))]
-pub(crate) fn write_before<T>(block: &mut Block<Node<T>>, k: usize, to: usize)
+pub(crate) fn write_link<T>(block: &mut Block<Node<T>>, k: usize, link: Link)
     requires { is_some (at block.old k) ≡ true }
-    ensures at { (n : Node T) → at block.old k ≡ Some n → (j : ℕ) → at block.new j ≡ upd (at block.old) k (Some (record n { before = to })) j }
+    ensures at { (n : Node T) → at block.old k ≡ Some n → (j : ℕ) → at block.new j ≡ upd (at block.old) k (Some (with_link link n)) j }
     ensures len { block.new.len ≡ block.old.len }
 {
-    block.get_mut(k).before = to;
-}
-
-/// Writes the ring of a node.
-#[tactic(auto, unfolding(raw_block::specs::Blocks::at, raw_block::specs::Maps::upd))]
-pub(crate) fn write_ring<T>(block: &mut Block<Node<T>>, k: usize, ring: u64)
-    requires { is_some (at block.old k) ≡ true }
-    ensures at { (n : Node T) → at block.old k ≡ Some n → (j : ℕ) → at block.new j ≡ upd (at block.old) k (Some (record n { ring = ring })) j }
-    ensures len { block.new.len ≡ block.old.len }
-{
-    block.get_mut(k).ring = ring;
+    match link {
+        Link::Before(to) => block.get_mut(k).before = to,
+        Link::Behind(to) => block.get_mut(k).behind = to,
+        Link::Ring(ring) => block.get_mut(k).ring = ring,
+    }
 }
 
 /// Writes the ring of a node and what it holds, and answers what it held.

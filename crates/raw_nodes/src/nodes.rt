@@ -5,7 +5,7 @@ ghost use Rattle.raw_block.specs.Maps.{upd};
 ghost use Rattle.raw_block.specs.Blocks.{at};
 ghost use Rattle.raw_nodes.specs.Free.{place, size, used, IsListed};
 
-use crate::node::{Load, Node, SlotBucket, write_before, write_behind, write_load, write_ring};
+use crate::node::{Link, Load, Node, SlotBucket, write_link, write_load};
 use raw_block::Block;
 use std::alloc::{AllocError, Global};
 use std::mem::replace;
@@ -24,6 +24,7 @@ pub struct Nodes<T> {
 #[tactic(auto, unfolding(crate::specs::Free::place, crate::specs::Nodes::node_at, raw_block::specs::Maps::upd))]
 impl<T: Drop> Nodes<T> {
     ghost use Rattle.raw_nodes.specs.Nodes.{node_at};
+    ghost use Rattle.raw_nodes.specs.Links.{with_link};
     ghost use Rattle.raw_nodes.specs.declared.node.Node.{Node};
     ghost use Rattle.raw_nodes.specs.declared.node.Load.TheVariants.{Free, Sentinel, Bucket};
 
@@ -152,15 +153,25 @@ impl<T: Drop> Nodes<T> {
         }
     }
 
+    /// Writes one link of a node.
+    #[inline]
+    fn set_link(&mut self, k: usize, link: Link)
+        requires { is_some (node_at self.old k) ≡ true }
+        ensures at { (n : Node T) → node_at self.old k ≡ Some n → (j : ℕ) → node_at self.new j ≡ upd (node_at self.old) k (Some (with_link link n)) j }
+        ensures spare { self.new.spare ≡ self.old.spare }
+    {
+        if let Some(block) = &mut self.block {
+            write_link(block, k, link);
+        }
+    }
+
     /// Writes the place behind a node.
     pub fn set_behind(&mut self, k: usize, to: usize)
         requires { is_some (node_at self.old k) ≡ true }
         ensures at { (n : Node T) → node_at self.old k ≡ Some n → (j : ℕ) → node_at self.new j ≡ upd (node_at self.old) k (Some (record n { behind = to })) j }
         ensures spare { self.new.spare ≡ self.old.spare }
     {
-        if let Some(block) = &mut self.block {
-            write_behind(block, k, to);
-        }
+        self.set_link(k, Link::Behind(to));
     }
 
     /// Writes the place before a node.
@@ -169,9 +180,7 @@ impl<T: Drop> Nodes<T> {
         ensures at { (n : Node T) → node_at self.old k ≡ Some n → (j : ℕ) → node_at self.new j ≡ upd (node_at self.old) k (Some (record n { before = to })) j }
         ensures spare { self.new.spare ≡ self.old.spare }
     {
-        if let Some(block) = &mut self.block {
-            write_before(block, k, to);
-        }
+        self.set_link(k, Link::Before(to));
     }
 
     /// Writes the ring of a node, which keeps what it holds.
@@ -180,9 +189,7 @@ impl<T: Drop> Nodes<T> {
         ensures at { (n : Node T) → node_at self.old k ≡ Some n → (j : ℕ) → node_at self.new j ≡ upd (node_at self.old) k (Some (record n { ring = ring })) j }
         ensures spare { self.new.spare ≡ self.old.spare }
     {
-        if let Some(block) = &mut self.block {
-            write_ring(block, k, ring);
-        }
+        self.set_link(k, Link::Ring(ring));
     }
 
     /// Puts a bucket of a ring into a node, and answers what it held.

@@ -9,13 +9,8 @@ use Rattle.ring_calls.specs.Tests.{late_data}
 use Rattle.run_model.specs.Buckets.{is_data, is_eos, is_data_kind, is_eos_kind, has_data, data_after_eos}
 
 pub eos_is_no_data : (k : Kind) → (is_eos_kind k && is_data_kind k) ≡ false
-eos_is_no_data kind.Heap = refl
-eos_is_no_data kind.Transient = refl
-eos_is_no_data kind.Immortal = refl
-eos_is_no_data (kind.Pool p) = refl
-eos_is_no_data kind.File = refl
-eos_is_no_data kind.Flush = refl
 eos_is_no_data kind.Eos = refl
+eos_is_no_data k = refl
 
 -- e: the first bucket is an EOS; d: it is data; a: data stands behind an EOS of the rest; h: the rest has data
 one_more : (e d late a h : Bool) → (e && d) ≡ false → cond e (a || (true && h)) (cond (late && d) true (a || (late && h))) ≡ (((e && h) || a) || (late && (d || h)))

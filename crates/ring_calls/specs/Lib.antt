@@ -14,3 +14,4 @@ pub mod Asked
 pub mod Given
 pub mod LeftAlone
 pub mod Setting
+pub mod Prelude

@@ -1,11 +1,7 @@
 //! The bucket of a brigade that a point lies inside.
 
 ghost use Rattle.std.specs.Prelude.{◌≡◌, ◌<◌, ℕ, Bool, true, is_some, IfSome};
-ghost use Rattle.bucket_ring.specs.Lists.{list_at};
-ghost use Rattle.run_model.specs.BrigadeLists.{bucket_across};
-ghost use Rattle.brigade_ops.specs.Store.{lists, brigade_of, bucket_at};
-ghost use Rattle.ring_calls.specs.Seen.{shown};
-ghost use Rattle.ring_calls.specs.Shown.{shown_at};
+ghost use Rattle.ring_calls.specs.Prelude.{list_at, bucket_across, lists, brigade_of, bucket_at, shown, shown_at};
 
 use brigade_ops::{BrigadeId, Brigades, BucketId, Rings, Stored};
 

@@ -1,26 +1,11 @@
 //! What is asked of the state before an instruction runs: the tests that decide where it leads, and whether there are names enough.
 
 ghost use Rattle.std.specs.Prelude.{◌≡◌, ◌<◌, ◌≤◌, ℕ, None, Some, true, is_some, length};
-ghost use Rattle.module_code.specs.Program.{fits, is_variable};
-ghost use Rattle.run_model.specs.BrigadeLists.{is_short, split_refusal};
-ghost use Rattle.run_model.specs.BucketSteps.{has_rest, is_of_kind, is_unsplit, items_at, kind_is, names_if, names_to_part, names_to_read};
-ghost use Rattle.run_model.specs.Cursors.{bucket_at as model_bucket_at, is_end, spot};
-ghost use Rattle.run_model.specs.Faults.{Anywhere, InBrigade, OnBucket, fault};
-ghost use Rattle.run_model.specs.Pools.{is_empty};
-ghost use Rattle.run_model.specs.State.{items_of};
-ghost use Rattle.run_model.specs.Steps.{is_null, is_spent, lacks_names, names_for, pool_names_for, value_of};
-ghost use Rattle.run_model.specs.declared.bucket.NamedBucket.{NamedBucket};
-ghost use Rattle.pool_tree.specs.Tree.{map_of};
-ghost use Rattle.brigade_ops.specs.Store.{lists, next_name};
-ghost use Rattle.stored_rings.specs.Views.{content_of};
+ghost use Rattle.ring_calls.specs.Prelude.{fits, is_variable, is_short, split_refusal, has_rest, is_of_kind, is_unsplit, items_at, kind_is, names_if, is_end, spot};
+ghost use Rattle.ring_calls.specs.Prelude.{Anywhere, InBrigade, OnBucket, fault, is_empty, items_of, is_null, is_spent, lacks_names, names_for, pool_names_for, value_of, NamedBucket, map_of, lists};
+ghost use Rattle.ring_calls.specs.Prelude.{next_name, content_of, Around, IsHeld, HasNoFault, instr_with, StandsAs, with_outside, seen, live_in, slot_at};
+ghost use Rattle.run_model.specs.Cursors.{bucket_at as model_bucket_at};
 ghost use Rattle.ring_calls.specs.declared.machine.Call.{Call};
-ghost use Rattle.ring_calls.specs.Around.{Around};
-ghost use Rattle.ring_calls.specs.Held.{IsHeld};
-ghost use Rattle.ring_calls.specs.EffectNeeds.{HasNoFault, instr_with};
-ghost use Rattle.ring_calls.specs.Needs.{StandsAs};
-ghost use Rattle.ring_calls.specs.Outside.{with_outside};
-ghost use Rattle.ring_calls.specs.Seen.{seen};
-ghost use Rattle.ring_calls.specs.Slots.{live_in, slot_at};
 
 use crate::across::bucket_across;
 use crate::machine::{Call, CursorValue, Instance, Slot};
@@ -141,22 +126,6 @@ fn has_rest(content: ContentView<'_>) -> bool
     }
 }
 
-/// How many names a read takes.
-#[tactic(auto, using(crate::proofs::Standing::on_bucket))]
-fn names_to_read<R: Rings<Stored> + Drop>(
-    instance: &Instance,
-    call: &Call,
-    store: &Brigades<R>,
-    c: u8,
-) -> u64
-    requires cursor { c < 9 }
-    requires held { IsHeld store.now instance.now call.now }
-    requires stands { StandsAs store.now instance.now call.now c InBrigade }
-    ensures { (around : Around) → result ≡ names_to_read (spot (seen store.now around instance.now call.now) c) }
-{
-    names_if(has_rest(view_at(instance, call, store, c).content))
-}
-
 /// Whether a brigade has fewer bytes than a partition wants.
 #[tactic(auto, using(crate::proofs::Slots::made_in))]
 pub(crate) fn is_incomplete<R: Rings<Stored> + Drop>(
@@ -171,22 +140,6 @@ pub(crate) fn is_incomplete<R: Rings<Stored> + Drop>(
 {
     let point = u128::from(value_of(instance, x));
     store.length(instance.brigade(b)) < point
-}
-
-/// How many names a partition takes.
-#[tactic(auto, using(crate::proofs::Slots::made_in))]
-fn names_to_part<R: Rings<Stored> + Drop>(
-    instance: &Instance,
-    store: &Brigades<R>,
-    b: u8,
-    x: Value,
-) -> u64
-    requires slot { b < 9 }
-    requires live { is_some (live_in (lists store.now) (slot_at instance.now b)) ≡ true }
-    ensures { (around : Around) (call : Call) → let r = seen store.now around instance.now call in result ≡ names_to_part (value_of r x) (items_at r b) }
-{
-    let point = u64::from(value_of(instance, x));
-    names_if(bucket_across(store, instance.brigade(b), point).is_some())
 }
 
 /// Whether a brigade has no buckets.
@@ -221,6 +174,7 @@ pub fn is_null<R: Rings<Stored> + Drop>(
 }
 
 /// How many names of buckets and brigades an effect gives out.
+#[tactic(auto, using(crate::proofs::Slots::made_in, crate::proofs::Standing::on_bucket))]
 #[inline(always)]
 fn names<R: Rings<Stored> + Drop>(
     code: &Module,
@@ -237,9 +191,12 @@ fn names<R: Rings<Stored> + Drop>(
 {
     match effect {
         Effect::MakeBrigade(_) | Effect::Make(_, _) => 1,
-        Effect::PartBrigade(b, x, _) => names_to_part(instance, store, b, x),
+        Effect::PartBrigade(b, x, _) => {
+            let point = u64::from(value_of(instance, x));
+            names_if(bucket_across(store, instance.brigade(b), point).is_some())
+        }
         Effect::Split(c, x) => names_if(!is_unsplit(instance, call, store, x, c)),
-        Effect::Read(c) => names_to_read(instance, call, store, c),
+        Effect::Read(c) => names_if(has_rest(view_at(instance, call, store, c).content)),
         _ => 0,
     }
 }

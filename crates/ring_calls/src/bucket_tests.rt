@@ -2,13 +2,7 @@
 
 ghost use Rattle.std.specs.Prelude.{◌≡◌, ℕ, Bool, Some, true, is_some};
 ghost use Rattle.std.specs.List.{list_any};
-ghost use Rattle.bucket_ring.specs.Lists.{list_at};
-ghost use Rattle.bucket_ring.specs.declared.names.BucketId.{BucketId};
-ghost use Rattle.run_model.specs.declared.bucket.Bucket.{Bucket};
-ghost use Rattle.run_model.specs.declared.bucket.NamedBucket.{NamedBucket};
-ghost use Rattle.brigade_ops.specs.Store.{lists, brigade_of, bucket_at};
-ghost use Rattle.stored_rings.specs.Items.{named_item};
-ghost use Rattle.ring_calls.specs.Seen.{item_in, shown};
+ghost use Rattle.ring_calls.specs.Prelude.{list_at, BucketId, Bucket, NamedBucket, lists, brigade_of, bucket_at, named_item, item_in, shown};
 
 use brigade_ops::{BrigadeId, Brigades, BucketId, Rings, Stored};
 

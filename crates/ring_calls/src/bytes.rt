@@ -1,21 +1,9 @@
 //! What instructions do with the bytes of buckets and of a call's buffer.
 
 ghost use Rattle.std.specs.Prelude.{◌≡◌, ◌<◌, ◌||◌, ℕ, Option, nat_lt, nat_le, true, IsOk, OnOk, OnErr};
-ghost use Rattle.bucket_ring.specs.declared.names.BucketId.{BucketId};
-ghost use Rattle.run_model.specs.BucketSteps.{byte_of, content_at, got};
-ghost use Rattle.run_model.specs.declared.effect.NewNumber.TheVariants.{LengthAt};
-ghost use Rattle.run_model.specs.Cursors.{spot, read_cursor};
-ghost use Rattle.run_model.specs.Cutting.{length_of};
-ghost use Rattle.run_model.specs.Faults.{OnBucket};
-ghost use Rattle.run_model.specs.Steps.{buffer_limit, do_put, is_full, number_of, value_of};
-ghost use Rattle.stored_rings.specs.Items.{Items};
-ghost use Rattle.stored_rings.specs.Views.{content_of};
+ghost use Rattle.ring_calls.specs.Prelude.{BucketId, byte_of, content_at, got, LengthAt, spot, read_cursor, length_of, OnBucket, buffer_limit, do_put, is_full, number_of, value_of, Items};
+ghost use Rattle.ring_calls.specs.Prelude.{content_of, Around, HeldOver, IsHeld, StandsAs, seen, seen_over, cursor_at, slot_at};
 ghost use Rattle.ring_calls.specs.declared.machine.Instance.{Instance};
-ghost use Rattle.ring_calls.specs.Around.{Around};
-ghost use Rattle.ring_calls.specs.Held.{HeldOver, IsHeld};
-ghost use Rattle.ring_calls.specs.Needs.{StandsAs};
-ghost use Rattle.ring_calls.specs.Seen.{seen, seen_over};
-ghost use Rattle.ring_calls.specs.Slots.{cursor_at, slot_at};
 
 use crate::asks::view_at;
 use crate::machine::{Call, Instance};

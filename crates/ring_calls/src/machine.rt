@@ -1,10 +1,7 @@
 //! What a step sees: an instance of a module, and a call of one of its handlers.
 
 ghost use Rattle.std.specs.Prelude.{◌⊎◌, ◌≡◌, ◌<◌, ◌==◌, ◌||◌, ◌+◌, ℕ, Option, [], None, Some, true, false, is_some, if◌then◌else◌, slice_index_or, OnOk};
-ghost use Rattle.stored_rings.specs.Items.{Items};
-ghost use Rattle.run_model.specs.State.{set_cursor};
-ghost use Rattle.ring_calls.specs.Around.{Around};
-ghost use Rattle.ring_calls.specs.Seen.{seen_over, shown_cursor};
+ghost use Rattle.ring_calls.specs.Prelude.{Items, set_cursor, Around, seen_over, shown_cursor};
 
 use brigade_ops::{BrigadeId, BucketId};
 use pool_tree::PoolId;

@@ -1,12 +1,8 @@
 //! Pool variables, and the pools that operands name.
 
 ghost use Rattle.std.specs.Prelude.{◌≡◌, ℕ, Option, slice_index_or};
-ghost use Rattle.run_model.specs.State.{name_in, is_named, pool_named};
-ghost use Rattle.stored_rings.specs.Items.{Items};
+ghost use Rattle.ring_calls.specs.Prelude.{name_in, is_named, pool_named, Items, Around, with_outside, seen_over};
 ghost use Rattle.ring_calls.specs.declared.machine.Call.{Call};
-ghost use Rattle.ring_calls.specs.Around.{Around};
-ghost use Rattle.ring_calls.specs.Outside.{with_outside};
-ghost use Rattle.ring_calls.specs.Seen.{seen_over};
 
 use crate::machine::Instance;
 use crate::outside::Outside;

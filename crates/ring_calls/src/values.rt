@@ -1,14 +1,9 @@
 //! What instructions do to numbers and to a call's buffer.
 
 ghost use Rattle.std.specs.Prelude.{◌≡◌, ◌==◌, ◌<◌, ◌-◌, ◌+◌, ◌++◌, ◌∷◌, [], ℕ, Option, min, nat_lt, OnOk, OnErr};
-ghost use Rattle.run_model.specs.State.{set_number};
-ghost use Rattle.run_model.specs.Steps.{value_of, do_clearbuf, last_value};
-ghost use Rattle.stored_rings.specs.Items.{Items};
+ghost use Rattle.ring_calls.specs.Prelude.{set_number, value_of, do_clearbuf, last_value, Items, Around, seen_over, slot_at, cursor_at};
 ghost use Rattle.ring_calls.specs.declared.machine.Instance.{Instance};
 ghost use Rattle.ring_calls.specs.declared.machine.Call.{Call};
-ghost use Rattle.ring_calls.specs.Around.{Around};
-ghost use Rattle.ring_calls.specs.Seen.{seen_over};
-ghost use Rattle.ring_calls.specs.Slots.{slot_at, cursor_at};
 
 use crate::machine::{Call, Instance};
 use run_model::Value;

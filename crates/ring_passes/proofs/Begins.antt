@@ -1,6 +1,5 @@
 -- A call begins: what its instance reads as, and what is held.
 use Rattle.std.proofs.Common.{◌≡◌, ◌≢◌, ℕ, zero, suc, ◌+◌, ◌<◌, Bool, true, false, ◌&&◌, nat_lt, cond, List, [], ◌∷◌, Some, None, Option, is_some, refl, sym, ap, subst, ◌∙◌, inl, inr, arith}
-use Rattle.std.specs.Prelude.{if◌then◌else◌}
 use Rattle.std.specs.Option.{option_map_or}
 use Rattle.std.proofs.Math.Path.{fun_ext}
 use Rattle.std.proofs.lemmas.Bool.{cases_eq, ltb-true}
@@ -8,7 +7,6 @@ use Rattle.bucket_ring.specs.declared.names.BucketId.{BucketId}
 use Rattle.bucket_ring.specs.declared.rings.Rings.{Ghosts}
 use Rattle.bucket_ring.specs.Lists as ring
 use Rattle.bucket_ring.specs.Lists.{list_at, times, same}
-use Rattle.bucket_ring.specs.Laws.{same_self}
 use Rattle.bucket_ring.specs.Kept.{NoneRevived}
 use Rattle.run_model.specs.declared.bucket.Bucket.{Bucket}
 use Rattle.run_model.specs.declared.bucket.NamedBucket.{NamedBucket}
@@ -35,7 +33,9 @@ use Rattle.ring_calls.specs.Held.{IsHeld}
 use Rattle.ring_calls.specs.Slots.{slot_at, cursor_at, name_in}
 use Rattle.ring_calls.specs.Seen.{seen_over, calls_in, is_running, home_in, item_in, shown, shown_as, shown_slot, shown_cursor}
 use Rattle.ring_calls.proofs.Changes.{ring_here, ring_off}
+use Rattle.ring_calls.proofs.Points.{times_behind}
 use Rattle.ring_calls.proofs.Running.{running_waits}
+use Rattle.ring_calls.proofs.Slots.{head_in}
 
 running_other : (k : ℕ) (waits : List ℕ) (n : ℕ) → n ≢ k → is_running k waits n ≡ is_running 0 waits n
 running_other k waits zero ne = refl
@@ -63,16 +63,8 @@ item_begun k waits x older = ap (λ (h : Home). let y : Bucket = record x.1 { ho
 pub items_begun : (k : ℕ) (waits : List ℕ) (xs : Items) → ((id : BucketId) → 0 < times id xs → id.birth < k) → shown (is_running k waits) xs ≡ shown (is_running 0 waits) xs
 items_begun k waits [] older = refl
 items_begun k waits (x ∷ xs) older =
-    ap (λ (b : NamedBucket). b ∷ shown (is_running k waits) xs) (item_begun k waits x (older x.0 here))
-    ∙ ap (λ (bs : List NamedBucket). named_item (item_in (is_running 0 waits) x) ∷ bs) (items_begun k waits xs (λ id there. older id (behind id there))) where
-      here : 0 < times x.0 (x ∷ xs)
-      here = rw (same_self x.0) (omega (arith))
-
-      behind : (id : BucketId) → 0 < times id xs → 0 < times id (x ∷ xs)
-      behind id there = go (same x.0 id) where
-        go : (t : Bool) → 0 < (if t then suc (times id xs) else times id xs)
-        go true = omega (arith)
-        go false = there
+    ap (λ (b : NamedBucket). b ∷ shown (is_running k waits) xs) (item_begun k waits x (older x.0 (head_in x xs)))
+    ∙ ap (λ (bs : List NamedBucket). named_item (item_in (is_running 0 waits) x) ∷ bs) (items_begun k waits xs (λ id there. older id (times_behind id x [] xs there)))
 
 module _ {R : Type 0} {g : Ghosts R Stored} (old new : Brigades R g) (i : Instance) (call begun : Call) (held : IsHeld old i call)
     (idle : call.name ≡ 0) (over : (n : ℕ) → lists new n ≡ ring.upd (lists old) (next_name old) (Some []) n) (name : begun.name ≡ next_name old)

@@ -3,3 +3,4 @@ pub mod Begun
 pub mod Handed
 pub mod NamedBelow
 pub mod Pieces
+pub mod Prelude

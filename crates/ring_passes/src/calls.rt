@@ -1,16 +1,8 @@
 //! Calls begin and return.
 
 ghost use Rattle.std.specs.Prelude.{◌≡◌, ◌==◌, ◌↔◌, ℕ, ◌<◌, ◌+◌, false, None, Some, [], is_ok, if◌then◌else◌, OnOk, OnErr, IsErrOf};
-ghost use Rattle.ring_passes.specs.Begun.{begun_as};
+ghost use Rattle.ring_passes.specs.Prelude.{begun_as, upd, NoneRevived, do_return, lists, brigade_of, pool_of, references, next_name, Around, IsHeld, seen, cursor_at, slot_at, SameButSlots};
 ghost use Rattle.std.specs.List.{list_any};
-ghost use Rattle.bucket_ring.specs.Lists.{upd};
-ghost use Rattle.bucket_ring.specs.Kept.{NoneRevived};
-ghost use Rattle.run_model.specs.Steps.{do_return};
-ghost use Rattle.brigade_ops.specs.Store.{lists, brigade_of, pool_of, references, next_name};
-ghost use Rattle.ring_calls.specs.Around.{Around};
-ghost use Rattle.ring_calls.specs.Held.{IsHeld};
-ghost use Rattle.ring_calls.specs.Seen.{seen};
-ghost use Rattle.ring_calls.specs.Slots.{cursor_at, slot_at, SameButSlots};
 
 use brigade_ops::{BrigadeId, Brigades, RingRefusal, Rings, Stored};
 use ring_calls::machine::{Call, CursorValue, Instance, Slot};

@@ -1,28 +1,9 @@
 //! The end of the chain, where the bytes of brigades become output.
 
 ghost use Rattle.std.specs.Prelude.{◌≡◌, ◌==◌, ◌⊎◌, ◌+◌, ◌<◌, ◌≤◌, ◌^◌, ◌*◌, ℕ, Bool, true, false, not, ◌&&◌, length, is_some, if◌then◌else◌, All, Some, IsOk, IfOk, OnOk, OnErr};
-ghost use Rattle.bucket_kinds.specs.Device.{SomeWentWell, counts, is_there};
-ghost use Rattle.bucket_kinds.specs.Reading.{IsOpenFor};
-ghost use Rattle.bucket_ring.specs.declared.names.BucketId.{BucketId};
-ghost use Rattle.bucket_ring.specs.Lists.{list_at};
-ghost use Rattle.run_model.specs.Buckets.{is_eos_kind};
-ghost use Rattle.run_model.specs.BrigadeLists.{length_in};
-ghost use Rattle.run_model.specs.State.{items_of};
-ghost use Rattle.run_model.specs.Steps.{do_pass, has_bytes};
-ghost use Rattle.run_model.specs.Cutting.{EndsInFile, length_of, read_limit};
-ghost use Rattle.run_model.specs.declared.bucket.Bucket.{Bucket};
-ghost use Rattle.stored_rings.specs.Items.{named};
-ghost use Rattle.brigade_ops.specs.Store.{lists, brigade_of, bucket_at};
-ghost use Rattle.stored_rings.specs.Views.{content_of};
-ghost use Rattle.ring_passes.specs.Delivery.{ContentAdded, HasFront, IsFetched, ItemsAdded, WasDelivered, out_of};
-ghost use Rattle.ring_calls.specs.declared.machine.Call.{Call};
-ghost use Rattle.ring_calls.specs.Around.{Around};
-ghost use Rattle.ring_calls.specs.Ends.{EndInFiles};
-ghost use Rattle.ring_calls.specs.Given.{RangeIsOpen};
-ghost use Rattle.ring_calls.specs.Held.{IsHeld};
-ghost use Rattle.ring_calls.specs.LeftAlone.{LeavesOthers};
-ghost use Rattle.ring_calls.specs.Slots.{live_in, marked, slot_at};
-ghost use Rattle.ring_calls.specs.Seen.{seen, shown};
+ghost use Rattle.ring_passes.specs.Prelude.{SomeWentWell, counts, is_there, IsOpenFor, BucketId, list_at, is_eos_kind, length_in, items_of, do_pass, has_bytes, EndsInFile, length_of, read_limit};
+ghost use Rattle.ring_passes.specs.Prelude.{Bucket, named, lists, brigade_of, bucket_at, content_of, ContentAdded, HasFront, IsFetched, ItemsAdded, WasDelivered, out_of, Call, Around, EndInFiles};
+ghost use Rattle.ring_passes.specs.Prelude.{RangeIsOpen, IsHeld, LeavesOthers, live_in, marked, slot_at, seen, shown};
 
 use crate::output_block::OutputBlock;
 use crate::passes::{hand_over, has_eos, is_eos};

@@ -1,18 +1,8 @@
 //! A brigade is handed from one filter to the next.
 
 ghost use Rattle.std.specs.Prelude.{◌≡◌, ◌≢◌, ◌==◌, ◌<◌, ◌||◌, ℕ, Bool, Some, None, true, is_some, if◌then◌else◌};
-ghost use Rattle.bucket_ring.specs.Lists.{list_at};
-ghost use Rattle.run_model.specs.Buckets.{has_eos, is_eos_kind};
-ghost use Rattle.run_model.specs.State.{set_brigade};
-ghost use Rattle.run_model.specs.Steps.{do_pass};
-ghost use Rattle.brigade_ops.specs.Store.{lists};
-ghost use Rattle.ring_calls.specs.declared.machine.Call.{Call};
-ghost use Rattle.ring_calls.specs.Around.{Around};
-ghost use Rattle.ring_calls.specs.Contents.{contents};
-ghost use Rattle.ring_passes.specs.Handed.{lent};
-ghost use Rattle.ring_calls.specs.Held.{IsHeld};
-ghost use Rattle.ring_calls.specs.Seen.{seen, calls_in, shown, shown_slot};
-ghost use Rattle.ring_calls.specs.Slots.{live_in, marked, name_in, slot_at};
+ghost use Rattle.ring_passes.specs.Prelude.{list_at, has_eos, is_eos_kind, set_brigade, do_pass, lists, Call, Around, contents, lent, IsHeld, seen, calls_in, shown, shown_slot, live_in, marked};
+ghost use Rattle.ring_passes.specs.Prelude.{name_in, slot_at};
 
 use brigade_ops::{BrigadeId, Brigades, Rings, Stored};
 use ring_calls::bucket_tests::any_bucket;

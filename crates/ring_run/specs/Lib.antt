@@ -6,3 +6,4 @@ pub mod Grows
 pub mod Operands
 pub mod CarriedOut
 pub mod LabelsKept
+pub mod Prelude

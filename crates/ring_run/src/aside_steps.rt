@@ -1,21 +1,8 @@
 //! What instructions do to a bucket that is set aside (apr_bucket_setaside).
 
 ghost use Rattle.std.specs.Prelude.{◌≡◌, ◌<◌, Some, false, option_to_list, IsTrue, IsOk, OnOk, OnErr};
-ghost use Rattle.bucket_kinds.specs.Device.{Device};
-ghost use Rattle.bucket_kinds.specs.Reading.{IsOpenFor};
-ghost use Rattle.run_model.specs.BucketSteps.{content_at, do_aside};
-ghost use Rattle.run_model.specs.Cursors.{bucket_at, spot};
-ghost use Rattle.run_model.specs.Faults.{OnBucket};
-ghost use Rattle.run_model.specs.Pools.{is_live};
-ghost use Rattle.run_model.specs.Steps.{takes_reference};
-ghost use Rattle.pool_tree.specs.Tree.{map_of};
-ghost use Rattle.brigade_ops.specs.House.{AreOpen, IsHouse};
-ghost use Rattle.brigade_ops.specs.Store.{references};
-ghost use Rattle.ring_calls.specs.Around.{Around};
-ghost use Rattle.ring_calls.specs.Held.{IsHeld};
-ghost use Rattle.ring_calls.specs.LeftAlone.{LeavesRest};
-ghost use Rattle.ring_calls.specs.Needs.{StandsAs};
-ghost use Rattle.ring_calls.specs.Seen.{seen};
+ghost use Rattle.ring_run.specs.Prelude.{Device, IsOpenFor, content_at, do_aside, bucket_at, spot, OnBucket, is_live, takes_reference, map_of, AreOpen, IsHouse, references, Around, IsHeld};
+ghost use Rattle.ring_run.specs.Prelude.{LeavesRest, StandsAs, seen};
 
 use brigade_ops::{Brigades, PoolId, PoolTree, Rings, Stored};
 use ring_calls::machine::{Call, Instance};

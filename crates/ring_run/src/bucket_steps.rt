@@ -1,21 +1,8 @@
 //! What instructions do to buckets: they are taken out, put in and destroyed (apr_buckets.h).
 
 ghost use Rattle.std.specs.Prelude.{◌≡◌, ◌<◌, ℕ, Some, is_some, true};
-ghost use Rattle.bucket_ring.specs.Kept.{NoneRevived};
-ghost use Rattle.bucket_ring.specs.Lists.{found, list_at, on, without};
-ghost use Rattle.run_model.specs.BucketSteps.{do_before, do_delete, do_unlink, put_into};
-ghost use Rattle.run_model.specs.Cursors.{spot};
-ghost use Rattle.run_model.specs.Faults.{InBrigade, OnBucket, OnLoose};
-ghost use Rattle.run_model.specs.Steps.{put_at};
-ghost use Rattle.run_model.specs.declared.bucket.Bucket.{Bucket};
-ghost use Rattle.brigade_ops.specs.Store.{lists, brigade_of, pool_of, references, next_name};
-ghost use Rattle.ring_run.specs.Making.{put_item};
-ghost use Rattle.ring_calls.specs.Around.{Around};
-ghost use Rattle.ring_calls.specs.Held.{IsHeld};
-ghost use Rattle.ring_calls.specs.LeftAlone.{LeavesOthers};
-ghost use Rattle.ring_calls.specs.Needs.{StandsAs};
-ghost use Rattle.ring_calls.specs.Seen.{seen};
-ghost use Rattle.ring_calls.specs.Slots.{live_in, slot_at};
+ghost use Rattle.ring_run.specs.Prelude.{NoneRevived, found, list_at, on, without, do_before, do_delete, do_unlink, put_into, spot, InBrigade, OnBucket, OnLoose, put_at, Bucket, lists, brigade_of};
+ghost use Rattle.ring_run.specs.Prelude.{pool_of, references, next_name, put_item, Around, IsHeld, LeavesOthers, StandsAs, seen, live_in, slot_at};
 
 use brigade_ops::{BrigadeId, Brigades, BucketId, Rings, Stored};
 use ring_calls::machine::{Call, Instance};

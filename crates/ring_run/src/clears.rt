@@ -1,19 +1,8 @@
 //! Pools are cleared and destroyed (apr_pool_clear, apr_pool_destroy).
 
 ghost use Rattle.std.specs.Prelude.{◌≡◌, ◌≢◌, ◌∷◌, [], ℕ, Some, IsTrue, OnOk, OnErr};
-ghost use Rattle.module_code.specs.Program.{Program};
-ghost use Rattle.bucket_ring.specs.Kept.{NoneRevived};
-ghost use Rattle.run_model.specs.Pools.{is_live, is_under};
-ghost use Rattle.pool_tree.specs.Tree.{map_of};
-ghost use Rattle.brigade_ops.specs.House.{IsHouse, AreOpen};
-ghost use Rattle.brigade_ops.specs.Store.{brigade_of, pool_of, references, next_name};
-ghost use Rattle.ring_calls.specs.Around.{Around};
-ghost use Rattle.ring_calls.specs.Held.{IsHeld};
-ghost use Rattle.ring_calls.specs.LeftAlone.{LeavesRest, LeavesUncleared};
-ghost use Rattle.ring_calls.specs.Seen.{seen};
-ghost use Rattle.ring_run.specs.CarriedOut.{WasDone, during, with_files};
-ghost use Rattle.ring_run.specs.Cleared.{LooksAt};
-ghost use Rattle.ring_run.specs.Operands.{clear_kind, pool_to_clear};
+ghost use Rattle.ring_run.specs.Prelude.{Program, NoneRevived, is_live, is_under, map_of, IsHouse, AreOpen, brigade_of, pool_of, references, next_name, Around, IsHeld, LeavesRest, LeavesUncleared};
+ghost use Rattle.ring_run.specs.Prelude.{seen, WasDone, during, with_files, LooksAt, clear_kind, pool_to_clear};
 
 use crate::labels::add_labels;
 use crate::labels_run::LabelsRun;

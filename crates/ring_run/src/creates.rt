@@ -1,19 +1,7 @@
 //! What makes a brigade (apr_brigade_create).
 
 ghost use Rattle.std.specs.Prelude.{◌≡◌, ◌<◌, Some, IsTrue, OnOk, OnErr};
-ghost use Rattle.module_code.specs.Program.{Program, pool_of_brigade};
-ghost use Rattle.run_model.specs.Pools.{is_live};
-ghost use Rattle.run_model.specs.State.{pool_named};
-ghost use Rattle.run_model.specs.Steps.{do_create};
-ghost use Rattle.pool_tree.specs.Tree.{map_of};
-ghost use Rattle.brigade_ops.specs.House.{IsHouse};
-ghost use Rattle.brigade_ops.specs.Store.{next_name, references};
-ghost use Rattle.ring_calls.specs.declared.machine.Call.{Call};
-ghost use Rattle.ring_calls.specs.Around.{Around};
-ghost use Rattle.ring_run.specs.CarriedOut.{KeepNames};
-ghost use Rattle.ring_calls.specs.Held.{IsHeld};
-ghost use Rattle.ring_calls.specs.LeftAlone.{LeavesRest};
-ghost use Rattle.ring_calls.specs.Seen.{seen};
+ghost use Rattle.ring_run.specs.Prelude.{Program, pool_of_brigade, is_live, pool_named, do_create, map_of, IsHouse, next_name, references, Call, Around, KeepNames, IsHeld, LeavesRest, seen};
 
 use brigade_ops::{Brigades, PoolId, PoolTree, Rings, Stored};
 use ring_calls::machine::{Instance, Slot};

@@ -1,19 +1,8 @@
 //! What instructions do to brigades that are walked (apr_buckets.h).
 
 ghost use Rattle.std.specs.Prelude.{◌≡◌, ◌<◌, ℕ, true, is_some, Some};
-ghost use Rattle.bucket_ring.specs.declared.names.BucketId.{BucketId};
-ghost use Rattle.bucket_ring.specs.Lists.{list_at};
-ghost use Rattle.run_model.specs.BrigadeLists.{first_place, next_place};
-ghost use Rattle.run_model.specs.BucketSteps.{cursor_at, do_first, do_next, items_at};
-ghost use Rattle.run_model.specs.Cursors.{spot};
-ghost use Rattle.run_model.specs.Faults.{InBrigade};
-ghost use Rattle.brigade_ops.specs.Store.{lists, brigade_of};
-ghost use Rattle.ring_calls.specs.declared.machine.Call.{Call};
-ghost use Rattle.ring_calls.specs.Around.{Around};
-ghost use Rattle.ring_calls.specs.Held.{IsHeld, WasGiven};
-ghost use Rattle.ring_calls.specs.Needs.{StandsAs};
-ghost use Rattle.ring_calls.specs.Slots.{live_in, name_in, slot_at};
-ghost use Rattle.ring_calls.specs.Seen.{seen, seen_over, shown_cursor};
+ghost use Rattle.ring_run.specs.Prelude.{BucketId, list_at, first_place, next_place, cursor_at, do_first, do_next, items_at, spot, InBrigade, lists, brigade_of, Call, Around, IsHeld, WasGiven};
+ghost use Rattle.ring_run.specs.Prelude.{StandsAs, live_in, name_in, slot_at, seen, seen_over, shown_cursor};
 
 use brigade_ops::{Brigades, BucketId, Rings, Stored};
 use ring_calls::machine::{Call, CursorValue, Instance};

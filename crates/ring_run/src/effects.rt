@@ -1,14 +1,7 @@
 //! What instructions do to whole brigades.
 
 ghost use Rattle.std.specs.Prelude.{◌≡◌, ◌≢◌, ◌<◌, ℕ, true, is_some, IsOk, OnOk, OnErr};
-ghost use Rattle.run_model.specs.Steps.{do_clean, do_concat};
-ghost use Rattle.brigade_ops.specs.Store.{lists};
-ghost use Rattle.ring_calls.specs.declared.machine.Call.{Call};
-ghost use Rattle.ring_calls.specs.Around.{Around};
-ghost use Rattle.ring_calls.specs.Held.{VariablesApart, IsHeld};
-ghost use Rattle.ring_calls.specs.LeftAlone.{LeavesOthers};
-ghost use Rattle.ring_calls.specs.Slots.{live_in, name_in, slot_at};
-ghost use Rattle.ring_calls.specs.Seen.{seen};
+ghost use Rattle.ring_run.specs.Prelude.{do_clean, do_concat, lists, Call, Around, VariablesApart, IsHeld, LeavesOthers, live_in, name_in, slot_at, seen};
 
 use brigade_ops::{Brigades, Rings, Stored};
 use ring_calls::machine::Instance;

@@ -1,25 +1,8 @@
 //! One instruction is carried out: what it does, and where it leads.
 
 ghost use Rattle.std.specs.Prelude.{◌≡◌, ◌≢◌, ◌∷◌, ◌≤◌, ◌<◌, ℕ, [], None, Some, true, false, length, IsOk, IfOk, OnOk, OnErr};
-ghost use Rattle.module_code.specs.Program.{fits};
-ghost use Rattle.bucket_ring.specs.Kept.{NoneRevived};
-ghost use Rattle.run_model.specs.Faults.{fault};
-ghost use Rattle.run_model.specs.Pools.{is_under};
-ghost use Rattle.run_model.specs.Steps.{grows};
-ghost use Rattle.pool_tree.specs.Tree.{map_of};
-ghost use Rattle.brigade_ops.specs.House.{IsHouse, AreOpen};
-ghost use Rattle.brigade_ops.specs.Store.{brigade_of, pool_of, references, next_name};
-ghost use Rattle.ring_run.specs.Apart.{clears_pool, is_carried};
-ghost use Rattle.ring_calls.specs.Around.{Around};
-ghost use Rattle.ring_run.specs.CarriedOut.{KeepNames, WasCarriedOut, during, with_files};
-ghost use Rattle.ring_run.specs.Cleared.{LooksAt};
-ghost use Rattle.ring_calls.specs.Ends.{EndInFiles, FitKinds};
-ghost use Rattle.ring_calls.specs.Given.{RangesOpen};
-ghost use Rattle.ring_calls.specs.Held.{IsHeld};
-ghost use Rattle.ring_calls.specs.LeftAlone.{LeavesRest, LeavesUncleared};
-ghost use Rattle.ring_run.specs.Operands.{cleared_in};
-ghost use Rattle.ring_calls.specs.Seen.{seen};
-ghost use Rattle.ring_calls.specs.Setting.{in_setting};
+ghost use Rattle.ring_run.specs.Prelude.{fits, NoneRevived, fault, is_under, grows, map_of, IsHouse, AreOpen, brigade_of, pool_of, references, next_name, clears_pool, is_carried, Around, KeepNames};
+ghost use Rattle.ring_run.specs.Prelude.{WasCarriedOut, during, with_files, LooksAt, EndInFiles, FitKinds, RangesOpen, IsHeld, LeavesRest, LeavesUncleared, cleared_in, seen, in_setting};
 
 use crate::clears::clear_pool;
 use crate::execute_without_files::execute_without_files;

@@ -1,20 +1,9 @@
 //! What an effect does that changes no pools and no files.
 
 ghost use Rattle.std.specs.Prelude.{◌≡◌, ◌<◌, ◌≤◌, ℕ, None, true, false, length, IsOk, OnOk, OnErr};
-ghost use Rattle.module_code.specs.Program.{fits};
-ghost use Rattle.run_model.specs.BucketSteps.{got};
+ghost use Rattle.ring_run.specs.Prelude.{fits, got, Choice, do_effect, number_of, changes_pools_by, keeps_files_by, HasNoFault, instr_with, grows_by, Around, EndInFiles, FitKinds, IsHeld};
+ghost use Rattle.ring_run.specs.Prelude.{LeavesOthers, with_outside, seen, name_in, slot_at};
 ghost use Rattle.run_model.specs.declared.effect.Effect.TheVariants as effect;
-ghost use Rattle.run_model.specs.Steps.{Choice, do_effect, number_of};
-ghost use Rattle.ring_run.specs.Apart.{changes_pools_by, keeps_files_by};
-ghost use Rattle.ring_calls.specs.EffectNeeds.{HasNoFault, instr_with};
-ghost use Rattle.ring_run.specs.Grows.{grows_by};
-ghost use Rattle.ring_calls.specs.Around.{Around};
-ghost use Rattle.ring_calls.specs.Ends.{EndInFiles, FitKinds};
-ghost use Rattle.ring_calls.specs.Held.{IsHeld};
-ghost use Rattle.ring_calls.specs.LeftAlone.{LeavesOthers};
-ghost use Rattle.ring_calls.specs.Outside.{with_outside};
-ghost use Rattle.ring_calls.specs.Seen.{seen};
-ghost use Rattle.ring_calls.specs.Slots.{name_in, slot_at};
 
 use crate::execute_in_store::move_buckets;
 use crate::{effects, makers, part_steps, split_steps};

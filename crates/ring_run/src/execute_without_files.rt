@@ -1,23 +1,8 @@
 //! What an effect does that neither clears a pool nor reads.
 
 ghost use Rattle.std.specs.Prelude.{◌≡◌, ◌≤◌, ◌<◌, true, false, length, IsOk, OnOk, OnErr};
-ghost use Rattle.module_code.specs.Program.{fits};
-ghost use Rattle.bucket_kinds.specs.Device.{Device};
-ghost use Rattle.run_model.specs.Steps.{Choice, do_effect};
-ghost use Rattle.pool_tree.specs.Tree.{map_of};
-ghost use Rattle.brigade_ops.specs.House.{IsHouse, AreOpen};
-ghost use Rattle.brigade_ops.specs.Store.{references, next_name};
-ghost use Rattle.ring_run.specs.Apart.{keeps_files_by};
-ghost use Rattle.ring_calls.specs.Around.{Around};
-ghost use Rattle.ring_run.specs.CarriedOut.{KeepNames};
-ghost use Rattle.ring_calls.specs.EffectNeeds.{HasNoFault, instr_with};
-ghost use Rattle.ring_run.specs.Grows.{grows_by};
-ghost use Rattle.ring_calls.specs.Ends.{EndInFiles, FitKinds};
-ghost use Rattle.ring_calls.specs.Given.{RangesOpen};
-ghost use Rattle.ring_calls.specs.Held.{IsHeld};
-ghost use Rattle.ring_calls.specs.LeftAlone.{LeavesRest};
-ghost use Rattle.ring_calls.specs.Seen.{seen};
-ghost use Rattle.ring_calls.specs.Setting.{in_setting};
+ghost use Rattle.ring_run.specs.Prelude.{fits, Device, Choice, do_effect, map_of, IsHouse, AreOpen, references, next_name, keeps_files_by, Around, KeepNames, HasNoFault, instr_with, grows_by};
+ghost use Rattle.ring_run.specs.Prelude.{EndInFiles, FitKinds, RangesOpen, IsHeld, LeavesRest, seen, in_setting};
 
 use crate::aside_steps::aside;
 use crate::creates::create;

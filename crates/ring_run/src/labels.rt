@@ -2,10 +2,7 @@
 
 ghost use Rattle.std.specs.Prelude.{◌≡◌, ◌<◌, ◌++◌, [], false, filter, MatchOption, vec_len, vec_capacity};
 ghost use Rattle.std.specs.List.{list_any};
-ghost use Rattle.run_model.specs.Payloads.{is_label, labels_in};
-ghost use Rattle.pool_tree.specs.Payloads.{IsLastAt};
-ghost use Rattle.ring_run.specs.CarriedOut.{labels_handed};
-ghost use Rattle.ring_run.specs.LabelsKept.{is_run, AreLabels};
+ghost use Rattle.ring_run.specs.Prelude.{is_label, labels_in, IsLastAt, labels_handed, is_run, AreLabels};
 
 use crate::labels_run::LabelsRun;
 use brigade_ops::PoolId;

@@ -1,16 +1,7 @@
 //! The pools that operands and declarations name, where there is no fault.
 
 ghost use Rattle.std.specs.Prelude.{◌≡◌, ℕ, Option, None, Some, IsTrue};
-ghost use Rattle.run_model.specs.Faults.{WPool, fault_want};
-ghost use Rattle.run_model.specs.Pools.{is_live};
-ghost use Rattle.run_model.specs.State.{pool_named};
-ghost use Rattle.pool_tree.specs.Tree.{map_of};
-ghost use Rattle.stored_rings.specs.Items.{Items};
-ghost use Rattle.ring_calls.specs.declared.machine.Call.{Call};
-ghost use Rattle.ring_calls.specs.Around.{Around};
-ghost use Rattle.ring_calls.specs.Outside.{with_outside};
-ghost use Rattle.ring_calls.specs.Seen.{seen_over};
-ghost use Rattle.ring_calls.specs.Setting.{in_setting};
+ghost use Rattle.ring_run.specs.Prelude.{WPool, fault_want, is_live, pool_named, map_of, Items, Call, Around, with_outside, seen_over, in_setting};
 
 use brigade_ops::{PoolId, PoolTree};
 use ring_calls::machine::Instance;

@@ -1,23 +1,11 @@
 //! What makes buckets, which are loose (apr_buckets.h, apr_bucket_heap_create and its like, apr_bucket_copy).
 
 ghost use Rattle.std.specs.Prelude.{◌≡◌, ◌<◌, ℕ, Option, None, Some, length, true, is_some, IfOk, OnOk, OnErr};
-ghost use Rattle.module_code.specs.Program.{Program, fits};
-ghost use Rattle.bucket_ring.specs.Kept.{NoneRevived};
-ghost use Rattle.run_model.specs.declared.bucket.Bucket.{Bucket};
+ghost use Rattle.ring_run.specs.Prelude.{Program, fits, NoneRevived, Bucket, fault, Choice, do_effect, made_of, text_of, lists, brigade_of, pool_of, references, next_name, Items, WasAdded};
+ghost use Rattle.ring_run.specs.Prelude.{is_no_copy, HasNoFault, instr_with, with_outside, Around, IsHeld, LeavesOthers, seen, seen_over, bucket_in, calls_in};
 ghost use Rattle.run_model.specs.declared.bucket.Content.TheVariants as content;
 ghost use Rattle.run_model.specs.declared.bucket.Home.TheVariants as home;
 ghost use Rattle.run_model.specs.declared.effect.Effect.TheVariants as effect;
-ghost use Rattle.run_model.specs.Faults.{fault};
-ghost use Rattle.run_model.specs.Steps.{Choice, do_effect, made_of, text_of};
-ghost use Rattle.brigade_ops.specs.Store.{lists, brigade_of, pool_of, references, next_name};
-ghost use Rattle.stored_rings.specs.Items.{Items};
-ghost use Rattle.ring_run.specs.Making.{WasAdded, is_no_copy};
-ghost use Rattle.ring_calls.specs.EffectNeeds.{HasNoFault, instr_with};
-ghost use Rattle.ring_calls.specs.Outside.{with_outside};
-ghost use Rattle.ring_calls.specs.Around.{Around};
-ghost use Rattle.ring_calls.specs.Held.{IsHeld};
-ghost use Rattle.ring_calls.specs.LeftAlone.{LeavesOthers};
-ghost use Rattle.ring_calls.specs.Seen.{seen, seen_over, bucket_in, calls_in};
 
 use crate::live_pools::pool_there;
 use brigade_ops::{Brigades, BucketId, Rings, Stored};
@@ -46,22 +34,13 @@ fn buffered(alloc: Global, call: &Call) -> Result<Seq<u8>, AllocError>
     Ok(bytes)
 }
 
-fn of_bytes(kind: Kind, home: Home, bytes: Seq<u8>) -> Bucket
-    ensures { result ≡ record { kind = kind; content = content.Bytes bytes; home = home } }
+/// A bucket with a free home.
+fn free_bucket(kind: Kind, content: Content) -> Bucket
+    ensures { result ≡ record { kind = kind; content = content; home = home.Free } }
 {
     Bucket {
         kind,
-        content: Content::Bytes(bytes),
-        home,
-    }
-}
-
-fn of_nothing(kind: Kind) -> Bucket
-    ensures { result ≡ record { kind = kind; content = content.Nothing; home = home.Free } }
-{
-    Bucket {
-        kind,
-        content: Content::Nothing,
+        content,
         home: Home::Free,
     }
 }
@@ -84,23 +63,23 @@ fn new_bucket(
         → made_of code.now (seen_over rings next (with_outside outside.now around) instance.now call.now) source ≡ Some (bucket_in (calls_in around call.now) next bucket)) }
 {
     match source {
-        MadeFrom::HeapText(t) => Ok(of_bytes(Kind::Heap, Home::Free, text(alloc, code, t)?)),
-        MadeFrom::ImmortalText(t) => {
-            Ok(of_bytes(Kind::Immortal, Home::Free, text(alloc, code, t)?))
-        }
-        MadeFrom::HeapBuffer => Ok(of_bytes(Kind::Heap, Home::Free, buffered(alloc, call)?)),
-        MadeFrom::TransientBuffer => Ok(of_bytes(
-            Kind::Transient,
-            Home::Call(call.name),
-            buffered(alloc, call)?,
+        MadeFrom::HeapText(t) => Ok(free_bucket(Kind::Heap, Content::Bytes(text(alloc, code, t)?))),
+        MadeFrom::ImmortalText(t) => Ok(free_bucket(
+            Kind::Immortal,
+            Content::Bytes(text(alloc, code, t)?),
         )),
-        MadeFrom::PoolBuffer(pool) => Ok(of_bytes(
+        MadeFrom::HeapBuffer => Ok(free_bucket(Kind::Heap, Content::Bytes(buffered(alloc, call)?))),
+        MadeFrom::TransientBuffer => Ok(Bucket {
+            kind: Kind::Transient,
+            content: Content::Bytes(buffered(alloc, call)?),
+            home: Home::Call(call.name),
+        }),
+        MadeFrom::PoolBuffer(pool) => Ok(free_bucket(
             Kind::Pool(pool_there(instance, outside, pool)),
-            Home::Free,
-            buffered(alloc, call)?,
+            Content::Bytes(buffered(alloc, call)?),
         )),
-        MadeFrom::FlushBucket => Ok(of_nothing(Kind::Flush)),
-        MadeFrom::EosBucket => Ok(of_nothing(Kind::Eos)),
+        MadeFrom::FlushBucket => Ok(free_bucket(Kind::Flush, Content::Nothing)),
+        MadeFrom::EosBucket => Ok(free_bucket(Kind::Eos, Content::Nothing)),
         MadeFrom::CopyAt(_) => unreachable!(),
     }
 }

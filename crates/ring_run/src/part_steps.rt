@@ -1,21 +1,8 @@
 //! What instructions do to brigades that are cut (apr_buckets.h, apr_brigade_split_ex).
 
 ghost use Rattle.std.specs.Prelude.{◌≡◌, ◌≢◌, ◌<◌, ℕ, None, Some, true, is_some, IsOk, IfSome, OnOk, OnErr};
-ghost use Rattle.bucket_ring.specs.Lists.{list_at};
-ghost use Rattle.run_model.specs.BrigadeLists.{bucket_across, moves, stays};
-ghost use Rattle.run_model.specs.BucketSteps.{do_bpart, do_bsplit, items_at, names_to_part, place_at};
-ghost use Rattle.run_model.specs.Cursors.{spot};
-ghost use Rattle.run_model.specs.Faults.{InThis, home_fault};
-ghost use Rattle.stored_rings.specs.Items.{before_place, from_place};
-ghost use Rattle.brigade_ops.specs.Store.{lists, brigade_of};
-ghost use Rattle.ring_calls.specs.Around.{Around};
-ghost use Rattle.ring_calls.specs.Ends.{EndInFiles, FitKinds};
-ghost use Rattle.ring_calls.specs.Held.{IsHeld};
-ghost use Rattle.ring_calls.specs.LeftAlone.{LeavesOthers};
-ghost use Rattle.ring_calls.specs.Needs.{StandsAs};
-ghost use Rattle.ring_calls.specs.Places.{cursor_value_of};
-ghost use Rattle.ring_calls.specs.Slots.{live_in, name_in, slot_at};
-ghost use Rattle.ring_calls.specs.Seen.{seen, shown, calls_in};
+ghost use Rattle.ring_run.specs.Prelude.{list_at, bucket_across, moves, stays, do_bpart, do_bsplit, items_at, names_to_part, place_at, spot, InThis, home_fault, before_place, from_place, lists};
+ghost use Rattle.ring_run.specs.Prelude.{brigade_of, Around, EndInFiles, FitKinds, IsHeld, LeavesOthers, StandsAs, cursor_value_of, live_in, name_in, slot_at, seen, shown, calls_in};
 
 use brigade_ops::{BrigadeId, Brigades, BucketId, Cut, Rings, Stored};
 use ring_calls::machine::{Call, CursorValue, Instance};

@@ -1,18 +1,8 @@
 //! What instructions do to pools that stay: they are made, and labels are registered with them and taken out.
 
 ghost use Rattle.std.specs.Prelude.{◌≡◌, ◌<◌, ℕ, Option, Some, length, IsTrue, OnOk, OnErr};
-ghost use Rattle.module_code.specs.Program.{Program, pool_of_pool};
-ghost use Rattle.run_model.specs.Pools.{is_live};
-ghost use Rattle.run_model.specs.State.{pool_named};
-ghost use Rattle.run_model.specs.Steps.{do_pcreate, label_killed, label_registered, on_pool, text_of};
-ghost use Rattle.pool_tree.specs.Tree.{map_of};
-ghost use Rattle.brigade_ops.specs.House.{AreHoused};
-ghost use Rattle.stored_rings.specs.Items.{Items};
-ghost use Rattle.ring_calls.specs.declared.machine.Call.{Call};
-ghost use Rattle.ring_calls.specs.declared.machine.Instance.{Instance};
-ghost use Rattle.ring_calls.specs.Around.{Around};
-ghost use Rattle.ring_calls.specs.Seen.{seen_over};
-ghost use Rattle.ring_calls.specs.Slots.{slot_at};
+ghost use Rattle.ring_run.specs.Prelude.{Program, pool_of_pool, is_live, pool_named, do_pcreate, label_killed, label_registered, on_pool, text_of, map_of, AreHoused, Items, Call, Instance, Around};
+ghost use Rattle.ring_run.specs.Prelude.{seen_over, slot_at};
 
 use crate::labels::newest_label;
 use crate::makers::text;

@@ -1,19 +1,7 @@
 //! What the instruction that reads does (apr_buckets.h, apr_bucket_read).
 
 ghost use Rattle.std.specs.Prelude.{◌≡◌, ◌<◌, ℕ, None, Some, IsOk, IfOk, OnErr};
-ghost use Rattle.bucket_kinds.specs.Reading.{IsOpenFor};
-ghost use Rattle.run_model.specs.BucketSteps.{content_at};
-ghost use Rattle.run_model.specs.Cursors.{Within, spot};
-ghost use Rattle.run_model.specs.Cutting.{wanted};
-ghost use Rattle.run_model.specs.Faults.{InBrigade, home_fault};
-ghost use Rattle.run_model.specs.declared.bucket.NamedBucket.{NamedBucket};
-ghost use Rattle.ring_calls.specs.Around.{Around};
-ghost use Rattle.ring_calls.specs.Ends.{EndInFiles};
-ghost use Rattle.ring_calls.specs.Given.{WasRead};
-ghost use Rattle.ring_calls.specs.Held.{IsHeld};
-ghost use Rattle.ring_calls.specs.LeftAlone.{LeavesOthers};
-ghost use Rattle.ring_calls.specs.Needs.{StandsAs};
-ghost use Rattle.ring_calls.specs.Seen.{seen};
+ghost use Rattle.ring_run.specs.Prelude.{IsOpenFor, content_at, Within, spot, wanted, InBrigade, home_fault, NamedBucket, Around, EndInFiles, WasRead, IsHeld, LeavesOthers, StandsAs, seen};
 
 use brigade_ops::{Brigades, Files, ReadRefusal, Rings, Stored};
 use ring_calls::machine::{Call, CursorValue, Instance};

@@ -1,21 +1,8 @@
 //! The buckets of a brigade are set aside into the pool of another (ap_save_brigade).
 
 ghost use Rattle.std.specs.Prelude.{◌≡◌, ◌≢◌, ◌<◌, ℕ, All, Some, true, false, is_some, IsTrue, IsOk, OnOk, OnErr};
-ghost use Rattle.bucket_kinds.specs.Device.{Device};
-ghost use Rattle.run_model.specs.Pools.{is_live};
-ghost use Rattle.run_model.specs.State.{items_of};
-ghost use Rattle.run_model.specs.BucketSteps.{items_at};
-ghost use Rattle.run_model.specs.Steps.{do_save, made_on, takes_reference};
-ghost use Rattle.pool_tree.specs.Tree.{map_of};
-ghost use Rattle.brigade_ops.specs.House.{AreOpen, IsHouse};
-ghost use Rattle.brigade_ops.specs.Store.{lists, pool_of, references};
-ghost use Rattle.ring_calls.specs.declared.machine.Call.{Call};
-ghost use Rattle.ring_calls.specs.Around.{Around};
-ghost use Rattle.ring_calls.specs.Given.{RangeIsOpen};
-ghost use Rattle.ring_calls.specs.Held.{VariablesApart, AreOn, IsHeld};
-ghost use Rattle.ring_calls.specs.LeftAlone.{LeavesRest};
-ghost use Rattle.ring_calls.specs.Slots.{live_in, slot_at};
-ghost use Rattle.ring_calls.specs.Seen.{seen};
+ghost use Rattle.ring_run.specs.Prelude.{Device, is_live, items_of, items_at, do_save, made_on, takes_reference, map_of, AreOpen, IsHouse, lists, pool_of, references, Call, Around, RangeIsOpen};
+ghost use Rattle.ring_run.specs.Prelude.{VariablesApart, AreOn, IsHeld, LeavesRest, live_in, slot_at, seen};
 
 use brigade_ops::{Brigades, PoolTree, Rings, Stored};
 use ring_calls::machine::{Instance, Slot};

@@ -1,15 +1,7 @@
 //! A bucket is split (apr_buckets.h, apr_bucket_split).
 
 ghost use Rattle.std.specs.Prelude.{◌≡◌, ◌⊎◌, ◌<◌, None, IsOk, OnOk, OnErr};
-ghost use Rattle.run_model.specs.BucketSteps.{do_split, names_to_split};
-ghost use Rattle.run_model.specs.Cursors.{bucket_at, spot};
-ghost use Rattle.run_model.specs.Faults.{InBrigade, home_fault};
-ghost use Rattle.ring_calls.specs.Around.{Around};
-ghost use Rattle.ring_calls.specs.Ends.{EndInFiles};
-ghost use Rattle.ring_calls.specs.Held.{IsHeld};
-ghost use Rattle.ring_calls.specs.LeftAlone.{LeavesOthers};
-ghost use Rattle.ring_calls.specs.Needs.{StandsAs};
-ghost use Rattle.ring_calls.specs.Seen.{seen};
+ghost use Rattle.ring_run.specs.Prelude.{do_split, names_to_split, bucket_at, spot, InBrigade, home_fault, Around, EndInFiles, IsHeld, LeavesOthers, StandsAs, seen};
 
 use brigade_ops::{Brigades, Rings, SplitRefusal, Stored};
 use ring_calls::machine::{Call, Instance};

@@ -1,2 +1,3 @@
 pub mod QuietSteps
 pub mod OnlyAsked
+pub mod Prelude

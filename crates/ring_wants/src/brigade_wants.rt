@@ -2,40 +2,28 @@
 //! the call.
 
 ghost use Rattle.std.specs.Prelude.{◌≡◌, ◌<◌, true, is_some, IfSome};
-ghost use Rattle.run_model.specs.declared.payload.Payload.{Payload};
-ghost use Rattle.run_model.specs.Pools.{Pools};
-ghost use Rattle.run_model.specs.Faults.{WHomes, WHomeAcross, WSend, WReturn, fault_want, homes_fault, send_fault, keeps_stray};
-ghost use Rattle.brigade_ops.specs.Store.{lists};
-ghost use Rattle.ring_calls.specs.declared.machine.Call.{Call};
-ghost use Rattle.ring_calls.specs.Around.{Around};
-ghost use Rattle.ring_calls.specs.Contents.{contents};
-ghost use Rattle.ring_wants.specs.OnlyAsked.{OnlyAsked};
-ghost use Rattle.ring_calls.specs.Setting.{in_setting};
-ghost use Rattle.ring_calls.specs.Seen.{seen, is_running};
-ghost use Rattle.ring_calls.specs.Slots.{slot_at, live_in};
+ghost use Rattle.ring_wants.specs.Prelude.{Payload, Pools, WHomes, WHomeAcross, WSend, WReturn, fault_want, homes_fault, send_fault, keeps_stray, lists, Call, Around, contents, OnlyAsked};
+ghost use Rattle.ring_wants.specs.Prelude.{in_setting, seen, is_running, live_in};
 
-use crate::home_walks::{has_dead, has_late_data, has_stray};
-use crate::home_wants::home_fault;
+use crate::home_walks::has_late_data;
+use crate::home_wants::{home_fault, home_of, is_ended};
+use crate::pool_wants::is_stray;
 use brigade_ops::{BrigadeId, Brigades, Rings, Stored};
 use ring_calls::across::bucket_across;
+use ring_calls::bucket_tests::any_bucket;
 use ring_calls::machine::{Call, Instance, Slot};
 use ring_calls::setting::Setting;
 use ring_calls::values::value_of;
 use run_model::{FaultKind, Mark, Value};
 
-/// The brigade of a variable, where it is there.
+/// The brigade that a slot names, where it is there.
 #[tactic(auto, using(crate::proofs::OnlyAsked::asks_once))]
-fn live<R: Rings<Stored> + Drop>(
-    instance: &Instance,
-    store: &mut Brigades<R>,
-    b: u8,
-) -> Option<BrigadeId>
-    requires { b < 9 }
-    ensures value { result ≡ live_in (lists store.old) (slot_at instance.now b) }
+fn live<R: Rings<Stored> + Drop>(store: &mut Brigades<R>, slot: Slot) -> Option<BrigadeId>
+    ensures value { result ≡ live_in (lists store.old) slot }
     ensures there { IfSome result (λ n. is_some (lists store.new n) ≡ true) }
     ensures asked { OnlyAsked store.old store.new }
 {
-    let Slot::Made(name, _, _) = instance.slot(b) else {
+    let Slot::Made(name, _, _) = slot else {
         return None;
     };
     if store.has(name) { Some(name) } else { None }
@@ -54,10 +42,15 @@ pub(crate) fn want_homes<R: Rings<Stored> + Drop>(
     ensures value { (pools : Pools Payload) (around : Around) → result ≡ fault_want (seen store.old (in_setting setting.now pools around) instance.now call.now) (WHomes b) }
     ensures asked { OnlyAsked store.old store.new }
 {
-    let Some(name) = live(instance, store, b) else {
+    let Some(name) = live(store, instance.slot(b)) else {
         return None;
     };
-    has_dead(call, setting, store, name).then_some(FaultKind::F5)
+    let dead = any_bucket(
+        store,
+        name,
+        |id| is_ended(home_of(call, setting, store, id)),
+    );
+    dead.then_some(FaultKind::F5)
 }
 
 /// The fault of a brigade in which the bucket that a point lies inside has a home that is dead.
@@ -74,7 +67,7 @@ pub(crate) fn want_home_across<R: Rings<Stored> + Drop>(
     ensures value { (pools : Pools Payload) (around : Around) → result ≡ fault_want (seen store.old (in_setting setting.now pools around) instance.now call.now) (WHomeAcross b point) }
     ensures asked { OnlyAsked store.old store.new }
 {
-    let Some(name) = live(instance, store, b) else {
+    let Some(name) = live(store, instance.slot(b)) else {
         return None;
     };
     let across = bucket_across(store, name, u64::from(value_of(instance, point)));
@@ -92,7 +85,7 @@ pub(crate) fn want_send<R: Rings<Stored> + Drop>(
     ensures value { (around : Around) (call : Call) → result ≡ fault_want (seen store.old around instance.now call) (WSend b) }
     ensures asked { OnlyAsked store.old store.new }
 {
-    let Some(name) = live(instance, store, b) else {
+    let Some(name) = live(store, instance.slot(b)) else {
         return None;
     };
     has_late_data(store, name, instance.sent).then_some(FaultKind::F8)
@@ -115,7 +108,12 @@ fn keeps_stray<R: Rings<Stored> + Drop>(
         return false;
     };
     match mark {
-        Mark::Usable => store.has(name) && has_stray(instance, call, setting, store, name),
+        Mark::Usable => {
+            store.has(name)
+                && any_bucket(store, name, |id| {
+                    is_stray(instance, setting, home_of(call, setting, store, id))
+                })
+        }
         Mark::Passed => false,
     }
 }

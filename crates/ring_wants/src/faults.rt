@@ -1,11 +1,7 @@
 //! The faults of brigade variables: nothing is there, or it was passed, or something is there already.
 
 ghost use Rattle.std.specs.Prelude.{◌≡◌, ◌<◌};
-ghost use Rattle.run_model.specs.Faults.{or_else, brigade_fault, usable_fault, passed_fault, new_fault};
-ghost use Rattle.brigade_ops.specs.Store.{lists};
-ghost use Rattle.ring_calls.specs.Needs.{bare, mark_in};
-ghost use Rattle.ring_wants.specs.OnlyAsked.{OnlyAsked};
-ghost use Rattle.ring_calls.specs.Slots.{slot_at};
+ghost use Rattle.ring_wants.specs.Prelude.{or_else, brigade_fault, usable_fault, passed_fault, new_fault, lists, bare, mark_in, OnlyAsked, slot_at};
 
 use brigade_ops::{Brigades, Rings, Stored};
 use ring_calls::machine::{Instance, Slot};

@@ -2,20 +2,9 @@
 
 ghost use Rattle.std.specs.Prelude.{◌≡◌, ◌==◌, ◌<◌, true, is_some, Some, IfSome};
 ghost use Rattle.std.specs.List.{list_any};
-ghost use Rattle.bucket_ring.specs.declared.names.BucketId.{BucketId};
-ghost use Rattle.run_model.specs.declared.payload.Payload.{Payload};
-ghost use Rattle.run_model.specs.Pools.{Pools};
-ghost use Rattle.run_model.specs.declared.bucket.Bucket.{Bucket};
-ghost use Rattle.run_model.specs.Buckets.{is_ended};
-ghost use Rattle.run_model.specs.Cursors.{bucket_at as model_bucket_at, spot};
-ghost use Rattle.run_model.specs.Faults.{WHome, fault_want, home_fault};
-ghost use Rattle.brigade_ops.specs.Store.{brigade_of, bucket_at};
-ghost use Rattle.ring_calls.specs.Around.{Around};
-ghost use Rattle.ring_calls.specs.Held.{IsHeld};
-ghost use Rattle.ring_wants.specs.OnlyAsked.{OnlyAsked};
-ghost use Rattle.ring_calls.specs.Setting.{in_setting};
-ghost use Rattle.ring_calls.specs.Seen.{seen, calls_in, home_in, is_running};
-ghost use Rattle.ring_calls.specs.Shown.{shown_at};
+ghost use Rattle.ring_wants.specs.Prelude.{BucketId, Payload, Pools, Bucket, is_ended, spot, WHome, fault_want, home_fault, brigade_of, bucket_at, Around, IsHeld, OnlyAsked, in_setting, seen};
+ghost use Rattle.ring_wants.specs.Prelude.{calls_in, home_in, is_running, shown_at};
+ghost use Rattle.run_model.specs.Cursors.{bucket_at as model_bucket_at};
 
 use crate::places::place_of;
 use brigade_ops::{BrigadeId, Brigades, BucketId, Rings, Stored};

@@ -1,16 +1,7 @@
 //! What instructions want of the place of a cursor.
 
 ghost use Rattle.std.specs.Prelude.{◌≡◌, ◌<◌};
-ghost use Rattle.run_model.specs.Faults.{WCursor, fault_want};
-ghost use Rattle.run_model.specs.Wants.{need_of};
-ghost use Rattle.brigade_ops.specs.Store.{brigade_of};
-ghost use Rattle.ring_calls.specs.declared.machine.Call.{Call};
-ghost use Rattle.ring_calls.specs.Around.{Around};
-ghost use Rattle.ring_calls.specs.Needs.{place_fault};
-ghost use Rattle.ring_calls.specs.Held.{IsHeld};
-ghost use Rattle.ring_wants.specs.OnlyAsked.{OnlyAsked};
-ghost use Rattle.ring_calls.specs.Places.{by_birth, IsInBrigade};
-ghost use Rattle.ring_calls.specs.Seen.{seen};
+ghost use Rattle.ring_wants.specs.Prelude.{WCursor, fault_want, need_of, brigade_of, Call, Around, place_fault, IsHeld, OnlyAsked, by_birth, IsInBrigade, seen};
 
 use crate::faults::{mark_of, or_else, passed_fault};
 use crate::places::place_of;

@@ -1,15 +1,8 @@
 //! Where cursors stand (apr_buckets.h: a bucket, or the sentinel of a brigade, is the end of its ring).
 
 ghost use Rattle.std.specs.Prelude.{◌≡◌, ◌<◌, IfSome, ℕ};
-ghost use Rattle.run_model.specs.Cursors.{found_below, holder_of, bucket_spot, variable_of, spot};
-ghost use Rattle.run_model.specs.State.{is_named};
-ghost use Rattle.brigade_ops.specs.Store.{lists, brigade_of};
-ghost use Rattle.ring_calls.specs.Around.{Around};
-ghost use Rattle.ring_calls.specs.Slots.{slot_at, name_in};
-ghost use Rattle.ring_calls.specs.Held.{IsHeld, WasGiven};
-ghost use Rattle.ring_wants.specs.OnlyAsked.{OnlyAsked};
-ghost use Rattle.ring_calls.specs.Seen.{seen_over};
-ghost use Rattle.ring_calls.specs.Places.{by_birth, place_of, IsInBrigade};
+ghost use Rattle.ring_wants.specs.Prelude.{found_below, holder_of, bucket_spot, variable_of, spot, is_named, lists, brigade_of, Around, slot_at, name_in, IsHeld, WasGiven, OnlyAsked, seen_over};
+ghost use Rattle.ring_wants.specs.Prelude.{by_birth, place_of, IsInBrigade};
 
 use brigade_ops::{BrigadeId, Brigades, BucketId, Rings, Stored};
 use ring_calls::cursors::Place;

@@ -1,18 +1,8 @@
 //! The faults where a pool is not there, or is there already.
 
 ghost use Rattle.std.specs.Prelude.{◌≡◌, ℕ, Option, slice_index_or};
-ghost use Rattle.run_model.specs.Faults.{has_pool, is_live_named, is_stray};
-ghost use Rattle.run_model.specs.Indexed.{any_below};
-ghost use Rattle.run_model.specs.State.{name_in, is_named, is_own};
-ghost use Rattle.run_model.specs.declared.payload.Payload.{Payload};
-ghost use Rattle.run_model.specs.Pools.{Pools};
-ghost use Rattle.pool_tree.specs.Tree.{map_of};
-ghost use Rattle.stored_rings.specs.Items.{Items};
-ghost use Rattle.ring_calls.specs.declared.machine.Call.{Call};
-ghost use Rattle.ring_calls.specs.Around.{Around};
-ghost use Rattle.ring_wants.specs.OnlyAsked.{TreeOnlyAsked};
-ghost use Rattle.ring_calls.specs.Setting.{in_setting};
-ghost use Rattle.ring_calls.specs.Seen.{seen_over};
+ghost use Rattle.ring_wants.specs.Prelude.{has_pool, is_live_named, is_stray, any_below, is_named, is_own, Payload, Pools, map_of, Items, Call, Around, TreeOnlyAsked, in_setting, seen_over};
+ghost use Rattle.run_model.specs.State.{name_in};
 
 use brigade_ops::{PoolId, PoolTree};
 use ring_calls::machine::Instance;

@@ -1,15 +1,7 @@
 //! The faults of an instruction.
 
 ghost use Rattle.std.specs.Prelude.{◌≡◌, ◌≤◌, true, length};
-ghost use Rattle.module_code.specs.Program.{fits};
-ghost use Rattle.run_model.specs.Faults.{fault, fault_want};
-ghost use Rattle.run_model.specs.Wants.{IsInRange, want_of};
-ghost use Rattle.pool_tree.specs.Tree.{map_of};
-ghost use Rattle.ring_calls.specs.Around.{Around};
-ghost use Rattle.ring_calls.specs.Held.{IsHeld};
-ghost use Rattle.ring_wants.specs.OnlyAsked.{OnlyAsked, TreeOnlyAsked};
-ghost use Rattle.ring_calls.specs.Seen.{seen};
-ghost use Rattle.ring_calls.specs.Setting.{in_setting};
+ghost use Rattle.ring_wants.specs.Prelude.{fits, fault, fault_want, IsInRange, want_of, map_of, Around, IsHeld, OnlyAsked, TreeOnlyAsked, seen, in_setting};
 
 use crate::brigade_wants::{want_home_across, want_homes, want_return, want_send};
 use crate::faults::{brigade_fault, mark_of, new_fault, usable_fault};

@@ -1,6 +1,8 @@
 -- How a play goes on, from a reader to a writer.
 use Rattle.std.proofs.Common.{◌≡◌, ℕ, ◌+◌, ◌≤◌, ◌⊎◌, inl, inr, Bool, true, false, List, [], ◌++◌, length, take, Option, Some, None, IfSome, Result, Ok, Err, IfOk, refl, ap, sym, subst, ◌∙◌, arith}
 use Rattle.std.proofs.lemmas.List.{append_assoc, append-nil, length-append}
+use Rattle.std.proofs.lemmas.Result.{err_from_is_err_and}
+use Rattle.std.specs.Result.{IsErrAnd}
 use Rattle.std.proofs.KnownBytes.{Appends-nil, Appends-trans, Consumes-nil, Consumes-trans, Consumes-kept}
 use Rattle.std.specs.Io.KnownBytes.{Appends, Consumes, Keeps, IsAtEnd}
 use Rattle.byte_streams.specs.Counted.{IsCounted}
@@ -142,50 +144,12 @@ going_cut from to next before mid after p new held bytes left bound g second few
     of_left from next (g.whole ++ (held ++ bytes)) (λ script. (t : List ℕ) × IsCutOf script t next × Appends before after t) (read_more from to next g.whole held bytes g.read second)
     (λ unread leaves. (g.told ++ text, cut_behind from to before mid p held bytes unread bound g next few leaves whole rest (split, inl is) text k, Appends-trans before mid after g.told text g.wrote added))
 
--- The reader failed, or was read too often.
-pub going_read : (from to before after : Option (List ℕ)) (p : Player) (held : List ℕ) (bound : ℕ) → Going from to before after p held bound
-    → Writes from before after (λ script text. AnswersLinesRead script text to)
-going_read from to before after p held bound g =
-    of_left from to (g.whole ++ held) (λ script. (t : List ℕ) × AnswersLinesRead script t to × Appends before after t) g.read
+-- The reader failed, or was read too often. Its last reads gave nothing more.
+pub going_read : (from to next before after : Option (List ℕ)) (p : Player) (held : List ℕ) (bound : ℕ) (g : Going from to before after p held bound) → Consumes from next (g.whole ++ held)
+    → Writes from before after (λ script text. AnswersLinesRead script text next)
+going_read from to next before after p held bound g read =
+    of_left from next (g.whole ++ held) (λ script. (t : List ℕ) × AnswersLinesRead script t next × Appends before after t) read
     (λ rest leaves. (g.told, record { whole = g.whole; seen = held; unread = rest; stage = g.stage; splits = append_assoc g.whole held rest; is_whole = g.is_whole; unended = g.unended; takes = g.takes; running = g.running; leaves = leaves }, g.wrote))
-
--- Nothing more was read by a further read.
-going_to : (from to next before after : Option (List ℕ)) (p : Player) (held : List ℕ) (bound : ℕ) (g : Going from to before after p held bound) → Consumes from next (g.whole ++ held)
-    → Going from next before after p held bound
-going_to from to next before after p held bound g read =
-    record {
-      whole = g.whole;
-      is_whole = g.is_whole;
-      told = g.told;
-      stage = g.stage;
-      takes = g.takes;
-      at = g.at;
-      running = g.running;
-      unended = g.unended;
-      lines = g.lines;
-      read = read;
-      wrote = g.wrote;
-      few = g.few;
-    }
-
--- A read gave nothing, and the play goes on.
-pub going_idle : (from to next before after : Option (List ℕ)) (p : Player) (held : List ℕ) (bound more : ℕ) → Going from to before after p held bound → Keeps to next → bound ≤ more
-    → Going from next before after p held more
-going_idle from to next before after p held bound more g kept wide =
-    record {
-      whole = g.whole;
-      is_whole = g.is_whole;
-      told = g.told;
-      stage = g.stage;
-      takes = g.takes;
-      at = g.at;
-      running = g.running;
-      unended = g.unended;
-      lines = g.lines;
-      read = Consumes-kept from to next (g.whole ++ held) g.read kept;
-      wrote = g.wrote;
-      few = let f = g.few in omega (arith, f, wide);
-    }
 
 -- A read that gave no answer left the bytes as they were.
 pub refused_kept : (left rest : ℕ) (before after : Option (List ℕ)) (was is : Bool) (buffer : List ℕ) (e : CountedFault) → IsCounted left rest before after was is buffer (Err e) → Keeps before after
@@ -195,82 +159,85 @@ refused_kept left rest before after was is buffer counted.TooManyReads (none, st
 -- A read that failed gave nothing.
 pub going_kept : (from to next before after : Option (List ℕ)) (p : Player) (held : List ℕ) (bound : ℕ) → Going from to before after p held bound → Keeps to next
     → Writes from before after (λ script text. AnswersLinesRead script text next)
-going_kept from to next before after p held bound g kept =
-    going_read from next before after p held bound (going_to from to next before after p held bound g (Consumes-kept from to next (g.whole ++ held) g.read kept))
+going_kept from to next before after p held bound g kept = going_read from to next before after p held bound g (Consumes-kept from to next (g.whole ++ held) g.read kept)
 
 -- The reader is at its end, behind these last bytes.
 pub record Last (from next before mid : Option (List ℕ)) (p : Player) (last : List ℕ) : Type 0 where
+  pub to : Option (List ℕ)
   pub bound : ℕ
-  pub going : Going from next before mid p last bound
+  pub going : Going from to before mid p last bound
+  pub read : Consumes from next (going.whole ++ last)
   pub end : IsAtEnd next
 
 pub going_last : (from to next before mid : Option (List ℕ)) (p : Player) (held last : List ℕ) (bound : ℕ) → Going from to before mid p held bound → Keeps to next × IsAtEnd next → last ≡ held
     → Last from next before mid p last
 going_last from to next before mid p held last bound g (kept, end) is =
-    let all : Consumes from next (g.whole ++ held) = Consumes-kept from to next (g.whole ++ held) g.read kept in
-    record { bound = bound; going = subst (λ l. Going from next before mid p l bound) (sym is) (going_to from to next before mid p held bound g all); end = end }
+    subst (Last from next before mid p) (sym is) (record { to = to; bound = bound; going = g; read = Consumes-kept from to next (g.whole ++ held) g.read kept; end = end })
 
 module _ (from next before mid after : Option (List ℕ)) (p : Player) (last : List ℕ) where
+  -- the play ends so, at whatever stage the player is
+  abbrev Ends : Result Ended PlayFault → Type 0
+  Ends r = (s : Stage) → IsAt p s → PlaysEnd (p.lines + 1) mid after (lines_of last) s r
+
   -- what is true of what was read, and of nothing behind it, is true of what the reader had
   of_end : (k : Last from next before mid p last) (P : List ℕ → Type 0)
       → ((unread : List ℕ) → next ≡ Some unread → lines_of (last ++ ([] ++ unread)) ≡ lines_of last → P (k.going.whole ++ (last ++ []) ++ unread)) → IfSome from P
   of_end k P all =
-      of_left from next (k.going.whole ++ (last ++ [])) P (subst (λ l. Consumes from next (k.going.whole ++ l)) (sym (append-nil last)) k.going.read)
+      of_left from next (k.going.whole ++ (last ++ [])) P (subst (λ l. Consumes from next (k.going.whole ++ l)) (sym (append-nil last)) k.read)
       (λ unread leaves.
       let none : unread ≡ [] = subst IsAtEnd leaves k.end in
       all unread leaves (ap (λ l. lines_of (last ++ l)) none ∙ ap lines_of (append-nil last)))
 
-  pub last_ok : (r : Result Ended PlayFault) (k : Last from next before mid p last) → PlaysEnd (p.lines + 1) mid after (lines_of last) k.going.stage r
-      → IfOk r (λ e. Writes from before after (λ script text. IsWrittenFor script text e))
+  pub last_ok : (r : Result Ended PlayFault) → Last from next before mid p last → Ends r → IfOk r (λ e. Writes from before after (λ script text. IsWrittenFor script text e))
   last_ok (Err f) k ends = tt
-  last_ok (Ok e) k (text, ends, added) =
+  last_ok (Ok e) k ends =
+      let x = ends k.going.stage k.going.at in
       of_end k (λ script. (t : List ℕ) × IsWrittenFor script t e × Appends before after t)
-      (λ unread leaves lines. (k.going.told ++ text, written_behind from next before mid p last [] unread k.bound k.going (lines_of last) text e lines ends, Appends-trans before mid after k.going.told text k.going.wrote added))
+      (λ unread leaves lines. (k.going.told ++ x.0, written_behind from k.to before mid p last [] unread k.bound k.going (lines_of last) x.0 e lines x.1, Appends-trans before mid after k.going.told x.0 k.going.wrote x.2))
 
-  pub last_read : (r : Result Ended PlayFault) (k : Last from next before mid p last) → PlaysEnd (p.lines + 1) mid after (lines_of last) k.going.stage r → r ≡ Err fault.Read
-      → (P : List ℕ → List ℕ → Type 0) → Writes from before after P
-  last_read r k ends is P = absurd (subst (λ x. PlaysEnd (p.lines + 1) mid after (lines_of last) k.going.stage x) is ends)
+  -- it ends by this fault
+  ends_by : (r : Result Ended PlayFault) (f : PlayFault) (k : Last from next before mid p last) → Ends r → r ≡ Err f → PlaysEnd (p.lines + 1) mid after (lines_of last) k.going.stage (Err f)
+  ends_by r f k ends is = subst (λ x. PlaysEnd (p.lines + 1) mid after (lines_of last) k.going.stage x) is (ends k.going.stage k.going.at)
+
+  pub last_read : (r : Result Ended PlayFault) → Last from next before mid p last → Ends r → r ≡ Err fault.Read → (P : List ℕ → List ℕ → Type 0) → Writes from before after P
+  last_read r k ends is P = absurd (ends_by r fault.Read k ends is)
 
   memory_by : (k : Last from next before mid p last) → PlaysEnd (p.lines + 1) mid after (lines_of last) k.going.stage (Err fault.NoMemory)
       → Writes from before after (λ script text. IsFrontOf script text next)
   memory_by k (text, some, added) =
       of_end k (λ script. (t : List ℕ) × IsFrontOf script t next × Appends before after t)
-      (λ unread leaves lines. (k.going.told ++ text, front_behind from next before mid p last [] unread k.bound k.going next (omega arith) leaves last [] (refl, inr (refl, refl)) text some, Appends-trans before mid after k.going.told text k.going.wrote added))
+      (λ unread leaves lines. (k.going.told ++ text, front_behind from k.to before mid p last [] unread k.bound k.going next (omega arith) leaves last [] (refl, inr (refl, refl)) text some, Appends-trans before mid after k.going.told text k.going.wrote added))
 
-  pub last_memory : (r : Result Ended PlayFault) (k : Last from next before mid p last) → PlaysEnd (p.lines + 1) mid after (lines_of last) k.going.stage r → r ≡ Err fault.NoMemory
-      → Writes from before after (λ script text. IsFrontOf script text next)
-  last_memory r k ends is = memory_by k (subst (λ x. PlaysEnd (p.lines + 1) mid after (lines_of last) k.going.stage x) is ends)
+  pub last_memory : (r : Result Ended PlayFault) → Last from next before mid p last → Ends r → r ≡ Err fault.NoMemory → Writes from before after (λ script text. IsFrontOf script text next)
+  last_memory r k ends is = memory_by k (ends_by r fault.NoMemory k ends is)
 
   write_by : (k : Last from next before mid p last) → PlaysEnd (p.lines + 1) mid after (lines_of last) k.going.stage (Err fault.Write)
       → Writes from before after (λ script text. IsCutOf script text next)
   write_by k (text, cut, added) =
       of_end k (λ script. (t : List ℕ) × IsCutOf script t next × Appends before after t)
-      (λ unread leaves lines. (k.going.told ++ text, cut_end_behind from next before mid p last [] unread k.bound k.going next (omega arith) leaves last [] (refl, inr (refl, refl)) text lines cut, Appends-trans before mid after k.going.told text k.going.wrote added))
+      (λ unread leaves lines. (k.going.told ++ text, cut_end_behind from k.to before mid p last [] unread k.bound k.going next (omega arith) leaves last [] (refl, inr (refl, refl)) text lines cut, Appends-trans before mid after k.going.told text k.going.wrote added))
 
-  pub last_write : (r : Result Ended PlayFault) (k : Last from next before mid p last) → PlaysEnd (p.lines + 1) mid after (lines_of last) k.going.stage r → r ≡ Err fault.Write
-      → Writes from before after (λ script text. IsCutOf script text next)
-  last_write r k ends is = write_by k (subst (λ x. PlaysEnd (p.lines + 1) mid after (lines_of last) k.going.stage x) is ends)
+  pub last_write : (r : Result Ended PlayFault) → Last from next before mid p last → Ends r → r ≡ Err fault.Write → Writes from before after (λ script text. IsCutOf script text next)
+  last_write r k ends is = write_by k (ends_by r fault.Write k ends is)
 
 -- the fault that a `?` hands on
-same_fault : (r : Result Ended PlayFault) (y e f : PlayFault) → r ≡ Err y → y ≡ e → r ≡ Err f → e ≡ f
-same_fault r y e f is same told = cc
+same_fault : (r : Result Ended PlayFault) (e f : PlayFault) → IsErrAnd r (λ y. y ≡ e) → r ≡ Err f → e ≡ f
+same_fault r e f left told = let p = err_from_is_err_and r left in let is = p.1 in let same = p.2 in cc
 
-module _ (from to next before mid after : Option (List ℕ)) (p new : Player) (held bytes left : List ℕ) (bound : ℕ) (g : Going from to before mid p held bound) (second : Consumes to next bytes) where
-  abbrev Taken : Result (Unit {0}) PlayFault → Type 0
-  Taken r = PlaysBytes p new mid after (held ++ bytes) left g.stage r
+module _ (from to next before mid after : Option (List ℕ)) (p new : Player) (held bytes left : List ℕ) (bound : ℕ) (g : Going from to before mid p held bound) (second : Consumes to next bytes)
+    (r : Result Ended PlayFault) (e : PlayFault) (handed : IsErrAnd r (λ y. y ≡ e)) (plays : (s : Stage) → IsAt p s → PlaysBytes p new mid after (held ++ bytes) left s (Err e)) where
+  -- the bytes are taken until this fault
+  taken_until : (f : PlayFault) → r ≡ Err f → PlaysBytes p new mid after (held ++ bytes) left g.stage (Err f)
+  taken_until f told = subst (λ x. PlaysBytes p new mid after (held ++ bytes) left g.stage (Err x)) (same_fault r e f handed told) (plays g.stage g.at)
 
-  pub bytes_read : (r : Result Ended PlayFault) (y e : PlayFault) → r ≡ Err y → y ≡ e → Taken (Err e) → r ≡ Err fault.Read → (P : List ℕ → List ℕ → Type 0) → Writes from before after P
-  bytes_read r y e is same taken told P = absurd (subst (λ f. Taken (Err f)) (same_fault r y e fault.Read is same told) taken)
+  pub bytes_read : r ≡ Err fault.Read → (P : List ℕ → List ℕ → Type 0) → Writes from before after P
+  bytes_read told P = absurd (taken_until fault.Read told)
 
-  pub bytes_memory : (r : Result Ended PlayFault) (y e : PlayFault) → length bytes ≤ 8192 → r ≡ Err y → y ≡ e → Taken (Err e) → r ≡ Err fault.NoMemory
-      → Writes from before after (λ script text. IsFrontOf script text next)
-  bytes_memory r y e few is same taken told =
-      going_failed from to next before mid after p new held bytes left bound g second few (subst (λ f. Taken (Err f)) (same_fault r y e fault.NoMemory is same told) taken)
+  pub bytes_memory : length bytes ≤ 8192 → r ≡ Err fault.NoMemory → Writes from before after (λ script text. IsFrontOf script text next)
+  bytes_memory few told = going_failed from to next before mid after p new held bytes left bound g second few (taken_until fault.NoMemory told)
 
-  pub bytes_write : (r : Result Ended PlayFault) (y e : PlayFault) → length bytes ≤ 8192 → r ≡ Err y → y ≡ e → Taken (Err e) → r ≡ Err fault.Write
-      → Writes from before after (λ script text. IsCutOf script text next)
-  bytes_write r y e few is same taken told =
-      going_cut from to next before mid after p new held bytes left bound g second few (subst (λ f. Taken (Err f)) (same_fault r y e fault.Write is same told) taken)
+  pub bytes_write : length bytes ≤ 8192 → r ≡ Err fault.Write → Writes from before after (λ script text. IsCutOf script text next)
+  bytes_write few told = going_cut from to next before mid after p new held bytes left bound g second few (taken_until fault.Write told)
 
 whole_more : (a b : List ℕ) → IsWhole a → IsWhole b → IsWhole (a ++ b)
 whole_more a b is (inl none) = subst IsWhole (sym (append-nil a) ∙ ap (λ l. a ++ l) (sym none)) is

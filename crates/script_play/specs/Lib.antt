@@ -9,3 +9,4 @@ pub mod Sessions
 pub mod Players
 pub mod Playing
 pub mod Serving
+pub mod Prelude

@@ -1,14 +1,8 @@
 //! The commands of a script, done by a host.
 
 ghost use Rattle.std.specs.Prelude.{◌≡◌, ◌↔◌, false, true, IfOk, IsTrue};
-ghost use Rattle.bucket_kinds.specs.Device.{is_there};
-ghost use Rattle.run_model.specs.Worlds.{World};
-ghost use Rattle.module_run.specs.Happened.{refusal_of};
-ghost use Rattle.filter_chain.specs.Hosting.{IsHosting, done_answer, step_answer};
-ghost use Rattle.filter_chain.specs.Safe.{GoesWell, IsSafe};
-ghost use Rattle.script_play.specs.Plays.{is_due, is_fault, reply_of};
-ghost use Rattle.script_play.specs.Serving.{MakesReady};
-ghost use Rattle.script_play.specs.Sessions.{IsMemHostAlive, IsServed, device};
+ghost use Rattle.script_play.specs.Prelude.{is_there, World, refusal_of, IsHosting, done_answer, step_answer, GoesWell, IsSafe, is_due, is_fault, reply_of, MakesReady, IsMemHostAlive, IsServed};
+ghost use Rattle.script_play.specs.Prelude.{device};
 
 use crate::labels::labels_of;
 use filter_chain::{AddRefusal, Host, MemFiles, Piece, Refusal, Seq, Stepped};

@@ -1,11 +1,8 @@
 //! A script, played line by line.
 
 ghost use Rattle.std.specs.Prelude.{◌≡◌, ◌<◌, ◌+◌, ◌^◌, ◌++◌, ℕ, true, List, length, take, IfOk, OnErr, OnOk};
-ghost use Rattle.byte_text.specs.TextLines.{lines_of};
-ghost use Rattle.script_text.specs.Heads.{ScriptHead, no_head};
-ghost use Rattle.script_play.specs.Players.{Leaves, MayBeginCommands, HasBegun};
-ghost use Rattle.script_play.specs.Sessions.{IsAt, TakesOn, EndsOn};
-ghost use Rattle.script_play.specs.Written.{Stage as ModelStage, Reading, Begins, TakesAt, PlaysLine, TakesAll, is_over};
+ghost use Rattle.script_play.specs.Prelude.{lines_of, ScriptHead, no_head, Leaves, MayBeginCommands, HasBegun, IsAt, TakesOn, EndsOn, Reading, Begins, TakesAt, PlaysLine, TakesAll, is_over};
+ghost use Rattle.script_play.specs.Written.{Stage as ModelStage};
 
 use crate::session::Session;
 use byte_text::first_line;

@@ -1,13 +1,8 @@
 //! A script, from a reader to a writer, answered as it is read.
 
 ghost use Rattle.std.specs.Prelude.{◌≡◌, ◌≢◌, ◌<◌, ◌≤◌, ◌+◌, ◌-◌, ◌^◌, ◌++◌, ℕ, length, slice_index, IfOk};
-ghost use Rattle.byte_streams.specs.Counted.{reads_left, source_of};
-ghost use Rattle.byte_text.specs.TextLines.{lines_of};
-ghost use Rattle.script_play.specs.Playing.{PlaysLines, PlaysBytes, PlaysEnd, EndsLines};
-ghost use Rattle.module_tools.specs.StreamFaults.{TellsOfReader, TellsOfWriter};
-ghost use Rattle.module_tools.specs.Streams.{Writes};
-ghost use Rattle.script_play.specs.Sessions.{IsAt};
-ghost use Rattle.script_play.specs.Written.{Stage, HasNoLf, AnswersLinesRead, IsWrittenFor, IsFrontOf, IsCutOf};
+ghost use Rattle.script_play.specs.Prelude.{reads_left, source_of, lines_of, PlaysLines, PlaysBytes, PlaysEnd, EndsLines, TellsOfReader, TellsOfWriter, Writes, IsAt, Stage, HasNoLf};
+ghost use Rattle.script_play.specs.Prelude.{AnswersLinesRead, IsWrittenFor, IsFrontOf, IsCutOf};
 
 use crate::player::Player;
 use byte_streams::{CountedSource, READ_BYTES, READS, ReadAnswer, Sink, Source};

@@ -1,10 +1,8 @@
 //! The commands of a script, on a chain of filters.
 
 ghost use Rattle.std.specs.Prelude.{◌≡◌, ◌<◌, ◌≤◌, None, Some, false, true, length, map, IfErr, IfOk, OnErr};
-ghost use Rattle.script_text.specs.Heads.{seen_part};
-ghost use Rattle.script_play.specs.Sessions.{IsHosted, TakesOne};
-ghost use Rattle.script_text.specs.Parts.{codes_of, refused_in};
-ghost use Rattle.script_play.specs.Written.{Session as ModelSession, first_view};
+ghost use Rattle.script_play.specs.Prelude.{seen_part, IsHosted, TakesOne, codes_of, refused_in, first_view};
+ghost use Rattle.script_play.specs.Written.{Session as ModelSession};
 
 use crate::commands::serve;
 use crate::due::due_command;

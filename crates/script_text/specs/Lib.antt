@@ -17,3 +17,4 @@ pub mod Heads
 pub mod Bounds
 pub mod Parts
 pub mod Certified
+pub mod Prelude

@@ -1,11 +1,7 @@
 //! The modules of a script, each with its certificate.
 
 ghost use Rattle.std.specs.Prelude.{◌≡◌, ◌<◌, ◌≤◌, None, Some, All, length, map, IfErr, IfOk};
-ghost use Rattle.module_code.specs.Program.{IsModule};
-ghost use Rattle.life_check.specs.ChainTheorem.{ChainNeverFaults};
-ghost use Rattle.script_text.specs.Heads.{seen_part};
-ghost use Rattle.script_text.specs.Certified.{AreCertified, IsCertified};
-ghost use Rattle.script_text.specs.Parts.{codes_of, first_from, refused_in, unmade};
+ghost use Rattle.script_text.specs.Prelude.{IsModule, ChainNeverFaults, seen_part, AreCertified, IsCertified, codes_of, first_from, refused_in, unmade};
 
 use life_cert::{MakeRefusal, make};
 use life_check::{Cert, ChainRefusal, CheckRefusal, CheckedChain, accept_chain};

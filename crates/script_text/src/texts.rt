@@ -1,10 +1,8 @@
 //! What stands in a script before its commands: module texts, certificate texts, and the lines `budget` and `checked`.
 
 ghost use Rattle.std.specs.Prelude.{◌≡◌, ◌<◌, ◌+◌, ◌^◌, [], map, IfOk, OnOk, OnErr};
-ghost use Rattle.script_text.specs.Scripts.{budget_at};
-ghost use Rattle.script_text.specs.Heads.{seen_part, with_cert, head_of, no_head, is_skipped, begins_module, with_line, EndsModule, EndsCert, TakesInModule};
-ghost use Rattle.script_text.specs.Heads.{TakesInCert, TakesBehind, TakesBehindModule, TakesBehindSkipped, TakesHeading, TakesChecked, taken_as, TakesLine};
-ghost use Rattle.script_text.specs.Heads.{EndsHead, TellsMore, at_line};
+ghost use Rattle.script_text.specs.Prelude.{budget_at, seen_part, with_cert, head_of, no_head, is_skipped, begins_module, with_line, EndsModule, EndsCert, TakesInModule, TakesInCert, TakesBehind};
+ghost use Rattle.script_text.specs.Prelude.{TakesBehindModule, TakesBehindSkipped, TakesHeading, TakesChecked, taken_as, TakesLine, EndsHead, TellsMore, at_line};
 
 use crate::lines::{begins_cert, is_end};
 use crate::part::Part;

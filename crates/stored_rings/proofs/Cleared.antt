@@ -49,27 +49,17 @@ or_one false = refl
 
 -- the kind that a clear makes of a kind, once and again
 pub given_once : (reached : ℕ → Bool) (k : Kind) → kind_given k (to_heap reached k) ≡ to_heap reached k
-given_once reached kind.Heap = refl
-given_once reached kind.Transient = refl
-given_once reached kind.Immortal = refl
 given_once reached (kind.Pool p) = go (reached p) where
   go : (b : Bool) → kind_given (kind.Pool p) (cond b kind.Heap (kind.Pool p)) ≡ cond b kind.Heap (kind.Pool p)
   go true = refl
   go false = refl
-given_once reached kind.File = refl
-given_once reached kind.Flush = refl
-given_once reached kind.Eos = refl
+given_once reached k = refl
 
 pub given_twice : (reached : ℕ → Bool) (k : Kind) → kind_given (to_heap reached k) (to_heap reached k) ≡ to_heap reached k
 given_twice reached k = go (to_heap reached k) where
   go : (j : Kind) → kind_given j j ≡ j
   go kind.Heap = refl
-  go kind.Transient = refl
-  go kind.Immortal = refl
-  go (kind.Pool p) = refl
-  go kind.File = refl
-  go kind.Flush = refl
-  go kind.Eos = refl
+  go j = refl
 
 -- What was made ready for the names so far, and for one name more.
 module _ (reached : ℕ → Bool) (ready : List Morph) (names : List BucketId) (name id : BucketId) (x : Bucket) (so_far : morphed ready id x ≡ cond (is_named id names) (cleared_as reached x) x) where

@@ -15,63 +15,39 @@ use Rattle.stored_rings.specs.Shown.{lies_in, lies_right}
 
 -- what no POOL bucket has to place may be kept by each kind
 pub each_kind : (k : Kind) (x : Kept) → ((p : ℕ) → lies_in p x ≡ true) → lies_right k x ≡ true
-each_kind kind.Heap x all = refl
-each_kind kind.Transient x all = refl
-each_kind kind.Immortal x all = refl
 each_kind (kind.Pool p) x all = all p
-each_kind kind.File x all = refl
-each_kind kind.Flush x all = refl
-each_kind kind.Eos x all = refl
+each_kind k x all = refl
 
 -- what is kept in place of something else by the same kind
 pub kept_lies : (k : Kind) (x y : Kept) → ((p : ℕ) → lies_in p x ≡ true → lies_in p y ≡ true) → lies_right k x ≡ true → lies_right k y ≡ true
-kept_lies kind.Heap x y step lies = refl
-kept_lies kind.Transient x y step lies = refl
-kept_lies kind.Immortal x y step lies = refl
 kept_lies (kind.Pool p) x y step lies = step p lies
-kept_lies kind.File x y step lies = refl
-kept_lies kind.Flush x y step lies = refl
-kept_lies kind.Eos x y step lies = refl
+kept_lies k x y step lies = refl
 
 -- the two parts
+parts_lie : (n : ℕ) (x : Kept) (p : ℕ) → lies_in p x ≡ true → (lies_in p (kept_front n x) ≡ true) × (lies_in p (kept_rest n x) ≡ true)
+parts_lie n (kept.Own (content.Bytes bs)) p e = absurd (cc)
+parts_lie n (kept.Own c) p e = (refl, refl)
+parts_lie n (kept.Placed q) p e = (e, e)
+
 pub front_lies : (n : ℕ) (k : Kind) (x : Kept) → lies_right k x ≡ true → lies_right k (kept_front n x) ≡ true
-front_lies n k x lies = kept_lies k x (kept_front n x) (step x) lies where
-  step : (y : Kept) (p : ℕ) → lies_in p y ≡ true → lies_in p (kept_front n y) ≡ true
-  step (kept.Own (content.Bytes bs)) p e = cc
-  step (kept.Own (content.Range file start len)) p e = refl
-  step (kept.Own content.Nothing) p e = refl
-  step (kept.Placed q) p e = e
+front_lies n k x lies = kept_lies k x (kept_front n x) (λ p e. (parts_lie n x p e).0) lies
 
 pub rest_lies : (n : ℕ) (k : Kind) (x : Kept) → lies_right k x ≡ true → lies_right k (kept_rest n x) ≡ true
-rest_lies n k x lies = kept_lies k x (kept_rest n x) (step x) lies where
-  step : (y : Kept) (p : ℕ) → lies_in p y ≡ true → lies_in p (kept_rest n y) ≡ true
-  step (kept.Own (content.Bytes bs)) p e = cc
-  step (kept.Own (content.Range file start len)) p e = refl
-  step (kept.Own content.Nothing) p e = refl
-  step (kept.Placed q) p e = e
+rest_lies n k x lies = kept_lies k x (kept_rest n x) (λ p e. (parts_lie n x p e).1) lies
 
 -- what is set aside
 pub aside_lies : (target : ℕ) (above : Bool) (x : Stored) → lies_right x.kind x.kept ≡ true → lies_right (aside target above x).kind (aside target above x).kept ≡ true
 aside_lies target above x lies = go x.kind above lies where
   go : (k : Kind) (a : Bool) → lies_right k x.kept ≡ true → lies_right (aside target a (record x { kind = k })).kind (aside target a (record x { kind = k })).kept ≡ true
-  go kind.Heap a l = refl
-  go kind.Transient a l = refl
-  go kind.Immortal a l = refl
   go (kind.Pool p) a l = l
   go kind.File true l = refl
   go kind.File false l = refl
-  go kind.Flush a l = refl
-  go kind.Eos a l = refl
+  go k a l = refl
 
 -- another kind
 pub given_lies : (was k : Kind) (x : Kept) → lies_right was x ≡ true → lies_right (kind_given was k) x ≡ true
 given_lies was kind.Heap x lies = refl
-given_lies was kind.Transient x lies = lies
-given_lies was kind.Immortal x lies = lies
-given_lies was (kind.Pool p) x lies = lies
-given_lies was kind.File x lies = lies
-given_lies was kind.Flush x lies = lies
-given_lies was kind.Eos x lies = lies
+given_lies was k x lies = lies
 
 -- a range of a file, and no content
 pub range_lies : (k : Kind) (file start len : ℕ) → lies_right k (kept.Own (content.Range file start len)) ≡ true
@@ -112,12 +88,6 @@ pub pool_lies : (p : ℕ) (x : Kept) → lies_in p x ≡ true → lies_right (ki
 pool_lies p x lies = lies
 
 pub unplaced_lies : (k : Kind) (c : Content) → ((p : ℕ) (bs : List ℕ) → k ≡ kind.Pool p → c ≡ content.Bytes bs → ⊥) → lies_right k (kept.Own c) ≡ true
-unplaced_lies kind.Heap c never = refl
-unplaced_lies kind.Transient c never = refl
-unplaced_lies kind.Immortal c never = refl
 unplaced_lies (kind.Pool p) (content.Bytes bs) never = absurd (never p bs refl refl)
-unplaced_lies (kind.Pool p) (content.Range file start len) never = refl
-unplaced_lies (kind.Pool p) content.Nothing never = refl
-unplaced_lies kind.File c never = refl
-unplaced_lies kind.Flush c never = refl
-unplaced_lies kind.Eos c never = refl
+unplaced_lies (kind.Pool p) c never = refl
+unplaced_lies k c never = refl

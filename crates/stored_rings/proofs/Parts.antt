@@ -1,5 +1,5 @@
 -- Points of a brigade, as the model has them.
-use Rattle.std.proofs.Common.{◌≡◌, ℕ, zero, suc, ◌-◌, ◌<◌, ◌≤◌, nat_lt, nat_le, Bool, true, false, cond, List, [], ◌∷◌, ◌++◌, Option, None, Some, refl, ap, ◌∙◌, arith, ◌⊎◌, inl, inr}
+use Rattle.std.proofs.Common.{◌≡◌, ℕ, zero, suc, ◌-◌, ◌<◌, ◌≤◌, nat_le, Bool, true, false, cond, List, [], ◌∷◌, ◌++◌, Option, None, Some, refl, ap, ◌∙◌, arith, ◌⊎◌, inl, inr}
 use Rattle.std.specs.Prelude.{if◌then◌else◌}
 use Rattle.std.proofs.lemmas.Bool.Decides.{nat_tests}
 use Rattle.bucket_ring.specs.declared.names.BucketId.{BucketId}
@@ -25,17 +25,8 @@ first_case : (s : Bool) (a b t : Point) → cond s a b ≡ t → ((s ≡ true) �
 first_case true a b t e = inl (refl, e)
 first_case false a b t e = inr (refl, e)
 
-fits_in : (a b : ℕ) → nat_le a b ≡ true → a ≤ b
-fits_in a b h = grind (arith, nat_tests)
-
 past : (a b : ℕ) → nat_le a b ≡ false → b < a
 past a b h = grind (arith, nat_tests)
-
-not_less : (a b : ℕ) → b ≤ a → nat_lt a b ≡ false
-not_less a b h = grind (arith, nat_tests)
-
-less : (a b : ℕ) → a < b → nat_lt a b ≡ true
-less a b h = grind (arith, nat_tests)
 
 short_size : (p : ℕ) (xs : Items) → point_in p xs ≡ point.Short → length_in (named xs) < p
 unfolding point_in length_in
@@ -99,12 +90,10 @@ inside_times (suc p) n id (x ∷ xs) e = elim (first_case (nat_le (length_of x.1
 ]
 
 miss_first : (s : Bool) (n : ℕ) → (if s then suc n else n) ≤ 1 → 0 < n → s ≡ false
-miss_first true n h k = absurd (omega arith)
-miss_first false n h k = refl
+miss_first s n h k = grind arith
 
 rest_once : (s : Bool) (n : ℕ) → (if s then suc n else n) ≤ 1 → n ≤ 1
-rest_once true n h = omega arith
-rest_once false n h = h
+rest_once s n h = grind arith
 
 inside_whole : (new id : BucketId) (p n : ℕ) (x : Bucket) (xs : Items) → ((i : BucketId) → times i xs ≤ 1) → point_in p xs ≡ point.Inside id n → found id xs ≡ Some x
     → front_to p (named xs) ++ back_from new.birth p (named xs) ≡ named (replaced id (split_at n x).0 ((new, (split_at n x).1) ∷ []) xs)
@@ -175,11 +164,11 @@ inside_place new (suc p) n id (x ∷ xs) e = elim (first_case (nat_le (length_of
 
 pub points_are_the_models : PointsAreTheModels
 points_are_the_models = record {
-  short = λ new p xs e. let is : is_short p (named xs) ≡ true = less (length_in (named xs)) p (short_size p xs e) in rw is refl;
-  short_same = λ new p xs e. let is : is_short p (named xs) ≡ true = less (length_in (named xs)) p (short_size p xs e) in rw is refl;
-  at = λ new p place xs e. let is : is_short p (named xs) ≡ false = not_less (length_in (named xs)) p (at_size p place xs e) in rw is (place_at new p place xs e);
-  at_same = λ new p place xs e. let is : is_short p (named xs) ≡ false = not_less (length_in (named xs)) p (at_size p place xs e) in rw is (whole_at new p place xs e);
-  inside = λ new p n id xs e. let is : is_short p (named xs) ≡ false = not_less (length_in (named xs)) p (inside_size p n id xs e) in rw is (inside_place new p n id xs e);
-  inside_split = λ new id p n x xs once e here. let is : is_short p (named xs) ≡ false = not_less (length_in (named xs)) p (inside_size p n id xs e) in
+  short = λ new p xs e. let is : is_short p (named xs) ≡ true = grind (arith, nat_tests, short_size p xs e) in rw is refl;
+  short_same = λ new p xs e. let is : is_short p (named xs) ≡ true = grind (arith, nat_tests, short_size p xs e) in rw is refl;
+  at = λ new p place xs e. let is : is_short p (named xs) ≡ false = grind (arith, nat_tests, at_size p place xs e) in rw is (place_at new p place xs e);
+  at_same = λ new p place xs e. let is : is_short p (named xs) ≡ false = grind (arith, nat_tests, at_size p place xs e) in rw is (whole_at new p place xs e);
+  inside = λ new p n id xs e. let is : is_short p (named xs) ≡ false = grind (arith, nat_tests, inside_size p n id xs e) in rw is (inside_place new p n id xs e);
+  inside_split = λ new id p n x xs once e here. let is : is_short p (named xs) ≡ false = grind (arith, nat_tests, inside_size p n id xs e) in
       rw is (inside_whole new id p n x xs once e here);
 }

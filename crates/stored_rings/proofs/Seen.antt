@@ -54,7 +54,13 @@ module _ {R : Type 0} {g : Ghosts R Stored} (s : Shelf R g) (to : R) where
       → seen_new n ≡ on r (place (id, shown see x)) seen_old n
   added_seen put place shows r id x change = on_seen r (put (id, x)) (place (id, shown see x)) (shows see (id, x)) change
 
-  pub moved_seen : (put : StoredItem → StoredItems → StoredItems) (place : Item → Items → Items) → Shows put place
+  pub added_seen_at : (put : BucketId → StoredItem → StoredItems → StoredItems) (place : BucketId → Item → Items → Items)
+      → ((l : Look) (at : BucketId) (y : StoredItem) (xs : StoredItems) → shown_items l (put at y xs) ≡ place at (shown_item l y) (shown_items l xs)) → (at id : BucketId) (x : Stored)
+      → ((r n : ℕ) → g.ring_at s.rings.rings at ≡ Some r → new n ≡ on r (put at (id, x)) old n) → (r n : ℕ) → g.ring_at s.rings.rings at ≡ Some r
+      → seen_new n ≡ on r (place at (id, shown see x)) seen_old n
+  added_seen_at put place shows at id x change r n is = added_seen (put at) (place at) (λ l. shows l at) r id x (λ m. change r m is) n
+
+  moved_seen : (put : StoredItem → StoredItems → StoredItems) (place : Item → Items → Items) → Shows put place
       → (r q n : ℕ) (id : BucketId) (x : Bucket) → found id (list_at seen_old q) ≡ Some x
       → ((m : ℕ) (y : Stored) → found id (list_at old q) ≡ Some y → new m ≡ on r (put (id, y)) (on q (without id) old) m)
       → seen_new n ≡ on r (place (id, x)) (on q (without id) seen_old) n
@@ -62,6 +68,11 @@ module _ {R : Type 0} {g : Ghosts R Stored} (s : Shelf R g) (to : R) where
       let y = found_stored see old new q id x is in
       twice_seen r q (put (id, y.0)) (without id) (place (id, shown see y.0)) (without id) (shows see (id, y.0)) (without_shown see id) (λ m. change m y.0 y.1) n
       ∙ ap (λ (z : Bucket). on r (place (id, z)) (on q (without id) seen_old) n) y.2
+
+  pub move_seen : (put : StoredItem → StoredItems → StoredItems) (place : Item → Items → Items) → Shows put place → (r : ℕ) (id : BucketId)
+      → ((q n : ℕ) (y : Stored) → g.ring_at s.rings.rings id ≡ Some q → found id (list_at old q) ≡ Some y → new n ≡ on r (put (id, y)) (on q (without id) old) n)
+      → (q n : ℕ) (x : Bucket) → g.ring_at s.rings.rings id ≡ Some q → found id (list_at seen_old q) ≡ Some x → seen_new n ≡ on r (place (id, x)) (on q (without id) seen_old) n
+  move_seen put place shows r id change q n x at is = moved_seen put place shows r q n id x is (λ m y here. change q m y at here)
 
   pub before_seen : (at : BucketId) (r q n : ℕ) (id : BucketId) (x : Bucket) → found id (list_at seen_old q) ≡ Some x
       → ((m : ℕ) (y : Stored) → found id (list_at old q) ≡ Some y → new m ≡ (if same at id then old m else on r (put_before at (id, y)) (on q (without id) old) m))

@@ -15,10 +15,11 @@ use Rattle.stored_rings.specs.Dependents.{noted}
 use Rattle.stored_rings.specs.Items.{StoredItem, StoredItems}
 use Rattle.stored_rings.specs.Noted.{kind_under, home_under, place_under, place_of, is_noted, AreNoted}
 use Rattle.stored_rings.specs.Regions.{look}
-use Rattle.stored_rings.specs.Shown.{held_item}
+use Rattle.bucket_kinds.specs.Stored.{is_whole}
+use Rattle.stored_rings.specs.Shown.{held_item, lies_right}
 use Rattle.stored_rings.proofs.Lists.{some_of}
 use Rattle.stored_rings.proofs.Saves.{found_some}
-use Rattle.stored_rings.proofs.Noted.{all_joined, all_front, all_rest, all_without, all_before, all_set, all_found, same_lists, one_other, one_changed, are_kept, noted_item}
+use Rattle.stored_rings.proofs.Noted.{both, all_joined, all_front, all_rest, all_without, all_before, all_set, all_found, same_lists, one_other, one_changed, are_kept, noted_item}
 
 pub record Tested {R : Type 0} (g : Ghosts R Stored) : Type 0 where
   pub rings : R
@@ -26,9 +27,13 @@ pub record Tested {R : Type 0} (g : Ghosts R Stored) : Type 0 where
   pub test : StoredItem → Bool
   pub all : (n : ℕ) → list_all test (list_at (g.lists rings) n) ≡ true
 
--- what keeps a list passing where the item that is put in passes
+-- what keeps a list passing where the item that is put in passes,
 abbrev pub PutsIn : (StoredItem → StoredItems → StoredItems) → Type 0
 PutsIn put = (p : StoredItem → Bool) (x : StoredItem) (xs : StoredItems) → p x ≡ true → list_all p xs ≡ true → list_all p (put x xs) ≡ true
+
+-- also at a bucket of the list
+abbrev pub PutsAt : (BucketId → StoredItem → StoredItems → StoredItems) → Type 0
+PutsAt put = (p : StoredItem → Bool) (at : BucketId) (x : StoredItem) (xs : StoredItems) → p x ≡ true → list_all p xs ≡ true → list_all p (put at x xs) ≡ true
 
 module _ {R : Type 0} {g : Ghosts R Stored} where
   -- all buckets of a store are noted,
@@ -36,8 +41,10 @@ module _ {R : Type 0} {g : Ghosts R Stored} where
   noted_in s = record { rings = s.rings; law = s.kept; test = is_noted (noted s.dependents); all = s.indexed }
 
   -- also where names were noted since
-  abbrev pub noted_since : (s : Indexed R g) (d : Dependents) → AreNoted (noted d) (g.lists s.rings) → Tested g
-  noted_since s d all = record { rings = s.rings; law = s.kept; test = is_noted (noted d); all = all }
+  abbrev pub noted_since : (s : Indexed R g) (d to : Dependents) → AreNoted (noted d) (g.lists s.rings)
+      → ((p : ℕ) (id : BucketId) → noted d p id ≡ true → noted to p id ≡ true) → Tested g
+  noted_since s d to all kept =
+      record { rings = s.rings; law = s.kept; test = is_noted (noted to); all = are_kept (noted d) (noted to) kept (g.lists s.rings) all }
 
   -- and all buckets of a shelf are held
   abbrev pub held_in : Shelf R g → Tested g
@@ -162,5 +169,25 @@ module _ {R : Type 0} {g : Ghosts R Stored} where
       → kind_under (λ p. noted d p id) x.kind ≡ true → home_under (λ p. noted d p id) x.home ≡ true → place ≡ place_of x.kept → place_under (λ p. noted d p id) place ≡ true
       → (put : StoredItem → StoredItems → StoredItems) → PutsIn put → (ring : ℕ) → ((n : ℕ) → g.lists to n ≡ on ring (put (id, x)) (g.lists s.rings) n) → AreNoted (noted d) (g.lists to)
   new_noted s d to id x place kept kind home place_is placed put puts ring change =
-      put_in (noted_since s d (are_kept (noted s.dependents) (noted d) kept (g.lists s.rings) s.indexed)) to put puts ring (id, x)
+      put_in (noted_since s s.dependents d s.indexed kept) to put puts ring (id, x)
       (noted_item (noted d) id x kind home (ap (λ (q : Option ℕ). place_under (λ n. noted d n id) q) (sym place_is) ∙ placed)) change
+
+  pub new_noted_at : (s : Indexed R g) (d : Dependents) (to : R) (id : BucketId) (x : Stored) (place : Option ℕ)
+      → ((p : ℕ) (j : BucketId) → noted s.dependents p j ≡ true → noted d p j ≡ true)
+      → kind_under (λ p. noted d p id) x.kind ≡ true → home_under (λ p. noted d p id) x.home ≡ true → place ≡ place_of x.kept → place_under (λ p. noted d p id) place ≡ true
+      → (put : BucketId → StoredItem → StoredItems → StoredItems) → PutsAt put → (at : BucketId) → is_some (g.ring_at s.rings at) ≡ true
+      → ((b n : ℕ) → g.ring_at s.rings at ≡ Some b → g.lists to n ≡ on b (put at (id, x)) (g.lists s.rings) n) → AreNoted (noted d) (g.lists to)
+  new_noted_at s d to id x place kept kind home place_is placed put puts at there change =
+      let b = some_of (g.ring_at s.rings at) there in
+      new_noted s d to id x place kept kind home place_is placed (put at) (λ p. puts p at) b.0 (λ n. change b.0 n b.1)
+
+  -- a new bucket is put into a ring of a shelf, whose bytes are placed, or at another bucket
+  module _ (s : Shelf R g) (to : R) (x : Stored) (whole : is_whole (look s.regions) x.kept ≡ true) (lies : lies_right x.kind x.kept ≡ true) where
+    pub held_in_ring : {E : Type 0} (put : StoredItem → StoredItems → StoredItems) → PutsIn put → (ring : ℕ)
+        → (r : Result BucketId E) → IfOk r (λ id. (n : ℕ) → g.lists to n ≡ on ring (put (id, x)) (g.lists s.rings.rings) n) → OnErr r (Same (held_in s) to) → Pass (held_in s) to
+    held_in_ring put puts ring = added (held_in s) to put puts ring x (λ id. both whole lies)
+
+    pub held_at : {E : Type 0} (put : BucketId → StoredItem → StoredItems → StoredItems) → PutsAt put → (at : BucketId) → is_some (g.ring_at s.rings.rings at) ≡ true
+        → (r : Result BucketId E) → IfOk r (λ id. (b n : ℕ) → g.ring_at s.rings.rings at ≡ Some b → g.lists to n ≡ on b (put at (id, x)) (g.lists s.rings.rings) n)
+        → OnErr r (Same (held_in s) to) → Pass (held_in s) to
+    held_at put puts at there = added_at (held_in s) to (put at) (λ p. puts p at) at there x (λ id. both whole lies)

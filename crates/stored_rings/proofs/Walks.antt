@@ -1,6 +1,6 @@
 -- Walks along a brigade.
-use Rattle.std.proofs.Common.{◌≡◌, ◌==◌, ℕ, suc, ◌+◌, ◌<◌, ◌≤◌, Bool, true, false, Option, None, Some, Ok, Err, List, [], ◌∷◌, drop, length, refl, ap, subst, arith}
-use Rattle.std.specs.Prelude.{IfSome, if◌then◌else◌}
+use Rattle.std.proofs.Common.{◌≡◌, ℕ, suc, ◌+◌, ◌<◌, ◌≤◌, Option, None, Some, Ok, Err, List, [], ◌∷◌, drop, length, refl, ap, subst, arith}
+use Rattle.std.specs.Prelude.{IfSome}
 use Rattle.run_model.specs.declared.bucket.Bucket.{Bucket}
 use Rattle.run_model.specs.BrigadeLists.{length_in}
 use Rattle.run_model.specs.Cutting.{length_of}
@@ -13,10 +13,7 @@ use Rattle.stored_rings.proofs.Lists.{rest_head, rest_next}
 
 once_most : (r : ℕ) (o : Option ℕ) → once_in r o ≤ 1
 once_most r None = omega arith
-once_most r (Some q) = at (q == r) where
-  at : (s : Bool) → (if s then 1 else 0) ≤ 1
-  at true = omega arith
-  at false = omega arith
+once_most r (Some q) = grind arith
 
 -- each name stands once in a brigade
 pub once_listed : (r : ℕ) (o : Option ℕ) (n : ℕ) → n ≡ once_in r o → n ≤ 1

@@ -11,3 +11,4 @@ pub mod Views
 pub mod Regions
 pub mod Shown
 pub mod Shelf
+pub mod Prelude

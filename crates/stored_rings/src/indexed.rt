@@ -1,11 +1,7 @@
 //! Rings of buckets that know which of them depend on a pool.
 
 ghost use Rattle.std.specs.Prelude.{◌≡◌, ◌≢◌, ◌↔◌, ℕ, ◌+◌, ◌<◌, ◌++◌, [], length, Some, true, false, is_some, is_ok, if◌then◌else◌, IfOk, OnOk, OnErr};
-ghost use Rattle.bucket_ring.specs.Lists.{upd, on, by_birth, numbered};
-ghost use Rattle.bucket_ring.specs.Kept.{IsKept, NoneRevived};
-ghost use Rattle.stored_rings.specs.Items.{StoredItems};
-ghost use Rattle.stored_rings.specs.Dependents.{names_of, noted};
-ghost use Rattle.stored_rings.specs.Noted.{AreNoted};
+ghost use Rattle.stored_rings.specs.Prelude.{upd, on, by_birth, numbered, IsKept, NoneRevived, StoredItems, names_of, noted, AreNoted};
 
 use crate::dependents::Dependents;
 use crate::noting::{make_room_for_all, note_changed, note_ring};

@@ -1,11 +1,7 @@
 //! The buckets of a ring are noted under the pools that they depend on.
 
 ghost use Rattle.std.specs.Prelude.{◌≡◌, ◌≤◌, ℕ, drop, Some, true, is_some, IfSome};
-ghost use Rattle.bucket_ring.specs.declared.names.BucketId.{BucketId};
-ghost use Rattle.bucket_ring.specs.Lists.{list_at, rest, found};
-ghost use Rattle.stored_rings.specs.Dependents.{noted, StayNoted};
-ghost use Rattle.stored_rings.specs.Items.{from_place};
-ghost use Rattle.stored_rings.specs.Noted.{kind_under, home_under, place_under, place_of, is_noted};
+ghost use Rattle.stored_rings.specs.Prelude.{BucketId, list_at, rest, found, noted, StayNoted, from_place, kind_under, home_under, place_under, place_of, is_noted};
 
 use crate::dependents::Dependents;
 use crate::pruning::{keeps_pools, place_of};

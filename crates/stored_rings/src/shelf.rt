@@ -2,18 +2,9 @@
 
 ghost use Rattle.std.specs.Prelude.{◌≡◌, ◌≢◌, ◌↔◌, ℕ, ◌+◌, ◌<◌, ◌≤◌, ◌++◌, List, [], map, length, Some, None, true, false, is_some, is_ok, if◌then◌else◌, IsOk};
 ghost use Rattle.std.specs.Prelude.{IfOk, IfErr, IfSome, OnOk, OnErr, IsErrOf};
-ghost use Rattle.bucket_ring.specs.declared.names.BucketId.{BucketId};
-ghost use Rattle.bucket_ring.specs.Lists.{upd, on, list_at, same, front, rest, first_of, next_in, found, put_tail, put_head, put_before, put_after, without, with_payload, by_birth, numbered};
-ghost use Rattle.bucket_ring.specs.Kept.{NoneRevived};
-ghost use Rattle.run_model.specs.declared.bucket.Bucket.{Bucket};
-ghost use Rattle.run_model.specs.Pools.{is_in};
+ghost use Rattle.stored_rings.specs.Prelude.{BucketId, upd, on, list_at, same, front, rest, first_of, next_in, found, put_tail, put_head, put_before, put_after, without, with_payload, by_birth};
+ghost use Rattle.stored_rings.specs.Prelude.{numbered, NoneRevived, Bucket, is_in, Kept, is_whole, shown, shown_content, Span, Items, look, lies_right, is_held, AreHeld};
 ghost use Rattle.std.specs.List.{list_all};
-ghost use Rattle.bucket_kinds.specs.declared.stored.Kept.{Kept};
-ghost use Rattle.bucket_kinds.specs.Stored.{is_whole, shown, shown_content};
-ghost use Rattle.apr_region.specs.declared.region.Span.{Span};
-ghost use Rattle.stored_rings.specs.Items.{Items};
-ghost use Rattle.stored_rings.specs.Regions.{look};
-ghost use Rattle.stored_rings.specs.Shown.{lies_right, is_held, AreHeld};
 
 use crate::indexed::Indexed;
 use crate::regions::Regions;

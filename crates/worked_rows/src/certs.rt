@@ -5,11 +5,12 @@ ghost use Rattle.std.specs.Prelude.{◌<◌, ◌≤◌, length};
 use crate::modules::{
     ALIAS_CERT, ALIAS_DELETED, ALIAS_WITHOUT_FACT, ASIDE_CERT, ASIDE_INTO_REQUEST, IDENTITY,
     IDENTITY_CERT, IDENTITY_SLIM, KEEPER_CONCATS, LOOPING_INIT, NEXT_THEN_UNLINK,
-    READ_AFTER_DELETE, REUSED_PASSED_BRIGADE, SLIM_WITH_OTHER, SLIM_WITHOUT_TARGET,
+    READ_AFTER_DELETE, REUSED_PASSED_BRIGADE,
 };
 use anyhow::Result;
 use life_cert::{CertRefusal, MakeRefusal, make, print_cert, read_cert, slim};
 use life_check::{Cert, ChainRefusal, CheckRefusal, Rule, accept_chain, check};
+use life_state::State;
 use module_lang::{Module, assemble, print_module};
 use run_model::FaultKind;
 use std::alloc::Global;
@@ -61,9 +62,13 @@ enum Row {
     Slimmed(&'static [u8]),
     /// It is checked with a certificate.
     Checked(&'static str, &'static [u8], &'static [u8]),
-    /// The first module is checked with its certificate, without this line.
-    Without(usize),
-    /// The same, where the end of a request says no more than its beginning.
+    /// The first module is checked with its certificate, without one line, for each of its lines.
+    Without,
+    /// It is checked with its slim certificate, without what that says before this instruction.
+    SlimWithout(&'static str, usize),
+    /// It is checked with its slim certificate, and with what the whole one says before this instruction.
+    SlimWith(&'static str, usize),
+    /// The first module is checked, where the end of a request says no more than its beginning.
     ReadyAsIdle,
     /// The first bytes of a certificate are read, so many that so many are left.
     Read(&'static [u8], usize),
@@ -101,24 +106,13 @@ const ROWS: &[Row] = &[
         ASIDE_INTO_REQUEST,
         ASIDE_CERT,
     ),
-    Row::Without(0),
-    Row::Without(1),
-    Row::Without(2),
-    Row::Without(3),
-    Row::Without(4),
-    Row::Without(5),
-    Row::Without(6),
-    Row::Without(7),
+    Row::Without,
     Row::ReadyAsIdle,
     Row::Says("slim certificates"),
     Row::Slimmed(IDENTITY),
     Row::Checked("of what passes on what it gets", IDENTITY, IDENTITY_SLIM),
-    Row::Checked(
-        "without the state of a target",
-        IDENTITY,
-        SLIM_WITHOUT_TARGET,
-    ),
-    Row::Checked("with a state elsewhere", IDENTITY, SLIM_WITH_OTHER),
+    Row::SlimWithout("without the state of a target", 5),
+    Row::SlimWith("with a state elsewhere", 3),
     Row::Says("certificates are read"),
     Row::Read(IDENTITY_CERT, 0),
     Row::Read(IDENTITY_CERT, 4),
@@ -194,15 +188,38 @@ fn show_texts(rt: &HostRuntime, what: &str, text: &[u8], known: &[u8]) -> Result
     show_checked(rt, &code, &known)
 }
 
-/// Tells what a check answers to the certificate of the first module without a line.
-fn show_without(rt: &HostRuntime, line: usize) -> Result<()> {
-    let code = assemble(rt.alloc(), IDENTITY)?;
-    let mut less = read_cert(rt.alloc(), IDENTITY_CERT)?;
-    if line < less.at.len() {
-        less.at[line] = None;
+/// Tells what a check answers to the certificate of the first module without each of its lines.
+fn show_each_without(rt: &HostRuntime) -> Result<()> {
+    for line in 0..8usize {
+        show_without(rt, line)?;
     }
+    Ok(())
+}
+
+fn show_without(rt: &HostRuntime, line: usize) -> Result<()> {
     print!(rt; "without line {line}: ")?;
-    show_checked(rt, &code, &less)
+    show_with(rt, IDENTITY_CERT, line, None)
+}
+
+/// Tells what a check answers where a slim certificate says this before an instruction.
+fn show_slim_with(rt: &HostRuntime, what: &str, line: usize, state: Option<State>) -> Result<()> {
+    print!(rt; "{what}: ")?;
+    show_with(rt, IDENTITY_SLIM, line, state)
+}
+
+/// Tells what a check answers to a certificate of the first module that says this before an instruction.
+fn show_with(rt: &HostRuntime, known: &[u8], line: usize, state: Option<State>) -> Result<()> {
+    let code = assemble(rt.alloc(), IDENTITY)?;
+    let mut other = read_cert(rt.alloc(), known)?;
+    if line < other.at.len() {
+        other.at[line] = state;
+    }
+    show_checked(rt, &code, &other)
+}
+
+/// The state of the first module before an instruction.
+fn state_before(alloc: Global, line: usize) -> Result<Option<State>> {
+    Ok(read_cert(alloc, IDENTITY_CERT)?.state(line))
 }
 
 /// Tells what a check answers where the certificate says as much after a request as before it.
@@ -262,7 +279,11 @@ fn show_row(rt: &HostRuntime, row: Row) -> Result<()> {
         Row::Made(text) => show_made(rt, text),
         Row::Slimmed(text) => show_slimmed(rt, text),
         Row::Checked(what, text, known) => show_texts(rt, what, text, known),
-        Row::Without(line) => show_without(rt, line),
+        Row::Without => show_each_without(rt),
+        Row::SlimWithout(what, line) => show_slim_with(rt, what, line, None),
+        Row::SlimWith(what, line) => {
+            show_slim_with(rt, what, line, state_before(rt.alloc(), line)?)
+        }
         Row::ReadyAsIdle => show_ready_as_idle(rt),
         Row::Read(text, left) => show_read(rt, text, left),
         Row::Chain(text, known) => show_chain(rt, text, read_cert(rt.alloc(), known)?),

@@ -13,11 +13,12 @@ use crate::brigades::{put, show_brigade};
 use crate::buckets::{Made, make, range};
 use crate::calls::Place;
 use crate::missing::Missing;
+use crate::reads::files_of;
 use crate::shown::{Seen, Shown};
 use crate::there::{want_both, want_brigade, want_bucket};
 use anyhow::Result;
 use brigade_ops::{BrigadeId, Brigades, BucketId, ContentView, Cut, Rings, Stored, View};
-use bucket_kinds::{Bucket, FileNo, Files, MemFiles};
+use bucket_kinds::{Bucket, FileNo, Files};
 use std::alloc::Global;
 
 /// Whether what a bucket stands for ends below 2^64.
@@ -30,6 +31,17 @@ pub(crate) fn ends_in_file(bucket: View<'_>) -> bool
     }
 }
 
+/// A store with one brigade, of this one bucket.
+pub(crate) fn holding<R: Rings<Stored> + Drop>(
+    alloc: Global,
+    bucket: Bucket,
+) -> Result<(Brigades<R>, BrigadeId, BucketId)> {
+    let mut store: Brigades<R> = Brigades::new(alloc, 1);
+    let brigade = store.loose()?;
+    let id = put(&mut store, Place::Tail(brigade), bucket)?;
+    Ok((store, brigade, id))
+}
+
 /// Splits the one bucket of a brigade, and tells the brigade.
 pub(crate) fn show_split<R: Rings<Stored> + Drop>(
     rt: &HostRuntime,
@@ -38,9 +50,7 @@ pub(crate) fn show_split<R: Rings<Stored> + Drop>(
 ) -> Result<()> {
     let bucket = make(rt.alloc(), made)?;
     print!(rt; "{} at {at}: ", Shown(&bucket))?;
-    let mut store: Brigades<R> = Brigades::new(rt.alloc(), 1);
-    let brigade = store.loose()?;
-    let id = put(&mut store, Place::Tail(brigade), bucket)?;
+    let (mut store, brigade, id) = holding::<R>(rt.alloc(), bucket)?;
     want_bucket(&mut store, id)?;
     if !ends_in_file(store.payload(id)) {
         return Err(Missing.into());
@@ -53,10 +63,8 @@ pub(crate) fn show_split<R: Rings<Stored> + Drop>(
 
 /// Puts a copy of the bucket of a brigade into another, and tells both.
 pub(crate) fn show_copy<R: Rings<Stored> + Drop>(rt: &HostRuntime, made: Made) -> Result<()> {
-    let mut store: Brigades<R> = Brigades::new(rt.alloc(), 1);
-    let brigade = store.loose()?;
+    let (mut store, brigade, id) = holding::<R>(rt.alloc(), make(rt.alloc(), made)?)?;
     let other = store.loose()?;
-    let id = put(&mut store, Place::Tail(brigade), make(rt.alloc(), made)?)?;
     want_both(&mut store, id, other)?;
     store.copy(id, other)?;
     show_brigade(rt, &mut store, brigade)?;
@@ -162,13 +170,10 @@ pub(crate) fn show_read<R: Rings<Stored> + Drop>(
     size: usize,
     len: u32,
 ) -> Result<()> {
-    let mut store: Brigades<R> = Brigades::new(rt.alloc(), 1);
-    let brigade = store.loose()?;
-    let mut files = MemFiles::new(rt.alloc());
-    files.add(b"f", vec![in rt.alloc(); b'x'; size]?)?;
+    let mut files = files_of(rt.alloc(), size)?;
     let (file, size) = files.open_file(b"f")?;
     print!(rt; "{len} of {size}: ")?;
-    let id = put(&mut store, Place::Tail(brigade), range(file, 0, len))?;
+    let (mut store, brigade, id) = holding::<R>(rt.alloc(), range(file, 0, len))?;
     read(rt, &mut store, &mut files, file, id)?;
     show_brigade(rt, &mut store, brigade)
 }

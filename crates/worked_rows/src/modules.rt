@@ -45,29 +45,6 @@ ready sent=maybe
 end
 ";
 
-/// The slim form without the state of a target.
-pub(crate) const SLIM_WITHOUT_TARGET: &[u8] = b"slim 1
-idle sent=no
-ready sent=maybe
-0 sent=no
-1 sent=no
-2 sent=maybe in=u/o/call
-7 sent=maybe in=p
-end
-";
-
-/// A state stands before an instruction that is neither the first of a handler nor a target.
-pub(crate) const SLIM_WITH_OTHER: &[u8] = b"slim 1
-idle sent=no
-ready sent=maybe
-0 sent=no
-1 sent=no
-2 sent=maybe in=u/o/call
-3 sent=no in=u/o/call
-7 sent=maybe in=p
-end
-";
-
 /// Two cursors are at one bucket, which is destroyed by one and read by the other.
 pub(crate) const ALIAS_DELETED: &[u8] = b"module 1
 open

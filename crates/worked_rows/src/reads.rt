@@ -54,7 +54,7 @@ pub(crate) fn show_far_read<F: Files>(rt: &HostRuntime, files: &mut F, file: Fil
 }
 
 /// Files in memory, of which one is of so many bytes.
-fn files_of(alloc: Global, size: usize) -> Result<MemFiles> {
+pub(crate) fn files_of(alloc: Global, size: usize) -> Result<MemFiles> {
     let mut files = MemFiles::new(alloc);
     files.add(b"f", vec![in alloc; b'x'; size]?)?;
     Ok(files)

@@ -12,12 +12,13 @@ use bucket_ring::Rings;
 pub(crate) enum Row {
     /// What the next rows are of.
     Says(&'static str),
-    /// A bucket is split, copied, or set aside into a pool which its home is above or not.
-    Split(Made, u64),
+    /// Each of `SPLITS` is split.
+    Splits,
+    /// A bucket is copied, or set aside into a pool which its home is above or not.
     Copy(Made),
     Aside(Made, bool),
     /// The same in a brigade.
-    SplitIn(Made, u64),
+    SplitsIn,
     CopyIn(Made),
     AsideIn(Made, bool),
     /// A brigade is parted at a point.
@@ -37,16 +38,21 @@ const RANGE: Made = Made::Range(7, 5, 10);
 /// Bytes of a call.
 const LENT: Made = Made::Transient(3, b"a");
 
+/// Buckets that are split, and where.
+const SPLITS: &[(Made, u64)] = &[
+    (AB, 0),
+    (AB, 1),
+    (AB, 2),
+    (AB, 3),
+    (Made::Eos, 0),
+    (Made::Eos, 1),
+    (RANGE, 4),
+];
+
 /// Rows of one bucket, of the bucket of a brigade, and of brigades that are parted.
 pub(crate) const BUCKETS: &[Row] = &[
     Row::Says("buckets are split"),
-    Row::Split(AB, 0),
-    Row::Split(AB, 1),
-    Row::Split(AB, 2),
-    Row::Split(AB, 3),
-    Row::Split(Made::Eos, 0),
-    Row::Split(Made::Eos, 1),
-    Row::Split(RANGE, 4),
+    Row::Splits,
     Row::Says("buckets are copied"),
     Row::Copy(Made::Pool(2, b"ab")),
     Row::Copy(Made::Eos),
@@ -58,13 +64,7 @@ pub(crate) const BUCKETS: &[Row] = &[
     Row::Aside(RANGE, false),
     Row::Aside(Made::Heap(b"a"), false),
     Row::Says("buckets of a brigade are split"),
-    Row::SplitIn(AB, 0),
-    Row::SplitIn(AB, 1),
-    Row::SplitIn(AB, 2),
-    Row::SplitIn(AB, 3),
-    Row::SplitIn(Made::Eos, 0),
-    Row::SplitIn(Made::Eos, 1),
-    Row::SplitIn(RANGE, 4),
+    Row::SplitsIn,
     Row::Says("buckets are copied into a brigade"),
     Row::CopyIn(Made::Pool(2, b"ab")),
     Row::CopyIn(Made::Eos),
@@ -105,13 +105,27 @@ fn say(rt: &HostRuntime, text: &str) -> Result<()> {
     Ok(())
 }
 
+fn show_splits(rt: &HostRuntime) -> Result<()> {
+    for (made, at) in SPLITS {
+        buckets::show_split(rt, *made, *at)?;
+    }
+    Ok(())
+}
+
+fn show_splits_in<R: Rings<Stored> + Drop>(rt: &HostRuntime) -> Result<()> {
+    for (made, at) in SPLITS {
+        cuts::show_split::<R>(rt, *made, *at)?;
+    }
+    Ok(())
+}
+
 fn show_row<R: Rings<Stored> + Drop>(rt: &HostRuntime, row: Row) -> Result<()> {
     match row {
         Row::Says(text) => say(rt, text),
-        Row::Split(made, at) => buckets::show_split(rt, made, at),
+        Row::Splits => show_splits(rt),
         Row::Copy(made) => buckets::show_copy(rt, made),
         Row::Aside(made, is_ancestor) => buckets::show_aside(rt, made, is_ancestor),
-        Row::SplitIn(made, at) => cuts::show_split::<R>(rt, made, at),
+        Row::SplitsIn => show_splits_in::<R>(rt),
         Row::CopyIn(made) => cuts::show_copy::<R>(rt, made),
         Row::AsideIn(made, below) => saves::show_aside::<R>(rt, made, below),
         Row::Partition(made, point) => cuts::show_partition::<R>(rt, made, point),

@@ -5,10 +5,9 @@ ghost use Rattle.run_model.specs.Pools.{is_live};
 ghost use Rattle.pool_tree.specs.Tree.{map_of};
 ghost use Rattle.brigade_ops.specs.Store.{pool_of};
 
-use crate::brigades::{put, show_brigade};
+use crate::brigades::show_brigade;
 use crate::buckets::{Made, make};
-use crate::calls::Place;
-use crate::cuts::{filled, make_all};
+use crate::cuts::{filled, holding, make_all};
 use crate::missing::Missing;
 use crate::pools::create;
 use crate::shown::Shown;
@@ -67,9 +66,7 @@ pub(crate) fn show_aside<R: Rings<Stored> + Drop>(
     let pool = if below { pools.below } else { pools.beside };
     let bucket = make(rt.alloc(), made)?;
     print!(rt; "{}: ", Shown(&bucket))?;
-    let mut store: Brigades<R> = Brigades::new(rt.alloc(), 1);
-    let brigade = store.loose()?;
-    let id = put(&mut store, Place::Tail(brigade), bucket)?;
+    let (mut store, brigade, id) = holding::<R>(rt.alloc(), bucket)?;
     want_bucket(&mut store, id)?;
     want_pool(&mut pools.tree, pool)?;
     store.aside(&mut pools.tree, id, pool)?;

@@ -1,7 +1,7 @@
 //! How rows show a bucket.
 
 use brigade_ops::{ContentView, View};
-use bucket_kinds::{Bucket, Content, Home, Kind};
+use bucket_kinds::{Bucket, Home, Kind};
 use std::fmt;
 
 /// Longer bytes are shown by their number, and by their letter where it is one.
@@ -76,24 +76,6 @@ impl fmt::Display for Seen<'_> {
 
 impl fmt::Display for Shown<'_> {
     fn fmt<W: fmt::Write>(&self, f: &mut fmt::Formatter<W>) -> fmt::Result {
-        let content = match &self.0.content {
-            Content::Bytes(bytes) => ContentView::Bytes(bytes.as_slice()),
-            Content::Range { file, start, len } => ContentView::Range {
-                file: *file,
-                start: *start,
-                len: *len,
-            },
-            Content::Nothing => ContentView::Nothing,
-        };
-        let (kind, home) = (self.0.kind, self.0.home);
-        write!(
-            f,
-            "{}",
-            Seen(View {
-                kind,
-                content,
-                home
-            })
-        )
+        write!(f, "{}", Seen(View::of(self.0)))
     }
 }

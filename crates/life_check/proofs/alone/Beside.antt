@@ -1,5 +1,6 @@
 -- What is known of an instance while others go on, and where its pass is answered.
-use Rattle.std.proofs.Common.{◌≡◌, ℕ, Bool, true, false, ◌||◌, List, map, Option, Some, None, inl, inr, refl, sym, ◌∙◌, ap, subst}
+use Rattle.std.proofs.Common.{◌≡◌, ℕ, true, false, List, map, Option, Some, None, inl, inr, refl, sym, ◌∙◌, ap, subst}
+use Rattle.std.proofs.lemmas.Bool.{or_left, or_right}
 use Rattle.module_code.specs.Program.{Program, IsModule}
 use Rattle.module_code.specs.declared.instr.Instr.{Instr}
 use Rattle.module_code.specs.declared.instr.Instr.TheVariants as instr
@@ -40,14 +41,6 @@ use Rattle.life_check.proofs.Standards.{resting, fits_flow, fits_aside}
 use Rattle.life_check.proofs.chains.Beside.{covers_more, fits_among}
 use Rattle.life_check.proofs.chains.Given.{given_fits}
 use Rattle.life_check.proofs.chains.Spared.{mapped, spared_fits}
-
-or_left : (a b : Bool) → a ≡ true → (a || b) ≡ true
-or_left true b h = refl
-or_left false b h = cc
-
-or_right : (a b : Bool) → b ≡ true → (a || b) ≡ true
-or_right true b h = refl
-or_right false b h = h
 
 -- Other filters go on.
 

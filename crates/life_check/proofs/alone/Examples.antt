@@ -126,38 +126,42 @@ fine_counts r f none n =
     all_none 9 (λ b. count_named n (items_of (r.instance.brigades b))) (λ b lt. ap (count_named n) (f b).0 ∙ count_none n) in
     omega arith
 
+-- a call that runs on its own, and what stands where calls have returned: at rest, with a request, and in `init`
+abbrev called_as : ℕ → ℕ → ℕ → Configuration → Standing
+called_as n next pc r = record { phase = Runs; lasting = record { calls = n ∷ []; pools = [] }; now = called n next pc r }
+
+abbrev rests_after : Configuration → Standing
+rests_after r = record { phase = Rests; lasting = none_lasts; now = do_return r }
+
+abbrev request_after : Configuration → Standing
+request_after r = record { phase = Due; lasting = none_lasts; now = request_begun (do_return r) }
+
+abbrev init_after : ℕ → ℕ → ℕ → Configuration → Standing
+init_after n next pc r = called_as n next pc (request_after r).now
+
 -- A module that cleans what it never created.
 
 abbrev first_call : Standing
-first_call = record { phase = Runs; lasting = record { calls = 1 ∷ []; pools = [] }; now = called 1 2 0 opened }
-
-abbrev first_done : Standing
-first_done = record { phase = Rests; lasting = none_lasts; now = do_return first_call.now }
-
-abbrev request_open : Standing
-request_open = record { phase = Due; lasting = none_lasts; now = request_begun first_done.now }
+first_call = called_as 1 2 0 opened
 
 abbrev second_call : Standing
-second_call = record { phase = Runs; lasting = record { calls = 2 ∷ []; pools = [] }; now = called 2 3 1 request_open.now }
-
-abbrev second_done : Standing
-second_done = record { phase = Rests; lasting = none_lasts; now = do_return second_call.now }
+second_call = init_after 2 3 1 first_call.now
 
 abbrev main_call : Standing
 main_call = record {
   phase = Runs;
   lasting = record { calls = 3 ∷ []; pools = [] };
-  now = called 3 5 2 (record second_done.now { instance = set_in (var.Live (record { name = 4; on = None; mark = Usable; items = [] })) second_done.now.instance });
+  now = called 3 5 2 (record (do_return second_call.now) { instance = set_in (var.Live (record { name = 4; on = None; mark = Usable; items = [] })) (do_return second_call.now).instance });
 }
 
-fine_second : AllFine second_done.now
+fine_second : AllFine (do_return second_call.now)
 unfolding AllFine
 fine_second = fine_return second_call.now (fine_return first_call.now all_null)
 
 no_pools : (n : ℕ) → is_in n [] ≡ true → ⊥
 no_pools n e = cc
 
-main_begins : Calls never_creates [] second_done main_call
+main_begins : Calls never_creates [] (rests_after second_call.now) main_call
 unfolding created planted Fine AllFine
 main_begins = record {
   phase = refl;
@@ -170,7 +174,7 @@ main_begins = record {
   others = λ n lasts. absurd (no_pools n lasts);
   ordered = refl;
   homes = All-nil _;
-  come = record { kinds = All-nil _; once = λ n. (let none = fine_counts second_done.now fine_second refl n in let nothing = count_none n in omega arith); given = λ n le. count_none n };
+  come = record { kinds = All-nil _; once = λ n. (let none = fine_counts (do_return second_call.now) fine_second refl n in let nothing = count_none n in omega arith); given = λ n le. count_none n };
   brigade = 4;
   given = omega arith;
   apart = λ b e. absurd (let two = (fine_second b).1 4 e in omega (arith, two));
@@ -180,12 +184,12 @@ main_begins = record {
 abbrev cleans_at_last : Standing
 cleans_at_last = record main_call { phase = Broken }
 
-from_main : IsOpenRun never_creates second_done (Main [] ∷ (Execute None ∷ [])) (Done ∷ (Faults F2 ∷ [])) cleans_at_last
+from_main : IsOpenRun never_creates (rests_after second_call.now) (Main [] ∷ (Execute None ∷ [])) (Done ∷ (Faults F2 ∷ [])) cleans_at_last
 unfolding IsOpenRun IsMove executed current planted created upd is_spent lacks_names is_live is_under any_below named_at is_own_at has_pool_at is_stray keeps_stray cursor_fault spot_of holder_of
     variable_of found_below buckets_before buckets_from set_brigade set_cursor set_loose set_pool set_number with_pools with_brigade registered pool_of_brigade pool_of_pool
 from_main = (main_call, (refl, main_begins), ends never_creates (instr.BClean 0) main_call F2 refl refl refl)
 
-from_init : IsOpenRun never_creates request_open (Start ∷ (Execute None ∷ (Main [] ∷ (Execute None ∷ [])))) (Done ∷ (Returns Success [] ∷ (Done ∷ (Faults F2 ∷ [])))) cleans_at_last
+from_init : IsOpenRun never_creates (request_after first_call.now) (Start ∷ (Execute None ∷ (Main [] ∷ (Execute None ∷ [])))) (Done ∷ (Returns Success [] ∷ (Done ∷ (Faults F2 ∷ [])))) cleans_at_last
 unfolding IsOpenRun IsMove executed current planted created upd is_spent lacks_names is_live is_under any_below named_at is_own_at has_pool_at is_stray keeps_stray cursor_fault spot_of holder_of
     variable_of found_below buckets_before buckets_from set_brigade set_cursor set_loose set_pool set_number with_pools with_brigade registered pool_of_brigade pool_of_pool
 from_init = (
@@ -194,10 +198,11 @@ from_init = (
   goes never_creates (instr.Ret Success) second_call cleans_at_last (Main [] ∷ (Execute None ∷ [])) (Done ∷ (Faults F2 ∷ [])) refl refl refl refl from_main,
 )
 
-from_request : IsOpenRun never_creates first_done (Begin ∷ (Start ∷ (Execute None ∷ (Main [] ∷ (Execute None ∷ []))))) (Done ∷ (Done ∷ (Returns Success [] ∷ (Done ∷ (Faults F2 ∷ []))))) cleans_at_last
+from_request : IsOpenRun never_creates (rests_after first_call.now) (Begin ∷ (Start ∷ (Execute None ∷ (Main [] ∷ (Execute None ∷ [])))))
+    (Done ∷ (Done ∷ (Returns Success [] ∷ (Done ∷ (Faults F2 ∷ []))))) cleans_at_last
 unfolding IsOpenRun IsMove executed current planted created upd is_spent lacks_names is_live is_under any_below named_at is_own_at has_pool_at is_stray keeps_stray cursor_fault spot_of holder_of
     variable_of found_below buckets_before buckets_from set_brigade set_cursor set_loose set_pool set_number with_pools with_brigade registered pool_of_brigade pool_of_pool
-from_request = (request_open, (refl, record { phase = refl; none = refl; names = refl; is = refl }), from_init)
+from_request = (request_after first_call.now, (refl, record { phase = refl; none = refl; names = refl; is = refl }), from_init)
 
 cleans_none_run : IsOpenRun never_creates (record { phase = Due; lasting = none_lasts; now = opened }) (Start ∷ (Execute None ∷ (Begin ∷ (Start ∷ (Execute None ∷ (Main [] ∷ (Execute None ∷ [])))))))
     (Done ∷ (Returns Success [] ∷ (Done ∷ (Done ∷ (Returns Success [] ∷ (Done ∷ (Faults F2 ∷ []))))))) cleans_at_last
@@ -220,41 +225,29 @@ cleans_none safe = (safe opened (Start ∷ (Execute None ∷ (Begin ∷ (Start �
 abbrev lent : NamedBucket
 lent = record { name = 6; bucket = record { kind = kind.File; content = content.Range 1 0 5; home = home.Pool 2 } }
 
-abbrev opening : Standing
-opening = record { phase = Runs; lasting = record { calls = 1 ∷ []; pools = [] }; now = called 1 2 0 opened }
-
 abbrev made : Standing
-made = record opening { now = record (do_create keeps_a_file 0 opening.now) { pc = 1 } }
-
-abbrev resting_first : Standing
-resting_first = record { phase = Rests; lasting = none_lasts; now = do_return made.now }
-
-abbrev requested : Standing
-requested = record { phase = Due; lasting = none_lasts; now = request_begun resting_first.now }
+made = record first_call { now = record (do_create keeps_a_file 0 first_call.now) { pc = 1 } }
 
 abbrev beginning : Standing
-beginning = record { phase = Runs; lasting = record { calls = 3 ∷ []; pools = [] }; now = called 3 4 2 requested.now }
-
-abbrev resting_second : Standing
-resting_second = record { phase = Rests; lasting = none_lasts; now = do_return beginning.now }
+beginning = init_after 3 4 2 made.now
 
 abbrev serving : Standing
 serving = record {
   phase = Runs;
   lasting = record { calls = 4 ∷ []; pools = 2 ∷ [] };
-  now = called 4 7 3 (record resting_second.now { instance = set_in (var.Live (record { name = 5; on = None; mark = Usable; items = lent ∷ [] })) resting_second.now.instance });
+  now = called 4 7 3 (record (do_return beginning.now) { instance = set_in (var.Live (record { name = 5; on = None; mark = Usable; items = lent ∷ [] })) (do_return beginning.now).instance });
 }
 
 fine_made : AllFine made.now
 unfolding AllFine Fine set_brigade
-fine_made b = elim (upd_either opening.now.instance.brigades 0 b (var.Live (record { name = 2; on = pool_named opening.now (pool_of_brigade keeps_a_file 0); mark = Usable; items = [] }))) [
+fine_made b = elim (upd_either first_call.now.instance.brigades 0 b (var.Live (record { name = 2; on = pool_named first_call.now (pool_of_brigade keeps_a_file 0); mark = Usable; items = [] }))) [
   | inl e ↦ subst Fine (sym e.1) (refl, λ n is. sym (some_is 2 n is))
   | inr e ↦ subst Fine (sym e.1) (all_null b)
 ] where
   some_is : (x y : ℕ) → Some x ≡ Some y → x ≡ y
   some_is x y e = cc
 
-fine_resting : AllFine resting_second.now
+fine_resting : AllFine (do_return beginning.now)
 unfolding AllFine
 fine_resting = fine_return beginning.now (fine_return made.now fine_made)
 
@@ -270,7 +263,7 @@ some_at x y e = cc
 none_at : (y : ℕ) → None ≡ Some y → ⊥
 none_at y e = cc
 
-two_is_others : IsOthers resting_second.now 2
+two_is_others : IsOthers (do_return beginning.now) 2
 unfolding IsOpenRun IsMove executed current planted created upd is_spent lacks_names is_live is_under any_below named_at is_own_at has_pool_at is_stray keeps_stray cursor_fault spot_of holder_of
     variable_of found_below buckets_before buckets_from set_brigade set_cursor set_loose set_pool set_number with_pools with_brigade registered pool_of_brigade pool_of_pool
 two_is_others = record {
@@ -278,9 +271,9 @@ two_is_others = record {
   above = λ k n e. by_ref k n e;
   under = λ q n e. absurd (cc);
 } where
-  by_ref : (k : PoolRef) (n : ℕ) → pool_named resting_second.now k ≡ Some n → is_under resting_second.now.shared.pools 2 n ≡ false
-  by_ref pool.Conn n e = subst (λ (m : ℕ). is_under resting_second.now.shared.pools 2 m ≡ false) (some_at 1 n e) refl
-  by_ref pool.Req n e = subst (λ (m : ℕ). is_under resting_second.now.shared.pools 2 m ≡ false) (some_at 3 n e) refl
+  by_ref : (k : PoolRef) (n : ℕ) → pool_named (do_return beginning.now) k ≡ Some n → is_under (do_return beginning.now).shared.pools 2 n ≡ false
+  by_ref pool.Conn n e = subst (λ (m : ℕ). is_under (do_return beginning.now).shared.pools 2 m ≡ false) (some_at 1 n e) refl
+  by_ref pool.Req n e = subst (λ (m : ℕ). is_under (do_return beginning.now).shared.pools 2 m ≡ false) (some_at 3 n e) refl
   by_ref (pool.Own q) n e = absurd (none_at n e)
 
 lent_counts : (n : ℕ) → count_named n (lent ∷ []) ≡ cond (6 == n) 1 0
@@ -291,9 +284,9 @@ at_most true = omega arith
 at_most false = omega arith
 
 abbrev LentMayCome : NamedBucket → Type 0
-LentMayCome x = may_come (record { calls = 4 ∷ []; pools = 2 ∷ [] }) resting_second.now x.bucket.home ≡ true
+LentMayCome x = may_come (record { calls = 4 ∷ []; pools = 2 ∷ [] }) (do_return beginning.now) x.bucket.home ≡ true
 
-serving_begins : Calls keeps_a_file (lent ∷ []) resting_second serving
+serving_begins : Calls keeps_a_file (lent ∷ []) (rests_after beginning.now) serving
 unfolding IsOpenRun IsMove executed current planted created upd is_spent lacks_names is_live is_under any_below named_at is_own_at has_pool_at is_stray keeps_stray cursor_fault spot_of holder_of
     variable_of found_below buckets_before buckets_from set_brigade set_cursor set_loose set_pool set_number with_pools with_brigade registered pool_of_brigade pool_of_pool Fine AllFine
 serving_begins = record {
@@ -304,12 +297,12 @@ serving_begins = record {
   named = record { new = omega arith; given = omega arith; limit = omega arith };
   waiting = [];
   pools = 2 ∷ [];
-  others = λ n lasts. subst (IsOthers resting_second.now) (only_two n lasts) two_is_others;
+  others = λ n lasts. subst (IsOthers (do_return beginning.now)) (only_two n lasts) two_is_others;
   ordered = refl;
   homes = All-cons LentMayCome lent [] refl (All-nil LentMayCome);
   come = record {
     kinds = All-cons (λ x. FitsKind x.bucket) lent [] (record { holds = refl; lives = tt }) (All-nil (λ x. FitsKind x.bucket));
-    once = λ n. (let none = fine_counts resting_second.now fine_resting refl n in let few = lent_counts n in let most = at_most (6 == n) in omega arith);
+    once = λ n. (let none = fine_counts (do_return beginning.now) fine_resting refl n in let few = lent_counts n in let most = at_most (6 == n) in omega arith);
     given = λ n le. lent_counts n ∙ ap (λ (t : Bool). cond t 1 0) (ne_eqb 6 n (λ e. absurd (omega (arith, e, le))));
   };
   brigade = 5;
@@ -372,23 +365,23 @@ unfolding IsOpenRun IsMove executed current planted created upd is_spent lacks_n
 keeps_0 = goes keeps_a_file (instr.First 0 8) serving keeps_at_last (Execute None ∷ (Execute None ∷ (Execute None ∷ (Execute None ∷ (Execute None ∷ [])))))
     (Done ∷ (Done ∷ (Done ∷ (Done ∷ (Faults F6 ∷ []))))) refl refl refl refl keeps_1
 
-keeps_main : IsOpenRun keeps_a_file resting_second (Main (lent ∷ []) ∷ (Execute None ∷ (Execute None ∷ (Execute None ∷ (Execute None ∷ (Execute None ∷ (Execute None ∷ [])))))))
+keeps_main : IsOpenRun keeps_a_file (rests_after beginning.now) (Main (lent ∷ []) ∷ (Execute None ∷ (Execute None ∷ (Execute None ∷ (Execute None ∷ (Execute None ∷ (Execute None ∷ [])))))))
     (Done ∷ (Done ∷ (Done ∷ (Done ∷ (Done ∷ (Done ∷ (Faults F6 ∷ []))))))) keeps_at_last
 unfolding IsOpenRun IsMove executed current planted created upd is_spent lacks_names is_live is_under any_below named_at is_own_at has_pool_at is_stray keeps_stray cursor_fault spot_of holder_of
     variable_of found_below buckets_before buckets_from set_brigade set_cursor set_loose set_pool set_number with_pools with_brigade registered pool_of_brigade pool_of_pool
 keeps_main = (serving, (refl, serving_begins), keeps_0)
 
-keeps_init : IsOpenRun keeps_a_file requested (Start ∷ (Execute None ∷ (Main (lent ∷ []) ∷ (Execute None ∷ (Execute None
+keeps_init : IsOpenRun keeps_a_file (request_after made.now) (Start ∷ (Execute None ∷ (Main (lent ∷ []) ∷ (Execute None ∷ (Execute None
     ∷ (Execute None ∷ (Execute None ∷ (Execute None ∷ (Execute None ∷ []))))))))) (Done ∷ (Returns Success [] ∷ (Done ∷ (Done ∷ (Done ∷ (Done ∷ (Done ∷ (Done ∷ (Faults F6 ∷ []))))))))) keeps_at_last
 unfolding IsOpenRun IsMove executed current planted created upd is_spent lacks_names is_live is_under any_below named_at is_own_at has_pool_at is_stray keeps_stray cursor_fault spot_of holder_of
     variable_of found_below buckets_before buckets_from set_brigade set_cursor set_loose set_pool set_number with_pools with_brigade registered pool_of_brigade pool_of_pool
 keeps_init = (beginning, (refl, record { phase = refl; name = 3; next = 4; named = record { new = omega arith; given = omega arith; limit = omega arith }; is = refl }), goes keeps_a_file (instr.Ret Success) beginning keeps_at_last (Main (lent ∷ []) ∷ (Execute None ∷ (Execute None ∷ (Execute None ∷ (Execute None ∷ (Execute None ∷ (Execute None ∷ []))))))) (Done ∷ (Done ∷ (Done ∷ (Done ∷ (Done ∷ (Done ∷ (Faults F6 ∷ []))))))) refl refl refl refl keeps_main)
 
-keeps_request : IsOpenRun keeps_a_file resting_first (Begin ∷ (Start ∷ (Execute None ∷ (Main (lent ∷ []) ∷ (Execute None ∷ (Execute None ∷ (Execute None
+keeps_request : IsOpenRun keeps_a_file (rests_after made.now) (Begin ∷ (Start ∷ (Execute None ∷ (Main (lent ∷ []) ∷ (Execute None ∷ (Execute None ∷ (Execute None
     ∷ (Execute None ∷ (Execute None ∷ (Execute None ∷ [])))))))))) (Done ∷ (Done ∷ (Returns Success [] ∷ (Done ∷ (Done ∷ (Done ∷ (Done ∷ (Done ∷ (Done ∷ (Faults F6 ∷ [])))))))))) keeps_at_last
 unfolding IsOpenRun IsMove executed current planted created upd is_spent lacks_names is_live is_under any_below named_at is_own_at has_pool_at is_stray keeps_stray cursor_fault spot_of holder_of
     variable_of found_below buckets_before buckets_from set_brigade set_cursor set_loose set_pool set_number with_pools with_brigade registered pool_of_brigade pool_of_pool
-keeps_request = (requested, (refl, record { phase = refl; none = refl; names = refl; is = refl }), keeps_init)
+keeps_request = (request_after made.now, (refl, record { phase = refl; none = refl; names = refl; is = refl }), keeps_init)
 
 keeps_open : IsOpenRun keeps_a_file made (Execute None ∷ (Begin ∷ (Start ∷ (Execute None ∷ (Main (lent ∷ []) ∷ (Execute None ∷ (Execute None ∷ (Execute None ∷ (Execute None ∷ (Execute None
     ∷ (Execute None ∷ []))))))))))) (Returns Success [] ∷ (Done ∷ (Done ∷ (Returns Success [] ∷ (Done ∷ (Done ∷ (Done ∷ (Done ∷ (Done ∷ (Done ∷ (Faults F6 ∷ []))))))))))) keeps_at_last
@@ -402,7 +395,13 @@ keeps_run : IsOpenRun keeps_a_file (record { phase = Due; lasting = none_lasts; 
     (Done ∷ (Done ∷ (Returns Success [] ∷ (Done ∷ (Done ∷ (Returns Success [] ∷ (Done ∷ (Done ∷ (Done ∷ (Done ∷ (Done ∷ (Done ∷ (Faults F6 ∷ []))))))))))))) keeps_at_last
 unfolding IsOpenRun IsMove executed current planted created upd is_spent lacks_names is_live is_under any_below named_at is_own_at has_pool_at is_stray keeps_stray cursor_fault spot_of holder_of
     variable_of found_below buckets_before buckets_from set_brigade set_cursor set_loose set_pool set_number with_pools with_brigade registered pool_of_brigade pool_of_pool
-keeps_run = (opening, (refl, record { phase = refl; name = 1; next = 2; named = record { new = omega arith; given = omega arith; limit = omega arith }; is = refl }), goes keeps_a_file (instr.BCreate 0) opening keeps_at_last (Execute None ∷ (Begin ∷ (Start ∷ (Execute None ∷ (Main (lent ∷ []) ∷ (Execute None ∷ (Execute None ∷ (Execute None ∷ (Execute None ∷ (Execute None ∷ (Execute None ∷ []))))))))))) (Returns Success [] ∷ (Done ∷ (Done ∷ (Returns Success [] ∷ (Done ∷ (Done ∷ (Done ∷ (Done ∷ (Done ∷ (Done ∷ (Faults F6 ∷ []))))))))))) refl refl refl refl keeps_open)
+keeps_run = (
+  first_call,
+  (refl, record { phase = refl; name = 1; next = 2; named = record { new = omega arith; given = omega arith; limit = omega arith }; is = refl }),
+  goes keeps_a_file (instr.BCreate 0) first_call keeps_at_last
+      (Execute None ∷ (Begin ∷ (Start ∷ (Execute None ∷ (Main (lent ∷ []) ∷ (Execute None ∷ (Execute None ∷ (Execute None ∷ (Execute None ∷ (Execute None ∷ (Execute None ∷ [])))))))))))
+      (Returns Success [] ∷ (Done ∷ (Done ∷ (Returns Success [] ∷ (Done ∷ (Done ∷ (Done ∷ (Done ∷ (Done ∷ (Done ∷ (Faults F6 ∷ []))))))))))) refl refl refl refl keeps_open,
+)
 
 keeps_what_is_lent : InstancesAreSafe keeps_a_file → ⊥
 unfolding AreHarmless

@@ -1,7 +1,7 @@
 -- What stands where a connection is opened, where a request begins and where a brigade is brought.
 use Rattle.std.proofs.Common.{◌≡◌, ◌≢◌, ℕ, zero, suc, ◌+◌, ◌<◌, Bool, true, false, ◌||◌, not, ◌==◌, cond, List, [], ◌∷◌, ◌++◌, length, Option, Some, None, refl, inl, inr, sym, ◌∙◌, ap, subst, arith}
 use Rattle.std.proofs.Common.{eq-eqb}
-use Rattle.std.proofs.lemmas.Bool.{cases_eq}
+use Rattle.std.proofs.lemmas.Bool.{cases_eq, or_left, or_right}
 use Rattle.std.proofs.lemmas.List.Folds.{list_any-append}
 use Rattle.module_code.specs.declared.instr.PoolRef.{PoolRef}
 use Rattle.module_code.specs.declared.instr.PoolRef.TheVariants as pool
@@ -55,14 +55,6 @@ some_below n = by_list (numbers_below n) where
   by_list [] = refl
   by_list (x ∷ xs) = refl
 
-or_here : (a b : Bool) → b ≡ true → (a || b) ≡ true
-or_here true b h = refl
-or_here false b h = h
-
-or_there : (a b : Bool) → a ≡ true → (a || b) ≡ true
-or_there true b h = refl
-or_there false b h = cc
-
 in_append : (k : ℕ) (xs ys : List ℕ) → is_in k (xs ++ ys) ≡ (is_in k xs || is_in k ys)
 in_append k xs ys = list_any-append (λ m. m == k) xs ys
 
@@ -74,8 +66,8 @@ queued (suc (suc m)) k some inside =
     let all : is_in k (tail_of (numbers_below (suc m) ++ suc m ∷ [])) ≡ (is_in k (tail_of (numbers_below (suc m))) || is_in k (suc m ∷ [])) =
     ap (is_in k) (tail_append (numbers_below (suc m)) (suc m ∷ []) (some_below m)) ∙ in_append k (tail_of (numbers_below (suc m))) (suc m ∷ []) in
     all ∙ elim (cases_eq k (suc m)) [
-      | inl same ↦ or_here (is_in k (tail_of (numbers_below (suc m)))) (is_in k (suc m ∷ [])) (or_there (suc m == k) false (eq-eqb (suc m) k (sym same)))
-      | inr differ ↦ or_there (is_in k (tail_of (numbers_below (suc m)))) (is_in k (suc m ∷ [])) (queued (suc m) k some (omega (arith, differ)))
+      | inl same ↦ or_right (is_in k (tail_of (numbers_below (suc m)))) (is_in k (suc m ∷ [])) (or_left (suc m == k) false (eq-eqb (suc m) k (sym same)))
+      | inr differ ↦ or_left (is_in k (tail_of (numbers_below (suc m)))) (is_in k (suc m ∷ [])) (queued (suc m) k some (omega (arith, differ)))
     ]
 
 -- What is known between calls.

@@ -1,12 +1,8 @@
 //! Clearing and destroying pools.
 
 ghost use Rattle.std.specs.Prelude.{◌≡◌, ◌≢◌, ◌≤◌, IsTrue, IfOk, OnOk, OnErr, reverse, length, vec_capacity, [], ◌∷◌};
-ghost use Rattle.run_model.specs.Pools.{is_live, cleared, destroyed};
-ghost use Rattle.run_model.specs.RunOrder.{children, run_order, IsPoolMap, order_under};
+ghost use Rattle.pool_tree.specs.Prelude.{is_live, cleared, destroyed, children, run_order, IsPoolMap, order_under, pools_after, IsRoomFor, map_of};
 ghost use Rattle.pool_tree.specs.declared.tree.clear.ClearKind.TheVariants.{Destroy};
-ghost use Rattle.pool_tree.specs.Clears.{pools_after};
-ghost use Rattle.pool_tree.specs.Room.{IsRoomFor};
-ghost use Rattle.pool_tree.specs.Tree.{map_of};
 
 use super::{PoolId, PoolTree};
 use crate::handed::{empty_pool, take_pools};

@@ -3,12 +3,7 @@
 ghost use Rattle.std.specs.Prelude.{◌≡◌, ℕ, ◌+◌, ◌≤◌, List, ◌++◌, reverse, IsTrue, IfSome, OnOk, MatchOption, None, Some, [], ◌∷◌};
 ghost use Rattle.std.specs.List.{flat_map};
 ghost use Rattle.std.specs.Io.KnownBytes.{Appends};
-ghost use Rattle.run_model.specs.Pools.{is_live};
-ghost use Rattle.run_model.specs.RunOrder.{children};
-ghost use Rattle.pool_tree.specs.Left.{IsPlace, text_behind, text_left};
-ghost use Rattle.pool_tree.specs.Records.{record_of, parent_of, newest_of, older_of};
-ghost use Rattle.pool_tree.specs.Printed.{margin, spaced, spaced_all, line, printed};
-ghost use Rattle.pool_tree.specs.Tree.{map_of};
+ghost use Rattle.pool_tree.specs.Prelude.{is_live, children, IsPlace, text_behind, text_left, record_of, parent_of, newest_of, older_of, margin, spaced, spaced_all, line, printed, map_of};
 
 use super::{PoolId, PoolTree};
 use crate::text::PoolText;

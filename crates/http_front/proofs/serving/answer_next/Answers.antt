@@ -2,18 +2,28 @@ use Rattle.std.proofs.Common.{sym, subst}
 use Rattle.std.proofs.lemmas.Result.{err_from_is_err_and}
 use Rattle.http_message.specs.Inboxes.{unread}
 use Rattle.http_front.specs.Serving.{Goes}
-use Rattle.http_front.specs.Talking.{pending}
+use Rattle.http_front.specs.Stepping.{DoesStep}
+use Rattle.http_front.specs.Talking.{Follows, pending}
+use Rattle.http_front.specs.declared.steps.ServeStep.{ServeStep}
 use Rattle.http_front.proofs.NextLaws.{few_put, goes_put, less_put, slice_lacks, slice_step, stays_some, step_few, step_less, wants_more, wants_put}
 use Rattle.http_front.proofs.ServedLaws.{fails_as}
 use Rattle.http_front.proofs.ServingLaws.{far_lacks_by}
+use Rattle.http_front.proofs.serving.answer_next.Given.{Over}
 use Rattle.http_front.proofs.serving.answer_next.Goals as goal
+
+-- what the slice did is a step, since no request is ever under way
+made : (g : Over) (c : goal.After-put_all g)
+    → (s : ServeStep) × DoesStep c.args.site.now (λ h. g.H.Handler.handles h c.args.number) g.K.Clock.tells c.args.handler.now c.args.clock.now (unread c.args.conn.now.inbox)
+    c.args.conn.now.whole s (pending c.step.new.self) c.step.new.handler c.step.new.clock × Follows s c.args.conn.now c.step.new.self
+made g c =
+    let did = c.in_ok-step.ensures.did in
+    slice_step c.args.site.now (λ h. g.H.Handler.handles h c.args.number) (λ h k o z. ⊥) g.K.Clock.tells
+    (λ t. elim t [ ]) c.args.conn.now.hand did.0 c.args.conn.now c.step.new.self (unread c.args.conn.now.inbox) c.args.conn.now.whole c.args.handler.now
+    c.step.new.handler c.args.clock.now c.step.new.clock (pending c.step.new.self) did.1 did.2
 
 pub returns-clause-goes : goal.returns-clause-goes
 returns-clause-goes g c old before r q w ends so =
-    let did = c.in_ok-step.ensures.did in
-    let x = slice_step c.args.site.now (λ h. g.H.Handler.handles h c.args.number) (λ h k o z. ⊥) g.K.Clock.tells
-    (λ t. elim t [ ]) c.args.conn.now.hand did.0 c.args.conn.now c.step.new.self (unread c.args.conn.now.inbox) c.args.conn.now.whole c.args.handler.now
-    c.step.new.handler c.args.clock.now c.step.new.clock (pending c.step.new.self) did.1 did.2 in
+    let x = made g c in
     subst (λ h. Goes c.args.site.now (λ k. g.H.Handler.handles k c.args.number) g.K.Clock.tells (λ k. g.H.Handler.lacks k c.args.number) old before r q w
     (g.W.Sink.contents c.put_all.new.sink) c.put_all.new.self.over (unread c.put_all.new.self.inbox) c.put_all.new.self.requests h c.step.new.clock c.put_all.result) (sym c.put_all.ensures.still)
     (goes_put c.args.site.now (λ h. g.H.Handler.handles h c.args.number) g.K.Clock.tells c.args.conn.now c.step.new.self c.args.handler.now c.step.new.handler
@@ -35,31 +45,19 @@ returns-in_err-step-clause-goes g c old before r q w ends so =
 
 pub returns-clause-few : goal.returns-clause-few
 returns-clause-few g c =
-    let did = c.in_ok-step.ensures.did in
-    let x = slice_step c.args.site.now (λ h. g.H.Handler.handles h c.args.number) (λ h k o z. ⊥) g.K.Clock.tells
-    (λ t. elim t [ ]) c.args.conn.now.hand did.0 c.args.conn.now c.step.new.self (unread c.args.conn.now.inbox) c.args.conn.now.whole c.args.handler.now
-    c.step.new.handler c.args.clock.now c.step.new.clock (pending c.step.new.self) did.1 did.2 in
+    let x = made g c in
     few_put c.put_all.result c.args.conn.now c.step.new.self c.put_all.new.self c.put_all.ensures.over c.put_all.ensures.wants c.put_all.ensures.inbox c.put_all.ensures.requests
-    (step_few c.args.site.now (λ h. g.H.Handler.handles h c.args.number) g.K.Clock.tells c.args.conn.now c.step.new.self c.args.handler.now c.step.new.handler
-    c.args.clock.now c.step.new.clock (pending c.step.new.self) x.0 c.requires.few x.1 x.2)
+    (step_few c.args.site.now _ _ c.args.conn.now c.step.new.self _ _ _ _ _ x.0 c.requires.few x.1 x.2)
 
 pub returns-clause-less : goal.returns-clause-less
 returns-clause-less g c =
-    let did = c.in_ok-step.ensures.did in
-    let x = slice_step c.args.site.now (λ h. g.H.Handler.handles h c.args.number) (λ h k o z. ⊥) g.K.Clock.tells
-    (λ t. elim t [ ]) c.args.conn.now.hand did.0 c.args.conn.now c.step.new.self (unread c.args.conn.now.inbox) c.args.conn.now.whole c.args.handler.now
-    c.step.new.handler c.args.clock.now c.step.new.clock (pending c.step.new.self) did.1 did.2 in
+    let x = made g c in
     less_put c.put_all.result c.args.conn.now c.step.new.self c.put_all.new.self c.put_all.ensures.over c.put_all.ensures.wants c.put_all.ensures.inbox c.put_all.ensures.requests
     (step_less x.0 c.args.conn.now c.step.new.self c.requires.going c.requires.ready x.2
-    (stays_some c.args.site.now (λ h. g.H.Handler.handles h c.args.number) g.K.Clock.tells x.0
-    (unread c.args.conn.now.inbox) c.args.conn.now.whole c.args.handler.now c.step.new.handler c.args.clock.now c.step.new.clock (pending c.step.new.self) x.1))
+    (stays_some c.args.site.now _ _ x.0 (unread c.args.conn.now.inbox) c.args.conn.now.whole _ _ _ _ _ x.1))
 
 pub returns-clause-wants : goal.returns-clause-wants
 returns-clause-wants g c =
-    let did = c.in_ok-step.ensures.did in
-    let x = slice_step c.args.site.now (λ h. g.H.Handler.handles h c.args.number) (λ h k o z. ⊥) g.K.Clock.tells
-    (λ t. elim t [ ]) c.args.conn.now.hand did.0 c.args.conn.now c.step.new.self (unread c.args.conn.now.inbox) c.args.conn.now.whole c.args.handler.now
-    c.step.new.handler c.args.clock.now c.step.new.clock (pending c.step.new.self) did.1 did.2 in
+    let x = made g c in
     wants_put c.put_all.result c.args.conn.now c.step.new.self c.put_all.new.self c.put_all.ensures.over c.put_all.ensures.wants c.put_all.ensures.inbox c.put_all.ensures.requests
-    (wants_more c.args.site.now (λ h. g.H.Handler.handles h c.args.number) g.K.Clock.tells c.args.conn.now c.step.new.self c.args.handler.now c.step.new.handler
-    c.args.clock.now c.step.new.clock (pending c.step.new.self) x.0 c.requires.ready x.1 x.2)
+    (wants_more c.args.site.now _ _ c.args.conn.now c.step.new.self _ _ _ _ _ x.0 c.requires.ready x.1 x.2)

@@ -2,7 +2,7 @@ use Rattle.std.proofs.Common.{◌≡◌, ℕ, Bool, true, false, length, Ok, ap,
 use Rattle.byte_streams.specs.Counted.{source_of}
 use Rattle.std.proofs.lemmas.Result.{err_from_is_err_and}
 use Rattle.http_message.specs.Inboxes.{unread}
-use Rattle.http_front.specs.Serving.{EndsWell, SoFar, Standing}
+use Rattle.http_front.specs.Serving.{EndsWell, Standing}
 use Rattle.http_front.proofs.ServingLaws.{far_start}
 use Rattle.http_front.proofs.Stepped.{none_wants}
 use Rattle.http_front.proofs.ServedLaws.{far_adds, far_loses, fails_err}
@@ -47,10 +47,7 @@ returns-in_err-answer_all-clause-err g c =
     (λ h. g.H.Handler.lacks h c.args.number) c.args.handler.now c.args.clock.now (r (source_of c.args.reader.now)) (r (source_of c.take_counted.new.reader))
     (w c.args.sink.now) (w c.answer_all.new.sink) c.answer_all.new.handler c.answer_all.new.clock c.from_residual-in_err-answer_all.result p.0 c.in_err-answer_all.field-0.0 p.1 p.2
     (c.in_err-answer_all.ensures.goes c.args.handler.now c.args.clock.now (r (source_of c.args.reader.now)) (r (source_of c.take_counted.new.reader)) (w c.args.sink.now) adds.end
-    (subst (λ (n : ℕ). SoFar c.args.site.now (λ h. g.H.Handler.handles h c.args.number) g.K.Clock.tells c.args.handler.now c.args.clock.now
-    (r (source_of c.args.reader.now)) (r (source_of c.take_counted.new.reader)) (w c.args.sink.now) (w c.loop-conn.sink)
-    (unread c.take_counted.new.self.inbox) n c.loop-conn.handler c.loop-conn.clock) (sym c.take_counted.ensures.requests)
-    (far_adds _ _ _ (λ h. g.H.Handler.lacks h c.args.number) _ _ _ _ _ _ _ _ _ _ _ _ _ _ c.loop-conn.invariant.far adds)))
+    (far_adds _ _ _ (λ h. g.H.Handler.lacks h c.args.number) _ _ _ _ _ _ _ _ _ _ _ _ _ _ _ c.take_counted.ensures.requests c.loop-conn.invariant.far adds))
 
 pub returns-then-branch-clause-ok : goal.returns-then-branch-clause-ok
 returns-then-branch-clause-ok g c =
@@ -65,10 +62,7 @@ returns-then-branch-clause-ok g c =
     (r (source_of c.args.reader.now)) (r (source_of c.take_counted.new.reader)) (w c.args.sink.now) (w c.answer_all.new.sink) b
     (unread c.answer_all.new.conn.inbox) c.answer_all.new.conn.requests c.answer_all.new.handler c.answer_all.new.clock) over
     (e.goes c.args.handler.now c.args.clock.now (r (source_of c.args.reader.now)) (r (source_of c.take_counted.new.reader)) (w c.args.sink.now) adds.end
-    (subst (λ (n : ℕ). SoFar c.args.site.now (λ h. g.H.Handler.handles h c.args.number) g.K.Clock.tells c.args.handler.now c.args.clock.now
-    (r (source_of c.args.reader.now)) (r (source_of c.take_counted.new.reader)) (w c.args.sink.now) (w c.loop-conn.sink)
-    (unread c.take_counted.new.self.inbox) n c.loop-conn.handler c.loop-conn.clock) (sym c.take_counted.ensures.requests)
-    (far_adds _ _ _ (λ h. g.H.Handler.lacks h c.args.number) _ _ _ _ _ _ _ _ _ _ _ _ _ _ c.loop-conn.invariant.far adds))))
+    (far_adds _ _ _ (λ h. g.H.Handler.lacks h c.args.number) _ _ _ _ _ _ _ _ _ _ _ _ _ _ _ c.take_counted.ensures.requests c.loop-conn.invariant.far adds)))
 
 pub loop-conn-preserved : goal.loop-conn-preserved
 loop-conn-preserved g c =
@@ -100,10 +94,7 @@ loop-conn-preserved g c =
           (r (source_of c.args.reader.now)) (r (source_of c.take_counted.new.reader)) (w c.args.sink.now) (w c.answer_all.new.sink) b
           (unread c.answer_all.new.conn.inbox) c.answer_all.new.conn.requests c.answer_all.new.handler c.answer_all.new.clock) going
           (e.goes c.args.handler.now c.args.clock.now (r (source_of c.args.reader.now)) (r (source_of c.take_counted.new.reader)) (w c.args.sink.now) adds.end
-          (subst (λ (n : ℕ). SoFar c.args.site.now (λ h. g.H.Handler.handles h c.args.number) g.K.Clock.tells c.args.handler.now c.args.clock.now
-          (r (source_of c.args.reader.now)) (r (source_of c.take_counted.new.reader)) (w c.args.sink.now) (w c.loop-conn.sink)
-          (unread c.take_counted.new.self.inbox) n c.loop-conn.handler c.loop-conn.clock) (sym c.take_counted.ensures.requests)
-          (far_adds _ _ _ (λ h. g.H.Handler.lacks h c.args.number) _ _ _ _ _ _ _ _ _ _ _ _ _ _ inv.far adds)));
+          (far_adds _ _ _ (λ h. g.H.Handler.lacks h c.args.number) _ _ _ _ _ _ _ _ _ _ _ _ _ _ _ c.take_counted.ensures.requests inv.far adds));
       wants = wants.1;
       read_well = c.in_ok-take_counted.ensures.blames ∙ inv.read_well;
       wrote_well = e.blames ∙ inv.wrote_well;

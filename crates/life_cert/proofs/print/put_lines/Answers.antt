@@ -1,11 +1,9 @@
-use Rattle.std.proofs.Common.{length, arith, sym, None, Option, subst}
+use Rattle.std.proofs.Common.{length, arith, None}
 use Rattle.std.specs.Prelude.{slice_get}
-use Rattle.std.specs.Io.KnownBytes.{Appends}
-use Rattle.life_state.specs.States.{State}
 use Rattle.life_check.specs.Seen.{seen_line}
 use Rattle.life_cert.specs.CertText.{pc_line}
 use Rattle.life_cert.proofs.Lines.{line_at}
-use Rattle.life_cert.proofs.Writing.{Front, each_begins, each_ends, each_fault, each_written}
+use Rattle.life_cert.proofs.Writing.{each_begins, each_ends, each_fault, each_written}
 use Rattle.life_cert.proofs.print.put_lines.Goals as goal
 
 pub loop-pc-init : goal.loop-pc-init
@@ -13,21 +11,13 @@ loop-pc-init g c = each_begins _ (length c.args.at.now) (λ k. pc_line k (seen_l
 
 pub returns-in_err-put_line : goal.returns-in_err-put_line
 returns-in_err-put_line g c =
-    let w = g.W.Write.contents in
-    let at = c.args.at.now in
-    let pc = c.loop-pc.pc in
-    let here = sym (line_at at pc None c.loop-pc-test.true) in
-    each_fault _ _ _ (length at) pc (λ k. pc_line k (seen_line (slice_get at k))) _ c.loop-pc.invariant (omega arith) c.from_residual.ensures.0
-    (subst (λ (s : Option State). Front (w c.loop-pc.out) (w c.put_line.new.out) (pc_line pc s)) here c.in_err-put_line.ensures)
+    each_fault _ _ _ _ _ (λ k. pc_line k (seen_line (slice_get c.args.at.now k))) _ c.loop-pc.invariant (omega arith) c.from_residual.ensures.0
+    (rw (← line_at c.args.at.now c.loop-pc.pc None c.loop-pc-test.true) at c.in_err-put_line.ensures)
 
 pub loop-pc-preserved : goal.loop-pc-preserved
 loop-pc-preserved g c =
-    let w = g.W.Write.contents in
-    let at = c.args.at.now in
-    let pc = c.loop-pc.pc in
-    let here = sym (line_at at pc None c.loop-pc-test.true) in
-    each_written _ _ _ (length at) pc (λ k. pc_line k (seen_line (slice_get at k))) c.loop-pc.invariant (omega arith)
-    (subst (λ (s : Option State). Appends (w c.loop-pc.out) (w c.put_line.new.out) (pc_line pc s)) here c.in_ok-put_line.ensures)
+    each_written _ _ _ _ _ (λ k. pc_line k (seen_line (slice_get c.args.at.now k))) c.loop-pc.invariant (omega arith)
+    (rw (← line_at c.args.at.now c.loop-pc.pc None c.loop-pc-test.true) at c.in_ok-put_line.ensures)
 
 pub returns : goal.returns
 returns g c = each_ends _ _ (length c.args.at.now) c.loop-pc.pc (λ k. pc_line k (seen_line (slice_get c.args.at.now k))) c.loop-pc.invariant (omega arith)

@@ -1,5 +1,5 @@
 -- They compute.
-use Rattle.std.proofs.Common.{refl}
+use Rattle.std.proofs.Common.{rules}
 use Rattle.module_code.specs.Program.{pool_of_brigade, pool_of_pool}
 use Rattle.run_model.specs.Indexed.{upd, any_below}
 use Rattle.life_state.specs.Facts.{known, facts_of, moved, set_cursor}
@@ -11,42 +11,11 @@ use Rattle.life_state.proofs.laws.worked_states.Goals as goal
 
 identity_rows : IdentityRows
 unfolding pool_of_brigade pool_of_pool upd any_below known facts_of moved all_below brigade_le leq under_within cleared_under at_end_of_request
-identity_rows = record {
-  opens = refl;
-  opened = refl;
-  initial = refl;
-  serves = refl;
-  asks = refl;
-  passes = refl;
-  cleans = refl;
-  passed = refl;
-  cleaned = refl;
-  ended = refl;
-  no_less = refl;
-}
+identity_rows = search rules
 
 other_rows : OtherRows
 unfolding upd any_below known facts_of moved set_cursor
-other_rows = record {
-  alias = refl;
-  other = refl;
-  gone = refl;
-  loose = refl;
-  following = refl;
-  either_way = refl;
-  kept_there = refl;
-  implied = refl;
-  unwritten = refl;
-  written = refl;
-  joined = refl;
-  first = refl;
-  late = refl;
-  empty = refl;
-  dead = refl;
-  passed = refl;
-  kept = refl;
-  saved = refl;
-}
+other_rows = search rules
 
 pub returns-clause-identity : goal.returns-clause-identity
 returns-clause-identity c = identity_rows

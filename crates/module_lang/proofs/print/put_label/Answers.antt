@@ -1,6 +1,6 @@
 use Rattle.std.proofs.Common.{◌∷◌, ◌++◌, []}
 use Rattle.module_lang.specs.Printing.{target_name}
-use Rattle.byte_text.proofs.WritingLaws.{leaves_all, leaves_less, leaves_fault, leaves_last}
+use Rattle.byte_text.proofs.WritingLaws.{leaves_all, leaves_less, leaves_fault, wrote_then}
 use Rattle.module_lang.proofs.print.put_label.Goals as goal
 
 pub returns-in_err-put_name : goal.returns-in_err-put_name
@@ -14,9 +14,5 @@ returns-in_err-put_name g c =
 
 pub returns : goal.returns
 returns g c =
-    let w = g.W.Write.contents in
-    let name = target_name c.args.number in
-    let whole = 58 ∷ name ++ 10 ∷ [] in
-    let one = leaves_less (w c.args.out.now) (w c.args.out.now) (w c.put_all.new.out) whole (58 ∷ []) (name ++ 10 ∷ []) (leaves_all (w c.args.out.now) whole) c.in_ok-put_all.ensures in
-    let two = leaves_less (w c.args.out.now) (w c.put_all.new.out) (w c.put_name.new.out) whole name (10 ∷ []) one c.in_ok-put_name.ensures in
-    leaves_last (w c.args.out.now) (w c.put_name.new.out) (w c.put_all-2.new.out) whole (10 ∷ []) c.put_all-2.result two c.put_all-2.ensures
+    wrote_then _ _ _ (58 ∷ []) (target_name c.args.number ++ 10 ∷ []) _ c.in_ok-put_all.ensures
+    (wrote_then _ _ _ (target_name c.args.number) (10 ∷ []) _ c.in_ok-put_name.ensures c.put_all-2.ensures)

@@ -7,8 +7,8 @@ use Rattle.brigade_ops.specs.Store.{lists, brigade_of, pool_of, next_name}
 use Rattle.ring_calls.specs.Outside.{with_outside}
 use Rattle.ring_calls.specs.Seen.{seen_over}
 use Rattle.ring_calls.proofs.LeftAlone.{left_on, left_same, ours_loose}
-use Rattle.ring_calls.proofs.Names.{apart_in, held_kept, no_less, still_same}
-use Rattle.ring_run.proofs.Makes.{made, made_held}
+use Rattle.ring_calls.proofs.Names.{apart_in, no_less}
+use Rattle.ring_run.proofs.Makes.{held_same, made, made_held}
 use Rattle.ring_run.proofs.makers.make_bucket.Goals as goal
 
 pub returns-clause-ok : goal.returns-clause-ok
@@ -41,8 +41,7 @@ returns-clause-left g c =
 
 pub returns-in_err-id-clause-held : goal.returns-in_err-id-clause-held
 returns-in_err-id-clause-held g c =
-    held_kept c.args.store.now c.add_made.new.store (no_less (next_name c.args.store.now) (next_name c.add_made.new.store) c.in_err-id.ensures.next) c.add_made.ensures.names c.add_made.ensures.pools
-    (still_same (lists c.args.store.now) (lists c.add_made.new.store) c.in_err-id.ensures.err)
+    held_same c.args.store.now c.add_made.new.store c.in_err-id.ensures.next c.add_made.ensures.names c.add_made.ensures.pools c.in_err-id.ensures.err
     c.args.instance.now c.args.call.now c.requires.held
 
 pub returns-in_err-id-clause-left : goal.returns-in_err-id-clause-left

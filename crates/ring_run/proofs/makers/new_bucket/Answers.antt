@@ -14,18 +14,18 @@ use Rattle.ring_run.proofs.makers.new_bucket.Goals as goal
 
 pub returns-in_ok-buffered-in-HeapBuffer : goal.returns-in_ok-buffered-in-HeapBuffer
 unfolding seen_over
-returns-in_ok-buffered-in-HeapBuffer c rings next around young = rw (c.in-HeapBuffer.is, c.of_bytes-in-HeapBuffer.ensures, c.in_ok-buffered-in-HeapBuffer.ensures) refl
+returns-in_ok-buffered-in-HeapBuffer c rings next around young = rw (c.in-HeapBuffer.is, c.free_bucket-in-HeapBuffer.ensures, c.in_ok-buffered-in-HeapBuffer.ensures) refl
 
 pub returns-in_ok-buffered-in-TransientBuffer : goal.returns-in_ok-buffered-in-TransientBuffer
 unfolding seen_over
 returns-in_ok-buffered-in-TransientBuffer c rings next around young =
-    rw (c.in-TransientBuffer.is, c.of_bytes-in-TransientBuffer.ensures, c.in_ok-buffered-in-TransientBuffer.ensures)
+    rw (c.in-TransientBuffer.is, c.in_ok-buffered-in-TransientBuffer.ensures)
     (ap (λ (b : Bucket). Some b) (sym (home_now c.args.call.now.name next around.waits c.args.call.now.buffer c.requires.runs young)))
 
 pub returns-in_ok-buffered-in-PoolBuffer : goal.returns-in_ok-buffered-in-PoolBuffer
 unfolding seen_over
 returns-in_ok-buffered-in-PoolBuffer c rings next around young =
-    rw (c.in-PoolBuffer.is, c.of_bytes-in-PoolBuffer.ensures, c.in_ok-buffered-in-PoolBuffer.ensures)
+    rw (c.in-PoolBuffer.is, c.free_bucket-in-PoolBuffer.ensures, c.in_ok-buffered-in-PoolBuffer.ensures)
     (ap (λ (o : Option ℕ). pooled_bucket c.args.call.now.buffer o) (c.pool_there.ensures.named rings next around c.args.call.now))
 
 pub pool_there-requires : goal.pool_there-requires

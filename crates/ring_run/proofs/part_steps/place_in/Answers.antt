@@ -1,20 +1,23 @@
 -- What stands before the cursor, and from it on.
-use Rattle.std.proofs.Common.{◌≡◌, ℕ, [], Some, None, refl, sym, ap, ◌∙◌}
+use Rattle.std.proofs.Common.{◌≡◌, ℕ, Bool, List, [], Option, Some, None, refl, sym, ap, ◌∙◌}
 use Rattle.bucket_ring.specs.Lists.{list_at, front, rest}
 use Rattle.bucket_ring.specs.declared.names.BucketId.{BucketId}
 use Rattle.bucket_ring.specs.declared.rings.Rings.{Ghosts}
 use Rattle.bucket_kinds.specs.declared.stored.Stored.{Stored}
 use Rattle.brigade_ops.specs.declared.store.Brigades.{Brigades}
+use Rattle.stored_rings.specs.Items.{Items}
 use Rattle.stored_rings.specs.Laws.{IsGiven}
-use Rattle.run_model.specs.BucketSteps.{place_at}
+use Rattle.run_model.specs.BrigadeLists.{moves, stays}
+use Rattle.run_model.specs.BucketSteps.{items_at, place_at}
 use Rattle.run_model.specs.Cursors.{spot}
+use Rattle.run_model.specs.declared.bucket.NamedBucket.{NamedBucket}
 use Rattle.ring_calls.specs.declared.machine.Instance.{Instance}
 use Rattle.ring_calls.specs.declared.machine.Call.{Call}
 use Rattle.ring_calls.specs.Around.{Around}
 use Rattle.brigade_ops.specs.Store.{lists, brigade_of, next_name}
 use Rattle.brigade_ops.proofs.Stores.{kept}
 use Rattle.ring_calls.specs.Seen.{seen_over, calls_in, shown}
-use Rattle.ring_run.proofs.Cuts.{before_shown, stays_at, moves_at, place_within}
+use Rattle.ring_run.proofs.Cuts.{before_shown, cut_at, place_within}
 use Rattle.ring_calls.proofs.Slots.{name_there, given_in}
 use Rattle.ring_calls.proofs.Standing.{this_at, this_end, this_set}
 use Rattle.ring_calls.proofs.Stands.{spot_end}
@@ -41,21 +44,23 @@ at g c =
       place = λ around. place_within (seen_over (lists s) (next_name s) around c.args.instance.now c.args.call.now) c.args.c c.args.b c.in-At.id.birth (t.1 around);
     }
 
-pub returns-in-At-clause-stays : goal.returns-in-At-clause-stays
-returns-in-At-clause-stays g c around =
-    let t = at g (goal.at.returns-in-At-clause-stays g c).In-At in
+-- A cut of the list at this bucket is one of the variable.
+cut : (g : _) (c : In-At g) (around : Around) (model : Option ℕ → List NamedBucket → List NamedBucket) (h : Items → Items)
+    → ((runs : ℕ → Bool) (xs : Items) → IsGiven c.in-At.id xs → model (Some c.in-At.id.birth) (shown runs xs) ≡ shown runs (h xs))
+    → let r = seen_over (lists c.args.store.now) (next_name c.args.store.now) around c.args.instance.now c.args.call.now in
+    shown (calls_in around c.args.call.now) (h (list_at (lists c.args.store.now) c.args.name)) ≡ model (place_at (spot r c.args.c)) (items_at r c.args.b)
+cut g c around model h is =
+    let t = at g c in
     let runs = calls_in around c.args.call.now in
     let xs = list_at (lists c.args.store.now) c.args.name in
-    stays_at (lists c.args.store.now) (next_name c.args.store.now) around c.args.instance.now c.args.call.now c.args.c c.args.b c.args.name c.requires.named (Some c.in-At.id.birth)
-    (shown runs (front c.in-At.id xs)) (t.place around) (sym (before_shown runs c.in-At.id xs t.given))
+    cut_at (lists c.args.store.now) (next_name c.args.store.now) around c.args.instance.now c.args.call.now c.args.c c.args.b c.args.name c.requires.named
+    model (Some c.in-At.id.birth) (shown runs (h xs)) (t.place around) (sym (is runs xs t.given))
+
+pub returns-in-At-clause-stays : goal.returns-in-At-clause-stays
+returns-in-At-clause-stays g c around = cut g (goal.at.returns-in-At-clause-stays g c).In-At around stays (front c.in-At.id) (λ runs xs. before_shown runs c.in-At.id xs)
 
 pub returns-in-At-clause-moves : goal.returns-in-At-clause-moves
-returns-in-At-clause-moves g c around =
-    let t = at g (goal.at.returns-in-At-clause-moves g c).In-At in
-    let runs = calls_in around c.args.call.now in
-    let xs = list_at (lists c.args.store.now) c.args.name in
-    moves_at (lists c.args.store.now) (next_name c.args.store.now) around c.args.instance.now c.args.call.now c.args.c c.args.b c.args.name c.requires.named (Some c.in-At.id.birth)
-    (shown runs (rest c.in-At.id xs)) (t.place around) (sym (from_shown runs c.in-At.id xs t.given))
+returns-in-At-clause-moves g c around = cut g (goal.at.returns-in-At-clause-moves g c).In-At around moves (rest c.in-At.id) (λ runs xs. from_shown runs c.in-At.id xs)
 
 -- It stands at the end of the brigade.
 end : (g : _) (c : In-End g) (around : Around) → place_at (spot (seen_over (lists c.args.store.now) (next_name c.args.store.now) around c.args.instance.now c.args.call.now) c.args.c) ≡ None
@@ -65,12 +70,12 @@ end g c around =
 
 pub returns-in-End-clause-stays : goal.returns-in-End-clause-stays
 returns-in-End-clause-stays g c around =
-    stays_at (lists c.args.store.now) (next_name c.args.store.now) around c.args.instance.now c.args.call.now c.args.c c.args.b c.args.name c.requires.named None
+    cut_at (lists c.args.store.now) (next_name c.args.store.now) around c.args.instance.now c.args.call.now c.args.c c.args.b c.args.name c.requires.named stays None
     (shown (calls_in around c.args.call.now) (list_at (lists c.args.store.now) c.args.name)) (end g (goal.at.returns-in-End-clause-stays g c).In-End around) refl
 
 pub returns-in-End-clause-moves : goal.returns-in-End-clause-moves
 returns-in-End-clause-moves g c around =
-    moves_at (lists c.args.store.now) (next_name c.args.store.now) around c.args.instance.now c.args.call.now c.args.c c.args.b c.args.name c.requires.named None []
+    cut_at (lists c.args.store.now) (next_name c.args.store.now) around c.args.instance.now c.args.call.now c.args.c c.args.b c.args.name c.requires.named moves None []
     (end g (goal.at.returns-in-End-clause-moves g c).In-End around) refl
 
 pub unreachable-requires : goal.unreachable-requires

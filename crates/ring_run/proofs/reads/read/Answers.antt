@@ -17,10 +17,11 @@ use Rattle.ring_calls.specs.declared.machine.CursorValue.TheVariants as cursor_v
 use Rattle.ring_calls.specs.Given.{WasRead}
 use Rattle.ring_calls.specs.Held.{WasGiven}
 use Rattle.ring_calls.specs.Seen.{seen_over, calls_in, item_in}
+use Rattle.ring_run.proofs.Makes.{held_same}
 use Rattle.ring_run.proofs.BucketReads.{read_into, taken_of, none_given, is_wanted, told_none, told_some, done_read, rest_same, same_read, alive_at, next_is, next_rises, next_same, err_ok}
 use Rattle.ring_calls.proofs.Changes.{seen_same}
 use Rattle.ring_calls.proofs.LeftAlone.{left_on, left_same, ours_slot}
-use Rattle.ring_calls.proofs.Names.{name_kept, apart_in, held_kept, no_less, still_same, still_on}
+use Rattle.ring_calls.proofs.Names.{name_kept, apart_in, held_kept, no_less, still_on}
 use Rattle.ring_calls.proofs.Standing.{within_set, within_here, within_live}
 use Rattle.ring_calls.proofs.Stands.{some_same}
 use Rattle.ring_calls.proofs.Walks.{held_cursor, same_at}
@@ -109,9 +110,7 @@ returns-in-Err-ReadFault-clause-held g c =
     let s = within_here c.args.store.now c.args.instance.now c.args.call.now c.args.c c.requires.held c.requires.stands c.bucket-id.result c.bucket-id.ensures in
     let read = c.in-Err-ReadFault.ensures.read s.bucket s.here in
     let same = next_same (is_some (read_of [] s.bucket).1) (next_name c.args.store.now) (next_name c.read.new.self) read.names in
-    let still = held_kept c.args.store.now c.read.new.self (no_less (next_name c.args.store.now) (next_name c.read.new.self) same) c.read.ensures.names c.read.ensures.pools
-    (still_same (lists c.args.store.now) (lists c.read.new.self) c.in-Err-ReadFault.ensures.err)
-    c.args.instance.now c.args.call.now c.requires.held in
+    let still = held_same c.args.store.now c.read.new.self same c.read.ensures.names c.read.ensures.pools c.in-Err-ReadFault.ensures.err c.args.instance.now c.args.call.now c.requires.held in
     held_cursor (brigade_of c.read.new.self) (lists c.read.new.self) (pool_of c.read.new.self) (next_name c.read.new.self) c.args.instance.now c.args.call.now c.set_cursor-in-Err-ReadFault.new.self
     8 cursor_value.Unset c.set_cursor-in-Err-ReadFault.ensures.name c.set_cursor-in-Err-ReadFault.ensures.cursors
     (λ j e. absurd (let never = e in cc)) still
@@ -121,10 +120,7 @@ returns-in-Err-clause-held g c =
     let s = within_here c.args.store.now c.args.instance.now c.args.call.now c.args.c c.requires.held c.requires.stands c.bucket-id.result c.bucket-id.ensures in
     let read = c.in-Err.ensures.read s.bucket s.here in
     let same = next_same (is_some (read_of [] s.bucket).1) (next_name c.args.store.now) (next_name c.read.new.self) read.names in
-    let still = held_kept c.args.store.now c.read.new.self (no_less (next_name c.args.store.now) (next_name c.read.new.self) same) c.read.ensures.names c.read.ensures.pools
-    (still_same (lists c.args.store.now) (lists c.read.new.self) c.in-Err.ensures.err)
-    c.args.instance.now c.args.call.now c.requires.held in
-    still
+    held_same c.args.store.now c.read.new.self same c.read.ensures.names c.read.ensures.pools c.in-Err.ensures.err c.args.instance.now c.args.call.now c.requires.held
 
 pub returns-in-Err-clause-err : goal.returns-in-Err-clause-err
 returns-in-Err-clause-err g c =

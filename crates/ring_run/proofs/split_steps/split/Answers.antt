@@ -14,8 +14,9 @@ use Rattle.brigade_ops.specs.Store.{lists, brigade_of, pool_of, next_name}
 use Rattle.ring_calls.specs.Seen.{seen_over, calls_in, item_in}
 use Rattle.ring_calls.proofs.Changes.{seen_same}
 use Rattle.ring_calls.proofs.Homes.{not_dead}
-use Rattle.ring_calls.proofs.Names.{apart_in, held_kept, no_less, still_same, still_on}
+use Rattle.ring_calls.proofs.Names.{apart_in, held_kept, no_less, still_on}
 use Rattle.ring_calls.proofs.Quiet.{ok_unless, uncut}
+use Rattle.ring_run.proofs.Makes.{held_same}
 use Rattle.ring_run.proofs.Splits.{split_into, not_both, not_refused, refused_as, refused_by, done_split, not_split, ok_data, ok_short}
 use Rattle.ring_calls.proofs.Standing.{within_set, within_here, within_live}
 use Rattle.ring_calls.proofs.LeftAlone.{left_on, left_same, ours_slot}
@@ -87,8 +88,7 @@ returns-in-Err-clause-err g c =
 
 pub returns-in-Err-clause-held : goal.returns-in-Err-clause-held
 returns-in-Err-clause-held g c =
-    held_kept c.args.store.now c.split.new.self (no_less (next_name c.args.store.now) (next_name c.split.new.self) c.in-Err.ensures.next) c.split.ensures.names c.split.ensures.pools
-    (still_same (lists c.args.store.now) (lists c.split.new.self) c.in-Err.ensures.err)
+    held_same c.args.store.now c.split.new.self c.in-Err.ensures.next c.split.ensures.names c.split.ensures.pools c.in-Err.ensures.err
     c.args.instance.now c.args.call.now c.requires.held
 
 pub returns-in-Err-clause-left : goal.returns-in-Err-clause-left

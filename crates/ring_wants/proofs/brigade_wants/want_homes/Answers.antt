@@ -1,12 +1,13 @@
 -- A dead home of the list is one of the brigade in the variable.
-use Rattle.std.proofs.Common.{sym, ap, ◌∙◌}
+use Rattle.std.proofs.Common.{sym, ap, ◌∙◌, rules}
 use Rattle.std.specs.Bool.{then_some}
 use Rattle.run_model.specs.declared.fault.FaultKind.TheVariants.{F5}
+use Rattle.run_model.specs.Buckets.{is_dead}
 use Rattle.run_model.specs.Faults.{homes_fault}
 use Rattle.brigade_ops.specs.Store.{lists, next_name}
 use Rattle.ring_calls.specs.Seen.{calls_in}
 use Rattle.ring_calls.specs.Setting.{in_setting}
-use Rattle.ring_calls.specs.Slots.{slot_at}
+use Rattle.ring_calls.specs.Slots.{live_in, slot_at}
 use Rattle.ring_calls.proofs.Contents.{homes_told}
 use Rattle.ring_wants.proofs.LiveContents.{live_contents, some_where}
 use Rattle.ring_wants.proofs.brigade_wants.want_homes.Goals as goal
@@ -18,7 +19,7 @@ returns-clause-value g c pools around =
     let s = c.args.store.now in
     let i = c.args.instance.now in
     c.then_some.ensures
-    ∙ (ap (λ t. then_some t F5) c.has_dead.ensures
+    ∙ (ap (λ t. then_some t F5) (c.any_bucket-dead.ensures is_dead (calls_in over call) (search rules))
     ∙ (some_where _ F5
-    ∙ (ap homes_fault (live_contents s c.live.new.store c.live.ensures.asked (calls_in over call) (slot_at i c.args.b) c.in-Some.name (sym c.in-Some.is ∙ c.live.ensures.value))
+    ∙ (ap homes_fault (live_contents s c.live.new.store c.live.ensures.asked (calls_in over call) (slot_at i c.args.b) c.in-Some.name (sym c.in-Some.is ∙ (c.live.ensures.value ∙ ap (live_in (lists s)) c.slot.ensures)))
     ∙ homes_told (lists s) (next_name s) over i call c.args.b)))

@@ -5,7 +5,7 @@ use Rattle.run_model.specs.declared.bucket.NamedBucket.{NamedBucket}
 use Rattle.run_model.specs.declared.fault.FaultKind.TheVariants.{F8}
 use Rattle.brigade_ops.specs.Store.{lists, next_name}
 use Rattle.ring_calls.specs.Seen.{calls_in}
-use Rattle.ring_calls.specs.Slots.{slot_at}
+use Rattle.ring_calls.specs.Slots.{live_in, slot_at}
 use Rattle.ring_calls.specs.Tests.{late_data}
 use Rattle.ring_calls.proofs.Contents.{send_told}
 use Rattle.ring_wants.proofs.LiveContents.{live_contents, some_where}
@@ -19,5 +19,5 @@ returns-clause-value g c around call =
     ∙ (ap (λ t. then_some t F8) (c.has_late_data.ensures (calls_in around call))
     ∙ (some_where _ F8
     ∙ (ap (λ (xs : List NamedBucket). cond (late_data i.sent xs) (Some F8) None)
-    (live_contents s c.live.new.store c.live.ensures.asked (calls_in around call) (slot_at i c.args.b) c.in-Some.name (sym c.in-Some.is ∙ c.live.ensures.value))
+    (live_contents s c.live.new.store c.live.ensures.asked (calls_in around call) (slot_at i c.args.b) c.in-Some.name (sym c.in-Some.is ∙ (c.live.ensures.value ∙ ap (live_in (lists s)) c.slot.ensures)))
     ∙ send_told (lists s) (next_name s) around i call c.args.b)))

@@ -1,6 +1,5 @@
 use Rattle.std.proofs.Common.{◌≡◌, ℕ, ◌*◌, length, ap, sym, ◌∙◌, refl, arith}
 use Rattle.std.proofs.lemmas.List.{length-take, length-replicate}
-use Rattle.std.proofs.lemmas.Result.{err_from_is_err_and}
 use Rattle.script_play.proofs.GoingLaws.{going_first, going_kept, refused_kept, going_last, last_ok, last_read, last_memory, last_write, going_read, bytes_read, bytes_memory, bytes_write, going_on}
 use Rattle.script_play.proofs.GoingLaws.{going_over}
 use Rattle.script_play.proofs.playing.run_play.Goals as goal
@@ -41,55 +40,50 @@ pub returns-in-Ok-End-clause-ok : goal.returns-in-Ok-End-clause-ok
 returns-in-Ok-End-clause-ok g c =
     let read = rw c.in-Ok-End.field-0-is at c.in-Ok-End.ensures in
     let k = going_last _ _ _ _ _ c.loop.player c.loop.held.items c.as_slice.result.now _ c.loop.invariant.going (read.1.0, read.1.1) c.as_slice.ensures.value in
-    last_ok _ _ _ _ _ c.loop.player _ c.end_play.result k (c.end_play.ensures.plays k.going.stage k.going.at)
+    last_ok _ _ _ _ _ c.loop.player _ c.end_play.result k c.end_play.ensures.plays
 
 pub returns-in-Ok-End-clause-read : goal.returns-in-Ok-End-clause-read
 returns-in-Ok-End-clause-read g c =
     let read = rw c.in-Ok-End.field-0-is at c.in-Ok-End.ensures in
     let k = going_last _ _ _ _ _ c.loop.player c.loop.held.items c.as_slice.result.now _ c.loop.invariant.going (read.1.0, read.1.1) c.as_slice.ensures.value in
-    λ is. last_read _ _ _ _ _ c.loop.player _ c.end_play.result k (c.end_play.ensures.plays k.going.stage k.going.at) is _
+    λ is. last_read _ _ _ _ _ c.loop.player _ c.end_play.result k c.end_play.ensures.plays is _
 
 pub returns-in-Ok-End-clause-memory : goal.returns-in-Ok-End-clause-memory
 returns-in-Ok-End-clause-memory g c =
     let read = rw c.in-Ok-End.field-0-is at c.in-Ok-End.ensures in
     let k = going_last _ _ _ _ _ c.loop.player c.loop.held.items c.as_slice.result.now _ c.loop.invariant.going (read.1.0, read.1.1) c.as_slice.ensures.value in
-    last_memory _ _ _ _ _ c.loop.player _ c.end_play.result k (c.end_play.ensures.plays k.going.stage k.going.at)
+    last_memory _ _ _ _ _ c.loop.player _ c.end_play.result k c.end_play.ensures.plays
 
 pub returns-in-Ok-End-clause-write : goal.returns-in-Ok-End-clause-write
 returns-in-Ok-End-clause-write g c =
     let read = rw c.in-Ok-End.field-0-is at c.in-Ok-End.ensures in
     let k = going_last _ _ _ _ _ c.loop.player c.loop.held.items c.as_slice.result.now _ c.loop.invariant.going (read.1.0, read.1.1) c.as_slice.ensures.value in
-    last_write _ _ _ _ _ c.loop.player _ c.end_play.result k (c.end_play.ensures.plays k.going.stage k.going.at)
+    last_write _ _ _ _ _ c.loop.player _ c.end_play.result k c.end_play.ensures.plays
 
 pub returns-in_err-take_bytes-in-Ok-Bytes-clause-read : goal.returns-in_err-take_bytes-in-Ok-Bytes-clause-read
 returns-in_err-take_bytes-in-Ok-Bytes-clause-read g c =
     let read = rw c.in-Ok-Bytes.field-0-is at c.in-Ok-Bytes.ensures in
-    let p = err_from_is_err_and c.from_residual.result c.from_residual.ensures.1 in
-    let k = c.loop.invariant.going in
-    λ is. bytes_read _ _ _ _ _ _ c.loop.player c.take_bytes.new.player _ _ c.take_bytes.new.held.items _ k read.1.2 _ _ _ p.1 p.2 (c.in_err-take_bytes-in-Ok-Bytes.ensures.plays k.stage k.at) is _
+    λ is. bytes_read _ _ _ _ _ _ c.loop.player c.take_bytes.new.player _ _ c.take_bytes.new.held.items _ c.loop.invariant.going read.1.2 _ _ c.from_residual.ensures.1
+    c.in_err-take_bytes-in-Ok-Bytes.ensures.plays is _
 
 pub returns-in_err-take_bytes-in-Ok-Bytes-clause-memory : goal.returns-in_err-take_bytes-in-Ok-Bytes-clause-memory
 returns-in_err-take_bytes-in-Ok-Bytes-clause-memory g c =
-    let read = rw c.in-Ok-Bytes.field-0-is at c.in-Ok-Bytes.ensures in
-    let p = err_from_is_err_and c.from_residual.result c.from_residual.ensures.1 in
-    let k = c.loop.invariant.going in
     let long = length-take c.in-Ok-Bytes.count c.read.new.buffer in
     let same : length c.read.new.buffer ≡ 8192 = c.read.auto.buffer ∙ c.loop.invariant.wide in
-    bytes_memory _ _ _ _ _ _ c.loop.player c.take_bytes.new.player _ _ c.take_bytes.new.held.items _ k read.1.2 _ _ _ (omega (arith, long, same)) p.1 p.2
-    (c.in_err-take_bytes-in-Ok-Bytes.ensures.plays k.stage k.at)
+    let read = rw c.in-Ok-Bytes.field-0-is at c.in-Ok-Bytes.ensures in
+    bytes_memory _ _ _ _ _ _ c.loop.player c.take_bytes.new.player _ _ c.take_bytes.new.held.items _ c.loop.invariant.going read.1.2 _ _ c.from_residual.ensures.1
+    c.in_err-take_bytes-in-Ok-Bytes.ensures.plays (omega (arith, long, same))
 
 pub returns-in_err-take_bytes-in-Ok-Bytes-clause-write : goal.returns-in_err-take_bytes-in-Ok-Bytes-clause-write
 returns-in_err-take_bytes-in-Ok-Bytes-clause-write g c =
-    let read = rw c.in-Ok-Bytes.field-0-is at c.in-Ok-Bytes.ensures in
-    let p = err_from_is_err_and c.from_residual.result c.from_residual.ensures.1 in
-    let k = c.loop.invariant.going in
     let long = length-take c.in-Ok-Bytes.count c.read.new.buffer in
     let same : length c.read.new.buffer ≡ 8192 = c.read.auto.buffer ∙ c.loop.invariant.wide in
-    bytes_write _ _ _ _ _ _ c.loop.player c.take_bytes.new.player _ _ c.take_bytes.new.held.items _ k read.1.2 _ _ _ (omega (arith, long, same)) p.1 p.2
-    (c.in_err-take_bytes-in-Ok-Bytes.ensures.plays k.stage k.at)
+    let read = rw c.in-Ok-Bytes.field-0-is at c.in-Ok-Bytes.ensures in
+    bytes_write _ _ _ _ _ _ c.loop.player c.take_bytes.new.player _ _ c.take_bytes.new.held.items _ c.loop.invariant.going read.1.2 _ _ c.from_residual.ensures.1
+    c.in_err-take_bytes-in-Ok-Bytes.ensures.plays (omega (arith, long, same))
 
 pub returns-clause-read : goal.returns-clause-read
-returns-clause-read g c = λ _. going_read _ _ _ _ c.loop.player _ _ c.loop.invariant.going
+returns-clause-read g c = λ _. going_read _ _ _ _ _ c.loop.player _ _ c.loop.invariant.going c.loop.invariant.going.read
 
 pub returns-then-is_over-clause-ok : goal.returns-then-is_over-clause-ok
 returns-then-is_over-clause-ok g c =

@@ -27,13 +27,7 @@ loop-morph-preserved g c =
           (c.apply_morph.ensures.out n ∙ ap (λ (xs : List Morph). option_map (all_morphed (get_or xs i none ∷ [])) (now n)) c.as_slice-morph-items.ensures)
           ∙ (morphs_step (get_or found i none) (drop (i + 1) found) (now n)
           ∙ (ap (λ (ms : List Morph). option_map (all_morphed ms) (now n)) (sym (drop_more found i none within)) ∙ c.loop-morph.invariant.out n));
-      others = only_twice c.loop-morph.invariant.others (record {
-        next = c.apply_morph.ensures.next;
-        names = c.apply_morph.ensures.names;
-        pools = c.apply_morph.ensures.pools;
-        counts = c.apply_morph.ensures.references;
-        asked = c.apply_morph.ensures.unasked;
-      });
+      others = only_twice c.loop-morph.invariant.others c.apply_morph.ensures.others;
     }
 
 pub returns-clause-out : goal.returns-clause-out

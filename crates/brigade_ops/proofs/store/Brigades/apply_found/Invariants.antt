@@ -2,7 +2,7 @@
 use Rattle.std.proofs.Common.{◌≡◌, ℕ, drop}
 use Rattle.std.specs.Option.{option_map}
 use Rattle.stored_rings.specs.Morphs.{all_morphed}
-use Rattle.brigade_ops.proofs.OnlyLists.{OnlyLists}
+use Rattle.brigade_ops.specs.OnlyLists.{OnlyLists}
 use Rattle.brigade_ops.specs.Store.{lists}
 use Rattle.brigade_ops.proofs.store.Brigades.apply_found.Given as goal
 

@@ -24,7 +24,7 @@ returns-clause-ok g c b m x at is =
 
 pub returns-clause-counted : goal.returns-clause-counted
 returns-clause-counted g c x f is =
-    ap (λ (r : ℕ → ℕ). r f) c.put_aside.ensures.references
+    ap (λ (r : ℕ → ℕ). r f) c.put_aside.ensures.others.references
     ∙ (c.in_ok-refer_for.ensures.counted f
     ∙ ap (λ (p : Option ℕ × Bool). count_for f p.0 (references c.args.self.now f)) (c.file_for-file.ensures x is))
 
@@ -38,5 +38,5 @@ returns-clause-house g c house =
     let x = found_some id (list_at (lists before) b.0) (found_in before id b.0 b.1) in
     house_stays (lists before) (pool_of before) (references before) (map_of c.refer_for.new.tree) (c.in_ok-refer_for.ensures.house house) (lists after) (pool_of after) (references after)
     (λ n p at some. ap is_some (c.put_aside.ensures.out b.0 n x.0 b.1 (found_bucket before id b.0 x.0 b.1 x.1)) ∙ (on_some b.0 n _ (lists before) ∙ some))
-    (λ n. ap (λ (f : ℕ → Option ℕ). f n) c.put_aside.ensures.pools)
-    (λ f. ap (λ (h : ℕ → ℕ). h f) c.put_aside.ensures.references)
+    (λ n. ap (λ (f : ℕ → Option ℕ). f n) c.put_aside.ensures.others.pools)
+    (λ f. ap (λ (h : ℕ → ℕ). h f) c.put_aside.ensures.others.references)

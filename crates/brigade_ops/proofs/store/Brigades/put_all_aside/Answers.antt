@@ -88,13 +88,7 @@ loop-place-preserved g c =
           (change g d) (aside_step ps pool id place x xs (here g d) told)
           ∙ (ap (λ (p : Option BucketId). on b (aside_behind ps pool p) (seen s) n) (sym c.in-Some.is) ∙ c.loop-place.invariant.out n);
       inside = told_some (λ j. g.R.Rings.ring_at c.put_aside.new.self.held.rings.rings j ≡ Some b) place (c.behind-place.ensures.inside b (still g d));
-      others = only_twice c.loop-place.invariant.others (record {
-        next = c.put_aside.ensures.next;
-        names = c.put_aside.ensures.names;
-        pools = c.put_aside.ensures.pools;
-        counts = c.put_aside.ensures.references;
-        asked = c.put_aside.ensures.unasked;
-      });
+      others = only_twice c.loop-place.invariant.others c.put_aside.ensures.others;
     }
 
 pub returns-clause-out : goal.returns-clause-out

@@ -19,14 +19,7 @@ pub returns-in-Some-clause-read : goal.returns-in-Some-clause-read
 returns-in-Some-clause-read g c x is =
     let same : c.in-Some.bucket ≡ x = same_Some c.in-Some.bucket x (sym c.in-Some.ensures.here ∙ is) in
     let told : IsRead c.args.id c.in-Some.bucket (brigade_of c.args.self.now c.args.id) (g.F.Files.device c.args.files.now) (g.F.Files.device c.read_range.new.files) (lists c.args.self.now)
-    (lists c.read_range.new.self) (next_name c.args.self.now) (next_name c.read_range.new.self) c.read_range.result = record {
-      ok = c.read_range.ensures.ok;
-      rest = c.read_range.ensures.rest;
-      names = c.read_range.ensures.next;
-      unread = c.read_range.ensures.unread;
-      asked = c.read_range.ensures.asked;
-      fault = c.read_range.ensures.fault;
-    } in
+    (lists c.read_range.new.self) (next_name c.args.self.now) (next_name c.read_range.new.self) c.read_range.result = search c.read_range.ensures in
     subst (λ (y : Bucket). IsRead c.args.id y (brigade_of c.args.self.now c.args.id) (g.F.Files.device c.args.files.now) (g.F.Files.device c.read_range.new.files) (lists c.args.self.now)
     (lists c.read_range.new.self) (next_name c.args.self.now) (next_name c.read_range.new.self) c.read_range.result) same told
 

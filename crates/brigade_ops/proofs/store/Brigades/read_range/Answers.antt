@@ -3,7 +3,7 @@ use Rattle.run_model.specs.declared.bucket.Bucket.{Bucket}
 use Rattle.run_model.specs.Cutting.{read_of}
 use Rattle.bucket_ring.specs.Lists.{on}
 use Rattle.stored_rings.specs.Items.{replaced, rest_item}
-use Rattle.brigade_ops.specs.Store.{lists, brigade_of, next_name}
+use Rattle.brigade_ops.specs.Store.{lists, next_name}
 use Rattle.stored_rings.proofs.Shown.{on_cong}
 use Rattle.stored_rings.proofs.Lying.{left_lies}
 use Rattle.brigade_ops.proofs.Added.{none_since}
@@ -45,18 +45,10 @@ returns-in-Ok-read_front-clause-next g c =
     ∙ ap (λ (more : Bool). cond more (next + 1) next) (returns-in-Ok-read_front-clause-rest g c))
 
 pub returns-in-Ok-read_front-clause-names : goal.returns-in-Ok-read_front-clause-names
-returns-in-Ok-read_front-clause-names g c =
-    let old = c.args.self.now in
-    let roomy = c.room_for.new.self in
-    none_since (brigade_of old) (brigade_of roomy) (brigade_of c.read_front.new.self) (next_name old) (next_name roomy) c.room_for.ensures.brigades
-    c.room_for.ensures.next c.read_front.ensures.names
+returns-in-Ok-read_front-clause-names g c = none_since _ _ _ _ _ c.room_for.ensures.brigades c.room_for.ensures.next c.read_front.ensures.names
 
 pub returns-in-Err-read_front-clause-names : goal.returns-in-Err-read_front-clause-names
-returns-in-Err-read_front-clause-names g c =
-    let old = c.args.self.now in
-    let roomy = c.room_for.new.self in
-    none_since (brigade_of old) (brigade_of roomy) (brigade_of c.read_front.new.self) (next_name old) (next_name roomy) c.room_for.ensures.brigades
-    c.room_for.ensures.next c.read_front.ensures.names
+returns-in-Err-read_front-clause-names g c = none_since _ _ _ _ _ c.room_for.ensures.brigades c.room_for.ensures.next c.read_front.ensures.names
 
 pub returns-in-Ok-read_front-clause-unread : goal.returns-in-Ok-read_front-clause-unread
 returns-in-Ok-read_front-clause-unread g c none = absurd (left_wanted c.args.bucket c.in-Some.rest (sym c.rest_of_read.ensures ∙ c.in-Some.is) none)

@@ -72,7 +72,7 @@ returns-clause-counted g c p f at =
     let same_pool : pool ≡ p = same_Some pool p (sym c.in-Some.is ∙ (c.get.ensures ∙ at)) in
     let start = count_at c.args.self.now.references f in
     let bs : Items = list_at (lists c.args.self.now) c.args.b in
-    ap (λ (r : ℕ → ℕ). r f) c.put_all_aside.ensures.references
+    ap (λ (r : ℕ → ℕ). r f) c.put_all_aside.ensures.others.references
     ∙ (c.in_ok-refer_all.ensures.counted f
     ∙ (ap (λ (files : List ℕ). start + times_in f files) (c.as_slice.ensures ∙ c.in_ok-files.ensures.ok)
     ∙ ap (λ (q : ℕ). start + times_in f (filter_map (new_ref ps q) (named bs))) same_pool))
@@ -97,5 +97,5 @@ returns-clause-house g c house =
     ap is_some (c.put_all_aside.ensures.out n)
     ∙ (on_some o n _ moved
     ∙ (ap is_some (joined n) ∙ (on_some o n (λ xs. xs ++ bs) (on b (λ xs. []) s) ∙ (on_some b n (λ xs. []) s ∙ some)))))
-    (λ n. ap (λ (f : ℕ → Option ℕ). f n) c.put_all_aside.ensures.pools)
-    (λ f. ap (λ (h : ℕ → ℕ). h f) c.put_all_aside.ensures.references ∙ c.in_ok-refer_all.ensures.counted f))
+    (λ n. ap (λ (f : ℕ → Option ℕ). f n) c.put_all_aside.ensures.others.pools)
+    (λ f. ap (λ (h : ℕ → ℕ). h f) c.put_all_aside.ensures.others.references ∙ c.in_ok-refer_all.ensures.counted f))

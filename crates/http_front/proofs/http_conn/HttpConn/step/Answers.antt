@@ -1,39 +1,27 @@
 use Rattle.std.proofs.Common.{ap, refl, ◌∙◌}
 use Rattle.std.proofs.lemmas.Result.{err_from_is_err_and}
 use Rattle.http_message.specs.Inboxes.{unread}
-use Rattle.http_front.specs.Talking.{pending}
 use Rattle.http_front.specs.Texts.{text_of}
-use Rattle.http_front.specs.UnderWays.{LacksSlice, StepsFrom}
+use Rattle.http_front.specs.UnderWays.{LacksSlice}
 use Rattle.http_front.specs.declared.under_way.StepSlice.TheVariants as slice
-use Rattle.http_front.proofs.BeginLaws.{follows_as, pending_all, stepped_so}
+use Rattle.http_front.proofs.BeginLaws.{follows_as, pending_all, stepped_ok}
 use Rattle.http_front.proofs.Beside.{err_by}
-use Rattle.http_front.proofs.TurnLaws.{lack_as, ok_at, sized_lack}
+use Rattle.http_front.proofs.TurnLaws.{lack_as, sized_lack}
 use Rattle.http_front.proofs.http_conn.HttpConn.step.Goals as goal
 
 pub returns-in-Did-clause-did : goal.returns-in-Did-clause-did
 returns-in-Did-clause-did g c = (
   slice.Did c.in-Did.step,
-  stepped_so c.args.site.now (λ old. g.P.Pace.comes old c.args.number) (λ old. g.P.Pace.rests old c.args.number) g.K.Clock.tells c.args.clock.now
-      c.step_on-did.new.clock c.in_ok-slice.slice (slice.Did c.in-Did.step) c.args.self.now.hand c.take-hand.result c.args.handler.now c.step_on-did.new.handler
-      (unread c.args.self.now.inbox) c.unread-seen.result.now c.args.self.now.whole (text_of c.step_on-did.new.text)
-      (pending c.follow.new.self) c.in-Did.is c.take-hand.ensures.value c.unread-seen.ensures
-      (pending_all c.follow.new.self c.sized.new.text c.follow.ensures.sent c.follow.ensures.text ∙ ap text_of c.in_ok-slice.ensures.ok.1)
-      (ok_at (λ x. StepsFrom c.args.site.now (λ old. g.P.Pace.comes old c.args.number) (λ old. g.P.Pace.rests old c.args.number) g.K.Clock.tells c.take-hand.result
-      c.args.handler.now c.args.clock.now c.unread-seen.result.now c.args.self.now.whole x
-      (text_of c.step_on-did.new.text) c.step_on-did.new.handler c.step_on-did.new.clock) c.step_on-did.result c.in_ok-slice.slice c.in_ok-slice.ensures.ok.0 c.step_on-did.ensures.ok),
+  stepped_ok _ _ _ _ _ _ c.step_on-did.result _ _ _ _ _ _ _ _ _ _ _ c.in_ok-slice.ensures.ok.0 c.in-Did.is c.take-hand.ensures.value c.unread-seen.ensures
+      (pending_all c.follow.new.self c.sized.new.text c.follow.ensures.sent c.follow.ensures.text ∙ ap text_of c.in_ok-slice.ensures.ok.1) c.step_on-did.ensures.ok,
   (follows_as c.in-Did.step _ c.args.self.now c.follow.new.self refl refl refl c.follow.ensures.follows, c.follow.ensures.hand ∙ c.take-hand.ensures.after),
 )
 
 pub returns-in-Works-clause-did : goal.returns-in-Works-clause-did
 returns-in-Works-clause-did g c = (
   slice.Works c.in-Works.under_way,
-  stepped_so c.args.site.now (λ old. g.P.Pace.comes old c.args.number) (λ old. g.P.Pace.rests old c.args.number) g.K.Clock.tells c.args.clock.now
-      c.step_on-did.new.clock c.in_ok-slice.slice (slice.Works c.in-Works.under_way) c.args.self.now.hand c.take-hand.result c.args.handler.now c.step_on-did.new.handler
-      (unread c.args.self.now.inbox) c.unread-seen.result.now c.args.self.now.whole (text_of c.step_on-did.new.text)
-      (text_of c.sized.new.text) c.in-Works.is c.take-hand.ensures.value c.unread-seen.ensures (ap text_of c.in_ok-slice.ensures.ok.1)
-      (ok_at (λ x. StepsFrom c.args.site.now (λ old. g.P.Pace.comes old c.args.number) (λ old. g.P.Pace.rests old c.args.number) g.K.Clock.tells c.take-hand.result
-      c.args.handler.now c.args.clock.now c.unread-seen.result.now c.args.self.now.whole x
-      (text_of c.step_on-did.new.text) c.step_on-did.new.handler c.step_on-did.new.clock) c.step_on-did.result c.in_ok-slice.slice c.in_ok-slice.ensures.ok.0 c.step_on-did.ensures.ok),
+  stepped_ok _ _ _ _ _ _ c.step_on-did.result _ _ _ _ _ _ _ _ _ _ _ c.in_ok-slice.ensures.ok.0 c.in-Works.is c.take-hand.ensures.value c.unread-seen.ensures
+      (ap text_of c.in_ok-slice.ensures.ok.1) c.step_on-did.ensures.ok,
   (record { still = refl; wants = refl; over = c.requires.going; counted = refl }, refl),
 )
 

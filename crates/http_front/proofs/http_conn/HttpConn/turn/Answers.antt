@@ -6,8 +6,8 @@ use Rattle.http_front.specs.UnderWays.{most_steps}
 use Rattle.http_front.specs.Talking.{pending}
 use Rattle.http_front.specs.declared.http_conn.Next.TheVariants as next
 use Rattle.http_front.specs.declared.http_conn.Turned.TheVariants as turned
-use Rattle.http_front.proofs.TurnLaws.{count_kept, counts_made, on_err, on_err_as, sink_lack, sink_read, slice_lack, source_lack, source_wrote, wants_kept, wants_made}
-use Rattle.http_front.proofs.SharingLaws.{own_over, own_read, own_step, own_wrote, stands_later}
+use Rattle.http_front.proofs.TurnLaws.{count_kept, counts_made, on_err, on_err_as, sink_lack, sink_read, slice_fails, slice_lack, slice_next, source_lack, source_wrote, wants_kept, wants_made}
+use Rattle.http_front.proofs.SharingLaws.{own_over, own_read, own_step, own_wrote, quiet, stands_later}
 use Rattle.http_front.proofs.http_conn.HttpConn.turn.Goals as goal
 
 pub returns-in-Writes-clause-own : goal.returns-in-Writes-clause-own
@@ -24,15 +24,11 @@ returns-in-Writes-clause-own g c =
     )
 
 pub returns-in-Over-clause-own : goal.returns-in-Over-clause-own
-returns-in-Over-clause-own g c = (
-  [],
-  [],
-  Consumes-nil (g.R.Source.remaining c.args.reader.now),
-  Appends-nil (g.W.Sink.contents c.args.sink.now),
-  own_over c.args.site.now (λ old. g.H.Handler.among old c.args.number) (λ old. g.H.Handler.rests old c.args.number) g.K.Clock.tells
-      (λ old new. g.H.Handler.apart old c.args.number new) (λ h. g.met.H.Handler.apart_self h c.args.number)
-      (λ mid now new method file o. g.met.H.Handler.among_later mid now new c.args.number method file o) (Ok turned.Over) c.args.self.now c.args.handler.now c.args.clock.now,
-)
+returns-in-Over-clause-own g c =
+    quiet (g.R.Source.remaining c.args.reader.now) (g.W.Sink.contents c.args.sink.now) _
+    (own_over c.args.site.now (λ old. g.H.Handler.among old c.args.number) (λ old. g.H.Handler.rests old c.args.number) g.K.Clock.tells
+    (λ old new. g.H.Handler.apart old c.args.number new) (λ h. g.met.H.Handler.apart_self h c.args.number)
+    (λ mid now new method file o. g.met.H.Handler.among_later mid now new c.args.number method file o) (Ok turned.Over) c.args.self.now c.args.handler.now c.args.clock.now)
 
 pub returns-in-Reads-clause-own : goal.returns-in-Reads-clause-own
 returns-in-Reads-clause-own g c =
@@ -47,20 +43,17 @@ returns-in-Reads-clause-own g c =
           c.args.handler.now c.args.clock.now t.0 t.2 c.take_in.ensures.text c.take_in.ensures.over c.in-Reads.ensures.1 c.take_in.ensures.hand c.in-Reads.ensures.3,
     )
 
-pub returns-in-Works-clause-own : goal.returns-in-Works-clause-own
-returns-in-Works-clause-own g c = (
-  [],
-  [],
-  Consumes-nil (g.R.Source.remaining c.args.reader.now),
-  Appends-nil (g.W.Sink.contents c.args.sink.now),
-  own_step c.args.site.now (λ old. g.H.Handler.among old c.args.number) (λ old. g.H.Handler.rests old c.args.number) g.K.Clock.tells
-      (λ old new. g.H.Handler.apart old c.args.number new) (λ h. g.met.H.Handler.apart_self h c.args.number)
-      (λ mid now new method file o. g.met.H.Handler.among_later mid now new c.args.number method file o) c.step.result c.args.self.now c.step.new.self
-      c.args.handler.now c.step.new.handler c.args.clock.now c.step.new.clock c.in-Works.ensures.0 c.in-Works.ensures.1 c.step.ensures.did,
-)
+pub returns-in_default-clause-own : goal.returns-in_default-clause-own
+returns-in_default-clause-own g c =
+    let at = slice_next c.args.self.now c.next.result c.next.ensures c.in_default.not-Writes c.in_default.not-Over in
+    quiet (g.R.Source.remaining c.args.reader.now) (g.W.Sink.contents c.args.sink.now) _
+    (own_step c.args.site.now (λ old. g.H.Handler.among old c.args.number) (λ old. g.H.Handler.rests old c.args.number) g.K.Clock.tells
+    (λ old new. g.H.Handler.apart old c.args.number new) (λ h. g.met.H.Handler.apart_self h c.args.number)
+    (λ mid now new method file o. g.met.H.Handler.among_later mid now new c.args.number method file o) c.step.result c.args.self.now c.step.new.self
+    c.args.handler.now c.step.new.handler c.args.clock.now c.step.new.clock at.0 at.1 c.step.ensures.did)
 
-pub returns-in-Works-clause-others : goal.returns-in-Works-clause-others
-returns-in-Works-clause-others g c k apart start first came went other s =
+pub returns-in_default-clause-others : goal.returns-in_default-clause-others
+returns-in_default-clause-others g c k apart start first came went other s =
     let own = c.step.ensures.beside c.args.handler.now (g.met.H.Handler.beside_self c.args.handler.now c.args.number) in
     let gap = g.met.H.Handler.apart_on c.args.handler.now c.args.handler.now c.step.new.handler c.args.number k apart (g.met.H.Handler.apart_self c.args.handler.now k) own in
     stands_later c.args.site.now (λ old. g.H.Handler.among old k) (λ old. g.H.Handler.rests old k) g.K.Clock.tells
@@ -68,38 +61,21 @@ returns-in-Works-clause-others g c k apart start first came went other s =
     (λ from before. g.met.H.Handler.apart_on from c.args.handler.now c.step.new.handler c.args.number k apart before own)
     (λ task o z rest. g.met.H.Handler.rests_later c.args.handler.now c.step.new.handler z k task o gap rest) c.step.ensures.clock s
 
-pub returns-in-Steps-clause-own : goal.returns-in-Steps-clause-own
-returns-in-Steps-clause-own g c = (
-  [],
-  [],
-  Consumes-nil (g.R.Source.remaining c.args.reader.now),
-  Appends-nil (g.W.Sink.contents c.args.sink.now),
-  own_step c.args.site.now (λ old. g.H.Handler.among old c.args.number) (λ old. g.H.Handler.rests old c.args.number) g.K.Clock.tells
-      (λ old new. g.H.Handler.apart old c.args.number new) (λ h. g.met.H.Handler.apart_self h c.args.number)
-      (λ mid now new method file o. g.met.H.Handler.among_later mid now new c.args.number method file o) c.step-in-Steps.result c.args.self.now
-      c.step-in-Steps.new.self c.args.handler.now c.step-in-Steps.new.handler c.args.clock.now c.step-in-Steps.new.clock c.in-Steps.ensures.0 c.in-Steps.ensures.1 c.step-in-Steps.ensures.did,
-)
-
-pub returns-in-Steps-clause-others : goal.returns-in-Steps-clause-others
-returns-in-Steps-clause-others g c k apart start first came went other s =
-    let own = c.step-in-Steps.ensures.beside c.args.handler.now (g.met.H.Handler.beside_self c.args.handler.now c.args.number) in
-    let gap = g.met.H.Handler.apart_on c.args.handler.now c.args.handler.now c.step-in-Steps.new.handler c.args.number k apart (g.met.H.Handler.apart_self c.args.handler.now k) own in
-    stands_later c.args.site.now (λ old. g.H.Handler.among old k) (λ old. g.H.Handler.rests old k) g.K.Clock.tells
-    (λ old new. g.H.Handler.apart old k new) start first came went other c.args.handler.now c.step-in-Steps.new.handler c.args.clock.now c.step-in-Steps.new.clock
-    (λ from before. g.met.H.Handler.apart_on from c.args.handler.now c.step-in-Steps.new.handler c.args.number k apart before own)
-    (λ task o z rest. g.met.H.Handler.rests_later c.args.handler.now c.step-in-Steps.new.handler z k task o gap rest) c.step-in-Steps.ensures.clock s
-
 pub returns-in-Writes-clause-fails : goal.returns-in-Writes-clause-fails
 returns-in-Writes-clause-fails g c = IfErr-weaker c.put_out.result _ _ (λ e how. (next.Writes, c.in-Writes.ensures, how)) c.put_out.ensures.kinds
 
 pub returns-in-Reads-clause-fails : goal.returns-in-Reads-clause-fails
 returns-in-Reads-clause-fails g c = IfErr-weaker c.take_in.result _ _ (λ e how. (next.Reads, c.in-Reads.ensures, how)) c.take_in.ensures.lost
 
-pub returns-in-Works-clause-fails : goal.returns-in-Works-clause-fails
-returns-in-Works-clause-fails g c = IfErr-weaker c.step.result _ _ (λ e how. (next.Works, c.in-Works.ensures, how)) c.step.ensures.lacks
-
-pub returns-in-Steps-clause-fails : goal.returns-in-Steps-clause-fails
-returns-in-Steps-clause-fails g c = IfErr-weaker c.step-in-Steps.result _ _ (λ e how. (next.Steps, c.in-Steps.ensures, how)) c.step-in-Steps.ensures.lacks
+pub returns-in_default-clause-fails : goal.returns-in_default-clause-fails
+returns-in_default-clause-fails g c =
+    let no = c.in_default in
+    IfErr-weaker c.step.result _ _ (λ e how. (
+      c.next.result,
+      c.next.ensures,
+      slice_fails c.args.site.now (λ old. g.H.Handler.lacks old c.args.number)
+          (λ old. g.H.Handler.lacks_rest old c.args.number) _ _ _ c.args.handler.now c.step.new.handler c.args.self.now c.next.result e no.not-Writes no.not-Over no.not-Reads how,
+    )) c.step.ensures.lacks
 
 pub returns-in-Writes-clause-none : goal.returns-in-Writes-clause-none
 returns-in-Writes-clause-none g c = on_err c.put_out.result _ (λ none. absurd (c.in-Writes.ensures none))
@@ -107,11 +83,8 @@ returns-in-Writes-clause-none g c = on_err c.put_out.result _ (λ none. absurd (
 pub returns-in-Reads-clause-none : goal.returns-in-Reads-clause-none
 returns-in-Reads-clause-none g c = on_err c.take_in.result _ (λ none. c.take_in.ensures.text ∙ none)
 
-pub returns-in-Works-clause-none : goal.returns-in-Works-clause-none
-returns-in-Works-clause-none g c = on_err_as c.step.result _ _ (λ left none. left) c.step.ensures.none
-
-pub returns-in-Steps-clause-none : goal.returns-in-Steps-clause-none
-returns-in-Steps-clause-none g c = on_err_as c.step-in-Steps.result _ _ (λ left none. left) c.step-in-Steps.ensures.none
+pub returns-in_default-clause-none : goal.returns-in_default-clause-none
+returns-in_default-clause-none g c = on_err_as c.step.result _ _ (λ left none. left) c.step.ensures.none
 
 pub returns-in-Writes-clause-source : goal.returns-in-Writes-clause-source
 returns-in-Writes-clause-source g c = source_wrote _ _ refl _ c.put_out.result c.put_out.ensures.kinds
@@ -119,29 +92,17 @@ returns-in-Writes-clause-source g c = source_wrote _ _ refl _ c.put_out.result c
 pub returns-in-Reads-clause-sink : goal.returns-in-Reads-clause-sink
 returns-in-Reads-clause-sink g c = sink_read _ _ refl c.take_in.result c.take_in.ensures.unwritten
 
-pub returns-in-Works-clause-source : goal.returns-in-Works-clause-source
-returns-in-Works-clause-source g c =
+pub returns-in_default-clause-source : goal.returns-in_default-clause-source
+returns-in_default-clause-source g c =
     source_lack _ _ refl _ c.step.result (IfErr-weaker c.step.result _ _
     (λ e how. slice_lack c.args.site.now (λ old. g.H.Handler.lacks old c.args.number) (λ old. g.H.Handler.lacks_rest old c.args.number) c.args.handler.now
     c.step.new.handler (unread c.args.self.now.inbox) c.args.self.now.whole c.args.self.now.hand e how) c.step.ensures.lacks)
 
-pub returns-in-Works-clause-sink : goal.returns-in-Works-clause-sink
-returns-in-Works-clause-sink g c =
+pub returns-in_default-clause-sink : goal.returns-in_default-clause-sink
+returns-in_default-clause-sink g c =
     sink_lack _ _ refl c.step.result (IfErr-weaker c.step.result _ _
     (λ e how. slice_lack c.args.site.now (λ old. g.H.Handler.lacks old c.args.number) (λ old. g.H.Handler.lacks_rest old c.args.number) c.args.handler.now
     c.step.new.handler (unread c.args.self.now.inbox) c.args.self.now.whole c.args.self.now.hand e how) c.step.ensures.lacks)
-
-pub returns-in-Steps-clause-source : goal.returns-in-Steps-clause-source
-returns-in-Steps-clause-source g c =
-    source_lack _ _ refl _ c.step-in-Steps.result (IfErr-weaker c.step-in-Steps.result _ _
-    (λ e how. slice_lack c.args.site.now (λ old. g.H.Handler.lacks old c.args.number) (λ old. g.H.Handler.lacks_rest old c.args.number) c.args.handler.now
-    c.step-in-Steps.new.handler (unread c.args.self.now.inbox) c.args.self.now.whole c.args.self.now.hand e how) c.step-in-Steps.ensures.lacks)
-
-pub returns-in-Steps-clause-sink : goal.returns-in-Steps-clause-sink
-returns-in-Steps-clause-sink g c =
-    sink_lack _ _ refl c.step-in-Steps.result (IfErr-weaker c.step-in-Steps.result _ _
-    (λ e how. slice_lack c.args.site.now (λ old. g.H.Handler.lacks old c.args.number) (λ old. g.H.Handler.lacks_rest old c.args.number) c.args.handler.now
-    c.step-in-Steps.new.handler (unread c.args.self.now.inbox) c.args.self.now.whole c.args.self.now.hand e how) c.step-in-Steps.ensures.lacks)
 
 pub returns-in-Writes-clause-few : goal.returns-in-Writes-clause-few
 returns-in-Writes-clause-few g c =
@@ -166,26 +127,14 @@ returns-in-Reads-clause-wants g c = wants_kept c.take_in.result c.args.self.now 
 pub returns-in-Reads-clause-counted : goal.returns-in-Reads-clause-counted
 returns-in-Reads-clause-counted g c = count_kept c.take_in.result c.args.self.now c.take_in.new.self c.take_in.ensures.requests
 
-pub returns-in-Works-clause-wants : goal.returns-in-Works-clause-wants
-returns-in-Works-clause-wants g c =
+pub returns-in_default-clause-wants : goal.returns-in_default-clause-wants
+returns-in_default-clause-wants g c =
     wants_made c.args.self.now c.step.new.self c.args.site.now (λ old. g.H.Handler.among old c.args.number)
     (λ old. g.H.Handler.rests old c.args.number) g.K.Clock.tells c.args.handler.now c.step.new.handler c.args.clock.now c.step.new.clock c.args.self.now.whole
     (pending c.step.new.self) c.step.result c.step.ensures.did
 
-pub returns-in-Works-clause-counted : goal.returns-in-Works-clause-counted
-returns-in-Works-clause-counted g c =
+pub returns-in_default-clause-counted : goal.returns-in_default-clause-counted
+returns-in_default-clause-counted g c =
     counts_made c.args.self.now c.step.new.self c.args.site.now (λ old. g.H.Handler.among old c.args.number)
     (λ old. g.H.Handler.rests old c.args.number) g.K.Clock.tells c.args.handler.now c.step.new.handler c.args.clock.now c.step.new.clock c.args.self.now.whole
     (pending c.step.new.self) c.step.result c.step.ensures.did
-
-pub returns-in-Steps-clause-wants : goal.returns-in-Steps-clause-wants
-returns-in-Steps-clause-wants g c =
-    wants_made c.args.self.now c.step-in-Steps.new.self c.args.site.now (λ old. g.H.Handler.among old c.args.number)
-    (λ old. g.H.Handler.rests old c.args.number) g.K.Clock.tells c.args.handler.now c.step-in-Steps.new.handler c.args.clock.now c.step-in-Steps.new.clock
-    c.args.self.now.whole (pending c.step-in-Steps.new.self) c.step-in-Steps.result c.step-in-Steps.ensures.did
-
-pub returns-in-Steps-clause-counted : goal.returns-in-Steps-clause-counted
-returns-in-Steps-clause-counted g c =
-    counts_made c.args.self.now c.step-in-Steps.new.self c.args.site.now (λ old. g.H.Handler.among old c.args.number)
-    (λ old. g.H.Handler.rests old c.args.number) g.K.Clock.tells c.args.handler.now c.step-in-Steps.new.handler c.args.clock.now c.step-in-Steps.new.clock
-    c.args.self.now.whole (pending c.step-in-Steps.new.self) c.step-in-Steps.result c.step-in-Steps.ensures.did

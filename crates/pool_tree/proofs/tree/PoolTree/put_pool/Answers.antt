@@ -1,8 +1,10 @@
 -- A line is written, and the walk goes on below or behind.
-use Rattle.std.proofs.Common.{◌≡◌, ℕ, ◌+◌, List, [], ◌++◌, reverse, length, sym, ap, subst, ◌∙◌, arith}
+use Rattle.std.proofs.Common.{◌≡◌, true, Option, Some, ℕ, ◌+◌, List, [], ◌++◌, reverse, length, sym, ap, subst, ◌∙◌, arith}
 use Rattle.std.specs.List.{flat_map}
 use Rattle.std.proofs.lemmas.List.{append-nil, append_assoc, length-append}
+use Rattle.run_model.specs.Pools.{is_live}
 use Rattle.run_model.specs.RunOrder.{children}
+use Rattle.pool_tree.specs.declared.tree.PoolTree.{PoolTree}
 use Rattle.pool_tree.specs.Left.{IsPlace, text_behind, text_left}
 use Rattle.pool_tree.specs.Printed.{line, printed}
 use Rattle.pool_tree.specs.Tree.{map_of}
@@ -11,6 +13,22 @@ use Rattle.pool_tree.proofs.Printing.{printed_step}
 use Rattle.pool_tree.proofs.Trees.{tree_formed}
 use Rattle.pool_tree.proofs.Writing.{appends_then, appends_none, appends_same}
 use Rattle.pool_tree.proofs.tree.PoolTree.put_pool.Goals as goal
+
+-- what is left where a walk comes to a pool is the line of it, and what is left behind that line
+line_first : {T : Type 0} (shown : T → List ℕ) (tree : PoolTree T) (top start : ℕ) (place next : Option (ℕ × ℕ)) (name level : ℕ) → place ≡ Some (name, level)
+    → is_live (map_of tree) name ≡ true
+    → text_left (printed shown (map_of tree)) tree top start next
+    ≡ flat_map (printed shown (map_of tree) (level + 1)) (reverse (children (map_of tree) name)) ++ text_behind (printed shown (map_of tree)) tree top start name
+    → text_left (printed shown (map_of tree)) tree top start place ≡ line shown (map_of tree) level name ++ text_left (printed shown (map_of tree)) tree top start next
+line_first shown tree top start place next name level is live left =
+    let text = printed shown (map_of tree) in
+    let under = flat_map (text (level + 1)) (reverse (children (map_of tree) name)) in
+    let behind = text_behind text tree top start name in
+    let first = line shown (map_of tree) level name in
+    ap (text_left text tree top start) is
+    ∙ ap (λ (xs : List ℕ). xs ++ behind) (printed_step shown (map_of tree) (tree_formed tree) level name live)
+    ∙ append_assoc first under behind
+    ∙ ap (λ (xs : List ℕ). first ++ xs) (sym left)
 
 pub loop-place-init : goal.loop-place-init
 loop-place-init g c =
@@ -29,33 +47,24 @@ below-place-requires g c = (c.args.depth, c.loop-place.invariant.place (c.in-Som
 pub loop-place-smaller : goal.loop-place-smaller
 loop-place-smaller g c =
     let tree = c.args.self.now in
-    let pool = c.args.pool in
-    let depth = c.args.depth in
+    let text = printed g.T.PoolText.shown (map_of tree) in
     let name = c.in-Some.name in
     let level = c.in-Some.level in
-    let text = printed g.T.PoolText.shown (map_of tree) in
     let at = c.loop-place.invariant.place (name, level) c.in-Some.is in
-    let under = flat_map (text (level + 1)) (reverse (children (map_of tree) name)) in
-    let behind = text_behind text tree pool depth name in
+    let step = line_first g.T.PoolText.shown tree c.args.pool c.args.depth c.loop-place.place c.below-place.result name level c.in-Some.is at.live (c.below-place.ensures.left text c.args.depth at) in
     let first = line g.T.PoolText.shown (map_of tree) level name in
-    let left = ap length (c.below-place.ensures.left text depth at) in
-    let was = ap (λ o. length (text_left text tree pool depth o)) c.in-Some.is in
-    let step = ap (λ (xs : List ℕ). length (xs ++ behind)) (printed_step g.T.PoolText.shown (map_of tree) (tree_formed tree) level name at.live) in
-    let more = line_some g.T.PoolText.shown (map_of tree) level name in
-    omega (arith, left, was, step, more, length-append under behind, length-append (first ++ under) behind, length-append first under)
+    omega (arith, ap length step, line_some g.T.PoolText.shown (map_of tree) level name, length-append first (text_left text tree c.args.pool c.args.depth c.below-place.result))
 
 pub loop-place-preserved : goal.loop-place-preserved
 loop-place-preserved g c =
     let tree = c.args.self.now in
-    let pool = c.args.pool in
-    let depth = c.args.depth in
+    let i = c.loop-place.invariant in
     let name = c.in-Some.name in
     let level = c.in-Some.level in
-    let text = printed g.T.PoolText.shown (map_of tree) in
-    let i = c.loop-place.invariant in
     let at = i.place (name, level) c.in-Some.is in
-    let under = flat_map (text (level + 1)) (reverse (children (map_of tree) name)) in
-    let behind = text_behind text tree pool depth name in
+    let text = printed g.T.PoolText.shown (map_of tree) in
+    let left = c.below-place.ensures.left text c.args.depth at in
+    let step = line_first g.T.PoolText.shown tree c.args.pool c.args.depth c.loop-place.place c.below-place.result name level c.in-Some.is at.live left in
     let first = line g.T.PoolText.shown (map_of tree) level name in
     let written = i.front.0 in
     record {
@@ -63,14 +72,10 @@ loop-place-preserved g c =
         written ++ first,
         (
           appends_then (g.W.Write.contents c.args.out.now) (g.W.Write.contents c.loop-place.out) (g.W.Write.contents c.put_line.new.out) written first i.front.1.0 c.in_ok-put_line.ensures,
-          ap (λ (xs : List ℕ). (written ++ first) ++ xs) (c.below-place.ensures.left text depth at)
-              ∙ (append_assoc written first (under ++ behind)
-              ∙ (ap (λ (xs : List ℕ). written ++ xs)
-              (sym (append_assoc first under behind) ∙ ap (λ (xs : List ℕ). xs ++ behind) (sym (printed_step g.T.PoolText.shown (map_of tree) (tree_formed tree) level name at.live)))
-              ∙ (ap (λ o. written ++ text_left text tree pool depth o) (sym c.in-Some.is) ∙ i.front.1.1))),
+          append_assoc written first (text_left text tree c.args.pool c.args.depth c.below-place.result) ∙ (ap (λ (xs : List ℕ). written ++ xs) (sym step) ∙ i.front.1.1),
         ),
       );
-      place = λ p is. if_some (λ (q : ℕ × ℕ). IsPlace tree pool depth q.0 q.1) c.below-place.result (c.below-place.ensures.place depth at) p is;
+      place = λ p is. if_some (λ (q : ℕ × ℕ). IsPlace tree c.args.pool c.args.depth q.0 q.1) c.below-place.result (c.below-place.ensures.place c.args.depth at) p is;
     }
 
 pub returns : goal.returns

@@ -1,10 +1,10 @@
-use Rattle.std.proofs.Common.{◌∙◌, sym, refl, ap, ◌++◌, ◌∷◌, []}
-use Rattle.run_model.specs.Indexed.{upd}
+use Rattle.std.proofs.Common.{◌∙◌, sym, refl, ◌++◌, ◌∷◌, []}
 use Rattle.run_model.specs.Pools.{registered}
 use Rattle.pool_tree.specs.Records.{record_of}
 use Rattle.pool_tree.specs.Tree.{map_of}
-use Rattle.pool_tree.proofs.Refilled.{refilled_linked, refilled_map, refilled_same}
-use Rattle.pool_tree.proofs.Trees.{tree_live, tree_payloads}
+use Rattle.pool_tree.proofs.Refilled.{refilled_linked, refilled_same}
+use Rattle.pool_tree.proofs.RefilledTrees.{payloads_changed}
+use Rattle.pool_tree.proofs.Trees.{tree_live}
 use Rattle.pool_tree.proofs.tree.PoolTree.register.Goals as goal
 
 pub push-requires : goal.push-requires
@@ -20,10 +20,7 @@ invariant_of-self g c =
 pub returns-in-Ok-clause-ok : goal.returns-in-Ok-clause-ok
 unfolding map_of registered
 returns-in-Ok-clause-ok g c =
-    refilled_map c.args.self.now.root c.args.self.now.next c.args.pool _ (record_of c.args.self.now.records) (record_of c.push.new.records)
-    c.args.self.now.linked c.in-Ok.ensures.items
-    ∙ ap (λ items. record (map_of c.args.self.now) { payloads = upd (map_of c.args.self.now).payloads c.args.pool (items ++ c.args.payload ∷ []) })
-    (sym (tree_payloads c.args.self.now c.args.pool))
+    payloads_changed c.args.self.now c.args.pool (λ items. items ++ c.args.payload ∷ []) (record_of c.push.new.records) c.in-Ok.ensures.items
 
 pub returns-in-Err-clause-err : goal.returns-in-Err-clause-err
 unfolding map_of

@@ -1,8 +1,7 @@
-use Rattle.std.proofs.Common.{◌∙◌, sym, ap, remove}
-use Rattle.run_model.specs.Indexed.{upd}
+use Rattle.std.proofs.Common.{◌∙◌, sym, remove}
 use Rattle.pool_tree.specs.Records.{record_of}
 use Rattle.pool_tree.specs.Tree.{map_of}
-use Rattle.pool_tree.proofs.Refilled.{refilled_linked, refilled_map}
+use Rattle.pool_tree.proofs.RefilledTrees.{still_linked, payloads_changed}
 use Rattle.pool_tree.proofs.Trees.{tree_live, tree_payloads}
 use Rattle.pool_tree.proofs.tree.PoolTree.take_out.Goals as goal
 
@@ -13,19 +12,11 @@ pub take_at-requires-clause-within : goal.take_at-requires-clause-within
 take_at-requires-clause-within g c = rw (← tree_payloads c.args.self.now c.args.pool) c.requires.within
 
 pub invariant_of-self : goal.invariant_of-self
-invariant_of-self g c =
-    record {
-      linked = refilled_linked c.args.self.now.root c.args.self.now.next c.args.pool _ (record_of c.args.self.now.records) (record_of c.take_at.new.records)
-          c.args.self.now.linked c.take_at.ensures.rest;
-    }
+invariant_of-self g c = record { linked = still_linked c.args.self.now c.args.pool (λ items. remove items c.args.index) (record_of c.take_at.new.records) c.take_at.ensures.rest }
 
 pub returns-clause-taken : goal.returns-clause-taken
 returns-clause-taken g c = rw (tree_payloads c.args.self.now c.args.pool) c.take_at.ensures.taken
 
 pub returns-clause-rest : goal.returns-clause-rest
 unfolding map_of
-returns-clause-rest g c =
-    refilled_map c.args.self.now.root c.args.self.now.next c.args.pool _ (record_of c.args.self.now.records) (record_of c.take_at.new.records)
-    c.args.self.now.linked c.take_at.ensures.rest
-    ∙ ap (λ items. record (map_of c.args.self.now) { payloads = upd (map_of c.args.self.now).payloads c.args.pool (remove items c.args.index) })
-    (sym (tree_payloads c.args.self.now c.args.pool))
+returns-clause-rest g c = payloads_changed c.args.self.now c.args.pool (λ items. remove items c.args.index) (record_of c.take_at.new.records) c.take_at.ensures.rest

@@ -5,7 +5,7 @@ use Rattle.stored_rings.specs.Dependents.{noted}
 use Rattle.stored_rings.specs.Items.{StoredItems}
 use Rattle.stored_rings.specs.Noted.{is_noted}
 use Rattle.stored_rings.proofs.Lists.{list_on}
-use Rattle.stored_rings.proofs.Noted.{are_kept, fresh_noted, still_there}
+use Rattle.stored_rings.proofs.Noted.{fresh_noted, still_there}
 use Rattle.stored_rings.proofs.Tested.{noted_since, joined_in}
 use Rattle.stored_rings.proofs.Walks.{once_listed}
 use Rattle.stored_rings.proofs.indexed.IndexedRingsStored.add_all.Goals as goal
@@ -14,8 +14,6 @@ pub invariant_of-self-2-clause-indexed : goal.invariant_of-self-2-clause-indexed
 invariant_of-self-2-clause-indexed g c =
     let s = c.args.self.now in
     let ring = c.args.ring in
-    let names = noted c.note_ring.new.dependents in
-    let p = is_noted names in
     let old = g.R.Rings.lists s.rings in
     let rings = c.add_all.new.self in
     let new = g.R.Rings.lists rings in
@@ -24,10 +22,9 @@ invariant_of-self-2-clause-indexed g c =
     let whole : list_at new ring ≡ list_at old ring ++ bs = list_on ring (λ xs. xs ++ bs) old new ok.2 c.requires in
     let once : ((i : BucketId) → times i (list_at old ring ++ bs) ≤ 1) =
     λ i. once_listed ring (g.R.Rings.ring_at rings i) (times i (list_at old ring ++ bs)) (ap (times i) (sym whole) ∙ g.met.R.Rings.counted rings i ring) in
-    joined_in (noted_since s c.note_ring.new.dependents
-    (are_kept (noted c.make_room_for_all.new.dependents) names c.note_ring.ensures.kept old (c.in_ok-make_room_for_all.ensures old s.indexed)))
+    joined_in (noted_since s c.make_room_for_all.new.dependents c.note_ring.new.dependents (c.in_ok-make_room_for_all.ensures old s.indexed) c.note_ring.ensures.kept)
     rings ring bs
-    (fresh_noted p (g.R.Rings.next_name s.rings) (list_at old ring) bs c.args.given.items ok.1 once
+    (fresh_noted (is_noted (noted c.note_ring.new.dependents)) (g.R.Rings.next_name s.rings) (list_at old ring) bs c.args.given.items ok.1 once
     (λ id x there le. c.note_ring.ensures.here id x (ap (found id) whole ∙ there) (omega (arith, le, c.next_name-before.ensures))))
     ok.2
 

@@ -4,7 +4,7 @@ use Rattle.bucket_ring.specs.Lists.{upd, list_at, times, found}
 use Rattle.stored_rings.specs.Dependents.{noted}
 use Rattle.stored_rings.specs.Items.{StoredItems}
 use Rattle.stored_rings.specs.Noted.{is_noted}
-use Rattle.stored_rings.proofs.Noted.{are_kept, listed_by_found, list_now}
+use Rattle.stored_rings.proofs.Noted.{listed_by_found, list_now}
 use Rattle.stored_rings.proofs.Tested.{noted_since, paired}
 use Rattle.stored_rings.proofs.Walks.{once_listed}
 use Rattle.stored_rings.proofs.indexed.IndexedRingsStored.new_pair.Goals as goal
@@ -12,8 +12,6 @@ use Rattle.stored_rings.proofs.indexed.IndexedRingsStored.new_pair.Goals as goal
 pub invariant_of-self-2-clause-indexed : goal.invariant_of-self-2-clause-indexed
 invariant_of-self-2-clause-indexed g c =
     let s = c.args.self.now in
-    let names = noted c.note_ring.new.dependents in
-    let p = is_noted names in
     let old = g.R.Rings.lists s.rings in
     let rings = c.new_pair.new.self in
     let new = g.R.Rings.lists rings in
@@ -24,10 +22,9 @@ invariant_of-self-2-clause-indexed g c =
     let list_is : (o : Option StoredItems) → o ≡ Some bs
     → option_map_or (λ (xs : StoredItems). xs) o [] ≡ bs = λ o e. ap (λ (q : Option StoredItems). option_map_or (λ (xs : StoredItems). xs) q []) e in
     let whole : list_at new c.in_ok-first.second ≡ bs = list_is (new c.in_ok-first.second) (ap new second ∙ (ok.2 (first + 1) ∙ list_now (upd old first (Some [])) (first + 1) (Some bs))) in
-    paired (noted_since s c.note_ring.new.dependents
-    (are_kept (noted c.make_room_for_all.new.dependents) names c.note_ring.ensures.kept old (c.in_ok-make_room_for_all.ensures old s.indexed)))
+    paired (noted_since s c.make_room_for_all.new.dependents c.note_ring.new.dependents (c.in_ok-make_room_for_all.ensures old s.indexed) c.note_ring.ensures.kept)
     rings first (first + 1) bs
-    (listed_by_found p bs
+    (listed_by_found (is_noted (noted c.note_ring.new.dependents)) bs
     (λ i. once_listed c.in_ok-first.second (g.R.Rings.ring_at rings i) (times i bs) (ap (times i) (sym whole) ∙ g.met.R.Rings.counted rings i c.in_ok-first.second))
     (λ id x there. c.note_ring.ensures.here id x (ap (found id) whole ∙ there) (omega arith)))
     ok.2

@@ -3,7 +3,7 @@ use Rattle.bucket_ring.specs.Lists.{list_at}
 use Rattle.stored_rings.specs.Dependents.{noted}
 use Rattle.stored_rings.specs.Noted.{is_noted, place_under}
 use Rattle.stored_rings.proofs.Lists.{some_of}
-use Rattle.stored_rings.proofs.Noted.{are_kept, all_found, noted_item, noted_parts}
+use Rattle.stored_rings.proofs.Noted.{all_found, noted_item, noted_parts}
 use Rattle.stored_rings.proofs.Tested.{noted_since, replaced}
 use Rattle.stored_rings.proofs.indexed.IndexedRingsStored.set_payload.Goals as goal
 
@@ -19,7 +19,7 @@ invariant_of-self-clause-indexed g c =
     let were = all_found (is_noted before) id had (list_at old q.0) (s.indexed q.0) (c.set_payload-had.ensures.had q.0 q.1) in
     let parts = noted_parts before id had were in
     c.tidy.ensures
-    (replaced (noted_since c.args.self.now c.note_changed.new.dependents (are_kept before names c.note_changed.ensures.kept old s.indexed)) c.set_payload-had.new.self id c.requires c.args.payload
+    (replaced (noted_since s s.dependents c.note_changed.new.dependents s.indexed c.note_changed.ensures.kept) c.set_payload-had.new.self id c.requires c.args.payload
     (noted_item names id c.args.payload (c.note_changed.ensures.kind parts.0) (c.note_changed.ensures.home parts.1)
     (ap (λ (q : Option ℕ). place_under (λ n. names n id) q) (sym c.place_of-place.ensures) ∙ c.note_changed.ensures.place parts.2))
     c.set_payload-had.ensures.out)

@@ -10,12 +10,10 @@ use Rattle.stored_rings.proofs.shelf.Shelf.add_all.Goals as goal
 
 pub invariant_of-self : goal.invariant_of-self
 invariant_of-self g c =
-    let s = c.hold_all.new.self in
-    let see = look s.regions in
-    let next = g.R.Rings.next_name s.rings.rings in
+    let s = held_in c.hold_all.new.self in
     record {
-      whole = by_result (held_in s) c.add_all.new.self.rings _ c.add_all.result c.add_all.ensures.ok c.add_all.ensures.err
-          (λ ok. joined_in (held_in s) c.add_all.new.self.rings c.args.ring ok.0 (brought_held see next ok.0 c.in_ok-kept.kept.items ok.1 c.in_ok-kept.ensures.held) ok.2);
+      whole = by_result s c.add_all.new.self.rings _ c.add_all.result c.add_all.ensures.ok c.add_all.ensures.err
+          (λ ok. joined_in s c.add_all.new.self.rings c.args.ring ok.0 (brought_held _ _ ok.0 c.in_ok-kept.kept.items ok.1 c.in_ok-kept.ensures.held) ok.2);
     }
 
 pub returns-clause-ok : goal.returns-clause-ok

@@ -1,16 +1,13 @@
 use Rattle.bucket_ring.specs.Lists.{put_tail}
 use Rattle.stored_rings.specs.Shelf.{seen}
-use Rattle.stored_rings.proofs.Noted.{both, all_tail}
-use Rattle.stored_rings.proofs.Tested.{held_in, added}
+use Rattle.stored_rings.proofs.Noted.{all_tail}
+use Rattle.stored_rings.proofs.Tested.{held_in_ring}
 use Rattle.stored_rings.proofs.Shown.{tail_shown}
 use Rattle.stored_rings.proofs.Seen.{added_seen}
 use Rattle.stored_rings.proofs.shelf.Shelf.add_tail.Goals as goal
 
 pub invariant_of-self : goal.invariant_of-self
-invariant_of-self g c = record {
-  whole = added (held_in c.args.self.now) c.add_tail.new.self.rings put_tail all_tail c.args.ring c.args.bucket
-      (λ id. both c.requires.whole c.requires.lies) c.add_tail.result c.add_tail.ensures.ok c.add_tail.ensures.err;
-}
+invariant_of-self g c = record { whole = held_in_ring c.args.self.now _ _ c.requires.whole c.requires.lies put_tail all_tail c.args.ring _ c.add_tail.ensures.ok c.add_tail.ensures.err }
 
 pub returns-clause-out : goal.returns-clause-out
 unfolding seen

@@ -3,7 +3,7 @@ use Rattle.stored_rings.specs.Shelf.{seen}
 use Rattle.stored_rings.proofs.Noted.{all_tail}
 use Rattle.stored_rings.proofs.Tested.{held_in, moved}
 use Rattle.stored_rings.proofs.Shown.{tail_shown}
-use Rattle.stored_rings.proofs.Seen.{moved_seen}
+use Rattle.stored_rings.proofs.Seen.{move_seen}
 use Rattle.stored_rings.proofs.shelf.Shelf.move_tail.Goals as goal
 
 pub invariant_of-self : goal.invariant_of-self
@@ -11,5 +11,4 @@ invariant_of-self g c = record { whole = moved (held_in c.args.self.now) c.move_
 
 pub returns-clause-out : goal.returns-clause-out
 unfolding seen
-returns-clause-out g c q n x at is = moved_seen c.args.self.now c.move_tail.new.self.rings put_tail put_tail tail_shown c.args.ring q n c.args.id x
-    is (λ m y here. c.move_tail.ensures.out q m y at here)
+returns-clause-out g c = move_seen c.args.self.now c.move_tail.new.self.rings put_tail put_tail tail_shown c.args.ring c.args.id c.move_tail.ensures.out

@@ -10,12 +10,11 @@ use Rattle.stored_rings.proofs.shelf.Shelf.new_pair.Goals as goal
 
 pub invariant_of-self : goal.invariant_of-self
 invariant_of-self g c =
-    let s = c.hold_all.new.self in
-    let see = look s.regions in
-    let next = g.R.Rings.next_name s.rings.rings in
+    let s = held_in c.hold_all.new.self in
+    let next = g.R.Rings.next_name s.rings in
     record {
-      whole = by_result (held_in s) c.new_pair.new.self.rings _ c.new_pair.result c.new_pair.ensures.ok c.new_pair.ensures.err
-          (λ ok. paired (held_in s) c.new_pair.new.self.rings next (next + 1) ok.0 (brought_held see (next + 2) ok.0 c.in_ok-kept.kept.items ok.1 c.in_ok-kept.ensures.held) ok.2);
+      whole = by_result s c.new_pair.new.self.rings _ c.new_pair.result c.new_pair.ensures.ok c.new_pair.ensures.err
+          (λ ok. paired s c.new_pair.new.self.rings next (next + 1) ok.0 (brought_held _ _ ok.0 c.in_ok-kept.kept.items ok.1 c.in_ok-kept.ensures.held) ok.2);
     }
 
 pub returns-clause-ok : goal.returns-clause-ok
