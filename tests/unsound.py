@@ -73,23 +73,23 @@ WRONG = [
     ('before', 'an EOS before data is not noted',
      'before_eos b = if content_le b Flushes then NoLateData else Any', 'before_eos b = NoLateData'),
     ('heap', 'the new bucket is said to be a FLUSH',
-     'after_make c (HeapText t) s = made c only_bytes no_homes s', 'after_make c (HeapText t) s = made c only_flush no_homes s'),
-    ('immortal', 'the cursor is said to be where it was',
-     'after_make c (ImmortalText t) s = made c only_bytes no_homes s', 'after_make c (ImmortalText t) s = s'),
+     'classes_from (HeapText t) s = only_bytes', 'classes_from (HeapText t) s = only_flush'),
+    ('immortal', 'the new bucket is said to be an EOS',
+     'classes_from (ImmortalText t) s = only_bytes', 'classes_from (ImmortalText t) s = only_eos'),
     ('frombuf', 'the new bucket is said to be an EOS',
-     'after_make c HeapBuffer s = made c only_bytes no_homes s', 'after_make c HeapBuffer s = made c only_eos no_homes s'),
+     'classes_from HeapBuffer s = only_bytes', 'classes_from HeapBuffer s = only_eos'),
     ('transient', 'that the bucket lives through this call alone is lost',
-     'after_make c TransientBuffer s = made c only_bytes only_call s', 'after_make c TransientBuffer s = made c only_bytes no_homes s'),
+     'homes_from TransientBuffer s = only_call', 'homes_from TransientBuffer s = no_homes'),
     ('poolb', 'the new bucket is said to be a FLUSH',
-     'after_make c (PoolBuffer q) s = made c only_bytes no_homes s', 'after_make c (PoolBuffer q) s = made c only_flush no_homes s'),
+     'classes_from (PoolBuffer q) s = only_bytes', 'classes_from (PoolBuffer q) s = only_flush'),
     ('flush', 'the new bucket is said to have bytes',
-     'after_make c FlushBucket s = made c only_flush no_homes s', 'after_make c FlushBucket s = made c only_bytes no_homes s'),
+     'classes_from FlushBucket s = only_flush', 'classes_from FlushBucket s = only_bytes'),
     ('eos', 'the new bucket is said to be a FLUSH',
-     'after_make c EosBucket s = made c only_eos no_homes s', 'after_make c EosBucket s = made c only_flush no_homes s'),
+     'classes_from EosBucket s = only_eos', 'classes_from EosBucket s = only_flush'),
     ('split', 'that a split may be refused is lost',
      'on_condition (condition.NoSplit c x) s t = both_with t', 'on_condition (condition.NoSplit c x) s t = goes_on_with t'),
     ('copy', 'the homes of the copy are lost',
-     'after_copy d c s = made d (classes_of (s.cursors c)) (homes_at s (s.cursors c)) s', 'after_copy d c s = made d (classes_of (s.cursors c)) no_homes s'),
+     'homes_from (CopyAt c) s = homes_at s (s.cursors c)', 'homes_from (CopyAt c) s = no_homes'),
     ('aside', 'that the bucket lives in the pool is lost',
      'after_aside c p (Loose t h) s = move_bucket c (Loose t (home_in p)) s', 'after_aside c p (Loose t h) s = move_bucket c (Loose t no_homes) s'),
     ('read', 'the read cursor is said to differ from all others',
@@ -127,6 +127,8 @@ UNASKED = {
     'immortal': ('(c t : ℕ)', '(instr.Immortal c t)'),
     'frombuf': ('(c : ℕ)', '(instr.FromBuf c)'),
     'transient': ('(c : ℕ)', '(instr.Transient c)'),
+    'poolb': ('(c : ℕ) (q : PoolRef)', '(instr.PoolB c q)'),
+    'copy': ('(d c : ℕ)', '(instr.Copy d c)'),
     'flush': ('(c : ℕ)', '(instr.Flush c)'),
     'eos': ('(c : ℕ)', '(instr.Eos c)'),
     'len': ('(n c : ℕ)', '(instr.Len n c)'),
@@ -177,7 +179,7 @@ class Law:
         return ' '.join(re.findall(r'\(([^:]*) :', self.operands))
 
     def given(self):
-        """What its proof is given: the operands, or the instruction and that none of its needs is used."""
+        """What its proof is given: the operands, or the instruction and that the law serves it."""
         return self.names() if self.proof == self.name else self.instruction + ' tt tt'
 
     def statement(self):
@@ -204,6 +206,7 @@ def laws(proofs):
             for law in LAW.finditer(source):
                 found[law[2]] = Law(name[:-len('.antt')], source, law[2], law[3] or '', law[4])
             if name == 'Unasked.antt':
+                source += text_of(os.path.join(proofs, 'Makers.antt'))
                 found.update((word, Law('Unasked', source, word, *row, 'law_unasked')) for word, row in UNASKED.items())
     return found
 

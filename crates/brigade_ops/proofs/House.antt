@@ -13,9 +13,9 @@ use Rattle.run_model.specs.Payloads.{is_brigade, is_file_ref}
 use Rattle.run_model.specs.Pools.{Pools, is_live, is_under}
 use Rattle.run_model.specs.RunOrder.{IsPoolMap, run_order}
 use Rattle.run_model.proofs.References.{Emptied, cleared_emptied, destroyed_emptied}
-use Rattle.pool_tree.specs.declared.tree.clear.ClearKind.{ClearKind}
-use Rattle.pool_tree.specs.declared.tree.clear.ClearKind.TheVariants.{Clear, Destroy}
-use Rattle.pool_tree.specs.Clears.{pools_after}
+use Rattle.run_model.specs.declared.effect.ClearKind.{ClearKind}
+use Rattle.run_model.specs.declared.effect.ClearKind.TheVariants.{Clear, Destroy}
+use Rattle.run_model.specs.Effects.{pools_after}
 use Rattle.stored_rings.specs.declared.morph.Morph.{Morph}
 use Rattle.brigade_ops.specs.Files.{refs_in, is_let_go}
 use Rattle.brigade_ops.specs.House.{all_refs, AreHoused, AreOpen, cleared_items, cleared_ring, pool_left}

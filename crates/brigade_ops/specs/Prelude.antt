@@ -8,9 +8,9 @@ pub use Rattle.run_model.specs.Pools.{Pools, is_in, is_live, is_under, registere
 pub use Rattle.run_model.specs.RunOrder.{IsPoolMap, killed, run_order}
 pub use Rattle.run_model.specs.Steps.{all_referred, file_of, is_above, new_ref}
 pub use Rattle.run_model.specs.declared.bucket.Bucket.{Bucket}
-pub use Rattle.pool_tree.specs.Clears.{pools_after}
+pub use Rattle.run_model.specs.Effects.{pools_after}
 pub use Rattle.pool_tree.specs.Tree.{map_of, once_more}
-pub use Rattle.pool_tree.specs.declared.tree.clear.ClearKind.TheVariants.{Destroy}
+pub use Rattle.run_model.specs.declared.effect.ClearKind.TheVariants.{Destroy}
 pub use Rattle.bucket_ring.specs.Kept.{NoneRevived}
 pub use Rattle.bucket_ring.specs.Lists.{by_birth, first_of, found, list_at, next_in, numbered, on, put_after, put_before, put_head}
 pub use Rattle.bucket_ring.specs.Lists.{put_tail, rest, same, upd, with_payload, without}

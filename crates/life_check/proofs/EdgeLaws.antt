@@ -8,12 +8,11 @@ use Rattle.module_code.specs.declared.instr.VarRef.TheVariants as variable
 use Rattle.module_code.specs.Program.{Program, goes_on}
 use Rattle.run_model.specs.declared.effect.Condition.{Condition}
 use Rattle.run_model.specs.declared.effect.Condition.TheVariants as condition
+use Rattle.run_model.specs.declared.effect.ClearKind.TheVariants.{Destroy}
 use Rattle.run_model.specs.declared.effect.Effect.{Effect}
 use Rattle.run_model.specs.declared.effect.Effect.TheVariants as effect
 use Rattle.run_model.specs.declared.effect.Branch.{Branch}
 use Rattle.run_model.specs.declared.effect.Branch.TheVariants.{ToNext, JumpIf, JumpAlways, EndCall}
-use Rattle.run_model.specs.declared.effect.MadeFrom.{MadeFrom}
-use Rattle.run_model.specs.declared.effect.MadeFrom.TheVariants.{CopyAt}
 use Rattle.run_model.specs.EffectOf.{effect_of, branch_of}
 use Rattle.run_model.specs.declared.fault.FaultKind.{FaultKind}
 use Rattle.run_model.specs.Faults.{wants}
@@ -21,7 +20,7 @@ use Rattle.life_state.specs.declared.parts.Classes.{Classes}
 use Rattle.life_state.specs.States.{State, CursorKnown, Loose, In, End, InOrEnd, home_in, both_homes, with_homes, only_null, never_made, set_pool, set_brigade}
 use Rattle.life_state.specs.Facts.{moved, set_cursor}
 use Rattle.life_state.specs.Rules.{Edges, some_if, cleared_under, after_next, if_brigade, put_in, before_content, after_before, after_aside, is_empty, edges_jend, of_kind, not_of_kind, some_class}
-use Rattle.life_state.specs.Rules.{with_classes, classes_of, told, told_classes, pool_not_null, brigade_not_null, edges_jnull, after_make, after, on_condition, led, edges, first_need, need_or, rule}
+use Rattle.life_state.specs.Rules.{with_classes, classes_of, told, told_classes, pool_not_null, brigade_not_null, edges_jnull, after, on_condition, led, edges, first_need, need_or, rule}
 
 -- of the same variables
 pub record AreAlike (s t : State) : Type 0 where
@@ -79,17 +78,12 @@ told_alike : (c : ℕ) (t : Classes) (s : State) → SomeAlike s (told_classes c
 unfolding moved
 told_alike c t s = some_if_alike (some_class t) s (told c (with_classes t (s.cursors c)) s) (record { pools = refl; brigades = refl })
 
-make_alike : (c : ℕ) (from : MadeFrom) (s : State) → AreAlike s (after_make c from s)
-unfolding set_cursor
-make_alike c (CopyAt d) s = record { pools = refl; brigades = refl }
-make_alike c from s = record { pools = refl; brigades = refl }
-
 -- what an effect makes of a state is of the same variables
 after_alike : (p : Program) (e : Effect) (s : State) → AreAlike s (after p e s)
 unfolding moved set_cursor cleared_under
 after_alike p (effect.Next d c) s = next_alike d c (s.cursors c) s
 after_alike p (effect.Before c d) s = before_alike c (s.cursors d) s
-after_alike p (effect.Make c from) s = make_alike c from s
+after_alike p (effect.EmptyPool Destroy q) s = record { pools = refl; brigades = refl }
 after_alike p (effect.Aside c q) s = aside_alike c q (s.cursors c) s
 after_alike p e s = record { pools = refl; brigades = refl }
 

@@ -6,7 +6,6 @@ use Rattle.life_check.proofs.Asides.{law_aside}
 use Rattle.life_check.proofs.Brigades.{law_bclean, law_bconcat, law_bcreate}
 use Rattle.life_check.proofs.Cleared.{law_pclear, law_pdestroy}
 use Rattle.life_check.proofs.Cuts.{law_read, law_split}
-use Rattle.life_check.proofs.Makers.{law_copy, law_poolb}
 use Rattle.life_check.proofs.Partitions.{law_bpart}
 use Rattle.life_check.proofs.Passes.{law_pass, law_ret}
 use Rattle.life_check.proofs.Places.{law_first, law_next}
@@ -42,9 +41,7 @@ step_lands lives (instr.BDelete c) = law_bdelete {lives = lives} c
 step_lands lives (instr.Tail b c) = law_tail {lives = lives} b c
 step_lands lives (instr.Head b c) = law_head {lives = lives} b c
 step_lands lives (instr.Before c d) = law_before {lives = lives} c d
-step_lands lives (instr.PoolB c q) = law_poolb {lives = lives} c q
 step_lands lives (instr.Split c x l) = law_split {lives = lives} c l x
-step_lands lives (instr.Copy d c) = law_copy {lives = lives} d c
 step_lands lives (instr.Aside c q) = law_aside {lives = lives} c q
 step_lands lives (instr.Read c l) = law_read {lives = lives} c l
 step_lands lives (instr.JNull v l) = law_jnull {lives = lives} v l

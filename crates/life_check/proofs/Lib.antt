@@ -14,6 +14,7 @@ pub mod FinerFits
 pub mod FinerSteps
 pub mod Firsts
 pub mod Instructions
+pub mod Known
 pub mod Lists
 pub mod Makers
 pub mod Onward

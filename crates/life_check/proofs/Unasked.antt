@@ -1,5 +1,4 @@
--- The law of the instructions of whose needs nothing is used: those that set a number or change the buffer, that make a bucket from
--- nothing that is in the tree or in a brigade, or that only jump, by what no state speaks of.
+-- The law of the instructions that make a bucket, set a number or change the buffer, or that only jump, by what no state speaks of.
 use Rattle.std.proofs.Common.{◌≡◌, ℕ, Bool, true, false, cond, [], ◌∷◌, ◌++◌, Option, Some, None, refl, ap, sym, ◌∙◌, subst}
 use Rattle.module_code.specs.declared.instr.Instr.{Instr}
 use Rattle.module_code.specs.declared.instr.Value.{Value}
@@ -13,20 +12,20 @@ use Rattle.run_model.specs.declared.effect.Effect.{Effect}
 use Rattle.run_model.specs.declared.effect.Effect.TheVariants as effect
 use Rattle.run_model.specs.declared.effect.Branch.{Branch}
 use Rattle.run_model.specs.declared.effect.Branch.TheVariants.{ToNext, JumpIf, JumpAlways}
-use Rattle.run_model.specs.declared.effect.MadeFrom.{MadeFrom}
-use Rattle.run_model.specs.declared.effect.MadeFrom.TheVariants.{HeapText, ImmortalText, HeapBuffer, TransientBuffer, PoolBuffer, FlushBucket, EosBucket, CopyAt}
 use Rattle.run_model.specs.declared.payload.Payload.{Payload}
 use Rattle.run_model.specs.BrigadeLists.{bucket_named}
 use Rattle.run_model.specs.BucketSteps.{items_at, got}
-use Rattle.run_model.specs.EffectOf.{effect_of, branch_of}
-use Rattle.run_model.specs.Faults.{usable_fault}
+use Rattle.run_model.specs.EffectOf.{effect_of, branch_of, instr_with}
+use Rattle.run_model.proofs.WithEffects.{faultless_with}
+use Rattle.run_model.specs.Faults.{fault, usable_fault, wants}
 use Rattle.run_model.specs.Pools.{Pools}
 use Rattle.run_model.specs.Sound.{SoundNames, brigade_name}
-use Rattle.run_model.specs.State.{Configuration, pool_view, set_cursor, set_loose, set_number, items_of}
+use Rattle.run_model.specs.State.{Configuration, pool_view, set_number, items_of}
 use Rattle.run_model.specs.Steps.{Choice, jumps_if, exit_by, holds, value_of, do_clearbuf, do_effect, is_full, number_of}
-use Rattle.life_state.specs.Rules.{after, both_with, led, only_bytes, only_flush, only_eos}
-use Rattle.life_state.specs.States.{Homes, no_homes, only_call, CursorKnown, State}
-use Rattle.life_check.proofs.Makers.{made_fits}
+use Rattle.life_state.specs.Rules.{after, both_with, first_need, led}
+use Rattle.life_state.proofs.WithinNeeds.{needs_with}
+use Rattle.life_state.specs.States.{Homes, CursorKnown, State}
+use Rattle.life_check.proofs.Makers.{made_described}
 use Rattle.life_check.proofs.Standing.{cursor_stays, finds_same}
 use Rattle.life_check.specs.Meaning.{Differ, Covers, FitsPool, FitsBrigade, FitsCursor, Fits}
 use Rattle.life_check.specs.Soundness.{LivesOutside, Lands, LawOf}
@@ -61,15 +60,9 @@ fits_same C s r new same f = record {
 
 -- Effects.
 
--- what a bucket is made from of which no need tells
-abbrev pub FromNothing : MadeFrom → Type 0
-FromNothing (PoolBuffer q) = ⊥
-FromNothing (CopyAt c) = ⊥
-FromNothing from = Unit {0}
-
 abbrev pub Unasked : Effect → Type 0
 Unasked effect.Nothing = Unit {0}
-Unasked (effect.Make c from) = FromNothing from
+Unasked (effect.Make c from) = Unit {0}
 Unasked (effect.Number n number) = Unit {0}
 Unasked (effect.Put x) = Unit {0}
 Unasked effect.ClearBuffer = Unit {0}
@@ -85,17 +78,6 @@ module _ (lives : Home → Type 0) (p : Program) (choice : Choice) (r : Configur
   abbrev Describes : Effect → Type 0
   Describes e = Fits (Covers p (pool_view (do_effect p choice e r)) lives) (after p e s) (do_effect p choice e r)
 
-  made_described : (c : ℕ) (from : MadeFrom) → FromNothing from → Describes (effect.Make c from)
-  unfolding set_cursor set_loose
-  made_described c (HeapText t) h = made_fits (Covers p (pool_view r) lives) r s names f c only_bytes no_homes _ refl tt
-  made_described c (ImmortalText t) h = made_fits (Covers p (pool_view r) lives) r s names f c only_bytes no_homes _ refl tt
-  made_described c HeapBuffer h = made_fits (Covers p (pool_view r) lives) r s names f c only_bytes no_homes _ refl tt
-  made_described c TransientBuffer h = made_fits (Covers p (pool_view r) lives) r s names f c only_bytes only_call _ refl (refl, outside.this)
-  made_described c (PoolBuffer q) h = absurd h
-  made_described c FlushBucket h = made_fits (Covers p (pool_view r) lives) r s names f c only_flush no_homes _ refl tt
-  made_described c EosBucket h = made_fits (Covers p (pool_view r) lives) r s names f c only_eos no_homes _ refl tt
-  made_described c (CopyAt d) h = absurd h
-
   number_described : (n : ℕ) (o : Option ℕ) → Fits (Covers p (pool_view (got n o r)) lives) s (got n o r)
   unfolding set_number
   number_described n None = f
@@ -105,14 +87,14 @@ module _ (lives : Home → Type 0) (p : Program) (choice : Choice) (r : Configur
   byte_described x true = f
   byte_described x false = fits_same (Covers p (pool_view r) lives) s r (with_byte x r) (record { sent = refl; vars = refl; pools = refl; brigades = refl; loose = refl; cursors = refl }) f
 
-  unasked_described : (e : Effect) → Unasked e → Describes e
-  unasked_described effect.Nothing h = f
-  unasked_described (effect.Make c from) h = made_described c from h
-  unasked_described (effect.Number n number) h = number_described n (number_of r n number)
-  unasked_described (effect.Put x) h = byte_described x (is_full r x)
-  unasked_described effect.ClearBuffer h =
+  unasked_described : (e : Effect) → Unasked e → fault p r (instr_with e) ≡ None → first_need s (wants p (instr_with e)) ≡ None → Describes e
+  unasked_described effect.Nothing h none met = f
+  unasked_described (effect.Make c from) h none met = made_described lives p r s names outside f c from none met
+  unasked_described (effect.Number n number) h none met = number_described n (number_of r n number)
+  unasked_described (effect.Put x) h none met = byte_described x (is_full r x)
+  unasked_described effect.ClearBuffer h none met =
       fits_same (Covers p (pool_view r) lives) s r (do_clearbuf r) (record { sent = refl; vars = refl; pools = refl; brigades = refl; loose = refl; cursors = refl }) f
-  unasked_described e h = absurd h
+  unasked_described e h none met = absurd h
 
 -- Where an instruction leads on.
 
@@ -144,4 +126,4 @@ unseen_lands lives p choice s t r new branch h f = absurd h
 pub law_unasked : {lives : Home → Type 0} (i : Instr) → Unasked (effect_of i) → Unseen (branch_of i) → LawOf lives i
 law_unasked {lives = lives} i asks leads p choice r s ready =
     unseen_lands lives p choice s (after p (effect_of i) s) r (do_effect p choice (effect_of i) r) (branch_of i) leads
-    (unasked_described lives p choice r s ready.sound.names ready.outside ready.fits (effect_of i) asks)
+    (unasked_described lives p choice r s ready.sound.names ready.outside ready.fits (effect_of i) asks (faultless_with p r i ready.may.faultless) (needs_with p i s ready.met))

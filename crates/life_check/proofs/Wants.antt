@@ -1,6 +1,6 @@
 -- Where no need of an instruction fails in a state that describes a run, the instruction has no fault.
 use Rattle.std.proofs.Common.{◌≡◌, ℕ, zero, suc, ◌-◌, ◌<◌, Bool, true, false, ◌&&◌, ◌||◌, not, ◌==◌, nat_le, cond, List, [], ◌∷◌, Option, Some, None, is_some, inl, inr, ⊎_elim, refl, ap, sym, ◌∙◌}
-use Rattle.std.proofs.Common.{subst, arith, eq-eqb, eqb-true}
+use Rattle.std.proofs.Common.{subst, arith, eq-eqb, eqb-true, rules}
 use Rattle.std.proofs.lemmas.Bool.{ltb-true, or_parts, cases_eq}
 use Rattle.std.specs.List.{list_any}
 use Rattle.module_code.specs.declared.instr.Instr.{Instr}
@@ -47,7 +47,8 @@ use Rattle.life_state.proofs.Tests.{split2, split3, and2, not_true, or_either, o
 use Rattle.life_check.specs.Meaning.{CoversPool, ByConnection, ByMember, ByDead, ByCall, Covers, Each, HoldsContents, FitsPool, FitsMark, FitsBrigade, FitsCursor, IsAtBucketOf, IsEndOf, Fits}
 use Rattle.life_check.specs.Soundness.{wants_request, MetIsFaultless}
 use Rattle.life_check.proofs.Orders.{never}
-use Rattle.life_check.proofs.Lists.{each_named, no_late_data, holds_more}
+use Rattle.life_check.proofs.Known.{IsOf, in_known, loose_known}
+use Rattle.life_check.proofs.Lists.{no_late_data, holds_more}
 use Rattle.life_check.proofs.Standing.{spot_loose, spot_in, spot_end}
 
 -- What is not told is not so.
@@ -290,12 +291,13 @@ cursor_met C r f (InOrEnd b t) v names (inr e) h = end_met r f v b names e ((bot
 found_alive : (C : Homes → Home → Type 0) (h : Homes) (x : NamedBucket) → EndedIsDead C → homes_need h ≡ None → C h x.bucket.home → home_fault (Some x) ≡ None
 found_alive C h x ended live c = ap (λ b. cond b (Some F5) None) (home_met C h x.bucket.home ended (unless_some h.dead F5 live) c)
 
+known_alive : (C : Homes → Home → Type 0) (t : Classes) (h : Homes) (o : Option NamedBucket) → EndedIsDead C → homes_need h ≡ None → IsOf C t h o → home_fault o ≡ None
+known_alive C t h None ended live is = absurd is
+known_alive C t h (Some x) ended live is = found_alive C h x ended live is.1
+
 within_alive : (C : Homes → Home → Type 0) (r : Configuration) (s : State) (v : Cursor) (b : ℕ) (t : Classes) → EndedIsDead C → SoundNames r → Fits C s r → IsAtBucketOf r v b t
     → homes_need (s.brigades b).homes ≡ None → home_fault (bucket_at (spot_of r v)) ≡ None
-within_alive C r s v b t ended names f i h =
-    ap (λ at. home_fault (bucket_at at)) (spot_in r v b t names i)
-    ∙ found_alive C (s.brigades b).homes i.bucket ended h
-    (each_named (λ y. C (s.brigades b).homes y.bucket.home) i.bucket.name (items_at r b) i.bucket i.there ((usable_items C (s.brigades b) (r.instance.brigades b) (f.brigades b) i.usable).1))
+within_alive C r s v b t ended names f i h = known_alive C t (s.brigades b).homes (bucket_at (spot_of r v)) ended h (in_known C r s v names f b t i)
 
 end_alive : (r : Configuration) (v : Cursor) (b : ℕ) → SoundNames r → IsEndOf r v b → home_fault (bucket_at (spot_of r v)) ≡ None
 end_alive r v b names i = ap (λ at. home_fault (bucket_at at)) (spot_end r v b names i)
@@ -303,7 +305,7 @@ end_alive r v b names i = ap (λ at. home_fault (bucket_at at)) (spot_end r v b 
 home_at_met : (C : Homes → Home → Type 0) (r : Configuration) (s : State) (k : CursorKnown) (v : Cursor) → EndedIsDead C → SoundNames r → Fits C s r → FitsCursor C r k v → is_set k ≡ true
     → homes_need (homes_at s k) ≡ None → home_fault (bucket_at (spot_of r v)) ≡ None
 home_at_met C r s Unset v ended names f e set h = cc
-home_at_met C r s (Loose t homes) v ended names f e set h = ap (λ at. home_fault (bucket_at at)) (spot_loose C r v t homes names e) ∙ found_alive C homes e.bucket ended h e.covered
+home_at_met C r s (Loose t homes) v ended names f e set h = known_alive C t homes (bucket_at (spot_of r v)) ended h (loose_known C r s v names f t homes e)
 home_at_met C r s (In b t) v ended names f e set h = within_alive C r s v b t ended names f e h
 home_at_met C r s (End b) v ended names f e set h = end_alive r v b names e
 home_at_met C r s (InOrEnd b t) v ended names f (inl e) set h = within_alive C r s v b t ended names f e h
@@ -338,11 +340,8 @@ wants_led : (p : Program) (i : Instr) → all_led [] (wants p i) ≡ true
 wants_led p (instr.BPart b x c l) = ap (λ y. y && true) (same b false)
 wants_led p (instr.BSave o b) = ap (λ y. y && true) (same b (o == b || false))
 wants_led p (instr.Pass b l) = and2 (b == b || false) ((b == b || false) && true) (same b false) (ap (λ y. y && true) (same b false))
-wants_led p (instr.Split c x l) = ap (λ y. y && true) (same c false)
-wants_led p (instr.Copy d c) = ap (λ y. y && true) (same c false)
-wants_led p (instr.Aside c q) = ap (λ y. y && true) (same c false)
-wants_led p (instr.Read c l) = ap (λ y. y && true) (same c false)
-wants_led p i = refl
+wants_led p (instr.Jump l) = refl
+wants_led p i = search (rules, same)
 
 alone_asks : (w : Want) (ws : List Want) → wants_request (w ∷ []) ≡ true → wants_request (w ∷ ws) ≡ true
 alone_asks (WPool pool.Req) ws h = refl

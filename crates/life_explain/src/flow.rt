@@ -1,11 +1,14 @@
 //! The states of a module, and the ways by which they come.
 
+ghost use Rattle.std.specs.Prelude.{◌≡◌, true, IfSome};
+ghost use Rattle.module_code.specs.Program.{fits};
+
 use crate::doubt::Doubt;
 use crate::needs::doubt_of;
 use life_cert::{Arrival, Growth, StatePlace, round_count};
 use life_check::{Cert, heads};
 use life_state::{State, Successors, after, at_end_of_request, at_main, at_return};
-use module_code::{Instr, Module};
+use module_code::{Instr, Module, PoolRef};
 use run_model::FaultKind;
 use std::alloc::{AllocError, Global};
 
@@ -97,11 +100,31 @@ pub fn meant(alloc: Global, code: &Module, cert: &Cert) -> Result<Cert, AllocErr
 }
 
 /// The instruction, if there is one of this number.
-pub fn instr_at(code: &Module, pc: usize) -> Option<Instr> {
+pub fn instr_at(code: &Module, pc: usize) -> Option<Instr>
+    ensures { IfSome result (λ i. fits code.now i ≡ true) }
+{
     if pc < code.len() {
         Some(code.at(pc))
     } else {
         None
+    }
+}
+
+/// The pool that a brigade variable is declared on.
+pub fn home_of(code: &Module, b: u8) -> PoolRef {
+    if b < code.brigade_count() {
+        code.brigade_pool(b)
+    } else {
+        PoolRef::Req
+    }
+}
+
+/// The parent of a pool variable.
+pub fn parent_of(code: &Module, q: u8) -> PoolRef {
+    if q < code.pool_count() {
+        code.pool_parent(q)
+    } else {
+        PoolRef::Req
     }
 }
 

@@ -1,8 +1,7 @@
 //! A refusal with what is known around it, and the remedies that the rules have for it.
 
 use crate::doubt::{Sort, Topic, brigade_name};
-use crate::flow::{FlowRefusal, instr_at};
-use crate::needs::{home_of, parent_of};
+use crate::flow::{FlowRefusal, home_of, instr_at, parent_of};
 use crate::patterns::Pattern;
 use crate::rules::{Fresh, Per, RULES, Rule, Test, When, names_of};
 use crate::source::{Edit, NONE, Source};

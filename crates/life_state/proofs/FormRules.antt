@@ -1,5 +1,5 @@
 -- What the rules lead to is in form.
-use Rattle.std.proofs.Common.{◌≡◌, ℕ, ◌<◌, ◌≤◌, Bool, true, false, ◌||◌, not, nat_lt, length, List, [], ◌∷◌, Option, Some, None, IfSome, IfOk, refl, ap, sym, subst, ◌∙◌, inl, ⊎_elim, arith}
+use Rattle.std.proofs.Common.{◌≡◌, ℕ, ◌<◌, ◌≤◌, Bool, true, false, ◌||◌, not, nat_lt, length, Option, Some, None, IfSome, IfOk, refl, ap, sym, subst, ◌∙◌, inl, ⊎_elim, arith}
 use Rattle.std.proofs.Common.{slice_index_or}
 use Rattle.std.proofs.lemmas.Option.{slice_get-get_or}
 use Rattle.std.proofs.lemmas.Bool.{ltb-true, lt-ltb, cases_lt}
@@ -10,31 +10,37 @@ use Rattle.module_code.specs.declared.instr.VarRef.{VarRef}
 use Rattle.module_code.specs.declared.instr.VarRef.TheVariants as variable
 use Rattle.module_code.specs.Args.{args}
 use Rattle.module_code.specs.Tables.{place_is_declared}
-use Rattle.module_code.specs.Program.{Program, IsModule, is_variable, pool_of_brigade}
+use Rattle.module_code.specs.Program.{Program, IsModule, fits, is_variable, pool_of_brigade}
 use Rattle.module_code.proofs.FitLaws.{AreFit, fits_parts}
 use Rattle.run_model.specs.declared.effect.Condition.{Condition}
 use Rattle.run_model.specs.declared.effect.Condition.TheVariants as condition
 use Rattle.run_model.specs.declared.effect.Branch.{Branch}
 use Rattle.run_model.specs.declared.effect.Branch.TheVariants.{ToNext, JumpIf, JumpAlways, EndCall}
-use Rattle.run_model.specs.EffectOf.{effect_of, branch_of}
+use Rattle.run_model.specs.EffectOf.{effect_of, branch_of, instr_with}
+use Rattle.run_model.specs.declared.effect.ClearKind.TheVariants.{Clear, Destroy}
+use Rattle.run_model.specs.declared.effect.Effect.{Effect}
+use Rattle.run_model.specs.declared.effect.Effect.TheVariants as effect
+use Rattle.run_model.proofs.WithEffects.{fits_with, made_cursor}
 use Rattle.run_model.specs.declared.fault.FaultKind.{FaultKind}
-use Rattle.run_model.specs.Faults.{Want, WUsable, wants}
+use Rattle.run_model.specs.Faults.{WUsable, wants}
 use Rattle.life_state.specs.declared.parts.Classes.{Classes}
-use Rattle.life_state.specs.States.{no_homes, only_call, home_in, both_homes, only_null, only_live, ended_pool, BrigadeKnown, never_made, is_live_brigade, CursorKnown, Unset, Loose, In, End, InOrEnd}
+use Rattle.life_state.specs.States.{home_in, both_homes, only_null, only_live, ended_pool, BrigadeKnown, never_made, is_live_brigade, CursorKnown, Unset, Loose, In, End, InOrEnd}
 use Rattle.life_state.specs.States.{State, set_pool, set_brigade}
 use Rattle.life_state.specs.Facts.{known}
-use Rattle.life_state.specs.Rules.{need, first_need, Edges, some_if, some_class, told, with_classes, classes_of, told_classes, no_other, only_bytes, only_flush, only_eos, tail_content, head_content}
-use Rattle.life_state.specs.Rules.{edges_jend, edges_jnull, after, on_condition, led, edges, need_or, made, is_empty, after_pclear, after_pdestroy, pool_not_null, brigade_not_null, of_kind}
+use Rattle.life_state.specs.Rules.{need, first_need, Edges, some_if, some_class, told, with_classes, classes_of, told_classes, no_other, side_content}
+use Rattle.life_state.specs.Rules.{edges_jend, edges_jnull, after, on_condition, led, edges, need_or, is_empty, after_pclear, after_pdestroy, pool_not_null, brigade_not_null, of_kind}
 use Rattle.life_state.specs.Rules.{not_of_kind}
 use Rattle.life_state.specs.Form.{NamesDeclared, AtHand, FormedCursor}
 use Rattle.life_state.specs.FormLaws.{IsFormedIn, RulesKeepForm}
-use Rattle.life_state.proofs.FormParts.{no_named, call_named, both_named, home_named, ended_some, never_formed, not_null_formed, hand_not_null}
+use Rattle.life_state.proofs.FormParts.{no_named, both_named, home_named, ended_some, never_formed, not_null_formed, hand_not_null}
 use Rattle.life_state.proofs.FormMoves.{live_not_null, set_cursor_formed, told_formed, brigade_formed, pool_formed}
-use Rattle.life_state.proofs.FormNeeds.{or_none, live_there, hand_there, place_there, on_bucket, on_loose, in_brigade}
+use Rattle.life_state.proofs.FormNeeds.{live_there, hand_there, place_there, on_loose, in_brigade}
 use Rattle.life_state.proofs.FormSteps.{hand_live, classes_formed, emptied_at, bcreate_formed, bclean_formed, join_formed, bsplit_formed, pass_formed, sent_formed, first_formed, next_formed}
-use Rattle.life_state.proofs.FormSteps.{made_formed, copy_formed, unlink_formed, bdelete_formed, put_formed, before_formed, aside_formed}
+use Rattle.life_state.proofs.FormSteps.{unlink_formed, bdelete_formed, put_formed, before_formed, aside_formed}
 use Rattle.life_state.proofs.FormClears.{cleared_formed}
+use Rattle.life_state.proofs.Sources.{made_formed}
 use Rattle.life_state.proofs.UnderLaws.{brigade_past}
+use Rattle.life_state.proofs.WithinNeeds.{Met, met, needs_with}
 
 cursor_number : (c : ℕ) → nat_lt c 8 ≡ true → c < 9
 cursor_number c h = let below : c < 8 = ltb-true c 8 h in omega arith
@@ -61,16 +67,6 @@ module _ (p : Program) (call : Bool) (s : State) (m : IsModule p) (f : IsFormedI
   if_reached true t g = g refl
   if_reached false t g = tt
 
-  -- each need is met
-  Met : List Want → Type 0
-  Met [] = Unit {0}
-  Met (w ∷ ws) = (need s w ≡ None) × Met ws
-
-  met : (ws : List Want) → first_need s ws ≡ None → Met ws
-  unfolding Met
-  met [] h = tt
-  met (w ∷ ws) h = let both = or_none (need s w) (first_need s ws) h in (both.0, met ws (both.1))
-
   hand : (b : ℕ) → need s (WUsable b) ≡ None → AtHand s b
   hand b h = hand_there s b f.formed h
 
@@ -94,10 +90,6 @@ module _ (p : Program) (call : Bool) (s : State) (m : IsModule p) (f : IsFormedI
 
   brigades_home : (o : ℕ) → NamesDeclared s (home_in (pool_of_brigade p o))
   brigades_home o = home_named s (pool_of_brigade p o) (subst (λ (n : ℕ). place_is_declared n (pool_of_brigade p o) ≡ true) (sym f.pools) (brigade_declared p o m))
-
-  -- a new bucket without a home
-  fresh : (c : ℕ) (t : Classes) → some_class t ≡ true → nat_lt c 8 ≡ true → IsFormedIn p call (made c t no_homes s)
-  fresh c t some h = made_formed p call s c t no_homes f (cursor_number c h) some (no_named s)
 
   end_edges : (s : State) → IsFormedIn p call s → (c : ℕ) (x : CursorKnown) → c < 9 → FormedCursor s x → AreFormed (edges_jend c x s)
   end_edges s f c (End b) inside here = (tt, f)
@@ -124,41 +116,35 @@ module _ (p : Program) (call : Bool) (s : State) (m : IsModule p) (f : IsFormedI
             (λ e. brigade_formed p call s b never_made f (inl (own_brigade s b f h)) never_formed (no_named s) (λ k. absurd (not_null v e (live_not_null v (hand_live v k))))),
       )
 
-  -- what the effect of an instruction leaves; most leave the state as it is
-  after_formed : (i : Instr) → AreFit p (args i) → Met (wants p i) → IsFormedIn p call (after p (effect_of i) s)
+  -- what an effect leaves; most leave the state as it is
+  after_formed : (e : Effect) → fits p (instr_with e) ≡ true → AreFit p (args (instr_with e)) → Met s (wants p (instr_with e)) → IsFormedIn p call (after p e s)
   unfolding Met
-  after_formed (instr.PCreate q) a h = pool_formed p call s q only_live f (own_pool s q f (a.first.0)) refl
-  after_formed (instr.PClear q) a h = cleared_own q (a.first.0)
-  after_formed (instr.PDestroy q) a h = destroyed q (a.first.0)
-  after_formed (instr.BCreate o) a h = bcreate_formed p call s o f (own_brigade s o f (a.first.0))
-  after_formed (instr.BClean b) a h = bclean_formed p call s b f (live_there (s.brigades b) (h.0))
-  after_formed (instr.BConcat b d) a h =
+  after_formed (effect.MakePool q) fit a h = pool_formed p call s q only_live f (own_pool s q f (a.first.0)) refl
+  after_formed (effect.EmptyPool Clear q) fit a h = cleared_own q (a.first.0)
+  after_formed (effect.EmptyPool Destroy q) fit a h = destroyed q (a.first.0)
+  after_formed (effect.MakeBrigade o) fit a h = bcreate_formed p call s o f (own_brigade s o f (a.first.0))
+  after_formed (effect.Clean b) fit a h = bclean_formed p call s b f (live_there (s.brigades b) (h.0))
+  after_formed (effect.Concat b d) fit a h =
       join_formed p call s b d (both_homes (s.brigades b).homes (s.brigades d).homes) f (hand b (h.0)) (live d (h.1.0))
       (both_named s (s.brigades b).homes (s.brigades d).homes (f.formed.homes b) (f.formed.homes d))
-  after_formed (instr.BSplit b c d) a h = bsplit_formed p call s b c d f (hand d (h.1.1.0))
-  after_formed (instr.BPart b x c l) a h = first_formed p call s c b f (cursor_number c (a.third.0)) (hand b (h.0))
-  after_formed (instr.BSave o b) a h =
+  after_formed (effect.SplitBrigade b c d) fit a h = bsplit_formed p call s b c d f (hand d (h.1.1.0))
+  after_formed (effect.PartBrigade b x c) fit a h = first_formed p call s c b f (cursor_number c (a.third.0)) (hand b (h.0))
+  after_formed (effect.Save o b) fit a h =
       join_formed p call s o b (both_homes (s.brigades o).homes (home_in (pool_of_brigade p o))) f (hand o (h.0)) (live b (h.1.0))
       (both_named s (s.brigades o).homes (home_in (pool_of_brigade p o)) (f.formed.homes o) (brigades_home o))
-  after_formed (instr.Pass b l) a h = pass_formed p call s b f (live b (h.0))
-  after_formed (instr.First c b) a h = first_formed p call s c b f (cursor_number c (a.first.0)) (hand b (h.0))
-  after_formed (instr.Next d c) a h = next_formed p call s d c (s.cursors c) f (cursor_number d (a.first.0)) (f.formed.cursors c)
-  after_formed (instr.Unlink c) a h = unlink_formed p call s c f (cursor_number c (a.first.0)) (in_brigade (s.cursors c) (h.0))
-  after_formed (instr.BDelete c) a h = bdelete_formed p call s c f (cursor_number c (a.first.0))
-  after_formed (instr.Tail b c) a h = put_formed p call tail_content s b c f (cursor_number c (a.second.0)) (hand b (h.0)) (on_loose (s.cursors c) (h.1.0))
-  after_formed (instr.Head b c) a h = put_formed p call head_content s b c f (cursor_number c (a.second.0)) (hand b (h.0)) (on_loose (s.cursors c) (h.1.0))
-  after_formed (instr.Before c d) a h = before_formed p call s c (s.cursors d) f (cursor_number c (a.first.0)) (on_loose (s.cursors c) (h.0)) (f.formed.cursors d)
-  after_formed (instr.Heap c t) a h = fresh c only_bytes refl (a.first.0)
-  after_formed (instr.Immortal c t) a h = fresh c only_bytes refl (a.first.0)
-  after_formed (instr.FromBuf c) a h = fresh c only_bytes refl (a.first.0)
-  after_formed (instr.Transient c) a h = made_formed p call s c only_bytes only_call f (cursor_number c (a.first.0)) refl (call_named s)
-  after_formed (instr.PoolB c q) a h = fresh c only_bytes refl (a.first.0)
-  after_formed (instr.Flush c) a h = fresh c only_flush refl (a.first.0)
-  after_formed (instr.Eos c) a h = fresh c only_eos refl (a.first.0)
-  after_formed (instr.Copy d c) a h = copy_formed p call s d c f (cursor_number d (a.first.0)) (on_bucket (s.cursors c) (h.0))
-  after_formed (instr.Aside c q) a h = aside_formed p call s c q (s.cursors c) f (cursor_number c (a.first.0)) (home_named s q (place_there s q f.formed (h.1.0))) (f.formed.cursors c)
-  after_formed (instr.Read c l) a h = set_cursor_formed p call s 8 (s.cursors c) (known s c) f (omega arith) (f.formed.cursors c)
-  after_formed i a h = f
+  after_formed (effect.Pass b) fit a h = pass_formed p call s b f (live b (h.0))
+  after_formed (effect.First c b) fit a h = first_formed p call s c b f (cursor_number c (a.first.0)) (hand b (h.0))
+  after_formed (effect.Next d c) fit a h = next_formed p call s d c (s.cursors c) f (cursor_number d (a.first.0)) (f.formed.cursors c)
+  after_formed (effect.Unlink c) fit a h = unlink_formed p call s c f (cursor_number c (a.first.0)) (in_brigade (s.cursors c) (h.0))
+  after_formed (effect.Delete c) fit a h = bdelete_formed p call s c f (cursor_number c (a.first.0))
+  after_formed (effect.Insert side b c) fit a h =
+      put_formed p call (side_content side) s b c f (cursor_number c (a.second.0)) (hand b (h.0)) (on_loose (s.cursors c) (h.1.0))
+  after_formed (effect.Before c d) fit a h = before_formed p call s c (s.cursors d) f (cursor_number c (a.first.0)) (on_loose (s.cursors c) (h.0)) (f.formed.cursors d)
+  after_formed (effect.Make c from) fit a h = made_formed p call s c from f (made_cursor p c from fit) h
+  after_formed (effect.Aside c q) fit a h =
+      aside_formed p call s c q (s.cursors c) f (cursor_number c (a.first.0)) (home_named s q (place_there s q f.formed (h.1.0))) (f.formed.cursors c)
+  after_formed (effect.Read c) fit a h = set_cursor_formed p call s 8 (s.cursors c) (known s c) f (omega arith) (f.formed.cursors c)
+  after_formed e fit a h = f
 
   -- what is used of operands and needs where an instruction leads on from a state, by its branch
   BranchTakes : State → Branch → Type 0
@@ -169,7 +155,7 @@ module _ (p : Program) (call : Bool) (s : State) (m : IsModule p) (f : IsFormedI
   BranchTakes t (JumpIf (condition.IsNull v)) = is_variable p v ≡ true
   BranchTakes t when = Unit {0}
 
-  leads : (i : Instr) → AreFit p (args i) → Met (wants p i) → BranchTakes (after p (effect_of i) s) (branch_of i)
+  leads : (i : Instr) → AreFit p (args i) → Met s (wants p i) → BranchTakes (after p (effect_of i) s) (branch_of i)
   unfolding Met BranchTakes
   leads (instr.BPart b x c l) a h = (cursor_number c (a.third.0), hand b (h.0))
   leads (instr.JEmpty b l) a h = live b (h.0)
@@ -198,12 +184,16 @@ module _ (p : Program) (call : Bool) (s : State) (m : IsModule p) (f : IsFormedI
     led_formed JumpAlways h = (tt, g)
     led_formed EndCall h = (tt, tt)
 
-  edges_formed : (i : Instr) → AreFit p (args i) → Met (wants p i) → AreFormed (edges p i s)
-  edges_formed i a h = led_formed (after p (effect_of i) s) (after_formed i a h) (branch_of i) (leads i a h)
+  edges_formed : (i : Instr) → fits p i ≡ true → first_need s (wants p i) ≡ None → AreFormed (edges p i s)
+  edges_formed i fit none =
+      let e = effect_of i in
+      let fit_with = fits_with p i fit in
+      led_formed (after p e s) (after_formed e fit_with (fits_parts p (instr_with e) fit_with) (met s (wants p (instr_with e)) (needs_with p i s none))) (branch_of i)
+      (leads i (fits_parts p i fit) (met s (wants p i) none))
 
 pub rules_keep_form : RulesKeepForm
 rules_keep_form p call i s e m fit f h = subst (λ r. IfOk r (AreFormed p call s m f)) h (answered (first_need s (wants p i)) refl)
   where
     answered : (k : Option FaultKind) → first_need s (wants p i) ≡ k → IfOk (need_or k (edges p i s)) (AreFormed p call s m f)
-    answered None none = edges_formed p call s m f i (fits_parts p i fit) (met p call s m f (wants p i) none)
+    answered None none = edges_formed p call s m f i fit none
     answered (Some k) none = tt

@@ -12,7 +12,7 @@ use Rattle.life_state.specs.States.{State, set_brigade}
 use Rattle.life_state.specs.Facts.{is_end, moved}
 use Rattle.life_state.specs.Order.{is_at_hand}
 use Rattle.life_state.specs.Rules.{homes_at, joined_content, emptied, left, carried, split_off, after_bcreate, after_bclean, after_join, after_bsplit, bucket_or_end, after_first, after_next, no_other}
-use Rattle.life_state.specs.Rules.{some_class, with_classes, classes_of, after_unlink, after_bdelete, after_copy, put_in, before_content, after_before, if_brigade, made, after_aside, all_others}
+use Rattle.life_state.specs.Rules.{some_class, with_classes, classes_of, after_unlink, after_bdelete, put_in, before_content, after_before, if_brigade, after_aside}
 use Rattle.life_state.specs.Rules.{may_end, after_pass}
 use Rattle.life_state.specs.Form.{NamesDeclared, AtHand, FormedCursor}
 use Rattle.life_state.specs.FormLaws.{IsFormedIn}
@@ -192,17 +192,9 @@ module _ (p : Program) (call : Bool) where
   next_formed s d c (End b) f inside here = f
   next_formed s d c (InOrEnd b t) f inside here = f
 
-  pub made_formed : (s : State) (c : ℕ) (t : Classes) (h : Homes) → IsFormedIn p call s → c < 9 → some_class t ≡ true → NamesDeclared s h → IsFormedIn p call (made c t h s)
-  made_formed s c t h f inside some named = set_cursor_formed p call s c (Loose t h) all_others f inside (some, named)
-
   -- the bucket at a cursor, as a loose one
-  loose_formed : (s : State) (x : CursorKnown) → IsFormedIn p call s → FormedCursor s x → AtBucket x → FormedCursor s (Loose (classes_of x) (homes_at s x))
+  pub loose_formed : (s : State) (x : CursorKnown) → IsFormedIn p call s → FormedCursor s x → AtBucket x → FormedCursor s (Loose (classes_of x) (homes_at s x))
   loose_formed s x f here at = (some_there s x here at, homes_named s x f.formed.homes here)
-
-  pub copy_formed : (s : State) (d c : ℕ) → IsFormedIn p call s → d < 9 → AtBucket (s.cursors c) → IsFormedIn p call (after_copy d c s)
-  copy_formed s d c f inside at =
-      let here = loose_formed s (s.cursors c) f (f.formed.cursors c) at in
-      made_formed s d (classes_of (s.cursors c)) (homes_at s (s.cursors c)) f inside (here.0) (here.1)
 
   -- Buckets that move.
 

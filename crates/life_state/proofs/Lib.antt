@@ -29,6 +29,7 @@ pub mod Tests
 pub mod UnderLaws
 pub mod Walks
 pub mod Within
+pub mod Sources
 pub mod WithinParts
 pub mod WithinNeeds
 pub mod WithinRules

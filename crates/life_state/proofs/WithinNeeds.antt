@@ -1,12 +1,16 @@
 -- A need that is met in a state is met in each one below it.
 use Rattle.std.proofs.Common.{◌≡◌, ℕ, Bool, true, false, ◌&&◌, ◌||◌, not, ◌==◌, if◌then◌else◌, List, [], ◌∷◌, Option, Some, None, refl, ap, sym, ◌∙◌}
 use Rattle.std.proofs.lemmas.Bool.{eqb-true}
+use Rattle.module_code.specs.declared.instr.Instr.{Instr}
+use Rattle.module_code.specs.declared.instr.Instr.TheVariants as instr
 use Rattle.module_code.specs.declared.instr.PoolRef.{PoolRef}
 use Rattle.module_code.specs.declared.instr.PoolRef.TheVariants as pool
 use Rattle.run_model.specs.declared.fault.FaultKind.{FaultKind}
 use Rattle.run_model.specs.declared.fault.FaultKind.TheVariants.{F1, F2, F5, F6, F7, F8, F10}
+use Rattle.module_code.specs.Program.{Program}
+use Rattle.run_model.specs.EffectOf.{effect_of, instr_with}
 use Rattle.run_model.specs.Indexed.{any_below}
-use Rattle.run_model.specs.Faults.{Need, Want, WPool, WBrigade, WUsable, WNew, WNewPool, WCursor, WHomes, WHome, WHomeAcross, WSend, WReturn, within_fault, end_fault, or_else}
+use Rattle.run_model.specs.Faults.{Need, Want, WPool, WBrigade, WUsable, WNew, WNewPool, WCursor, WHomes, WHome, WHomeAcross, WSend, WReturn, within_fault, end_fault, or_else, wants}
 use Rattle.life_state.specs.declared.parts.Classes.{Classes}
 use Rattle.life_state.specs.States.{is_live_alone, BrigadeKnown, is_live_brigade, is_usable_alone, CursorKnown, Unset, Loose, In, End, InOrEnd, State}
 use Rattle.life_state.specs.Facts.{is_set}
@@ -34,6 +38,11 @@ pub met_all : (s : State) (ws : List Want) → Met s ws → first_need s ws ≡ 
 unfolding Met
 met_all s [] h = refl
 met_all s (w ∷ ws) h = ap (λ o. or_else o (first_need s ws)) (h.0) ∙ met_all s ws (h.1)
+
+-- an instruction has all needs of the one that stands for its effect
+pub needs_with : (p : Program) (i : Instr) (s : State) → first_need s (wants p i) ≡ None → first_need s (wants p (instr_with (effect_of i))) ≡ None
+needs_with p (instr.Jump l) s none = refl
+needs_with p i s none = cc
 
 -- cursors whose homes are asked for are set
 unfoldable pub Homed : State → List Want → Type 0

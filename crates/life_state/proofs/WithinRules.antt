@@ -9,17 +9,16 @@ use Rattle.module_code.specs.declared.instr.PoolRef.TheVariants as pool
 use Rattle.module_code.specs.declared.instr.VarRef.{VarRef}
 use Rattle.module_code.specs.declared.instr.VarRef.TheVariants as variable
 use Rattle.module_code.specs.Program.{Program, pool_of_brigade}
+use Rattle.run_model.specs.declared.effect.ClearKind.TheVariants.{Clear, Destroy}
 use Rattle.run_model.specs.declared.effect.Effect.{Effect}
 use Rattle.run_model.specs.declared.effect.Effect.TheVariants as effect
-use Rattle.run_model.specs.declared.effect.MadeFrom.{MadeFrom}
-use Rattle.run_model.specs.declared.effect.MadeFrom.TheVariants.{TransientBuffer, FlushBucket, EosBucket, CopyAt}
 use Rattle.run_model.specs.declared.effect.Side.{Side}
 use Rattle.run_model.specs.declared.effect.Side.TheVariants.{AtTail, AtHead}
 use Rattle.run_model.specs.declared.effect.Condition.{Condition}
 use Rattle.run_model.specs.declared.effect.Condition.TheVariants as condition
 use Rattle.run_model.specs.declared.effect.Branch.{Branch}
 use Rattle.run_model.specs.declared.effect.Branch.TheVariants.{ToNext, JumpIf, JumpAlways, EndCall}
-use Rattle.run_model.specs.EffectOf.{effect_of, branch_of}
+use Rattle.run_model.specs.EffectOf.{effect_of, branch_of, instr_with}
 use Rattle.run_model.specs.declared.fault.FaultKind.{FaultKind}
 use Rattle.run_model.specs.Faults.{OnBucket, OnLoose, InBrigade, Anywhere, wants}
 use Rattle.life_state.specs.declared.parts.Contents.{Contents}
@@ -31,19 +30,20 @@ use Rattle.life_state.specs.Facts.{is_set, known, set_cursor}
 use Rattle.life_state.specs.Order.{implies, classes_le, homes_le, pool_le, brigade_le, cursor_le}
 use Rattle.life_state.specs.PoolOrder.{is_under}
 use Rattle.life_state.specs.Rules.{homes_at, cursor_need, first_need, joined_content, before_content, emptied, left, carried, split_off, lies_under, is_subpool, cleared_pool, cleared_brigade}
-use Rattle.life_state.specs.Rules.{cleared_cursors, with_cleared, cleared_under, cleared, Edges, some_if, no_other, all_others, after_pclear, after_pdestroy, after_bclean, after_join, after_bsplit}
+use Rattle.life_state.specs.Rules.{cleared_cursors, with_cleared, cleared_under, cleared, Edges, some_if, no_other, after_pclear, after_pdestroy, after_bclean, after_join, after_bsplit}
 use Rattle.life_state.specs.Rules.{split_part, bucket_or_end, after_first, after_next, is_empty, edges_jempty, told, edges_jend, of_kind, not_of_kind, some_class, with_classes, classes_of}
-use Rattle.life_state.specs.Rules.{told_classes, edges_jkind, after_unlink, put_in, if_brigade, after_before, only_bytes, only_flush, only_eos, made, after_make, side_content, after_aside, after_read}
+use Rattle.life_state.specs.Rules.{told_classes, edges_jkind, after_unlink, put_in, if_brigade, after_before, side_content, after_aside, after_read}
 use Rattle.life_state.specs.Rules.{may_end, after_pass, pool_not_null, brigade_not_null, edges_jnull, after, on_condition, led, edges, need_or, at_main, at_return, at_end_of_request}
 use Rattle.life_state.specs.Monotone.{edge_le, LeadsBelow, RulesAreMonotone, EntriesAreMonotone}
 use Rattle.life_state.proofs.Tests.{split2, and2, split3, or_either, or_left, or_right, implies_says}
-use Rattle.life_state.proofs.PartsOrder.{pool_same, brigade_same, homes_same, classes_same, cursor_same}
+use Rattle.life_state.proofs.PartsOrder.{pool_same, brigade_same, homes_same, cursor_same}
 use Rattle.life_state.proofs.JoinLeast.{Parts, parts}
 use Rattle.life_state.proofs.Within.{Within, within, below, known_within, moved_within, set_within, told_within, told_over, move_within, pool_within, brigade_within, sent_within}
 use Rattle.life_state.proofs.WithinParts.{content_joined, Rises, tail_rises, head_rises, before_rises, may_end_rises, not_empty_rises, of_kind_rises, not_of_kind_rises, some_rises, homes_joined}
 use Rattle.life_state.proofs.WithinParts.{homes_ended, pool_ended, not_null_within, holds_within, ended_within, homes_changed, brigade_not_null_within, emptied_within, left_within, carried_within}
 use Rattle.life_state.proofs.WithinParts.{cleared_within, first_within, split_within, classes_within, with_classes_within, homes_at_within}
-use Rattle.life_state.proofs.WithinNeeds.{Met, met, met_all, Homed, there, needs_within}
+use Rattle.life_state.proofs.WithinNeeds.{Met, met, met_all, needs_with, Homed, there, needs_within}
+use Rattle.life_state.proofs.Sources.{made_within}
 
 abbrev pub EdgeWithin : Option State → Option State → Type 0
 EdgeWithin None y = Unit {0}
@@ -253,12 +253,6 @@ module _ (p : Program) (s t : State) (w : Within s t) where
   befores c x (End n) set p h = cc
   befores c x (InOrEnd n v) set p h = cc
 
-  new : (c : ℕ) (u v : Classes) (h k : Homes) → classes_le u v ≡ true → homes_le h k ≡ true → Within (made c u h s) (made c v k t)
-  new c u v h k p q = set_within s t c (Loose u h) (Loose v k) all_others all_others w (and2 (classes_le u v) (homes_le h k) p q) (λ i e. e)
-
-  fresh : (c : ℕ) (u : Classes) (h : Homes) → Within (made c u h s) (made c u h t)
-  fresh c u h = new c u u h h (classes_same u) (homes_same h)
-
   asides : (c : ℕ) (q : PoolRef) (x y : CursorKnown) → cursor_le x y ≡ true → cursor_need OnBucket y ≡ None → Within (after_aside c q x s) (after_aside c q y t)
   asides c q (Loose u k) (Loose v l) p h =
       move_within s t c (Loose u (home_in q)) (Loose v (home_in q)) w (and2 (classes_le u v) (homes_le (home_in q) (home_in q)) ((split2 (classes_le u v) (homes_le k l) p).0) (homes_same (home_in q)))
@@ -304,32 +298,8 @@ module _ (p : Program) (s t : State) (w : Within s t) where
   -- the cursors whose homes are asked for
   homed : (i : Instr) → Met t (wants p i) → Homed t (wants p i)
   unfolding Met Homed
-  homed (instr.Split c x l) h = (there InBrigade (t.cursors c) (h.0), tt)
-  homed (instr.Copy d c) h = (there OnBucket (t.cursors c) (h.0), tt)
-  homed (instr.Aside c q) h = (there OnBucket (t.cursors c) (h.0), tt)
-  homed (instr.Read c l) h = (there InBrigade (t.cursors c) (h.0), tt)
-  homed i h = tt
-
-  -- what is used of the needs, by effects
-  EffectNeeds : Effect → Type 0
-  EffectNeeds (effect.Next d c) = cursor_need InBrigade (t.cursors c) ≡ None
-  EffectNeeds (effect.Unlink c) = cursor_need InBrigade (t.cursors c) ≡ None
-  EffectNeeds (effect.Insert side b c) = cursor_need OnLoose (t.cursors c) ≡ None
-  EffectNeeds (effect.Before c d) = (cursor_need OnLoose (t.cursors c) ≡ None) × (cursor_need InBrigade (t.cursors d) ≡ None)
-  EffectNeeds (effect.Make c (CopyAt d)) = cursor_need OnBucket (t.cursors d) ≡ None
-  EffectNeeds (effect.Aside c q) = cursor_need OnBucket (t.cursors c) ≡ None
-  EffectNeeds e = Unit {0}
-
-  asked : (i : Instr) → Met t (wants p i) → EffectNeeds (effect_of i)
-  unfolding Met EffectNeeds
-  asked (instr.Next d c) h = h.0
-  asked (instr.Unlink c) h = h.0
-  asked (instr.Tail b c) h = h.1.0
-  asked (instr.Head b c) h = h.1.0
-  asked (instr.Before c d) h = (h.0, h.1.0)
-  asked (instr.Copy d c) h = h.0
-  asked (instr.Aside c q) h = h.0
-  asked i h = tt
+  homed (instr.Jump l) h = tt
+  homed i h = search there
 
   leads : (i : Instr) → Met t (wants p i) → BranchNeeds (after p (effect_of i) t) (branch_of i)
   unfolding Met
@@ -337,25 +307,15 @@ module _ (p : Program) (s t : State) (w : Within s t) where
   leads (instr.JKind c k l) h = h.0
   leads i h = tt
 
-  makes : (c : ℕ) (from : MadeFrom) → EffectNeeds (effect.Make c from) → Within (after_make c from s) (after_make c from t)
-  unfolding EffectNeeds
-  makes c TransientBuffer h = fresh c only_bytes only_call
-  makes c FlushBucket h = fresh c only_flush no_homes
-  makes c EosBucket h = fresh c only_eos no_homes
-  makes c (CopyAt d) h =
-      let set = there OnBucket (t.cursors d) h in
-      new c (classes_of (s.cursors d)) (classes_of (t.cursors d)) (homes_at s (s.cursors d)) (homes_at t (t.cursors d)) (classes_there d set) (homes_there d set)
-  makes c from h = fresh c only_bytes no_homes
-
   inserts : (side : Side) → Rises (side_content side)
   inserts AtTail = tail_rises
   inserts AtHead = head_rises
 
-  after_within : (e : Effect) → EffectNeeds e → Within (after p e s) (after p e t)
-  unfolding EffectNeeds
+  after_within : (e : Effect) → Met t (wants p (instr_with e)) → Within (after p e s) (after p e t)
+  unfolding Met
   after_within (effect.MakePool q) h = pool_within s t q only_live only_live w (pool_same only_live)
-  after_within (effect.ClearPool q) h = cleared_both (pool.Own q)
-  after_within (effect.DestroyPool q) h = destroyed q
+  after_within (effect.EmptyPool Clear q) h = cleared_both (pool.Own q)
+  after_within (effect.EmptyPool Destroy q) h = destroyed q
   after_within (effect.MakeBrigade o) h = emptied_at o
   after_within (effect.Clean b) h = cleaned b
   after_within (effect.Concat a b) h =
@@ -368,13 +328,13 @@ module _ (p : Program) (s t : State) (w : Within s t) where
       joined o b (both_homes (s.brigades o).homes home) (both_homes (t.brigades o).homes home) (homes_joined (s.brigades o).homes home (t.brigades o).homes home (of o).homes (homes_same home))
   after_within (effect.Pass b) h = passed b
   after_within (effect.First c b) h = firsts c b
-  after_within (effect.Next d c) h = nexts d c (s.cursors c) (t.cursors c) (w.cursors c) h
-  after_within (effect.Unlink c) h = unlinked c (there InBrigade (t.cursors c) h)
+  after_within (effect.Next d c) h = nexts d c (s.cursors c) (t.cursors c) (w.cursors c) (h.0)
+  after_within (effect.Unlink c) h = unlinked c (there InBrigade (t.cursors c) (h.0))
   after_within (effect.Delete c) h = move_within s t c Unset Unset w refl
-  after_within (effect.Insert side b c) h = put_both (side_content side) (inserts side) b c (there OnLoose (t.cursors c) h)
-  after_within (effect.Before c d) h = befores c (s.cursors d) (t.cursors d) (there OnLoose (t.cursors c) (h.0)) (w.cursors d) (h.1)
-  after_within (effect.Make c from) h = makes c from h
-  after_within (effect.Aside c q) h = asides c q (s.cursors c) (t.cursors c) (w.cursors c) h
+  after_within (effect.Insert side b c) h = put_both (side_content side) (inserts side) b c (there OnLoose (t.cursors c) (h.1.0))
+  after_within (effect.Before c d) h = befores c (s.cursors d) (t.cursors d) (there OnLoose (t.cursors c) (h.0)) (w.cursors d) (h.1.0)
+  after_within (effect.Make c from) h = made_within p s t w c from h
+  after_within (effect.Aside c q) h = asides c q (s.cursors c) (t.cursors c) (w.cursors c) (h.0)
   after_within (effect.Read c) h = reads c
   after_within e h = w
 
@@ -396,10 +356,11 @@ module _ (p : Program) (s t : State) (w : Within s t) (a b : State) (v : Within 
   led_within JumpAlways h = (tt, v)
   led_within EndCall h = (tt, tt)
 
-edges_within : (p : Program) (s t : State) → Within s t → (i : Instr) → Met t (wants p i) → EdgesWithin (edges p i s) (edges p i t)
-edges_within p s t w i h =
-    let v = after_within p s t w (effect_of i) (asked p s t w i h) in
-    led_within p s t w (after p (effect_of i) s) (after p (effect_of i) t) v (branch_of i) (leads p s t w i h)
+edges_within : (p : Program) (s t : State) → Within s t → (i : Instr) → first_need t (wants p i) ≡ None → EdgesWithin (edges p i s) (edges p i t)
+edges_within p s t w i none =
+    let e = effect_of i in
+    let v = after_within p s t w e (met t (wants p (instr_with e)) (needs_with p i t none)) in
+    led_within p s t w (after p e s) (after p e t) v (branch_of i) (leads p s t w i (met t (wants p i) none))
 
 edge_below : (x y : Option State) → EdgeWithin x y → edge_le x y ≡ true
 edge_below None y h = refl
@@ -415,7 +376,7 @@ rules_are_monotone p i s t e f g le h = answered (first_need t (wants p i)) refl
     leads : first_need t (wants p i) ≡ None → (d : Edges) → edges p i t ≡ d → LeadsBelow p i s d
     leads none d same =
         let of_t = met t (wants p i) none in
-        let all = edges_within p s t w i of_t in
+        let all = edges_within p s t w i none in
         record {
           edges = edges p i s;
           safe = ap (λ o. need_or o (edges p i s)) (met_all s (wants p i) (needs_within s t f w (wants p i) (homed p s t w i of_t) of_t));

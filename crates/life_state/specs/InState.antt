@@ -10,8 +10,7 @@ use Rattle.run_model.specs.declared.effect.Condition.TheVariants as condition
 -- only what the effect changes: beyond the last, nothing is known
 abbrev pub effect_fits : Effect → Bool
 effect_fits (effect.MakePool q) = nat_lt q 8
-effect_fits (effect.ClearPool q) = nat_lt q 8
-effect_fits (effect.DestroyPool q) = nat_lt q 8
+effect_fits (effect.EmptyPool kind q) = nat_lt q 8
 effect_fits (effect.MakeBrigade o) = nat_lt o 9
 effect_fits (effect.Clean b) = nat_lt b 9
 effect_fits (effect.Concat a b) = nat_lt a 9 && nat_lt b 9

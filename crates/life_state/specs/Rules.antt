@@ -10,6 +10,8 @@ use Rattle.module_code.specs.declared.instr.VarRef.TheVariants as variable
 use Rattle.module_code.specs.Program.{Program, pool_of_brigade}
 use Rattle.run_model.specs.declared.fault.FaultKind.{FaultKind}
 use Rattle.run_model.specs.declared.fault.FaultKind.TheVariants.{F1, F2, F3, F5, F6, F7, F8, F10}
+use Rattle.run_model.specs.declared.effect.ClearKind.{ClearKind}
+use Rattle.run_model.specs.declared.effect.ClearKind.TheVariants.{Clear, Destroy}
 use Rattle.run_model.specs.declared.effect.Effect.{Effect}
 use Rattle.run_model.specs.declared.effect.Effect.TheVariants as effect
 use Rattle.run_model.specs.declared.effect.MadeFrom.{MadeFrom}
@@ -230,6 +232,10 @@ after_pclear p q s = cleared p (pool.Own q) s
 abbrev pub after_pdestroy : Program → ℕ → State → State
 after_pdestroy p q s = set_pool q (ended_pool (s.pools q)) (after_pclear p q s)
 
+abbrev pub after_emptied : Program → ClearKind → ℕ → State → State
+after_emptied p Clear q s = after_pclear p q s
+after_emptied p Destroy q s = after_pdestroy p q s
+
 -- apr_brigade_create, apr_brigade_cleanup
 abbrev pub after_bcreate : ℕ → State → State
 after_bcreate b s = set_brigade b (holds Empty no_homes) s
@@ -377,20 +383,29 @@ only_eos = record { bytes = false; flush = false; eos = true }
 abbrev pub made : ℕ → Classes → Homes → State → State
 made c classes homes s = set_cursor c (Loose classes homes) all_others s
 
--- apr_bucket_copy
-abbrev pub after_copy : ℕ → ℕ → State → State
-after_copy d c s = made d (classes_of (s.cursors c)) (homes_at s (s.cursors c)) s
+-- What a new bucket is, by what it is made from. A copy (apr_bucket_copy) has the kind and the home of the bucket at its cursor.
+abbrev pub classes_from : MadeFrom → State → Classes
+classes_from (HeapText t) s = only_bytes
+classes_from (ImmortalText t) s = only_bytes
+classes_from HeapBuffer s = only_bytes
+classes_from TransientBuffer s = only_bytes
+classes_from (PoolBuffer q) s = only_bytes
+classes_from FlushBucket s = only_flush
+classes_from EosBucket s = only_eos
+classes_from (CopyAt c) s = classes_of (s.cursors c)
 
--- a new bucket, by what it is made from
+abbrev pub homes_from : MadeFrom → State → Homes
+homes_from (HeapText t) s = no_homes
+homes_from (ImmortalText t) s = no_homes
+homes_from HeapBuffer s = no_homes
+homes_from TransientBuffer s = only_call
+homes_from (PoolBuffer q) s = no_homes
+homes_from FlushBucket s = no_homes
+homes_from EosBucket s = no_homes
+homes_from (CopyAt c) s = homes_at s (s.cursors c)
+
 abbrev pub after_make : ℕ → MadeFrom → State → State
-after_make c (HeapText t) s = made c only_bytes no_homes s
-after_make c (ImmortalText t) s = made c only_bytes no_homes s
-after_make c HeapBuffer s = made c only_bytes no_homes s
-after_make c TransientBuffer s = made c only_bytes only_call s
-after_make c (PoolBuffer q) s = made c only_bytes no_homes s
-after_make c FlushBucket s = made c only_flush no_homes s
-after_make c EosBucket s = made c only_eos no_homes s
-after_make c (CopyAt d) s = after_copy c d s
+after_make c from s = made c (classes_from from s) (homes_from from s) s
 
 -- apr_bucket_setaside
 abbrev pub after_aside : ℕ → PoolRef → CursorKnown → State → State
@@ -437,8 +452,7 @@ edges_jsent s = record { next = Some (record s { sent = false }); jump = some_if
 abbrev pub after : Program → Effect → State → State
 after p effect.Nothing s = s
 after p (effect.MakePool q) s = after_pcreate q s
-after p (effect.ClearPool q) s = after_pclear p q s
-after p (effect.DestroyPool q) s = after_pdestroy p q s
+after p (effect.EmptyPool kind q) s = after_emptied p kind q s
 after p (effect.Register q t) s = s
 after p (effect.Kill q t) s = s
 after p (effect.MakeBrigade o) s = after_bcreate o s

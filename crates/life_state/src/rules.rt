@@ -12,7 +12,7 @@ use crate::parts::{BrigadeState, Classes, CursorState, HomeSet, PoolState};
 use crate::state::State;
 use crate::successors::{Successors, some_if};
 use module_code::{Instr, KindTest, Module, PoolRef, VarRef};
-use run_model::{Branch, Condition, Effect, FaultKind, MadeFrom, branch_of, effect_of};
+use run_model::{Branch, ClearKind, Condition, Effect, FaultKind, MadeFrom, branch_of, effect_of};
 
 #[tactic(auto)]
 impl State {
@@ -151,8 +151,8 @@ impl State {
     {
         match effect {
             Effect::MakePool(q) => self.with_pool(q, PoolState::LIVE),
-            Effect::ClearPool(q) => self.cleared(code, PoolRef::Own(q)),
-            Effect::DestroyPool(q) => {
+            Effect::EmptyPool(ClearKind::Clear, q) => self.cleared(code, PoolRef::Own(q)),
+            Effect::EmptyPool(ClearKind::Destroy, q) => {
                 let ended = self.pool(q).ended();
                 self.cleared(code, PoolRef::Own(q)).with_pool(q, ended)
             }

@@ -28,6 +28,7 @@ use Rattle.run_model.specs.Sound.{SoundPools}
 use Rattle.model_laws.specs.AsDeclared.{AsDeclared, StepKeepsDeclared}
 use Rattle.run_model.proofs.Updates.{upd_off, upd_either}
 use Rattle.model_laws.proofs.BrigadePools.{KeepsOn, KeepsPool, same_on, clean_on, pass_on, fill_on, move_on, return_on}
+use Rattle.run_model.specs.declared.effect.ClearKind.TheVariants.{Clear, Destroy}
 use Rattle.model_laws.proofs.PoolsGone.{Emptying, pool_emptied, on_emptied}
 use Rattle.model_laws.proofs.Marks.{first_none, second_none}
 use Rattle.run_model.proofs.PoolMap.{live_path, created_lives, created_kept, created_at, not_under}
@@ -320,8 +321,8 @@ step_declared p choice (instr.PCreate q) r may sound s =
     made_under_named (AsDeclared p) p q r s
     (λ parent e. made_declared p parent q r (pool_below p may.proper q may.fit) (no_live_pool r (pool_of_pool p q) q may.faultless) e
     (named_lives r (pool_of_pool p q) parent (wanted_pool r (pool_of_pool p q) _ may.faultless) e) sound.pools s)
-step_declared p choice (instr.PClear q) r may sound s = (on_emptied (AsDeclared p) q r s (λ n left e so. emptied_declared p n left r sound.pools.formed so s)).0
-step_declared p choice (instr.PDestroy q) r may sound s = (on_emptied (AsDeclared p) q r s (λ n left e so. emptied_declared p n left r sound.pools.formed so s)).1
+step_declared p choice (instr.PClear q) r may sound s = on_emptied (AsDeclared p) Clear q r s (λ n left e so. emptied_declared p n left r sound.pools.formed so s)
+step_declared p choice (instr.PDestroy q) r may sound s = on_emptied (AsDeclared p) Destroy q r s (λ n left e so. emptied_declared p n left r sound.pools.formed so s)
 step_declared p choice (instr.Label q t) r may sound s = on_named (AsDeclared p) (label_registered (text_of p t)) (pool_named r q) r s (λ n e. kept p r _ refl refl refl refl (same_vars r) s)
 step_declared p choice (instr.Unlabel q t) r may sound s = on_named (AsDeclared p) (label_killed (text_of p t)) (pool_named r q) r s (λ n e. kept p r _ refl refl refl refl (same_vars r) s)
 step_declared p choice (instr.BCreate o) r may sound s = created_declared p o r (brigade_not_in p may.proper o may.fit) (wanted_pool r (pool_of_brigade p o) _ may.faultless) s

@@ -19,7 +19,8 @@ use Rattle.run_model.specs.declared.effect.Effect.{Effect}
 use Rattle.run_model.specs.declared.effect.Effect.TheVariants as effect
 use Rattle.run_model.specs.EffectOf.{effect_of}
 use Rattle.module_code.specs.Program.{Program}
-use Rattle.run_model.specs.Steps.{Choice, do_effect, made_of, do_create, do_clean, do_concat, do_pass, pool_cleared, pool_destroyed, label_registered, label_killed, text_of, saved_into, made_on}
+use Rattle.run_model.specs.Effects.{after_clear}
+use Rattle.run_model.specs.Steps.{Choice, do_effect, made_of, do_create, do_clean, do_concat, do_pass, label_registered, label_killed, text_of, saved_into, made_on}
 use Rattle.run_model.specs.Steps.{value_of}
 use Rattle.run_model.specs.Sound.{SoundNames, brigade_name, sum_below, count_named, count}
 use Rattle.model_laws.specs.CursorLaws.{name_held, SoundCursors, StepKeepsCursors}
@@ -159,8 +160,7 @@ stay_held r new cursors rises s = record { given = λ c n e. (let lt : n < r.sha
 effect_cursors : (p : Program) (choice : Choice) (e : Effect) (r : Configuration) → SetsAsideAlive r e → SoundNames r → SoundCursors r → SoundCursors (do_effect p choice e r)
 unfolding set_brigade set_pool with_pools run_down
 effect_cursors p choice (effect.MakePool q) r alive names s = made_under_named SoundCursors p q r s (λ parent is. stay_held r _ refl (omega arith) s)
-effect_cursors p choice (effect.ClearPool q) r alive names s = on_named SoundCursors pool_cleared (pool_named r (pool.Own q)) r s (λ n is. stay_held r (pool_cleared n r) refl (omega arith) s)
-effect_cursors p choice (effect.DestroyPool q) r alive names s = on_named SoundCursors pool_destroyed (pool_named r (pool.Own q)) r s (λ n is. stay_held r (pool_destroyed n r) refl (omega arith) s)
+effect_cursors p choice (effect.EmptyPool k q) r alive names s = on_named SoundCursors (after_clear k) (pool_named r (pool.Own q)) r s (λ n is. stay_held r (after_clear k n r) refl (omega arith) s)
 effect_cursors p choice (effect.Register q t) r alive names s = on_named SoundCursors (label_registered (text_of p t)) (pool_named r q) r s (λ n is. stay_held r _ refl (omega arith) s)
 effect_cursors p choice (effect.Kill q t) r alive names s = on_named SoundCursors (label_killed (text_of p t)) (pool_named r q) r s (λ n is. stay_held r _ refl (omega arith) s)
 effect_cursors p choice (effect.MakeBrigade o) r alive names s = stay_held r (do_create p o r) refl (omega arith) s

@@ -1,5 +1,5 @@
 -- What is true of each bucket that a call sees, under its name and whatever pools there are, through its instruction.
-use Rattle.std.proofs.Common.{◌≡◌, ℕ, Bool, true, false, List, Some, All, refl}
+use Rattle.std.proofs.Common.{◌≡◌, ℕ, Bool, true, List, Some, All, refl}
 use Rattle.module_code.specs.declared.instr.Instr.{Instr}
 use Rattle.module_code.specs.declared.instr.Instr.TheVariants as instr
 use Rattle.module_code.specs.Program.{Program}
@@ -17,17 +17,18 @@ use Rattle.run_model.specs.State.{Configuration, items_of, set_pool, set_brigade
 use Rattle.run_model.specs.Steps.{Choice, step, made_on, aside_named, saved_into, label_registered, label_killed, text_of}
 use Rattle.run_model.proofs.EachBucket.{each_changed}
 use Rattle.model_laws.specs.Laws.{is_return}
+use Rattle.run_model.specs.declared.effect.ClearKind.TheVariants.{Clear, Destroy}
 use Rattle.model_laws.proofs.PoolsGone.{pool_emptied, on_emptied}
 use Rattle.model_laws.proofs.NamedPools.{on_named, made_under_named}
 use Rattle.model_laws.proofs.EachItem.{none, cleaned_each, handed_over_each, written_each, items_each, moved_each, mapped_each, cleared_each, left_each}
-use Rattle.model_laws.proofs.Origins.{HoldsNamed, Descends, Makes, is_read, named_leaves}
+use Rattle.model_laws.proofs.Origins.{HoldsNamed, Descends, IsMade, IsPut, leaves}
 
 -- descends: it is true of what comes of a bucket of which it is true. made, reads: of each bucket that is made, and of what was read.
 -- cleared, aside, returned: it stays so where pools are cleared, where the bucket is set aside, and where the call returns.
 pub record StaysSo (T : NamedBucket → Type 0) (p : Program) (choice : Choice) (i : Instr) (r : Configuration) : Type 0 where
   pub descends : Descends r.shared.next T
-  pub made : (b : Bucket) → is_read i ≡ false → Makes p choice r (effect_of i) b → T (record { name = r.shared.next; bucket = b })
-  pub reads : (c : Content) (bytes : List ℕ) → is_read i ≡ true → read_given choice.given c ≡ Some bytes → (x : NamedBucket) → T x → T (record x { bucket = heap_bucket bytes })
+  pub made : (b : Bucket) → IsMade r b → IsPut p r b.content → T (record { name = r.shared.next; bucket = b })
+  pub reads : (c : Content) (bytes : List ℕ) → read_given choice.given c ≡ Some bytes → (x : NamedBucket) → T x → T (record x { bucket = heap_bucket bytes })
   pub cleared : (reached : ℕ → Bool) (x : NamedBucket) → T x → T (cleared_bucket reached x)
   pub aside : (ps : Pools Payload) (target : ℕ) (x : NamedBucket) → T x → T (aside_named ps target x)
   pub returned : is_return i ≡ true → (x : NamedBucket) → T x → T (returned_bucket r.call.name x)
@@ -61,8 +62,8 @@ module _ (T : NamedBucket → Type 0) (r : Configuration) (h : HoldsNamed T r) w
   pub each_step : (p : Program) (choice : Choice) (i : Instr) → StaysSo T p choice i r → HoldsNamed T (step p choice i r).state
   unfolding set_pool set_brigade with_pools
   each_step p choice (instr.PCreate q) stays = made_under_named (HoldsNamed T) p q r h (λ parent e. record { brigades = h.brigades; loose = h.loose })
-  each_step p choice (instr.PClear q) stays = (on_emptied (HoldsNamed T) q r h (λ n left e so. emptied_holds stays.cleared left n)).0
-  each_step p choice (instr.PDestroy q) stays = (on_emptied (HoldsNamed T) q r h (λ n left e so. emptied_holds stays.cleared left n)).1
+  each_step p choice (instr.PClear q) stays = on_emptied (HoldsNamed T) Clear q r h (λ n left e so. emptied_holds stays.cleared left n)
+  each_step p choice (instr.PDestroy q) stays = on_emptied (HoldsNamed T) Destroy q r h (λ n left e so. emptied_holds stays.cleared left n)
   each_step p choice (instr.Label q t) stays = on_named (HoldsNamed T) (label_registered (text_of p t)) (pool_named r q) r h (λ n e. record { brigades = h.brigades; loose = h.loose })
   each_step p choice (instr.Unlabel q t) stays = on_named (HoldsNamed T) (label_killed (text_of p t)) (pool_named r q) r h (λ n e. record { brigades = h.brigades; loose = h.loose })
   each_step p choice (instr.BCreate o) stays = record { brigades = written_each T r.instance.brigades o _ (none T) h.brigades; loose = h.loose }
@@ -76,4 +77,4 @@ module _ (T : NamedBucket → Type 0) (r : Configuration) (h : HoldsNamed T r) w
   each_step p choice (instr.Pass b l) stays = record { brigades = written_each T r.instance.brigades b _ (handed_over_each T (r.instance.brigades b)) h.brigades; loose = h.loose }
   each_step p choice (instr.Aside c q) stays = on_named (HoldsNamed T) (aside_into (spot r c)) (pool_named r q) r h (λ target e. aside_holds stays.aside target (spot r c))
   each_step p choice (instr.Ret s) stays = record { brigades = left_each T T r.call.name (stays.returned refl) r.instance.brigades h.brigades; loose = none T }
-  each_step p choice i stays = named_leaves T p choice i r refl stays.descends stays.made stays.reads h
+  each_step p choice i stays = leaves T p choice r stays.descends stays.made stays.reads h (effect_of i) refl

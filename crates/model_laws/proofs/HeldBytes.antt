@@ -13,19 +13,13 @@ use Rattle.run_model.specs.declared.event.Piece.{Piece}
 use Rattle.run_model.specs.declared.event.Piece.TheVariants as piece
 use Rattle.run_model.specs.Cutting.{front_of, rest_of}
 use Rattle.run_model.specs.State.{Configuration}
-use Rattle.run_model.specs.Cursors.{Place, Nowhere, AtLoose, Within, AtEndOf, spot}
-use Rattle.run_model.specs.BucketSteps.{content_at, first_of, byte_of, items_at, read_given}
-use Rattle.run_model.specs.declared.effect.Effect.{Effect}
-use Rattle.run_model.specs.declared.effect.Effect.TheVariants as effect
-use Rattle.run_model.specs.declared.effect.MadeFrom.{MadeFrom}
-use Rattle.run_model.specs.declared.effect.MadeFrom.TheVariants.{HeapText, ImmortalText, HeapBuffer, TransientBuffer, PoolBuffer, CopyAt}
-use Rattle.run_model.specs.EffectOf.{effect_of}
+use Rattle.run_model.specs.Cursors.{Place, Nowhere, AtEndOf, spot}
+use Rattle.run_model.specs.BucketSteps.{content_at, first_of, byte_of, read_given}
 use Rattle.run_model.specs.Steps.{Choice, step, text_of}
 use Rattle.run_model.specs.Pieces.{bucket_of, named_from}
 use Rattle.model_laws.specs.Ranges.{AreBytes, HoldsBytes, GivesBytes, IsOfBytes}
-use Rattle.run_model.proofs.EachBucket.{of_named}
 use Rattle.run_model.proofs.Spots.{Stands, stands}
-use Rattle.model_laws.proofs.Origins.{Each, PassesParts, Holds, FromSource, Makes}
+use Rattle.model_laws.proofs.Origins.{Each, PassesParts, Holds, IsPut, OfText, OfBuffer, OfNone, held_at}
 use Rattle.model_laws.proofs.Contents.{step_contents}
 
 -- The bytes that a bucket holds are bytes.
@@ -70,30 +64,20 @@ given_bytes choice gives (content.Range file start len) bytes is = by_length (le
   by_length false is = gives bytes is
 given_bytes choice gives content.Nothing bytes is = let none_given : bytes ≡ [] = cc in subst AreBytes (sym none_given) (All-nil (λ b. b ≤ 255))
 
-from_bytes : (p : Program) (r : Configuration) → IsModule p → AreBytes r.call.buffer → (source : MadeFrom) (b : Bucket) → FromSource p r source b → OfBytes b
-from_bytes p r m buffer (HeapText t) b is = subst OfBytes (sym is) (text_bytes p m t)
-from_bytes p r m buffer (ImmortalText t) b is = subst OfBytes (sym is) (text_bytes p m t)
-from_bytes p r m buffer HeapBuffer b is = subst OfBytes (sym is) buffer
-from_bytes p r m buffer TransientBuffer b is = subst OfBytes (sym is) buffer
-from_bytes p r m buffer (PoolBuffer q) b is = subst OfBytes (sym is.1) buffer
-from_bytes p r m buffer (CopyAt c) b is = absurd is
-from_bytes p r m buffer source b is = subst OfBytes (sym is) tt
-
-made_bytes : (p : Program) (choice : Choice) (r : Configuration) → IsModule p → GivesBytes choice → AreBytes r.call.buffer → (e : Effect) (b : Bucket) → Makes p choice r e b → OfBytes b
-made_bytes p choice r m gives buffer (effect.Make c source) b is = from_bytes p r m buffer source b is
-made_bytes p choice r m gives buffer (effect.Read c) b is = subst OfBytes (sym is.1.1.1) (given_bytes choice gives is.0 is.1.0 is.1.1.0)
-made_bytes p choice r m gives buffer e b is = absurd is
+put_bytes : (p : Program) (r : Configuration) → IsModule p → AreBytes r.call.buffer → (c : Content) → IsPut p r c → HoldsBytes c
+put_bytes p r m buffer c (OfText t) = text_bytes p m t
+put_bytes p r m buffer c OfBuffer = buffer
+put_bytes p r m buffer c OfNone = tt
 
 pub step_holds : (p : Program) (choice : Choice) (i : Instr) (r : Configuration) → IsModule p → GivesBytes choice → AreBytes r.call.buffer → Holds OfBytes r → Holds OfBytes (step p choice i r).state
-step_holds p choice i r m gives buffer h = step_contents HoldsBytes p choice i r parts (made_bytes p choice r m gives buffer (effect_of i)) h
+step_holds p choice i r m gives buffer h = step_contents HoldsBytes p choice i r parts (λ b new put. put_bytes p r m buffer b.content put) (given_bytes choice gives) h
 
 -- Bytes that are asked for.
 
 spot_bytes : (r : Configuration) (s : Place) → Stands r s → Holds OfBytes r → HoldsBytes (content_at s)
 spot_bytes r Nowhere there h = tt
-spot_bytes r (AtLoose x) there h = of_named IsOf x.name x r.call.loose there h.loose
-spot_bytes r (Within b x) there h = of_named IsOf x.name x (items_at r b) there.1 (h.brigades b)
 spot_bytes r (AtEndOf b) there h = tt
+spot_bytes r s there h = held_at IsOf r h s there
 
 first_byte : (xs : List ℕ) (v : ℕ) → AreBytes xs → first_of xs ≡ Some v → v ≤ 255
 first_byte [] v all is = absurd (cc)

@@ -26,6 +26,7 @@ use Rattle.run_model.specs.EffectOf.{effect_of}
 use Rattle.run_model.specs.Steps.{do_effect, Choice, step, do_put, value_of, is_full, last_value}
 use Rattle.model_laws.specs.Ranges.{AreBytes, FileBytes, BufferInRange, InRange, StepKeepsInRange, StepKeepsBuffer}
 use Rattle.run_model.proofs.Updates.{upd_either}
+use Rattle.run_model.specs.declared.effect.ClearKind.TheVariants.{Clear, Destroy}
 use Rattle.model_laws.proofs.PoolsGone.{pool_emptied, on_emptied}
 use Rattle.model_laws.proofs.NamedPools.{with_buffer}
 use Rattle.model_laws.proofs.Unchanged.{effect_changes_only, step_changes_only}
@@ -116,8 +117,8 @@ unfolding with_pools run_down
 emptied_files left n r s = gone_files (run_order r.shared.pools n) left r.shared.files s
 
 step_files : (p : Program) (choice : Choice) (i : Instr) (r : Configuration) → FileBytes r.shared.files → FileBytes (step p choice i r).state.shared.files
-step_files p choice (instr.PClear q) r s = (on_emptied (λ x. FileBytes x.shared.files) q r s (λ n left e so. emptied_files left n r s)).0
-step_files p choice (instr.PDestroy q) r s = (on_emptied (λ x. FileBytes x.shared.files) q r s (λ n left e so. emptied_files left n r s)).1
+step_files p choice (instr.PClear q) r s = on_emptied (λ x. FileBytes x.shared.files) Clear q r s (λ n left e so. emptied_files left n r s)
+step_files p choice (instr.PDestroy q) r s = on_emptied (λ x. FileBytes x.shared.files) Destroy q r s (λ n left e so. emptied_files left n r s)
 step_files p choice i r s = subst FileBytes (sym ((step_changes_only p choice i r).files refl)) s
 
 -- Steps.

@@ -1,12 +1,11 @@
 -- What an instruction on cursors and buckets leaves: what was true of each bucket is true of each, also of those that are
 -- made, cut and read.
 use Rattle.std.proofs.Common.{◌≡◌, ℕ, zero, suc, ◌+◌, ◌-◌, ◌≤◌, ◌⊎◌, Bool, true, false, cond, not, ◌||◌, nat_lt, nat_le, List, [], ◌∷◌, ◌++◌, Option, Some, None, is_some, All, inl, inr, refl, sym}
-use Rattle.std.proofs.Common.{subst, arith}
+use Rattle.std.proofs.Common.{IfSome, subst, arith}
 use Rattle.std.proofs.lemmas.Bool.Decides.{nat_tests}
 use Rattle.std.proofs.lemmas.List.Elements.{All-nil, All-cons, All-head, All-tail, All-append}
 use Rattle.module_code.specs.declared.instr.Instr.{Instr}
 use Rattle.module_code.specs.Program.{Program}
-use Rattle.run_model.specs.declared.bucket.Kind.TheVariants as kind
 use Rattle.run_model.specs.declared.bucket.Content.{Content}
 use Rattle.run_model.specs.declared.bucket.Content.TheVariants as content
 use Rattle.run_model.specs.declared.bucket.Home.TheVariants as home
@@ -16,18 +15,17 @@ use Rattle.run_model.specs.declared.bucket.BrigadeVar.{BrigadeVar}
 use Rattle.run_model.specs.declared.bucket.BrigadeVar.TheVariants as var
 use Rattle.run_model.specs.declared.bucket.Cursor.{Cursor}
 use Rattle.run_model.specs.Buckets.{is_data}
-use Rattle.run_model.specs.Cutting.{FitsKind, length_of, front_of, rest_of, split_at, read_limit, read_as}
+use Rattle.run_model.specs.Cutting.{FitsKind, EndsInFile, length_of, front_of, rest_of, split_at, read_limit, read_as}
 use Rattle.run_model.specs.BrigadeLists.{buckets_before, buckets_from, first_bucket, taken_out, put_head, put_tail, put_before, stays, moves, TooLong, Metadata, split_refusal, first_bytes, rest_as}
 use Rattle.run_model.specs.BrigadeLists.{first_split, front_to, back_from, is_short, partitioned}
-use Rattle.run_model.specs.State.{Configuration, items_of, set_brigade, set_number, set_cursor, set_loose, pool_named}
+use Rattle.run_model.specs.State.{Configuration, items_of, set_brigade, set_number, set_cursor, set_loose}
 use Rattle.run_model.specs.Cursors.{bucket_at, Place, AtLoose, Within, spot, read_cursor}
-use Rattle.run_model.specs.BucketSteps.{items_at, set_items, do_next, do_unlink, do_delete, put_into, do_before, name_given, names_given, names_to_part, new_loose, heap_bucket, immortal_bucket}
-use Rattle.run_model.specs.BucketSteps.{transient_bucket, pool_bucket, metadata, copied_bucket, pooled_bucket, do_make, split_there, do_split, rest_named, first_read, read_given, read_within, do_read}
+use Rattle.run_model.specs.BucketSteps.{items_at, set_items, do_next, do_unlink, do_delete, put_into, do_before, name_given, names_given, names_to_part, new_loose, heap_bucket}
+use Rattle.run_model.specs.BucketSteps.{do_make, split_there, do_split, rest_named, first_read, read_given, read_within, do_read}
 use Rattle.run_model.specs.BucketSteps.{place_at, do_bsplit, do_bpart, got}
 use Rattle.run_model.specs.declared.effect.Effect.{Effect}
 use Rattle.run_model.specs.declared.effect.Effect.TheVariants as effect
 use Rattle.run_model.specs.declared.effect.MadeFrom.{MadeFrom}
-use Rattle.run_model.specs.declared.effect.MadeFrom.TheVariants.{HeapText, ImmortalText, HeapBuffer, TransientBuffer, PoolBuffer, FlushBucket, EosBucket, CopyAt}
 use Rattle.run_model.specs.declared.effect.Side.{Side}
 use Rattle.run_model.specs.declared.effect.Side.TheVariants.{AtTail, AtHead}
 use Rattle.run_model.specs.EffectOf.{effect_of}
@@ -41,12 +39,11 @@ use Rattle.run_model.proofs.EachBucket.{each_before, each_from, of_named, each_t
 abbrev pub Each : (Bucket → Type 0) → List NamedBucket → Type 0
 Each T xs = All (λ x. T x.bucket) xs
 
--- What is true of what comes of a bucket of which it is true, where `new` is the next name: its parts, of which the second has that
--- name, and a copy.
+-- What is true of what comes of a bucket of which it is true: its parts, and one like it under `new`, the next name.
 pub record Descends (new : ℕ) (T : NamedBucket → Type 0) : Type 0 where
   pub front : (n : ℕ) (x : NamedBucket) → n ≤ length_of x.bucket.content → T x → T (first_bytes n x)
-  pub rest : (n : ℕ) (x : NamedBucket) → n ≤ length_of x.bucket.content → T x → T (rest_as new n x)
-  pub copy : (x : NamedBucket) → T x → T (record { name = new; bucket = x.bucket })
+  pub rest : (n : ℕ) (x : NamedBucket) → n ≤ length_of x.bucket.content → T x → T (record x { bucket = (split_at n x.bucket).1 })
+  pub named : (x : NamedBucket) → T x → T (record x { name = new })
 
 -- What is true of each bucket that a configuration holds, under its name.
 pub record HoldsNamed (T : NamedBucket → Type 0) (r : Configuration) : Type 0 where
@@ -56,7 +53,14 @@ pub record HoldsNamed (T : NamedBucket → Type 0) (r : Configuration) : Type 0 
 -- A bucket as one is made in a call: it depends on nothing, or on the call.
 pub record IsMade (r : Configuration) (b : Bucket) : Type 0 where
   pub fits : FitsKind b
+  pub ends : EndsInFile b.content
   pub lives : (b.home ≡ home.Free) ⊎ (b.home ≡ home.Call r.call.name)
+
+-- what is put into one: bytes of a text or of the buffer, or nothing
+pub data IsPut (p : Program) (r : Configuration) : Content → Type 0 where
+  OfText : (t : ℕ) → IsPut p r (content.Bytes (text_of p t))
+  OfBuffer : IsPut p r (content.Bytes r.call.buffer)
+  OfNone : IsPut p r content.Nothing
 
 -- What is true of both parts of a bucket of which it is true.
 pub record PassesParts (T : Bucket → Type 0) : Type 0 where
@@ -88,26 +92,6 @@ rest_back n content.Nothing file start len is = absurd (cc)
 -- no bucket that is made has its home in a pool
 pub made_apart : (r : Configuration) (b : Bucket) (p : ℕ) → IsMade r b → b.home ≡ home.Pool p → ⊥
 made_apart r b p m at = elim m.lives [ inl free ↦ cc | inr call ↦ cc ]
-
--- Buckets that are made.
-
-made_heap : (r : Configuration) (bytes : List ℕ) → IsMade r (heap_bucket bytes)
-made_heap r bytes = record { fits = record { holds = refl; lives = tt }; lives = inl refl }
-
-made_immortal : (r : Configuration) (bytes : List ℕ) → IsMade r (immortal_bucket bytes)
-made_immortal r bytes = record { fits = record { holds = refl; lives = tt }; lives = inl refl }
-
-made_transient : (r : Configuration) (bytes : List ℕ) → IsMade r (transient_bucket r.call.name bytes)
-made_transient r bytes = record { fits = record { holds = refl; lives = tt }; lives = inr refl }
-
-made_pooled : (r : Configuration) (bytes : List ℕ) (pool : ℕ) → IsMade r (pool_bucket bytes pool)
-made_pooled r bytes pool = record { fits = record { holds = refl; lives = tt }; lives = inl refl }
-
-made_flush : (r : Configuration) → IsMade r (metadata kind.Flush)
-made_flush r = record { fits = record { holds = refl; lives = tt }; lives = inl refl }
-
-made_eos : (r : Configuration) → IsMade r (metadata kind.Eos)
-made_eos r = record { fits = record { holds = refl; lives = tt }; lives = inl refl }
 
 -- What is written into a configuration.
 module _ (T : NamedBucket → Type 0) where
@@ -143,6 +127,12 @@ module _ (T : NamedBucket → Type 0) where
   buffer_holds : (buffer : List ℕ) (r : Configuration) → HoldsNamed T r → HoldsNamed T (with_buffer buffer r)
   buffer_holds buffer r h = record { brigades = h.brigades; loose = h.loose }
 
+-- the bucket at which a cursor stands
+pub held_at : (T : NamedBucket → Type 0) (r : Configuration) → HoldsNamed T r → (s : Place) → Stands r s → IfSome (bucket_at s) T
+held_at T r h (Within b x) there = of_named T x.name x (items_at r b) there.1 (h.brigades b)
+held_at T r h (AtLoose x) there = of_named T x.name x r.call.loose there h.loose
+held_at T r h s there = tt
+
 module _ (T : NamedBucket → Type 0) (r : Configuration) (on : Descends r.shared.next T) (h : HoldsNamed T r) where
   none : All T []
   none = All-nil T
@@ -157,13 +147,6 @@ module _ (T : NamedBucket → Type 0) (r : Configuration) (on : Descends r.share
   got_holds n None = h
   got_holds n (Some byte) = number_holds T n byte r h
 
-  -- the buckets at which cursors stand
-  within_of : (b : ℕ) (x : NamedBucket) → Stands r (Within b x) → T x
-  within_of b x there = of_named T x.name x (items_at r b) there.1 (h.brigades b)
-
-  loose_of : (x : NamedBucket) → Stands r (AtLoose x) → T x
-  loose_of x there = of_named T x.name x r.call.loose there h.loose
-
   taken_holds : (b : ℕ) (x : NamedBucket) → HoldsNamed T (set_items b (taken_out x.name (items_at r b)) r)
   taken_holds b x = items_hold T b _ r (each_taken_out T x.name (items_at r b) (h.brigades b)) h
 
@@ -171,7 +154,7 @@ module _ (T : NamedBucket → Type 0) (r : Configuration) (on : Descends r.share
   taken_loose_holds x = loose_hold T _ r (each_taken_out T x.name r.call.loose h.loose) h
 
   unlink_holds : (s : Place) → Stands r s → HoldsNamed T (do_unlink s r)
-  unlink_holds (Within b x) there = loose_hold T _ _ (each_put_tail T x r.call.loose (within_of b x there) h.loose) (taken_holds b x)
+  unlink_holds (Within b x) there = loose_hold T _ _ (each_put_tail T x r.call.loose (held_at T r h (Within b x) there) h.loose) (taken_holds b x)
   unlink_holds s there = h
 
   delete_holds : (s : Place) → HoldsNamed T (do_delete s r)
@@ -181,7 +164,7 @@ module _ (T : NamedBucket → Type 0) (r : Configuration) (on : Descends r.share
 
   put_holds : (insert : NamedBucket → List NamedBucket → List NamedBucket) → ((x : NamedBucket) (bs : List NamedBucket) → T x → All T bs → All T (insert x bs))
       → (b : ℕ) (s : Place) → Stands r s → HoldsNamed T (put_into insert b s r)
-  put_holds insert inserted b (AtLoose x) there = items_hold T b _ _ (inserted x (items_at r b) (loose_of x there) (h.brigades b)) (taken_loose_holds x)
+  put_holds insert inserted b (AtLoose x) there = items_hold T b _ _ (inserted x (items_at r b) (held_at T r h (AtLoose x) there) (h.brigades b)) (taken_loose_holds x)
   put_holds insert inserted b s there = h
 
   before_holds : (s t : Place) → Stands r s → HoldsNamed T (do_before s t r)
@@ -193,14 +176,9 @@ module _ (T : NamedBucket → Type 0) (r : Configuration) (on : Descends r.share
   new_holds : (c : ℕ) (b : Bucket) → T (record { name = r.shared.next; bucket = b }) → HoldsNamed T (new_loose c b r)
   new_holds c b new = cursor_holds T c _ _ (loose_hold T _ (name_given r) (each_put_tail T (record { name = r.shared.next; bucket = b }) r.call.loose new h.loose) (names_hold T 1 r h))
 
-  make_holds : (c : ℕ) (o : Option Bucket) → ((b : Bucket) → o ≡ Some b → T (record { name = r.shared.next; bucket = b })) → HoldsNamed T (do_make c o r)
+  make_holds : (c : ℕ) (o : Option Bucket) → IfSome o (λ b. T (record { name = r.shared.next; bucket = b })) → HoldsNamed T (do_make c o r)
   make_holds c None new = h
-  make_holds c (Some b) new = new_holds c b (new b refl)
-
-  copy_is : (s : Place) → Stands r s → (b : Bucket) → copied_bucket (bucket_at s) ≡ Some b → T (record { name = r.shared.next; bucket = b })
-  copy_is (Within k x) there b is = let same : x.bucket ≡ b = cc in subst (λ (z : Bucket). T (record { name = r.shared.next; bucket = z })) same (on.copy x (within_of k x there))
-  copy_is (AtLoose x) there b is = let same : x.bucket ≡ b = cc in subst (λ (z : Bucket). T (record { name = r.shared.next; bucket = z })) same (on.copy x (loose_of x there))
-  copy_is s there b is = absurd (cc)
+  make_holds c (Some b) new = new_holds c b new
 
   -- Buckets that are cut.
 
@@ -210,7 +188,7 @@ module _ (T : NamedBucket → Type 0) (r : Configuration) (on : Descends r.share
       let here : x ≡ y = cc in
       let fits : n ≤ length_of y.bucket.content = subst (λ (z : NamedBucket). n ≤ length_of z.bucket.content) here le in
       let old = All-head T y ys all in
-      All-cons T (first_bytes n y) (rest_as r.shared.next n y ∷ ys) (on.front n y fits old) (All-cons T (rest_as r.shared.next n y) ys (on.rest n y fits old) (All-tail T y ys all))
+      All-cons T (first_bytes n y) (rest_as r.shared.next n y ∷ ys) (on.front n y fits old) (All-cons T (rest_as r.shared.next n y) ys (on.named _ (on.rest n y fits old)) (All-tail T y ys all))
 
   reaches : (n : ℕ) (x : NamedBucket) → is_some (split_refusal n x) ≡ false → n ≤ length_of x.bucket.content
   reaches n x may = by_tests (is_data x) (nat_lt (length_of x.bucket.content) n) refl may where
@@ -257,7 +235,7 @@ module _ (T : NamedBucket → Type 0) (r : Configuration) (on : Descends r.share
     by_length : (t : Bool) → nat_le (length_of b.bucket.content) (suc p) ≡ t → All T (back_from r.shared.next (suc p - length_of b.bucket.content) bs)
         → All T (cond t (back_from r.shared.next (suc p - length_of b.bucket.content) bs) ((record { name = r.shared.next; bucket = (split_at (suc p) b.bucket).1 }) ∷ bs))
     by_length true is rest = rest
-    by_length false is rest = All-cons T _ bs (on.rest (suc p) b (longer (length_of b.bucket.content) (suc p) is) (All-head T b bs all)) (All-tail T b bs all)
+    by_length false is rest = All-cons T _ bs (on.named _ (on.rest (suc p) b (longer (length_of b.bucket.content) (suc p) is) (All-head T b bs all))) (All-tail T b bs all)
 
   parted_each : (point : ℕ) (bs : List NamedBucket) → All T bs → All T (partitioned r.shared.next point bs)
   parted_each point bs all = by_short (is_short point bs) where
@@ -290,7 +268,7 @@ module _ (T : NamedBucket → Type 0) (r : Configuration) (on : Descends r.share
 
     by_length : (t : Bool) → nat_le len read_limit ≡ t → All T (rest_named r.shared.next (cond t None (Some (record b.bucket { content = rest_of read_limit b.bucket.content }))))
     by_length true tells = none
-    by_length false tells = All-cons T _ [] (on.rest read_limit b (subst (λ (c : Content). read_limit ≤ length_of c) is (longer len tells)) old) none
+    by_length false tells = All-cons T _ [] (on.named _ (on.rest read_limit b (subst (λ (c : Content). read_limit ≤ length_of c) is (longer len tells)) old)) none
   read_parts bytes b made content.Nothing is old = (old, none)
 
   read_first : (bytes : List ℕ) → ((y : NamedBucket) → T y → T (record y { bucket = heap_bucket bytes })) → (ys : List NamedBucket) → All T ys → All T (first_read r.shared.next bytes ys)
@@ -315,103 +293,44 @@ module _ (T : NamedBucket → Type 0) (r : Configuration) (on : Descends r.share
 abbrev pub is_quiet : Effect → Bool
 is_quiet e = not (is_wide (extent e) || has_pools (extent e))
 
--- the bucket that is made of a source, if it is no copy
-abbrev pub FromSource : Program → Configuration → MadeFrom → Bucket → Type 0
-FromSource p r (HeapText t) b = b ≡ heap_bucket (text_of p t)
-FromSource p r (ImmortalText t) b = b ≡ immortal_bucket (text_of p t)
-FromSource p r HeapBuffer b = b ≡ heap_bucket r.call.buffer
-FromSource p r TransientBuffer b = b ≡ transient_bucket r.call.name r.call.buffer
-FromSource p r (PoolBuffer q) b = (n : ℕ) × (b ≡ pool_bucket r.call.buffer n)
-FromSource p r FlushBucket b = b ≡ metadata kind.Flush
-FromSource p r EosBucket b = b ≡ metadata kind.Eos
-FromSource p r (CopyAt c) b = ⊥
+-- What is true of each bucket, under its name, of what comes of it and of what is made and read, is true of each that such an effect leaves.
+module _ (T : NamedBucket → Type 0) (p : Program) (choice : Choice) (r : Configuration) (on : Descends r.shared.next T)
+    (made : (b : Bucket) → IsMade r b → IsPut p r b.content → T (record { name = r.shared.next; bucket = b }))
+    (reads : (c : Content) (bytes : List ℕ) → read_given choice.given c ≡ Some bytes → (x : NamedBucket) → T x → T (record x { bucket = heap_bucket bytes })) (h : HoldsNamed T r) where
+  abbrev New : Bucket → Type 0
+  New b = T (record { name = r.shared.next; bucket = b })
 
--- the buckets that an effect makes
-abbrev pub Makes : Program → Choice → Configuration → Effect → Bucket → Type 0
-Makes p choice r (effect.Make c source) b = FromSource p r source b
-Makes p choice r (effect.Read c) b = (x : Content) × ((bytes : List ℕ) × ((read_given choice.given x ≡ Some bytes) × (b ≡ heap_bucket bytes)))
-Makes p choice r e b = ⊥
+  -- of whatever source: made as one is made in a call, or like one at which a cursor stands
+  made_holds : (source : MadeFrom) → IfSome (made_of p r source) New
+  made_holds source = grind (arith, made, on.named, held_at T r h, stands r, OfText, OfBuffer, OfNone)
 
--- whether an effect reads a bucket
-abbrev pub reads_bucket : Effect → Bool
-reads_bucket (effect.Read c) = true
-reads_bucket e = false
+  insert_holds : (side : Side) (b c : ℕ) → HoldsNamed T (put_into (put_at side) b (spot r c) r)
+  insert_holds AtTail b c = put_holds T r on h put_tail (each_put_tail T) b (spot r c) (stands r (r.call.cursors c))
+  insert_holds AtHead b c = put_holds T r on h put_head (each_put_head T) b (spot r c) (stands r (r.call.cursors c))
 
-abbrev pub is_read : Instr → Bool
-is_read i = reads_bucket (effect_of i)
+  pub leaves : (e : Effect) → is_quiet e ≡ true → HoldsNamed T (do_effect p choice e r)
+  leaves effect.Nothing quiet = h
+  leaves (effect.SplitBrigade b c a) quiet = bsplit_holds T r on h b (spot r c) a
+  leaves (effect.PartBrigade b x c) quiet = part_holds T r on h b (value_of r x) c
+  leaves (effect.First c b) quiet = cursor_holds T c _ r h
+  leaves (effect.Next d c) quiet = next_holds T r on h d (spot r c)
+  leaves (effect.Unlink c) quiet = unlink_holds T r on h (spot r c) (stands r (r.call.cursors c))
+  leaves (effect.Delete c) quiet = delete_holds T r on h (spot r c)
+  leaves (effect.Insert side b c) quiet = insert_holds side b c
+  leaves (effect.Before c d) quiet = before_holds T r on h (spot r c) (spot r d) (stands r (r.call.cursors c))
+  leaves (effect.Make c source) quiet = make_holds T r on h c (made_of p r source) (made_holds source)
+  leaves (effect.Split c x) quiet = split_holds T r on h (value_of r x) (spot r c) (stands r (r.call.cursors c))
+  leaves (effect.Read c) quiet = read_holds T r on h choice.given (spot r c) reads
+  leaves (effect.Number n number) quiet = got_holds T r on h n (number_of r n number)
+  leaves (effect.Put x) quiet = put_keeps (HoldsNamed T) x r h (λ buffer. buffer_holds T buffer r h)
+  leaves effect.ClearBuffer quiet = buffer_holds T [] r h
+  leaves e quiet = absurd (cc)
 
--- What is true of each bucket, under its name, of what comes of it and of what is made, is true of each that such an effect leaves.
-module _ (T : NamedBucket → Type 0) (p : Program) (choice : Choice) (r : Configuration) (on : Descends r.shared.next T) where
-  made_holds : (source : MadeFrom) → ((b : Bucket) → FromSource p r source b → T (record { name = r.shared.next; bucket = b })) → HoldsNamed T r
-      → (b : Bucket) → made_of p r source ≡ Some b → T (record { name = r.shared.next; bucket = b })
-  made_holds (HeapText t) made h b is = made b cc
-  made_holds (ImmortalText t) made h b is = made b cc
-  made_holds HeapBuffer made h b is = made b cc
-  made_holds TransientBuffer made h b is = made b cc
-  made_holds (PoolBuffer q) made h b is = made b (in_pool (pool_named r q) is) where
-    in_pool : (o : Option ℕ) → pooled_bucket r.call.buffer o ≡ Some b → (n : ℕ) × (b ≡ pool_bucket r.call.buffer n)
-    in_pool None is = absurd (cc)
-    in_pool (Some n) is = (n, cc)
-  made_holds FlushBucket made h b is = made b cc
-  made_holds EosBucket made h b is = made b cc
-  made_holds (CopyAt c) made h b is = copy_is T r on h (spot r c) (stands r (r.call.cursors c)) b is
-
-  insert_holds : (side : Side) (b c : ℕ) → HoldsNamed T r → HoldsNamed T (put_into (put_at side) b (spot r c) r)
-  insert_holds AtTail b c h = put_holds T r on h put_tail (each_put_tail T) b (spot r c) (stands r (r.call.cursors c))
-  insert_holds AtHead b c h = put_holds T r on h put_head (each_put_head T) b (spot r c) (stands r (r.call.cursors c))
-
-  leaves : (e : Effect) → is_quiet e ≡ true → ((b : Bucket) → reads_bucket e ≡ false → Makes p choice r e b → T (record { name = r.shared.next; bucket = b }))
-      → ((c : Content) (bytes : List ℕ) → reads_bucket e ≡ true → read_given choice.given c ≡ Some bytes → (x : NamedBucket) → T x → T (record x { bucket = heap_bucket bytes }))
-      → HoldsNamed T r → HoldsNamed T (do_effect p choice e r)
-  leaves effect.Nothing quiet made reads h = h
-  leaves (effect.SplitBrigade b c a) quiet made reads h = bsplit_holds T r on h b (spot r c) a
-  leaves (effect.PartBrigade b x c) quiet made reads h = part_holds T r on h b (value_of r x) c
-  leaves (effect.First c b) quiet made reads h = cursor_holds T c _ r h
-  leaves (effect.Next d c) quiet made reads h = next_holds T r on h d (spot r c)
-  leaves (effect.Unlink c) quiet made reads h = unlink_holds T r on h (spot r c) (stands r (r.call.cursors c))
-  leaves (effect.Delete c) quiet made reads h = delete_holds T r on h (spot r c)
-  leaves (effect.Insert side b c) quiet made reads h = insert_holds side b c h
-  leaves (effect.Before c d) quiet made reads h = before_holds T r on h (spot r c) (spot r d) (stands r (r.call.cursors c))
-  leaves (effect.Make c source) quiet made reads h = make_holds T r on h c (made_of p r source) (made_holds source (λ b from. made b refl from) h)
-  leaves (effect.Split c x) quiet made reads h = split_holds T r on h (value_of r x) (spot r c) (stands r (r.call.cursors c))
-  leaves (effect.Read c) quiet made reads h = read_holds T r on h choice.given (spot r c) (λ k bytes is. reads k bytes refl is)
-  leaves (effect.Number n number) quiet made reads h = got_holds T r on h n (number_of r n number)
-  leaves (effect.Put x) quiet made reads h = put_keeps (HoldsNamed T) x r h (λ buffer. buffer_holds T buffer r h)
-  leaves effect.ClearBuffer quiet made reads h = buffer_holds T [] r h
-  leaves e quiet made reads h = absurd (cc)
-
-pub named_leaves : (T : NamedBucket → Type 0) (p : Program) (choice : Choice) (i : Instr) (r : Configuration) → is_quiet (effect_of i) ≡ true → Descends r.shared.next T
-    → ((b : Bucket) → is_read i ≡ false → Makes p choice r (effect_of i) b → T (record { name = r.shared.next; bucket = b }))
-    → ((c : Content) (bytes : List ℕ) → is_read i ≡ true → read_given choice.given c ≡ Some bytes → (x : NamedBucket) → T x → T (record x { bucket = heap_bucket bytes })) → HoldsNamed T r
-    → HoldsNamed T (step p choice i r).state
-named_leaves T p choice i r quiet on made reads h = leaves T p choice r on (effect_of i) quiet made reads h
-
--- the parts of a bucket, and a copy
+-- the parts of a bucket, and one like it
 pub parts_descend : (T : Bucket → Type 0) (next : ℕ) → PassesParts T → Descends next (λ x. T x.bucket)
-parts_descend T next on = record { front = λ n x le old. on.front n x.bucket le old; rest = λ n x le old. on.rest n x.bucket le old; copy = λ x old. old }
-
--- what was read is made
-pub read_makes : (p : Program) (choice : Choice) (r : Configuration) (e : Effect) (c : Content) (bytes : List ℕ) → reads_bucket e ≡ true
-    → read_given choice.given c ≡ Some bytes → Makes p choice r e (heap_bucket bytes)
-read_makes p choice r (effect.Read d) c bytes reads is = (c, (bytes, (is, refl)))
-read_makes p choice r e c bytes reads is = absurd (cc)
-
-from_so : (p : Program) (r : Configuration) (source : MadeFrom) (b : Bucket) → FromSource p r source b → IsMade r b
-from_so p r (HeapText t) b is = subst (IsMade r) (sym is) (made_heap r (text_of p t))
-from_so p r (ImmortalText t) b is = subst (IsMade r) (sym is) (made_immortal r (text_of p t))
-from_so p r HeapBuffer b is = subst (IsMade r) (sym is) (made_heap r r.call.buffer)
-from_so p r TransientBuffer b is = subst (IsMade r) (sym is) (made_transient r r.call.buffer)
-from_so p r (PoolBuffer q) b is = subst (IsMade r) (sym is.1) (made_pooled r r.call.buffer is.0)
-from_so p r FlushBucket b is = subst (IsMade r) (sym is) (made_flush r)
-from_so p r EosBucket b is = subst (IsMade r) (sym is) (made_eos r)
-from_so p r (CopyAt c) b is = absurd is
-
-pub made_so : (p : Program) (choice : Choice) (r : Configuration) (e : Effect) (b : Bucket) → Makes p choice r e b → IsMade r b
-made_so p choice r (effect.Make c source) b is = from_so p r source b is
-made_so p choice r (effect.Read c) b is = subst (IsMade r) (sym is.1.1.1) (made_heap r is.1.0)
-made_so p choice r e b is = absurd is
+parts_descend T next on = record { front = λ n x le old. on.front n x.bucket le old; rest = λ n x le old. on.rest n x.bucket le old; named = λ x old. old }
 
 pub quiet_leaves : (T : Bucket → Type 0) (p : Program) (choice : Choice) (i : Instr) (r : Configuration) → is_quiet (effect_of i) ≡ true → PassesOn r T → Holds T r → Holds T (step p choice i r).state
 quiet_leaves T p choice i r quiet on h =
-    named_leaves (λ x. T x.bucket) p choice i r quiet (parts_descend T r.shared.next on.parts) (λ b other is. on.made b (made_so p choice r (effect_of i) b is))
-    (λ c bytes reads is x old. on.made (heap_bucket bytes) (made_so p choice r (effect_of i) _ (read_makes p choice r (effect_of i) c bytes reads is))) h
+    leaves (λ x. T x.bucket) p choice r (parts_descend T r.shared.next on.parts) (λ b new put. on.made b new)
+    (λ c bytes is x old. on.made (heap_bucket bytes) (record { fits = record { holds = refl; lives = tt }; ends = tt; lives = inl refl })) h (effect_of i) quiet

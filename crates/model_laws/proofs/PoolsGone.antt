@@ -7,7 +7,10 @@ use Rattle.run_model.specs.Pools.{Pools, is_empty, is_live, is_under, cleared, d
 use Rattle.run_model.specs.RunOrder.{IsPoolMap}
 use Rattle.run_model.specs.Clearing.{run_down}
 use Rattle.run_model.specs.State.{Configuration, with_pools, pool_named}
-use Rattle.run_model.specs.Steps.{on_pool, files_let_go, pool_cleared, pool_destroyed}
+use Rattle.run_model.specs.declared.effect.ClearKind.{ClearKind}
+use Rattle.run_model.specs.declared.effect.ClearKind.TheVariants.{Clear, Destroy}
+use Rattle.run_model.specs.Effects.{after_clear, pools_after}
+use Rattle.run_model.specs.Steps.{on_pool, files_let_go}
 use Rattle.run_model.proofs.PoolMap.{live_path, cleared_apart, cleared_itself, cleared_under, destroyed_apart, destroyed_under}
 use Rattle.run_model.proofs.Formed.{cleared_formed, destroyed_formed}
 use Rattle.run_model.proofs.References.{Emptied, cleared_emptied, destroyed_emptied}
@@ -49,12 +52,12 @@ apart_lives n ps left so k off live = ap (λ (path : List ℕ). not (is_empty pa
 abbrev pub pool_emptied : Pools Payload → ℕ → Configuration → Configuration
 pool_emptied left n r = files_let_go n r (with_pools left (run_down n r))
 
--- what holds where an own pool is cleared, and where it is destroyed
-pub on_emptied : (P : Configuration → Type 0) (q : ℕ) (r : Configuration) → P r
+pub emptied_so : (k : ClearKind) (n : ℕ) (ps : Pools Payload) → Emptying n ps (pools_after k n ps)
+emptied_so Clear = cleared_so
+emptied_so Destroy = destroyed_so
+
+-- what holds where an own pool is cleared or destroyed
+pub on_emptied : (P : Configuration → Type 0) (k : ClearKind) (q : ℕ) (r : Configuration) → P r
     → ((n : ℕ) (left : Pools Payload) → pool_named r (pool.Own q) ≡ Some n → Emptying n r.shared.pools left → P (pool_emptied left n r))
-    → P (on_pool pool_cleared (pool_named r (pool.Own q)) r) × P (on_pool pool_destroyed (pool_named r (pool.Own q)) r)
-on_emptied P q r none some =
-    let ps = r.shared.pools in (
-      on_named P pool_cleared (pool_named r (pool.Own q)) r none (λ n is. some n (cleared n ps) is (cleared_so n ps)),
-      on_named P pool_destroyed (pool_named r (pool.Own q)) r none (λ n is. some n (destroyed n ps) is (destroyed_so n ps)),
-    )
+    → P (on_pool (after_clear k) (pool_named r (pool.Own q)) r)
+on_emptied P k q r none some = on_named P (after_clear k) (pool_named r (pool.Own q)) r none (λ n is. some n (pools_after k n r.shared.pools) is (emptied_so k n r.shared.pools))

@@ -1,9 +1,8 @@
 -- A step keeps ranges below 2^64, and so are those of what is brought.
-use Rattle.std.proofs.Common.{◌≡◌, ℕ, ◌+◌, ◌^◌, ◌<◌, ◌≤◌, Bool, true, false, ◌&&◌, not, ◌==◌, nat_le, List, [], ◌∷◌, All, inl, inr, refl, sym, subst, arith}
+use Rattle.std.proofs.Common.{◌≡◌, ℕ, ◌+◌, ◌^◌, ◌<◌, ◌≤◌, Bool, true, false, ◌&&◌, not, ◌==◌, nat_le, List, [], ◌∷◌, All, inl, inr, refl, arith}
 use Rattle.std.specs.List.{list_any}
 use Rattle.std.proofs.lemmas.Bool.Decides.{nat_tests}
 use Rattle.std.proofs.lemmas.List.Elements.{All-nil, All-cons, All-head, All-tail}
-use Rattle.module_code.specs.Program.{Program}
 use Rattle.run_model.specs.declared.bucket.Content.{Content}
 use Rattle.run_model.specs.declared.bucket.Content.TheVariants as content
 use Rattle.run_model.specs.declared.bucket.Bucket.{Bucket}
@@ -11,20 +10,14 @@ use Rattle.run_model.specs.declared.event.Piece.{Piece}
 use Rattle.run_model.specs.declared.event.Piece.TheVariants as piece
 use Rattle.run_model.specs.Cutting.{EndsInFile, length_of, front_of, rest_of}
 use Rattle.run_model.specs.State.{Configuration}
-use Rattle.run_model.specs.declared.effect.Effect.{Effect}
-use Rattle.run_model.specs.declared.effect.Effect.TheVariants as effect
-use Rattle.run_model.specs.declared.effect.MadeFrom.{MadeFrom}
-use Rattle.run_model.specs.declared.effect.MadeFrom.TheVariants.{PoolBuffer, CopyAt}
-use Rattle.run_model.specs.EffectOf.{effect_of}
-use Rattle.run_model.specs.Steps.{Choice}
 use Rattle.run_model.specs.Pieces.{bucket_of, named_from, has_range, lacks_file}
 use Rattle.model_laws.specs.RangesEnd.{RangesEnd, StepKeepsEnds, PieceEnds, LengthsEnd}
 use Rattle.model_laws.proofs.StepFiles.{neither}
 use Rattle.run_model.proofs.References.{one_of}
-use Rattle.model_laws.proofs.Origins.{Each, PassesParts, Holds, FromSource, Makes}
+use Rattle.model_laws.proofs.Origins.{Each, PassesParts, Holds}
 use Rattle.model_laws.proofs.Contents.{step_contents}
 
--- Parts of a bucket, and buckets that are made.
+-- Parts of a bucket.
 
 abbrev pub Ends : Bucket → Type 0
 Ends b = EndsInFile b.content
@@ -42,23 +35,13 @@ rest_ends n content.Nothing le h = tt
 parts : PassesParts Ends
 parts = record { front = λ n b le h. front_ends n b.content le h; rest = λ n b le h. rest_ends n b.content le h }
 
-from_ends : (p : Program) (r : Configuration) (source : MadeFrom) (b : Bucket) → FromSource p r source b → Ends b
-from_ends p r (PoolBuffer q) b is = subst Ends (sym is.1) tt
-from_ends p r (CopyAt c) b is = absurd is
-from_ends p r source b is = subst Ends (sym is) tt
-
-made_ends : (p : Program) (choice : Choice) (r : Configuration) (e : Effect) (b : Bucket) → Makes p choice r e b → Ends b
-made_ends p choice r (effect.Make c source) b is = from_ends p r source b is
-made_ends p choice r (effect.Read c) b is = subst Ends (sym is.1.1.1) tt
-made_ends p choice r e b is = absurd is
-
 -- Steps.
 
 held : (r : Configuration) → RangesEnd r → Holds Ends r
 held r s = record { brigades = s.brigades; loose = s.loose }
 
 pub step_ends : StepKeepsEnds
-step_ends p choice i r s = let left = step_contents EndsInFile p choice i r parts (made_ends p choice r (effect_of i)) (held r s) in record { brigades = left.brigades; loose = left.loose }
+step_ends p choice i r s = let left = step_contents EndsInFile p choice i r parts (λ b new put. new.ends) (λ c bytes is. tt) (held r s) in record { brigades = left.brigades; loose = left.loose }
 
 -- What is brought.
 

@@ -20,8 +20,7 @@ use Rattle.run_model.specs.Steps.{pool_destroyed, is_above, aside_named}
 use Rattle.run_model.specs.Pieces.{bucket_of, named_from}
 use Rattle.run_model.specs.Sound.{SoundBuckets}
 use Rattle.model_laws.specs.Laws.{StepKeepsBuckets}
-use Rattle.run_model.specs.EffectOf.{effect_of}
-use Rattle.model_laws.proofs.Origins.{HoldsNamed, parts_descend, made_so}
+use Rattle.model_laws.proofs.Origins.{HoldsNamed, parts_descend}
 use Rattle.model_laws.proofs.EachStep.{emptied_holds, each_step}
 
 -- One bucket.
@@ -138,8 +137,8 @@ step_buckets p choice i r may s = held_buckets _ (each_step IsProper r (buckets_
     front = λ n b le e. record { holds = front_form n b.content ∙ e.holds; lives = e.lives };
     rest = λ n b le e. record { holds = rest_form n b.content ∙ e.holds; lives = e.lives };
   });
-  made = λ b other is. (made_so p choice r (effect_of i) b is).fits;
-  reads = λ c bytes reads is x e. record { holds = refl; lives = tt };
+  made = λ b new put. new.fits;
+  reads = λ c bytes is x e. record { holds = refl; lives = tt };
   cleared = cleared_proper;
   aside = aside_proper;
   returned = λ on. returned_proper r.call.name;

@@ -31,7 +31,7 @@ use Rattle.run_model.specs.Clearing.{run_down}
 use Rattle.run_model.specs.State.{Configuration, items_of, set_pool, with_pools, set_brigade, set_loose, pool_named}
 use Rattle.run_model.specs.Faults.{WPool, WCursor, OnBucket, usable_fault, homes_fault, home_fault, or_else, fault_want}
 use Rattle.run_model.specs.EffectOf.{effect_of}
-use Rattle.run_model.specs.Steps.{on_pool, with_brigade, do_create, do_clean, do_concat, do_pass, do_return, cleaned, handed_over, pool_cleared, pool_destroyed, files_let_go, label_registered}
+use Rattle.run_model.specs.Steps.{on_pool, with_brigade, do_create, do_clean, do_concat, do_pass, do_return, cleaned, handed_over, files_let_go, label_registered}
 use Rattle.run_model.specs.Steps.{label_killed, text_of, is_above, aside_named, file_of, new_ref, all_referred, saved_into, made_on}
 use Rattle.run_model.specs.Pieces.{has_range}
 use Rattle.run_model.specs.Sound.{SoundPools, SoundBuckets, Sound, count_named}
@@ -40,6 +40,9 @@ use Rattle.run_model.specs.Cursors.{Place, Nowhere, AtLoose, Within, AtEndOf, bu
 use Rattle.run_model.specs.BucketSteps.{items_at, changed_at, aside_into}
 use Rattle.model_laws.specs.Laws.{changes_pools, is_clear, ChangesOnly, HasReference, SoundFiles, StepKeepsFiles}
 use Rattle.run_model.specs.Holding.{refers}
+use Rattle.run_model.specs.declared.effect.ClearKind.{ClearKind}
+use Rattle.run_model.specs.declared.effect.ClearKind.TheVariants.{Clear, Destroy}
+use Rattle.run_model.specs.Effects.{after_clear}
 use Rattle.model_laws.proofs.PoolsGone.{on_emptied}
 use Rattle.model_laws.proofs.NamedPools.{on_named, made_under_named, own_named}
 use Rattle.run_model.proofs.Spots.{Stands, stands}
@@ -146,9 +149,9 @@ went_files files n r ps e pools req s = went_and files n r ps e pools (λ file e
 pub own_apart : (q n : ℕ) (r : Configuration) → r.instance.pools q ≡ poolvar.Made n → SoundPools r → (m : ℕ) → r.shared.req ≡ Some m → is_under r.shared.pools n m ≡ false
 own_apart q n r is s m req = let own = s.own q n is in req_apart n m r own.0 (λ same. own.2 (req ∙ ap (λ (k : ℕ). Some k) same)) req s
 
-emptied_files : (files : List (ℕ × ℕ)) (q : ℕ) (r : Configuration) → SoundPools r → SoundFiles files r
-    → SoundFiles files (on_pool pool_cleared (pool_named r (pool.Own q)) r) × SoundFiles files (on_pool pool_destroyed (pool_named r (pool.Own q)) r)
-emptied_files files q r s held = on_emptied (SoundFiles files) q r held (λ n left e so. went_files files n r left so.payloads s (own_apart q n r (own_named q n r e) s) held)
+emptied_files : (files : List (ℕ × ℕ)) (k : ClearKind) (q : ℕ) (r : Configuration) → SoundPools r → SoundFiles files r
+    → SoundFiles files (on_pool (after_clear k) (pool_named r (pool.Own q)) r)
+emptied_files files k q r s held = on_emptied (SoundFiles files) k q r held (λ n left e so. went_files files n r left so.payloads s (own_apart q n r (own_named q n r e) s) held)
 
 made_files : (files : List (ℕ × ℕ)) (parent q : ℕ) (r : Configuration) → SoundPools r → SoundFiles files r
     → SoundFiles files (set_pool q (poolvar.Made r.shared.pools.next) (with_pools (created parent r.shared.pools) r))
@@ -401,8 +404,8 @@ quiet_files files i r new tree clear only h s = same_files files r new (only.tre
 
 pub step_files : StepKeepsFiles
 step_files p choice (instr.PCreate q) files r may s held = made_under_named (SoundFiles files) p q r held (λ parent e. made_files files parent q r s.pools held)
-step_files p choice (instr.PClear q) files r may s held = (emptied_files files q r s.pools held).0
-step_files p choice (instr.PDestroy q) files r may s held = (emptied_files files q r s.pools held).1
+step_files p choice (instr.PClear q) files r may s held = emptied_files files Clear q r s.pools held
+step_files p choice (instr.PDestroy q) files r may s held = emptied_files files Destroy q r s.pools held
 step_files p choice (instr.Label q t) files r may s held = on_named (SoundFiles files) (label_registered (text_of p t)) (pool_named r q) r held (λ n e. labelled_files files (text_of p t) n r held)
 step_files p choice (instr.Unlabel q t) files r may s held = on_named (SoundFiles files) (label_killed (text_of p t)) (pool_named r q) r held (λ n e. unlabelled_files files (text_of p t) n r held)
 step_files p choice (instr.BCreate o) files r may s held = create_files files p o r held

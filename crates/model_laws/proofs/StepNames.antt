@@ -151,10 +151,8 @@ gives : (p : Program) (choice : Choice) (e : Effect) (r : Configuration) → nam
 unfolding set_number with_pools
 gives p choice effect.Nothing r other last = same_slots r r refl refl refl (start r.shared.next 0 last)
 gives p choice (effect.MakePool q) r other last = pcreate_names p q r (start r.shared.next 0 last)
-gives p choice (effect.ClearPool q) r other last =
-    let limit = start r.shared.next 0 last in (on_emptied (NamesStep r) q r (same_slots r r refl refl refl limit) (λ n left is so. emptied_names left n r limit)).0
-gives p choice (effect.DestroyPool q) r other last =
-    let limit = start r.shared.next 0 last in (on_emptied (NamesStep r) q r (same_slots r r refl refl refl limit) (λ n left is so. emptied_names left n r limit)).1
+gives p choice (effect.EmptyPool k q) r other last =
+    let limit = start r.shared.next 0 last in on_emptied (NamesStep r) k q r (same_slots r r refl refl refl limit) (λ n left is so. emptied_names left n r limit)
 gives p choice (effect.Register q t) r other last =
     let limit = start r.shared.next 0 last in
     on_named (NamesStep r) (label_registered (text_of p t)) (pool_named r q) r (same_slots r r refl refl refl limit) (λ n is. same_slots r _ refl refl refl limit)

@@ -28,6 +28,7 @@ use Rattle.model_laws.specs.Laws.{StepKeepsPools}
 use Rattle.run_model.proofs.Updates.{upd_either}
 use Rattle.run_model.proofs.PoolMap.{created_lives, created_next, created_kept}
 use Rattle.model_laws.proofs.BrigadePools.{KeepsPool, pool_kept, clean_on, pass_on, fill_on, move_on, return_on}
+use Rattle.run_model.specs.declared.effect.ClearKind.TheVariants.{Clear, Destroy}
 use Rattle.model_laws.proofs.PoolsGone.{Emptying, pool_emptied, on_emptied}
 use Rattle.model_laws.proofs.StepNames.{not_spent}
 use Rattle.run_model.proofs.Formed.{created_formed, registered_formed, killed_formed}
@@ -188,8 +189,8 @@ pools_placed c v r s = keeps_pools r _ refl refl refl refl s.brigades s
 
 pub step_pools : StepKeepsPools
 step_pools p choice (instr.PCreate q) r may s = pcreate_pools p q r (lasting_pool r (instr.PCreate q) may.names_last) (wanted_pool r (pool_of_pool p q) _ may.faultless) s
-step_pools p choice (instr.PClear q) r may s = (on_emptied SoundPools q r s (λ n left e so. emptied_pools q n left r (own_named q n r e) so s)).0
-step_pools p choice (instr.PDestroy q) r may s = (on_emptied SoundPools q r s (λ n left e so. emptied_pools q n left r (own_named q n r e) so s)).1
+step_pools p choice (instr.PClear q) r may s = on_emptied SoundPools Clear q r s (λ n left e so. emptied_pools q n left r (own_named q n r e) so s)
+step_pools p choice (instr.PDestroy q) r may s = on_emptied SoundPools Destroy q r s (λ n left e so. emptied_pools q n left r (own_named q n r e) so s)
 step_pools p choice (instr.Label q t) r may s =
     on_named SoundPools (label_registered (text_of p t)) (pool_named r q) r s (λ n e. labelled_pools (text_of p t) n r (named_lives r q n (wanted_pool r q None may.faultless) e) s)
 step_pools p choice (instr.Unlabel q t) r may s = on_named SoundPools (label_killed (text_of p t)) (pool_named r q) r s (λ n e. unlabelled_pools (text_of p t) n r s)

@@ -33,6 +33,7 @@ use Rattle.run_model.specs.Cutting.{FitsKind, LivesAs, length_of, OpenFile, form
 use Rattle.model_laws.specs.Laws.{changes_pools, is_clear, ChangesOnly, HasReference, KeptAside, SoundFiles}
 use Rattle.run_model.specs.Holding.{refers}
 use Rattle.model_laws.specs.Ranges.{Reaches, LiesInFile, HasLength, SoundRanges, StepKeepsRanges}
+use Rattle.run_model.specs.declared.effect.ClearKind.TheVariants.{Clear, Destroy}
 use Rattle.model_laws.proofs.PoolsGone.{on_emptied}
 use Rattle.model_laws.proofs.NamedPools.{on_named, made_under_named}
 use Rattle.run_model.proofs.Spots.{Stands, stands}
@@ -284,9 +285,9 @@ IfHeld files new = SoundFiles files new → SoundRanges files new
 pub step_ranges : StepKeepsRanges
 step_ranges p choice (instr.PCreate q) files r may sound held s = made_under_named (SoundRanges files) p q r s (λ parent e. made_ranges files parent q r s)
 step_ranges p choice (instr.PClear q) files r may sound held s =
-    (on_emptied (IfHeld files) q r (λ h. s) (λ n left e so. went_ranges files n r left so.payloads sound.pools s)).0 (step_files p choice (instr.PClear q) files r may sound held)
+    (on_emptied (IfHeld files) Clear q r (λ h. s) (λ n left e so. went_ranges files n r left so.payloads sound.pools s)) (step_files p choice (instr.PClear q) files r may sound held)
 step_ranges p choice (instr.PDestroy q) files r may sound held s =
-    (on_emptied (IfHeld files) q r (λ h. s) (λ n left e so. went_ranges files n r left so.payloads sound.pools s)).1 (step_files p choice (instr.PDestroy q) files r may sound held)
+    (on_emptied (IfHeld files) Destroy q r (λ h. s) (λ n left e so. went_ranges files n r left so.payloads sound.pools s)) (step_files p choice (instr.PDestroy q) files r may sound held)
 step_ranges p choice (instr.Label q t) files r may sound held s = on_named (SoundRanges files) (label_registered (text_of p t)) (pool_named r q) r s (λ n e. labelled_ranges files (text_of p t) n r s)
 step_ranges p choice (instr.Unlabel q t) files r may sound held s = on_named (SoundRanges files) (label_killed (text_of p t)) (pool_named r q) r s (λ n e. unlabelled_ranges files (text_of p t) n r s)
 step_ranges p choice (instr.BCreate o) files r may sound held s = create_ranges files p o r s

@@ -197,10 +197,8 @@ pub effect_changes_only : (p : Program) (choice : Choice) (e : Effect) (r : Conf
 effect_changes_only p choice effect.Nothing r = nothing effect.Nothing r
 effect_changes_only p choice (effect.MakePool q) r = let e = effect.MakePool q in
     made_under_named (ChangesOnly e r) p q r (nothing e r) (λ parent is. by_pool e r _ q _ (itself q) (by_tree e r r _ refl (nothing e r)))
-effect_changes_only p choice (effect.ClearPool q) r =
-    let e = effect.ClearPool q in (on_emptied (ChangesOnly e r) q r (nothing e r) (λ n left is so. emptied_changes e left n r (λ k. refl) refl refl refl)).0
-effect_changes_only p choice (effect.DestroyPool q) r =
-    let e = effect.DestroyPool q in (on_emptied (ChangesOnly e r) q r (nothing e r) (λ n left is so. emptied_changes e left n r (λ k. refl) refl refl refl)).1
+effect_changes_only p choice (effect.EmptyPool k q) r =
+    let e = effect.EmptyPool k q in on_emptied (ChangesOnly e r) k q r (nothing e r) (λ n left is so. emptied_changes e left n r (λ j. refl) refl refl refl)
 effect_changes_only p choice (effect.Register q t) r = let e = effect.Register q t in
     on_named (ChangesOnly e r) (label_registered (text_of p t)) (pool_named r q) r (nothing e r) (λ n is. by_tree e r r _ refl (nothing e r))
 effect_changes_only p choice (effect.Kill q t) r = let e = effect.Kill q t in

@@ -78,8 +78,7 @@ is_loose (AtEndOf b) = false
 
 -- the brigade variables that an effect may change
 abbrev pub may_change : Configuration → Effect → ℕ → Bool
-may_change r (effect.ClearPool q) k = true
-may_change r (effect.DestroyPool q) k = true
+may_change r (effect.EmptyPool how q) k = true
 may_change r (effect.MakeBrigade o) k = k == o
 may_change r (effect.Clean b) k = k == b
 may_change r (effect.Concat a b) k = k == a || k == b
@@ -119,8 +118,7 @@ may_change_cursor e k = false
 
 -- whether it may change which buckets are loose, or one of them
 abbrev pub may_change_loose : Configuration → Effect → Bool
-may_change_loose r (effect.ClearPool q) = true
-may_change_loose r (effect.DestroyPool q) = true
+may_change_loose r (effect.EmptyPool how q) = true
 may_change_loose r (effect.Unlink c) = true
 may_change_loose r (effect.Delete c) = is_loose (spot r c)
 may_change_loose r (effect.Insert side b c) = true

@@ -6,5 +6,4 @@ pub mod Printed
 pub mod Left
 pub mod Room
 pub mod Tree
-pub mod Clears
 pub mod Prelude

@@ -2,7 +2,7 @@
 pub use Rattle.run_model.specs.Indexed.{upd}
 pub use Rattle.run_model.specs.Pools.{cleared, destroyed, is_in, is_live}
 pub use Rattle.run_model.specs.RunOrder.{IsPoolMap, children, last_that, order_under, run_order, without_last}
-pub use Rattle.pool_tree.specs.Clears.{pools_after}
+pub use Rattle.run_model.specs.Effects.{pools_after}
 pub use Rattle.pool_tree.specs.Handed.{IsOnce, own_of}
 pub use Rattle.pool_tree.specs.Left.{IsPlace, text_behind, text_left}
 pub use Rattle.pool_tree.specs.Links.{IsCleared, IsRefilled}

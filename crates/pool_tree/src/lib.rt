@@ -11,5 +11,6 @@ mod tree;
 
 pub use byte_text::WriteFault;
 pub use refusal::PoolError;
+pub use run_model::ClearKind;
 pub use text::PoolText;
-pub use tree::{ClearKind, PoolId, PoolTree, Room};
+pub use tree::{PoolId, PoolTree, Room};

@@ -12,7 +12,7 @@ use crate::links::add_child;
 use crate::payloads::{push, take_at, take_newest_equal};
 use crate::records::{Pool, Records};
 use crate::refusal::PoolError;
-pub use clear::{ClearKind, Room};
+pub use clear::Room;
 use std::alloc::{AllocError, Global};
 
 /// The name of a pool.

@@ -4,6 +4,7 @@ pub use Rattle.run_model.specs.BrigadeLists.{bucket_across, is_short, split_refu
 pub use Rattle.run_model.specs.BucketSteps.{byte_of, content_at, got, has_rest, is_of_kind, is_unsplit, items_at, kind_is, names_if}
 pub use Rattle.run_model.specs.Cursors.{is_end, read_cursor, spot}
 pub use Rattle.run_model.specs.Cutting.{length_of}
+pub use Rattle.run_model.specs.EffectOf.{instr_with}
 pub use Rattle.run_model.specs.Faults.{Anywhere, InBrigade, OnBucket, fault}
 pub use Rattle.run_model.specs.Pools.{is_empty}
 pub use Rattle.run_model.specs.State.{is_named, items_of, name_in, pool_named, set_cursor, set_number}
@@ -20,7 +21,7 @@ pub use Rattle.stored_rings.specs.Views.{content_of}
 pub use Rattle.brigade_ops.specs.Store.{brigade_of, bucket_at, lists, next_name}
 pub use Rattle.ring_calls.specs.Around.{Around}
 pub use Rattle.ring_calls.specs.Asked.{is_answered}
-pub use Rattle.ring_calls.specs.EffectNeeds.{HasNoFault, IsAskable, asks_store, instr_by, instr_with, is_told}
+pub use Rattle.ring_calls.specs.EffectNeeds.{HasNoFault, IsAskable, asks_store, instr_by, is_told}
 pub use Rattle.ring_calls.specs.Held.{HeldOver, IsHeld}
 pub use Rattle.ring_calls.specs.Needs.{StandsAs}
 pub use Rattle.ring_calls.specs.Outside.{with_outside}

@@ -2,7 +2,8 @@
 
 ghost use Rattle.std.specs.Prelude.{◌≡◌, ◌≢◌, ◌∷◌, [], ℕ, Some, IsTrue, OnOk, OnErr};
 ghost use Rattle.ring_run.specs.Prelude.{Program, NoneRevived, is_live, is_under, map_of, IsHouse, AreOpen, brigade_of, pool_of, references, next_name, Around, IsHeld, LeavesRest, LeavesUncleared};
-ghost use Rattle.ring_run.specs.Prelude.{seen, WasDone, during, with_files, LooksAt, clear_kind, pool_to_clear};
+ghost use Rattle.ring_run.specs.Prelude.{seen, WasDone, during, with_files, LooksAt, pool_to_clear};
+ghost use Rattle.run_model.specs.declared.effect.Effect.TheVariants as effect;
 
 use crate::labels::add_labels;
 use crate::labels_run::LabelsRun;
@@ -10,30 +11,10 @@ use brigade_ops::{Brigades, ClearKind, Files, PoolId, PoolTree, Rings, Stored};
 use ring_calls::machine::{Call, Instance};
 use ring_calls::pool_names::{name_in, variable};
 use ring_calls::setting::Setting;
-use run_model::{Effect, Payload};
+use run_model::Payload;
 use std::alloc::AllocError;
 
-/// The pool that an effect clears or destroys.
-fn pool_to_clear(instance: &Instance, effect: Effect) -> Option<PoolId>
-    ensures { result ≡ pool_to_clear instance.now effect }
-{
-    match effect {
-        Effect::ClearPool(q) | Effect::DestroyPool(q) => name_in(variable(instance, q)),
-        _ => None,
-    }
-}
-
-/// Whether it destroys it.
-fn clear_kind(effect: Effect) -> ClearKind
-    ensures { result ≡ clear_kind effect }
-{
-    match effect {
-        Effect::DestroyPool(_) => ClearKind::Destroy,
-        _ => ClearKind::Clear,
-    }
-}
-
-/// Clears or destroys a pool, looking at the brigades of the connection, in all its filters, and the loose buckets of all its calls. The
+/// Clears or destroys the pool of a variable, looking at the brigades of the connection, in all its filters, and the loose buckets of all its calls. The
 /// labels that it runs are added to those of earlier clears, in the run order. Without memory nothing is changed.
 pub(crate) fn clear_pool<R: Rings<Stored> + Drop, F: Files>(
     instance: &Instance,
@@ -43,16 +24,17 @@ pub(crate) fn clear_pool<R: Rings<Stored> + Drop, F: Files>(
     tree: &mut PoolTree<Payload>,
     store: &mut Brigades<R>,
     files: &mut F,
-    effect: Effect,
+    kind: ClearKind,
+    q: u8,
 ) -> Result<(), AllocError>
     requires held { IsHeld store.old instance.now call.now }
     requires house { IsHouse store.old (map_of tree.old) }
     requires open { AreOpen (references store.old) (F.device files.old) }
-    requires live { (pool : ℕ) × (pool_to_clear instance.now effect ≡ Some pool) × IsTrue (is_live (map_of tree.old) pool) }
-    requires below { (pool : ℕ) → pool_to_clear instance.now effect ≡ Some pool → (map_of tree.old).path pool ≢ pool ∷ [] }
-    requires looks { (pool : ℕ) → pool_to_clear instance.now effect ≡ Some pool → LooksAt setting.now.rings.now (is_under (map_of tree.old) pool) (pool_of store.old) instance.now call.now }
+    requires live { (pool : ℕ) × (pool_to_clear instance.now (effect.EmptyPool kind q) ≡ Some pool) × IsTrue (is_live (map_of tree.old) pool) }
+    requires below { (pool : ℕ) → pool_to_clear instance.now (effect.EmptyPool kind q) ≡ Some pool → (map_of tree.old).path pool ≢ pool ∷ [] }
+    requires looks { (pool : ℕ) → pool_to_clear instance.now (effect.EmptyPool kind q) ≡ Some pool → LooksAt setting.now.rings.now (is_under (map_of tree.old) pool) (pool_of store.old) instance.now call.now }
     ensures ok { OnOk result ((code : Program) (around : Around)
-        → WasDone (F.device files.old) (F.device files.new) code effect (seen store.old (during setting.now
+        → WasDone (F.device files.old) (F.device files.new) code (effect.EmptyPool kind q) (seen store.old (during setting.now
         (map_of tree.old) handed.old.items around) instance.now call.now) (λ fs. seen store.new (with_files fs (during setting.now
         (map_of tree.new) handed.new.items around)) instance.now call.now)) }
     ensures err { OnErr result ((around : Around)
@@ -66,15 +48,14 @@ pub(crate) fn clear_pool<R: Rings<Stored> + Drop, F: Files>(
     ensures open { AreOpen (references store.new) (F.device files.new) }
     ensures next { next_name store.new ≡ next_name store.old }
     ensures names { NoneRevived (brigade_of store.old) (brigade_of store.new) (next_name store.old) }
-    ensures cleared { OnOk result ((pool : ℕ) → pool_to_clear instance.now effect ≡ Some pool → LeavesUncleared (is_under (map_of tree.old) pool) setting.now.rings.now store.old store.new) }
+    ensures cleared { OnOk result ((pool : ℕ) → pool_to_clear instance.now (effect.EmptyPool kind q) ≡ Some pool → LeavesUncleared (is_under (map_of tree.old) pool) setting.now.rings.now store.old store.new) }
     ensures unasked { store.new.asked ≡ store.old.asked }
     ensures tree_unasked { tree.new.asked ≡ tree.old.asked }
 {
-    let Some(pool) = pool_to_clear(instance, effect) else {
+    let Some(pool) = name_in(variable(instance, q)) else {
         unreachable!()
     };
     handed.reserve(1)?;
-    let kind = clear_kind(effect);
     let ran = store.clear(kind, setting.rings, tree, files, pool)?;
     add_labels(handed, ran);
     Ok(())

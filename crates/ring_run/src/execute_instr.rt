@@ -68,8 +68,8 @@ pub fn execute_instr<R: Rings<Stored> + Drop, F: Files>(
 {
     let effect = effect_of(instr);
     match effect {
-        Effect::ClearPool(_) | Effect::DestroyPool(_) => {
-            clear_pool(instance, call, setting, handed, tree, store, files, effect)?;
+        Effect::EmptyPool(kind, q) => {
+            clear_pool(instance, call, setting, handed, tree, store, files, kind, q)?;
             Ok(Exit::GoOn)
         }
         Effect::Read(c) => {

@@ -1,9 +1,8 @@
 //! What makes buckets, which are loose (apr_buckets.h, apr_bucket_heap_create and its like, apr_bucket_copy).
 
-ghost use Rattle.std.specs.Prelude.{◌≡◌, ◌<◌, ℕ, Option, None, Some, length, true, is_some, IfOk, OnOk, OnErr};
-ghost use Rattle.ring_run.specs.Prelude.{Program, fits, NoneRevived, Bucket, fault, Choice, do_effect, made_of, text_of, lists, brigade_of, pool_of, references, next_name, Items, WasAdded};
-ghost use Rattle.ring_run.specs.Prelude.{is_no_copy, HasNoFault, instr_with, with_outside, Around, IsHeld, LeavesOthers, seen, seen_over, bucket_in, calls_in};
-ghost use Rattle.run_model.specs.declared.bucket.Content.TheVariants as content;
+ghost use Rattle.std.specs.Prelude.{◌≡◌, ◌<◌, ℕ, Some, length, true, IfOk, OnOk, OnErr};
+ghost use Rattle.ring_run.specs.Prelude.{Program, fits, NoneRevived, Bucket, Choice, do_effect, made_of, text_of, lists, brigade_of, pool_of, references, next_name, WasAdded};
+ghost use Rattle.ring_run.specs.Prelude.{HasNoFault, instr_with, with_outside, Around, IsHeld, LeavesOthers, seen, bucket_in, calls_in};
 ghost use Rattle.run_model.specs.declared.bucket.Home.TheVariants as home;
 ghost use Rattle.run_model.specs.declared.effect.Effect.TheVariants as effect;
 
@@ -45,46 +44,8 @@ fn free_bucket(kind: Kind, content: Content) -> Bucket
     }
 }
 
-/// The bucket that is made of a text, of the buffer's bytes, or of nothing. Without memory none.
-fn new_bucket(
-    alloc: Global,
-    code: &Module,
-    instance: &Instance,
-    call: &Call,
-    outside: &Outside<'_>,
-    source: MadeFrom,
-) -> Result<Bucket, AllocError>
-    requires fit { (c : ℕ) × (fits code.now (instr_with (effect.Make c source)) ≡ true) }
-    requires kind { is_no_copy source ≡ true }
-    requires runs { 0 < call.now.name }
-    requires faultless { (c : ℕ) × ((rings : ℕ → Option Items)
-        × ((next : ℕ) × ((around : Around) × (fault code.now (seen_over rings next (with_outside outside.now around) instance.now call.now) (instr_with (effect.Make c source)) ≡ None)))) }
-    ensures { IfOk result (λ bucket. (rings : ℕ → Option Items) (next : ℕ) (around : Around) → call.now.name < next
-        → made_of code.now (seen_over rings next (with_outside outside.now around) instance.now call.now) source ≡ Some (bucket_in (calls_in around call.now) next bucket)) }
-{
-    match source {
-        MadeFrom::HeapText(t) => Ok(free_bucket(Kind::Heap, Content::Bytes(text(alloc, code, t)?))),
-        MadeFrom::ImmortalText(t) => Ok(free_bucket(
-            Kind::Immortal,
-            Content::Bytes(text(alloc, code, t)?),
-        )),
-        MadeFrom::HeapBuffer => Ok(free_bucket(Kind::Heap, Content::Bytes(buffered(alloc, call)?))),
-        MadeFrom::TransientBuffer => Ok(Bucket {
-            kind: Kind::Transient,
-            content: Content::Bytes(buffered(alloc, call)?),
-            home: Home::Call(call.name),
-        }),
-        MadeFrom::PoolBuffer(pool) => Ok(free_bucket(
-            Kind::Pool(pool_there(instance, outside, pool)),
-            Content::Bytes(buffered(alloc, call)?),
-        )),
-        MadeFrom::FlushBucket => Ok(free_bucket(Kind::Flush, Content::Nothing)),
-        MadeFrom::EosBucket => Ok(free_bucket(Kind::Eos, Content::Nothing)),
-        MadeFrom::CopyAt(_) => unreachable!(),
-    }
-}
-
-/// Puts a bucket that is made, or copied, behind the loose ones. Without memory, and where the names are spent, nothing is changed.
+/// Puts a bucket that is made of a text, of the buffer's bytes or of nothing, or is copied, behind the loose ones. Without memory, and where
+/// the names are spent, nothing is changed.
 fn add_made<R: Rings<Stored> + Drop>(
     alloc: Global,
     code: &Module,
@@ -108,17 +69,26 @@ fn add_made<R: Rings<Stored> + Drop>(
     ensures references { references store.new ≡ references store.old }
     ensures unasked { store.new.asked ≡ store.old.asked }
 {
-    if let MadeFrom::CopyAt(d) = source {
-        let Ok(copy) = store.copy(call.bucket(d), call.name) else {
-            return Err(AllocError);
-        };
-        return Ok(copy);
-    }
-    let bucket = new_bucket(alloc, code, instance, call, outside, source)?;
-    let Ok(id) = store.add_tail(call.name, bucket) else {
-        return Err(AllocError);
+    let bucket = match source {
+        MadeFrom::HeapText(t) => free_bucket(Kind::Heap, Content::Bytes(text(alloc, code, t)?)),
+        MadeFrom::ImmortalText(t) => {
+            free_bucket(Kind::Immortal, Content::Bytes(text(alloc, code, t)?))
+        }
+        MadeFrom::HeapBuffer => free_bucket(Kind::Heap, Content::Bytes(buffered(alloc, call)?)),
+        MadeFrom::TransientBuffer => Bucket {
+            kind: Kind::Transient,
+            content: Content::Bytes(buffered(alloc, call)?),
+            home: Home::Call(call.name),
+        },
+        MadeFrom::PoolBuffer(pool) => free_bucket(
+            Kind::Pool(pool_there(instance, outside, pool)),
+            Content::Bytes(buffered(alloc, call)?),
+        ),
+        MadeFrom::FlushBucket => free_bucket(Kind::Flush, Content::Nothing),
+        MadeFrom::EosBucket => free_bucket(Kind::Eos, Content::Nothing),
+        MadeFrom::CopyAt(d) => return store.copy(call.bucket(d), call.name).or(Err(AllocError)),
     };
-    Ok(id)
+    store.add_tail(call.name, bucket).or(Err(AllocError))
 }
 
 /// Makes or copies a bucket, which is loose, and puts a cursor there. Without memory, and where the names are spent, nothing is changed.

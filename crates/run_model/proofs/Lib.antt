@@ -7,3 +7,4 @@ pub mod Names
 pub mod Formed
 pub mod References
 pub mod Spots
+pub mod WithEffects

@@ -22,8 +22,7 @@ pub data Extent : Type 0 where
 abbrev pub extent : Effect → Extent
 extent effect.Nothing = OnBuckets
 extent (effect.MakePool q) = OnPools
-extent (effect.ClearPool q) = OnAllUnder
-extent (effect.DestroyPool q) = OnAllUnder
+extent (effect.EmptyPool k q) = OnAllUnder
 extent (effect.Register q t) = OnPools
 extent (effect.Kill q t) = OnPools
 extent (effect.MakeBrigade o) = OnBrigadesAndPools

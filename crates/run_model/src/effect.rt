@@ -5,6 +5,15 @@ ghost use Rattle.run_model.specs.EffectOf.{effect_of, branch_of};
 
 use module_code::{Instr, KindTest, PoolRef, Value, VarRef};
 
+/// What becomes of a pool that is emptied.
+#[derive(Clone, Copy)]
+pub enum ClearKind {
+    /// It stays (apr_pool_clear).
+    Clear,
+    /// It goes too (apr_pool_destroy).
+    Destroy,
+}
+
 /// What a bucket is made from.
 #[derive(Clone, Copy)]
 pub enum MadeFrom {
@@ -57,10 +66,8 @@ pub enum Effect {
     Nothing,
     /// A pool is made in this variable (apr_pool_create).
     MakePool(u8),
-    /// The pool in this variable is cleared (apr_pool_clear).
-    ClearPool(u8),
-    /// It is destroyed (apr_pool_destroy).
-    DestroyPool(u8),
+    /// The pool in this variable is cleared or destroyed.
+    EmptyPool(ClearKind, u8),
     /// The cleanup of a text is registered on a pool (apr_pool_cleanup_register).
     Register(PoolRef, u8),
     /// It is killed (apr_pool_cleanup_kill).
@@ -160,8 +167,8 @@ pub fn effect_of(instr: Instr) -> Effect
 {
     match instr {
         Instr::PCreate(q) => Effect::MakePool(q),
-        Instr::PClear(q) => Effect::ClearPool(q),
-        Instr::PDestroy(q) => Effect::DestroyPool(q),
+        Instr::PClear(q) => Effect::EmptyPool(ClearKind::Clear, q),
+        Instr::PDestroy(q) => Effect::EmptyPool(ClearKind::Destroy, q),
         Instr::Label(q, t) => Effect::Register(q, t),
         Instr::Unlabel(q, t) => Effect::Kill(q, t),
         Instr::BCreate(o) => Effect::MakeBrigade(o),

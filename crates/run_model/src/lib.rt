@@ -12,7 +12,9 @@ mod want;
 pub use bucket::{
     Brigade, BrigadeVar, Bucket, Content, Cursor, Home, Kind, Mark, NamedBucket, PoolVar,
 };
-pub use effect::{Branch, Condition, Effect, MadeFrom, NewNumber, Side, branch_of, effect_of};
+pub use effect::{
+    Branch, ClearKind, Condition, Effect, MadeFrom, NewNumber, Side, branch_of, effect_of,
+};
 pub use event::{Cause, Event, Exit, Piece, Refusal, StepRefusal, Stepped};
 pub use fault::FaultKind;
 pub use module_code::{Instr, KindTest, Module, PoolRef, Seq, Status, Value, VarRef};

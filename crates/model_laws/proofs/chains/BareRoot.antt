@@ -26,6 +26,7 @@ use Rattle.run_model.proofs.Updates.{upd_off}
 use Rattle.std.proofs.lemmas.Bool.{cases_Bool}
 use Rattle.run_model.proofs.References.{Emptied, destroyed_emptied}
 use Rattle.model_laws.proofs.StepPools.{aside_pools}
+use Rattle.run_model.specs.declared.effect.ClearKind.TheVariants.{Clear, Destroy}
 use Rattle.model_laws.proofs.PoolsGone.{on_emptied}
 use Rattle.model_laws.proofs.NamedPools.{conn_given, live_pool, made_is, made_under_named, not_both, on_named}
 use Rattle.model_laws.proofs.Unchanged.{step_changes_only}
@@ -90,8 +91,8 @@ module _ (root : ℕ) where
     pub step_bare : (choice : Choice) (i : Instr) → Bares r → Bares (step p choice i r).state
     unfolding with_pools set_pool run_down set_brigade
     step_bare choice (instr.PCreate q) bare = made_under_named Bares p q r bare (λ parent is. created_bare parent r.shared.pools (let lt = conn_given r s in omega arith) bare)
-    step_bare choice (instr.PClear q) bare = (on_emptied Bares q r bare (λ n left is so. emptied_bare n r.shared.pools left so.payloads bare)).0
-    step_bare choice (instr.PDestroy q) bare = (on_emptied Bares q r bare (λ n left is so. emptied_bare n r.shared.pools left so.payloads bare)).1
+    step_bare choice (instr.PClear q) bare = on_emptied Bares Clear q r bare (λ n left is so. emptied_bare n r.shared.pools left so.payloads bare)
+    step_bare choice (instr.PDestroy q) bare = on_emptied Bares Destroy q r bare (λ n left is so. emptied_bare n r.shared.pools left so.payloads bare)
     step_bare choice (instr.Label q t) bare = on_named Bares (label_registered (text_of p t)) (pool_named r q) r bare (λ n is. registered_bare n _ r.shared.pools (named_after q n is) bare)
     step_bare choice (instr.Unlabel q t) bare = on_named Bares (label_killed (text_of p t)) (pool_named r q) r bare (λ n is. killed_bare n _ r.shared.pools (named_after q n is) bare)
     step_bare choice (instr.BCreate o) bare = with_brigade_bare (pool_named r (pool_of_brigade p o)) r.shared.next r.shared.pools (λ n is. named_after (pool_of_brigade p o) n is) bare

@@ -1,15 +1,13 @@
 -- What a call read has a home that lasts as long as the call, in every run of a chain.
-use Rattle.std.proofs.Common.{◌≡◌, ◌≢◌, ℕ, ◌+◌, ◌<◌, Bool, true, false, ◌&&◌, ◌==◌, cond, nat_lt, List, [], ◌∷◌, ◌++◌, map, length, Option, Some, None, All, inl, inr, refl, sym, ◌∙◌, ap, subst, arith}
-use Rattle.std.proofs.Common.{eq-eqb, ne_eqb}
+use Rattle.std.proofs.Common.{◌≡◌, ◌≢◌, ℕ, ◌+◌, ◌<◌, Bool, true, false, ◌==◌, cond, List, [], ◌∷◌, ◌++◌, map, length, Option, Some, None, All, inl, inr, refl, sym, ◌∙◌, ap, subst, arith}
+use Rattle.std.proofs.Common.{eq-eqb}
 use Rattle.std.proofs.lemmas.Option.{}
 use Rattle.std.proofs.lemmas.List.Elements.{All-head, All-tail}
 use Rattle.module_code.specs.declared.instr.Instr.{Instr}
 use Rattle.module_code.specs.declared.instr.Instr.TheVariants as instr
 use Rattle.module_code.specs.declared.instr.Status.{Status}
 use Rattle.std.proofs.lemmas.Bool.Decides.{nat_tests}
-use Rattle.module_code.specs.Args.{is_value}
-use Rattle.module_code.specs.Program.{Program, fits, is_brigade}
-use Rattle.module_code.specs.Tables.{place_is_declared}
+use Rattle.module_code.specs.Program.{Program, fits}
 use Rattle.run_model.specs.declared.bucket.Bucket.{Bucket}
 use Rattle.run_model.specs.declared.bucket.BrigadeVar.{BrigadeVar}
 use Rattle.run_model.specs.declared.bucket.BrigadeVar.TheVariants as var
@@ -51,7 +49,7 @@ use Rattle.model_laws.specs.Laws.{MayExecute, MatchHome, is_return, may_change_c
 use Rattle.model_laws.specs.CursorLaws.{name_held}
 use Rattle.model_laws.specs.ReadHomes.{IsNoPool, ReadsLast, RunKeepsReads, ReadsPassTheTest}
 use Rattle.model_laws.proofs.Marks.{first_none, second_none}
-use Rattle.model_laws.proofs.Origins.{HoldsNamed, is_read}
+use Rattle.model_laws.proofs.Origins.{HoldsNamed}
 use Rattle.model_laws.proofs.StepFiles.{not_dead}
 use Rattle.model_laws.proofs.Unchanged.{step_changes_only}
 use Rattle.model_laws.proofs.chains.Beyond.{NoneBeyond, only_here, turn_beyond}
@@ -135,34 +133,13 @@ module _ (next gone : ℕ) (ends : Type 0) (c d : Connection)
 
 -- Only a read sets the read cursor.
 
-first_true : (a b : Bool) → (a && b) ≡ true → a ≡ true
-first_true true b h = refl
-first_true false b h = cc
+abbrev is_read : Instr → Bool
+is_read (instr.Read c l) = true
+is_read i = false
 
-second_true : (a b : Bool) → (a && b) ≡ true → b ≡ true
-second_true true b h = h
-second_true false b h = cc
-
-not_last : (k : ℕ) → nat_lt k 8 ≡ true → (8 == k) ≡ false
-not_last k h = ne_eqb 8 k (λ e. absurd (let lt : k < 8 = below k h in omega (arith, e, lt))) where
-  below : (k : ℕ) → nat_lt k 8 ≡ true → k < 8
-  below k h = grind (arith, nat_tests)
-
-pub read_is : (p : Program) (i : Instr) → fits p i ≡ true → is_return i ≡ false → is_read i ≡ false → may_change_cursor (effect_of i) read_cursor ≡ false
-read_is p (instr.BPart b x k l) fit on other = not_last k (second_true (is_brigade p b && is_value x) (nat_lt k 8) fit)
-read_is p (instr.First k b) fit on other = not_last k (first_true (nat_lt k 8) (is_brigade p b) fit)
-read_is p (instr.Next d k) fit on other = not_last d (first_true (nat_lt d 8) (nat_lt k 8) fit)
-read_is p (instr.Heap k t) fit on other = not_last k (first_true (nat_lt k 8) (nat_lt t (length p.texts)) fit)
-read_is p (instr.Immortal k t) fit on other = not_last k (first_true (nat_lt k 8) (nat_lt t (length p.texts)) fit)
-read_is p (instr.FromBuf k) fit on other = not_last k fit
-read_is p (instr.Transient k) fit on other = not_last k fit
-read_is p (instr.PoolB k q) fit on other = not_last k (first_true (nat_lt k 8) (place_is_declared (length p.pools) q) fit)
-read_is p (instr.Flush k) fit on other = not_last k fit
-read_is p (instr.Eos k) fit on other = not_last k fit
-read_is p (instr.Copy d k) fit on other = not_last d (first_true (nat_lt d 8) (nat_lt k 8) fit)
-read_is p (instr.Read k l) fit on other = absurd (cc)
+read_is : (p : Program) (i : Instr) → fits p i ≡ true → is_return i ≡ false → is_read i ≡ false → may_change_cursor (effect_of i) read_cursor ≡ false
 read_is p (instr.Ret s) fit on other = absurd (cc)
-read_is p i fit on other = refl
+read_is p i fit on other = grind (arith, nat_tests)
 
 -- What is read.
 

@@ -91,11 +91,11 @@ module _ (n : ℕ) (C : ℕ → Type 0) where
   step_lasts p choice r low h i away = each_step T r h p choice i (record {
     descends = record {
       front = λ k x le t e. (let l = t e in record { file = l.file; home = l.home });
-      rest = λ k x le t e. absurd (omega (arith, e, low));
-      copy = λ x t e. absurd (omega (arith, e, low));
+      rest = λ k x le t e. (let l = t e in record { file = l.file; home = l.home });
+      named = λ x t e. absurd (omega (arith, e, low));
     };
-    made = λ b other made e. absurd (omega (arith, e, low));
-    reads = λ c bytes reads is x t e. record { file = heap_is; home = tt };
+    made = λ b new put e. absurd (omega (arith, e, low));
+    reads = λ c bytes is x t e. record { file = heap_is; home = tt };
     cleared = cleared_lasts;
     aside = aside_lasts;
     returned = λ on. returned_lasts r.call.name (away on);

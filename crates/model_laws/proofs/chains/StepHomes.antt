@@ -27,6 +27,7 @@ use Rattle.run_model.specs.Sound.{Sound, count_named}
 use Rattle.model_laws.specs.Laws.{MayExecute, MatchHome, is_return}
 use Rattle.run_model.specs.Chains.{is_under_named, touched_bucket}
 use Rattle.run_model.proofs.PoolMap.{created_lives}
+use Rattle.run_model.specs.declared.effect.ClearKind.TheVariants.{Clear, Destroy}
 use Rattle.model_laws.proofs.PoolsGone.{Emptying, cleared_so, destroyed_so, apart_lives, pool_emptied, on_emptied}
 use Rattle.model_laws.proofs.Marks.{first_none, second_none}
 use Rattle.model_laws.proofs.MadeBrigades.{brigade_path}
@@ -200,8 +201,8 @@ module _ (C : ℕ → Type 0) where
   pub step_alive : (p : Program) (choice : Choice) (i : Instr) (r : Configuration) → is_return i ≡ false → MayExecute p r i → Sound r → C r.call.name → Seen r → Seen (step p choice i r).state
   unfolding set_brigade with_pools set_pool run_down registered killed
   step_alive p choice (instr.PCreate q) r on may sound named h = made_under_named Seen p q r h (λ parent e. grown r _ (created_lives parent r.shared.pools) h.brigades h.loose)
-  step_alive p choice (instr.PClear q) r on may sound named h = (on_emptied Seen q r h (λ n left e so. emptied n left r so h)).0
-  step_alive p choice (instr.PDestroy q) r on may sound named h = (on_emptied Seen q r h (λ n left e so. emptied n left r so h)).1
+  step_alive p choice (instr.PClear q) r on may sound named h = on_emptied Seen Clear q r h (λ n left e so. emptied n left r so h)
+  step_alive p choice (instr.PDestroy q) r on may sound named h = on_emptied Seen Destroy q r h (λ n left e so. emptied n left r so h)
   step_alive p choice (instr.Label q t) r on may sound named h =
       on_named Seen (label_registered (text_of p t)) (pool_named r q) r h (λ n e. grown r _ (same_path r.shared.pools (label_registered (text_of p t) n r).shared.pools refl) h.brigades h.loose)
   step_alive p choice (instr.Unlabel q t) r on may sound named h =

@@ -2,21 +2,13 @@
 
 ghost use Rattle.std.specs.Prelude.{◌≡◌, ◌≢◌, ◌≤◌, IsTrue, IfOk, OnOk, OnErr, reverse, length, vec_capacity, [], ◌∷◌};
 ghost use Rattle.pool_tree.specs.Prelude.{is_live, cleared, destroyed, children, run_order, IsPoolMap, order_under, pools_after, IsRoomFor, map_of};
-ghost use Rattle.pool_tree.specs.declared.tree.clear.ClearKind.TheVariants.{Destroy};
+ghost use Rattle.run_model.specs.declared.effect.ClearKind.TheVariants.{Destroy};
 
 use super::{PoolId, PoolTree};
 use crate::handed::{empty_pool, take_pools};
 use crate::links::remove_leaf;
+use run_model::ClearKind;
 use std::alloc::AllocError;
-
-/// What becomes of a pool that is emptied.
-#[derive(Clone, Copy)]
-pub enum ClearKind {
-    /// It stays (apr_pool_clear).
-    Clear,
-    /// It goes too (apr_pool_destroy).
-    Destroy,
-}
 
 /// The memory that a clear of one pool takes.
 #[derive(Drop)]

@@ -1,12 +1,18 @@
 -- The clear, the read, and all others.
-use Rattle.std.proofs.Common.{◌≡◌, true, refl, sym, ap, ◌∙◌, rules}
+use Rattle.std.proofs.Common.{◌≡◌, ℕ, Some, refl, sym, ap, ◌∙◌}
 use Rattle.run_model.specs.Faults.{InBrigade, WCursor, WHome}
 use Rattle.pool_tree.specs.Tree.{map_of}
 use Rattle.brigade_ops.specs.Store.{lists, next_name}
 use Rattle.ring_run.specs.Apart.{clears_pool_by, is_carried_by, keeps_files_by}
 use Rattle.ring_run.specs.CarriedOut.{during}
 use Rattle.ring_run.specs.Grows.{grows_by}
-use Rattle.ring_run.specs.Operands.{pool_to_clear}
+use Rattle.module_code.specs.declared.instr.Instr.{Instr}
+use Rattle.run_model.specs.declared.effect.ClearKind.{ClearKind}
+use Rattle.run_model.specs.declared.effect.Effect.{Effect}
+use Rattle.run_model.specs.declared.effect.Effect.TheVariants as effect
+use Rattle.run_model.specs.EffectOf.{effect_of}
+use Rattle.ring_calls.specs.declared.machine.Instance.{Instance}
+use Rattle.ring_run.specs.Operands.{cleared_in, pool_to_clear}
 use Rattle.ring_calls.specs.Around.{Around}
 use Rattle.ring_calls.specs.Seen.{seen_over}
 use Rattle.ring_calls.specs.Setting.{in_setting}
@@ -19,19 +25,27 @@ use Rattle.ring_calls.proofs.Quiet.{told_err}
 use Rattle.ring_calls.proofs.OpenFiles.{open_spot}
 use Rattle.ring_run.proofs.execute_instr.execute_instr.Goals as goal
 
+emptied : (i : Instance) (x : Instr) (e : Effect) (kind : ClearKind) (q pool : ℕ) → e ≡ effect_of x → e ≡ effect.EmptyPool kind q → pool_to_clear i (effect.EmptyPool kind q) ≡ Some pool
+    → cleared_in i x ≡ Some pool
+emptied i x e kind q pool of is named = ap (pool_to_clear i) (sym of ∙ is) ∙ named
+
 pub clear_pool-requires-clause-live : goal.clear_pool-requires-clause-live
 clear_pool-requires-clause-live g c =
     let over = in_setting c.args.setting.now (map_of c.args.tree.now) nowhere in
-    let effect = c.effect_of-effect.result in
-    let kind : clears_pool_by c.effect_of-effect.result ≡ true = search rules in
-    let met = faultless_by c.args.code.now c.args.store.now over c.args.instance.now c.args.call.now c.args.instr effect c.effect_of-effect.ensures (c.requires.faultless nowhere) in
-    clears_live c.args.code.now c.args.setting.now (map_of c.args.tree.now) (lists c.args.store.now) (next_name c.args.store.now) nowhere c.args.instance.now c.args.call.now effect kind met.none
+    let effect = effect.EmptyPool c.in-EmptyPool.kind c.in-EmptyPool.q in
+    let met = faultless_by c.args.code.now c.args.store.now over c.args.instance.now c.args.call.now c.args.instr effect (sym c.in-EmptyPool.is ∙ c.effect_of-effect.ensures)
+    (c.requires.faultless nowhere) in
+    clears_live c.args.code.now c.args.setting.now (map_of c.args.tree.now) (lists c.args.store.now) (next_name c.args.store.now) nowhere c.args.instance.now c.args.call.now effect refl met.none
 
 pub clear_pool-requires-clause-below : goal.clear_pool-requires-clause-below
-clear_pool-requires-clause-below g c = λ pool named. c.requires.below pool (ap (pool_to_clear c.args.instance.now) (sym c.effect_of-effect.ensures) ∙ named)
+clear_pool-requires-clause-below g c =
+    λ pool named. c.requires.below pool
+    (emptied c.args.instance.now c.args.instr c.effect_of-effect.result c.in-EmptyPool.kind c.in-EmptyPool.q pool c.effect_of-effect.ensures c.in-EmptyPool.is named)
 
 pub clear_pool-requires-clause-looks : goal.clear_pool-requires-clause-looks
-clear_pool-requires-clause-looks g c = λ pool named. c.requires.looks pool (ap (pool_to_clear c.args.instance.now) (sym c.effect_of-effect.ensures) ∙ named)
+clear_pool-requires-clause-looks g c =
+    λ pool named. c.requires.looks pool
+    (emptied c.args.instance.now c.args.instr c.effect_of-effect.result c.in-EmptyPool.kind c.in-EmptyPool.q pool c.effect_of-effect.ensures c.in-EmptyPool.is named)
 
 pub read-requires-clause-open : goal.read-requires-clause-open
 read-requires-clause-open g c =
@@ -51,18 +65,19 @@ read-requires-clause-stands g c =
     (c.requires.faultless nowhere) in
     stands none c.in-Read.is 0 c.in-Read.c InBrigade refl
 
-pub returns-in_ok-clear_pool-in-ClearPool-clause-ok : goal.returns-in_ok-clear_pool-in-ClearPool-clause-ok
-returns-in_ok-clear_pool-in-ClearPool-clause-ok g c =
+pub returns-in_ok-clear_pool-in-EmptyPool-clause-ok : goal.returns-in_ok-clear_pool-in-EmptyPool-clause-ok
+returns-in_ok-clear_pool-in-EmptyPool-clause-ok g c =
     λ around.
-    let kind : clears_pool_by c.effect_of-effect.result ≡ true = search rules in
-    let clears = pool_cleared c.args.instr (ap clears_pool_by (sym c.effect_of-effect.ensures) ∙ kind) in
+    let is = sym c.in-EmptyPool.is ∙ c.effect_of-effect.ensures in
+    let clears = pool_cleared c.args.instr (ap clears_pool_by (sym is)) in
     let r = seen_over (lists c.args.store.now) (next_name c.args.store.now) (during c.args.setting.now (map_of c.args.tree.now) c.args.handed.now.items around) c.args.instance.now c.args.call.now in
-    carried (g.F.Files.device c.args.files.now) (g.F.Files.device c.clear_pool.new.files) c.args.code.now c.args.instr c.effect_of-effect.result r _ _ c.effect_of-effect.ensures
-    (λ choice. sym (clears.goes_on c.args.code.now choice r)) (c.in_ok-clear_pool-in-ClearPool.ensures.ok c.args.code.now around)
+    carried (g.F.Files.device c.args.files.now) (g.F.Files.device c.clear_pool.new.files) c.args.code.now c.args.instr (effect.EmptyPool c.in-EmptyPool.kind c.in-EmptyPool.q) r _ _ is
+    (λ choice. sym (clears.goes_on c.args.code.now choice r)) (c.in_ok-clear_pool-in-EmptyPool.ensures.ok c.args.code.now around)
 
-pub returns-in_ok-clear_pool-in-ClearPool-clause-cleared : goal.returns-in_ok-clear_pool-in-ClearPool-clause-cleared
-returns-in_ok-clear_pool-in-ClearPool-clause-cleared g c =
-    λ pool named. c.in_ok-clear_pool-in-ClearPool.ensures.cleared pool (ap (pool_to_clear c.args.instance.now) c.effect_of-effect.ensures ∙ named)
+pub returns-in_ok-clear_pool-in-EmptyPool-clause-cleared : goal.returns-in_ok-clear_pool-in-EmptyPool-clause-cleared
+returns-in_ok-clear_pool-in-EmptyPool-clause-cleared g c =
+    λ pool named. c.in_ok-clear_pool-in-EmptyPool.ensures.cleared pool
+    (ap (pool_to_clear c.args.instance.now) (sym c.in-EmptyPool.is ∙ c.effect_of-effect.ensures) ∙ named)
 
 pub returns-in_ok-well-in-Read-clause-ok : goal.returns-in_ok-well-in-Read-clause-ok
 returns-in_ok-well-in-Read-clause-ok g c =
@@ -84,7 +99,7 @@ pub exit-leads-requires-clause-other : goal.exit-leads-requires-clause-other
 exit-leads-requires-clause-other g c =
     let effect = c.effect_of-effect.result in
     let is = c.effect_of-effect.ensures in
-    unanswered c.args.instr (ap keeps_files_by (sym is) ∙ keeps_rest effect (ap is_carried_by is ∙ c.requires.kind) c.in_default.not-ClearPool c.in_default.not-DestroyPool c.in_default.not-Read)
+    unanswered c.args.instr (ap keeps_files_by (sym is) ∙ keeps_rest effect (ap is_carried_by is ∙ c.requires.kind) c.in_default.not-EmptyPool c.in_default.not-Read)
 
 pub exit-leads-requires-clause-faultless : goal.exit-leads-requires-clause-faultless
 exit-leads-requires-clause-faultless g c = (in_setting c.args.setting.now (map_of c.args.tree.now) nowhere, c.requires.faultless nowhere)
@@ -94,7 +109,7 @@ execute_without_files-requires-clause-fit g c = fits_by c.args.code.now c.args.i
 
 pub execute_without_files-requires-clause-kind : goal.execute_without_files-requires-clause-kind
 execute_without_files-requires-clause-kind g c =
-    keeps_rest c.effect_of-effect.result (ap is_carried_by c.effect_of-effect.ensures ∙ c.requires.kind) c.in_default.not-ClearPool c.in_default.not-DestroyPool c.in_default.not-Read
+    keeps_rest c.effect_of-effect.result (ap is_carried_by c.effect_of-effect.ensures ∙ c.requires.kind) c.in_default.not-EmptyPool c.in_default.not-Read
 
 pub execute_without_files-requires-clause-faultless : goal.execute_without_files-requires-clause-faultless
 execute_without_files-requires-clause-faultless g c =
@@ -112,7 +127,7 @@ returns-in_ok-execute_without_files-in_default-clause-ok g c =
     let r = seen_over (lists store) (next_name store) over c.args.instance.now c.args.call.now in
     let effect = c.effect_of-effect.result in
     let is = c.effect_of-effect.ensures in
-    let keeps = keeps_rest effect (ap is_carried_by is ∙ c.requires.kind) c.in_default.not-ClearPool c.in_default.not-DestroyPool c.in_default.not-Read in
+    let keeps = keeps_rest effect (ap is_carried_by is ∙ c.requires.kind) c.in_default.not-EmptyPool c.in_default.not-Read in
     carried d d c.args.code.now c.args.instr effect r _ _ is (λ choice. c.exit-leads.ensures over choice)
     (done_inside d c.args.code.now effect keeps (lists c.execute_without_files.new.store) (next_name c.execute_without_files.new.store)
     (during c.args.setting.now (map_of c.execute_without_files.new.tree) handed around) c.execute_without_files.new.instance c.execute_without_files.new.call r
@@ -123,7 +138,7 @@ returns-in_ok-execute_without_files-in_default-clause-cleared g c =
     λ pool named.
     let effect = c.effect_of-effect.result in
     let is = c.effect_of-effect.ensures in
-    let keeps = keeps_rest effect (ap is_carried_by is ∙ c.requires.kind) c.in_default.not-ClearPool c.in_default.not-DestroyPool c.in_default.not-Read in
+    let keeps = keeps_rest effect (ap is_carried_by is ∙ c.requires.kind) c.in_default.not-EmptyPool c.in_default.not-Read in
     let none = sym (uncleared c.args.instance.now effect keeps) ∙ (ap (pool_to_clear c.args.instance.now) is ∙ named) in
     absurd (cc)
 

@@ -11,9 +11,10 @@ use Rattle.ring_calls.specs.Outside.{with_outside}
 use Rattle.ring_calls.specs.Seen.{seen_over}
 use Rattle.ring_calls.proofs.Faultless.{nowhere}
 use Rattle.ring_calls.proofs.Quiet.{grown_none}
-use Rattle.ring_calls.specs.EffectNeeds.{instr_with}
+use Rattle.run_model.specs.EffectOf.{instr_with}
 use Rattle.ring_run.specs.Grows.{grows_by}
-use Rattle.ring_calls.proofs.Needed.{faultless_at, made_cursor, met, stands, usable_live}
+use Rattle.ring_calls.proofs.Needed.{faultless_at, met, stands, usable_live}
+use Rattle.run_model.proofs.WithEffects.{made_cursor}
 use Rattle.ring_run.proofs.execute_on_store.execute_on_store.Goals as goal
 
 pub make_bucket-requires-clause-cursor : goal.make_bucket-requires-clause-cursor

@@ -3,8 +3,9 @@ use Rattle.std.proofs.Common.{◌≡◌, true, false, [], Err, Result, Some, Non
 use Rattle.bucket_ring.specs.declared.names.BucketId.{BucketId}
 use Rattle.bucket_kinds.specs.Reading.{IsOpenFor}
 use Rattle.run_model.specs.BucketSteps.{content_at}
-use Rattle.run_model.specs.Cursors.{Place, read_cursor}
+use Rattle.run_model.specs.Cursors.{Place, bucket_at, read_cursor}
 use Rattle.run_model.specs.Cutting.{read_of, wanted}
+use Rattle.run_model.specs.Faults.{home_fault}
 use Rattle.run_model.specs.State.{set_cursor}
 use Rattle.run_model.specs.declared.bucket.Cursor.TheVariants as cursor
 use Rattle.run_model.specs.declared.bucket.Bucket.{Bucket}
@@ -17,8 +18,8 @@ use Rattle.ring_calls.specs.declared.machine.CursorValue.TheVariants as cursor_v
 use Rattle.ring_calls.specs.Given.{WasRead}
 use Rattle.ring_calls.specs.Held.{WasGiven}
 use Rattle.ring_calls.specs.Seen.{seen_over, calls_in, item_in}
-use Rattle.ring_run.proofs.Makes.{held_same}
-use Rattle.ring_run.proofs.BucketReads.{read_into, taken_of, none_given, is_wanted, told_none, told_some, done_read, rest_same, same_read, alive_at, next_is, next_rises, next_same, err_ok}
+use Rattle.ring_run.proofs.Makes.{alive_at, held_same}
+use Rattle.ring_run.proofs.BucketReads.{read_into, taken_of, none_given, is_wanted, told_none, told_some, done_read, rest_same, same_read, next_is, next_rises, next_same, err_ok}
 use Rattle.ring_calls.proofs.Changes.{seen_same}
 use Rattle.ring_calls.proofs.LeftAlone.{left_on, left_same, ours_slot}
 use Rattle.ring_calls.proofs.Names.{name_kept, apart_in, held_kept, no_less, still_on}
@@ -50,7 +51,7 @@ returns-in-Ok-clause-ok g c =
     let took = taken_of (g.F.Files.device c.args.files.now) s.bucket.content gave.0 gave.1 in
     let same = took.1.1 s.bucket in
     let wrote = same_read c.args.store.now c.read.new.self c.bucket-id.result c.in-Ok.field-0 s.bucket s.ring gave.0 took.0 same gave.2 in
-    let alive = alive_at r c.args.c s.variable b y z (s.at around) stands home in
+    let alive = alive_at (ap bucket_at (s.at around)) (ap (λ (s : Place). home_fault (bucket_at s)) stands ∙ home) in
     let rest = read.rest ∙ rest_same [] took.0 s.bucket in
     let next = next_is [] s.bucket (next_name c.args.store.now) (next_name c.read.new.self) read.names in
     subst (λ (s : Place). WasRead (g.F.Files.device c.args.files.now) (g.F.Files.device c.read.new.files) s r

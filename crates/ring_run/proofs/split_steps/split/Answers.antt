@@ -6,17 +6,15 @@ use Rattle.run_model.specs.BucketSteps.{do_split, names_to_split}
 use Rattle.run_model.specs.Buckets.{is_data_kind}
 use Rattle.run_model.specs.Cursors.{Place, bucket_at}
 use Rattle.run_model.specs.Cutting.{split_at, length_of}
-use Rattle.run_model.specs.Faults.{home_fault}
 use Rattle.run_model.specs.declared.bucket.NamedBucket.{NamedBucket}
 use Rattle.stored_rings.specs.declared.refusal.SplitRefusal.TheVariants as refusal
 use Rattle.stored_rings.specs.Items.{named_item, replaced}
 use Rattle.brigade_ops.specs.Store.{lists, brigade_of, pool_of, next_name}
 use Rattle.ring_calls.specs.Seen.{seen_over, calls_in, item_in}
 use Rattle.ring_calls.proofs.Changes.{seen_same}
-use Rattle.ring_calls.proofs.Homes.{not_dead}
 use Rattle.ring_calls.proofs.Names.{apart_in, held_kept, no_less, still_on}
 use Rattle.ring_calls.proofs.Quiet.{ok_unless, uncut}
-use Rattle.ring_run.proofs.Makes.{held_same}
+use Rattle.ring_run.proofs.Makes.{alive_at, held_same}
 use Rattle.ring_run.proofs.Splits.{split_into, not_both, not_refused, refused_as, refused_by, done_split, not_split, ok_data, ok_short}
 use Rattle.ring_calls.proofs.Standing.{within_set, within_here, within_live}
 use Rattle.ring_calls.proofs.LeftAlone.{left_on, left_same, ours_slot}
@@ -47,7 +45,7 @@ returns-in-Ok-clause-ok g c =
     (split_into (lists c.args.store.now) (lists c.split.new.self) (next_name c.args.store.now) around c.args.instance.now c.args.call.now
     (apart_in (brigade_of c.args.store.now) (lists c.args.store.now) (pool_of c.args.store.now) (next_name c.args.store.now) c.args.instance.now c.args.call.now c.requires.held) c.bucket.result
     c.in-Ok.field-0 c.args.n s.bucket s.variable s.ring s.named s.given s.found
-    (not_dead y (sym (ap (λ (s : Place). home_fault (bucket_at s)) (s.at around)) ∙ alive)) s.name.young c.in-Ok.ensures.name (λ m. c.in-Ok.ensures.ok s.ring m s.bucket s.inside s.here))
+    (alive_at (ap bucket_at (s.at around)) alive) s.name.young c.in-Ok.ensures.name (λ m. c.in-Ok.ensures.ok s.ring m s.bucket s.inside s.here))
     ∙ ap (λ (s : Place). do_split c.args.n s r) (sym (s.at around)))
 
 pub returns-in-Ok-clause-held : goal.returns-in-Ok-clause-held
