@@ -395,7 +395,8 @@ def check_starts(program, folder, told):
     with Server(program, folder, ['--forever']) as server:
         refused(program, folder, ['--site', 'site', '--port', str(server.port), 'm'], told, b'cannot listen\n', 1)
     for words in (['--site', 'site', 'm'], ['--port', '1', 'm'], at, ['--site', 'site', '--port', '0', 'm'], ['--site', 'site', '--port', '65536', 'm'],
-                  at + ['--timeout', '0', 'm'], at + ['--at-once', '0', 'm'], at + ['--at-once', '65536', 'm'], at + ['--conns', '4294967296', 'm'], at + ['--budget', '-1', 'm'], at + ['--conns', 'x', 'm'], at + ['--conns', '2', '--forever', 'm'],
+                  at + ['--timeout', '0', 'm'], at + ['--at-once', '0', 'm'], at + ['--at-once', '65536', 'm'], at + ['--conns', '4294967296', 'm'],
+                  at + ['--budget', '-1', 'm'], at + ['--conns', 'x', 'm'], at + ['--conns', '2', '--forever', 'm'],
                   at + ['m'] * 17):
         refused(program, folder, words, told, b'', 2)
         count += 1

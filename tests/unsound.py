@@ -121,8 +121,8 @@ WRONG = [
     ('ret', 'a usable brigade may keep a bucket of the call: the need is dropped',
      'need s WReturn = if any_below 8 (λ b. keeps_call (s.brigades b)) then Some F6 else None', 'need s WReturn = None'),
 ]
-# The instructions that one law serves (law_unasked), with their operands.
-UNASKED = {
+# The instructions that one law serves (law_uniform), with their operands.
+UNIFORM = {
     'heap': ('(c t : ℕ)', '(instr.Heap c t)'),
     'immortal': ('(c t : ℕ)', '(instr.Immortal c t)'),
     'frombuf': ('(c : ℕ)', '(instr.FromBuf c)'),
@@ -143,7 +143,7 @@ UNASKED = {
     'jump': ('(l : ℕ)', '(instr.Jump l)'),
 }
 # Rules that are wrong in a part that other instructions share, and those of one law: others may be refused too.
-ALONE = ('pclear', 'first') + tuple(UNASKED)
+ALONE = ('pclear', 'first') + tuple(UNIFORM)
 GROUPS = 4
 LAW = re.compile(r'^ *pub (law_(\w+)) : (?:\{lives : Home → Type 0\} )?(?:(\(.*?) )?→ LawOf lives (\(instr\.[^)]*\)|instr\.\w+)$', re.M)
 DECLARED = re.compile(r'^ *(?:pub )?([a-z]\w*) : ')
@@ -205,9 +205,9 @@ def laws(proofs):
             source = text_of(os.path.join(proofs, name))
             for law in LAW.finditer(source):
                 found[law[2]] = Law(name[:-len('.antt')], source, law[2], law[3] or '', law[4])
-            if name == 'Unasked.antt':
+            if name == 'Uniform.antt':
                 source += text_of(os.path.join(proofs, 'Makers.antt'))
-                found.update((word, Law('Unasked', source, word, *row, 'law_unasked')) for word, row in UNASKED.items())
+                found.update((word, Law('Uniform', source, word, *row, 'law_uniform')) for word, row in UNIFORM.items())
     return found
 
 

@@ -85,8 +85,10 @@ module _ (look : Look) where
 
   -- the parts of a stored bucket show the parts of what it shows
   pub parts_shown : (n : ℕ) (x : Stored) → n ≤ kept_length x.kept → (shown look (parts_at n x).0 ≡ (split_at n (shown look x)).0) × (shown look (parts_at n x).1 ≡ (split_at n (shown look x)).1)
-  parts_shown n x le =
-      (ap (λ c. let b : Bucket = record { kind = x.kind; content = c; home = x.home } in b) (front_shown n x.kept le), ap (λ c. let b : Bucket = record { kind = x.kind; content = c; home = x.home } in b) (rest_shown n x.kept le))
+  parts_shown n x le = (
+    ap (λ c. let b : Bucket = record { kind = x.kind; content = c; home = x.home } in b) (front_shown n x.kept le),
+    ap (λ c. let b : Bucket = record { kind = x.kind; content = c; home = x.home } in b) (rest_shown n x.kept le),
+  )
 
   pub both_shown : (n : ℕ) (x : Stored) → n ≤ kept_length x.kept → (shown look (parts_at n x).0, shown look (parts_at n x).1) ≡ split_at n (shown look x)
   both_shown n x le = (let s = parts_shown n x le in ap (λ (a : Bucket). let both : Bucket × Bucket = (a, shown look (parts_at n x).1) in both) (s.0)

@@ -143,7 +143,14 @@ module _ {T : Type 0} where
         | inr ne ↦ omega (arith, ap (λ o. length (items o)) (lists_new r ∙ upd_off lists q (option_map (without id) (lists q)) r ne))
       ] where
         less : (bs : List (BucketId × T)) → length (without id bs) ≤ length bs
-        less bs = omega (arith, length-append (front id bs) (drop 1 (rest id bs)), length-append (take 1 (rest id bs)) (drop 1 (rest id bs)), ap length (take-append-drop 1 (rest id bs)), length-append (front id bs) (rest id bs), ap length (parts id bs))
+        less bs = omega (
+          arith,
+          length-append (front id bs) (drop 1 (rest id bs)),
+          length-append (take 1 (rest id bs)) (drop 1 (rest id bs)),
+          ap length (take-append-drop 1 (rest id bs)),
+          length-append (front id bs) (rest id bs),
+          ap length (parts id bs),
+        )
 
         mapped_less : (o : Option (List (BucketId × T))) → length (items (option_map (without id) o)) ≤ length (items o)
         mapped_less None = omega arith

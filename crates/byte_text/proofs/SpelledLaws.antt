@@ -36,7 +36,14 @@ printed_byte b low = by_case (eqb b 34) (eqb b 92) (is_printable b) refl refl re
         let high : b / 16 < 16 = omega arith in
         let last : b % 16 < 16 = omega arith in
         let sum : 16 * (b / 16) + b % 16 ≡ b = omega arith in
-        record { piece = hex (b / 16) (b % 16); right = rw (lt-ltb (b / 16) 16 high, lt-ltb (b % 16) 16 last) refl; same = sum; text = rw (e, f, g) refl; clean = rw (e, f, g) (rw (hex_printable (b / 16) high, hex_printable (b % 16) last) refl); short = rw (e, f, g) (omega arith) }
+        record {
+          piece = hex (b / 16) (b % 16);
+          right = rw (lt-ltb (b / 16) 16 high, lt-ltb (b % 16) 16 last) refl;
+          same = sum;
+          text = rw (e, f, g) refl;
+          clean = rw (e, f, g) (rw (hex_printable (b / 16) high, hex_printable (b % 16) last) refl);
+          short = rw (e, f, g) (omega arith);
+        }
 
 record ArePrinted (text : List ℕ) : Type 0 where
   pieces : List Piece

@@ -2,7 +2,8 @@
 
 ghost use Rattle.std.specs.Prelude.{◌≡◌, ℕ, ◌+◌, ◌<◌, ◌≤◌, ◌++◌, ◌∷◌, [], List, length, take, option_map, option_to_list, IfSome, IfOk, OnOk, OnErr, Some};
 ghost use Rattle.byte_text.specs.QuotedTexts.{Spells, StandsIn};
-ghost use Rattle.byte_text.specs.Quoted.{hex_value, hex_digit, plain, escaped, scanned, IsBelow16, is_done, measured_from, text_from, quoted, measure_of, text_of, with_length, spelled, spelled_all, spelling};
+ghost use Rattle.byte_text.specs.Quoted.{hex_value, hex_digit, plain, escaped, scanned, IsBelow16, is_done, measured_from, text_from, quoted};
+ghost use Rattle.byte_text.specs.Quoted.{measure_of, text_of, with_length, spelled, spelled_all, spelling};
 ghost use Rattle.byte_text.specs.Writes.{Wrote};
 
 use crate::bytes::is_printable;

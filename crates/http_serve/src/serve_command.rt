@@ -169,18 +169,6 @@ fn read_site<R: FileSystem + AllocGlobal>(rt: &R, name: &str) -> Result<Site, St
     }
 }
 
-/// What serves: the host and the site, and the port that is listened on.
-#[derive(Drop)]
-struct Server<R: FileSystem + AllocGlobal + Drop>
-where
-    R::File: FileExt,
-{
-    host: Host<DiskFiles<R>>,
-    site: Site,
-    listener: TcpListener,
-    address: SocketAddr,
-}
-
 /// The address and the port, where they are one.
 fn address_of(front: &ServeOptions<'_>) -> Option<SocketAddr> {
     let address = front.listen.parse::<IpAddr>().ok()?;
@@ -203,32 +191,35 @@ fn unless_too_few(alloc: Global, at_once: u32) -> Result<(), StartError> {
     }
 }
 
-/// Reads and checks the chain, reads the site, and listens: what listens has a host of a chain that is accepted, which never faults.
-fn get_ready<R>(rt: &R, front: &ServeOptions<'_>) -> Result<Server<R>, StartError>
+/// A host of this chain over the files of the runtime.
+fn host_of<R>(
+    rt: &R,
+    front: &ServeOptions<'_>,
+    chain: CheckedChain,
+) -> Result<Host<DiskFiles<R>>, StartError>
 where
-    R: Runtime + AllocGlobal + Net<Listener = TcpListener, Stream = TcpStream>,
+    R: Runtime + AllocGlobal,
     R::File: FileExt,
-    ensures alive { IfOk result (λ r. IsAlive ⟦<DiskFiles<R> as Files>⟧.device r.host) }
-    ensures safe { IfOk result (λ r. IsSafe r.host) }
+    ensures alive { IfOk result (IsAlive ⟦<DiskFiles<R> as Files>⟧.device) }
+    ensures safe { IfOk result IsSafe }
 {
-    unless_too_few(rt.alloc(), front.at_once)?;
-    let chain = read_chain(rt, front.modules.as_slice())?;
-    let site = read_site(rt, front.site)?;
     let files = DiskFiles::new(rt.clone()?);
     let limits = Limits {
         budget: u64::from(front.budget),
     };
-    let host = Host::checked(rt.alloc(), files, chain, limits)?;
+    Ok(Host::checked(rt.alloc(), files, chain, limits)?)
+}
+
+/// Listens, and tells where.
+fn listen<R>(rt: &R, front: &ServeOptions<'_>) -> Result<(TcpListener, SocketAddr), StartError>
+where
+    R: AllocGlobal + Net<Listener = TcpListener, Stream = TcpStream>,
+{
     let Some(address) = address_of(front) else {
         return Err(cannot_listen(rt.alloc()));
     };
     match TcpListener::bind(rt, address) {
-        Ok(listener) => Ok(Server {
-            host,
-            site,
-            listener,
-            address,
-        }),
+        Ok(listener) => Ok((listener, address)),
         Err(_) => Err(cannot_listen(rt.alloc())),
     }
 }
@@ -259,18 +250,21 @@ fn tell_events(rt: &impl Eprint) -> ExitCode {
     ExitCode::FAILURE
 }
 
-/// Serves connections behind a port. What it tells goes to the standard output, and what it logs to the standard error. It fails where the chain
-/// or the site is none, where the port is not to be had, and where the standard output fails; a connection that fails ends alone.
-pub fn serve_front<R>(rt: &R, front: &ServeOptions<'_>) -> ExitCode
+/// Serves connections that come to a listener, and tells first that it listens.
+fn serve_behind<R>(
+    rt: &R,
+    front: &ServeOptions<'_>,
+    host: &mut Host<DiskFiles<R>>,
+    site: &Site,
+    listener: TcpListener,
+    address: SocketAddr,
+) -> ExitCode
 where
     R: Runtime + AllocGlobal + Net<Listener = TcpListener, Stream = TcpStream>,
     R::File: FileExt,
+    requires alive { IsAlive ⟦<DiskFiles<R> as Files>⟧.device host.old }
+    requires safe { IsSafe host.old }
 {
-    let ready = match get_ready(rt, front) {
-        Ok(ready) => ready,
-        Err(why) => return tell_stop(rt, why),
-    };
-    let address = ready.address;
     if println!(rt; "listening on {address}").is_err() {
         let _ = rt.eprintln(PlayFault::Write);
         return ExitCode::FAILURE;
@@ -281,22 +275,70 @@ where
         patience: Duration::from_secs(u64::from(front.timeout)),
         logs: front.logs,
     };
-    let Server {
-        mut host,
-        site,
-        listener,
-        address: _,
-    } = ready;
     if manner.at_once <= 1 {
-        serve_all(rt, &listener, &site, &mut host, manner);
+        serve_all(rt, &listener, site, host, manner);
         return ExitCode::SUCCESS;
     }
     if listener.set_nonblocking(true).is_err() {
         return tell_events(rt);
     }
     let door = mio::net::TcpListener::from_std(listener);
-    match serve_turns(rt, door, &site, &mut host, manner) {
+    match serve_turns(rt, door, site, host, manner) {
         Ok(()) => ExitCode::SUCCESS,
         Err(_) => tell_events(rt),
+    }
+}
+
+/// Listens, and serves what comes: what listens has a host of a chain that is accepted, which never faults.
+fn serve_site<R>(
+    rt: &R,
+    front: &ServeOptions<'_>,
+    host: &mut Host<DiskFiles<R>>,
+    site: &Site,
+) -> ExitCode
+where
+    R: Runtime + AllocGlobal + Net<Listener = TcpListener, Stream = TcpStream>,
+    R::File: FileExt,
+    requires alive { IsAlive ⟦<DiskFiles<R> as Files>⟧.device host.old }
+    requires safe { IsSafe host.old }
+{
+    match listen(rt, front) {
+        Ok((listener, address)) => serve_behind(rt, front, host, site, listener, address),
+        Err(why) => tell_stop(rt, why),
+    }
+}
+
+/// Serves a site through a chain that was accepted.
+fn serve_chain<R>(rt: &R, front: &ServeOptions<'_>, chain: CheckedChain, site: &Site) -> ExitCode
+where
+    R: Runtime + AllocGlobal + Net<Listener = TcpListener, Stream = TcpStream>,
+    R::File: FileExt,
+{
+    match host_of(rt, front, chain) {
+        Ok(mut host) => serve_site(rt, front, &mut host, site),
+        Err(why) => tell_stop(rt, why),
+    }
+}
+
+/// Reads and checks the chain, and reads the site.
+fn read_all<R: FileSystem + AllocGlobal>(
+    rt: &R,
+    front: &ServeOptions<'_>,
+) -> Result<(CheckedChain, Site), StartError> {
+    unless_too_few(rt.alloc(), front.at_once)?;
+    let chain = read_chain(rt, front.modules.as_slice())?;
+    Ok((chain, read_site(rt, front.site)?))
+}
+
+/// Serves connections behind a port. What it tells goes to the standard output, and what it logs to the standard error. It fails where the chain
+/// or the site is none, where the port is not to be had, and where the standard output fails; a connection that fails ends alone.
+pub fn serve_front<R>(rt: &R, front: &ServeOptions<'_>) -> ExitCode
+where
+    R: Runtime + AllocGlobal + Net<Listener = TcpListener, Stream = TcpStream>,
+    R::File: FileExt,
+{
+    match read_all(rt, front) {
+        Ok((chain, site)) => serve_chain(rt, front, chain, &site),
+        Err(why) => tell_stop(rt, why),
     }
 }

@@ -50,7 +50,22 @@ own_clean : (q : ℕ) → q < 8 → IsClean (home_text (home.Own q))
 own_clean q low = both (codes "p") (decimal q) (plain (codes "p") refl) (decimal_clean q (omega (arith, low)))
 
 homes_clean : AreClean homes
-homes_clean = (plain (codes "call") refl, (plain (codes "req") refl, (own_clean 0 (omega arith), (own_clean 1 (omega arith), (own_clean 2 (omega arith), (own_clean 3 (omega arith), (own_clean 4 (omega arith), (own_clean 5 (omega arith), (own_clean 6 (omega arith), (own_clean 7 (omega arith), (plain (codes "dead") refl, tt)))))))))))
+homes_clean = (
+  plain (codes "call") refl,
+  (
+    plain (codes "req") refl,
+    (
+      own_clean 0 (omega arith),
+      (
+        own_clean 1 (omega arith),
+        (
+          own_clean 2 (omega arith),
+          (own_clean 3 (omega arith), (own_clean 4 (omega arith), (own_clean 5 (omega arith), (own_clean 6 (omega arith), (own_clean 7 (omega arith), (plain (codes "dead") refl, tt)))))),
+        ),
+      ),
+    ),
+  ),
+)
 
 more_clean : (h : Homes) (xs : List HomeWord) → AreClean xs → IsClean (more_homes h xs)
 more_clean h [] c = plain [] refl

@@ -67,12 +67,18 @@ module _ (s : State) (formed : IsFormed s) (m : List ℕ) (h : IsLineEnd m) wher
   brigades_free : Follows 98 [] from_in
   brigades_free =
       let k = cursors_follow 98 [] s.cursors from_facts refl refl (facts_follow 98 [] s m refl refl (ends 98 [])) in
-      record { ended = ended_at (s.brigades 8).live (codes "in=" ++ body (s.brigades 8)) from_cursors k.ended; free = skips (codes " b") (codes " in=" ++ body (s.brigades 8)) (s.brigades 8).live from_cursors refl k.free }
+      record {
+        ended = ended_at (s.brigades 8).live (codes "in=" ++ body (s.brigades 8)) from_cursors k.ended;
+        free = skips (codes " b") (codes " in=" ++ body (s.brigades 8)) (s.brigades 8).live from_cursors refl k.free;
+      }
 
   pools_free : Follows 112 [] from_brigades
   pools_free =
       let k = cursors_follow 112 [] s.cursors from_facts refl refl (facts_follow 112 [] s m refl refl (ends 112 [])) in
-      let i : Follows 112 [] from_in = record { ended = ended_at (s.brigades 8).live (codes "in=" ++ body (s.brigades 8)) from_cursors k.ended; free = skips (codes " p") (codes " in=" ++ body (s.brigades 8)) (s.brigades 8).live from_cursors refl k.free } in
+      let i : Follows 112 [] from_in = record {
+        ended = ended_at (s.brigades 8).live (codes "in=" ++ body (s.brigades 8)) from_cursors k.ended;
+        free = skips (codes " p") (codes " in=" ++ body (s.brigades 8)) (s.brigades 8).live from_cursors refl k.free;
+      } in
       each_keeps (Follows 112 []) (λ b. brigade_text b (s.brigades b)) 0 s.brigade_count from_in (λ b below r q. record { ended = inl refl; free = refl }) i
 
   pub in_told : (in_read from_in ≡ s.brigades 8) × (in_past from_in ≡ from_cursors)

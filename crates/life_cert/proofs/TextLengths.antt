@@ -83,7 +83,22 @@ own_within q low = numbered_within 1 (codes "p") q (exact (codes "p")) low
 homes_within : AreWithin homes
 homes_within = (
   exact (codes "call"),
-  (exact (codes "req"), (own_within 0 (omega arith), (own_within 1 (omega arith), (own_within 2 (omega arith), (own_within 3 (omega arith), (own_within 4 (omega arith), (own_within 5 (omega arith), (own_within 6 (omega arith), (own_within 7 (omega arith), (exact (codes "dead"), tt)))))))))),
+  (
+    exact (codes "req"),
+    (
+      own_within 0 (omega arith),
+      (
+        own_within 1 (omega arith),
+        (
+          own_within 2 (omega arith),
+          (
+            own_within 3 (omega arith),
+            (own_within 4 (omega arith), (own_within 5 (omega arith), (own_within 6 (omega arith), (own_within 7 (omega arith), (exact (codes "dead"), tt))))),
+          ),
+        ),
+      ),
+    ),
+  ),
 )
 
 more_within : (h : Homes) (xs : List HomeWord) → AreWithin xs → IsWithin (widths xs) (more_homes h xs)

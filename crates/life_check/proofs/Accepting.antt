@@ -40,7 +40,10 @@ pub checked_chain : (parts : List CertifiedModule) → 0 < length parts → leng
 checked_chain parts some few all =
     let same : length (modules_of parts) ≡ length parts = length-map parts (λ (x : CertifiedModule). x.0) in
     record {
-      chained = record { modules = All-map IsModule (λ (x : CertifiedModule). x.0) parts (All-weaker IsChecked (λ x. IsModule x.0) (λ x h. h.proper) parts all); some = subst (λ (n : ℕ). 0 < n) (sym same) some };
+      chained = record {
+        modules = All-map IsModule (λ (x : CertifiedModule). x.0) parts (All-weaker IsChecked (λ x. IsModule x.0) (λ x h. h.proper) parts all);
+        some = subst (λ (n : ℕ). 0 < n) (sym same) some;
+      };
       few = subst (λ (n : ℕ). n ≤ 16) (sym same) few;
       certs = cert_at parts;
       typed = all_typed parts all;

@@ -241,7 +241,12 @@ module _ {lives : Home → Type 0} (p : Program) (r : Configuration) (s : State)
     stays : (v : Cursor) → Stays (λ h y. Unit {0}) (λ h y. Unit {0}) left new v
     unfolding with_pools set_brigade set_loose
     stays v = rearranged_stays (λ h y. Unit {0}) left b items left.call.loose v usable
-        (λ n at. λ y is. record { bucket = put_aside x.name r.shared.pools target y; there = aside_found x.name r.shared.pools target n y (items_at r b) is; classed = λ t e. aside_of x.name r.shared.pools target (class_has t) refl y ∙ e; covered = λ h e. tt })
+        (λ n at. λ y is. record {
+          bucket = put_aside x.name r.shared.pools target y;
+          there = aside_found x.name r.shared.pools target n y (items_at r b) is;
+          classed = λ t e. aside_of x.name r.shared.pools target (class_has t) refl y ∙ e;
+          covered = λ h e. tt;
+        })
         (λ n at. finds_same (λ h y. Unit {0}) (λ h y. Unit {0}) n _ _ (λ h y e. e) refl)
 
     cursor_kept : (v : Cursor) (k : CursorKnown) → FitsCursor D left k v → FitsCursor D new k v

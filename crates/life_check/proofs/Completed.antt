@@ -85,7 +85,12 @@ line_formed p pc s h formed =
     let part = if nat_le p.main pc then has_in s else not (has_in s) in
     let front = split3 (declares p s) (nat_lt pc (length p.code)) part (split2 (declares p s && nat_lt pc (length p.code) && part) (is_formed s) h).0 in
     let counts = split2 (s.pool_count == length p.pools) (s.brigade_count == length p.brigades) (front.0) in
-    record { formed = formed; pools = eqb-true s.pool_count (length p.pools) (counts.0); brigades = eqb-true s.brigade_count (length p.brigades) (counts.1); brought = part_in (nat_le p.main pc) s (front.2) }
+    record {
+      formed = formed;
+      pools = eqb-true s.pool_count (length p.pools) (counts.0);
+      brigades = eqb-true s.brigade_count (length p.brigades) (counts.1);
+      brought = part_in (nat_le p.main pc) s (front.2);
+    }
 
 pub only_formed : (p : Program) (call : Bool) (o : Option State) → IfSome o (IsFormedIn p call) → IfSome o IsFormed
 only_formed p call None h = tt

@@ -62,7 +62,19 @@ unfolding EachBounded
 whole_bounded = record {
   idle = resting_bounded false;
   ready = resting_bounded true;
-  at = bounded_at whole (resting_bounded false, (resting_bounded false, (serving_bounded true brought, (serving_bounded false brought, (serving_bounded true passed_on, (serving_bounded true brought, (serving_bounded true (holds Empty no_homes), (serving_bounded true passed_on, tt))))))));
+  at = bounded_at whole (
+    resting_bounded false,
+    (
+      resting_bounded false,
+      (
+        serving_bounded true brought,
+        (
+          serving_bounded false brought,
+          (serving_bounded true passed_on, (serving_bounded true brought, (serving_bounded true (holds Empty no_homes), (serving_bounded true passed_on, tt)))),
+        ),
+      ),
+    ),
+  );
 }
 
 -- It is a module.
@@ -85,22 +97,76 @@ at_each P each pc i here = subst (λ (m : ℕ). P m i) (let e : pc + 0 ≡ pc = 
 
 placed : EachFrom (IsPlaced identity) 0 identity.code
 unfolding EachFrom
-placed = (record { fit = refl; jump = tt; next = λ h. cc }, (record { fit = refl; jump = tt; next = λ h. cc }, (record { fit = refl; jump = omega arith; next = λ h. omega arith }, (record { fit = refl; jump = omega arith; next = λ h. omega arith }, (record { fit = refl; jump = tt; next = λ h. cc }, (record { fit = refl; jump = tt; next = λ h. omega arith }, (record { fit = refl; jump = tt; next = λ h. cc }, (record { fit = refl; jump = tt; next = λ h. cc }, tt))))))))
+placed = (
+  record { fit = refl; jump = tt; next = λ h. cc },
+  (
+    record { fit = refl; jump = tt; next = λ h. cc },
+    (
+      record { fit = refl; jump = omega arith; next = λ h. omega arith },
+      (
+        record { fit = refl; jump = omega arith; next = λ h. omega arith },
+        (
+          record { fit = refl; jump = tt; next = λ h. cc },
+          (record { fit = refl; jump = tt; next = λ h. omega arith }, (record { fit = refl; jump = tt; next = λ h. cc }, (record { fit = refl; jump = tt; next = λ h. cc }, tt))),
+        ),
+      ),
+    ),
+  ),
+)
 
 abbrev Inside : Part → ℕ → ℕ → ℕ → Instr → Type 0
 Inside q from to pc i = from ≤ pc → pc < to → IsInside identity q from to i
 
 opening : EachFrom (Inside part.Open 0 1) 0 identity.code
 unfolding EachFrom
-opening = (λ le lt. record { target = tt; allowed = refl }, (λ le lt. absurd (omega arith), (λ le lt. absurd (omega arith), (λ le lt. absurd (omega arith), (λ le lt. absurd (omega arith), (λ le lt. absurd (omega arith), (λ le lt. absurd (omega arith), (λ le lt. absurd (omega arith), tt))))))))
+opening = (
+  λ le lt. record { target = tt; allowed = refl },
+  (
+    λ le lt. absurd (omega arith),
+    (
+      λ le lt. absurd (omega arith),
+      (
+        λ le lt. absurd (omega arith),
+        (λ le lt. absurd (omega arith), (λ le lt. absurd (omega arith), (λ le lt. absurd (omega arith), (λ le lt. absurd (omega arith), tt)))),
+      ),
+    ),
+  ),
+)
 
 initial : EachFrom (Inside part.Init 1 2) 0 identity.code
 unfolding EachFrom
-initial = (λ le lt. absurd (omega arith), (λ le lt. record { target = tt; allowed = refl }, (λ le lt. absurd (omega arith), (λ le lt. absurd (omega arith), (λ le lt. absurd (omega arith), (λ le lt. absurd (omega arith), (λ le lt. absurd (omega arith), (λ le lt. absurd (omega arith), tt))))))))
+initial = (
+  λ le lt. absurd (omega arith),
+  (
+    λ le lt. record { target = tt; allowed = refl },
+    (
+      λ le lt. absurd (omega arith),
+      (
+        λ le lt. absurd (omega arith),
+        (λ le lt. absurd (omega arith), (λ le lt. absurd (omega arith), (λ le lt. absurd (omega arith), (λ le lt. absurd (omega arith), tt)))),
+      ),
+    ),
+  ),
+)
 
 serving_inside : EachFrom (Inside part.Main 2 8) 0 identity.code
 unfolding EachFrom
-serving_inside = (λ le lt. absurd (omega arith), (λ le lt. absurd (omega arith), (λ le lt. record { target = (omega arith, omega arith); allowed = refl }, (λ le lt. record { target = (omega arith, omega arith); allowed = refl }, (λ le lt. record { target = tt; allowed = refl }, (λ le lt. record { target = tt; allowed = refl }, (λ le lt. record { target = tt; allowed = refl }, (λ le lt. record { target = tt; allowed = refl }, tt))))))))
+serving_inside = (
+  λ le lt. absurd (omega arith),
+  (
+    λ le lt. absurd (omega arith),
+    (
+      λ le lt. record { target = (omega arith, omega arith); allowed = refl },
+      (
+        λ le lt. record { target = (omega arith, omega arith); allowed = refl },
+        (
+          λ le lt. record { target = tt; allowed = refl },
+          (λ le lt. record { target = tt; allowed = refl }, (λ le lt. record { target = tt; allowed = refl }, (λ le lt. record { target = tt; allowed = refl }, tt))),
+        ),
+      ),
+    ),
+  ),
+)
 
 pub identity_module : IsModule identity
 identity_module = record {
@@ -117,9 +183,21 @@ identity_module = record {
   few = omega arith;
   short = λ k t lt. absurd (omega arith);
   bytes = λ k t lt. absurd (omega arith);
-  opening = record { some = omega arith; ends = λ i here. subst (λ (j : Instr). goes_on j ≡ false) (some_is (instr.Ret Success) i here) refl; inside = λ pc i le lt here. at_each (Inside part.Open 0 1) opening pc i here le lt };
-  initial = record { some = omega arith; ends = λ i here. subst (λ (j : Instr). goes_on j ≡ false) (some_is (instr.Ret Success) i here) refl; inside = λ pc i le lt here. at_each (Inside part.Init 1 2) initial pc i here le lt };
-  serving = record { some = omega arith; ends = λ i here. subst (λ (j : Instr). goes_on j ≡ false) (some_is (instr.Ret Fail) i here) refl; inside = λ pc i le lt here. at_each (Inside part.Main 2 8) serving_inside pc i here le lt };
+  opening = record {
+    some = omega arith;
+    ends = λ i here. subst (λ (j : Instr). goes_on j ≡ false) (some_is (instr.Ret Success) i here) refl;
+    inside = λ pc i le lt here. at_each (Inside part.Open 0 1) opening pc i here le lt;
+  };
+  initial = record {
+    some = omega arith;
+    ends = λ i here. subst (λ (j : Instr). goes_on j ≡ false) (some_is (instr.Ret Success) i here) refl;
+    inside = λ pc i le lt here. at_each (Inside part.Init 1 2) initial pc i here le lt;
+  };
+  serving = record {
+    some = omega arith;
+    ends = λ i here. subst (λ (j : Instr). goes_on j ≡ false) (some_is (instr.Ret Fail) i here) refl;
+    inside = λ pc i le lt here. at_each (Inside part.Main 2 8) serving_inside pc i here le lt;
+  };
 }
 
 -- A run to a fault.

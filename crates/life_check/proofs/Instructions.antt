@@ -15,9 +15,9 @@ use Rattle.life_check.proofs.Puts.{law_before, law_head, law_tail}
 use Rattle.life_check.proofs.Saved.{law_bsave}
 use Rattle.life_check.proofs.Splits.{law_bsplit}
 use Rattle.life_check.proofs.Takes.{law_bdelete, law_unlink}
-use Rattle.life_check.proofs.Unasked.{law_unasked}
+use Rattle.life_check.proofs.Uniform.{law_uniform}
 
--- a row for each instruction of whose needs something is used, or whose flow tells of a state
+-- a row for each instruction that the law of the last row does not serve
 pub step_lands : (lives : Home → Type 0) → StepLands lives
 step_lands lives (instr.PCreate q) = law_pcreate {lives = lives} q
 step_lands lives (instr.PClear q) = law_pclear {lives = lives} q
@@ -47,4 +47,4 @@ step_lands lives (instr.Read c l) = law_read {lives = lives} c l
 step_lands lives (instr.JNull v l) = law_jnull {lives = lives} v l
 step_lands lives (instr.JSent l) = law_jsent {lives = lives} l
 step_lands lives (instr.Ret t) = law_ret {lives = lives} t
-step_lands lives i = law_unasked {lives = lives} i tt tt
+step_lands lives i = law_uniform {lives = lives} i tt tt

@@ -15,16 +15,16 @@ use Rattle.life_check.proofs.Lists.{each_named}
 use Rattle.life_check.proofs.Standing.{spot_in, spot_loose}
 
 -- a bucket is there, of these classes, and these homes cover its own
-abbrev pub IsOf : (Homes → Home → Type 0) → Classes → Homes → Option NamedBucket → Type 0
-IsOf C t h None = ⊥
-IsOf C t h (Some x) = (class_has t x.bucket.kind ≡ true) × C h x.bucket.home
+abbrev pub IsKnown : (Homes → Home → Type 0) → Classes → Homes → Option NamedBucket → Type 0
+IsKnown C t h None = ⊥
+IsKnown C t h (Some x) = (class_has t x.bucket.kind ≡ true) × C h x.bucket.home
 
 module _ (C : Homes → Home → Type 0) (r : Configuration) (s : State) (v : Cursor) (names : SoundNames r) (f : Fits C s r) where
-  pub in_known : (b : ℕ) (t : Classes) → IsAtBucketOf r v b t → IsOf C t (s.brigades b).homes (bucket_at (spot_of r v))
+  pub in_known : (b : ℕ) (t : Classes) → IsAtBucketOf r v b t → IsKnown C t (s.brigades b).homes (bucket_at (spot_of r v))
   in_known b t i =
       let homes : Homes = (s.brigades b).homes in
-      subst (λ (at : Place). IsOf C t homes (bucket_at at)) (sym (spot_in r v b t names i))
+      subst (λ (at : Place). IsKnown C t homes (bucket_at at)) (sym (spot_in r v b t names i))
       (i.classed, each_named (λ y. C homes y.bucket.home) i.bucket.name (items_at r b) i.bucket i.there (full_of C (s.brigades b) (r.instance.brigades b) i.usable (f.brigades b)).homes)
 
-  pub loose_known : (t : Classes) (h : Homes) → IsAtLoose C r v t h → IsOf C t h (bucket_at (spot_of r v))
-  loose_known t h i = subst (λ (at : Place). IsOf C t h (bucket_at at)) (sym (spot_loose C r v t h names i)) (i.classed, i.covered)
+  pub loose_known : (t : Classes) (h : Homes) → IsAtLoose C r v t h → IsKnown C t h (bucket_at (spot_of r v))
+  loose_known t h i = subst (λ (at : Place). IsKnown C t h (bucket_at at)) (sym (spot_loose C r v t h names i)) (i.classed, i.covered)

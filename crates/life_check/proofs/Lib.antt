@@ -40,5 +40,5 @@ pub mod Takes
 pub mod Targets
 pub mod Tree
 pub mod TypedLaws
-pub mod Unasked
+pub mod Uniform
 pub mod Wants

@@ -6,7 +6,7 @@ use Rattle.run_model.specs.Steps.{made_of}
 use Rattle.run_model.specs.declared.effect.Effect.TheVariants as effect
 use Rattle.run_model.specs.declared.effect.MadeFrom.{MadeFrom}
 use Rattle.run_model.specs.declared.effect.MadeFrom.TheVariants.{TransientBuffer, PoolBuffer, CopyAt}
-use Rattle.life_check.proofs.Known.{IsOf, in_known, loose_known}
+use Rattle.life_check.proofs.Known.{IsKnown, in_known, loose_known}
 use Rattle.module_code.specs.declared.instr.PoolRef.{PoolRef}
 use Rattle.run_model.specs.declared.bucket.Bucket.{Bucket}
 use Rattle.run_model.specs.declared.bucket.Cursor.{Cursor}
@@ -70,7 +70,7 @@ abbrev IsMadeOf : (Homes → Home → Type 0) → Classes → Homes → Option B
 IsMadeOf C t h None = ⊥
 IsMadeOf C t h (Some b) = (class_has t b.kind ≡ true) × C h b.home
 
-of_known : (C : Homes → Home → Type 0) (t : Classes) (h : Homes) (o : Option NamedBucket) → IsOf C t h o → IsMadeOf C t h (copied_bucket o)
+of_known : (C : Homes → Home → Type 0) (t : Classes) (h : Homes) (o : Option NamedBucket) → IsKnown C t h o → IsMadeOf C t h (copied_bucket o)
 of_known C t h None is = is
 of_known C t h (Some x) is = is
 

@@ -84,8 +84,11 @@ unfolding brigade_le
 mark_more C a b Usable xs grows h e =
     let two = split2 (variable_le a b && marks_le a b && content_le a.content b.content) (homes_le a.homes b.homes) h in
     let three = split3 (variable_le a b) (marks_le a b) (content_le a.content b.content) (two.0) in
-    let marks = split2 (implies a.usable b.usable) (implies a.passed b.passed) (three.1) in
-    (implies_says a.usable b.usable (marks.0) (e.0), holds_more a.content b.content xs (three.2) (e.1), each_more (λ x. C a.homes x.bucket.home) (λ x. C b.homes x.bucket.home) (λ x. grows a.homes b.homes (two.1) x.bucket.home) xs (e.2))
+    let marks = split2 (implies a.usable b.usable) (implies a.passed b.passed) (three.1) in (
+      implies_says a.usable b.usable (marks.0) (e.0),
+      holds_more a.content b.content xs (three.2) (e.1),
+      each_more (λ x. C a.homes x.bucket.home) (λ x. C b.homes x.bucket.home) (λ x. grows a.homes b.homes (two.1) x.bucket.home) xs (e.2),
+    )
 mark_more C a b Passed xs grows h e =
     let two = split2 (variable_le a b && marks_le a b && content_le a.content b.content) (homes_le a.homes b.homes) h in
     let three = split3 (variable_le a b) (marks_le a b) (content_le a.content b.content) (two.0) in

@@ -34,7 +34,7 @@ use Rattle.life_check.specs.Meaning.{CoversPool, ByConnection, ByMember, ByDead,
 use Rattle.life_check.specs.Soundness.{LawOf}
 use Rattle.life_check.proofs.Orders.{never}
 use Rattle.life_check.proofs.Lists.{IsSorted, holds_map, each_map}
-use Rattle.life_check.proofs.Unasked.{lands_both}
+use Rattle.life_check.proofs.Uniform.{lands_both}
 use Rattle.life_check.proofs.Standing.{upd_both, moved_facts}
 use Rattle.life_check.proofs.Wants.{both_none, unless_some, usable_items}
 

@@ -47,7 +47,7 @@ use Rattle.life_state.proofs.Tests.{split2, split3, and2, not_true, or_either, o
 use Rattle.life_check.specs.Meaning.{CoversPool, ByConnection, ByMember, ByDead, ByCall, Covers, Each, HoldsContents, FitsPool, FitsMark, FitsBrigade, FitsCursor, IsAtBucketOf, IsEndOf, Fits}
 use Rattle.life_check.specs.Soundness.{wants_request, MetIsFaultless}
 use Rattle.life_check.proofs.Orders.{never}
-use Rattle.life_check.proofs.Known.{IsOf, in_known, loose_known}
+use Rattle.life_check.proofs.Known.{IsKnown, in_known, loose_known}
 use Rattle.life_check.proofs.Lists.{no_late_data, holds_more}
 use Rattle.life_check.proofs.Standing.{spot_loose, spot_in, spot_end}
 
@@ -291,7 +291,7 @@ cursor_met C r f (InOrEnd b t) v names (inr e) h = end_met r f v b names e ((bot
 found_alive : (C : Homes → Home → Type 0) (h : Homes) (x : NamedBucket) → EndedIsDead C → homes_need h ≡ None → C h x.bucket.home → home_fault (Some x) ≡ None
 found_alive C h x ended live c = ap (λ b. cond b (Some F5) None) (home_met C h x.bucket.home ended (unless_some h.dead F5 live) c)
 
-known_alive : (C : Homes → Home → Type 0) (t : Classes) (h : Homes) (o : Option NamedBucket) → EndedIsDead C → homes_need h ≡ None → IsOf C t h o → home_fault o ≡ None
+known_alive : (C : Homes → Home → Type 0) (t : Classes) (h : Homes) (o : Option NamedBucket) → EndedIsDead C → homes_need h ≡ None → IsKnown C t h o → home_fault o ≡ None
 known_alive C t h None ended live is = absurd is
 known_alive C t h (Some x) ended live is = found_alive C h x ended live is.1
 

@@ -44,32 +44,41 @@ pub fn tell_texts(
     let Some(code) = module_of(told, text)? else {
         return Ok(());
     };
-    let source = Source::of(told.alloc, text.text, text.before)?;
-    let Some(given) = cert else {
-        return tell_unmade(told, source, &code);
-    };
-    let Some(cert) = cert_of(told, given)? else {
-        return Ok(());
-    };
-    match check(&code, &cert) {
-        Ok(()) => Ok(()),
-        Err(refusal) => {
-            // Those that are given where their shape is refused, else those that are meant.
-            let states = match refusal.rule {
-                Rule::Shape => cert,
-                _ => meant(told.alloc, &code, &cert)?,
-            };
-            tell_unchecked(told, source, &code, &states, refusal)
-        }
+    match cert {
+        Some(given) => tell_with(told, text, &code, given),
+        None => tell_unmade(told, text, &code),
     }
 }
 
-fn tell_unmade(told: &mut Page, source: Source, code: &Module) -> Result<(), AllocError> {
+// What is wrong with a certificate of a module, or why it is refused.
+fn tell_with(
+    told: &mut Page,
+    text: ScriptText<'_>,
+    code: &Module,
+    given: ScriptText<'_>,
+) -> Result<(), AllocError> {
+    let Some(cert) = cert_of(told, given)? else {
+        return Ok(());
+    };
+    let Err(refusal) = check(code, &cert) else {
+        return Ok(());
+    };
+    // Those that are given where their shape is refused, else those that are meant.
+    let states = match refusal.rule {
+        Rule::Shape => cert,
+        _ => meant(told.alloc, code, &cert)?,
+    };
+    let source = Source::of(told.alloc, text.text, text.before)?;
+    tell_unchecked(told, source, code, &states, refusal)
+}
+
+fn tell_unmade(told: &mut Page, text: ScriptText<'_>, code: &Module) -> Result<(), AllocError> {
     match make(told.alloc, code) {
         Ok(_) => Ok(()),
         Err(MakeRefusal::NoMemory) => Err(AllocError),
         Err(MakeRefusal::At { pc, rule: _ }) => {
             let states = grown(told.alloc, code)?;
+            let source = Source::of(told.alloc, text.text, text.before)?;
             tell_refusals(told, source, code, &states, pc)
         }
     }
@@ -96,25 +105,31 @@ fn tell_unchecked(
     Ok(())
 }
 
-// A text that stands alone.
-fn alone(text: &[u8], is_cert: bool) -> ScriptText<'_> {
-    ScriptText {
-        is_cert,
-        before: 0,
-        text,
-    }
-}
-
 /// Why no certificate of a module text is made, in words; nothing where one is made.
 pub fn explain_certify(alloc: Global, text: &[u8]) -> Result<String, AllocError> {
     let mut told = Page::new(alloc);
-    tell_texts(&mut told, alone(text, false), None)?;
+    let text = ScriptText {
+        is_cert: false,
+        before: 0,
+        text,
+    };
+    tell_texts(&mut told, text, None)?;
     told.finished()
 }
 
 /// Why a module text is refused with a certificate text, in words; nothing where it is accepted.
 pub fn explain_check(alloc: Global, text: &[u8], cert: &[u8]) -> Result<String, AllocError> {
     let mut told = Page::new(alloc);
-    tell_texts(&mut told, alone(text, false), Some(alone(cert, true)))?;
+    let text = ScriptText {
+        is_cert: false,
+        before: 0,
+        text,
+    };
+    let cert = ScriptText {
+        is_cert: true,
+        before: 0,
+        text: cert,
+    };
+    tell_texts(&mut told, text, Some(cert))?;
     told.finished()
 }

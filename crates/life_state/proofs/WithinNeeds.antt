@@ -187,12 +187,18 @@ module _ (s t : State) (f : IsFormed s) (w : Within s t) where
   needs_within (WBrigade b ∷ ws) k h = (brigade_met b (h.0), needs_within ws k (h.1))
   needs_within (WUsable b ∷ ws) k h = (usable_met b (h.0), needs_within ws k (h.1))
   needs_within (WNew b ∷ ws) k h = (some_not (t.brigades b).live (s.brigades b).live F10 (implies_says (s.brigades b).live (t.brigades b).live (of b).live) (h.0), needs_within ws k (h.1))
-  needs_within (WNewPool q ∷ ws) k h =
-      (some_not (t.pools q).live (s.pools q).live F10 (implies_says (s.pools q).live (t.pools q).live ((split3 (implies (s.pools q).null (t.pools q).null) (implies (s.pools q).gone (t.pools q).gone) (implies (s.pools q).live (t.pools q).live) (w.pools q)).2)) (h.0), needs_within ws k (h.1))
+  needs_within (WNewPool q ∷ ws) k h = (
+    some_not (t.pools q).live (s.pools q).live F10 (implies_says (s.pools q).live (t.pools q).live
+        ((split3 (implies (s.pools q).null (t.pools q).null) (implies (s.pools q).gone (t.pools q).gone) (implies (s.pools q).live (t.pools q).live) (w.pools q)).2)) (h.0),
+    needs_within ws k (h.1),
+  )
   needs_within (WCursor c g ∷ ws) k h = (cursor_need_within g (s.cursors c) (t.cursors c) (w.cursors c) (h.0), needs_within ws k (h.1))
   needs_within (WHomes b ∷ ws) k h = (homes_met b (h.0), needs_within ws k (h.1))
   needs_within (WHome c ∷ ws) k h = (home_met c (k.0) (h.0), needs_within ws (k.1) (h.1))
   needs_within (WHomeAcross b x ∷ ws) k h = (homes_met b (h.0), needs_within ws k (h.1))
   needs_within (WSend b ∷ ws) k h = (send_met b (h.0), needs_within ws k (h.1))
-  needs_within (WReturn ∷ ws) k h =
-      (some_not (any_below 8 (λ b. keeps_call (t.brigades b))) (any_below 8 (λ b. keeps_call (s.brigades b))) F6 (any_more 8 (λ b. keeps_call (s.brigades b)) (λ b. keeps_call (t.brigades b)) (λ b low. keeps b)) (h.0), needs_within ws k (h.1))
+  needs_within (WReturn ∷ ws) k h = (
+    some_not (any_below 8 (λ b. keeps_call (t.brigades b))) (any_below 8 (λ b. keeps_call (s.brigades b))) F6
+        (any_more 8 (λ b. keeps_call (s.brigades b)) (λ b. keeps_call (t.brigades b)) (λ b low. keeps b)) (h.0),
+    needs_within ws k (h.1),
+  )

@@ -313,7 +313,7 @@ brigade_split_rows = record { stays_before = refl; moves_from = refl; all_stay =
 
 pub bucket_split_rows : BucketSplitRows
 unfolding buckets_before buckets_from
-bucket_split_rows = record { at_start = refl; inside = refl; at_end = refl; at_end_taken = refl; too_long = refl; metadata_at_start = refl; metadata = refl; range_inside = refl; pool_copy = refl; eos_copy = refl }
+bucket_split_rows = search
 
 pub move_rows : MoveRows
 unfolding buckets_before buckets_from

@@ -22,4 +22,4 @@ unfolding answers_from left_by opens tree_below happens_on executed steps number
     passed_to returned_to returned_from proceeds module_at configuration put_back stepped_in with_brigade all_referred text_of is_spent lacks_names current found_below holder_of variable_of spot_of
     buckets_before buckets_from cursor_fault has_pool_at is_stray keeps_stray run_down is_own_at named_at set_pool with_pools set_brigade set_number set_cursor set_loose is_child children_below
     own_run runs_within run_order last_that without_last killed is_live is_under planted created registered cleared destroyed upd any_below pool_of_brigade pool_of_pool
-chain_runs = record { two = refl; fault = refl; close = refl; budget = refl; refusals = refl; leftovers = refl; clears = refl; openings = (refl, refl, refl, refl, refl, refl); ends = (refl, refl, refl); closes = (refl, refl, refl, refl, refl); no_brigade = refl }
+chain_runs = search

@@ -13,7 +13,7 @@ use Rattle.run_model.specs.Cutting.{set_aside}
 use Rattle.run_model.specs.State.{Configuration}
 use Rattle.run_model.specs.BucketSteps.{read_given}
 use Rattle.run_model.specs.Steps.{Choice, step, is_above}
-use Rattle.model_laws.proofs.Origins.{PassesParts, Holds, IsMade, IsPut, parts_descend}
+use Rattle.model_laws.proofs.Origins.{PassesParts, Holds, IsMade, IsNewContent, parts_descend}
 use Rattle.model_laws.proofs.EachStep.{each_step}
 
 module _ (C : Content → Type 0) where
@@ -26,7 +26,7 @@ module _ (C : Content → Type 0) where
   aside_parts target false kind.File c h e = e
   aside_parts target above k c h e = e
 
-  pub step_contents : (p : Program) (choice : Choice) (i : Instr) (r : Configuration) → PassesParts Of → ((b : Bucket) → IsMade r b → IsPut p r b.content → Of b)
+  pub step_contents : (p : Program) (choice : Choice) (i : Instr) (r : Configuration) → PassesParts Of → ((b : Bucket) → IsMade r b → IsNewContent p r b.content → Of b)
       → ((c : Content) (bytes : List ℕ) → read_given choice.given c ≡ Some bytes → C (content.Bytes bytes)) → Holds Of r → Holds Of (step p choice i r).state
   step_contents p choice i r on made reads h = each_step (λ x. Of x.bucket) r h p choice i (record {
     descends = parts_descend Of r.shared.next on;

@@ -21,13 +21,13 @@ use Rattle.run_model.specs.declared.effect.ClearKind.TheVariants.{Clear, Destroy
 use Rattle.model_laws.proofs.PoolsGone.{pool_emptied, on_emptied}
 use Rattle.model_laws.proofs.NamedPools.{on_named, made_under_named}
 use Rattle.model_laws.proofs.EachItem.{none, cleaned_each, handed_over_each, written_each, items_each, moved_each, mapped_each, cleared_each, left_each}
-use Rattle.model_laws.proofs.Origins.{HoldsNamed, Descends, IsMade, IsPut, leaves}
+use Rattle.model_laws.proofs.Origins.{HoldsNamed, Descends, IsMade, IsNewContent, leaves}
 
 -- descends: it is true of what comes of a bucket of which it is true. made, reads: of each bucket that is made, and of what was read.
 -- cleared, aside, returned: it stays so where pools are cleared, where the bucket is set aside, and where the call returns.
 pub record StaysSo (T : NamedBucket → Type 0) (p : Program) (choice : Choice) (i : Instr) (r : Configuration) : Type 0 where
   pub descends : Descends r.shared.next T
-  pub made : (b : Bucket) → IsMade r b → IsPut p r b.content → T (record { name = r.shared.next; bucket = b })
+  pub made : (b : Bucket) → IsMade r b → IsNewContent p r b.content → T (record { name = r.shared.next; bucket = b })
   pub reads : (c : Content) (bytes : List ℕ) → read_given choice.given c ≡ Some bytes → (x : NamedBucket) → T x → T (record x { bucket = heap_bucket bytes })
   pub cleared : (reached : ℕ → Bool) (x : NamedBucket) → T x → T (cleared_bucket reached x)
   pub aside : (ps : Pools Payload) (target : ℕ) (x : NamedBucket) → T x → T (aside_named ps target x)

@@ -19,18 +19,18 @@ use Rattle.run_model.specs.Steps.{Choice, step, text_of}
 use Rattle.run_model.specs.Pieces.{bucket_of, named_from}
 use Rattle.model_laws.specs.Ranges.{AreBytes, HoldsBytes, GivesBytes, IsOfBytes}
 use Rattle.run_model.proofs.Spots.{Stands, stands}
-use Rattle.model_laws.proofs.Origins.{Each, PassesParts, Holds, IsPut, OfText, OfBuffer, OfNone, held_at}
+use Rattle.model_laws.proofs.Origins.{Each, PassesParts, Holds, IsNewContent, OfText, OfBuffer, OfNone, held_at}
 use Rattle.model_laws.proofs.Contents.{step_contents}
 
 -- The bytes that a bucket holds are bytes.
 abbrev pub OfBytes : Bucket → Type 0
 OfBytes b = HoldsBytes b.content
 
-abbrev IsOf : NamedBucket → Type 0
-IsOf x = OfBytes x.bucket
+abbrev OfNamed : NamedBucket → Type 0
+OfNamed x = OfBytes x.bucket
 
 none : Each OfBytes []
-none = All-nil IsOf
+none = All-nil OfNamed
 
 -- Parts of a bucket, and buckets that are made.
 
@@ -64,7 +64,7 @@ given_bytes choice gives (content.Range file start len) bytes is = by_length (le
   by_length false is = gives bytes is
 given_bytes choice gives content.Nothing bytes is = let none_given : bytes ≡ [] = cc in subst AreBytes (sym none_given) (All-nil (λ b. b ≤ 255))
 
-put_bytes : (p : Program) (r : Configuration) → IsModule p → AreBytes r.call.buffer → (c : Content) → IsPut p r c → HoldsBytes c
+put_bytes : (p : Program) (r : Configuration) → IsModule p → AreBytes r.call.buffer → (c : Content) → IsNewContent p r c → HoldsBytes c
 put_bytes p r m buffer c (OfText t) = text_bytes p m t
 put_bytes p r m buffer c OfBuffer = buffer
 put_bytes p r m buffer c OfNone = tt
@@ -77,7 +77,7 @@ step_holds p choice i r m gives buffer h = step_contents HoldsBytes p choice i r
 spot_bytes : (r : Configuration) (s : Place) → Stands r s → Holds OfBytes r → HoldsBytes (content_at s)
 spot_bytes r Nowhere there h = tt
 spot_bytes r (AtEndOf b) there h = tt
-spot_bytes r s there h = held_at IsOf r h s there
+spot_bytes r s there h = held_at OfNamed r h s there
 
 first_byte : (xs : List ℕ) (v : ℕ) → AreBytes xs → first_of xs ≡ Some v → v ≤ 255
 first_byte [] v all is = absurd (cc)
@@ -101,4 +101,4 @@ piece_bytes call req x h = h
 pub named_bytes : (call req n : ℕ) (xs : List Piece) → All IsOfBytes xs → Each OfBytes (named_from (bucket_of call req) n xs)
 named_bytes call req n [] all = none
 named_bytes call req n (x ∷ xs) all =
-    All-cons IsOf _ (named_from (bucket_of call req) (n + 1) xs) (piece_bytes call req x (All-head IsOfBytes x xs all)) (named_bytes call req (n + 1) xs (All-tail IsOfBytes x xs all))
+    All-cons OfNamed _ (named_from (bucket_of call req) (n + 1) xs) (piece_bytes call req x (All-head IsOfBytes x xs all)) (named_bytes call req (n + 1) xs (All-tail IsOfBytes x xs all))

@@ -139,7 +139,12 @@ of_content : (file : List ℕ) (b : Bucket) (c : Content) → c ≡ b.content
     → (is_range (read_as (take (wanted c) (bytes_in file c)) b c).0.content ≡ false)
     × (bytes_in file (read_as (take (wanted c) (bytes_in file c)) b c).0.content ++ bytes_of_rest file (read_as (take (wanted c) (bytes_in file c)) b c).1 ≡ bytes_in file c)
 of_content file b (content.Bytes bs) is = (sym (ap is_range is), ap (λ (c : Content). bytes_in file c ++ []) (sym is) ∙ append-nil bs)
-of_content file b (content.Range n start len) is = (refl, ap (λ (c : Content). take (min len read_limit) (take len (drop start file)) ++ bytes_of_rest file (cond (nat_le len read_limit) None (Some (record b { content = rest_of read_limit c })))) (sym is) ∙ range_read n start len file b)
+of_content file b (content.Range n start len) is = (
+  refl,
+  ap
+      (λ (c : Content). take (min len read_limit) (take len (drop start file)) ++ bytes_of_rest file (cond (nat_le len read_limit) None (Some (record b { content = rest_of read_limit c }))))
+      (sym is) ∙ range_read n start len file b,
+)
 of_content file b content.Nothing is = (sym (ap is_range is), ap (λ (c : Content). bytes_in file c ++ []) (sym is))
 
 pub reads_drop_nothing : ReadsDropNothing

@@ -57,10 +57,10 @@ pub record IsMade (r : Configuration) (b : Bucket) : Type 0 where
   pub lives : (b.home ≡ home.Free) ⊎ (b.home ≡ home.Call r.call.name)
 
 -- what is put into one: bytes of a text or of the buffer, or nothing
-pub data IsPut (p : Program) (r : Configuration) : Content → Type 0 where
-  OfText : (t : ℕ) → IsPut p r (content.Bytes (text_of p t))
-  OfBuffer : IsPut p r (content.Bytes r.call.buffer)
-  OfNone : IsPut p r content.Nothing
+pub data IsNewContent (p : Program) (r : Configuration) : Content → Type 0 where
+  OfText : (t : ℕ) → IsNewContent p r (content.Bytes (text_of p t))
+  OfBuffer : IsNewContent p r (content.Bytes r.call.buffer)
+  OfNone : IsNewContent p r content.Nothing
 
 -- What is true of both parts of a bucket of which it is true.
 pub record PassesParts (T : Bucket → Type 0) : Type 0 where
@@ -295,7 +295,7 @@ is_quiet e = not (is_wide (extent e) || has_pools (extent e))
 
 -- What is true of each bucket, under its name, of what comes of it and of what is made and read, is true of each that such an effect leaves.
 module _ (T : NamedBucket → Type 0) (p : Program) (choice : Choice) (r : Configuration) (on : Descends r.shared.next T)
-    (made : (b : Bucket) → IsMade r b → IsPut p r b.content → T (record { name = r.shared.next; bucket = b }))
+    (made : (b : Bucket) → IsMade r b → IsNewContent p r b.content → T (record { name = r.shared.next; bucket = b }))
     (reads : (c : Content) (bytes : List ℕ) → read_given choice.given c ≡ Some bytes → (x : NamedBucket) → T x → T (record x { bucket = heap_bucket bytes })) (h : HoldsNamed T r) where
   abbrev New : Bucket → Type 0
   New b = T (record { name = r.shared.next; bucket = b })

@@ -238,7 +238,11 @@ module _ (told : Told) (w : World) (r : Refusal) where
       ∷ refused_if (is_failing told.opening) refusal.FileFailed ∷ refused_if (is_spent (number_given w.common told.opening) 1) refusal.NamesSpent ∷ refused_if (not memory) refusal.NoMemory ∷ [])
       (walk t) in
       file_or_refused t _ c.req told.opening k w (w.common, c) ordered
-      (λ e. (from_not (is_some c.req) (ordered.none e refusal.NotInRequest (omega arith)), not_on (is_missing told.opening) (ordered.none e refusal.NoFile (omega arith)), not_on (is_failing told.opening) (ordered.none e refusal.FileFailed (omega arith)))) r
+      (λ e. (
+        from_not (is_some c.req) (ordered.none e refusal.NotInRequest (omega arith)),
+        not_on (is_missing told.opening) (ordered.none e refusal.NoFile (omega arith)),
+        not_on (is_failing told.opening) (ordered.none e refusal.FileFailed (omega arith)),
+      )) r
 
   begins_exact : (memory : Bool) (chain : List Program) (k : ℕ) (c : Connection) → Exact (tests memory told event.Begin (Some c) w) (answered k w (begins memory chain (w.common, c))).0 r
   unfolding begins

@@ -153,7 +153,13 @@ bsplit_names b place a r lt below limit = rising_names r _ carried (omega arith)
       let first : count cut n + count_named n (items_at r b) ≤ count r n + count_named n (stays (place_at place) (items_at r b)) = slot_counts b (stays (place_at place) (items_at r b)) r n lt in
       let second : count (do_bsplit b place a r) n + count_named n (items_at cut a) ≤ count cut n + count_named n (moves (place_at place) (items_at r b)) =
       slot_counts a (moves (place_at place) (items_at r b)) cut n below in
-      omega (arith, first, second, count_append n (stays (place_at place) (items_at r b)) (moves (place_at place) (items_at r b)), ap (count_named n) (brigade_splits_in_order (place_at place) (items_at r b)))
+      omega (
+        arith,
+        first,
+        second,
+        count_append n (stays (place_at place) (items_at r b)) (moves (place_at place) (items_at r b)),
+        ap (count_named n) (brigade_splits_in_order (place_at place) (items_at r b)),
+      )
 
 -- the buckets of b become these, of which the new name is one's at most
 remade_names : (b names : ℕ) (items : List NamedBucket) (r : Configuration) → b < 9 → r.shared.next + names < 2 ^ 64
@@ -229,14 +235,26 @@ rest_rises new n bytes b = of_content b.content where
 -- what is read keeps its name, and the rest comes to it
 read_counts : (new n : ℕ) (bytes : List ℕ) (x : NamedBucket) (bs : List NamedBucket) → bucket_named x.name bs ≡ Some x
     → count_named n (bucket_read new x.name bytes bs) ≡ count_named n bs + count_named n (rest_named new (read_of bytes x.bucket).1)
-read_counts new n bytes x bs is = omega (arith, count_append n (buckets_before x.name bs) (first_read new bytes (buckets_from x.name bs)), of_first (buckets_from x.name bs) is, count_append n (buckets_before x.name bs) (buckets_from x.name bs), ap (count_named n) (brigade_splits_in_order (Some x.name) bs)) where
+read_counts new n bytes x bs is = omega (
+  arith,
+  count_append n (buckets_before x.name bs) (first_read new bytes (buckets_from x.name bs)),
+  of_first (buckets_from x.name bs) is,
+  count_append n (buckets_before x.name bs) (buckets_from x.name bs),
+  ap (count_named n) (brigade_splits_in_order (Some x.name) bs),
+) where
   of_first : (ys : List NamedBucket) → first_bucket ys ≡ Some x → count_named n (first_read new bytes ys) ≡ count_named n ys + count_named n (rest_named new (read_of bytes x.bucket).1)
   of_first [] is = absurd (cc)
   of_first (y ∷ ys) is =
       let same : y ≡ x = cc in
       let rest : count_named n (rest_named new (read_of bytes y.bucket).1) ≡ count_named n (rest_named new (read_of bytes x.bucket).1) =
       ap (λ (z : NamedBucket). count_named n (rest_named new (read_of bytes z.bucket).1)) same in
-      omega (arith, rest, count_cons n (record y { bucket = (read_of bytes y.bucket).0 }) (rest_named new (read_of bytes y.bucket).1 ++ ys), count_append n (rest_named new (read_of bytes y.bucket).1) ys, count_cons n y ys)
+      omega (
+        arith,
+        rest,
+        count_cons n (record y { bucket = (read_of bytes y.bucket).0 }) (rest_named new (read_of bytes y.bucket).1 ++ ys),
+        count_append n (rest_named new (read_of bytes y.bucket).1) ys,
+        count_cons n y ys,
+      )
 
 pub read_names : (given : Option (List ℕ)) (s : Place) (r : Configuration) → Stands r s → r.shared.next + names_to_read s < 2 ^ 64 → NamesStep r (do_read given s r)
 read_names given (Within b x) r at limit = by_given (read_given given x.bucket.content) where
@@ -270,7 +288,8 @@ new_names c b r limit = cursor_names c (cursor.At r.shared.next) r _
           tail_counts (record { name = r.shared.next; bucket = b }) r.call.loose n in
           elim (eqb_tells n r.shared.next) [
             | inl p ↦ one_more _ _ n _ _ (omega (arith, p.1)) (omega (arith, p.1)) (omega (arith, all, at_most (r.shared.next == n)))
-            | inr p ↦ no_more _ _ n _ _ (let other : ◌≡◌ {A = ℕ} (cond (r.shared.next == n) 1 0) 0 = ap (λ (c : Bool). cond c 1 0) (ne_eqb r.shared.next n (λ e. p.1 (sym e))) in omega (arith, all, other))
+            | inr p ↦ no_more _ _ n _ _ (let other : ◌≡◌ {A = ℕ} (cond (r.shared.next == n) 1 0) 0 =
+                ap (λ (c : Bool). cond c 1 0) (ne_eqb r.shared.next n (λ e. p.1 (sym e))) in omega (arith, all, other))
           ]
 
 -- a bucket that is made, where it is

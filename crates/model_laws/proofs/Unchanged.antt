@@ -34,40 +34,202 @@ itself k = eq-eqb k k refl
 
 -- where only numbers and tests are read
 nothing : (e : Effect) (r : Configuration) → ChangesOnly e r r
-nothing e r = record { brigades = λ k h. refl; pools = λ k h. refl; numbers = λ k h. refl; sent = λ h. refl; cursors = λ k h. refl; loose = λ h. refl; buffer = λ h. refl; tree = λ h. refl; conn = refl; req = refl; labels = λ h. refl; files = λ h. refl; names = omega arith; names_last = omega arith; output = refl; pc = refl; call_name = λ h. refl }
+nothing e r = record {
+  brigades = λ k h. refl;
+  pools = λ k h. refl;
+  numbers = λ k h. refl;
+  sent = λ h. refl;
+  cursors = λ k h. refl;
+  loose = λ h. refl;
+  buffer = λ h. refl;
+  tree = λ h. refl;
+  conn = refl;
+  req = refl;
+  labels = λ h. refl;
+  files = λ h. refl;
+  names = omega arith;
+  names_last = omega arith;
+  output = refl;
+  pc = refl;
+  call_name = λ h. refl;
+}
 
 -- One change more, of something that the instruction may change.
 
 by_brigade : (e : Effect) (r x : Configuration) (b : ℕ) (v : BrigadeVar) → may_change r e b ≡ true → ChangesOnly e r x → ChangesOnly e r (set_brigade b v x)
 unfolding set_brigade
-by_brigade e r x b v may s = record { brigades = λ k h. upd_off x.instance.brigades b k v (apart (may_change r e) k b h may) ∙ s.brigades k h; pools = s.pools; numbers = s.numbers; sent = s.sent; cursors = s.cursors; loose = s.loose; buffer = s.buffer; tree = s.tree; conn = s.conn; req = s.req; labels = s.labels; files = s.files; names = s.names; names_last = s.names_last; output = s.output; pc = s.pc; call_name = s.call_name }
+by_brigade e r x b v may s = record {
+  brigades = λ k h. upd_off x.instance.brigades b k v (apart (may_change r e) k b h may) ∙ s.brigades k h;
+  pools = s.pools;
+  numbers = s.numbers;
+  sent = s.sent;
+  cursors = s.cursors;
+  loose = s.loose;
+  buffer = s.buffer;
+  tree = s.tree;
+  conn = s.conn;
+  req = s.req;
+  labels = s.labels;
+  files = s.files;
+  names = s.names;
+  names_last = s.names_last;
+  output = s.output;
+  pc = s.pc;
+  call_name = s.call_name;
+}
 
 by_pool : (e : Effect) (r x : Configuration) (q : ℕ) (v : PoolVar) → may_change_pool e q ≡ true → ChangesOnly e r x → ChangesOnly e r (set_pool q v x)
 unfolding set_pool
-by_pool e r x q v may s = record { brigades = s.brigades; pools = λ k h. upd_off x.instance.pools q k v (apart (may_change_pool e) k q h may) ∙ s.pools k h; numbers = s.numbers; sent = s.sent; cursors = s.cursors; loose = s.loose; buffer = s.buffer; tree = s.tree; conn = s.conn; req = s.req; labels = s.labels; files = s.files; names = s.names; names_last = s.names_last; output = s.output; pc = s.pc; call_name = s.call_name }
+by_pool e r x q v may s = record {
+  brigades = s.brigades;
+  pools = λ k h. upd_off x.instance.pools q k v (apart (may_change_pool e) k q h may) ∙ s.pools k h;
+  numbers = s.numbers;
+  sent = s.sent;
+  cursors = s.cursors;
+  loose = s.loose;
+  buffer = s.buffer;
+  tree = s.tree;
+  conn = s.conn;
+  req = s.req;
+  labels = s.labels;
+  files = s.files;
+  names = s.names;
+  names_last = s.names_last;
+  output = s.output;
+  pc = s.pc;
+  call_name = s.call_name;
+}
 
 by_number : (e : Effect) (r x : Configuration) (n v : ℕ) → may_change_number e n ≡ true → ChangesOnly e r x → ChangesOnly e r (set_number n v x)
 unfolding set_number
-by_number e r x n v may s = record { brigades = s.brigades; pools = s.pools; numbers = λ k h. upd_off x.instance.numbers n k v (apart (may_change_number e) k n h may) ∙ s.numbers k h; sent = s.sent; cursors = s.cursors; loose = s.loose; buffer = s.buffer; tree = s.tree; conn = s.conn; req = s.req; labels = s.labels; files = s.files; names = s.names; names_last = s.names_last; output = s.output; pc = s.pc; call_name = s.call_name }
+by_number e r x n v may s = record {
+  brigades = s.brigades;
+  pools = s.pools;
+  numbers = λ k h. upd_off x.instance.numbers n k v (apart (may_change_number e) k n h may) ∙ s.numbers k h;
+  sent = s.sent;
+  cursors = s.cursors;
+  loose = s.loose;
+  buffer = s.buffer;
+  tree = s.tree;
+  conn = s.conn;
+  req = s.req;
+  labels = s.labels;
+  files = s.files;
+  names = s.names;
+  names_last = s.names_last;
+  output = s.output;
+  pc = s.pc;
+  call_name = s.call_name;
+}
 
 by_cursor : (e : Effect) (r x : Configuration) (c : ℕ) (v : Cursor) → may_change_cursor e c ≡ true → ChangesOnly e r x → ChangesOnly e r (set_cursor c v x)
 unfolding set_cursor
-by_cursor e r x c v may s = record { brigades = s.brigades; pools = s.pools; numbers = s.numbers; sent = s.sent; cursors = λ k h. upd_off x.call.cursors c k v (apart (may_change_cursor e) k c h may) ∙ s.cursors k h; loose = s.loose; buffer = s.buffer; tree = s.tree; conn = s.conn; req = s.req; labels = s.labels; files = s.files; names = s.names; names_last = s.names_last; output = s.output; pc = s.pc; call_name = s.call_name }
+by_cursor e r x c v may s = record {
+  brigades = s.brigades;
+  pools = s.pools;
+  numbers = s.numbers;
+  sent = s.sent;
+  cursors = λ k h. upd_off x.call.cursors c k v (apart (may_change_cursor e) k c h may) ∙ s.cursors k h;
+  loose = s.loose;
+  buffer = s.buffer;
+  tree = s.tree;
+  conn = s.conn;
+  req = s.req;
+  labels = s.labels;
+  files = s.files;
+  names = s.names;
+  names_last = s.names_last;
+  output = s.output;
+  pc = s.pc;
+  call_name = s.call_name;
+}
 
 by_loose : (e : Effect) (r x : Configuration) (items : List NamedBucket) → may_change_loose r e ≡ true → ChangesOnly e r x → ChangesOnly e r (set_loose items x)
 unfolding set_loose
-by_loose e r x items may s = record { brigades = s.brigades; pools = s.pools; numbers = s.numbers; sent = s.sent; cursors = s.cursors; loose = λ h. absurd (let both : true ≡ false = sym may ∙ h in cc); buffer = s.buffer; tree = s.tree; conn = s.conn; req = s.req; labels = s.labels; files = s.files; names = s.names; names_last = s.names_last; output = s.output; pc = s.pc; call_name = s.call_name }
+by_loose e r x items may s = record {
+  brigades = s.brigades;
+  pools = s.pools;
+  numbers = s.numbers;
+  sent = s.sent;
+  cursors = s.cursors;
+  loose = λ h. absurd (let both : true ≡ false = sym may ∙ h in cc);
+  buffer = s.buffer;
+  tree = s.tree;
+  conn = s.conn;
+  req = s.req;
+  labels = s.labels;
+  files = s.files;
+  names = s.names;
+  names_last = s.names_last;
+  output = s.output;
+  pc = s.pc;
+  call_name = s.call_name;
+}
 
 by_tree : (e : Effect) (r x : Configuration) (ps : Pools Payload) → may_change_tree e ≡ true → ChangesOnly e r x → ChangesOnly e r (with_pools ps x)
 unfolding with_pools
-by_tree e r x ps may s = record { brigades = s.brigades; pools = s.pools; numbers = s.numbers; sent = s.sent; cursors = s.cursors; loose = s.loose; buffer = s.buffer; tree = λ h. absurd (let both : true ≡ false = sym may ∙ h in cc); conn = s.conn; req = s.req; labels = s.labels; files = s.files; names = s.names; names_last = s.names_last; output = s.output; pc = s.pc; call_name = s.call_name }
+by_tree e r x ps may s = record {
+  brigades = s.brigades;
+  pools = s.pools;
+  numbers = s.numbers;
+  sent = s.sent;
+  cursors = s.cursors;
+  loose = s.loose;
+  buffer = s.buffer;
+  tree = λ h. absurd (let both : true ≡ false = sym may ∙ h in cc);
+  conn = s.conn;
+  req = s.req;
+  labels = s.labels;
+  files = s.files;
+  names = s.names;
+  names_last = s.names_last;
+  output = s.output;
+  pc = s.pc;
+  call_name = s.call_name;
+}
 
 -- names that it wants are given out
 by_names : (e : Effect) (n : ℕ) (r : Configuration) → n ≤ names_for r e → ChangesOnly e r (names_given n r)
-by_names e n r le = record { brigades = λ k h. refl; pools = λ k h. refl; numbers = λ k h. refl; sent = λ h. refl; cursors = λ k h. refl; loose = λ h. refl; buffer = λ h. refl; tree = λ h. refl; conn = refl; req = refl; labels = λ h. refl; files = λ h. refl; names = omega arith; names_last = omega arith; output = refl; pc = refl; call_name = λ h. refl }
+by_names e n r le = record {
+  brigades = λ k h. refl;
+  pools = λ k h. refl;
+  numbers = λ k h. refl;
+  sent = λ h. refl;
+  cursors = λ k h. refl;
+  loose = λ h. refl;
+  buffer = λ h. refl;
+  tree = λ h. refl;
+  conn = refl;
+  req = refl;
+  labels = λ h. refl;
+  files = λ h. refl;
+  names = omega arith;
+  names_last = omega arith;
+  output = refl;
+  pc = refl;
+  call_name = λ h. refl;
+}
 
 by_buffer : (e : Effect) (r : Configuration) (buffer : List ℕ) → may_change_buffer e ≡ true → ChangesOnly e r (record r { call = record r.call { buffer = buffer } })
-by_buffer e r buffer may = record { brigades = λ k h. refl; pools = λ k h. refl; numbers = λ k h. refl; sent = λ h. refl; cursors = λ k h. refl; loose = λ h. refl; buffer = λ h. absurd (let both : true ≡ false = sym may ∙ h in cc); tree = λ h. refl; conn = refl; req = refl; labels = λ h. refl; files = λ h. refl; names = omega arith; names_last = omega arith; output = refl; pc = refl; call_name = λ h. refl }
+by_buffer e r buffer may = record {
+  brigades = λ k h. refl;
+  pools = λ k h. refl;
+  numbers = λ k h. refl;
+  sent = λ h. refl;
+  cursors = λ k h. refl;
+  loose = λ h. refl;
+  buffer = λ h. absurd (let both : true ≡ false = sym may ∙ h in cc);
+  tree = λ h. refl;
+  conn = refl;
+  req = refl;
+  labels = λ h. refl;
+  files = λ h. refl;
+  names = omega arith;
+  names_last = omega arith;
+  output = refl;
+  pc = refl;
+  call_name = λ h. refl;
+}
 
 -- Clears, a pass and a return.
 
@@ -99,7 +261,25 @@ emptied_changes e left n r any loose tree labels = record {
 
 passed_changes : (b : ℕ) (r : Configuration) → ChangesOnly (effect.Pass b) r (do_pass b r)
 unfolding set_brigade
-passed_changes b r = record { brigades = λ k h. upd_off r.instance.brigades b k _ (apart (may_change r (effect.Pass b)) k b h (itself b)); pools = λ k h. refl; numbers = λ k h. refl; sent = λ h. absurd (cc); cursors = λ k h. refl; loose = λ h. refl; buffer = λ h. refl; tree = λ h. refl; conn = refl; req = refl; labels = λ h. refl; files = λ h. refl; names = omega arith; names_last = omega arith; output = refl; pc = refl; call_name = λ h. refl }
+passed_changes b r = record {
+  brigades = λ k h. upd_off r.instance.brigades b k _ (apart (may_change r (effect.Pass b)) k b h (itself b));
+  pools = λ k h. refl;
+  numbers = λ k h. refl;
+  sent = λ h. absurd (cc);
+  cursors = λ k h. refl;
+  loose = λ h. refl;
+  buffer = λ h. refl;
+  tree = λ h. refl;
+  conn = refl;
+  req = refl;
+  labels = λ h. refl;
+  files = λ h. refl;
+  names = omega arith;
+  names_last = omega arith;
+  output = refl;
+  pc = refl;
+  call_name = λ h. refl;
+}
 
 -- One bucket.
 
@@ -227,7 +407,25 @@ effect_changes_only p choice (effect.Read c) r = read_changes (effect.Read c) r 
 effect_changes_only p choice (effect.Number n number) r = got_changes (effect.Number n number) r n (number_of r n number) (itself n)
 effect_changes_only p choice (effect.Put x) r = put_keeps (ChangesOnly (effect.Put x) r) x r (nothing (effect.Put x) r) (λ buffer. by_buffer (effect.Put x) r buffer refl)
 effect_changes_only p choice effect.ClearBuffer r = by_buffer effect.ClearBuffer r _ refl
-effect_changes_only p choice effect.Return r = record { brigades = λ k h. absurd (cc); pools = λ k h. refl; numbers = λ k h. refl; sent = λ h. refl; cursors = λ k h. absurd (cc); loose = λ h. absurd (cc); buffer = λ h. absurd (cc); tree = λ h. refl; conn = refl; req = refl; labels = λ h. refl; files = λ h. refl; names = omega arith; names_last = omega arith; output = refl; pc = refl; call_name = λ h. absurd (cc) }
+effect_changes_only p choice effect.Return r = record {
+  brigades = λ k h. absurd (cc);
+  pools = λ k h. refl;
+  numbers = λ k h. refl;
+  sent = λ h. refl;
+  cursors = λ k h. absurd (cc);
+  loose = λ h. absurd (cc);
+  buffer = λ h. absurd (cc);
+  tree = λ h. refl;
+  conn = refl;
+  req = refl;
+  labels = λ h. refl;
+  files = λ h. refl;
+  names = omega arith;
+  names_last = omega arith;
+  output = refl;
+  pc = refl;
+  call_name = λ h. absurd (cc);
+}
 
 pub step_changes_only : StepChangesOnly
 step_changes_only p choice i r = effect_changes_only p choice (effect_of i) r

@@ -296,8 +296,20 @@ module _ (p : Program) where
     at = λ c d h. h.at;
     count = λ c d h. omega (arith, steps-length p c d.open h.first, steps-length p [] d.init h.second, steps-length p [] d.main h.third);
     texts = λ c d h. h.texts ∙ ap (texts_of p) (bared c);
-    labels = λ c d n name h. record { at = record { part = h.at.part; pools = h.at.pools; brigades = h.at.brigades }; first = label_matches p c d.open n name h.first; second = h.second; third = h.third; texts = h.texts ∙ ap (texts_of p) (bared c) ∙ ap (texts_of p) (sym (instrs-append c (label name ∷ []) ∙ append-nil (instrs c))) ∙ ap (texts_of p) (sym (bared (c ++ label name ∷ []))) };
-    steps = λ c d x i name s e h. record { at = record { part = h.at.part; pools = h.at.pools; brigades = h.at.brigades }; first = step_matches p c d.open x i name s e h.first; second = h.second; third = h.third; texts = texts_more p (instrs c) i d.texts (h.texts ∙ ap (texts_of p) (bared c)) ∙ ap (texts_of p) (sym (one_instr [] c i name s)) ∙ ap (texts_of p) (sym (bared (c ++ step i name s ∷ []))) };
+    labels = λ c d n name h. record {
+      at = record { part = h.at.part; pools = h.at.pools; brigades = h.at.brigades };
+      first = label_matches p c d.open n name h.first;
+      second = h.second;
+      third = h.third;
+      texts = h.texts ∙ ap (texts_of p) (bared c) ∙ ap (texts_of p) (sym (instrs-append c (label name ∷ []) ∙ append-nil (instrs c))) ∙ ap (texts_of p) (sym (bared (c ++ label name ∷ [])));
+    };
+    steps = λ c d x i name s e h. record {
+      at = record { part = h.at.part; pools = h.at.pools; brigades = h.at.brigades };
+      first = step_matches p c d.open x i name s e h.first;
+      second = h.second;
+      third = h.third;
+      texts = texts_more p (instrs c) i d.texts (h.texts ∙ ap (texts_of p) (bared c)) ∙ ap (texts_of p) (sym (one_instr [] c i name s)) ∙ ap (texts_of p) (sym (bared (c ++ step i name s ∷ [])));
+    };
   }
     where
       bared : (c : List CodeLine) → (instrs c ++ []) ++ [] ≡ instrs c
@@ -310,8 +322,21 @@ module _ (p : Program) where
     at = λ c d h. h.at;
     count = λ c d h. omega (arith, steps-length p a d.open h.first, steps-length p c d.init h.second, steps-length p [] d.main h.third, length-append (instrs a) (instrs c));
     texts = λ c d h. h.texts ∙ ap (texts_of p) (append-nil (instrs a ++ instrs c));
-    labels = λ c d n name h. record { at = record { part = h.at.part; pools = h.at.pools; brigades = h.at.brigades }; first = h.first; second = label_matches p c d.init n name h.second; third = h.third; texts = h.texts ∙ ap (λ x. texts_of p ((instrs a ++ x) ++ [])) (sym (instrs-append c (label name ∷ []) ∙ append-nil (instrs c))) };
-    steps = λ c d x i name s e h. record { at = record { part = h.at.part; pools = h.at.pools; brigades = h.at.brigades }; first = h.first; second = step_matches p c d.init x i name s e h.second; third = h.third; texts = texts_more p (instrs a ++ instrs c) i d.texts (h.texts ∙ ap (texts_of p) (append-nil (instrs a ++ instrs c))) ∙ ap (texts_of p) (sym (one_instr (instrs a) c i name s)) ∙ ap (texts_of p) (sym (append-nil (instrs a ++ instrs (c ++ step i name s ∷ [])))) };
+    labels = λ c d n name h. record {
+      at = record { part = h.at.part; pools = h.at.pools; brigades = h.at.brigades };
+      first = h.first;
+      second = label_matches p c d.init n name h.second;
+      third = h.third;
+      texts = h.texts ∙ ap (λ x. texts_of p ((instrs a ++ x) ++ [])) (sym (instrs-append c (label name ∷ []) ∙ append-nil (instrs c)));
+    };
+    steps = λ c d x i name s e h. record {
+      at = record { part = h.at.part; pools = h.at.pools; brigades = h.at.brigades };
+      first = h.first;
+      second = step_matches p c d.init x i name s e h.second;
+      third = h.third;
+      texts = texts_more p (instrs a ++ instrs c) i d.texts (h.texts ∙ ap (texts_of p) (append-nil (instrs a ++ instrs c)))
+          ∙ ap (texts_of p) (sym (one_instr (instrs a) c i name s)) ∙ ap (texts_of p) (sym (append-nil (instrs a ++ instrs (c ++ step i name s ∷ []))));
+    };
   }
 
   pub main_stage : (a b : List CodeLine) → IsStage p part.Main (instrs a ++ instrs b) (λ c d. Holds p part.Main a b c d)
@@ -319,10 +344,29 @@ module _ (p : Program) where
     due = λ i. refl;
     handled = refl;
     at = λ c d h. h.at;
-    count = λ c d h. omega (arith, steps-length p a d.open h.first, steps-length p b d.init h.second, steps-length p c d.main h.third, length-append (instrs a ++ instrs b) (instrs c), length-append (instrs a) (instrs b));
+    count = λ c d h. omega (
+      arith,
+      steps-length p a d.open h.first,
+      steps-length p b d.init h.second,
+      steps-length p c d.main h.third,
+      length-append (instrs a ++ instrs b) (instrs c),
+      length-append (instrs a) (instrs b),
+    );
     texts = λ c d h. h.texts;
-    labels = λ c d n name h. record { at = record { part = h.at.part; pools = h.at.pools; brigades = h.at.brigades }; first = h.first; second = h.second; third = label_matches p c d.main n name h.third; texts = h.texts ∙ ap (λ x. texts_of p ((instrs a ++ instrs b) ++ x)) (sym (instrs-append c (label name ∷ []) ∙ append-nil (instrs c))) };
-    steps = λ c d x i name s e h. record { at = record { part = h.at.part; pools = h.at.pools; brigades = h.at.brigades }; first = h.first; second = h.second; third = step_matches p c d.main x i name s e h.third; texts = texts_more p ((instrs a ++ instrs b) ++ instrs c) i d.texts h.texts ∙ ap (texts_of p) (sym (one_instr (instrs a ++ instrs b) c i name s)) };
+    labels = λ c d n name h. record {
+      at = record { part = h.at.part; pools = h.at.pools; brigades = h.at.brigades };
+      first = h.first;
+      second = h.second;
+      third = label_matches p c d.main n name h.third;
+      texts = h.texts ∙ ap (λ x. texts_of p ((instrs a ++ instrs b) ++ x)) (sym (instrs-append c (label name ∷ []) ∙ append-nil (instrs c)));
+    };
+    steps = λ c d x i name s e h. record {
+      at = record { part = h.at.part; pools = h.at.pools; brigades = h.at.brigades };
+      first = h.first;
+      second = h.second;
+      third = step_matches p c d.main x i name s e h.third;
+      texts = texts_more p ((instrs a ++ instrs b) ++ instrs c) i d.texts h.texts ∙ ap (texts_of p) (sym (one_instr (instrs a ++ instrs b) c i name s));
+    };
   }
 
 -- a draft that has these declarations and no code
@@ -350,8 +394,10 @@ Lower k (q ∷ qs) = (place_is_declared k q ≡ true) × Lower (k + 1) qs
 pub lower_from : (k : ℕ) (qs : List PoolRef) → ((j : ℕ) (q : PoolRef) → slice_get qs j ≡ Some q → place_is_declared (k + j) q ≡ true) → Lower k qs
 lower_from k [] h = tt
 lower_from k (q ∷ qs) h =
-    let e : k + 0 ≡ k = omega arith in
-    (subst (λ n. place_is_declared n q ≡ true) e (h 0 q refl), lower_from (k + 1) qs (λ j x s. let e : k + suc j ≡ k + 1 + j = omega arith in subst (λ n. place_is_declared n x ≡ true) e (h (suc j) x s)))
+    let e : k + 0 ≡ k = omega arith in (
+      subst (λ n. place_is_declared n q ≡ true) e (h 0 q refl),
+      lower_from (k + 1) qs (λ j x s. let e : k + suc j ≡ k + 1 + j = omega arith in subst (λ n. place_is_declared n x ≡ true) e (h (suc j) x s)),
+    )
 
 -- each pool is declared, where so many are
 abbrev pub Homes : ℕ → List PoolRef → Type 0

@@ -47,8 +47,11 @@ pub lines_spelled : (p : Program) (base : ℕ) (ls : List Label) (rs : List Raw)
 unfolding step_code text_at
 lines_spelled p base ls [] h = tt
 lines_spelled p base ls (marked l n ∷ rs) h = lines_spelled p base ls rs h
-lines_spelled p base ls (did s n w ∷ rs) h =
-    (subst (λ o. IfSome o (λ t. Spells w (text_at p t))) (same_number s.op s.operands s.text (base + target_place ls (label_of s.operands))) (some_both (text_of_instr (op_instr s.op s.operands s.text 0)) (λ t. (t < length p.texts) × Spells w (text_at p t)) (λ t. Spells w (text_at p t)) (λ t x. x.1) h.0), lines_spelled p base ls rs h.1)
+lines_spelled p base ls (did s n w ∷ rs) h = (
+  subst (λ o. IfSome o (λ t. Spells w (text_at p t))) (same_number s.op s.operands s.text (base + target_place ls (label_of s.operands)))
+      (some_both (text_of_instr (op_instr s.op s.operands s.text 0)) (λ t. (t < length p.texts) × Spells w (text_at p t)) (λ t. Spells w (text_at p t)) (λ t x. x.1) h.0),
+  lines_spelled p base ls rs h.1,
+)
 
 -- the labels of the lines are those of the handler
 pub labels_marked : (base n k : ℕ) (ls : List Label) (rs : List Raw) → k ≡ base + n → AreBuilt n rs → Marked base (raw_labels rs) (labels_from k (map (line_of base ls) rs))

@@ -49,7 +49,10 @@ more_lines : (n : ℕ) (h : HandlerLines) → HasLines n h → HasLines (n + 1) 
 more_lines n h x = record { labels = rises_up (λ (l : Label). l.line) (h.line + 1) n h.labels x.labels; steps = rises_up (λ (s : DraftStep). s.line) (h.line + 1) n h.steps x.steps }
 
 first_lines : (n : ℕ) (h : HandlerLines) → IsBlank h → HasLines (n + 1) (record h { line = n })
-first_lines n h b = record { labels = subst (Rises (λ (l : Label). l.line) (n + 1) (n + 1)) (sym b.labels) (omega arith); steps = subst (Rises (λ (s : DraftStep). s.line) (n + 1) (n + 1)) (sym b.steps) (omega arith) }
+first_lines n h b = record {
+  labels = subst (Rises (λ (l : Label). l.line) (n + 1) (n + 1)) (sym b.labels) (omega arith);
+  steps = subst (Rises (λ (s : DraftStep). s.line) (n + 1) (n + 1)) (sym b.steps) (omega arith);
+}
 
 label_lines : (n : ℕ) (h : HandlerLines) (name : List ℕ) → HasLines n h → HasLines (n + 1) (with_line h n name)
 label_lines n h name x = let m = more_lines n h x in record { labels = rises_push (λ (l : Label). l.line) (h.line + 1) n h.labels _ refl x.labels; steps = m.steps }

@@ -170,7 +170,12 @@ chain k rest o h =
 pub kinds_read : (k : OperandKinds) (rest : List ℕ) (o : Operands) → operands_at k rest ≡ Ok o → IsOfKinds k o
 kinds_read k rest o h =
     let c = chain k rest o h in
-    record { first = read_kind k.first rest o.first c.first; second = read_kind k.second _ o.second c.second; third = read_kind k.third _ o.third c.third; fourth = read_kind k.fourth _ o.fourth c.fourth }
+    record {
+      first = read_kind k.first rest o.first c.first;
+      second = read_kind k.second _ o.second c.second;
+      third = read_kind k.third _ o.third c.third;
+      fourth = read_kind k.fourth _ o.fourth c.fourth;
+    }
 
 nothing_is : (x : Operand) → of_kind kind.Nothing x ≡ true → x ≡ operand.Nothing
 nothing_is operand.Nothing h = refl

@@ -131,8 +131,11 @@ status_shown status.Fail = (refl, omega arith)
 value_shown : (v : Value) → is_value v ≡ true → (list_all is_printable (value_text v) ≡ true) × (length (value_text v) ≤ 10)
 value_shown (value.Number n) h = let low = ltb-true n 8 h in (rw (digit_printable n (omega arith)) refl, omega arith)
 value_shown (value.Constant k) h =
-    let low = ltb-true k (2 ^ 32) h in
-    (decimal_by_steps (λ m ds. list_all is_printable ds ≡ true) digit_printable (λ m ds high e. all_joined is_printable ds ((48 + m % 10) ∷ []) e (digit_printable (m % 10) (omega arith))) k (omega arith), length-decimal-le 10 k (omega arith) (omega arith) (omega arith))
+    let low = ltb-true k (2 ^ 32) h in (
+      decimal_by_steps (λ m ds. list_all is_printable ds ≡ true) digit_printable (λ m ds high e. all_joined is_printable ds ((48 + m % 10) ∷ []) e (digit_printable (m % 10) (omega arith))) k
+          (omega arith),
+      length-decimal-le 10 k (omega arith) (omega arith) (omega arith),
+    )
 
 cursor_shown : (c : ℕ) → ltb c 8 ≡ true → (list_all is_printable (cursor_text c) ≡ true) × (length (cursor_text c) ≤ 10)
 cursor_shown c h = let low = ltb-true c 8 h in (rw (digit_printable c (omega arith)) refl, omega arith)
@@ -164,7 +167,10 @@ written_both : (xs ys : List (List ℕ)) (m n : ℕ) → AreWritten xs m → Are
 written_both xs ys m n a b =
     let e = operands_text-append xs ys in
     let size = length-append (operands_text xs) (operands_text ys) in
-    record { clean = ap (list_all is_printable) e ∙ list_all-append is_printable (operands_text xs) (operands_text ys) ∙ rw (a.clean, b.clean) refl; short = omega (arith, ap length e, size, a.short, b.short) }
+    record {
+      clean = ap (list_all is_printable) e ∙ list_all-append is_printable (operands_text xs) (operands_text ys) ∙ rw (a.clean, b.clean) refl;
+      short = omega (arith, ap length e, size, a.short, b.short);
+    }
 
 token_written : (t : List ℕ) (n : ℕ) → n ≤ 10 → (list_all is_printable t ≡ true) × (length t ≤ n) → AreWritten (t ∷ []) 11
 token_written t n low h = record { clean = operands_printable (t ∷ []) (h.0, omega (arith, h.1), tt); short = omega (arith, operands_short (t ∷ []) (h.0, omega (arith, h.1), tt)) }

@@ -83,7 +83,12 @@ pub args_short : (p : Program) (i : Instr) → length p.pools ≤ 8 → length p
 args_short p i few small h =
     let f = fits_parts p i h in
     let a = args i in
-    record { first = one_short p a.first few small f.first; second = one_short p a.second few small f.second; third = one_short p a.third few small f.third; fourth = one_short p a.fourth few small f.fourth }
+    record {
+      first = one_short p a.first few small f.first;
+      second = one_short p a.second few small f.second;
+      third = one_short p a.third few small f.third;
+      fourth = one_short p a.fourth few small f.fourth;
+    }
 
 -- the text of an instruction of a module is there
 pub text_there : (p : Program) (i : Instr) → fits p i ≡ true → IfSome (text_of_instr i) (λ t. t < length p.texts)

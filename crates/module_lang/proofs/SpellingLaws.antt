@@ -111,7 +111,16 @@ one_again k o t h = rw (operand_again k o t [] h tt, behind_again k o t [] h tt,
 
 pub two_again : (k l : OperandKind) (o q : Operand) (t u : List ℕ) → IsOperand k o t → IsOperand l q u → operands_at (two_operands k l) (operands_text (t ∷ u ∷ [])) ≡ Ok (operands o q)
 unfolding operands_at
-two_again k l o q t u h j = rw (operand_again k o t (operands_text (u ∷ [])) h refl, behind_again k o t (operands_text (u ∷ [])) h refl, operand_again l q u [] j tt, behind_again l q u [] j tt, none_again [], none_behind [], none_again [], none_behind []) refl
+two_again k l o q t u h j = rw (
+  operand_again k o t (operands_text (u ∷ [])) h refl,
+  behind_again k o t (operands_text (u ∷ [])) h refl,
+  operand_again l q u [] j tt,
+  behind_again l q u [] j tt,
+  none_again [],
+  none_behind [],
+  none_again [],
+  none_behind [],
+) refl
 
 numbered_again : (letter i : ℕ) → i < 8 → numbered letter (letter ∷ (48 + i) ∷ []) ≡ Some i
 numbered_again letter i h =

@@ -115,7 +115,15 @@ module _ (old new : ℕ → Bool) (k : ℕ) (runs : (n : ℕ) → n ≢ k → ne
 
 -- surroundings with nothing but these calls that wait
 abbrev pub amid : List ℕ → Around
-amid waits = record { pools = record { path = λ n. []; payloads = λ n. []; next = 0 }; conn = 0; req = None; labels = []; files = record { named = λ name. None; opened = λ file. None; next = 0; fails_in = None }; out = record { bytes = []; ended = false }; waits = waits }
+amid waits = record {
+  pools = record { path = λ n. []; payloads = λ n. []; next = 0 };
+  conn = 0;
+  req = None;
+  labels = [];
+  files = record { named = λ name. None; opened = λ file. None; next = 0; fails_in = None };
+  out = record { bytes = []; ended = false };
+  waits = waits;
+}
 
 module _ (L M : ℕ → Option Items) (k l : ℕ) (around : Around) (i : Instance) (call begun : Call) (pc : ℕ) (is : seen_over M l around i begun ≡ begun_as pc (seen_over L k around i call)) where
   pub begun_call : shown_call (calls_in around begun) M begun ≡ fresh_call k

@@ -95,7 +95,11 @@ module _ (chain : List Program) (s : Status) (at new_at : BucketId → Option �
   came k e is = elim (cases_eq k t) [
     | inl q ↦ (x.top, subst (λ (n : ℕ). CameFrom c w n x.top e) (sym q) (subst (CameFrom c w t x.top) (some_is x.ended e (sym x.top_after ∙ (ap (filter_at d) (sym q) ∙ is))) from_top))
     | inr ne ↦ (elim (cases_eq k (c.first + w)) [
-      | inl q ↦ (x.wait, subst (λ (n : ℕ). CameFrom c w n x.wait e) (sym q) (subst (CameFrom c w (c.first + w) x.wait) (some_is x.resumed e (sym x.below_after ∙ (ap (filter_at d) (sym q) ∙ is))) from_wait))
+      | inl q ↦ (
+        x.wait,
+        subst (λ (n : ℕ). CameFrom c w n x.wait e) (sym q)
+            (subst (CameFrom c w (c.first + w) x.wait) (some_is x.resumed e (sym x.below_after ∙ (ap (filter_at d) (sym q) ∙ is))) from_wait),
+      )
       | inr off ↦ (
         e,
         record {

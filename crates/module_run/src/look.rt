@@ -7,8 +7,7 @@ ghost use Rattle.module_run.specs.declared.conn.Filter.{Filter};
 use crate::conn::Conn;
 use brigade_ops::{Brigades, PoolTree, Rings, Stored};
 use ring_calls::asks::{is_spent, lacks_names};
-use ring_calls::outside::Outside;
-use ring_calls::setting::Setting;
+use ring_calls::context::Context;
 use ring_wants::wants::fault;
 use run_model::{FaultKind, Instr, Module, Payload};
 
@@ -56,7 +55,7 @@ impl Conn {
         let (Some(filter), Some(code)) = (self.filters.get(of), modules.get(of)) else {
             unreachable!()
         };
-        let setting = Setting {
+        let context = Context {
             conn: self.conn,
             req: self.req,
             waits: self.waits.as_slice(),
@@ -66,7 +65,7 @@ impl Conn {
             code,
             &filter.instance,
             &filter.call,
-            &setting,
+            &context,
             tree,
             store,
             next.instr,
@@ -106,17 +105,18 @@ impl Conn {
         let (Some(filter), Some(code)) = (self.filters.get(of), modules.get(of)) else {
             unreachable!()
         };
-        let outside = Outside {
-            tree,
+        let context = Context {
             conn: self.conn,
             req: self.req,
             waits: self.waits.as_slice(),
+            rings: &[],
         };
         lacks_names(
             code,
             &filter.instance,
             &filter.call,
-            &outside,
+            &context,
+            tree,
             store,
             next.instr,
         ) || is_spent(store.next_name(), self.calls(modules, next.instr))

@@ -1,5 +1,30 @@
 -- A value is put at the place that its name tells, or into the map, or taken away.
-use Rattle.std.proofs.Common.{◌≡◌, ◌≢◌, ◌<◌, ◌%◌, ℕ, Option, None, Some, is_some, List, length, ◌≤◌, slice_index_or, slice_set, true, refl, ap, sym, ◌∙◌, subst, ⊎_elim, rules, get_or-set_same, get_or-set_other}
+use Rattle.std.proofs.Common.{
+  ◌≡◌,
+  ◌≢◌,
+  ◌<◌,
+  ◌%◌,
+  ℕ,
+  Option,
+  None,
+  Some,
+  is_some,
+  List,
+  length,
+  ◌≤◌,
+  slice_index_or,
+  slice_set,
+  true,
+  refl,
+  ap,
+  sym,
+  ◌∙◌,
+  subst,
+  ⊎_elim,
+  rules,
+  get_or-set_same,
+  get_or-set_other,
+}
 use Rattle.std.proofs.lemmas.List.{get_or_past}
 use Rattle.std.proofs.lemmas.Bool.{cases_eq, cases_lt, eq-eqb, ne_eqb}
 use Rattle.std.specs.Option.{option_map}
@@ -85,6 +110,7 @@ unfolding near_in
 rewritten xs far q v None is some n = absurd (cc)
 rewritten xs far q v (Some h) is some n =
     both_changed (near_in xs) (near_in (slice_set xs (q % 64) (Some (record { name = q; value = v })))) far far q (Some v) (far q)
-    (λ m. placed xs q (Some (record { name = q; value = v })) (near_within xs q h is) (of_own q (slice_index_or xs (q % 64) None) h is) (of_named q v) m ∙ ap (λ p. upd (near_in xs) q p m) (own_named q v))
+    (λ m. placed xs q (Some (record { name = q; value = v })) (near_within xs q h is) (of_own q (slice_index_or xs (q % 64) None) h is) (of_named q v) m
+    ∙ ap (λ p. upd (near_in xs) q p m) (own_named q v))
     (same_written far q (far q) refl) n
     ∙ ap (λ p. upd (λ k. or_far (near_in xs k) (far k)) q p n) (sym (ap (λ p. option_map (λ w. v) (or_far p (far q))) is))

@@ -22,7 +22,14 @@ own_length records n = length-map (reverse (payloads_of records n)) (λ x. (n, x
 turned_length : {A B : Type 0} (f : A → List B) (xs : List A) → length (flat_map f (reverse xs)) ≡ length (flat_map f xs)
 turned_length f [] = refl
 turned_length f (x ∷ xs) =
-    rw (reverse-append (x ∷ []) xs, flat_map-append f (reverse xs) (x ∷ []), length-append (flat_map f (reverse xs)) (f x ++ []), append-nil (f x), length-append (f x) (flat_map f xs), turned_length f xs)
+    rw (
+      reverse-append (x ∷ []) xs,
+      flat_map-append f (reverse xs) (x ∷ []),
+      length-append (flat_map f (reverse xs)) (f x ++ []),
+      append-nil (f x),
+      length-append (f x) (flat_map f xs),
+      turned_length f xs,
+    )
     (omega arith)
 
 -- one more pool is counted

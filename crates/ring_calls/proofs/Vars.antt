@@ -38,7 +38,14 @@ seen_var L k around i new call b s same sets =
     let runs = calls_in around call in
     ap (λ (f : ℕ → BrigadeVar).
     record r { instance = record { pools = λ p. slice_index_or new.pools p poolvar.Null; brigades = f; numbers = λ n. slice_index_or new.numbers n 0; sent = new.sent } }) (fun_ext by_slot)
-    ∙ (ap (λ (ps : List PoolVar). record r { instance = record { pools = λ p. slice_index_or ps p poolvar.Null; brigades = upd r.instance.brigades b (shown_slot runs L s); numbers = λ n. slice_index_or new.numbers n 0; sent = new.sent } }) same.pools
+    ∙ (ap (λ (ps : List PoolVar). record r {
+      instance = record {
+        pools = λ p. slice_index_or ps p poolvar.Null;
+        brigades = upd r.instance.brigades b (shown_slot runs L s);
+        numbers = λ n. slice_index_or new.numbers n 0;
+        sent = new.sent;
+      };
+    }) same.pools
     ∙ (ap (λ (ns : List ℕ).
     record r { instance = record { pools = r.instance.pools; brigades = upd r.instance.brigades b (shown_slot runs L s); numbers = λ n. slice_index_or ns n 0; sent = new.sent } }) same.numbers
     ∙ ap (λ (t : Bool). record r { instance = record { pools = r.instance.pools; brigades = upd r.instance.brigades b (shown_slot runs L s); numbers = r.instance.numbers; sent = t } }) same.sent))

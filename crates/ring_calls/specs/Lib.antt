@@ -6,12 +6,11 @@ pub mod Places
 pub mod Ends
 pub mod Needs
 pub mod EffectNeeds
-pub mod Outside
 pub mod Shown
 pub mod Tests
 pub mod Contents
 pub mod Asked
 pub mod Given
 pub mod LeftAlone
-pub mod Setting
+pub mod Context
 pub mod Prelude

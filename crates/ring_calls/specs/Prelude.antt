@@ -6,13 +6,14 @@ pub use Rattle.run_model.specs.Cursors.{is_end, read_cursor, spot}
 pub use Rattle.run_model.specs.Cutting.{length_of}
 pub use Rattle.run_model.specs.EffectOf.{instr_with}
 pub use Rattle.run_model.specs.Faults.{Anywhere, InBrigade, OnBucket, fault}
-pub use Rattle.run_model.specs.Pools.{is_empty}
+pub use Rattle.run_model.specs.Pools.{Pools, is_empty}
 pub use Rattle.run_model.specs.State.{is_named, items_of, name_in, pool_named, set_cursor, set_number}
 pub use Rattle.run_model.specs.Steps.{Choice, buffer_limit, do_clearbuf, do_put, holds, is_full, is_null, is_spent, jumps_if, lacks_names}
 pub use Rattle.run_model.specs.Steps.{last_value, names_for, number_of, pool_names_for, step, value_of}
 pub use Rattle.run_model.specs.declared.bucket.Bucket.{Bucket}
 pub use Rattle.run_model.specs.declared.bucket.NamedBucket.{NamedBucket}
 pub use Rattle.run_model.specs.declared.effect.NewNumber.TheVariants.{LengthAt}
+pub use Rattle.run_model.specs.declared.payload.Payload.{Payload}
 pub use Rattle.pool_tree.specs.Tree.{map_of}
 pub use Rattle.bucket_ring.specs.Lists.{list_at}
 pub use Rattle.bucket_ring.specs.declared.names.BucketId.{BucketId}
@@ -21,10 +22,10 @@ pub use Rattle.stored_rings.specs.Views.{content_of}
 pub use Rattle.brigade_ops.specs.Store.{brigade_of, bucket_at, lists, next_name}
 pub use Rattle.ring_calls.specs.Around.{Around}
 pub use Rattle.ring_calls.specs.Asked.{is_answered}
+pub use Rattle.ring_calls.specs.Context.{in_context}
 pub use Rattle.ring_calls.specs.EffectNeeds.{HasNoFault, IsAskable, asks_store, instr_by, is_told}
 pub use Rattle.ring_calls.specs.Held.{HeldOver, IsHeld}
 pub use Rattle.ring_calls.specs.Needs.{StandsAs}
-pub use Rattle.ring_calls.specs.Outside.{with_outside}
 pub use Rattle.ring_calls.specs.Seen.{item_in, seen, seen_over, shown, shown_cursor}
 pub use Rattle.ring_calls.specs.Shown.{shown_at}
 pub use Rattle.ring_calls.specs.Slots.{cursor_at, live_in, slot_at}

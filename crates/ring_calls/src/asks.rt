@@ -3,17 +3,17 @@
 ghost use Rattle.std.specs.Prelude.{◌≡◌, ◌<◌, ◌≤◌, ℕ, None, Some, true, is_some, length};
 ghost use Rattle.ring_calls.specs.Prelude.{fits, is_variable, is_short, split_refusal, has_rest, is_of_kind, is_unsplit, items_at, kind_is, names_if, is_end, spot};
 ghost use Rattle.ring_calls.specs.Prelude.{Anywhere, InBrigade, OnBucket, fault, is_empty, items_of, is_null, is_spent, lacks_names, names_for, pool_names_for, value_of, NamedBucket, map_of, lists};
-ghost use Rattle.ring_calls.specs.Prelude.{next_name, content_of, Around, IsHeld, HasNoFault, instr_with, StandsAs, with_outside, seen, live_in, slot_at};
+ghost use Rattle.ring_calls.specs.Prelude.{next_name, content_of, Around, IsHeld, HasNoFault, instr_with, StandsAs, in_context, seen, live_in, slot_at};
 ghost use Rattle.run_model.specs.Cursors.{bucket_at as model_bucket_at};
 ghost use Rattle.ring_calls.specs.declared.machine.Call.{Call};
 
 use crate::across::bucket_across;
+use crate::context::Context;
 use crate::machine::{Call, CursorValue, Instance, Slot};
-use crate::outside::Outside;
 use crate::pool_names;
 use crate::values::value_of;
-use brigade_ops::{Brigades, ContentView, Kind, Rings, Stored, View};
-use run_model::{Effect, Instr, KindTest, Module, PoolVar, Value, VarRef, effect_of};
+use brigade_ops::{Brigades, ContentView, Kind, PoolTree, Rings, Stored, View};
+use run_model::{Effect, Instr, KindTest, Module, Payload, PoolVar, Value, VarRef, effect_of};
 
 /// How many bytes a read takes from a file, at most.
 const READ_LIMIT: u64 = 8000;
@@ -226,7 +226,8 @@ pub fn lacks_names<R: Rings<Stored> + Drop>(
     code: &Module,
     instance: &Instance,
     call: &Call,
-    outside: &Outside<'_>,
+    context: &Context<'_>,
+    tree: &PoolTree<Payload>,
     store: &Brigades<R>,
     instr: Instr,
 ) -> bool
@@ -234,9 +235,9 @@ pub fn lacks_names<R: Rings<Stored> + Drop>(
     requires few { length code.now.brigades ≤ 8 }
     requires held { IsHeld store.now instance.now call.now }
     requires faultless { (around : Around) × (fault code.now (seen store.now around instance.now call.now) instr ≡ None) }
-    ensures { (around : Around) → result ≡ lacks_names (seen store.now (with_outside outside.now around) instance.now call.now) instr }
+    ensures { (around : Around) → result ≡ lacks_names (seen store.now (in_context context.now (map_of tree.now) around) instance.now call.now) instr }
 {
     let effect = effect_of(instr);
     let names = names(code, instance, call, store, effect);
-    is_spent(store.next_name(), names) || is_spent(outside.tree.next_name(), pool_names(effect))
+    is_spent(store.next_name(), names) || is_spent(tree.next_name(), pool_names(effect))
 }

@@ -6,19 +6,17 @@ pub mod across;
 pub mod asks;
 pub mod bucket_tests;
 pub mod bytes;
+pub mod context;
 pub mod cursors;
 pub mod exits;
 pub mod led_to;
 pub mod machine;
-pub mod outside;
 pub mod pool_names;
-pub mod setting;
 pub mod values;
 
 pub use brigade_ops::{
     BrigadeId, Brigades, BucketId, PlainRings, PoolId, PoolTree, RawRings, Rings,
 };
+pub use context::Context;
 pub use machine::{Call, CursorValue, Instance, Slot};
-pub use outside::Outside;
 pub use run_model::{Bucket, Mark, Payload, PoolVar, Seq};
-pub use setting::Setting;

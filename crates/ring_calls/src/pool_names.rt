@@ -1,11 +1,11 @@
 //! Pool variables, and the pools that operands name.
 
 ghost use Rattle.std.specs.Prelude.{◌≡◌, ℕ, Option, slice_index_or};
-ghost use Rattle.ring_calls.specs.Prelude.{name_in, is_named, pool_named, Items, Around, with_outside, seen_over};
+ghost use Rattle.ring_calls.specs.Prelude.{name_in, is_named, pool_named, Items, Payload, Pools, Around, in_context, seen_over};
 ghost use Rattle.ring_calls.specs.declared.machine.Call.{Call};
 
+use crate::context::Context;
 use crate::machine::Instance;
-use crate::outside::Outside;
 use brigade_ops::PoolId;
 use run_model::{PoolRef, PoolVar};
 
@@ -41,12 +41,13 @@ pub fn is_named(held: Option<PoolId>, name: PoolId) -> bool
 
 /// The pool that an operand or a declaration names.
 #[tactic(auto, unfolding(crate::specs::Seen::seen_over, run_model::specs::State::named_at))]
-pub fn pool_named(instance: &Instance, outside: &Outside<'_>, pool: PoolRef) -> Option<PoolId>
-    ensures { (rings : ℕ → Option Items) (next : ℕ) (around : Around) (call : Call) → result ≡ pool_named (seen_over rings next (with_outside outside.now around) instance.now call) pool }
+pub fn pool_named(instance: &Instance, context: &Context<'_>, pool: PoolRef) -> Option<PoolId>
+    ensures { (pools : Pools Payload) (rings : ℕ → Option Items) (next : ℕ) (around : Around) (call : Call)
+        → result ≡ pool_named (seen_over rings next (in_context context.now pools around) instance.now call) pool }
 {
     match pool {
-        PoolRef::Conn => Some(outside.conn),
-        PoolRef::Req => outside.req,
+        PoolRef::Conn => Some(context.conn),
+        PoolRef::Req => context.req,
         PoolRef::Own(q) => name_in(variable(instance, q)),
     }
 }

@@ -47,7 +47,14 @@ module _ (L : ℕ → Option Items) (k : ℕ) (around : Around) (i noted new : I
   unfolding seen_over
   seen_noted =
       let r = seen_over L k around i call in
-      ap (λ (f : ℕ → BrigadeVar). record r { instance = record { pools = λ p. slice_index_or noted.pools p poolvar.Null; brigades = f; numbers = λ n. slice_index_or noted.numbers n 0; sent = noted.sent } }) (fun_ext (λ a. ap (shown_slot (calls_in around call) L) (same a)))
+      ap (λ (f : ℕ → BrigadeVar). record r {
+        instance = record {
+          pools = λ p. slice_index_or noted.pools p poolvar.Null;
+          brigades = f;
+          numbers = λ n. slice_index_or noted.numbers n 0;
+          sent = noted.sent;
+        };
+      }) (fun_ext (λ a. ap (shown_slot (calls_in around call) L) (same a)))
       ∙ (ap (λ (ps : List PoolVar). record r { instance = record r.instance { pools = λ p. slice_index_or ps p poolvar.Null; numbers = λ n. slice_index_or noted.numbers n 0; sent = noted.sent } })
       pools
       ∙ ap (λ (ns : List ℕ). record r { instance = record r.instance { numbers = λ n. slice_index_or ns n 0; sent = noted.sent } }) numbers)

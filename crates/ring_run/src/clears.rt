@@ -8,9 +8,9 @@ ghost use Rattle.run_model.specs.declared.effect.Effect.TheVariants as effect;
 use crate::labels::add_labels;
 use crate::labels_run::LabelsRun;
 use brigade_ops::{Brigades, ClearKind, Files, PoolId, PoolTree, Rings, Stored};
+use ring_calls::context::Context;
 use ring_calls::machine::{Call, Instance};
 use ring_calls::pool_names::{name_in, variable};
-use ring_calls::setting::Setting;
 use run_model::Payload;
 use std::alloc::AllocError;
 
@@ -19,7 +19,7 @@ use std::alloc::AllocError;
 pub(crate) fn clear_pool<R: Rings<Stored> + Drop, F: Files>(
     instance: &Instance,
     call: &Call,
-    setting: &Setting<'_>,
+    context: &Context<'_>,
     handed: &mut Vec<LabelsRun>,
     tree: &mut PoolTree<Payload>,
     store: &mut Brigades<R>,
@@ -32,14 +32,15 @@ pub(crate) fn clear_pool<R: Rings<Stored> + Drop, F: Files>(
     requires open { AreOpen (references store.old) (F.device files.old) }
     requires live { (pool : ℕ) × (pool_to_clear instance.now (effect.EmptyPool kind q) ≡ Some pool) × IsTrue (is_live (map_of tree.old) pool) }
     requires below { (pool : ℕ) → pool_to_clear instance.now (effect.EmptyPool kind q) ≡ Some pool → (map_of tree.old).path pool ≢ pool ∷ [] }
-    requires looks { (pool : ℕ) → pool_to_clear instance.now (effect.EmptyPool kind q) ≡ Some pool → LooksAt setting.now.rings.now (is_under (map_of tree.old) pool) (pool_of store.old) instance.now call.now }
+    requires looks { (pool : ℕ) → pool_to_clear instance.now (effect.EmptyPool kind q) ≡ Some pool
+        → LooksAt context.now.rings.now (is_under (map_of tree.old) pool) (pool_of store.old) instance.now call.now }
     ensures ok { OnOk result ((code : Program) (around : Around)
-        → WasDone (F.device files.old) (F.device files.new) code (effect.EmptyPool kind q) (seen store.old (during setting.now
-        (map_of tree.old) handed.old.items around) instance.now call.now) (λ fs. seen store.new (with_files fs (during setting.now
+        → WasDone (F.device files.old) (F.device files.new) code (effect.EmptyPool kind q) (seen store.old (during context.now
+        (map_of tree.old) handed.old.items around) instance.now call.now) (λ fs. seen store.new (with_files fs (during context.now
         (map_of tree.new) handed.new.items around)) instance.now call.now)) }
     ensures err { OnErr result ((around : Around)
-        → seen store.new (during setting.now (map_of tree.new) handed.new.items around) instance.now call.now
-        ≡ seen store.old (during setting.now (map_of tree.old) handed.old.items around) instance.now call.now) }
+        → seen store.new (during context.now (map_of tree.new) handed.new.items around) instance.now call.now
+        ≡ seen store.old (during context.now (map_of tree.old) handed.old.items around) instance.now call.now) }
     ensures kept { OnErr result (map_of tree.new ≡ map_of tree.old) }
     ensures unread { OnErr result (F.device files.new ≡ F.device files.old) }
     ensures unmoved { OnErr result (LeavesRest store.old store.new instance.now call.now) }
@@ -48,7 +49,8 @@ pub(crate) fn clear_pool<R: Rings<Stored> + Drop, F: Files>(
     ensures open { AreOpen (references store.new) (F.device files.new) }
     ensures next { next_name store.new ≡ next_name store.old }
     ensures names { NoneRevived (brigade_of store.old) (brigade_of store.new) (next_name store.old) }
-    ensures cleared { OnOk result ((pool : ℕ) → pool_to_clear instance.now (effect.EmptyPool kind q) ≡ Some pool → LeavesUncleared (is_under (map_of tree.old) pool) setting.now.rings.now store.old store.new) }
+    ensures cleared { OnOk result ((pool : ℕ) → pool_to_clear instance.now (effect.EmptyPool kind q) ≡ Some pool
+        → LeavesUncleared (is_under (map_of tree.old) pool) context.now.rings.now store.old store.new) }
     ensures unasked { store.new.asked ≡ store.old.asked }
     ensures tree_unasked { tree.new.asked ≡ tree.old.asked }
 {
@@ -56,7 +58,7 @@ pub(crate) fn clear_pool<R: Rings<Stored> + Drop, F: Files>(
         unreachable!()
     };
     handed.reserve(1)?;
-    let ran = store.clear(kind, setting.rings, tree, files, pool)?;
+    let ran = store.clear(kind, context.rings, tree, files, pool)?;
     add_labels(handed, ran);
     Ok(())
 }

@@ -2,16 +2,16 @@
 
 ghost use Rattle.std.specs.Prelude.{◌≡◌, ◌≢◌, ◌∷◌, ◌≤◌, ◌<◌, ℕ, [], None, Some, true, false, length, IsOk, IfOk, OnOk, OnErr};
 ghost use Rattle.ring_run.specs.Prelude.{fits, NoneRevived, fault, is_under, grows, map_of, IsHouse, AreOpen, brigade_of, pool_of, references, next_name, clears_pool, is_carried, Around, KeepNames};
-ghost use Rattle.ring_run.specs.Prelude.{WasCarriedOut, during, with_files, LooksAt, EndInFiles, FitKinds, RangesOpen, IsHeld, LeavesRest, LeavesUncleared, cleared_in, seen, in_setting};
+ghost use Rattle.ring_run.specs.Prelude.{WasCarriedOut, during, with_files, LooksAt, EndInFiles, FitKinds, RangesOpen, IsHeld, LeavesRest, LeavesUncleared, cleared_in, seen, in_context};
 
 use crate::clears::clear_pool;
 use crate::execute_without_files::execute_without_files;
 use crate::labels_run::LabelsRun;
 use crate::reads::read;
 use brigade_ops::{Brigades, Files, PoolTree, Rings, Stored};
+use ring_calls::context::Context;
 use ring_calls::exits::{exit, jumps_if};
 use ring_calls::machine::{Call, Instance};
-use ring_calls::setting::Setting;
 use run_model::{Effect, Exit, Instr, Module, Payload, effect_of};
 use std::alloc::{AllocError, Global};
 
@@ -22,7 +22,7 @@ pub fn execute_instr<R: Rings<Stored> + Drop, F: Files>(
     code: &Module,
     instance: &mut Instance,
     call: &mut Call,
-    setting: &Setting<'_>,
+    context: &Context<'_>,
     handed: &mut Vec<LabelsRun>,
     tree: &mut PoolTree<Payload>,
     store: &mut Brigades<R>,
@@ -39,21 +39,21 @@ pub fn execute_instr<R: Rings<Stored> + Drop, F: Files>(
     requires open { AreOpen (references store.old) (F.device files.old) }
     requires fits { FitKinds store.old instance.old }
     requires ends { EndInFiles store.old instance.old }
-    requires ranges { (around : Around) → RangesOpen (F.device files.old) (seen store.old (in_setting setting.now (map_of tree.old) around) instance.old call.old) }
-    requires faultless { (around : Around) → fault code.now (seen store.old (in_setting setting.now (map_of tree.old) around) instance.old call.old) instr ≡ None }
+    requires ranges { (around : Around) → RangesOpen (F.device files.old) (seen store.old (in_context context.now (map_of tree.old) around) instance.old call.old) }
+    requires faultless { (around : Around) → fault code.now (seen store.old (in_context context.now (map_of tree.old) around) instance.old call.old) instr ≡ None }
     requires below { (pool : ℕ) → cleared_in instance.old instr ≡ Some pool → (map_of tree.old).path pool ≢ pool ∷ [] }
-    requires looks { (pool : ℕ) → cleared_in instance.old instr ≡ Some pool → LooksAt setting.now.rings.now (is_under (map_of tree.old) pool) (pool_of store.old) instance.old call.old }
+    requires looks { (pool : ℕ) → cleared_in instance.old instr ≡ Some pool → LooksAt context.now.rings.now (is_under (map_of tree.old) pool) (pool_of store.old) instance.old call.old }
     ensures ok { IfOk result (λ exit. (around : Around)
-        → WasCarriedOut (F.device files.old) (F.device files.new) code.now instr (seen store.old (during setting.now
-        (map_of tree.old) handed.old.items around) instance.old call.old) exit (λ fs. seen store.new (with_files fs (during setting.now
+        → WasCarriedOut (F.device files.old) (F.device files.new) code.now instr (seen store.old (during context.now
+        (map_of tree.old) handed.old.items around) instance.old call.old) exit (λ fs. seen store.new (with_files fs (during context.now
         (map_of tree.new) handed.new.items around)) instance.new call.new)) }
     ensures err { OnErr result ((around : Around)
-        → seen store.new (during setting.now (map_of tree.new) handed.new.items around) instance.new call.new
-        ≡ seen store.old (during setting.now (map_of tree.old) handed.old.items around) instance.old call.old) }
+        → seen store.new (during context.now (map_of tree.new) handed.new.items around) instance.new call.new
+        ≡ seen store.old (during context.now (map_of tree.old) handed.old.items around) instance.old call.old) }
     ensures kept { OnErr result (map_of tree.new ≡ map_of tree.old) }
     ensures unread { OnErr result (F.device files.new ≡ F.device files.old) }
     ensures unmoved { OnErr result (LeavesRest store.old store.new instance.old call.old) }
-    ensures sure { (around : Around) → let r = seen store.old (in_setting setting.now (map_of tree.old) around) instance.old call.old in grows r instr ≡ false → IsOk result }
+    ensures sure { (around : Around) → let r = seen store.old (in_context context.now (map_of tree.old) around) instance.old call.old in grows r instr ≡ false → IsOk result }
     ensures held { IsHeld store.new instance.new call.new }
     ensures house { IsHouse store.new (map_of tree.new) }
     ensures open { AreOpen (references store.new) (F.device files.new) }
@@ -62,14 +62,14 @@ pub fn execute_instr<R: Rings<Stored> + Drop, F: Files>(
     ensures rises { next_name store.old ≤ next_name store.new }
     ensures names { NoneRevived (brigade_of store.old) (brigade_of store.new) (next_name store.old) }
     ensures left { clears_pool instr ≡ false → LeavesRest store.old store.new instance.old call.old }
-    ensures cleared { OnOk result ((pool : ℕ) → cleared_in instance.old instr ≡ Some pool → LeavesUncleared (is_under (map_of tree.old) pool) setting.now.rings.now store.old store.new) }
+    ensures cleared { OnOk result ((pool : ℕ) → cleared_in instance.old instr ≡ Some pool → LeavesUncleared (is_under (map_of tree.old) pool) context.now.rings.now store.old store.new) }
     ensures unasked { store.new.asked ≡ store.old.asked }
     ensures tree_unasked { tree.new.asked ≡ tree.old.asked }
 {
     let effect = effect_of(instr);
     match effect {
         Effect::EmptyPool(kind, q) => {
-            clear_pool(instance, call, setting, handed, tree, store, files, kind, q)?;
+            clear_pool(instance, call, context, handed, tree, store, files, kind, q)?;
             Ok(Exit::GoOn)
         }
         Effect::Read(c) => {
@@ -78,7 +78,7 @@ pub fn execute_instr<R: Rings<Stored> + Drop, F: Files>(
         }
         _ => {
             let leads = exit(code, instance, call, store, instr);
-            execute_without_files(alloc, code, instance, call, setting, tree, store, effect)?;
+            execute_without_files(alloc, code, instance, call, context, tree, store, effect)?;
             Ok(leads)
         }
     }

@@ -2,17 +2,17 @@
 
 ghost use Rattle.std.specs.Prelude.{◌≡◌, ◌<◌, ◌≤◌, ℕ, None, true, false, length, IsOk, OnOk, OnErr};
 ghost use Rattle.ring_run.specs.Prelude.{fits, got, Choice, do_effect, number_of, changes_pools_by, keeps_files_by, HasNoFault, instr_with, grows_by, Around, EndInFiles, FitKinds, IsHeld};
-ghost use Rattle.ring_run.specs.Prelude.{LeavesOthers, with_outside, seen, name_in, slot_at};
+ghost use Rattle.ring_run.specs.Prelude.{LeavesOthers, map_of, in_context, seen, name_in, slot_at};
 ghost use Rattle.run_model.specs.declared.effect.Effect.TheVariants as effect;
 
 use crate::execute_in_store::move_buckets;
 use crate::{effects, makers, part_steps, split_steps};
-use brigade_ops::{Brigades, Rings, Stored};
+use brigade_ops::{Brigades, PoolTree, Rings, Stored};
+use ring_calls::context::Context;
 use ring_calls::machine::{Call, Instance};
-use ring_calls::outside::Outside;
 use ring_calls::values::value_of;
 use ring_calls::{bytes, values};
-use run_model::{Effect, Module, NewNumber};
+use run_model::{Effect, Module, NewNumber, Payload};
 use std::alloc::{AllocError, Global};
 
 /// Changes a number.
@@ -49,7 +49,8 @@ pub(crate) fn execute_on_store<R: Rings<Stored> + Drop>(
     code: &Module,
     instance: &mut Instance,
     call: &mut Call,
-    outside: &Outside<'_>,
+    context: &Context<'_>,
+    tree: &PoolTree<Payload>,
     store: &mut Brigades<R>,
     effect: Effect,
 ) -> Result<(), AllocError>
@@ -61,11 +62,11 @@ pub(crate) fn execute_on_store<R: Rings<Stored> + Drop>(
     requires runs { 0 < call.old.name }
     requires fits { FitKinds store.old instance.old }
     requires ends { EndInFiles store.old instance.old }
-    requires faultless { (around : Around) → HasNoFault code.now store.old (with_outside outside.now around) instance.old call.old effect }
-    ensures ok { OnOk result ((around : Around) (choice : Choice) → let r = seen store.old (with_outside outside.now around) instance.old call.old in
-        seen store.new (with_outside outside.now around) instance.new call.new ≡ do_effect code.now choice effect r) }
+    requires faultless { (around : Around) → HasNoFault code.now store.old (in_context context.now (map_of tree.now) around) instance.old call.old effect }
+    ensures ok { OnOk result ((around : Around) (choice : Choice) → let r = seen store.old (in_context context.now (map_of tree.now) around) instance.old call.old in
+        seen store.new (in_context context.now (map_of tree.now) around) instance.new call.new ≡ do_effect code.now choice effect r) }
     ensures err { OnErr result ((around : Around) → seen store.new around instance.new call.new ≡ seen store.old around instance.old call.old) }
-    ensures sure { (around : Around) → let r = seen store.old (with_outside outside.now around) instance.old call.old in grows_by r effect ≡ false → IsOk result }
+    ensures sure { (around : Around) → let r = seen store.old (in_context context.now (map_of tree.now) around) instance.old call.old in grows_by r effect ≡ false → IsOk result }
     ensures held { IsHeld store.new instance.new call.new }
     ensures name { call.new.name ≡ call.old.name }
     ensures slots { (b : ℕ) → name_in (slot_at instance.new b) ≡ name_in (slot_at instance.old b) }
@@ -77,7 +78,7 @@ pub(crate) fn execute_on_store<R: Rings<Stored> + Drop>(
         Effect::Put(x) => bytes::put(instance, call, x),
         Effect::ClearBuffer => Ok(call.clear_buffer()),
         Effect::Make(c, source) => {
-            makers::make_bucket(alloc, code, instance, call, outside, store, c, source)
+            makers::make_bucket(alloc, code, instance, call, context, tree, store, c, source)
         }
         Effect::Split(c, x) => {
             let n = u64::from(value_of(instance, x));

@@ -2,7 +2,7 @@
 
 ghost use Rattle.std.specs.Prelude.{◌≡◌, ◌≤◌, ◌<◌, true, false, length, IsOk, OnOk, OnErr};
 ghost use Rattle.ring_run.specs.Prelude.{fits, Device, Choice, do_effect, map_of, IsHouse, AreOpen, references, next_name, keeps_files_by, Around, KeepNames, HasNoFault, instr_with, grows_by};
-ghost use Rattle.ring_run.specs.Prelude.{EndInFiles, FitKinds, RangesOpen, IsHeld, LeavesRest, seen, in_setting};
+ghost use Rattle.ring_run.specs.Prelude.{EndInFiles, FitKinds, RangesOpen, IsHeld, LeavesRest, seen, in_context};
 
 use crate::aside_steps::aside;
 use crate::creates::create;
@@ -11,9 +11,8 @@ use crate::live_pools::live_pool;
 use crate::pool_steps::{create_pool, label, unlabel};
 use crate::saves::save;
 use brigade_ops::{Brigades, PoolTree, Rings, Stored};
+use ring_calls::context::Context;
 use ring_calls::machine::{Call, Instance};
-use ring_calls::outside::Outside;
-use ring_calls::setting::Setting;
 use run_model::{Effect, Module, Payload};
 use std::alloc::{AllocError, Global};
 
@@ -26,7 +25,7 @@ pub(crate) fn execute_without_files<R: Rings<Stored> + Drop>(
     code: &Module,
     instance: &mut Instance,
     call: &mut Call,
-    setting: &Setting<'_>,
+    context: &Context<'_>,
     tree: &mut PoolTree<Payload>,
     store: &mut Brigades<R>,
     effect: Effect,
@@ -40,16 +39,16 @@ pub(crate) fn execute_without_files<R: Rings<Stored> + Drop>(
     requires house { IsHouse store.old (map_of tree.old) }
     requires fits { FitKinds store.old instance.old }
     requires ends { EndInFiles store.old instance.old }
-    requires faultless { (around : Around) → HasNoFault code.now store.old (in_setting setting.now (map_of tree.old) around) instance.old call.old effect }
-    ensures ok { OnOk result ((around : Around) (choice : Choice) → let r = seen store.old (in_setting setting.now (map_of tree.old) around) instance.old call.old in
-        seen store.new (in_setting setting.now (map_of tree.new) around) instance.new call.new ≡ do_effect code.now choice effect r) }
+    requires faultless { (around : Around) → HasNoFault code.now store.old (in_context context.now (map_of tree.old) around) instance.old call.old effect }
+    ensures ok { OnOk result ((around : Around) (choice : Choice) → let r = seen store.old (in_context context.now (map_of tree.old) around) instance.old call.old in
+        seen store.new (in_context context.now (map_of tree.new) around) instance.new call.new ≡ do_effect code.now choice effect r) }
     ensures err { OnErr result ((around : Around)
         → seen store.new (record around { pools = map_of tree.new }) instance.new call.new
         ≡ seen store.old (record around { pools = map_of tree.old }) instance.old call.old) }
-    ensures sure { (around : Around) → let r = seen store.old (in_setting setting.now (map_of tree.old) around) instance.old call.old in grows_by r effect ≡ false → IsOk result }
+    ensures sure { (around : Around) → let r = seen store.old (in_context context.now (map_of tree.old) around) instance.old call.old in grows_by r effect ≡ false → IsOk result }
     ensures held { IsHeld store.new instance.new call.new }
     ensures house { IsHouse store.new (map_of tree.new) }
-    ensures open { (d : Device) → ((around : Around) → RangesOpen d (seen store.old (in_setting setting.now (map_of tree.old) around) instance.old call.old))
+    ensures open { (d : Device) → ((around : Around) → RangesOpen d (seen store.old (in_context context.now (map_of tree.old) around) instance.old call.old))
         → AreOpen (references store.old) d → AreOpen (references store.new) d }
     ensures name { call.new.name ≡ call.old.name }
     ensures slots { KeepNames (next_name store.old) (next_name store.new) instance.old instance.new }
@@ -58,34 +57,26 @@ pub(crate) fn execute_without_files<R: Rings<Stored> + Drop>(
 {
     match effect {
         Effect::MakePool(q) => {
-            let parent = live_pool(instance, tree, setting, code.pool_parent(q));
+            let parent = live_pool(instance, tree, context, code.pool_parent(q));
             create_pool(instance, tree, q, parent)
         }
         Effect::Register(pool, text) => {
-            let on = live_pool(instance, tree, setting, pool);
+            let on = live_pool(instance, tree, context, pool);
             label(alloc, code, tree, on, text)
         }
         Effect::Kill(pool, text) => {
-            let on = live_pool(instance, tree, setting, pool);
+            let on = live_pool(instance, tree, context, pool);
             Ok(unlabel(code, tree, on, text))
         }
         Effect::MakeBrigade(o) => {
-            let on = live_pool(instance, tree, setting, code.brigade_pool(o));
+            let on = live_pool(instance, tree, context, code.brigade_pool(o));
             create(instance, tree, store, o, on)
         }
         Effect::Save(o, b) => save(instance, tree, store, o, b),
         Effect::Aside(c, pool) => {
-            let to = live_pool(instance, tree, setting, pool);
+            let to = live_pool(instance, tree, context, pool);
             aside(instance, call, tree, store, c, to)
         }
-        _ => {
-            let outside = Outside {
-                tree,
-                conn: setting.conn,
-                req: setting.req,
-                waits: setting.waits,
-            };
-            execute_on_store(alloc, code, instance, call, &outside, store, effect)
-        }
+        _ => { execute_on_store(alloc, code, instance, call, context, tree, store, effect) }
     }
 }

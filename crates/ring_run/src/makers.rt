@@ -2,15 +2,15 @@
 
 ghost use Rattle.std.specs.Prelude.{◌≡◌, ◌<◌, ℕ, Some, length, true, IfOk, OnOk, OnErr};
 ghost use Rattle.ring_run.specs.Prelude.{Program, fits, NoneRevived, Bucket, Choice, do_effect, made_of, text_of, lists, brigade_of, pool_of, references, next_name, WasAdded};
-ghost use Rattle.ring_run.specs.Prelude.{HasNoFault, instr_with, with_outside, Around, IsHeld, LeavesOthers, seen, bucket_in, calls_in};
+ghost use Rattle.ring_run.specs.Prelude.{HasNoFault, instr_with, map_of, in_context, Around, IsHeld, LeavesOthers, seen, bucket_in, calls_in};
 ghost use Rattle.run_model.specs.declared.bucket.Home.TheVariants as home;
 ghost use Rattle.run_model.specs.declared.effect.Effect.TheVariants as effect;
 
-use crate::live_pools::pool_there;
-use brigade_ops::{Brigades, BucketId, Rings, Stored};
+use crate::live_pools::live_pool;
+use brigade_ops::{Brigades, BucketId, PoolTree, Rings, Stored};
+use ring_calls::context::Context;
 use ring_calls::machine::{Call, CursorValue, Instance};
-use ring_calls::outside::Outside;
-use run_model::{Bucket, Content, Home, Kind, MadeFrom, Module, Seq};
+use run_model::{Bucket, Content, Home, Kind, MadeFrom, Module, Payload, Seq};
 use std::alloc::{AllocError, Global};
 
 /// The bytes of a text operand, or where there is no memory none.
@@ -51,16 +51,17 @@ fn add_made<R: Rings<Stored> + Drop>(
     code: &Module,
     instance: &Instance,
     call: &Call,
-    outside: &Outside<'_>,
+    context: &Context<'_>,
+    tree: &PoolTree<Payload>,
     store: &mut Brigades<R>,
     source: MadeFrom,
 ) -> Result<BucketId, AllocError>
     requires fit { (c : ℕ) × (fits code.now (instr_with (effect.Make c source)) ≡ true) }
     requires runs { 0 < call.now.name }
     requires held { IsHeld store.old instance.now call.now }
-    requires faultless { (c : ℕ) × ((around : Around) → HasNoFault code.now store.old (with_outside outside.now around) instance.now call.now (effect.Make c source)) }
+    requires faultless { (c : ℕ) × ((around : Around) → HasNoFault code.now store.old (in_context context.now (map_of tree.now) around) instance.now call.now (effect.Make c source)) }
     ensures ok { IfOk result (λ id. (x : Bucket) × (WasAdded store.old store.new call.now.name id x
-        × ((around : Around) → let over = with_outside outside.now around in
+        × ((around : Around) → let over = in_context context.now (map_of tree.now) around in
         made_of code.now (seen store.old over instance.now call.now) source ≡ Some (bucket_in (calls_in over call.now) (next_name store.old) x)))) }
     ensures err { OnErr result ((n : ℕ) → lists store.new n ≡ lists store.old n) }
     ensures next { OnErr result (next_name store.new ≡ next_name store.old) }
@@ -81,7 +82,7 @@ fn add_made<R: Rings<Stored> + Drop>(
             home: Home::Call(call.name),
         },
         MadeFrom::PoolBuffer(pool) => free_bucket(
-            Kind::Pool(pool_there(instance, outside, pool)),
+            Kind::Pool(live_pool(instance, tree, context, pool)),
             Content::Bytes(buffered(alloc, call)?),
         ),
         MadeFrom::FlushBucket => free_bucket(Kind::Flush, Content::Nothing),
@@ -97,7 +98,8 @@ pub(crate) fn make_bucket<R: Rings<Stored> + Drop>(
     code: &Module,
     instance: &Instance,
     call: &mut Call,
-    outside: &Outside<'_>,
+    context: &Context<'_>,
+    tree: &PoolTree<Payload>,
     store: &mut Brigades<R>,
     c: u8,
     source: MadeFrom,
@@ -106,15 +108,15 @@ pub(crate) fn make_bucket<R: Rings<Stored> + Drop>(
     requires cursor { c < 9 }
     requires runs { 0 < call.old.name }
     requires held { IsHeld store.old instance.now call.old }
-    requires faultless { (around : Around) → HasNoFault code.now store.old (with_outside outside.now around) instance.now call.old (effect.Make c source) }
-    ensures ok { OnOk result ((around : Around) (choice : Choice) → let over = with_outside outside.now around in
+    requires faultless { (around : Around) → HasNoFault code.now store.old (in_context context.now (map_of tree.now) around) instance.now call.old (effect.Make c source) }
+    ensures ok { OnOk result ((around : Around) (choice : Choice) → let over = in_context context.now (map_of tree.now) around in
         seen store.new over instance.now call.new ≡ do_effect code.now choice (effect.Make c source) (seen store.old over instance.now call.old)) }
     ensures err { OnErr result ((around : Around) → seen store.new around instance.now call.new ≡ seen store.old around instance.now call.old) }
     ensures held { IsHeld store.new instance.now call.new }
     ensures name { call.new.name ≡ call.old.name }
     ensures left { LeavesOthers store.old store.new instance.now call.old }
 {
-    let id = add_made(alloc, code, instance, call, outside, store, source)?;
+    let id = add_made(alloc, code, instance, call, context, tree, store, source)?;
     call.set_cursor(c, CursorValue::At(id));
     Ok(())
 }

@@ -3,7 +3,7 @@
 
 ghost use Rattle.std.specs.Prelude.{◌≡◌, ◌<◌, true, is_some, IfSome};
 ghost use Rattle.ring_wants.specs.Prelude.{Payload, Pools, WHomes, WHomeAcross, WSend, WReturn, fault_want, homes_fault, send_fault, keeps_stray, lists, Call, Around, contents, OnlyAsked};
-ghost use Rattle.ring_wants.specs.Prelude.{in_setting, seen, is_running, live_in};
+ghost use Rattle.ring_wants.specs.Prelude.{in_context, seen, is_running, live_in};
 
 use crate::home_walks::has_late_data;
 use crate::home_wants::{home_fault, home_of, is_ended};
@@ -11,8 +11,8 @@ use crate::pool_wants::is_stray;
 use brigade_ops::{BrigadeId, Brigades, Rings, Stored};
 use ring_calls::across::bucket_across;
 use ring_calls::bucket_tests::any_bucket;
+use ring_calls::context::Context;
 use ring_calls::machine::{Call, Instance, Slot};
-use ring_calls::setting::Setting;
 use ring_calls::values::value_of;
 use run_model::{FaultKind, Mark, Value};
 
@@ -34,12 +34,12 @@ fn live<R: Rings<Stored> + Drop>(store: &mut Brigades<R>, slot: Slot) -> Option<
 pub(crate) fn want_homes<R: Rings<Stored> + Drop>(
     instance: &Instance,
     call: &Call,
-    setting: &Setting<'_>,
+    context: &Context<'_>,
     store: &mut Brigades<R>,
     b: u8,
 ) -> Option<FaultKind>
     requires { b < 9 }
-    ensures value { (pools : Pools Payload) (around : Around) → result ≡ fault_want (seen store.old (in_setting setting.now pools around) instance.now call.now) (WHomes b) }
+    ensures value { (pools : Pools Payload) (around : Around) → result ≡ fault_want (seen store.old (in_context context.now pools around) instance.now call.now) (WHomes b) }
     ensures asked { OnlyAsked store.old store.new }
 {
     let Some(name) = live(store, instance.slot(b)) else {
@@ -48,7 +48,7 @@ pub(crate) fn want_homes<R: Rings<Stored> + Drop>(
     let dead = any_bucket(
         store,
         name,
-        |id| is_ended(home_of(call, setting, store, id)),
+        |id| is_ended(home_of(call, context, store, id)),
     );
     dead.then_some(FaultKind::F5)
 }
@@ -58,20 +58,20 @@ pub(crate) fn want_homes<R: Rings<Stored> + Drop>(
 pub(crate) fn want_home_across<R: Rings<Stored> + Drop>(
     instance: &Instance,
     call: &Call,
-    setting: &Setting<'_>,
+    context: &Context<'_>,
     store: &mut Brigades<R>,
     b: u8,
     point: Value,
 ) -> Option<FaultKind>
     requires { b < 9 }
-    ensures value { (pools : Pools Payload) (around : Around) → result ≡ fault_want (seen store.old (in_setting setting.now pools around) instance.now call.now) (WHomeAcross b point) }
+    ensures value { (pools : Pools Payload) (around : Around) → result ≡ fault_want (seen store.old (in_context context.now pools around) instance.now call.now) (WHomeAcross b point) }
     ensures asked { OnlyAsked store.old store.new }
 {
     let Some(name) = live(store, instance.slot(b)) else {
         return None;
     };
     let across = bucket_across(store, name, u64::from(value_of(instance, point)));
-    home_fault(call, setting, store, across)
+    home_fault(call, context, store, across)
 }
 
 /// The fault of a brigade that may not be sent on: data stands behind an EOS of its own, or of the request.
@@ -96,12 +96,12 @@ pub(crate) fn want_send<R: Rings<Stored> + Drop>(
 fn keeps_stray<R: Rings<Stored> + Drop>(
     instance: &Instance,
     call: &Call,
-    setting: &Setting<'_>,
+    context: &Context<'_>,
     store: &mut Brigades<R>,
     b: u8,
 ) -> bool
     requires { b < 9 }
-    ensures value { (pools : Pools Payload) (around : Around) → let r = seen store.old (in_setting setting.now pools around) instance.now call.now in result ≡ keeps_stray r (r.instance.brigades b) }
+    ensures value { (pools : Pools Payload) (around : Around) → let r = seen store.old (in_context context.now pools around) instance.now call.now in result ≡ keeps_stray r (r.instance.brigades b) }
     ensures asked { OnlyAsked store.old store.new }
 {
     let Slot::Made(name, _, mark) = instance.slot(b) else {
@@ -111,7 +111,7 @@ fn keeps_stray<R: Rings<Stored> + Drop>(
         Mark::Usable => {
             store.has(name)
                 && any_bucket(store, name, |id| {
-                    is_stray(instance, setting, home_of(call, setting, store, id))
+                    is_stray(instance, context, home_of(call, context, store, id))
                 })
         }
         Mark::Passed => false,
@@ -123,14 +123,14 @@ fn keeps_stray<R: Rings<Stored> + Drop>(
 pub(crate) fn want_return<R: Rings<Stored> + Drop>(
     instance: &Instance,
     call: &Call,
-    setting: &Setting<'_>,
+    context: &Context<'_>,
     store: &mut Brigades<R>,
 ) -> Option<FaultKind>
-    ensures value { (pools : Pools Payload) (around : Around) → result ≡ fault_want (seen store.old (in_setting setting.now pools around) instance.now call.now) WReturn }
+    ensures value { (pools : Pools Payload) (around : Around) → result ≡ fault_want (seen store.old (in_context context.now pools around) instance.now call.now) WReturn }
     ensures asked { OnlyAsked store.old store.new }
 {
     for b in 0..8u8 {
-        if keeps_stray(instance, call, setting, store, b) {
+        if keeps_stray(instance, call, context, store, b) {
             return Some(FaultKind::F6);
         }
     }

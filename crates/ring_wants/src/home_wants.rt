@@ -2,15 +2,15 @@
 
 ghost use Rattle.std.specs.Prelude.{◌≡◌, ◌==◌, ◌<◌, true, is_some, Some, IfSome};
 ghost use Rattle.std.specs.List.{list_any};
-ghost use Rattle.ring_wants.specs.Prelude.{BucketId, Payload, Pools, Bucket, is_ended, spot, WHome, fault_want, home_fault, brigade_of, bucket_at, Around, IsHeld, OnlyAsked, in_setting, seen};
+ghost use Rattle.ring_wants.specs.Prelude.{BucketId, Payload, Pools, Bucket, is_ended, spot, WHome, fault_want, home_fault, brigade_of, bucket_at, Around, IsHeld, OnlyAsked, in_context, seen};
 ghost use Rattle.ring_wants.specs.Prelude.{calls_in, home_in, is_running, shown_at};
 ghost use Rattle.run_model.specs.Cursors.{bucket_at as model_bucket_at};
 
 use crate::places::place_of;
 use brigade_ops::{BrigadeId, Brigades, BucketId, Rings, Stored};
+use ring_calls::context::Context;
 use ring_calls::cursors::Place;
 use ring_calls::machine::{Call, Instance};
-use ring_calls::setting::Setting;
 use run_model::{FaultKind, Home};
 
 /// Whether a name is one of these.
@@ -22,22 +22,22 @@ fn is_among(names: &[BrigadeId], n: BrigadeId) -> bool
 
 /// Whether a call runs: this one, or one that waits.
 #[tactic(auto, using(ring_calls::proofs::Running::running_none, ring_calls::proofs::Running::running_here, ring_calls::proofs::Running::running_waits))]
-fn is_running(call: &Call, setting: &Setting<'_>, n: BrigadeId) -> bool
-    ensures { result ≡ is_running call.now.name setting.now.waits.now n }
+fn is_running(call: &Call, context: &Context<'_>, n: BrigadeId) -> bool
+    ensures { result ≡ is_running call.now.name context.now.waits.now n }
 {
     if n == 0 {
         return false;
     }
-    n == call.name || is_among(setting.waits, n)
+    n == call.name || is_among(context.waits, n)
 }
 
 /// The home of a bucket of this birth.
-fn home_in(call: &Call, setting: &Setting<'_>, birth: u64, home: Home) -> Home
-    ensures { result ≡ home_in (is_running call.now.name setting.now.waits.now) birth home }
+fn home_in(call: &Call, context: &Context<'_>, birth: u64, home: Home) -> Home
+    ensures { result ≡ home_in (is_running call.now.name context.now.waits.now) birth home }
 {
     match home {
         Home::Call(n) => {
-            if is_running(call, setting, n) && n < birth {
+            if is_running(call, context, n) && n < birth {
                 home
             } else {
                 Home::Ended
@@ -50,14 +50,14 @@ fn home_in(call: &Call, setting: &Setting<'_>, birth: u64, home: Home) -> Home
 /// The home of a bucket.
 pub(crate) fn home_of<R: Rings<Stored> + Drop>(
     call: &Call,
-    setting: &Setting<'_>,
+    context: &Context<'_>,
     store: &Brigades<R>,
     id: BucketId,
 ) -> Home
     requires { is_some (brigade_of store.now id) ≡ true }
-    ensures { (x : Bucket) → bucket_at store.now id ≡ Some x → result ≡ home_in (is_running call.now.name setting.now.waits.now) id.birth x.home }
+    ensures { (x : Bucket) → bucket_at store.now id ≡ Some x → result ≡ home_in (is_running call.now.name context.now.waits.now) id.birth x.home }
 {
-    home_in(call, setting, id.birth, store.payload(id).home)
+    home_in(call, context, id.birth, store.payload(id).home)
 }
 
 /// Whether it is a dead home.
@@ -90,32 +90,32 @@ pub(crate) fn bucket_of<R: Rings<Stored> + Drop>(
 /// The fault of a bucket whose home is dead.
 pub(crate) fn home_fault<R: Rings<Stored> + Drop>(
     call: &Call,
-    setting: &Setting<'_>,
+    context: &Context<'_>,
     store: &Brigades<R>,
     bucket: Option<BucketId>,
 ) -> Option<FaultKind>
     requires { IfSome bucket (λ id. is_some (brigade_of store.now id) ≡ true) }
-    ensures { result ≡ home_fault (shown_at (is_running call.now.name setting.now.waits.now) (bucket_at store.now) bucket) }
+    ensures { result ≡ home_fault (shown_at (is_running call.now.name context.now.waits.now) (bucket_at store.now) bucket) }
 {
     let Some(id) = bucket else {
         return None;
     };
-    is_ended(home_of(call, setting, store, id)).then_some(FaultKind::F5)
+    is_ended(home_of(call, context, store, id)).then_some(FaultKind::F5)
 }
 
 /// The fault of a cursor at a bucket whose home is dead.
 pub(crate) fn want_home<R: Rings<Stored> + Drop>(
     instance: &Instance,
     call: &Call,
-    setting: &Setting<'_>,
+    context: &Context<'_>,
     store: &mut Brigades<R>,
     c: u8,
 ) -> Option<FaultKind>
     requires cursor { c < 9 }
     requires held { IsHeld store.old instance.now call.now }
-    ensures value { (pools : Pools Payload) (around : Around) → result ≡ fault_want (seen store.old (in_setting setting.now pools around) instance.now call.now) (WHome c) }
+    ensures value { (pools : Pools Payload) (around : Around) → result ≡ fault_want (seen store.old (in_context context.now pools around) instance.now call.now) (WHome c) }
     ensures asked { OnlyAsked store.old store.new }
 {
     let bucket = bucket_of(instance, call, store, c);
-    home_fault(call, setting, store, bucket)
+    home_fault(call, context, store, bucket)
 }

@@ -1,14 +1,13 @@
 //! The faults where a pool is not there, or is there already.
 
 ghost use Rattle.std.specs.Prelude.{◌≡◌, ℕ, Option, slice_index_or};
-ghost use Rattle.ring_wants.specs.Prelude.{has_pool, is_live_named, is_stray, any_below, is_named, is_own, Payload, Pools, map_of, Items, Call, Around, TreeOnlyAsked, in_setting, seen_over};
+ghost use Rattle.ring_wants.specs.Prelude.{has_pool, is_live_named, is_stray, any_below, is_named, is_own, Payload, Pools, map_of, Items, Call, Around, TreeOnlyAsked, in_context, seen_over};
 ghost use Rattle.run_model.specs.State.{name_in};
 
 use brigade_ops::{PoolId, PoolTree};
+use ring_calls::context::Context;
 use ring_calls::machine::Instance;
-use ring_calls::outside::Outside;
 use ring_calls::pool_names::{is_named, name_in, pool_named, variable};
-use ring_calls::setting::Setting;
 use run_model::{Home, Payload, PoolRef, PoolVar};
 
 /// Whether one of the eight pool variables names a pool.
@@ -38,42 +37,35 @@ fn is_there(tree: &mut PoolTree<Payload>, name: Option<PoolId>) -> bool
 #[tactic(auto, unfolding(ring_calls::specs::Seen::seen_over, run_model::specs::Faults::has_pool_at))]
 pub(crate) fn has_pool(
     instance: &Instance,
-    setting: &Setting<'_>,
+    context: &Context<'_>,
     tree: &mut PoolTree<Payload>,
     pool: PoolRef,
 ) -> bool
     ensures value { (rings : ℕ → Option Items) (next : ℕ) (around : Around) (call : Call)
-        → result ≡ has_pool (seen_over rings next (in_setting setting.now (map_of tree.old) around) instance.now call) pool }
+        → result ≡ has_pool (seen_over rings next (in_context context.now (map_of tree.old) around) instance.now call) pool }
     ensures asked { TreeOnlyAsked tree.old tree.new }
 {
-    let outside = Outside {
-        tree,
-        conn: setting.conn,
-        req: setting.req,
-        waits: setting.waits,
-    };
-    let name = pool_named(instance, &outside, pool);
-    is_there(tree, name)
+    is_there(tree, pool_named(instance, context, pool))
 }
 
 /// Whether a pool is one that a pool variable names, the connection's or the open request's.
 #[tactic(auto, unfolding(ring_calls::specs::Seen::seen_over, run_model::specs::State::is_own_at))]
-fn is_own(instance: &Instance, setting: &Setting<'_>, name: PoolId) -> bool
+fn is_own(instance: &Instance, context: &Context<'_>, name: PoolId) -> bool
     ensures { (rings : ℕ → Option Items) (next : ℕ) (pools : Pools Payload) (around : Around) (call : Call)
-        → result ≡ is_own (seen_over rings next (in_setting setting.now pools around) instance.now call) name }
+        → result ≡ is_own (seen_over rings next (in_context context.now pools around) instance.now call) name }
 {
-    any_names(instance, name) || name == setting.conn || is_named(setting.req, name)
+    any_names(instance, name) || name == context.conn || is_named(context.req, name)
 }
 
 /// Whether a home does not outlast the call, or lies in a pool of another filter.
 #[tactic(auto, unfolding(run_model::specs::Faults::is_stray, run_model::specs::State::is_own_at, ring_calls::specs::Seen::seen_over))]
-pub(crate) fn is_stray(instance: &Instance, setting: &Setting<'_>, home: Home) -> bool
+pub(crate) fn is_stray(instance: &Instance, context: &Context<'_>, home: Home) -> bool
     ensures { (rings : ℕ → Option Items) (next : ℕ) (pools : Pools Payload) (around : Around) (call : Call)
-        → result ≡ is_stray (seen_over rings next (in_setting setting.now pools around) instance.now call) home }
+        → result ≡ is_stray (seen_over rings next (in_context context.now pools around) instance.now call) home }
 {
     match home {
         Home::Call(_) => true,
-        Home::Pool(name) => !is_own(instance, setting, name),
+        Home::Pool(name) => !is_own(instance, context, name),
         Home::Free | Home::Ended => false,
     }
 }

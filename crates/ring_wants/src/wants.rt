@@ -1,7 +1,7 @@
 //! The faults of an instruction.
 
 ghost use Rattle.std.specs.Prelude.{◌≡◌, ◌≤◌, true, length};
-ghost use Rattle.ring_wants.specs.Prelude.{fits, fault, fault_want, IsInRange, want_of, map_of, Around, IsHeld, OnlyAsked, TreeOnlyAsked, seen, in_setting};
+ghost use Rattle.ring_wants.specs.Prelude.{fits, fault, fault_want, IsInRange, want_of, map_of, Around, IsHeld, OnlyAsked, TreeOnlyAsked, seen, in_context};
 
 use crate::brigade_wants::{want_home_across, want_homes, want_return, want_send};
 use crate::faults::{brigade_fault, mark_of, new_fault, usable_fault};
@@ -9,8 +9,8 @@ use crate::home_wants::want_home;
 use crate::needs::want_cursor;
 use crate::pool_wants::has_pool;
 use brigade_ops::{Brigades, PoolTree, Rings, Stored};
+use ring_calls::context::Context;
 use ring_calls::machine::{Call, Instance};
-use ring_calls::setting::Setting;
 use run_model::{FaultKind, Instr, Module, Payload, PoolRef, Want, wants};
 
 /// The fault of a want, if it is not so.
@@ -19,31 +19,31 @@ use run_model::{FaultKind, Instr, Module, Payload, PoolRef, Want, wants};
 fn fault_of<R: Rings<Stored> + Drop>(
     instance: &Instance,
     call: &Call,
-    setting: &Setting<'_>,
+    context: &Context<'_>,
     tree: &mut PoolTree<Payload>,
     store: &mut Brigades<R>,
     want: Want,
 ) -> Option<FaultKind>
     requires range { IsInRange want }
     requires held { IsHeld store.old instance.now call.now }
-    ensures value { (around : Around) → result ≡ fault_want (seen store.old (in_setting setting.now (map_of tree.old) around) instance.now call.now) (want_of want) }
+    ensures value { (around : Around) → result ≡ fault_want (seen store.old (in_context context.now (map_of tree.old) around) instance.now call.now) (want_of want) }
     ensures tree_asked { TreeOnlyAsked tree.old tree.new }
     ensures asked { OnlyAsked store.old store.new }
 {
     match want {
-        Want::Pool(pool) => (!has_pool(instance, setting, tree, pool)).then_some(FaultKind::F1),
+        Want::Pool(pool) => (!has_pool(instance, context, tree, pool)).then_some(FaultKind::F1),
         Want::Brigade(b) => brigade_fault(mark_of(instance, store, b)),
         Want::Usable(b) => usable_fault(mark_of(instance, store, b)),
         Want::New(b) => new_fault(mark_of(instance, store, b)),
         Want::NewPool(q) => {
-            has_pool(instance, setting, tree, PoolRef::Own(q)).then_some(FaultKind::F10)
+            has_pool(instance, context, tree, PoolRef::Own(q)).then_some(FaultKind::F10)
         }
         Want::Cursor(c, need) => want_cursor(instance, call, store, c, need),
-        Want::Homes(b) => want_homes(instance, call, setting, store, b),
-        Want::Home(c) => want_home(instance, call, setting, store, c),
-        Want::HomeAcross(b, point) => want_home_across(instance, call, setting, store, b, point),
+        Want::Homes(b) => want_homes(instance, call, context, store, b),
+        Want::Home(c) => want_home(instance, call, context, store, c),
+        Want::HomeAcross(b, point) => want_home_across(instance, call, context, store, b, point),
         Want::Send(b) => want_send(instance, store, b),
-        Want::Return => want_return(instance, call, setting, store),
+        Want::Return => want_return(instance, call, context, store),
     }
 }
 
@@ -53,7 +53,7 @@ pub fn fault<R: Rings<Stored> + Drop>(
     code: &Module,
     instance: &Instance,
     call: &Call,
-    setting: &Setting<'_>,
+    context: &Context<'_>,
     tree: &mut PoolTree<Payload>,
     store: &mut Brigades<R>,
     instr: Instr,
@@ -61,7 +61,7 @@ pub fn fault<R: Rings<Stored> + Drop>(
     requires fit { fits code.now instr ≡ true }
     requires few { length code.now.brigades ≤ 8 }
     requires held { IsHeld store.old instance.now call.now }
-    ensures value { (around : Around) → result ≡ fault code.now (seen store.old (in_setting setting.now (map_of tree.old) around) instance.now call.now) instr }
+    ensures value { (around : Around) → result ≡ fault code.now (seen store.old (in_context context.now (map_of tree.old) around) instance.now call.now) instr }
     ensures tree_asked { TreeOnlyAsked tree.old tree.new }
     ensures asked { OnlyAsked store.old store.new }
 {
@@ -69,17 +69,17 @@ pub fn fault<R: Rings<Stored> + Drop>(
     let Some(first) = wanted.first else {
         return None;
     };
-    if let Some(kind) = fault_of(instance, call, setting, tree, store, first) {
+    if let Some(kind) = fault_of(instance, call, context, tree, store, first) {
         return Some(kind);
     }
     let Some(second) = wanted.second else {
         return None;
     };
-    if let Some(kind) = fault_of(instance, call, setting, tree, store, second) {
+    if let Some(kind) = fault_of(instance, call, context, tree, store, second) {
         return Some(kind);
     }
     match wanted.third {
-        Some(third) => fault_of(instance, call, setting, tree, store, third),
+        Some(third) => fault_of(instance, call, context, tree, store, third),
         None => None,
     }
 }

@@ -223,7 +223,11 @@ order_once ps formed n (suc depth) p deep live =
             here,
           )
       | inr apart ↦
-          rw (filter-append (λ k. k == n) (flat_map (order_within depth ps) (children ps p)) (p ∷ []), ne_eqb p n apart, append-nil (filter (λ k. k == n) (flat_map (order_within depth ps) (children ps p))))
+          rw (
+            filter-append (λ k. k == n) (flat_map (order_within depth ps) (children ps p)) (p ∷ []),
+            ne_eqb p n apart,
+            append-nil (filter (λ k. k == n) (flat_map (order_within depth ps) (children ps p))),
+          )
           (elim (cases_Bool (is_under ps p n)) [
             | inl under ↦
                 let b = branch ps formed p n under (omega (arith, under_above ps formed p n under, apart)) in

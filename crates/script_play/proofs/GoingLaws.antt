@@ -95,7 +95,21 @@ module _ (from to before mid : Option (List ℕ)) (p : Player) (held bytes unrea
       }
 
   abbrev last_bytes : (next : Option (List ℕ)) → length bytes ≤ 8192 → next ≡ Some unread → LastRead Script next
-  last_bytes next few leaves = record { whole = g.whole; held = held; last = bytes; unread = unread; mid = g.stage; told = g.told; splits = splits; is_whole = g.is_whole; unended = g.unended; few = few; takes = g.takes; running = g.running; leaves = leaves }
+  last_bytes next few leaves = record {
+    whole = g.whole;
+    held = held;
+    last = bytes;
+    unread = unread;
+    mid = g.stage;
+    told = g.told;
+    splits = splits;
+    is_whole = g.is_whole;
+    unended = g.unended;
+    few = few;
+    takes = g.takes;
+    running = g.running;
+    leaves = leaves;
+  }
 
   -- these bytes are whole lines, or all that there are
   abbrev Parts : List ℕ → List ℕ → Type 0
@@ -135,21 +149,38 @@ module _ (from to before mid : Option (List ℕ)) (p : Player) (held bytes unrea
 pub going_failed : (from to next before mid after : Option (List ℕ)) (p new : Player) (held bytes left : List ℕ) (bound : ℕ) (g : Going from to before mid p held bound) → Consumes to next bytes
     → length bytes ≤ 8192 → PlaysBytes p new mid after (held ++ bytes) left g.stage (Err fault.NoMemory) → Writes from before after (λ script text. IsFrontOf script text next)
 going_failed from to next before mid after p new held bytes left bound g second few (whole, rest, is, split, (text, k, added)) =
+    let wrote = Appends-trans before mid after g.told text g.wrote added in
     of_left from next (g.whole ++ (held ++ bytes)) (λ script. (t : List ℕ) × IsFrontOf script t next × Appends before after t) (read_more from to next g.whole held bytes g.read second)
-    (λ unread leaves. (g.told ++ text, front_behind from to before mid p held bytes unread bound g next few leaves whole rest (split, inl is) text k, Appends-trans before mid after g.told text g.wrote added))
+    (λ unread leaves. (g.told ++ text, front_behind from to before mid p held bytes unread bound g next few leaves whole rest (split, inl is) text k, wrote))
 
 pub going_cut : (from to next before mid after : Option (List ℕ)) (p new : Player) (held bytes left : List ℕ) (bound : ℕ) (g : Going from to before mid p held bound) → Consumes to next bytes
     → length bytes ≤ 8192 → PlaysBytes p new mid after (held ++ bytes) left g.stage (Err fault.Write) → Writes from before after (λ script text. IsCutOf script text next)
 going_cut from to next before mid after p new held bytes left bound g second few (whole, rest, is, split, (text, k, added)) =
+    let wrote = Appends-trans before mid after g.told text g.wrote added in
     of_left from next (g.whole ++ (held ++ bytes)) (λ script. (t : List ℕ) × IsCutOf script t next × Appends before after t) (read_more from to next g.whole held bytes g.read second)
-    (λ unread leaves. (g.told ++ text, cut_behind from to before mid p held bytes unread bound g next few leaves whole rest (split, inl is) text k, Appends-trans before mid after g.told text g.wrote added))
+    (λ unread leaves. (g.told ++ text, cut_behind from to before mid p held bytes unread bound g next few leaves whole rest (split, inl is) text k, wrote))
 
 -- The reader failed, or was read too often. Its last reads gave nothing more.
 pub going_read : (from to next before after : Option (List ℕ)) (p : Player) (held : List ℕ) (bound : ℕ) (g : Going from to before after p held bound) → Consumes from next (g.whole ++ held)
     → Writes from before after (λ script text. AnswersLinesRead script text next)
 going_read from to next before after p held bound g read =
     of_left from next (g.whole ++ held) (λ script. (t : List ℕ) × AnswersLinesRead script t next × Appends before after t) read
-    (λ rest leaves. (g.told, record { whole = g.whole; seen = held; unread = rest; stage = g.stage; splits = append_assoc g.whole held rest; is_whole = g.is_whole; unended = g.unended; takes = g.takes; running = g.running; leaves = leaves }, g.wrote))
+    (λ rest leaves. (
+      g.told,
+      record {
+        whole = g.whole;
+        seen = held;
+        unread = rest;
+        stage = g.stage;
+        splits = append_assoc g.whole held rest;
+        is_whole = g.is_whole;
+        unended = g.unended;
+        takes = g.takes;
+        running = g.running;
+        leaves = leaves;
+      },
+      g.wrote,
+    ))
 
 -- A read that gave no answer left the bytes as they were.
 pub refused_kept : (left rest : ℕ) (before after : Option (List ℕ)) (was is : Bool) (buffer : List ℕ) (e : CountedFault) → IsCounted left rest before after was is buffer (Err e) → Keeps before after
@@ -193,7 +224,11 @@ module _ (from next before mid after : Option (List ℕ)) (p : Player) (last : L
   last_ok (Ok e) k ends =
       let x = ends k.going.stage k.going.at in
       of_end k (λ script. (t : List ℕ) × IsWrittenFor script t e × Appends before after t)
-      (λ unread leaves lines. (k.going.told ++ x.0, written_behind from k.to before mid p last [] unread k.bound k.going (lines_of last) x.0 e lines x.1, Appends-trans before mid after k.going.told x.0 k.going.wrote x.2))
+      (λ unread leaves lines. (
+        k.going.told ++ x.0,
+        written_behind from k.to before mid p last [] unread k.bound k.going (lines_of last) x.0 e lines x.1,
+        Appends-trans before mid after k.going.told x.0 k.going.wrote x.2,
+      ))
 
   -- it ends by this fault
   ends_by : (r : Result Ended PlayFault) (f : PlayFault) (k : Last from next before mid p last) → Ends r → r ≡ Err f → PlaysEnd (p.lines + 1) mid after (lines_of last) k.going.stage (Err f)
@@ -206,7 +241,11 @@ module _ (from next before mid after : Option (List ℕ)) (p : Player) (last : L
       → Writes from before after (λ script text. IsFrontOf script text next)
   memory_by k (text, some, added) =
       of_end k (λ script. (t : List ℕ) × IsFrontOf script t next × Appends before after t)
-      (λ unread leaves lines. (k.going.told ++ text, front_behind from k.to before mid p last [] unread k.bound k.going next (omega arith) leaves last [] (refl, inr (refl, refl)) text some, Appends-trans before mid after k.going.told text k.going.wrote added))
+      (λ unread leaves lines. (
+        k.going.told ++ text,
+        front_behind from k.to before mid p last [] unread k.bound k.going next (omega arith) leaves last [] (refl, inr (refl, refl)) text some,
+        Appends-trans before mid after k.going.told text k.going.wrote added,
+      ))
 
   pub last_memory : (r : Result Ended PlayFault) → Last from next before mid p last → Ends r → r ≡ Err fault.NoMemory → Writes from before after (λ script text. IsFrontOf script text next)
   last_memory r k ends is = memory_by k (ends_by r fault.NoMemory k ends is)
@@ -215,7 +254,12 @@ module _ (from next before mid after : Option (List ℕ)) (p : Player) (last : L
       → Writes from before after (λ script text. IsCutOf script text next)
   write_by k (text, cut, added) =
       of_end k (λ script. (t : List ℕ) × IsCutOf script t next × Appends before after t)
-      (λ unread leaves lines. (k.going.told ++ text, cut_end_behind from k.to before mid p last [] unread k.bound k.going next (omega arith) leaves last [] (refl, inr (refl, refl)) text lines cut, Appends-trans before mid after k.going.told text k.going.wrote added))
+      (λ unread leaves lines. (
+        k.going.told ++ text,
+        cut_end_behind from k.to before mid p last [] unread k.bound k.going next
+            (omega arith) leaves last [] (refl, inr (refl, refl)) text lines cut,
+        Appends-trans before mid after k.going.told text k.going.wrote added,
+      ))
 
   pub last_write : (r : Result Ended PlayFault) → Last from next before mid p last → Ends r → r ≡ Err fault.Write → Writes from before after (λ script text. IsCutOf script text next)
   last_write r k ends is = write_by k (ends_by r fault.Write k ends is)
@@ -286,7 +330,14 @@ going_over from to next before mid after p new held bytes left bound g second wh
         let ms : List RawLine = lines_of (left ++ unread) in
         let all : List RawLine = lines_of whole ++ ms in
         let lines = lines_split held bytes whole left unread is split in
-        let ends : IsEndFrom (p.lines + 1) all g.stage (k.told ++ []) ended.Refused = record { stage = Over; answers = k.told ++ []; last = []; takes = taken_append (p.lines + 1) (lines_of whole) ms g.stage Over Over k.told [] takes (taken_over (p.lines + 1 + length (lines_of whole)) ms); ends = (refl, refl); written = sym (append-nil (k.told ++ [])) } in (
+        let ends : IsEndFrom (p.lines + 1) all g.stage (k.told ++ []) ended.Refused = record {
+          stage = Over;
+          answers = k.told ++ [];
+          last = [];
+          takes = taken_append (p.lines + 1) (lines_of whole) ms g.stage Over Over k.told [] takes (taken_over (p.lines + 1 + length (lines_of whole)) ms);
+          ends = (refl, refl);
+          written = sym (append-nil (k.told ++ []));
+        } in (
           g.told ++ (k.told ++ []),
           written_behind from to before mid p held bytes unread bound g all (k.told ++ []) ended.Refused lines ends,
           subst (λ t. Appends before after (g.told ++ t)) (sym (append-nil k.told)) (Appends-trans before mid after g.told k.told g.wrote k.added),

@@ -108,8 +108,25 @@ ends_behind old mid w u v ls s (Ok e) k (text, ends, added) =
 ends_behind old mid w u v ls s (Err fault.Read) k none = none
 ends_behind old mid w u v ls s (Err fault.NoMemory) k added =
     (k.told, all_some (old.lines + 1) ls s k.stage k.told k.takes, subst (Appends w v) (append-nil k.told) (Appends-trans w u v k.told [] k.added added))
-ends_behind old mid w u v ls s (Err fault.Write) k (text, (more, some, (e, ends)), added) =
-    (k.told ++ text, (more, some, inr (e, record { stage = k.stage; answers = k.told; last = text ++ more; takes = k.takes; ends = ends; written = append_assoc k.told text more })), Appends-trans w u v k.told text k.added added)
+ends_behind old mid w u v ls s (Err fault.Write) k (text, (more, some, (e, ends)), added) = (
+  k.told ++ text,
+  (
+    more,
+    some,
+    inr (
+      e,
+      record {
+        stage = k.stage;
+        answers = k.told;
+        last = text ++ more;
+        takes = k.takes;
+        ends = ends;
+        written = append_assoc k.told text more;
+      },
+    ),
+  ),
+  Appends-trans w u v k.told text k.added added,
+)
 
 pub ends_failed : (old new : Player) (w v : Option (List ℕ)) (ls : List RawLine) (s : Stage) (f : PlayFault) → PlaysLines old new w v ls s (Err f) → PlaysEnd (old.lines + 1) w v ls s (Err f)
 ends_failed old new w v ls s fault.Read k = k

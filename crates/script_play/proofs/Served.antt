@@ -30,7 +30,13 @@ module _ (old new : Host MemFiles) (w : World) (answer : Answer) (r : Reply) (to
   by_event : (c : Command) (number : ℕ) (what : Event) → ((s t : HostView) → RepliesTo (budget_of old) (chain_of old) number what s r t → AnswersCommand (budget_of old) (chain_of old) c s r t)
       → Happens (device old) (device new) old new number what answer w → IsServed old new c r w
   by_event c number what serves h =
-      record { to = h.to; serves = serves (host_view w (device old)) (host_view h.to (device new)) (record { answer = answer; acts = h.acts; told = told }); hosts = h.hosts; chain = h.chain; budget = h.budget }
+      record {
+        to = h.to;
+        serves = serves (host_view w (device old)) (host_view h.to (device new)) (record { answer = answer; acts = h.acts; told = told });
+        hosts = h.hosts;
+        chain = h.chain;
+        budget = h.budget;
+      }
 
   pub open_served : Happens (device old) (device new) old new 0 event.Open answer w → IsServed old new command.Open r w
   unfolding AnswersCommand

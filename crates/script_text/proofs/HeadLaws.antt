@@ -37,8 +37,15 @@ given_none c old new none same = ap (map seen_part) (same ∙ none) ∙ ap (λ l
 -- The first fault of a certificate text is told.
 pub cert_over : (h new : ScriptHead) (n m k : ℕ) (c : CertCode) (old text read : List ℕ) → read ≡ h.text → IsTold read (cert.Fault n c) → m ≡ n → k ≡ code_number c
     → text ≡ old ++ cert_line (h.before + m) k → TellsMore old text (λ told. EndsCert h taken.Over told new)
-cert_over h new n m k c old text read is told same number written =
-    (cert_line (h.before + m) k, written, (Err (cert.Fault n c), subst (λ x. IsTold x (cert.Fault n c)) is told, (refl, ap (λ x. cert_line (h.before + x) k) same ∙ ap (cert_line (h.before + n)) number)))
+cert_over h new n m k c old text read is told same number written = (
+  cert_line (h.before + m) k,
+  written,
+  (
+    Err (cert.Fault n c),
+    subst (λ x. IsTold x (cert.Fault n c)) is told,
+    (refl, ap (λ x. cert_line (h.before + x) k) same ∙ ap (cert_line (h.before + n)) number),
+  ),
+)
 
 -- A certificate text was read, and the last module has its certificate.
 pub cert_taken : (h : ScriptHead) (c : Cert) (old read cleared : List ℕ) (parts : List ScriptPart) → read ≡ h.text → IsCertText read c.slim (seen_cert c) → parts ≡ with_cert c h.parts

@@ -1,9 +1,13 @@
 //! A row of a socket of this machine.
 
+ghost use Rattle.http_front.specs.Driven.{IsAlive};
+
 use crate::pages::{host, site};
 use crate::requests::{GET, PLAIN};
 use crate::shown::shown;
 use anyhow::Result;
+use filter_chain::{Files, Host, MemFiles};
+use http_front::Site;
 use http_serve::{Deadline, serve_stream};
 use std::io::{self, Read, Write};
 use std::net::{IpAddr, Ipv4Addr, Shutdown, SocketAddr, TcpListener, TcpStream};
@@ -22,25 +26,50 @@ fn asking(rt: &HostRuntime, listener: &TcpListener) -> Result<TcpStream> {
     Ok(client)
 }
 
-/// Serves a client that asks and then reads, and tells what it reads, but for the moment that it is.
-pub(crate) fn serves_over_a_socket(rt: &HostRuntime) -> Result<()> {
-    let alloc = rt.alloc();
-    let site = site(alloc)?;
-    let mut host = host(alloc, PLAIN)?;
-    let listener = TcpListener::bind(rt, SocketAddr::new(IpAddr::V4(Ipv4Addr::LOCALHOST), 0))?;
-    let mut client = asking(rt, &listener)?;
+/// Serves the client that asked, and closes its connection.
+fn serve_client(
+    rt: &HostRuntime,
+    listener: &TcpListener,
+    site: &Site,
+    host: &mut Host<MemFiles>,
+) -> Result<()>
+    requires { IsAlive ⟦<MemFiles as Files>⟧.device host.old }
+{
     let (stream, _) = listener.accept()?;
     let deadline = Deadline::new(Duration::from_secs(10));
-    match serve_stream(rt, &stream, &site, &mut host, &deadline, None) {
+    match serve_stream(rt, &stream, site, host, &deadline, None) {
         Ok(served) => println!(rt; "GET over a socket: {} answered", served.requests)?,
         Err(fault) => return Err(fault.kind.into()),
     }
-    drop(stream);
-    let mut answer = Vec::new(alloc);
-    client.read_to_end(&mut answer)?;
-    let head = &answer[..answer.len().min(UP_TO_MOMENT)];
-    let rest = &answer[answer.len().min(UP_TO_MOMENT + MOMENT_LEN)..];
-    io::writer(rt).write_all(shown(alloc, head)?.as_slice())?;
-    io::writer(rt).write_all(shown(alloc, rest)?.as_slice())?;
     Ok(())
+}
+
+fn show_part(rt: &HostRuntime, part: &[u8]) -> Result<()> {
+    io::writer(rt).write_all(shown(rt.alloc(), part)?.as_slice())?;
+    Ok(())
+}
+
+/// Tells what a client reads, but for the moment that it is.
+fn show_answer(rt: &HostRuntime, client: &mut TcpStream) -> Result<()> {
+    let mut answer = Vec::new(rt.alloc());
+    client.read_to_end(&mut answer)?;
+    let answer = answer.as_slice();
+    show_part(rt, &answer[..answer.len().min(UP_TO_MOMENT)])?;
+    show_part(rt, &answer[answer.len().min(UP_TO_MOMENT + MOMENT_LEN)..])
+}
+
+/// Serves a client that asks and then reads, and tells what it reads.
+fn serve_and_show(rt: &HostRuntime, site: &Site, host: &mut Host<MemFiles>) -> Result<()>
+    requires { IsAlive ⟦<MemFiles as Files>⟧.device host.old }
+{
+    let listener = TcpListener::bind(rt, SocketAddr::new(IpAddr::V4(Ipv4Addr::LOCALHOST), 0))?;
+    let mut client = asking(rt, &listener)?;
+    serve_client(rt, &listener, site, host)?;
+    show_answer(rt, &mut client)
+}
+
+/// A client of this machine is served over a socket.
+pub(crate) fn serves_over_a_socket(rt: &HostRuntime) -> Result<()> {
+    let site = site(rt.alloc())?;
+    serve_and_show(rt, &site, &mut host(rt.alloc(), PLAIN)?)
 }

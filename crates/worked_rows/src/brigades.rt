@@ -4,7 +4,7 @@ use crate::buckets::{Made, make};
 use crate::calls::{Call, Four, Place, show_named, show_two};
 use crate::missing::Missing;
 use crate::shown::{Seen, Shown};
-use crate::there::{want_beside, want_both, want_brigade, want_bucket, want_place, want_two};
+use crate::there::{want_both, want_brigade, want_bucket, want_place, want_two};
 use anyhow::Result;
 use brigade_ops::{BrigadeId, Brigades, BucketId, RingRefusal, Rings, Stored};
 use bucket_kinds::Bucket;
@@ -35,18 +35,17 @@ pub(crate) fn show_brigade<R: Rings<Stored> + Drop>(
     Ok(())
 }
 
-/// The bytes of all buckets of a brigade.
-fn letters<R: Rings<Stored> + Drop>(
-    alloc: Global,
+/// Adds the bytes of all buckets of a brigade to a text.
+fn push_letters<R: Rings<Stored> + Drop>(
+    text: &mut String,
     store: &mut Brigades<R>,
     brigade: BrigadeId,
-) -> Result<String> {
-    let mut text = String::new(alloc);
+) -> Result<()> {
     want_brigade(store, brigade)?;
     let mut place = store.first(brigade);
     for _ in 0..MOST {
         let Some(id) = place else {
-            return Ok(text);
+            return Ok(());
         };
         want_bucket(store, id)?;
         for byte in store.bytes(id) {
@@ -54,7 +53,7 @@ fn letters<R: Rings<Stored> + Drop>(
         }
         place = store.next(id).ok();
     }
-    Ok(text)
+    Ok(())
 }
 
 fn show<R: Rings<Stored> + Drop>(
@@ -64,8 +63,9 @@ fn show<R: Rings<Stored> + Drop>(
     r: BrigadeId,
     s: BrigadeId,
 ) -> Result<()> {
-    let first = letters(rt.alloc(), store, r)?;
-    let second = letters(rt.alloc(), store, s)?;
+    let (mut first, mut second) = (String::new(rt.alloc()), String::new(rt.alloc()));
+    push_letters(&mut first, store, r)?;
+    push_letters(&mut second, store, s)?;
     show_two(rt, what, first.as_str(), second.as_str())
 }
 
@@ -129,7 +129,8 @@ fn shift<R: Rings<Stored> + Drop>(
             store.move_tail(brigade, id);
         }
         Place::Before(at) => {
-            want_beside(store, id, at)?;
+            want_bucket(store, id)?;
+            want_bucket(store, at)?;
             store.move_before(at, id);
         }
         Place::After(_) => return Err(Missing.into()),
@@ -189,62 +190,57 @@ fn moves(four: Four) -> [(&'static str, Call); 7] {
 }
 
 /// Four buckets are put into a brigade, and moved, to another and back.
-pub(crate) fn brigade_moves<R: Rings<Stored> + Drop>(rt: &HostRuntime) -> Result<()> {
+pub(crate) fn brigade_moves<R: Rings<Stored> + Drop>(
+    rt: &HostRuntime,
+    store: &mut Brigades<R>,
+) -> Result<()> {
     println!(rt; "moves of brigades")?;
-    let mut store: Brigades<R> = Brigades::new(rt.alloc(), 1);
-    let four = put_four(&mut store, rt.alloc())?;
-    show(
-        rt,
-        "tail a, head b, c before a, d after a",
-        &mut store,
-        four.r,
-        four.s,
-    )?;
+    let four = put_four(store, rt.alloc())?;
+    let Four { r, s, .. } = four;
+    show(rt, "tail a, head b, c before a, d after a", store, r, s)?;
     for (what, call) in moves(four) {
-        make_call(&mut store, call)?;
-        show(rt, what, &mut store, four.r, four.s)?;
+        make_call(store, call)?;
+        show(rt, what, store, r, s)?;
     }
     Ok(())
 }
 
-/// A store, two brigades and the middle one of the three buckets of the first. The second has one bucket.
-#[derive(Drop)]
-struct Filled<R: Rings<Stored>> {
-    store: Brigades<R>,
-    r: BrigadeId,
-    s: BrigadeId,
-    b: BucketId,
-}
-
-fn fill<R: Rings<Stored> + Drop>(alloc: Global) -> Result<Filled<R>> {
-    let mut store: Brigades<R> = Brigades::new(alloc, 1);
+/// Makes two brigades, of three buckets and of one, and gives their names and that of the middle one of the three.
+fn fill<R: Rings<Stored> + Drop>(
+    store: &mut Brigades<R>,
+    alloc: Global,
+) -> Result<(BrigadeId, BrigadeId, BucketId)> {
     let r = store.loose()?;
     let s = store.loose()?;
-    put_letter(&mut store, alloc, Place::Tail(r), b"a")?;
-    let b = put_letter(&mut store, alloc, Place::Tail(r), b"b")?;
-    put_letter(&mut store, alloc, Place::Tail(r), b"c")?;
-    put_letter(&mut store, alloc, Place::Tail(s), b"x")?;
-    Ok(Filled { store, r, s, b })
+    put_letter(store, alloc, Place::Tail(r), b"a")?;
+    let b = put_letter(store, alloc, Place::Tail(r), b"b")?;
+    put_letter(store, alloc, Place::Tail(r), b"c")?;
+    put_letter(store, alloc, Place::Tail(s), b"x")?;
+    Ok((r, s, b))
 }
 
 /// Splits the first of two brigades at its middle bucket or at its end.
 fn show_split_at<R: Rings<Stored> + Drop>(
     rt: &HostRuntime,
+    store: &mut Brigades<R>,
     what: &str,
     at_end: bool,
 ) -> Result<()> {
-    let mut filled: Filled<R> = fill(rt.alloc())?;
-    show(rt, "before", &mut filled.store, filled.r, filled.s)?;
-    let place = if at_end { None } else { Some(filled.b) };
-    split_at(&mut filled.store, filled.r, place, filled.s)?;
-    show(rt, what, &mut filled.store, filled.r, filled.s)
+    let (r, s, b) = fill(store, rt.alloc())?;
+    show(rt, "before", store, r, s)?;
+    let place = if at_end { None } else { Some(b) };
+    split_at(store, r, place, s)?;
+    show(rt, what, store, r, s)
 }
 
 /// The brigade that takes what is split off is cleaned first. At the end nothing moves.
-pub(crate) fn brigade_splits<R: Rings<Stored> + Drop>(rt: &HostRuntime) -> Result<()> {
+pub(crate) fn brigade_splits<R: Rings<Stored> + Drop>(
+    rt: &HostRuntime,
+    store: &mut Brigades<R>,
+) -> Result<()> {
     println!(rt; "brigades are split")?;
-    show_split_at::<R>(rt, "at b", false)?;
-    show_split_at::<R>(rt, "at the end", true)
+    show_split_at(rt, store, "at b", false)?;
+    show_split_at(rt, store, "at the end", true)
 }
 
 /// The buckets of two letters.
@@ -254,25 +250,17 @@ fn two(alloc: Global, first: &'static [u8], second: &'static [u8]) -> Result<Vec
     Ok(vec![in alloc; first, second]?)
 }
 
-/// Puts two buckets at the tail of a brigade at once.
-fn add_two<R: Rings<Stored> + Drop>(
-    store: &mut Brigades<R>,
-    alloc: Global,
-    brigade: BrigadeId,
-) -> Result<()> {
-    want_brigade(store, brigade)?;
-    store.add_all(brigade, two(alloc, b"c", b"d")?)?;
-    Ok(())
-}
-
 /// Two brigades are made at once, and buckets are put in at once.
-pub(crate) fn brigades_at_once<R: Rings<Stored> + Drop>(rt: &HostRuntime) -> Result<()> {
+pub(crate) fn brigades_at_once<R: Rings<Stored> + Drop>(
+    rt: &HostRuntime,
+    store: &mut Brigades<R>,
+) -> Result<()> {
     println!(rt; "brigades and buckets at once")?;
-    let mut store: Brigades<R> = Brigades::new(rt.alloc(), 1);
     let (r, s) = store.loose_pair(two(rt.alloc(), b"a", b"b")?)?;
-    show(rt, "a pair with a and b", &mut store, r, s)?;
-    add_two(&mut store, rt.alloc(), r)?;
-    show(rt, "c and d at the tail of the first", &mut store, r, s)?;
+    show(rt, "a pair with a and b", store, r, s)?;
+    want_brigade(store, r)?;
+    store.add_all(r, two(rt.alloc(), b"c", b"d")?)?;
+    show(rt, "c and d at the tail of the first", store, r, s)?;
     println!(rt; "brigades {r} and {s}, and next {}", store.next_name())?;
     Ok(())
 }
@@ -292,13 +280,15 @@ fn show_added<R: Rings<Stored> + Drop>(
     Ok(())
 }
 
-/// With two names left a brigade and a bucket get them. Then nothing is made any more, and the bucket comes back.
-pub(crate) fn brigade_names_spent<R: Rings<Stored> + Drop>(rt: &HostRuntime) -> Result<()> {
+/// In a store with two names left a brigade and a bucket get them. Then nothing is made any more, and the bucket comes back.
+pub(crate) fn brigade_names_spent<R: Rings<Stored> + Drop>(
+    rt: &HostRuntime,
+    store: &mut Brigades<R>,
+) -> Result<()> {
     println!(rt; "the names of brigades run out")?;
-    let mut store: Brigades<R> = Brigades::new(rt.alloc(), u64::MAX - 2);
     let brigade = store.loose()?;
     show_named(rt, "brigade", &Ok::<u64, AllocError>(brigade))?;
-    show_added(rt, &mut store, brigade, b"a")?;
-    show_added(rt, &mut store, brigade, b"b")?;
+    show_added(rt, store, brigade, b"a")?;
+    show_added(rt, store, brigade, b"b")?;
     show_named(rt, "brigade", &store.loose())
 }

@@ -42,17 +42,6 @@ pub(crate) fn in_memory(
     })
 }
 
-fn eos() -> Bucket
-    ensures ends { EndsInFile result.content }
-    ensures fits { form_of result.content ≡ form_of_kind result.kind }
-{
-    Bucket {
-        kind: Kind::Eos,
-        content: Content::Nothing,
-        home: Home::Free,
-    }
-}
-
 /// A range of an open file, whose home is the pool 2.
 pub(crate) fn range(file: u64, start: u32, len: u32) -> Bucket
     ensures content { result.content ≡ Content.Range file start len }
@@ -79,7 +68,11 @@ pub(crate) fn make(alloc: Global, made: Made) -> Result<Bucket, AllocError>
         Made::Transient(call, text) => in_memory(alloc, Kind::Transient, Home::Call(call), text),
         Made::Pool(pool, text) => in_memory(alloc, Kind::Pool(pool), Home::Free, text),
         Made::Range(file, start, len) => Ok(range(file, start, len)),
-        Made::Eos => Ok(eos()),
+        Made::Eos => Ok(Bucket {
+            kind: Kind::Eos,
+            content: Content::Nothing,
+            home: Home::Free,
+        }),
     }
 }
 

@@ -163,13 +163,6 @@ fn sum_of(told: &[(u64, u8)], before: u64) -> u64 {
     sum
 }
 
-/// The number of the next command.
-fn number_behind(number: u64) -> u64 {
-    number
-        .wrapping_mul(6364136223846793005)
-        .wrapping_add(1442695040888963407)
-}
-
 /// Rings of two kinds, and what was told of them: after how many commands they were equal, and the sum over all of the second.
 #[derive(Drop)]
 struct Pair<P, Q> {
@@ -212,9 +205,10 @@ pub(crate) fn commands_alike<P: Rings<u8> + Drop, Q: Rings<u8> + Drop>(
         alike,
         sum,
     };
-    let mut number = 1;
+    let mut number = 1u64;
     for _ in 0..10_000 {
-        number = number_behind(number);
+        number = number.wrapping_mul(6364136223846793005);
+        number = number.wrapping_add(1442695040888963407);
         pair.play(alloc, command_of(number >> 33))?;
     }
     println!(rt; "ten thousand commands on rings in a slab and in a raw block")?;

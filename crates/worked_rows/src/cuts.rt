@@ -31,44 +31,48 @@ pub(crate) fn ends_in_file(bucket: View<'_>) -> bool
     }
 }
 
-/// A store with one brigade, of this one bucket.
-pub(crate) fn holding<R: Rings<Stored> + Drop>(
-    alloc: Global,
+/// Makes a brigade of this one bucket.
+pub(crate) fn hold<R: Rings<Stored> + Drop>(
+    store: &mut Brigades<R>,
     bucket: Bucket,
-) -> Result<(Brigades<R>, BrigadeId, BucketId)> {
-    let mut store: Brigades<R> = Brigades::new(alloc, 1);
+) -> Result<(BrigadeId, BucketId)> {
     let brigade = store.loose()?;
-    let id = put(&mut store, Place::Tail(brigade), bucket)?;
-    Ok((store, brigade, id))
+    let id = put(store, Place::Tail(brigade), bucket)?;
+    Ok((brigade, id))
 }
 
 /// Splits the one bucket of a brigade, and tells the brigade.
 pub(crate) fn show_split<R: Rings<Stored> + Drop>(
     rt: &HostRuntime,
+    store: &mut Brigades<R>,
     made: Made,
     at: u64,
 ) -> Result<()> {
     let bucket = make(rt.alloc(), made)?;
     print!(rt; "{} at {at}: ", Shown(&bucket))?;
-    let (mut store, brigade, id) = holding::<R>(rt.alloc(), bucket)?;
-    want_bucket(&mut store, id)?;
+    let (brigade, id) = hold(store, bucket)?;
+    want_bucket(store, id)?;
     if !ends_in_file(store.payload(id)) {
         return Err(Missing.into());
     }
     if let Err(why) = store.split(id, at) {
         print!(rt; "{why}, and it is ")?;
     }
-    show_brigade(rt, &mut store, brigade)
+    show_brigade(rt, store, brigade)
 }
 
 /// Puts a copy of the bucket of a brigade into another, and tells both.
-pub(crate) fn show_copy<R: Rings<Stored> + Drop>(rt: &HostRuntime, made: Made) -> Result<()> {
-    let (mut store, brigade, id) = holding::<R>(rt.alloc(), make(rt.alloc(), made)?)?;
+pub(crate) fn show_copy<R: Rings<Stored> + Drop>(
+    rt: &HostRuntime,
+    store: &mut Brigades<R>,
+    made: Made,
+) -> Result<()> {
+    let (brigade, id) = hold(store, make(rt.alloc(), made)?)?;
     let other = store.loose()?;
-    want_both(&mut store, id, other)?;
+    want_both(store, id, other)?;
     store.copy(id, other)?;
-    show_brigade(rt, &mut store, brigade)?;
-    show_brigade(rt, &mut store, other)
+    show_brigade(rt, store, brigade)?;
+    show_brigade(rt, store, other)
 }
 
 /// The buckets of a row, three at most.
@@ -84,43 +88,32 @@ pub(crate) fn make_all(alloc: Global, made: &[Made]) -> Result<Vec<Bucket>>
     }
 }
 
-/// A store with one brigade, of these buckets.
-pub(crate) fn filled<R: Rings<Stored> + Drop>(
-    alloc: Global,
+/// Makes a brigade of these buckets.
+pub(crate) fn fill<R: Rings<Stored> + Drop>(
+    store: &mut Brigades<R>,
     buckets: Vec<Bucket>,
-) -> Result<(Brigades<R>, BrigadeId)>
+) -> Result<BrigadeId>
     requires ends { All (λ x. EndsInFile x.content) buckets.items }
     requires fits { All (λ x. form_of x.content ≡ form_of_kind x.kind) buckets.items }
-    ensures there { IfOk result (λ s. is_some (lists s.0 s.1) ≡ true) }
-    ensures ends { IfOk result (λ s. (id : BucketId) (x : Bucket) → brigade_of s.0 id ≡ Some s.1 → bucket_at s.0 id ≡ Some x → EndsInFile x.content) }
-    ensures fits { IfOk result (λ s. (id : BucketId) (x : Bucket) → brigade_of s.0 id ≡ Some s.1 → bucket_at s.0 id ≡ Some x → form_of x.content ≡ form_of_kind x.kind) }
+    ensures there { IfOk result (λ b. is_some (lists store.new b) ≡ true) }
+    ensures ends { IfOk result (λ b. (id : BucketId) (x : Bucket) → brigade_of store.new id ≡ Some b → bucket_at store.new id ≡ Some x → EndsInFile x.content) }
+    ensures fits { IfOk result (λ b. (id : BucketId) (x : Bucket) → brigade_of store.new id ≡ Some b → bucket_at store.new id ≡ Some x → form_of x.content ≡ form_of_kind x.kind) }
 {
-    let mut store: Brigades<R> = Brigades::new(alloc, 1);
     let brigade = store.loose()?;
-    want_brigade(&mut store, brigade)?;
+    want_brigade(store, brigade)?;
     store.add_all(brigade, buckets)?;
-    Ok((store, brigade))
+    Ok(brigade)
 }
 
 /// Parts a brigade of these buckets at a point, and tells the place and the brigade.
 pub(crate) fn show_partition<R: Rings<Stored> + Drop>(
     rt: &HostRuntime,
+    store: &mut Brigades<R>,
     made: &[Made],
     point: u64,
 ) -> Result<()> {
-    let (mut store, brigade) = filled::<R>(rt.alloc(), make_all(rt.alloc(), made)?)?;
-    let cut = store.partition(brigade, point)?;
-    show_cut(rt, &mut store, point, cut)?;
-    show_brigade(rt, &mut store, brigade)
-}
-
-fn show_cut<R: Rings<Stored> + Drop>(
-    rt: &HostRuntime,
-    store: &mut Brigades<R>,
-    point: u64,
-    cut: Cut,
-) -> Result<()> {
-    match cut {
+    let brigade = fill(store, make_all(rt.alloc(), made)?)?;
+    match store.partition(brigade, point)? {
         Cut::Found(id) => {
             want_bucket(store, id)?;
             print!(rt; "at {point}: before {}, ", Seen(store.payload(id)))?
@@ -128,7 +121,7 @@ fn show_cut<R: Rings<Stored> + Drop>(
         Cut::AtEnd => print!(rt; "at {point}: the end, ")?,
         Cut::Incomplete => print!(rt; "at {point}: incomplete, ")?,
     }
-    Ok(())
+    show_brigade(rt, store, brigade)
 }
 
 /// Whether a bucket that is a range of a file is one of this file.
@@ -167,13 +160,14 @@ fn read<R: Rings<Stored> + Drop, F: Files>(
 /// Reads the first bytes of a file of so many, by the bucket of a brigade.
 pub(crate) fn show_read<R: Rings<Stored> + Drop>(
     rt: &HostRuntime,
+    store: &mut Brigades<R>,
     size: usize,
     len: u32,
 ) -> Result<()> {
     let mut files = files_of(rt.alloc(), size)?;
     let (file, size) = files.open_file(b"f")?;
     print!(rt; "{len} of {size}: ")?;
-    let (mut store, brigade, id) = holding::<R>(rt.alloc(), range(file, 0, len))?;
-    read(rt, &mut store, &mut files, file, id)?;
-    show_brigade(rt, &mut store, brigade)
+    let (brigade, id) = hold(store, range(file, 0, len))?;
+    read(rt, store, &mut files, file, id)?;
+    show_brigade(rt, store, brigade)
 }

@@ -11,6 +11,7 @@ use crate::there::want_bucket;
 use anyhow::Result;
 use brigade_ops::{BrigadeId, Brigades, BucketId, Rings, Stored};
 use pool_tree::{PoolId, PoolTree};
+use run_model::Payload;
 
 /// A brigade, and the pool whose bytes come into it.
 #[derive(Clone, Copy)]
@@ -59,20 +60,23 @@ fn split<R: Rings<Stored> + Drop>(
 }
 
 /// Bytes of a pool are put into a brigade, and split or not; the pool is cleared, and gets other bytes.
-fn over_a_clear<R: Rings<Stored> + Drop>(rt: &HostRuntime, is_split: bool) -> Result<()> {
-    let mut tree = PoolTree::new(rt.alloc(), 1)?;
+fn over_a_clear<R: Rings<Stored> + Drop>(
+    rt: &HostRuntime,
+    store: &mut Brigades<R>,
+    tree: &mut PoolTree<Payload>,
+    is_split: bool,
+) -> Result<()> {
     let root = tree.root();
-    let pool = create(&mut tree, root)?;
-    let mut store: Brigades<R> = Brigades::new(rt.alloc(), 1);
+    let pool = create(tree, root)?;
     let brigade = store.loose()?;
     let at = Pooled { brigade, pool };
-    let id = add(rt, &mut store, at, b"hi")?;
+    let id = add(rt, store, at, b"hi")?;
     if is_split {
-        split(rt, &mut store, id, brigade)?;
+        split(rt, store, id, brigade)?;
     }
-    clear(&mut store, &mut tree, pool, brigade)?;
-    tell(rt, "cleared", &mut store, brigade)?;
-    add(rt, &mut store, at, b"x")?;
+    clear(store, tree, pool, brigade)?;
+    tell(rt, "cleared", store, brigade)?;
+    add(rt, store, at, b"x")?;
     Ok(())
 }
 
@@ -82,6 +86,9 @@ pub(crate) fn pool_bucket_split_and_new_after_clear<R: Rings<Stored> + Drop>(
     kind: &str,
 ) -> Result<()> {
     println!(rt; "bytes of a pool outlive its clear, on rings {kind}")?;
-    over_a_clear::<R>(rt, true)?;
-    over_a_clear::<R>(rt, false)
+    for is_split in [true, false] {
+        let mut tree = PoolTree::new(rt.alloc(), 1)?;
+        over_a_clear::<R>(rt, &mut Brigades::new(rt.alloc(), 1), &mut tree, is_split)?;
+    }
+    Ok(())
 }

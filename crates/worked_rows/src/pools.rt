@@ -35,8 +35,11 @@ pub(crate) fn pool_names_spent(rt: &HostRuntime) -> Result<()> {
     let root = tree.root();
     show_named(rt, "root", &Ok::<u64, AllocError>(root))?;
     show_named(rt, "pool", &tree.create(root))?;
-    let none = PoolTree::<u8>::new(rt.alloc(), u64::MAX).map(|tree| tree.root());
-    show_named(rt, "root", &none)
+    match PoolTree::<u8>::new(rt.alloc(), u64::MAX) {
+        Ok(_) => println!(rt; "a root")?,
+        Err(why) => println!(rt; "{why}")?,
+    }
+    Ok(())
 }
 
 fn show_destroyed(rt: &HostRuntime, tree: &mut PoolTree<u8>, pool: PoolId) -> Result<()> {
@@ -49,15 +52,14 @@ fn show_destroyed(rt: &HostRuntime, tree: &mut PoolTree<u8>, pool: PoolId) -> Re
 }
 
 /// A pool is destroyed with the pool under it, whose payload comes first.
-pub(crate) fn destroy_run_order(rt: &HostRuntime) -> Result<()> {
+pub(crate) fn destroy_run_order(rt: &HostRuntime, tree: &mut PoolTree<u8>) -> Result<()> {
     println!(rt; "a pool is destroyed")?;
-    let mut tree: PoolTree<u8> = PoolTree::new(rt.alloc(), 1)?;
     let root = tree.root();
-    let pool = create(&mut tree, root)?;
-    let below = create(&mut tree, pool)?;
-    register(&mut tree, pool, b'k')?;
-    register(&mut tree, below, b'm')?;
-    show_destroyed(rt, &mut tree, pool)?;
+    let pool = create(tree, root)?;
+    let below = create(tree, pool)?;
+    register(tree, pool, b'k')?;
+    register(tree, below, b'm')?;
+    show_destroyed(rt, tree, pool)?;
     for name in [root, pool, below] {
         let not = if tree.is_live(name) { "" } else { "not " };
         println!(rt; "pool {name} is {not}live")?;
@@ -77,16 +79,15 @@ fn show_killed(rt: &HostRuntime, tree: &mut PoolTree<u8>, letter: u8) -> Result<
 }
 
 /// Of two equal payloads the newest is taken out; one that is not there takes none. A clear runs the last first.
-pub(crate) fn kills(rt: &HostRuntime) -> Result<()> {
+pub(crate) fn kills(rt: &HostRuntime, tree: &mut PoolTree<u8>) -> Result<()> {
     println!(rt; "cleanups are killed, and a pool is cleared")?;
-    let mut tree: PoolTree<u8> = PoolTree::new(rt.alloc(), 1)?;
     let root = tree.root();
     for letter in [b'a', b'b', b'a', b'c'] {
-        register(&mut tree, root, letter)?;
+        register(tree, root, letter)?;
     }
-    show_killed(rt, &mut tree, b'a')?;
-    show_killed(rt, &mut tree, b'z')?;
-    want_pool(&mut tree, root)?;
+    show_killed(rt, tree, b'a')?;
+    show_killed(rt, tree, b'z')?;
+    want_pool(tree, root)?;
     let ran = tree.clear(root)?;
     show_ran(rt, ran.as_slice())
 }

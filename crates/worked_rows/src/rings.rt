@@ -117,20 +117,14 @@ fn moves(four: Four) -> [(&'static str, Call); 8] {
 }
 
 /// Four buckets are put into a ring, moved, and spliced to another and back.
-pub(crate) fn ring_moves<R: Rings<u8> + Drop>(rt: &HostRuntime, kind: &str) -> Result<()> {
+pub(crate) fn ring_moves<R: Rings<u8>>(rt: &HostRuntime, kind: &str, rings: &mut R) -> Result<()> {
     println!(rt; "moves of a ring, {kind}")?;
-    let mut rings = R::new(rt.alloc(), 1);
-    let four = put_four(&mut rings)?;
-    show(
-        rt,
-        "tail a, head b, c before a, d after a",
-        &rings,
-        four.r,
-        four.s,
-    )?;
+    let four = put_four(rings)?;
+    let Four { r, s, .. } = four;
+    show(rt, "tail a, head b, c before a, d after a", rings, r, s)?;
     for (what, call) in moves(four) {
-        make_call(&mut rings, call)?;
-        show(rt, what, &rings, four.r, four.s)?;
+        make_call(rings, call)?;
+        show(rt, what, rings, r, s)?;
     }
     Ok(())
 }
@@ -151,13 +145,16 @@ fn show_added<R: Rings<u8>>(
     Ok(())
 }
 
-/// With two names left a ring and a bucket get them. A second bucket is refused, and its payload comes back.
-pub(crate) fn ring_names_spent<R: Rings<u8> + Drop>(rt: &HostRuntime, kind: &str) -> Result<()> {
+/// Where two names are left a ring and a bucket get them. A second bucket is refused, and its payload comes back.
+pub(crate) fn ring_names_spent<R: Rings<u8>>(
+    rt: &HostRuntime,
+    kind: &str,
+    rings: &mut R,
+) -> Result<()> {
     println!(rt; "the names of rings run out, {kind}")?;
-    let mut rings = R::new(rt.alloc(), u64::MAX - 2);
     let ring = rings.new_ring()?;
     show_named(rt, "ring", &Ok::<u64, AllocError>(ring))?;
-    show_added(rt, &mut rings, ring, b'x')?;
-    show_added(rt, &mut rings, ring, b'y')?;
+    show_added(rt, rings, ring, b'x')?;
+    show_added(rt, rings, ring, b'y')?;
     show_named(rt, "ring", &rings.new_ring())
 }

@@ -3,7 +3,7 @@
 use crate::buckets::{self, Made};
 use crate::{cuts, reads, saves};
 use anyhow::Result;
-use brigade_ops::Stored;
+use brigade_ops::{Brigades, Stored};
 use bucket_kinds::Kind;
 use bucket_ring::Rings;
 
@@ -12,13 +12,13 @@ use bucket_ring::Rings;
 pub(crate) enum Row {
     /// What the next rows are of.
     Says(&'static str),
-    /// Each of `SPLITS` is split.
-    Splits,
+    /// A bucket is split at a place.
+    Split(Made, u64),
     /// A bucket is copied, or set aside into a pool which its home is above or not.
     Copy(Made),
     Aside(Made, bool),
     /// The same in a brigade.
-    SplitsIn,
+    SplitIn(Made, u64),
     CopyIn(Made),
     AsideIn(Made, bool),
     /// A brigade is parted at a point.
@@ -38,21 +38,16 @@ const RANGE: Made = Made::Range(7, 5, 10);
 /// Bytes of a call.
 const LENT: Made = Made::Transient(3, b"a");
 
-/// Buckets that are split, and where.
-const SPLITS: &[(Made, u64)] = &[
-    (AB, 0),
-    (AB, 1),
-    (AB, 2),
-    (AB, 3),
-    (Made::Eos, 0),
-    (Made::Eos, 1),
-    (RANGE, 4),
-];
-
 /// Rows of one bucket, of the bucket of a brigade, and of brigades that are parted.
 pub(crate) const BUCKETS: &[Row] = &[
     Row::Says("buckets are split"),
-    Row::Splits,
+    Row::Split(AB, 0),
+    Row::Split(AB, 1),
+    Row::Split(AB, 2),
+    Row::Split(AB, 3),
+    Row::Split(Made::Eos, 0),
+    Row::Split(Made::Eos, 1),
+    Row::Split(RANGE, 4),
     Row::Says("buckets are copied"),
     Row::Copy(Made::Pool(2, b"ab")),
     Row::Copy(Made::Eos),
@@ -64,7 +59,13 @@ pub(crate) const BUCKETS: &[Row] = &[
     Row::Aside(RANGE, false),
     Row::Aside(Made::Heap(b"a"), false),
     Row::Says("buckets of a brigade are split"),
-    Row::SplitsIn,
+    Row::SplitIn(AB, 0),
+    Row::SplitIn(AB, 1),
+    Row::SplitIn(AB, 2),
+    Row::SplitIn(AB, 3),
+    Row::SplitIn(Made::Eos, 0),
+    Row::SplitIn(Made::Eos, 1),
+    Row::SplitIn(RANGE, 4),
     Row::Says("buckets are copied into a brigade"),
     Row::CopyIn(Made::Pool(2, b"ab")),
     Row::CopyIn(Made::Eos),
@@ -100,45 +101,33 @@ pub(crate) const READS: &[Row] = &[
     Row::ReadMemory(Kind::Pool(7)),
 ];
 
-fn say(rt: &HostRuntime, text: &str) -> Result<()> {
-    println!(rt; "{text}")?;
-    Ok(())
-}
-
-fn show_splits(rt: &HostRuntime) -> Result<()> {
-    for (made, at) in SPLITS {
-        buckets::show_split(rt, *made, *at)?;
-    }
-    Ok(())
-}
-
-fn show_splits_in<R: Rings<Stored> + Drop>(rt: &HostRuntime) -> Result<()> {
-    for (made, at) in SPLITS {
-        cuts::show_split::<R>(rt, *made, *at)?;
-    }
-    Ok(())
-}
-
-fn show_row<R: Rings<Stored> + Drop>(rt: &HostRuntime, row: Row) -> Result<()> {
+fn show_row<R: Rings<Stored> + Drop>(
+    rt: &HostRuntime,
+    store: &mut Brigades<R>,
+    row: Row,
+) -> Result<()> {
     match row {
-        Row::Says(text) => say(rt, text),
-        Row::Splits => show_splits(rt),
+        Row::Says(text) => Ok(println!(rt; "{text}")?),
+        Row::Split(made, at) => buckets::show_split(rt, made, at),
         Row::Copy(made) => buckets::show_copy(rt, made),
         Row::Aside(made, is_ancestor) => buckets::show_aside(rt, made, is_ancestor),
-        Row::SplitsIn => show_splits_in::<R>(rt),
-        Row::CopyIn(made) => cuts::show_copy::<R>(rt, made),
-        Row::AsideIn(made, below) => saves::show_aside::<R>(rt, made, below),
-        Row::Partition(made, point) => cuts::show_partition::<R>(rt, made, point),
-        Row::ReadIn(size, len) => cuts::show_read::<R>(rt, size, len),
+        Row::SplitIn(made, at) => cuts::show_split(rt, store, made, at),
+        Row::CopyIn(made) => cuts::show_copy(rt, store, made),
+        Row::AsideIn(made, below) => {
+            let mut pools = saves::make_pools(rt.alloc())?;
+            saves::show_aside(rt, store, &mut pools, made, below)
+        }
+        Row::Partition(made, point) => cuts::show_partition(rt, store, made, point),
+        Row::ReadIn(size, len) => cuts::show_read(rt, store, size, len),
         Row::Read(size, len) => reads::show_file(rt, size, len),
         Row::ReadMemory(kind) => reads::show_memory(rt, kind),
     }
 }
 
-/// Tells the rows one after another. Brigades stand on rings of this kind.
+/// Tells the rows one after another, each with a store of its own. Brigades stand on rings of this kind.
 pub(crate) fn show_rows<R: Rings<Stored> + Drop>(rt: &HostRuntime, rows: &[Row]) -> Result<()> {
     for row in rows {
-        show_row::<R>(rt, *row)?;
+        show_row::<R>(rt, &mut Brigades::new(rt.alloc(), 1), *row)?;
     }
     Ok(())
 }

@@ -7,7 +7,7 @@ ghost use Rattle.brigade_ops.specs.Store.{pool_of};
 
 use crate::brigades::show_brigade;
 use crate::buckets::{Made, make};
-use crate::cuts::{filled, holding, make_all};
+use crate::cuts::{fill, hold, make_all};
 use crate::missing::Missing;
 use crate::pools::create;
 use crate::shown::Shown;
@@ -21,14 +21,14 @@ use std::alloc::Global;
 
 /// A tree of the root 1, the pool 2, the pool 3 under it, and the pool 4 beside it.
 #[derive(Drop)]
-struct Pools {
+pub(crate) struct Pools {
     tree: PoolTree<Payload>,
     above: PoolId,
     below: PoolId,
     beside: PoolId,
 }
 
-fn make_pools(alloc: Global) -> Result<Pools> {
+pub(crate) fn make_pools(alloc: Global) -> Result<Pools> {
     let mut tree = PoolTree::new(alloc, 1)?;
     let root = tree.root();
     let above = create(&mut tree, root)?;
@@ -59,18 +59,19 @@ fn show_payloads(rt: &HostRuntime, tree: &PoolTree<Payload>, pool: PoolId) -> Re
 /// Sets the one bucket of a brigade aside into a pool: the one under its home, or another.
 pub(crate) fn show_aside<R: Rings<Stored> + Drop>(
     rt: &HostRuntime,
+    store: &mut Brigades<R>,
+    pools: &mut Pools,
     made: Made,
     below: bool,
 ) -> Result<()> {
-    let mut pools = make_pools(rt.alloc())?;
     let pool = if below { pools.below } else { pools.beside };
     let bucket = make(rt.alloc(), made)?;
     print!(rt; "{}: ", Shown(&bucket))?;
-    let (mut store, brigade, id) = holding::<R>(rt.alloc(), bucket)?;
-    want_bucket(&mut store, id)?;
+    let (brigade, id) = hold(store, bucket)?;
+    want_bucket(store, id)?;
     want_pool(&mut pools.tree, pool)?;
     store.aside(&mut pools.tree, id, pool)?;
-    show_brigade(rt, &mut store, brigade)?;
+    show_brigade(rt, store, brigade)?;
     show_payloads(rt, &pools.tree, pool)
 }
 
@@ -116,23 +117,28 @@ fn save<R: Rings<Stored> + Drop>(
 const SAVED: &[Made] = &[Made::Transient(3, b"a"), Made::Range(7, 5, 10), Made::Eos];
 
 /// The buckets of a brigade are set aside into the pool of another, and move to its tail.
-pub(crate) fn saves<R: Rings<Stored> + Drop>(rt: &HostRuntime) -> Result<()> {
+fn saves<R: Rings<Stored> + Drop>(
+    rt: &HostRuntime,
+    store: &mut Brigades<R>,
+    pools: &mut Pools,
+) -> Result<()> {
     println!(rt; "a brigade is saved")?;
-    let mut pools = make_pools(rt.alloc())?;
     let pool = pools.beside;
-    let (mut store, from) = filled::<R>(rt.alloc(), make_all(rt.alloc(), SAVED)?)?;
+    let from = fill(store, make_all(rt.alloc(), SAVED)?)?;
     let first = make(rt.alloc(), Made::Heap(b"x"))?;
-    let onto = save(&mut store, &mut pools.tree, pool, first, from)?;
-    show_brigade(rt, &mut store, onto)?;
-    show_brigade(rt, &mut store, from)?;
+    let onto = save(store, &mut pools.tree, pool, first, from)?;
+    show_brigade(rt, store, onto)?;
+    show_brigade(rt, store, from)?;
     show_payloads(rt, &pools.tree, pool)
 }
 
 /// A reference to a file stands with its pool.
-pub(crate) fn references<R: Rings<Stored> + Drop>(rt: &HostRuntime) -> Result<()> {
+fn references<R: Rings<Stored> + Drop>(
+    rt: &HostRuntime,
+    store: &mut Brigades<R>,
+    pools: &mut Pools,
+) -> Result<()> {
     println!(rt; "a file is referred to")?;
-    let mut pools = make_pools(rt.alloc())?;
-    let mut store: Brigades<R> = Brigades::new(rt.alloc(), 1);
     want_pool(&mut pools.tree, pools.above)?;
     store.refer(&mut pools.tree, pools.above, 7)?;
     show_payloads(rt, &pools.tree, pools.above)
@@ -160,15 +166,43 @@ pub(crate) fn clear<R: Rings<Stored> + Drop>(
 }
 
 /// Bytes that lie under a pool that is cleared go to the heap, and homes under it end.
-pub(crate) fn clears_under_a_brigade<R: Rings<Stored> + Drop>(rt: &HostRuntime) -> Result<()> {
+fn clears_under_a_brigade<R: Rings<Stored> + Drop>(
+    rt: &HostRuntime,
+    store: &mut Brigades<R>,
+    pools: &mut Pools,
+) -> Result<()> {
     println!(rt; "a pool is cleared under a brigade")?;
-    let mut pools = make_pools(rt.alloc())?;
-    let (mut store, brigade) = filled::<R>(rt.alloc(), make_all(rt.alloc(), CLEARED)?)?;
-    show_brigade(rt, &mut store, brigade)?;
+    let brigade = fill(store, make_all(rt.alloc(), CLEARED)?)?;
+    show_brigade(rt, store, brigade)?;
     let pool = pools.above;
-    let ran = clear(&mut store, &mut pools.tree, pool, brigade)?;
-    show_brigade(rt, &mut store, brigade)?;
+    let ran = clear(store, &mut pools.tree, pool, brigade)?;
+    show_brigade(rt, store, brigade)?;
     let is_live = pools.tree.is_live(pools.below);
     println!(rt; "{ran} ran, and pool 3 is live: {is_live}")?;
     Ok(())
+}
+
+/// A row of brigades and pools.
+#[derive(Clone, Copy)]
+pub(crate) enum Row {
+    Saved,
+    ReferredTo,
+    Cleared,
+}
+
+/// The rows, each of which has a store and a tree of pools of its own.
+pub(crate) const ROWS: &[Row] = &[Row::Saved, Row::ReferredTo, Row::Cleared];
+
+/// Tells a row.
+pub(crate) fn show_row<R: Rings<Stored> + Drop>(
+    rt: &HostRuntime,
+    store: &mut Brigades<R>,
+    pools: &mut Pools,
+    row: Row,
+) -> Result<()> {
+    match row {
+        Row::Saved => saves(rt, store, pools),
+        Row::ReferredTo => references(rt, store, pools),
+        Row::Cleared => clears_under_a_brigade(rt, store, pools),
+    }
 }

@@ -69,20 +69,6 @@ pub(crate) fn want_both<R: Rings<Stored> + Drop>(
     Ok(())
 }
 
-/// Asks for a bucket, and for the one beside which it goes. `Missing`: one of them was destroyed.
-pub(crate) fn want_beside<R: Rings<Stored> + Drop>(
-    store: &mut Brigades<R>,
-    id: BucketId,
-    at: BucketId,
-) -> Result<(), Missing>
-    ensures bucket { OnOk result (is_some (brigade_of store.new id) ≡ true) }
-    ensures place { OnOk result (is_some (brigade_of store.new at) ≡ true) }
-{
-    want_bucket(store, id)?;
-    want_bucket(store, at)?;
-    Ok(())
-}
-
 /// Asks for a bucket of a brigade. `Missing`: it is in another, or was destroyed.
 fn want_in<R: Rings<Stored> + Drop>(
     store: &mut Brigades<R>,

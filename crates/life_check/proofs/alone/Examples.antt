@@ -52,7 +52,11 @@ goes : (p : Program) (i : Instr) (s new : Standing) (moves : List Move) (told : 
 unfolding IsOpenRun IsMove
 goes p i s new moves told runs is none last rest = (
   (executed p None i s).1,
-  (runs, subst (λ (f : Option FaultKind). Attempts f p None s (executed p None i s).0 (executed p None i s).1) (sym (ap (fault p s.now) is ∙ none)) (ap (lacks_names s.now) is ∙ last, ap (λ (x : Instr). executed p None x s) is)),
+  (
+    runs,
+    subst (λ (f : Option FaultKind). Attempts f p None s (executed p None i s).0 (executed p None i s).1)
+        (sym (ap (fault p s.now) is ∙ none)) (ap (lacks_names s.now) is ∙ last, ap (λ (x : Instr). executed p None x s) is),
+  ),
   rest,
 )
 
@@ -375,7 +379,22 @@ keeps_init : IsOpenRun keeps_a_file (request_after made.now) (Start ∷ (Execute
     ∷ (Execute None ∷ (Execute None ∷ (Execute None ∷ (Execute None ∷ []))))))))) (Done ∷ (Returns Success [] ∷ (Done ∷ (Done ∷ (Done ∷ (Done ∷ (Done ∷ (Done ∷ (Faults F6 ∷ []))))))))) keeps_at_last
 unfolding IsOpenRun IsMove executed current planted created upd is_spent lacks_names is_live is_under any_below named_at is_own_at has_pool_at is_stray keeps_stray cursor_fault spot_of holder_of
     variable_of found_below buckets_before buckets_from set_brigade set_cursor set_loose set_pool set_number with_pools with_brigade registered pool_of_brigade pool_of_pool
-keeps_init = (beginning, (refl, record { phase = refl; name = 3; next = 4; named = record { new = omega arith; given = omega arith; limit = omega arith }; is = refl }), goes keeps_a_file (instr.Ret Success) beginning keeps_at_last (Main (lent ∷ []) ∷ (Execute None ∷ (Execute None ∷ (Execute None ∷ (Execute None ∷ (Execute None ∷ (Execute None ∷ []))))))) (Done ∷ (Done ∷ (Done ∷ (Done ∷ (Done ∷ (Done ∷ (Faults F6 ∷ []))))))) refl refl refl refl keeps_main)
+keeps_init = (
+  beginning,
+  (
+    refl,
+    record {
+      phase = refl;
+      name = 3;
+      next = 4;
+      named = record { new = omega arith; given = omega arith; limit = omega arith };
+      is = refl;
+    },
+  ),
+  goes keeps_a_file (instr.Ret Success) beginning keeps_at_last
+      (Main (lent ∷ []) ∷ (Execute None ∷ (Execute None ∷ (Execute None ∷ (Execute None ∷ (Execute None ∷ (Execute None ∷ [])))))))
+      (Done ∷ (Done ∷ (Done ∷ (Done ∷ (Done ∷ (Done ∷ (Faults F6 ∷ []))))))) refl refl refl refl keeps_main,
+)
 
 keeps_request : IsOpenRun keeps_a_file (rests_after made.now) (Begin ∷ (Start ∷ (Execute None ∷ (Main (lent ∷ []) ∷ (Execute None ∷ (Execute None ∷ (Execute None
     ∷ (Execute None ∷ (Execute None ∷ (Execute None ∷ [])))))))))) (Done ∷ (Done ∷ (Returns Success [] ∷ (Done ∷ (Done ∷ (Done ∷ (Done ∷ (Done ∷ (Done ∷ (Faults F6 ∷ [])))))))))) keeps_at_last

@@ -143,8 +143,11 @@ module _ (p : Program) (m : Certificate) (proper : IsModule p) (bounded : AllBou
   unfolding executed
   executed_stand phase (instr.Pass b l) is a ready leads leaves k = (tt, passes_stand b l is a ready leads)
   executed_stand phase (instr.Ret t) is a ready leads leaves k = (tt, returns_stand t a ready leaves k)
-  executed_stand phase i is a ready leads leaves k =
-      (tt, subst (λ (f : Phase). PhaseFits p m f s.lasting (record (step p chosen i s.now).state { pc = led_to (step p chosen i s.now).exit i s.now.pc })) (sym phase) (goes_stand i is a ready leads leaves refl k))
+  executed_stand phase i is a ready leads leaves k = (
+    tt,
+    subst (λ (f : Phase). PhaseFits p m f s.lasting (record (step p chosen i s.now).state { pc = led_to (step p chosen i s.now).exit i s.now.pc }))
+        (sym phase) (goes_stand i is a ready leads leaves refl k),
+  )
 
 module _ (p : Program) (m : Certificate) (proper : IsModule p) (bounded : AllBounded m) (typed : IsTyped p m) where
   attempt_stands : (given : Option (List ℕ)) (s new : Standing) (told : Told) → s.phase ≡ Runs → RunFits p m s.lasting s.now → StandsSound p s → StandsSound p new

@@ -140,7 +140,11 @@ module _ (p : Program) (m : Certificate) (proper : IsModule p) (bounded : AllBou
     after : Configuration
     after = called t.name t.next p.main (record s.now { instance = set_in (var.Live (record { name = t.brigade; on = None; mark = Usable; items = items })) s.now.instance })
 
-    there : StandsSound p (record { phase = Runs; lasting = record { calls = t.name ∷ t.waiting; pools = t.pools }; now = called t.name t.next p.main (record s.now { instance = set_in (var.Live (record { name = t.brigade; on = None; mark = Usable; items = items })) s.now.instance }) })
+    there : StandsSound p (record {
+      phase = Runs;
+      lasting = record { calls = t.name ∷ t.waiting; pools = t.pools };
+      now = called t.name t.next p.main (record s.now { instance = set_in (var.Live (record { name = t.brigade; on = None; mark = Usable; items = items })) s.now.instance });
+    })
     there = subst (StandsSound p) t.is k
 
     ready : FitsSome (Between p s.now) m.ready s.now

@@ -181,7 +181,11 @@ module _ (chain : List Program) (certs : ℕ → Certificate) (g : Common) (c : 
     to = e.to;
     at = e.at;
     handed = record e.handed { items = map bucket e.handed.items };
-    passed = (ap (λ (x : Instance). x.brigades e.passes) (other_is w.of apart) ∙ (t.brigades ((c.instances w.of).brigades e.passes) (on_missed w apart e.passes) ∙ ap (mapped bucket) e.passed.0), e.passed.1);
+    passed = (
+      ap (λ (x : Instance). x.brigades e.passes) (other_is w.of apart)
+          ∙ (t.brigades ((c.instances w.of).brigades e.passes) (on_missed w apart e.passes) ∙ ap (mapped bucket) e.passed.0),
+      e.passed.1,
+    );
     state = e.state;
     fits = other_fits w apart (Lives c w more) (Lives after.1 (touched_frame bucket w) (map (touched_frame bucket) more)) (λ n alive. lives_missed w more n (omega (arith, lt)) nested alive)
         (lives_left w (touched_frame bucket w) more w.of refl (omega (arith, lt)) nested) e.state e.fits;

@@ -73,11 +73,13 @@ module _ (chain : List Program) (certs : ℕ → Certificate) (proper : IsChain 
   unfolding executed
   executed_stands f rest on faultless =
       by_names (lacks_names (configuration g c f) (current (module_at chain f.of) f.pc) || is_spent g.next (calls_of chain (current (module_at chain f.of) f.pc) f rest c.queue)) refl where
-        by_memory : (b : Bool) → (lacks_names (configuration g c f) (current (module_at chain f.of) f.pc) || is_spent g.next (calls_of chain (current (module_at chain f.of) f.pc) f rest c.queue)) ≡ false
+        by_memory : (b : Bool) → (lacks_names (configuration g c f) (current (module_at chain f.of) f.pc) || is_spent g.next
+            (calls_of chain (current (module_at chain f.of) f.pc) f rest c.queue)) ≡ false
             → Answered chain certs (cond b (counted (proceeds chain reads (current (module_at chain f.of) f.pc) f rest (g, c))) (broken_by cause.NoMemory (g, c)))
         by_memory false last = broken_stands chain certs cause.NoMemory (g, c)
         by_memory true last =
-            let both = not_either (lacks_names (configuration g c f) (current (module_at chain f.of) f.pc)) (is_spent g.next (calls_of chain (current (module_at chain f.of) f.pc) f rest c.queue)) last in
+            let both = not_either (lacks_names (configuration g c f) (current (module_at chain f.of) f.pc))
+            (is_spent g.next (calls_of chain (current (module_at chain f.of) f.pc) f rest c.queue)) last in
             let may : MayProceed chain g c f rest = record { chained = proper; on_top = on; faultless = faultless; names_last = both.0; calls_last = both.1 } in
             counted_stands chain certs (proceeds chain reads (current (module_at chain f.of) f.pc) f rest (g, c))
             (proceeds_answer chain reads (current (module_at chain f.of) f.pc) f rest (g, c)) (top.lands reads g c f rest may sound stands)

@@ -37,8 +37,8 @@ use Rattle.model_laws.proofs.chains.EventCases.{Made, OnOpening, OnBegin, OnBrin
 use Rattle.model_laws.proofs.chains.EachConnection.{event_each}
 use Rattle.model_laws.proofs.chains.StepCases.{steps_so}
 
-abbrev IsOf : NamedBucket → Type 0
-IsOf x = HoldsBytes x.bucket.content
+abbrev OfNamed : NamedBucket → Type 0
+OfNamed x = HoldsBytes x.bucket.content
 
 -- Numbers.
 
@@ -54,7 +54,7 @@ written_numbers h i v all new k n = elim (upd_either h i k v) [
 -- in range, but for the buffers
 record BytesInRange (c : Connection) : Type 0 where
   numbers : Small c.instances
-  held : OfEachBucket IsOf c
+  held : OfEachBucket OfNamed c
   opened : (file : ℕ) (bytes : List ℕ) → c.opened file ≡ Some bytes → AreBytes bytes
 
 -- The instruction of the call on top.
@@ -62,7 +62,7 @@ record BytesInRange (c : Connection) : Type 0 where
 seen_range : (g : Common) (c : Connection) (f : Frame) (rest : List Frame) → c.stack ≡ f ∷ rest → BufferInRange f.call.buffer → BytesInRange c → InRange (configuration g c f)
 unfolding configuration
 seen_range g c f rest is buffer h =
-    let seen = seen_each IsOf g c f rest is h.held in record {
+    let seen = seen_each OfNamed g c f rest is h.held in record {
       numbers = h.numbers f.of;
       buffer = buffer;
       brigades = seen.brigades;
@@ -70,7 +70,7 @@ seen_range g c f rest is buffer h =
       files = record { named = λ name bytes e. absurd (cc); opened = h.opened };
     }
 
-put_back_range : (i : Instr) (f : Frame) (s : Configuration) (top rest : List Frame) (g : Common) (c : Connection) → c.stack ≡ f ∷ rest → InRange s → LooseOf IsOf top → BytesInRange c
+put_back_range : (i : Instr) (f : Frame) (s : Configuration) (top rest : List Frame) (g : Common) (c : Connection) → c.stack ≡ f ∷ rest → InRange s → LooseOf OfNamed top → BytesInRange c
     → BytesInRange (put_back i f s top rest (g, c)).1
 unfolding put_back
 put_back_range i f s top rest g c is left loose old = record {
@@ -79,17 +79,17 @@ put_back_range i f s top rest g c is left loose old = record {
     | inr p ↦ subst (λ (x : Instance). x.numbers n ≤ 4294967295) (sym p.1) (old.numbers k n)
   ];
   held =
-      put_back_each IsOf IsOf i f s top rest g c is (touched_so IsOf (configuration g c f) i (λ reached x e. e) (λ on x e. e)) (record { brigades = left.brigades; loose = left.loose }) loose old.held;
+      put_back_each OfNamed OfNamed i f s top rest g c is (touched_so OfNamed (configuration g c f) i (λ reached x e. e) (λ on x e. e)) (record { brigades = left.brigades; loose = left.loose }) loose old.held;
   opened = left.files.opened;
 }
 
 called_range : (chain : List Program) (k : ℕ) (queue : List ℕ) (g : Common) (c : Connection) → BytesInRange c → BytesInRange (called chain k queue (g, c)).1
-called_range chain k queue g c h = record { numbers = h.numbers; held = called_each IsOf chain k queue g c h.held; opened = h.opened }
+called_range chain k queue g c h = record { numbers = h.numbers; held = called_each OfNamed chain k queue g c h.held; opened = h.opened }
 
 passed_to_range : (callee : Program) (b : ℕ) (f : Frame) (rest : List Frame) (g : Common) (c : Connection) → c.stack ≡ f ∷ rest → BytesInRange c → BytesInRange (passed_to callee b f rest (g, c)).1
 unfolding passed_to configuration set_brigade
 passed_to_range callee b f rest g c is h =
-    let held = passed_to_each IsOf callee b f rest g c is h.held in record {
+    let held = passed_to_each OfNamed callee b f rest g c is h.held in record {
       numbers = written_numbers _ (f.of + 1) _ here (here (f.of + 1));
       held = record { brigades = held.brigades; loose = held.loose };
       opened = h.opened;
@@ -107,7 +107,7 @@ module _ (chain : List Program) (chained : IsChain chain) (g : Common) (c : Conn
   stepped_range choice gives =
       let o = step (module_at chain f.of) choice i (configuration g c f) in
       let left = left_range choice gives in
-      put_back_range i f o.state (record f { call = o.state.call; pc = led_to o.exit i f.pc } ∷ []) rest g c is left (one_call IsOf _ [] left.loose (no_calls IsOf)) h
+      put_back_range i f o.state (record f { call = o.state.call; pc = led_to o.exit i f.pc } ∷ []) rest g c is left (one_call OfNamed _ [] left.loose (no_calls OfNamed)) h
 
   delivered_range : (reads : Reads) (b : ℕ) → BytesInRange (delivered_by (module_at chain f.of) reads b i f rest (g, c)).1
   unfolding delivered_by
@@ -120,7 +120,7 @@ back_range : (chain : List Program) (chained : IsChain chain) (s : Status) (f : 
     → BytesInRange (put_back (instr.Ret s) f (do_return (configuration g c f)) [] rest (g, c)).1
 back_range chain chained s f rest g c is fit buffer h =
     put_back_range (instr.Ret s) f (do_return (configuration g c f)) [] rest g c is
-    (left_range chain chained g c f rest is (instr.Ret s) fit buffer h (record { answer = answer_to true; given = None }) (λ bytes e. absurd (cc))) (no_calls IsOf) h
+    (left_range chain chained g c f rest is (instr.Ret s) fit buffer h (record { answer = answer_to true; given = None }) (λ bytes e. absurd (cc))) (no_calls OfNamed) h
 
 returned_to_range : (chain : List Program) (chained : IsChain chain) (s : Status) (f w : Frame) (rest : List Frame) (g : Common) (c : Connection)
     → c.stack ≡ f ∷ (w ∷ rest) → fits (module_at chain f.of) (instr.Ret s) ≡ true → BufferInRange f.call.buffer → BytesInRange c
@@ -128,14 +128,14 @@ returned_to_range : (chain : List Program) (chained : IsChain chain) (s : Status
 unfolding returned_to put_back configuration
 returned_to_range chain chained s f w rest g c is fit buffer h =
     let left = back_range chain chained s f (w ∷ rest) g c is fit buffer h in
-    let there : All IsOf (map (returned_bucket f.call.name) (items_of ((c.instances f.of).brigades 8))) =
-    mapped_each IsOf IsOf (returned_bucket f.call.name) (λ x e. e) (items_of ((c.instances f.of).brigades 8)) (h.held.brigades f.of 8) in
+    let there : All OfNamed (map (returned_bucket f.call.name) (items_of ((c.instances f.of).brigades 8))) =
+    mapped_each OfNamed OfNamed (returned_bucket f.call.name) (λ x e. e) (items_of ((c.instances f.of).brigades 8)) (h.held.brigades f.of 8) in
     record {
       numbers = written_numbers _ w.of _ left.numbers (left.numbers w.of);
       held = record {
-        brigades = given_each IsOf (passed_by (current (module_at chain w.of) w.pc)) _ w.of _ left.held.brigades there;
-        loose = one_call IsOf _ (map (touched_frame (touched_bucket (configuration g c f) (instr.Ret s))) rest) (All-head (λ v. All IsOf v.call.loose) _ _ left.held.loose)
-            (All-tail (λ v. All IsOf v.call.loose) _ _ left.held.loose);
+        brigades = given_each OfNamed (passed_by (current (module_at chain w.of) w.pc)) _ w.of _ left.held.brigades there;
+        loose = one_call OfNamed _ (map (touched_frame (touched_bucket (configuration g c f) (instr.Ret s))) rest) (All-head (λ v. All OfNamed v.call.loose) _ _ left.held.loose)
+            (All-tail (λ v. All OfNamed v.call.loose) _ _ left.held.loose);
       };
       opened = left.opened;
     }
@@ -166,13 +166,13 @@ module _ (chain : List Program) (g : Common) (c : Connection) (buffers : Buffers
 
   begins_range : (memory : Bool) → BytesInRange (begins memory chain (g, c)).1.1
   unfolding begins begun all_called
-  begins_range memory = unless_so Left _ (g, c) (begun chain (g, c)) h (λ none. record { numbers = h.numbers; held = begun_each IsOf chain g c h.held; opened = h.opened })
+  begins_range memory = unless_so Left _ (g, c) (begun chain (g, c)) h (λ none. record { numbers = h.numbers; held = begun_each OfNamed chain g c h.held; opened = h.opened })
 
   brought_range : (pieces : List Piece) (req : Option ℕ) → All IsOfBytes pieces → BytesInRange (brought chain pieces req (g, c)).1
   brought_range pieces None all = h
   brought_range pieces (Some req) all = record {
     numbers = written_numbers c.instances 0 _ h.numbers (h.numbers 0);
-    held = brought_in_each IsOf chain pieces req g c (named_bytes g.next req (g.next + 2) pieces all) h.held;
+    held = brought_in_each OfNamed chain pieces req g c (named_bytes g.next req (g.next + 2) pieces all) h.held;
     opened = h.opened;
   }
 
@@ -197,7 +197,7 @@ module _ (chain : List Program) (g : Common) (c : Connection) (buffers : Buffers
   ended_range None = h
   ended_range (Some req) = record {
     numbers = h.numbers;
-    held = record { brigades = λ k b. cleared_each IsOf IsOf (is_under (pools_of g c) req) (λ x e. e) ((c.instances k).brigades b) (h.held.brigades k b); loose = h.held.loose };
+    held = record { brigades = λ k b. cleared_each OfNamed OfNamed (is_under (pools_of g c) req) (λ x e. e) ((c.instances k).brigades b) (h.held.brigades k b); loose = h.held.loose };
     opened =
         (emptied_files (destroyed req (pools_of g c)) req (configuration g c (record { of = 0; call = fresh_call 0; pc = 0 }))
         (record { named = λ name bytes e. absurd (cc); opened = h.opened })).opened;
@@ -218,7 +218,7 @@ module _ (chain : List Program) (g : Common) (c : Connection) (buffers : Buffers
 
 opened_range : (chain : List Program) (g : Common) → BytesInRange (opened chain g).1
 unfolding opened all_called
-opened_range chain g = record { numbers = λ k n. omega arith; held = opened_each IsOf chain g; opened = λ file bytes is. absurd (cc) }
+opened_range chain g = record { numbers = λ k n. omega arith; held = opened_each OfNamed chain g; opened = λ file bytes is. absurd (cc) }
 
 bytes_range : (memory : Bool) (budget : ℕ) (chain : List Program) (told : Told) (g : Common) (c : Connection) (e : Event) (v : Linked) → IsChain chain
     → Made memory budget chain told g c e v → BringsBytes e → TellsBytes told

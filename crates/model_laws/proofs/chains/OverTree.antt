@@ -109,7 +109,14 @@ module _ (chain : List Program) (w : World) (sound : WorldSound chain w) (number
   lies_over = record {
     part = its_part chain w sound numbers paths h k c at;
     next = grown_whole.next;
-    lies = λ f. record { has = has; conn = refl; req = λ n is live. request_under n is; own = λ q n made live. named_under f.of q n made live; brigades = λ b n is. brigade_under f b n is; files = own_files };
+    lies = λ f. record {
+      has = has;
+      conn = refl;
+      req = λ n is live. request_under n is;
+      own = λ q n made live. named_under f.of q n made live;
+      brigades = λ b n is. brigade_under f b n is;
+      files = own_files;
+    };
     request = request_under;
   }
 

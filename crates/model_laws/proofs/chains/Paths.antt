@@ -144,7 +144,10 @@ went_under chain reads f rest g c may s h =
     let pools = proceeds_so (λ ps files next req. LieUnder g.root c.conn ps) chain reads i f rest g c
     (λ choice. step_under g.root (module_at chain f.of) choice i (configuration g c f) (may_step chain g c f rest may s) (s.pools.sound f) h.newer h.pools) h.pools in
     let same : left.0.root ≡ g.root = (top_raises_names chain reads g c f rest may s).root in
-    record { newer = (let lt = h.newer in omega (arith, same, conn)); pools = subst (λ (m : ℕ). LieUnder m left.1.conn (pools_of left.0 left.1)) (sym same) (subst (λ (k : ℕ). LieUnder g.root k (pools_of left.0 left.1)) (sym conn) pools) }
+    record {
+      newer = (let lt = h.newer in omega (arith, same, conn));
+      pools = subst (λ (m : ℕ). LieUnder m left.1.conn (pools_of left.0 left.1)) (sym same) (subst (λ (k : ℕ). LieUnder g.root k (pools_of left.0 left.1)) (sym conn) pools);
+    }
 
 turn_under : (chain : List Program) (g : Common) (c : Connection) (v : Linked) → Turn chain AnyLength g c v → ChainSound chain g c → Under g c → Under v.0 v.1
 unfolding is_live is_under registered

@@ -224,7 +224,16 @@ module _ (chain : List Program) (k : ℕ) (w : World) (v : Linked) (sound : Worl
 module _ (chain : List Program) (chained : IsChain chain) (k : ℕ) (c : Connection) (w : World) (here : w.conns k ≡ Some c) (sound : WorldSound chain w) (h : WorldPoolsApart w) where
   turned_apart : (v : Linked) → Turn chain AnyLength w.common c v → WorldPoolsApart (put_conn k v w)
   unfolding From configuration
-  turned_apart v t = put_apart chain k w v sound (record { root = rises.root; rises = rises.pools; top = at_top; from = from_own; names = named_from; bare = turn_bare w.common.root chain w.common c v t (sound.conns k c here) below_root (h.bare k c here); earlier = before; later = after }) h where
+  turned_apart v t = put_apart chain k w v sound (record {
+    root = rises.root;
+    rises = rises.pools;
+    top = at_top;
+    from = from_own;
+    names = named_from;
+    bare = turn_bare w.common.root chain w.common c v t (sound.conns k c here) below_root (h.bare k c here);
+    earlier = before;
+    later = after;
+  }) h where
     rises : Rises w.common v.0
     rises = turn_rises chain AnyLength w.common c v sound.names t (sound.conns k c here)
 
@@ -288,7 +297,12 @@ module _ (chain : List Program) (w : World) (sound : WorldSound chain w) (number
       (ap (λ (path : ℕ → List ℕ). path w.common.pools) opened_path ∙ created_at w.common.root (pools_of w.common (fresh_connection w.common)) ∙ ap (λ (xs : List ℕ). w.common.pools ∷ xs) root_fresh)
 
   only_one : is_in w.common.pools (w.common.root ∷ []) ≡ true → ⊥
-  only_one there = elim (or_cases (w.common.root == w.common.pools) false there) [ inl e ↦ (let same : w.common.root ≡ w.common.pools = eqb-true w.common.root w.common.pools e in let lt : w.common.root < w.common.pools = sound.names.pools.0 in omega (arith, same, lt)) | inr never ↦ cc ]
+  only_one there = elim (or_cases (w.common.root == w.common.pools) false there) [
+    | inl e ↦
+        (let same : w.common.root ≡ w.common.pools = eqb-true w.common.root w.common.pools e in let lt : w.common.root < w.common.pools =
+        sound.names.pools.0 in omega (arith, same, lt))
+    | inr never ↦ cc
+  ]
 
   is_new : (n : ℕ) → is_in w.common.pools ((created w.common.root (pools_of w.common (fresh_connection w.common))).path n) ≡ true → n ≡ w.common.pools
   unfolding created planted

@@ -54,7 +54,7 @@ module _ (reached : ℕ → Bool) (chain : List Program) (g : Common) (c : Conne
 
   -- what the frame w sees where its instance is x
   seen : Frame → Instance → Configuration
-  seen w x = record { instance = x; call = w.call; shared = record { pools = s.shared.pools; conn = c.conn; req = s.shared.req; labels = s.shared.labels; files = s.shared.files; next = s.shared.next }; pc = w.pc; out = s.out }
+  seen w x = record s { instance = x; call = w.call; shared = record s.shared { conn = c.conn }; pc = w.pc }
 
   other : ℕ → Instance
   other k = touched_instance (touched_var (configuration g c f) i) (c.instances k)
@@ -72,7 +72,7 @@ module _ (reached : ℕ → Bool) (chain : List Program) (g : Common) (c : Conne
 
   spared : (w : Frame) → (w.of == f.of) ≡ false → IsSpared reached (configuration g c w) (seen w (other w.of))
   unfolding seen other configuration
-  spared w off = record { own = refl; conn = refl; req = t.req; next = t.next; paths = t.paths; up = t.up; named = t.named w (not_same w off); brigades = λ b. t.touched ((c.instances w.of).brigades b) }
+  spared w o = record { own = refl; conn = refl; req = t.req; next = t.next; paths = t.paths; up = t.up; named = t.named w (not_same w o); brigades = λ b. t.touched ((c.instances w.of).brigades b) }
 
   sound_at : (w : Frame) (b : Bool) → (w.of == f.of) ≡ b → SoundPools (seen w (cond b s.instance (other w.of)))
   unfolding seen

@@ -163,7 +163,10 @@ went_ranges chain reads f rest g c may s held left h =
         held = λ choice.
             let o = step (module_at chain f.of) choice i (configuration g c f) in
             let closes = step_closes (module_at chain f.of) choice i (configuration g c f) in
-            record { brigades = λ b. lay_before c.opened o.state.shared.files closes _ ((stepped choice).brigades b); loose = lay_before c.opened o.state.shared.files closes _ (stepped choice).loose };
+            record {
+              brigades = λ b. lay_before c.opened o.state.shared.files closes _ ((stepped choice).brigades b);
+              loose = lay_before c.opened o.state.shared.files closes _ (stepped choice).loose;
+            };
         touched = λ choice x there. touched_lies c.opened (configuration g c f) i x there;
       }) h.lie
 

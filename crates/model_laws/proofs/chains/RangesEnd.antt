@@ -107,7 +107,11 @@ event_buckets_end memory budget chain told k e w h = event_each EndIn memory bud
 })
 
 ends_kept : (chain : List Program) → TurnsKeep chain IsShortLength EndsIn
-ends_kept chain = record { rising = λ g new c rises s h. h; opening = λ g has s. record { ends = opened_ends chain g; lengths = no_lengths chain g }; turns = λ g c v has t s new h. record { ends = turn_ends chain IsShortLength g c v t h; lengths = turn_lengths chain g c v t h.lengths } }
+ends_kept chain = record {
+  rising = λ g new c rises s h. h;
+  opening = λ g has s. record { ends = opened_ends chain g; lengths = no_lengths chain g };
+  turns = λ g c v has t s new h. record { ends = turn_ends chain IsShortLength g c v t h; lengths = turn_lengths chain g c v t h.lengths };
+}
 
 pub event_keeps_ends : EventKeepsWorldEnds
 event_keeps_ends memory budget chain told k e w chained s short h =

@@ -103,8 +103,11 @@ module _ (chain : List Program) (g : Common) (c : Connection) (f : Frame) (s : C
     to : (name q : ℕ) → There name q → IsMadeInOne after name q
     unfolding after
     to name q (inl m) = (f.of, subst (λ (b : Bool). IsMadeIn (cond b t.instance (touched_instance (touched_var (configuration g c f) i) (c.instances f.of))) name q) (sym (eq-eqb f.of f.of refl)) m)
-    to name q (inr o) =
-        (o.0.0, subst (λ (b : Bool). IsMadeIn (cond b t.instance (touched_instance (touched_var (configuration g c f) i) (c.instances o.0.0))) name q) (sym (ne_eqb o.0.0 f.of o.0.1)) ((touched_made (configuration g c f) i (c.instances o.0.0) name q).0 o.0.2 o.1))
+    to name q (inr o) = (
+      o.0.0,
+      subst (λ (b : Bool). IsMadeIn (cond b t.instance (touched_instance (touched_var (configuration g c f) i) (c.instances o.0.0))) name q)
+          (sym (ne_eqb o.0.0 f.of o.0.1)) ((touched_made (configuration g c f) i (c.instances o.0.0) name q).0 o.0.2 o.1),
+    )
 
     from : (name q : ℕ) → IsMadeInOne after name q → There name q
     unfolding after

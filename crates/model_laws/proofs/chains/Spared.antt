@@ -51,8 +51,11 @@ spared_sound reached r new t limit formed s = record {
   conn = subst (λ (k : ℕ). is_live new.shared.pools k ≡ true) (sym t.conn) (same_live r.shared.pools new.shared.pools r.shared.conn conn_stays ∙ s.conn);
   req = λ n e.
       let was : r.shared.req ≡ Some n = sym t.req ∙ e in
-      let stood = s.req n was in
-      (t.paths n (req_given r n was s) (t.named pool.Req n was) ∙ stood.0 ∙ ap (λ (path : List ℕ). n ∷ path) (sym conn_stays) ∙ ap (λ (k : ℕ). n ∷ new.shared.pools.path k) (sym t.conn), subst (λ (k : ℕ). k < n) (sym t.conn) stood.1);
+      let stood = s.req n was in (
+        t.paths n (req_given r n was s) (t.named pool.Req n was) ∙ stood.0 ∙ ap (λ (path : List ℕ). n ∷ path) (sym conn_stays)
+            ∙ ap (λ (k : ℕ). n ∷ new.shared.pools.path k) (sym t.conn),
+        subst (λ (k : ℕ). k < n) (sym t.conn) stood.1,
+      );
   own = λ q n e.
       let was : r.instance.pools q ≡ poolvar.Made n = sym (ap (λ (g : ℕ → PoolVar). g q) t.own) ∙ e in
       let old = s.own q n was in

@@ -49,7 +49,8 @@ module _ (Q : Linked → Type 0) (memory : Bool) (budget : ℕ) (chain : List Pr
             (counted (proceeds chain reads (current (module_at chain f.of) f.pc) f rest (g, c))) (broken_by cause.NoMemory (g, c)))).1
         by_names true spent = broke cause.NamesSpent (λ e. cc)
         by_names false there =
-            let last = neither (lacks_names (configuration g c f) (current (module_at chain f.of) f.pc)) (is_spent g.next (calls_of chain (current (module_at chain f.of) f.pc) f rest c.queue)) there in
+            let last = neither (lacks_names (configuration g c f) (current (module_at chain f.of) f.pc))
+            (is_spent g.next (calls_of chain (current (module_at chain f.of) f.pc) f rest c.queue)) there in
             by_memory _ (record { on_top = top; faultless = none; names_last = last.0; calls_last = last.1 })
 
   watched_so : (f : Frame) (rest : List Frame) → c.broken ≡ None → c.count < budget → c.stack ≡ f ∷ rest → Q (watched memory chain reads f rest (g, c)).1

@@ -54,8 +54,10 @@ handler_placed chain None k name m lt = (
   record { of = lt; at = m.opens; opening = λ h. refl; serving = λ le. absurd (let some : 0 < (module_at chain k).init = m.opening.some in omega arith) },
   λ le. (let some : 0 < (module_at chain k).init = m.opening.some in let low : (module_at chain k).init < (module_at chain k).main = m.initial.some in absurd (omega arith)),
 )
-handler_placed chain (Some req) k name m lt =
-    (record { of = lt; at = m.inits; opening = λ h. absurd (omega arith); serving = λ le. refl }, λ le. (let low : (module_at chain k).init < (module_at chain k).main = m.initial.some in absurd (omega arith)))
+handler_placed chain (Some req) k name m lt = (
+  record { of = lt; at = m.inits; opening = λ h. absurd (omega arith); serving = λ le. refl },
+  λ le. (let low : (module_at chain k).init < (module_at chain k).main = m.initial.some in absurd (omega arith)),
+)
 
 pub rising_none : (k : ℕ) (queue : List ℕ) → queue ≡ [] → IsRising k queue
 unfolding IsRising

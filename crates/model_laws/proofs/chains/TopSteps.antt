@@ -36,7 +36,12 @@ pub may_step : (chain : List Program) (g : Common) (c : Connection) (f : Frame) 
 may_step chain g c f rest may s =
     let proper : IsModule (module_at chain f.of) = module_at_proper chain may.chained f.of in
     let placed : IsFramePlaced chain c.req f = All-head (IsFramePlaced chain c.req) f rest (subst (λ (fs : List Frame). All (IsFramePlaced chain c.req) fs) may.on_top s.calls.placed) in
-    record { proper = proper; fit = (proper.placed f.pc (current (module_at chain f.of) f.pc) (current_at (module_at chain f.of) f.pc placed.at)).fit; faultless = may.faultless; names_last = may.names_last }
+    record {
+      proper = proper;
+      fit = (proper.placed f.pc (current (module_at chain f.of) f.pc) (current_at (module_at chain f.of) f.pc placed.at)).fit;
+      faultless = may.faultless;
+      names_last = may.names_last;
+    }
 
 nothing : ℕ → Bool
 nothing n = false
@@ -150,7 +155,10 @@ module _ (chain : List Program) (g : Common) (c : Connection) (proper : (k : ℕ
               (λ parent e s d. made_top chain g c q parent f _ refl s d) sound declared,
         )
         by_instr (instr.PClear q) may sound declared = (_, gone_top q (instr.PClear q) pool_cleared (pool_named (configuration g c f) (pool.Own q)) refl clear_leaves (λ v. refl) sound declared)
-        by_instr (instr.PDestroy q) may sound declared = (_, gone_top q (instr.PDestroy q) pool_destroyed (pool_named (configuration g c f) (pool.Own q)) refl destroy_leaves (λ v. refl) sound declared)
+        by_instr (instr.PDestroy q) may sound declared = (
+          _,
+          gone_top q (instr.PDestroy q) pool_destroyed (pool_named (configuration g c f) (pool.Own q)) refl destroy_leaves (λ v. refl) sound declared,
+        )
         by_instr (instr.Ret s) may sound declared =
             (nothing, quiet_top chain g c (instr.Ret s) f _ sound declared (quiet_step (module_at chain f.of) choice (instr.Ret s) (configuration g c f) refl may) (returned_on f.call.name))
         by_instr i may sound declared = (nothing, quiet_top chain g c i f _ sound declared (quiet_step (module_at chain f.of) choice i (configuration g c f) refl may) same_on)

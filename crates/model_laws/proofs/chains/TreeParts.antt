@@ -43,7 +43,10 @@ module _ (chain : List Program) (w : World) (sound : WorldSound chain w) (number
   comes_at : (k n : ℕ) (c : Connection) → w.conns (suc k) ≡ Some c → is_own c n ≡ true → IsAt (suc k) n c
   unfolding tree_below
   comes_at k n c at own = elim (joined_either w.common.root c (tree_up_to k w) (joins_next chain w sound paths h k c (grown chain w sound paths h k) at) n) [
-    | inl here ↦ record { path = ap (λ (o : Option Connection). (with_part o (tree_up_to k w)).path n) at ∙ here.1; payloads = ap (λ (o : Option Connection). (with_part o (tree_up_to k w)).payloads n) at ∙ here.2 }
+    | inl here ↦ record {
+      path = ap (λ (o : Option Connection). (with_part o (tree_up_to k w)).path n) at ∙ here.1;
+      payloads = ap (λ (o : Option Connection). (with_part o (tree_up_to k w)).payloads n) at ∙ here.2;
+    }
     | inr off ↦ absurd (both_ways (is_own c n) off.0 own)
   ]
 

@@ -172,7 +172,16 @@ module _ (ps : Pools Payload) (g : Common) (c : Connection) (l : LiesOver ps g c
   unfolding part registered
   taken_alike req file bytes is = ap (λ (qs : Pools Payload). taken qs.payloads) (sym (own_changes (Registered (FileRef file)) c.conn req (pools_of g (over ps c)) has (under req is))) where
     taken : (ℕ → List Payload) → Linked
-    taken payloads = (record g { file = file + 1 }, record c { path = (part c.conn ps).path; opened = upd c.opened file (Some bytes); files = c.files ++ (file, length bytes) ∷ []; payloads = payloads })
+    taken payloads = (
+      record g { file = file + 1 },
+      record c {
+        path = (part c.conn ps).path;
+        opened =
+            upd c.opened file (Some bytes);
+        files = c.files ++ (file, length bytes) ∷ [];
+        payloads = payloads;
+      },
+    )
 
   answer_alike : (o : Option Refusal) (req : Option ℕ) (opening : Opening) → c.req ≡ req → file_answer o req opening (linked_in_part c.conn all) ≡ seen_in c.conn (file_answer o req opening all)
   answer_alike (Some r) req opening is = refl

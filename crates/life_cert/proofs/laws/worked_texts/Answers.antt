@@ -10,7 +10,16 @@ use Rattle.life_cert.proofs.laws.worked_texts.Goals as goal
 worked : WorkedTexts
 unfolding upd each homes_text state_text cert_text
 worked = record {
-  identity = rw (decimal_digit 0 (omega arith), decimal_digit 1 (omega arith), decimal_digit 2 (omega arith), decimal_digit 3 (omega arith), decimal_digit 4 (omega arith), decimal_digit 5 (omega arith), decimal_digit 6 (omega arith), decimal_digit 7 (omega arith)) refl;
+  identity = rw (
+    decimal_digit 0 (omega arith),
+    decimal_digit 1 (omega arith),
+    decimal_digit 2 (omega arith),
+    decimal_digit 3 (omega arith),
+    decimal_digit 4 (omega arith),
+    decimal_digit 5 (omega arith),
+    decimal_digit 6 (omega arith),
+    decimal_digit 7 (omega arith),
+  ) refl;
   cursors = rw (decimal_digit 6 (omega arith), decimal_digit 0 (omega arith), decimal_digit 1 (omega arith)) refl;
 }
 

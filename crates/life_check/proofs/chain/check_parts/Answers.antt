@@ -4,8 +4,12 @@ use Rattle.life_check.proofs.Meant.{accepts_of}
 use Rattle.life_check.proofs.chain.check_parts.Goals as goal
 
 pub returns-in-Err-clause-refused : goal.returns-in-Err-clause-refused
-returns-in-Err-clause-refused c =
-    (c.index-parts-index.result, some_at c.args.parts.now c.loop-index.index c.index-parts-index.result (omega arith) c.index-parts-index.is, c.in-Err.ensures.first, all_accepted (take c.loop-index.index c.args.parts.now) c.loop-index.invariant)
+returns-in-Err-clause-refused c = (
+  c.index-parts-index.result,
+  some_at c.args.parts.now c.loop-index.index c.index-parts-index.result (omega arith) c.index-parts-index.is,
+  c.in-Err.ensures.first,
+  all_accepted (take c.loop-index.index c.args.parts.now) c.loop-index.invariant,
+)
 
 pub loop-index-preserved : goal.loop-index-preserved
 loop-index-preserved c =

@@ -12,5 +12,9 @@ returns-in-Ok-clause-rings g c =
     let make = bucket_of next c.args.req in
     let done = c.in-Ok.ensures.ok in (
       done.0,
-      (lists_are_the_models.brought make (next + 2) c.args.pieces done.0 (done.1 ∙ ap (numbered (next + 2)) (c.in_ok-buckets.ensures ∙ ap (λ (n : ℕ). map (bucket_of n c.args.req) c.args.pieces) c.next_name.ensures)), done.2),
+      (
+        lists_are_the_models.brought make (next + 2) c.args.pieces done.0 (done.1
+            ∙ ap (numbered (next + 2)) (c.in_ok-buckets.ensures ∙ ap (λ (n : ℕ). map (bucket_of n c.args.req) c.args.pieces) c.next_name.ensures)),
+        done.2,
+      ),
     )

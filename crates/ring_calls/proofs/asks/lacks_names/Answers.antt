@@ -4,7 +4,7 @@ use Rattle.run_model.specs.Steps.{is_spent, names_for, names_of, pool_names_for}
 use Rattle.pool_tree.specs.Tree.{map_of}
 use Rattle.brigade_ops.specs.Store.{lists, next_name}
 use Rattle.ring_calls.specs.Around.{Around}
-use Rattle.ring_calls.specs.Outside.{with_outside}
+use Rattle.ring_calls.specs.Context.{in_context}
 use Rattle.ring_calls.specs.Seen.{seen_over}
 use Rattle.ring_calls.proofs.Asked.{store_spent, pools_spent}
 use Rattle.ring_calls.proofs.Needed.{faultless_by, fits_by}
@@ -13,10 +13,10 @@ use Rattle.ring_calls.proofs.asks.lacks_names.Goals.{After-is_spent}
 
 of_store : (g : _) (c : After-is_spent g) (around : Around)
     → c.is_spent.result ≡ is_spent (next_name c.args.store.now)
-    (names_of (seen_over (lists c.args.store.now) (next_name c.args.store.now) (with_outside c.args.outside.now around) c.args.instance.now c.args.call.now) c.args.instr)
+    (names_of (seen_over (lists c.args.store.now) (next_name c.args.store.now) (in_context c.args.context.now (map_of c.args.tree.now) around) c.args.instance.now c.args.call.now) c.args.instr)
 of_store g c around =
     let k = next_name c.args.store.now in
-    let over = with_outside c.args.outside.now around in
+    let over = in_context c.args.context.now (map_of c.args.tree.now) around in
     c.is_spent.ensures
     ∙ (ap (λ n. is_spent n c.names-names.result) c.next_name.ensures
     ∙ ap (is_spent k) (c.names-names.ensures over ∙ ap (names_for (seen_over (lists c.args.store.now) k over c.args.instance.now c.args.call.now)) c.effect_of-effect.ensures))
@@ -31,13 +31,13 @@ names-names-requires-clause-faultless g c =
 
 pub returns-then-is_spent : goal.returns-then-is_spent
 returns-then-is_spent g c around =
-    store_spent (lists c.args.store.now) (next_name c.args.store.now) (with_outside c.args.outside.now around) c.args.instance.now c.args.call.now c.args.instr c.is_spent.result
+    store_spent (lists c.args.store.now) (next_name c.args.store.now) (in_context c.args.context.now (map_of c.args.tree.now) around) c.args.instance.now c.args.call.now c.args.instr c.is_spent.result
     (of_store g (goal.at.returns-then-is_spent g c).After-is_spent around) c.if-is_spent.true
 
 pub returns-else-is_spent : goal.returns-else-is_spent
 returns-else-is_spent g c around =
     pools_spent (lists c.args.store.now) (next_name c.args.store.now)
-    (with_outside c.args.outside.now around) c.args.instance.now c.args.call.now c.args.instr c.is_spent.result c.is_spent-else-is_spent.result
+    (in_context c.args.context.now (map_of c.args.tree.now) around) c.args.instance.now c.args.call.now c.args.instr c.is_spent.result c.is_spent-else-is_spent.result
     (of_store g (goal.at.returns-else-is_spent g c).After-is_spent around) c.if-is_spent.false
     (c.is_spent-else-is_spent.ensures ∙ (ap (λ n. is_spent n c.pool_names.result) c.next_name-else-is_spent.ensures
-    ∙ ap (is_spent (map_of c.args.outside.now.tree.now).next) (c.pool_names.ensures ∙ ap pool_names_for c.effect_of-effect.ensures)))
+    ∙ ap (is_spent (map_of c.args.tree.now).next) (c.pool_names.ensures ∙ ap pool_names_for c.effect_of-effect.ensures)))

@@ -15,7 +15,7 @@ use Rattle.ring_calls.specs.declared.machine.Instance.{Instance}
 use Rattle.ring_run.specs.Operands.{cleared_in, pool_to_clear}
 use Rattle.ring_calls.specs.Around.{Around}
 use Rattle.ring_calls.specs.Seen.{seen_over}
-use Rattle.ring_calls.specs.Setting.{in_setting}
+use Rattle.ring_calls.specs.Context.{in_context}
 use Rattle.ring_run.proofs.Carried.{read_within}
 use Rattle.ring_run.proofs.CarriedOut.{carried, carried_read, done_inside, pools_same}
 use Rattle.ring_calls.proofs.Faultless.{nowhere}
@@ -31,11 +31,11 @@ emptied i x e kind q pool of is named = ap (pool_to_clear i) (sym of ∙ is) ∙
 
 pub clear_pool-requires-clause-live : goal.clear_pool-requires-clause-live
 clear_pool-requires-clause-live g c =
-    let over = in_setting c.args.setting.now (map_of c.args.tree.now) nowhere in
+    let over = in_context c.args.context.now (map_of c.args.tree.now) nowhere in
     let effect = effect.EmptyPool c.in-EmptyPool.kind c.in-EmptyPool.q in
     let met = faultless_by c.args.code.now c.args.store.now over c.args.instance.now c.args.call.now c.args.instr effect (sym c.in-EmptyPool.is ∙ c.effect_of-effect.ensures)
     (c.requires.faultless nowhere) in
-    clears_live c.args.code.now c.args.setting.now (map_of c.args.tree.now) (lists c.args.store.now) (next_name c.args.store.now) nowhere c.args.instance.now c.args.call.now effect refl met.none
+    clears_live c.args.code.now c.args.context.now (map_of c.args.tree.now) (lists c.args.store.now) (next_name c.args.store.now) nowhere c.args.instance.now c.args.call.now effect refl met.none
 
 pub clear_pool-requires-clause-below : goal.clear_pool-requires-clause-below
 clear_pool-requires-clause-below g c =
@@ -49,7 +49,7 @@ clear_pool-requires-clause-looks g c =
 
 pub read-requires-clause-open : goal.read-requires-clause-open
 read-requires-clause-open g c =
-    let over = in_setting c.args.setting.now (map_of c.args.tree.now) nowhere in
+    let over = in_context c.args.context.now (map_of c.args.tree.now) nowhere in
     let r = seen_over (lists c.args.store.now) (next_name c.args.store.now) over c.args.instance.now c.args.call.now in
     let none = faultless_by c.args.code.now c.args.store.now over c.args.instance.now c.args.call.now c.args.instr c.effect_of-effect.result c.effect_of-effect.ensures
     (c.requires.faultless nowhere) in (
@@ -60,7 +60,7 @@ read-requires-clause-open g c =
 
 pub read-requires-clause-stands : goal.read-requires-clause-stands
 read-requires-clause-stands g c =
-    let over = in_setting c.args.setting.now (map_of c.args.tree.now) nowhere in
+    let over = in_context c.args.context.now (map_of c.args.tree.now) nowhere in
     let none = faultless_by c.args.code.now c.args.store.now over c.args.instance.now c.args.call.now c.args.instr c.effect_of-effect.result c.effect_of-effect.ensures
     (c.requires.faultless nowhere) in
     stands none c.in-Read.is 0 c.in-Read.c InBrigade refl
@@ -70,7 +70,7 @@ returns-in_ok-clear_pool-in-EmptyPool-clause-ok g c =
     λ around.
     let is = sym c.in-EmptyPool.is ∙ c.effect_of-effect.ensures in
     let clears = pool_cleared c.args.instr (ap clears_pool_by (sym is)) in
-    let r = seen_over (lists c.args.store.now) (next_name c.args.store.now) (during c.args.setting.now (map_of c.args.tree.now) c.args.handed.now.items around) c.args.instance.now c.args.call.now in
+    let r = seen_over (lists c.args.store.now) (next_name c.args.store.now) (during c.args.context.now (map_of c.args.tree.now) c.args.handed.now.items around) c.args.instance.now c.args.call.now in
     carried (g.F.Files.device c.args.files.now) (g.F.Files.device c.clear_pool.new.files) c.args.code.now c.args.instr (effect.EmptyPool c.in-EmptyPool.kind c.in-EmptyPool.q) r _ _ is
     (λ choice. sym (clears.goes_on c.args.code.now choice r)) (c.in_ok-clear_pool-in-EmptyPool.ensures.ok c.args.code.now around)
 
@@ -85,7 +85,7 @@ returns-in_ok-well-in-Read-clause-ok g c =
     let store = c.args.store.now in
     let i = c.args.instance.now in
     let call = c.args.call.now in
-    let over = during c.args.setting.now (map_of c.args.tree.now) c.args.handed.now.items around in
+    let over = during c.args.context.now (map_of c.args.tree.now) c.args.handed.now.items around in
     let r = seen_over (lists store) (next_name store) over i call in
     let none = faultless_by c.args.code.now c.args.store.now over c.args.instance.now c.args.call.now c.args.instr c.effect_of-effect.result c.effect_of-effect.ensures (c.requires.faultless over) in
     let at = read_within r c.in-Read.c (met none c.in-Read.is 0 (WCursor c.in-Read.c InBrigade) refl)
@@ -102,7 +102,7 @@ exit-leads-requires-clause-other g c =
     unanswered c.args.instr (ap keeps_files_by (sym is) ∙ keeps_rest effect (ap is_carried_by is ∙ c.requires.kind) c.in_default.not-EmptyPool c.in_default.not-Read)
 
 pub exit-leads-requires-clause-faultless : goal.exit-leads-requires-clause-faultless
-exit-leads-requires-clause-faultless g c = (in_setting c.args.setting.now (map_of c.args.tree.now) nowhere, c.requires.faultless nowhere)
+exit-leads-requires-clause-faultless g c = (in_context c.args.context.now (map_of c.args.tree.now) nowhere, c.requires.faultless nowhere)
 
 pub execute_without_files-requires-clause-fit : goal.execute_without_files-requires-clause-fit
 execute_without_files-requires-clause-fit g c = fits_by c.args.code.now c.args.instr c.effect_of-effect.result c.effect_of-effect.ensures c.requires.fit
@@ -114,7 +114,7 @@ execute_without_files-requires-clause-kind g c =
 pub execute_without_files-requires-clause-faultless : goal.execute_without_files-requires-clause-faultless
 execute_without_files-requires-clause-faultless g c =
     λ around.
-    let over = in_setting c.args.setting.now (map_of c.args.tree.now) around in
+    let over = in_context c.args.context.now (map_of c.args.tree.now) around in
     faultless_by c.args.code.now c.args.store.now over c.args.instance.now c.args.call.now c.args.instr c.effect_of-effect.result c.effect_of-effect.ensures (c.requires.faultless around)
 
 pub returns-in_ok-execute_without_files-in_default-clause-ok : goal.returns-in_ok-execute_without_files-in_default-clause-ok
@@ -123,14 +123,14 @@ returns-in_ok-execute_without_files-in_default-clause-ok g c =
     let store = c.args.store.now in
     let d = g.F.Files.device c.args.files.now in
     let handed = c.args.handed.now.items in
-    let over = during c.args.setting.now (map_of c.args.tree.now) handed around in
+    let over = during c.args.context.now (map_of c.args.tree.now) handed around in
     let r = seen_over (lists store) (next_name store) over c.args.instance.now c.args.call.now in
     let effect = c.effect_of-effect.result in
     let is = c.effect_of-effect.ensures in
     let keeps = keeps_rest effect (ap is_carried_by is ∙ c.requires.kind) c.in_default.not-EmptyPool c.in_default.not-Read in
     carried d d c.args.code.now c.args.instr effect r _ _ is (λ choice. c.exit-leads.ensures over choice)
     (done_inside d c.args.code.now effect keeps (lists c.execute_without_files.new.store) (next_name c.execute_without_files.new.store)
-    (during c.args.setting.now (map_of c.execute_without_files.new.tree) handed around) c.execute_without_files.new.instance c.execute_without_files.new.call r
+    (during c.args.context.now (map_of c.execute_without_files.new.tree) handed around) c.execute_without_files.new.instance c.execute_without_files.new.call r
     (λ choice. c.in_ok-execute_without_files-in_default.ensures.ok over choice))
 
 pub returns-in_ok-execute_without_files-in_default-clause-cleared : goal.returns-in_ok-execute_without_files-in_default-clause-cleared
@@ -147,9 +147,9 @@ returns-in_err-execute_without_files-in_default-clause-err g c =
     let handed = c.args.handed.now.items in
     let same : (around : Around)
     → seen_over (lists c.execute_without_files.new.store) (next_name c.execute_without_files.new.store)
-    (during c.args.setting.now (map_of c.execute_without_files.new.tree) handed around) c.execute_without_files.new.instance c.execute_without_files.new.call
-    ≡ seen_over (lists c.args.store.now) (next_name c.args.store.now) (during c.args.setting.now (map_of c.args.tree.now) handed around) c.args.instance.now c.args.call.now
-    = λ around. c.in_err-execute_without_files-in_default.ensures.err (during c.args.setting.now (map_of c.args.tree.now) handed around) in
+    (during c.args.context.now (map_of c.execute_without_files.new.tree) handed around) c.execute_without_files.new.instance c.execute_without_files.new.call
+    ≡ seen_over (lists c.args.store.now) (next_name c.args.store.now) (during c.args.context.now (map_of c.args.tree.now) handed around) c.args.instance.now c.args.call.now
+    = λ around. c.in_err-execute_without_files-in_default.ensures.err (during c.args.context.now (map_of c.args.tree.now) handed around) in
     told_err _ _ same
 
 pub returns-in_err-execute_without_files-in_default-clause-kept : goal.returns-in_err-execute_without_files-in_default-clause-kept
@@ -161,6 +161,6 @@ returns-in_err-execute_without_files-in_default-clause-kept g c =
 pub returns-in_err-execute_without_files-in_default-clause-sure : goal.returns-in_err-execute_without_files-in_default-clause-sure
 returns-in_err-execute_without_files-in_default-clause-sure g c =
     λ around none.
-    let r = seen_over (lists c.args.store.now) (next_name c.args.store.now) (in_setting c.args.setting.now (map_of c.args.tree.now) around) c.args.instance.now c.args.call.now in
+    let r = seen_over (lists c.args.store.now) (next_name c.args.store.now) (in_context c.args.context.now (map_of c.args.tree.now) around) c.args.instance.now c.args.call.now in
     let never = c.in_err-execute_without_files-in_default.ensures.sure around (ap (grows_by r) c.effect_of-effect.ensures ∙ none) in
     absurd (cc)

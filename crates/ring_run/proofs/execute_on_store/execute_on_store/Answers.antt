@@ -6,8 +6,9 @@ use Rattle.run_model.specs.BucketSteps.{items_at, names_to_part}
 use Rattle.run_model.specs.Faults.{InBrigade, InThis, WHome, WHomeAcross}
 use Rattle.run_model.specs.Steps.{value_of}
 use Rattle.run_model.specs.declared.effect.Effect.{Effect}
+use Rattle.pool_tree.specs.Tree.{map_of}
 use Rattle.brigade_ops.specs.Store.{lists, next_name}
-use Rattle.ring_calls.specs.Outside.{with_outside}
+use Rattle.ring_calls.specs.Context.{in_context}
 use Rattle.ring_calls.specs.Seen.{seen_over}
 use Rattle.ring_calls.proofs.Faultless.{nowhere}
 use Rattle.ring_calls.proofs.Quiet.{grown_none}
@@ -21,7 +22,7 @@ pub make_bucket-requires-clause-cursor : goal.make_bucket-requires-clause-cursor
 make_bucket-requires-clause-cursor g c = made_cursor c.args.code.now c.in-Make.c c.in-Make.source (sym (ap (λ (e : Effect). fits c.args.code.now (instr_with e)) c.in-Make.is) ∙ c.requires.fit)
 
 pub change_number-requires-clause-faultless : goal.change_number-requires-clause-faultless
-change_number-requires-clause-faultless g c = (with_outside c.args.outside.now nowhere, faultless_at (c.requires.faultless nowhere) c.in-Number.is)
+change_number-requires-clause-faultless g c = (in_context c.args.context.now (map_of c.args.tree.now) nowhere, faultless_at (c.requires.faultless nowhere) c.in-Number.is)
 
 pub make_bucket-requires-clause-faultless : goal.make_bucket-requires-clause-faultless
 make_bucket-requires-clause-faultless g c = λ around. faultless_at (c.requires.faultless around) c.in-Make.is
@@ -30,7 +31,7 @@ pub returns-in-Make-clause-ok : goal.returns-in-Make-clause-ok
 returns-in-Make-clause-ok g c = rw c.in-Make.is c.make_bucket.ensures.ok
 
 pub move_buckets-requires-clause-faultless : goal.move_buckets-requires-clause-faultless
-move_buckets-requires-clause-faultless g c = (with_outside c.args.outside.now nowhere, c.requires.faultless nowhere)
+move_buckets-requires-clause-faultless g c = (in_context c.args.context.now (map_of c.args.tree.now) nowhere, c.requires.faultless nowhere)
 
 pub split-requires-clause-stands : goal.split-requires-clause-stands
 split-requires-clause-stands g c = stands (c.requires.faultless nowhere) c.in-Split.is 0 c.in-Split.c InBrigade refl
@@ -38,7 +39,7 @@ split-requires-clause-stands g c = stands (c.requires.faultless nowhere) c.in-Sp
 pub returns-in-Split-clause-ok : goal.returns-in-Split-clause-ok
 returns-in-Split-clause-ok g c =
     rw c.in-Split.is (on_ok_weaker c.split.result (λ out around choice.
-    let over = with_outside c.args.outside.now around in
+    let over = in_context c.args.context.now (map_of c.args.tree.now) around in
     rw (c.from-n.ensures ∙ c.value_of.ensures (lists c.args.store.now) (next_name c.args.store.now) over c.args.call.now) at
     (out over (met (c.requires.faultless around) c.in-Split.is 1 (WHome c.in-Split.c) refl)))
     c.split.ensures.ok)
@@ -64,7 +65,7 @@ bsplit-requires-clause-stands g c = stands (c.requires.faultless nowhere) c.in-S
 pub returns-in-PartBrigade-clause-ok : goal.returns-in-PartBrigade-clause-ok
 returns-in-PartBrigade-clause-ok g c =
     rw c.in-PartBrigade.is (on_ok_weaker c.bpart.result (λ out around choice.
-    let over = with_outside c.args.outside.now around in
+    let over = in_context c.args.context.now (map_of c.args.tree.now) around in
     let point = c.from-point.ensures ∙ c.value_of-in-PartBrigade.ensures (lists c.args.store.now) (next_name c.args.store.now) over c.args.call.now in
     rw point at (out over (rw point (met (c.requires.faultless around) c.in-PartBrigade.is 1 (WHomeAcross c.in-PartBrigade.b c.in-PartBrigade.x) refl))))
     c.bpart.ensures.ok)
@@ -74,7 +75,7 @@ returns-in-Concat-clause-left g c = c.concat.ensures.left c.args.call.now
 
 pub returns-in-PartBrigade-clause-sure : goal.returns-in-PartBrigade-clause-sure
 returns-in-PartBrigade-clause-sure g c around none =
-    let over = with_outside c.args.outside.now around in
+    let over = in_context c.args.context.now (map_of c.args.tree.now) around in
     let r = seen_over (lists c.args.store.now) (next_name c.args.store.now) over c.args.instance.now c.args.call.now in
     let at = c.from-point.ensures ∙ c.value_of-in-PartBrigade.ensures (lists c.args.store.now) (next_name c.args.store.now) over c.args.call.now in
     c.bpart.ensures.sure over (ap (λ (n : ℕ). names_to_part n (items_at r c.in-PartBrigade.b)) at

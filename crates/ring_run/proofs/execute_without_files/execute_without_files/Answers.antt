@@ -15,7 +15,7 @@ use Rattle.pool_tree.proofs.Trees.{tree_formed}
 use Rattle.brigade_ops.specs.Store.{lists, next_name, pool_of, references}
 use Rattle.brigade_ops.proofs.Housed.{house_live}
 use Rattle.ring_calls.specs.Seen.{seen_over}
-use Rattle.ring_calls.specs.Setting.{in_setting}
+use Rattle.ring_calls.specs.Context.{in_context}
 use Rattle.ring_calls.specs.Slots.{name_in}
 use Rattle.ring_run.proofs.CarriedOut.{names_kept}
 use Rattle.ring_calls.proofs.OpenFiles.{open_items, open_spot, refs_same}
@@ -30,7 +30,7 @@ aside-requires-clause-stands g c = stands (c.requires.faultless nowhere) c.in-As
 
 pub live_pool-parent-requires : goal.live_pool-parent-requires
 live_pool-parent-requires g c =
-    let r = seen_over (lists c.args.store.now) (next_name c.args.store.now) (in_setting c.args.setting.now (map_of c.args.tree.now) nowhere) c.args.instance.now c.args.call.now in
+    let r = seen_over (lists c.args.store.now) (next_name c.args.store.now) (in_context c.args.context.now (map_of c.args.tree.now) nowhere) c.args.instance.now c.args.call.now in
     let none = ap (λ (p : PoolRef). fault_want r (WPool p)) c.pool_parent.ensures
     ∙ met (c.requires.faultless nowhere) c.in-MakePool.is 0 (WPool (pool_of_pool c.args.code.now c.in-MakePool.q)) refl in
     record { there = (lists c.args.store.now, (next_name c.args.store.now, (nowhere, (c.args.call.now, none)))) }
@@ -47,7 +47,7 @@ live_pool-on-requires-in-Kill g c =
 
 pub live_pool-on-requires-in-MakeBrigade : goal.live_pool-on-requires-in-MakeBrigade
 live_pool-on-requires-in-MakeBrigade g c =
-    let r = seen_over (lists c.args.store.now) (next_name c.args.store.now) (in_setting c.args.setting.now (map_of c.args.tree.now) nowhere) c.args.instance.now c.args.call.now in
+    let r = seen_over (lists c.args.store.now) (next_name c.args.store.now) (in_context c.args.context.now (map_of c.args.tree.now) nowhere) c.args.instance.now c.args.call.now in
     let none = ap (λ (p : PoolRef). fault_want r (WPool p)) c.brigade_pool.ensures
     ∙ met (c.requires.faultless nowhere) c.in-MakeBrigade.is 0 (WPool (pool_of_brigade c.args.code.now c.in-MakeBrigade.o)) refl in
     record { there = (lists c.args.store.now, (next_name c.args.store.now, (nowhere, (c.args.call.now, none)))) }
@@ -70,7 +70,7 @@ live_pool-to-requires g c =
 pub returns-in-MakePool-clause-ok : goal.returns-in-MakePool-clause-ok
 returns-in-MakePool-clause-ok g c =
     rw c.in-MakePool.is (on_ok_weaker c.create_pool.result (λ made around choice.
-    made c.args.code.now (lists c.args.store.now) (next_name c.args.store.now) (in_setting c.args.setting.now (map_of c.args.tree.now) around) c.args.call.now
+    made c.args.code.now (lists c.args.store.now) (next_name c.args.store.now) (in_context c.args.context.now (map_of c.args.tree.now) around) c.args.call.now
     (rw c.pool_parent.ensures at (c.live_pool-parent.ensures.named (lists c.args.store.now) (next_name c.args.store.now) around c.args.call.now)))
     c.create_pool.ensures.ok)
 
@@ -78,30 +78,30 @@ pub returns-in-Register-clause-ok : goal.returns-in-Register-clause-ok
 returns-in-Register-clause-ok g c =
     rw c.in-Register.is (on_ok_weaker c.label.result (λ made around choice.
     rw (c.live_pool-on.ensures.named (lists c.args.store.now) (next_name c.args.store.now) around c.args.call.now)
-    (made (lists c.args.store.now) (next_name c.args.store.now) (in_setting c.args.setting.now (map_of c.args.tree.now) around) c.args.instance.now c.args.call.now))
+    (made (lists c.args.store.now) (next_name c.args.store.now) (in_context c.args.context.now (map_of c.args.tree.now) around) c.args.instance.now c.args.call.now))
     c.label.ensures.ok)
 
 pub returns-in-Kill-clause-ok : goal.returns-in-Kill-clause-ok
 returns-in-Kill-clause-ok g c =
     rw c.in-Kill.is (λ around choice.
     rw (c.live_pool-on-in-Kill.ensures.named (lists c.args.store.now) (next_name c.args.store.now) around c.args.call.now)
-    (c.unlabel.ensures.new (lists c.args.store.now) (next_name c.args.store.now) (in_setting c.args.setting.now (map_of c.args.tree.now) around) c.args.instance.now c.args.call.now))
+    (c.unlabel.ensures.new (lists c.args.store.now) (next_name c.args.store.now) (in_context c.args.context.now (map_of c.args.tree.now) around) c.args.instance.now c.args.call.now))
 
 pub returns-in-MakeBrigade-clause-ok : goal.returns-in-MakeBrigade-clause-ok
 returns-in-MakeBrigade-clause-ok g c =
     rw c.in-MakeBrigade.is (on_ok_weaker c.create.result (λ made around choice.
-    made c.args.code.now (in_setting c.args.setting.now (map_of c.args.tree.now) around) c.args.call.now c.requires.held
+    made c.args.code.now (in_context c.args.context.now (map_of c.args.tree.now) around) c.args.call.now c.requires.held
     (rw c.brigade_pool.ensures at (c.live_pool-on-in-MakeBrigade.ensures.named (lists c.args.store.now) (next_name c.args.store.now) around c.args.call.now)))
     c.create.ensures.ok)
 
 pub returns-in-Save-clause-ok : goal.returns-in-Save-clause-ok
 returns-in-Save-clause-ok g c =
-    rw c.in-Save.is (on_ok_weaker c.save.result (λ made around choice. made (in_setting c.args.setting.now (map_of c.args.tree.now) around) c.args.call.now c.requires.held) c.save.ensures.ok)
+    rw c.in-Save.is (on_ok_weaker c.save.result (λ made around choice. made (in_context c.args.context.now (map_of c.args.tree.now) around) c.args.call.now c.requires.held) c.save.ensures.ok)
 
 pub returns-in-Aside-clause-ok : goal.returns-in-Aside-clause-ok
 returns-in-Aside-clause-ok g c =
     rw c.in-Aside.is (on_ok_weaker c.aside.result (λ made around choice.
-    rw (c.live_pool-to.ensures.named (lists c.args.store.now) (next_name c.args.store.now) around c.args.call.now) (made (in_setting c.args.setting.now (map_of c.args.tree.now) around)))
+    rw (c.live_pool-to.ensures.named (lists c.args.store.now) (next_name c.args.store.now) around c.args.call.now) (made (in_context c.args.context.now (map_of c.args.tree.now) around)))
     c.aside.ensures.ok)
 
 pub returns-in-MakePool-clause-slots : goal.returns-in-MakePool-clause-slots
@@ -117,7 +117,7 @@ returns-in-MakeBrigade-clause-left g c = c.create.ensures.left c.args.call.now
 pub returns-in-Save-clause-open : goal.returns-in-Save-clause-open
 returns-in-Save-clause-open g c =
     λ d ranges all.
-    let over = in_setting c.args.setting.now (map_of c.args.tree.now) nowhere in
+    let over = in_context c.args.context.now (map_of c.args.tree.now) nowhere in
     let r = seen_over (lists c.args.store.now) (next_name c.args.store.now) over c.args.instance.now c.args.call.now in
     let alive = met (c.requires.faultless nowhere) c.in-Save.is 2 (WHomes c.in-Save.b) refl in
     c.save.ensures.open d over c.args.call.now (open_items d (items_of (r.instance.brigades c.in-Save.b)) ((ranges nowhere).brigades c.in-Save.b) alive) all
@@ -128,7 +128,7 @@ returns-in-Save-clause-left g c = c.save.ensures.left c.args.call.now
 pub returns-in-Aside-clause-open : goal.returns-in-Aside-clause-open
 returns-in-Aside-clause-open g c =
     λ d ranges all.
-    let over = in_setting c.args.setting.now (map_of c.args.tree.now) nowhere in
+    let over = in_context c.args.context.now (map_of c.args.tree.now) nowhere in
     let r = seen_over (lists c.args.store.now) (next_name c.args.store.now) over c.args.instance.now c.args.call.now in
     let alive = met (c.requires.faultless nowhere) c.in-Aside.is 2 (WHome c.in-Aside.c) refl in
     c.aside.ensures.open d over (open_spot d r c.in-Aside.c (ranges nowhere) alive) all
@@ -136,7 +136,7 @@ returns-in-Aside-clause-open g c =
 pub returns-in-Save-clause-sure : goal.returns-in-Save-clause-sure
 unfolding map_of seen_over
 returns-in-Save-clause-sure g c around none =
-    let over = in_setting c.args.setting.now (map_of c.args.tree.now) around in
+    let over = in_context c.args.context.now (map_of c.args.tree.now) around in
     let r = seen_over (lists c.args.store.now) (next_name c.args.store.now) over c.args.instance.now c.args.call.now in
     c.save.ensures.sure over c.args.call.now
     (grown_none 0 0 (takes_reference (map_of c.args.tree.now) (made_on (r.instance.brigades c.in-Save.o)) (items_at r c.in-Save.b)) (sym (ap (grows_by r) c.in-Save.is) ∙ none)).1
@@ -144,7 +144,7 @@ returns-in-Save-clause-sure g c around none =
 pub returns-in-Aside-clause-sure : goal.returns-in-Aside-clause-sure
 unfolding map_of seen_over
 returns-in-Aside-clause-sure g c around none =
-    let over = in_setting c.args.setting.now (map_of c.args.tree.now) around in
+    let over = in_context c.args.context.now (map_of c.args.tree.now) around in
     let r = seen_over (lists c.args.store.now) (next_name c.args.store.now) over c.args.instance.now c.args.call.now in
     let bs = option_to_list (bucket_at (spot r c.in-Aside.c)) in
     let plain = (grown_none 0 0 (takes_reference (map_of c.args.tree.now) (pool_named r c.in-Aside.pool) bs) (sym (ap (grows_by r) c.in-Aside.is) ∙ none)).1 in

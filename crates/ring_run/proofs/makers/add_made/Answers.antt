@@ -4,12 +4,13 @@ use Rattle.std.proofs.lemmas.Grind.{common_steps}
 use Rattle.run_model.specs.Faults.{OnBucket, WHome, WPool}
 use Rattle.run_model.specs.Steps.{made_of}
 use Rattle.run_model.specs.declared.effect.Effect.TheVariants as effect
+use Rattle.pool_tree.specs.Tree.{map_of}
 use Rattle.stored_rings.specs.Items.{Items}
 use Rattle.brigade_ops.specs.Store.{next_name}
 use Rattle.ring_calls.specs.declared.machine.Instance.{Instance}
 use Rattle.ring_calls.specs.declared.machine.Call.{Call}
 use Rattle.ring_calls.specs.Around.{Around}
-use Rattle.ring_calls.specs.Outside.{with_outside}
+use Rattle.ring_calls.specs.Context.{in_context}
 use Rattle.ring_calls.specs.Seen.{seen, seen_over, calls_in, bucket_in}
 use Rattle.ring_calls.proofs.Faultless.{nowhere}
 use Rattle.ring_calls.proofs.Homes.{home_later}
@@ -23,13 +24,14 @@ call_seen : (L : ℕ → Option Items) (k : ℕ) (around : Around) (i : Instance
 unfolding seen_over
 call_seen L k around i call = (refl, refl)
 
-pub pool_there-requires : goal.pool_there-requires
-pool_there-requires g c = record { there = (_, (_, (nowhere, (_, met (c.requires.faultless.1 nowhere) (ap (effect.Make c.requires.faultless.0) c.in-PoolBuffer.is) 0 (WPool _) refl)))) }
+pub live_pool-requires : goal.live_pool-requires
+live_pool-requires g c = record { there = (_, (_, (nowhere, (_, met (c.requires.faultless.1 nowhere) (ap (effect.Make c.requires.faultless.0) c.in-PoolBuffer.is) 0 (WPool _) refl)))) }
 
 pub returns-clause-ok : goal.returns-clause-ok
 returns-clause-ok g c =
-    let made : (around : Around) → made_of c.args.code.now (seen c.args.store.now (with_outside c.args.outside.now around) c.args.instance.now c.args.call.now) c.args.source
-    ≡ Some (bucket_in (calls_in (with_outside c.args.outside.now around) c.args.call.now) (next_name c.args.store.now) c.match-source.bucket) = λ around. grind (arith, home_now, call_seen) in
+    let made : (around : Around) → made_of c.args.code.now (seen c.args.store.now (in_context c.args.context.now (map_of c.args.tree.now) around) c.args.instance.now c.args.call.now) c.args.source
+    ≡ Some (bucket_in (calls_in (in_context c.args.context.now (map_of c.args.tree.now) around) c.args.call.now) (next_name c.args.store.now) c.match-source.bucket) =
+    λ around. grind (arith, home_now, call_seen) in
     grind (arith, common_steps)
 
 pub bucket-requires-clause-at : goal.bucket-requires-clause-at
@@ -44,7 +46,7 @@ returns-in-CopyAt-clause-ok g c =
     let is = ap (effect.Make c.requires.faultless.0) c.in-CopyAt.is in
     let s = bucket_here _ _ _ _ c.requires.held (stands (c.requires.faultless.1 nowhere) is 0 c.in-CopyAt.d OnBucket refl) _ c.bucket.ensures in
     let made = λ (around : Around).
-    let over = with_outside c.args.outside.now around in
+    let over = in_context c.args.context.now (map_of c.args.tree.now) around in
     let alive = alive_at (s.at over) (met (c.requires.faultless.1 around) is 1 (WHome c.in-CopyAt.d) refl) in
     rw (sym (home_later _ _ (next_name c.args.store.now) s.bucket.home alive (omega (arith, (c.requires.held.given _ _ c.bucket.ensures).young)))) at (s.at over) in
     grind (arith, common_steps, made)

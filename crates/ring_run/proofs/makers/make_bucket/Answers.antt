@@ -3,8 +3,9 @@ use Rattle.std.proofs.Common.{ℕ, ◌+◌, ◌≤◌, Option, sym, ap, ◌∙�
 use Rattle.bucket_ring.specs.Lists.{put_tail}
 use Rattle.run_model.specs.BucketSteps.{do_make}
 use Rattle.run_model.specs.declared.bucket.Bucket.{Bucket}
+use Rattle.pool_tree.specs.Tree.{map_of}
 use Rattle.brigade_ops.specs.Store.{lists, brigade_of, pool_of, next_name}
-use Rattle.ring_calls.specs.Outside.{with_outside}
+use Rattle.ring_calls.specs.Context.{in_context}
 use Rattle.ring_calls.specs.Seen.{seen_over}
 use Rattle.ring_calls.proofs.LeftAlone.{left_on, left_same, ours_loose}
 use Rattle.ring_calls.proofs.Names.{apart_in, no_less}
@@ -15,7 +16,7 @@ pub returns-clause-ok : goal.returns-clause-ok
 returns-clause-ok g c =
     λ around choice.
     let old = c.args.store.now in
-    let over = with_outside c.args.outside.now around in
+    let over = in_context c.args.context.now (map_of c.args.tree.now) around in
     let i = c.args.instance.now in
     let new = c.in_ok-id.ensures.ok in
     ap (λ (k : ℕ). seen_over (lists c.add_made.new.store) k over i c.set_cursor.new.self) new.1.0.next

@@ -6,7 +6,7 @@ use Rattle.run_model.specs.Buckets.{is_dead}
 use Rattle.run_model.specs.Faults.{homes_fault}
 use Rattle.brigade_ops.specs.Store.{lists, next_name}
 use Rattle.ring_calls.specs.Seen.{calls_in}
-use Rattle.ring_calls.specs.Setting.{in_setting}
+use Rattle.ring_calls.specs.Context.{in_context}
 use Rattle.ring_calls.specs.Slots.{live_in, slot_at}
 use Rattle.ring_calls.proofs.Contents.{homes_told}
 use Rattle.ring_wants.proofs.LiveContents.{live_contents, some_where}
@@ -14,12 +14,13 @@ use Rattle.ring_wants.proofs.brigade_wants.want_homes.Goals as goal
 
 pub returns-clause-value : goal.returns-clause-value
 returns-clause-value g c pools around =
-    let over = in_setting c.args.setting.now pools around in
+    let over = in_context c.args.context.now pools around in
     let call = c.args.call.now in
     let s = c.args.store.now in
     let i = c.args.instance.now in
     c.then_some.ensures
     ∙ (ap (λ t. then_some t F5) (c.any_bucket-dead.ensures is_dead (calls_in over call) (search rules))
     ∙ (some_where _ F5
-    ∙ (ap homes_fault (live_contents s c.live.new.store c.live.ensures.asked (calls_in over call) (slot_at i c.args.b) c.in-Some.name (sym c.in-Some.is ∙ (c.live.ensures.value ∙ ap (live_in (lists s)) c.slot.ensures)))
+    ∙ (ap homes_fault (live_contents s c.live.new.store c.live.ensures.asked (calls_in over call)
+    (slot_at i c.args.b) c.in-Some.name (sym c.in-Some.is ∙ (c.live.ensures.value ∙ ap (live_in (lists s)) c.slot.ensures)))
     ∙ homes_told (lists s) (next_name s) over i call c.args.b)))

@@ -6,7 +6,7 @@ use Rattle.stored_rings.specs.Items.{Items}
 use Rattle.run_model.specs.Pools.{Pools}
 use Rattle.run_model.specs.declared.payload.Payload.{Payload}
 use Rattle.ring_calls.specs.Around.{Around}
-use Rattle.ring_calls.specs.Setting.{in_setting}
+use Rattle.ring_calls.specs.Context.{in_context}
 use Rattle.ring_calls.specs.Seen.{seen, seen_over}
 use Rattle.pool_tree.proofs.Below.{any_below_some, any_below_none}
 use Rattle.ring_wants.proofs.OnlyAsked.{as_before, asked_again, asked_nothing}
@@ -15,9 +15,9 @@ use Rattle.ring_wants.proofs.brigade_wants.want_return.Goals.{After-keeps_stray}
 
 -- what was told of this variable is so of it in the store as it was
 told : (g : _) (c : After-keeps_stray g) (pools : Pools Payload) (around : Around)
-    → (let r = seen c.args.store.now (in_setting c.args.setting.now pools around) c.args.instance.now c.args.call.now in keeps_stray r (r.instance.brigades c.loop-b.b)) ≡ c.keeps_stray.result
+    → (let r = seen c.args.store.now (in_context c.args.context.now pools around) c.args.instance.now c.args.call.now in keeps_stray r (r.instance.brigades c.loop-b.b)) ≡ c.keeps_stray.result
 told g c pools around =
-    let over = in_setting c.args.setting.now pools around in
+    let over = in_context c.args.context.now pools around in
     let i = c.args.instance.now in
     let call = c.args.call.now in
     sym (as_before (λ (L : ℕ → Option Items) (n : ℕ). c.keeps_stray.result ≡ keeps_stray (seen_over L n over i call) ((seen_over L n over i call).instance.brigades c.loop-b.b)) c.args.store.now
@@ -25,7 +25,7 @@ told g c pools around =
 
 pub returns-then-keeps_stray-clause-value : goal.returns-then-keeps_stray-clause-value
 returns-then-keeps_stray-clause-value g c pools around =
-    let r = seen c.args.store.now (in_setting c.args.setting.now pools around) c.args.instance.now c.args.call.now in
+    let r = seen c.args.store.now (in_context c.args.context.now pools around) c.args.instance.now c.args.call.now in
     let keeps : ℕ → Bool = λ b. keeps_stray r (r.instance.brigades b) in
     let here : keeps c.loop-b.b ≡ true = told g (goal.at.returns-then-keeps_stray-clause-value g c).After-keeps_stray pools around ∙ c.if-keeps_stray.true in
     rw (any_below_some 8 c.loop-b.b keeps (omega arith) here) refl
@@ -36,7 +36,7 @@ loop-b-init g c = record { none = λ pools around k lt. absurd (omega (arith, lt
 pub loop-b-preserved : goal.loop-b-preserved
 loop-b-preserved g c = record {
   none = λ pools around k lt.
-      let r = seen c.args.store.now (in_setting c.args.setting.now pools around) c.args.instance.now c.args.call.now in
+      let r = seen c.args.store.now (in_context c.args.context.now pools around) c.args.instance.now c.args.call.now in
       elim (cases_eq k c.loop-b.b) [
         | inl e ↦ ap (λ (b : ℕ). keeps_stray r (r.instance.brigades b)) e ∙ (told g (goal.at.loop-b-preserved g c).After-keeps_stray pools around ∙ c.if-keeps_stray.false)
         | inr ne ↦ c.loop-b.invariant.none pools around k (omega (arith, ne, lt))
@@ -46,6 +46,6 @@ loop-b-preserved g c = record {
 
 pub returns-clause-value : goal.returns-clause-value
 returns-clause-value g c pools around =
-    let r = seen c.args.store.now (in_setting c.args.setting.now pools around) c.args.instance.now c.args.call.now in
+    let r = seen c.args.store.now (in_context c.args.context.now pools around) c.args.instance.now c.args.call.now in
     let keeps : ℕ → Bool = λ b. keeps_stray r (r.instance.brigades b) in
     rw (any_below_none 8 keeps (λ k below. c.loop-b.invariant.none pools around k (omega arith))) refl

@@ -19,5 +19,6 @@ returns-clause-value g c around call =
     ∙ (ap (λ t. then_some t F8) (c.has_late_data.ensures (calls_in around call))
     ∙ (some_where _ F8
     ∙ (ap (λ (xs : List NamedBucket). cond (late_data i.sent xs) (Some F8) None)
-    (live_contents s c.live.new.store c.live.ensures.asked (calls_in around call) (slot_at i c.args.b) c.in-Some.name (sym c.in-Some.is ∙ (c.live.ensures.value ∙ ap (live_in (lists s)) c.slot.ensures)))
+    (live_contents s c.live.new.store c.live.ensures.asked (calls_in around call) (slot_at i c.args.b) c.in-Some.name
+    (sym c.in-Some.is ∙ (c.live.ensures.value ∙ ap (live_in (lists s)) c.slot.ensures)))
     ∙ send_told (lists s) (next_name s) around i call c.args.b)))

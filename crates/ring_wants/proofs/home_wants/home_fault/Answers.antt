@@ -17,4 +17,4 @@ returns g c =
     let x = bucket_there s id (told_some (λ j. is_some (brigade_of s j) ≡ true) c.args.bucket c.requires id c.in-Some.is) in
     c.then_some.ensures
     ∙ (ap (λ t. then_some t F5) (c.is_ended.ensures ∙ ap is_ended (c.home_of.ensures x.0 x.1))
-    ∙ (some_where _ F5 ∙ fault_of_home (is_running c.args.call.now.name c.args.setting.now.waits.now) (bucket_at s) id x.0 c.args.bucket c.in-Some.is x.1))
+    ∙ (some_where _ F5 ∙ fault_of_home (is_running c.args.call.now.name c.args.context.now.waits.now) (bucket_at s) id x.0 c.args.bucket c.in-Some.is x.1))

@@ -1,12 +1,12 @@
 -- A pool that is not the instance's own is another filter's.
 use Rattle.std.proofs.Common.{not, sym, ap, ◌∙◌}
 use Rattle.run_model.specs.Faults.{is_stray}
-use Rattle.ring_calls.specs.Setting.{in_setting}
+use Rattle.ring_calls.specs.Context.{in_context}
 use Rattle.ring_calls.specs.Seen.{seen_over}
 use Rattle.ring_wants.proofs.pool_wants.is_stray.Goals as goal
 
 pub returns-in-Pool : goal.returns-in-Pool
 unfolding is_stray
 returns-in-Pool c = λ rings next pools around call.
-    let r = seen_over rings next (in_setting c.args.setting.now pools around) c.args.instance.now call in
+    let r = seen_over rings next (in_context c.args.context.now pools around) c.args.instance.now call in
     ap not (c.is_own.ensures rings next pools around call) ∙ ap (is_stray r) (sym c.in-Pool.is)

@@ -8,7 +8,7 @@ use Rattle.run_model.specs.Wants.{and_then, want_of}
 use Rattle.pool_tree.specs.Tree.{map_of}
 use Rattle.ring_calls.specs.Around.{Around}
 use Rattle.ring_calls.specs.Seen.{seen}
-use Rattle.ring_calls.specs.Setting.{in_setting}
+use Rattle.ring_calls.specs.Context.{in_context}
 use Rattle.ring_wants.proofs.FirstFault.{after, ends, goes_on, met, stops}
 use Rattle.ring_wants.proofs.OnlyAsked.{asked_again, held_same, tree_asked_again}
 use Rattle.ring_wants.proofs.wants.fault.Goals as goal
@@ -24,27 +24,27 @@ fault_of-requires-in-Some-third-clause-held g c =
 
 -- the first want is met, and those behind it tell
 past_first : (g : _) (c : In-Some-second g) (around : Around) (m : Option FaultKind)
-    → m ≡ first_fault (seen c.args.store.now (in_setting c.args.setting.now (map_of c.args.tree.now) around) c.args.instance.now c.args.call.now)
+    → m ≡ first_fault (seen c.args.store.now (in_context c.args.context.now (map_of c.args.tree.now) around) c.args.instance.now c.args.call.now)
     (and_then c.wants-wanted.result.second (and_then c.wants-wanted.result.third []))
-    → m ≡ fault c.args.code.now (seen c.args.store.now (in_setting c.args.setting.now (map_of c.args.tree.now) around) c.args.instance.now c.args.call.now) c.args.instr
+    → m ≡ fault c.args.code.now (seen c.args.store.now (in_context c.args.context.now (map_of c.args.tree.now) around) c.args.instance.now c.args.call.now) c.args.instr
 past_first g c around m more =
-    let r = seen c.args.store.now (in_setting c.args.setting.now (map_of c.args.tree.now) around) c.args.instance.now c.args.call.now in
+    let r = seen c.args.store.now (in_context c.args.context.now (map_of c.args.tree.now) around) c.args.instance.now c.args.call.now in
     let w = c.wants-wanted.result in
     goes_on r w.first c.in-Some.first c.in-Some.is (and_then w.second (and_then w.third [])) m (sym c.in_default-fault_of.is ∙ c.fault_of.ensures.value around) more
     ∙ ap (first_fault r) c.wants-wanted.ensures.listed
 
 -- the second is asked of what the first left
 second_told : (g : _) (c : After-fault_of-2 g) (around : Around)
-    → c.fault_of-2.result ≡ fault_want (seen c.args.store.now (in_setting c.args.setting.now (map_of c.args.tree.now) around) c.args.instance.now c.args.call.now) (want_of c.in-Some-second.second)
+    → c.fault_of-2.result ≡ fault_want (seen c.args.store.now (in_context c.args.context.now (map_of c.args.tree.now) around) c.args.instance.now c.args.call.now) (want_of c.in-Some-second.second)
 second_told g c around =
     after c.args.store.now c.fault_of.new.store c.args.tree.now c.fault_of.new.tree c.fault_of.ensures.asked c.fault_of.ensures.tree_asked
-    (λ (pools : Pools Payload). in_setting c.args.setting.now pools around)
+    (λ (pools : Pools Payload). in_context c.args.context.now pools around)
     c.args.instance.now c.args.call.now (want_of c.in-Some-second.second) c.fault_of-2.result (c.fault_of-2.ensures.value around)
 
 pub returns-in-Some-fault_of-2-clause-value : goal.returns-in-Some-fault_of-2-clause-value
 returns-in-Some-fault_of-2-clause-value g c around =
     let at = goal.at.returns-in-Some-fault_of-2-clause-value g c in
-    let r = seen c.args.store.now (in_setting c.args.setting.now (map_of c.args.tree.now) around) c.args.instance.now c.args.call.now in
+    let r = seen c.args.store.now (in_context c.args.context.now (map_of c.args.tree.now) around) c.args.instance.now c.args.call.now in
     let kind = c.in-Some-fault_of-2.kind in
     past_first g at.In-Some-second around (Some kind)
     (stops r c.wants-wanted.result.second c.in-Some-second.second c.in-Some-second.is (and_then c.wants-wanted.result.third []) kind
@@ -57,7 +57,7 @@ returns-in-Some-third-clause-value g c around =
     let i = c.args.instance.now in
     let call = c.args.call.now in
     let tree = c.args.tree.now in
-    let over = λ (pools : Pools Payload). in_setting c.args.setting.now pools around in
+    let over = λ (pools : Pools Payload). in_context c.args.context.now pools around in
     let r = seen s (over (map_of tree)) i call in
     let w = c.wants-wanted.result in
     let o = c.fault_of-in-Some-third.result in
@@ -71,7 +71,7 @@ returns-in-Some-third-clause-value g c around =
 pub returns-in-None-clause-value : goal.returns-in-None-clause-value
 returns-in-None-clause-value g c around =
     let at = goal.at.returns-in-None-clause-value g c in
-    let r = seen c.args.store.now (in_setting c.args.setting.now (map_of c.args.tree.now) around) c.args.instance.now c.args.call.now in
+    let r = seen c.args.store.now (in_context c.args.context.now (map_of c.args.tree.now) around) c.args.instance.now c.args.call.now in
     let w = c.wants-wanted.result in
     past_first g at.In-Some-second around None
     (goes_on r w.second c.in-Some-second.second c.in-Some-second.is (and_then w.third []) None (sym c.in_default-fault_of-2.is ∙ second_told g at.After-fault_of-2 around)

@@ -6,7 +6,9 @@ use Rattle.module_code.proofs.module.Module.at.Goals as goal
 
 pub returns-clause-placed : goal.returns-clause-placed
 returns-clause-placed c =
-    let size : (λ (p : Program). length p.code) (record { pools = c.self.inside.pools; brigades = c.self.inside.brigades; texts = c.self.inside.texts; code = c.self.inside.code; init = c.self.inside.init; main = c.self.inside.main }) ≡ length c.args.self.now.code = ap (λ (p : Program). length p.code) c.self.view_is in
+    let m = c.self.inside in
+    let shown : Program = record { pools = m.pools; brigades = m.brigades; texts = m.texts; code = m.code; init = m.init; main = m.main } in
+    let size : length shown.code ≡ length c.args.self.now.code = ap (λ (p : Program). length p.code) c.self.view_is in
     let inside : c.args.pc < length c.self.inside.code = omega (arith, size) in
     let found = slice_get_read c.self.inside.code (length c.self.inside.code) c.args.pc c.at.result.now refl inside c.at.ensures in
     subst (λ (p : Program). IsPlaced p c.args.pc c.at.result.now) c.self.view_is (c.self.invariant.placed c.args.pc c.at.result.now found)

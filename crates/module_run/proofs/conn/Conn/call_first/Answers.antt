@@ -19,7 +19,14 @@ returns c =
           ∙ (ap (λ (p : Program). p.init) (sym (read_module c.args.modules.now 0 w.index-modules-0.result c.requires.some w.index-modules-0.is)) ∙ ap handler (sym w.in-Some.is)))
     ] in
     record {
-      first = λ f is. (c.start.new.self, (set_first c.args.self.now.filters.items c.start.new.self within, starts_as c.args.name c.match-self.pc (handler c.args.self.now.req) c.index_mut.result.now f c.start.new.self at (some_same c.index_mut.result.now f (sym (read_filter c.args.self.now 0 c.index_mut.result.now within c.index_mut.ensures.value) ∙ is)) c.start.ensures));
+      first = λ f is. (
+        c.start.new.self,
+        (
+          set_first c.args.self.now.filters.items c.start.new.self within,
+          starts_as c.args.name c.match-self.pc (handler c.args.self.now.req) c.index_mut.result.now f c.start.new.self at
+              (some_same c.index_mut.result.now f (sym (read_filter c.args.self.now 0 c.index_mut.result.now within c.index_mut.ensures.value) ∙ is)) c.start.ensures,
+        ),
+      );
       others = λ k ne. set_later c.args.self.now.filters.items c.start.new.self k ne;
       many = length-set c.args.self.now.filters.items 0 c.start.new.self;
       rest = refl;

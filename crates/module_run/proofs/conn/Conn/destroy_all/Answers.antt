@@ -67,7 +67,12 @@ returns-in-Some-clause-leaves g c =
     leaving s.0 c.args.tree.now c.args.store.now
     (g.F.Files.device c.args.files.now) self s.1.linked s.1.so c.clear.new.self c.in_ok-ran.ensures.out c.in_ok-ran.ensures.off c.end_brigade.new.store _ (λ k. refl)
     (λ n unheld. e.out n ∙ (ring_off (lists c.end_calls.new.store) c.in-Some.name n None
-    (λ same. unheld (record { at = self.first; filter = c.index.result.now; is = slice_get_read self.filters.items (length self.filters.items) self.first c.index.result.now refl within c.index.ensures; by = inr (8, sym c.incoming.ensures ∙ (c.in-Some.is ∙ ap (λ (m : ℕ). Some m) (sym same))) }))
+    (λ same. unheld (record {
+      at = self.first;
+      filter = c.index.result.now;
+      is = slice_get_read self.filters.items (length self.filters.items) self.first c.index.result.now refl within c.index.ensures;
+      by = inr (8, sym c.incoming.ensures ∙ (c.in-Some.is ∙ ap (λ (m : ℕ). Some m) (sym same)));
+    }))
     ∙ l.others n (λ h. unheld (record { at = h.at; filter = h.filter; is = h.is; by = h.by }))))
     (e.pools ∙ l.pools) (e.next ∙ (l.next ∙ d.next))
     (λ id there young. d.names id (l.names id (e.names id there (let a = l.next in omega (arith, young, a, next))) (omega (arith, young, next))) young)

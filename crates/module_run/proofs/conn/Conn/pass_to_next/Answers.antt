@@ -129,7 +129,13 @@ lend-name-requires-clause-live g c =
     let t = passing c.args.modules.now c.args.b c.args.store.now c.args.self.now c.requires.last c.requires.ready in
     let e = behind c.args.modules.now c.args.b c.args.store.now c.args.self.now c.requires.last c.requires.ready in
     let within = behind_within c.args.modules.now c.args.b c.args.store.now c.args.self.now c.requires.last c.requires.ready in
-    let more : OneMore c.args.store.now c.begin_in.new.store = record { out = c.in_ok-begin_in.ensures.out; next = c.in_ok-begin_in.ensures.next; names = c.begin_in.ensures.names; pools = c.begin_in.ensures.pools; references = c.begin_in.ensures.references } in
+    let more : OneMore c.args.store.now c.begin_in.new.store = record {
+      out = c.in_ok-begin_in.ensures.out;
+      next = c.in_ok-begin_in.ensures.next;
+      names = c.begin_in.ensures.names;
+      pools = c.begin_in.ensures.pools;
+      references = c.begin_in.ensures.references;
+    } in
     subst (λ (f : Filter). is_some (live_in (lists c.begin_in.new.store) (slot_at f.instance c.args.b)) ≡ true)
     (sym (reads_top c.args.self.now c.top-top.result c.top-top.ensures c.begin_in.new.self c.begin_in.new.self c.begin_in.new.self t.filter e.0 t.is e.1 within c.index_mut-2.result.now
     c.index_mut-2.ensures.value))
@@ -151,7 +157,13 @@ module _ (g : Over) (c : goal.After-unwrap g) (p : (d : Device) × CanPass c.arg
   filters_are = written c.args.self.now c.top-top.result c.top-top.ensures c.begin_in.new.self c.lend-name.new.self next_is
 
   one_more : OneMore c.args.store.now c.begin_in.new.store
-  one_more = record { out = c.in_ok-begin_in.ensures.out; next = c.in_ok-begin_in.ensures.next; names = c.begin_in.ensures.names; pools = c.begin_in.ensures.pools; references = c.begin_in.ensures.references }
+  one_more = record {
+    out = c.in_ok-begin_in.ensures.out;
+    next = c.in_ok-begin_in.ensures.next;
+    names = c.begin_in.ensures.names;
+    pools = c.begin_in.ensures.pools;
+    references = c.begin_in.ensures.references;
+  }
 
   within : top_of c.args.self.now + 1 < length c.args.self.now.filters.items
   within = behind_within c.args.modules.now c.args.b c.args.store.now c.args.self.now c.requires.last p

@@ -22,8 +22,13 @@ write_spec 𝓤 𝓛 𝓜 𝓡 wired X LX =
     let E : El = record { row = X; laws = LX } in
     let c = f.clauses X 𝓛 𝓜.mem 𝓡.returns in let W = walk_of 𝓛 (f.ended X) (stayed E) c in let 𝓣 = tables 𝓤 𝓛.H 𝓜 𝓡 𝓡.env in
     let fn = inst_fn (args E) code.function in
-    proved_at 𝓛 (f.ended X) (stayed E) c 𝓜 𝓡
-    (Goes-ref 𝓛 2 0 tt (plain (λ _. Cr E)), (Goes-dropped 𝓛 2 (plain (λ _. Br E)) no (λ κs x w. refl), (Goes-dropped 𝓛 2 (plain (λ _. usize)) yes (λ κs x w. refl), (Goes-dropped 𝓛 2 (plain (λ _. R E)) no (λ κs x w. refl), tt))))
+    proved_at 𝓛 (f.ended X) (stayed E) c 𝓜 𝓡 (
+      Goes-ref 𝓛 2 0 tt (plain (λ _. Cr E)),
+      (
+        Goes-dropped 𝓛 2 (plain (λ _. Br E)) no (λ κs x w. refl),
+        (Goes-dropped 𝓛 2 (plain (λ _. usize)) yes (λ κs x w. refl), (Goes-dropped 𝓛 2 (plain (λ _. R E)) no (λ κs x w. refl), tt)),
+      ),
+    )
     (f.Key.name (args E)) fn (code.unfolded 𝓤 𝓛.H 𝓜 𝓡 wired (X, tt)) (λ z are.
     let κs = z.0.0 in let qs = z.0.1 in let a = z.0.3 in
     let κ = κs.0 in let self = a.0 in let d = self.now in let base = a.1.0 in let k = a.1.1.0 in let x = a.1.1.1.0 in let ps = d.places in let s = size_of E in let new = with_place d k (Some x) in

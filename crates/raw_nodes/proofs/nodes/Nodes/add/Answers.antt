@@ -16,7 +16,10 @@ swap-old-requires g c =
 pub invariant_of-self : goal.invariant_of-self
 invariant_of-self g c =
     let s = c.args.self.now in
-    record { listed = taken_in s.block c.in-Some.block c.swap-old.new.self s.free s.spare c.swap-old.result _ c.in-Some.is s.listed c.requires c.swap-old.ensures.value c.swap-old.ensures.at c.swap-old.ensures.len refl }
+    record {
+      listed = taken_in s.block c.in-Some.block c.swap-old.new.self s.free s.spare c.swap-old.result _
+          c.in-Some.is s.listed c.requires c.swap-old.ensures.value c.swap-old.ensures.at c.swap-old.ensures.len refl;
+    }
 
 pub unreachable-requires : goal.unreachable-requires
 unfolding place

@@ -8,7 +8,10 @@ pub invariant_of-self : goal.invariant_of-self
 unfolding node_at
 invariant_of-self g c =
     let s = c.args.self.now in
-    record { listed = (changed s.block c.in-Some.block c.write_load.new.block c.args.k s.free s.spare (λ n. record n { ring = c.args.ring; load = Bucket c.args.bucket }) c.in-Some.is s.listed c.requires c.write_load.ensures.at c.write_load.ensures.len (λ n h. refl)).0 }
+    record {
+      listed = (changed s.block c.in-Some.block c.write_load.new.block c.args.k s.free s.spare
+          (λ n. record n { ring = c.args.ring; load = Bucket c.args.bucket }) c.in-Some.is s.listed c.requires c.write_load.ensures.at c.write_load.ensures.len (λ n h. refl)).0;
+    }
 
 pub returns-clause-at : goal.returns-clause-at
 unfolding node_at

@@ -13,7 +13,14 @@ loop-self-preserved c = λ s at.
     let k = c.loop-self.invariant s at in
     let some : 0 < length c.loop-self.rest.now = grind arith in
     let line = c.first_line-line in
-    let f : IsFirst c.loop-self.rest.now line.result.text.now line.result.ended line.result.width = record { text_is = line.ensures.text; ended_is = line.ensures.ended; lines = line.ensures.lines some; wide_is = line.ensures.width; within = line.ensures.within; moves = line.ensures.moves some } in
+    let f : IsFirst c.loop-self.rest.now line.result.text.now line.result.ended line.result.width = record {
+      text_is = line.ensures.text;
+      ended_is = line.ensures.ended;
+      lines = line.ensures.lines some;
+      wide_is = line.ensures.width;
+      within = line.ensures.within;
+      moves = line.ensures.moves some;
+    } in
     taking_more _ c.loop-self.self _ _ _ _ _ _ _ _ _ s k f (c.in_ok-take_line.ensures.ok k.stage k.at) c.in_ok-take_line.ensures.lines
 
 pub returns-in_err-take_line-clause-err : goal.returns-in_err-take_line-clause-err

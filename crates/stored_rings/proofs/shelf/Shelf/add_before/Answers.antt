@@ -7,7 +7,10 @@ use Rattle.stored_rings.proofs.Seen.{added_seen_at}
 use Rattle.stored_rings.proofs.shelf.Shelf.add_before.Goals as goal
 
 pub invariant_of-self : goal.invariant_of-self
-invariant_of-self g c = record { whole = held_at c.args.self.now _ _ c.requires.whole c.requires.lies put_before all_before c.args.at c.requires.there _ c.add_before.ensures.ok c.add_before.ensures.err }
+invariant_of-self g c = record {
+  whole = held_at c.args.self.now _ _ c.requires.whole c.requires.lies
+      put_before all_before c.args.at c.requires.there _ c.add_before.ensures.ok c.add_before.ensures.err;
+}
 
 pub returns-clause-out : goal.returns-clause-out
 unfolding seen

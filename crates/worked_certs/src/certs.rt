@@ -9,7 +9,7 @@ use crate::modules::{
 };
 use anyhow::Result;
 use life_cert::{CertRefusal, MakeRefusal, make, print_cert, read_cert, slim};
-use life_check::{Cert, ChainRefusal, CheckRefusal, Rule, accept_chain, check};
+use life_check::{Cert, ChainRefusal, CheckRefusal, CheckedChain, Rule, accept_chain, check};
 use life_state::State;
 use module_lang::{Module, assemble, print_module};
 use run_model::FaultKind;
@@ -155,8 +155,8 @@ fn say(rt: &HostRuntime, text: &str) -> Result<()> {
 }
 
 /// Tells the certificate that is made of a module, or why there is none.
-fn show_made(rt: &HostRuntime, text: &[u8]) -> Result<()> {
-    match make(rt.alloc(), &assemble(rt.alloc(), text)?) {
+fn show_made(rt: &HostRuntime, code: &Module) -> Result<()> {
+    match make(rt.alloc(), code) {
         Ok(cert) => show_cert(rt, &cert),
         Err(MakeRefusal::At { pc, rule }) => show_refused(rt, "", pc, rule),
         Err(MakeRefusal::NoMemory) => say(rt, "no memory"),
@@ -164,16 +164,16 @@ fn show_made(rt: &HostRuntime, text: &[u8]) -> Result<()> {
 }
 
 /// Tells the slim form of the certificate that is made of a module.
-fn show_slimmed(rt: &HostRuntime, text: &[u8]) -> Result<()> {
-    let code = assemble(rt.alloc(), text)?;
-    match make(rt.alloc(), &code) {
-        Ok(cert) => show_cert(rt, &slim(rt.alloc(), &code, &cert)?),
+fn show_slimmed(rt: &HostRuntime, code: &Module) -> Result<()> {
+    match make(rt.alloc(), code) {
+        Ok(cert) => show_cert(rt, &slim(rt.alloc(), code, &cert)?),
         Err(_) => say(rt, "none is made"),
     }
 }
 
 /// Tells what a check answers.
-fn show_checked(rt: &HostRuntime, code: &Module, cert: &Cert) -> Result<()> {
+fn show_checked(rt: &HostRuntime, what: &str, code: &Module, cert: &Cert) -> Result<()> {
+    print!(rt; "{what}: ")?;
     match check(code, cert) {
         Ok(()) => say(rt, "accepted"),
         Err(CheckRefusal { pc, rule }) => show_refused(rt, "", pc, rule),
@@ -182,10 +182,8 @@ fn show_checked(rt: &HostRuntime, code: &Module, cert: &Cert) -> Result<()> {
 
 /// Tells what a check answers to the texts of a module and a certificate.
 fn show_texts(rt: &HostRuntime, what: &str, text: &[u8], known: &[u8]) -> Result<()> {
-    let code = assemble(rt.alloc(), text)?;
     let known = read_cert(rt.alloc(), known)?;
-    print!(rt; "{what}: ")?;
-    show_checked(rt, &code, &known)
+    show_checked(rt, what, &assemble(rt.alloc(), text)?, &known)
 }
 
 /// Tells what a check answers to the certificate of the first module without each of its lines.
@@ -197,24 +195,28 @@ fn show_each_without(rt: &HostRuntime) -> Result<()> {
 }
 
 fn show_without(rt: &HostRuntime, line: usize) -> Result<()> {
-    print!(rt; "without line {line}: ")?;
-    show_with(rt, IDENTITY_CERT, line, None)
+    print!(rt; "without line {line}")?;
+    show_with(rt, "", IDENTITY_CERT, line, None)
 }
 
 /// Tells what a check answers where a slim certificate says this before an instruction.
 fn show_slim_with(rt: &HostRuntime, what: &str, line: usize, state: Option<State>) -> Result<()> {
-    print!(rt; "{what}: ")?;
-    show_with(rt, IDENTITY_SLIM, line, state)
+    show_with(rt, what, IDENTITY_SLIM, line, state)
 }
 
 /// Tells what a check answers to a certificate of the first module that says this before an instruction.
-fn show_with(rt: &HostRuntime, known: &[u8], line: usize, state: Option<State>) -> Result<()> {
-    let code = assemble(rt.alloc(), IDENTITY)?;
+fn show_with(
+    rt: &HostRuntime,
+    what: &str,
+    known: &[u8],
+    line: usize,
+    state: Option<State>,
+) -> Result<()> {
     let mut other = read_cert(rt.alloc(), known)?;
     if line < other.at.len() {
         other.at[line] = state;
     }
-    show_checked(rt, &code, &other)
+    show_checked(rt, what, &assemble(rt.alloc(), IDENTITY)?, &other)
 }
 
 /// The state of the first module before an instruction.
@@ -224,11 +226,14 @@ fn state_before(alloc: Global, line: usize) -> Result<Option<State>> {
 
 /// Tells what a check answers where the certificate says as much after a request as before it.
 fn show_ready_as_idle(rt: &HostRuntime) -> Result<()> {
-    let code = assemble(rt.alloc(), IDENTITY)?;
     let mut less = read_cert(rt.alloc(), IDENTITY_CERT)?;
     less.ready = less.idle;
-    print!(rt; "with ready as idle: ")?;
-    show_checked(rt, &code, &less)
+    show_checked(
+        rt,
+        "with ready as idle",
+        &assemble(rt.alloc(), IDENTITY)?,
+        &less,
+    )
 }
 
 /// Tells the first faulty line of a certificate text, or what is printed of it.
@@ -246,19 +251,26 @@ fn show_line(rt: &HostRuntime, line: usize, code: u8) -> Result<()> {
     Ok(())
 }
 
+/// A module with its certificate.
+fn part_of(alloc: Global, text: &[u8], known: Cert) -> Result<(Module, Cert)> {
+    Ok((assemble(alloc, text)?, known))
+}
+
 /// Tells what becomes of the chain of the module that passes on what it gets, and another.
 fn show_chain(rt: &HostRuntime, text: &[u8], known: Cert) -> Result<()> {
     let alloc = rt.alloc();
-    let first = (assemble(alloc, IDENTITY)?, read_cert(alloc, IDENTITY_CERT)?);
-    let second = (assemble(alloc, text)?, known);
-    match accept_chain(alloc, vec![in alloc; first, second]?) {
+    let first = part_of(alloc, IDENTITY, read_cert(alloc, IDENTITY_CERT)?)?;
+    let second = part_of(alloc, text, known)?;
+    show_accepted(rt, accept_chain(alloc, vec![in alloc; first, second]?))
+}
+
+/// Tells whether a chain was accepted.
+fn show_accepted(rt: &HostRuntime, accepted: Result<CheckedChain, ChainRefusal>) -> Result<()> {
+    match accepted {
         Ok(chain) => println!(rt; "accepted, of {} modules", chain.modules().len())?,
         Err(ChainRefusal::At { index, refusal }) => {
-            println!(rt;
-                "refused module {index} at {}: {}",
-                refusal.pc,
-                ByRule(refusal.rule)
-            )?
+            print!(rt; "refused module {index} at {}: ", refusal.pc)?;
+            println!(rt; "{}", ByRule(refusal.rule))?
         }
         Err(ChainRefusal::NoMemory) => println!(rt; "no memory")?,
     }
@@ -276,8 +288,8 @@ fn show_row(rt: &HostRuntime, row: Row) -> Result<()> {
     match row {
         Row::Says(text) => say(rt, text),
         Row::Printed(text) => show_module(rt, text),
-        Row::Made(text) => show_made(rt, text),
-        Row::Slimmed(text) => show_slimmed(rt, text),
+        Row::Made(text) => show_made(rt, &assemble(rt.alloc(), text)?),
+        Row::Slimmed(text) => show_slimmed(rt, &assemble(rt.alloc(), text)?),
         Row::Checked(what, text, known) => show_texts(rt, what, text, known),
         Row::Without => show_each_without(rt),
         Row::SlimWithout(what, line) => show_slim_with(rt, what, line, None),

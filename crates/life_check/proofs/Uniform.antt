@@ -58,15 +58,15 @@ fits_same C s r new same f = record {
   facts = λ c d h. subst (λ (g : ℕ → Cursor). Differ (g c) (g d)) (sym same.cursors) (f.facts c d h);
 }
 
--- Effects.
+-- The effects that one law serves.
 
-abbrev pub Unasked : Effect → Type 0
-Unasked effect.Nothing = Unit {0}
-Unasked (effect.Make c from) = Unit {0}
-Unasked (effect.Number n number) = Unit {0}
-Unasked (effect.Put x) = Unit {0}
-Unasked effect.ClearBuffer = Unit {0}
-Unasked e = ⊥
+abbrev pub Uniform : Effect → Type 0
+Uniform effect.Nothing = Unit {0}
+Uniform (effect.Make c from) = Unit {0}
+Uniform (effect.Number n number) = Unit {0}
+Uniform (effect.Put x) = Unit {0}
+Uniform effect.ClearBuffer = Unit {0}
+Uniform e = ⊥
 
 -- one more byte in the buffer
 abbrev with_byte : Value → Configuration → Configuration
@@ -87,14 +87,14 @@ module _ (lives : Home → Type 0) (p : Program) (choice : Choice) (r : Configur
   byte_described x true = f
   byte_described x false = fits_same (Covers p (pool_view r) lives) s r (with_byte x r) (record { sent = refl; vars = refl; pools = refl; brigades = refl; loose = refl; cursors = refl }) f
 
-  unasked_described : (e : Effect) → Unasked e → fault p r (instr_with e) ≡ None → first_need s (wants p (instr_with e)) ≡ None → Describes e
-  unasked_described effect.Nothing h none met = f
-  unasked_described (effect.Make c from) h none met = made_described lives p r s names outside f c from none met
-  unasked_described (effect.Number n number) h none met = number_described n (number_of r n number)
-  unasked_described (effect.Put x) h none met = byte_described x (is_full r x)
-  unasked_described effect.ClearBuffer h none met =
+  uniform_described : (e : Effect) → Uniform e → fault p r (instr_with e) ≡ None → first_need s (wants p (instr_with e)) ≡ None → Describes e
+  uniform_described effect.Nothing h none met = f
+  uniform_described (effect.Make c from) h none met = made_described lives p r s names outside f c from none met
+  uniform_described (effect.Number n number) h none met = number_described n (number_of r n number)
+  uniform_described (effect.Put x) h none met = byte_described x (is_full r x)
+  uniform_described effect.ClearBuffer h none met =
       fits_same (Covers p (pool_view r) lives) s r (do_clearbuf r) (record { sent = refl; vars = refl; pools = refl; brigades = refl; loose = refl; cursors = refl }) f
-  unasked_described e h none met = absurd h
+  uniform_described e h none met = absurd h
 
 -- Where an instruction leads on.
 
@@ -123,7 +123,7 @@ unseen_lands lives p choice s t r new (JumpIf (condition.Less n x)) h f = lands_
 unseen_lands lives p choice s t r new (JumpIf (condition.Equal n x)) h f = lands_both lives p s t new (holds choice (condition.Equal n x) r) f
 unseen_lands lives p choice s t r new branch h f = absurd h
 
-pub law_unasked : {lives : Home → Type 0} (i : Instr) → Unasked (effect_of i) → Unseen (branch_of i) → LawOf lives i
-law_unasked {lives = lives} i asks leads p choice r s ready =
+pub law_uniform : {lives : Home → Type 0} (i : Instr) → Uniform (effect_of i) → Unseen (branch_of i) → LawOf lives i
+law_uniform {lives = lives} i asks leads p choice r s ready =
     unseen_lands lives p choice s (after p (effect_of i) s) r (do_effect p choice (effect_of i) r) (branch_of i) leads
-    (unasked_described lives p choice r s ready.sound.names ready.outside ready.fits (effect_of i) asks (faultless_with p r i ready.may.faultless) (needs_with p i s ready.met))
+    (uniform_described lives p choice r s ready.sound.names ready.outside ready.fits (effect_of i) asks (faultless_with p r i ready.may.faultless) (needs_with p i s ready.met))
