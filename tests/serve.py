@@ -456,6 +456,54 @@ def check_odd_files(program, folder, told, words):
     return count + 2
 
 
+def check_changed_files(program, folder, told, words):
+    """What a path leads to is served as it is at each request, though files stay open between requests; and no more stay open than may."""
+    at = lambda name: os.path.join(folder, name)
+    write(folder, 'shown', b'hi')
+    write(folder, 'changed', b'/a shown\n' + b''.join(b'/n%d many %d\n' % (number, number) for number in range(50)))
+    for number in range(50):
+        write(folder, 'many %d' % number, b'%d' % number)
+    count = 0
+    with Server(program, folder, ['--forever', '--timeout', '5'] + words, site='changed') as server:
+        def shows(name, data):
+            for _ in range(2):
+                expect(told, name, server.ask(GET * 2), Oracle({b'/a': data} if data is not None else {}).answers(GET * 2))
+            return 1
+        count += shows('a file', b'hi')
+        write(folder, 'shown', b'a longer text')
+        count += shows('a file that was written anew', b'a longer text')
+        with open(at('shown'), 'r+b') as file:
+            file.write(b'B')
+        count += shows('a file of which a byte was changed', b'B longer text')
+        write(folder, 'other', b'another')
+        os.replace(at('shown'), at('old'))
+        os.replace(at('other'), at('shown'))
+        count += shows('a file that another took the place of', b'another')
+        os.replace(at('shown'), at('other'))
+        os.replace(at('old'), at('shown'))
+        count += shows('a file that came back', b'B longer text')
+        os.remove(at('shown'))
+        count += shows('a file that was removed', None)
+        os.symlink('other', at('shown'))
+        count += shows('a link to another file', b'another')
+        if os.getuid() != 0:
+            os.chmod(at('other'), 0)
+            got = server.ask(GET)
+            if b' 500 ' not in got.split(b'\r\n')[0]:
+                told('a file that may not be read any more: %r' % got[:100])
+            os.chmod(at('other'), 0o644)
+            count += shows('a file that may be read again', b'another')
+        for _ in range(2):
+            for number in range(50):
+                path = b'/n%d' % number
+                expect(told, 'one of 50 files', server.ask(request(path)), Oracle({path: b'%d' % number}).answers(request(path)))
+        kept = [os.readlink('/proc/%d/fd/%s' % (server.process.pid, name)) for name in os.listdir('/proc/%d/fd' % server.process.pid)]
+        if sum('many' in name for name in kept) > 32:
+            told('files that stay open: %r' % kept)
+    os.remove(at('shown'))
+    return count + 101
+
+
 def check_listen(program, folder, told):
     """The address that is listened on."""
     with Server(program, folder, ['--forever', '--listen', '0.0.0.0']) as server:
@@ -583,7 +631,12 @@ def check_descriptors(program, folder, told):
                 told('client %d of 40, with few descriptors: %r' % (number, got[:300]))
             link.close()
         expect(told, 'behind want of descriptors', server.ask(GET), good)
-    return 3
+    words[2] = words[2].replace('24', '12')
+    with Server(program, folder, ['--forever', '--timeout', '5'], starter=words, site='changed') as server:
+        for number in range(50):
+            path = b'/n%d' % number
+            expect(told, 'one of 50 files, with few descriptors', server.ask(request(path)), Oracle({path: b'%d' % number}).answers(request(path)))
+    return 4
 
 
 def check_stop_and_go(program, folder, told):
@@ -665,7 +718,8 @@ def check(program):
             count = check_streams(server, told)
         count += check_starts(program, folder, told) + check_connections(program, folder, told) + check_listen(program, folder, told)
         for words in ([], ['--at-once', '8']):
-            count += check_odd_files(program, folder, told, words) + check_log(program, folder, told, words)
+            count += check_odd_files(program, folder, told, words) + check_changed_files(program, folder, told, words)
+            count += check_log(program, folder, told, words)
         for number in ('8', '1000'):
             with Server(program, folder, ['--forever', '--at-once', number]) as server:
                 count += check_streams(server, told)

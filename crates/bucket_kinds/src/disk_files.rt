@@ -6,11 +6,11 @@ ghost use Rattle.bucket_kinds.specs.Prelude.{HasFailed, disk_device, fresh_disk}
 ghost use Rattle.bucket_kinds.specs.declared.refusal.FileFault.TheVariants as fault;
 
 use crate::files::{FileNo, Files};
-use crate::numbers::{drop_number, put_number};
+use crate::kept_files::{FileStamp, KeptFiles, StampedFile};
+use crate::numbers::{put_number, take_number};
 use crate::refusal::FileFault;
 use std::collections::HashMap;
 use std::fs::OpenFile;
-use std::io::{Seek, SeekFrom};
 use std::os::unix::fs::FileExt;
 use std::rt::Files as FileSystem;
 use std::{fs, io, str};
@@ -18,10 +18,14 @@ use std::{fs, io, str};
 /// Files of a disk, reached by a runtime. What they hold is not said, and they may always fail. A name is a path: one that is not UTF-8, that holds a
 /// NUL, that is too long, or that leads to no regular file is `NotThere`. What it leads to is looked at before it is opened, so that no pipe is waited
 /// for; a pipe that takes the place of a file between the two is. Any other fault of an opening is `Failed`, and is counted.
+///
+/// Files that were closed may stay open for the system, the last ones up to a given number. Where a path leads to one of them still, and neither that
+/// file nor its rights were changed, opening it takes but that look.
 #[derive(Drop)]
 pub struct DiskFiles<R: FileSystem + AllocGlobal> {
     runtime: R,
-    opened: HashMap<FileNo, R::File>,
+    opened: HashMap<FileNo, StampedFile<R::File>>,
+    kept: KeptFiles<R::File>,
     next: FileNo,
     failures: u64,
 
@@ -39,15 +43,6 @@ fn path_of(name: &[u8]) -> Option<&str> {
     str::from_utf8(name).ok()
 }
 
-// Whether a path leads to something that is no regular file, as a folder, a pipe or a device. It is looked at before it is opened, since who opens a
-// pipe that nobody writes into waits.
-fn leads_elsewhere(runtime: &impl FileSystem, path: &str) -> bool {
-    match fs::metadata(runtime, path) {
-        Ok(found) => !found.is_file(),
-        Err(_) => false,
-    }
-}
-
 // Whether a path that was not opened so leads nowhere: nothing is there, it lies below a file, or a name in it is longer than names are.
 fn leads_nowhere(kind: io::ErrorKind) -> bool {
     matches!(
@@ -56,13 +51,38 @@ fn leads_nowhere(kind: io::ErrorKind) -> bool {
     )
 }
 
-// How long a file is: where it ends, or what the system says of it where its end cannot be sought, as of some files of /proc. Reads are at places,
-// so where the file stands afterwards does not matter.
-fn length_of<F: OpenFile + Seek>(file: &mut F) -> io::Result<u64> {
-    match file.seek(SeekFrom::End(0)) {
-        Ok(end) => Ok(end),
-        Err(_) => Ok(file.metadata()?.len()),
+// Opens a file of the disk, and tells its length; or tells that there is none.
+fn open_anew<R: FileSystem>(
+    runtime: &R,
+    path: &str,
+) -> io::Result<Option<(StampedFile<R::File>, u64)>> {
+    let file = match fs::File::open(runtime, path) {
+        Ok(file) => file,
+        Err(error) if leads_nowhere(error.kind()) => return Ok(None),
+        Err(error) => return Err(error),
+    };
+    let found = file.metadata()?;
+    let stamp = FileStamp::of(&found);
+    Ok(Some((StampedFile { file, stamp }, found.len())))
+}
+
+// Opens the file that a path leads to, or takes it from those that stayed open, and tells its length; or tells that there is none, but something that is
+// no regular file, as a folder, a pipe or a device, or nothing. What the path leads to is looked at first, since who opens a pipe that nobody writes into waits.
+fn open_path<R: FileSystem>(
+    runtime: &R,
+    kept: &mut KeptFiles<R::File>,
+    path: &str,
+) -> io::Result<Option<(StampedFile<R::File>, u64)>> {
+    if let Ok(found) = fs::metadata(runtime, path) {
+        if !found.is_file() {
+            return Ok(None);
+        }
+        let stamp = FileStamp::of(&found);
+        if let Some(file) = kept.take(stamp) {
+            return Ok(Some((StampedFile { file, stamp }, found.len())));
+        }
     }
+    open_anew(runtime, path)
 }
 
 // Fills the buffer from a place of a file on, as far as the file reaches.
@@ -88,10 +108,18 @@ where
     pub fn new(runtime: R) -> Self
         ensures { ⟦<DiskFiles<R> as Files>⟧.device result ≡ fresh_disk }
     {
+        DiskFiles::keeping(runtime, 0)
+    }
+
+    /// The files that a runtime reaches, of which the last `most` that were closed stay open. It takes no memory.
+    pub fn keeping(runtime: R, most: usize) -> Self
+        ensures { ⟦<DiskFiles<R> as Files>⟧.device result ≡ fresh_disk }
+    {
         let alloc = runtime.alloc();
         DiskFiles {
             runtime,
             opened: HashMap::new(alloc),
+            kept: KeptFiles::new(most),
             next: 1,
             failures: 0,
         }
@@ -119,16 +147,10 @@ where
         let Some(path) = path_of(name) else {
             return Err(FileFault::NotThere);
         };
-        if leads_elsewhere(&self.runtime, path) {
-            return Err(FileFault::NotThere);
-        }
-        let mut file = match fs::File::open(&self.runtime, path) {
-            Ok(file) => file,
-            Err(error) if leads_nowhere(error.kind()) => return Err(FileFault::NotThere),
+        let (file, len) = match open_path(&self.runtime, &mut self.kept, path) {
+            Ok(Some(opened)) => opened,
+            Ok(None) => return Err(FileFault::NotThere),
             Err(_) => return Err(self.fail()),
-        };
-        let Ok(len) = length_of(&mut file) else {
-            return Err(self.fail());
         };
         let number = self.next;
         if number == u64::MAX {
@@ -140,17 +162,19 @@ where
     }
 
     fn read_at(&mut self, file: FileNo, at: u64, buffer: &mut [u8]) -> Result<usize, FileFault> {
-        let Some(file) = self.opened.get(&file) else {
+        let Some(opened) = self.opened.get(&file) else {
             unreachable!()
         };
-        match fill(file, at, buffer) {
+        match fill(&opened.file, at, buffer) {
             Ok(count) => Ok(count),
             Err(_) => Err(self.fail()),
         }
     }
 
     fn close_file(&mut self, file: FileNo) {
-        drop_number(&mut self.opened, file);
+        if let Some(closed) = take_number(&mut self.opened, file) {
+            self.kept.keep(self.runtime.alloc(), closed);
+        }
     }
 
     fn failures(&self) -> u64 {

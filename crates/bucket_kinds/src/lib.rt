@@ -5,6 +5,7 @@
 mod cutting;
 mod disk_files;
 mod files;
+mod kept_files;
 mod mem_files;
 mod numbers;
 mod placing;

@@ -6,7 +6,7 @@ ghost use Rattle.std.specs.HashMap.{get};
 ghost use Rattle.bucket_kinds.specs.Prelude.{Holds, IsFilled, Bytes, under, at_number};
 
 use crate::files::{FileNo, Files};
-use crate::numbers::{drop_number, put_number};
+use crate::numbers::{put_number, take_number};
 use crate::refusal::{AddRefusal, FileFault, ReadFault};
 use std::alloc::{AllocError, Global};
 use std::collections::{BTreeMap, HashMap};
@@ -214,7 +214,7 @@ impl MemFiles {
         ensures files { files_of self.new ≡ file_closed file (files_of self.old) }
         ensures failures { failures_of self.new ≡ failures_of self.old }
     {
-        drop_number(&mut self.opened, file);
+        let _ = take_number(&mut self.opened, file);
     }
 }
 

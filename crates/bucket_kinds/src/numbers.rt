@@ -20,9 +20,9 @@ pub fn put_number<V: Drop>(
     Ok(())
 }
 
-/// Drops what stands under a number.
-pub fn drop_number<V: Drop>(opened: &mut HashMap<FileNo, V>, number: FileNo)
+/// Takes out what stands under a number.
+pub fn take_number<V>(opened: &mut HashMap<FileNo, V>, number: FileNo) -> Option<V>
     ensures { (n : ℕ) → get nat_eq opened.new n ≡ (if n == number then None else get nat_eq opened.old n) }
 {
-    let _ = opened.remove(&number);
+    opened.remove(&number)
 }

@@ -31,3 +31,9 @@ pub fn too_few(at_once: u32) -> Option<u64> {
     }
     None
 }
+
+/// How many files may stay open between requests: as many as are left beside those that are wanted, but no more than 32.
+pub fn files_to_keep(at_once: u32) -> usize {
+    let left = allowed().unwrap_or(0).saturating_sub(wanted(at_once));
+    left.min(32) as usize
+}

@@ -4,7 +4,7 @@ ghost use Rattle.std.specs.Prelude.{IfOk};
 ghost use Rattle.filter_chain.specs.Safe.{IsSafe};
 ghost use Rattle.http_front.specs.Driven.{IsAlive};
 
-use crate::descriptors::too_few;
+use crate::descriptors::{files_to_keep, too_few};
 use crate::event_loop::serve_turns;
 use crate::listening::{ServeSettings, serve_all};
 use bucket_kinds::DiskFiles;
@@ -203,7 +203,7 @@ where
     ensures alive { IfOk result (IsAlive ⟦<DiskFiles<R> as Files>⟧.device) }
     ensures safe { IfOk result IsSafe }
 {
-    let files = DiskFiles::new(rt.clone()?);
+    let files = DiskFiles::keeping(rt.clone()?, files_to_keep(front.at_once));
     let limits = Limits {
         budget: u64::from(front.budget),
     };

@@ -11,7 +11,7 @@ returns g c =
     let new = numbered_on old (disk_number c.put_number.new.opened) in
     let after : new ≡ opened c.args.name.now old =
     ap (numbered_on old)
-    (numbered_after untold disk.opened c.put_number.new.opened disk.next (Some c.length_of.new.file) c.in_ok-put_number.ensures.ok) in
+    (numbered_after untold disk.opened c.put_number.new.opened disk.next (Some c.in-Ok-Some.opened.0) c.in_ok-put_number.ensures.ok) in
     record {
       number_is = refl;
       number_fits = search rules;
@@ -19,5 +19,5 @@ returns g c =
       length_is = tt;
       went_well = tt;
       after = after;
-      is_open = open_after old new c.args.name.now c.in-Ok-length_of.len tt after;
+      is_open = open_after old new c.args.name.now c.in-Ok-Some.opened.1 tt after;
     }

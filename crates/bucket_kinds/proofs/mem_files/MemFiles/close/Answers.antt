@@ -10,4 +10,4 @@ unfolding files_of
 returns-clause-files c =
     let mem = c.args.self.now in
     ap (renumbered_files (files_of mem) mem.next)
-    (numbered_after (under_one mem.files) mem.opened c.drop_number.new.opened c.args.file None c.drop_number.ensures)
+    (numbered_after (under_one mem.files) mem.opened c.take_number.new.opened c.args.file None c.take_number.ensures)
