@@ -1,6 +1,6 @@
 //! Texts in quotes.
 
-ghost use Rattle.std.specs.Prelude.{◌≡◌, ℕ, ◌+◌, ◌<◌, ◌≤◌, ◌++◌, ◌∷◌, [], List, length, take, option_map, option_to_list, IfSome, IfOk, OnOk, OnErr, Some};
+ghost use Rattle.std.specs.Prelude.{◌≡◌, ℕ, ◌+◌, ◌<◌, ◌≤◌, ◌++◌, ◌∷◌, [], List, length, take, drop, option_map, option_to_list, IfSome, IfOk, OnOk, OnErr, Some};
 ghost use Rattle.byte_text.specs.QuotedTexts.{Spells, StandsIn};
 ghost use Rattle.byte_text.specs.Quoted.{hex_value, hex_digit, plain, escaped, scanned, IsBelow16, is_done, measured_from, text_from, quoted};
 ghost use Rattle.byte_text.specs.Quoted.{measure_of, text_of, with_length, spelled, spelled_all, spelling};
@@ -276,34 +276,51 @@ fn spelled_byte(byte: u8) -> SpelledByte
     }
 }
 
-/// Adds a byte as it is written in a text. Without memory nothing is changed.
-fn push_spelled(out: &mut Seq<u8>, byte: u8) -> Result<(), AllocError>
-    ensures ok { OnOk result (out.new ≡ out.old ++ spelled byte) }
-    ensures err { OnErr result (out.new ≡ out.old) }
+/// How many bytes at the front of a text are written as they are.
+fn plain_len(text: &[u8]) -> usize
+    ensures within { result ≤ length text.now }
+    ensures plain { spelled_all text.now ≡ take result text.now ++ spelled_all (drop result text.now) }
 {
-    if byte != b'"' && byte != b'\\' && is_printable(byte) {
-        return out.push(byte);
+    for (i, byte) in text.iter().enumerate() {
+        if *byte == b'"' || *byte == b'\\' || !is_printable(*byte) {
+            return i;
+        }
     }
-    out.extend(spelled_byte(byte).as_slice())
+    text.len()
+}
+
+/// Adds a text without its quotes: as many bytes at once as are written as they are. Without memory a front of it is added.
+fn extend_spelled(out: &mut Vec<u8>, text: &[u8]) -> Result<(), AllocError>
+    ensures ok { OnOk result (out.new.items ≡ out.old.items ++ spelled_all text.now) }
+    ensures front { take (length out.old.items) out.new.items ≡ out.old.items }
+{
+    let mut rest = text;
+    while !rest.is_empty() {
+        let plain = plain_len(rest);
+        out.extend_from_slice(&rest[..plain])?;
+        if plain == rest.len() {
+            break;
+        }
+        out.extend_from_slice(spelled_byte(rest[plain]).as_slice())?;
+        rest = &rest[plain + 1..];
+    }
+    Ok(())
 }
 
 /// Adds a text in quotes. Without memory a front of it is added.
-fn extend_spelling(out: &mut Seq<u8>, text: &[u8]) -> Result<(), AllocError>
-    ensures ok { OnOk result (out.new ≡ out.old ++ spelling text.now) }
-    ensures err { OnErr result (take (length out.old) out.new ≡ out.old) }
+fn extend_spelling(out: &mut Vec<u8>, text: &[u8]) -> Result<(), AllocError>
+    ensures ok { OnOk result (out.new.items ≡ out.old.items ++ spelling text.now) }
+    ensures front { take (length out.old.items) out.new.items ≡ out.old.items }
 {
     out.push(b'"')?;
-    for byte in text {
-        push_spelled(out, *byte)?;
-    }
-    out.push(b'"')
+    extend_spelled(out, text)?;
+    Ok(out.push(b'"')?)
 }
 
-/// Writes a text in quotes: `\"`, `\\` and `\xHH` for bytes outside 0x20 to 0x7E, the others as they are. Without
-/// memory nothing is written.
-pub fn push_spelling(out: &mut Seq<u8>, text: &[u8]) -> Result<(), AllocError>
-    ensures ok { OnOk result (out.new ≡ out.old ++ spelling text.now) }
-    ensures err { OnErr result (out.new ≡ out.old) }
+/// Adds a text in quotes: `\"`, `\\` and `\xHH` for bytes outside 0x20 to 0x7E, the others as they are. Without memory nothing is changed.
+pub fn push_spelling(out: &mut Vec<u8>, text: &[u8]) -> Result<(), AllocError>
+    ensures ok { OnOk result (out.new.items ≡ out.old.items ++ spelling text.now) }
+    ensures err { OnErr result (out.new.items ≡ out.old.items) }
 {
     let len = out.len();
     let outcome = extend_spelling(out, text);

@@ -1,8 +1,9 @@
 //! The program: it plays scripts, prints modules, and makes and checks certificates.
 #![tactic(auto)]
 
-mod serve_words;
+mod serve_options;
 mod task;
+mod words;
 
 use byte_streams::{CountedSource, StdSink};
 use clap::Error;

@@ -7,8 +7,18 @@ ghost use Rattle.script_play.specs.Written.{Session as ModelSession};
 use crate::commands::serve;
 use crate::due::due_command;
 use filter_chain::{Host, Limits, MemFiles};
-use script_text::{Part, Refused, accept_parts, modules_of, put_reply, put_script_fault};
+use script_text::{Part, Refused, Reply, accept_parts, modules_of, put_reply, put_script_fault};
 use std::alloc::{AllocError, Global};
+
+/// Gives the block of an output that was told back to the host, for the next one.
+fn give_back(host: &mut Host<MemFiles>, reply: Reply)
+    ensures { host.new ≡ host.old }
+{
+    match reply {
+        Reply::Output(block) => host.give_back_output(block),
+        _other => {}
+    }
+}
 
 /// A host that the commands of a script are done on.
 #[derive(Drop)]
@@ -69,6 +79,7 @@ impl Session {
         };
         let reply = serve(alloc, &mut self.host, command)?;
         put_reply(alloc, out, &reply)?;
+        give_back(&mut self.host, reply);
         Ok(true)
     }
 }

@@ -1,6 +1,6 @@
 //! What the program answers to a command, and the lines that it prints.
 
-ghost use Rattle.std.specs.Prelude.{◌≡◌, ◌+◌, ◌++◌, ◌∷◌, [], IfOk, OnOk, OnErr};
+ghost use Rattle.std.specs.Prelude.{◌≡◌, ◌+◌, ◌≤◌, ◌++◌, ◌∷◌, length, take, OnOk, OnErr};
 ghost use Rattle.byte_text.specs.Quoted.{spelling};
 ghost use Rattle.script_text.specs.Replies.{refusal_name, stepped_line, went_line, connected_line, refused_line, output_line, labels_line, reply_line, asm_line, script_line};
 ghost use Rattle.script_text.specs.Refusals.{cert_line, refused_at_line, refused_module_line};
@@ -127,69 +127,87 @@ fn put_fault(
     put(out, line.as_str())
 }
 
-fn output_line(alloc: Global, bytes: &[u8]) -> Result<Seq<u8>, AllocError>
-    ensures { IfOk result (λ line. line ≡ output_line bytes.now) }
+/// Leaves the text as it was before so many bytes where memory lacked for what was added.
+fn all_or_none(
+    out: &mut Vec<u8>,
+    len: usize,
+    added: Result<(), AllocError>,
+) -> Result<(), AllocError>
+    requires { len ≤ length out.old.items }
+    ensures result { result ≡ added }
+    ensures ok { OnOk added (out.new.items ≡ out.old.items) }
+    ensures err { OnErr added (out.new.items ≡ take len out.old.items) }
 {
-    let mut line = Seq::new(alloc);
-    line.extend(b"output ")?;
-    push_spelling(&mut line, bytes)?;
-    line.push(b'\n')?;
-    Ok(line)
+    if added.is_err() {
+        out.truncate(len);
+    }
+    added
 }
 
-fn put_output(alloc: Global, out: &mut Vec<u8>, bytes: &[u8]) -> Result<(), AllocError>
+fn extend_output(out: &mut Vec<u8>, bytes: &[u8]) -> Result<(), AllocError>
+    ensures ok { OnOk result (out.new.items ≡ out.old.items ++ output_line bytes.now) }
+    ensures front { take (length out.old.items) out.new.items ≡ out.old.items }
+{
+    put(out, "output ")?;
+    push_spelling(out, bytes)?;
+    Ok(out.push(b'\n')?)
+}
+
+fn put_output(out: &mut Vec<u8>, bytes: &[u8]) -> Result<(), AllocError>
     ensures ok { OnOk result (out.new.items ≡ out.old.items ++ output_line bytes.now) }
     ensures err { OnErr result (out.new.items ≡ out.old.items) }
 {
-    let line = output_line(alloc, bytes)?;
-    out.extend_from_slice(line.as_slice())
+    let len = out.len();
+    let added = extend_output(out, bytes);
+    all_or_none(out, len, added)
 }
 
 /// Adds a space and the text of a label in quotes.
-fn push_label(line: &mut Seq<u8>, label: &[u8]) -> Result<(), AllocError>
-    ensures { OnOk result (line.new ≡ line.old ++ 32 ∷ spelling label.now) }
+fn push_label(out: &mut Vec<u8>, label: &[u8]) -> Result<(), AllocError>
+    ensures ok { OnOk result (out.new.items ≡ out.old.items ++ 32 ∷ spelling label.now) }
+    ensures front { take (length out.old.items) out.new.items ≡ out.old.items }
 {
-    line.push(b' ')?;
-    push_spelling(line, label)
+    out.push(b' ')?;
+    push_spelling(out, label)
 }
 
-fn labels_line(alloc: Global, labels: &[Seq<u8>]) -> Result<Seq<u8>, AllocError>
-    ensures { IfOk result (λ line. line ≡ labels_line labels.now) }
+fn extend_labels(out: &mut Vec<u8>, labels: &[Seq<u8>]) -> Result<(), AllocError>
+    ensures ok { OnOk result (out.new.items ≡ out.old.items ++ labels_line labels.now) }
+    ensures front { take (length out.old.items) out.new.items ≡ out.old.items }
 {
-    let mut line = Seq::new(alloc);
-    line.extend(b"labels")?;
+    put(out, "labels")?;
     for label in labels {
-        push_label(&mut line, label.as_slice())?;
+        push_label(out, label.as_slice())?;
     }
-    line.push(b'\n')?;
-    Ok(line)
+    Ok(out.push(b'\n')?)
 }
 
 #[inline(never)]
-fn put_labels(alloc: Global, out: &mut Vec<u8>, labels: &Seq<Seq<u8>>) -> Result<(), AllocError>
+fn put_labels(out: &mut Vec<u8>, labels: &[Seq<u8>]) -> Result<(), AllocError>
     ensures ok { OnOk result (out.new.items ≡ out.old.items ++ labels_line labels.now) }
     ensures err { OnErr result (out.new.items ≡ out.old.items) }
 {
-    let line = labels_line(alloc, labels.as_slice())?;
-    out.extend_from_slice(line.as_slice())
+    let len = out.len();
+    let added = extend_labels(out, labels);
+    all_or_none(out, len, added)
 }
 
-fn pools_text(alloc: Global, text: &Seq<u8>) -> Result<Seq<u8>, AllocError>
-    ensures { IfOk result (λ lines. lines ≡ reply_line (Reply.Pools text.now)) }
+fn extend_pools(out: &mut Vec<u8>, text: &[u8]) -> Result<(), AllocError>
+    ensures ok { OnOk result (out.new.items ≡ out.old.items ++ reply_line (Reply.Pools text.now)) }
+    ensures front { take (length out.old.items) out.new.items ≡ out.old.items }
 {
-    let mut lines = Seq::new(alloc);
-    lines.extend(text.as_slice())?;
-    lines.extend(b"ok\n")?;
-    Ok(lines)
+    out.extend_from_slice(text)?;
+    put(out, "ok\n")
 }
 
 #[inline(never)]
-fn put_pools(alloc: Global, out: &mut Vec<u8>, text: &Seq<u8>) -> Result<(), AllocError>
+fn put_pools(out: &mut Vec<u8>, text: &[u8]) -> Result<(), AllocError>
     ensures ok { OnOk result (out.new.items ≡ out.old.items ++ reply_line (Reply.Pools text.now)) }
     ensures err { OnErr result (out.new.items ≡ out.old.items) }
 {
-    let lines = pools_text(alloc, text)?;
-    out.extend_from_slice(lines.as_slice())
+    let len = out.len();
+    let added = extend_pools(out, text);
+    all_or_none(out, len, added)
 }
 
 /// Adds the line of a reply to the text, and of the pools their lines before it. Without memory nothing is changed.
@@ -203,9 +221,9 @@ pub fn put_reply(alloc: Global, out: &mut Vec<u8>, reply: &Reply) -> Result<(), 
         Reply::Refused(refusal) => put_refused(alloc, out, *refusal),
         Reply::Stepped(stepped) => put_stepped(alloc, out, *stepped),
         Reply::Went(count) => put_went(alloc, out, *count),
-        Reply::Output(bytes) => put_output(alloc, out, bytes.as_slice()),
-        Reply::Labels(labels) => put_labels(alloc, out, labels),
-        Reply::Pools(text) => put_pools(alloc, out, text),
+        Reply::Output(bytes) => put_output(out, bytes.as_slice()),
+        Reply::Labels(labels) => put_labels(out, labels.as_slice()),
+        Reply::Pools(text) => put_pools(out, text.as_slice()),
     }
 }
 

@@ -1,0 +1,241 @@
+//! The commands of the program and their words: a row for each.
+
+use clap::{Arg, ArgAction, Command, value_parser};
+use std::alloc::{AllocError, Global};
+
+/// What a word is, and what stands behind it.
+#[derive(Clone, Copy)]
+enum Takes {
+    /// It is a file, which must be named.
+    File,
+    /// It is a file, which may be named.
+    AnyFile,
+    /// It is one file or more, up to 16.
+    Files,
+    /// Nothing: it is given or not.
+    Nothing,
+    /// Nothing: it is given in place of this word.
+    InPlaceOf(&'static str),
+    /// A text, which must be given.
+    Text,
+    /// A text, or this one.
+    TextOr(&'static str),
+    /// The number of a port, which must be given.
+    Port,
+    /// A number within these bounds, or the number that is written so.
+    NumberOr(&'static str, i64, i64),
+}
+
+/// A word of a command.
+struct Word {
+    name: &'static str,
+    takes: Takes,
+    /// How what it takes is called; of a word that takes nothing, or is a file, this is not shown.
+    shown: &'static str,
+    help: &'static str,
+}
+
+/// A command of the program.
+struct Row {
+    name: &'static str,
+    about: &'static str,
+    words: &'static [Word],
+}
+
+const FILE: Word = Word {
+    name: "FILE",
+    takes: Takes::File,
+    shown: "FILE",
+    help: "",
+};
+
+const CERT: Word = Word {
+    name: "CERT",
+    takes: Takes::File,
+    shown: "CERT",
+    help: "",
+};
+
+const MODULE: Word = Word {
+    name: "FILE",
+    takes: Takes::AnyFile,
+    shown: "FILE",
+    help: "",
+};
+
+const SLIM: Word = Word {
+    name: "slim",
+    takes: Takes::Nothing,
+    shown: "",
+    help: "Gives states only for the first instruction of each handler and for targets; the rules say the others",
+};
+
+/// Where a module is judged.
+const EXPLAIN: Word = Word {
+    name: "explain",
+    takes: Takes::Nothing,
+    shown: "",
+    help: "Tells on the standard error why a module is refused, and what to write instead; so it does on a terminal",
+};
+
+/// Where a script is played.
+const EXPLAIN_PLAYS: Word = Word {
+    name: "explain",
+    takes: Takes::Nothing,
+    shown: "",
+    help: "Tells on the standard error, behind the answers, what faults and refusals mean, and what to write instead; so it does on a terminal",
+};
+
+const SERVE: &[Word] = &[
+    Word {
+        name: "site",
+        takes: Takes::Text,
+        shown: "FILE",
+        help: "The site file: on each line a path, a space and the name of a file",
+    },
+    Word {
+        name: "port",
+        takes: Takes::Port,
+        shown: "N",
+        help: "The port that is listened on",
+    },
+    Word {
+        name: "listen",
+        takes: Takes::TextOr("127.0.0.1"),
+        shown: "ADDRESS",
+        help: "The address that is listened on; 0.0.0.0 stands for all of them",
+    },
+    Word {
+        name: "conns",
+        takes: Takes::NumberOr("1", 0, 4_294_967_295),
+        shown: "N",
+        help: "How many connections are served",
+    },
+    Word {
+        name: "forever",
+        takes: Takes::InPlaceOf("conns"),
+        shown: "",
+        help: "Serves connections until it is stopped",
+    },
+    Word {
+        name: "budget",
+        takes: Takes::NumberOr("1000000", 0, 4_294_967_295),
+        shown: "N",
+        help: "How many instructions a call of the chain may take",
+    },
+    Word {
+        name: "timeout",
+        takes: Takes::NumberOr("30", 1, 4_294_967_295),
+        shown: "SECONDS",
+        help: "How long a request may take to come, and a write",
+    },
+    Word {
+        name: "at-once",
+        takes: Takes::NumberOr("1", 1, 65_535),
+        shown: "N",
+        help: "How many connections are served at once, by turns",
+    },
+    Word {
+        name: "log",
+        takes: Takes::Nothing,
+        shown: "",
+        help: "Tells each request and each connection on the standard error",
+    },
+    Word {
+        name: "MODULE",
+        takes: Takes::Files,
+        shown: "MODULE",
+        help: "The filters, the first first; the certificate of each in MODULE.cert",
+    },
+];
+
+const COMMANDS: &[Row] = &[
+    Row {
+        name: "play",
+        about: "Plays a script from standard input; so it does with no command",
+        words: &[EXPLAIN_PLAYS],
+    },
+    Row {
+        name: "new",
+        about: "Prints a module to begin with, which is accepted as it stands",
+        words: &[],
+    },
+    Row {
+        name: "assemble",
+        about: "Prints a module, or the first fault of its text",
+        words: &[FILE],
+    },
+    Row {
+        name: "certify",
+        about: "Makes a certificate of a module, or tells why there is none; of standard input with no file",
+        words: &[MODULE, SLIM, EXPLAIN],
+    },
+    Row {
+        name: "check",
+        about: "Checks a certificate of a module",
+        words: &[FILE, CERT, EXPLAIN],
+    },
+    Row {
+        name: "serve",
+        about: "Serves the files of a site over HTTP/1.1, through a chain of filters that is checked first",
+        words: SERVE,
+    },
+];
+
+/// The word with what it takes.
+fn taking<'a>(arg: Arg<'a>, takes: Takes) -> Result<Arg<'a>, AllocError> {
+    Ok(match takes {
+        Takes::File | Takes::Text => arg.required(true),
+        Takes::AnyFile => arg,
+        Takes::Files => arg.required(true).num_args(1..=16),
+        Takes::Nothing => arg.action(ArgAction::SetTrue),
+        Takes::InPlaceOf(other) => arg.action(ArgAction::SetTrue).conflicts_with(other)?,
+        Takes::TextOr(default) => arg.default_value(default),
+        Takes::Port => arg
+            .required(true)
+            .value_parser(value_parser!(u16).range(1..)),
+        Takes::NumberOr(default, least, most) => arg
+            .value_parser(value_parser!(u32).range(least..=most))
+            .default_value(default),
+    })
+}
+
+fn is_file(takes: Takes) -> bool {
+    matches!(takes, Takes::File | Takes::AnyFile | Takes::Files)
+}
+
+/// The word as it is written and shown.
+fn named<'a>(alloc: Global, word: &'static Word) -> Arg<'a> {
+    let arg = Arg::new(alloc, word.name);
+    if is_file(word.takes) {
+        return arg;
+    }
+    arg.long(word.name).value_name(word.shown)
+}
+
+fn arg_of<'a>(alloc: Global, word: &'static Word) -> Result<Arg<'a>, AllocError> {
+    let arg = taking(named(alloc, word), word.takes)?;
+    if word.help.is_empty() {
+        return Ok(arg);
+    }
+    Ok(arg.help(word.help))
+}
+
+fn command_of<'a>(alloc: Global, row: &'static Row) -> Result<Command<'a>, AllocError> {
+    let mut args = Vec::new(alloc);
+    for word in row.words {
+        args.push(arg_of(alloc, word)?)?;
+    }
+    Command::new(alloc, row.name).about(row.about).args(args)
+}
+
+/// The program, with its commands.
+pub fn program<'a>(alloc: Global) -> Result<Command<'a>, AllocError> {
+    let mut commands = Vec::new(alloc);
+    for row in COMMANDS {
+        commands.push(command_of(alloc, row)?)?;
+    }
+    Command::new(alloc, "host_cli")
+        .about("A host of output filters")
+        .subcommands(commands)
+}
