@@ -1,7 +1,8 @@
 -- Lists of numbers that rise, and what holds of each item.
-use Rattle.std.proofs.Common.{◌≡◌, ℕ, zero, suc, ◌+◌, ◌<◌, ◌≤◌, List, [], ◌∷◌, ◌++◌, length, get_or, drop, map, Option, Some, None, refl, sym, ◌∙◌, ap, subst, arith, add-one}
+use Rattle.std.proofs.Common.{◌≡◌, ℕ, zero, suc, ◌+◌, ◌<◌, ◌≤◌, List, [], ◌∷◌, ◌++◌, length, get_or, drop, take, map, Option, Some, None, refl, sym, ◌∙◌, ap, subst, arith, add-one, length-append}
 use Rattle.std.specs.Prelude.{All, IfSome, filter_map}
 use Rattle.std.proofs.Math.Seq.{drop-cons}
+use Rattle.std.proofs.lemmas.List.{take-take, take-append-le, take_all}
 use Rattle.std.specs.List.{range_with_len, cons_option}
 
 pub all_head : {X : Type 0} (P : X → Type 0) (x : X) (xs : List X) → All P (x ∷ xs) → P x
@@ -74,3 +75,18 @@ some_both (Some t) P Q f h = f t h
 -- what is left of a list begins with the next item
 pub drop_here : {X : Type 0} (xs : List X) (i : ℕ) (d : X) → i < length xs → drop i xs ≡ get_or xs i d ∷ drop (i + 1) xs
 drop_here xs i d h = rw add-one (drop-cons xs i d h)
+
+-- what stands at the front of a front stands at the front
+pub front_within : (base mid new : List ℕ) → take (length mid) new ≡ mid → take (length base) mid ≡ base → length base ≤ length mid → take (length base) new ≡ base
+front_within base mid new h g le = sym (take-take (length base) (length mid) new le) ∙ (ap (take (length base)) h ∙ g)
+
+front_appended : (base more : List ℕ) → take (length base) (base ++ more) ≡ base
+front_appended base more = take-append-le (length base) base more (omega arith) ∙ take_all (length base) base (omega arith)
+
+-- what was there before two parts were added is the front of what has both in front
+pub front_of_two : (base x y one two new : List ℕ) → one ≡ base ++ x → two ≡ one ++ y → take (length two) new ≡ two → take (length base) new ≡ base
+front_of_two base x y one two new e f h =
+    let p = ap length e ∙ length-append base x in
+    let q = ap length f ∙ length-append one y in
+    front_within base one new (front_within one two new h (ap (take (length one)) f ∙ front_appended one y) (omega (arith, q))) (ap (take (length base)) e ∙ front_appended base x)
+    (omega (arith, p))

@@ -1,6 +1,6 @@
 //! Texts in quotes.
 
-ghost use Rattle.std.specs.Prelude.{◌≡◌, ℕ, ◌+◌, ◌<◌, ◌≤◌, ◌++◌, ◌∷◌, [], List, length, take, drop, option_map, option_to_list, IfSome, IfOk, OnOk, OnErr, Some};
+ghost use Rattle.std.specs.Prelude.{◌≡◌, ℕ, true, ◌+◌, ◌<◌, ◌≤◌, ◌++◌, ◌∷◌, [], List, length, take, drop, option_map, option_to_list, IfSome, IfOk, OnOk, OnErr, Some};
 ghost use Rattle.byte_text.specs.QuotedTexts.{Spells, StandsIn};
 ghost use Rattle.byte_text.specs.Quoted.{hex_value, hex_digit, plain, escaped, scanned, IsBelow16, is_done, measured_from, text_from, quoted};
 ghost use Rattle.byte_text.specs.Quoted.{measure_of, text_of, with_length, spelled, spelled_all, spelling};
@@ -276,33 +276,72 @@ fn spelled_byte(byte: u8) -> SpelledByte
     }
 }
 
+/// Whether a byte is written as it is.
+fn is_plain(byte: u8) -> bool
+    ensures { result ≡ true → spelled byte ≡ byte ∷ [] }
+{
+    byte != b'"' && byte != b'\\' && is_printable(byte)
+}
+
 /// How many bytes at the front of a text are written as they are.
 fn plain_len(text: &[u8]) -> usize
     ensures within { result ≤ length text.now }
     ensures plain { spelled_all text.now ≡ take result text.now ++ spelled_all (drop result text.now) }
 {
     for (i, byte) in text.iter().enumerate() {
-        if *byte == b'"' || *byte == b'\\' || !is_printable(*byte) {
+        if !is_plain(*byte) {
             return i;
         }
     }
     text.len()
 }
 
-/// Adds a text without its quotes: as many bytes at once as are written as they are. Without memory a front of it is added.
+/// Adds the bytes at the front of a text that are not written as they are, and tells how many. Without memory some may have been added.
+fn extend_escaped(out: &mut Vec<u8>, text: &[u8]) -> Result<usize, AllocError>
+    ensures within { IfOk result (λ n. n ≤ length text.now) }
+    ensures ok { IfOk result (λ n. out.new.items ++ spelled_all (drop n text.now) ≡ out.old.items ++ spelled_all text.now) }
+    ensures front { take (length out.old.items) out.new.items ≡ out.old.items }
+    ensures grown { length out.old.items ≤ length out.new.items }
+{
+    for (i, byte) in text.iter().enumerate() {
+        if is_plain(*byte) {
+            return Ok(i);
+        }
+        out.extend_from_slice(spelled_byte(*byte).as_slice())?;
+    }
+    Ok(text.len())
+}
+
+/// Adds the bytes at the front of a text that are written as they are, and those behind them that are not, and tells how many. Without memory some may
+/// have been added.
+fn extend_front(out: &mut Vec<u8>, text: &[u8]) -> Result<usize, AllocError>
+    requires { 0 < length text.now }
+    ensures within { IfOk result (λ n. n ≤ length text.now) }
+    ensures some { IfOk result (λ n. 0 < n) }
+    ensures ok { IfOk result (λ n. out.new.items ++ spelled_all (drop n text.now) ≡ out.old.items ++ spelled_all text.now) }
+    ensures front { take (length out.old.items) out.new.items ≡ out.old.items }
+    ensures grown { length out.old.items ≤ length out.new.items }
+{
+    let plain = plain_len(text);
+    out.extend_from_slice(&text[..plain])?;
+    if plain == text.len() {
+        return Ok(plain);
+    }
+    out.extend_from_slice(spelled_byte(text[plain]).as_slice())?;
+    let escaped = extend_escaped(out, &text[plain + 1..])?;
+    Ok(plain + 1 + escaped)
+}
+
+/// Adds a text without its quotes. Without memory a front of it is added.
+#[tactic(auto, using(crate::proofs::ListLaws::front_within))]
 fn extend_spelled(out: &mut Vec<u8>, text: &[u8]) -> Result<(), AllocError>
     ensures ok { OnOk result (out.new.items ≡ out.old.items ++ spelled_all text.now) }
     ensures front { take (length out.old.items) out.new.items ≡ out.old.items }
 {
     let mut rest = text;
     while !rest.is_empty() {
-        let plain = plain_len(rest);
-        out.extend_from_slice(&rest[..plain])?;
-        if plain == rest.len() {
-            break;
-        }
-        out.extend_from_slice(spelled_byte(rest[plain]).as_slice())?;
-        rest = &rest[plain + 1..];
+        let len = extend_front(out, rest)?;
+        rest = &rest[len..];
     }
     Ok(())
 }
