@@ -77,6 +77,15 @@ impl Player {
         }
     }
 
+    /// A fault was told: what is left of the script is not looked at.
+    // Apart from what is done for each line: a session that is dropped takes a large frame, which is set to zero at each call.
+    #[inline(never)]
+    fn stop(&mut self)
+        ensures { self.new ≡ record self.old { stage = Stage.Over } }
+    {
+        self.stage = Stage::Over;
+    }
+
     /// Takes a line that has to be a command.
     fn take_command(
         &mut self,
@@ -94,7 +103,7 @@ impl Player {
             return Ok(());
         };
         if !session.take(self.alloc, self.lines, text, ended, out)? {
-            self.stage = Stage::Over;
+            self.stop();
         }
         Ok(())
     }

@@ -7,7 +7,7 @@ returns-in_default c = record { ok = λ s at begun. passed c.args.self.now _ _ _
 
 pub returns-then-not-branch-clause-ok : goal.returns-then-not-branch-clause-ok
 returns-then-not-branch-clause-ok c = λ s at begun.
-    unserved _ c.args.self.now.stage c.in-Session.session _ _ _ _ _ c.in_ok-take.field-0 s (cc) (cc) refl c.in_ok-take.ensures.ok at.stage begun
+    rw c.stop.ensures (unserved _ c.args.self.now.stage c.in-Session.session _ _ _ _ _ c.in_ok-take.field-0 s (cc) (cc) refl c.in_ok-take.ensures.ok at.stage begun)
 
 pub returns-else-not-branch-clause-ok : goal.returns-else-not-branch-clause-ok
 returns-else-not-branch-clause-ok c = λ s at begun.
