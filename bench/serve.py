@@ -14,8 +14,9 @@ Peers serve the same files in the same run, each as one process that reads files
 - nginx and apache2, where they are there; with apxs (apache2-dev), apache2 sends the files through a filter in C that passes each brigade on
   (bench/pass_filter.c).
 
-All are asked by turns, in rounds, so that a machine that is slower for a while is so for each; told are medians, of times and of the
-ratios of each round.
+All are asked by turns, in rounds, so that a machine that is slower for a while is so for each. Where the memory of a process lies, and how
+the reads of its client fall, stays as it is for long, and moves a time by a fifth: so each round starts all servers anew. Told are
+medians, of times and of the ratios of each round.
 """
 import argparse
 import os
@@ -32,6 +33,7 @@ from steps import BUILT, TOP, built
 MODULE = os.path.join(TOP, 'filters', 'new.module')
 SIZES = (2, 65536, 1048576)
 ROUNDS = 21
+FIRST = 20  # requests of each round that are not timed
 NGINX = """daemon off; master_process off; pid %(folder)s/nginx.pid; error_log %(folder)s/nginx.err;
 events { worker_connections 64; }
 http { access_log off; client_body_temp_path %(folder)s; proxy_temp_path %(folder)s; fastcgi_temp_path %(folder)s; uwsgi_temp_path %(folder)s;
@@ -141,20 +143,45 @@ def ask_for(size):
     return b'GET /f%d HTTP/1.1\r\nHost: h\r\n\r\n' % size
 
 
-def by_turns(peers, size, requests):
+def started(words, folder):
+    """All servers, each with a connection."""
+    return [Peer(name, at, folder) for name, at in words]
+
+
+def lengths_of(words, folder, size):
+    """How many bytes each server answers."""
+    peers = started(words, folder)
+    try:
+        return [first(peer.link, ask_for(size)) for peer in peers]
+    finally:
+        for peer in peers:
+            peer.stop()
+
+
+def round_of(words, folder, size, lengths, each):
+    """What a request took of each server, all started anew and asked by turns, and how the memory of the first one grew."""
+    peers = started(words, folder)
+    try:
+        for peer, length in zip(peers, lengths):
+            peer.ask(size, length, FIRST)
+        held = memory(peers[0].server.pid)
+        took = [peer.ask(size, length, each) for peer, length in zip(peers, lengths)]
+        return took, memory(peers[0].server.pid) - held
+    finally:
+        for peer in peers:
+            peer.stop()
+
+
+def by_turns(words, folder, size, requests):
     """Asks each server in turn, round by round, and tells the median for each and the median of the ratios of a round."""
-    lengths = [first(peer.link, ask_for(size)) for peer in peers]
     each = max(requests // ROUNDS, 2)
-    for peer, length in zip(peers, lengths):
-        peer.ask(size, length, each)
-    held = memory(peers[0].server.pid)
-    rounds = [[peer.ask(size, length, each) for peer, length in zip(peers, lengths)] for _ in range(ROUNDS)]
-    grown = memory(peers[0].server.pid) - held
-    for number, peer in enumerate(peers):
-        spent = statistics.median(took[number] for took in rounds)
-        ratio = statistics.median(took[0] / max(took[number], 0.01) for took in rounds)
-        after = ', %+d KiB' % grown if number == 0 else ', serve takes %.2f of it' % ratio
-        print('%-8s %8d bytes: %8.1f us a request over %d in %d rounds%s' % (peer.name, size, spent, each * ROUNDS, ROUNDS, after), flush=True)
+    lengths = lengths_of(words, folder, size)
+    rounds = [round_of(words, folder, size, lengths, each) for _ in range(ROUNDS)]
+    for number, (name, _) in enumerate(words):
+        spent = statistics.median(took[number] for took, _ in rounds)
+        ratio = statistics.median(took[0] / max(took[number], 0.01) for took, _ in rounds)
+        after = ', %+d KiB' % max(grown for _, grown in rounds) if number == 0 else ', serve takes %.2f of it' % ratio
+        print('%-8s %8d bytes: %8.1f us a request over %d in %d rounds%s' % (name, size, spent, each * ROUNDS, ROUNDS, after), flush=True)
 
 
 def connections(pid, port, count):
@@ -204,10 +231,11 @@ def servers(program, module, folder):
         found = shutil.which(name) or shutil.which(name, path='/usr/sbin')
         if found:
             path = os.path.join(folder, name + '.conf')
+            lines = pass_filter(folder) if name == 'apache2' else ''
 
-            def at(port, path=path, text=text, found=found, words=words):
+            def at(port, path=path, text=text, found=found, words=words, lines=lines):
                 with open(path, 'w') as file:
-                    file.write(text % {'folder': folder, 'port': port, 'filter': pass_filter(folder)})
+                    file.write(text % {'folder': folder, 'port': port, 'filter': lines})
                 return [found] + words + [path]
             yield name, at
 
@@ -222,18 +250,13 @@ def main():
     program = built(options.program)
     with tempfile.TemporaryDirectory() as folder:
         os.chmod(folder, 0o755)
-        peers = []
-        try:
-            for name, words in servers(program, os.path.abspath(options.module), folder):
-                peers.append(Peer(name, words, folder))
-            for size in SIZES:
-                by_turns(peers, size, max(options.requests // (1 + size // 100000), 20))
-            for peer in peers:
-                peer.link.close()
-                print('%-8s %d connections: %.1f us each, %+d KiB' % ((peer.name, options.conns) + connections(peer.server.pid, peer.port, options.conns)), flush=True)
-        finally:
-            for peer in peers:
-                peer.stop()
+        words = list(servers(program, os.path.abspath(options.module), folder))
+        for size in SIZES:
+            by_turns(words, folder, size, max(options.requests // (1 + size // 100000), 20))
+        for peer in started(words, folder):
+            peer.link.close()
+            print('%-8s %d connections: %.1f us each, %+d KiB' % ((peer.name, options.conns) + connections(peer.server.pid, peer.port, options.conns)), flush=True)
+            peer.stop()
 
 
 if __name__ == '__main__':

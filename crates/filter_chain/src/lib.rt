@@ -16,6 +16,7 @@ mod spare;
 mod stepping;
 mod telling;
 
+pub use block_bytes::BlockBytes;
 pub use bucket_kinds::{AddRefusal, FileNo, Files, MemFiles};
 pub use byte_text::WriteFault;
 pub use host::Host;

@@ -1,6 +1,6 @@
 //! A block for an output to come.
 
-use run_model::Seq;
+use block_bytes::BlockBytes;
 use std::alloc::Global;
 use std::marker::Model;
 use std::mem;
@@ -8,7 +8,7 @@ use std::mem;
 /// A block that no output is in. Contracts see nothing of it.
 #[derive(Drop)]
 pub(crate) struct Spare {
-    block: Seq<u8>,
+    block: BlockBytes,
 }
 
 impl Model for Spare {
@@ -21,17 +21,17 @@ impl Spare {
     /// No block. It takes no memory.
     pub(crate) fn new(alloc: Global) -> Self {
         Spare {
-            block: Seq::new(alloc),
+            block: BlockBytes::new(alloc),
         }
     }
 
     /// Takes the block, if there is one.
-    pub(crate) fn take(&mut self, alloc: Global) -> Seq<u8> {
-        mem::replace(&mut self.block, Seq::new(alloc))
+    pub(crate) fn take(&mut self, alloc: Global) -> BlockBytes {
+        mem::replace(&mut self.block, BlockBytes::new(alloc))
     }
 
     /// Puts a block in the place of the one that is there.
-    pub(crate) fn put(&mut self, block: Seq<u8>) {
+    pub(crate) fn put(&mut self, block: BlockBytes) {
         self.block = block;
     }
 }

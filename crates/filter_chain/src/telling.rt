@@ -4,9 +4,10 @@ ghost use Rattle.std.specs.Prelude.{◌≡◌, Err, IfErr, IfOk, Ok};
 ghost use Rattle.filter_chain.specs.Prelude.{TakeOutput, TellLabels, World, Labels, Refused, labels_handed, refusal_of};
 
 use crate::host::Host;
+use block_bytes::BlockBytes;
 use bucket_kinds::Files;
 use ring_run::labels_run::LabelsRun;
-use run_model::{Refusal, Seq};
+use run_model::Refusal;
 
 impl<F: Files + Drop> Host<F> {
     ghost use Rattle.filter_chain.specs.Hosting.{IsHosting, Happens, output_answer, output_in, files_of};
@@ -41,7 +42,7 @@ impl<F: Files + Drop> Host<F> {
 
     /// The output since it was emptied last, whatever state the connection is in. Output goes into the block that was given back last, if
     /// there is one. It takes no memory. Refused: `NoSuchConn`.
-    pub fn take_output(&mut self, number: u64) -> Result<Seq<u8>, Refusal>
+    pub fn take_output(&mut self, number: u64) -> Result<BlockBytes, Refusal>
         requires { (w : World) × IsHosting (F.device (files_of self.old)) self.old w }
         ensures event { (w : World) → IsHosting (F.device (files_of self.old)) self.old w
             → Happens (F.device (files_of self.old)) (F.device (files_of self.new)) self.old self.new number TakeOutput (output_answer result) w }
@@ -55,7 +56,7 @@ impl<F: Files + Drop> Host<F> {
 
     /// Gives the block of an output back that was taken. The next output that is taken leaves it to its connection, so that its room is
     /// used again.
-    pub fn give_back_output(&mut self, block: Seq<u8>)
+    pub fn give_back_output(&mut self, block: BlockBytes)
         ensures { self.new ≡ self.old }
     {
         self.spare.put(block);

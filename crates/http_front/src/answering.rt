@@ -5,7 +5,7 @@ ghost use Rattle.http_message.specs.Asking.{status_closes};
 ghost use Rattle.http_front.specs.Outcomes.{IsBare, IsBadReply};
 
 use crate::handler::RequestOutcome;
-use filter_chain::Seq;
+use filter_chain::BlockBytes;
 use http_message::{Method, Reply, StatusCode, Version, status_closes};
 use std::alloc::Global;
 
@@ -14,7 +14,7 @@ pub(crate) fn bare(alloc: Global, status: StatusCode) -> RequestOutcome
 {
     RequestOutcome {
         status,
-        body: Seq::new(alloc),
+        body: BlockBytes::new(alloc),
         failure: None,
     }
 }
@@ -34,7 +34,7 @@ pub(crate) fn bad_reply(alloc: Global) -> Reply
         version: Version::Http11,
         method: Method::Other,
         closes: true,
-        body: Seq::new(alloc),
+        body: BlockBytes::new(alloc),
         failure: None,
     }
 }

@@ -4,7 +4,7 @@ ghost use Rattle.std.specs.Prelude.{◌≡◌, ◌≢◌, ◌*◌, ℕ, List, If
 ghost use Rattle.http_front.specs.Outcomes.{IsLack};
 
 use crate::fault::FrontKind;
-use filter_chain::Seq;
+use filter_chain::BlockBytes;
 use http_message::{Failure, Method, StatusCode};
 use std::alloc::Global;
 
@@ -14,7 +14,7 @@ pub struct RequestOutcome {
     /// The status: 200, or why there is no content.
     pub status: StatusCode,
     /// The content, where a GET succeeds.
-    pub body: Seq<u8>,
+    pub body: BlockBytes,
     /// Why the status is 500.
     pub failure: Option<Failure>,
 }
@@ -110,7 +110,7 @@ pub trait Handler {
         ensures few { steps self.old number slice_steps self.new };
 
     /// Gives back the content of an outcome, which has gone out, so that its room is used again. It changes nothing.
-    fn give_back(&mut self, body: Seq<u8>)
+    fn give_back(&mut self, body: BlockBytes)
         ensures { self.new ≡ self.old };
 
     ghost steps_none: { (s : Self) (number n : ℕ) → steps s number n s };

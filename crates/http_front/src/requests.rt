@@ -9,7 +9,7 @@ use crate::handler::{Handler, RequestOutcome, Slice};
 use crate::running::{CallEnd, end_request};
 use crate::slicing::{begin_request, go_on_request, handle_request};
 use crate::task::RequestTask;
-use filter_chain::{Files, Host, Refusal, Seq};
+use filter_chain::{BlockBytes, Files, Host, Refusal};
 use http_message::{Failure, Method, StatusCode};
 use std::alloc::Global;
 
@@ -23,7 +23,7 @@ pub(crate) fn bare(alloc: Global, failure: Option<Failure>) -> RequestOutcome
     };
     RequestOutcome {
         status,
-        body: Seq::new(alloc),
+        body: BlockBytes::new(alloc),
         failure,
     }
 }
@@ -182,8 +182,8 @@ impl<F: Files + Drop> Handler for Host<F> {
         go_on_request(alloc, self, number, task)
     }
 
-    fn give_back(&mut self, body: Seq<u8>) {
-        if !body.is_empty() {
+    fn give_back(&mut self, body: BlockBytes) {
+        if !body.as_slice().is_empty() {
             self.give_back_output(body);
         }
     }

@@ -6,7 +6,7 @@ ghost use Rattle.http_front.specs.Texts.{text_of};
 
 use crate::handler::Handler;
 use byte_streams::{Parts, Sink, SinkFault};
-use filter_chain::Seq;
+use filter_chain::BlockBytes;
 use std::alloc::Global;
 use std::mem;
 
@@ -20,7 +20,7 @@ pub struct ResponseText {
     /// The head, and the line with the size of the chunk. Or the whole text.
     pub head: Vec<u8>,
     /// The body, where it is large.
-    pub body: Seq<u8>,
+    pub body: BlockBytes,
     /// What follows a large body: the end of its chunks.
     pub tail: Vec<u8>,
 }
@@ -32,7 +32,7 @@ impl ResponseText {
     {
         ResponseText {
             head: Vec::new(alloc),
-            body: Seq::new(alloc),
+            body: BlockBytes::new(alloc),
             tail: Vec::new(alloc),
         }
     }
@@ -45,7 +45,7 @@ impl ResponseText {
         ensures none { text_of self.new ≡ [] }
     {
         self.head.clear();
-        self.body = Seq::new(alloc);
+        self.body = BlockBytes::new(alloc);
         self.tail.clear();
     }
 
@@ -97,6 +97,6 @@ impl ResponseText {
     pub fn give_back<H: Handler>(&mut self, alloc: Global, handler: &mut H)
         ensures { handler.new ≡ handler.old }
     {
-        handler.give_back(mem::replace(&mut self.body, Seq::new(alloc)));
+        handler.give_back(mem::replace(&mut self.body, BlockBytes::new(alloc)));
     }
 }

@@ -4,7 +4,7 @@ ghost use Rattle.std.specs.Prelude.{◌≡◌, ℕ, List, OnOk};
 ghost use Rattle.http_front.specs.Prelude.{IsExchange, IsDateLine, reply_text, IsWritten, Passes, text_of};
 
 use crate::response::ResponseText;
-use filter_chain::Seq;
+use filter_chain::BlockBytes;
 use http_message::{Clock, Exchange, Reply, closing, middle, put_opening};
 use std::alloc::{AllocError, Global};
 use std::mem;
@@ -25,7 +25,7 @@ fn put_text(
     put_opening(reply, moment, &mut text.head)?;
     if middle(reply).len() > JOINED_BYTES {
         text.tail.extend_from_slice(closing(reply).as_bytes())?;
-        text.body = mem::replace(&mut reply.body, Seq::new(alloc));
+        text.body = mem::replace(&mut reply.body, BlockBytes::new(alloc));
         return Ok(());
     }
     text.head.extend_from_slice(middle(reply))?;

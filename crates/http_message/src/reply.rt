@@ -5,7 +5,7 @@ ghost use Rattle.http_message.specs.Asking.{method_of, version_of};
 
 use crate::failure::Failure;
 use crate::status::StatusCode;
-use module_code::Seq;
+use block_bytes::BlockBytes;
 
 /// The version of a request (RFC 9112, section 2.3).
 #[derive(Clone, Copy, Debug, PartialEq, Eq)]
@@ -73,7 +73,7 @@ pub struct Reply {
     /// Whether the connection closes after it.
     pub closes: bool,
     /// The body, which goes out where a GET succeeds.
-    pub body: Seq<u8>,
+    pub body: BlockBytes,
     /// Why the status is 500.
     pub failure: Option<Failure>,
 }

@@ -4,10 +4,11 @@ ghost use Rattle.std.specs.Prelude.{◌≡◌, [], ℕ, Option, List};
 ghost use Rattle.module_run.specs.Prelude.{BucketId, Program, Pools, Items, conn_of, labels_handed, StackedOver};
 
 use crate::conn::Conn;
+use block_bytes::BlockBytes;
 use brigade_ops::PoolId;
 use ring_passes::OutputBlock;
 use ring_run::labels_run::LabelsRun;
-use run_model::{Payload, Seq};
+use run_model::Payload;
 use std::mem;
 
 impl Conn {
@@ -34,7 +35,7 @@ impl Conn {
     /// The output since it was emptied last. Output goes into the block `room` from now on, over what stands there. It takes no memory, and
     /// serves in any state.
     #[tactic(auto, using(crate::proofs::Alongside::stacked_beside, crate::proofs::RequestEnds::request_left_as), unfolding(crate::specs::Conns::conn_of, crate::specs::Conns::filter_at))]
-    pub fn take_output(&mut self, room: Seq<u8>) -> Seq<u8>
+    pub fn take_output(&mut self, room: BlockBytes) -> BlockBytes
         ensures bytes { (ps : Pools Payload) (rings : ℕ → Option Items) (opened : ℕ → Option (List ℕ)) → result ≡ (conn_of ps rings opened self.old).out.bytes }
         ensures taken { (ps : Pools Payload) (rings : ℕ → Option Items) (opened : ℕ → Option (List ℕ)) → let c = conn_of ps rings opened self.old in
             conn_of ps rings opened self.new ≡ record c { out = record c.out { bytes = [] } } }
@@ -42,7 +43,7 @@ impl Conn {
             → StackedOver chain at rings pools next self.old → StackedOver chain at rings pools next self.new }
         ensures filters { self.new.filters ≡ self.old.filters }
     {
-        mem::replace(&mut self.out, OutputBlock::over(room)).into_seq()
+        mem::replace(&mut self.out, OutputBlock::over(room)).into_bytes()
     }
 
     /// The labels that ran, each with its pool, in a list for each clear or end of a pool that ran any, the oldest first. It takes no memory,

@@ -1,6 +1,7 @@
 pub mod WellRead
 pub mod Delivering
 pub mod Buffers
+pub mod Fronts
 pub mod Returned
 pub mod Returns
 pub mod Begins

@@ -1,31 +1,37 @@
 //! Output, in a block that is used again.
 
-ghost use Rattle.std.specs.Prelude.{◌≡◌, ◌≤◌, ◌++◌, [], true, length, take, IsOk, IfOk, OnOk, OnErr};
+ghost use Rattle.std.specs.Prelude.{◌≡◌, ◌≤◌, ◌++◌, [], true, length, take, drop, IsOk, IfOk, OnOk, OnErr};
 ghost use Rattle.bucket_kinds.specs.Device.{is_there};
 ghost use Rattle.ring_passes.specs.Delivery.{SpanAdded};
 
 use crate::output::{Fetched, fetch};
+use block_bytes::BlockBytes;
 use brigade_ops::{FileNo, Files};
 use run_model::Seq;
 use std::alloc::{AllocError, Global};
 use std::marker::Model;
 
-/// Output, at the front of a block. What stood in the block stays there when the output is emptied, so that a read over it needs no zeros
-/// first. Contracts see the output alone.
+/// Where the output begins in its block. The allocator begins a large block 16 bytes behind a page. Behind these 48 the output lies at a
+/// multiple of 64, the length of a line of the cache, and the system copies it faster.
+const FRONT: usize = 48;
+
+/// Output, in a block, behind a front that is never seen. What stood in the block stays there when the output is emptied, so that a read
+/// over it needs no zeros first. Contracts see the output alone.
 #[derive(Drop)]
 pub struct OutputBlock {
     block: Seq<u8>,
-    used: usize,
+    // Where the output ends in the block.
+    end: usize,
 }
 
 impl Model for OutputBlock {
-    ghost use Rattle.std.specs.Prelude.{◌≤◌, ℕ, List, length, take};
+    ghost use Rattle.std.specs.Prelude.{◌≤◌, ℕ, List, length, take, drop};
 
     ghost Value = { List ℕ };
 
-    ghost view = { λ o. take o.used o.block };
+    ghost view = { λ o. drop 48 (take o.end o.block) };
 
-    ghost invariant = { λ o. o.used ≤ length o.block };
+    ghost invariant = { λ o. o.end ≤ length o.block };
 }
 
 /// Sees to it that a block reaches so far. Without memory nothing is changed.
@@ -41,6 +47,22 @@ fn reach(block: &mut Seq<u8>, end: usize) -> Result<(), AllocError>
     Ok(())
 }
 
+/// Where the next byte goes in a block whose output ends there: no sooner than behind the front, which the block has then. Without memory
+/// nothing is changed.
+fn make_front(block: &mut Seq<u8>, end: usize) -> Result<usize, AllocError>
+    requires { end ≤ length block.old }
+    ensures place { IfOk result (λ start. (48 ≤ start) × (start ≤ length block.new) × (end ≤ start)) }
+    ensures same { IfOk result (λ start. drop 48 (take start block.new) ≡ drop 48 (take end block.old)) }
+    ensures front { take (length block.old) block.new ≡ block.old }
+    ensures grown { length block.old ≤ length block.new }
+{
+    if end < FRONT {
+        reach(block, FRONT)?;
+        return Ok(FRONT);
+    }
+    Ok(end)
+}
+
 impl OutputBlock {
     /// No output, in a block that takes no memory.
     pub fn new(alloc: Global) -> Self
@@ -48,52 +70,59 @@ impl OutputBlock {
     {
         OutputBlock {
             block: Seq::new(alloc),
-            used: 0,
+            end: 0,
         }
     }
 
     /// No output, in a block in which anything may stand.
-    pub fn over(block: Seq<u8>) -> Self
+    pub fn over(bytes: BlockBytes) -> Self
         ensures { result ≡ [] }
     {
-        OutputBlock { block, used: 0 }
+        let block = bytes.into_block();
+        OutputBlock { block, end: 0 }
     }
 
     /// The output, and the room behind it.
-    pub fn into_seq(self) -> Seq<u8>
+    pub fn into_bytes(self) -> BlockBytes
         ensures { result ≡ self }
     {
-        let mut bytes = self.block;
-        bytes.truncate(self.used);
-        bytes
+        let mut block = self.block;
+        block.truncate(self.end);
+        BlockBytes::of(block, FRONT)
     }
 
     /// The output.
     pub fn as_slice(&self) -> &[u8]
         ensures { result.now ≡ self.now }
     {
-        &self.block.as_slice()[..self.used]
+        let all = &self.block.as_slice()[..self.end];
+        if all.len() < FRONT {
+            return &[];
+        }
+        &all[FRONT..]
     }
 
     /// How many bytes of output there are.
     pub fn len(&self) -> usize
         ensures { result ≡ length self.now }
     {
-        self.used
+        self.end.saturating_sub(FRONT)
     }
 
     /// Empties the output, and keeps its block.
     pub fn clear(&mut self)
         ensures { self.new ≡ [] }
     {
-        self.used = 0;
+        self.end = 0;
     }
 
     /// Keeps the first `len` bytes of the output.
     pub fn truncate(&mut self, len: usize)
         ensures { self.new ≡ take len self.old }
     {
-        self.used = self.used.min(len);
+        if len < self.end.saturating_sub(FRONT) {
+            self.end = FRONT + len;
+        }
     }
 
     /// Adds copies of bytes to the output. Of none it takes no memory. Without memory nothing is changed.
@@ -105,9 +134,11 @@ impl OutputBlock {
         if bytes.is_empty() {
             return Ok(());
         }
-        self.block.truncate(self.used);
+        let start = make_front(&mut self.block, self.end)?;
+        self.end = start;
+        self.block.truncate(start);
         self.block.extend(bytes)?;
-        self.used = self.block.len();
+        self.end = self.block.len();
         Ok(())
     }
 
@@ -125,14 +156,15 @@ impl OutputBlock {
         ensures unread { OnErr result ((self.new ≡ self.old) × (F.device files.new ≡ F.device files.old)) }
         ensures open_files { (F.device files.new).numbered ≡ (F.device files.old).numbered }
     {
-        let start = self.used;
+        let start = make_front(&mut self.block, self.end)?;
+        self.end = start;
         let Some(end) = start.checked_add(count as usize) else {
             return Err(AllocError);
         };
         reach(&mut self.block, end)?;
         match fetch(files, file, at, &mut self.block.as_mut_slice()[start..end]) {
             Fetched::All => {
-                self.used = end;
+                self.end = end;
                 Ok(Fetched::All)
             }
             lacking => Ok(lacking),

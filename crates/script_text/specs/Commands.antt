@@ -54,7 +54,7 @@ command_with word.Close o = command.Close o.conn
 command_with word.Pools o = command.Pools
 
 abbrev pub words : List CommandWord
-words = word.Open ∷ word.Begin ∷ word.End ∷ word.Bring ∷ word.Step ∷ word.Run ∷ word.Output ∷ word.Labels ∷ word.Close ∷ word.Pools ∷ []
+words = word.Run ∷ word.Bring ∷ word.Begin ∷ word.Output ∷ word.End ∷ word.Step ∷ word.Open ∷ word.Labels ∷ word.Close ∷ word.Pools ∷ []
 
 -- the word that is written so
 unfoldable pub word_at : List ℕ → Option CommandWord

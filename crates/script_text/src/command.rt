@@ -65,15 +65,15 @@ pub enum Command {
     Pools,
 }
 
-/// The first words of commands other than `file`.
+/// The first words of commands other than `file`. Those of each request come first, since a word is looked for from the first on.
 pub const COMMAND_WORDS: [CommandWord; 10] = [
-    CommandWord::Open,
-    CommandWord::Begin,
-    CommandWord::End,
-    CommandWord::Bring,
-    CommandWord::Step,
     CommandWord::Run,
+    CommandWord::Bring,
+    CommandWord::Begin,
     CommandWord::Output,
+    CommandWord::End,
+    CommandWord::Step,
+    CommandWord::Open,
     CommandWord::Labels,
     CommandWord::Close,
     CommandWord::Pools,

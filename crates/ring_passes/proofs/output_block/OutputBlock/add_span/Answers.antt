@@ -1,41 +1,47 @@
 -- What was read stands behind the output, or the output is as it was.
-use Rattle.std.proofs.Common.{rules, ◌≡◌, ◌+◌, ◌≤◌, ◌++◌, ℕ, length, sym, ap, subst, ◌∙◌, arith}
+use Rattle.std.proofs.Common.{rules, ◌≡◌, ◌+◌, ◌≤◌, ◌++◌, ℕ, List, length, drop, sym, ap, subst, ◌∙◌, arith}
 use Rattle.std.proofs.lemmas.List.{append-nil}
 use Rattle.ring_passes.specs.Delivery.{IsFetched}
 use Rattle.ring_passes.specs.declared.output.Fetched.TheVariants as fetched
 use Rattle.ring_passes.proofs.Buffers.{PartRead, part_size, part_written, part_unread}
+use Rattle.ring_passes.proofs.Fronts.{longer}
 use Rattle.ring_passes.proofs.Spans.{none_given}
 use Rattle.ring_passes.proofs.output_block.OutputBlock.add_span.Goals as goal
 use Rattle.ring_passes.proofs.output_block.OutputBlock.add_span.Goals.{After-fetch}
 
 -- What was read is a part of the block: where it was given it stands behind the output, and else the output is as it was.
-read : (g : _) (c : After-fetch g) → PartRead c.self.inside.block c.reach.new.block c.as_mut_slice.result.now c.self.inside.used c.in-Some.end c.args.count c.fetch.new.buffer
+read : (g : _) (c : After-fetch g)
+    → PartRead c.make_front.new.block c.reach.new.block c.as_mut_slice.result.now c.in_ok-start.start c.in-Some.end c.args.count c.fetch.new.buffer
 read g c =
-    let a = c.self.inside.used in
+    let a = c.in_ok-start.start in
     let b = c.in-Some.end in
-    let old = c.self.inside.block in
+    let old = c.make_front.new.block in
     let all = c.reach.new.block in
     let xs = c.as_mut_slice.result.now in
     let bytes = c.fetch.new.buffer in
     let same = c.as_mut_slice.ensures.value in
     let front = c.in_ok-reach.ensures.front in
+    let there = c.in_ok-start.ensures.place.1 in
     let end : b ≡ a + c.args.count = search rules in
     let order : a ≤ b = omega (arith, end) in
     let fits : b ≤ length all = search rules in
     let size = c.fetch.ensures.len in
     record {
-      span = part_size old all xs a b bytes same front c.self.invariant order fits size ∙ omega (arith, end);
-      taken = part_written old all xs a b bytes same front c.self.invariant order fits size;
-      left = part_unread old all xs a b bytes same front c.self.invariant order fits size;
+      span = part_size old all xs a b bytes same front there order fits size ∙ omega (arith, end);
+      taken = part_written old all xs a b bytes same front there order fits size;
+      left = part_unread old all xs a b bytes same front there order fits size;
     }
 
 pub returns-in-All-clause-added : goal.returns-in-All-clause-added
 returns-in-All-clause-added g c =
     let part = read g (goal.at.returns-in-All-clause-added g c).After-fetch in
     let bytes = c.fetch.new.buffer in
+    let place = c.in_ok-start.ensures.place in
     record {
       added = bytes;
-      grown = part.taken ∙ ap (λ zs. zs ++ bytes) c.self.view_is;
+      grown = ap (drop 48) part.taken
+          ∙ (longer 48 c.in_ok-start.start c.make_front.new.block bytes place.0 place.1
+          ∙ ap (λ (zs : List ℕ). zs ++ bytes) (c.in_ok-start.ensures.same ∙ c.self.view_is));
       fetched_so = subst (λ (k : ℕ). IsFetched (g.F.Files.device c.args.files.now) (g.F.Files.device c.fetch.new.files) c.args.file c.args.at k bytes fetched.All) part.span c.in-All.ensures.fetched;
     }
 
@@ -46,7 +52,8 @@ returns-in_default-fetch g c =
     record {
       added = record {
         added = bytes;
-        grown = part.left ∙ (c.self.view_is ∙ sym (ap (λ zs. c.args.self.now ++ zs) (none_given c.fetch.result bytes c.in_default-fetch.not-All) ∙ append-nil c.args.self.now));
+        grown = ap (drop 48) part.left ∙ (c.in_ok-start.ensures.same ∙ (c.self.view_is
+            ∙ sym (ap (λ zs. c.args.self.now ++ zs) (none_given c.fetch.result bytes c.in_default-fetch.not-All) ∙ append-nil c.args.self.now)));
         fetched_so = subst (λ (k : ℕ). IsFetched (g.F.Files.device c.args.files.now) (g.F.Files.device c.fetch.new.files) c.args.file c.args.at k bytes c.fetch.result) part.span
             c.fetch.ensures.fetched;
       };
