@@ -244,7 +244,7 @@ def main():
     parser = argparse.ArgumentParser(description=__doc__, formatter_class=argparse.RawDescriptionHelpFormatter)
     parser.add_argument('--program', default=BUILT)
     parser.add_argument('--module', default=MODULE)
-    parser.add_argument('--requests', type=int, default=5000, metavar='N', help='of 2 bytes; of larger files fewer')
+    parser.add_argument('--requests', type=int, default=20000, metavar='N', help='of 2 bytes; of larger files fewer')
     parser.add_argument('--conns', type=int, default=2000, metavar='N')
     options = parser.parse_args()
     program = built(options.program)
