@@ -3,8 +3,8 @@
 
     bench/serve.py [--program PATH] [--requests N] [--conns N] [--module FILE]
 
-One client asks for a file of 2 bytes, of 64 KiB and of 1 MiB on one connection that stays open. What is told is the processor time of
-the server alone, user and system, for each request, and how its memory grew. Then the file of 2 bytes is asked for on N connections
+In each round one client asks for a file of 2 bytes, of 64 KiB or of 1 MiB on one connection that stays open. What is told is the processor
+time of the server alone, user and system, for each request, and by how much its memory grew in a round at most. Then the file of 2 bytes is asked for on N connections
 of one request each.
 
 Peers serve the same files in the same run, each as one process that reads files and changes nothing:
@@ -15,7 +15,7 @@ Peers serve the same files in the same run, each as one process that reads files
   (bench/pass_filter.c).
 
 All are asked by turns, in rounds, so that a machine that is slower for a while is so for each. Where the memory of a process lies, and how
-the reads of its client fall, stays as it is for long, and moves a time by a fifth: so each round starts all servers anew. Told are
+the reads of its client fall, changes little while it runs, and makes a difference of up to a fifth: so each round starts all servers anew. Told are
 medians, of times and of the ratios of each round.
 """
 import argparse
@@ -253,10 +253,14 @@ def main():
         words = list(servers(program, os.path.abspath(options.module), folder))
         for size in SIZES:
             by_turns(words, folder, size, max(options.requests // (1 + size // 100000), 20))
-        for peer in started(words, folder):
-            peer.link.close()
-            print('%-8s %d connections: %.1f us each, %+d KiB' % ((peer.name, options.conns) + connections(peer.server.pid, peer.port, options.conns)), flush=True)
-            peer.stop()
+        peers = started(words, folder)
+        try:
+            for peer in peers:
+                peer.link.close()
+                print('%-8s %d connections: %.1f us each, %+d KiB' % ((peer.name, options.conns) + connections(peer.server.pid, peer.port, options.conns)), flush=True)
+        finally:
+            for peer in peers:
+                peer.stop()
 
 
 if __name__ == '__main__':
