@@ -1,10 +1,10 @@
 -- The pools that a clear reaches, in the order of their names.
-use Rattle.std.proofs.Common.{◌≡◌, ◌==◌, ◌<◌, ◌≤◌, ◌++◌, ◌||◌, ◌&&◌, ℕ, Bool, true, false, not, List, [], ◌∷◌, reverse, length, get_or, is_ok, Result, Ok, Err, refl, sym, ap, ◌∙◌, arith, ⊎_elim}
+use Rattle.std.proofs.Common.{◌≡◌, ◌==◌, ◌<◌, ◌≤◌, ◌||◌, ◌&&◌, ℕ, Bool, true, false, not, List, reverse, length, get_or, is_ok, Result, Ok, Err, refl, sym, ap, ◌∙◌, arith, ⊎_elim}
 use Rattle.std.specs.List.Sorted.{IsBinarySearchResult, IsNonDecreasing, IsPermutation}
 use Rattle.std.specs.Ordering.{nat_cmp}
 use Rattle.std.specs.Result.{MatchResult}
 use Rattle.std.proofs.lemmas.Bool.{cases_lt, eqb-true, eq-eqb, ne_eqb, false≢true}
-use Rattle.std.proofs.lemmas.List.Folds.{list_any-append, list_any_at, list_any_none}
+use Rattle.std.proofs.lemmas.List.Folds.{list_any_at, list_any_none}
 use Rattle.std.proofs.lemmas.List.Sorted.{list_any-IsPermutation, searched}
 use Rattle.std.proofs.lemmas.List.{get_or_default}
 use Rattle.run_model.specs.Pools.{is_live, is_under, is_in}
@@ -31,26 +31,20 @@ module _ (xs : List ℕ) (x : ℕ) where
   pub found_in : (r : Result ℕ ℕ) → IsBinarySearchResult (λ y. nat_cmp y x) xs r → IsNonDecreasing xs → is_ok r ≡ is_in x xs
   found_in r at up = by_answer r (searched xs x r at (λ i j le lt. up i j 0 le lt))
 
-or_true : (a : Bool) → (a || true) ≡ true
-or_true true = refl
-or_true false = refl
+and_yes : (a : Bool) → (a && true) ≡ a
+and_yes true = refl
+and_yes false = refl
 
-or_no : (a : Bool) → (a && true || false) ≡ a
-or_no true = refl
-or_no false = refl
-
--- the pools under a pool, and itself
-pub all_reached : {T : Type 0} (tree : PoolTree T) (pool : ℕ) (found pools : List ℕ) → is_live (map_of tree) pool ≡ true → reverse found ≡ order_under (map_of tree) pool
-    → IsPermutation (found ++ pool ∷ []) pools
-    → (p : ℕ) → is_in p pools ≡ is_under (map_of tree) pool p
-all_reached tree pool found pools live under moved p =
-    sym (list_any-IsPermutation (λ m. m == p) (found ++ pool ∷ []) pools moved)
-    ∙ list_any-append (λ m. m == p) found (pool ∷ [])
-    ∙ ap (λ b. b || (pool == p || false)) (in_turned p found ∙ found_is tree pool found live under p)
+-- a pool, and those under it
+pub all_reached : {T : Type 0} (tree : PoolTree T) (pool : ℕ) (found under : List ℕ) → is_live (map_of tree) pool ≡ true → reverse found ≡ order_under (map_of tree) pool
+    → IsPermutation found under
+    → (p : ℕ) → (pool == p || is_in p under) ≡ is_under (map_of tree) pool p
+all_reached tree pool found under live order moved p =
+    ap (λ b. pool == p || b) (sym (list_any-IsPermutation (λ m. m == p) found under moved) ∙ (in_turned p found ∙ found_is tree pool found live order p))
     ∙ by_name (p == pool) refl
   where
-    by_name : (b : Bool) → (p == pool) ≡ b → (is_under (map_of tree) pool p && not b || (pool == p || false)) ≡ is_under (map_of tree) pool p
+    by_name : (b : Bool) → (p == pool) ≡ b → (pool == p || is_under (map_of tree) pool p && not b) ≡ is_under (map_of tree) pool p
     by_name true here =
         let same : p ≡ pool = eqb-true p pool here in
-        rw (eq-eqb pool p (sym same)) (or_true (is_under (map_of tree) pool p && false) ∙ sym (ap (is_under (map_of tree) pool) same ∙ under_itself (map_of tree) (tree_formed tree) pool live))
-    by_name false other = rw (ne_eqb pool p (λ e. false≢true (sym other ∙ eq-eqb p pool (sym e)))) (or_no (is_under (map_of tree) pool p))
+        rw (eq-eqb pool p (sym same)) (sym (ap (is_under (map_of tree) pool) same ∙ under_itself (map_of tree) (tree_formed tree) pool live))
+    by_name false other = rw (ne_eqb pool p (λ e. false≢true (sym other ∙ eq-eqb p pool (sym e)))) (and_yes (is_under (map_of tree) pool p))

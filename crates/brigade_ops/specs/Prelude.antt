@@ -27,7 +27,7 @@ pub use Rattle.stored_rings.specs.Morphs.{IsAsItWas, all_morphed, cleared_as, gi
 pub use Rattle.stored_rings.specs.Noted.{place_of}
 pub use Rattle.stored_rings.specs.Points.{cut_at, is_inside, point_in}
 pub use Rattle.stored_rings.specs.Regions.{look}
-pub use Rattle.stored_rings.specs.Shown.{lies_right}
+pub use Rattle.stored_rings.specs.Shown.{is_own, lies_right, own_bucket}
 pub use Rattle.stored_rings.specs.Views.{bucket_of, content_of}
 pub use Rattle.brigade_ops.specs.Due.{is_reached}
 pub use Rattle.brigade_ops.specs.Files.{SameButOpen, count_at, is_let_go, refs_in, times_in}

@@ -1,13 +1,14 @@
 //! Brigades of the store: made, ended, cleaned and joined.
 
-ghost use Rattle.std.specs.Prelude.{◌≡◌, ◌≢◌, ◌↔◌, ℕ, ◌+◌, ◌<◌, ◌≤◌, ◌++◌, [], length, Some, None, true, is_some, is_ok, if◌then◌else◌, IsTrue, IsOk, IfOk, OnOk, OnErr, IsErrOf};
-ghost use Rattle.brigade_ops.specs.Prelude.{Pools, is_live, registered, IsPoolMap, map_of, once_more, BucketId, upd, on, list_at, by_birth, numbered, Items, IsHouse, NoneRevived};
+ghost use Rattle.std.specs.Prelude.{◌≡◌, ◌≢◌, ◌↔◌, ℕ, ◌+◌, ◌<◌, ◌≤◌, ◌++◌, [], map, length, Some, None, true, is_some, is_ok, if◌then◌else◌, IsTrue, IsOk, IfOk, OnOk, OnErr, IsErrOf};
+ghost use Rattle.std.specs.List.{list_all};
+ghost use Rattle.brigade_ops.specs.Prelude.{Pools, is_live, registered, IsPoolMap, map_of, once_more, BucketId, upd, on, list_at, by_birth, numbered, Items, IsHouse, NoneRevived, is_own, own_bucket};
 
 use crate::store::{BrigadeId, Brigades};
 use bucket_kinds::Stored;
 use bucket_ring::{RingRefusal, Rings};
 use pool_tree::{PoolId, PoolTree};
-use run_model::{Bucket, Payload};
+use run_model::Payload;
 use std::alloc::AllocError;
 
 #[tactic(auto, unfolding(crate::specs::Store::lists, crate::specs::Store::brigade_of, crate::specs::Store::pool_of, crate::specs::Store::next_name, crate::specs::Store::references, crate::specs::Store::has_room), using(pool_tree::proofs::Trees::tree_formed))]
@@ -97,14 +98,15 @@ impl<R: Rings<Stored> + Drop> Brigades<R> {
         self.held.new_ring()
     }
 
-    /// Makes two brigades on no pool, the first empty, the second with new buckets in this order: all, or none. The brigades have the next
-    /// two names, the buckets those behind them. `NamesSpent`: so many names are not left. Refused, nothing is changed, and no name is
-    /// spent.
+    /// Makes two brigades on no pool, the first empty, the second with new buckets in this order, whose content is their own: all, or none.
+    /// The brigades have the next two names, the buckets those behind them. `NamesSpent`: so many names are not left. Refused, nothing is
+    /// changed, and no name is spent.
     pub fn loose_pair(
         &mut self,
-        buckets: Vec<Bucket>,
+        buckets: Vec<Stored>,
     ) -> Result<(BrigadeId, BrigadeId), RingRefusal>
-        ensures ok { OnOk result ((xs : Items) × (by_birth xs ≡ numbered (next_name self.old + 2) buckets.items)
+        requires { list_all is_own buckets.items ≡ true }
+        ensures ok { OnOk result ((xs : Items) × (by_birth xs ≡ numbered (next_name self.old + 2) (map own_bucket buckets.items))
             × ((n : ℕ) → lists self.new n ≡ upd (upd (lists self.old) (next_name self.old) (Some [])) (next_name self.old + 1) (Some xs) n)) }
         ensures name { IfOk result (λ pair. pair ≡ (next_name self.old, next_name self.old + 1)) }
         ensures next { next_name self.new ≡ (if is_ok result then next_name self.old + 2 + length buckets.items else next_name self.old) }

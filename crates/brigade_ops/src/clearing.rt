@@ -84,9 +84,9 @@ impl<R: Rings<Stored> + Drop> Brigades<R> {
     }
 
     /// Makes ready what a clear of a pool makes of the buckets of these brigades, in a walk along each.
-    fn plan_by_walk(&self, rings: &[BrigadeId], reached: &Reached) -> Result<Morphs, AllocError>
-        ensures { IfOk result (λ morphs. (n : ℕ)
-            → option_map (all_morphed morphs.found) (lists self.now n) ≡ option_map (cleared_items (is_reached reached.now) (is_in n rings.now)) (lists self.now n)) }
+    fn plan_by_walk(&self, rings: &[BrigadeId], reached: &Reached) -> Result<Seq<Morph>, AllocError>
+        ensures { IfOk result (λ found. (n : ℕ)
+            → option_map (all_morphed found) (lists self.now n) ≡ option_map (cleared_items (is_reached reached.now) (is_in n rings.now)) (lists self.now n)) }
     {
         let mut found = Seq::new(self.alloc);
         for ring in rings {
@@ -94,13 +94,7 @@ impl<R: Rings<Stored> + Drop> Brigades<R> {
                 self.plan_ring(&mut found, *ring, reached)?;
             }
         }
-        let copies = Vec::new(self.alloc);
-        let pools = Vec::new(self.alloc);
-        Ok(Morphs {
-            found,
-            copies,
-            pools,
-        })
+        Ok(found)
     }
 
     /// Makes ready what a clear of a pool makes of the buckets of these brigades: POOL bytes that lie under it go to the heap, and homes
@@ -112,26 +106,28 @@ impl<R: Rings<Stored> + Drop> Brigades<R> {
         tree: &PoolTree<Payload>,
     ) -> Result<Morphs, AllocError>
         requires { IsTrue (is_live (map_of tree.now) pool) }
-        ensures reached { IfOk result (λ morphs. (p : ℕ) → is_under (map_of tree.now) pool p ≡ true → is_in p morphs.pools.items ≡ true) }
+        ensures reached { IfOk result (λ morphs. (p : ℕ) → is_under (map_of tree.now) pool p ≡ true → is_reached morphs.reached p ≡ true) }
         ensures made { IfOk result (λ morphs. (n : ℕ)
             → option_map (all_morphed morphs.found) (lists self.now n)
             ≡ option_map (cleared_items (is_under (map_of tree.now) pool) (is_in n rings.now)) (lists self.now n)) }
     {
         let reached = Reached::new(tree, pool)?;
         if self.held.rings.dependents.is_lost() {
-            let walked = self.plan_by_walk(rings, &reached)?;
+            let found = self.plan_by_walk(rings, &reached)?;
+            let copies = Vec::new(self.alloc);
             return Ok(Morphs {
-                found: walked.found,
-                copies: walked.copies,
-                pools: reached.pools,
+                found,
+                copies,
+                reached,
             });
         }
         let names = self.due_names(rings, &reached)?;
-        let morphs = self.plan_morphs_of(names.as_slice(), &reached)?;
+        let found = self.plan_morphs_of(names.as_slice(), &reached)?;
+        let copies = self.copies_of(names.as_slice())?;
         Ok(Morphs {
-            found: morphs.found,
-            copies: morphs.copies,
-            pools: reached.pools,
+            found,
+            copies,
+            reached,
         })
     }
 
@@ -144,14 +140,14 @@ impl<R: Rings<Stored> + Drop> Brigades<R> {
         ensures counted { (f : ℕ) → references self.new f + refs_in f handed.now ≡ references self.old f }
         ensures closed { (f : ℕ) → (F.device files.new).numbered f ≡ (if is_let_go (references self.old f) (refs_in f handed.now) then Missing else (F.device files.old).numbered f) }
         ensures others { SameButOpen (F.device files.old) (F.device files.new) }
-        ensures freed { (p : ℕ) → is_in p morphs.pools.items ≡ true → IsFreed self.new p }
+        ensures freed { (p : ℕ) → is_reached morphs.reached p ≡ true → IsFreed self.new p }
         ensures next { next_name self.new ≡ next_name self.old }
         ensures names { NoneRevived (brigade_of self.old) (brigade_of self.new) (next_name self.old) }
         ensures unasked { self.new.asked ≡ self.old.asked }
     {
-        let pools = self.change_found(morphs);
+        let reached = self.change_found(morphs);
         self.end_pool(files, handed);
-        self.held.forget(pools.as_slice());
+        self.forget(&reached);
     }
 
     /// Clears a pool (`apr_pool_clear`): all pools under it go, and its own payloads. With them go the brigades that are on them, and the

@@ -58,7 +58,9 @@ impl<R: Rings<Stored> + Drop> Brigades<R> {
         ensures all { IfOk result (λ names. (id : BucketId) → is_due (is_reached reached.now) rings.now (brigade_of self.now id) (bucket_at self.now id) ≡ true → is_named id names ≡ true) }
     {
         let mut names = Seq::new(self.alloc);
-        for name in &reached.pools {
+        let noted = self.held.rings.dependents.names(reached.pool);
+        self.push_due(&mut names, noted, rings, reached)?;
+        for name in &reached.under {
             let noted = self.held.rings.dependents.names(*name);
             self.push_due(&mut names, noted, rings, reached)?;
         }

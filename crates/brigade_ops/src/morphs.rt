@@ -15,13 +15,13 @@ use run_model::{Bucket, Kind, Seq};
 use std::alloc::AllocError;
 use stored_rings::{HeapCopy, Morph};
 
-/// What a clear of a pool makes of buckets, made ready before it, with copies of the bytes that lie in regions; and the pools under which
-/// it was looked for.
+/// What a clear of a pool makes of buckets, made ready before it, with copies of the bytes that lie in regions; and the pools that it
+/// reaches.
 #[derive(Drop)]
 pub struct Morphs {
     pub(crate) found: Seq<Morph>,
     pub(crate) copies: Vec<HeapCopy>,
-    pub(crate) pools: Vec<PoolId>,
+    pub(crate) reached: Reached,
 }
 
 /// The kind that a bucket gets: HEAP, or the one that it has.
@@ -73,7 +73,7 @@ impl<R: Rings<Stored> + Drop> Brigades<R> {
     }
 
     /// Copies of the bytes of these buckets that lie in regions.
-    fn copies_of(&self, names: &[BucketId]) -> Result<Vec<HeapCopy>, AllocError> {
+    pub(crate) fn copies_of(&self, names: &[BucketId]) -> Result<Vec<HeapCopy>, AllocError> {
         let mut copies = Vec::new(self.alloc);
         for name in names {
             if let Some(copy) = self.copy_of(*name)? {
@@ -89,22 +89,16 @@ impl<R: Rings<Stored> + Drop> Brigades<R> {
         &self,
         names: &[BucketId],
         reached: &Reached,
-    ) -> Result<Morphs, AllocError>
-        ensures { IfOk result (λ morphs. (id : BucketId) (x : Bucket) → bucket_at self.now id ≡ Some x
-            → morphed morphs.found id x ≡ (if is_named id names.now then cleared_as (is_reached reached.now) x else x)) }
+    ) -> Result<Seq<Morph>, AllocError>
+        ensures { IfOk result (λ found. (id : BucketId) (x : Bucket) → bucket_at self.now id ≡ Some x
+            → morphed found id x ≡ (if is_named id names.now then cleared_as (is_reached reached.now) x else x)) }
     {
         let mut found = Seq::new(self.alloc);
         for name in names {
             let morph = self.morph_of(reached, *name);
             push_some(&mut found, morph)?;
         }
-        let copies = self.copies_of(names)?;
-        let pools = Vec::new(self.alloc);
-        Ok(Morphs {
-            found,
-            copies,
-            pools,
-        })
+        Ok(found)
     }
 
     /// Gives a bucket another kind and home.
@@ -141,9 +135,9 @@ impl<R: Rings<Stored> + Drop> Brigades<R> {
         }
     }
 
-    /// Does to the buckets of the store what was made ready, and answers the pools under which it was looked for. It takes no memory.
-    pub(crate) fn change_found(&mut self, morphs: Morphs) -> Vec<PoolId>
-        ensures under { result ≡ morphs.pools }
+    /// Does to the buckets of the store what was made ready, and answers the pools that the clear reaches. It takes no memory.
+    pub(crate) fn change_found(&mut self, morphs: Morphs) -> Reached
+        ensures reached { result ≡ morphs.reached }
         ensures out { (n : ℕ) → lists self.new n ≡ option_map (all_morphed morphs.found) (lists self.old n) }
         ensures next { next_name self.new ≡ next_name self.old }
         ensures names { NoneRevived (brigade_of self.old) (brigade_of self.new) (next_name self.old) }
@@ -154,25 +148,40 @@ impl<R: Rings<Stored> + Drop> Brigades<R> {
         let Morphs {
             found,
             copies,
-            pools,
+            reached,
         } = morphs;
         self.apply_found(found);
         self.held.put_copies(copies);
-        pools
+        reached
     }
 
     /// Does to the buckets of the store what was made ready, and gives up the regions of the pools that the clear reaches. It takes no memory.
     pub fn apply_morphs(&mut self, morphs: Morphs)
         ensures out { (n : ℕ) → lists self.new n ≡ option_map (all_morphed morphs.found) (lists self.old n) }
-        ensures freed { (p : ℕ) → is_in p morphs.pools.items ≡ true → IsFreed self.new p }
+        ensures freed { (p : ℕ) → is_reached morphs.reached p ≡ true → IsFreed self.new p }
         ensures next { next_name self.new ≡ next_name self.old }
         ensures names { NoneRevived (brigade_of self.old) (brigade_of self.new) (next_name self.old) }
         ensures pools { pool_of self.new ≡ pool_of self.old }
         ensures references { references self.new ≡ references self.old }
         ensures unasked { self.new.asked ≡ self.old.asked }
     {
-        let pools = self.change_found(morphs);
-        self.held.forget(pools.as_slice());
+        let reached = self.change_found(morphs);
+        self.forget(&reached);
+    }
+
+    /// Gives up the regions of the pools that a clear reached, but of one that a bucket still depends on. Nothing that is seen of the store
+    /// changes.
+    pub(crate) fn forget(&mut self, reached: &Reached)
+        ensures freed { (p : ℕ) → is_reached reached.now p ≡ true → IsFreed self.new p }
+        ensures same { (n : ℕ) → lists self.new n ≡ lists self.old n }
+        ensures next { next_name self.new ≡ next_name self.old }
+        ensures names { brigade_of self.new ≡ brigade_of self.old }
+        ensures pools { pool_of self.new ≡ pool_of self.old }
+        ensures references { references self.new ≡ references self.old }
+        ensures unasked { self.new.asked ≡ self.old.asked }
+    {
+        self.held.forget(&[reached.pool]);
+        self.held.forget(reached.under.as_slice());
     }
 
     /// Gives up the regions of these pools, but of one that a bucket still depends on. Nothing that is seen of the store changes. What

@@ -10,11 +10,13 @@ use pool_tree::{PoolId, PoolTree};
 use run_model::{Home, Kind, Payload};
 use std::alloc::AllocError;
 
-/// A pool and the pools under it, which a clear of it reaches, in the order of their names.
+/// A pool and the pools under it, which a clear of it reaches.
 #[derive(Drop)]
 pub(crate) struct Reached {
-    pub(crate) pools: Vec<PoolId>,
-    ghost rising: { IsNonDecreasing pools.items },
+    pub(crate) pool: PoolId,
+    // Those under it, in the order of their names.
+    pub(crate) under: Vec<PoolId>,
+    ghost rising: { IsNonDecreasing under.items },
 }
 
 impl Reached {
@@ -25,17 +27,23 @@ impl Reached {
         requires { IsTrue (is_live (map_of tree.now) pool) }
         ensures { IfOk result (λ reached. (p : ℕ) → is_reached reached p ≡ is_under (map_of tree.now) pool p) }
     {
-        let mut pools = tree.pools_under(pool)?;
-        pools.push(pool)?;
-        pools.sort_unstable();
-        Ok(Reached { pools })
+        let mut under = tree.pools_under(pool)?;
+        under.sort_unstable();
+        Ok(Reached { pool, under })
+    }
+
+    /// Whether a pool is one of those under it.
+    fn has_under(&self, name: PoolId) -> bool
+        ensures { result ≡ is_in name self.now.under.items }
+    {
+        self.under.binary_search(&name).is_ok()
     }
 
     /// Whether a pool is one of them.
     pub(crate) fn has(&self, name: PoolId) -> bool
         ensures { result ≡ is_reached self.now name }
     {
-        self.pools.binary_search(&name).is_ok()
+        self.pool == name || self.has_under(name)
     }
 
     /// The home that a bucket has after the clear.

@@ -2,10 +2,11 @@
 
 ghost use Rattle.std.specs.Prelude.{◌≡◌, ◌==◌, ◌&&◌, nat_le, false, ◌+◌, map, IfOk};
 ghost use Rattle.std.specs.List.{list_any};
-ghost use Rattle.module_run.specs.Prelude.{bucket_of, is_data_piece, is_eos_piece, data_behind_eos, lacks_file, lengths, late_piece};
+ghost use Rattle.module_run.specs.Prelude.{bucket_of, own, is_data_piece, is_eos_piece, data_behind_eos, lacks_file, lengths, late_piece};
 
 use crate::conn::OpenFile;
-use brigade_ops::{BrigadeId, Bucket, FileNo, PoolId};
+use brigade_ops::{BrigadeId, Bucket, FileNo, PoolId, Stored};
+use bucket_kinds::keep_own;
 use run_model::{Content, Home, Kind, Piece, Seq};
 use std::alloc::{AllocError, Global};
 
@@ -117,18 +118,18 @@ fn bucket_of(call: BrigadeId, req: PoolId, piece: Piece) -> Bucket
     }
 }
 
-/// The buckets of the pieces that are brought to a call, in a request of this pool.
+/// The buckets of the pieces that are brought to a call, in a request of this pool, each with a content of its own.
 pub(crate) fn buckets_of(
     alloc: Global,
     call: BrigadeId,
     req: PoolId,
     pieces: Seq<Piece>,
-) -> Result<Vec<Bucket>, AllocError>
-    ensures { IfOk result (λ buckets. buckets.items ≡ map (bucket_of call req) pieces) }
+) -> Result<Vec<Stored>, AllocError>
+    ensures { IfOk result (λ buckets. buckets.items ≡ map (λ piece. own (bucket_of call req piece)) pieces) }
 {
-    let mut buckets = Vec::new(alloc);
+    let mut buckets = Vec::with_capacity(alloc, pieces.len())?;
     for piece in pieces.into_vec() {
-        buckets.push(bucket_of(call, req, piece))?;
+        buckets.push(keep_own(bucket_of(call, req, piece)))?;
     }
     Ok(buckets)
 }

@@ -1,12 +1,13 @@
 //! The end of the chain, where the bytes of brigades become output.
 
 ghost use Rattle.std.specs.Prelude.{◌≡◌, ◌==◌, ◌⊎◌, ◌+◌, ◌<◌, ◌≤◌, ◌^◌, ◌*◌, ℕ, Bool, true, false, not, ◌&&◌, length, is_some, if◌then◌else◌, All, Some, IsOk, IfOk, OnOk, OnErr};
-ghost use Rattle.ring_passes.specs.Prelude.{SomeWentWell, counts, is_there, IsOpenFor, BucketId, list_at, is_eos_kind, length_in, items_of, do_pass, has_bytes, EndsInFile, length_of, read_limit};
+ghost use Rattle.ring_passes.specs.Prelude.{SomeWentWell, counts, is_there, IsOpenFor, BucketId, list_at, has_eos, is_eos_kind, length_in, items_of, do_pass, has_bytes};
+ghost use Rattle.ring_passes.specs.Prelude.{EndsInFile, length_of, read_limit};
 ghost use Rattle.ring_passes.specs.Prelude.{Bucket, named, lists, brigade_of, bucket_at, content_of, ContentAdded, HasFront, IsFetched, ItemsAdded, WasDelivered, out_of, Call, Around, EndInFiles};
-ghost use Rattle.ring_passes.specs.Prelude.{RangeIsOpen, IsHeld, LeavesOthers, live_in, marked, slot_at, seen, shown};
+ghost use Rattle.ring_passes.specs.Prelude.{RangeIsOpen, IsHeld, LeavesOthers, live_in, marked, slot_at, seen, shown, contents};
 
 use crate::output_block::OutputBlock;
-use crate::passes::{hand_over, has_eos, is_eos};
+use crate::passes::{hand_over_with, has_eos, is_eos};
 use brigade_ops::{BrigadeId, Brigades, Content, ContentView, FileNo, Files, Rings, Stored};
 use ring_calls::machine::Instance;
 use run_model::Mark;
@@ -110,18 +111,29 @@ fn add<F: Files>(
     }
 }
 
-/// Adds the bytes of a brigade before its first EOS to the output, up to a read that fails, and tells whether none did. Without memory some
-/// may have been added.
+/// What a walk along a brigade met.
+#[derive(Clone, Copy)]
+pub(crate) struct Walked {
+    /// Whether no read failed.
+    pub(crate) whole: bool,
+    /// Whether an EOS was reached.
+    pub(crate) eos: bool,
+}
+
+/// Adds the bytes of a brigade before its first EOS to the output, up to a read that fails, and tells what was met. Without memory some may
+/// have been added.
 fn add_all<R: Rings<Stored> + Drop, F: Files>(
     out: &mut OutputBlock,
     files: &mut F,
     store: &Brigades<R>,
     b: BrigadeId,
-) -> Result<bool, AllocError>
+) -> Result<Walked, AllocError>
     requires there { is_some (lists store.now b) ≡ true }
     requires ends { (id : BucketId) (x : Bucket) → brigade_of store.now id ≡ Some b → bucket_at store.now id ≡ Some x → EndsInFile x.content }
     requires open { (id : BucketId) (x : Bucket) → brigade_of store.now id ≡ Some b → bucket_at store.now id ≡ Some x → IsOpenFor (F.device files.old) x.content }
-    ensures added { IfOk result (λ whole. ItemsAdded (F.device files.old) (F.device files.new) (list_at (lists store.now) b) whole out.old out.new) }
+    ensures added { IfOk result (λ met. ItemsAdded (F.device files.old) (F.device files.new) (list_at (lists store.now) b) met.whole out.old out.new) }
+    ensures eos { IfOk result (λ met. (runs : ℕ → Bool) → met.eos ≡ true → has_eos (shown runs (list_at (lists store.now) b)) ≡ true) }
+    ensures none { IfOk result (λ met. (runs : ℕ → Bool) → met.whole ≡ true → met.eos ≡ false → has_eos (shown runs (list_at (lists store.now) b)) ≡ false) }
     ensures front { HasFront out.old out.new }
     ensures sure { has_bytes (named (list_at (lists store.now) b)) ≡ false → IsOk result }
     ensures read { OnErr result (SomeWentWell (F.device files.old) (F.device files.new)) }
@@ -131,14 +143,39 @@ fn add_all<R: Rings<Stored> + Drop, F: Files>(
     while let Some(id) = place {
         let bucket = store.payload(id);
         if is_eos(bucket.kind) {
-            return Ok(true);
+            return Ok(Walked {
+                whole: true,
+                eos: true,
+            });
         }
         if !add(out, files, bucket.content)? {
-            return Ok(false);
+            return Ok(Walked {
+                whole: false,
+                eos: false,
+            });
         }
         place = store.behind(id);
     }
-    Ok(true)
+    Ok(Walked {
+        whole: true,
+        eos: false,
+    })
+}
+
+/// Whether an EOS stands in a brigade, by what a walk along it met. It is looked for only where a read failed before.
+fn ends<R: Rings<Stored> + Drop>(store: &Brigades<R>, b: BrigadeId, met: Walked) -> bool
+    requires there { is_some (lists store.now b) ≡ true }
+    requires eos { (runs : ℕ → Bool) → met.eos ≡ true → has_eos (shown runs (list_at (lists store.now) b)) ≡ true }
+    requires none { (runs : ℕ → Bool) → met.whole ≡ true → met.eos ≡ false → has_eos (shown runs (list_at (lists store.now) b)) ≡ false }
+    ensures { (runs : ℕ → Bool) → result ≡ has_eos (shown runs (list_at (lists store.now) b)) }
+{
+    if met.eos {
+        return true;
+    }
+    if met.whole {
+        return false;
+    }
+    has_eos(store, b)
 }
 
 /// Adds the bytes of a brigade before its first EOS to the output, up to a read that fails, and tells whether none did. An EOS ends the
@@ -155,6 +192,7 @@ pub fn add_brigade<R: Rings<Stored> + Drop, F: Files>(
     requires open { (id : BucketId) (x : Bucket) → brigade_of store.now id ≡ Some b → bucket_at store.now id ≡ Some x → IsOpenFor (F.device files.old) x.content }
     ensures ok { IfOk result (λ well. (runs : ℕ → Bool)
         → WasDelivered (F.device files.old) (F.device files.new) (out_of out.old ended.old) (shown runs (list_at (lists store.now) b)) (out_of out.new ended.new) well) }
+    ensures eos { ended.old ≡ false → OnOk result ((runs : ℕ → Bool) → ended.new ≡ has_eos (shown runs (list_at (lists store.now) b))) }
     ensures err { OnErr result (out_of out.new ended.new ≡ out_of out.old ended.old) }
     ensures sure { (runs : ℕ → Bool) → (not ended.old && has_bytes (shown runs (list_at (lists store.now) b))) ≡ false → IsOk result }
     ensures read { OnErr result (SomeWentWell (F.device files.old) (F.device files.new)) }
@@ -164,20 +202,26 @@ pub fn add_brigade<R: Rings<Stored> + Drop, F: Files>(
         return Ok(true);
     }
     let len = out.len();
-    let Ok(whole) = add_all(out, files, store, b) else {
+    let Ok(met) = add_all(out, files, store, b) else {
         out.truncate(len);
         return Err(AllocError);
     };
-    *ended = has_eos(store, b);
-    Ok(whole)
+    *ended = ends(store, b, met);
+    Ok(met.whole)
 }
 
 /// The brigade of a variable was taken by the output: its buckets are destroyed, and the variable is marked passed. It is remembered where
 /// an EOS went with it.
 #[tactic(auto, using(ring_calls::proofs::Slots::made_in))]
-fn empty_passed<R: Rings<Stored> + Drop>(instance: &mut Instance, store: &mut Brigades<R>, b: u8)
+fn empty_passed<R: Rings<Stored> + Drop>(
+    instance: &mut Instance,
+    store: &mut Brigades<R>,
+    b: u8,
+    eos: bool,
+)
     requires slot { b < 9 }
     requires live { is_some (live_in (lists store.old) (slot_at instance.old b)) ≡ true }
+    requires eos { (runs : ℕ → Bool) → eos ≡ has_eos (contents runs (lists store.old) (live_in (lists store.old) (slot_at instance.old b))) }
     ensures seen { (around : Around) (call : Call) → IsHeld store.old instance.old call → seen store.new around instance.new call ≡ do_pass b (seen store.old around instance.old call) }
     ensures held { (call : Call) → IsHeld store.old instance.old call → IsHeld store.new instance.new call }
     ensures left { (call : Call) → LeavesOthers store.old store.new instance.old call }
@@ -185,7 +229,7 @@ fn empty_passed<R: Rings<Stored> + Drop>(instance: &mut Instance, store: &mut Br
     ensures unasked { store.new.asked ≡ store.old.asked }
 {
     let name = instance.brigade(b);
-    hand_over(instance, store, b);
+    hand_over_with(instance, store, b, eos);
     store.clean(name);
 }
 
@@ -221,7 +265,13 @@ pub fn pass_out<R: Rings<Stored> + Drop, F: Files>(
     ensures unasked { store.new.asked ≡ store.old.asked }
 {
     let name = instance.brigade(b);
+    let had_ended = *ended;
     let well = add_brigade(store, files, name, out, ended)?;
-    empty_passed(instance, store, b);
+    let eos = if had_ended {
+        has_eos(store, name)
+    } else {
+        *ended
+    };
+    empty_passed(instance, store, b, eos);
     Ok(well)
 }

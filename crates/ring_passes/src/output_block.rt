@@ -13,9 +13,9 @@ use std::marker::Model;
 
 /// Where the output begins in its block. The allocator begins a large block 16 bytes behind a page. Behind these 48 the output lies at a
 /// multiple of 64, the length of a line of the cache, and the system copies it faster.
-const FRONT: usize = 48;
+const HEADROOM: usize = 48;
 
-/// Output, in a block, behind a front that is never seen. What stood in the block stays there when the output is emptied, so that a read
+/// Output, in a block, behind headroom that is never seen. What stood in the block stays there when the output is emptied, so that a read
 /// over it needs no zeros first. Contracts see the output alone.
 #[derive(Drop)]
 pub struct OutputBlock {
@@ -47,18 +47,18 @@ fn reach(block: &mut Seq<u8>, end: usize) -> Result<(), AllocError>
     Ok(())
 }
 
-/// Where the next byte goes in a block whose output ends there: no sooner than behind the front, which the block has then. Without memory
+/// Where the next byte goes in a block whose output ends there: no sooner than behind the headroom, which the block has then. Without memory
 /// nothing is changed.
-fn make_front(block: &mut Seq<u8>, end: usize) -> Result<usize, AllocError>
+fn make_headroom(block: &mut Seq<u8>, end: usize) -> Result<usize, AllocError>
     requires { end ≤ length block.old }
     ensures place { IfOk result (λ start. (48 ≤ start) × (start ≤ length block.new) × (end ≤ start)) }
     ensures same { IfOk result (λ start. drop 48 (take start block.new) ≡ drop 48 (take end block.old)) }
     ensures front { take (length block.old) block.new ≡ block.old }
     ensures grown { length block.old ≤ length block.new }
 {
-    if end < FRONT {
-        reach(block, FRONT)?;
-        return Ok(FRONT);
+    if end < HEADROOM {
+        reach(block, HEADROOM)?;
+        return Ok(HEADROOM);
     }
     Ok(end)
 }
@@ -88,7 +88,7 @@ impl OutputBlock {
     {
         let mut block = self.block;
         block.truncate(self.end);
-        BlockBytes::of(block, FRONT)
+        BlockBytes::of(block, HEADROOM)
     }
 
     /// The output.
@@ -96,17 +96,17 @@ impl OutputBlock {
         ensures { result.now ≡ self.now }
     {
         let all = &self.block.as_slice()[..self.end];
-        if all.len() < FRONT {
+        if all.len() < HEADROOM {
             return &[];
         }
-        &all[FRONT..]
+        &all[HEADROOM..]
     }
 
     /// How many bytes of output there are.
     pub fn len(&self) -> usize
         ensures { result ≡ length self.now }
     {
-        self.end.saturating_sub(FRONT)
+        self.end.saturating_sub(HEADROOM)
     }
 
     /// Empties the output, and keeps its block.
@@ -120,8 +120,8 @@ impl OutputBlock {
     pub fn truncate(&mut self, len: usize)
         ensures { self.new ≡ take len self.old }
     {
-        if len < self.end.saturating_sub(FRONT) {
-            self.end = FRONT + len;
+        if len < self.end.saturating_sub(HEADROOM) {
+            self.end = HEADROOM + len;
         }
     }
 
@@ -134,7 +134,7 @@ impl OutputBlock {
         if bytes.is_empty() {
             return Ok(());
         }
-        let start = make_front(&mut self.block, self.end)?;
+        let start = make_headroom(&mut self.block, self.end)?;
         self.end = start;
         self.block.truncate(start);
         self.block.extend(bytes)?;
@@ -156,7 +156,7 @@ impl OutputBlock {
         ensures unread { OnErr result ((self.new ≡ self.old) × (F.device files.new ≡ F.device files.old)) }
         ensures open_files { (F.device files.new).numbered ≡ (F.device files.old).numbered }
     {
-        let start = make_front(&mut self.block, self.end)?;
+        let start = make_headroom(&mut self.block, self.end)?;
         self.end = start;
         let Some(end) = start.checked_add(count as usize) else {
             return Err(AllocError);

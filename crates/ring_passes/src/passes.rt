@@ -44,6 +44,23 @@ pub fn hand_over<R: Rings<Stored> + Drop>(instance: &mut Instance, store: &Briga
     ensures slots { (a : ℕ) → slot_at instance.new a ≡ (if a == b then marked Mark.Passed (slot_at instance.old b) else slot_at instance.old a) }
 {
     let eos = holds_eos(instance, store, b);
+    hand_over_with(instance, store, b, eos);
+}
+
+/// Hands a brigade over where it is known whether an EOS stands in it, else as `hand_over`.
+pub(crate) fn hand_over_with<R: Rings<Stored> + Drop>(
+    instance: &mut Instance,
+    store: &Brigades<R>,
+    b: u8,
+    eos: bool,
+)
+    requires slot { b < 9 }
+    requires live { is_some (live_in (lists store.now) (slot_at instance.old b)) ≡ true }
+    requires eos { (runs : ℕ → Bool) → eos ≡ has_eos (contents runs (lists store.now) (live_in (lists store.now) (slot_at instance.old b))) }
+    ensures seen { (around : Around) (call : Call) → lent b (seen store.now around instance.new call) ≡ do_pass b (seen store.now around instance.old call) }
+    ensures held { (call : Call) → IsHeld store.now instance.old call → IsHeld store.now instance.new call }
+    ensures slots { (a : ℕ) → slot_at instance.new a ≡ (if a == b then marked Mark.Passed (slot_at instance.old b) else slot_at instance.old a) }
+{
     instance.note_sent(eos);
     instance.set_mark(b, Mark::Passed);
 }

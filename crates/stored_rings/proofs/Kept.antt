@@ -1,10 +1,8 @@
 -- A change of regions keeps what all buckets are, where it keeps the bytes of each.
-use Rattle.std.proofs.Common.{◌≡◌, ◌≢◌, ◌&&◌, ℕ, Bool, true, false, Option, None, Some, is_some, List, [], ◌∷◌, ◌++◌, map, refl, sym, ap, ◌∙◌}
+use Rattle.std.proofs.Common.{◌≡◌, ◌≢◌, ◌&&◌, ℕ, Bool, true, false, Option, None, Some, is_some, List, [], ◌∷◌, refl, sym, ap, ◌∙◌}
 use Rattle.std.specs.List.{list_all}
 use Rattle.std.specs.Option.{option_map, option_map_or}
 use Rattle.std.proofs.lemmas.Bool.{and_parts, false≢true}
-use Rattle.std.proofs.lemmas.List.{map-append}
-use Rattle.std.proofs.lemmas.List.Folds.{list_all-append}
 use Rattle.apr_region.specs.declared.region.Span.{Span}
 use Rattle.bucket_ring.specs.declared.names.BucketId.{BucketId}
 use Rattle.bucket_ring.specs.Lists.{list_at}
@@ -80,23 +78,11 @@ module _ (old new : Look) (same : (p : ℕ) (s : Span) → is_some (old p s) ≡
   placed_whole lists all = whole_still old new (held_item old) item_placed lists all
 
   -- and what is to be put in is held as before
-  held_still : (xs : List Stored) → list_all (is_held old) xs ≡ true → (map (shown new) xs ≡ map (shown old) xs) × (list_all (is_held new) xs ≡ true)
-  held_still [] all = (refl, refl)
-  held_still (x ∷ xs) all =
-      let parts = and_parts (is_held old x) (list_all (is_held old) xs) all in
-      let held = and_parts (is_whole old x.kept) (lies_right x.kind x.kept) parts.0 in
-      let one = kept_placed x.kept held.0 in
-      let more = held_still xs parts.1 in
-      let this : shown new x ≡ shown old x = ap (λ (c : Content). (let b : Bucket = record { kind = x.kind; content = c; home = x.home } in b)) one.0 in
-      (rw (this, more.0) refl, rw (one.1, held.1, more.1) refl)
-
-  pub held_more : (xs : List Stored) (x : Stored) (given : List Bucket) (y : Bucket) → list_all (is_held old) xs ≡ true → map (shown old) xs ≡ given → shown new x ≡ y → is_held new x ≡ true
-      → (map (shown new) (xs ++ x ∷ []) ≡ given ++ y ∷ []) × (list_all (is_held new) (xs ++ x ∷ []) ≡ true)
-  held_more xs x given y all so_far this held =
-      let before = held_still xs all in (
-        map-append (shown new) xs (x ∷ []) ∙ rw (before.0, so_far, this) refl,
-        list_all-append (is_held new) xs (x ∷ []) ∙ rw (before.1, held) refl,
-      )
+  pub one_still : (x : Stored) → is_held old x ≡ true → (shown new x ≡ shown old x) × (is_held new x ≡ true)
+  one_still x held =
+      let parts = and_parts (is_whole old x.kept) (lies_right x.kind x.kept) held in
+      let one = kept_placed x.kept parts.0 in
+      (ap (λ (c : Content). (let b : Bucket = record { kind = x.kind; content = c; home = x.home } in b)) one.0, rw (one.1, parts.1) refl)
 
 -- The region of a pool under which no bucket is noted was given up.
 module _ (names : ℕ → BucketId → Bool) (old new : Look) (pool : ℕ) (others : (p : ℕ) (s : Span) → p ≢ pool → new p s ≡ old p s) (none : (id : BucketId) → names pool id ≡ false) where

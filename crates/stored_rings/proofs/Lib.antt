@@ -15,3 +15,4 @@ pub mod Seen
 pub mod Shelves
 pub mod Kept
 pub mod Names
+pub mod Placing

@@ -1,8 +1,9 @@
 -- Rings of stored buckets, as the buckets that they show.
-use Rattle.std.specs.Prelude.{◌≡◌, ◌==◌, ◌&&◌, ℕ, true, false, Bool, map, Option}
+use Rattle.std.specs.Prelude.{◌≡◌, ◌==◌, ◌&&◌, ℕ, true, false, Bool, map, Option, None}
 use Rattle.std.specs.List.{list_all}
 use Rattle.std.specs.Option.{option_map}
 use Rattle.bucket_ring.specs.Lists.{list_at}
+use Rattle.run_model.specs.declared.bucket.Bucket.{Bucket}
 use Rattle.run_model.specs.declared.bucket.Content.TheVariants as content
 use Rattle.run_model.specs.declared.bucket.Kind.{Kind}
 use Rattle.run_model.specs.declared.bucket.Kind.TheVariants as kind
@@ -38,6 +39,17 @@ lies_right (kind.Pool pool) k = lies_in pool k
 lies_right kind.File k = true
 lies_right kind.Flush k = true
 lies_right kind.Eos k = true
+
+-- A bucket whose content is its own, as a new one has it: whether it is one, and what it shows.
+abbrev pub keeps_own : Kept → Bool
+keeps_own (kept.Own c) = true
+keeps_own (kept.Placed p) = false
+
+abbrev pub is_own : Stored → Bool
+is_own x = keeps_own x.kept
+
+abbrev pub own_bucket : Stored → Bucket
+own_bucket x = shown (λ pool s. None) x
 
 -- What lies in a region is there, and the bytes of a POOL bucket lie in the region of its pool.
 abbrev pub is_held : Look → Stored → Bool

@@ -4,7 +4,7 @@ ghost use Rattle.std.specs.Prelude.{◌≡◌, ◌≢◌, ◌↔◌, ℕ, ◌+�
 ghost use Rattle.stored_rings.specs.Prelude.{upd, on, by_birth, numbered, IsKept, NoneRevived, StoredItems, names_of, noted, AreNoted};
 
 use crate::dependents::Dependents;
-use crate::noting::{make_room_for_all, note_changed, note_ring};
+use crate::noting::{any_depends, make_room_for_all, note_changed, note_ring};
 use crate::pruning::{place_of, prune, tidy};
 use bucket_kinds::Stored;
 use bucket_ring::{BucketId, RingId, RingRefusal, Rings};
@@ -128,9 +128,12 @@ impl<R: Rings<Stored> + Drop> Rings<Stored> for Indexed<R> {
         if left < 2 || left - 2 < given.len() as u64 {
             return Err(RingRefusal::NamesSpent);
         }
+        let depend = any_depends(given.as_slice());
         make_room_for_all(&mut self.dependents, given.as_slice())?;
         let (first, second) = self.rings.new_pair(given)?;
-        note_ring(&mut self.dependents, &self.rings, second, 0);
+        if depend {
+            note_ring(&mut self.dependents, &self.rings, second, 0);
+        }
         Ok((first, second))
     }
 

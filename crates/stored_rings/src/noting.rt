@@ -1,7 +1,8 @@
 //! The buckets of a ring are noted under the pools that they depend on.
 
 ghost use Rattle.std.specs.Prelude.{◌≡◌, ◌≤◌, ℕ, drop, Some, true, is_some, IfSome};
-ghost use Rattle.stored_rings.specs.Prelude.{BucketId, list_at, rest, found, noted, StayNoted, from_place, kind_under, home_under, place_under, place_of, is_noted};
+ghost use Rattle.std.specs.List.{list_any};
+ghost use Rattle.stored_rings.specs.Prelude.{BucketId, list_at, rest, found, noted, StayNoted, from_place, kind_under, home_under, place_under, place_of, held_under, is_noted};
 
 use crate::dependents::Dependents;
 use crate::pruning::{keeps_pools, place_of};
@@ -20,6 +21,22 @@ fn after<R: Rings<Stored>>(rings: &R, ring: RingId, id: BucketId) -> Option<Buck
         Ok(next) => Some(next),
         Err(_) => None,
     }
+}
+
+/// Whether a bucket depends on a pool.
+fn depends(bucket: &Stored) -> bool
+    ensures { result ≡ held_under (λ p. true) bucket.now }
+{
+    let in_pool = matches!(bucket.kind, Kind::Pool(_));
+    let at_pool = matches!(bucket.home, Home::Pool(_));
+    in_pool || at_pool || place_of(&bucket.kept).is_some()
+}
+
+/// Whether one of these does.
+pub(crate) fn any_depends(buckets: &[Stored]) -> bool
+    ensures { result ≡ list_any (held_under (λ p. true)) buckets.now }
+{
+    buckets.iter().any(depends)
 }
 
 /// Makes room for the names of new buckets.

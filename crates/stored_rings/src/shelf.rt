@@ -3,14 +3,14 @@
 ghost use Rattle.std.specs.Prelude.{◌≡◌, ◌≢◌, ◌↔◌, ℕ, ◌+◌, ◌<◌, ◌≤◌, ◌++◌, List, [], map, length, Some, None, true, false, is_some, is_ok, if◌then◌else◌, IsOk};
 ghost use Rattle.std.specs.Prelude.{IfOk, IfErr, IfSome, OnOk, OnErr, IsErrOf};
 ghost use Rattle.stored_rings.specs.Prelude.{BucketId, upd, on, list_at, same, front, rest, first_of, next_in, found, put_tail, put_head, put_before, put_after, without, with_payload, by_birth};
-ghost use Rattle.stored_rings.specs.Prelude.{numbered, NoneRevived, Bucket, is_in, Kept, is_whole, shown, shown_content, Span, Items, look, lies_right, is_held, AreHeld};
+ghost use Rattle.stored_rings.specs.Prelude.{numbered, NoneRevived, Bucket, is_in, Kept, is_whole, shown, shown_content, Span, Items, look, lies_right, is_own, own_bucket, is_held, AreHeld};
 ghost use Rattle.std.specs.List.{list_all};
 
 use crate::indexed::Indexed;
 use crate::regions::Regions;
 use bucket_kinds::{Kept, Stored, keep_own};
 use bucket_ring::{BucketId, RingId, RingRefusal, Rings};
-use run_model::{Bucket, Content, Kind};
+use run_model::{Bucket, Content, Home, Kind};
 use std::alloc::{AllocError, Global};
 
 /// Rings of buckets whose POOL bytes lie in the regions of their pools. The ghost field says that they do, of each POOL bucket, and that all
@@ -173,10 +173,12 @@ impl<R: Rings<Stored> + Drop> Shelf<R> {
         self.rings.add_all(ring, kept)
     }
 
-    /// Makes two rings, the first empty, the second with new buckets in this order: all, or none. The rings have the next two names, the
-    /// buckets those behind them. `NamesSpent`: so many names are not left. Refused, nothing is changed, and no name is spent.
-    pub fn new_pair(&mut self, given: Vec<Bucket>) -> Result<(RingId, RingId), RingRefusal>
-        ensures ok { OnOk result ((xs : Items) × (by_birth xs ≡ numbered (R.next_name self.old.rings.rings + 2) given.items)
+    /// Makes two rings, the first empty, the second with new buckets in this order, whose content is their own: all, or none. The rings have
+    /// the next two names, the buckets those behind them. `NamesSpent`: so many names are not left. Refused, nothing is changed, and no
+    /// name is spent.
+    pub fn new_pair(&mut self, mut given: Vec<Stored>) -> Result<(RingId, RingId), RingRefusal>
+        requires { list_all is_own given.items ≡ true }
+        ensures ok { OnOk result ((xs : Items) × (by_birth xs ≡ numbered (R.next_name self.old.rings.rings + 2) (map own_bucket given.items))
             × ((n : ℕ) → seen self.new n ≡ upd (upd (seen self.old) (R.next_name self.old.rings.rings) (Some [])) (R.next_name self.old.rings.rings + 1) (Some xs) n)) }
         ensures name { IfOk result (λ pair. pair ≡ (R.next_name self.old.rings.rings, R.next_name self.old.rings.rings + 1)) }
         ensures next { R.next_name self.new.rings.rings ≡ (if is_ok result then R.next_name self.old.rings.rings + 2 + length given.items else R.next_name self.old.rings.rings) }
@@ -188,8 +190,8 @@ impl<R: Rings<Stored> + Drop> Shelf<R> {
         if left < 2 || left - 2 < given.len() as u64 {
             return Err(RingRefusal::NamesSpent);
         }
-        let kept = self.hold_all(given)?;
-        self.rings.new_pair(kept)
+        self.place_all(&mut given)?;
+        self.rings.new_pair(given)
     }
 
     /// Takes a bucket out and puts it before the sentinel of a ring, which may be its own.
@@ -370,22 +372,27 @@ impl<R: Rings<Stored> + Drop> Shelf<R> {
     }
 
     /// Places the bytes of a POOL bucket in the region of its pool.
-    fn place(&mut self, bucket: &Bucket) -> Result<Option<Stored>, AllocError>
-        ensures shown { IfOk result (λ o. IfSome o (λ x. shown (look self.new.regions) x ≡ bucket.now)) }
+    fn place(
+        &mut self,
+        kind: Kind,
+        content: &Content,
+        home: Home,
+    ) -> Result<Option<Stored>, AllocError>
+        ensures shown { IfOk result (λ o. IfSome o (λ x. shown (look self.new.regions) x ≡ record { kind = kind; content = content.now; home = home })) }
         ensures whole { IfOk result (λ o. IfSome o (λ x. is_whole (look self.new.regions) x.kept ≡ true)) }
         ensures lies { IfOk result (λ o. IfSome o (λ x. lies_right x.kind x.kept ≡ true)) }
-        ensures none { IfOk result (λ o. o ≡ None → lies_right bucket.now.kind (Kept.Own bucket.now.content) ≡ true) }
+        ensures none { IfOk result (λ o. o ≡ None → lies_right kind (Kept.Own content.now) ≡ true) }
         ensures kept { (p : ℕ) (s : Span) → is_some (look self.old.regions p s) ≡ true → look self.new.regions p s ≡ look self.old.regions p s }
         ensures rings { self.new.rings ≡ self.old.rings }
         ensures same { (n : ℕ) → seen self.new n ≡ seen self.old n }
     {
-        match (bucket.kind, &bucket.content) {
+        match (kind, content) {
             (Kind::Pool(pool), Content::Bytes(bytes)) => {
                 let placed = self.regions.place(pool, bytes.as_slice())?;
                 Ok(Some(Stored {
-                    kind: bucket.kind,
+                    kind,
                     kept: placed.kept,
-                    home: bucket.home,
+                    home,
                 }))
             }
             _ => Ok(None),
@@ -406,29 +413,47 @@ impl<R: Rings<Stored> + Drop> Shelf<R> {
         if self.make_room().is_err() {
             return Err(bucket);
         }
-        match self.place(&bucket) {
+        match self.place(bucket.kind, &bucket.content, bucket.home) {
             Ok(Some(stored)) => Ok(stored),
             Ok(None) => Ok(keep_own(bucket)),
             Err(_) => Err(bucket),
         }
     }
 
-    /// A new bucket as it is held, its bytes placed where it is a POOL bucket.
-    fn hold(&mut self, bucket: Bucket) -> Result<Stored, AllocError>
-        ensures shown { IfOk result (λ x. shown (look self.new.regions) x ≡ bucket) }
-        ensures whole { IfOk result (λ x. is_whole (look self.new.regions) x.kept ≡ true) }
-        ensures lies { IfOk result (λ x. lies_right x.kind x.kept ≡ true) }
+    /// Places the bytes of a new bucket in the region of its pool, where it is a POOL bucket.
+    fn place_own(&mut self, bucket: &mut Stored) -> Result<(), AllocError>
+        requires { is_own bucket.old ≡ true }
+        ensures shown { OnOk result (shown (look self.new.regions) bucket.new ≡ own_bucket bucket.old) }
+        ensures held { OnOk result (is_held (look self.new.regions) bucket.new ≡ true) }
         ensures kept { (p : ℕ) (s : Span) → is_some (look self.old.regions p s) ≡ true → look self.new.regions p s ≡ look self.old.regions p s }
         ensures rings { self.new.rings ≡ self.old.rings }
         ensures same { (n : ℕ) → seen self.new n ≡ seen self.old n }
     {
-        match self.place(&bucket)? {
-            Some(stored) => Ok(stored),
-            None => Ok(keep_own(bucket)),
+        let Kept::Own(content) = &bucket.kept else {
+            unreachable!()
+        };
+        if let Some(placed) = self.place(bucket.kind, content, bucket.home)? {
+            *bucket = placed;
         }
+        Ok(())
     }
 
-    /// New buckets as they are held. Where memory is refused, what was placed lies in regions, and no bucket names it.
+    /// Places the bytes of those new buckets that are POOL buckets. Where memory is refused, what was placed lies in regions, and no ring
+    /// names it.
+    fn place_all(&mut self, buckets: &mut Vec<Stored>) -> Result<(), AllocError>
+        requires { list_all is_own buckets.old.items ≡ true }
+        ensures shown { OnOk result (map (shown (look self.new.regions)) buckets.new.items ≡ map own_bucket buckets.old.items) }
+        ensures held { OnOk result (list_all (is_held (look self.new.regions)) buckets.new.items ≡ true) }
+        ensures rings { self.new.rings ≡ self.old.rings }
+        ensures same { (n : ℕ) → seen self.new n ≡ seen self.old n }
+    {
+        for k in 0..buckets.len() {
+            self.place_own(&mut buckets[k])?;
+        }
+        Ok(())
+    }
+
+    /// New buckets as they are held.
     fn hold_all(&mut self, buckets: Vec<Bucket>) -> Result<Vec<Stored>, AllocError>
         ensures shown { IfOk result (λ held. map (shown (look self.new.regions)) held.items ≡ buckets.items) }
         ensures held { IfOk result (λ held. list_all (is_held (look self.new.regions)) held.items ≡ true) }
@@ -437,9 +462,9 @@ impl<R: Rings<Stored> + Drop> Shelf<R> {
     {
         let mut held = Vec::new(self.regions.alloc);
         for bucket in buckets {
-            let stored = self.hold(bucket)?;
-            held.push(stored)?;
+            held.push(keep_own(bucket))?;
         }
+        self.place_all(&mut held)?;
         Ok(held)
     }
 
@@ -459,6 +484,7 @@ impl<R: Rings<Stored> + Drop> Shelf<R> {
     /// Does so for these pools.
     pub fn forget(&mut self, pools: &[u64])
         ensures given_up { (p : ℕ) → is_in p pools.now ≡ true → IsGivenUp self.new p }
+        ensures others { (p : ℕ) → IsGivenUp self.old p → IsGivenUp self.new p }
         ensures rings { self.new.rings.rings ≡ self.old.rings.rings }
         ensures same { (n : ℕ) → seen self.new n ≡ seen self.old n }
     {

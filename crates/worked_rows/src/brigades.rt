@@ -1,5 +1,9 @@
 //! Rows of brigades: buckets are put in, moved and split off.
 
+ghost use Rattle.std.specs.Prelude.{◌≡◌, true, IfOk};
+ghost use Rattle.std.specs.List.{list_all};
+ghost use Rattle.stored_rings.specs.Prelude.{is_own};
+
 use crate::buckets::{Made, make};
 use crate::calls::{Call, Four, Place, show_named, show_two};
 use crate::missing::Missing;
@@ -7,7 +11,7 @@ use crate::shown::{Seen, Shown};
 use crate::there::{want_both, want_brigade, want_bucket, want_place, want_two};
 use anyhow::Result;
 use brigade_ops::{BrigadeId, Brigades, BucketId, RingRefusal, Rings, Stored};
-use bucket_kinds::Bucket;
+use bucket_kinds::{Bucket, keep_own};
 use std::alloc::{AllocError, Global};
 
 /// No brigade of a row has more buckets.
@@ -250,13 +254,22 @@ fn two(alloc: Global, first: &'static [u8], second: &'static [u8]) -> Result<Vec
     Ok(vec![in alloc; first, second]?)
 }
 
+/// The same, each with a content of its own.
+fn own_two(alloc: Global, first: &'static [u8], second: &'static [u8]) -> Result<Vec<Stored>>
+    ensures { IfOk result (λ buckets. list_all is_own buckets.items ≡ true) }
+{
+    let first = make(alloc, Made::Heap(first))?;
+    let second = make(alloc, Made::Heap(second))?;
+    Ok(vec![in alloc; keep_own(first), keep_own(second)]?)
+}
+
 /// Two brigades are made at once, and buckets are put in at once.
 pub(crate) fn brigades_at_once<R: Rings<Stored> + Drop>(
     rt: &HostRuntime,
     store: &mut Brigades<R>,
 ) -> Result<()> {
     println!(rt; "brigades and buckets at once")?;
-    let (r, s) = store.loose_pair(two(rt.alloc(), b"a", b"b")?)?;
+    let (r, s) = store.loose_pair(own_two(rt.alloc(), b"a", b"b")?)?;
     show(rt, "a pair with a and b", store, r, s)?;
     want_brigade(store, r)?;
     store.add_all(r, two(rt.alloc(), b"c", b"d")?)?;

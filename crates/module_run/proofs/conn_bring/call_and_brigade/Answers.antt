@@ -1,10 +1,18 @@
 -- By the brigades that were made, the second of the pieces' buckets.
-use Rattle.std.proofs.Common.{ℕ, ◌+◌, map, ap, ◌∙◌}
+use Rattle.std.proofs.Common.{ℕ, ◌+◌, List, map, ap, ◌∙◌}
+use Rattle.std.specs.List.{list_all}
 use Rattle.bucket_ring.specs.Lists.{numbered}
+use Rattle.bucket_kinds.specs.declared.stored.Stored.{Stored}
 use Rattle.run_model.specs.Pieces.{bucket_of}
 use Rattle.brigade_ops.specs.Store.{next_name}
+use Rattle.stored_rings.specs.Shown.{is_own, own_bucket}
 use Rattle.stored_rings.proofs.Models.{lists_are_the_models}
+use Rattle.stored_rings.proofs.Placing.{all_own, own_shown}
 use Rattle.module_run.proofs.conn_bring.call_and_brigade.Goals as goal
+
+pub loose_pair-requires : goal.loose_pair-requires
+loose_pair-requires g c =
+    ap (λ (xs : List Stored). list_all is_own xs) c.in_ok-buckets.ensures ∙ all_own (bucket_of c.next_name.result c.args.req) c.args.pieces
 
 pub returns-in-Ok-clause-rings : goal.returns-in-Ok-clause-rings
 returns-in-Ok-clause-rings g c =
@@ -14,7 +22,8 @@ returns-in-Ok-clause-rings g c =
       done.0,
       (
         lists_are_the_models.brought make (next + 2) c.args.pieces done.0 (done.1
-            ∙ ap (numbered (next + 2)) (c.in_ok-buckets.ensures ∙ ap (λ (n : ℕ). map (bucket_of n c.args.req) c.args.pieces) c.next_name.ensures)),
+            ∙ ap (numbered (next + 2)) (ap (λ (xs : List Stored). map own_bucket xs) c.in_ok-buckets.ensures
+            ∙ (own_shown (bucket_of c.next_name.result c.args.req) c.args.pieces ∙ ap (λ (n : ℕ). map (bucket_of n c.args.req) c.args.pieces) c.next_name.ensures))),
         done.2,
       ),
     )

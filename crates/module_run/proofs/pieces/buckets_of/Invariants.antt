@@ -2,7 +2,10 @@
 use Rattle.std.proofs.Common.{◌≡◌, ◌++◌, map}
 use Rattle.std.specs.Vec.Iter.{into_iter_items}
 use Rattle.run_model.specs.Pieces.{bucket_of}
+use Rattle.bucket_kinds.specs.Stored.{own}
 use Rattle.module_run.proofs.pieces.buckets_of.Given as goal
 
 abbrev pub invariant-loop-piece : goal.invariant-loop-piece
-invariant-loop-piece l = l.buckets.items ++ map (bucket_of l.fn.call l.fn.req) (into_iter_items l.piece-iterator) ≡ map (bucket_of l.fn.call l.fn.req) l.fn.pieces
+invariant-loop-piece l =
+    l.buckets.items ++ map (λ piece. own (bucket_of l.fn.call l.fn.req piece)) (into_iter_items l.piece-iterator)
+    ≡ map (λ piece. own (bucket_of l.fn.call l.fn.req piece)) l.fn.pieces

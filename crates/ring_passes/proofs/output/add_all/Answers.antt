@@ -4,7 +4,7 @@ use Rattle.std.proofs.Math.Seq.{drop-append_seam, drop-length, take-append_seam}
 use Rattle.std.proofs.lemmas.List.{append-nil}
 use Rattle.bucket_kinds.specs.Device.{SomeWentWell}
 use Rattle.bucket_ring.specs.Lists.{list_at, rest}
-use Rattle.run_model.specs.Buckets.{is_eos_kind}
+use Rattle.run_model.specs.Buckets.{has_eos, is_eos, is_eos_kind}
 use Rattle.run_model.specs.Steps.{has_bytes}
 use Rattle.stored_rings.specs.Items.{Items, from_place, named}
 use Rattle.brigade_ops.specs.Store.{lists, brigade_of}
@@ -13,7 +13,8 @@ use Rattle.stored_rings.proofs.Walks.{told_some}
 use Rattle.ring_passes.proofs.Buffers.{behind, both_parts}
 use Rattle.ring_passes.proofs.Delivering.{ItemsSoFar, items_none, items_end, items_eos, items_failed, items_more, items_left, place_end as none_left}
 use Rattle.ring_calls.proofs.Quiet.{told_err, quiet_more}
-use Rattle.ring_calls.proofs.Walked.{WalkAt, head_here, inside_on, shorter}
+use Rattle.ring_calls.specs.Seen.{shown}
+use Rattle.ring_calls.proofs.Walked.{WalkAt, any_on, any_stop, head_here, inside_on, shorter}
 use Rattle.ring_passes.proofs.WellRead.{none_went, more_went, open_still}
 use Rattle.ring_passes.proofs.output.add_all.Goals as goal
 use Rattle.ring_passes.proofs.output.add_all.Goals.{After-payload-bucket}
@@ -31,6 +32,7 @@ loop-place-init g c =
       open_files = refl;
       read = items_none (g.F.Files.device c.args.files.now) xs (from_place c.start-place.result xs) _ c.start-place.ensures.whole (drop-length old);
       quiet = λ none. ap (λ (ys : Items). has_bytes (named ys)) c.start-place.ensures.whole ∙ none;
+      left = λ runs. ap (λ (ys : Items). has_eos (shown runs ys)) c.start-place.ensures.whole;
       inside = told_some (λ j. brigade_of c.args.store.now j ≡ Some c.args.b) c.start-place.result c.start-place.ensures.inside;
     }
 
@@ -48,6 +50,16 @@ returns-then-is_eos-clause-added g c =
       taken_so = items_eos d xs (g.F.Files.device l.files) (from_place l.place xs) id (bucket_of c.payload-bucket.result) (drop 1 (rest id xs)) front l.invariant.read (head_here w)
           (sym c.is_eos.ensures ∙ c.if-is_eos.true);
     }
+
+pub returns-then-is_eos-clause-eos : goal.returns-then-is_eos-clause-eos
+returns-then-is_eos-clause-eos g c runs is =
+    let w = at g (goal.at.returns-then-is_eos-clause-eos g c).After-payload-bucket in
+    sym (any_stop w is_eos runs (sym c.is_eos.ensures ∙ c.if-is_eos.true) ∙ c.loop-place.invariant.left runs)
+
+pub returns-clause-none : goal.returns-clause-none
+returns-clause-none g c runs whole none =
+    let xs = list_at (lists c.args.store.now) c.args.b in
+    sym (c.loop-place.invariant.left runs) ∙ ap (λ (ys : Items). has_eos (shown runs ys)) (none_left c.loop-place.place xs c.in_default.not-Some)
 
 pub returns-then-not-branch-clause-added : goal.returns-then-not-branch-clause-added
 returns-then-not-branch-clause-added g c =
@@ -93,6 +105,7 @@ loop-place-preserved g c =
       read = items_left d e xs ys (from_place c.behind-place.result xs) (drop (length old) c.add.new.out) on
           (subst (λ (bytes : List ℕ). ItemsSoFar d e xs ys bytes) (sym (ap (drop (length old)) all ∙ drop-append_seam old (front ++ took.added))) more);
       quiet = λ none. ap (λ (zs : Items). has_bytes (named zs)) on ∙ (quiet_more id x ys plain (sym (ap (λ (zs : Items). has_bytes (named zs)) (head_here w)) ∙ l.invariant.quiet none)).1;
+      left = λ runs. any_on w c.behind-place.result on is_eos runs plain ∙ l.invariant.left runs;
       inside = inside_on w c.behind-place.result on (c.behind-place.ensures.inside c.args.b w.inside);
     }
 

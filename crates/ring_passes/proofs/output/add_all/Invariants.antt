@@ -1,11 +1,13 @@
 -- What was taken so far and what is left are all.
-use Rattle.std.proofs.Common.{◌≡◌, false, Some, length, drop}
+use Rattle.std.proofs.Common.{◌≡◌, ℕ, Bool, false, Some, length, drop}
 use Rattle.bucket_kinds.specs.Device.{SomeWentWell}
+use Rattle.run_model.specs.Buckets.{has_eos}
 use Rattle.run_model.specs.Steps.{has_bytes}
 use Rattle.bucket_ring.specs.declared.names.BucketId.{BucketId}
 use Rattle.bucket_ring.specs.Lists.{list_at}
 use Rattle.stored_rings.specs.Items.{from_place, named}
 use Rattle.brigade_ops.specs.Store.{lists, brigade_of}
+use Rattle.ring_calls.specs.Seen.{shown}
 use Rattle.ring_passes.specs.Delivery.{HasFront}
 use Rattle.ring_passes.proofs.Delivering.{ItemsSoFar}
 use Rattle.ring_passes.proofs.output.add_all.Given as goal
@@ -17,6 +19,7 @@ invariant-loop-place g l = record {
   open_files : (g.F.Files.device l.files).numbered ≡ (g.F.Files.device l.fn.files).numbered;
   read : ItemsSoFar (g.F.Files.device l.fn.files) (g.F.Files.device l.files) (list_at (lists l.store) l.b) (from_place l.place (list_at (lists l.store) l.b)) (drop (length l.fn.out) l.out);
   quiet : has_bytes (named (list_at (lists l.store) l.b)) ≡ false → has_bytes (named (from_place l.place (list_at (lists l.store) l.b))) ≡ false;
+  left : (runs : ℕ → Bool) → has_eos (shown runs (from_place l.place (list_at (lists l.store) l.b))) ≡ has_eos (shown runs (list_at (lists l.store) l.b));
   inside : (id : BucketId) → l.place ≡ Some id → brigade_of l.store id ≡ Some l.b;
 }
 

@@ -15,27 +15,27 @@ pub returns-clause-seen : goal.returns-clause-seen
 returns-clause-seen g c =
     λ around call held.
     let s = c.args.store.now in
-    let i = c.hand_over.new.instance in
-    let set : slot_at i c.args.b ≡ marked Passed (slot_at c.args.instance.now c.args.b) = c.hand_over.ensures.slots c.args.b
+    let i = c.hand_over_with.new.instance in
+    let set : slot_at i c.args.b ≡ marked Passed (slot_at c.args.instance.now c.args.b) = c.hand_over_with.ensures.slots c.args.b
     ∙ ap (λ (t : Bool). if t then marked Passed (slot_at c.args.instance.now c.args.b) else slot_at c.args.instance.now c.args.b) (eq-eqb c.args.b c.args.b refl) in
     lent_cleaned (lists s) (next_name s) around i call c.args.b (lists c.clean.new.self) (next_name c.clean.new.self) c.brigade-name.result (slot_at c.args.instance.now c.args.b)
-    (apart_in (brigade_of s) (lists s) (pool_of s) (next_name s) i call (c.hand_over.ensures.held call held))
+    (apart_in (brigade_of s) (lists s) (pool_of s) (next_name s) i call (c.hand_over_with.ensures.held call held))
     set (ap (live_in (lists s)) set ∙ (live_marked (lists s) Passed (slot_at c.args.instance.now c.args.b) ∙ c.brigade-name.ensures.live (lists s) c.requires.live)) c.clean.ensures.next
     c.clean.ensures.out
-    ∙ c.hand_over.ensures.seen around call
+    ∙ c.hand_over_with.ensures.seen around call
 
 pub returns-clause-held : goal.returns-clause-held
 returns-clause-held g c =
     λ call held.
     held_kept c.args.store.now c.clean.new.self (no_less (next_name c.args.store.now) (next_name c.clean.new.self) c.clean.ensures.next) c.clean.ensures.names c.clean.ensures.pools
     (still_on (lists c.args.store.now) (lists c.clean.new.self) c.brigade-name.result (λ xs. []) c.clean.ensures.out)
-    c.hand_over.new.instance call (c.hand_over.ensures.held call held)
+    c.hand_over_with.new.instance call (c.hand_over_with.ensures.held call held)
 
 pub returns-clause-left : goal.returns-clause-left
 returns-clause-left g c =
     λ call.
     let s = c.args.store.now in
-    let i = c.hand_over.new.instance in
+    let i = c.hand_over_with.new.instance in
     left_on s c.clean.new.self (no_less (next_name s) (next_name c.clean.new.self) c.clean.ensures.next) c.clean.ensures.names c.clean.ensures.pools c.clean.ensures.references
     c.clean.ensures.unasked c.brigade-name.result (λ xs. []) c.clean.ensures.out c.args.instance.now call
     (ours_slot c.args.instance.now call c.args.b c.brigade-name.result c.brigade-name.ensures.name)

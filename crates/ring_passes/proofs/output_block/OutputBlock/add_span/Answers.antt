@@ -11,11 +11,11 @@ use Rattle.ring_passes.proofs.output_block.OutputBlock.add_span.Goals.{After-fet
 
 -- What was read is a part of the block: where it was given it stands behind the output, and else the output is as it was.
 read : (g : _) (c : After-fetch g)
-    → PartRead c.make_front.new.block c.reach.new.block c.as_mut_slice.result.now c.in_ok-start.start c.in-Some.end c.args.count c.fetch.new.buffer
+    → PartRead c.make_headroom.new.block c.reach.new.block c.as_mut_slice.result.now c.in_ok-start.start c.in-Some.end c.args.count c.fetch.new.buffer
 read g c =
     let a = c.in_ok-start.start in
     let b = c.in-Some.end in
-    let old = c.make_front.new.block in
+    let old = c.make_headroom.new.block in
     let all = c.reach.new.block in
     let xs = c.as_mut_slice.result.now in
     let bytes = c.fetch.new.buffer in
@@ -40,7 +40,7 @@ returns-in-All-clause-added g c =
     record {
       added = bytes;
       grown = ap (drop 48) part.taken
-          ∙ (longer 48 c.in_ok-start.start c.make_front.new.block bytes place.0 place.1
+          ∙ (longer 48 c.in_ok-start.start c.make_headroom.new.block bytes place.0 place.1
           ∙ ap (λ (zs : List ℕ). zs ++ bytes) (c.in_ok-start.ensures.same ∙ c.self.view_is));
       fetched_so = subst (λ (k : ℕ). IsFetched (g.F.Files.device c.args.files.now) (g.F.Files.device c.fetch.new.files) c.args.file c.args.at k bytes fetched.All) part.span c.in-All.ensures.fetched;
     }

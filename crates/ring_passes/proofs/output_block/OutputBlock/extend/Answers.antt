@@ -7,7 +7,7 @@ use Rattle.ring_passes.proofs.output_block.OutputBlock.extend.Goals as goal
 pub returns-clause-ok : goal.returns-clause-ok
 returns-clause-ok c =
     let start = c.in_ok-start.start in
-    let before = c.make_front.new.block in
+    let before = c.make_headroom.new.block in
     let all = c.extend.new.self in
     let bytes = c.args.bytes.now in
     let place = c.in_ok-start.ensures.place in

@@ -1,16 +1,18 @@
-use Rattle.std.proofs.Common.{◌≡◌, ◌+◌, ℕ, Option, Some, is_some, [], sym, ap, ◌∙◌, arith}
+use Rattle.std.proofs.Common.{◌≡◌, ◌+◌, ℕ, Option, Some, is_some, true, false, [], sym, ap, ◌∙◌, arith, rules}
+use Rattle.std.specs.List.{list_any}
 use Rattle.std.specs.Option.{option_map_or}
 use Rattle.bucket_ring.specs.Lists.{upd, list_at, times, found}
 use Rattle.stored_rings.specs.Dependents.{noted}
 use Rattle.stored_rings.specs.Items.{StoredItems}
-use Rattle.stored_rings.specs.Noted.{is_noted}
+use Rattle.stored_rings.specs.Noted.{held_under, is_noted}
 use Rattle.stored_rings.proofs.Noted.{listed_by_found, list_now}
+use Rattle.stored_rings.proofs.Placing.{all_free}
 use Rattle.stored_rings.proofs.Tested.{noted_since, paired}
 use Rattle.stored_rings.proofs.Walks.{once_listed}
 use Rattle.stored_rings.proofs.indexed.IndexedRingsStored.new_pair.Goals as goal
 
-pub invariant_of-self-2-clause-indexed : goal.invariant_of-self-2-clause-indexed
-invariant_of-self-2-clause-indexed g c =
+pub invariant_of-self-then-depend-clause-indexed : goal.invariant_of-self-then-depend-clause-indexed
+invariant_of-self-then-depend-clause-indexed g c =
     let s = c.args.self.now in
     let old = g.R.Rings.lists s.rings in
     let rings = c.new_pair.new.self in
@@ -28,6 +30,16 @@ invariant_of-self-2-clause-indexed g c =
     (λ i. once_listed c.in_ok-first.second (g.R.Rings.ring_at rings i) (times i bs) (ap (times i) (sym whole) ∙ g.met.R.Rings.counted rings i c.in_ok-first.second))
     (λ id x there. c.note_ring.ensures.here id x (ap (found id) whole ∙ there) (omega arith)))
     ok.2
+
+pub invariant_of-self-else-depend-clause-indexed : goal.invariant_of-self-else-depend-clause-indexed
+invariant_of-self-else-depend-clause-indexed g c =
+    let s = c.args.self.now in
+    let deps = c.make_room_for_all.new.dependents in
+    let ok = c.in_ok-first.ensures.ok in
+    let first = g.R.Rings.next_name s.rings in
+    let none : list_any (held_under (λ p. true)) c.args.given.items ≡ false = search rules in
+    paired (noted_since s deps deps (c.in_ok-make_room_for_all.ensures (g.R.Rings.lists s.rings) s.indexed) (λ p id e. e)) c.new_pair.new.self first (first + 1) ok.0
+    (all_free (noted deps) (first + 2) ok.0 c.args.given.items ok.1 none) ok.2
 
 pub note_ring-requires : goal.note_ring-requires
 note_ring-requires g c =

@@ -19,6 +19,10 @@ loop-pool-preserved g c =
         | inr ne ↦ told.others p (λ e. ne (sym e))
             (before.given_up p (sym (in_more_other p pool (take i pools) ne) ∙ (ap (λ (qs : List ℕ). is_in p qs) (sym (take_more pools i 0 c.loop-pool-test.true)) ∙ is)))
       ];
+      others = λ p was. elim (cases_eq pool p) [
+        | inl e ↦ subst (λ (q : ℕ). IsGivenUp c.forget_pool.new.self q) e told.given_up
+        | inr ne ↦ told.others p (λ e. ne (sym e)) (before.others p was)
+      ];
       rings = told.rings ∙ before.rings;
       same = λ n. told.same n ∙ before.same n;
     }

@@ -7,6 +7,7 @@ use Rattle.stored_rings.proofs.shelf.Shelf.forget.Given as goal
 abbrev pub invariant-loop-pool : goal.invariant-loop-pool
 invariant-loop-pool g l = record {
   given_up : (p : ℕ) → is_in p (take l.pool-index l.pools) ≡ true → IsGivenUp l.self p;
+  others : (p : ℕ) → IsGivenUp l.initial.self p → IsGivenUp l.self p;
   rings : l.self.rings.rings ≡ l.initial.self.rings.rings;
   same : (n : ℕ) → seen l.self n ≡ seen l.initial.self n;
 }

@@ -9,13 +9,13 @@ use Rattle.ring_calls.specs.Slots.{marked, slot_at}
 use Rattle.ring_passes.proofs.Handed.{seen_lent}
 use Rattle.ring_calls.proofs.HeldAlike.{held_slots}
 use Rattle.ring_calls.proofs.Vars.{held_marked}
-use Rattle.ring_passes.proofs.passes.hand_over.Goals as goal
+use Rattle.ring_passes.proofs.passes.hand_over_with.Goals as goal
 
 pub returns-clause-seen : goal.returns-clause-seen
 returns-clause-seen g c around call =
     seen_lent (lists c.args.store.now)
     (next_name c.args.store.now) around c.args.instance.now c.note_sent.new.self c.set_mark.new.self call c.args.b c.note_sent.ensures.slots c.note_sent.ensures.pools c.note_sent.ensures.numbers
-    (c.note_sent.ensures.sent ∙ ap (λ t. c.args.instance.now.sent || t) (c.holds_eos-eos.ensures (calls_in around call))) c.set_mark.ensures.rest c.set_mark.ensures.slots
+    (c.note_sent.ensures.sent ∙ ap (λ t. c.args.instance.now.sent || t) (c.requires.eos (calls_in around call))) c.set_mark.ensures.rest c.set_mark.ensures.slots
 
 pub returns-clause-held : goal.returns-clause-held
 returns-clause-held g c call held =
