@@ -12,7 +12,7 @@ import subprocess
 import tempfile
 
 TOP = os.path.dirname(os.path.dirname(os.path.abspath(__file__)))
-BELOW = ('module_code', 'byte_text', 'run_model', 'pool_tree')
+BELOW = ('module_code', 'byte_text', 'run_model', 'name_table', 'pool_tree')
 
 PROGRAM = '''\
 //! The time of a clear of a pool with 1,000 subpools, beside other pools and once these are gone.
