@@ -82,7 +82,7 @@ impl<R: Rings<Stored> + Drop> Brigades<R> {
         self.held.make_room()
     }
 
-    /// Makes an empty brigade on no pool, else as `create`. Where `make_room` made room, it is not refused for memory.
+    /// Makes an empty brigade on no pool; otherwise as `create`. Where `make_room` made room, it is not refused for memory.
     pub fn loose(&mut self) -> Result<BrigadeId, RingRefusal>
         ensures ok { IfOk result (λ b. (n : ℕ) → lists self.new n ≡ upd (lists self.old) b (Some []) n) }
         ensures name { IfOk result (λ b. b ≡ next_name self.old) }
@@ -98,9 +98,9 @@ impl<R: Rings<Stored> + Drop> Brigades<R> {
         self.held.new_ring()
     }
 
-    /// Makes two brigades on no pool, the first empty, the second with new buckets in this order, whose content is their own: all, or none.
-    /// The brigades have the next two names, the buckets those behind them. `NamesSpent`: so many names are not left. Refused, nothing is
-    /// changed, and no name is spent.
+    /// Makes two brigades on no pool, the first empty, the second with new buckets in this order, each with a content of its own: all, or
+    /// none. The bytes of a POOL bucket are placed in the region of its pool. The brigades have the next two names, the buckets those after
+    /// them. `NamesSpent`: so many names are not left. Refused, nothing is changed, and no name is spent.
     pub fn loose_pair(
         &mut self,
         buckets: Vec<Stored>,

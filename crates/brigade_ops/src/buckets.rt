@@ -55,7 +55,7 @@ impl<R: Rings<Stored> + Drop> Brigades<R> {
         self.held.add_all(b, buckets)
     }
 
-    /// Puts a new bucket at the head of a brigade (`APR_BRIGADE_INSERT_HEAD`), else as `add_tail`.
+    /// Puts a new bucket at the head of a brigade (`APR_BRIGADE_INSERT_HEAD`); otherwise as `add_tail`.
     pub fn add_head(
         &mut self,
         b: BrigadeId,
@@ -78,7 +78,7 @@ impl<R: Rings<Stored> + Drop> Brigades<R> {
         Ok(self.held.add_head(b, stored))
     }
 
-    /// Puts a new bucket before another (`APR_BUCKET_INSERT_BEFORE`), else as `add_tail`.
+    /// Puts a new bucket before another (`APR_BUCKET_INSERT_BEFORE`); otherwise as `add_tail`.
     pub fn add_before(
         &mut self,
         at: BucketId,
@@ -101,7 +101,7 @@ impl<R: Rings<Stored> + Drop> Brigades<R> {
         Ok(self.held.add_before(at, stored))
     }
 
-    /// Puts a new bucket behind another (`APR_BUCKET_INSERT_AFTER`), else as `add_tail`.
+    /// Puts a new bucket behind another (`APR_BUCKET_INSERT_AFTER`); otherwise as `add_tail`.
     pub fn add_after(
         &mut self,
         at: BucketId,
@@ -139,7 +139,7 @@ impl<R: Rings<Stored> + Drop> Brigades<R> {
         self.held.move_tail(b, id);
     }
 
-    /// Moves a bucket to the head of a brigade, else as `move_tail`.
+    /// Moves a bucket to the head of a brigade; otherwise as `move_tail`.
     pub fn move_head(&mut self, b: BrigadeId, id: BucketId)
         requires brigade { is_some (lists self.old b) ≡ true }
         requires bucket { is_some (brigade_of self.old id) ≡ true }
@@ -154,7 +154,7 @@ impl<R: Rings<Stored> + Drop> Brigades<R> {
         self.held.move_head(b, id);
     }
 
-    /// Moves a bucket before another, else as `move_tail`; before itself, nothing is changed.
+    /// Moves a bucket before another; otherwise as `move_tail`. Before itself, nothing is changed.
     pub fn move_before(&mut self, at: BucketId, id: BucketId)
         requires place { is_some (brigade_of self.old at) ≡ true }
         requires bucket { is_some (brigade_of self.old id) ≡ true }

@@ -169,8 +169,8 @@ impl<R: Rings<Stored> + Drop> Brigades<R> {
         self.forget(&reached);
     }
 
-    /// Gives up the regions of the pools that a clear reached, but of one that a bucket still depends on. Nothing that is seen of the store
-    /// changes.
+    /// Gives up the regions of the pools that a clear reached, except that of a pool on which a bucket still depends. Nothing that is seen
+    /// of the store changes.
     pub(crate) fn forget(&mut self, reached: &Reached)
         ensures freed { (p : ℕ) → is_reached reached.now p ≡ true → IsFreed self.new p }
         ensures same { (n : ℕ) → lists self.new n ≡ lists self.old n }
@@ -184,8 +184,8 @@ impl<R: Rings<Stored> + Drop> Brigades<R> {
         self.held.forget(reached.under.as_slice());
     }
 
-    /// Gives up the regions of these pools, but of one that a bucket still depends on. Nothing that is seen of the store changes. What
-    /// ends buckets behind a clear, as a close does, gives up what they lay in.
+    /// Gives up the regions of these pools, except that of a pool on which a bucket still depends. Nothing that is seen of the store
+    /// changes. What ends buckets after a clear, as a close does, gives up with it the regions in which they lay.
     pub fn give_up(&mut self, pools: &[PoolId])
         ensures freed { (p : ℕ) → is_in p pools.now ≡ true → IsFreed self.new p }
         ensures same { (n : ℕ) → lists self.new n ≡ lists self.old n }

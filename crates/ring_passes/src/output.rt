@@ -111,9 +111,9 @@ fn add<F: Files>(
     }
 }
 
-/// What a walk along a brigade met.
+/// What was met while the bytes of a brigade were added to the output.
 #[derive(Clone, Copy)]
-pub(crate) struct Walked {
+pub(crate) struct Collected {
     /// Whether no read failed.
     pub(crate) whole: bool,
     /// Whether an EOS was reached.
@@ -127,7 +127,7 @@ fn add_all<R: Rings<Stored> + Drop, F: Files>(
     files: &mut F,
     store: &Brigades<R>,
     b: BrigadeId,
-) -> Result<Walked, AllocError>
+) -> Result<Collected, AllocError>
     requires there { is_some (lists store.now b) ≡ true }
     requires ends { (id : BucketId) (x : Bucket) → brigade_of store.now id ≡ Some b → bucket_at store.now id ≡ Some x → EndsInFile x.content }
     requires open { (id : BucketId) (x : Bucket) → brigade_of store.now id ≡ Some b → bucket_at store.now id ≡ Some x → IsOpenFor (F.device files.old) x.content }
@@ -143,27 +143,27 @@ fn add_all<R: Rings<Stored> + Drop, F: Files>(
     while let Some(id) = place {
         let bucket = store.payload(id);
         if is_eos(bucket.kind) {
-            return Ok(Walked {
+            return Ok(Collected {
                 whole: true,
                 eos: true,
             });
         }
         if !add(out, files, bucket.content)? {
-            return Ok(Walked {
+            return Ok(Collected {
                 whole: false,
                 eos: false,
             });
         }
         place = store.behind(id);
     }
-    Ok(Walked {
+    Ok(Collected {
         whole: true,
         eos: false,
     })
 }
 
-/// Whether an EOS stands in a brigade, by what a walk along it met. It is looked for only where a read failed before.
-fn ends<R: Rings<Stored> + Drop>(store: &Brigades<R>, b: BrigadeId, met: Walked) -> bool
+/// Whether an EOS stands in a brigade, by what was met while its bytes were added. It is looked for only where a read failed before.
+fn ends<R: Rings<Stored> + Drop>(store: &Brigades<R>, b: BrigadeId, met: Collected) -> bool
     requires there { is_some (lists store.now b) ≡ true }
     requires eos { (runs : ℕ → Bool) → met.eos ≡ true → has_eos (shown runs (list_at (lists store.now) b)) ≡ true }
     requires none { (runs : ℕ → Bool) → met.whole ≡ true → met.eos ≡ false → has_eos (shown runs (list_at (lists store.now) b)) ≡ false }

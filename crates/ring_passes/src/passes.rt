@@ -47,7 +47,7 @@ pub fn hand_over<R: Rings<Stored> + Drop>(instance: &mut Instance, store: &Briga
     hand_over_with(instance, store, b, eos);
 }
 
-/// Hands a brigade over where it is known whether an EOS stands in it, else as `hand_over`.
+/// Hands a brigade over as `hand_over` does, where it is known already whether an EOS stands in it.
 pub(crate) fn hand_over_with<R: Rings<Stored> + Drop>(
     instance: &mut Instance,
     store: &Brigades<R>,

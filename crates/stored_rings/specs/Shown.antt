@@ -40,7 +40,7 @@ lies_right kind.File k = true
 lies_right kind.Flush k = true
 lies_right kind.Eos k = true
 
--- A bucket whose content is its own, as a new one has it: whether it is one, and what it shows.
+-- whether a bucket has a content of its own, as a new one does
 abbrev pub keeps_own : Kept → Bool
 keeps_own (kept.Own c) = true
 keeps_own (kept.Placed p) = false
@@ -48,6 +48,7 @@ keeps_own (kept.Placed p) = false
 abbrev pub is_own : Stored → Bool
 is_own x = keeps_own x.kept
 
+-- the bucket that one with a content of its own shows
 abbrev pub own_bucket : Stored → Bucket
 own_bucket x = shown (λ pool s. None) x
 

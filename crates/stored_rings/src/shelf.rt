@@ -99,7 +99,7 @@ impl<R: Rings<Stored> + Drop> Shelf<R> {
         }
     }
 
-    /// At its head, else as `add_tail`.
+    /// Puts a bucket whose bytes are placed at the head of a ring; otherwise as `add_tail`.
     pub fn add_head(&mut self, ring: RingId, bucket: Stored) -> BucketId
         requires there { is_some (seen self.old ring) ≡ true }
         requires whole { is_whole (look self.old.regions) bucket.kept ≡ true }
@@ -118,7 +118,7 @@ impl<R: Rings<Stored> + Drop> Shelf<R> {
         }
     }
 
-    /// Before another bucket, else as `add_tail`.
+    /// Puts a bucket whose bytes are placed before another; otherwise as `add_tail`.
     pub fn add_before(&mut self, at: BucketId, bucket: Stored) -> BucketId
         requires there { is_some (R.ring_at self.old.rings.rings at) ≡ true }
         requires whole { is_whole (look self.old.regions) bucket.kept ≡ true }
@@ -137,7 +137,7 @@ impl<R: Rings<Stored> + Drop> Shelf<R> {
         }
     }
 
-    /// Behind another bucket, else as `add_tail`.
+    /// Puts a bucket whose bytes are placed behind another; otherwise as `add_tail`.
     pub fn add_after(&mut self, at: BucketId, bucket: Stored) -> BucketId
         requires there { is_some (R.ring_at self.old.rings.rings at) ≡ true }
         requires whole { is_whole (look self.old.regions) bucket.kept ≡ true }
@@ -173,9 +173,9 @@ impl<R: Rings<Stored> + Drop> Shelf<R> {
         self.rings.add_all(ring, kept)
     }
 
-    /// Makes two rings, the first empty, the second with new buckets in this order, whose content is their own: all, or none. The rings have
-    /// the next two names, the buckets those behind them. `NamesSpent`: so many names are not left. Refused, nothing is changed, and no
-    /// name is spent.
+    /// Makes two rings, the first empty, the second with new buckets in this order, each with a content of its own: all, or none. The bytes
+    /// of a POOL bucket are placed in the region of its pool. The rings have the next two names, the buckets those after them.
+    /// `NamesSpent`: so many names are not left. Refused, nothing is changed, and no name is spent.
     pub fn new_pair(&mut self, mut given: Vec<Stored>) -> Result<(RingId, RingId), RingRefusal>
         requires { list_all is_own given.items ≡ true }
         ensures ok { OnOk result ((xs : Items) × (by_birth xs ≡ numbered (R.next_name self.old.rings.rings + 2) (map own_bucket given.items))
@@ -481,7 +481,7 @@ impl<R: Rings<Stored> + Drop> Shelf<R> {
         }
     }
 
-    /// Does so for these pools.
+    /// Throws out the names under these pools whose buckets are gone or depend on them no more, and gives up each region where none is left.
     pub fn forget(&mut self, pools: &[u64])
         ensures given_up { (p : ℕ) → is_in p pools.now ≡ true → IsGivenUp self.new p }
         ensures others { (p : ℕ) → IsGivenUp self.old p → IsGivenUp self.new p }
