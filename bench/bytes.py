@@ -17,8 +17,7 @@ import statistics
 import subprocess
 import tempfile
 
-from clients import LUA_MODULES
-from serve import APACHE, MODULE, NGINX, Peer, ask_for, first
+from serve import APACHE, LUA_IN_NGINX, MODULE, PASS_IN_LUA, Peer, apache_with_lua, ask_for, first, found, nginx_with_lua, with_conf
 from steps import BUILT, TOP, built
 
 SIZE = 1048576
@@ -31,7 +30,6 @@ for i = 1, #s do
 end
 '''
 IN_NGINX = 'body_filter_by_lua_block { ' + LOOP % 'ngx.arg[1]' + 'ngx.arg[1] = table.concat(out) }'
-PASSED_IN_NGINX = 'body_filter_by_lua_block { ngx.arg[1] = ngx.arg[1] }'
 IN_APACHE = '''function upper(r)
   coroutine.yield()
   while bucket ~= nil do
@@ -40,27 +38,7 @@ IN_APACHE = '''function upper(r)
   end
   coroutine.yield()
 end
-function pass(r)
-  coroutine.yield()
-  while bucket ~= nil do coroutine.yield(bucket) end
-  coroutine.yield()
-end
-'''
-LUA_IN_APACHE = 'LoadModule lua_module /usr/lib/apache2/modules/mod_lua.so\nLuaOutputFilter F %(folder)s/upper.lua {}\nSetOutputFilter F'
-
-
-def found(name):
-    return shutil.which(name) or shutil.which(name, path='/usr/sbin')
-
-
-def with_conf(path, words, folder, name, text):
-    """The words that start a server with this configuration at a port."""
-    def at(port):
-        conf = os.path.join(folder, name)
-        with open(conf, 'w') as file:
-            file.write(text.replace('%(port)d', str(port)).replace('%(folder)s', folder))
-        return [path] + words + [conf]
-    return at
+''' + PASS_IN_LUA
 
 
 def in_c(folder, name):
@@ -87,17 +65,12 @@ def servers(programs, folder):
     for number, program in enumerate(programs):
         yield 'serve' if number == 0 else program, ours(program, number, folder)
     nginx, apache = found('nginx'), found('apache2')
-    if nginx and os.path.exists(LUA_MODULES):
-        with open(LUA_MODULES) as file:
-            loads = file.read()
-        loads = loads if 'ndk' in loads else 'load_module modules/ndk_http_module.so;\n' + loads
-        yield 'nginx, LuaJIT', [with_conf(nginx, ['-c'], folder, 'nginx%d.conf' % k, loads + NGINX.replace('sendfile off;', 'sendfile off; ' + text))
-                                for k, text in enumerate((PASSED_IN_NGINX, IN_NGINX))]
-    if apache and os.path.exists('/usr/lib/apache2/modules/mod_lua.so'):
-        with open(os.path.join(folder, 'upper.lua'), 'w') as file:
-            file.write(IN_APACHE)
-        yield 'apache2, Lua', [with_conf(apache, ['-X', '-f'], folder, 'lua%d.conf' % k, APACHE.replace('%(filter)s', LUA_IN_APACHE.format(name)).replace('apache.', 'lua%d.' % k))
-                               for k, name in enumerate(('pass', 'upper'))]
+    texts = [nginx_with_lua(text) for text in (LUA_IN_NGINX, IN_NGINX)]
+    if nginx and None not in texts:
+        yield 'nginx, LuaJIT', [with_conf(nginx, ['-c'], folder, 'nginx%d.conf' % k, text) for k, text in enumerate(texts)]
+    texts = [apache_with_lua(folder, name, IN_APACHE) for name in ('pass', 'upper')]
+    if apache and None not in texts:
+        yield 'apache2, Lua', [with_conf(apache, ['-X', '-f'], folder, 'lua%d.conf' % k, text) for k, text in enumerate(texts)]
     if apache and shutil.which('apxs'):
         lines = [in_c(folder, name) for name in ('pass_filter', 'upper_filter')]
         if None not in lines:

@@ -27,11 +27,9 @@ import tempfile
 import threading
 import time
 
-from serve import APACHE, MODULE, NGINX, PASS, SIZES, ask_for, connect, first, free_port, memory, pass_filter, receive, start
+from serve import APACHE, LUA_IN_NGINX, MODULE, PASS, SIZES, ask_for, connect, first, found, free_port, memory, nginx_with_lua, pass_filter, receive, start
 from steps import BUILT, TOP, built
 
-LUA = 'body_filter_by_lua_block { ngx.arg[1] = ngx.arg[1] }'
-LUA_MODULES = '/usr/share/nginx/modules-available/mod-http-lua.conf'
 EVENT = APACHE.replace('LoadModule mpm_prefork_module /usr/lib/apache2/modules/mod_mpm_prefork.so', '''LoadModule mpm_event_module /usr/lib/apache2/modules/mod_mpm_event.so
 ServerLimit 16
 ThreadLimit 64
@@ -73,14 +71,9 @@ def stop(running):
 
 def peers(folder):
     """The other servers that are here: a name, and the words that start each at a port."""
-    nginx = shutil.which('nginx') or shutil.which('nginx', path='/usr/sbin')
-    if nginx and os.path.exists(LUA_MODULES):
-        with open(LUA_MODULES) as file:
-            loads = file.read()
-        text = 'load_module modules/ndk_http_module.so;\n' + loads if 'ndk' not in loads else loads
-        text += NGINX.replace('worker_connections 64', 'worker_connections 4096').replace('sendfile off;', 'sendfile off; ' + LUA)
-        yield 'nginx, Lua', nginx, ['-c'], text
-    apache = shutil.which('apache2') or shutil.which('apache2', path='/usr/sbin')
+    nginx, apache, text = found('nginx'), found('apache2'), nginx_with_lua(LUA_IN_NGINX)
+    if nginx and text:
+        yield 'nginx, Lua', nginx, ['-c'], text.replace('worker_connections 64', 'worker_connections 4096')
     if apache and shutil.which('apxs'):
         yield 'apache2, C', apache, ['-D', 'FOREGROUND', '-f'], EVENT
 

@@ -12,7 +12,9 @@ Peers serve the same files in the same run, each as one process that reads files
 - a server in C that reads each file at once and writes it once (bench/plain_server.c), where there is a C compiler; and the same server with
   reads of 8000 bytes ('C, parts'),
 - nginx and apache2, where they are there; with apxs (apache2-dev), apache2 sends the files through a filter in C that passes each brigade on
-  (bench/pass_filter.c).
+  (bench/pass_filter.c),
+- nginx with a body filter in Lua, which LuaJIT compiles, and apache2 with an output filter in Lua (`mod_lua`), where these are there. Each
+  passes on what it is given.
 
 All are asked by turns, in rounds, so that a machine that is slower for a while is so for each. Where the memory of a process lies, and how
 the reads of its client fall, changes little while it runs, and makes a difference of up to a fifth: so each round starts all servers anew. Told are
@@ -55,6 +57,20 @@ FileETag None
 %(filter)s
 """
 PASS = 'LoadModule pass_filter_module %s/.libs/pass_filter.so\nSetOutputFilter PASS'
+LUA_MODULES = '/usr/share/nginx/modules-available/mod-http-lua.conf'
+LUA_IN_NGINX = 'body_filter_by_lua_block { ngx.arg[1] = ngx.arg[1] }'
+MOD_LUA = '/usr/lib/apache2/modules/mod_lua.so'
+LUA_IN_APACHE = 'LoadModule lua_module ' + MOD_LUA + '\nLuaOutputFilter {0} %(folder)s/filters.lua {0}\nSetOutputFilter {0}'
+PASS_IN_LUA = '''function pass(r)
+  coroutine.yield()
+  while bucket ~= nil do coroutine.yield(bucket) end
+  coroutine.yield()
+end
+'''
+
+
+def found(name):
+    return shutil.which(name) or shutil.which(name, path='/usr/sbin')
 
 
 def free_port():
@@ -181,7 +197,7 @@ def by_turns(words, folder, size, requests):
         spent = statistics.median(took[number] for took, _ in rounds)
         ratio = statistics.median(took[0] / max(took[number], 0.01) for took, _ in rounds)
         after = ', %+d KiB' % max(grown for _, grown in rounds) if number == 0 else ', serve takes %.2f of it' % ratio
-        print('%-8s %8d bytes: %8.1f us a request over %d in %d rounds%s' % (name, size, spent, each * ROUNDS, ROUNDS, after), flush=True)
+        print('%-12s %8d bytes: %8.1f us a request over %d in %d rounds%s' % (name, size, spent, each * ROUNDS, ROUNDS, after), flush=True)
 
 
 def connections(pid, port, count):
@@ -209,6 +225,36 @@ def pass_filter(folder):
     return PASS % folder if built.returncode == 0 else ''
 
 
+def nginx_with_lua(text):
+    """The configuration of nginx with this in Lua, where its modules are there."""
+    if not os.path.exists(LUA_MODULES):
+        return None
+    with open(LUA_MODULES) as file:
+        loads = file.read()
+    if 'ndk' not in loads:
+        loads = 'load_module modules/ndk_http_module.so;\n' + loads
+    return loads + NGINX.replace('sendfile off;', 'sendfile off; ' + text)
+
+
+def apache_with_lua(folder, name, filters):
+    """The configuration of apache2 with the filter of this name among these in Lua, where `mod_lua` is there."""
+    if not os.path.exists(MOD_LUA):
+        return None
+    with open(os.path.join(folder, 'filters.lua'), 'w') as file:
+        file.write(filters)
+    return APACHE.replace('%(filter)s', LUA_IN_APACHE.format(name)).replace('apache.', name + '_in_lua.')
+
+
+def with_conf(path, words, folder, name, text):
+    """The words that start a server with this configuration at a port."""
+    def at(port):
+        conf = os.path.join(folder, name)
+        with open(conf, 'w') as file:
+            file.write(text.replace('%(port)d', str(port)).replace('%(folder)s', folder))
+        return [path] + words + [conf]
+    return at
+
+
 def servers(program, module, folder):
     """The servers: a name, and the words that start it at a port."""
     shutil.copy(module, os.path.join(folder, 'module'))
@@ -227,17 +273,14 @@ def servers(program, module, folder):
         subprocess.run([compiler, '-O2', '-o', plain, os.path.join(TOP, 'bench', 'plain_server.c')], check=True)
         yield 'C', lambda port: [plain, str(port)]
         yield 'C, parts', lambda port: [plain, str(port), '8000']
-    for name, text, words in (('nginx', NGINX, ['-c']), ('apache2', APACHE, ['-X', '-f'])):
-        found = shutil.which(name) or shutil.which(name, path='/usr/sbin')
-        if found:
-            path = os.path.join(folder, name + '.conf')
-            lines = pass_filter(folder) if name == 'apache2' else ''
-
-            def at(port, path=path, text=text, found=found, words=words, lines=lines):
-                with open(path, 'w') as file:
-                    file.write(text % {'folder': folder, 'port': port, 'filter': lines})
-                return [found] + words + [path]
-            yield name, at
+    nginx, apache = found('nginx'), found('apache2')
+    for name, path, words, text in (
+            ('nginx', nginx, ['-c'], NGINX),
+            ('apache2', apache, ['-X', '-f'], APACHE.replace('%(filter)s', pass_filter(folder))),
+            ('nginx, Lua', nginx, ['-c'], nginx_with_lua(LUA_IN_NGINX)),
+            ('apache2, Lua', apache, ['-X', '-f'], apache_with_lua(folder, 'pass', PASS_IN_LUA))):
+        if path and text:
+            yield name, with_conf(path, words, folder, name.replace(', ', '_') + '.conf', text)
 
 
 def main():
@@ -257,7 +300,7 @@ def main():
         try:
             for peer in peers:
                 peer.link.close()
-                print('%-8s %d connections: %.1f us each, %+d KiB' % ((peer.name, options.conns) + connections(peer.server.pid, peer.port, options.conns)), flush=True)
+                print('%-12s %d connections: %.1f us each, %+d KiB' % ((peer.name, options.conns) + connections(peer.server.pid, peer.port, options.conns)), flush=True)
         finally:
             for peer in peers:
                 peer.stop()

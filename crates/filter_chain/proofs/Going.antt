@@ -66,3 +66,8 @@ runs_whole device number old new answer more is h w hosts =
       chain = x.chain;
       budget = x.budget;
     }
+
+-- So it is of another word for how many.
+pub steps_alike : {F : Type 0} (device : F → Device) (number : ℕ) (old new : Host F) (answer : Result Stepped Refusal) (more most : ℕ) → more ≡ most
+    → Refines device old new (λ b c s t. StepsOn b c number more s answer t) → Refines device old new (λ b c s t. StepsOn b c number most s answer t)
+steps_alike device number old new answer more most same h = subst (λ n. Refines device old new (λ b c s t. StepsOn b c number n s answer t)) same h

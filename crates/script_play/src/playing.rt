@@ -1,7 +1,7 @@
 //! A script, from a reader to a writer, answered as it is read.
 
-ghost use Rattle.std.specs.Prelude.{◌≡◌, ◌≢◌, ◌<◌, ◌≤◌, ◌+◌, ◌-◌, ◌^◌, ◌++◌, ℕ, length, slice_index, IfOk};
-ghost use Rattle.script_play.specs.Prelude.{reads_left, source_of, lines_of, PlaysLines, PlaysBytes, PlaysEnd, EndsLines, TellsOfReader, TellsOfWriter, Writes, IsAt, Stage, HasNoLf};
+ghost use Rattle.std.specs.Prelude.{◌≡◌, ◌≢◌, ◌<◌, ◌≤◌, ◌+◌, ◌-◌, ◌^◌, ◌++◌, [], ℕ, length, slice_index, IfOk};
+ghost use Rattle.script_play.specs.Prelude.{reads_left, source_of, lines_of, PlaysLines, PlaysBytes, PlaysEnd, EndsLines, TellsOfReader, TellsOfWriter, Writes, IsAt, Stage, Reading, no_head, HasNoLf};
 ghost use Rattle.script_play.specs.Prelude.{AnswersLinesRead, IsWrittenFor, IsFrontOf, IsCutOf};
 
 use crate::player::Player;
@@ -102,6 +102,48 @@ fn take_bytes<W: Sink>(
     Ok(())
 }
 
+/// Plays the script that a reader gives, from its first line on.
+fn play_all<R: Source, W: Sink>(
+    alloc: Global,
+    player: &mut Player,
+    held: &mut Vec<u8>,
+    reader: &mut CountedSource<R>,
+    writer: &mut W,
+) -> Result<Ended, PlayFault>
+    requires reads { reads_left reader.old ≡ READS }
+    requires at { IsAt player.old (Reading no_head) }
+    requires none { player.old.lines ≡ 0 }
+    requires empty { held.old.items ≡ [] }
+    ensures ok { IfOk result (λ e. Writes (R.remaining (source_of reader.old)) (W.contents writer.old) (W.contents writer.new) (λ script text. IsWrittenFor script text e)) }
+    ensures read { result ≡ Err PlayFault.Read
+        → Writes (R.remaining (source_of reader.old)) (W.contents writer.old) (W.contents writer.new) (λ script text. AnswersLinesRead script text
+        (R.remaining (source_of reader.new))) }
+    ensures memory { result ≡ Err PlayFault.NoMemory
+        → Writes (R.remaining (source_of reader.old)) (W.contents writer.old) (W.contents writer.new) (λ script text. IsFrontOf script text (R.remaining
+        (source_of reader.new))) }
+    ensures write { result ≡ Err PlayFault.Write
+        → Writes (R.remaining (source_of reader.old)) (W.contents writer.old) (W.contents writer.new) (λ script text. IsCutOf script text (R.remaining
+        (source_of reader.new))) }
+    ensures reader { TellsOfReader (R.failed (source_of reader.old)) (R.failed (source_of reader.new)) (reads_left reader.new) result }
+    ensures writer { TellsOfWriter (W.failed writer.old) (W.failed writer.new) result }
+{
+    let mut buffer = [0; READ_BYTES];
+    for _ in 0..READS {
+        match reader.read(&mut buffer) {
+            Ok(ReadAnswer::Bytes(count)) => {
+                take_bytes(alloc, player, held, &buffer[..count], writer)?;
+            }
+            Ok(ReadAnswer::End) => return end_play(alloc, player, held.as_slice(), writer),
+            Ok(ReadAnswer::NotNow) => continue,
+            Err(_) => return Err(PlayFault::Read),
+        }
+        if player.is_over() {
+            return Ok(Ended::Refused);
+        }
+    }
+    Err(PlayFault::Read)
+}
+
 /// Plays the script that a reader gives, and writes the answers. What was read is answered before more is read.
 ///
 /// `Read`: the reader failed, or gave no end within 1,000,000 reads of at most 8192 bytes; all whole lines that were read are answered.
@@ -130,19 +172,5 @@ pub fn run_play<R: Source, W: Sink>(
 {
     let mut player = Player::new(alloc);
     let mut held = Vec::new(alloc);
-    let mut buffer = [0; READ_BYTES];
-    for _ in 0..READS {
-        match reader.read(&mut buffer) {
-            Ok(ReadAnswer::Bytes(count)) => {
-                take_bytes(alloc, &mut player, &mut held, &buffer[..count], writer)?;
-            }
-            Ok(ReadAnswer::End) => return end_play(alloc, &mut player, held.as_slice(), writer),
-            Ok(ReadAnswer::NotNow) => continue,
-            Err(_) => return Err(PlayFault::Read),
-        }
-        if player.is_over() {
-            return Ok(Ended::Refused);
-        }
-    }
-    Err(PlayFault::Read)
+    play_all(alloc, &mut player, &mut held, reader, writer)
 }

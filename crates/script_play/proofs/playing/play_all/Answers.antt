@@ -2,12 +2,12 @@ use Rattle.std.proofs.Common.{◌≡◌, ℕ, ◌*◌, length, ap, sym, ◌∙�
 use Rattle.std.proofs.lemmas.List.{length-take, length-replicate}
 use Rattle.script_play.proofs.GoingLaws.{going_first, going_kept, refused_kept, going_last, last_ok, last_read, last_memory, last_write, going_read, bytes_read, bytes_memory, bytes_write, going_on}
 use Rattle.script_play.proofs.GoingLaws.{going_over}
-use Rattle.script_play.proofs.playing.run_play.Goals as goal
+use Rattle.script_play.proofs.playing.play_all.Goals as goal
 
 pub loop-init : goal.loop-init
 loop-init g c =
     record {
-      going = going_first _ _ c.new-player.result c.new-held.result.items c.new-player.ensures.at c.new-player.ensures.lines c.new-held.ensures.items;
+      going = going_first _ _ c.args.player.now c.args.held.now.items c.requires.at c.requires.none c.requires.empty;
       wide = let z : ℕ = 0 in length-replicate 8192 z;
       counted = omega arith;
       reader = refl;

@@ -1,7 +1,7 @@
 use Rattle.std.proofs.Common.{◌≡◌, ◌+◌, ◌*◌, length}
 use Rattle.byte_streams.specs.Counted.{reads_left, source_of}
 use Rattle.script_play.proofs.GoingLaws.{Going}
-use Rattle.script_play.proofs.playing.run_play.Given as goal
+use Rattle.script_play.proofs.playing.play_all.Given as goal
 
 -- how far the play is, how many bytes a read asks for, how often the reader was read, and that neither stream failed
 abbrev pub invariant-loop : goal.invariant-loop
