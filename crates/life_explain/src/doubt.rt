@@ -2,6 +2,7 @@
 
 use crate::patterns::Pattern;
 use life_state::{BrigadeState, Classes, Contents, CursorState, PoolState, State};
+use module_code::PoolRef;
 
 /// What may be so in a state, though a rule wants that it cannot.
 #[derive(Clone, Copy)]
@@ -197,6 +198,10 @@ const CURSORS: [&str; 9] = [
     "what was read last",
 ];
 
+const CURSOR_TEXTS: [&str; 8] = ["c0", "c1", "c2", "c3", "c4", "c5", "c6", "c7"];
+
+const POOLS: [&str; 8] = ["p0", "p1", "p2", "p3", "p4", "p5", "p6", "p7"];
+
 /// The name of a brigade variable, or `in`.
 pub fn brigade_name(b: u8) -> &'static str {
     BRIGADES.get(usize::from(b)).copied().unwrap_or("")
@@ -205,6 +210,24 @@ pub fn brigade_name(b: u8) -> &'static str {
 /// What a cursor is called, or what was read last.
 pub fn cursor_name(c: u8) -> &'static str {
     CURSORS.get(usize::from(c)).copied().unwrap_or("")
+}
+
+/// How a cursor is written.
+pub fn cursor_text(c: u8) -> &'static [u8] {
+    match CURSOR_TEXTS.get(usize::from(c)) {
+        Some(name) => name.as_bytes(),
+        None => b"",
+    }
+}
+
+/// How a pool is written.
+pub fn pool_text(pool: PoolRef) -> &'static [u8] {
+    let name = match pool {
+        PoolRef::Conn => Some("conn"),
+        PoolRef::Req => Some("req"),
+        PoolRef::Own(q) => POOLS.get(usize::from(q)).copied(),
+    };
+    name.unwrap_or("").as_bytes()
 }
 
 /// A sort, and the variable or cursor that it is about, by its number in a state; the other brigade is that of `Elsewhere`.

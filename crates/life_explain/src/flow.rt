@@ -30,9 +30,11 @@ pub struct FlowRefusal {
     pub doubt: Doubt,
 }
 
-/// The refusals of a module in its states, one at most of each instruction, and how many tests may fail in all.
+/// The states that a module would have if each rule were met, the refusals in them, one at most of each instruction, and how many
+/// tests may fail in all.
 #[derive(Drop)]
 pub struct Judged {
+    pub states: Cert,
     pub refusals: Vec<FlowRefusal>,
     pub failures: usize,
 }
@@ -70,6 +72,14 @@ fn answer(code: &Module, pc: usize, state: &State) -> Option<Result<Successors, 
     }
 }
 
+// What an instruction hands on to the one behind it.
+fn handed_on(code: &Module, pc: usize, here: Option<State>) -> Option<State> {
+    match answer(code, pc, &here?)? {
+        Ok(led) => led.next,
+        Err(_) => None,
+    }
+}
+
 /// The states that a certificate means, one by one: where a slim one gives none, what the instruction before hands on.
 pub fn meant(alloc: Global, code: &Module, cert: &Cert) -> Result<Cert, AllocError> {
     let heads = heads(code);
@@ -81,14 +91,7 @@ pub fn meant(alloc: Global, code: &Module, cert: &Cert) -> Result<Cert, AllocErr
         here = if is_given {
             cert.state(pc + 1)
         } else {
-            let led = match here {
-                Some(state) => answer(code, pc, &state),
-                None => None,
-            };
-            match led {
-                Some(Ok(led)) => led.next,
-                Some(Err(_)) | None => None,
-            }
+            handed_on(code, pc, here)
         };
     }
     Ok(Cert {
@@ -283,9 +286,9 @@ fn round(alloc: Global, code: &Module, growth: &mut Growth) -> Result<(), AllocE
     Ok(())
 }
 
-/// The states of a module, as the maker of certificates lets them grow, but that an instruction that may have a fault leads where it
-/// would if its rule were met.
-pub fn states_of(alloc: Global, code: &Module) -> Result<Cert, AllocError> {
+// The states of a module, as the maker of certificates lets them grow, but that an instruction that may have a fault leads where it
+// would if its rule were met.
+fn states_of(alloc: Global, code: &Module) -> Result<Cert, AllocError> {
     let mut growth = Growth::new(alloc, code)?;
     for _ in 0..round_count(code) {
         if growth.grown.is_empty() {
@@ -314,9 +317,12 @@ pub fn refusal_of(
     None
 }
 
-/// The instructions that may have a fault in these states.
-pub fn judge(alloc: Global, code: &Module, states: &Cert) -> Result<Judged, AllocError> {
-    let mut refusals = Vec::new(alloc);
+// The instructions that may have a fault in these states; tells how many tests may fail.
+fn judge(
+    code: &Module,
+    states: &Cert,
+    refusals: &mut Vec<FlowRefusal>,
+) -> Result<usize, AllocError> {
     let mut failures = 0usize;
     for pc in 0..code.len() {
         if let Some(refusal) = refusal_of(code, states, pc, None) {
@@ -326,5 +332,17 @@ pub fn judge(alloc: Global, code: &Module, states: &Cert) -> Result<Judged, Allo
             failures = failures.saturating_add(meet(code, pc, &mut state));
         }
     }
-    Ok(Judged { refusals, failures })
+    Ok(failures)
+}
+
+/// The states of a module, and the instructions that may have a fault in them.
+pub fn judged_of(alloc: Global, code: &Module) -> Result<Judged, AllocError> {
+    let states = states_of(alloc, code)?;
+    let mut refusals = Vec::new(alloc);
+    let failures = judge(code, &states, &mut refusals)?;
+    Ok(Judged {
+        states,
+        refusals,
+        failures,
+    })
 }

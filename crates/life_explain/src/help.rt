@@ -41,12 +41,21 @@ pub fn tell_texts(
     text: ScriptText<'_>,
     cert: Option<ScriptText<'_>>,
 ) -> Result<(), AllocError> {
-    let Some(code) = module_of(told, text)? else {
-        return Ok(());
-    };
+    match module_of(told, text)? {
+        Some(code) => tell_module(told, text, &code, cert),
+        None => Ok(()),
+    }
+}
+
+fn tell_module(
+    told: &mut Page,
+    text: ScriptText<'_>,
+    code: &Module,
+    cert: Option<ScriptText<'_>>,
+) -> Result<(), AllocError> {
     match cert {
-        Some(given) => tell_with(told, text, &code, given),
-        None => tell_unmade(told, text, &code),
+        Some(given) => tell_with(told, text, code, given),
+        None => tell_unmade(told, text, code),
     }
 }
 
@@ -57,51 +66,76 @@ fn tell_with(
     code: &Module,
     given: ScriptText<'_>,
 ) -> Result<(), AllocError> {
-    let Some(cert) = cert_of(told, given)? else {
+    match cert_of(told, given)? {
+        Some(cert) => tell_against(told, text, code, &cert),
+        None => Ok(()),
+    }
+}
+
+// Why a certificate of a module is refused: of the states that are given where their shape is refused, else of those that are meant.
+fn tell_against(
+    told: &mut Page,
+    text: ScriptText<'_>,
+    code: &Module,
+    cert: &Cert,
+) -> Result<(), AllocError> {
+    let Err(refusal) = check(code, cert) else {
         return Ok(());
     };
-    let Err(refusal) = check(code, &cert) else {
-        return Ok(());
-    };
-    // Those that are given where their shape is refused, else those that are meant.
-    let states = match refusal.rule {
-        Rule::Shape => cert,
-        _ => meant(told.alloc, code, &cert)?,
-    };
-    let source = Source::of(told.alloc, text.text, text.before)?;
-    tell_unchecked(told, source, code, &states, refusal)
+    if let Rule::Shape = refusal.rule {
+        return tell_unchecked(told, text, code, cert, refusal);
+    }
+    let states = meant(told.alloc, code, cert)?;
+    tell_unchecked(told, text, code, &states, refusal)
+}
+
+// The instruction at which the maker refuses a module, if it does.
+fn refused_at(alloc: Global, code: &Module) -> Result<Option<usize>, AllocError> {
+    match make(alloc, code) {
+        Ok(_) => Ok(None),
+        Err(MakeRefusal::NoMemory) => Err(AllocError),
+        Err(MakeRefusal::At { pc, rule: _ }) => Ok(Some(pc)),
+    }
 }
 
 fn tell_unmade(told: &mut Page, text: ScriptText<'_>, code: &Module) -> Result<(), AllocError> {
-    match make(told.alloc, code) {
-        Ok(_) => Ok(()),
-        Err(MakeRefusal::NoMemory) => Err(AllocError),
-        Err(MakeRefusal::At { pc, rule: _ }) => {
-            let states = grown(told.alloc, code)?;
-            let source = Source::of(told.alloc, text.text, text.before)?;
-            tell_refusals(told, source, code, &states, pc)
-        }
-    }
+    let Some(pc) = refused_at(told.alloc, code)? else {
+        return Ok(());
+    };
+    let states = grown(told.alloc, code)?;
+    tell_may(told, text, code, &states, pc)
+}
+
+// Tells of an instruction that may have a fault in these states.
+fn tell_may(
+    told: &mut Page,
+    text: ScriptText<'_>,
+    code: &Module,
+    states: &Cert,
+    pc: usize,
+) -> Result<(), AllocError> {
+    let mut source = Source::of(told.alloc, text.text, text.before)?;
+    tell_refusals(told, &mut source, code, states, pc)
 }
 
 fn tell_unchecked(
     told: &mut Page,
-    source: Source,
+    text: ScriptText<'_>,
     code: &Module,
     cert: &Cert,
     refusal: CheckRefusal,
 ) -> Result<(), AllocError> {
     if let Rule::May(_) = refusal.rule {
-        return tell_refusals(told, source, code, cert, refusal.pc);
+        return tell_may(told, text, code, cert, refusal.pc);
     }
+    let source = Source::of(told.alloc, text.text, text.before)?;
     put_certificate(told, &source, code, cert, refusal)?;
-    match make(told.alloc, code) {
-        Ok(_) => told.push("`certify` makes a certificate with which the module is accepted\n"),
-        Err(MakeRefusal::NoMemory) => return Err(AllocError),
-        Err(MakeRefusal::At { pc: _, rule: _ }) => told.push(
-            "the module is refused whatever its certificate; ask `certify --explain`\n",
-        ),
-    }
+    let is_made = refused_at(told.alloc, code)?.is_none();
+    told.push(if is_made {
+        "`certify` makes a certificate with which the module is accepted\n"
+    } else {
+        "the module is refused whatever its certificate; ask `certify --explain`\n"
+    });
     Ok(())
 }
 

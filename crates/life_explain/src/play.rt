@@ -7,8 +7,10 @@ use crate::source::Source;
 use crate::told::put_at;
 use byte_text::{is_text, token};
 use line_help::{
-    Answered, Page, Script, is_told, lines_of, number, shown, tell_refused, tell_script_fault, word,
+    Answered, Page, Script, ScriptLine, is_told, lines_of, number, shown, tell_refused,
+    tell_script_fault, word,
 };
+use run_model::FaultKind;
 use script_text::{fault_name, fault_named};
 use std::alloc::{AllocError, Global};
 
@@ -52,9 +54,19 @@ fn answered<'a>(
     script: &Script<'a>,
     answers: &'a [u8],
 ) -> Result<Vec<Answered<'a>>, AllocError> {
+    let lines = lines_of(alloc, answers, 0)?;
     let mut found = Vec::new(alloc);
+    add_answers(script, lines.as_slice(), &mut found)?;
+    Ok(found)
+}
+
+fn add_answers<'a>(
+    script: &Script<'a>,
+    lines: &[ScriptLine<'a>],
+    found: &mut Vec<Answered<'a>>,
+) -> Result<(), AllocError> {
     let mut at = script.before;
-    for line in &lines_of(alloc, answers, 0)? {
+    for line in lines {
         let answer = line.text;
         let command = match kind_of(answer) {
             AnswerKind::Fault | AnswerKind::Refused | AnswerKind::Well => script
@@ -72,7 +84,7 @@ fn answered<'a>(
             at = at.saturating_add(1);
         }
     }
-    Ok(found)
+    Ok(())
 }
 
 // Tells what a fault means, where it is and what to write instead.
@@ -95,10 +107,21 @@ fn tell_fault_of(
     };
     let source = Source::of(told.alloc, text.text, text.before)?;
     told.put("line #, `@`: ", command.number, shown(command.text), "");
-    put_at(told, &source, pc, "line #, `@`, of module ", "");
+    tell_fault_at(told, &source, index, pc, kind)
+}
+
+// Tells of a fault in the module of this number, at this instruction.
+fn tell_fault_at(
+    told: &mut Page,
+    source: &Source,
+    index: usize,
+    pc: usize,
+    kind: FaultKind,
+) -> Result<(), AllocError> {
+    put_at(told, source, pc, "line #, `@`, of module ", "");
     told.put("# has $: ", index, &[], fault_name(kind));
     told.put("$\n", 0, &[], fault_of(kind).0);
-    tell_fault(told, &source, pc, kind)
+    tell_fault(told, source, pc, kind)
 }
 
 fn tell_module(told: &mut Page, script: &Script<'_>, answer: &[u8]) -> Result<(), AllocError> {
@@ -147,6 +170,43 @@ fn tell_answer(
     Ok(true)
 }
 
+// Tells what an answer means, where it was not told before; it is then one of those that were.
+fn tell_new<'a>(
+    told: &mut Page,
+    script: &Script<'_>,
+    earlier: &[Answered<'_>],
+    answer: &Answered<'a>,
+    done: &mut Vec<Answered<'a>>,
+) -> Result<(), AllocError> {
+    if !is_told(done.as_slice(), answer) && tell_answer(told, script, earlier, answer)? {
+        done.push(*answer)?;
+    }
+    Ok(())
+}
+
+fn tell_answers(
+    told: &mut Page,
+    script: &Script<'_>,
+    answered: &[Answered<'_>],
+) -> Result<(), AllocError> {
+    let mut done = Vec::new(told.alloc);
+    for (index, answer) in answered.iter().enumerate() {
+        if done.len() == MOST {
+            told.push("what is answered from then on is not explained\n");
+            break;
+        }
+        let earlier = answered.get(..index).unwrap_or(&[]);
+        tell_new(told, script, earlier, answer, &mut done)?;
+    }
+    Ok(())
+}
+
+fn tell_play<'a>(told: &mut Page, script: &'a [u8], answers: &'a [u8]) -> Result<(), AllocError> {
+    let script = Script::of(told.alloc, script)?;
+    let answered = answered(told.alloc, &script, answers)?;
+    tell_answers(told, &script, answered.as_slice())
+}
+
 /// What the answers of a play mean that tell a fault or refuse, in words; nothing where there are none. The same
 /// refusal of the same connection is told once, but `Busy` once for each command, and sixteen answers are told at most.
 pub fn explain_play<'a>(
@@ -154,20 +214,7 @@ pub fn explain_play<'a>(
     script: &'a [u8],
     answers: &'a [u8],
 ) -> Result<String, AllocError> {
-    let script = Script::of(alloc, script)?;
-    let answered = answered(alloc, &script, answers)?;
     let mut told = Page::new(alloc);
-    let mut done = Vec::new(alloc);
-    for (index, answer) in answered.iter().enumerate() {
-        if done.len() == MOST {
-            told.push("what is answered from then on is not explained\n");
-            break;
-        }
-        let earlier = answered.get(..index).unwrap_or(&[]);
-        let again = is_told(done.as_slice(), answer);
-        if !again && tell_answer(&mut told, &script, earlier, answer)? {
-            done.push(*answer)?;
-        }
-    }
+    tell_play(&mut told, script, answers)?;
     told.finished()
 }

@@ -1,6 +1,6 @@
 //! A refusal with what is known around it, and the remedies that the rules have for it.
 
-use crate::doubt::{Sort, Topic, brigade_name};
+use crate::doubt::{Sort, Topic, brigade_name, cursor_text, pool_text};
 use crate::flow::{FlowRefusal, home_of, instr_at, parent_of};
 use crate::patterns::Pattern;
 use crate::rules::{Fresh, Per, RULES, Rule, Test, When, names_of};
@@ -14,10 +14,6 @@ use line_help::{Page, last_word, stands_in, text_of};
 use module_code::parts::parts;
 use module_code::{Args, Instr, Module, Op, PoolRef, Status};
 use std::alloc::Global;
-
-const CURSORS: [&str; 8] = ["c0", "c1", "c2", "c3", "c4", "c5", "c6", "c7"];
-
-const POOLS: [&str; 8] = ["p0", "p1", "p2", "p3", "p4", "p5", "p6", "p7"];
 
 // The places of the capitals.
 const A: usize = 0;
@@ -83,22 +79,6 @@ pub struct Case<'s> {
     names: [&'s [u8]; 26],
 }
 
-fn cursor_text(c: u8) -> &'static [u8] {
-    match CURSORS.get(usize::from(c)) {
-        Some(name) => name.as_bytes(),
-        None => b"",
-    }
-}
-
-fn pool_text(pool: PoolRef) -> &'static [u8] {
-    let name = match pool {
-        PoolRef::Conn => Some("conn"),
-        PoolRef::Req => Some("req"),
-        PoolRef::Own(q) => POOLS.get(usize::from(q)).copied(),
-    };
-    name.unwrap_or("").as_bytes()
-}
-
 impl<'s> Case<'s> {
     /// A refusal, and no remedies yet.
     pub fn new(
@@ -144,16 +124,22 @@ impl<'s> Case<'s> {
         text_of(self.shape(self.maker).0.text())
     }
 
+    // Whether a `bsplit` stands in the handler before the refused instruction.
+    fn cuts_before(&self) -> bool {
+        for pc in self.code.main()..self.refusal.pc {
+            if let Some(Instr::BSplit(_, _, _)) = instr_at(self.code, pc) {
+                return true;
+            }
+        }
+        false
+    }
+
     /// The pattern of the refusal.
     pub fn pattern(&self) -> Pattern {
         let doubt = self.refusal.doubt;
         let is_late = matches!(doubt.sort, Sort::LateData);
         let made = self.made_by();
-        let mut cuts = false;
-        for pc in self.code.main()..self.refusal.pc {
-            let cut = matches!(instr_at(self.code, pc), Some(Instr::BSplit(_, _, _)));
-            cuts = cuts || cut && self.exit == NONE;
-        }
+        let cuts = self.exit == NONE && self.cuts_before();
         if cuts && (is_late || matches!(doubt.sort, Sort::Sent)) || is_late && made == "bsplit" {
             Pattern::CutWithoutEos
         } else if is_late && doubt.of == 8 {
@@ -313,13 +299,16 @@ impl<'s> Case<'s> {
         self.names[C] = cursor_text(x);
         self.names[D] = cursor_text(y);
         self.names[L] = last_word(self.source.instruction(pc));
+        self.form_with(op, x, y, pc)
+    }
+
+    fn form_with(&self, op: Op, x: u8, y: u8, pc: usize) -> &'static str {
+        let is_in = matches!(self.cursor(pc, y), CursorState::In(8, _));
         match op {
-            Op::Next if matches!(self.cursor(pc, y), CursorState::In(8, _)) =>
-                "over at unlink D;over at tail O D;over at first C in",
-            Op::Before
-                if matches!(self.cursor(pc, y), CursorState::In(8, _)) && self.is_eos(pc, y) =>
+            Op::Next if is_in => "over at unlink D;over at tail O D;over at first C in",
+            Op::Before if is_in && self.is_eos(pc, y) =>
                 "over at tail O C;over at unlink D;over at tail O D",
-            Op::Before if matches!(self.cursor(pc, y), CursorState::In(8, _)) => "over at tail O C",
+            Op::Before if is_in => "over at tail O C",
             Op::Tail | Op::Head if x == 8 => "over at tail O D",
             Op::BConcat if x == 8 => "over at bconcat O A",
             Op::Pass if x == 8 => "over at pass O L;over at bclean O",
@@ -333,25 +322,46 @@ impl<'s> Case<'s> {
     fn fits(&mut self, test: Test, pc: usize) -> bool {
         let (op, args) = self.shape(pc);
         let (x, y) = (args.first.index(), args.second.index());
-        let of = self.refusal.doubt.of;
-        let is_pool = matches!(self.refusal.doubt.row().topic, Topic::Pool);
-        let in_main = pc >= self.code.main();
         self.names[C] = cursor_text(if let Op::Aside = op { x } else { y });
+        match test {
+            Test::LiesOn | Test::Inside => self.fits_number(test, pc),
+            Test::Makes | Test::PutsEos | Test::Tails => x == self.refusal.doubt.of
+                && self.fits_of(test, op, y, pc),
+            _ => pc >= self.code.main() && self.fits_in_main(test, op, args, pc),
+        }
+    }
+
+    // Whether an instruction fits that is about what the doubt is about.
+    fn fits_of(&mut self, test: Test, op: Op, y: u8, pc: usize) -> bool {
+        let is_pool = matches!(self.refusal.doubt.row().topic, Topic::Pool);
         match (test, op) {
-            (Test::LiesOn | Test::Inside, _) => self.fits_number(test, pc),
-            (Test::Makes, Op::PCreate) => is_pool && x == of,
-            (Test::Makes, Op::BCreate) => !is_pool && x == of,
-            (Test::Drops, Op::JEq | Op::JLt) => in_main && self.drops(pc),
-            (Test::Saves, Op::BSave | Op::BConcat) => in_main && x == of && y == 8,
-            (Test::PutsEos, Op::Tail) => x == of && self.is_eos(pc, y) && self.finds_jump(pc),
-            (Test::Tails, Op::Tail) => x == of,
-            (Test::Leaves, Op::Ret) => in_main && self.may_be(pc).1,
-            (Test::PutsOfCall, Op::Tail | Op::Head) if x == of => match self.cursor(pc, y) {
-                CursorState::Loose(_, homes) => in_main && homes.call,
-                _ => false,
-            },
-            (Test::Reads, Op::Read) => in_main,
-            (Test::Asides, Op::Aside) => in_main && !matches!(args.second.place(), PoolRef::Conn),
+            (Test::Makes, Op::PCreate) => is_pool,
+            (Test::Makes, Op::BCreate) => !is_pool,
+            (Test::PutsEos, Op::Tail) => self.is_eos(pc, y) && self.finds_jump(pc),
+            (Test::Tails, Op::Tail) => true,
+            _ => false,
+        }
+    }
+
+    // Whether an instruction of `main` fits.
+    fn fits_in_main(&mut self, test: Test, op: Op, args: Args, pc: usize) -> bool {
+        let is_of = args.first.index() == self.refusal.doubt.of;
+        let y = args.second.index();
+        match (test, op) {
+            (Test::Drops, Op::JEq | Op::JLt) => self.drops(pc),
+            (Test::Saves, Op::BSave | Op::BConcat) => is_of && y == 8,
+            (Test::Leaves, Op::Ret) => self.may_be(pc).1,
+            (Test::PutsOfCall, Op::Tail | Op::Head) => is_of && self.is_of_call(pc, y),
+            (Test::Reads, Op::Read) => true,
+            (Test::Asides, Op::Aside) => !matches!(args.second.place(), PoolRef::Conn),
+            _ => false,
+        }
+    }
+
+    // Whether the loose bucket at a cursor may end with the call.
+    fn is_of_call(&self, pc: usize, c: u8) -> bool {
+        match self.cursor(pc, c) {
+            CursorState::Loose(_, homes) => homes.call,
             _ => false,
         }
     }
@@ -549,20 +559,30 @@ impl<'s> Case<'s> {
         }
     }
 
-    /// Finds the remedies of the refusal, the likeliest first.
-    pub fn find_remedies(&mut self) {
-        let of = self.refusal.doubt.of;
+    // What stands for the capitals of the instruction that made it so.
+    fn name_made(&mut self) {
         let args = self.shape(self.maker).1;
         let first = args.first.index();
-        self.names[B] = brigade_name(of).as_bytes();
-        self.names[O] = brigade_name(self.code.brigade_count()).as_bytes();
         self.names[S] = brigade_name(first).as_bytes();
         self.names[T] = brigade_name(args.second.index()).as_bytes();
-        self.names[P] = pool_text(home_of(self.code, of));
         self.names[Q] = pool_text(PoolRef::Own(first));
-        self.names[V] = pool_text(PoolRef::Own(of));
         self.names[X] = self.source.instruction(self.maker);
+    }
+
+    // What stands for the capitals of the doubt and of the refused instruction.
+    fn name_doubt(&mut self) {
+        let of = self.refusal.doubt.of;
+        self.names[B] = brigade_name(of).as_bytes();
+        self.names[O] = brigade_name(self.code.brigade_count()).as_bytes();
+        self.names[P] = pool_text(home_of(self.code, of));
+        self.names[V] = pool_text(PoolRef::Own(of));
         self.names[Y] = self.source.instruction(self.refusal.pc);
+    }
+
+    /// Finds the remedies of the refusal, the likeliest first.
+    pub fn find_remedies(&mut self) {
+        self.name_made();
+        self.name_doubt();
         let sort = self.refusal.doubt.sort;
         for rule in &RULES {
             if rule.is_of(sort) && self.is_made_by(rule.made) && self.is_when(rule.when) {

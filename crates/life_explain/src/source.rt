@@ -61,8 +61,9 @@ impl Source {
 
     /// The lines of a text, before which so many stand.
     pub fn of(alloc: Global, text: &[u8], before: usize) -> Result<Source, AllocError> {
+        let lines = lines_of(alloc, text, before)?;
         let mut source = Source::new(alloc);
-        for line in &lines_of(alloc, text, before)? {
+        for line in &lines {
             source.add(line.number, unindented(line.text));
         }
         Ok(source)

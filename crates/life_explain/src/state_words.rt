@@ -100,11 +100,29 @@ fn put_brigade(told: &mut Page, state: &State, b: u8) {
         });
     }
     if brigade.live && brigade.usable {
-        let content = brigade.content as usize;
-        told.push(CONTENTS.get(content).copied().unwrap_or(""));
-        if !matches!(brigade.content, Contents::Empty) {
-            put_homes(told, &brigade.homes);
-        }
+        put_contents(told, brigade.content, &brigade.homes);
+    }
+}
+
+fn put_contents(told: &mut Page, content: Contents, homes: &HomeSet) {
+    told.push(CONTENTS.get(content as usize).copied().unwrap_or(""));
+    if !matches!(content, Contents::Empty) {
+        put_homes(told, homes);
+    }
+}
+
+// Which buckets a cursor may be at.
+fn class_text(cursor: CursorState) -> &'static str {
+    match cursor {
+        CursorState::Loose(classes, _)
+        | CursorState::In(_, classes)
+        | CursorState::InOrEnd(_, classes) => of_three(
+            &CLASSES,
+            classes.bytes,
+            classes.flush,
+            classes.eos,
+        ),
+        CursorState::Unset | CursorState::End(_) => "",
     }
 }
 
@@ -119,18 +137,7 @@ fn put_cursor(told: &mut Page, state: &State, c: u8) {
         CursorState::End(b) => (" is the end of `@`", b),
         CursorState::InOrEnd(b, _) => (" is a bucket of $ in `@`, or its end", b),
     };
-    let class = match cursor {
-        CursorState::Loose(classes, _)
-        | CursorState::In(_, classes)
-        | CursorState::InOrEnd(_, classes) => of_three(
-            &CLASSES,
-            classes.bytes,
-            classes.flush,
-            classes.eos,
-        ),
-        CursorState::Unset | CursorState::End(_) => "",
-    };
-    told.put(form, 0, brigade_name(b).as_bytes(), class);
+    told.put(form, 0, brigade_name(b).as_bytes(), class_text(cursor));
     if let CursorState::Loose(_, homes) = cursor {
         put_homes(told, &homes);
     }

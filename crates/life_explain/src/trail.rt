@@ -147,20 +147,30 @@ fn trail_from(
 
 /// How it came to an instruction, by the fewest steps.
 pub fn trail_to(known: &Known<'_>, pc: usize, doubt: Doubt) -> Result<Trail, AllocError> {
-    let alloc = known.alloc;
-    let start = StatePlace::At(pc);
-    let mut nodes = vec![in alloc;
+    let place = StatePlace::At(pc);
+    let mut nodes = vec![in known.alloc;
         TrailNode {
-            place: start,
+            place,
             jumps: false,
             next: 0
         },
     ]?;
+    trail_by(known, &mut nodes, place, doubt)
+}
+
+// The same, where the instruction is the first of the places that are looked at.
+fn trail_by(
+    known: &Known<'_>,
+    nodes: &mut Vec<TrailNode>,
+    start: StatePlace,
+    doubt: Doubt,
+) -> Result<Trail, AllocError> {
+    let alloc = known.alloc;
     for number in 0..known.code.len().saturating_add(2) {
         let Some(TrailNode { place, .. }) = nodes.get(number).copied() else {
             break
         };
-        let (comes, made) = look(known, &mut nodes, number, place, doubt)?;
+        let (comes, made) = look(known, nodes, number, place, doubt)?;
         if let Some(way) = made {
             let last = nodes.len();
             nodes.push(TrailNode {

@@ -11,7 +11,7 @@ use life_cert::CertCode;
 use module_code::{Op, Word, word_of};
 use module_lang::Code;
 use script_text::{LINE_BYTES, is_skipped};
-use std::alloc::AllocError;
+use std::alloc::{AllocError, Global};
 
 /// How many bytes of a line are shown at most.
 const SHOWN: usize = 100;
@@ -71,6 +71,15 @@ fn due_behind(lines: &[ScriptLine<'_>]) -> &'static str {
     "`module 1`"
 }
 
+// Tells of the byte behind so many that may not stand on a line.
+fn tell_byte(told: &mut Page, index: usize, byte: u8) {
+    let name = if byte == b'\t' { ", a tab" } else { "" };
+    told.put("  its byte # is 0x", index.saturating_add(1), &[], "");
+    told.full |= write!(told.text, "{byte:02x}{name}").is_err();
+    told.push("; a line has bytes from 0x20 to 0x7e alone, and other bytes stand in quotes, as `");
+    told.full |= writeln!(told.text, "\\x{byte:02x}`").is_err();
+}
+
 // Tells which byte may not stand on a line, of a text that may have so many bytes.
 fn tell_bad_byte(told: &mut Page, line: &ScriptLine<'_>, most: &str) {
     if line.text.ends_with(b"\r") {
@@ -79,16 +88,8 @@ fn tell_bad_byte(told: &mut Page, line: &ScriptLine<'_>, most: &str) {
         );
     }
     for (index, byte) in line.text.iter().enumerate() {
-        let byte = *byte;
-        if !is_printable(byte) {
-            let name = if byte == b'\t' { ", a tab" } else { "" };
-            told.put("  its byte # is 0x", index.saturating_add(1), &[], "");
-            told.full |= write!(told.text, "{byte:02x}{name}").is_err();
-            told.push(
-                "; a line has bytes from 0x20 to 0x7e alone, and other bytes stand in quotes, as `",
-            );
-            told.full |= writeln!(told.text, "\\x{byte:02x}`").is_err();
-            return;
+        if !is_printable(*byte) {
+            return tell_byte(told, index, *byte);
         }
     }
     if line.ended {
@@ -240,26 +241,42 @@ pub fn tell_asm_fault(
     code: Code,
 ) -> Result<(), AllocError> {
     let lines = lines_of(told.alloc, text.text, text.before)?;
-    let index = line.saturating_sub(1);
     let number = text.before.saturating_add(line);
-    match lines.get(index).copied() {
-        Some(there) => {
-            let text = unindented(there.text);
-            tell_line(told, number, "", Some(text));
-            writeln!(told.text, "{code}")?;
-            let lines = lines.as_slice();
-            Faulty { there, text, lines }.tell(told, code);
-        }
-        None => {
-            tell_line(told, number, "", None);
-            writeln!(told.text, "{code}")?;
-        }
+    tell_asm_line(told, lines.as_slice(), line.saturating_sub(1), number, code)
+}
+
+// The same, of these lines, by the place of the line and its number.
+fn tell_asm_line<'a>(
+    told: &mut Page,
+    lines: &'a [ScriptLine<'a>],
+    index: usize,
+    number: usize,
+    code: Code,
+) -> Result<(), AllocError> {
+    let there = lines.get(index).copied();
+    match there {
+        Some(there) => tell_line(told, number, "", Some(unindented(there.text))),
+        None => tell_line(told, number, "", None),
+    }
+    writeln!(told.text, "{code}")?;
+    if let Some(there) = there {
+        let text = unindented(there.text);
+        Faulty { there, text, lines }.tell(told, code);
     }
     if let Code::NotDue = code {
         let due = due_behind(lines.get(..index).unwrap_or(&[]));
         told.put("  due here is $\n", 0, &[], due);
     }
     Ok(())
+}
+
+fn line_at<'a>(
+    alloc: Global,
+    text: ScriptText<'a>,
+    index: usize,
+) -> Result<Option<ScriptLine<'a>>, AllocError> {
+    let lines = lines_of(alloc, text.text, text.before)?;
+    Ok(lines.get(index).copied())
 }
 
 /// Tells what is wrong with the first faulty line of a certificate text, by its number in the text.
@@ -269,8 +286,7 @@ pub fn tell_cert_fault(
     line: usize,
     code: CertCode,
 ) -> Result<(), AllocError> {
-    let lines = lines_of(told.alloc, text.text, text.before)?;
-    let there = lines.get(line.saturating_sub(1)).copied();
+    let there = line_at(told.alloc, text, line.saturating_sub(1))?;
     let of = if text.before == 0 {
         " of the certificate"
     } else {
