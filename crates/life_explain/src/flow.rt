@@ -171,6 +171,22 @@ fn add_way(
     Ok(())
 }
 
+// Adds the ways of an instruction with this target to what follows it.
+fn add_led(
+    pc: usize,
+    target: usize,
+    led: &Successors,
+    ways: &mut Vec<Way>,
+) -> Result<(), AllocError> {
+    let from = StatePlace::At(pc);
+    add_way(ways, from, StatePlace::At(pc.saturating_add(1)), led.next)?;
+    add_way(ways, from, StatePlace::At(target), led.jump)?;
+    if let (Some(_), Some(last)) = (led.jump, ways.last_mut()) {
+        last.jumps = true;
+    }
+    Ok(())
+}
+
 fn add_ways_of_line(
     code: &Module,
     pc: usize,
@@ -185,19 +201,14 @@ fn add_ways_of_line(
     let (Some(Ok(led)), Some(instr)) = (answer(code, pc, &met), instr_at(code, pc)) else {
         return Ok(());
     };
-    let from = StatePlace::At(pc);
-    add_way(ways, from, StatePlace::At(pc.saturating_add(1)), led.next)?;
-    add_way(ways, from, StatePlace::At(instr.target()), led.jump)?;
-    if let (Some(_), Some(last)) = (led.jump, ways.last_mut()) {
-        last.jumps = true;
-    }
+    add_led(pc, instr.target(), &led, ways)?;
     let left = if pc < code.init() {
         StatePlace::Idle
     } else {
         StatePlace::Ready
     };
     match instr {
-        Instr::Ret(_) => add_way(ways, from, left, Some(at_return(state))),
+        Instr::Ret(_) => add_way(ways, StatePlace::At(pc), left, Some(at_return(state))),
         _ => Ok(()),
     }
 }

@@ -11,27 +11,41 @@ use module_code::Module;
 use module_lang::{AsmRefusal, assemble};
 use std::alloc::{AllocError, Global};
 
-/// The module of a text; nothing where its fault is told.
-pub fn module_of(told: &mut Page, text: ScriptText<'_>) -> Result<Option<Module>, AllocError> {
-    match assemble(told.alloc, text.text) {
-        Ok(code) => Ok(Some(code)),
-        Err(AsmRefusal::Fault { line, code }) => {
-            tell_asm_fault(told, text, line, code)?;
-            Ok(None)
-        }
-        Err(AsmRefusal::NoMemory) => Err(AllocError),
+fn tell_no_module(
+    told: &mut Page,
+    text: ScriptText<'_>,
+    refusal: AsmRefusal,
+) -> Result<(), AllocError> {
+    match refusal {
+        AsmRefusal::Fault { line, code } => tell_asm_fault(told, text, line, code),
+        AsmRefusal::NoMemory => Err(AllocError),
     }
 }
 
-/// The certificate of a text; nothing where its fault is told.
-pub fn cert_of(told: &mut Page, text: ScriptText<'_>) -> Result<Option<Cert>, AllocError> {
+fn tell_no_cert(
+    told: &mut Page,
+    text: ScriptText<'_>,
+    refusal: CertRefusal,
+) -> Result<(), AllocError> {
+    match refusal {
+        CertRefusal::Fault { line, code } => tell_cert_fault(told, text, line, code),
+        CertRefusal::NoMemory => Err(AllocError),
+    }
+}
+
+/// Tells what is wrong with a module text.
+pub fn tell_module_text(told: &mut Page, text: ScriptText<'_>) -> Result<(), AllocError> {
+    match assemble(told.alloc, text.text) {
+        Ok(_) => Ok(()),
+        Err(refusal) => tell_no_module(told, text, refusal),
+    }
+}
+
+/// Tells what is wrong with a certificate text.
+pub fn tell_cert_text(told: &mut Page, text: ScriptText<'_>) -> Result<(), AllocError> {
     match read_cert(told.alloc, text.text) {
-        Ok(cert) => Ok(Some(cert)),
-        Err(CertRefusal::Fault { line, code }) => {
-            tell_cert_fault(told, text, line, code)?;
-            Ok(None)
-        }
-        Err(CertRefusal::NoMemory) => Err(AllocError),
+        Ok(_) => Ok(()),
+        Err(refusal) => tell_no_cert(told, text, refusal),
     }
 }
 
@@ -41,9 +55,9 @@ pub fn tell_texts(
     text: ScriptText<'_>,
     cert: Option<ScriptText<'_>>,
 ) -> Result<(), AllocError> {
-    match module_of(told, text)? {
-        Some(code) => tell_module(told, text, &code, cert),
-        None => Ok(()),
+    match assemble(told.alloc, text.text) {
+        Ok(code) => tell_module(told, text, &code, cert),
+        Err(refusal) => tell_no_module(told, text, refusal),
     }
 }
 
@@ -66,9 +80,9 @@ fn tell_with(
     code: &Module,
     given: ScriptText<'_>,
 ) -> Result<(), AllocError> {
-    match cert_of(told, given)? {
-        Some(cert) => tell_against(told, text, code, &cert),
-        None => Ok(()),
+    match read_cert(told.alloc, given.text) {
+        Ok(cert) => tell_against(told, text, code, &cert),
+        Err(refusal) => tell_no_cert(told, given, refusal),
     }
 }
 
@@ -128,8 +142,7 @@ fn tell_unchecked(
     if let Rule::May(_) = refusal.rule {
         return tell_may(told, text, code, cert, refusal.pc);
     }
-    let source = Source::of(told.alloc, text.text, text.before)?;
-    put_certificate(told, &source, code, cert, refusal)?;
+    tell_states(told, text, code, cert, refusal)?;
     let is_made = refused_at(told.alloc, code)?.is_none();
     told.push(if is_made {
         "`certify` makes a certificate with which the module is accepted\n"
@@ -137,6 +150,18 @@ fn tell_unchecked(
         "the module is refused whatever its certificate; ask `certify --explain`\n"
     });
     Ok(())
+}
+
+// Tells what a certificate says against its module.
+fn tell_states(
+    told: &mut Page,
+    text: ScriptText<'_>,
+    code: &Module,
+    cert: &Cert,
+    refusal: CheckRefusal,
+) -> Result<(), AllocError> {
+    let source = Source::of(told.alloc, text.text, text.before)?;
+    put_certificate(told, &source, code, cert, refusal)
 }
 
 /// Why no certificate of a module text is made, in words; nothing where one is made.

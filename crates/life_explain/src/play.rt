@@ -1,6 +1,6 @@
 //! The help on what a play answered.
 
-use crate::help::{cert_of, module_of, tell_texts};
+use crate::help::{tell_cert_text, tell_module_text, tell_texts};
 use crate::patterns::fault_of;
 use crate::session::tell_fault;
 use crate::source::Source;
@@ -140,15 +140,10 @@ fn tell_module(told: &mut Page, script: &Script<'_>, answer: &[u8]) -> Result<()
 // Tells what is wrong with the text that a line of this number is of.
 fn tell_text(told: &mut Page, script: &Script<'_>, number: usize) -> Result<(), AllocError> {
     match script.text_with(number) {
-        Some(text) if text.is_cert => {
-            let _ = cert_of(told, text)?;
-        }
-        Some(text) => {
-            let _ = module_of(told, text)?;
-        }
-        None => {}
+        Some(text) if text.is_cert => tell_cert_text(told, text),
+        Some(text) => tell_module_text(told, text),
+        None => Ok(()),
     }
-    Ok(())
 }
 
 // Tells what an answer means; whether there was something to tell.

@@ -66,9 +66,9 @@ fn undoes(source: &Source, edits: &[Edit]) -> bool {
 }
 
 // Whether the line of the refusal is refused no more.
-fn is_settled(case: &Case<'_>, source: &Source, refusals: &[FlowRefusal]) -> bool {
+fn is_settled(case: &Case<'_>, source: &Source, judged: &Judged) -> bool {
     let line = case.source.number_of(case.refusal.pc);
-    for refusal in refusals {
+    for refusal in &judged.refusals {
         if source.number_of(refusal.pc) == line {
             return false;
         }
@@ -79,10 +79,10 @@ fn is_settled(case: &Case<'_>, source: &Source, refusals: &[FlowRefusal]) -> boo
 // How many tests may fail in a source with edits, and whether it settles the refusal; nothing where the text is no module.
 fn outcome(case: &Case<'_>, source: &Source) -> Result<Option<(usize, bool)>, AllocError> {
     match study_of(case.page.alloc, source)? {
-        Some(study) => {
-            let settled = is_settled(case, source, study.judged.refusals.as_slice());
-            Ok(Some((study.judged.failures, settled)))
-        }
+        Some(study) => Ok(Some((
+            study.judged.failures,
+            is_settled(case, source, &study.judged),
+        ))),
         None => Ok(None),
     }
 }

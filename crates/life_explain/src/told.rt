@@ -102,16 +102,21 @@ pub fn put_remedy(told: &mut Page, source: &Source, pattern: Pattern, page: &Pag
     for edit in edits {
         let text = cut(page, edit.start, edit.end);
         if !edit.follows {
-            let form = match (edit.removes, text.is_empty()) {
-                (true, true) => "  take out line #, `@`\n",
-                (true, false) => "  in place of line #, `@`, write\n",
-                (false, _) => "  before line # write\n",
-            };
-            let there = source.text_at(edit.at);
-            told.put(form, source.number_at(edit.at), there, "");
+            put_place(told, source, edit, text);
         }
         if !text.is_empty() {
             told.put("    @\n", 0, text, "");
         }
     }
+}
+
+// Tells where a line is to be written, or which is to be taken out.
+fn put_place(told: &mut Page, source: &Source, edit: &Edit, text: &[u8]) {
+    let form = match (edit.removes, text.is_empty()) {
+        (true, true) => "  take out line #, `@`\n",
+        (true, false) => "  in place of line #, `@`, write\n",
+        (false, _) => "  before line # write\n",
+    };
+    let there = source.text_at(edit.at);
+    told.put(form, source.number_at(edit.at), there, "");
 }

@@ -67,12 +67,17 @@ fn is_made(known: &Known<'_>, way: &Way, doubt: Doubt) -> Result<bool, AllocErro
     let mut led = Vec::new(known.alloc);
     let goes_on = !matches!(doubt.sort, Sort::LivePool | Sort::LiveBrigade);
     add_ways_of(known.code, way.from, &state, goes_on, &mut led)?;
-    for other in &led {
+    Ok(leads_so(led.as_slice(), way, doubt))
+}
+
+// Whether one of these ways is the same as another, and comes with what may be so.
+fn leads_so(led: &[Way], way: &Way, doubt: Doubt) -> bool {
+    for other in led {
         if is_same(other.to, way.to) && other.jumps == way.jumps && doubt.holds(&other.state) {
-            return Ok(true);
+            return true;
         }
     }
-    Ok(false)
+    false
 }
 
 fn is_seen(nodes: &[TrailNode], place: StatePlace) -> bool {
