@@ -62,20 +62,6 @@ pub fn lines_of<'a>(
     Ok(lines)
 }
 
-// What a line is that the texts take; nothing where there are too many. What it answers is not wanted.
-fn taken_of(
-    alloc: Global,
-    texts: &mut Texts,
-    line: &ScriptLine<'_>,
-) -> Result<Option<LineTaken>, AllocError> {
-    if line.number == 0 || texts.before() >= MOST_LINES {
-        return Ok(None);
-    }
-    let mut answer = Vec::new(alloc);
-    let taken = texts.take(alloc, line.number, line.text, line.ended, &mut answer)?;
-    Ok(Some(taken))
-}
-
 impl<'a> Script<'a> {
     // The text that begins behind so many lines, and ends behind so many.
     fn text(&self, script: &'a [u8], before: usize, end: usize) -> ScriptText<'a> {
@@ -108,33 +94,16 @@ impl<'a> Script<'a> {
             texts,
             before,
         };
-        read.take_all(alloc, script)?;
-        Ok(read)
-    }
-
-    // Takes the lines before the commands, up to the first fault of a text.
-    fn take_all(&mut self, alloc: Global, script: &'a [u8]) -> Result<(), AllocError> {
         let mut texts = Texts::new(alloc);
-        if self.takes_each(alloc, script, &mut texts)? {
-            let last = self.text(script, texts.before(), self.lines.len());
-            self.texts.push(last)?;
-        }
-        Ok(())
-    }
-
-    // Takes line by line; tells whether all of them are of texts.
-    fn takes_each(
-        &mut self,
-        alloc: Global,
-        script: &'a [u8],
-        texts: &mut Texts,
-    ) -> Result<bool, AllocError> {
-        for index in 0..self.lines.len() {
-            if !self.take(alloc, script, texts, index)? {
-                return Ok(false);
+        for index in 0..before {
+            let taken = read.take(alloc, script, &mut texts, index)?;
+            if !taken {
+                return Ok(read);
             }
         }
-        Ok(true)
+        let last = read.text(script, texts.before(), before);
+        read.texts.push(last)?;
+        Ok(read)
     }
 
     // Takes a line before the commands; tells whether more of these may follow.
@@ -148,9 +117,11 @@ impl<'a> Script<'a> {
         let Some(line) = self.lines.get(index).copied() else {
             return Ok(false);
         };
-        let Some(taken) = taken_of(alloc, texts, &line)? else {
+        if line.number == 0 || texts.before() >= MOST_LINES {
             return Ok(false);
-        };
+        }
+        let mut answer = Vec::new(alloc);
+        let taken = texts.take(alloc, line.number, line.text, line.ended, &mut answer)?;
         let ends = match taken {
             LineTaken::More => is_end(line.text, line.ended),
             LineTaken::Over => true,

@@ -42,8 +42,8 @@ pub fn found_in(table: &[(&'static str, &'static str)], word: &[u8]) -> &'static
     ""
 }
 
-// How many bytes two words have alike at their front.
-fn same_front(a: &[u8], b: &[u8]) -> usize {
+/// Whether two words are the same but for one letter that is wrong, missing or too many, or for two that are turned.
+pub fn is_near(a: &[u8], b: &[u8]) -> bool {
     let mut same = 0usize;
     for (x, y) in a.iter().zip(b.iter()) {
         if x != y {
@@ -51,25 +51,16 @@ fn same_front(a: &[u8], b: &[u8]) -> usize {
         }
         same = same.saturating_add(1);
     }
-    same
-}
-
-// Whether two words are the same but for their first two letters, which are turned.
-fn is_turned(a: &[u8], b: &[u8]) -> bool {
+    let a = a.get(same..).unwrap_or(&[]);
+    let b = b.get(same..).unwrap_or(&[]);
     let (c, d) = (tail(a), tail(b));
+    if c == d || c == b || a == d {
+        return true;
+    }
     match (a.first(), b.first()) {
         (Some(x), Some(y)) => begins(d, *x) && begins(c, *y) && tail(c) == tail(d),
         _ => false,
     }
-}
-
-/// Whether two words are the same but for one letter that is wrong, missing or too many, or for two that are turned.
-pub fn is_near(a: &[u8], b: &[u8]) -> bool {
-    let same = same_front(a, b);
-    let a = a.get(same..).unwrap_or(&[]);
-    let b = b.get(same..).unwrap_or(&[]);
-    let (c, d) = (tail(a), tail(b));
-    c == d || c == b || a == d || is_turned(a, b)
 }
 
 /// Whether two spaces stand together outside of texts in quotes.
