@@ -26,7 +26,7 @@ const LINGER_READS: u32 = 64;
 const MOVES: u32 = 5;
 
 /// What a turn comes to.
-#[derive(Clone, Copy, Debug, PartialEq, Eq)]
+#[derive(Clone, Copy)]
 pub enum Turn {
     /// It can go on.
     Again,

@@ -77,6 +77,31 @@ impl Hall {
         client.gone = true;
     }
 
+    /// The turn of a client that was in the queue.
+    fn serve_turn<R: Clock + Eprint + AllocGlobal, F: Files + Drop>(
+        &mut self,
+        shared: &mut Shared<'_, R>,
+        host: &mut Host<F>,
+        key: usize,
+        now: Instant,
+    )
+        requires { IsAlive F.device host.old }
+        ensures { IsAlive F.device host.new }
+    {
+        let Some(client) = self.clients.get_mut(key) else {
+            return;
+        };
+        client.queued = false;
+        if client.gone {
+            return;
+        }
+        match client.turn(shared, host, now) {
+            Turn::Waits => {}
+            Turn::Again => self.wake(key),
+            Turn::Over => self.leave(host, key),
+        }
+    }
+
     /// The turns of those that are in the queue.
     fn go_round<R: Clock + Eprint + AllocGlobal, F: Files + Drop>(
         &mut self,
@@ -91,18 +116,7 @@ impl Hall {
             let Some(key) = self.queue.pop_front() else {
                 return;
             };
-            let Some(client) = self.clients.get_mut(key) else {
-                continue;
-            };
-            client.queued = false;
-            if client.gone {
-                continue;
-            }
-            match client.turn(shared, host, now) {
-                Turn::Waits => {}
-                Turn::Again => self.wake(key),
-                Turn::Over => self.leave(host, key),
-            }
+            self.serve_turn(shared, host, key, now);
         }
     }
 
@@ -212,6 +226,28 @@ impl Door {
     }
 }
 
+/// Sets up the stream of a client that comes in: the system reports of it by its key. Answers its number on the host.
+fn enter<F: Files + Drop>(
+    stream: &mut TcpStream,
+    host: &mut Host<F>,
+    poll: &Poll,
+    key: usize,
+) -> io::Result<u64>
+    requires { IsAlive F.device host.old }
+    ensures { IsAlive F.device host.new }
+{
+    stream.set_nodelay(true)?;
+    poll.registry().register(
+        stream,
+        Token(key),
+        Interest::READABLE | Interest::WRITABLE | Interest::PRIORITY,
+    )?;
+    match open_turns(host) {
+        Ok(number) => Ok(number),
+        Err(_) => Err(io::Error::from(ErrorKind::OutOfMemory)),
+    }
+}
+
 /// A client comes in.
 fn welcome<R: Clock + Eprint + AllocGlobal, F: Files + Drop>(
     hall: &mut Hall,
@@ -226,16 +262,7 @@ fn welcome<R: Clock + Eprint + AllocGlobal, F: Files + Drop>(
     ensures { IsAlive F.device host.new }
 {
     let (mut stream, peer) = taken;
-    stream.set_nodelay(true)?;
-    let entry = hall.clients.vacant_key();
-    poll.registry().register(
-        &mut stream,
-        Token(entry),
-        Interest::READABLE | Interest::WRITABLE | Interest::PRIORITY,
-    )?;
-    let Ok(host_number) = open_turns(host) else {
-        return Err(io::Error::from(ErrorKind::OutOfMemory));
-    };
+    let host_number = enter(&mut stream, host, poll, hall.clients.vacant_key())?;
     let client = Client::new(shared, stream, peer, host_number, number, now);
     let Ok(key) = hall.clients.insert(client) else {
         let _ = close_turns(host, host_number);
@@ -307,6 +334,33 @@ fn wait(poll: &mut Poll, events: &mut Events, most: Option<Duration>) -> io::Res
     }
 }
 
+/// Serves the clients of a hall by turns, and those that come in, until all are served.
+fn serve_hall<R: Clock + Eprint + AllocGlobal, F: Files + Drop>(
+    hall: &mut Hall,
+    shared: &mut Shared<'_, R>,
+    host: &mut Host<F>,
+    poll: &mut Poll,
+    events: &mut Events,
+    door: &mut Door,
+) -> io::Result<()>
+    requires { IsAlive F.device host.old }
+{
+    let mut swept = Instant::now(shared.runtime)?;
+    for _ in 0..u64::MAX {
+        if door.left == 0 && hall.clients.is_empty() {
+            return Ok(());
+        }
+        let most = patience_of(hall, door);
+        wait(poll, events, most)?;
+        note(events, hall, door);
+        let now = Instant::now(shared.runtime)?;
+        take(door, hall, shared, host, poll, now);
+        hall.go_round(shared, host, now);
+        swept = hall.sweep_in_time(shared, host, swept, now);
+    }
+    Ok(())
+}
+
 /// Serves connections by turns, up to so many at once.
 fn run<R: Clock + Eprint + AllocGlobal, F: Files + Drop>(
     shared: &mut Shared<'_, R>,
@@ -323,20 +377,46 @@ fn run<R: Clock + Eprint + AllocGlobal, F: Files + Drop>(
         queue: VecDeque::new(alloc),
         late: Vec::new(alloc),
     };
-    let mut swept = Instant::now(shared.runtime)?;
-    for _ in 0..u64::MAX {
-        if door.left == 0 && hall.clients.is_empty() {
-            return Ok(());
-        }
-        let most = patience_of(&hall, door);
-        wait(poll, events, most)?;
-        note(events, &mut hall, door);
-        let now = Instant::now(shared.runtime)?;
-        take(door, &mut hall, shared, host, poll, now);
-        hall.go_round(shared, host, now);
-        swept = hall.sweep_in_time(shared, host, swept, now);
+    serve_hall(&mut hall, shared, host, poll, events, door)
+}
+
+/// The door behind which these settings serve.
+fn door_of(listener: TcpListener, manner: ServeSettings) -> Door {
+    Door {
+        listener,
+        open: true,
+        pause: None,
+        left: match manner.conns {
+            Some(conns) => u64::from(conns),
+            None => u64::MAX,
+        },
+        taken: 0,
+        at_once: manner.at_once,
     }
-    Ok(())
+}
+
+/// Serves those who come to a door.
+fn serve_door<R: Clock + Eprint + AllocGlobal, F: Files + Drop>(
+    rt: &R,
+    site: &Site,
+    host: &mut Host<F>,
+    manner: ServeSettings,
+    poll: &mut Poll,
+    events: &mut Events,
+    door: &mut Door,
+) -> io::Result<()>
+    requires { IsAlive F.device host.old }
+{
+    poll.registry()
+        .register(&mut door.listener, Token(DOOR), Interest::READABLE)?;
+    let mut shared = Shared {
+        runtime: rt,
+        site,
+        patience: manner.patience,
+        logs: manner.logs,
+        buffer: vec![in rt.alloc(); 0; 8192]?,
+    };
+    run(&mut shared, host, poll, events, door)
 }
 
 /// Serves connections by turns, up to so many at once. One that cannot be taken is none. It fails only where the system reports no events.
@@ -351,26 +431,6 @@ pub fn serve_turns<R: Clock + Eprint + AllocGlobal + Net, F: Files + Drop>(
 {
     let mut poll = Poll::new(rt)?;
     let mut events = Events::with_capacity(rt.alloc(), REPORTS)?;
-    let mut listener = listener;
-    poll.registry()
-        .register(&mut listener, Token(DOOR), Interest::READABLE)?;
-    let mut door = Door {
-        listener,
-        open: true,
-        pause: None,
-        left: match manner.conns {
-            Some(conns) => u64::from(conns),
-            None => u64::MAX,
-        },
-        taken: 0,
-        at_once: manner.at_once,
-    };
-    let mut shared = Shared {
-        runtime: rt,
-        site,
-        patience: manner.patience,
-        logs: manner.logs,
-        buffer: vec![in rt.alloc(); 0; 8192]?,
-    };
-    run(&mut shared, host, &mut poll, &mut events, &mut door)
+    let mut door = door_of(listener, manner);
+    serve_door(rt, site, host, manner, &mut poll, &mut events, &mut door)
 }

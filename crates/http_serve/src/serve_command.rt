@@ -13,13 +13,13 @@ use byte_text::put_all;
 use filter_chain::{CheckedChain, Files, Host, Limits};
 use http_message::{SITE_BYTES, Site, SiteRefusal, site_of};
 use module_tools::{CommandOutput, Loaded, NamedFile, PlayFault, load_part};
-use script_text::{Part, accept_parts, put_refused_module};
+use script_text::{Part, Refused, accept_parts, put_refused_module};
 use std::alloc::{AllocError, Global};
 use std::io::{self, Read};
 use std::net::{IpAddr, Net, SocketAddr, TcpListener, TcpStream};
 use std::os::unix::fs::FileExt;
 use std::process::ExitCode;
-use std::rt::{Files as FileSystem, Runtime};
+use std::rt::{Clock, Files as FileSystem, Runtime};
 use std::time::Duration;
 
 /// What `serve` is asked for.
@@ -83,30 +83,79 @@ fn stop_of(alloc: Global, fault: PlayFault, name: &str) -> StartError {
     }
 }
 
-/// Reads a module and its certificate, which stands in the file of its name with `.cert` behind it.
-fn read_part<R: FileSystem + AllocGlobal>(rt: &R, name: &str) -> Result<Part, StartError> {
-    let alloc = rt.alloc();
-    let cert_name = format!(in alloc; "{name}.cert")?;
-    let mut reader = CountedSource::from_reader(NamedFile::new(rt, name));
-    let mut cert = CountedSource::from_reader(NamedFile::new(rt, cert_name.as_str()));
-    match load_part(alloc, &mut reader, &mut cert) {
+/// The module with its certificate that was loaded. A fault is one of the file of this name.
+fn part_of(
+    alloc: Global,
+    loaded: Result<Loaded, PlayFault>,
+    name: &str,
+) -> Result<Part, StartError> {
+    match loaded {
         Ok(Loaded::Part(part)) => Ok(part),
-        Ok(Loaded::Told(answer)) => {
-            let CommandOutput { text, ended: _ } = answer;
-            Err(StartError::Told(text))
-        }
-        Err(fault) if cert.source().reader.is_read() => Err(stop_of(
-            alloc,
-            fault,
-            cert_name.as_str(),
-        )),
+        Ok(Loaded::Told(CommandOutput { text, ended: _ })) => Err(StartError::Told(text)),
         Err(fault) => Err(stop_of(alloc, fault, name)),
     }
+}
+
+/// Reads a module and its certificate from the files of these names.
+fn read_files<R: FileSystem + AllocGlobal>(
+    rt: &R,
+    name: &str,
+    cert_name: &str,
+) -> Result<Part, StartError> {
+    let alloc = rt.alloc();
+    let mut reader = CountedSource::from_reader(NamedFile::new(rt, name));
+    let mut cert = CountedSource::from_reader(NamedFile::new(rt, cert_name));
+    let loaded = load_part(alloc, &mut reader, &mut cert);
+    let last = if cert.source().reader.is_read() {
+        cert_name
+    } else {
+        name
+    };
+    part_of(alloc, loaded, last)
+}
+
+/// Reads a module and its certificate, which stands in the file of its name with `.cert` behind it.
+fn read_part<R: FileSystem + AllocGlobal>(rt: &R, name: &str) -> Result<Part, StartError> {
+    let cert_name = format!(in rt.alloc(); "{name}.cert")?;
+    read_files(rt, name, cert_name.as_str())
 }
 
 /// The words of the command let no such chain through.
 fn no_chain(alloc: Global) -> StartError {
     told(alloc, format!(in alloc; "a chain has 1 to 16 modules\n"))
+}
+
+/// Reads these modules, each with its certificate.
+fn read_parts<R: FileSystem + AllocGlobal>(
+    rt: &R,
+    names: &[&str],
+    parts: &mut Vec<Part>,
+) -> Result<(), StartError> {
+    for name in names {
+        parts.push(read_part(rt, name)?).map_err(AllocError::from)?;
+    }
+    Ok(())
+}
+
+/// The stop of a module of a chain that is refused.
+fn stop_of_module(alloc: Global, at: Refused) -> Result<StartError, AllocError> {
+    let mut line = Vec::new(alloc);
+    put_refused_module(alloc, &mut line, at.index, at.refusal.pc, at.refusal.rule)?;
+    Ok(StartError::Told(line))
+}
+
+/// The chain of these modules, which is checked.
+fn chain_of(alloc: Global, parts: Vec<Part>) -> Result<CheckedChain, StartError> {
+    if parts.is_empty() {
+        return Err(no_chain(alloc));
+    }
+    if parts.len() > 16 {
+        return Err(no_chain(alloc));
+    }
+    match accept_parts(alloc, parts)? {
+        Ok(chain) => Ok(chain),
+        Err(at) => Err(stop_of_module(alloc, at)?),
+    }
 }
 
 /// The chain of these modules, each read with its certificate, and then checked.
@@ -116,23 +165,8 @@ fn read_chain<R: FileSystem + AllocGlobal>(
 ) -> Result<CheckedChain, StartError> {
     let alloc = rt.alloc();
     let mut parts = Vec::new(alloc);
-    for name in names {
-        parts.push(read_part(rt, name)?).map_err(AllocError::from)?;
-    }
-    if parts.is_empty() {
-        return Err(no_chain(alloc));
-    }
-    if parts.len() > 16 {
-        return Err(no_chain(alloc));
-    }
-    match accept_parts(alloc, parts)? {
-        Ok(chain) => Ok(chain),
-        Err(at) => {
-            let mut line = Vec::new(alloc);
-            put_refused_module(alloc, &mut line, at.index, at.refusal.pc, at.refusal.rule)?;
-            Err(StartError::Told(line))
-        }
-    }
+    read_parts(rt, names, &mut parts)?;
+    chain_of(alloc, parts)
 }
 
 /// The text of a site file. No more of it is read than a site file may have.
@@ -250,6 +284,49 @@ fn tell_events(rt: &impl Eprint) -> ExitCode {
     ExitCode::FAILURE
 }
 
+/// Tells on the standard output that it listens.
+fn is_told_where<R: Print + Eprint>(rt: &R, address: SocketAddr) -> bool {
+    let told = println!(rt; "listening on {address}").is_ok();
+    if !told {
+        let _ = rt.eprintln(PlayFault::Write);
+    }
+    told
+}
+
+/// How connections are served.
+fn manner_of(front: &ServeOptions<'_>) -> ServeSettings {
+    ServeSettings {
+        conns: front.conns,
+        at_once: usize::try_from(front.at_once).unwrap_or(1),
+        patience: Duration::from_secs(u64::from(front.timeout)),
+        logs: front.logs,
+    }
+}
+
+/// Serves connections that come to a listener, one after another or many by turns.
+fn serve_listener<R: Clock + Eprint + AllocGlobal + Net, F: Files + Drop>(
+    rt: &R,
+    host: &mut Host<F>,
+    site: &Site,
+    listener: TcpListener,
+    manner: ServeSettings,
+) -> ExitCode
+    requires { IsAlive F.device host.old }
+{
+    if manner.at_once <= 1 {
+        serve_all(rt, &listener, site, host, manner);
+        return ExitCode::SUCCESS;
+    }
+    if listener.set_nonblocking(true).is_err() {
+        return tell_events(rt);
+    }
+    let door = mio::net::TcpListener::from_std(listener);
+    match serve_turns(rt, door, site, host, manner) {
+        Ok(()) => ExitCode::SUCCESS,
+        Err(_) => tell_events(rt),
+    }
+}
+
 /// Serves connections that come to a listener, and tells first that it listens.
 fn serve_behind<R>(
     rt: &R,
@@ -265,28 +342,10 @@ where
     requires alive { IsAlive ⟦<DiskFiles<R> as Files>⟧.device host.old }
     requires safe { IsSafe host.old }
 {
-    if println!(rt; "listening on {address}").is_err() {
-        let _ = rt.eprintln(PlayFault::Write);
+    if !is_told_where(rt, address) {
         return ExitCode::FAILURE;
     }
-    let manner = ServeSettings {
-        conns: front.conns,
-        at_once: usize::try_from(front.at_once).unwrap_or(1),
-        patience: Duration::from_secs(u64::from(front.timeout)),
-        logs: front.logs,
-    };
-    if manner.at_once <= 1 {
-        serve_all(rt, &listener, site, host, manner);
-        return ExitCode::SUCCESS;
-    }
-    if listener.set_nonblocking(true).is_err() {
-        return tell_events(rt);
-    }
-    let door = mio::net::TcpListener::from_std(listener);
-    match serve_turns(rt, door, site, host, manner) {
-        Ok(()) => ExitCode::SUCCESS,
-        Err(_) => tell_events(rt),
-    }
+    serve_listener(rt, host, site, listener, manner_of(front))
 }
 
 /// Listens, and serves what comes: what listens has a host of a chain that is accepted, which never faults.
@@ -309,25 +368,30 @@ where
 }
 
 /// Serves a site through a chain that was accepted.
-fn serve_chain<R>(rt: &R, front: &ServeOptions<'_>, chain: CheckedChain, site: &Site) -> ExitCode
+fn serve_chain<R>(
+    rt: &R,
+    front: &ServeOptions<'_>,
+    chain: CheckedChain,
+    site: &Site,
+) -> Result<ExitCode, StartError>
 where
     R: Runtime + AllocGlobal + Net<Listener = TcpListener, Stream = TcpStream>,
     R::File: FileExt,
 {
-    match host_of(rt, front, chain) {
-        Ok(mut host) => serve_site(rt, front, &mut host, site),
-        Err(why) => tell_stop(rt, why),
-    }
+    let mut host = host_of(rt, front, chain)?;
+    Ok(serve_site(rt, front, &mut host, site))
 }
 
-/// Reads and checks the chain, and reads the site.
-fn read_all<R: FileSystem + AllocGlobal>(
-    rt: &R,
-    front: &ServeOptions<'_>,
-) -> Result<(CheckedChain, Site), StartError> {
+/// Reads and checks the chain, reads the site, and serves it.
+fn serve_files<R>(rt: &R, front: &ServeOptions<'_>) -> Result<ExitCode, StartError>
+where
+    R: Runtime + AllocGlobal + Net<Listener = TcpListener, Stream = TcpStream>,
+    R::File: FileExt,
+{
     unless_too_few(rt.alloc(), front.at_once)?;
     let chain = read_chain(rt, front.modules.as_slice())?;
-    Ok((chain, read_site(rt, front.site)?))
+    let site = read_site(rt, front.site)?;
+    serve_chain(rt, front, chain, &site)
 }
 
 /// Serves connections behind a port. What it tells goes to the standard output, and what it logs to the standard error. It fails where the chain
@@ -337,8 +401,8 @@ where
     R: Runtime + AllocGlobal + Net<Listener = TcpListener, Stream = TcpStream>,
     R::File: FileExt,
 {
-    match read_all(rt, front) {
-        Ok((chain, site)) => serve_chain(rt, front, chain, &site),
+    match serve_files(rt, front) {
+        Ok(code) => code,
         Err(why) => tell_stop(rt, why),
     }
 }

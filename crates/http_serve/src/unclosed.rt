@@ -6,7 +6,7 @@ ghost use Rattle.http_front.specs.Driven.{IsAlive};
 use filter_chain::{Files, Host, Refusal};
 
 /// The connections of the host that are still to be closed: they are among these numbers.
-#[derive(Clone, Copy, Debug)]
+#[derive(Clone, Copy)]
 pub struct UnclosedConns {
     first: u64,
     end: u64,
