@@ -1,13 +1,12 @@
 //! Rows of streams that are slow, fail, or never end: of `serve`, and of the calls that play a script or answer a text.
 
 use crate::modules::{IDENTITY, IDENTITY_CERT};
-use crate::pages::{MOMENT, host, site};
+use crate::pages::serve_all;
 use crate::requests::{GET, PLAIN};
-use crate::stopped_clock::StoppedClock;
 use crate::streams::{Feed, Taker};
 use anyhow::Result;
 use byte_streams::{CountedSource, READS, Sink, Source};
-use http_front::{FrontKind, serve};
+use http_front::FrontKind;
 use module_tools::{Ended, PlayFault, run_assemble, run_certify, run_check, run_new};
 use script_play::run_play;
 use std::alloc::Global;
@@ -155,10 +154,7 @@ fn end_of_serve<R: Source, W: Sink>(
     reader: &mut CountedSource<R>,
     writer: &mut W,
 ) -> Result<End> {
-    let site = site(alloc)?;
-    let mut host = host(alloc, PLAIN)?;
-    let mut clock = StoppedClock(MOMENT);
-    match serve(alloc, reader, writer, &site, &mut host, &mut clock) {
+    match serve_all(alloc, PLAIN, reader, writer)? {
         Ok(_) => Ok(End::Done),
         Err(fault) if fault.left.is_some() => Ok(End::Other),
         Err(fault) => Ok(match fault.kind {
@@ -255,20 +251,16 @@ fn show_writers(rt: &HostRuntime, call: Call, feed: Feed<'_>, taker: Taker<'_>) 
     Ok(())
 }
 
-/// A call, with streams that are slow, fail, or never end.
-fn show_row(rt: &HostRuntime, row: Row) -> Result<()> {
+/// A call that reads this text, with streams that are slow, fail, or never end. The answer is written where nothing is yet.
+fn show_text(rt: &HostRuntime, row: Row, text: &[u8], answer: &mut Vec<u8>) -> Result<()> {
     let Row {
         call,
         what,
-        text,
-        then,
+        text: _,
+        then: _,
         again,
     } = row;
-    let mut whole = text.to_vec(rt.alloc())?;
-    whole.extend_from_slice(then)?;
-    let text = whole.as_slice();
-    let mut answer = Vec::new(rt.alloc());
-    let end = ask(rt.alloc(), call, text, &mut answer)?;
+    let end = ask(rt.alloc(), call, text, answer)?;
     let count = answer.len();
     println!(rt; "{call:?} of {what}: {end:?}, {count} bytes are written")?;
     let feed = Feed {
@@ -289,6 +281,14 @@ fn show_row(rt: &HostRuntime, row: Row) -> Result<()> {
     show_slow(rt, call, Feed { again, ..feed }, taker)?;
     show_readers(rt, call, feed, taker)?;
     show_writers(rt, call, feed, taker)
+}
+
+/// A call, with streams that are slow, fail, or never end.
+fn show_row(rt: &HostRuntime, row: Row) -> Result<()> {
+    let mut text = row.text.to_vec(rt.alloc())?;
+    text.extend_from_slice(row.then)?;
+    let mut answer = Vec::new(rt.alloc());
+    show_text(rt, row, text.as_slice(), &mut answer)
 }
 
 /// Each call, with streams that are slow, fail, or never end.

@@ -68,8 +68,14 @@ fn serve_and_show(rt: &HostRuntime, site: &Site, host: &mut Host<MemFiles>) -> R
     show_answer(rt, &mut client)
 }
 
+/// A client of this machine is served a site over a socket.
+fn serve_site(rt: &HostRuntime, site: &Site) -> Result<()> {
+    let mut host = host(rt.alloc(), PLAIN)?;
+    serve_and_show(rt, site, &mut host)
+}
+
 /// A client of this machine is served over a socket.
 pub(crate) fn serves_over_a_socket(rt: &HostRuntime) -> Result<()> {
     let site = site(rt.alloc())?;
-    serve_and_show(rt, &site, &mut host(rt.alloc(), PLAIN)?)
+    serve_site(rt, &site)
 }

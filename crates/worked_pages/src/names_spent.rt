@@ -6,7 +6,7 @@ ghost use Rattle.filter_chain.specs.Led.{IsAlive};
 use crate::modules::{CLEANUP_ORDER, IDENTITY};
 use crate::pages::{BUDGET, chain};
 use anyhow::Result;
-use filter_chain::{Files, Host, Limits, MemFiles, PoolId, Refusal};
+use filter_chain::{CheckedChain, Files, Host, Limits, MemFiles, PoolId, Refusal};
 use std::alloc::Global;
 use std::io;
 
@@ -57,37 +57,60 @@ const ROWS: [Row; 3] = [
 
 const BEGUN_TWICE: [Call; 5] = [Call::Open, Call::Step, Call::Begin, Call::Begin, Call::Step];
 
+/// A host of a chain that is accepted, whose names begin with `first`.
+fn checked_host(alloc: Global, chain: CheckedChain, first: PoolId) -> Result<Host<MemFiles>>
+    requires named { 0 < first }
+    ensures { IfOk result (λ h. IsAlive ⟦<MemFiles as Files>⟧.device h) }
+{
+    let limits = Limits { budget: BUDGET };
+    Ok(Host::checked_at(alloc, MemFiles::new(alloc), chain, limits, first)?)
+}
+
+/// One of the same modules, which watches them.
+fn watched_host(alloc: Global, chain: CheckedChain, first: PoolId) -> Result<Host<MemFiles>>
+    requires named { 0 < first }
+    ensures { IfOk result (λ h. IsAlive ⟦<MemFiles as Files>⟧.device h) }
+{
+    let limits = Limits { budget: BUDGET };
+    let modules = chain.into_modules();
+    Ok(Host::watched_at(alloc, MemFiles::new(alloc), modules, limits, first)?)
+}
+
 /// A host of one filter, whose names begin with `first`.
 fn host(alloc: Global, module: &[u8], checked: bool, first: PoolId) -> Result<Host<MemFiles>>
     requires named { 0 < first }
     ensures { IfOk result (λ h. IsAlive ⟦<MemFiles as Files>⟧.device h) }
 {
     let chain = chain(alloc, module)?;
-    let files = MemFiles::new(alloc);
-    let limits = Limits { budget: BUDGET };
     if checked {
-        return Ok(Host::checked_at(alloc, files, chain, limits, first)?);
+        return checked_host(alloc, chain, first);
     }
-    let modules = chain.into_modules();
-    Ok(Host::watched_at(alloc, files, modules, limits, first)?)
+    watched_host(alloc, chain, first)
 }
 
-fn make(host: &mut Host<MemFiles>, call: Call) -> Result<(), Refusal>
-    requires { IsAlive ⟦<MemFiles as Files>⟧.device host.old }
-    ensures { IsAlive ⟦<MemFiles as Files>⟧.device host.new }
+fn make<F: Files + Drop>(host: &mut Host<F>, call: Call) -> Result<(), Refusal>
+    requires { IsAlive F.device host.old }
+    ensures { IsAlive F.device host.new }
 {
     match call {
-        Call::Open => host.open_conn().map(|_| ()),
-        Call::Step => host.step(CONN).map(|_| ()),
-        Call::Begin => host.begin(CONN),
-        Call::Close => host.close(CONN).map(|_| ()),
+        Call::Open => {
+            host.open_conn()?;
+        }
+        Call::Step => {
+            host.step(CONN)?;
+        }
+        Call::Begin => host.begin(CONN)?,
+        Call::Close => {
+            host.close(CONN)?;
+        }
     }
+    Ok(())
 }
 
 /// Makes a call, and prints what it answers.
-fn tell(rt: &HostRuntime, host: &mut Host<MemFiles>, call: Call) -> io::Result<()>
-    requires { IsAlive ⟦<MemFiles as Files>⟧.device host.old }
-    ensures { IsAlive ⟦<MemFiles as Files>⟧.device host.new }
+fn tell<F: Files + Drop>(rt: &HostRuntime, host: &mut Host<F>, call: Call) -> io::Result<()>
+    requires { IsAlive F.device host.old }
+    ensures { IsAlive F.device host.new }
 {
     match make(host, call) {
         Ok(()) => println!(rt; "{call:?}: done"),
@@ -95,15 +118,28 @@ fn tell(rt: &HostRuntime, host: &mut Host<MemFiles>, call: Call) -> io::Result<(
     }
 }
 
-/// Makes the calls of a row, prints the pools, and closes the connection.
+/// Makes calls of a host, prints the pools, and closes the connection.
+fn tell_all<F: Files + Drop>(rt: &HostRuntime, host: &mut Host<F>, calls: &[Call]) -> Result<()>
+    requires { IsAlive F.device host.old }
+{
+    for call in calls {
+        tell(rt, host, *call)?;
+    }
+    host.print_pools(&mut io::writer(rt))?;
+    tell(rt, host, Call::Close)?;
+    Ok(())
+}
+
+/// Makes a host, and the calls of its row.
 fn show(rt: &HostRuntime, row: &Row) -> Result<()> {
     println!(rt; "{}, names from {FIRST}", row.what)?;
     let mut host = host(rt.alloc(), row.module, row.checked, FIRST)?;
-    for call in row.calls {
-        tell(rt, &mut host, *call)?;
-    }
-    host.print_pools(&mut io::writer(rt))?;
-    tell(rt, &mut host, Call::Close)?;
+    tell_all(rt, &mut host, row.calls)
+}
+
+/// Makes a host that no name is left for.
+fn make_nameless(alloc: Global) -> Result<()> {
+    host(alloc, IDENTITY, false, u64::MAX)?;
     Ok(())
 }
 
@@ -112,8 +148,8 @@ pub(crate) fn names_spent_host(rt: &HostRuntime) -> Result<()> {
     for row in &ROWS {
         show(rt, row)?;
     }
-    match host(rt.alloc(), IDENTITY, false, u64::MAX) {
-        Ok(_) => println!(rt; "a host of no names")?,
+    match make_nameless(rt.alloc()) {
+        Ok(()) => println!(rt; "a host of no names")?,
         Err(refusal) => println!(rt; "names from {}: {refusal}", u64::MAX)?,
     }
     Ok(())

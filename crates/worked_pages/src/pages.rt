@@ -6,9 +6,9 @@ ghost use Rattle.http_front.specs.Driven.{IsAlive};
 use crate::shown::shown;
 use crate::stopped_clock::StoppedClock;
 use anyhow::Result;
-use byte_streams::{CountedSource, READS};
+use byte_streams::{CountedSource, READS, Sink, Source};
 use filter_chain::{CheckedChain, Files, Host, Limits, MemFiles};
-use http_front::{Site, serve};
+use http_front::{FrontFault, Served, Site, serve};
 use life_cert::make;
 use life_check::accept_chain;
 use module_lang::assemble;
@@ -67,13 +67,18 @@ fn files(alloc: Global, fails_at: u64) -> Result<MemFiles> {
     Ok(files)
 }
 
-/// Each file under a path of one letter, and a path whose file is not there.
-pub(crate) fn site(alloc: Global) -> Result<Site> {
-    let mut site = Site::new(alloc);
+fn add_pages(site: &mut Site) -> Result<()> {
     site.add("/a", b"a")?;
     site.add("/e", b"e")?;
     site.add("/l", b"l")?;
     site.add("/m", b"m")?;
+    Ok(())
+}
+
+/// Each file under a path of one letter, and a path whose file is not there.
+pub(crate) fn site(alloc: Global) -> Result<Site> {
+    let mut site = Site::new(alloc);
+    add_pages(&mut site)?;
     Ok(site)
 }
 
@@ -90,21 +95,35 @@ pub(crate) fn host(alloc: Global, server: Server) -> Result<Host<MemFiles>>
     Ok(Host::checked(alloc, files, chain(alloc, server.module)?, limits)?)
 }
 
-/// Serves a stream, and tells how many responses were written, and what.
-pub(crate) fn answers(alloc: Global, server: Server, stream: &[u8]) -> Result<(u64, Vec<u8>)> {
-    let site = site(alloc)?;
+/// Serves a site to what a reader gives.
+fn serve_site<R: Source, W: Sink>(
+    alloc: Global,
+    server: Server,
+    site: &Site,
+    reader: &mut CountedSource<R>,
+    writer: &mut W,
+) -> Result<Result<Served, FrontFault>> {
     let mut host = host(alloc, server)?;
     let mut clock = StoppedClock(server.moment);
+    Ok(serve(alloc, reader, writer, site, &mut host, &mut clock))
+}
+
+/// Serves what a reader gives.
+pub(crate) fn serve_all<R: Source, W: Sink>(
+    alloc: Global,
+    server: Server,
+    reader: &mut CountedSource<R>,
+    writer: &mut W,
+) -> Result<Result<Served, FrontFault>> {
+    let site = site(alloc)?;
+    serve_site(alloc, server, &site, reader, writer)
+}
+
+/// Serves a stream, and tells how many responses were written, and what.
+pub(crate) fn answers(alloc: Global, server: Server, stream: &[u8]) -> Result<(u64, Vec<u8>)> {
     let mut reader = CountedSource::new(stream, READS);
     let mut written = Vec::new(alloc);
-    match serve(
-        alloc,
-        &mut reader,
-        &mut written,
-        &site,
-        &mut host,
-        &mut clock,
-    ) {
+    match serve_all(alloc, server, &mut reader, &mut written)? {
         Ok(served) => Ok((served.requests, written)),
         Err(fault) => Err(fault.kind.into()),
     }

@@ -190,6 +190,12 @@ pub(crate) fn show_rows(rt: &HostRuntime) -> Result<()> {
     show_others(rt)
 }
 
+/// Tells what a request that is cut is answered.
+fn show_cut(rt: &HostRuntime, cut: &[u8]) -> Result<()> {
+    let what = format!(in rt.alloc(); "a GET cut to {} bytes", cut.len())?;
+    show(rt, PLAIN, what.as_str(), cut)
+}
+
 /// A request that is cut is answered 400, unless nothing of it came. The answer is told where it is another than that to a byte less.
 pub(crate) fn cut_requests(rt: &HostRuntime) -> Result<()> {
     let alloc = rt.alloc();
@@ -197,8 +203,7 @@ pub(crate) fn cut_requests(rt: &HostRuntime) -> Result<()> {
     for len in 0..=GET.len() {
         let (_, written) = answers(alloc, PLAIN, &GET[..len])?;
         if len == 0 || written.as_slice() != last.as_slice() {
-            let what = format!(in alloc; "a GET cut to {len} bytes")?;
-            show(rt, PLAIN, what.as_str(), &GET[..len])?;
+            show_cut(rt, &GET[..len])?;
         }
         last = written;
     }
