@@ -166,6 +166,28 @@ impl Client {
         }
     }
 
+    /// What follows a turn of the connection, of a read or not, or the fault that ended it.
+    fn after_turn<R: Clock + Eprint + AllocGlobal>(
+        &mut self,
+        shared: &Shared<'_, R>,
+        turned: Result<Turned, FrontKind>,
+        reads: bool,
+        now: Instant,
+    ) -> Turn {
+        match turned {
+            Ok(turned) => {
+                if reads && turned == Turned::Moved {
+                    self.deadline.note_bytes(Some(now));
+                }
+                self.follow(turned, shared.patience, now)
+            }
+            Err(kind) => {
+                self.tell_end(shared, Err(FrontFault { kind, left: None }));
+                Turn::Over
+            }
+        }
+    }
+
     /// Whether a request of it is under way. Its time is the host's, so no deadline of the client counts.
     pub fn works(&self) -> bool {
         self.conn.next() == Next::Works
@@ -222,18 +244,7 @@ impl Client {
         if source.reader.drained && !self.reads_on {
             self.readable = false;
         }
-        match turned {
-            Ok(turned) => {
-                if reads && turned == Turned::Moved {
-                    self.deadline.note_bytes(Some(now));
-                }
-                self.follow(turned, shared.patience, now)
-            }
-            Err(kind) => {
-                self.tell_end(shared, Err(FrontFault { kind, left: None }));
-                Turn::Over
-            }
-        }
+        self.after_turn(shared, turned, reads, now)
     }
 
     /// As many moves as one turn has. Behind a slice of a request that is then under way there is none.

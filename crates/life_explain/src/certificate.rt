@@ -1,14 +1,11 @@
 //! What a certificate says against its module.
 
-use crate::doubt::Topic;
 use crate::flow::{add_ways_of, state_at};
-use crate::source::Source;
-use crate::state_words::put_known;
 use crate::told::{handler_name, put_at};
 use life_cert::StatePlace;
 use life_check::{Cert, CheckRefusal, Rule};
 use life_state::{State, at_open, leq};
-use line_help::Page;
+use line_help::{Page, Source, Topic, put_known};
 use module_code::Module;
 use std::alloc::AllocError;
 

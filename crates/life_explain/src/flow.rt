@@ -3,11 +3,11 @@
 ghost use Rattle.std.specs.Prelude.{◌≡◌, true, IfSome};
 ghost use Rattle.module_code.specs.Program.{fits};
 
-use crate::doubt::Doubt;
 use crate::needs::doubt_of;
 use life_cert::{Arrival, Growth, StatePlace, round_count};
 use life_check::{Cert, heads};
 use life_state::{State, Successors, after, at_end_of_request, at_main, at_return};
+use line_help::Doubt;
 use module_code::{Instr, Module, PoolRef};
 use run_model::FaultKind;
 use std::alloc::{AllocError, Global};

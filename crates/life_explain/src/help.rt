@@ -3,10 +3,9 @@
 use crate::certificate::put_certificate;
 use crate::flow::meant;
 use crate::session::tell_refusals;
-use crate::source::Source;
 use life_cert::{CertRefusal, MakeRefusal, grown, make, read_cert};
 use life_check::{Cert, CheckRefusal, Rule, check};
-use line_help::{Page, ScriptText, tell_asm_fault, tell_cert_fault};
+use line_help::{Page, ScriptText, Source, tell_asm_fault, tell_cert_fault};
 use module_code::Module;
 use module_lang::{AsmRefusal, assemble};
 use std::alloc::{AllocError, Global};

@@ -2,17 +2,13 @@
 #![tactic(auto)]
 
 mod certificate;
-mod doubt;
 mod flow;
 mod help;
 mod needs;
-mod patterns;
 mod play;
 mod remedy;
 mod rules;
 mod session;
-mod source;
-mod state_words;
 mod told;
 mod trail;
 

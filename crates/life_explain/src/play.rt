@@ -1,14 +1,12 @@
 //! The help on what a play answered.
 
 use crate::help::{tell_cert_text, tell_module_text, tell_texts};
-use crate::patterns::fault_of;
 use crate::session::tell_fault;
-use crate::source::Source;
 use crate::told::put_at;
 use byte_text::{is_text, token};
 use line_help::{
-    Answered, Page, Script, ScriptLine, is_told, lines_of, number, shown, tell_refused,
-    tell_script_fault, word,
+    Answered, Page, Script, ScriptLine, Source, fault_of, is_told, lines_of, number, shown,
+    tell_refused, tell_script_fault, word,
 };
 use run_model::FaultKind;
 use script_text::{fault_name, fault_named};

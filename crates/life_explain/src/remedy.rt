@@ -1,16 +1,16 @@
 //! A refusal with what is known around it, and the remedies that the rules have for it.
 
-use crate::doubt::{Sort, Topic, brigade_name, cursor_text, pool_text};
 use crate::flow::{FlowRefusal, home_of, instr_at, parent_of};
-use crate::patterns::Pattern;
 use crate::rules::{Fresh, Per, RULES, Rule, Test, When, names_of};
-use crate::source::{Edit, NONE, Source};
 use crate::trail::Trail;
 use byte_text::{after_token, begins, is_text, tail, token};
 use life_cert::StatePlace;
 use life_check::Cert;
 use life_state::{Classes, CursorState};
-use line_help::{Page, last_word, stands_in, text_of};
+use line_help::{
+    Edit, NO_LINE, Page, Pattern, Sort, Source, Topic, brigade_name, cursor_text, last_word,
+    pool_text, stands_in, text_of,
+};
 use module_code::parts::parts;
 use module_code::{Args, Instr, Module, Op, PoolRef, Status};
 use std::alloc::Global;
@@ -67,7 +67,7 @@ pub struct Case<'s> {
     pub heads: Vec<Head>,
     pub edits: Vec<Edit>,
     pub page: Page,
-    // The instruction that made it so, and the return by which it left an earlier call; `NONE` where there is none.
+    // The instruction that made it so, and the return by which it left an earlier call; `NO_LINE` where there is none.
     maker: usize,
     exit: usize,
     // The instruction that fits, and how many did.
@@ -91,7 +91,7 @@ impl<'s> Case<'s> {
         let nothing: &'s [u8] = &[];
         let maker = match trail.origin {
             StatePlace::At(pc) if trail.is_made => pc,
-            _ => NONE,
+            _ => NO_LINE,
         };
         Case {
             source,
@@ -103,10 +103,10 @@ impl<'s> Case<'s> {
             edits: Vec::new(alloc),
             page: Page::new(alloc),
             maker,
-            exit: trail.ending_call().unwrap_or(NONE),
-            at: NONE,
+            exit: trail.ending_call().unwrap_or(NO_LINE),
+            at: NO_LINE,
             number: 0,
-            last: NONE,
+            last: NO_LINE,
             names: [nothing; 26],
         }
     }
@@ -118,7 +118,7 @@ impl<'s> Case<'s> {
 
     /// The word of the instruction that made it so; nothing where none did.
     fn made_by(&self) -> &'static str {
-        if self.maker == NONE {
+        if self.maker == NO_LINE {
             return "";
         }
         text_of(self.shape(self.maker).0.text())
@@ -139,7 +139,7 @@ impl<'s> Case<'s> {
         let doubt = self.refusal.doubt;
         let is_late = matches!(doubt.sort, Sort::LateData);
         let made = self.made_by();
-        let cuts = self.exit == NONE && self.cuts_before();
+        let cuts = self.exit == NO_LINE && self.cuts_before();
         if cuts && (is_late || matches!(doubt.sort, Sort::Sent)) || is_late && made == "bsplit" {
             Pattern::CutWithoutEos
         } else if is_late && doubt.of == 8 {
@@ -215,13 +215,13 @@ impl<'s> Case<'s> {
         let fails = matches!(here, Some(Instr::Ret(Status::Fail)));
         match when {
             When::Always => true,
-            When::Gone => self.source.find(":gone") != NONE,
+            When::Gone => self.source.find(":gone") != NO_LINE,
             When::Brought => of == 8 && self.code.brigade_count() < 8,
             When::Whole => of != 8 && is_whole,
             When::Part => of != 8 && !is_whole,
-            When::Keeps => self.exit == NONE || self.may_be(self.exit).0,
-            When::Lost => self.exit != NONE && !self.may_be(self.exit).0,
-            When::Left => self.exit != NONE,
+            When::Keeps => self.exit == NO_LINE || self.may_be(self.exit).0,
+            When::Lost => self.exit != NO_LINE && !self.may_be(self.exit).0,
+            When::Left => self.exit != NO_LINE,
             When::Own => of != 8,
             When::Fails => fails,
             When::Ends => !fails,
@@ -461,7 +461,7 @@ impl<'s> Case<'s> {
     }
 
     fn write(&mut self, script: &str) {
-        self.last = NONE;
+        self.last = NO_LINE;
         for step in script.split(';') {
             let how = token(step.as_bytes());
             let rest = tail(after_token(step.as_bytes()));

@@ -1,7 +1,6 @@
 //! Remedies that are worth a try, as a table.
 
-use crate::doubt::Sort;
-use crate::patterns::Pattern;
+use line_help::{Pattern, Sort};
 
 /// Where remedies of a rule are tried.
 #[derive(Clone, Copy)]

@@ -1,16 +1,12 @@
 //! All refusals of a module that do not follow from one another, with lines that were tried.
 
-use crate::doubt::Sort;
 use crate::flow::{FlowRefusal, Judged, all_ways, judged_of, refusal_of};
-use crate::patterns::{Pattern, fault_of};
 use crate::remedy::Case;
-use crate::source::{Edit, Source};
-use crate::state_words::put_rule;
 use crate::told::{put_advice, put_at, put_remedy, put_trail};
 use crate::trail::{Known, trail_to};
 use life_check::Cert;
 use life_state::State;
-use line_help::Page;
+use line_help::{Edit, Page, Pattern, Sort, Source, fault_of, put_rule};
 use module_code::Module;
 use module_lang::{AsmRefusal, assemble};
 use run_model::FaultKind;

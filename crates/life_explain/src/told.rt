@@ -1,12 +1,9 @@
 //! What is told of a refusal.
 
-use crate::doubt::{Doubt, Sort, cursor_name};
 use crate::flow::instr_at;
-use crate::patterns::Pattern;
-use crate::source::{Edit, Source, cut};
 use crate::trail::{Trail, TrailStep};
 use life_cert::StatePlace;
-use line_help::Page;
+use line_help::{Doubt, Edit, Page, Pattern, Sort, Source, cursor_name, cut};
 use module_code::{Instr, Module};
 
 /// The handler that an instruction is in.

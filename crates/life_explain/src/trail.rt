@@ -1,9 +1,9 @@
 //! Where what may be so at an instruction comes from.
 
-use crate::doubt::{Doubt, Sort};
 use crate::flow::{Way, add_ways_of, is_same, state_at};
 use life_cert::StatePlace;
 use life_check::Cert;
+use line_help::{Doubt, Sort};
 use module_code::Module;
 use std::alloc::{AllocError, Global};
 

@@ -1,14 +1,16 @@
-//! The worked values of the library calls below the host. Each row makes its calls and prints what they answer; what it must print is
-//! `stdout`.
+//! The worked values of the library calls below the host, and of modules and certificates. Each row makes its calls and prints what they
+//! answer; what it must print is `stdout`.
 #![tactic(auto)]
 
 mod brigades;
 mod buckets;
 mod calls;
+mod certs;
 mod commands;
 mod cuts;
 mod disk;
 mod missing;
+mod modules;
 mod pooled;
 mod pools;
 mod reads;
@@ -72,5 +74,6 @@ fn of_stores<P: Rings<Stored> + Drop, R: Rings<Stored> + Drop>(rt: &HostRuntime)
 fn main(rt: HostRuntime) -> Result<()> {
     of_rings::<PlainRings<u8>, RawRings<u8>>(&rt)?;
     of_pools(&rt)?;
-    of_stores::<PlainRings<Stored>, RawRings<Stored>>(&rt)
+    of_stores::<PlainRings<Stored>, RawRings<Stored>>(&rt)?;
+    certs::show_rows(&rt)
 }

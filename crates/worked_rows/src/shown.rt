@@ -24,15 +24,23 @@ fn is_all(bytes: &[u8], letter: u8) -> bool {
     true
 }
 
-fn put_kind<W: fmt::Write>(f: &mut fmt::Formatter<W>, kind: Kind) -> fmt::Result {
+fn word_of(kind: Kind) -> &'static str {
     match kind {
-        Kind::Heap => write!(f, "heap"),
-        Kind::Transient => write!(f, "transient"),
-        Kind::Immortal => write!(f, "immortal"),
-        Kind::Pool(pool) => write!(f, "pool {pool}"),
-        Kind::File => write!(f, "file"),
-        Kind::Flush => write!(f, "flush"),
-        Kind::Eos => write!(f, "eos"),
+        Kind::Heap => "heap",
+        Kind::Transient => "transient",
+        Kind::Immortal => "immortal",
+        Kind::Pool(_) => "pool",
+        Kind::File => "file",
+        Kind::Flush => "flush",
+        Kind::Eos => "eos",
+    }
+}
+
+fn put_kind<W: fmt::Write>(f: &mut fmt::Formatter<W>, kind: Kind) -> fmt::Result {
+    f.write_str(word_of(kind))?;
+    match kind {
+        Kind::Pool(pool) => write!(f, " {pool}"),
+        _ => Ok(()),
     }
 }
 

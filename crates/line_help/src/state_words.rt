@@ -1,8 +1,8 @@
 //! States in words.
 
 use crate::doubt::{Doubt, Sort, Topic, brigade_name, cursor_name};
+use crate::page::Page;
 use life_state::{Contents, CursorState, HomeSet, State};
-use line_help::Page;
 
 // What a variable may be, by whether it may be null, gone and live.
 const VARIABLES: [&str; 8] = [

@@ -1,18 +1,20 @@
 //! The lines of a module text, as they are or as they would be written.
 
+use crate::page::Page;
+use crate::script::lines_of;
+use crate::words::text_of;
 use byte_text::{begins, is_text, tail, unindented};
-use line_help::{Page, lines_of, text_of};
 use std::alloc::{AllocError, Global};
 
 /// What no line and no instruction has for its number.
-pub const NONE: usize = usize::MAX;
+pub const NO_LINE: usize = usize::MAX;
 
 /// A line of a module text, without the spaces before it.
 #[derive(Clone, Copy)]
 pub struct ModuleLine {
     /// Its number, from 1 on; 0 of a line that is not there yet.
     pub number: usize,
-    /// The number of the instruction that stands on it, or `NONE`.
+    /// The number of the instruction that stands on it, or `NO_LINE`.
     pc: usize,
     // Where it begins and ends in the text.
     start: usize,
@@ -72,7 +74,7 @@ impl Source {
     fn add(&mut self, number: usize, line: &[u8]) {
         let is_word = !is_skipped(line) && !begins(line, b':');
         let is_header = is_text(line, b"init") || is_text(line, b"main") || is_text(line, b"end");
-        let mut pc = NONE;
+        let mut pc = NO_LINE;
         match self.count {
             Some(count) if is_word && !is_header => {
                 pc = count;
@@ -102,14 +104,14 @@ impl Source {
         }
     }
 
-    /// The place of the line of an instruction, or `NONE`.
+    /// The place of the line of an instruction, or `NO_LINE`.
     pub fn line_of(&self, pc: usize) -> usize {
         for (index, line) in self.lines.iter().enumerate() {
-            if line.pc == pc && pc != NONE {
+            if line.pc == pc && pc != NO_LINE {
                 return index;
             }
         }
-        NONE
+        NO_LINE
     }
 
     /// What an instruction is written as.
@@ -132,19 +134,19 @@ impl Source {
         self.number_at(self.line_of(pc))
     }
 
-    /// The place of the line that is written so, or `NONE`.
+    /// The place of the line that is written so, or `NO_LINE`.
     pub fn find(&self, text: &str) -> usize {
         for index in 0..self.lines.len() {
             if self.text_at(index) == text.as_bytes() {
                 return index;
             }
         }
-        NONE
+        NO_LINE
     }
 
     /// The label that stands before a place; nothing where there is none.
     pub fn label_before(&self, place: usize) -> &[u8] {
-        let mut label = self.text_at(NONE);
+        let mut label = self.text_at(NO_LINE);
         for line in self.lines.iter().take(place) {
             let text = cut(&self.page, line.start, line.end);
             if begins(text, b':') {
@@ -159,7 +161,7 @@ impl Source {
     /// The first of these names that no label has yet, each with the colon before it.
     pub fn new_label(&self, names: [&'static str; 9]) -> &'static str {
         for name in &names {
-            if self.find(name) == NONE {
+            if self.find(name) == NO_LINE {
                 return name;
             }
         }
