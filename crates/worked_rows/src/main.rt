@@ -23,7 +23,7 @@ mod sizes;
 mod there;
 
 use anyhow::Result;
-use brigade_ops::{Brigades, Stored};
+use brigade_ops::Stored;
 use bucket_ring::{PlainRings, RawRings, Rings};
 use pool_tree::PoolTree;
 
@@ -43,37 +43,9 @@ fn of_pools(rt: &HostRuntime) -> Result<()> {
     pools::kills(rt, &mut PoolTree::new(rt.alloc(), 1)?)
 }
 
-fn of_brigades<R: Rings<Stored> + Drop>(rt: &HostRuntime) -> Result<()> {
-    brigades::brigade_moves::<R>(rt, &mut Brigades::new(rt.alloc(), 1))?;
-    brigades::brigade_splits::<R>(rt, &mut Brigades::new(rt.alloc(), 1))?;
-    brigades::brigades_at_once::<R>(rt, &mut Brigades::new(rt.alloc(), 1))?;
-    brigades::brigade_names_spent::<R>(rt, &mut Brigades::new(rt.alloc(), u64::MAX - 2))?;
-    rows::show_rows::<R>(rt, rows::BUCKETS)
-}
-
-fn of_brigades_on_pools<R: Rings<Stored> + Drop>(rt: &HostRuntime) -> Result<()> {
-    for row in saves::ROWS {
-        let mut pools = saves::make_pools(rt.alloc())?;
-        saves::show_row::<R>(rt, &mut Brigades::new(rt.alloc(), 1), &mut pools, *row)?;
-    }
-    Ok(())
-}
-
-fn of_stores<P: Rings<Stored> + Drop, R: Rings<Stored> + Drop>(rt: &HostRuntime) -> Result<()> {
-    of_brigades::<R>(rt)?;
-    of_brigades_on_pools::<R>(rt)?;
-    pooled::pool_bucket_split_and_new_after_clear::<P>(rt, "in a slab")?;
-    pooled::pool_bucket_split_and_new_after_clear::<R>(rt, "in a raw block")?;
-    rows::show_rows::<R>(rt, rows::READS)?;
-    reads::reads_that_fail(rt)?;
-    reads::openings_that_fail(rt)?;
-    disk::reads_of_a_disk(rt)?;
-    disk::failures_of_a_disk(rt)
-}
-
 fn main(rt: HostRuntime) -> Result<()> {
     of_rings::<PlainRings<u8>, RawRings<u8>>(&rt)?;
     of_pools(&rt)?;
-    of_stores::<PlainRings<Stored>, RawRings<Stored>>(&rt)?;
+    rows::show_rows::<PlainRings<Stored>, RawRings<Stored>>(&rt)?;
     certs::show_rows(&rt)
 }

@@ -1,7 +1,7 @@
-//! Rows that make one call each, on buckets of their own.
+//! The rows of buckets and brigades, each with a store of its own. Most make one call.
 
 use crate::buckets::{self, Made};
-use crate::{cuts, reads, saves};
+use crate::{brigades, cuts, disk, pooled, reads, saves};
 use anyhow::Result;
 use brigade_ops::{Brigades, Stored};
 use bucket_kinds::Kind;
@@ -9,9 +9,14 @@ use bucket_ring::Rings;
 
 /// A row.
 #[derive(Clone, Copy)]
-pub(crate) enum Row {
+enum Row {
     /// What the next rows are of.
     Says(&'static str),
+    /// Brigades are moved, split, and made two at once; their names run out.
+    Moves,
+    Splits,
+    AtOnce,
+    NamesSpent,
     /// A bucket is split at a place.
     Split(Made, u64),
     /// A bucket is copied, or set aside into a pool which its home is above or not.
@@ -20,7 +25,6 @@ pub(crate) enum Row {
     /// The same in a brigade.
     SplitIn(Made, u64),
     CopyIn(Made),
-    AsideIn(Made, bool),
     /// A brigade is parted at a point.
     Partition(&'static [Made], u64),
     /// So many bytes of a file of so many are read, by the bucket of a brigade and by one alone.
@@ -28,6 +32,17 @@ pub(crate) enum Row {
     Read(usize, u32),
     /// Bytes in memory are read.
     ReadMemory(Kind),
+    /// A row of brigades and pools.
+    OnPools(saves::Row),
+    /// Bytes of a pool outlive its clear, on rings in a slab and in a raw block.
+    PooledInSlab,
+    PooledInBlock,
+    /// Reads and openings of files in memory fail.
+    ReadsFail,
+    OpeningsFail,
+    /// Files of a disk are read, and are not there.
+    DiskReads,
+    DiskFails,
 }
 
 const AB: Made = Made::Heap(b"ab");
@@ -38,8 +53,12 @@ const RANGE: Made = Made::Range(7, 5, 10);
 /// Bytes of a call.
 const LENT: Made = Made::Transient(3, b"a");
 
-/// Rows of one bucket, of the bucket of a brigade, and of brigades that are parted.
-pub(crate) const BUCKETS: &[Row] = &[
+/// A read takes 8000 bytes at most, and what is longer has a rest. Where the file is shorter it fails. Memory is left as it is.
+const ROWS: &[Row] = &[
+    Row::Moves,
+    Row::Splits,
+    Row::AtOnce,
+    Row::NamesSpent,
     Row::Says("buckets are split"),
     Row::Split(AB, 0),
     Row::Split(AB, 1),
@@ -82,13 +101,14 @@ pub(crate) const BUCKETS: &[Row] = &[
     Row::ReadIn(8001, 8000),
     Row::ReadIn(7999, 8000),
     Row::Says("buckets of a brigade are set aside"),
-    Row::AsideIn(LENT, false),
-    Row::AsideIn(RANGE, true),
-    Row::AsideIn(RANGE, false),
-];
-
-/// A read takes 8000 bytes at most, and what is longer has a rest. Where the file is shorter it fails. Memory is left as it is.
-pub(crate) const READS: &[Row] = &[
+    Row::OnPools(saves::Row::Aside(LENT, false)),
+    Row::OnPools(saves::Row::Aside(RANGE, true)),
+    Row::OnPools(saves::Row::Aside(RANGE, false)),
+    Row::OnPools(saves::Row::Saved),
+    Row::OnPools(saves::Row::ReferredTo),
+    Row::OnPools(saves::Row::Cleared),
+    Row::PooledInSlab,
+    Row::PooledInBlock,
     Row::Says("files are read"),
     Row::Read(8001, 8001),
     Row::Read(8001, 8000),
@@ -99,35 +119,60 @@ pub(crate) const READS: &[Row] = &[
     Row::Says("memory is read"),
     Row::ReadMemory(Kind::Heap),
     Row::ReadMemory(Kind::Pool(7)),
+    Row::ReadsFail,
+    Row::OpeningsFail,
+    Row::DiskReads,
+    Row::DiskFails,
 ];
 
-fn show_row<R: Rings<Stored> + Drop>(
+impl Row {
+    /// The first name of its store.
+    fn first_name(self) -> u64 {
+        match self {
+            Row::NamesSpent => u64::MAX - 2,
+            _ => 1,
+        }
+    }
+}
+
+fn show_row<P: Rings<Stored> + Drop, R: Rings<Stored> + Drop>(
     rt: &HostRuntime,
     store: &mut Brigades<R>,
     row: Row,
 ) -> Result<()> {
     match row {
         Row::Says(text) => Ok(println!(rt; "{text}")?),
+        Row::Moves => brigades::brigade_moves(rt, store),
+        Row::Splits => brigades::brigade_splits(rt, store),
+        Row::AtOnce => brigades::brigades_at_once(rt, store),
+        Row::NamesSpent => brigades::brigade_names_spent(rt, store),
         Row::Split(made, at) => buckets::show_split(rt, made, at),
         Row::Copy(made) => buckets::show_copy(rt, made),
         Row::Aside(made, is_ancestor) => buckets::show_aside(rt, made, is_ancestor),
         Row::SplitIn(made, at) => cuts::show_split(rt, store, made, at),
         Row::CopyIn(made) => cuts::show_copy(rt, store, made),
-        Row::AsideIn(made, below) => {
-            let mut pools = saves::make_pools(rt.alloc())?;
-            saves::show_aside(rt, store, &mut pools, made, below)
-        }
         Row::Partition(made, point) => cuts::show_partition(rt, store, made, point),
         Row::ReadIn(size, len) => cuts::show_read(rt, store, size, len),
         Row::Read(size, len) => reads::show_file(rt, size, len),
         Row::ReadMemory(kind) => reads::show_memory(rt, kind),
+        Row::OnPools(row) => saves::show_row(rt, store, row),
+        Row::PooledInSlab => { pooled::pool_bucket_split_and_new_after_clear::<P>(rt, "in a slab") }
+        Row::PooledInBlock => {
+            pooled::pool_bucket_split_and_new_after_clear::<R>(rt, "in a raw block")
+        }
+        Row::ReadsFail => reads::reads_that_fail(rt),
+        Row::OpeningsFail => reads::openings_that_fail(rt),
+        Row::DiskReads => disk::reads_of_a_disk(rt),
+        Row::DiskFails => disk::failures_of_a_disk(rt),
     }
 }
 
-/// Tells the rows one after another, each with a store of its own. Brigades stand on rings of this kind.
-pub(crate) fn show_rows<R: Rings<Stored> + Drop>(rt: &HostRuntime, rows: &[Row]) -> Result<()> {
-    for row in rows {
-        show_row::<R>(rt, &mut Brigades::new(rt.alloc(), 1), *row)?;
+/// Tells the rows one after another, those of pool bytes over rings of both kinds, the others over the second.
+pub(crate) fn show_rows<P: Rings<Stored> + Drop, R: Rings<Stored> + Drop>(
+    rt: &HostRuntime,
+) -> Result<()> {
+    for row in ROWS {
+        show_row::<P, R>(rt, &mut Brigades::new(rt.alloc(), row.first_name()), *row)?;
     }
     Ok(())
 }

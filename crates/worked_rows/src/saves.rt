@@ -21,14 +21,14 @@ use std::alloc::Global;
 
 /// A tree of the root 1, the pool 2, the pool 3 under it, and the pool 4 beside it.
 #[derive(Drop)]
-pub(crate) struct Pools {
+struct Pools {
     tree: PoolTree<Payload>,
     above: PoolId,
     below: PoolId,
     beside: PoolId,
 }
 
-pub(crate) fn make_pools(alloc: Global) -> Result<Pools> {
+fn make_pools(alloc: Global) -> Result<Pools> {
     let mut tree = PoolTree::new(alloc, 1)?;
     let root = tree.root();
     let above = create(&mut tree, root)?;
@@ -57,7 +57,7 @@ fn show_payloads(rt: &HostRuntime, tree: &PoolTree<Payload>, pool: PoolId) -> Re
 }
 
 /// Sets the one bucket of a brigade aside into a pool: the one under its home, or another.
-pub(crate) fn show_aside<R: Rings<Stored> + Drop>(
+fn show_aside<R: Rings<Stored> + Drop>(
     rt: &HostRuntime,
     store: &mut Brigades<R>,
     pools: &mut Pools,
@@ -185,24 +185,27 @@ fn clears_under_a_brigade<R: Rings<Stored> + Drop>(
 /// A row of brigades and pools.
 #[derive(Clone, Copy)]
 pub(crate) enum Row {
+    /// The one bucket of a brigade is set aside into the pool under its home, or into another.
+    Aside(Made, bool),
+    /// A brigade is saved.
     Saved,
+    /// A file is referred to.
     ReferredTo,
+    /// A pool is cleared under a brigade.
     Cleared,
 }
 
-/// The rows, each of which has a store and a tree of pools of its own.
-pub(crate) const ROWS: &[Row] = &[Row::Saved, Row::ReferredTo, Row::Cleared];
-
-/// Tells a row.
+/// Tells a row, with a tree of pools of its own.
 pub(crate) fn show_row<R: Rings<Stored> + Drop>(
     rt: &HostRuntime,
     store: &mut Brigades<R>,
-    pools: &mut Pools,
     row: Row,
 ) -> Result<()> {
+    let mut pools = make_pools(rt.alloc())?;
     match row {
-        Row::Saved => saves(rt, store, pools),
-        Row::ReferredTo => references(rt, store, pools),
-        Row::Cleared => clears_under_a_brigade(rt, store, pools),
+        Row::Aside(made, below) => show_aside(rt, store, &mut pools, made, below),
+        Row::Saved => saves(rt, store, &mut pools),
+        Row::ReferredTo => references(rt, store, &mut pools),
+        Row::Cleared => clears_under_a_brigade(rt, store, &mut pools),
     }
 }
