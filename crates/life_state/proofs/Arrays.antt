@@ -1,10 +1,21 @@
 -- Arrays read as functions of an index, each value by what it stands for.
-use Rattle.std.proofs.Common.{◌≡◌, ◌≢◌, ℕ, ◌<◌, ◌≤◌, Bool, false, List, [], length, slice_index_or, slice_set, ap, sym, ◌∙◌, subst, ⊎_elim, ◌⊎◌, inl, inr, arith, get_or-set_same, get_or-set_other}
+use Rattle.std.proofs.Common.{◌≡◌, ◌≢◌, ℕ, ◌+◌, ◌<◌, ◌≤◌, Bool, false, List, [], length, slice_index_or, slice_set, ap, sym, ◌∙◌, subst, ⊎_elim, ◌⊎◌, inl, inr}
+use Rattle.std.proofs.Common.{arith, get_or-set_same, get_or-set_other}
 use Rattle.std.proofs.Math.Path.{fun_ext}
 use Rattle.std.proofs.lemmas.List.{get_or_past}
 use Rattle.std.proofs.lemmas.Bool.{cases_eq, cases_lt}
 use Rattle.run_model.specs.Indexed.{upd}
 use Rattle.run_model.proofs.Updates.{upd_at, upd_off}
+
+-- what holds of the values so far holds of one more that is written
+pub one_more : {A : Type 0} (P : ℕ → A → Type 0) (d : A) (xs : List A) (n m : ℕ) (v : A) → m ≡ n → n < length xs → P n v → ((k : ℕ) → k < n → P k (slice_index_or xs k d))
+    → (k : ℕ) → k < n + 1 → P k (slice_index_or (slice_set xs m v) k d)
+one_more {A} P d xs n m v same inside here so_far k h =
+    ⊎_elim
+    (λ (e : k ≡ m). subst (P k) (ap (λ j. slice_index_or (slice_set xs m v) j d) (sym e))
+    (subst (P k) (sym (get_or-set_same xs m v d (omega arith))) (subst (λ (j : ℕ). P j v) (sym same ∙ sym e) here)))
+    (λ (other : k ≢ m). subst (P k) (sym (get_or-set_other xs m k v d other)) (so_far k (omega arith)))
+    (cases_eq k m)
 
 module _ {A B : Type 0} (f : A → B) (d : A) where
   -- what holds below the length, and of what stands in beyond it, holds everywhere

@@ -3,8 +3,8 @@ use Rattle.std.proofs.Common.{◌≡◌, ℕ, ◌≤◌, Bool, true, false, ◌|
 use Rattle.std.proofs.Math.Path.{fun_ext}
 use Rattle.std.proofs.lemmas.List.{get_or_past}
 use Rattle.life_state.specs.declared.state.State as code
-use Rattle.life_state.specs.States.{only_null, Unset}
-use Rattle.life_state.specs.Order.{both_pools, both_brigades, both_cursors, kept_cursor, joined_pools, joined_brigades, joined_cursors}
+use Rattle.life_state.specs.States.{BrigadeKnown, only_null, Unset}
+use Rattle.life_state.specs.Order.{both_pools, both_brigades, both_cursors, kept_cursor, joined_pools, joined_brigades}
 use Rattle.life_state.specs.Seen.{unmade, seen_brigade, seen_brigades, seen}
 use Rattle.life_state.proofs.MotionLaws.{cursor_past}
 
@@ -33,9 +33,9 @@ both_unset : both_cursors Unset Unset ≡ Unset
 unfolding both_cursors
 both_unset = refl
 
-pub joined_cursors_past : (a b : code.State) (c : ℕ) → length a.cursors ≤ c → length b.cursors ≤ c → joined_cursors (seen a) (seen b) c ≡ Unset
+pub joined_cursors_past : (brigades : ℕ → BrigadeKnown) (a b : code.State) (c : ℕ) → length a.cursors ≤ c → length b.cursors ≤ c
+    → kept_cursor brigades (both_cursors ((seen a).cursors c) ((seen b).cursors c)) ≡ Unset
 unfolding seen
-joined_cursors_past a b c ha hb =
-    ap (λ x. kept_cursor (joined_brigades (seen a) (seen b)) (both_cursors x ((seen b).cursors c))) (cursor_past a.cursors c ha)
-    ∙ (ap (λ x. kept_cursor (joined_brigades (seen a) (seen b)) (both_cursors Unset x)) (cursor_past b.cursors c hb)
-    ∙ ap (kept_cursor (joined_brigades (seen a) (seen b))) both_unset)
+joined_cursors_past brigades a b c ha hb =
+    ap (λ x. kept_cursor brigades (both_cursors x ((seen b).cursors c))) (cursor_past a.cursors c ha)
+    ∙ (ap (λ x. kept_cursor brigades (both_cursors Unset x)) (cursor_past b.cursors c hb) ∙ ap (kept_cursor brigades) both_unset)

@@ -3,6 +3,7 @@ pub mod Arrays
 pub mod Below
 pub mod Bounds
 pub mod ClearLaws
+pub mod Indices
 pub mod FactLaws
 pub mod FormClears
 pub mod FormEntries
@@ -27,7 +28,6 @@ pub mod Picks
 pub mod Sets
 pub mod Tests
 pub mod UnderLaws
-pub mod Walks
 pub mod Within
 pub mod Sources
 pub mod WithinParts

@@ -1,5 +1,5 @@
 -- Sets of pools by what they have.
-use Rattle.std.proofs.Common.{◌≡◌, ℕ, ◌<◌, ◌≤◌, Bool, false, List, length, slice_index_or, refl, ap, sym, ◌∙◌, ⊎_elim, arith}
+use Rattle.std.proofs.Common.{◌≡◌, ℕ, ◌<◌, ◌≤◌, Bool, false, List, length, slice_index_or, ap, ◌∙◌, ⊎_elim, arith}
 use Rattle.std.proofs.Math.Path.{fun_ext}
 use Rattle.std.proofs.lemmas.List.{get_or_past}
 use Rattle.std.proofs.lemmas.Bool.{cases_lt}
@@ -25,17 +25,6 @@ pub everywhere : {A : Type 0} (n : ℕ) (d : A) (xs : List A) (g : ℕ → A) �
 everywhere n d xs g long here beyond i =
     ⊎_elim (λ (h : i < n). here i h) (λ (h : n ≤ i). get_or_past xs i d (omega arith) ∙ beyond i h) (cases_lt i n)
 
--- a set that is made of two, pool by pool
-pub pools_by : (op : Bool → Bool → Bool) (a b : PoolSet) (own : List Bool) → false ≡ op false false → length a.own ≡ 8 → length b.own ≡ 8 → length own ≡ 8
-    → ((i : ℕ) → i < 8 → slice_index_or own i false ≡ op (slice_index_or a.own i false) (slice_index_or b.own i false))
-    → seen_pools (record { req = op a.req b.req; own = own }) ≡ (λ k. op (seen_pools a k) (seen_pools b k))
-pools_by op a b own none first second long here =
-    pools_are (record { req = op a.req b.req; own = own }) (λ k. op (seen_pools a k) (seen_pools b k)) none refl
-    (everywhere 8 false own (λ i. op (slice_index_or a.own i false) (slice_index_or b.own i false)) long here
-    (λ i past. none ∙ sym (ap (λ x. op x (slice_index_or b.own i false)) (get_or_past a.own i false (omega arith))
-    ∙ ap (op false) (get_or_past b.own i false (omega arith)))))
-
--- homes are what they are called, whether dead ones are among them, and their pools
 pub homes_are : (h : HomeSet) (k : Homes) → h.call ≡ k.call → h.dead ≡ k.dead → seen_pools h.pools ≡ k.at → seen_homes h ≡ k
 homes_are h k call dead at =
     let of : Bool → Bool → (PoolRef → Bool) → Homes = λ c d f. record { call = c; dead = d; at = f } in

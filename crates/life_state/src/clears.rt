@@ -7,7 +7,6 @@ ghost use Rattle.life_state.specs.Prelude.{seen_brigade, seen_cursor};
 
 use crate::facts::Keep;
 use crate::parts::{BrigadeState, CursorState, PoolSet, PoolState};
-use crate::places::filled;
 use crate::state::State;
 use module_code::{Module, PoolRef};
 
@@ -59,9 +58,13 @@ fn pools_under(code: &Module, count: u8, top: PoolRef) -> PoolSet
     requires clearable { is_clearable top ≡ true }
     ensures { seen_pools result ≡ is_under code.now top }
 {
+    let mut own = [false; 8];
+    for q in 0..8u8 {
+        own[usize::from(q)] = is_under(code, count, top, PoolRef::Own(q));
+    }
     PoolSet {
         req: is_under(code, count, top, PoolRef::Req),
-        own: filled([false; 8], |q| is_under(code, count, top, PoolRef::Own(q))),
+        own,
     }
 }
 
@@ -137,13 +140,16 @@ impl State {
         ensures { seen result ≡ cleared code.now top (seen self) }
     {
         let under = pools_under(code, self.pool_count, top);
-        let pools = filled([PoolState::NULL; 8], |q| self.cleared_pool(&under, top, q));
-        let brigades = filled([BrigadeState::UNMADE; 9], |b| {
-            self.cleared_brigade(code, &under, b)
-        });
-        let cursors = filled([CursorState::Unset; 9], |c| {
-            self.cleared_cursor(code, &under, c)
-        });
+        let mut pools = [PoolState::NULL; 8];
+        let mut brigades = [BrigadeState::UNMADE; 9];
+        let mut cursors = [CursorState::Unset; 9];
+        for k in 0..8u8 {
+            pools[usize::from(k)] = self.cleared_pool(&under, top, k);
+            brigades[usize::from(k)] = self.cleared_brigade(code, &under, k);
+            cursors[usize::from(k)] = self.cleared_cursor(code, &under, k);
+        }
+        brigades[8] = self.cleared_brigade(code, &under, 8);
+        cursors[8] = self.cleared_cursor(code, &under, 8);
         self.change_cursors(Keep::Known, cursors);
         self.pools = pools;
         self.brigades = brigades;

@@ -5,7 +5,6 @@ ghost use Rattle.life_state.specs.Facts.{known, facts_of};
 ghost use Rattle.life_state.specs.Seen.{seen, seen_cursors, seen_facts, keep_of};
 
 use crate::parts::CursorState;
-use crate::places::filled;
 use crate::state::State;
 
 /// The cursors whose buckets are others than that of a cursor that is set.
@@ -75,23 +74,31 @@ impl State {
         is_due && self.is_kept(keep, c, d)
     }
 
+    /// The facts of one cursor to write, of what stays known.
+    fn fact_row(&self, keep: Keep<'_>, cursors: &[CursorState; 9], c: u8) -> [bool; 9]
+        requires { c < 9 }
+        ensures long { length result ≡ 9 }
+        ensures each { (d : ℕ) → d < 9 → slice_index_or result d false ≡ facts_of (keep_of keep.entry (seen self.now)) (seen_cursors cursors.now) c d }
+    {
+        let mut row = [false; 9];
+        if !cursors[usize::from(c)].is_set() {
+            return row;
+        }
+        for d in 0..9u8 {
+            row[usize::from(d)] = self.is_written(keep, cursors, c, d);
+        }
+        row
+    }
+
     /// The facts to write, of what stays known.
     pub(crate) fn fact_rows(&self, keep: Keep<'_>, cursors: &[CursorState; 9]) -> [[bool; 9]; 9]
         ensures { seen_facts result ≡ facts_of (keep_of keep.entry (seen self.now)) (seen_cursors cursors.now) }
     {
-        let row = |c|
-            requires { c < 9 }
-            ensures long { length result ≡ 9 }
-            ensures each { (d : ℕ) → d < 9 → slice_index_or result d false ≡
-                facts_of (keep_of keep.entry (seen self.entry.now)) (seen_cursors cursors.entry.now) c d }
-        {
-            if cursors[usize::from(c)].is_set() {
-                filled([false; 9], |d| self.is_written(keep, cursors, c, d))
-            } else {
-                [false; 9]
-            }
-        };
-        filled([[false; 9]; 9], row)
+        let mut rows = [[false; 9]; 9];
+        for c in 0..9u8 {
+            rows[usize::from(c)] = self.fact_row(keep, cursors, c);
+        }
+        rows
     }
 
     /// The cursors become these. Of what stays known, that is written which their places do not imply.

@@ -56,12 +56,18 @@ fn is_formed_brigade(brigade: &BrigadeState) -> bool
 }
 
 impl State {
-    fn is_formed_pool(&self, q: u8) -> bool
-        ensures { result ≡ is_formed_pool (seen self.now) q }
+    fn are_formed_pools(&self) -> bool
+        ensures { result ≡ all_below 8 (is_formed_pool (seen self.now)) }
     {
-        let pool = self.pool(q);
-        let null = pool.null & !pool.gone & !pool.live;
-        (pool.null | pool.gone | pool.live) & ((q < self.pool_count) | null)
+        for q in 0..8u8 {
+            let pool = self.pool(q);
+            let null = pool.null & !pool.gone & !pool.live;
+            let formed = (pool.null | pool.gone | pool.live) & ((q < self.pool_count) | null);
+            if !formed {
+                return false;
+            }
+        }
+        true
     }
 
     fn is_formed_brigade(&self, b: u8) -> bool
@@ -150,7 +156,7 @@ impl State {
         (self.pool_count <= 8)
             & (self.brigade_count <= 8)
             & (is_unmade(&brought) | brought.is_live())
-            & (0..8u8).all(|q| self.is_formed_pool(q))
+            & self.are_formed_pools()
             & self.are_formed_places()
     }
 }

@@ -55,5 +55,7 @@ pub fn at_end_of_request(code: &Module, state: &State) -> State
     requires few { length code.now.pools ≤ 8 }
     ensures { seen result ≡ at_end_of_request code.now (seen state.now) }
 {
-    state.cleared(code, PoolRef::Req).with_sent(false)
+    let mut next = state.cleared(code, PoolRef::Req);
+    next.set_sent(false);
+    next
 }

@@ -1,12 +1,11 @@
 //! The least state above two.
 
 ghost use Rattle.std.specs.Prelude.{◌≡◌};
-ghost use Rattle.life_state.specs.Order.{both_brigades, both_cursors, kept_cursor, join};
-ghost use Rattle.life_state.specs.Seen.{seen, seen_brigade, seen_brigades, seen_cursor};
+ghost use Rattle.life_state.specs.Order.{both_cursors, kept_cursor, join};
+ghost use Rattle.life_state.specs.Seen.{seen, seen_brigades, seen_cursor, seen_cursors};
 
 use crate::facts::Keep;
 use crate::parts::{BrigadeState, CursorState, PoolState};
-use crate::places::filled;
 use crate::state::State;
 
 fn kept(brigades: &[BrigadeState; 9], cursor: CursorState) -> CursorState
@@ -25,6 +24,17 @@ fn kept(brigades: &[BrigadeState; 9], cursor: CursorState) -> CursorState
     }
 }
 
+/// The least cursors above those of two states, of which those are kept whose brigades stay exactly live and usable.
+fn joined_cursors(a: &State, b: &State, brigades: &[BrigadeState; 9]) -> [CursorState; 9]
+    ensures { seen_cursors result ≡ (λ c. kept_cursor (seen_brigades brigades.now) (both_cursors ((seen a.now).cursors c) ((seen b.now).cursors c))) }
+{
+    let mut cursors = [CursorState::Unset; 9];
+    for c in 0..9u8 {
+        cursors[usize::from(c)] = kept(brigades, a.cursor(c).both(&b.cursor(c)));
+    }
+    cursors
+}
+
 /// The least state above two of the same variables.
 #[tactic(auto, unfolding(crate::specs::Seen::seen, crate::specs::Order::join))]
 pub fn join(a: &State, b: &State) -> State
@@ -32,15 +42,14 @@ pub fn join(a: &State, b: &State) -> State
     requires brigades { (seen a.now).brigade_count ≡ (seen b.now).brigade_count }
     ensures { seen result ≡ join (seen a.now) (seen b.now) }
 {
-    let pools = filled([PoolState::NULL; 8], |q| a.pool(q).both(&b.pool(q)));
-    let both = |v|
-        ensures { seen_brigade result ≡ both_brigades ((seen a.entry.now).brigades v) ((seen b.entry.now).brigades v) }
-    { a.brigade(v).both(&b.brigade(v)) };
-    let brigades = filled([BrigadeState::UNMADE; 9], both);
-    let both_kept = |c|
-        ensures { seen_cursor result ≡ kept_cursor (seen_brigades brigades) (both_cursors ((seen a.entry.now).cursors c) ((seen b.entry.now).cursors c)) }
-    { kept(&brigades, a.cursor(c).both(&b.cursor(c))) };
-    let cursors = filled([CursorState::Unset; 9], both_kept);
+    let mut pools = [PoolState::NULL; 8];
+    let mut brigades = [BrigadeState::UNMADE; 9];
+    for k in 0..8u8 {
+        pools[usize::from(k)] = a.pool(k).both(&b.pool(k));
+        brigades[usize::from(k)] = a.brigade(k).both(&b.brigade(k));
+    }
+    brigades[8] = a.brigade(8).both(&b.brigade(8));
+    let cursors = joined_cursors(a, b, &brigades);
     State {
         pool_count: a.pool_count,
         brigade_count: a.brigade_count,

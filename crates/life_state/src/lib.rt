@@ -16,7 +16,6 @@ mod motions;
 mod needs;
 mod order;
 mod parts;
-mod places;
 mod pools;
 mod rules;
 mod state;

@@ -7,7 +7,6 @@ ghost use Rattle.life_state.specs.Seen.{seen, seen_cursor, seen_cursors, motion_
 
 use crate::facts::{Keep, Others};
 use crate::parts::CursorState;
-use crate::places::filled;
 use crate::state::State;
 
 /// What happened to buckets at which cursors may stand.
@@ -57,7 +56,11 @@ impl State {
     fn cursors_after(&self, motion: Motion) -> [CursorState; 9]
         ensures { seen_cursors result ≡ motion_of motion (seen self.now) }
     {
-        filled([CursorState::Unset; 9], |k| self.motion(motion, k))
+        let mut cursors = [CursorState::Unset; 9];
+        for k in 0..9u8 {
+            cursors[usize::from(k)] = self.motion(motion, k);
+        }
+        cursors
     }
 
     /// Moves the cursors.

@@ -69,11 +69,13 @@ impl State {
                 (!self.content(b).is_at_most(limit)).then_some(FaultKind::F8)
             }
             Want::Return => {
-                let keeps_call = |b| {
+                for b in 0..8u8 {
                     let brigade = self.brigade(b);
-                    brigade.live & brigade.usable & brigade.homes.call
-                };
-                (0..8u8).any(keeps_call).then_some(FaultKind::F6)
+                    if brigade.live & brigade.usable & brigade.homes.call {
+                        return Some(FaultKind::F6);
+                    }
+                }
+                None
             }
         }
     }

@@ -6,7 +6,6 @@ ghost use Rattle.life_state.specs.Order.{implies, places_le};
 ghost use Rattle.life_state.specs.Seen.{seen_pools};
 
 use crate::parts::PoolSet;
-use crate::places::filled;
 use module_code::PoolRef;
 
 /// Whether the second holds where the first does.
@@ -23,13 +22,6 @@ impl PoolSet {
         own: [false; 8],
     };
 
-    fn has_own(&self, q: u8) -> bool
-        ensures { result ≡ slice_index_or self.now.own q false }
-    {
-        let q = usize::from(q);
-        if q < 8 { self.own[q] } else { false }
-    }
-
     /// Whether it has a pool; it never has the connection's.
     pub fn has(&self, pool: PoolRef) -> bool
         ensures { result ≡ seen_pools self.now pool }
@@ -37,7 +29,10 @@ impl PoolSet {
         match pool {
             PoolRef::Conn => false,
             PoolRef::Req => self.req,
-            PoolRef::Own(q) => self.has_own(q),
+            PoolRef::Own(q) => {
+                let q = usize::from(q);
+                q < 8 && self.own[q]
+            }
         }
     }
 
@@ -51,10 +46,14 @@ impl PoolSet {
                 req: true,
                 ..PoolSet::NONE
             },
-            PoolRef::Own(q) => PoolSet {
-                req: false,
-                own: filled([false; 8], |i| q == i),
-            },
+            PoolRef::Own(q) => {
+                let q = usize::from(q);
+                let mut own = [false; 8];
+                if q < 8 {
+                    own[q] = true;
+                }
+                PoolSet { req: false, own }
+            }
         }
     }
 
@@ -62,9 +61,13 @@ impl PoolSet {
     pub(crate) fn both(&self, other: &PoolSet) -> PoolSet
         ensures { seen_pools result ≡ (λ k. seen_pools self.now k || seen_pools other.now k) }
     {
+        let mut own = [false; 8];
+        for q in 0..8 {
+            own[q] = self.own[q] | other.own[q];
+        }
         PoolSet {
             req: self.req | other.req,
-            own: filled([false; 8], |q| self.has_own(q) | other.has_own(q)),
+            own,
         }
     }
 
@@ -72,9 +75,13 @@ impl PoolSet {
     pub(crate) fn without(&self, other: &PoolSet) -> PoolSet
         ensures { seen_pools result ≡ (λ k. seen_pools self.now k && not (seen_pools other.now k)) }
     {
+        let mut own = [false; 8];
+        for q in 0..8 {
+            own[q] = self.own[q] & !other.own[q];
+        }
         PoolSet {
             req: self.req & !other.req,
-            own: filled([false; 8], |q| self.has_own(q) & !other.has_own(q)),
+            own,
         }
     }
 
@@ -82,13 +89,23 @@ impl PoolSet {
     pub(crate) fn meets(&self, other: &PoolSet) -> bool
         ensures { result ≡ any_place (λ k. seen_pools self.now k && seen_pools other.now k) }
     {
-        (self.req & other.req) | (0..8u8).any(|q| self.has_own(q) & other.has_own(q))
+        for q in 0..8 {
+            if self.own[q] & other.own[q] {
+                return true;
+            }
+        }
+        self.req & other.req
     }
 
     /// Whether another set has all its pools.
     pub(crate) fn is_in(&self, other: &PoolSet) -> bool
         ensures { result ≡ places_le (seen_pools self.now) (seen_pools other.now) }
     {
-        implies(self.req, other.req) & (0..8u8).all(|q| implies(self.has_own(q), other.has_own(q)))
+        for q in 0..8 {
+            if self.own[q] & !other.own[q] {
+                return false;
+            }
+        }
+        implies(self.req, other.req)
     }
 }

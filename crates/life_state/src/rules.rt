@@ -72,14 +72,6 @@ impl State {
         self
     }
 
-    #[tactic(auto, unfolding(crate::specs::Seen::seen))]
-    pub(crate) fn with_sent(mut self, sent: bool) -> State
-        ensures { seen result ≡ record (seen self) { sent = sent } }
-    {
-        self.sent = sent;
-        self
-    }
-
     fn jnull_pool(self, q: u8) -> Successors
         requires { q < 8 }
         ensures { seen_edges result ≡ edges_jnull (variable.Pool q) (seen self) }
@@ -204,10 +196,14 @@ impl State {
             },
             Condition::IsNull(VarRef::Pool(q)) => after.jnull_pool(q),
             Condition::IsNull(VarRef::Brigade(b)) => after.jnull_brigade(b),
-            Condition::WasSent => Successors {
-                next: Some(after.with_sent(false)),
-                jump: some_if(after.sent(), after),
-            },
+            Condition::WasSent => {
+                let mut next = after;
+                next.set_sent(false);
+                Successors {
+                    next: Some(next),
+                    jump: some_if(after.sent(), after),
+                }
+            }
             Condition::PassFailed
             | Condition::NoSplit(_, _)
             | Condition::NoByte(_)

@@ -6,4 +6,4 @@ use Rattle.life_state.proofs.handlers.at_end_of_request.Goals as goal
 
 pub returns : goal.returns
 unfolding at_end_of_request
-returns c = c.with_sent.ensures ∙ ap (λ (s : State). record s { sent = false }) c.cleared.ensures
+returns c = c.set_sent.ensures ∙ ap (λ (s : State). record s { sent = false }) c.cleared-next.ensures

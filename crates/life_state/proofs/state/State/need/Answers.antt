@@ -1,20 +1,28 @@
--- At the end of a call: whether some brigade keeps a bucket of it.
-use Rattle.std.proofs.Common.{◌≡◌, Bool, true, false, if◌then◌else◌, Some, None, refl, ap, sym, ◌∙◌, rules}
-use Rattle.std.specs.Bool.{then_some}
+-- At the end of a call: one brigade that keeps a bucket of it decides, and none does where the loop ends.
+use Rattle.std.proofs.Common.{◌≡◌, ℕ, Bool, true, false, if◌then◌else◌, Some, None, ap, sym, ◌∙◌, below_more, arith}
 use Rattle.run_model.specs.declared.fault.FaultKind.TheVariants.{F6}
 use Rattle.run_model.specs.declared.want.Want.{Want}
 use Rattle.run_model.specs.Wants.{want_of}
+use Rattle.life_state.specs.States.{BrigadeKnown}
 use Rattle.life_state.specs.Rules.{keeps_call, need}
 use Rattle.life_state.specs.Seen.{seen}
-use Rattle.life_state.proofs.Walks.{any_over}
+use Rattle.life_state.proofs.Below.{none_below, some_below}
 use Rattle.life_state.proofs.state.State.need.Goals as goal
 
-some_where : {A : Type 0} (b : Bool) (x : A) → then_some b x ≡ (if b then Some x else None)
-some_where true x = refl
-some_where false x = refl
+pub loop-b-preserved : goal.loop-b-preserved
+loop-b-preserved c =
+    below_more (λ k. keeps_call ((seen c.args.self.now).brigades k) ≡ false) c.loop-b.b c.loop-b.invariant
+    (ap (λ (v : BrigadeKnown). keeps_call v) (sym c.brigade-brigade-in-loop-b.ensures) ∙ c.if-brigade.false)
 
-pub returns-in-Return : goal.returns-in-Return
-returns-in-Return c =
-    let s = seen c.args.self.now in
-    let kept = any_over (λ b. keeps_call (s.brigades b)) 8 _ _ c.any.result c.any.ensures.ran (λ x b q k. search rules) in
-    c.then_some-in-Return.ensures ∙ (ap (λ b. then_some b F6) kept ∙ (some_where _ F6 ∙ sym (ap (λ (w : Want). need s (want_of w)) c.in-Return.is)))
+pub returns-then-brigade : goal.returns-then-brigade
+returns-then-brigade c =
+    let keeps : ℕ → Bool = λ b. keeps_call ((seen c.args.self.now).brigades b) in
+    let here : keeps c.loop-b.b ≡ true = ap (λ (v : BrigadeKnown). keeps_call v) (sym c.brigade-brigade-in-loop-b.ensures) ∙ c.if-brigade.true in
+    sym (ap (λ b. if b then Some F6 else None) (some_below 8 c.loop-b.b keeps (omega arith) here))
+    ∙ sym (ap (λ (w : Want). need (seen c.args.self.now) (want_of w)) c.in-Return.is)
+
+pub returns-after-loop-b : goal.returns-after-loop-b
+returns-after-loop-b c =
+    let keeps : ℕ → Bool = λ b. keeps_call ((seen c.args.self.now).brigades b) in
+    sym (ap (λ b. if b then Some F6 else None) (none_below 8 keeps (λ k below. c.loop-b.invariant k (omega arith))))
+    ∙ sym (ap (λ (w : Want). need (seen c.args.self.now) (want_of w)) c.in-Return.is)

@@ -1,0 +1,7 @@
+-- The pools so far are those of the first set alone.
+use Rattle.std.proofs.Common.{◌≡◌, ◌&&◌, not, ℕ, ◌<◌, false, length, slice_index_or}
+use Rattle.life_state.proofs.parts.PoolSet.without.Given as goal
+
+abbrev pub invariant-loop-q : goal.invariant-loop-q
+invariant-loop-q l =
+    (length l.own ≡ 8) × ((k : ℕ) → k < l.q → slice_index_or l.own k false ≡ (slice_index_or l.self.own k false && not (slice_index_or l.other.own k false)))
