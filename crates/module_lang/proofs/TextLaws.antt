@@ -1,5 +1,5 @@
 -- What a text's lines leave, taken in turn, against the definition that reads a text byte by byte.
-use Rattle.std.proofs.Common.{◌≡◌, ℕ, ◌+◌, ◌-◌, Bool, true, false, cond, eqb, List, [], ◌∷◌, ◌++◌, drop, length, length-drop, take, Result, Ok, refl, sym, ◌∙◌, ap, subst, arith}
+use Rattle.std.proofs.Common.{◌≡◌, ℕ, ◌+◌, ◌-◌, Bool, true, false, cond, eqb, List, [], ◌∷◌, ◌++◌, drop, length, length-drop, take, Result, Ok, Err, refl, sym, ◌∙◌, ap, subst, arith}
 use Rattle.std.proofs.lemmas.List.{take_all}
 use Rattle.module_lang.specs.Assembling.{lines_ended, lines_read}
 use Rattle.module_lang.specs.Codes.{Gives, Tells, ◌>>=◌}
@@ -64,7 +64,7 @@ text_refused text long d first t e s x =
     subst (λ y. Tells e (lines_read long y 1 [] text)) s (refused_from text long first x.state t 1 (length x.before + 1) [] x.before x.line x.after e x.whole (omega arith) x.taken x.refused)
 
 -- a text whose lines are taken is judged by what stands behind them
-pub text_ends : (text : List ℕ) (long : Bool) (d first e : Draft) (m start : ℕ) → first ≡ d → m ≡ length (lines_from [] text) + 1 → drop start text ≡ rest_from [] text
+text_ends : (text : List ℕ) (long : Bool) (d first e : Draft) (m start : ℕ) → first ≡ d → m ≡ length (lines_from [] text) + 1 → drop start text ≡ rest_from [] text
     → AreTaken draft_takes first 1 (lines_from [] text) e → lines_read long d 1 [] text ≡ (lines_ended long e.part m (take (length text - start) (drop start text)) >>= λ _. Ok e)
 text_ends text long d first e m start s count rest a =
     let size = length-drop start text in
@@ -72,7 +72,13 @@ text_ends text long d first e m start s count rest a =
     subst (λ y. lines_read long y 1 [] text ≡ (lines_ended long e.part m (take (length text - start) (drop start text)) >>= λ _. Ok e)) s
     (text_taken text long first e 1 m [] (omega (arith, count)) a ∙ ap (λ x. lines_ended long e.part m x >>= λ _. Ok e) (sym whole))
 
-pub text_end_refused : (text : List ℕ) (long : Bool) (d first e : Draft) (m start : ℕ) (f : AsmRefusal) → first ≡ d → m ≡ length (lines_from [] text) + 1 → drop start text ≡ rest_from [] text
-    → AreTaken draft_takes first 1 (lines_from [] text) e → Tells f (lines_ended long e.part m (take (length text - start) (drop start text))) → Tells f (lines_read long d 1 [] text)
-text_end_refused text long d first e m start f s count rest a h =
-    subst (Tells f) (sym (text_ends text long d first e m start s count rest a)) (tells_on f (lines_ended long e.part m (take (length text - start) (drop start text))) (λ _. Ok e) h)
+gives_then : {X : Type 0} (x : X) (r s : Result (Unit {0}) AsmRefusal) → Gives {X = Unit {0}} (λ u. u) r s → Gives {X = Unit {0}} (λ _. x) r (s >>= λ _. Ok x)
+gives_then x (Ok u) s h = rw h refl
+gives_then x (Err f) s h = tells_on f s (λ _. Ok x) h
+
+pub text_judged : (text : List ℕ) (long : Bool) (d first e : Draft) (m start : ℕ) (r : Result (Unit {0}) AsmRefusal) → first ≡ d → m ≡ length (lines_from [] text) + 1
+    → drop start text ≡ rest_from [] text → AreTaken draft_takes first 1 (lines_from [] text) e
+    → Gives {X = Unit {0}} (λ u. u) r (lines_ended long e.part m (take (length text - start) (drop start text))) → Gives {X = Unit {0}} (λ _. e) r (lines_read long d 1 [] text)
+text_judged text long d first e m start r s count rest a h =
+    subst (Gives {X = Unit {0}} (λ _. e) r) (sym (text_ends text long d first e m start s count rest a))
+    (gives_then e r (lines_ended long e.part m (take (length text - start) (drop start text))) h)

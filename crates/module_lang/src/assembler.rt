@@ -1,6 +1,6 @@
 //! Modules from their texts.
 
-ghost use Rattle.std.specs.Prelude.{◌≡◌, ◌≢◌, ◌≤◌, [], Ok, Err, Result, IfErr, IfOk, length};
+ghost use Rattle.std.specs.Prelude.{◌≡◌, ◌≢◌, ◌≤◌, [], Ok, Err, Result, IfOk, OnOk, length};
 ghost use Rattle.module_lang.specs.Prelude.{is_end, lines_read, lines_ended, draft_read, program_of, assembling, Gives, empty_draft, IsDraft, IsReadAs, printed, IsModule, Program, program};
 ghost use Rattle.module_lang.specs.declared.refusal.AsmRefusal.TheVariants.{NoMemory};
 
@@ -41,27 +41,27 @@ fn end_lines(part: Part, number: usize, rest: &[u8], long: bool) -> Result<(), A
     Ok(())
 }
 
-/// What the lines of a text say, of which more follows where it is `long`.
-fn read_lines(alloc: Global, text: &[u8], long: bool) -> Result<Draft, AsmRefusal>
-    requires { length text.now ≤ 1048576 }
-    ensures draft { Gives (λ d. d) result (lines_read long empty_draft 1 [] text.now) }
-    ensures sound { IfOk result (λ d. IsDraft d) }
+/// Takes the lines of a text into a draft that has none, where more follows behind a `long` one.
+fn read_lines(alloc: Global, draft: &mut Draft, text: &[u8], long: bool) -> Result<(), AsmRefusal>
+    requires empty { draft.old ≡ empty_draft }
+    requires short { length text.now ≤ 1048576 }
+    ensures draft { Gives (λ _. draft.new) result (lines_read long empty_draft 1 [] text.now) }
+    ensures sound { OnOk result (IsDraft draft.new) }
 {
-    let mut draft = Draft::new(alloc);
-    let last = take_lines(alloc, &mut draft, text)?;
-    end_lines(draft.part, last.number, &text[last.start..], long)?;
-    Ok(draft)
+    let last = take_lines(alloc, draft, text)?;
+    end_lines(draft.part, last.number, &text[last.start..], long)
 }
 
 #[tactic(auto, unfolding(crate::specs::Assembling::draft_read))]
-fn read_draft(alloc: Global, text: &[u8]) -> Result<Draft, AsmRefusal>
-    ensures draft { Gives (λ d. d) result (draft_read text.now) }
-    ensures sound { IfOk result (λ d. IsDraft d) }
+fn read_draft(alloc: Global, draft: &mut Draft, text: &[u8]) -> Result<(), AsmRefusal>
+    requires { draft.old ≡ empty_draft }
+    ensures draft { Gives (λ _. draft.new) result (draft_read text.now) }
+    ensures sound { OnOk result (IsDraft draft.new) }
 {
     if MAX_LEN < text.len() {
-        read_lines(alloc, &text[..MAX_LEN], true)
+        read_lines(alloc, draft, &text[..MAX_LEN], true)
     } else {
-        read_lines(alloc, text, false)
+        read_lines(alloc, draft, text, false)
     }
 }
 
@@ -74,9 +74,8 @@ fn resolve_code(
 ) -> Result<(u16, u16), AsmRefusal>
     requires draft { IsDraft draft.now }
     requires empty { code.old ≡ [] }
-    ensures ok { IfOk result (λ at. program_of draft.now ≡ Ok (program draft.now.pools draft.now.brigades draft.now.texts code.new at.0 at.1)) }
+    ensures code { Gives (λ at. program draft.now.pools draft.now.brigades draft.now.texts code.new at.0 at.1) result (program_of draft.now) }
     ensures sound { IfOk result (λ at. IsModule (program draft.now.pools draft.now.brigades draft.now.texts code.new at.0 at.1)) }
-    ensures err { IfErr result (λ e. Gives (λ m. m) (Err e) (program_of draft.now)) }
 {
     let mut seen = BTreeSet::new(alloc);
     resolve_handler(alloc, &mut seen, &draft.open, code)?;
@@ -87,31 +86,37 @@ fn resolve_code(
     Ok((init as u16, main as u16))
 }
 
-/// The module of a draft, unless a handler has a fault.
-fn resolve(alloc: Global, draft: Draft) -> Result<Module, AsmRefusal>
-    requires { IsDraft draft }
-    ensures { Gives (λ m. m) result (program_of draft) }
+/// Reads a text into a draft and its code, and tells where the handlers `init` and `main` begin.
+#[tactic(auto, unfolding(crate::specs::Assembling::assembling))]
+fn read_code(
+    alloc: Global,
+    draft: &mut Draft,
+    code: &mut Seq<Instr>,
+    text: &[u8],
+) -> Result<(u16, u16), AsmRefusal>
+    requires draft { draft.old ≡ empty_draft }
+    requires empty { code.old ≡ [] }
+    ensures code { Gives (λ at. program draft.new.pools draft.new.brigades draft.new.texts code.new at.0 at.1) result (assembling text.now) }
+    ensures sound { IfOk result (λ at. IsModule (program draft.new.pools draft.new.brigades draft.new.texts code.new at.0 at.1)) }
 {
-    let mut code = Seq::new(alloc);
-    let (init, main) = resolve_code(alloc, &draft, &mut code)?;
-    let Draft {
-        part: _,
-        pools,
-        brigades,
-        texts,
-        open: _,
-        init: _,
-        main: _,
-    } = draft;
-    Ok(Module::new((pools, brigades), texts, code, init, main))
+    read_draft(alloc, draft, text)?;
+    resolve_code(alloc, draft, code)
 }
 
-#[tactic(auto, unfolding(crate::specs::Assembling::assembling))]
 fn read_module(alloc: Global, text: &[u8]) -> Result<Module, AsmRefusal>
     ensures { Gives (λ m. m) result (assembling text.now) }
 {
-    let draft = read_draft(alloc, text)?;
-    resolve(alloc, draft)
+    let mut draft = Draft::new(alloc);
+    let mut code = Seq::new(alloc);
+    let read = read_code(alloc, &mut draft, &mut code, text);
+    let Draft {
+        pools,
+        brigades,
+        texts,
+        ..
+    } = draft;
+    let (init, main) = read?;
+    Ok(Module::new((pools, brigades), texts, code, init, main))
 }
 
 /// The module that a text spells, or its first faulty line, from 1, with the lowest code that fits it. A text has at

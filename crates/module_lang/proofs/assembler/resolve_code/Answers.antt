@@ -22,30 +22,30 @@ third : (c : In_ok-resolve_handler-3) → IsSeen c.resolve_handler-2.new.seen (c
     → handler_resolved (c.args.draft.now.open.labels ++ c.args.draft.now.init.labels) c.args.draft.now.main c.resolve_handler-2.new.code ≡ Ok c.resolve_handler-3.new.code
 third c seen = c.in_ok-resolve_handler-3.ensures.code _ seen
 
-pub returns-in_err-resolve_handler-clause-err : goal.returns-in_err-resolve_handler-clause-err
-returns-in_err-resolve_handler-clause-err c =
+pub returns-in_err-resolve_handler-clause-code : goal.returns-in_err-resolve_handler-clause-code
+returns-in_err-resolve_handler-clause-code c =
     let p = err_from_is_err_and c.from_residual.result c.from_residual.ensures.1 in
     let seen = seen_none c.new-seen.result c.new-seen.ensures.empty in
     rw (p.1, p.2) (stop1 c.args.draft.now _ c.args.code.now c.requires.empty (c.in_err-resolve_handler.ensures.fault [] seen))
 
-pub returns-in_err-resolve_handler-2-clause-err : goal.returns-in_err-resolve_handler-2-clause-err
-returns-in_err-resolve_handler-2-clause-err c =
+pub returns-in_err-resolve_handler-2-clause-code : goal.returns-in_err-resolve_handler-2-clause-code
+returns-in_err-resolve_handler-2-clause-code c =
     let p = err_from_is_err_and c.from_residual-in_err-resolve_handler-2.result c.from_residual-in_err-resolve_handler-2.ensures.1 in
-    let a = first (goal.at.returns-in_err-resolve_handler-2-clause-err c).In_ok-resolve_handler in
+    let a = first (goal.at.returns-in_err-resolve_handler-2-clause-code c).In_ok-resolve_handler in
     rw (p.1, p.2) (stop2 c.args.draft.now _ c.args.code.now c.requires.empty c.resolve_handler.new.code a.0 (c.in_err-resolve_handler-2.ensures.fault c.args.draft.now.open.labels a.1))
 
-pub returns-in_err-resolve_handler-3-clause-err : goal.returns-in_err-resolve_handler-3-clause-err
-returns-in_err-resolve_handler-3-clause-err c =
-    let g = goal.at.returns-in_err-resolve_handler-3-clause-err c in
+pub returns-in_err-resolve_handler-3-clause-code : goal.returns-in_err-resolve_handler-3-clause-code
+returns-in_err-resolve_handler-3-clause-code c =
+    let g = goal.at.returns-in_err-resolve_handler-3-clause-code c in
     let p = err_from_is_err_and c.from_residual-in_err-resolve_handler-3.result c.from_residual-in_err-resolve_handler-3.ensures.1 in
     let a = first g.In_ok-resolve_handler in
     let b = second g.In_ok-resolve_handler-2 a.1 in
     rw (p.1, p.2) (stop3 c.args.draft.now _ c.args.code.now c.requires.empty c.resolve_handler.new.code c.resolve_handler-2.new.code a.0 b.0
     (c.in_err-resolve_handler-3.ensures.fault (c.args.draft.now.open.labels ++ c.args.draft.now.init.labels) b.1))
 
-pub returns-clause-ok : goal.returns-clause-ok
-returns-clause-ok c =
-    let g = goal.at.returns-clause-ok c in
+pub returns-clause-code : goal.returns-clause-code
+returns-clause-code c =
+    let g = goal.at.returns-clause-code c in
     let a = first g.In_ok-resolve_handler in
     let b = second g.In_ok-resolve_handler-2 a.1 in
     rw (c.len-init.ensures, c.len-main.ensures)

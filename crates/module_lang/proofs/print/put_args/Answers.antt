@@ -29,6 +29,14 @@ module _ (g : Over) where
   three c left = leaves_less _ (g.W.Write.contents c.put_arg-2.new.out) _ _ _
       (shown_arg c.args.module.now.texts c.args.args.fourth) left c.in_ok-put_arg-3.ensures
 
+pub returns-in_err-put_arg : goal.returns-in_err-put_arg
+returns-in_err-put_arg g c =
+    let w = g.W.Write.contents in
+    let whole = shown_args c.args.module.now.texts c.args.args in
+    leaves_fault (w c.args.out.now) (w c.args.out.now) (w c.put_arg.new.out) whole (shown_arg c.args.module.now.texts c.args.args.first)
+    (shown_arg c.args.module.now.texts c.args.args.second ++ (shown_arg c.args.module.now.texts c.args.args.third ++ shown_arg c.args.module.now.texts c.args.args.fourth))
+    c.in_err-put_arg.field-0.0 c.from_residual.result c.from_residual.ensures.0 (leaves_all (w c.args.out.now) whole) c.in_err-put_arg.ensures
+
 pub returns-in_err-put_arg-2 : goal.returns-in_err-put_arg-2
 returns-in_err-put_arg-2 g c =
     let p = goal.at.returns-in_err-put_arg-2 g c in
