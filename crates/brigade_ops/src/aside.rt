@@ -90,6 +90,7 @@ impl<R: Rings<Stored> + Drop> Brigades<R> {
 
     /// Sets a bucket aside into a pool (`apr_bucket_setaside`). A FILE bucket whose home is not above the pool gets a reference to its
     /// file there, and no other takes memory. Refused, nothing is changed.
+    #[tactic(auto)]
     pub fn aside(
         &mut self,
         tree: &mut PoolTree<Payload>,

@@ -44,7 +44,7 @@ impl<R: Rings<Stored> + Drop> Brigades<R> {
     }
 
     /// Registers a reference to a file, where one is named, as `refer` does.
-    #[tactic(auto, unfolding(stored_rings::specs::Shelf::seen, crate::specs::Store::lists, crate::specs::Store::brigade_of, crate::specs::Store::bucket_at, crate::specs::Store::pool_of, crate::specs::Store::next_name, crate::specs::Store::references, crate::specs::Files::count_at, bucket_ring::specs::Lists::upd), using(pool_tree::proofs::Trees::tree_formed))]
+    #[tactic(auto, unfolding(crate::specs::Store::references))]
     pub(crate) fn refer_for(
         &mut self,
         tree: &mut PoolTree<Payload>,

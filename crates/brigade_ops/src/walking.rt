@@ -84,6 +84,7 @@ impl<R: Rings<Stored> + Drop> Brigades<R> {
     /// Finds the place behind the shortest front of a brigade whose lengths add up to a point (`apr_brigade_partition`). A bucket that
     /// the point lies inside is split, which alone may be refused: `NamesSpent` only where the next name is `u64::MAX`, or `NoMemory`. Refused,
     /// nothing is changed. `Incomplete`: the brigade is shorter, and nothing is changed.
+    #[tactic(auto)]
     pub fn partition(&mut self, b: BrigadeId, point: u64) -> Result<Cut, RingRefusal>
         requires there { is_some (lists self.old b) ≡ true }
         requires fits { (id : BucketId) (x : Bucket) → brigade_of self.old id ≡ Some b → bucket_at self.old id ≡ Some x → form_of x.content ≡ form_of_kind x.kind }

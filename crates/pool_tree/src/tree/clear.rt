@@ -85,7 +85,7 @@ impl<T: Drop> PoolTree<T> {
     }
 
     /// Destroys a pool other than the root, in memory that was made ready for a clear of it. Answers what `clear` does.
-    #[tactic(auto, using(crate::proofs::Trees::tree_formed, crate::proofs::Destroyed::still_live, crate::proofs::Destroyed::now_childless, crate::proofs::Destroyed::still_under, crate::proofs::Destroyed::then_destroyed))]
+    #[tactic(auto, using(crate::proofs::Destroyed::still_live, crate::proofs::Destroyed::now_childless, crate::proofs::Destroyed::still_under))]
     pub fn destroy_in(&mut self, pool: PoolId, room: Room<T>) -> Vec<(PoolId, T)>
         requires live { IsTrue (is_live (map_of self.old) pool) }
         requires below { (map_of self.old).path pool ≢ pool ∷ [] }

@@ -5,8 +5,9 @@ use Rattle.run_model.specs.Steps.{is_above}
 use Rattle.pool_tree.specs.Tree.{map_of}
 use Rattle.bucket_ring.specs.declared.names.BucketId.{BucketId}
 use Rattle.bucket_ring.specs.Lists.{on, list_at, with_payload}
-use Rattle.stored_rings.specs.Items.{Items, count_for}
+use Rattle.stored_rings.specs.Items.{Items, count_for, pools_for}
 use Rattle.brigade_ops.specs.Store.{lists, brigade_of, pool_of, references}
+use Rattle.brigade_ops.proofs.Added.{none_since}
 use Rattle.brigade_ops.proofs.Housed.{house_stays, on_some}
 use Rattle.stored_rings.proofs.Lists.{some_of}
 use Rattle.stored_rings.proofs.Saves.{found_some}
@@ -27,6 +28,29 @@ returns-clause-counted g c x f is =
     ap (λ (r : ℕ → ℕ). r f) c.put_aside.ensures.others.references
     ∙ (c.in_ok-refer_for.ensures.counted f
     ∙ ap (λ (p : Option ℕ × Bool). count_for f p.0 (references c.args.self.now f)) (c.file_for-file.ensures x is))
+
+pub returns-clause-registered : goal.returns-clause-registered
+returns-clause-registered g c x is =
+    c.in_ok-refer_for.ensures.ok ∙ ap (λ (p : Option ℕ × Bool). pools_for c.args.pool p.0 (map_of c.args.tree.now)) (c.file_for-file.ensures x is)
+
+pub returns-clause-next : goal.returns-clause-next
+returns-clause-next g c = c.put_aside.ensures.others.next ∙ c.in_ok-refer_for.ensures.next
+
+pub returns-clause-names : goal.returns-clause-names
+returns-clause-names g c =
+    none_since _ _ _ _ _ (λ id. ap (λ (f : BucketId → Option ℕ). f id) c.in_ok-refer_for.ensures.brigades) c.in_ok-refer_for.ensures.next c.put_aside.ensures.others.names
+
+pub returns-clause-pools : goal.returns-clause-pools
+returns-clause-pools g c = c.put_aside.ensures.others.pools ∙ c.in_ok-refer_for.ensures.pools
+
+pub returns-clause-unasked : goal.returns-clause-unasked
+returns-clause-unasked g c = c.put_aside.ensures.others.unasked ∙ c.in_ok-refer_for.ensures.unasked
+
+pub returns-in_err-refer_for-clause-names : goal.returns-in_err-refer_for-clause-names
+returns-in_err-refer_for-clause-names g c = c.in_err-refer_for.ensures.names
+
+pub returns-in_err-refer_for-clause-house : goal.returns-in_err-refer_for-clause-house
+returns-in_err-refer_for-clause-house g c = c.in_err-refer_for.ensures.house
 
 pub returns-clause-house : goal.returns-clause-house
 returns-clause-house g c house =

@@ -10,7 +10,7 @@ use Rattle.pool_tree.proofs.Trees.{tree_formed}
 use Rattle.bucket_ring.specs.Lists.{upd}
 use Rattle.brigade_ops.specs.House.{AreHoused}
 use Rattle.name_table.specs.NameTable.{value_in}
-use Rattle.brigade_ops.specs.Store.{lists, pool_of, next_name, references}
+use Rattle.brigade_ops.specs.Store.{lists, brigade_of, pool_of, next_name, references}
 use Rattle.brigade_ops.proofs.Housed.{house_stays, house_made}
 use Rattle.brigade_ops.proofs.Stores.{brigades}
 use Rattle.brigade_ops.proofs.Undone.{killed_again, live_registered}
@@ -28,6 +28,27 @@ returns-in-Err-clause-kept g c =
     let test : Payload → _ = λ other. payload_eq other (Brigade n) in
     c.kill-killed.ensures.rest
     ∙ (ap (killed c.args.pool test) c.in-Ok.ensures.ok ∙ killed_again (map_of c.args.tree.now) c.args.pool test (Brigade n) (eq-eqb n n refl))
+
+pub returns-in-Ok-new_ring-clause-registered : goal.returns-in-Ok-new_ring-clause-registered
+unfolding next_name
+returns-in-Ok-new_ring-clause-registered g c =
+    c.in-Ok.ensures.ok ∙ ap (λ (n : ℕ). registered c.args.pool (Brigade n) (map_of c.args.tree.now)) (c.next_name-name.ensures ∙ sym c.in-Ok-new_ring.ensures.name)
+
+pub returns-in-Ok-new_ring-clause-names : goal.returns-in-Ok-new_ring-clause-names
+unfolding brigade_of next_name
+returns-in-Ok-new_ring-clause-names g c = c.new_ring.ensures.names
+
+pub returns-in-Ok-new_ring-clause-spent : goal.returns-in-Ok-new_ring-clause-spent
+unfolding next_name
+returns-in-Ok-new_ring-clause-spent g c = c.in-Ok-new_ring.ensures.spent
+
+pub returns-in-Err-clause-names : goal.returns-in-Err-clause-names
+unfolding brigade_of next_name
+returns-in-Err-clause-names g c = c.new_ring.ensures.names
+
+pub returns-in-Err-clause-spent : goal.returns-in-Err-clause-spent
+unfolding next_name
+returns-in-Err-clause-spent g c = c.in-Err.ensures.spent
 
 pub returns-in-Ok-new_ring-clause-house : goal.returns-in-Ok-new_ring-clause-house
 unfolding lists pool_of next_name references upd

@@ -1,12 +1,17 @@
 -- A bucket that the point lies inside is data, and longer than what stands before the point.
-use Rattle.std.proofs.Common.{◌≡◌, ◌<◌, true, false, Some, Err, sym, ap, ◌∙◌, arith}
+use Rattle.std.proofs.Common.{◌≡◌, ◌<◌, ◌+◌, ℕ, true, false, cond, Some, Err, sym, ap, ◌∙◌, arith}
+use Rattle.std.proofs.lemmas.Bool.{false≢true}
 use Rattle.run_model.specs.Buckets.{is_data_kind}
 use Rattle.run_model.specs.Cutting.{length_of}
 use Rattle.run_model.specs.declared.bucket.Bucket.{Bucket}
+use Rattle.bucket_ring.specs.declared.names.BucketId.{BucketId}
 use Rattle.bucket_ring.specs.Lists.{list_at}
 use Rattle.stored_rings.specs.declared.refusal.SplitRefusal.{SplitRefusal}
+use Rattle.stored_rings.specs.declared.parting.Point.{Point}
+use Rattle.stored_rings.specs.declared.parting.Point.TheVariants.{Inside}
+use Rattle.stored_rings.specs.Points.{is_inside}
 use Rattle.stored_rings.specs.Items.{Items}
-use Rattle.brigade_ops.specs.Store.{lists, brigade_of, bucket_at}
+use Rattle.brigade_ops.specs.Store.{lists, brigade_of, bucket_at, next_name}
 use Rattle.stored_rings.proofs.Parts.{inside_short, bytes_are_data}
 use Rattle.stored_rings.proofs.Saves.{found_some}
 use Rattle.brigade_ops.proofs.Stores.{counted, found_in, found_bucket}
@@ -27,6 +32,49 @@ inside g c =
     let is = found_bucket store id b x.0 at x.1 in
     let long = inside_short id c.args.point n x.0 xs (λ i. once_listed b (brigade_of store i) _ (counted store i b)) (sym c.find.ensures.value ∙ c.in-Inside.is) x.1 in
     (x.0, is, bytes_are_data x.0.kind x.0.content n (c.requires.fits id x.0 at is) long, long)
+
+-- a point that is not inside a bucket is inside none
+outside : (found point : Point) (id : BucketId) (n : ℕ) → found ≡ point → is_inside found ≡ false → point ≡ Inside id n → false ≡ true
+outside found point id n same out is = sym out ∙ ap is_inside (same ∙ is)
+
+pub returns-in-Short-clause-inside : goal.returns-in-Short-clause-inside
+returns-in-Short-clause-inside g c id n x h is = absurd (false≢true (outside c.find.result _ id n c.find.ensures.value (ap is_inside c.in-Short.is) h))
+
+pub returns-in-Short-clause-next : goal.returns-in-Short-clause-next
+returns-in-Short-clause-next g c = ap (λ (p : Point). cond (is_inside p) (next_name c.args.self.now + 1) (next_name c.args.self.now)) (sym c.in-Short.is ∙ c.find.ensures.value)
+
+pub returns-in-At-None-clause-inside : goal.returns-in-At-None-clause-inside
+returns-in-At-None-clause-inside g c id n x h is = absurd (false≢true (outside c.find.result _ id n c.find.ensures.value (ap is_inside c.in-At-None.is) h))
+
+pub returns-in-At-None-clause-next : goal.returns-in-At-None-clause-next
+returns-in-At-None-clause-next g c = ap (λ (p : Point). cond (is_inside p) (next_name c.args.self.now + 1) (next_name c.args.self.now)) (sym c.in-At-None.is ∙ c.find.ensures.value)
+
+pub returns-in-At-Some-clause-inside : goal.returns-in-At-Some-clause-inside
+returns-in-At-Some-clause-inside g c id n x h is = absurd (false≢true (outside c.find.result _ id n c.find.ensures.value (ap is_inside c.in-At-Some.is) h))
+
+pub returns-in-At-Some-clause-next : goal.returns-in-At-Some-clause-next
+returns-in-At-Some-clause-next g c = ap (λ (p : Point). cond (is_inside p) (next_name c.args.self.now + 1) (next_name c.args.self.now)) (sym c.in-At-Some.is ∙ c.find.ensures.value)
+
+pub returns-in-Ok-clause-between : goal.returns-in-Ok-clause-between
+returns-in-Ok-clause-between g c none = absurd (false≢true (sym none ∙ (sym (ap is_inside c.find.ensures.value) ∙ ap is_inside c.in-Inside.is)))
+
+pub returns-in-Ok-clause-names : goal.returns-in-Ok-clause-names
+returns-in-Ok-clause-names g c = c.split.ensures.names
+
+pub returns-in-Err-NamesSpent-clause-between : goal.returns-in-Err-NamesSpent-clause-between
+returns-in-Err-NamesSpent-clause-between g c none = absurd (false≢true (sym none ∙ (sym (ap is_inside c.find.ensures.value) ∙ ap is_inside c.in-Inside.is)))
+
+pub returns-in-Err-NamesSpent-clause-names : goal.returns-in-Err-NamesSpent-clause-names
+returns-in-Err-NamesSpent-clause-names g c = c.split.ensures.names
+
+pub returns-in-Err-NoMemory-clause-between : goal.returns-in-Err-NoMemory-clause-between
+returns-in-Err-NoMemory-clause-between g c none = absurd (false≢true (sym none ∙ (sym (ap is_inside c.find.ensures.value) ∙ ap is_inside c.in-Inside.is)))
+
+pub returns-in-Err-NoMemory-clause-names : goal.returns-in-Err-NoMemory-clause-names
+returns-in-Err-NoMemory-clause-names g c = c.split.ensures.names
+
+pub returns-in-Ok-clause-next : goal.returns-in-Ok-clause-next
+returns-in-Ok-clause-next g c = c.in-Ok.ensures.next ∙ ap (λ (p : Point). cond (is_inside p) (next_name c.args.self.now + 1) (next_name c.args.self.now)) (sym c.in-Inside.is ∙ c.find.ensures.value)
 
 pub unreachable-requires : goal.unreachable-requires
 unreachable-requires g c =

@@ -4,7 +4,7 @@ use Rattle.pool_tree.specs.Records.{record_of}
 use Rattle.pool_tree.specs.Tree.{map_of}
 use Rattle.pool_tree.proofs.Refilled.{refilled_linked, refilled_same}
 use Rattle.pool_tree.proofs.RefilledTrees.{payloads_changed}
-use Rattle.pool_tree.proofs.Trees.{tree_live}
+use Rattle.pool_tree.proofs.Trees.{tree_formed, tree_live}
 use Rattle.pool_tree.proofs.tree.PoolTree.register.Goals as goal
 
 pub push-requires : goal.push-requires
@@ -27,3 +27,9 @@ unfolding map_of
 returns-in-Err-clause-err g c =
     refilled_same c.args.self.now.root c.args.self.now.next c.args.pool _ (record_of c.args.self.now.records) (record_of c.push.new.records)
     c.args.self.now.linked c.in-Err.ensures.items refl
+
+pub returns-in-Ok-clause-formed : goal.returns-in-Ok-clause-formed
+returns-in-Ok-clause-formed g c = tree_formed _
+
+pub returns-in-Err-clause-formed : goal.returns-in-Err-clause-formed
+returns-in-Err-clause-formed g c = tree_formed _

@@ -1,4 +1,5 @@
 use Rattle.std.proofs.Common.{◌≡◌, ◌≤◌, ◌++◌, sym, ap, ◌∙◌, arith}
+use Rattle.std.proofs.lemmas.Result.{err_from_is_err_and}
 use Rattle.bucket_ring.specs.declared.names.BucketId.{BucketId}
 use Rattle.bucket_ring.specs.Lists.{list_at, times, found}
 use Rattle.stored_rings.specs.Dependents.{noted}
@@ -32,3 +33,14 @@ pub note_ring-requires : goal.note_ring-requires
 note_ring-requires g c =
     let ok = c.in_ok-add_all.ensures.ok in
     still_there c.args.ring (λ xs. xs ++ ok.0) (g.R.Rings.lists c.args.self.now.rings) (g.R.Rings.lists c.add_all.new.self) ok.2 c.requires
+
+pub invariant_of-self-2-clause-kept : goal.invariant_of-self-2-clause-kept
+invariant_of-self-2-clause-kept g c = g.met.R.Rings.kept c.add_all.new.self
+
+pub returns-in_err-add_all : goal.returns-in_err-add_all
+returns-in_err-add_all g c =
+    let p = err_from_is_err_and c.from_residual-in_err-add_all.result c.from_residual-in_err-add_all.ensures.1 in
+    rw (p.1, p.2) c.in_err-add_all.ensures
+
+pub returns : goal.returns
+returns g c = c.in_ok-add_all.ensures

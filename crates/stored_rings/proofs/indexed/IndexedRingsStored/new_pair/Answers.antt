@@ -1,4 +1,5 @@
 use Rattle.std.proofs.Common.{◌≡◌, ◌+◌, ℕ, Option, Some, is_some, true, false, [], sym, ap, ◌∙◌, arith, rules}
+use Rattle.std.proofs.lemmas.Result.{err_from_is_err_and}
 use Rattle.std.specs.List.{list_any}
 use Rattle.std.specs.Option.{option_map_or}
 use Rattle.bucket_ring.specs.Lists.{upd, list_at, times, found}
@@ -47,3 +48,25 @@ note_ring-requires g c =
     let second : c.in_ok-first.second ≡ first + 1 = ap (λ (pair : ℕ × ℕ). pair.1) c.in_ok-first.ensures.name in
     let ok = c.in_ok-first.ensures.ok in
     ap is_some (ap (g.R.Rings.lists c.new_pair.new.self) second ∙ (ok.2 (first + 1) ∙ list_now (upd (g.R.Rings.lists c.args.self.now.rings) first (Some [])) (first + 1) (Some ok.0)))
+
+pub invariant_of-self : goal.invariant_of-self
+invariant_of-self g c =
+    let s = c.args.self.now in
+    record { kept = s.kept; indexed = c.in_err-make_room_for_all.ensures (g.R.Rings.lists s.rings) s.indexed }
+
+pub invariant_of-self-then-depend-clause-kept : goal.invariant_of-self-then-depend-clause-kept
+invariant_of-self-then-depend-clause-kept g c = g.met.R.Rings.kept c.new_pair.new.self
+
+pub invariant_of-self-else-depend-clause-kept : goal.invariant_of-self-else-depend-clause-kept
+invariant_of-self-else-depend-clause-kept g c = g.met.R.Rings.kept c.new_pair.new.self
+
+pub returns-in_err-first : goal.returns-in_err-first
+returns-in_err-first g c =
+    let p = err_from_is_err_and c.from_residual-in_err-first.result c.from_residual-in_err-first.ensures.1 in
+    rw (p.1, p.2) c.in_err-first.ensures
+
+pub returns-then-depend : goal.returns-then-depend
+returns-then-depend g c = c.in_ok-first.ensures
+
+pub returns-else-depend : goal.returns-else-depend
+returns-else-depend g c = c.in_ok-first.ensures

@@ -23,3 +23,9 @@ invariant_of-self-clause-indexed g c =
     (noted_item names id c.args.payload (c.note_changed.ensures.kind parts.0) (c.note_changed.ensures.home parts.1)
     (ap (λ (q : Option ℕ). place_under (λ n. names n id) q) (sym c.place_of-place.ensures) ∙ c.note_changed.ensures.place parts.2))
     c.set_payload-had.ensures.out)
+
+pub invariant_of-self-clause-kept : goal.invariant_of-self-clause-kept
+invariant_of-self-clause-kept g c = g.met.R.Rings.kept c.set_payload-had.new.self
+
+pub returns : goal.returns
+returns g c = c.set_payload-had.ensures
