@@ -14,7 +14,12 @@ use httparse::spans::HeaderSpan;
 fn all_digits(value: &[u8]) -> bool
     ensures { result ≡ list_all is_ascii_digit value.now }
 {
-    value.iter().all(|b| b.is_ascii_digit())
+    for b in value {
+        if !b.is_ascii_digit() {
+            return false;
+        }
+    }
+    true
 }
 
 fn is_digits(value: &[u8]) -> bool
@@ -26,7 +31,12 @@ fn is_digits(value: &[u8]) -> bool
 fn is_zeros(value: &[u8]) -> bool
     ensures { result ≡ is_zeros value.now }
 {
-    value.iter().all(|b| *b == b'0')
+    for b in value {
+        if *b != b'0' {
+            return false;
+        }
+    }
+    true
 }
 
 #[tactic(auto, unfolding(crate::specs::Fields::is_bad_length))]

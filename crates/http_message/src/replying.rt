@@ -1,6 +1,6 @@
 //! The text of a response.
 
-ghost use Rattle.std.specs.Prelude.{◌≡◌, ◌++◌, ℕ, List, IsOk, OnOk};
+ghost use Rattle.std.specs.Prelude.{◌≡◌, ◌++◌, ℕ, List, IsOk, OnOk, codes};
 ghost use Rattle.http_message.specs.Replying.{status_text, allow_line, connection_line, framing_line, has_body, has_chunks, size_line, last_chunk, chunk_line, opening, middle, closing, IsDateLine};
 
 use crate::reply::{Method, Reply, Version};
@@ -66,6 +66,7 @@ fn unless_full(written: io::Result<()>) -> Result<(), AllocError>
     }
 }
 
+/// Puts the line that frames the body, if there is one, and the empty line behind the head.
 fn put_framing_line(
     status: StatusCode,
     version: Version,
@@ -73,17 +74,17 @@ fn put_framing_line(
     size: usize,
     out: &mut Vec<u8>,
 ) -> Result<(), AllocError>
-    ensures { OnOk result (out.new.items ≡ out.old.items ++ framing_line status version method size) }
+    ensures { OnOk result (out.new.items ≡ out.old.items ++ (framing_line status version method size ++ codes "\r\n")) }
 {
     match (status, version, method) {
         (StatusCode::Success, Version::Http11, _) => {
-            out.extend_from_slice(b"Transfer-Encoding: chunked\r\n")
+            out.extend_from_slice(b"Transfer-Encoding: chunked\r\n\r\n")
         }
         (StatusCode::Success, Version::Http10, Method::Get) => {
-            unless_full(write!(out, "Content-Length: {size}\r\n"))
+            unless_full(write!(out, "Content-Length: {size}\r\n\r\n"))
         }
-        (StatusCode::Success, Version::Http10, _) => Ok(()),
-        _ => out.extend_from_slice(b"Content-Length: 0\r\n"),
+        (StatusCode::Success, Version::Http10, _) => out.extend_from_slice(b"\r\n"),
+        _ => out.extend_from_slice(b"Content-Length: 0\r\n\r\n"),
     }
 }
 
@@ -142,7 +143,6 @@ pub fn put_opening(reply: &Reply, moment: u64, out: &mut Vec<u8>) -> Result<(), 
     out.extend_from_slice(allow_line(reply.status).as_bytes())?;
     out.extend_from_slice(connection_line(reply.closes).as_bytes())?;
     put_framing_line(reply.status, reply.version, reply.method, size, out)?;
-    out.extend_from_slice(b"\r\n")?;
     put_chunk_line(reply, out)
 }
 

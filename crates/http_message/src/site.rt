@@ -5,8 +5,8 @@ ghost use Rattle.std.specs.List.{list_all};
 ghost use Rattle.http_message.specs.Routes.{is_path_byte, is_site_path, have_site_paths};
 ghost use Rattle.http_message.specs.declared.site.SiteFault.TheVariants.{BadPath, Taken, NoMemory};
 
-use matchit::{InsertError, Router};
-use std::alloc::{AllocError, Global};
+use matchit::Router;
+use std::alloc::Global;
 use thiserror::Error;
 
 /// Why a path was not put into a site.
@@ -23,23 +23,6 @@ pub enum SiteFault {
     NoMemory,
 }
 
-impl From<AllocError> for SiteFault {
-    ghost from_gives = { λ _ e. e ≡ NoMemory };
-
-    fn from(_error: AllocError) -> SiteFault {
-        SiteFault::NoMemory
-    }
-}
-
-// A path that is good and free is refused for want of memory alone.
-impl From<InsertError> for SiteFault {
-    ghost from_gives = { λ _ e. e ≡ NoMemory };
-
-    fn from(_error: InsertError) -> SiteFault {
-        SiteFault::NoMemory
-    }
-}
-
 fn is_path_byte(b: u8) -> bool
     ensures { result ≡ is_path_byte b }
 {
@@ -49,7 +32,12 @@ fn is_path_byte(b: u8) -> bool
 fn has_path_bytes(path: &[u8]) -> bool
     ensures { result ≡ list_all is_path_byte path.now }
 {
-    path.iter().all(|b| is_path_byte(*b))
+    for b in path {
+        if !is_path_byte(*b) {
+            return false;
+        }
+    }
+    true
 }
 
 #[tactic(auto, unfolding(crate::specs::Routes::is_site_path))]
@@ -106,8 +94,13 @@ impl Site {
         if self.route(path.as_bytes()).is_some() {
             return Err(SiteFault::Taken);
         }
-        let name = Vec::from_slice(self.alloc, file)?;
-        self.routes.insert(path, name)?;
+        let Ok(name) = Vec::from_slice(self.alloc, file) else {
+            return Err(SiteFault::NoMemory);
+        };
+        // A path that is good and free is refused for want of memory alone.
+        let Ok(()) = self.routes.insert(path, name) else {
+            return Err(SiteFault::NoMemory);
+        };
         Ok(())
     }
 

@@ -1,6 +1,6 @@
 //! The site file, which says what file stands at what path.
 
-ghost use Rattle.std.specs.Prelude.{◌≡◌, ◌<◌, ◌^◌, ℕ, List, length, true, false, IfOk, IfErr, MatchOption, drop, ◌≤◌};
+ghost use Rattle.std.specs.Prelude.{◌≡◌, ◌<◌, ◌^◌, ℕ, List, length, None, true, false, IfOk, IfErr, OnOk, MatchOption, drop, ◌≤◌};
 ghost use Rattle.http_message.specs.Prelude.{lines_of, route_of, no_routes, NamesFile, AddsLine, AddsNothing, AddsLines, SiteFailsAt};
 ghost use Rattle.http_message.specs.declared.site_file.SiteRefusal.TheVariants.{Line, NoMemory};
 
@@ -83,6 +83,26 @@ fn behind(bytes: &[u8], count: usize) -> &[u8]
     &bytes[count..]
 }
 
+/// Adds what the lines of a text say to a site that has no path yet.
+fn add_lines(site: &mut Site, text: &[u8]) -> Result<(), SiteRefusal>
+    requires short { length text.now < 2 ^ 62 }
+    requires new { (q : List ℕ) → route_of site.old q ≡ None }
+    ensures site { OnOk result (AddsLines (lines_of text.now) no_routes (route_of site.new)) }
+    ensures line { IfErr result (λ e. (k : ℕ) → e ≡ Line k → SiteFailsAt 1 (lines_of text.now) no_routes k) }
+{
+    let mut rest = text;
+    let mut number = 0;
+    while !rest.is_empty() {
+        let line = first_line(rest);
+        number += 1;
+        if !add_line(site, line.text, line.ended)? {
+            return Err(SiteRefusal::Line(number));
+        }
+        rest = behind(rest, line.width);
+    }
+    Ok(())
+}
+
 /// The site that a text says.
 ///
 /// `Line`: this is the first line that is no `PATH FILE`, or whose path is no path of a site, or is that of an earlier line. `NoMemory`: there was
@@ -93,15 +113,6 @@ pub fn site_of(alloc: Global, text: &[u8]) -> Result<Site, SiteRefusal>
     ensures line { IfErr result (λ e. (k : ℕ) → e ≡ Line k → SiteFailsAt 1 (lines_of text.now) no_routes k) }
 {
     let mut site = Site::new(alloc);
-    let mut rest = text;
-    let mut number = 0;
-    while !rest.is_empty() {
-        let line = first_line(rest);
-        number += 1;
-        if !add_line(&mut site, line.text, line.ended)? {
-            return Err(SiteRefusal::Line(number));
-        }
-        rest = behind(rest, line.width);
-    }
+    add_lines(&mut site, text)?;
     Ok(site)
 }

@@ -1,7 +1,7 @@
 use Rattle.std.specs.Prelude.{◌+◌, ◌≤◌, length}
 use Rattle.http_message.specs.Sites.{route_of}
 use Rattle.http_message.proofs.SiteLaws.{SoFar}
-use Rattle.http_message.proofs.site_file.site_of.Given as goal
+use Rattle.http_message.proofs.site_file.add_lines.Given as goal
 
 -- the lines before the rest are in the site
 abbrev pub invariant-loop-rest : goal.invariant-loop-rest

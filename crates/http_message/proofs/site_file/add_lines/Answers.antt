@@ -1,12 +1,11 @@
-use Rattle.std.proofs.Common.{◌≡◌, ◌+◌, ℕ, ◌<◌, ◌≤◌, ◌∙◌, true, false, length, drop, ap, arith, subst, sym, rules}
+use Rattle.std.proofs.Common.{◌≡◌, ◌+◌, ◌<◌, ◌∙◌, true, false, length, drop, ap, arith, subst, sym, rules}
 use Rattle.std.proofs.lemmas.List.{length-drop}
 use Rattle.std.proofs.lemmas.Bool.Decides.{nat_tests}
 use Rattle.byte_text.specs.TextLines.{lines_of, first_line, width}
 use Rattle.http_message.specs.Sites.{route_of}
 use Rattle.http_message.specs.SiteFiles.{no_routes, AddsLine, AddsNothing, SiteFailsAt}
-use Rattle.http_message.specs.declared.site_file.SiteRefusal.TheVariants.{Line}
 use Rattle.http_message.proofs.SiteLaws.{SoFar, added_first, nothing_first, so_far_adds, so_far_fails, so_far_end}
-use Rattle.http_message.proofs.site_file.site_of.Goals as goal
+use Rattle.http_message.proofs.site_file.add_lines.Goals as goal
 
 pub returns-then-not-branch-clause-line : goal.returns-then-not-branch-clause-line
 returns-then-not-branch-clause-line c = λ k e.
