@@ -14,9 +14,8 @@ use Rattle.bucket_kinds.specs.Device.{Device}
 use Rattle.module_run.specs.declared.conn.Conn.{Conn}
 use Rattle.module_run.specs.ConnRuns.{CanGoOn, ConnGoesOn, ConnStepsOn, StepAnswers, conn_view}
 use Rattle.filter_chain.specs.declared.conns.Conns.{Conns}
-use Rattle.filter_chain.specs.declared.host.Host.{Host}
 use Rattle.filter_chain.specs.Hosted.{conn_at}
-use Rattle.filter_chain.specs.Hosting.{HoldsWorld, IsHosting, budget_of, chain_of, step_answer}
+use Rattle.filter_chain.specs.Hosting.{Ghosts, Host, Stored, HoldsWorld, IsHosting, budget_of, chain_of, step_answer}
 use Rattle.filter_chain.specs.HostViews.{Answers}
 use Rattle.filter_chain.specs.Led.{IsAlive, Refines}
 use Rattle.filter_chain.specs.Running.{HostGoesOn, StepsOn}
@@ -43,7 +42,8 @@ written_same : {X : Type 0} (f : ℕ → X) (i : ℕ) (x : X) → f i ≡ x → 
 written_same f i x is k = elim (upd_either f i k x) [ inl p ↦ ap f p.0 ∙ (is ∙ sym p.1) | inr p ↦ sym p.1 ]
 
 -- One step of a connection that was looked up, by modules that are the chain.
-pub one_step : {F : Type 0} (device : F → Device) (host : Host F) (number : ℕ) {conn0 : Conn} {table : Conn → Conns} → IsLent host.conns number conn0 table → {modules : List Program}
+pub one_step : {F R : Type 0} {g : Ghosts R Stored} (device : F → Device) (host : Host F R g) (number : ℕ) {conn0 : Conn} {table : Conn → Conns} → IsLent host.conns number conn0 table
+    → {modules : List Program}
     → modules ≡ chain_of host
     → (b : ViewIn host) (answer : Result Stepped Refusal) → StepAnswers device (budget_of host) modules host.chain.bare (conn_view conn0 host.tree host.store host.files) answer b
     → Happened device host (host_with host table b) number event.Step (step_answer answer)
@@ -51,11 +51,11 @@ one_step device host number here {modules} same b answer x w hosts =
     served device host number here w hosts event.Step (step_answer answer) b x.leaves
     (λ c s so given. steps_serves same s given (x.step _ (record { stands = lent same so; faultless = is_faultless (device host.files) host number w hosts modules same c s })))
 
-module _ {F : Type 0} (device : F → Device) (host : Host F) (number : ℕ) {conn0 : Conn} {table : Conn → Conns} (here : IsLent host.conns number conn0 table) where
+module _ {F R : Type 0} {g : Ghosts R Stored} (device : F → Device) (host : Host F R g) (number : ℕ) {conn0 : Conn} {table : Conn → Conns} (here : IsLent host.conns number conn0 table) where
   abbrev View : Type 0
   View = ViewIn host
 
-  abbrev pub with_view : View → Host F
+  abbrev pub with_view : View → Host F R g
   with_view = host_with host table
 
   abbrev pub begun : View
@@ -129,7 +129,7 @@ module _ {F : Type 0} (device : F → Device) (host : Host F) (number : ℕ) {co
             )
 
 -- There is no such connection.
-pub none_on : {F : Type 0} (device : F → Device) (host : Host F) (number more : ℕ) (left : Conns) → left.by_number ≡ host.conns.by_number → conn_at host.conns number ≡ None
+pub none_on : {F R : Type 0} {g : Ghosts R Stored} (device : F → Device) (host : Host F R g) (number more : ℕ) (left : Conns) → left.by_number ≡ host.conns.by_number → conn_at host.conns number ≡ None
     → Refines device host (record host { conns = left }) (λ b c s t. StepsOn b c number more s (Err refusal.NoSuchConn) t)
 unfolding HostGoesOn
 none_on device host number more left same at =

@@ -25,9 +25,8 @@ use Rattle.pool_tree.specs.Tree.{map_of}
 use Rattle.life_check.specs.ChainTheorem.{ChainNeverFaults}
 use Rattle.module_run.specs.declared.conn.Conn.{Conn}
 use Rattle.module_run.specs.Proceeding.{StandsFor}
-use Rattle.filter_chain.specs.declared.host.Host.{Host}
 use Rattle.filter_chain.specs.Hosted.{conn_at}
-use Rattle.filter_chain.specs.Hosting.{IsHosting, budget_of, chain_of}
+use Rattle.filter_chain.specs.Hosting.{Ghosts, Host, Stored, IsHosting, budget_of, chain_of}
 use Rattle.filter_chain.proofs.HostEvents.{lent}
 use Rattle.filter_chain.proofs.Hosts.{found, known, stands_for}
 use Rattle.module_run.specs.Stepping.{NextIsFaultless, next_at, next_fault}
@@ -85,7 +84,7 @@ pub reached_calls_are_faultless : ReachedCallsAreFaultless
 reached_calls_are_faultless budget chain w number c never reached at = call_is_faultless budget chain w number c never reached at
 
 -- Of a host a connection over the tree that all share, by the modules as they were handed on. Where the host is bare, its chain was checked.
-module _ {F : Type 0} (d : Device) (host : Host F) (number : ℕ) (w : World) (hosts : IsHosting d host w) (modules : List Program) (same : modules ≡ chain_of host) where
+module _ {F R : Type 0} {g : Ghosts R Stored} (d : Device) (host : Host F R g) (number : ℕ) (w : World) (hosts : IsHosting d host w) (modules : List Program) (same : modules ≡ chain_of host) where
   never : host.chain.bare ≡ true → ChainNeverFaults (chain_of host)
   unfolding chain_of
   never bare = host.chain.checked bare

@@ -7,8 +7,7 @@ use Rattle.run_model.specs.declared.event.Stepped.{Stepped}
 use Rattle.run_model.specs.declared.event.Stepped.TheVariants as stepped
 use Rattle.bucket_kinds.specs.Device.{Device}
 use Rattle.life_check.specs.ChainTheorem.{ChainNeverFaults}
-use Rattle.filter_chain.specs.declared.host.Host.{Host}
-use Rattle.filter_chain.specs.Hosting.{budget_of, chain_of, files_of, step_answer}
+use Rattle.filter_chain.specs.Hosting.{Ghosts, Host, Stored, budget_of, chain_of, files_of, step_answer}
 use Rattle.filter_chain.specs.Led.{IsAlive, Refines}
 use Rattle.filter_chain.specs.Running.{HostGoesOn, StepsToEnd, StepsOn}
 use Rattle.filter_chain.specs.Safe.{IsSafe}
@@ -17,16 +16,17 @@ use Rattle.filter_chain.proofs.Driving.{Happened, by_event, alive_then, leads_on
 use Rattle.filter_chain.proofs.StepCounts.{goes_few, goes_more}
 
 -- So many steps went on.
-pub record IsGoing {F : Type 0} (device : F → Device) (old now : Host F) (number made : ℕ) : Type 0 where
+pub record IsGoing {F R : Type 0} {g : Ghosts R Stored} (device : F → Device) (old now : Host F R g) (number made : ℕ) : Type 0 where
   pub alive : IsAlive device now
   pub chain : chain_of now ≡ chain_of old
   pub goes : Refines device old now (λ b c s t. HostGoesOn b c number made s t)
 
-pub safe_still : {F : Type 0} (old now : Host F) → chain_of now ≡ chain_of old → IsSafe old → IsSafe now
+pub safe_still : {F R : Type 0} {g : Ghosts R Stored} (old now : Host F R g) → chain_of now ≡ chain_of old → IsSafe old → IsSafe now
 safe_still old now chain safe = subst ChainNeverFaults (sym chain) safe
 
-module _ {F : Type 0} (device : F → Device) (number : ℕ) where
-  module _ (old now new : Host F) (made : ℕ) (so : IsGoing device old now number made) (answer : Result Stepped Refusal) (step : Happened device now new number event.Step (step_answer answer)) where
+module _ {F R : Type 0} {g : Ghosts R Stored} (device : F → Device) (number : ℕ) where
+  module _ (old now new : Host F R g) (made : ℕ) (so : IsGoing device old now number made) (answer : Result Stepped Refusal)
+      (step : Happened device now new number event.Step (step_answer answer)) where
     pub going_on : answer ≡ Ok stepped.Went → IsGoing device old new number (suc made)
     going_on went =
         let one = by_event device now new number event.Step (step_answer answer) step in
@@ -53,7 +53,7 @@ steps_run budget chain number s t answer x = record {
 }
 
 -- So it is of a host that makes as many steps as its budget, and one more.
-pub runs_whole : {F : Type 0} (device : F → Device) (number : ℕ) (old new : Host F) (answer : Result Stepped Refusal) (more : ℕ) → more ≡ budget_of old
+pub runs_whole : {F R : Type 0} {g : Ghosts R Stored} (device : F → Device) (number : ℕ) (old new : Host F R g) (answer : Result Stepped Refusal) (more : ℕ) → more ≡ budget_of old
     → Refines device old new (λ b c s t. StepsOn b c number more s answer t) → Refines device old new (λ b c s t. StepsToEnd b c number s answer t)
 runs_whole device number old new answer more is h w hosts =
     let x = h w hosts in
@@ -68,6 +68,6 @@ runs_whole device number old new answer more is h w hosts =
     }
 
 -- So it is of another word for how many.
-pub steps_alike : {F : Type 0} (device : F → Device) (number : ℕ) (old new : Host F) (answer : Result Stepped Refusal) (more most : ℕ) → more ≡ most
+pub steps_alike : {F R : Type 0} {g : Ghosts R Stored} (device : F → Device) (number : ℕ) (old new : Host F R g) (answer : Result Stepped Refusal) (more most : ℕ) → more ≡ most
     → Refines device old new (λ b c s t. StepsOn b c number more s answer t) → Refines device old new (λ b c s t. StepsOn b c number most s answer t)
 steps_alike device number old new answer more most same h = subst (λ n. Refines device old new (λ b c s t. StepsOn b c number n s answer t)) same h

@@ -70,8 +70,8 @@ module _ {R : Type 0} {g : Ghosts R Stored} {budget : ℕ} {chain : List Program
   }
 
 -- Only names of files changed.
-module _ (old : Host MemFiles) (files : MemFiles) (name bytes : List ℕ) (w : World) (d e : Device) (hosts : IsHosting d old w) where
-  abbrev new : Host MemFiles
+module _ {R : Type 0} {g : Ghosts R Stored} (old : Host MemFiles R g) (files : MemFiles) (name bytes : List ℕ) (w : World) (d e : Device) (hosts : IsHosting d old w) where
+  abbrev new : Host MemFiles R g
   new = record old { files = files }
 
   hosts_still : (names : List ℕ → Held) → e ≡ with_named d names → IsHosting e new w
@@ -90,7 +90,7 @@ module _ (old : Host MemFiles) (files : MemFiles) (name bytes : List ℕ) (w : W
   unfolding chain_of budget_of
   stays_taken is = record { same = is; hosts = hosts_still d.named is; chain = refl; budget = refl }
 
-module _ (old : Host MemFiles) (files : MemFiles) (name bytes : List ℕ) (w : World) (fs gs : Files) (m n : ℕ) (same : n ≡ m) where
+module _ {R : Type 0} {g : Ghosts R Stored} (old : Host MemFiles R g) (files : MemFiles) (name bytes : List ℕ) (w : World) (fs gs : Files) (m n : ℕ) (same : n ≡ m) where
   device_after : (hs : Files) → gs ≡ hs → device_of gs n ≡ device_of hs m
   device_after hs is = ap (device_of gs) same ∙ ap (λ (x : Files). device_of x m) is
 

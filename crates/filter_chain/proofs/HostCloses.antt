@@ -159,7 +159,7 @@ module _ {R : Type 0} {g : Ghosts R Stored} {budget : ℕ} {chain : List Program
     ]
 
 -- Of a host whose connections were looked up by the number.
-module _ {F : Type 0} (host : Host F) (number : ℕ) {conn0 : Conn} {table : Conn → Conns} (here : IsLent host.conns number conn0 table) (conn : Conn) where
+module _ {F R : Type 0} {g : Ghosts R Stored} (host : Host F R g) (number : ℕ) {conn0 : Conn} {table : Conn → Conns} (here : IsLent host.conns number conn0 table) (conn : Conn) where
   -- What was put back is what is taken.
   pub taken_is : {taken : Option Conn} → taken ≡ conn_at (table conn) number → taken ≡ Some conn
   taken_is is = is ∙ here.holds conn number ∙ upd_at (conn_at host.conns) number (Some conn)
@@ -171,7 +171,7 @@ module _ {F : Type 0} (host : Host F) (number : ℕ) {conn0 : Conn} {table : Con
       ∙ ap (λ (f : ℕ → Option Conn). f k) (upd_upd (conn_at host.conns) number (Some conn) None)
 
   -- It is closed.
-  pub closed_on : (d e : Device) (w : World) → IsHosting d host w → (after : Conns) → ((k : ℕ) → conn_at after k ≡ upd (conn_at (table conn)) number None k) → (new : Host F)
+  pub closed_on : (d e : Device) (w : World) → IsHosting d host w → (after : Conns) → ((k : ℕ) → conn_at after k ≡ upd (conn_at (table conn)) number None k) → (new : Host F R g)
       → new ≡ record host { conns = after; tree = new.tree; store = new.store; files = new.files } → (labels : List (List ℕ))
       → ((v : Linked) → StandsFor (chain_of host) host.tree host.store d conn0 v → labels ≡ closing_labels v)
       → ((c : Connection) → StandsFor (chain_of host) host.tree host.store d conn0 (w.common, over (map_of host.tree) c) → Spares d e c)
@@ -193,6 +193,6 @@ module _ {F : Type 0} (host : Host F) (number : ℕ) {conn0 : Conn} {table : Con
       ∙ ap (λ (ps : Pools Payload). lets_go (map_of host.tree) f.0.conn ps file) (was.pools ∙ ap (λ (n : ℕ). destroyed n (map_of host.tree)) (sym gone)))) was.others in
       happened_on d e host new number w hosts (ap chain_of is_new) (ap budget_of is_new) event.Close true nothing_told (Labels labels) to is (was.others.named, was.others.plan)
       (subst (λ (o : Option Connection). ClosesFiles d e (chain_of host) event.Close (Labels labels) w.common o to.common (to.conns number)) (sym f.1) closes) tt
-      (λ reached. subst (λ (n : ℕ). HoldsWorld (budget_of host) (chain_of host) e new.tree new.store n (conn_at new.conns) to) (sym (ap (λ (x : Host F). x.last) is_new))
-      (subst (λ (x : ℕ → Option Conn). HoldsWorld (budget_of host) (chain_of host) e new.tree new.store host.last x to) (sym (ap (λ (x : Host F). conn_at x.conns) is_new))
+      (λ reached. subst (λ (n : ℕ). HoldsWorld (budget_of host) (chain_of host) e new.tree new.store n (conn_at new.conns) to) (sym (ap (λ (x : Host F R g). x.last) is_new))
+      (subst (λ (x : ℕ → Option Conn). HoldsWorld (budget_of host) (chain_of host) e new.tree new.store host.last x to) (sym (ap (λ (x : Host F R g). conn_at x.conns) is_new))
       (holds_without hosts number conn0 conn here.at f.0 f.1 e spared new.tree new.store was (conn_at after) (taken_out after rest) reached)))

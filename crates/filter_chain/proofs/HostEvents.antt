@@ -104,7 +104,7 @@ none_is memory budget chain told number w event.TellPools of = absurd of
 none_is memory budget chain told number w e of = refl
 
 -- It is answered so, and the new host stands for the world that this leads to.
-pub happened_on : {F : Type 0} (d e : Device) (old new : Host F) (number : ℕ) (w : World) → IsHosting d old w → chain_of new ≡ chain_of old → budget_of new ≡ budget_of old
+pub happened_on : {F R : Type 0} {g : Ghosts R Stored} (d e : Device) (old new : Host F R g) (number : ℕ) (w : World) → IsHosting d old w → chain_of new ≡ chain_of old → budget_of new ≡ budget_of old
     → (what : Event) (memory : Bool) (told : Told) (answer : Answer) (to : World) → happens memory (budget_of old) (chain_of old) told number what w ≡ (answer, to)
     → TellsEvent (chain_of old) number what (host_view w d) answer told e → ClosesFiles d e (chain_of old) what answer w.common (w.conns number) to.common (to.conns number)
     → TellsLengths IsShortLength answer
@@ -121,7 +121,8 @@ happened_on d e old new number w hosts chain budget what memory told answer to i
 }
 
 -- The connections, the tree and the store are as they were.
-module _ {F : Type 0} (d : Device) (old new : Host F) (number : ℕ) (w : World) (hosts : IsHosting d old w) (chain : chain_of new ≡ chain_of old) (budget : budget_of new ≡ budget_of old)
+module _ {F R : Type 0} {g : Ghosts R Stored} (d : Device) (old new : Host F R g) (number : ℕ) (w : World) (hosts : IsHosting d old w) (chain : chain_of new ≡ chain_of old)
+    (budget : budget_of new ≡ budget_of old)
     (holds : HoldsWorld (budget_of old) (chain_of old) d new.tree new.store new.last (conn_at new.conns) w) where
   pub stays_on : (what : Event) (memory : Bool) (told : Told) (answer : Answer) → happens memory (budget_of old) (chain_of old) told number what w ≡ (answer, w)
       → TellsEvent (chain_of old) number what (host_view w d) answer told d → ClosesFiles d d (chain_of old) what answer w.common (w.conns number) w.common (w.conns number)
@@ -161,7 +162,7 @@ pub record Serves {R : Type 0} {g : Ghosts R Stored} (budget : ℕ) (chain : Lis
   pub spared : Spares d e c
 
 -- Whatever the connection is in the world, it serves so.
-abbrev pub AlwaysServes : {F : Type 0} {R : Type 0} {g : Ghosts R Stored} → Device → Device → Host F → ℕ → World → Event → Answer → PoolTree Payload → Brigades R g → Conn → Conn → Type 0
+abbrev pub AlwaysServes : {F R : Type 0} {g : Ghosts R Stored} → Device → Device → Host F R g → ℕ → World → Event → Answer → PoolTree Payload → Brigades R g → Conn → Conn → Type 0
 AlwaysServes d e host number w what answer newer new conn0 conn =
     (c : Connection) → Stands (chain_of host) w (map_of host.tree) number c → StandsFor (chain_of host) host.tree host.store d conn0 (w.common, over (map_of host.tree) c) → w.common.file ≤ d.next
     → Serves (budget_of host) (chain_of host) d e w host.tree number c what answer newer new conn
@@ -172,7 +173,7 @@ pub lent : {R : Type 0} {g : Ghosts R Stored} {modules chain : List Program} →
 lent same {tree} {store} {d} {conn} {v} so = subst (λ (m : List Program). StandsFor m tree store d conn v) (sym same) so
 
 -- A connection that was looked up.
-module _ {F : Type 0} (device : F → Device) (host : Host F) (number : ℕ) {conn0 : Conn} {table : Conn → Conns} (here : IsLent host.conns number conn0 table) where
+module _ {F R : Type 0} {g : Ghosts R Stored} (device : F → Device) (host : Host F R g) (number : ℕ) {conn0 : Conn} {table : Conn → Conns} (here : IsLent host.conns number conn0 table) where
   -- It stands for a connection of the world. modules: the chain, as it was handed on.
   pub stands : IsAlive device host → (modules : List Program) → modules ≡ chain_of host → happened.Stands modules host.tree host.store (device host.files) conn0
   unfolding IsHosting
@@ -201,7 +202,7 @@ module _ {F : Type 0} (device : F → Device) (host : Host F) (number : ℕ) {co
       (conn_at (table a.conn)) (here.holds a.conn) reached)
 
 -- None is found.
-pub none_found : {F : Type 0} (device : F → Device) (host : Host F) (number : ℕ) (after : Conns) → after.by_number ≡ host.conns.by_number → conn_at host.conns number ≡ None
+pub none_found : {F R : Type 0} {g : Ghosts R Stored} (device : F → Device) (host : Host F R g) (number : ℕ) (after : Conns) → after.by_number ≡ host.conns.by_number → conn_at host.conns number ≡ None
     → (what : Event) → IsOfConnection what → Happened device host (record host { conns = after }) number what (Refused refusal.NoSuchConn)
 unfolding chain_of budget_of IsHosting
 none_found device host number after same at what of w hosts =

@@ -6,11 +6,10 @@ use Rattle.bucket_kinds.specs.Device.{Device, Held}
 use Rattle.bucket_kinds.specs.MemAnswers.{failing_at}
 use Rattle.bucket_kinds.specs.MemDevice.{held_of, device_of}
 use Rattle.bucket_kinds.specs.declared.mem_files.MemFiles.{MemFiles}
-use Rattle.filter_chain.specs.Hosting.{IsHosting, chain_of, budget_of}
-use Rattle.filter_chain.specs.declared.host.Host.{Host}
+use Rattle.filter_chain.specs.Hosting.{Ghosts, Host, Stored, IsHosting, chain_of, budget_of}
 use Rattle.filter_chain.proofs.HostAdds.{renamed_holds}
 
-module _ (old : Host MemFiles) (files : MemFiles) (w : World) where
+module _ {R : Type 0} {g : Ghosts R Stored} (old : Host MemFiles R g) (files : MemFiles) (w : World) where
   still_hosts : (d e : Device) → IsHosting d old w → e.numbered ≡ d.numbered → e.next ≡ d.next → IsHosting e (record old { files = files }) w
   unfolding IsHosting chain_of budget_of
   still_hosts d e hosts numbered same = renamed_holds hosts e numbered same

@@ -28,8 +28,7 @@ use Rattle.module_run.specs.Neighbours.{ComesBeside, Holds, IsForeign, LeavesOth
 use Rattle.module_run.specs.Opening as opening
 use Rattle.module_run.specs.Opening.{IsUnchanged}
 use Rattle.module_run.specs.Proceeding.{LeftAs}
-use Rattle.filter_chain.specs.declared.host.Host.{Host}
-use Rattle.filter_chain.specs.Hosting.{HoldsWorld, IsHosting, Happens, chain_of, budget_of}
+use Rattle.filter_chain.specs.Hosting.{Ghosts, Host, Stored, HoldsWorld, IsHosting, Happens, chain_of, budget_of}
 use Rattle.filter_chain.specs.declared.conns.Conns.{Conns}
 use Rattle.filter_chain.specs.Hosted.{conn_at, IsHosted}
 use Rattle.filter_chain.specs.HostViews.{TellsEvent}
@@ -46,12 +45,12 @@ unfolding opens
 by_names memory chain w b is = ap (λ (x : Bool). opens_if (first_refusal (refused_if x refusal.NamesSpent ∷ (refused_if (not memory) refusal.NoMemory ∷ []))) chain w) is
 
 -- the tree gives the name that the world gives next
-pools_next : {F : Type 0} (d : Device) (host : Host F) (w : World) → IsHosting d host w → (map_of host.tree).next ≡ w.common.pools
+pools_next : {F R : Type 0} {g : Ghosts R Stored} (d : Device) (host : Host F R g) (w : World) → IsHosting d host w → (map_of host.tree).next ≡ w.common.pools
 unfolding IsHosting
 pools_next d host w hosts = ap (λ (ps : Pools Payload). ps.next) hosts.pools ∙ (reached_tree (budget_of host) (chain_of host) w hosts.chained hosts.reached).next
 
 -- what the host asks is what the model does
-pub spent_is : {F : Type 0} (d : Device) (host : Host F) (w : World) → IsHosting d host w → (b : Bool) → spent host.last (map_of host.tree).next (next_name host.store) ≡ b
+pub spent_is : {F R : Type 0} {g : Ghosts R Stored} (d : Device) (host : Host F R g) (w : World) → IsHosting d host w → (b : Bool) → spent host.last (map_of host.tree).next (next_name host.store) ≡ b
     → spent w.last w.common.pools w.common.next ≡ b
 unfolding IsHosting
 spent_is d host w hosts b is =
@@ -60,7 +59,7 @@ spent_is d host w hosts b is =
     ∙ (ap (λ (n : ℕ). spent host.last (map_of host.tree).next n) hosts.names ∙ is))
 
 -- Refused, nothing is changed.
-module _ {F : Type 0} (d : Device) (old new : Host F) (w : World) (hosts : IsHosting d old w) (chain : chain_of new ≡ chain_of old) (budget : budget_of new ≡ budget_of old)
+module _ {F R : Type 0} {g : Ghosts R Stored} (d : Device) (old new : Host F R g) (w : World) (hosts : IsHosting d old w) (chain : chain_of new ≡ chain_of old) (budget : budget_of new ≡ budget_of old)
     (holds : HoldsWorld (budget_of old) (chain_of old) d new.tree new.store new.last (conn_at new.conns) w) where
   pub opens_spent : spent old.last (map_of old.tree).next (next_name old.store) ≡ true → Happens d d old new 0 event.Open (Refused refusal.NamesSpent) w
   unfolding happens_on
@@ -75,7 +74,8 @@ unfolding opened all_called
 opened_file chain g = refl
 
 -- What was refused changed nothing that is seen.
-pub unchanged_holds : {F : Type 0} (d : Device) (old new : Host F) (w : World) → IsHosting d old w → chain_of new ≡ chain_of old → budget_of new ≡ budget_of old → new.last ≡ old.last
+pub unchanged_holds : {F R : Type 0} {g : Ghosts R Stored} (d : Device) (old new : Host F R g) (w : World) → IsHosting d old w → chain_of new ≡ chain_of old
+    → budget_of new ≡ budget_of old → new.last ≡ old.last
     → conn_at new.conns ≡ conn_at old.conns → IsUnchanged old.tree new.tree old.store new.store
     → HoldsWorld (budget_of old) (chain_of old) d new.tree new.store new.last (conn_at new.conns) w
 unfolding IsHosting is_under
@@ -131,7 +131,8 @@ abbrev no_pools : Pools Payload
 no_pools = record { path = λ n. []; payloads = λ n. []; next = 0 }
 
 -- It is opened, with the next number.
-pub opened_on : {F : Type 0} (d : Device) (old new : Host F) (w : World) → IsHosting d old w → chain_of new ≡ chain_of old → budget_of new ≡ budget_of old → new.last ≡ old.last + 1
+pub opened_on : {F R : Type 0} {g : Ghosts R Stored} (d : Device) (old new : Host F R g) (w : World) → IsHosting d old w → chain_of new ≡ chain_of old → budget_of new ≡ budget_of old
+    → new.last ≡ old.last + 1
     → (conn : Conn) → ((k : ℕ) → conn_at new.conns k ≡ upd (conn_at old.conns) (old.last + 1) (Some conn) k) → (modules : List Program) → modules ≡ chain_of old
     → spent old.last (map_of old.tree).next (next_name old.store) ≡ false
     → ((d : Device) (g : Common) → AreOpen (references old.store) d → g.pools ≡ (map_of old.tree).next → g.next ≡ next_name old.store

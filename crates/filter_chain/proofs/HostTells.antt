@@ -25,9 +25,8 @@ use Rattle.module_run.specs.Proceeding.{LeftAs, StandsFor}
 use Rattle.module_run.specs.Stacked.{StackedOver}
 use Rattle.module_run.proofs.Neighbours.{unchanged}
 use Rattle.filter_chain.specs.declared.conns.Conns.{Conns}
-use Rattle.filter_chain.specs.declared.host.Host.{Host}
 use Rattle.filter_chain.specs.Hosted.{conn_at, drained}
-use Rattle.filter_chain.specs.Hosting.{IsHosting, Happens, chain_of, budget_of, output_answer, output_in}
+use Rattle.filter_chain.specs.Hosting.{Ghosts, Host, Stored, IsHosting, Happens, chain_of, budget_of, output_answer, output_in}
 use Rattle.filter_chain.specs.HostViews.{TellsEvent}
 use Rattle.filter_chain.proofs.Hosts.{found, missing}
 use Rattle.filter_chain.proofs.HostEvents.{none_found, nothing_told, served, stays_on}
@@ -35,7 +34,8 @@ use Rattle.filter_chain.proofs.KnownEvents.{takes_serves}
 use Rattle.filter_chain.proofs.Lent.{IsLent}
 
 -- its labels are told
-pub labels_on : {F : Type 0} (d : Device) (host : Host F) (number : ℕ) (w : World) → IsHosting d host w → (conn : Conn) (labels : List (List ℕ)) → conn_at host.conns number ≡ Some conn
+pub labels_on : {F R : Type 0} {g : Ghosts R Stored} (d : Device) (host : Host F R g) (number : ℕ) (w : World) → IsHosting d host w → (conn : Conn) (labels : List (List ℕ))
+    → conn_at host.conns number ≡ Some conn
     → ((ps : Pools Payload) (rings : ℕ → Option Items) (opened : ℕ → Option (List ℕ)) → labels ≡ (conn_of ps rings opened conn).labels)
     → Happens d d host host number event.TellLabels (Labels labels) w
 unfolding IsHosting happens_on TellsEvent
@@ -47,19 +47,21 @@ labels_on d host number w hosts conn labels at told =
     (ap (λ (o : Option Connection). happens_on true (budget_of host) programs nothing_told event.TellLabels number o w) f.1 ∙ ap (λ (l : List (List ℕ)). (Labels l, w)) same) refl tt tt
 
 -- its output is lent
-pub output_on : {F : Type 0} (d : Device) (host : Host F) (number : ℕ) (w : World) → IsHosting d host w → (conn : Conn) (bytes : List ℕ) → conn_at host.conns number ≡ Some conn
+pub output_on : {F R : Type 0} {g : Ghosts R Stored} (d : Device) (host : Host F R g) (number : ℕ) (w : World) → IsHosting d host w → (conn : Conn) (bytes : List ℕ)
+    → conn_at host.conns number ≡ Some conn
     → ((ps : Pools Payload) (rings : ℕ → Option Items) (opened : ℕ → Option (List ℕ)) → bytes ≡ (conn_of ps rings opened conn).out.bytes) → output_in (w.conns number) ≡ Ok bytes
 unfolding IsHosting
 output_on d host number w hosts conn bytes at told =
     let f = found hosts number conn at in
     ap output_in f.1 ∙ ap Ok (ap (λ (c : Connection). c.out.bytes) f.2.seen ∙ sym (told (map_of host.tree) (lists host.store) f.0.opened))
 
-pub output_missing : {F : Type 0} (d : Device) (host : Host F) (number : ℕ) (w : World) → IsHosting d host w → conn_at host.conns number ≡ None → output_in (w.conns number) ≡ Err refusal.NoSuchConn
+pub output_missing : {F R : Type 0} {g : Ghosts R Stored} (d : Device) (host : Host F R g) (number : ℕ) (w : World) → IsHosting d host w → conn_at host.conns number ≡ None
+    → output_in (w.conns number) ≡ Err refusal.NoSuchConn
 unfolding IsHosting
 output_missing d host number w hosts at = ap output_in (missing hosts number at)
 
 -- whether it is there, as the model has it
-pub some_told : {F : Type 0} (d : Device) (host : Host F) (number : ℕ) (w : World) → IsHosting d host w → (conn : Conn) → conn_at host.conns number ≡ Some conn
+pub some_told : {F R : Type 0} {g : Ghosts R Stored} (d : Device) (host : Host F R g) (number : ℕ) (w : World) → IsHosting d host w → (conn : Conn) → conn_at host.conns number ≡ Some conn
     → None ≡ refusal_of (output_in (w.conns number))
 unfolding IsHosting
 some_told d host number w hosts conn at =
@@ -74,7 +76,7 @@ pub record WasDrained (conn0 conn : Conn) : Type 0 where
   pub filters : conn.filters ≡ conn0.filters
 
 -- Its output is taken.
-module _ {F : Type 0} (device : F → Device) (host : Host F) (number : ℕ) {conn0 : Conn} {table : Conn → Conns} (here : IsLent host.conns number conn0 table)
+module _ {F R : Type 0} {g : Ghosts R Stored} (device : F → Device) (host : Host F R g) (number : ℕ) {conn0 : Conn} {table : Conn → Conns} (here : IsLent host.conns number conn0 table)
     (conn : Conn) (emptied : WasDrained conn0 conn) (w : World) (hosts : IsHosting (device host.files) host w) where
   pub taken_on : (bytes : List ℕ) → output_in (w.conns number) ≡ Ok bytes
       → Happens (device host.files) (device host.files) host (record host { conns = table conn }) number event.TakeOutput (Output bytes) w
@@ -111,7 +113,8 @@ module _ {F : Type 0} (device : F → Device) (host : Host F) (number : ℕ) {co
       absurd (let none : None ≡ Some refusal.NoSuchConn = some_told (device host.files) host number w hosts conn0 here.at ∙ ap (λ (o : Option Connection). refusal_of (output_in o)) is in cc)
 
 -- None is found, and none is taken.
-pub none_cleared : {F : Type 0} (device : F → Device) (host : Host F) (number : ℕ) (after : Conns) → after.by_number ≡ host.conns.by_number → conn_at host.conns number ≡ None → (w : World)
+pub none_cleared : {F R : Type 0} {g : Ghosts R Stored} (device : F → Device) (host : Host F R g) (number : ℕ) (after : Conns) → after.by_number ≡ host.conns.by_number
+    → conn_at host.conns number ≡ None → (w : World)
     → IsHosting (device host.files) host w
     → Happens (device host.files) (device host.files) host (record host { conns = after }) number event.TakeOutput (output_answer (output_in (w.conns number))) w
 none_cleared device host number after same at w hosts =

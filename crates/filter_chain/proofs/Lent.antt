@@ -42,9 +42,9 @@ nothing_at is value = sym value ∙ ap option_copied_mut is
 abbrev view_on : {R : Type 0} {g : Ghosts R Stored} → Brigades R g → Type 0 → Type 0
 view_on {R = R} {g = g} store F = ConnView R g F
 
-abbrev pub ViewIn : {F : Type 0} → Host F → Type 0
+abbrev pub ViewIn : {F R : Type 0} {g : Ghosts R Stored} → Host F R g → Type 0
 ViewIn {F = F} host = view_on host.store F
 
 -- the host once they are so
-abbrev pub host_with : {F : Type 0} (host : Host F) → (Conn → Conns) → ViewIn host → Host F
+abbrev pub host_with : {F R : Type 0} {g : Ghosts R Stored} (host : Host F R g) → (Conn → Conns) → ViewIn host → Host F R g
 host_with host table a = record host { conns = table a.conn; tree = a.tree; store = a.store; files = a.files }

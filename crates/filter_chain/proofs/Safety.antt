@@ -7,8 +7,7 @@ use Rattle.model_laws.specs.Reached.{IsReached}
 use Rattle.model_laws.proofs.chains.Reached.{world_run_goes_on}
 use Rattle.bucket_kinds.specs.Device.{Device}
 use Rattle.life_check.specs.ChainTheorem.{ChainNeverFaults, IsNoFault, NoFaults}
-use Rattle.filter_chain.specs.declared.host.Host.{Host}
-use Rattle.filter_chain.specs.Hosting.{IsHosting, Happens, chain_of, budget_of}
+use Rattle.filter_chain.specs.Hosting.{Ghosts, Host, Stored, IsHosting, Happens, chain_of, budget_of}
 use Rattle.filter_chain.specs.Safe.{IsSafe, ReachedWorldsAnswerNoFault}
 use Rattle.filter_chain.specs.HostViews.{host_view}
 
@@ -34,7 +33,7 @@ reached_worlds_answer_no_fault budget chain number what old new answer never rea
     event_answers_no_fault acts.memory budget chain acts.told number what old.world new.world answer never reached acts.is
 
 -- So it is of each call of a host.
-pub happens_well : {F : Type 0} (d e : Device) (old new : Host F) (number : ℕ) (what : Event) (answer : Answer) (w : World) → IsHosting d old w → IsSafe old
+pub happens_well : {F R : Type 0} {g : Ghosts R Stored} (d e : Device) (old new : Host F R g) (number : ℕ) (what : Event) (answer : Answer) (w : World) → IsHosting d old w → IsSafe old
     → Happens d e old new number what answer w → IsNoFault answer
 unfolding IsHosting
 happens_well d e old new number what answer w hosts safe h =

@@ -14,17 +14,17 @@ use Rattle.run_model.specs.Worlds.{World, tree_of, Answer, Done, Refused, Connec
 use Rattle.bucket_kinds.specs.Device.{Device, is_there}
 use Rattle.bucket_kinds.specs.declared.refusal.AddRefusal.{AddRefusal}
 use Rattle.bucket_kinds.specs.declared.refusal.AddRefusal.TheVariants as added
-use Rattle.bucket_ring.specs.declared.rings.Rings.{Ghosts}
+pub use Rattle.bucket_ring.specs.declared.rings.Rings.{Ghosts}
 use Rattle.pool_tree.specs.declared.tree.PoolTree.{PoolTree}
 use Rattle.pool_tree.specs.Tree.{map_of}
-use Rattle.bucket_kinds.specs.declared.stored.Stored.{Stored}
+pub use Rattle.bucket_kinds.specs.declared.stored.Stored.{Stored}
 use Rattle.brigade_ops.specs.declared.store.Brigades.{Brigades}
 use Rattle.brigade_ops.specs.House.{AreOpen, IsHouse}
 use Rattle.brigade_ops.specs.Store.{lists, next_name, references}
 use Rattle.module_run.specs.declared.conn.Conn.{Conn}
 use Rattle.module_run.specs.Conns.{labels_handed}
 use Rattle.module_run.specs.Neighbours.{Holds}
-use Rattle.filter_chain.specs.declared.host.Host.{Host}
+pub use Rattle.filter_chain.specs.declared.host.Host.{Host}
 use Rattle.filter_chain.specs.HostViews.{Answers, host_view}
 use Rattle.filter_chain.specs.Hosted.{conn_at, IsHosted}
 use Rattle.ring_run.specs.declared.labels_run.LabelsRun.{LabelsRun}
@@ -87,21 +87,21 @@ pub record HoldsWorld {R : Type 0} {g : Ghosts R Stored} (budget : ℕ) (chain :
 
 -- the chain and the budget of a host, and its files
 
-unfoldable pub chain_of : {F : Type 0} → Host F → List Program
+unfoldable pub chain_of : {F R : Type 0} {g : Ghosts R Stored} → Host F R g → List Program
 chain_of host = host.chain.modules.items
 
-unfoldable pub budget_of : {F : Type 0} → Host F → ℕ
+unfoldable pub budget_of : {F R : Type 0} {g : Ghosts R Stored} → Host F R g → ℕ
 budget_of host = host.budget
 
-abbrev pub files_of : {F : Type 0} → Host F → F
+abbrev pub files_of : {F R : Type 0} {g : Ghosts R Stored} → Host F R g → F
 files_of host = host.files
 
 -- The host, whose files are this device, stands for this world.
-unfoldable pub IsHosting : {F : Type 0} → Device → Host F → World → Type 0
+unfoldable pub IsHosting : {F R : Type 0} {g : Ghosts R Stored} → Device → Host F R g → World → Type 0
 IsHosting d host w = HoldsWorld (budget_of host) (chain_of host) d host.tree host.store host.last (conn_at host.conns) w
 
 -- An event of the connection of this number was answered. By devices d and e, the host stands for what it leaves, on the same chain, with the same budget.
-pub record Happens {F : Type 0} (d e : Device) (old new : Host F) (number : ℕ) (what : Event) (answer : Answer) (w : World) : Type 0 where
+pub record Happens {F R : Type 0} {g : Ghosts R Stored} (d e : Device) (old new : Host F R g) (number : ℕ) (what : Event) (answer : Answer) (w : World) : Type 0 where
   pub to : World
   pub acts : Answers (budget_of old) (chain_of old) number what (host_view w d) answer (host_view to e)
   pub hosts : IsHosting e new to
@@ -109,14 +109,14 @@ pub record Happens {F : Type 0} (d e : Device) (old new : Host F) (number : ℕ)
   pub budget : budget_of new ≡ budget_of old
 
 -- Nothing happened.
-pub record Stays {F : Type 0} (d e : Device) (old new : Host F) (w : World) : Type 0 where
+pub record Stays {F R : Type 0} {g : Ghosts R Stored} (d e : Device) (old new : Host F R g) (w : World) : Type 0 where
   pub same : e ≡ d
   pub hosts : IsHosting e new w
   pub chain : chain_of new ≡ chain_of old
   pub budget : budget_of new ≡ budget_of old
 
 -- A file is added, unless one has its name.
-abbrev pub TriesToAdd : {F : Type 0} → Device → Device → Host F → Host F → List ℕ → List ℕ → Result (Unit {0}) AddRefusal → World → Type 0
+abbrev pub TriesToAdd : {F R : Type 0} {g : Ghosts R Stored} → Device → Device → Host F R g → Host F R g → List ℕ → List ℕ → Result (Unit {0}) AddRefusal → World → Type 0
 TriesToAdd d e old new name bytes (Ok x) w = Happens d e old new 0 (event.AddFile name bytes) Done w
 TriesToAdd d e old new name bytes (Err added.NoMemory) w = (is_there (d.named name) ≡ false) × Happens d e old new 0 (event.AddFile name bytes) (Refused refusal.NoMemory) w
 TriesToAdd d e old new name bytes (Err added.Taken) w = (is_there (d.named name) ≡ true) × Stays d e old new w

@@ -9,12 +9,11 @@ use Rattle.run_model.specs.Worlds.{World}
 use Rattle.model_laws.specs.Reached.{IsReached}
 use Rattle.life_check.specs.ChainTheorem.{ChainNeverFaults, IsNoFault}
 use Rattle.module_run.specs.Stepping.{NextIsFaultless}
-use Rattle.filter_chain.specs.declared.host.Host.{Host}
-use Rattle.filter_chain.specs.Hosting.{chain_of, step_answer}
+use Rattle.filter_chain.specs.Hosting.{Ghosts, Host, Stored, chain_of, step_answer}
 use Rattle.filter_chain.specs.HostViews.{HostView, Answers}
 
 -- On its chain no run of the model answers a fault, however many connections there are.
-abbrev pub IsSafe : {F : Type 0} → Host F → Type 0
+abbrev pub IsSafe : {F R : Type 0} {g : Ghosts R Stored} → Host F R g → Type 0
 IsSafe host = ChainNeverFaults (chain_of host)
 
 -- This is no fault.

@@ -5,11 +5,12 @@ ghost use Rattle.run_model.specs.declared.event.Event.TheVariants.{Close};
 ghost use Rattle.run_model.specs.Worlds.{World};
 
 use crate::host::Host;
-use bucket_kinds::Files;
+use bucket_kinds::{Files, Stored};
+use bucket_ring::Rings;
 use ring_run::labels_run::LabelsRun;
 use run_model::Refusal;
 
-impl<F: Files + Drop> Host<F> {
+impl<F: Files + Drop, R: Rings<Stored> + Drop> Host<F, R> {
     ghost use Rattle.filter_chain.specs.Hosting.{IsHosting, Happens, close_answer, files_of};
 
     /// Closes a connection, in any state: its calls are destroyed, and then its pool with all under it. Answers the labels that ran, as

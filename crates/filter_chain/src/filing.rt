@@ -5,10 +5,11 @@ ghost use Rattle.run_model.specs.declared.event.Event.TheVariants.{OpenFile};
 ghost use Rattle.run_model.specs.Worlds.{World};
 
 use crate::host::Host;
-use bucket_kinds::{AddRefusal, FileNo, Files, MemFiles};
+use bucket_kinds::{AddRefusal, FileNo, Files, MemFiles, Stored};
+use bucket_ring::Rings;
 use run_model::Refusal;
 
-impl<F: Files + Drop> Host<F> {
+impl<F: Files + Drop, R: Rings<Stored> + Drop> Host<F, R> {
     ghost use Rattle.filter_chain.specs.Hosting.{IsHosting, Happens, file_answer, files_of};
 
     /// Opens a file in the open request of a connection, and answers its number and its length in bytes. The request's pool holds it. Refused,
@@ -26,7 +27,7 @@ impl<F: Files + Drop> Host<F> {
     }
 }
 
-impl Host<MemFiles> {
+impl<R: Rings<Stored> + Drop> Host<MemFiles, R> {
     ghost use Rattle.bucket_kinds.specs.MemDevice.{mem_device};
     ghost use Rattle.filter_chain.specs.Failing.{SetsToFail};
     ghost use Rattle.filter_chain.specs.Hosting.{IsHosting, TriesToAdd, budget_of, chain_of, files_of};

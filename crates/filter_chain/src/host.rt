@@ -11,7 +11,7 @@ use crate::limits::Limits;
 use crate::spare::Spare;
 use brigade_ops::Brigades;
 use bucket_kinds::{Files, Stored};
-use bucket_ring::RawRings;
+use bucket_ring::{RawRings, Rings};
 use life_check::CheckedChain;
 use pool_tree::{PoolError, PoolId, PoolTree};
 use run_model::{Module, Payload};
@@ -20,19 +20,19 @@ use std::alloc::{AllocError, Global};
 /// Connections by number, each with the same chain of filters. They share one tree of pools, one store of brigades, and the files that
 /// they read.
 #[derive(Drop)]
-pub struct Host<F: Files> {
+pub struct Host<F: Files, R: Rings<Stored> = RawRings<Stored>> {
     pub(crate) alloc: Global,
     pub(crate) chain: Chain,
     pub(crate) budget: u64,
     pub(crate) conns: Conns,
     pub(crate) last: u64,
     pub(crate) tree: PoolTree<Payload>,
-    pub(crate) store: Brigades<RawRings<Stored>>,
+    pub(crate) store: Brigades<R>,
     pub(crate) files: F,
     pub(crate) spare: Spare,
 }
 
-impl<F: Files + Drop> Host<F> {
+impl<F: Files + Drop, R: Rings<Stored> + Drop> Host<F, R> {
     ghost use Rattle.filter_chain.specs.Hosting.{IsHosting, budget_of, chain_of, files_of};
     ghost use Rattle.filter_chain.specs.Safe.{IsSafe};
 

@@ -4,7 +4,8 @@ ghost use Rattle.std.specs.Prelude.{◌≡◌, ◌+◌, ◌||◌};
 ghost use Rattle.filter_chain.specs.Prelude.{Open, is_spent, World, map_of, next_name};
 
 use crate::host::Host;
-use bucket_kinds::Files;
+use bucket_kinds::{Files, Stored};
+use bucket_ring::Rings;
 use module_run::Conn;
 use ring_calls::asks::is_spent;
 use run_model::Refusal;
@@ -17,7 +18,7 @@ fn is_last(number: u64) -> bool
     number >= u64::MAX - 1
 }
 
-impl<F: Files + Drop> Host<F> {
+impl<F: Files + Drop, R: Rings<Stored> + Drop> Host<F, R> {
     ghost use Rattle.filter_chain.specs.Hosting.{IsHosting, Happens, open_answer, files_of};
 
     /// Whether a number or a name that a new connection takes is not left.

@@ -6,11 +6,12 @@ ghost use Rattle.run_model.specs.Worlds.{World, tree_of};
 ghost use Rattle.pool_tree.specs.Printed.{payload_text, printed};
 
 use crate::host::Host;
-use bucket_kinds::Files;
+use bucket_kinds::{Files, Stored};
+use bucket_ring::Rings;
 use byte_text::WriteFault;
 use std::io::Write;
 
-impl<F: Files + Drop> Host<F> {
+impl<F: Files + Drop, R: Rings<Stored> + Drop> Host<F, R> {
     ghost use Rattle.filter_chain.specs.Hosting.{IsHosting, files_of};
 
     /// Writes the text of the pools: a line for the root, and below it those of each connection, in the order in which they were opened. Takes

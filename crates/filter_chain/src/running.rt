@@ -5,10 +5,11 @@ ghost use Rattle.module_code.specs.Program.{Program};
 ghost use Rattle.filter_chain.specs.HostViews.{HostView};
 
 use crate::host::Host;
-use bucket_kinds::Files;
+use bucket_kinds::{Files, Stored};
+use bucket_ring::Rings;
 use run_model::{Refusal, Stepped};
 
-impl<F: Files + Drop> Host<F> {
+impl<F: Files + Drop, R: Rings<Stored> + Drop> Host<F, R> {
     ghost use Rattle.filter_chain.specs.Led.{IsAlive, Refines};
     ghost use Rattle.filter_chain.specs.Running.{StepsToEnd, StepsOn};
     ghost use Rattle.filter_chain.specs.Safe.{GoesWell, IsSafe};

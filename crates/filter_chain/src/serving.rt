@@ -6,10 +6,11 @@ ghost use Rattle.run_model.specs.Worlds.{World};
 ghost use Rattle.module_run.specs.Happened.{refusal_of};
 
 use crate::host::Host;
-use bucket_kinds::Files;
+use bucket_kinds::{Files, Stored};
+use bucket_ring::Rings;
 use run_model::{Piece, Refusal, Seq};
 
-impl<F: Files + Drop> Host<F> {
+impl<F: Files + Drop, R: Rings<Stored> + Drop> Host<F, R> {
     ghost use Rattle.filter_chain.specs.Hosting.{IsHosting, Happens, done_answer, files_of};
 
     /// A request begins: its pool is made, and the `init` handlers of the filters are to be stepped. Refused, nothing is changed:

@@ -5,10 +5,11 @@ ghost use Rattle.run_model.specs.declared.event.Event.TheVariants.{Step};
 ghost use Rattle.run_model.specs.Worlds.{World};
 
 use crate::host::Host;
-use bucket_kinds::Files;
+use bucket_kinds::{Files, Stored};
+use bucket_ring::Rings;
 use run_model::{Refusal, Stepped};
 
-impl<F: Files + Drop> Host<F> {
+impl<F: Files + Drop, R: Rings<Stored> + Drop> Host<F, R> {
     ghost use Rattle.filter_chain.specs.Hosting.{IsHosting, Happens, files_of, step_answer};
     ghost use Rattle.filter_chain.specs.Safe.{GoesWell, IsSafe};
 

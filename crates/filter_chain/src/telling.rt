@@ -5,11 +5,12 @@ ghost use Rattle.filter_chain.specs.Prelude.{TakeOutput, TellLabels, World, Labe
 
 use crate::host::Host;
 use block_bytes::BlockBytes;
-use bucket_kinds::Files;
+use bucket_kinds::{Files, Stored};
+use bucket_ring::Rings;
 use ring_run::labels_run::LabelsRun;
 use run_model::Refusal;
 
-impl<F: Files + Drop> Host<F> {
+impl<F: Files + Drop, R: Rings<Stored> + Drop> Host<F, R> {
     ghost use Rattle.filter_chain.specs.Hosting.{IsHosting, Happens, output_answer, output_in, files_of};
 
     /// The output since it was emptied last, as it lies, whatever state the connection is in. Refused: `NoSuchConn`.

@@ -10,7 +10,7 @@ use Rattle.run_model.specs.declared.event.Stepped.TheVariants as stepped
 use Rattle.run_model.specs.Worlds.{Answer, Step, Refused}
 use Rattle.bucket_kinds.specs.Device.{Device}
 use Rattle.filter_chain.specs.declared.host.Host.{Host}
-use Rattle.filter_chain.specs.Hosting.{step_answer}
+use Rattle.filter_chain.specs.Hosting.{Ghosts, Stored, step_answer}
 use Rattle.filter_chain.specs.Running as steps
 use Rattle.filter_chain.specs.HostViews.{HostView, Answers}
 use Rattle.http_front.specs.Driven.{Refines, GoesBy, IsOfConn, Lacks, LacksFor, OnlyEventsOf}
@@ -33,12 +33,12 @@ unfolding steps.HostGoesOn
 steps_more b c number zero s m t so same = subst (λ (x : HostView). Some-events b c number s x) (sym same) so
 steps_more b c number (suc n) s m t so goes = steps_more b c number n s goes.0 t (one_more b c number event.Step (Step stepped.Went) s m goes.0 tt so goes.1) goes.2
 
-module _ {F : Type 0} (device : F → Device) (number : ℕ) where
-  pub beside_same : (host : Host F) → OnlyEventsOf device host number host
+module _ {F R : Type 0} {g : Ghosts R Stored} (device : F → Device) (number : ℕ) where
+  pub beside_same : (host : Host F R g) → OnlyEventsOf device host number host
   unfolding OnlyEventsOf GoesBy
   beside_same host = leads_still device host (λ b c s t. Some-events b c number s t) (λ b c s. ([], refl))
 
-  module _ (from old new : Host F) (so : OnlyEventsOf device from number old) where
+  module _ (from old new : Host F R g) (so : OnlyEventsOf device from number old) where
     pub beside_event : (what : Event) (answer : Answer) → IsOfConn what → Happened device old new number what answer → OnlyEventsOf device from number new
     unfolding OnlyEventsOf
     beside_event what answer own h =
@@ -66,7 +66,7 @@ module _ {F : Type 0} (device : F → Device) (number : ℕ) where
         (by_event device old new number what (Refused why) h)
 
   -- memory was lacking, and no event asked for it
-  pub beside_none : (from old : Host F) → OnlyEventsOf device from number old → LacksFor device from number kind.NoMemory old
+  pub beside_none : (from old : Host F R g) → OnlyEventsOf device from number old → LacksFor device from number kind.NoMemory old
   unfolding OnlyEventsOf LacksFor
   beside_none from old so =
       leads_as device from old (λ b c s t. Some-events b c number s t) (λ b c s t. Lacks b c number kind.NoMemory s t)

@@ -9,6 +9,7 @@ use Rattle.run_model.specs.Worlds.{World, Told, Answer, Labels, Refused, closes,
 use Rattle.run_model.proofs.Updates.{upd_at}
 use Rattle.bucket_kinds.specs.Device.{Device}
 use Rattle.filter_chain.specs.declared.host.Host.{Host}
+use Rattle.filter_chain.specs.Hosting.{Ghosts, Stored}
 use Rattle.filter_chain.specs.HostViews.{Answers}
 use Rattle.http_front.specs.Connecting.{ClosesTurns}
 use Rattle.http_front.specs.Driven.{Refines}
@@ -39,7 +40,7 @@ module _ (k : ℕ) (w v : World) where
         let same : refusal.NoSuchConn ≡ why = cc in
         (sym same, sym (ap (λ (p : Answer × World). p.1.conns k) is) ∙ at)
 
-module _ {F : Type 0} (device : F → Device) (number : ℕ) (old new : Host F) (result : Bool) where
+module _ {F R : Type 0} {g : Ghosts R Stored} (device : F → Device) (number : ℕ) (old new : Host F R g) (result : Bool) where
   pub turns_closed : (labels : List (List ℕ)) → result ≡ true → Happened device old new number event.Close (Labels labels) → Refines device old new (λ b c s t. ClosesTurns b c number result s t)
   turns_closed labels is h =
       subst (λ (r : Bool). Refines device old new (λ b c s t. ClosesTurns b c number r s t)) (sym is)

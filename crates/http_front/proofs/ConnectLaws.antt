@@ -8,6 +8,7 @@ use Rattle.run_model.specs.declared.event.Refusal.TheVariants as refusal
 use Rattle.run_model.specs.Worlds.{Connected, Labels, Refused}
 use Rattle.bucket_kinds.specs.Device.{Device}
 use Rattle.filter_chain.specs.declared.host.Host.{Host}
+use Rattle.filter_chain.specs.Hosting.{Ghosts, Stored}
 use Rattle.filter_chain.specs.HostViews.{Answers}
 use Rattle.http_message.specs.Clocks.{Said}
 use Rattle.http_message.specs.declared.reply.Method.{Method}
@@ -26,7 +27,7 @@ use Rattle.http_front.specs.declared.running.CallEnd.{CallEnd}
 use Rattle.filter_chain.proofs.Driving.{Happened, by_event, leads_as, leads_on}
 use Rattle.http_front.proofs.Stays.{close_refused, goes_there, open_there}
 
-module _ {F : Type 0} (device : F → Device) (number : ℕ) (old new : Host F) where
+module _ {F R : Type 0} {g : Ghosts R Stored} (device : F → Device) (number : ℕ) (old new : Host F R g) where
   pub closed : (left : Option ℕ) (labels : List (List ℕ)) → left ≡ None → Happened device old new number event.Close (Labels labels) → Refines device old new (λ b c s t. IsClosed b c number left s t)
   closed left labels is h =
       subst (λ (x : Option ℕ). Refines device old new (λ b c s t. IsClosed b c number x s t)) (sym is)
@@ -43,7 +44,7 @@ module _ {F : Type 0} (device : F → Device) (number : ℕ) (old new : Host F) 
       (leads_as device old new (λ b c s t. Answers b c number event.Close s (Refused why) t) (λ b c s t. IsClosed b c number (Some number) s t)
       (λ b c s t a. (refl, subst (λ (r : Refusal). Answers b c number event.Close s (Refused r) t) (lacks_memory why has h) a)) (by_event device old new number event.Close (Refused why) h))
 
-  pub opened_conn : (mid : Host F) (how : CallEnd) → Happened device old mid 0 event.Open (Connected number)
+  pub opened_conn : (mid : Host F R g) (how : CallEnd) → Happened device old mid 0 event.Open (Connected number)
       → Refines device mid new (λ b c s t. RunsCall b c number s how t) → Refines device old new (λ b c s t. IsOpened b c number s t)
   opened_conn mid how h = leads_on device old mid new (λ b c s t. Answers b c 0 event.Open s (Connected number) t) (λ b c s t. RunsCall b c number s how t) (λ b c s t. IsOpened b c number s t)
       (λ b c s m t a r. record { mid = m; how = how; acts = a; runs = r }) (by_event device old mid 0 event.Open (Connected number) h)
@@ -69,8 +70,8 @@ module _ {H K : Type 0} (site : Site) (handles : H → Method → List ℕ → R
   falls read unread was is left new after kind.NoMemory h = lacking read unread was is left new after h
   falls read unread was is left new after kind.NamesSpent h = h
 
-module _ {F K : Type 0} (device : F → Device) (tells : K → Said → K → Type 0) (site : Site) (old : Host F) (before : K) (unread was is : Option (List ℕ)) where
-  pub none_opened : (new : Host F) (e : FrontFault) (why : Refusal) (read : Option (List ℕ)) → unread ≡ read → is ≡ was → e.kind ≡ kind_of why → e.left ≡ None
+module _ {F K R : Type 0} {g : Ghosts R Stored} (device : F → Device) (tells : K → Said → K → Type 0) (site : Site) (old : Host F R g) (before : K) (unread was is : Option (List ℕ)) where
+  pub none_opened : (new : Host F R g) (e : FrontFault) (why : Refusal) (read : Option (List ℕ)) → unread ≡ read → is ≡ was → e.kind ≡ kind_of why → e.left ≡ None
       → Happened device old new 0 event.Open (Refused why)
       → IfSome read (λ stream. ServingFails device tells site old before stream e unread was is new before)
   none_opened new e why None keeps same kind left h = tt
@@ -84,7 +85,7 @@ module _ {F K : Type 0} (device : F → Device) (tells : K → Said → K → Ty
     still = refl;
   }
 
-  module _ (number : ℕ) (opened served new : Host F) (after : K) (opens : Refines device old opened (λ b c s t. IsOpened b c number s t))
+  module _ (number : ℕ) (opened served new : Host F R g) (after : K) (opens : Refines device old opened (λ b c s t. IsOpened b c number s t))
       (alive : IsAlive device served) (beside : OnlyEventsOf device opened number served) where
     -- what serving the open connection comes to
     abbrev AllSo : Option (List ℕ) → Served → Type 0
@@ -154,11 +155,11 @@ module _ {F K : Type 0} (device : F → Device) (tells : K → Said → K → Ty
           (λ stream. ServingFails device tells site old before stream e unread was is new after))) (sym same) (by_err read r left closes all (fails_so read r left front))
 
 -- Of any reader.
-module _ {F K : Type 0} (device : F → Device) (tells : K → Said → K → Type 0) (site : Site) (old : Host F) where
-  pub not_visited : (new : Host F) (e : FrontFault) (why : Refusal) → Happened device old new 0 event.Open (Refused why) → Visits device tells site old (Err e) new
+module _ {F K R : Type 0} {g : Ghosts R Stored} (device : F → Device) (tells : K → Said → K → Type 0) (site : Site) (old : Host F R g) where
+  pub not_visited : (new : Host F R g) (e : FrontFault) (why : Refusal) → Happened device old new 0 event.Open (Refused why) → Visits device tells site old (Err e) new
   not_visited new e why h = inl (why, by_event device old new 0 event.Open (Refused why) h)
 
-  module _ (number : ℕ) (opened served new : Host F) (opens : Refines device old opened (λ b c s t. IsOpened b c number s t)) (alive : IsAlive device served)
+  module _ (number : ℕ) (opened served new : Host F R g) (opens : Refines device old opened (λ b c s t. IsOpened b c number s t)) (alive : IsAlive device served)
       (beside : OnlyEventsOf device opened number served) where
     visits_by : (r : Result Served FrontKind) (left : Option ℕ) → Refines device served new (λ b c s t. IsClosed b c number left s t) → Visits device tells site old (outcome_of r left) new
     visits_by (Ok s) None closes = record { number = number; opened = opened; served = served; opens = opens; done = tt; alive = alive; beside = beside; closes = closes }
@@ -171,14 +172,14 @@ module _ {F K : Type 0} (device : F → Device) (tells : K → Said → K → Ty
     visited r left closes result same = subst (λ (x : Result Served FrontFault). Visits device tells site old x new) (sym same) (visits_by r left closes)
 
 -- A connection that is opened is there, and stays there by its own events.
-module _ {F : Type 0} (device : F → Device) (number : ℕ) where
-  pub has_opened : (old mid : Host F) → IsAlive device old → Happened device old mid 0 event.Open (Connected number) → HasConn device mid number
+module _ {F R : Type 0} {g : Ghosts R Stored} (device : F → Device) (number : ℕ) where
+  pub has_opened : (old mid : Host F R g) → IsAlive device old → Happened device old mid 0 event.Open (Connected number) → HasConn device mid number
   has_opened old mid alive h =
       let x = h alive.0 alive.1 in
       let there = open_there _ _ number _ _ x.acts in
       (x.to, x.hosts, there.0, there.1)
 
-  pub has_still : (old new : Host F) → HasConn device old number → OnlyEventsOf device old number new → HasConn device new number
+  pub has_still : (old new : Host F R g) → HasConn device old number → OnlyEventsOf device old number new → HasConn device new number
   unfolding OnlyEventsOf
   has_still old new has h =
       let x = h has.0 has.1 in

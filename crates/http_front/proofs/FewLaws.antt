@@ -9,7 +9,7 @@ use Rattle.run_model.specs.declared.event.Stepped.TheVariants as stepped
 use Rattle.run_model.specs.Worlds.{Answer, Step}
 use Rattle.bucket_kinds.specs.Device.{Device}
 use Rattle.filter_chain.specs.declared.host.Host.{Host}
-use Rattle.filter_chain.specs.Hosting.{step_answer}
+use Rattle.filter_chain.specs.Hosting.{Ghosts, Stored, step_answer}
 use Rattle.filter_chain.specs.Running as steps
 use Rattle.filter_chain.specs.HostViews.{HostView, Answers}
 use Rattle.http_front.specs.Driven.{GoesBy, IsOfConn, Refines, StepsAtMost, is_step, steps_in}
@@ -42,15 +42,15 @@ module _ (b : ℕ) (c : List Program) (number : ℕ) where
       let few = x.few in
       (all.0, all.1, omega (arith, bound, few, room))
 
-module _ {F : Type 0} (device : F → Device) (number : ℕ) (from old : Host F) (n : ℕ) (so : StepsAtMost device from number n old) where
+module _ {F R : Type 0} {g : Ghosts R Stored} (device : F → Device) (number : ℕ) (from old : Host F R g) (n : ℕ) (so : StepsAtMost device from number n old) where
   -- an event that is no step
-  pub few_event : (new : Host F) (what : Event) (answer : Answer) → IsOfConn what → is_step what ≡ 0 → Happened device old new number what answer → StepsAtMost device from number n new
+  pub few_event : (new : Host F R g) (what : Event) (answer : Answer) → IsOfConn what → is_step what ≡ 0 → Happened device old new number what answer → StepsAtMost device from number n new
   unfolding StepsAtMost
   few_event new what answer own none h =
       leads_on device from old new (λ b c s t. Few b c number n s t) (λ b c s t. Answers b c number what s answer t) (λ b c s t. Few b c number n s t)
       (λ b c s m t x a. (let y = one_more b c number n what answer s m t own x a in (let bound = y.2 in (y.0, y.1, omega (arith, bound, none))))) so (by_event device old new number what answer h)
 
-  pub few_steps : (new : Host F) (more most : ℕ) (answer : Result Stepped Refusal) → more + 1 ≤ most
+  pub few_steps : (new : Host F R g) (more most : ℕ) (answer : Result Stepped Refusal) → more + 1 ≤ most
       → Refines device old new (λ b c s t. steps.StepsOn b c number more s answer t) → StepsAtMost device from number (n + most) new
   unfolding StepsAtMost
   few_steps new more most answer room h =

@@ -8,6 +8,7 @@ use Rattle.run_model.specs.declared.event.Stepped.{Stepped}
 use Rattle.run_model.specs.Worlds.{Answer, Output, Refused}
 use Rattle.bucket_kinds.specs.Device.{Device}
 use Rattle.filter_chain.specs.declared.host.Host.{Host}
+use Rattle.filter_chain.specs.Hosting.{Ghosts, Stored}
 use Rattle.filter_chain.specs.HostViews.{HostView, Answers}
 use Rattle.filter_chain.specs.Led.{Transition}
 use Rattle.filter_chain.specs.Running as steps
@@ -27,7 +28,7 @@ use Rattle.http_front.specs.declared.task.RequestTask.{RequestTask}
 use Rattle.filter_chain.proofs.Driving.{Happened, by_event, leads_any, leads_as, leads_on}
 
 -- A call runs, and it is told how it ended.
-pub runs_told : {F : Type 0} (device : F → Device) (number : ℕ) (old new : Host F) (answer : Result Stepped Refusal) (how : CallEnd) → how ≡ ended_of answer
+pub runs_told : {F R : Type 0} {g : Ghosts R Stored} (device : F → Device) (number : ℕ) (old new : Host F R g) (answer : Result Stepped Refusal) (how : CallEnd) → how ≡ ended_of answer
     → Refines device old new (λ b c s t. steps.StepsToEnd b c number s answer t) → Refines device old new (λ b c s t. RunsCall b c number s how t)
 runs_told device number old new answer how told =
     leads_as device old new (λ b c s t. steps.StepsToEnd b c number s answer t) (λ b c s t. RunsCall b c number s how t)
@@ -48,8 +49,8 @@ module _ (way : Way) (b : ℕ) (c : List Program) (number : ℕ) where
   takes_now : (s : HostView) (o : RequestOutcome) (t : HostView) → TakesOutput b c number s o t → TakesOutputIn way b c number s o t
   takes_now s o t x = record { answer = x.answer; acts = now_acts way b c number event.TakeOutput _ s t x.acts; gives = x.gives }
 
-module _ {F : Type 0} (device : F → Device) (number : ℕ) where
-  module _ (old new : Host F) where
+module _ {F R : Type 0} {g : Ghosts R Stored} (device : F → Device) (number : ℕ) where
+  module _ (old new : Host F R g) where
     pub output_taken : (o : RequestOutcome) (bytes : List ℕ) → o.status ≡ Success → o.body ≡ bytes → o.failure ≡ None → Happened device old new number event.TakeOutput (Output bytes)
         → Refines device old new (λ b c s t. TakesOutput b c number s o t)
     output_taken o bytes status body well h =
@@ -80,7 +81,7 @@ module _ {F : Type 0} (device : F → Device) (number : ℕ) where
         → MakesSlice device number (λ way b c. FinishesIn way b c number is) old r new → MakesSlice device number (λ way b c. FinishesIn way b c number how) old r new
     finished r how is same h = subst (λ (e : CallEnd). MakesSlice device number (λ way b c. FinishesIn way b c number e) old r new) (sym same) h
 
-  module _ (old mid new : Host F) where
+  module _ (old mid new : Host F R g) where
     pub output_finished : (o : RequestOutcome) → Refines device old mid (λ b c s t. TakesOutput b c number s o t) → Refines device mid new (λ b c s t. EndsRequest b c number s t)
         → MakesSlice device number (λ way b c. EndsWithOutputIn way b c number) old (Ok (slice.Done o)) new
     output_finished o h k way =

@@ -8,6 +8,7 @@ use Rattle.run_model.specs.declared.event.Refusal.{Refusal}
 use Rattle.run_model.specs.Worlds.{Done, Opened, Refused}
 use Rattle.bucket_kinds.specs.Device.{Device}
 use Rattle.filter_chain.specs.declared.host.Host.{Host}
+use Rattle.filter_chain.specs.Hosting.{Ghosts, Stored}
 use Rattle.filter_chain.specs.HostViews.{HostView, Answers}
 use Rattle.filter_chain.specs.Led.{IsAlive, Refines, Transition}
 use Rattle.http_message.specs.declared.failure.Failure.{Failure}
@@ -121,9 +122,9 @@ module _ (way : Way) (b : ℕ) (c : List Program) (number : ℕ) where
   rests_then (task.Opens method name) how s m d o t x = record { init = how; mid = m; runs = d; opens = x }
   rests_then (task.Brings left) how s m d o t x = record { first = how; mid = m; runs = d; carries = x }
 
-module _ {F : Type 0} (device : F → Device) (number : ℕ) where
+module _ {F R : Type 0} {g : Ghosts R Stored} (device : F → Device) (number : ℕ) where
   -- a slice that follows a deed
-  slices_then : (r : Result (Slice RequestTask) FrontKind) (old mid new : Host F) (first : Way → Transition) (part all : Whole)
+  slices_then : (r : Result (Slice RequestTask) FrontKind) (old mid new : Host F R g) (first : Way → Transition) (part all : Whole)
       → ((way : Way) (b : ℕ) (c : List Program) (s m : HostView) → first way b c s m → (o : RequestOutcome) (t : HostView) → part way b c m o t → all way b c s o t)
       → ((way : Way) → Refines device old mid (first way)) → MakesSlice device number part mid r new → MakesSlice device number all old r new
   slices_then r old mid new first part all gives h k way =
@@ -135,7 +136,7 @@ module _ {F : Type 0} (device : F → Device) (number : ℕ) where
         on (slice.Works k) b c s m t d y = λ o z rest. gives way b c s m d o z (y o z rest)
 
   -- nothing went before
-  slices_as : (r : Result (Slice RequestTask) FrontKind) (old new : Host F) (part all : Whole)
+  slices_as : (r : Result (Slice RequestTask) FrontKind) (old new : Host F R g) (part all : Whole)
       → ((way : Way) (b : ℕ) (c : List Program) (s : HostView) (o : RequestOutcome) (t : HostView) → part way b c s o t → all way b c s o t)
       → MakesSlice device number part old r new → MakesSlice device number all old r new
   slices_as r old new part all gives h way =
@@ -148,27 +149,27 @@ module _ {F : Type 0} (device : F → Device) (number : ℕ) where
         on (Err e) b c s t y = tt
 
   -- a host that is alive is so after a slice
-  pub alive_after : (old new : Host F) (all : Whole) (r : Result (Slice RequestTask) FrontKind) → IsAlive device old → MakesSlice device number all old r new → IsAlive device new
+  pub alive_after : (old new : Host F R g) (all : Whole) (r : Result (Slice RequestTask) FrontKind) → IsAlive device old → MakesSlice device number all old r new → IsAlive device new
   alive_after old new all r alive h =
       alive_then device old new (λ b c s t. IfOk r (λ x. Slices among b c number (all among b c) s x t)) alive (h among)
 
   -- and after a slice of a call
-  pub alive_stepped : (old new : Host F) (how : Option CallEnd) → IsAlive device old
+  pub alive_stepped : (old new : Host F R g) (how : Option CallEnd) → IsAlive device old
       → ((way : Way) → Refines device old new (λ b c s t. RunsSlice way b c number how s t)) → IsAlive device new
   alive_stepped old new how alive h = alive_then device old new (λ b c s t. RunsSlice among b c number how s t) alive (h among)
 
   -- what lacked in a part lacked in the whole
-  pub part_lacked : (old new : Host F) (all part : Whole) (x r : Result (Slice RequestTask) FrontKind) (e : FrontKind) → r ≡ Err e
+  pub part_lacked : (old new : Host F R g) (all part : Whole) (x r : Result (Slice RequestTask) FrontKind) (e : FrontKind) → r ≡ Err e
       → MakesSlice device number part old x new → MakesSlice device number all old r new
   part_lacked old new all part x r e is h =
       lacked device number old new all (λ b c s t. IfOk x (λ y. Slices among b c number (part among b c) s y t)) r e is (h among)
 
   -- the same slice
-  pub slice_is : (old new : Host F) (all : Whole) (x y : Slice RequestTask) → x ≡ y → MakesSlice device number all old (Ok x) new
+  pub slice_is : (old new : Host F R g) (all : Whole) (x y : Slice RequestTask) → x ≡ y → MakesSlice device number all old (Ok x) new
       → MakesSlice device number all old (Ok y) new
   slice_is old new all x y is = subst (λ (z : Slice RequestTask). MakesSlice device number all old (Ok z) new) is
 
-  module _ (old new : Host F) (r : Result (Slice RequestTask) FrontKind) (how : CallEnd) where
+  module _ (old new : Host F R g) (r : Result (Slice RequestTask) FrontKind) (how : CallEnd) where
     pub carried_stopped : (left : List (List Piece)) → ¬ (how ≡ ended.Succeeded) → MakesSlice device number (λ way b c. FinishesIn way b c number how) old r new
         → MakesSlice device number (λ way b c. CarriesIn way b c number how left) old r new
     carried_stopped left not =
@@ -208,7 +209,7 @@ module _ {F : Type 0} (device : F → Device) (number : ℕ) where
     ended_opens k method name text is same h =
         ended_as k (task.Opens method name) is (subst (λ (n : List ℕ). MakesSlice device number (λ way b c. OpensUnlessIn way b c number how method n) old r new) same h)
 
-  module _ (old mid : Host F) where
+  module _ (old mid : Host F R g) where
     pub brought : (pieces : List Piece) (all : List (List Piece)) (left : Option FileRest) → all ≡ pieces ∷ brigades_left left
         → Happened device old mid number (event.Bring pieces) Done
         → MakesSlice device number (λ way b c. CarriesIn way b c number ended.Succeeded all) old (Ok (slice.Works (task.Brings left))) mid
@@ -218,7 +219,7 @@ module _ {F : Type 0} (device : F → Device) (number : ℕ) where
         (λ b c s t a. λ o z x. carries_brought way b c number pieces all (brigades_left left) s t is a o z x)
         (by_event device old mid number (event.Bring pieces) Done h)
 
-    module _ (new : Host F) (r : Result (Slice RequestTask) FrontKind) where
+    module _ (new : Host F R g) (r : Result (Slice RequestTask) FrontKind) where
       pub not_brought : (pieces : List Piece) (all left : List (List Piece)) (why : Refusal) → all ≡ pieces ∷ left → lack_of why ≡ None
           → Happened device old mid number (event.Bring pieces) (Refused why)
           → MakesSlice device number (λ way b c. FinishesIn way b c number (ended.Failed (failure.Refused why))) mid r new
@@ -310,7 +311,7 @@ module _ {F : Type 0} (device : F → Device) (number : ℕ) where
         (by_event device old mid number event.Begin (Refused why) h)
 
   -- over hosts
-  module _ (r : Result (Slice RequestTask) FrontKind) (old new : Host F) where
+  module _ (r : Result (Slice RequestTask) FrontKind) (old new : Host F R g) where
     pub begun_host : (method : Method) (name : List ℕ) → MakesSlice device number (λ way b c. ComesIn way b c number method name) old r new
         → IfOk r (λ x. Nears (HandlesAmong device old number method name) (RestsAmong device new number) new x)
     unfolding HandlesAmong RestsAmong
@@ -336,7 +337,7 @@ module _ {F : Type 0} (device : F → Device) (number : ℕ) where
       by (Err e) h = tt
 
   -- The request is handled: with nothing of others between its events it came to what it comes to alone.
-  module _ (old new : Host F) (method : Method) (name : List ℕ) where
+  module _ (old new : Host F R g) (method : Method) (name : List ℕ) where
     pub handled : (x : Slice RequestTask) (o : RequestOutcome) → x ≡ slice.Done o → MakesSlice device number (λ way b c. ComesIn way b c number method name) old (Ok x) new
         → Refines device old new (λ b c s t. ComesOf b c number method name s o t)
     handled x o is h = subst (λ (y : Slice RequestTask). MakesSlice device number (λ way b c. ComesIn way b c number method name) old (Ok y) new) is h alone

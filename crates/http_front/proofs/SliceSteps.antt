@@ -13,7 +13,7 @@ use Rattle.model_laws.proofs.chains.Numbers.{event_keeps_numbers, run_keeps_numb
 use Rattle.model_laws.proofs.chains.Others.{opening_stays, others_stay}
 use Rattle.bucket_kinds.specs.Device.{Device}
 use Rattle.filter_chain.specs.declared.host.Host.{Host}
-use Rattle.filter_chain.specs.Hosting.{IsHosting, files_of}
+use Rattle.filter_chain.specs.Hosting.{Ghosts, Stored, IsHosting, files_of}
 use Rattle.filter_chain.specs.HostViews.{HostView, Answers}
 use Rattle.filter_chain.specs.Led.{Refines}
 use Rattle.filter_chain.specs.Running.{HostGoesOn, StepsOn}
@@ -156,12 +156,12 @@ module _ (b : ℕ) (c : List Program) (number : ℕ) where
       let all = goes_alone x.count s x.before x.goes in
       record { answer = r.answer; runs = record { count = x.count; before = x.before; few = x.few; goes = all; last = (x.before, ([], refl), x.last); stops = x.stops }; told = r.told }
 
-module _ {F : Type 0} (device : F → Device) (number : ℕ) (way : Way) where
-  numbered : (host : Host F) (w : World) → IsHosting (device (files_of host)) host w → WorldNumbers w
+module _ {F R : Type 0} {g : Ghosts R Stored} (device : F → Device) (number : ℕ) (way : Way) where
+  numbered : (host : Host F R g) (w : World) → IsHosting (device (files_of host)) host w → WorldNumbers w
   unfolding IsHosting
   numbered host w hosts = (let r = hosts.reached in run_keeps_numbers _ _ r.events r.answers w r.run)
 
-  module _ (old new : Host F) (more : ℕ) (answer : Result Stepped Refusal) (did : Refines device old new (λ b c s t. StepsOn b c number more s answer t)) where
+  module _ (old new : Host F R g) (more : ℕ) (answer : Result Stepped Refusal) (did : Refines device old new (λ b c s t. StepsOn b c number more s answer t)) where
     pub sliced_on : answer ≡ Ok stepped.Went → Refines device old new (λ b c s t. RunsSlice way b c number None s t)
     sliced_on went w hosts =
         let x = subst (λ (a : Result Stepped Refusal). Refines device old new (λ b c s t. StepsOn b c number more s a t)) went did w hosts in

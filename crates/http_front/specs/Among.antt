@@ -10,7 +10,7 @@ use Rattle.run_model.specs.declared.event.Stepped.TheVariants as stepped
 use Rattle.run_model.specs.Worlds.{Answer, Step}
 use Rattle.bucket_kinds.specs.Device.{Device}
 use Rattle.filter_chain.specs.declared.host.Host.{Host}
-use Rattle.filter_chain.specs.Hosting.{step_answer}
+use Rattle.filter_chain.specs.Hosting.{Ghosts, Stored, step_answer}
 use Rattle.filter_chain.specs.HostViews.{HostView, Answers}
 use Rattle.filter_chain.specs.Running.{StepsToEnd}
 use Rattle.http_message.specs.declared.failure.Failure.{Failure}
@@ -138,15 +138,15 @@ abbrev pub Whole : Type 1
 Whole = Way → ℕ → List Program → HostView → RequestOutcome → HostView → Type 0
 
 -- A slice of this was made, unless something lacked; alone and among others.
-abbrev pub MakesSlice : {F : Type 0} → (F → Device) → ℕ → Whole → Host F → Result (Slice RequestTask) FrontKind → Host F → Type 0
+abbrev pub MakesSlice : {F R : Type 0} {g : Ghosts R Stored} → (F → Device) → ℕ → Whole → Host F R g → Result (Slice RequestTask) FrontKind → Host F R g → Type 0
 MakesSlice device number all old r new = (way : Way) → Refines device old new (λ b c s t. IfOk r (λ x. Slices way b c number (all way b c) s x t))
 
 -- A request for a file on the connection of this number comes to this outcome.
-unfoldable pub HandlesAmong : {F : Type 0} → (F → Device) → Host F → ℕ → Method → List ℕ → RequestOutcome → Host F → Type 0
+unfoldable pub HandlesAmong : {F R : Type 0} {g : Ghosts R Stored} → (F → Device) → Host F R g → ℕ → Method → List ℕ → RequestOutcome → Host F R g → Type 0
 HandlesAmong device old number method file o new = Refines device old new (λ b c s t. ComesLater b c number method file s o t)
 
 -- So does what is left of one.
-unfoldable pub RestsAmong : {F : Type 0} → (F → Device) → Host F → ℕ → RequestTask → RequestOutcome → Host F → Type 0
+unfoldable pub RestsAmong : {F R : Type 0} {g : Ghosts R Stored} → (F → Device) → Host F R g → ℕ → RequestTask → RequestOutcome → Host F R g → Type 0
 RestsAmong device old number task o new = Refines device old new (λ b c s t. Rests among b c number task s o t)
 
 -- `init` is under way, and then this file is to be opened.

@@ -6,7 +6,7 @@ use Rattle.run_model.specs.declared.event.Event.TheVariants as event
 use Rattle.run_model.specs.Worlds.{Answer}
 use Rattle.bucket_kinds.specs.Device.{Device}
 use Rattle.filter_chain.specs.declared.host.Host.{Host}
-use Rattle.filter_chain.specs.Hosting.{step_answer}
+use Rattle.filter_chain.specs.Hosting.{Ghosts, Stored, step_answer}
 use Rattle.filter_chain.specs.HostViews.{HostView}
 use Rattle.http_message.specs.declared.reply.Method.{Method}
 use Rattle.http_front.specs.Among.{AnswersLater, ComesLater, GoesOnLater, HandlesAmong, Others, Rests, RestsAmong, RunsIn, among}
@@ -48,7 +48,7 @@ module _ (b : ℕ) (c : List Program) (number : ℕ) where
     rests_before (task.Opens method name) o t x = record { init = x.init; mid = x.mid; runs = runs_before x.init x.mid x.runs; opens = x.opens }
     rests_before (task.Brings rest) o t x = record { first = x.first; mid = x.mid; runs = runs_before x.first x.mid x.runs; carries = x.carries }
 
-module _ {F : Type 0} (device : F → Device) (number : ℕ) (old now new : Host F) where
+module _ {F R : Type 0} {g : Ghosts R Stored} (device : F → Device) (number : ℕ) (old now new : Host F R g) where
   pub among_later : (method : Method) (file : List ℕ) (o : RequestOutcome) → NoEventsOf device old number now → HandlesAmong device now number method file o new
       → HandlesAmong device old number method file o new
   unfolding NoEventsOf HandlesAmong

@@ -8,6 +8,7 @@ use Rattle.run_model.specs.declared.event.Refusal.TheVariants as refusal
 use Rattle.run_model.specs.Worlds.{Connected, Labels, Refused}
 use Rattle.bucket_kinds.specs.Device.{Device}
 use Rattle.filter_chain.specs.declared.host.Host.{Host}
+use Rattle.filter_chain.specs.Hosting.{Ghosts, Stored}
 use Rattle.filter_chain.specs.HostViews.{HostView, Answers}
 use Rattle.http_message.specs.Clocks.{Said}
 use Rattle.http_message.specs.declared.reply.Method.{Method}
@@ -70,13 +71,13 @@ module _ {H K : Type 0} (site : Site) (handles : H → Method → List ℕ → R
       LacksMemory site handles tells old before stream text unread new after
       ⊎ (¬ (left ≡ None) × (n : ℕ) × Responses site handles tells old before stream text n new after)
 
-module _ {F K : Type 0} (device : F → Device) (tells : K → Said → K → Type 0) (site : Site) where
+module _ {F K R : Type 0} {g : Ghosts R Stored} (device : F → Device) (tells : K → Said → K → Type 0) (site : Site) where
   -- A connection is opened, its requests are served so, and it is closed, or left. old, opened, served, new: the host before and after each. However
   -- serving ends, nothing happens to the host between but events of this connection.
-  pub record Connects (old new : Host F) (left : Option ℕ) (serves : ℕ → Host F → Host F → Type 0) : Type 0 where
+  pub record Connects (old new : Host F R g) (left : Option ℕ) (serves : ℕ → Host F R g → Host F R g → Type 0) : Type 0 where
     pub number : ℕ
-    pub opened : Host F
-    pub served : Host F
+    pub opened : Host F R g
+    pub served : Host F R g
     pub opens : Refines device old opened (λ b c s t. IsOpened b c number s t)
     pub done : serves number opened served
     pub alive : IsAlive device served
@@ -84,26 +85,26 @@ module _ {F K : Type 0} (device : F → Device) (tells : K → Said → K → Ty
     pub closes : Refines device served new (λ b c s t. IsClosed b c number left s t)
 
   -- Whatever the reader gives, a connection is opened and closed, or left; or none is opened.
-  abbrev pub Visits : Host F → Result Served FrontFault → Host F → Type 0
+  abbrev pub Visits : Host F R g → Result Served FrontFault → Host F R g → Type 0
   Visits old (Ok s) new = Connects old new None (λ number a z. Unit {0})
   Visits old (Err e) new =
       ((why : Refusal) × Refines device old new (λ b c s t. Answers b c 0 event.Open s (Refused why) t)) ⊎ Connects old new e.left (λ number a z. Unit {0})
 
   -- All of the stream is served, and the responses are written.
-  pub record ServesAll (old : Host F) (before : K) (stream : List ℕ) (count : ℕ) (was is : Option (List ℕ)) (new : Host F) (after : K) : Type 0 where
+  pub record ServesAll (old : Host F R g) (before : K) (stream : List ℕ) (count : ℕ) (was is : Option (List ℕ)) (new : Host F R g) (after : K) : Type 0 where
     pub text : List ℕ
     pub connects : Connects old new None (λ number a z. Responses site (λ o. Handles device o number) tells a before stream text count z after)
     pub written : Appends was is text
 
   -- The front of the responses is written, as far as the kind of the fault tells.
-  pub record ServesFront (old : Host F) (before : K) (stream : List ℕ) (e : FrontFault) (unread was is : Option (List ℕ)) (new : Host F) (after : K) : Type 0 where
+  pub record ServesFront (old : Host F R g) (before : K) (stream : List ℕ) (e : FrontFault) (unread was is : Option (List ℕ)) (new : Host F R g) (after : K) : Type 0 where
     pub text : List ℕ
     pub connects : Connects old new e.left (λ number a z. FallsBy site (λ o. Handles device o number) tells
         (λ o method file. LacksFor device o number) e.kind e.left a before stream text unread z after)
     pub written : Appends was is text
 
   -- No connection is opened, and nothing is read or written. The clock is not asked.
-  pub record IsUnopened (old : Host F) (before : K) (stream : List ℕ) (e : FrontFault) (unread was is : Option (List ℕ)) (new : Host F) (after : K) : Type 0 where
+  pub record IsUnopened (old : Host F R g) (before : K) (stream : List ℕ) (e : FrontFault) (unread was is : Option (List ℕ)) (new : Host F R g) (after : K) : Type 0 where
     pub why : Refusal
     pub kind : e.kind ≡ kind_of why
     pub left : e.left ≡ None
@@ -113,6 +114,6 @@ module _ {F K : Type 0} (device : F → Device) (tells : K → Said → K → Ty
     pub still : after ≡ before
 
   -- unread: what the reader has left
-  abbrev pub ServingFails : Host F → K → List ℕ → FrontFault → Option (List ℕ) → Option (List ℕ) → Option (List ℕ) → Host F → K → Type 0
+  abbrev pub ServingFails : Host F R g → K → List ℕ → FrontFault → Option (List ℕ) → Option (List ℕ) → Option (List ℕ) → Host F R g → K → Type 0
   ServingFails old before stream e unread was is new after =
       IsUnopened old before stream e unread was is new after ⊎ ServesFront old before stream e unread was is new after

@@ -8,7 +8,7 @@ use crate::fault::{FrontFault, FrontKind, Served};
 use crate::running::run_call;
 use crate::serving::serve_open;
 use byte_streams::{CountedSource, Sink, Source};
-use filter_chain::{Files, Host, Refusal};
+use filter_chain::{Files, Host, Refusal, Rings, Stored};
 use http_message::{Clock, Site};
 use std::alloc::Global;
 
@@ -23,7 +23,10 @@ fn kind_of(refusal: Refusal) -> FrontKind
 }
 
 /// Closes the connection, which is there. Without memory it is left.
-fn close<F: Files + Drop>(host: &mut Host<F>, number: u64) -> Option<u64>
+fn close<F: Files + Drop, R: Rings<Stored> + Drop>(
+    host: &mut Host<F, R>,
+    number: u64,
+) -> Option<u64>
     requires { HasConn F.device host.old number }
     ensures { Refines F.device host.old host.new (λ (b : ℕ) (c : List Program) (s t : HostView). IsClosed b c number result s t) }
 {
@@ -36,11 +39,13 @@ fn close<F: Files + Drop>(host: &mut Host<F>, number: u64) -> Option<u64>
 /// Opens a connection on the host for one that is served by turns, and runs its `open` handlers, however they end. Answers its number.
 ///
 /// `NamesSpent`, `NoMemory`: none is opened. To every other connection nothing happens.
-pub fn open_turns<F: Files + Drop>(host: &mut Host<F>) -> Result<u64, FrontKind>
+pub fn open_turns<F: Files + Drop, R: Rings<Stored> + Drop>(
+    host: &mut Host<F, R>,
+) -> Result<u64, FrontKind>
     requires { IsAlive F.device host.old }
     ensures still { IsAlive F.device host.new }
     ensures ok { IfOk result (λ number. Refines F.device host.old host.new (λ (b : ℕ) (c : List Program) (s t : HostView). IsOpened b c number s t)) }
-    ensures others { (k : ℕ) → k ≢ 0 → IfOk result (λ number. k ≢ number) → (from : Host F) → NoEventsOf F.device from k host.old → NoEventsOf F.device from k host.new }
+    ensures others { (k : ℕ) → k ≢ 0 → IfOk result (λ number. k ≢ number) → (from : Host F R R.Rings) → NoEventsOf F.device from k host.old → NoEventsOf F.device from k host.new }
 {
     match host.open_conn() {
         Ok(number) => {
@@ -59,11 +64,14 @@ fn lacks_memory(refusal: Refusal) -> bool
 
 /// Closes a connection of the host that was served by turns: its labels run, and it is there no more. Answers `true` then, and where there was none
 /// of this number. `false`: there was no memory for it now, and it is as it was. To every other connection nothing happens.
-pub fn close_turns<F: Files + Drop>(host: &mut Host<F>, number: u64) -> bool
+pub fn close_turns<F: Files + Drop, R: Rings<Stored> + Drop>(
+    host: &mut Host<F, R>,
+    number: u64,
+) -> bool
     requires { IsAlive F.device host.old }
     ensures still { IsAlive F.device host.new }
     ensures closed { Refines F.device host.old host.new (λ (b : ℕ) (c : List Program) (s t : HostView). ClosesTurns b c number result s t) }
-    ensures others { (k : ℕ) → k ≢ number → (from : Host F) → NoEventsOf F.device from k host.old → NoEventsOf F.device from k host.new }
+    ensures others { (k : ℕ) → k ≢ number → (from : Host F R R.Rings) → NoEventsOf F.device from k host.old → NoEventsOf F.device from k host.new }
 {
     let answer = host.close(number);
     match answer {
@@ -96,22 +104,22 @@ fn outcome_of(served: Result<Served, FrontKind>, left: Option<u64>) -> Result<Se
 ///
 /// Whatever source and sink are, nothing happens to the host but the opening of one connection, events of it, and its close. What is written is promised
 /// where it is known what the source had left and what the sink holds, as of a slice and a `Vec`.
-pub fn serve<R: Source, W: Sink, F: Files + Drop, K: Clock>(
+pub fn serve<S: Source, W: Sink, F: Files + Drop, R: Rings<Stored> + Drop, K: Clock>(
     alloc: Global,
-    reader: &mut CountedSource<R>,
+    reader: &mut CountedSource<S>,
     sink: &mut W,
     site: &Site,
-    host: &mut Host<F>,
+    host: &mut Host<F, R>,
     clock: &mut K,
 ) -> Result<Served, FrontFault>
     requires alive { IsAlive F.device host.old }
     ensures still { IsAlive F.device host.new }
     ensures visits { Visits F.device K.tells site.now host.old result host.new }
-    ensures ok { IfOk result (λ s. IfSome (R.remaining (source_of reader.old))
+    ensures ok { IfOk result (λ s. IfSome (S.remaining (source_of reader.old))
         (λ stream. ServesAll F.device K.tells site.now host.old clock.old stream s.requests (W.contents sink.old) (W.contents sink.new) host.new clock.new)) }
-    ensures err { IfErr result (λ e. IfSome (R.remaining (source_of reader.old))
-        (λ stream. ServingFails F.device K.tells site.now host.old clock.old stream e (R.remaining (source_of reader.new)) (W.contents sink.old) (W.contents sink.new) host.new clock.new)) }
-    ensures source { BlamesSource (kind_result result) (R.failed (source_of reader.old)) (R.failed (source_of reader.new)) (reads_left reader.new) }
+    ensures err { IfErr result (λ e. IfSome (S.remaining (source_of reader.old))
+        (λ stream. ServingFails F.device K.tells site.now host.old clock.old stream e (S.remaining (source_of reader.new)) (W.contents sink.old) (W.contents sink.new) host.new clock.new)) }
+    ensures source { BlamesSource (kind_result result) (S.failed (source_of reader.old)) (S.failed (source_of reader.new)) (reads_left reader.new) }
     ensures sink { BlamesSink (kind_result result) (W.failed sink.old) (W.failed sink.new) }
 {
     match host.open_conn() {

@@ -9,7 +9,7 @@ use crate::handler::{Handler, RequestOutcome, Slice};
 use crate::running::{CallEnd, end_request};
 use crate::slicing::{begin_request, go_on_request, handle_request};
 use crate::task::RequestTask;
-use filter_chain::{BlockBytes, Files, Host, Refusal};
+use filter_chain::{BlockBytes, Files, Host, Refusal, Rings, Stored};
 use http_message::{Failure, Method, StatusCode};
 use std::alloc::Global;
 
@@ -39,11 +39,15 @@ pub(crate) fn unopened(refusal: Refusal) -> Option<Failure>
 }
 
 /// Takes the output.
-fn output<F: Files + Drop>(alloc: Global, host: &mut Host<F>, number: u64) -> RequestOutcome
+fn output<F: Files + Drop, R: Rings<Stored> + Drop>(
+    alloc: Global,
+    host: &mut Host<F, R>,
+    number: u64,
+) -> RequestOutcome
     requires { IsAlive F.device host.old }
     ensures leads { Refines F.device host.old host.new (λ (b : ℕ) (c : List Program) (s t : HostView). TakesOutput b c number s result t) }
-    ensures beside { (from : Host F) → OnlyEventsOf F.device from number host.old → OnlyEventsOf F.device from number host.new }
-    ensures few { (from : Host F) (n : ℕ) → StepsAtMost F.device from number n host.old → StepsAtMost F.device from number n host.new }
+    ensures beside { (from : Host F R R.Rings) → OnlyEventsOf F.device from number host.old → OnlyEventsOf F.device from number host.new }
+    ensures few { (from : Host F R R.Rings) (n : ℕ) → StepsAtMost F.device from number n host.old → StepsAtMost F.device from number n host.new }
 {
     match host.take_output(number) {
         Ok(body) => RequestOutcome {
@@ -56,17 +60,17 @@ fn output<F: Files + Drop>(alloc: Global, host: &mut Host<F>, number: u64) -> Re
 }
 
 /// Takes the output, and ends the request.
-fn finish_with_output<F: Files + Drop>(
+fn finish_with_output<F: Files + Drop, R: Rings<Stored> + Drop>(
     alloc: Global,
-    host: &mut Host<F>,
+    host: &mut Host<F, R>,
     number: u64,
 ) -> Result<Slice<RequestTask>, FrontKind>
     requires { IsAlive F.device host.old }
     ensures leads { MakesSlice F.device number (λ (way : Way) (b : ℕ) (c : List Program). EndsWithOutputIn way b c number) host.old result host.new }
-    ensures beside { (from : Host F) → OnlyEventsOf F.device from number host.old → OnlyEventsOf F.device from number host.new }
+    ensures beside { (from : Host F R R.Rings) → OnlyEventsOf F.device from number host.old → OnlyEventsOf F.device from number host.new }
     ensures err { IfErr result IsLack }
-    ensures lacks { (from : Host F) → OnlyEventsOf F.device from number host.old → IfErr result (λ e. LacksFor F.device from number e host.new) }
-    ensures few { (from : Host F) (n : ℕ) → StepsAtMost F.device from number n host.old → StepsAtMost F.device from number n host.new }
+    ensures lacks { (from : Host F R R.Rings) → OnlyEventsOf F.device from number host.old → IfErr result (λ e. LacksFor F.device from number e host.new) }
+    ensures few { (from : Host F R R.Rings) (n : ℕ) → StepsAtMost F.device from number n host.old → StepsAtMost F.device from number n host.new }
     ensures calls { IfOk result (λ r. calls_after r ≡ 0) }
 {
     let outcome = output(alloc, host, number);
@@ -75,18 +79,18 @@ fn finish_with_output<F: Files + Drop>(
 }
 
 /// Ends the request without content.
-pub(crate) fn finish_bare<F: Files + Drop>(
+pub(crate) fn finish_bare<F: Files + Drop, R: Rings<Stored> + Drop>(
     alloc: Global,
-    host: &mut Host<F>,
+    host: &mut Host<F, R>,
     number: u64,
     failure: Option<Failure>,
 ) -> Result<Slice<RequestTask>, FrontKind>
     requires { IsAlive F.device host.old }
     ensures leads { MakesSlice F.device number (λ (way : Way) (b : ℕ) (c : List Program). EndsBareIn way b c number failure) host.old result host.new }
-    ensures beside { (from : Host F) → OnlyEventsOf F.device from number host.old → OnlyEventsOf F.device from number host.new }
+    ensures beside { (from : Host F R R.Rings) → OnlyEventsOf F.device from number host.old → OnlyEventsOf F.device from number host.new }
     ensures err { IfErr result IsLack }
-    ensures lacks { (from : Host F) → OnlyEventsOf F.device from number host.old → IfErr result (λ e. LacksFor F.device from number e host.new) }
-    ensures few { (from : Host F) (n : ℕ) → StepsAtMost F.device from number n host.old → StepsAtMost F.device from number n host.new }
+    ensures lacks { (from : Host F R R.Rings) → OnlyEventsOf F.device from number host.old → IfErr result (λ e. LacksFor F.device from number e host.new) }
+    ensures few { (from : Host F R R.Rings) (n : ℕ) → StepsAtMost F.device from number n host.old → StepsAtMost F.device from number n host.new }
     ensures calls { IfOk result (λ r. calls_after r ≡ 0) }
 {
     end_request(host, number)?;
@@ -94,18 +98,18 @@ pub(crate) fn finish_bare<F: Files + Drop>(
 }
 
 /// Finishes a request whose last call ended so.
-pub(crate) fn finish<F: Files + Drop>(
+pub(crate) fn finish<F: Files + Drop, R: Rings<Stored> + Drop>(
     alloc: Global,
-    host: &mut Host<F>,
+    host: &mut Host<F, R>,
     number: u64,
     how: CallEnd,
 ) -> Result<Slice<RequestTask>, FrontKind>
     requires { IsAlive F.device host.old }
     ensures leads { MakesSlice F.device number (λ (way : Way) (b : ℕ) (c : List Program). FinishesIn way b c number how) host.old result host.new }
-    ensures beside { (from : Host F) → OnlyEventsOf F.device from number host.old → OnlyEventsOf F.device from number host.new }
+    ensures beside { (from : Host F R R.Rings) → OnlyEventsOf F.device from number host.old → OnlyEventsOf F.device from number host.new }
     ensures err { IfErr result IsLack }
-    ensures lacks { (from : Host F) → OnlyEventsOf F.device from number host.old → IfErr result (λ e. LacksFor F.device from number e host.new) }
-    ensures few { (from : Host F) (n : ℕ) → StepsAtMost F.device from number n host.old → StepsAtMost F.device from number n host.new }
+    ensures lacks { (from : Host F R R.Rings) → OnlyEventsOf F.device from number host.old → IfErr result (λ e. LacksFor F.device from number e host.new) }
+    ensures few { (from : Host F R R.Rings) (n : ℕ) → StepsAtMost F.device from number n host.old → StepsAtMost F.device from number n host.new }
     ensures calls { IfOk result (λ r. calls_after r ≡ 0) }
 {
     match how {
@@ -115,7 +119,7 @@ pub(crate) fn finish<F: Files + Drop>(
     }
 }
 
-impl<F: Files + Drop> Handler for Host<F> {
+impl<F: Files + Drop, R: Rings<Stored> + Drop> Handler for Host<F, R> {
     ghost use Rattle.http_front.specs.Among.{HandlesAmong, RestsAmong};
     ghost use Rattle.http_front.specs.Driven.{LacksFor, NoEventsOf, OnlyEventsOf, IsAlive, Handles, StepsAtMost};
     ghost use Rattle.http_front.specs.Apart.{apart_beside, apart_same, none_made, own_same};

@@ -4,7 +4,7 @@ ghost use Rattle.std.specs.Prelude.{◌≡◌, ◌↔◌, ℕ, List, IfErr, IsTr
 ghost use Rattle.http_front.specs.Prelude.{Program, HostView, IsLack, LacksFor, OnlyEventsOf, IsAlive, Refines, StepsAtMost, EndsRequest, RunsCall, ended_of, lack_of};
 
 use crate::fault::FrontKind;
-use filter_chain::{Cause, Files, Host, Refusal, Stepped};
+use filter_chain::{Cause, Files, Host, Refusal, Rings, Stepped, Stored};
 use http_message::Failure;
 use module_code::Status;
 
@@ -52,22 +52,28 @@ pub(crate) fn how_ended(answer: Result<Stepped, Refusal>) -> CallEnd
 }
 
 /// Makes steps until one answers something else than that it went.
-pub(crate) fn run_call<F: Files + Drop>(host: &mut Host<F>, number: u64) -> CallEnd
+pub(crate) fn run_call<F: Files + Drop, R: Rings<Stored> + Drop>(
+    host: &mut Host<F, R>,
+    number: u64,
+) -> CallEnd
     requires { IsAlive F.device host.old }
     ensures leads { Refines F.device host.old host.new (λ (b : ℕ) (c : List Program) (s t : HostView). RunsCall b c number s result t) }
-    ensures beside { (from : Host F) → OnlyEventsOf F.device from number host.old → OnlyEventsOf F.device from number host.new }
+    ensures beside { (from : Host F R R.Rings) → OnlyEventsOf F.device from number host.old → OnlyEventsOf F.device from number host.new }
 {
     how_ended(host.run(number))
 }
 
 /// Ends the request.
-pub(crate) fn end_request<F: Files + Drop>(host: &mut Host<F>, number: u64) -> Result<(), FrontKind>
+pub(crate) fn end_request<F: Files + Drop, R: Rings<Stored> + Drop>(
+    host: &mut Host<F, R>,
+    number: u64,
+) -> Result<(), FrontKind>
     requires { IsAlive F.device host.old }
     ensures leads { Refines F.device host.old host.new (λ (b : ℕ) (c : List Program) (s t : HostView). OnOk result (EndsRequest b c number s t)) }
-    ensures beside { (from : Host F) → OnlyEventsOf F.device from number host.old → OnlyEventsOf F.device from number host.new }
+    ensures beside { (from : Host F R R.Rings) → OnlyEventsOf F.device from number host.old → OnlyEventsOf F.device from number host.new }
     ensures err { IfErr result IsLack }
-    ensures lacks { (from : Host F) → OnlyEventsOf F.device from number host.old → IfErr result (λ e. LacksFor F.device from number e host.new) }
-    ensures few { (from : Host F) (n : ℕ) → StepsAtMost F.device from number n host.old → StepsAtMost F.device from number n host.new }
+    ensures lacks { (from : Host F R R.Rings) → OnlyEventsOf F.device from number host.old → IfErr result (λ e. LacksFor F.device from number e host.new) }
+    ensures few { (from : Host F R R.Rings) (n : ℕ) → StepsAtMost F.device from number n host.old → StepsAtMost F.device from number n host.new }
 {
     match host.end_request(number) {
         Ok(()) => Ok(()),

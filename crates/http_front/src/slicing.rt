@@ -10,7 +10,7 @@ use crate::handler::{RequestOutcome, Slice};
 use crate::requests::{bare, finish, finish_bare, unopened};
 use crate::running::{CallEnd, how_ended, run_call, succeeded, unless_lack};
 use crate::task::{FileRest, RequestTask};
-use filter_chain::{Files, Host, Refusal, Stepped};
+use filter_chain::{Files, Host, Refusal, Rings, Stepped, Stored};
 use http_message::{Failure, Method};
 use std::alloc::{AllocError, Global};
 
@@ -24,11 +24,14 @@ fn went(answer: &Result<Stepped, Refusal>) -> bool
 }
 
 /// Makes a slice of the steps of a call. Answers how it ended, if it did.
-fn step_slice<F: Files + Drop>(host: &mut Host<F>, number: u64) -> Option<CallEnd>
+fn step_slice<F: Files + Drop, R: Rings<Stored> + Drop>(
+    host: &mut Host<F, R>,
+    number: u64,
+) -> Option<CallEnd>
     requires { IsAlive F.device host.old }
     ensures leads { (way : Way) → Refines F.device host.old host.new (λ (b : ℕ) (c : List Program) (s t : HostView). RunsSlice way b c number result s t) }
-    ensures beside { (from : Host F) → OnlyEventsOf F.device from number host.old → OnlyEventsOf F.device from number host.new }
-    ensures few { (from : Host F) (n : ℕ) → StepsAtMost F.device from number n host.old → StepsAtMost F.device from number (n + slice_steps) host.new }
+    ensures beside { (from : Host F R R.Rings) → OnlyEventsOf F.device from number host.old → OnlyEventsOf F.device from number host.new }
+    ensures few { (from : Host F R R.Rings) (n : ℕ) → StepsAtMost F.device from number n host.old → StepsAtMost F.device from number (n + slice_steps) host.new }
 {
     let answer = host.step_up_to(number, SLICE_STEPS);
     if went(&answer) {
@@ -38,18 +41,18 @@ fn step_slice<F: Files + Drop>(host: &mut Host<F>, number: u64) -> Option<CallEn
 }
 
 /// Brings the next brigade, whose call is then under way. Where it is refused, the request finishes.
-fn bring_next<F: Files + Drop>(
+fn bring_next<F: Files + Drop, R: Rings<Stored> + Drop>(
     alloc: Global,
-    host: &mut Host<F>,
+    host: &mut Host<F, R>,
     number: u64,
     rest: FileRest,
 ) -> Result<Slice<RequestTask>, FrontKind>
     requires { IsAlive F.device host.old }
     ensures leads { MakesSlice F.device number (λ (way : Way) (b : ℕ) (c : List Program). CarriesIn way b c number CallEnd.Succeeded (brigades_left (Some rest))) host.old result host.new }
-    ensures beside { (from : Host F) → OnlyEventsOf F.device from number host.old → OnlyEventsOf F.device from number host.new }
+    ensures beside { (from : Host F R R.Rings) → OnlyEventsOf F.device from number host.old → OnlyEventsOf F.device from number host.new }
     ensures err { IfErr result IsLack }
-    ensures lacks { (from : Host F) → OnlyEventsOf F.device from number host.old → IfErr result (λ e. LacksFor F.device from number e host.new) }
-    ensures few { (from : Host F) (n : ℕ) → StepsAtMost F.device from number n host.old → StepsAtMost F.device from number n host.new }
+    ensures lacks { (from : Host F R R.Rings) → OnlyEventsOf F.device from number host.old → IfErr result (λ e. LacksFor F.device from number e host.new) }
+    ensures few { (from : Host F R R.Rings) (n : ℕ) → StepsAtMost F.device from number n host.old → StepsAtMost F.device from number n host.new }
     ensures calls { IfOk result (λ r. calls_after r ≤ length (brigades_left (Some rest))) }
 {
     let (pieces, left) = next_brigade(alloc, rest)?;
@@ -64,19 +67,19 @@ fn bring_next<F: Files + Drop>(
 }
 
 /// Goes on after a call that ended so.
-fn carry_on<F: Files + Drop>(
+fn carry_on<F: Files + Drop, R: Rings<Stored> + Drop>(
     alloc: Global,
-    host: &mut Host<F>,
+    host: &mut Host<F, R>,
     number: u64,
     how: CallEnd,
     rest: Option<FileRest>,
 ) -> Result<Slice<RequestTask>, FrontKind>
     requires { IsAlive F.device host.old }
     ensures leads { MakesSlice F.device number (λ (way : Way) (b : ℕ) (c : List Program). CarriesIn way b c number how (brigades_left rest)) host.old result host.new }
-    ensures beside { (from : Host F) → OnlyEventsOf F.device from number host.old → OnlyEventsOf F.device from number host.new }
+    ensures beside { (from : Host F R R.Rings) → OnlyEventsOf F.device from number host.old → OnlyEventsOf F.device from number host.new }
     ensures err { IfErr result IsLack }
-    ensures lacks { (from : Host F) → OnlyEventsOf F.device from number host.old → IfErr result (λ e. LacksFor F.device from number e host.new) }
-    ensures few { (from : Host F) (n : ℕ) → StepsAtMost F.device from number n host.old → StepsAtMost F.device from number n host.new }
+    ensures lacks { (from : Host F R R.Rings) → OnlyEventsOf F.device from number host.old → IfErr result (λ e. LacksFor F.device from number e host.new) }
+    ensures few { (from : Host F R R.Rings) (n : ℕ) → StepsAtMost F.device from number n host.old → StepsAtMost F.device from number n host.new }
     ensures calls { IfOk result (λ r. calls_after r ≤ length (brigades_left rest)) }
 {
     if !succeeded(how) {
@@ -89,9 +92,9 @@ fn carry_on<F: Files + Drop>(
 }
 
 /// Opens the file, and goes on with it.
-fn open_slice<F: Files + Drop>(
+fn open_slice<F: Files + Drop, R: Rings<Stored> + Drop>(
     alloc: Global,
-    host: &mut Host<F>,
+    host: &mut Host<F, R>,
     number: u64,
     init: CallEnd,
     method: Method,
@@ -99,10 +102,10 @@ fn open_slice<F: Files + Drop>(
 ) -> Result<Slice<RequestTask>, FrontKind>
     requires { IsAlive F.device host.old }
     ensures leads { MakesSlice F.device number (λ (way : Way) (b : ℕ) (c : List Program). OpensIn way b c number init method name.now) host.old result host.new }
-    ensures beside { (from : Host F) → OnlyEventsOf F.device from number host.old → OnlyEventsOf F.device from number host.new }
+    ensures beside { (from : Host F R R.Rings) → OnlyEventsOf F.device from number host.old → OnlyEventsOf F.device from number host.new }
     ensures err { IfErr result IsLack }
-    ensures lacks { (from : Host F) → OnlyEventsOf F.device from number host.old → IfErr result (λ e. LacksFor F.device from number e host.new) }
-    ensures few { (from : Host F) (n : ℕ) → StepsAtMost F.device from number n host.old → StepsAtMost F.device from number n host.new }
+    ensures lacks { (from : Host F R R.Rings) → OnlyEventsOf F.device from number host.old → IfErr result (λ e. LacksFor F.device from number e host.new) }
+    ensures few { (from : Host F R R.Rings) (n : ℕ) → StepsAtMost F.device from number n host.old → StepsAtMost F.device from number n host.new }
     ensures calls { IfOk result (λ r. calls_after r ≤ 2 ^ 48) }
 {
     match host.open_file(number, name) {
@@ -115,9 +118,9 @@ fn open_slice<F: Files + Drop>(
 }
 
 /// Goes on with a request whose `init` ended so.
-fn open_unless<F: Files + Drop>(
+fn open_unless<F: Files + Drop, R: Rings<Stored> + Drop>(
     alloc: Global,
-    host: &mut Host<F>,
+    host: &mut Host<F, R>,
     number: u64,
     init: CallEnd,
     method: Method,
@@ -125,10 +128,10 @@ fn open_unless<F: Files + Drop>(
 ) -> Result<Slice<RequestTask>, FrontKind>
     requires { IsAlive F.device host.old }
     ensures leads { MakesSlice F.device number (λ (way : Way) (b : ℕ) (c : List Program). OpensUnlessIn way b c number init method name.now) host.old result host.new }
-    ensures beside { (from : Host F) → OnlyEventsOf F.device from number host.old → OnlyEventsOf F.device from number host.new }
+    ensures beside { (from : Host F R R.Rings) → OnlyEventsOf F.device from number host.old → OnlyEventsOf F.device from number host.new }
     ensures err { IfErr result IsLack }
-    ensures lacks { (from : Host F) → OnlyEventsOf F.device from number host.old → IfErr result (λ e. LacksFor F.device from number e host.new) }
-    ensures few { (from : Host F) (n : ℕ) → StepsAtMost F.device from number n host.old → StepsAtMost F.device from number n host.new }
+    ensures lacks { (from : Host F R R.Rings) → OnlyEventsOf F.device from number host.old → IfErr result (λ e. LacksFor F.device from number e host.new) }
+    ensures few { (from : Host F R R.Rings) (n : ℕ) → StepsAtMost F.device from number n host.old → StepsAtMost F.device from number n host.new }
     ensures calls { IfOk result (λ r. calls_after r ≤ 2 ^ 48) }
 {
     match init {
@@ -148,19 +151,19 @@ fn opens_later(alloc: Global, method: Method, name: &[u8]) -> Result<RequestTask
 }
 
 /// Makes a slice of `init`, and goes on where that ended.
-fn init_slice<F: Files + Drop>(
+fn init_slice<F: Files + Drop, R: Rings<Stored> + Drop>(
     alloc: Global,
-    host: &mut Host<F>,
+    host: &mut Host<F, R>,
     number: u64,
     method: Method,
     name: &[u8],
 ) -> Result<Slice<RequestTask>, FrontKind>
     requires { IsAlive F.device host.old }
     ensures leads { MakesSlice F.device number (λ (way : Way) (b : ℕ) (c : List Program). InitsIn way b c number method name.now) host.old result host.new }
-    ensures beside { (from : Host F) → OnlyEventsOf F.device from number host.old → OnlyEventsOf F.device from number host.new }
+    ensures beside { (from : Host F R R.Rings) → OnlyEventsOf F.device from number host.old → OnlyEventsOf F.device from number host.new }
     ensures err { IfErr result IsLack }
-    ensures lacks { (from : Host F) → OnlyEventsOf F.device from number host.old → IfErr result (λ e. LacksFor F.device from number e host.new) }
-    ensures few { (from : Host F) (n : ℕ) → StepsAtMost F.device from number n host.old → StepsAtMost F.device from number (n + slice_steps) host.new }
+    ensures lacks { (from : Host F R R.Rings) → OnlyEventsOf F.device from number host.old → IfErr result (λ e. LacksFor F.device from number e host.new) }
+    ensures few { (from : Host F R R.Rings) (n : ℕ) → StepsAtMost F.device from number n host.old → StepsAtMost F.device from number (n + slice_steps) host.new }
 {
     match step_slice(host, number) {
         Some(init) => open_unless(alloc, host, number, init, method, name),
@@ -169,19 +172,19 @@ fn init_slice<F: Files + Drop>(
 }
 
 /// Begins a request, and makes a slice of its `init`.
-fn begin_init<F: Files + Drop>(
+fn begin_init<F: Files + Drop, R: Rings<Stored> + Drop>(
     alloc: Global,
-    host: &mut Host<F>,
+    host: &mut Host<F, R>,
     number: u64,
     method: Method,
     name: &[u8],
 ) -> Result<Slice<RequestTask>, FrontKind>
     requires { IsAlive F.device host.old }
     ensures leads { MakesSlice F.device number (λ (way : Way) (b : ℕ) (c : List Program). ComesIn way b c number method name.now) host.old result host.new }
-    ensures beside { (from : Host F) → OnlyEventsOf F.device from number host.old → OnlyEventsOf F.device from number host.new }
+    ensures beside { (from : Host F R R.Rings) → OnlyEventsOf F.device from number host.old → OnlyEventsOf F.device from number host.new }
     ensures err { IfErr result IsLack }
-    ensures lacks { (from : Host F) → OnlyEventsOf F.device from number host.old → IfErr result (λ e. LacksFor F.device from number e host.new) }
-    ensures few { (from : Host F) (n : ℕ) → StepsAtMost F.device from number n host.old → StepsAtMost F.device from number (n + slice_steps) host.new }
+    ensures lacks { (from : Host F R R.Rings) → OnlyEventsOf F.device from number host.old → IfErr result (λ e. LacksFor F.device from number e host.new) }
+    ensures few { (from : Host F R R.Rings) (n : ℕ) → StepsAtMost F.device from number n host.old → StepsAtMost F.device from number (n + slice_steps) host.new }
 {
     match host.begin(number) {
         Ok(()) => init_slice(alloc, host, number, method, name),
@@ -193,19 +196,19 @@ fn begin_init<F: Files + Drop>(
 }
 
 /// Goes on after the call that was under way, which ended so.
-fn end_call<F: Files + Drop>(
+fn end_call<F: Files + Drop, R: Rings<Stored> + Drop>(
     alloc: Global,
-    host: &mut Host<F>,
+    host: &mut Host<F, R>,
     number: u64,
     task: RequestTask,
     how: CallEnd,
 ) -> Result<Slice<RequestTask>, FrontKind>
     requires { IsAlive F.device host.old }
     ensures leads { MakesSlice F.device number (λ (way : Way) (b : ℕ) (c : List Program). RestsBehind way b c number task how) host.old result host.new }
-    ensures beside { (from : Host F) → OnlyEventsOf F.device from number host.old → OnlyEventsOf F.device from number host.new }
+    ensures beside { (from : Host F R R.Rings) → OnlyEventsOf F.device from number host.old → OnlyEventsOf F.device from number host.new }
     ensures err { IfErr result IsLack }
-    ensures lacks { (from : Host F) → OnlyEventsOf F.device from number host.old → IfErr result (λ e. LacksFor F.device from number e host.new) }
-    ensures few { (from : Host F) (n : ℕ) → StepsAtMost F.device from number n host.old → StepsAtMost F.device from number n host.new }
+    ensures lacks { (from : Host F R R.Rings) → OnlyEventsOf F.device from number host.old → IfErr result (λ e. LacksFor F.device from number e host.new) }
+    ensures few { (from : Host F R R.Rings) (n : ℕ) → StepsAtMost F.device from number n host.old → StepsAtMost F.device from number n host.new }
     ensures calls { IfOk result (λ r. calls_after r < calls_left task) }
 {
     match task {
@@ -217,18 +220,18 @@ fn end_call<F: Files + Drop>(
 }
 
 /// Makes a slice of the call that is under way, and goes on where that ended: to the beginning of the next call, or to the outcome.
-pub(crate) fn go_on_request<F: Files + Drop>(
+pub(crate) fn go_on_request<F: Files + Drop, R: Rings<Stored> + Drop>(
     alloc: Global,
-    host: &mut Host<F>,
+    host: &mut Host<F, R>,
     number: u64,
     task: RequestTask,
 ) -> Result<Slice<RequestTask>, FrontKind>
     requires { IsAlive F.device host.old }
     ensures leads { MakesSlice F.device number (λ (way : Way) (b : ℕ) (c : List Program). Rests way b c number task) host.old result host.new }
-    ensures beside { (from : Host F) → OnlyEventsOf F.device from number host.old → OnlyEventsOf F.device from number host.new }
+    ensures beside { (from : Host F R R.Rings) → OnlyEventsOf F.device from number host.old → OnlyEventsOf F.device from number host.new }
     ensures err { IfErr result IsLack }
-    ensures lacks { (from : Host F) → OnlyEventsOf F.device from number host.old → IfErr result (λ e. LacksFor F.device from number e host.new) }
-    ensures few { (from : Host F) (n : ℕ) → StepsAtMost F.device from number n host.old → StepsAtMost F.device from number (n + slice_steps) host.new }
+    ensures lacks { (from : Host F R R.Rings) → OnlyEventsOf F.device from number host.old → IfErr result (λ e. LacksFor F.device from number e host.new) }
+    ensures few { (from : Host F R R.Rings) (n : ℕ) → StepsAtMost F.device from number n host.old → StepsAtMost F.device from number (n + slice_steps) host.new }
 {
     match step_slice(host, number) {
         None => Ok(Slice::Works(task)),
@@ -237,19 +240,19 @@ pub(crate) fn go_on_request<F: Files + Drop>(
 }
 
 /// Begins a request for a file, with a slice of its `init` and one of the call of its first brigade.
-pub(crate) fn begin_request<F: Files + Drop>(
+pub(crate) fn begin_request<F: Files + Drop, R: Rings<Stored> + Drop>(
     alloc: Global,
-    host: &mut Host<F>,
+    host: &mut Host<F, R>,
     number: u64,
     method: Method,
     name: &[u8],
 ) -> Result<Slice<RequestTask>, FrontKind>
     requires { IsAlive F.device host.old }
     ensures leads { MakesSlice F.device number (λ (way : Way) (b : ℕ) (c : List Program). ComesIn way b c number method name.now) host.old result host.new }
-    ensures beside { (from : Host F) → OnlyEventsOf F.device from number host.old → OnlyEventsOf F.device from number host.new }
+    ensures beside { (from : Host F R R.Rings) → OnlyEventsOf F.device from number host.old → OnlyEventsOf F.device from number host.new }
     ensures err { IfErr result IsLack }
-    ensures lacks { (from : Host F) → OnlyEventsOf F.device from number host.old → IfErr result (λ e. LacksFor F.device from number e host.new) }
-    ensures few { (from : Host F) (n : ℕ) → StepsAtMost F.device from number n host.old → StepsAtMost F.device from number (n + slice_steps + slice_steps) host.new }
+    ensures lacks { (from : Host F R R.Rings) → OnlyEventsOf F.device from number host.old → IfErr result (λ e. LacksFor F.device from number e host.new) }
+    ensures few { (from : Host F R R.Rings) (n : ℕ) → StepsAtMost F.device from number n host.old → StepsAtMost F.device from number (n + slice_steps + slice_steps) host.new }
 {
     let slice = begin_init(alloc, host, number, method, name)?;
     match slice {
@@ -259,18 +262,18 @@ pub(crate) fn begin_request<F: Files + Drop>(
 }
 
 /// Handles a request for a file: from its beginning on, each call that is under way is run to its end.
-pub(crate) fn handle_request<F: Files + Drop>(
+pub(crate) fn handle_request<F: Files + Drop, R: Rings<Stored> + Drop>(
     alloc: Global,
-    host: &mut Host<F>,
+    host: &mut Host<F, R>,
     number: u64,
     method: Method,
     name: &[u8],
 ) -> Result<RequestOutcome, FrontKind>
     requires { IsAlive F.device host.old }
     ensures leads { Refines F.device host.old host.new (λ (b : ℕ) (c : List Program) (s t : HostView). IfOk result (λ o. ComesOf b c number method name.now s o t)) }
-    ensures beside { (from : Host F) → OnlyEventsOf F.device from number host.old → OnlyEventsOf F.device from number host.new }
+    ensures beside { (from : Host F R R.Rings) → OnlyEventsOf F.device from number host.old → OnlyEventsOf F.device from number host.new }
     ensures err { IfErr result IsLack }
-    ensures lacks { (from : Host F) → OnlyEventsOf F.device from number host.old → IfErr result (λ e. LacksFor F.device from number e host.new) }
+    ensures lacks { (from : Host F R R.Rings) → OnlyEventsOf F.device from number host.old → IfErr result (λ e. LacksFor F.device from number e host.new) }
 {
     let mut slice = begin_init(alloc, host, number, method, name)?;
     loop {

@@ -8,7 +8,7 @@ use crate::request_log::{RequestLog, told_by};
 use crate::socket::Socket;
 use crate::system_clock::SystemClock;
 use byte_streams::{SocketSink, StdSource};
-use filter_chain::{Files, Host};
+use filter_chain::{Files, Host, Rings, Stored};
 use http_front::{FrontFault, FrontKind, HttpConn, Next, RequestTask, Served, Site, Turned};
 use mio::net::TcpStream;
 use std::io::{ErrorKind, Read};
@@ -203,10 +203,10 @@ impl Client {
     }
 
     /// One move: a read, a slice of a step, or a write.
-    fn move_once<R: Clock + Eprint + AllocGlobal, F: Files + Drop>(
+    fn move_once<R: Clock + Eprint + AllocGlobal, F: Files + Drop, B: Rings<Stored> + Drop>(
         &mut self,
         shared: &mut Shared<'_, R>,
-        host: &mut Host<F>,
+        host: &mut Host<F, B>,
         now: Instant,
     ) -> Turn
         requires { IsAlive F.device host.old }
@@ -248,10 +248,10 @@ impl Client {
     }
 
     /// As many moves as one turn has. Behind a slice of a request that is then under way there is none.
-    pub fn turn<R: Clock + Eprint + AllocGlobal, F: Files + Drop>(
+    pub fn turn<R: Clock + Eprint + AllocGlobal, F: Files + Drop, B: Rings<Stored> + Drop>(
         &mut self,
         shared: &mut Shared<'_, R>,
-        host: &mut Host<F>,
+        host: &mut Host<F, B>,
         now: Instant,
     ) -> Turn
         requires { IsAlive F.device host.old }

@@ -5,7 +5,7 @@ ghost use Rattle.http_front.specs.Driven.{IsAlive};
 use crate::client::{Client, Shared, Turn, later};
 use crate::listening::ServeSettings;
 use crate::request_log::{tell_refused, tell_unready};
-use filter_chain::{Files, Host};
+use filter_chain::{Files, Host, Rings, Stored};
 use http_front::{Site, close_turns, open_turns};
 use mio::event::Event;
 use mio::net::{TcpListener, TcpStream};
@@ -63,7 +63,7 @@ impl Hall {
     }
 
     /// A client leaves. Where there is no memory to close its connection on the host, that is tried again at each sweep.
-    fn leave<F: Files + Drop>(&mut self, host: &mut Host<F>, key: usize)
+    fn leave<F: Files + Drop, B: Rings<Stored> + Drop>(&mut self, host: &mut Host<F, B>, key: usize)
         requires { IsAlive F.device host.old }
         ensures { IsAlive F.device host.new }
     {
@@ -78,10 +78,10 @@ impl Hall {
     }
 
     /// The turn of a client that was in the queue.
-    fn serve_turn<R: Clock + Eprint + AllocGlobal, F: Files + Drop>(
+    fn serve_turn<R: Clock + Eprint + AllocGlobal, F: Files + Drop, B: Rings<Stored> + Drop>(
         &mut self,
         shared: &mut Shared<'_, R>,
-        host: &mut Host<F>,
+        host: &mut Host<F, B>,
         key: usize,
         now: Instant,
     )
@@ -103,10 +103,10 @@ impl Hall {
     }
 
     /// The turns of those that are in the queue.
-    fn go_round<R: Clock + Eprint + AllocGlobal, F: Files + Drop>(
+    fn go_round<R: Clock + Eprint + AllocGlobal, F: Files + Drop, B: Rings<Stored> + Drop>(
         &mut self,
         shared: &mut Shared<'_, R>,
-        host: &mut Host<F>,
+        host: &mut Host<F, B>,
         now: Instant,
     )
         requires { IsAlive F.device host.old }
@@ -132,10 +132,10 @@ impl Hall {
     }
 
     /// Sends away those that are too late.
-    fn sweep<R: Clock + Eprint + AllocGlobal, F: Files + Drop>(
+    fn sweep<R: Clock + Eprint + AllocGlobal, F: Files + Drop, B: Rings<Stored> + Drop>(
         &mut self,
         shared: &Shared<'_, R>,
-        host: &mut Host<F>,
+        host: &mut Host<F, B>,
         now: Instant,
     )
         requires { IsAlive F.device host.old }
@@ -151,10 +151,10 @@ impl Hall {
     }
 
     /// Sends away those that are too late, where it was not done for a while. Answers when it was done last.
-    fn sweep_in_time<R: Clock + Eprint + AllocGlobal, F: Files + Drop>(
+    fn sweep_in_time<R: Clock + Eprint + AllocGlobal, F: Files + Drop, B: Rings<Stored> + Drop>(
         &mut self,
         shared: &Shared<'_, R>,
-        host: &mut Host<F>,
+        host: &mut Host<F, B>,
         swept: Instant,
         now: Instant,
     ) -> Instant
@@ -227,9 +227,9 @@ impl Door {
 }
 
 /// Sets up the stream of a client that comes in: the system reports of it by its key. Answers its number on the host.
-fn enter<F: Files + Drop>(
+fn enter<F: Files + Drop, B: Rings<Stored> + Drop>(
     stream: &mut TcpStream,
-    host: &mut Host<F>,
+    host: &mut Host<F, B>,
     poll: &Poll,
     key: usize,
 ) -> io::Result<u64>
@@ -249,10 +249,10 @@ fn enter<F: Files + Drop>(
 }
 
 /// A client comes in.
-fn welcome<R: Clock + Eprint + AllocGlobal, F: Files + Drop>(
+fn welcome<R: Clock + Eprint + AllocGlobal, F: Files + Drop, B: Rings<Stored> + Drop>(
     hall: &mut Hall,
     shared: &Shared<'_, R>,
-    host: &mut Host<F>,
+    host: &mut Host<F, B>,
     poll: &Poll,
     taken: (TcpStream, SocketAddr),
     number: u64,
@@ -273,11 +273,11 @@ fn welcome<R: Clock + Eprint + AllocGlobal, F: Files + Drop>(
 }
 
 /// Takes those that wait, as many as there are places.
-fn take<R: Clock + Eprint + AllocGlobal, F: Files + Drop>(
+fn take<R: Clock + Eprint + AllocGlobal, F: Files + Drop, B: Rings<Stored> + Drop>(
     door: &mut Door,
     hall: &mut Hall,
     shared: &Shared<'_, R>,
-    host: &mut Host<F>,
+    host: &mut Host<F, B>,
     poll: &Poll,
     now: Instant,
 )
@@ -335,10 +335,10 @@ fn wait(poll: &mut Poll, events: &mut Events, most: Option<Duration>) -> io::Res
 }
 
 /// Serves the clients of a hall by turns, and those that come in, until all are served.
-fn serve_hall<R: Clock + Eprint + AllocGlobal, F: Files + Drop>(
+fn serve_hall<R: Clock + Eprint + AllocGlobal, F: Files + Drop, B: Rings<Stored> + Drop>(
     hall: &mut Hall,
     shared: &mut Shared<'_, R>,
-    host: &mut Host<F>,
+    host: &mut Host<F, B>,
     poll: &mut Poll,
     events: &mut Events,
     door: &mut Door,
@@ -362,9 +362,9 @@ fn serve_hall<R: Clock + Eprint + AllocGlobal, F: Files + Drop>(
 }
 
 /// Serves connections by turns, up to so many at once.
-fn run<R: Clock + Eprint + AllocGlobal, F: Files + Drop>(
+fn run<R: Clock + Eprint + AllocGlobal, F: Files + Drop, B: Rings<Stored> + Drop>(
     shared: &mut Shared<'_, R>,
-    host: &mut Host<F>,
+    host: &mut Host<F, B>,
     poll: &mut Poll,
     events: &mut Events,
     door: &mut Door,
@@ -396,10 +396,10 @@ fn door_of(listener: TcpListener, manner: ServeSettings) -> Door {
 }
 
 /// Serves those who come to a door.
-fn serve_door<R: Clock + Eprint + AllocGlobal, F: Files + Drop>(
+fn serve_door<R: Clock + Eprint + AllocGlobal, F: Files + Drop, B: Rings<Stored> + Drop>(
     rt: &R,
     site: &Site,
-    host: &mut Host<F>,
+    host: &mut Host<F, B>,
     manner: ServeSettings,
     poll: &mut Poll,
     events: &mut Events,
@@ -420,11 +420,11 @@ fn serve_door<R: Clock + Eprint + AllocGlobal, F: Files + Drop>(
 }
 
 /// Serves connections by turns, up to so many at once. One that cannot be taken is none. It fails only where the system reports no events.
-pub fn serve_turns<R: Clock + Eprint + AllocGlobal + Net, F: Files + Drop>(
+pub fn serve_turns<R: Clock + Eprint + AllocGlobal + Net, F: Files + Drop, B: Rings<Stored> + Drop>(
     rt: &R,
     listener: TcpListener,
     site: &Site,
-    host: &mut Host<F>,
+    host: &mut Host<F, B>,
     manner: ServeSettings,
 ) -> io::Result<()>
     requires { IsAlive F.device host.old }

@@ -7,7 +7,7 @@ use crate::request_log::{RequestLog, tell_refused, tell_unready, told_by};
 use crate::system_clock::SystemClock;
 use crate::unclosed::UnclosedConns;
 use byte_streams::{CountedSource, READS, SocketSink, StdSource};
-use filter_chain::{Files, Host};
+use filter_chain::{Files, Host, Rings, Stored};
 use http_front::{FrontFault, Served, Site, serve};
 use std::io::{self, Read};
 use std::net::{Shutdown, SocketAddr, TcpListener, TcpStream};
@@ -60,11 +60,11 @@ fn set_up(stream: &TcpStream, patience: Duration) -> io::Result<()> {
 }
 
 /// Serves a connection to its end. A fault ends it alone.
-pub fn serve_stream<R: Clock + Eprint + AllocGlobal, F: Files + Drop>(
+pub fn serve_stream<R: Clock + Eprint + AllocGlobal, F: Files + Drop, B: Rings<Stored> + Drop>(
     rt: &R,
     stream: &TcpStream,
     site: &Site,
-    host: &mut Host<F>,
+    host: &mut Host<F, B>,
     deadline: &Deadline,
     log: Option<&RequestLog<'_, R>>,
 ) -> Result<Served, FrontFault>
@@ -87,11 +87,11 @@ pub fn serve_stream<R: Clock + Eprint + AllocGlobal, F: Files + Drop>(
 const PAUSE_MILLIS: u64 = 100;
 
 /// Serves a connection that was taken, and gives its number on the host where that could not be closed.
-fn serve_taken<R: Clock + Eprint + AllocGlobal, F: Files + Drop>(
+fn serve_taken<R: Clock + Eprint + AllocGlobal, F: Files + Drop, B: Rings<Stored> + Drop>(
     rt: &R,
     stream: &TcpStream,
     site: &Site,
-    host: &mut Host<F>,
+    host: &mut Host<F, B>,
     manner: ServeSettings,
     peer: SocketAddr,
     number: u64,
@@ -125,11 +125,11 @@ fn serve_taken<R: Clock + Eprint + AllocGlobal, F: Files + Drop>(
 }
 
 /// Serves connections one after another. One that cannot be taken is none.
-pub fn serve_all<R: Clock + Eprint + AllocGlobal, F: Files + Drop>(
+pub fn serve_all<R: Clock + Eprint + AllocGlobal, F: Files + Drop, B: Rings<Stored> + Drop>(
     rt: &R,
     listener: &TcpListener,
     site: &Site,
-    host: &mut Host<F>,
+    host: &mut Host<F, B>,
     manner: ServeSettings,
 )
     requires { IsAlive F.device host.old }

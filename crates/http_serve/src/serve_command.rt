@@ -10,7 +10,7 @@ use crate::listening::{ServeSettings, serve_all};
 use bucket_kinds::DiskFiles;
 use byte_streams::{CountedSource, READ_BYTES, READS};
 use byte_text::put_all;
-use filter_chain::{CheckedChain, Files, Host, Limits};
+use filter_chain::{CheckedChain, Files, Host, Limits, Rings, Stored};
 use http_message::{SITE_BYTES, Site, SiteRefusal, site_of};
 use module_tools::{CommandOutput, Loaded, NamedFile, PlayFault, load_part};
 use script_text::{Part, Refused, accept_parts, put_refused_module};
@@ -304,9 +304,9 @@ fn manner_of(front: &ServeOptions<'_>) -> ServeSettings {
 }
 
 /// Serves connections that come to a listener, one after another or many by turns.
-fn serve_listener<R: Clock + Eprint + AllocGlobal + Net, F: Files + Drop>(
+fn serve_listener<R: Clock + Eprint + AllocGlobal + Net, F: Files + Drop, B: Rings<Stored> + Drop>(
     rt: &R,
-    host: &mut Host<F>,
+    host: &mut Host<F, B>,
     site: &Site,
     listener: TcpListener,
     manner: ServeSettings,

@@ -3,7 +3,7 @@
 ghost use Rattle.std.specs.Prelude.{◌≡◌, IsTrue};
 ghost use Rattle.http_front.specs.Driven.{IsAlive};
 
-use filter_chain::{Files, Host, Refusal};
+use filter_chain::{Files, Host, Refusal, Rings, Stored};
 
 /// The connections of the host that are still to be closed: they are among these numbers.
 #[derive(Clone, Copy)]
@@ -27,7 +27,7 @@ impl UnclosedConns {
     }
 
     /// Closes them, up to the first for which there is no memory yet.
-    pub fn close<F: Files + Drop>(&mut self, host: &mut Host<F>)
+    pub fn close<F: Files + Drop, B: Rings<Stored> + Drop>(&mut self, host: &mut Host<F, B>)
         requires { IsAlive F.device host.old }
         ensures { IsAlive F.device host.new }
     {

@@ -8,7 +8,7 @@ use Rattle.run_model.specs.declared.event.Refusal.{Refusal}
 use Rattle.run_model.specs.Worlds.{World, Answer}
 use Rattle.bucket_kinds.specs.declared.mem_files.MemFiles.{MemFiles}
 use Rattle.filter_chain.specs.declared.host.Host.{Host}
-use Rattle.filter_chain.specs.Hosting.{IsHosting, Happens, budget_of, chain_of}
+use Rattle.filter_chain.specs.Hosting.{Ghosts, Stored, IsHosting, Happens, budget_of, chain_of}
 use Rattle.filter_chain.specs.HostViews.{HostView, Answers, host_view}
 use Rattle.script_text.specs.declared.command.Command.TheVariants as command
 use Rattle.script_text.specs.declared.pieces.ScriptPiece.{ScriptPiece}
@@ -43,23 +43,24 @@ module _ (budget : ℕ) (chain : List Program) (number : ℕ) (ready : List Piec
   brings_stop (script_piece.Range name start len) xs why s m (Ok file, acts, is) = absurd (cc)
 
 -- These pieces are ready, and these are left. From here on what is left is brought as all are.
-pub record BringsFrom (old now : Host MemFiles) (number : ℕ) (pieces : List ScriptPiece) (ready : List Piece) (left : List ScriptPiece) (w : World) : Type 0 where
+pub record BringsFrom {R : Type 0} {g : Ghosts R Stored} (old now : Host MemFiles R g) (number : ℕ) (pieces : List ScriptPiece) (ready : List Piece) (left : List ScriptPiece)
+    (w : World) : Type 0 where
   pub to : World
   pub hosts : IsHosting (device now) now to
   pub rest : (r : Reply) (new : HostView) → BringsPieces (budget_of old) (chain_of old) number ready left (host_view to (device now)) r new
       → BringsPieces (budget_of old) (chain_of old) number [] pieces (host_view w (device old)) r new
 
-pub record IsBringing (old now : Host MemFiles) (number : ℕ) (pieces : List ScriptPiece) (ready : List Piece) (left : List ScriptPiece) : Type 0 where
+pub record IsBringing {R : Type 0} {g : Ghosts R Stored} (old now : Host MemFiles R g) (number : ℕ) (pieces : List ScriptPiece) (ready : List Piece) (left : List ScriptPiece) : Type 0 where
   pub alive : IsMemHostAlive now
   pub chain : chain_of now ≡ chain_of old
   pub budget : budget_of now ≡ budget_of old
   pub goes : (w : World) → IsHosting (device old) old w → BringsFrom old now number pieces ready left w
 
-pub bring_begins : (host : Host MemFiles) (number : ℕ) (pieces : List ScriptPiece) → IsMemHostAlive host → IsBringing host host number pieces [] pieces
+pub bring_begins : {R : Type 0} {g : Ghosts R Stored} (host : Host MemFiles R g) (number : ℕ) (pieces : List ScriptPiece) → IsMemHostAlive host → IsBringing host host number pieces [] pieces
 bring_begins host number pieces alive = record { alive = alive; chain = refl; budget = refl; goes = λ w hosts. record { to = w; hosts = hosts; rest = λ r new h. h } }
 
-module _ (old now : Host MemFiles) (number : ℕ) (pieces : List ScriptPiece) where
-  module _ (ready : List Piece) (all : List ScriptPiece) (so : IsBringing old now number pieces ready all) (new : Host MemFiles) where
+module _ {R : Type 0} {g : Ghosts R Stored} (old now : Host MemFiles R g) (number : ℕ) (pieces : List ScriptPiece) where
+  module _ (ready : List Piece) (all : List ScriptPiece) (so : IsBringing old now number pieces ready all) (new : Host MemFiles R g) where
     -- what was done to a host on the same chain, with the same budget, was done on its own
     here : (T : ℕ → List Program → Type 0) → T (budget_of now) (chain_of now) → T (budget_of old) (chain_of old)
     here T t = subst (λ (b : ℕ). T b (chain_of old)) so.budget (subst (λ (c : List Program). T (budget_of now) c) so.chain t)

@@ -10,10 +10,10 @@ use Rattle.run_model.specs.Worlds.{World, Told, Answer, Done, Tree, happens_on, 
 use Rattle.bucket_kinds.specs.MemDevice.{mem_device}
 use Rattle.bucket_kinds.specs.declared.mem_files.MemFiles.{MemFiles}
 use Rattle.pool_tree.specs.Printed.{payload_text, printed}
-use Rattle.filter_chain.specs.declared.host.Host.{Host}
 use Rattle.filter_chain.specs.Led.{RefinesFrom}
 use Rattle.filter_chain.specs.Running.{StepsToEnd, StepsOn}
-use Rattle.filter_chain.specs.Hosting.{IsHosting, Happens, budget_of, chain_of, step_answer}
+use Rattle.filter_chain.specs.declared.host.Host.{Host}
+use Rattle.filter_chain.specs.Hosting.{Ghosts, Stored, IsHosting, Happens, budget_of, chain_of, step_answer}
 use Rattle.filter_chain.specs.Safe.{GoesWell}
 use Rattle.filter_chain.specs.HostViews.{HostView, Answers, TellsEvent, host_view}
 use Rattle.script_text.specs.declared.command.Command.{Command}
@@ -26,7 +26,7 @@ use Rattle.script_play.specs.Sessions.{IsServed, device}
 
 -- Commands that are one event.
 
-module _ (old new : Host MemFiles) (w : World) (answer : Answer) (r : Reply) (told : r ≡ reply_of answer) where
+module _ {R : Type 0} {g : Ghosts R Stored} (old new : Host MemFiles R g) (w : World) (answer : Answer) (r : Reply) (told : r ≡ reply_of answer) where
   by_event : (c : Command) (number : ℕ) (what : Event) → ((s t : HostView) → RepliesTo (budget_of old) (chain_of old) number what s r t → AnswersCommand (budget_of old) (chain_of old) c s r t)
       → Happens (device old) (device new) old new number what answer w → IsServed old new c r w
   by_event c number what serves h =
@@ -63,7 +63,7 @@ module _ (old new : Host MemFiles) (w : World) (answer : Answer) (r : Reply) (to
   close_served number h = by_event (command.Close number) number event.Close (λ s t x. x) h
 
 -- The pools are told, and nothing happens.
-pub pools_served : (host : Host MemFiles) (w : World) (text : List ℕ) → text ≡ printed payload_text (tree_of w) 0 w.common.root → IsHosting (device host) host w
+pub pools_served : {R : Type 0} {g : Ghosts R Stored} (host : Host MemFiles R g) (w : World) (text : List ℕ) → text ≡ printed payload_text (tree_of w) 0 w.common.root → IsHosting (device host) host w
     → IsServed host host command.Pools (reply.Pools text) w
 unfolding AnswersCommand happens_on TellsEvent
 pools_served host w text is hosts =
@@ -73,7 +73,7 @@ pools_served host w text is hosts =
     record { to = w; serves = record { answer = Tree w.common.root (tree_of w); acts = acts; told = ap reply.Pools is }; hosts = hosts; chain = refl; budget = refl }
 
 -- A file of a free name.
-pub file_served : (old new : Host MemFiles) (w : World) (file : FileLine) (name bytes : List ℕ) → name ≡ file.name → bytes ≡ file_bytes file
+pub file_served : {R : Type 0} {g : Ghosts R Stored} (old new : Host MemFiles R g) (w : World) (file : FileLine) (name bytes : List ℕ) → name ≡ file.name → bytes ≡ file_bytes file
     → Happens (device old) (device new) old new 0 (event.AddFile name bytes) Done w → IsServed old new (command.File file) reply.Done w
 unfolding AnswersCommand
 file_served old new w file name bytes named is h =
@@ -104,13 +104,13 @@ step_well (Ok (stepped.CallEnded s)) well = refl
 step_well (Ok (stepped.Fault k m pc)) well = absurd well
 step_well (Err r) well = refl
 
-pub steps_served : (old new : Host MemFiles) (number n : ℕ) (answer : Result Stepped Refusal) (r : Reply) (w : World) → r ≡ steps_reply n answer
+pub steps_served : {R : Type 0} {g : Ghosts R Stored} (old new : Host MemFiles R g) (number n : ℕ) (answer : Result Stepped Refusal) (r : Reply) (w : World) → r ≡ steps_reply n answer
     → RefinesFrom mem_device old new (λ b c s t. StepsOn b c number (n - 1) s answer t) w → IsServed old new (command.Step number n) r w
 unfolding AnswersCommand
 steps_served old new number n answer r w told h =
     record { to = h.to; serves = record { answer = answer; steps = h.did; told = told }; hosts = h.hosts; chain = h.chain; budget = h.budget }
 
-pub run_served : (old new : Host MemFiles) (number : ℕ) (answer : Result Stepped Refusal) (r : Reply) (w : World) → r ≡ reply_of (step_answer answer)
+pub run_served : {R : Type 0} {g : Ghosts R Stored} (old new : Host MemFiles R g) (number : ℕ) (answer : Result Stepped Refusal) (r : Reply) (w : World) → r ≡ reply_of (step_answer answer)
     → RefinesFrom mem_device old new (λ b c s t. StepsToEnd b c number s answer t) w → IsServed old new (command.Run number) r w
 unfolding AnswersCommand
 run_served old new number answer r w told h =

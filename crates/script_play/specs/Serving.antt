@@ -8,7 +8,7 @@ use Rattle.run_model.specs.declared.event.Refusal.{Refusal}
 use Rattle.run_model.specs.Worlds.{World}
 use Rattle.bucket_kinds.specs.declared.mem_files.MemFiles.{MemFiles}
 use Rattle.filter_chain.specs.declared.host.Host.{Host}
-use Rattle.filter_chain.specs.Hosting.{IsHosting, budget_of, chain_of, file_answer}
+use Rattle.filter_chain.specs.Hosting.{Ghosts, Stored, IsHosting, budget_of, chain_of, file_answer}
 use Rattle.filter_chain.specs.HostViews.{HostView, Answers, host_view}
 use Rattle.script_text.specs.declared.pieces.ScriptPiece.{ScriptPiece}
 use Rattle.script_text.specs.declared.pieces.ScriptPiece.TheVariants as script_piece
@@ -25,7 +25,7 @@ IsReadied budget chain number (script_piece.Ready x) old r new = (r ≡ Ok x) ×
 IsReadied budget chain number (script_piece.Range name start len) old r new =
     (answer : Result (ℕ × ℕ) Refusal) × Answers budget chain number (event.OpenFile name) old (file_answer answer) new × (r ≡ ranged answer start len)
 
-pub record MakesReady (old new : Host MemFiles) (number : ℕ) (x : ScriptPiece) (r : Result Piece Refusal) (w : World) : Type 0 where
+pub record MakesReady {R : Type 0} {g : Ghosts R Stored} (old new : Host MemFiles R g) (number : ℕ) (x : ScriptPiece) (r : Result Piece Refusal) (w : World) : Type 0 where
   pub to : World
   pub readied : IsReadied (budget_of old) (chain_of old) number x (host_view w (device old)) r (host_view to (device new))
   pub hosts : IsHosting (device new) new to

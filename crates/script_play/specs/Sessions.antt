@@ -6,7 +6,7 @@ use Rattle.bucket_kinds.specs.Device.{Device, Sound}
 use Rattle.bucket_kinds.specs.MemDevice.{mem_device}
 use Rattle.bucket_kinds.specs.declared.mem_files.MemFiles.{MemFiles}
 use Rattle.filter_chain.specs.declared.host.Host.{Host}
-use Rattle.filter_chain.specs.Hosting.{IsHosting, budget_of, chain_of, files_of}
+use Rattle.filter_chain.specs.Hosting.{Ghosts, Stored, IsHosting, budget_of, chain_of, files_of}
 use Rattle.filter_chain.specs.Safe.{IsSafe}
 use Rattle.filter_chain.specs.HostViews.{host_view}
 use Rattle.script_text.specs.declared.command.Command.{Command}
@@ -22,15 +22,15 @@ use Rattle.script_play.specs.Plays.{AnswersCommand}
 use Rattle.script_play.specs.Written.{Session, Stage, Reading, Serving, Over, is_over, TakesCommand, TakesAll, EndsAt}
 
 -- the device of the files of a host
-abbrev pub device : Host MemFiles → Device
+abbrev pub device : {R : Type 0} {g : Ghosts R Stored} → Host MemFiles R g → Device
 device host = mem_device (files_of host)
 
 -- it stands for some world
-abbrev pub IsMemHostAlive : Host MemFiles → Type 0
+abbrev pub IsMemHostAlive : {R : Type 0} {g : Ghosts R Stored} → Host MemFiles R g → Type 0
 IsMemHostAlive host = (w : World) × IsHosting (device host) host w
 
 -- A command was answered, and the host stands for what it leaves, on the same chain, with the same budget.
-pub record IsServed (old new : Host MemFiles) (c : Command) (r : Reply) (w : World) : Type 0 where
+pub record IsServed {R : Type 0} {g : Ghosts R Stored} (old new : Host MemFiles R g) (c : Command) (r : Reply) (w : World) : Type 0 where
   pub to : World
   pub serves : AnswersCommand (budget_of old) (chain_of old) c (host_view w (device old)) r (host_view to (device new))
   pub hosts : IsHosting (device new) new to

@@ -5,7 +5,7 @@ ghost use Rattle.script_play.specs.Prelude.{is_there, World, refusal_of, IsHosti
 ghost use Rattle.script_play.specs.Prelude.{device};
 
 use crate::labels::labels_of;
-use filter_chain::{AddRefusal, Host, MemFiles, Piece, Refusal, Seq, Stepped};
+use filter_chain::{AddRefusal, Host, MemFiles, Piece, Refusal, Rings, Seq, Stepped, Stored};
 use script_text::{Command, FileLine, Reply, ScriptPiece};
 use std::alloc::{AllocError, Global};
 
@@ -20,7 +20,7 @@ fn done(outcome: Result<(), Refusal>) -> Reply
     }
 }
 
-fn open(host: &mut Host<MemFiles>) -> Reply
+fn open<R: Rings<Stored> + Drop>(host: &mut Host<MemFiles, R>) -> Reply
     requires { IsMemHostAlive host.old }
     ensures served { (w : World) → IsHosting (device host.old) host.old w → IsServed host.old host.new Command.Open result w }
     ensures faultless { is_fault result ≡ false }
@@ -33,7 +33,11 @@ fn open(host: &mut Host<MemFiles>) -> Reply
 
 /// Adds a file of a name that no file has. An error is want of memory for its bytes or its name.
 #[inline(never)]
-fn file(alloc: Global, host: &mut Host<MemFiles>, file: &FileLine) -> Result<Reply, AllocError>
+fn file<R: Rings<Stored> + Drop>(
+    alloc: Global,
+    host: &mut Host<MemFiles, R>,
+    file: &FileLine,
+) -> Result<Reply, AllocError>
     requires alive { IsMemHostAlive host.old }
     requires free { is_there ((device host.old).named file.now.name) ≡ false }
     ensures served { IfOk result (λ r. (w : World) → IsHosting (device host.old) host.old w → IsServed host.old host.new (Command.File file.now) r w) }
@@ -48,7 +52,11 @@ fn file(alloc: Global, host: &mut Host<MemFiles>, file: &FileLine) -> Result<Rep
 }
 
 /// The piece to be brought. The file of a range is opened.
-fn made_ready(host: &mut Host<MemFiles>, number: u64, piece: ScriptPiece) -> Result<Piece, Refusal>
+fn made_ready<R: Rings<Stored> + Drop>(
+    host: &mut Host<MemFiles, R>,
+    number: u64,
+    piece: ScriptPiece,
+) -> Result<Piece, Refusal>
     requires { IsMemHostAlive host.old }
     ensures { (w : World) → IsHosting (device host.old) host.old w → MakesReady host.old host.new number piece result w }
 {
@@ -66,9 +74,9 @@ fn made_ready(host: &mut Host<MemFiles>, number: u64, piece: ScriptPiece) -> Res
 /// Opens the files of the pieces, from left to right, and brings the pieces. The first refusal is the answer. An error is want of memory
 /// for the list of pieces.
 #[inline(never)]
-fn bring(
+fn bring<R: Rings<Stored> + Drop>(
     alloc: Global,
-    host: &mut Host<MemFiles>,
+    host: &mut Host<MemFiles, R>,
     number: u64,
     pieces: Seq<ScriptPiece>,
 ) -> Result<Reply, AllocError>
@@ -103,7 +111,7 @@ fn stepped(answer: Result<Stepped, Refusal>) -> Reply
 }
 
 /// Makes so many steps, or fewer where a call has ended or more is refused.
-fn step(host: &mut Host<MemFiles>, number: u64, count: u64) -> Reply
+fn step<R: Rings<Stored> + Drop>(host: &mut Host<MemFiles, R>, number: u64, count: u64) -> Reply
     requires { IsMemHostAlive host.old }
     ensures served { (w : World) → IsHosting (device host.old) host.old w → IsServed host.old host.new (Command.Step number count) result w }
     ensures safe { IsSafe host.old → is_fault result ≡ false }
@@ -116,7 +124,7 @@ fn step(host: &mut Host<MemFiles>, number: u64, count: u64) -> Reply
 }
 
 /// Makes steps until a call has ended or more is refused.
-fn run(host: &mut Host<MemFiles>, number: u64) -> Reply
+fn run<R: Rings<Stored> + Drop>(host: &mut Host<MemFiles, R>, number: u64) -> Reply
     requires { IsMemHostAlive host.old }
     ensures served { (w : World) → IsHosting (device host.old) host.old w → IsServed host.old host.new (Command.Run number) result w }
     ensures safe { IsSafe host.old → is_fault result ≡ false }
@@ -124,7 +132,7 @@ fn run(host: &mut Host<MemFiles>, number: u64) -> Reply
     stepped(host.run(number))
 }
 
-fn output(host: &mut Host<MemFiles>, number: u64) -> Reply
+fn output<R: Rings<Stored> + Drop>(host: &mut Host<MemFiles, R>, number: u64) -> Reply
     requires { IsMemHostAlive host.old }
     ensures served { (w : World) → IsHosting (device host.old) host.old w → IsServed host.old host.new (Command.Output number) result w }
     ensures faultless { is_fault result ≡ false }
@@ -137,7 +145,11 @@ fn output(host: &mut Host<MemFiles>, number: u64) -> Reply
 
 /// The labels run so far. An error is want of memory for the answer.
 #[inline(never)]
-fn labels(alloc: Global, host: &Host<MemFiles>, number: u64) -> Result<Reply, AllocError>
+fn labels<R: Rings<Stored> + Drop>(
+    alloc: Global,
+    host: &Host<MemFiles, R>,
+    number: u64,
+) -> Result<Reply, AllocError>
     ensures served { IfOk result (λ r. (w : World) → IsHosting (device host.now) host.now w → IsServed host.now host.now (Command.Labels number) r w) }
     ensures faultless { IfOk result (λ r. is_fault r ≡ false) }
 {
@@ -149,7 +161,11 @@ fn labels(alloc: Global, host: &Host<MemFiles>, number: u64) -> Result<Reply, Al
 
 /// Closes a connection, and tells all labels run. An error is want of memory for the answer.
 #[inline(never)]
-fn close(alloc: Global, host: &mut Host<MemFiles>, number: u64) -> Result<Reply, AllocError>
+fn close<R: Rings<Stored> + Drop>(
+    alloc: Global,
+    host: &mut Host<MemFiles, R>,
+    number: u64,
+) -> Result<Reply, AllocError>
     requires { IsMemHostAlive host.old }
     ensures served { IfOk result (λ r. (w : World) → IsHosting (device host.old) host.old w → IsServed host.old host.new (Command.Close number) r w) }
     ensures faultless { IfOk result (λ r. is_fault r ≡ false) }
@@ -162,7 +178,10 @@ fn close(alloc: Global, host: &mut Host<MemFiles>, number: u64) -> Result<Reply,
 
 /// The pools of all connections. An error is want of memory for the answer.
 #[inline(never)]
-fn pools(alloc: Global, host: &Host<MemFiles>) -> Result<Reply, AllocError>
+fn pools<R: Rings<Stored> + Drop>(
+    alloc: Global,
+    host: &Host<MemFiles, R>,
+) -> Result<Reply, AllocError>
     requires { IsMemHostAlive host.now }
     ensures served { IfOk result (λ r. (w : World) → IsHosting (device host.now) host.now w → IsServed host.now host.now Command.Pools r w) }
     ensures faultless { IfOk result (λ r. is_fault r ≡ false) }
@@ -177,9 +196,9 @@ fn pools(alloc: Global, host: &Host<MemFiles>) -> Result<Reply, AllocError>
 }
 
 /// Does a command, and answers it. An error is want of memory for the answer, for a list of pieces, or for a file that is added.
-pub fn serve(
+pub fn serve<R: Rings<Stored> + Drop>(
     alloc: Global,
-    host: &mut Host<MemFiles>,
+    host: &mut Host<MemFiles, R>,
     command: Command,
 ) -> Result<Reply, AllocError>
     requires alive { IsMemHostAlive host.old }

@@ -5,7 +5,7 @@ ghost use Rattle.script_play.specs.Sessions.{IsMemHostAlive};
 
 use anyhow::Result;
 use byte_text::first_line;
-use filter_chain::{Host, Limits, MemFiles};
+use filter_chain::{Host, Limits, MemFiles, Rings, Stored};
 use script_play::{due_command, serve};
 use script_text::{LineTaken, MODULES, Texts, accept_parts, number_at, put_reply};
 use std::alloc::Global;
@@ -22,7 +22,11 @@ fn operand_of(text: &[u8], word: &[u8]) -> Option<u64> {
 }
 
 /// The chain as it was read, on a host whose names begin with `first`.
-fn host_of(alloc: Global, texts: Texts, first: u64) -> Result<Host<MemFiles>>
+fn host_of<R: Rings<Stored> + Drop>(
+    alloc: Global,
+    texts: Texts,
+    first: u64,
+) -> Result<Host<MemFiles, R>>
     ensures { IfOk result IsMemHostAlive }
 {
     let Texts { parts, budget, .. } = texts;
@@ -56,12 +60,12 @@ fn texts_of<'a>(alloc: Global, script: &'a [u8], told: &mut Vec<u8>) -> Result<(
 }
 
 /// Does the command of a line, or has the device fail later, and tells the answer.
-fn take(
+fn take<R: Rings<Stored> + Drop>(
     alloc: Global,
-    mut host: Host<MemFiles>,
+    mut host: Host<MemFiles, R>,
     text: &[u8],
     told: &mut Vec<u8>,
-) -> Result<Host<MemFiles>>
+) -> Result<Host<MemFiles, R>>
     requires { IsMemHostAlive host }
     ensures { IfOk result IsMemHostAlive }
 {
@@ -77,14 +81,18 @@ fn take(
     Ok(host)
 }
 
-/// Plays a script, and adds its answers to the text. What was answered before an error stands there.
-pub(crate) fn play(alloc: Global, script: &[u8], told: &mut Vec<u8>) -> Result<()> {
+/// Plays a script on a host over these rings, and adds its answers to the text. What was answered before an error stands there.
+pub(crate) fn play<R: Rings<Stored> + Drop>(
+    alloc: Global,
+    script: &[u8],
+    told: &mut Vec<u8>,
+) -> Result<()> {
     let line = first_line(script);
     let Some(first) = operand_of(line.text, b"first") else {
         return Err(NoScript(1).into());
     };
     let (texts, mut rest) = texts_of(alloc, &script[line.width..], told)?;
-    let mut host = host_of(alloc, texts, first)?;
+    let mut host = host_of::<R>(alloc, texts, first)?;
     while !rest.is_empty() {
         let line = first_line(rest);
         host = take(alloc, host, line.text, told)?;

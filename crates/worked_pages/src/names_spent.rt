@@ -6,7 +6,7 @@ ghost use Rattle.filter_chain.specs.Led.{IsAlive};
 use crate::modules::{CLEANUP_ORDER, IDENTITY};
 use crate::pages::{BUDGET, chain};
 use anyhow::Result;
-use filter_chain::{CheckedChain, Files, Host, Limits, MemFiles, PoolId, Refusal};
+use filter_chain::{CheckedChain, Files, Host, Limits, MemFiles, PoolId, Refusal, Rings, Stored};
 use std::alloc::Global;
 use std::io;
 
@@ -88,7 +88,10 @@ fn host(alloc: Global, module: &[u8], checked: bool, first: PoolId) -> Result<Ho
     watched_host(alloc, chain, first)
 }
 
-fn make<F: Files + Drop>(host: &mut Host<F>, call: Call) -> Result<(), Refusal>
+fn make<F: Files + Drop, B: Rings<Stored> + Drop>(
+    host: &mut Host<F, B>,
+    call: Call,
+) -> Result<(), Refusal>
     requires { IsAlive F.device host.old }
     ensures { IsAlive F.device host.new }
 {
@@ -108,7 +111,11 @@ fn make<F: Files + Drop>(host: &mut Host<F>, call: Call) -> Result<(), Refusal>
 }
 
 /// Makes a call, and prints what it answers.
-fn tell<F: Files + Drop>(rt: &HostRuntime, host: &mut Host<F>, call: Call) -> io::Result<()>
+fn tell<F: Files + Drop, B: Rings<Stored> + Drop>(
+    rt: &HostRuntime,
+    host: &mut Host<F, B>,
+    call: Call,
+) -> io::Result<()>
     requires { IsAlive F.device host.old }
     ensures { IsAlive F.device host.new }
 {
@@ -119,7 +126,11 @@ fn tell<F: Files + Drop>(rt: &HostRuntime, host: &mut Host<F>, call: Call) -> io
 }
 
 /// Makes calls of a host, prints the pools, and closes the connection.
-fn tell_all<F: Files + Drop>(rt: &HostRuntime, host: &mut Host<F>, calls: &[Call]) -> Result<()>
+fn tell_all<F: Files + Drop, B: Rings<Stored> + Drop>(
+    rt: &HostRuntime,
+    host: &mut Host<F, B>,
+    calls: &[Call],
+) -> Result<()>
     requires { IsAlive F.device host.old }
 {
     for call in calls {

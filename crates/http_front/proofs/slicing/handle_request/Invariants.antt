@@ -9,7 +9,7 @@ abbrev pub invariant-loop-slice : goal.invariant-loop-slice
 invariant-loop-slice g l = record {
   alive : IsAlive g.F.Files.device l.host;
   made : MakesSlice g.F.Files.device l.number (λ way b c. ComesIn way b c l.number l.fn.method l.name) l.fn.host (Ok l.slice) l.host;
-  beside : (from : Host g.row.F.Denot) → OnlyEventsOf g.F.Files.device from l.number l.fn.host → OnlyEventsOf g.F.Files.device from l.number l.host;
+  beside : (from : Host g.row.F.Denot g.row.R.Denot g.R.Rings) → OnlyEventsOf g.F.Files.device from l.number l.fn.host → OnlyEventsOf g.F.Files.device from l.number l.host;
 }
 
 abbrev pub decreases-loop-slice : goal.decreases-loop-slice

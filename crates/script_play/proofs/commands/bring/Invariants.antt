@@ -4,4 +4,4 @@ use Rattle.script_play.proofs.BringLaws.{IsBringing}
 use Rattle.script_play.proofs.commands.bring.Given as goal
 
 abbrev pub invariant-loop-piece : goal.invariant-loop-piece
-invariant-loop-piece l = IsBringing l.fn.host l.host l.number l.fn.pieces l.ready (into_iter_items l.piece-iterator)
+invariant-loop-piece g l = IsBringing l.fn.host l.host l.number l.fn.pieces l.ready (into_iter_items l.piece-iterator)
