@@ -1,84 +1,61 @@
-//! Rows of brigades: buckets are put in, moved and split off.
+//! Brigades: buckets are put in, moved and split off, and told.
 
 ghost use Rattle.std.specs.Prelude.{◌≡◌, true, IfOk};
 ghost use Rattle.std.specs.List.{list_all};
 ghost use Rattle.stored_rings.specs.Prelude.{is_own};
 
 use crate::buckets::{Made, make};
-use crate::calls::{Call, Four, Place, show_named, show_two};
+use crate::calls::{At, Place, Put};
+use crate::cuts::make_all;
 use crate::missing::Missing;
-use crate::shown::{Seen, Shown};
+use crate::shown::{Listed, Seen, shown};
 use crate::there::{want_both, want_brigade, want_bucket, want_place, want_two};
+use crate::world::{ONE, OTHER, World};
 use anyhow::Result;
-use brigade_ops::{BrigadeId, Brigades, BucketId, RingRefusal, Rings, Stored};
+use brigade_ops::{BrigadeId, Brigades, BucketId, Rings, Stored};
 use bucket_kinds::{Bucket, keep_own};
-use std::alloc::{AllocError, Global};
+use std::alloc::Global;
 
 /// No brigade of a row has more buckets.
 const MOST: usize = 9;
 
-/// Tells the buckets of a brigade.
-pub(crate) fn show_brigade<R: Rings<Stored> + Drop>(
+/// Tells each bucket of a brigade, by its letters or in whole.
+fn show_each<R: Rings<Stored> + Drop>(
     rt: &HostRuntime,
     store: &mut Brigades<R>,
     brigade: BrigadeId,
+    by_letters: bool,
 ) -> Result<()> {
     want_brigade(store, brigade)?;
     let mut place = store.first(brigade);
-    print!(rt; "[")?;
     for index in 0..MOST {
         let Some(id) = place else {
             break;
         };
         want_bucket(store, id)?;
-        let comma = if index == 0 { "" } else { ", " };
-        print!(rt; "{comma}{}", Seen(store.payload(id)))?;
-        place = store.next(id).ok();
-    }
-    println!(rt; "]")?;
-    Ok(())
-}
-
-/// Adds the bytes of all buckets of a brigade to a text.
-fn push_letters<R: Rings<Stored> + Drop>(
-    text: &mut String,
-    store: &mut Brigades<R>,
-    brigade: BrigadeId,
-) -> Result<()> {
-    want_brigade(store, brigade)?;
-    let mut place = store.first(brigade);
-    for _ in 0..MOST {
-        let Some(id) = place else {
-            return Ok(());
-        };
-        want_bucket(store, id)?;
-        for byte in store.bytes(id) {
-            text.push(*byte as char)?;
-        }
+        let view = store.payload(id);
+        print!(rt;
+            "{}",
+            Listed {
+                view,
+                by_letters,
+                is_first: index == 0
+            }
+        )?;
         place = store.next(id).ok();
     }
     Ok(())
 }
 
-fn show<R: Rings<Stored> + Drop>(
+/// Tells a bucket, behind a word.
+pub(crate) fn show_bucket<R: Rings<Stored> + Drop>(
     rt: &HostRuntime,
-    what: &str,
     store: &mut Brigades<R>,
-    r: BrigadeId,
-    s: BrigadeId,
+    id: BucketId,
+    word: &str,
 ) -> Result<()> {
-    let (mut first, mut second) = (String::new(rt.alloc()), String::new(rt.alloc()));
-    push_letters(&mut first, store, r)?;
-    push_letters(&mut second, store, s)?;
-    show_two(rt, what, first.as_str(), second.as_str())
-}
-
-/// The name of a bucket that was put in, or why it was not.
-pub(crate) fn named(put: Result<BucketId, (RingRefusal, Bucket)>) -> Result<BucketId> {
-    match put {
-        Ok(id) => Ok(id),
-        Err((why, _)) => Err(why.into()),
-    }
+    want_bucket(store, id)?;
+    Ok(print!(rt; "{word}{}", Seen(store.payload(id)))?)
 }
 
 /// Puts a new bucket in.
@@ -86,35 +63,14 @@ pub(crate) fn put<R: Rings<Stored> + Drop>(
     store: &mut Brigades<R>,
     place: Place,
     bucket: Bucket,
-) -> Result<BucketId> {
+) -> Result<Put<Bucket>, Missing> {
     match place {
-        Place::Head(brigade) => {
-            want_brigade(store, brigade)?;
-            named(store.add_head(brigade, bucket))
-        }
-        Place::Tail(brigade) => {
-            want_brigade(store, brigade)?;
-            named(store.add_tail(brigade, bucket))
-        }
-        Place::Before(at) => {
-            want_bucket(store, at)?;
-            named(store.add_before(at, bucket))
-        }
-        Place::After(at) => {
-            want_bucket(store, at)?;
-            named(store.add_after(at, bucket))
-        }
+        Place::Head(brigade) if store.has(brigade) => Ok(store.add_head(brigade, bucket)),
+        Place::Tail(brigade) if store.has(brigade) => Ok(store.add_tail(brigade, bucket)),
+        Place::Before(at) if store.ring_of(at).is_some() => Ok(store.add_before(at, bucket)),
+        Place::After(at) if store.ring_of(at).is_some() => Ok(store.add_after(at, bucket)),
+        _ => Err(Missing),
     }
-}
-
-/// Puts a new bucket of these bytes in.
-fn put_letter<R: Rings<Stored> + Drop>(
-    store: &mut Brigades<R>,
-    alloc: Global,
-    place: Place,
-    letter: &'static [u8],
-) -> Result<BucketId> {
-    put(store, place, make(alloc, Made::Heap(letter))?)
 }
 
 /// Moves a bucket.
@@ -122,7 +78,7 @@ fn shift<R: Rings<Stored> + Drop>(
     store: &mut Brigades<R>,
     id: BucketId,
     place: Place,
-) -> Result<()> {
+) -> Result<(), Missing> {
     match place {
         Place::Head(brigade) => {
             want_both(store, id, brigade)?;
@@ -137,20 +93,22 @@ fn shift<R: Rings<Stored> + Drop>(
             want_bucket(store, at)?;
             store.move_before(at, id);
         }
-        Place::After(_) => return Err(Missing.into()),
+        Place::After(_) => return Err(Missing),
     }
     Ok(())
 }
 
-fn make_call<R: Rings<Stored> + Drop>(store: &mut Brigades<R>, call: Call) -> Result<()> {
-    match call {
-        Call::Move(id, place) => shift(store, id, place),
-        Call::All(onto, from) if onto != from => {
-            want_two(store, onto, from)?;
-            Ok(store.concat(onto, from)?)
-        }
-        _ => Err(Missing.into()),
+/// Moves all buckets of a brigade to the tail of another.
+pub(crate) fn concat<R: Rings<Stored> + Drop>(
+    store: &mut Brigades<R>,
+    onto: BrigadeId,
+    from: BrigadeId,
+) -> Result<()> {
+    if onto == from {
+        return Err(Missing.into());
     }
+    want_two(store, onto, from)?;
+    Ok(store.concat(onto, from)?)
 }
 
 /// Splits a brigade at a place into another.
@@ -165,96 +123,10 @@ fn split_at<R: Rings<Stored> + Drop>(
     }
     want_two(store, brigade, into)?;
     want_place(store, brigade, place)?;
-    store.split_at(brigade, place, into)?;
-    Ok(())
+    Ok(store.split_at(brigade, place, into)?)
 }
 
-/// Puts four buckets into one of two brigades.
-fn put_four<R: Rings<Stored> + Drop>(store: &mut Brigades<R>, alloc: Global) -> Result<Four> {
-    let r = store.loose()?;
-    let s = store.loose()?;
-    let a = put_letter(store, alloc, Place::Tail(r), b"a")?;
-    let b = put_letter(store, alloc, Place::Head(r), b"b")?;
-    let c = put_letter(store, alloc, Place::Before(a), b"c")?;
-    let d = put_letter(store, alloc, Place::After(a), b"d")?;
-    Ok(Four { r, s, a, b, c, d })
-}
-
-fn moves(four: Four) -> [(&'static str, Call); 7] {
-    let Four { r, s, a, c, d, .. } = four;
-    [
-        ("d to the head", Call::Move(d, Place::Head(r))),
-        ("c to the tail of the other", Call::Move(c, Place::Tail(s))),
-        ("all of the other behind it", Call::All(r, s)),
-        ("a before d", Call::Move(a, Place::Before(d))),
-        ("c before itself", Call::Move(c, Place::Before(c))),
-        ("a to the tail", Call::Move(a, Place::Tail(r))),
-        ("all of it into the other", Call::All(s, r)),
-    ]
-}
-
-/// Four buckets are put into a brigade, and moved, to another and back.
-pub(crate) fn brigade_moves<R: Rings<Stored> + Drop>(
-    rt: &HostRuntime,
-    store: &mut Brigades<R>,
-) -> Result<()> {
-    println!(rt; "moves of brigades")?;
-    let four = put_four(store, rt.alloc())?;
-    let Four { r, s, .. } = four;
-    show(rt, "tail a, head b, c before a, d after a", store, r, s)?;
-    for (what, call) in moves(four) {
-        make_call(store, call)?;
-        show(rt, what, store, r, s)?;
-    }
-    Ok(())
-}
-
-/// Makes two brigades, of three buckets and of one, and gives their names and that of the middle one of the three.
-fn fill<R: Rings<Stored> + Drop>(
-    store: &mut Brigades<R>,
-    alloc: Global,
-) -> Result<(BrigadeId, BrigadeId, BucketId)> {
-    let r = store.loose()?;
-    let s = store.loose()?;
-    put_letter(store, alloc, Place::Tail(r), b"a")?;
-    let b = put_letter(store, alloc, Place::Tail(r), b"b")?;
-    put_letter(store, alloc, Place::Tail(r), b"c")?;
-    put_letter(store, alloc, Place::Tail(s), b"x")?;
-    Ok((r, s, b))
-}
-
-/// Splits the first of two brigades at its middle bucket or at its end.
-fn show_split_at<R: Rings<Stored> + Drop>(
-    rt: &HostRuntime,
-    store: &mut Brigades<R>,
-    what: &str,
-    at_end: bool,
-) -> Result<()> {
-    let (r, s, b) = fill(store, rt.alloc())?;
-    show(rt, "before", store, r, s)?;
-    let place = if at_end { None } else { Some(b) };
-    split_at(store, r, place, s)?;
-    show(rt, what, store, r, s)
-}
-
-/// The brigade that takes what is split off is cleaned first. At the end nothing moves.
-pub(crate) fn brigade_splits<R: Rings<Stored> + Drop>(
-    rt: &HostRuntime,
-    store: &mut Brigades<R>,
-) -> Result<()> {
-    println!(rt; "brigades are split")?;
-    show_split_at(rt, store, "at b", false)?;
-    show_split_at(rt, store, "at the end", true)
-}
-
-/// The buckets of two letters.
-fn two(alloc: Global, first: &'static [u8], second: &'static [u8]) -> Result<Vec<Bucket>> {
-    let first = make(alloc, Made::Heap(first))?;
-    let second = make(alloc, Made::Heap(second))?;
-    Ok(vec![in alloc; first, second]?)
-}
-
-/// The same, each with a content of its own.
+/// Two buckets of bytes, each with a content of its own.
 fn own_two(alloc: Global, first: &'static [u8], second: &'static [u8]) -> Result<Vec<Stored>>
     ensures { IfOk result (λ buckets. list_all is_own buckets.items ≡ true) }
 {
@@ -263,45 +135,88 @@ fn own_two(alloc: Global, first: &'static [u8], second: &'static [u8]) -> Result
     Ok(vec![in alloc; keep_own(first), keep_own(second)]?)
 }
 
-/// Two brigades are made at once, and buckets are put in at once.
-pub(crate) fn brigades_at_once<R: Rings<Stored> + Drop>(
-    rt: &HostRuntime,
-    store: &mut Brigades<R>,
-) -> Result<()> {
-    println!(rt; "brigades and buckets at once")?;
-    let (r, s) = store.loose_pair(own_two(rt.alloc(), b"a", b"b")?)?;
-    show(rt, "a pair with a and b", store, r, s)?;
-    want_brigade(store, r)?;
-    store.add_all(r, two(rt.alloc(), b"c", b"d")?)?;
-    show(rt, "c and d at the tail of the first", store, r, s)?;
-    println!(rt; "brigades {r} and {s}, and next {}", store.next_name())?;
-    Ok(())
-}
-
-fn show_added<R: Rings<Stored> + Drop>(
-    rt: &HostRuntime,
-    store: &mut Brigades<R>,
-    brigade: BrigadeId,
-    letter: &'static [u8],
-) -> Result<()> {
-    let bucket = make(rt.alloc(), Made::Heap(letter))?;
-    want_brigade(store, brigade)?;
-    match store.add_tail(brigade, bucket) {
-        Ok(id) => println!(rt; "bucket {}", id.birth)?,
-        Err((why, back)) => println!(rt; "{why}, and {} comes back", Shown(&back))?,
+impl<R: Rings<Stored> + Drop> World<R> {
+    /// Makes a brigade.
+    pub(crate) fn make(&mut self, rt: &HostRuntime) -> Result<()> {
+        match self.store.loose() {
+            Ok(brigade) if self.tells => println!(rt; "brigade {brigade}")?,
+            Ok(_) => {}
+            Err(why) => println!(rt; "{why}")?,
+        }
+        Ok(())
     }
-    Ok(())
-}
 
-/// In a store with two names left a brigade and a bucket get them. Then nothing is made any more, and the bucket comes back.
-pub(crate) fn brigade_names_spent<R: Rings<Stored> + Drop>(
-    rt: &HostRuntime,
-    store: &mut Brigades<R>,
-) -> Result<()> {
-    println!(rt; "the names of brigades run out")?;
-    let brigade = store.loose()?;
-    show_named(rt, "brigade", &Ok::<u64, AllocError>(brigade))?;
-    show_added(rt, store, brigade, b"a")?;
-    show_added(rt, store, brigade, b"b")?;
-    show_named(rt, "brigade", &store.loose())
+    /// Makes two brigades at once, which get the names `ONE` and `OTHER`.
+    pub(crate) fn make_pair(
+        &mut self,
+        alloc: Global,
+        first: &'static [u8],
+        second: &'static [u8],
+    ) -> Result<()> {
+        match self.store.loose_pair(own_two(alloc, first, second)?)? {
+            (ONE, OTHER) => Ok(()),
+            _ => Err(Missing.into()),
+        }
+    }
+
+    /// Puts a new bucket in.
+    pub(crate) fn put(&mut self, rt: &HostRuntime, place: At, made: Made) -> Result<()> {
+        let bucket = make(rt.alloc(), made)?;
+        match put(&mut self.store, place.among(&self.buckets), bucket)? {
+            Ok(id) if self.tells => println!(rt; "bucket {}", id.birth)?,
+            Ok(id) => self.buckets.note(id),
+            Err((why, back)) => println!(rt; "{why}, and {} comes back", shown(&back))?,
+        }
+        Ok(())
+    }
+
+    /// Puts new buckets at the tail of a brigade at once.
+    pub(crate) fn put_all(
+        &mut self,
+        alloc: Global,
+        brigade: BrigadeId,
+        made: &[Made],
+    ) -> Result<()> {
+        let buckets = make_all(alloc, made)?;
+        want_brigade(&mut self.store, brigade)?;
+        Ok(self.store.add_all(brigade, buckets)?)
+    }
+
+    /// Moves a bucket.
+    pub(crate) fn shift(&mut self, bucket: usize, place: At) -> Result<()> {
+        let id = self.buckets.name(bucket);
+        Ok(shift(&mut self.store, id, place.among(&self.buckets))?)
+    }
+
+    /// Splits a brigade at a bucket, or at its end, into another.
+    pub(crate) fn split_at(
+        &mut self,
+        brigade: BrigadeId,
+        place: Option<usize>,
+        into: BrigadeId,
+    ) -> Result<()> {
+        let place = match place {
+            Some(bucket) => Some(self.buckets.name(bucket)),
+            None => None,
+        };
+        split_at(&mut self.store, brigade, place, into)
+    }
+
+    /// Tells the buckets of a brigade.
+    pub(crate) fn show_brigade(&mut self, rt: &HostRuntime, brigade: BrigadeId) -> Result<()> {
+        print!(rt; "[")?;
+        show_each(rt, &mut self.store, brigade, false)?;
+        Ok(println!(rt; "]")?)
+    }
+
+    /// Tells the bytes that stand in the brigades `ONE` and `OTHER`.
+    pub(crate) fn show_letters(&mut self, rt: &HostRuntime, what: &str) -> Result<()> {
+        print!(rt; "{what}: ")?;
+        for (brigade, end) in [(ONE, "\" and "), (OTHER, "\"\n")] {
+            print!(rt; "\"")?;
+            show_each(rt, &mut self.store, brigade, true)?;
+            print!(rt; "{end}")?;
+        }
+        Ok(())
+    }
 }

@@ -1,13 +1,15 @@
 //! Rows of one bucket: splits, copies and setting aside.
 
-ghost use Rattle.std.specs.Prelude.{◌≡◌, ◌≤◌, ◌+◌, IfOk, true};
+ghost use Rattle.std.specs.Prelude.{◌≡◌, ◌≤◌, ◌+◌, ◌-◌, ◌^◌, ◌<◌, IfOk, true};
 ghost use Rattle.run_model.specs.Cutting.{EndsInFile, Memory, form_of, form_of_kind};
 
-use crate::shown::Shown;
+use crate::shown::shown;
 use anyhow::Result;
-use bucket_kinds::{Bucket, Content, Home, Kind, Seq, aside_bucket, copy_bucket, split_bucket};
+use bucket_kinds::{
+    Bucket, Content, Home, Kind, Seq, SplitError, aside_bucket, copy_bucket, split_bucket,
+};
 use std::alloc::{AllocError, Global};
-use std::fmt;
+use std::{fmt, io};
 
 /// A bucket that a row makes.
 #[derive(Clone, Copy)]
@@ -43,7 +45,8 @@ pub(crate) fn in_memory(
 }
 
 /// A range of an open file, whose home is the pool 2.
-pub(crate) fn range(file: u64, start: u32, len: u32) -> Bucket
+pub(crate) fn range(file: u64, start: u64, len: u32) -> Bucket
+    requires { start < 2 ^ 64 - 2 ^ 32 }
     ensures content { result.content ≡ Content.Range file start len }
     ensures ends { EndsInFile result.content }
     ensures fits { form_of result.content ≡ form_of_kind result.kind }
@@ -52,7 +55,7 @@ pub(crate) fn range(file: u64, start: u32, len: u32) -> Bucket
         kind: Kind::File,
         content: Content::Range {
             file,
-            start: start as u64,
+            start,
             len: len as u64,
         },
         home: Home::Pool(2),
@@ -67,7 +70,7 @@ pub(crate) fn make(alloc: Global, made: Made) -> Result<Bucket, AllocError>
         Made::Heap(text) => in_memory(alloc, Kind::Heap, Home::Free, text),
         Made::Transient(call, text) => in_memory(alloc, Kind::Transient, Home::Call(call), text),
         Made::Pool(pool, text) => in_memory(alloc, Kind::Pool(pool), Home::Free, text),
-        Made::Range(file, start, len) => Ok(range(file, start, len)),
+        Made::Range(file, start, len) => Ok(range(file, start as u64, len)),
         Made::Eos => Ok(Bucket {
             kind: Kind::Eos,
             content: Content::Nothing,
@@ -76,48 +79,55 @@ pub(crate) fn make(alloc: Global, made: Made) -> Result<Bucket, AllocError>
     }
 }
 
-/// Tells a bucket, and what was split off it or left by a read.
-pub(crate) fn show_parts(rt: &HostRuntime, bucket: &Bucket, rest: Option<&Bucket>) -> Result<()> {
-    match rest {
-        Some(rest) => println!(rt; "{} | {}", Shown(bucket), Shown(rest))?,
-        None => println!(rt; "{}", Shown(bucket))?,
-    }
-    Ok(())
-}
-
-/// Tells why a bucket was left as it is, and the bucket.
-pub(crate) fn show_refused<E: fmt::Display>(
+/// Tells a bucket, and what a split or a read left beside it, or why it was left as it is.
+pub(crate) fn show_answer<E: fmt::Display>(
     rt: &HostRuntime,
-    why: &E,
     bucket: &Bucket,
-) -> Result<()> {
-    println!(rt; "{why}, and it is {}", Shown(bucket))?;
-    Ok(())
-}
-
-/// Splits a bucket and tells both parts, or why not and the bucket.
-pub(crate) fn show_split(rt: &HostRuntime, made: Made, at: u64) -> Result<()> {
-    let mut bucket = make(rt.alloc(), made)?;
-    print!(rt; "{} at {at}: ", Shown(&bucket))?;
-    match split_bucket(rt.alloc(), &mut bucket, at) {
-        Ok(rest) => show_parts(rt, &bucket, Some(&rest)),
-        Err(why) => show_refused(rt, &why, &bucket),
+    answer: &Result<Option<Bucket>, E>,
+) -> io::Result<()> {
+    match answer {
+        Ok(Some(rest)) => println!(rt; "{} | {}", shown(bucket), shown(rest)),
+        Ok(None) => println!(rt; "{}", shown(bucket)),
+        Err(why) => println!(rt; "{why}, and it is {}", shown(bucket)),
     }
 }
 
-/// Copies a bucket: the copy has its kind, its bytes and its home.
-pub(crate) fn show_copy(rt: &HostRuntime, made: Made) -> Result<()> {
-    let bucket = make(rt.alloc(), made)?;
-    let copy = copy_bucket(rt.alloc(), &bucket)?;
-    println!(rt; "{}: {}", Shown(&bucket), Shown(&copy))?;
-    Ok(())
+/// A call on one bucket.
+#[derive(Clone, Copy)]
+pub(crate) enum Call {
+    /// It is split at a place.
+    Split(u64),
+    /// Its copy takes its place, which has its kind, its bytes and its home.
+    Copy,
+    /// It is set aside into the pool 9, which its home is above or not.
+    Aside(bool),
 }
 
-/// Sets a bucket aside into the pool 9, which its home is above or not.
-pub(crate) fn show_aside(rt: &HostRuntime, made: Made, is_ancestor: bool) -> Result<()> {
+impl fmt::Display for Call {
+    fn fmt<W: fmt::Write>(&self, f: &mut fmt::Formatter<W>) -> fmt::Result {
+        match self {
+            Call::Split(at) => write!(f, " at {at}: "),
+            Call::Copy | Call::Aside(_) => f.write_str(": "),
+        }
+    }
+}
+
+/// Makes a call, and gives what was split off.
+fn make_call(alloc: Global, bucket: &mut Bucket, call: Call) -> Result<Option<Bucket>, SplitError>
+    requires { EndsInFile bucket.old.content }
+{
+    match call {
+        Call::Split(at) => return split_bucket(alloc, bucket, at).map(Some),
+        Call::Copy => *bucket = copy_bucket(alloc, bucket)?,
+        Call::Aside(is_ancestor) => aside_bucket(bucket, 9, is_ancestor),
+    }
+    Ok(None)
+}
+
+/// Tells a bucket, and what a call makes of it.
+pub(crate) fn show_call(rt: &HostRuntime, made: Made, call: Call) -> Result<()> {
     let mut bucket = make(rt.alloc(), made)?;
-    print!(rt; "{}: ", Shown(&bucket))?;
-    aside_bucket(&mut bucket, 9, is_ancestor);
-    println!(rt; "{}", Shown(&bucket))?;
-    Ok(())
+    print!(rt; "{}{call}", shown(&bucket))?;
+    let answer = make_call(rt.alloc(), &mut bucket, call);
+    Ok(show_answer(rt, &bucket, &answer)?)
 }

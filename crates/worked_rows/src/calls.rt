@@ -1,7 +1,9 @@
-//! Calls that move buckets, of rings and of brigades alike.
+//! Calls that put and move buckets, in rings and in brigades alike.
 
-use brigade_ops::BucketId;
-use std::fmt;
+use bucket_ring::{BucketId, RingRefusal};
+
+/// What a call answers that puts a bucket in: its name, or why there is none, with what was to be put in.
+pub(crate) type Put<T> = Result<BucketId, (RingRefusal, T)>;
 
 /// Where a bucket is put: at an end of a ring or a brigade of this name, or beside another bucket.
 #[derive(Clone, Copy)]
@@ -12,7 +14,7 @@ pub(crate) enum Place {
     After(BucketId),
 }
 
-/// The one call of a row that moves.
+/// A call that moves buckets.
 #[derive(Clone, Copy)]
 pub(crate) enum Call {
     /// Moves one bucket.
@@ -23,37 +25,58 @@ pub(crate) enum Call {
     All(u64, u64),
 }
 
-/// Two rings or brigades, and the four buckets that are put into the first.
+/// A name that no bucket has.
+const NO_BUCKET: BucketId = BucketId { slot: 0, birth: 0 };
+
+/// The first four buckets that a row puts in, which tables call by their numbers, from 0 on.
 #[derive(Clone, Copy)]
-pub(crate) struct Four {
-    pub(crate) r: u64,
-    pub(crate) s: u64,
-    pub(crate) a: BucketId,
-    pub(crate) b: BucketId,
-    pub(crate) c: BucketId,
-    pub(crate) d: BucketId,
+pub(crate) struct Buckets {
+    names: [BucketId; 4],
+    count: usize,
 }
 
-/// Tells what stands in two of them.
-pub(crate) fn show_two(
-    rt: &HostRuntime,
-    what: &str,
-    first: &str,
-    second: &str,
-) -> anyhow::Result<()> {
-    println!(rt; "{what}: \"{first}\" and \"{second}\"")?;
-    Ok(())
-}
+/// Before the first one is put in.
+pub(crate) const NO_BUCKETS: Buckets = Buckets {
+    names: [NO_BUCKET; 4],
+    count: 0,
+};
 
-/// Tells the name that was given out, or why there is none.
-pub(crate) fn show_named<E: fmt::Display>(
-    rt: &HostRuntime,
-    what: &str,
-    answer: &Result<u64, E>,
-) -> anyhow::Result<()> {
-    match answer {
-        Ok(name) => println!(rt; "{what} {name}")?,
-        Err(why) => println!(rt; "{why}")?,
+impl Buckets {
+    /// Keeps the name of a bucket that was put in.
+    pub(crate) fn note(&mut self, id: BucketId) {
+        if self.count < 4 {
+            self.names[self.count] = id;
+            self.count += 1;
+        }
     }
-    Ok(())
+
+    /// The name of a bucket. Where there is none, it is a name that no bucket has.
+    pub(crate) fn name(&self, number: usize) -> BucketId {
+        if number < 4 {
+            self.names[number]
+        } else {
+            NO_BUCKET
+        }
+    }
+}
+
+/// A place in a table, where buckets go by their numbers.
+#[derive(Clone, Copy)]
+pub(crate) enum At {
+    Head(u64),
+    Tail(u64),
+    Before(usize),
+    After(usize),
+}
+
+impl At {
+    /// The place by the names of buckets.
+    pub(crate) fn among(self, buckets: &Buckets) -> Place {
+        match self {
+            At::Head(name) => Place::Head(name),
+            At::Tail(name) => Place::Tail(name),
+            At::Before(number) => Place::Before(buckets.name(number)),
+            At::After(number) => Place::After(buckets.name(number)),
+        }
+    }
 }

@@ -2,6 +2,7 @@
 
 ghost use Rattle.std.specs.Prelude.{◌<◌, ◌≤◌, length};
 
+use crate::missing::Missing;
 use crate::modules::{
     ALIAS_CERT, ALIAS_DELETED, ALIAS_WITHOUT_FACT, ASIDE_CERT, ASIDE_INTO_REQUEST, IDENTITY,
     IDENTITY_CERT, IDENTITY_SLIM, KEEPER_CONCATS, LOOPING_INIT, NEXT_THEN_UNLINK,
@@ -9,110 +10,167 @@ use crate::modules::{
 };
 use anyhow::Result;
 use life_cert::{CertRefusal, MakeRefusal, make, print_cert, read_cert, slim};
-use life_check::{Cert, ChainRefusal, CheckRefusal, CheckedChain, Rule, accept_chain, check};
+use life_check::{Cert, ChainRefusal, CheckRefusal, Rule, accept_chain, check};
 use life_state::State;
 use module_lang::{Module, assemble, print_module};
 use run_model::FaultKind;
 use std::alloc::Global;
-use std::fmt;
-use std::io::{self, Write};
+use std::{fmt, io};
 
-/// What a check refuses by, in the words of `certify`.
-#[derive(Clone, Copy)]
-struct ByRule(Rule);
-
-impl fmt::Display for ByRule {
-    fn fmt<W: fmt::Write>(&self, f: &mut fmt::Formatter<W>) -> fmt::Result {
-        match self.0 {
-            Rule::Shape => write!(f, "shape"),
-            Rule::Entry => write!(f, "entry"),
-            Rule::May(kind) => write!(f, "F{}", number(kind)),
-            Rule::Flow => write!(f, "flow"),
-            Rule::Exit => write!(f, "exit"),
-            Rule::Request => write!(f, "request"),
-        }
+/// The word of `certify` for what a check refuses by.
+fn word_of(rule: Rule) -> &'static str {
+    match rule {
+        Rule::Shape => "shape",
+        Rule::Entry => "entry",
+        Rule::May(kind) => fault_name(kind),
+        Rule::Flow => "flow",
+        Rule::Exit => "exit",
+        Rule::Request => "request",
     }
 }
 
-fn number(kind: FaultKind) -> u8 {
+fn fault_name(kind: FaultKind) -> &'static str {
     match kind {
-        FaultKind::F1 => 1,
-        FaultKind::F2 => 2,
-        FaultKind::F3 => 3,
-        FaultKind::F4 => 4,
-        FaultKind::F5 => 5,
-        FaultKind::F6 => 6,
-        FaultKind::F7 => 7,
-        FaultKind::F8 => 8,
-        FaultKind::F9 => 9,
-        FaultKind::F10 => 10,
+        FaultKind::F1 => "F1",
+        FaultKind::F2 => "F2",
+        FaultKind::F3 => "F3",
+        FaultKind::F4 => "F4",
+        FaultKind::F5 => "F5",
+        FaultKind::F6 => "F6",
+        FaultKind::F7 => "F7",
+        FaultKind::F8 => "F8",
+        FaultKind::F9 => "F9",
+        FaultKind::F10 => "F10",
     }
 }
 
-/// A row of modules and certificates. The first text is that of a module.
+/// What a certificate is made to say before it is used.
+#[derive(Clone, Copy)]
+enum Edit {
+    /// What its text says.
+    Nothing,
+    /// Nothing before this instruction.
+    Without(usize),
+    /// Before this instruction, what the whole certificate of the first module says there.
+    With(usize),
+    /// As much after a request as before it.
+    ReadyAsIdle,
+    /// Nothing after a request.
+    Unready,
+}
+
+/// The texts of a module and a certificate, and what that is made to say.
+#[derive(Clone, Copy)]
+struct Part(&'static [u8], &'static [u8], Edit);
+
+/// What is told of a module.
+#[derive(Clone, Copy)]
+enum Form {
+    /// It is printed.
+    Printed,
+    /// A certificate is made of it.
+    Made,
+    /// A certificate is made of it, and told in its slim form.
+    Slimmed,
+}
+
+/// A row of modules and certificates.
 #[derive(Clone, Copy)]
 enum Row {
     /// What the next rows are of.
     Says(&'static str),
-    /// The module is printed.
-    Printed(&'static [u8]),
-    /// A certificate is made of it.
-    Made(&'static [u8]),
-    /// A certificate is made of it, and told in its slim form.
-    Slimmed(&'static [u8]),
-    /// It is checked with a certificate.
-    Checked(&'static str, &'static [u8], &'static [u8]),
-    /// The first module is checked with its certificate, without one line, for each of its lines.
-    Without,
-    /// It is checked with its slim certificate, without what that says before this instruction.
-    SlimWithout(&'static str, usize),
-    /// It is checked with its slim certificate, and with what the whole one says before this instruction.
-    SlimWith(&'static str, usize),
-    /// The first module is checked, where the end of a request says no more than its beginning.
-    ReadyAsIdle,
+    /// What becomes of the module of this text.
+    Code(&'static [u8], Form),
+    /// A module is checked with a certificate.
+    Checked(&'static str, Part),
     /// The first bytes of a certificate are read, so many that so many are left.
     Read(&'static [u8], usize),
-    /// The first module and another, with this certificate, are a chain.
-    Chain(&'static [u8], &'static [u8]),
-    /// The first module and itself are a chain, the second without what holds after a request.
-    ChainUnready,
+    /// Modules with their certificates are a chain.
+    Chain(&'static [Part]),
 }
 
 /// A text is read as a module, which is printed in the one way. A certificate is made where no instruction may have a fault; else the
 /// lowest that may is told. It is accepted where its states follow from one another, and refused without any one of its lines. What is read
 /// is printed as it was. A chain is accepted where each module is; else the first is told that is not.
-const ROWS: &[Row] = &[
+static ROWS: &[Row] = &[
     Row::Says("a module is printed"),
-    Row::Printed(IDENTITY),
+    Row::Code(IDENTITY, Form::Printed),
     Row::Says("certificates are made"),
-    Row::Made(IDENTITY),
-    Row::Made(NEXT_THEN_UNLINK),
-    Row::Made(LOOPING_INIT),
-    Row::Made(KEEPER_CONCATS),
-    Row::Made(REUSED_PASSED_BRIGADE),
-    Row::Made(READ_AFTER_DELETE),
-    Row::Made(ALIAS_DELETED),
-    Row::Made(ASIDE_INTO_REQUEST),
+    Row::Code(IDENTITY, Form::Made),
+    Row::Code(NEXT_THEN_UNLINK, Form::Made),
+    Row::Code(LOOPING_INIT, Form::Made),
+    Row::Code(KEEPER_CONCATS, Form::Made),
+    Row::Code(REUSED_PASSED_BRIGADE, Form::Made),
+    Row::Code(READ_AFTER_DELETE, Form::Made),
+    Row::Code(ALIAS_DELETED, Form::Made),
+    Row::Code(ASIDE_INTO_REQUEST, Form::Made),
     Row::Says("certificates are checked"),
-    Row::Checked("of what passes on what it gets", IDENTITY, IDENTITY_CERT),
+    Row::Checked(
+        "of what passes on what it gets",
+        Part(IDENTITY, IDENTITY_CERT, Edit::Nothing),
+    ),
     Row::Checked(
         "of two cursors that may be at one bucket",
-        ALIAS_DELETED,
-        ALIAS_WITHOUT_FACT,
+        Part(ALIAS_DELETED, ALIAS_WITHOUT_FACT, Edit::Nothing),
     ),
-    Row::Checked("of the same, said to be at two", ALIAS_DELETED, ALIAS_CERT),
+    Row::Checked(
+        "of the same, said to be at two",
+        Part(ALIAS_DELETED, ALIAS_CERT, Edit::Nothing),
+    ),
     Row::Checked(
         "of what is kept past its request",
-        ASIDE_INTO_REQUEST,
-        ASIDE_CERT,
+        Part(ASIDE_INTO_REQUEST, ASIDE_CERT, Edit::Nothing),
     ),
-    Row::Without,
-    Row::ReadyAsIdle,
+    Row::Checked(
+        "without line 0",
+        Part(IDENTITY, IDENTITY_CERT, Edit::Without(0)),
+    ),
+    Row::Checked(
+        "without line 1",
+        Part(IDENTITY, IDENTITY_CERT, Edit::Without(1)),
+    ),
+    Row::Checked(
+        "without line 2",
+        Part(IDENTITY, IDENTITY_CERT, Edit::Without(2)),
+    ),
+    Row::Checked(
+        "without line 3",
+        Part(IDENTITY, IDENTITY_CERT, Edit::Without(3)),
+    ),
+    Row::Checked(
+        "without line 4",
+        Part(IDENTITY, IDENTITY_CERT, Edit::Without(4)),
+    ),
+    Row::Checked(
+        "without line 5",
+        Part(IDENTITY, IDENTITY_CERT, Edit::Without(5)),
+    ),
+    Row::Checked(
+        "without line 6",
+        Part(IDENTITY, IDENTITY_CERT, Edit::Without(6)),
+    ),
+    Row::Checked(
+        "without line 7",
+        Part(IDENTITY, IDENTITY_CERT, Edit::Without(7)),
+    ),
+    Row::Checked(
+        "with ready as idle",
+        Part(IDENTITY, IDENTITY_CERT, Edit::ReadyAsIdle),
+    ),
     Row::Says("slim certificates"),
-    Row::Slimmed(IDENTITY),
-    Row::Checked("of what passes on what it gets", IDENTITY, IDENTITY_SLIM),
-    Row::SlimWithout("without the state of a target", 5),
-    Row::SlimWith("with a state elsewhere", 3),
+    Row::Code(IDENTITY, Form::Slimmed),
+    Row::Checked(
+        "of what passes on what it gets",
+        Part(IDENTITY, IDENTITY_SLIM, Edit::Nothing),
+    ),
+    Row::Checked(
+        "without the state of a target",
+        Part(IDENTITY, IDENTITY_SLIM, Edit::Without(5)),
+    ),
+    Row::Checked(
+        "with a state elsewhere",
+        Part(IDENTITY, IDENTITY_SLIM, Edit::With(3)),
+    ),
     Row::Says("certificates are read"),
     Row::Read(IDENTITY_CERT, 0),
     Row::Read(IDENTITY_CERT, 4),
@@ -120,45 +178,79 @@ const ROWS: &[Row] = &[
     Row::Read(IDENTITY_SLIM, 4),
     Row::Read(b"cert 1\nidle sent=yes\nready none\nend\n", 0),
     Row::Says("chains are accepted"),
-    Row::Chain(IDENTITY, IDENTITY_CERT),
-    Row::Chain(ALIAS_DELETED, ALIAS_CERT),
-    Row::ChainUnready,
+    Row::Chain(&[
+        Part(IDENTITY, IDENTITY_CERT, Edit::Nothing),
+        Part(IDENTITY, IDENTITY_CERT, Edit::Nothing),
+    ]),
+    Row::Chain(&[
+        Part(IDENTITY, IDENTITY_CERT, Edit::Nothing),
+        Part(ALIAS_DELETED, ALIAS_CERT, Edit::Nothing),
+    ]),
+    Row::Chain(&[
+        Part(IDENTITY, IDENTITY_CERT, Edit::Nothing),
+        Part(IDENTITY, IDENTITY_CERT, Edit::Unready),
+    ]),
 ];
 
-/// Tells a text of one line or more.
-fn show_text(rt: &HostRuntime, text: &[u8]) -> Result<()> {
-    io::writer(rt).write_all(text)?;
-    Ok(())
+/// No chain has more modules.
+const MOST: usize = 16;
+
+/// Has a certificate say this before an instruction.
+fn set(cert: &mut Cert, line: usize, state: Option<State>) {
+    if line < cert.at.len() {
+        cert.at[line] = state;
+    }
 }
 
-fn show_module(rt: &HostRuntime, text: &[u8]) -> Result<()> {
-    let mut printed = Vec::new(rt.alloc());
-    print_module(&assemble(rt.alloc(), text)?, &mut printed)?;
-    show_text(rt, printed.as_slice())
+/// The certificate of a text, made to say something else.
+fn edited(alloc: Global, known: &[u8], edit: Edit) -> Result<Cert> {
+    let mut cert = read_cert(alloc, known)?;
+    match edit {
+        Edit::Nothing => {}
+        Edit::Without(line) => set(&mut cert, line, None),
+        Edit::With(line) => {
+            let state = read_cert(alloc, IDENTITY_CERT)?.state(line);
+            set(&mut cert, line, state);
+        }
+        Edit::ReadyAsIdle => cert.ready = cert.idle,
+        Edit::Unready => cert.ready = None,
+    }
+    Ok(cert)
 }
 
-fn show_cert(rt: &HostRuntime, cert: &Cert) -> Result<()> {
-    let mut text = Vec::new(rt.alloc());
-    print_cert(cert, &mut text)?;
-    show_text(rt, text.as_slice())
+/// A module with its certificate.
+fn part_of(alloc: Global, part: Part) -> Result<(Module, Cert)> {
+    let Part(text, known, edit) = part;
+    Ok((assemble(alloc, text)?, edited(alloc, known, edit)?))
 }
 
-/// Tells that something is refused at a place.
-fn show_refused(rt: &HostRuntime, what: &str, pc: usize, rule: Rule) -> Result<()> {
-    println!(rt; "refused {what}at {pc}: {}", ByRule(rule))?;
-    Ok(())
+/// Modules with their certificates.
+fn parts_of(alloc: Global, parts: &[Part]) -> Result<Vec<(Module, Cert)>> {
+    let mut chain = Vec::new(alloc);
+    for part in parts {
+        chain.push(part_of(alloc, *part)?)?;
+    }
+    Ok(chain)
 }
 
 fn say(rt: &HostRuntime, text: &str) -> Result<()> {
-    println!(rt; "{text}")?;
-    Ok(())
+    Ok(println!(rt; "{text}")?)
+}
+
+fn show_cert(rt: &HostRuntime, cert: &Cert) -> Result<()> {
+    Ok(print_cert(cert, &mut io::writer(rt))?)
+}
+
+/// Tells that something is refused at a place.
+fn show_refused(rt: &HostRuntime, pc: usize, rule: Rule) -> Result<()> {
+    Ok(println!(rt; "refused at {pc}: {}", word_of(rule))?)
 }
 
 /// Tells the certificate that is made of a module, or why there is none.
 fn show_made(rt: &HostRuntime, code: &Module) -> Result<()> {
     match make(rt.alloc(), code) {
         Ok(cert) => show_cert(rt, &cert),
-        Err(MakeRefusal::At { pc, rule }) => show_refused(rt, "", pc, rule),
+        Err(MakeRefusal::At { pc, rule }) => show_refused(rt, pc, rule),
         Err(MakeRefusal::NoMemory) => say(rt, "no memory"),
     }
 }
@@ -171,69 +263,28 @@ fn show_slimmed(rt: &HostRuntime, code: &Module) -> Result<()> {
     }
 }
 
+/// Tells what becomes of a module.
+fn show_form(rt: &HostRuntime, code: &Module, form: Form) -> Result<()> {
+    match form {
+        Form::Printed => Ok(print_module(code, &mut io::writer(rt))?),
+        Form::Made => show_made(rt, code),
+        Form::Slimmed => show_slimmed(rt, code),
+    }
+}
+
+/// Tells what becomes of the module of a text.
+fn show_code(rt: &HostRuntime, text: &[u8], form: Form) -> Result<()> {
+    show_form(rt, &assemble(rt.alloc(), text)?, form)
+}
+
 /// Tells what a check answers.
-fn show_checked(rt: &HostRuntime, what: &str, code: &Module, cert: &Cert) -> Result<()> {
+fn show_checked(rt: &HostRuntime, what: &str, part: Part) -> Result<()> {
     print!(rt; "{what}: ")?;
-    match check(code, cert) {
+    let (code, cert) = part_of(rt.alloc(), part)?;
+    match check(&code, &cert) {
         Ok(()) => say(rt, "accepted"),
-        Err(CheckRefusal { pc, rule }) => show_refused(rt, "", pc, rule),
+        Err(CheckRefusal { pc, rule }) => show_refused(rt, pc, rule),
     }
-}
-
-/// Tells what a check answers to the texts of a module and a certificate.
-fn show_texts(rt: &HostRuntime, what: &str, text: &[u8], known: &[u8]) -> Result<()> {
-    let known = read_cert(rt.alloc(), known)?;
-    show_checked(rt, what, &assemble(rt.alloc(), text)?, &known)
-}
-
-/// Tells what a check answers to the certificate of the first module without each of its lines.
-fn show_each_without(rt: &HostRuntime) -> Result<()> {
-    for line in 0..8usize {
-        show_without(rt, line)?;
-    }
-    Ok(())
-}
-
-fn show_without(rt: &HostRuntime, line: usize) -> Result<()> {
-    print!(rt; "without line {line}")?;
-    show_with(rt, "", IDENTITY_CERT, line, None)
-}
-
-/// Tells what a check answers where a slim certificate says this before an instruction.
-fn show_slim_with(rt: &HostRuntime, what: &str, line: usize, state: Option<State>) -> Result<()> {
-    show_with(rt, what, IDENTITY_SLIM, line, state)
-}
-
-/// Tells what a check answers to a certificate of the first module that says this before an instruction.
-fn show_with(
-    rt: &HostRuntime,
-    what: &str,
-    known: &[u8],
-    line: usize,
-    state: Option<State>,
-) -> Result<()> {
-    let mut other = read_cert(rt.alloc(), known)?;
-    if line < other.at.len() {
-        other.at[line] = state;
-    }
-    show_checked(rt, what, &assemble(rt.alloc(), IDENTITY)?, &other)
-}
-
-/// The state of the first module before an instruction.
-fn state_before(alloc: Global, line: usize) -> Result<Option<State>> {
-    Ok(read_cert(alloc, IDENTITY_CERT)?.state(line))
-}
-
-/// Tells what a check answers where the certificate says as much after a request as before it.
-fn show_ready_as_idle(rt: &HostRuntime) -> Result<()> {
-    let mut less = read_cert(rt.alloc(), IDENTITY_CERT)?;
-    less.ready = less.idle;
-    show_checked(
-        rt,
-        "with ready as idle",
-        &assemble(rt.alloc(), IDENTITY)?,
-        &less,
-    )
 }
 
 /// Tells the first faulty line of a certificate text, or what is printed of it.
@@ -241,65 +292,38 @@ fn show_read(rt: &HostRuntime, text: &[u8], left: usize) -> Result<()> {
     let (text, _) = text.split_at(text.len().saturating_sub(left));
     match read_cert(rt.alloc(), text) {
         Ok(cert) => show_cert(rt, &cert),
-        Err(CertRefusal::Fault { line, code }) => show_line(rt, line, code.number()),
+        Err(CertRefusal::Fault { line, code }) => {
+            Ok(println!(rt; "cert line {line} code {}", code.number())?)
+        }
         Err(CertRefusal::NoMemory) => say(rt, "no memory"),
     }
 }
 
-fn show_line(rt: &HostRuntime, line: usize, code: u8) -> Result<()> {
-    println!(rt; "cert line {line} code {code}")?;
-    Ok(())
-}
-
-/// A module with its certificate.
-fn part_of(alloc: Global, text: &[u8], known: Cert) -> Result<(Module, Cert)> {
-    Ok((assemble(alloc, text)?, known))
-}
-
-/// Tells what becomes of the chain of the module that passes on what it gets, and another.
-fn show_chain(rt: &HostRuntime, text: &[u8], known: Cert) -> Result<()> {
-    let alloc = rt.alloc();
-    let first = part_of(alloc, IDENTITY, read_cert(alloc, IDENTITY_CERT)?)?;
-    let second = part_of(alloc, text, known)?;
-    show_accepted(rt, accept_chain(alloc, vec![in alloc; first, second]?))
-}
-
-/// Tells whether a chain was accepted.
-fn show_accepted(rt: &HostRuntime, accepted: Result<CheckedChain, ChainRefusal>) -> Result<()> {
-    match accepted {
-        Ok(chain) => println!(rt; "accepted, of {} modules", chain.modules().len())?,
-        Err(ChainRefusal::At { index, refusal }) => {
-            print!(rt; "refused module {index} at {}: ", refusal.pc)?;
-            println!(rt; "{}", ByRule(refusal.rule))?
-        }
-        Err(ChainRefusal::NoMemory) => println!(rt; "no memory")?,
+/// Tells whether a chain is accepted.
+fn show_chain(rt: &HostRuntime, parts: &[Part]) -> Result<()> {
+    let chain = parts_of(rt.alloc(), parts)?;
+    if chain.is_empty() || chain.len() > MOST {
+        return Err(Missing.into());
     }
-    Ok(())
+    match accept_chain(rt.alloc(), chain) {
+        Ok(chain) => Ok(println!(rt; "accepted, of {} modules", chain.modules().len())?),
+        Err(ChainRefusal::At { index, refusal }) => show_part_refused(rt, index, refusal),
+        Err(ChainRefusal::NoMemory) => say(rt, "no memory"),
+    }
 }
 
-/// The certificate of the first module, without what holds after a request.
-fn unready(alloc: Global) -> Result<Cert> {
-    let mut less = read_cert(alloc, IDENTITY_CERT)?;
-    less.ready = None;
-    Ok(less)
+fn show_part_refused(rt: &HostRuntime, index: usize, refusal: CheckRefusal) -> Result<()> {
+    let word = word_of(refusal.rule);
+    Ok(println!(rt; "refused module {index} at {}: {word}", refusal.pc)?)
 }
 
 fn show_row(rt: &HostRuntime, row: Row) -> Result<()> {
     match row {
         Row::Says(text) => say(rt, text),
-        Row::Printed(text) => show_module(rt, text),
-        Row::Made(text) => show_made(rt, &assemble(rt.alloc(), text)?),
-        Row::Slimmed(text) => show_slimmed(rt, &assemble(rt.alloc(), text)?),
-        Row::Checked(what, text, known) => show_texts(rt, what, text, known),
-        Row::Without => show_each_without(rt),
-        Row::SlimWithout(what, line) => show_slim_with(rt, what, line, None),
-        Row::SlimWith(what, line) => {
-            show_slim_with(rt, what, line, state_before(rt.alloc(), line)?)
-        }
-        Row::ReadyAsIdle => show_ready_as_idle(rt),
+        Row::Code(text, form) => show_code(rt, text, form),
+        Row::Checked(what, part) => show_checked(rt, what, part),
         Row::Read(text, left) => show_read(rt, text, left),
-        Row::Chain(text, known) => show_chain(rt, text, read_cert(rt.alloc(), known)?),
-        Row::ChainUnready => show_chain(rt, IDENTITY, unready(rt.alloc())?),
+        Row::Chain(parts) => show_chain(rt, parts),
     }
 }
 

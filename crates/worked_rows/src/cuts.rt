@@ -1,4 +1,4 @@
-//! Rows of one bucket of a brigade: it is split, copied and read, and a brigade is parted at a point.
+//! Cuts of brigades: a bucket is split, copied and read, and a brigade is parted at a point.
 
 ghost use Rattle.std.specs.Prelude.{◌≡◌, Some, All, IfOk, true, is_some, IsTrue};
 ghost use Rattle.run_model.specs.Cutting.{EndsInFile, form_of, form_of_kind};
@@ -9,16 +9,16 @@ ghost use Rattle.bucket_ring.specs.declared.names.BucketId.{BucketId};
 ghost use Rattle.brigade_ops.specs.Store.{lists, brigade_of, bucket_at};
 ghost use Rattle.stored_rings.specs.Views.{content_of};
 
-use crate::brigades::{put, show_brigade};
-use crate::buckets::{Made, make, range};
-use crate::calls::Place;
+use crate::brigades::show_bucket;
+use crate::buckets::{Made, make};
+use crate::calls::At;
 use crate::missing::Missing;
 use crate::reads::files_of;
-use crate::shown::{Seen, Shown};
 use crate::there::{want_both, want_brigade, want_bucket};
+use crate::world::{A, ONE, World};
 use anyhow::Result;
 use brigade_ops::{BrigadeId, Brigades, BucketId, ContentView, Cut, Rings, Stored, View};
-use bucket_kinds::{Bucket, FileNo, Files};
+use bucket_kinds::{Bucket, FileNo, Files, MemFiles};
 use std::alloc::Global;
 
 /// Whether what a bucket stands for ends below 2^64.
@@ -31,61 +31,16 @@ pub(crate) fn ends_in_file(bucket: View<'_>) -> bool
     }
 }
 
-/// Makes a brigade of this one bucket.
-pub(crate) fn hold<R: Rings<Stored> + Drop>(
-    store: &mut Brigades<R>,
-    bucket: Bucket,
-) -> Result<(BrigadeId, BucketId)> {
-    let brigade = store.loose()?;
-    let id = put(store, Place::Tail(brigade), bucket)?;
-    Ok((brigade, id))
-}
-
-/// Splits the one bucket of a brigade, and tells the brigade.
-pub(crate) fn show_split<R: Rings<Stored> + Drop>(
-    rt: &HostRuntime,
-    store: &mut Brigades<R>,
-    made: Made,
-    at: u64,
-) -> Result<()> {
-    let bucket = make(rt.alloc(), made)?;
-    print!(rt; "{} at {at}: ", Shown(&bucket))?;
-    let (brigade, id) = hold(store, bucket)?;
-    want_bucket(store, id)?;
-    if !ends_in_file(store.payload(id)) {
-        return Err(Missing.into());
-    }
-    if let Err(why) = store.split(id, at) {
-        print!(rt; "{why}, and it is ")?;
-    }
-    show_brigade(rt, store, brigade)
-}
-
-/// Puts a copy of the bucket of a brigade into another, and tells both.
-pub(crate) fn show_copy<R: Rings<Stored> + Drop>(
-    rt: &HostRuntime,
-    store: &mut Brigades<R>,
-    made: Made,
-) -> Result<()> {
-    let (brigade, id) = hold(store, make(rt.alloc(), made)?)?;
-    let other = store.loose()?;
-    want_both(store, id, other)?;
-    store.copy(id, other)?;
-    show_brigade(rt, store, brigade)?;
-    show_brigade(rt, store, other)
-}
-
-/// The buckets of a row, three at most.
+/// The buckets of a row.
 pub(crate) fn make_all(alloc: Global, made: &[Made]) -> Result<Vec<Bucket>>
     ensures ends { IfOk result (λ bs. All (λ x. EndsInFile x.content) bs.items) }
     ensures fits { IfOk result (λ bs. All (λ x. form_of x.content ≡ form_of_kind x.kind) bs.items) }
 {
-    match made {
-        [a] => Ok(vec![in alloc; make(alloc, *a)?]?),
-        [a, b] => Ok(vec![in alloc; make(alloc, *a)?, make(alloc, *b)?]?),
-        [a, b, c] => Ok(vec![in alloc; make(alloc, *a)?, make(alloc, *b)?, make(alloc, *c)?]?),
-        _ => Ok(Vec::new(alloc)),
+    let mut buckets = Vec::new(alloc);
+    for one in made {
+        buckets.push(make(alloc, *one)?)?;
     }
+    Ok(buckets)
 }
 
 /// Makes a brigade of these buckets.
@@ -105,23 +60,17 @@ pub(crate) fn fill<R: Rings<Stored> + Drop>(
     Ok(brigade)
 }
 
-/// Parts a brigade of these buckets at a point, and tells the place and the brigade.
-pub(crate) fn show_partition<R: Rings<Stored> + Drop>(
-    rt: &HostRuntime,
+/// Parts a brigade of these buckets at a point.
+fn part<R: Rings<Stored> + Drop>(
     store: &mut Brigades<R>,
-    made: &[Made],
+    buckets: Vec<Bucket>,
     point: u64,
-) -> Result<()> {
-    let brigade = fill(store, make_all(rt.alloc(), made)?)?;
-    match store.partition(brigade, point)? {
-        Cut::Found(id) => {
-            want_bucket(store, id)?;
-            print!(rt; "at {point}: before {}, ", Seen(store.payload(id)))?
-        }
-        Cut::AtEnd => print!(rt; "at {point}: the end, ")?,
-        Cut::Incomplete => print!(rt; "at {point}: incomplete, ")?,
-    }
-    show_brigade(rt, store, brigade)
+) -> Result<Cut>
+    requires ends { All (λ x. EndsInFile x.content) buckets.items }
+    requires fits { All (λ x. form_of x.content ≡ form_of_kind x.kind) buckets.items }
+{
+    let brigade = fill(store, buckets)?;
+    Ok(store.partition(brigade, point)?)
 }
 
 /// Whether a bucket that is a range of a file is one of this file.
@@ -157,17 +106,49 @@ fn read<R: Rings<Stored> + Drop, F: Files>(
     Ok(())
 }
 
-/// Reads the first bytes of a file of so many, by the bucket of a brigade.
-pub(crate) fn show_read<R: Rings<Stored> + Drop>(
-    rt: &HostRuntime,
-    store: &mut Brigades<R>,
-    size: usize,
-    len: u32,
-) -> Result<()> {
-    let mut files = files_of(rt.alloc(), size)?;
-    let (file, size) = files.open_file(b"f")?;
-    print!(rt; "{len} of {size}: ")?;
-    let (brigade, id) = hold(store, range(file, 0, len))?;
-    read(rt, store, &mut files, file, id)?;
-    show_brigade(rt, store, brigade)
+impl<R: Rings<Stored> + Drop> World<R> {
+    /// Splits a bucket. Where it is refused, that is told.
+    pub(crate) fn split(&mut self, rt: &HostRuntime, bucket: usize, at: u64) -> Result<()> {
+        print!(rt; " at {at}: ")?;
+        let id = self.buckets.name(bucket);
+        want_bucket(&mut self.store, id)?;
+        if !ends_in_file(self.store.payload(id)) {
+            return Err(Missing.into());
+        }
+        match self.store.split(id, at) {
+            Ok(_) => Ok(()),
+            Err(why) => Ok(print!(rt; "{why}, and it is ")?),
+        }
+    }
+
+    /// Puts a copy of a bucket at the tail of a brigade.
+    pub(crate) fn copy(&mut self, bucket: usize, brigade: BrigadeId) -> Result<()> {
+        let id = self.buckets.name(bucket);
+        want_both(&mut self.store, id, brigade)?;
+        self.store.copy(id, brigade)?;
+        Ok(())
+    }
+
+    /// Makes a brigade of these buckets, parts it at a point, and tells the place.
+    pub(crate) fn part(&mut self, rt: &HostRuntime, made: &[Made], point: u64) -> Result<()> {
+        print!(rt; "at {point}: ")?;
+        match part(&mut self.store, make_all(rt.alloc(), made)?, point)? {
+            Cut::Found(id) => show_bucket(rt, &mut self.store, id, "before "),
+            Cut::AtEnd => Ok(print!(rt; "the end")?),
+            Cut::Incomplete => Ok(print!(rt; "incomplete")?),
+        }
+    }
+
+    /// Reads the first bytes of a file of so many, by a bucket of a brigade.
+    pub(crate) fn read(&mut self, rt: &HostRuntime, size: usize, len: u32) -> Result<()> {
+        self.read_of(rt, &mut files_of(rt.alloc(), size)?, len)
+    }
+
+    fn read_of(&mut self, rt: &HostRuntime, files: &mut MemFiles, len: u32) -> Result<()> {
+        let (file, size) = files.open_file(b"f")?;
+        print!(rt; "{len} of {size}: ")?;
+        self.put(rt, At::Tail(ONE), Made::Range(file, 0, len))?;
+        let id = self.buckets.name(A);
+        read(rt, &mut self.store, files, file, id)
+    }
 }

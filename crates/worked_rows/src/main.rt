@@ -11,7 +11,6 @@ mod cuts;
 mod disk;
 mod missing;
 mod modules;
-mod pooled;
 mod pools;
 mod reads;
 mod regions;
@@ -21,31 +20,29 @@ mod saves;
 mod shown;
 mod sizes;
 mod there;
+mod world;
 
 use anyhow::Result;
 use brigade_ops::Stored;
 use bucket_ring::{PlainRings, RawRings, Rings};
-use pool_tree::PoolTree;
 
-fn of_rings<P: Rings<u8> + Drop, R: Rings<u8> + Drop>(rt: &HostRuntime) -> Result<()> {
-    rings::ring_moves(rt, "in a slab", &mut P::new(rt.alloc(), 1))?;
-    rings::ring_moves(rt, "in a raw block", &mut R::new(rt.alloc(), 1))?;
-    rings::ring_names_spent(rt, "in a slab", &mut P::new(rt.alloc(), u64::MAX - 2))?;
-    rings::ring_names_spent(rt, "in a raw block", &mut R::new(rt.alloc(), u64::MAX - 2))?;
+/// Tells all rows, over rings of two kinds: those of letters, and those of brigades.
+fn show_all<P, R, S, T>(rt: &HostRuntime) -> Result<()>
+where
+    P: Rings<u8> + Drop,
+    R: Rings<u8> + Drop,
+    S: Rings<Stored> + Drop,
+    T: Rings<Stored> + Drop,
+{
+    rings::show_rows::<P, R>(rt)?;
     commands::commands_alike::<P, R>(rt)?;
-    sizes::node_sizes(rt)
-}
-
-fn of_pools(rt: &HostRuntime) -> Result<()> {
+    sizes::node_sizes(rt)?;
     regions::region_spans(rt)?;
-    pools::pool_names_spent(rt)?;
-    pools::destroy_run_order(rt, &mut PoolTree::new(rt.alloc(), 1)?)?;
-    pools::kills(rt, &mut PoolTree::new(rt.alloc(), 1)?)
+    pools::show_rows(rt)?;
+    rows::show_rows::<S, T>(rt)?;
+    certs::show_rows(rt)
 }
 
 fn main(rt: HostRuntime) -> Result<()> {
-    of_rings::<PlainRings<u8>, RawRings<u8>>(&rt)?;
-    of_pools(&rt)?;
-    rows::show_rows::<PlainRings<Stored>, RawRings<Stored>>(&rt)?;
-    certs::show_rows(&rt)
+    show_all::<PlainRings<u8>, RawRings<u8>, PlainRings<Stored>, RawRings<Stored>>(&rt)
 }
