@@ -1,7 +1,4 @@
-use Rattle.std.proofs.lemmas.Result.{err_from_is_err_and}
 use Rattle.bucket_ring.specs.Lists.{put_after}
-use Rattle.stored_rings.specs.Dependents.{noted}
-use Rattle.stored_rings.specs.Noted.{is_noted}
 use Rattle.stored_rings.proofs.Noted.{all_after, same_lists}
 use Rattle.stored_rings.proofs.Tested.{new_noted_at}
 use Rattle.stored_rings.proofs.indexed.IndexedRingsStored.add_after.Goals as goal
@@ -12,19 +9,9 @@ invariant_of-self-2-clause-indexed g c =
     c.tidy.ensures (new_noted_at c.args.self.now c.note.new.self c.add_after.new.self c.in_ok-id.id c.args.payload c.place_of-place.result e.kept e.kind e.home c.place_of-place.ensures e.place
     put_after all_after c.args.at c.requires c.in_ok-id.ensures.ok)
 
-pub invariant_of-self-2-clause-kept : goal.invariant_of-self-2-clause-kept
-invariant_of-self-2-clause-kept g c = g.met.R.Rings.kept c.add_after.new.self
-
 pub returns : goal.returns
 returns g c = c.in_ok-id.ensures
 
 pub invariant_of-self : goal.invariant_of-self
 invariant_of-self g c =
-    let s = c.args.self.now in
-    record {
-      kept = g.met.R.Rings.kept c.add_after.new.self;
-      indexed = same_lists (is_noted (noted s.dependents)) (g.R.Rings.lists s.rings) s.indexed (g.R.Rings.lists c.add_after.new.self) c.in_err-id.ensures.err;
-    }
-
-pub returns-in_err-id : goal.returns-in_err-id
-returns-in_err-id g c = let p = err_from_is_err_and c.from_residual.result c.from_residual.ensures.1 in rw (p.1, p.2) c.in_err-id.ensures
+    record { kept = g.met.R.Rings.kept c.add_after.new.self; indexed = same_lists _ _ c.args.self.now.indexed _ c.in_err-id.ensures.err }
