@@ -1,6 +1,8 @@
-use Rattle.std.proofs.Common.{◌≡◌, ℕ, ◌+◌, ◌++◌, Option, Some, is_some, List, [], filter_map, map, sym, ap, subst, ◌∙◌}
+use Rattle.std.proofs.Common.{◌≡◌, ℕ, ◌+◌, ◌++◌, Option, Some, is_some, List, [], length, filter_map, map, refl, sym, ap, subst, ◌∙◌}
 use Rattle.std.specs.Prelude.{IfSome}
+use Rattle.std.proofs.lemmas.Bool.{false≢true}
 use Rattle.std.proofs.lemmas.Option.{same_Some}
+use Rattle.std.proofs.lemmas.Result.{err_from_is_err_and}
 use Rattle.run_model.specs.declared.payload.Payload.{Payload}
 use Rattle.run_model.specs.Pools.{Pools}
 use Rattle.run_model.specs.Steps.{new_ref}
@@ -9,7 +11,7 @@ use Rattle.bucket_ring.specs.Lists.{on, list_at, found, times}
 use Rattle.brigade_ops.specs.Files.{times_in}
 use Rattle.stored_rings.specs.Items.{Item, Items, named, before_place, from_place, aside_item, aside_behind}
 use Rattle.brigade_ops.specs.Files.{count_at}
-use Rattle.brigade_ops.specs.Store.{lists, brigade_of, pool_of, references}
+use Rattle.brigade_ops.specs.Store.{lists, brigade_of, pool_of, next_name, references}
 use Rattle.pool_tree.proofs.Trees.{tree_formed}
 use Rattle.brigade_ops.specs.House.{AreHoused}
 use Rattle.brigade_ops.proofs.Housed.{house_referred, on_some}
@@ -99,3 +101,55 @@ returns-clause-house g c house =
     ∙ (ap is_some (joined n) ∙ (on_some o n (λ xs. xs ++ bs) (on b (λ xs. []) s) ∙ (on_some b n (λ xs. []) s ∙ some)))))
     (λ n. ap (λ (f : ℕ → Option ℕ). f n) c.put_all_aside.ensures.others.pools)
     (λ f. ap (λ (h : ℕ → ℕ). h f) c.put_all_aside.ensures.others.references ∙ c.in_ok-refer_all.ensures.counted f))
+
+-- no file is to be referred to, whatever the pool is called
+none_for : (ps : Pools Payload) (bs : Items) (pool p : ℕ) → pool ≡ p → filter_map (new_ref ps p) (named bs) ≡ [] → filter_map (new_ref ps pool) (named bs) ≡ []
+none_for ps bs pool p same none = ap (λ (q : ℕ). filter_map (new_ref ps q) (named bs)) same ∙ none
+
+pub returns-in_err-files : goal.returns-in_err-files
+unfolding seen lists brigade_of pool_of next_name references
+returns-in_err-files g c =
+    let gone = err_from_is_err_and c.from_residual.result c.from_residual.ensures.1 in
+    let bs : Items = list_at (lists c.args.self.now) c.args.b in
+    rw gone.1 (record {
+      sure = λ p at none.
+          absurd (false≢true (c.in_err-files.ensures.sure
+          (none_for (map_of c.args.tree.now) bs c.in-Some.pool p (same_Some _ p (sym c.in-Some.is ∙ (c.get.ensures ∙ at))) none)));
+      ok = tt;
+      names = λ id there young. there;
+      registered = tt;
+      err = λ n. refl;
+      counted = tt;
+      uncounted = λ f. refl;
+      next = refl;
+      house = λ house. house;
+      pools = refl;
+      formed = tree_formed c.args.tree.now;
+      kept = refl;
+      unasked = refl;
+      tree_unasked = refl;
+    })
+
+pub returns-in_err-refer_all : goal.returns-in_err-refer_all
+unfolding seen lists brigade_of pool_of next_name references count_at
+returns-in_err-refer_all g c =
+    let gone = err_from_is_err_and c.from_residual-in_err-refer_all.result c.from_residual-in_err-refer_all.ensures.1 in
+    let bs : Items = list_at (lists c.args.self.now) c.args.b in
+    rw (gone.1, c.in_err-refer_all.ensures.kept) (record {
+      ok = tt;
+      registered = tt;
+      counted = tt;
+      next = refl;
+      err = λ n. refl;
+      names = λ id there young. there;
+      pools = refl;
+      formed = tree_formed c.args.tree.now;
+      sure = λ p at none.
+          let same = none_for (map_of c.args.tree.now) bs c.in-Some.pool p (same_Some _ p (sym c.in-Some.is ∙ (c.get.ensures ∙ at))) none in
+          absurd (false≢true (c.in_err-refer_all.ensures.sure (c.as_slice.ensures ∙ (c.in_ok-files.ensures.ok ∙ same))));
+      kept = refl;
+      uncounted = c.in_err-refer_all.ensures.uncounted;
+      house = λ house. record { held = house.held; there = house.there; referred = λ f. c.in_err-refer_all.ensures.uncounted f ∙ house.referred f };
+      unasked = refl;
+      tree_unasked = c.refer_all.ensures.tree_unasked;
+    })

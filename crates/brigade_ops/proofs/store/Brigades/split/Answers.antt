@@ -1,4 +1,12 @@
-use Rattle.std.proofs.Common.{◌≡◌, ◌++◌, ◌∷◌, ℕ, drop, ap, ◌∙◌}
+use Rattle.std.proofs.Common.{◌≡◌, ◌↔◌, ◌++◌, ◌∷◌, ℕ, drop, is_some, Result, Ok, Err, refl, sym, ap, ◌∙◌}
+use Rattle.std.proofs.lemmas.Result.{err_from_is_err_and}
+use Rattle.bucket_ring.specs.declared.names.RingRefusal.{RingRefusal}
+use Rattle.bucket_ring.specs.declared.names.RingRefusal.TheVariants as ring
+use Rattle.bucket_kinds.specs.declared.refusal.SplitError.{SplitError}
+use Rattle.bucket_kinds.specs.declared.refusal.SplitError.TheVariants as halving
+use Rattle.stored_rings.specs.declared.refusal.SplitRefusal.{SplitRefusal}
+use Rattle.stored_rings.specs.declared.refusal.SplitRefusal.TheVariants as split
+use Rattle.stored_rings.specs.Refusals.{unsplit, unnamed}
 use Rattle.run_model.specs.declared.bucket.Bucket.{Bucket}
 use Rattle.run_model.specs.Cutting.{split_at}
 use Rattle.bucket_ring.specs.Lists.{on, list_at, front, rest, put_after, with_payload}
@@ -12,6 +20,72 @@ use Rattle.stored_rings.proofs.Lists.{still_in, set_behind, on_after}
 use Rattle.stored_rings.proofs.Shelves.{found_in}
 use Rattle.brigade_ops.proofs.Added.{added}
 use Rattle.brigade_ops.proofs.store.Brigades.split.Goals as goal
+
+-- a refusal is told as what it was, and as nothing else
+unsplit_metadata : {A B P : Type 0} (why : SplitError) → (◌≡◌ {A = Result A SplitError} (Err why) (Err halving.Metadata)) ↔ P → (◌≡◌ {A = Result B SplitRefusal} (Err (unsplit why)) (Err split.Metadata)) ↔ P
+unsplit_metadata halving.TooLong h = (λ e. absurd (cc), λ p. absurd (cc (h.1 p)))
+unsplit_metadata halving.Metadata h = (λ e. h.0 refl, λ p. refl)
+unsplit_metadata halving.NoMemory h = (λ e. absurd (cc), λ p. absurd (cc (h.1 p)))
+
+unsplit_too_long : {A B P : Type 0} (why : SplitError) → (◌≡◌ {A = Result A SplitError} (Err why) (Err halving.TooLong)) ↔ P → (◌≡◌ {A = Result B SplitRefusal} (Err (unsplit why)) (Err split.TooLong)) ↔ P
+unsplit_too_long halving.TooLong h = (λ e. h.0 refl, λ p. refl)
+unsplit_too_long halving.Metadata h = (λ e. absurd (cc), λ p. absurd (cc (h.1 p)))
+unsplit_too_long halving.NoMemory h = (λ e. absurd (cc), λ p. absurd (cc (h.1 p)))
+
+unsplit_unspent : {B P : Type 0} (why : SplitError) → ◌≡◌ {A = Result B SplitRefusal} (Err (unsplit why)) (Err split.NamesSpent) → P
+unsplit_unspent halving.TooLong e = absurd (cc)
+unsplit_unspent halving.Metadata e = absurd (cc)
+unsplit_unspent halving.NoMemory e = absurd (cc)
+
+unnamed_metadata : {A B P : Type 0} {x : A} (why : RingRefusal) → (◌≡◌ {A = Result A SplitError} (Ok x) (Err halving.Metadata)) ↔ P → (◌≡◌ {A = Result B SplitRefusal} (Err (unnamed why)) (Err split.Metadata)) ↔ P
+unnamed_metadata ring.NoMemory h = (λ e. absurd (cc), λ p. absurd (cc (h.1 p)))
+unnamed_metadata ring.NamesSpent h = (λ e. absurd (cc), λ p. absurd (cc (h.1 p)))
+
+unnamed_too_long : {A B P : Type 0} {x : A} (why : RingRefusal) → (◌≡◌ {A = Result A SplitError} (Ok x) (Err halving.TooLong)) ↔ P → (◌≡◌ {A = Result B SplitRefusal} (Err (unnamed why)) (Err split.TooLong)) ↔ P
+unnamed_too_long ring.NoMemory h = (λ e. absurd (cc), λ p. absurd (cc (h.1 p)))
+unnamed_too_long ring.NamesSpent h = (λ e. absurd (cc), λ p. absurd (cc (h.1 p)))
+
+unnamed_spent : {A B : Type 0} (why : RingRefusal) → ◌≡◌ {A = Result B SplitRefusal} (Err (unnamed why)) (Err split.NamesSpent) → ◌≡◌ {A = Result A RingRefusal} (Err why) (Err ring.NamesSpent)
+unnamed_spent ring.NoMemory e = absurd (cc)
+unnamed_spent ring.NamesSpent e = refl
+
+pub returns-in_err-front : goal.returns-in_err-front
+returns-in_err-front g c =
+    let why = c.in_err-front.field-0.0 in
+    let gone = err_from_is_err_and c.from_residual.result c.from_residual.ensures.1 in
+    rw (gone.1, gone.2) (record {
+      ok = tt;
+      name = tt;
+      metadata = λ x at. unsplit_metadata why (c.in_err-front.ensures.metadata x at);
+      too_long = λ x at. unsplit_too_long why (c.in_err-front.ensures.too_long x at);
+      next = refl;
+      names = λ id there young. there;
+      pools = refl;
+      references = refl;
+      spent = λ is. refl;
+      unspent = λ is. unsplit_unspent why is;
+      err = λ m. refl;
+      unasked = refl;
+    })
+
+pub returns-in_err-room_for : goal.returns-in_err-room_for
+returns-in_err-room_for g c =
+    let why = c.in_err-room_for.field-0.0 in
+    let gone = err_from_is_err_and c.from_residual-in_err-room_for.result c.from_residual-in_err-room_for.ensures.1 in
+    rw (gone.1, gone.2) (record {
+      metadata = λ x at. unnamed_metadata why (c.in_ok-front.ensures.metadata x at);
+      too_long = λ x at. unnamed_too_long why (c.in_ok-front.ensures.too_long x at);
+      ok = tt;
+      name = tt;
+      next = c.room_for.ensures.next;
+      names = λ id there young. ap is_some (sym (c.room_for.ensures.brigades id)) ∙ there;
+      pools = c.room_for.ensures.pools;
+      references = c.room_for.ensures.references;
+      spent = λ is. refl;
+      unspent = λ is. c.in_err-room_for.ensures.spent.0 (unnamed_spent why is);
+      err = c.room_for.ensures.lists;
+      unasked = c.room_for.ensures.unasked;
+    })
 
 pub put_behind-new-requires-clause-whole : goal.put_behind-new-requires-clause-whole
 put_behind-new-requires-clause-whole g c = ap (λ (r : Regions). is_whole (look r) c.in_ok-front.rest.kept) c.room_for.ensures.regions
