@@ -79,5 +79,3 @@ module _ (r : Configuration) (runs : ℕ → Bool) (L : ℕ → Option Items) (s
     go : (o : Option Items) → false ≡ keeps_stray r (shown_as runs n pool Passed o)
     go None = refl
     go (Some xs) = refl
-
-pub ruleset stray_told = (stray_null, stray_gone, stray_passed)

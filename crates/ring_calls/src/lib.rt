@@ -4,7 +4,6 @@
 
 pub mod across;
 pub mod asks;
-pub mod bucket_tests;
 pub mod bytes;
 pub mod context;
 pub mod cursors;

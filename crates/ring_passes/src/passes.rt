@@ -5,7 +5,6 @@ ghost use Rattle.ring_passes.specs.Prelude.{list_at, has_eos, is_eos_kind, set_b
 ghost use Rattle.ring_passes.specs.Prelude.{name_in, slot_at};
 
 use brigade_ops::{BrigadeId, Brigades, Rings, Stored};
-use ring_calls::bucket_tests::any_bucket;
 use ring_calls::machine::{Instance, Slot};
 use run_model::{Kind, Mark};
 
@@ -21,7 +20,15 @@ pub(crate) fn has_eos<R: Rings<Stored> + Drop>(store: &Brigades<R>, b: BrigadeId
     requires { is_some (lists store.now b) ≡ true }
     ensures { (runs : ℕ → Bool) → result ≡ has_eos (shown runs (list_at (lists store.now) b)) }
 {
-    any_bucket(store, b, |id| is_eos(store.payload(id).kind))
+    let mut place = store.start(b);
+    while let Some(id) = place {
+        let kind = store.payload(id).kind;
+        if is_eos(kind) {
+            return true;
+        }
+        place = store.behind(id);
+    }
+    false
 }
 
 /// Whether an EOS stands in the brigade of a variable.

@@ -5,12 +5,10 @@ ghost use Rattle.std.specs.Prelude.{◌≡◌, ◌<◌, true, is_some, IfSome};
 ghost use Rattle.ring_wants.specs.Prelude.{Payload, Pools, WHomes, WHomeAcross, WSend, WReturn, fault_want, homes_fault, send_fault, keeps_stray, lists, Call, Around, contents, OnlyAsked};
 ghost use Rattle.ring_wants.specs.Prelude.{in_context, seen, is_running, live_in};
 
-use crate::home_walks::has_late_data;
-use crate::home_wants::{home_fault, home_of, is_ended};
-use crate::pool_wants::is_stray;
+use crate::home_walks::{has_late_data, has_unfit};
+use crate::home_wants::home_fault;
 use brigade_ops::{BrigadeId, Brigades, Rings, Stored};
 use ring_calls::across::bucket_across;
-use ring_calls::bucket_tests::any_bucket;
 use ring_calls::context::Context;
 use ring_calls::machine::{Call, Instance, Slot};
 use ring_calls::values::value_of;
@@ -45,11 +43,7 @@ pub(crate) fn want_homes<R: Rings<Stored> + Drop>(
     let Some(name) = live(store, instance.slot(b)) else {
         return None;
     };
-    let dead = any_bucket(
-        store,
-        name,
-        |id| is_ended(home_of(call, context, store, id)),
-    );
+    let dead = has_unfit(instance, call, context, store, name, false);
     dead.then_some(FaultKind::F5)
 }
 
@@ -92,7 +86,7 @@ pub(crate) fn want_send<R: Rings<Stored> + Drop>(
 }
 
 /// Whether a variable is a usable brigade with a bucket that does not outlast the call.
-#[tactic(auto, using(crate::proofs::OnlyAsked::asks_once, ring_calls::proofs::Contents::stray_told), unfolding(ring_calls::specs::Seen::seen_over))]
+#[tactic(auto, using(crate::proofs::OnlyAsked::asks_once))]
 fn keeps_stray<R: Rings<Stored> + Drop>(
     instance: &Instance,
     call: &Call,
@@ -108,12 +102,7 @@ fn keeps_stray<R: Rings<Stored> + Drop>(
         return false;
     };
     match mark {
-        Mark::Usable => {
-            store.has(name)
-                && any_bucket(store, name, |id| {
-                    is_stray(instance, context, home_of(call, context, store, id))
-                })
-        }
+        Mark::Usable => { store.has(name) && has_unfit(instance, call, context, store, name, true) }
         Mark::Passed => false,
     }
 }

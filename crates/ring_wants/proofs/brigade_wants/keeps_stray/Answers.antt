@@ -1,27 +1,17 @@
 -- What is asked of a variable is told by its slot.
-use Rattle.std.proofs.Common.{◌≡◌, ℕ, Option, ◌∙◌, rules}
+use Rattle.std.proofs.Common.{ℕ, Option, sym, ap, ◌∙◌}
 use Rattle.std.specs.List.{list_any}
 use Rattle.bucket_ring.specs.Lists.{list_at}
 use Rattle.stored_rings.specs.Items.{Items}
-use Rattle.brigade_ops.specs.Store.{lists}
-use Rattle.run_model.specs.declared.payload.Payload.{Payload}
+use Rattle.brigade_ops.specs.Store.{lists, next_name}
 use Rattle.run_model.specs.Faults.{is_stray}
-use Rattle.run_model.specs.Pools.{Pools}
-use Rattle.ring_calls.specs.Around.{Around}
 use Rattle.ring_calls.specs.Context.{in_context}
 use Rattle.ring_calls.specs.Seen.{seen_over, seen, calls_in, shown}
+use Rattle.ring_calls.specs.declared.machine.Slot.TheVariants as slot
 use Rattle.ring_calls.specs.Slots.{slot_at}
-use Rattle.ring_calls.proofs.Contents.{stray_there}
-use Rattle.ring_wants.proofs.OnlyAsked.{as_before, asked_once}
+use Rattle.ring_calls.proofs.Contents.{stray_gone, stray_null, stray_passed, stray_there}
+use Rattle.ring_wants.proofs.OnlyAsked.{asked_once, lists_same}
 use Rattle.ring_wants.proofs.brigade_wants.keeps_stray.Goals as goal
-use Rattle.ring_wants.proofs.brigade_wants.keeps_stray.Goals.{After-any_bucket}
-
-walked : (g : _) (c : After-any_bucket g) (pools : Pools Payload) (around : Around) → let over = in_context c.args.context.now pools around in
-    c.any_bucket.result ≡ list_any (λ b. is_stray (seen c.has.new.self over c.args.instance.now c.args.call.now) b.bucket.home)
-    (shown (calls_in over c.args.call.now) (list_at (lists c.has.new.self) c.in-Made.name))
-walked g c pools around =
-    let over = in_context c.args.context.now pools around in
-    c.any_bucket.ensures (λ b. is_stray (seen c.has.new.self over c.args.instance.now c.args.call.now) b.bucket.home) (calls_in over c.args.call.now) (search rules)
 
 pub returns-then-has-clause-value : goal.returns-then-has-clause-value
 unfolding seen_over
@@ -29,7 +19,31 @@ returns-then-has-clause-value g c pools around =
     let over = in_context c.args.context.now pools around in
     let i = c.args.instance.now in
     let call = c.args.call.now in
-    let stays = asked_once c.args.store.now c.has.new.self _ c.has.ensures.counted in
-    as_before (λ (L : ℕ → Option Items) (n : ℕ). c.any_bucket.result ≡ list_any (λ b. is_stray (seen_over L n over i call) b.bucket.home) (shown (calls_in over call) (list_at L c.in-Made.name)))
-    c.args.store.now c.has.new.self stays (walked g (goal.at.returns-then-has-clause-value g c).After-any_bucket pools around)
-    ∙ stray_there (seen c.args.store.now over i call) (calls_in over call) (lists c.args.store.now) (slot_at i c.args.b) c.in-Made.name c.in-Made.field-1 (search rules) (search rules)
+    let s = c.args.store.now in
+    c.has_unfit.ensures (lists s) (next_name s) pools around
+    ∙ (ap (λ (L : ℕ → Option Items). list_any (λ b. is_stray (seen s over i call) b.bucket.home) (shown (calls_in over call) (list_at L c.in-Made.name)))
+    (lists_same s c.has.new.self (asked_once s c.has.new.self _ c.has.ensures.counted))
+    ∙ stray_there (seen s over i call) (calls_in over call) (lists s) (slot_at i c.args.b) c.in-Made.name c.in-Made.field-1
+    (sym c.slot.ensures ∙ (c.in-Made.is ∙ ap (slot.Made c.in-Made.name c.in-Made.field-1) c.in-Usable.is)) (sym c.has.ensures.value ∙ c.if-has.true))
+
+pub returns-else-has-clause-value : goal.returns-else-has-clause-value
+unfolding seen_over
+returns-else-has-clause-value g c pools around =
+    let s = c.args.store.now in
+    let over = in_context c.args.context.now pools around in
+    c.if-has.false
+    ∙ stray_gone (seen s over c.args.instance.now c.args.call.now) (calls_in over c.args.call.now) (lists s) (slot_at c.args.instance.now c.args.b) c.in-Made.name c.in-Made.field-1 c.in-Made.mark
+    (sym c.slot.ensures ∙ c.in-Made.is) (sym c.has.ensures.value ∙ c.if-has.false)
+
+pub returns-in_default-clause-value : goal.returns-in_default-clause-value
+unfolding seen_over
+returns-in_default-clause-value g c pools around =
+    stray_null (seen c.args.store.now (in_context c.args.context.now pools around) c.args.instance.now c.args.call.now)
+    (calls_in (in_context c.args.context.now pools around) c.args.call.now) (lists c.args.store.now) (slot_at c.args.instance.now c.args.b) (sym c.slot.ensures ∙ c.in_default.is)
+
+pub returns-in-Passed-clause-value : goal.returns-in-Passed-clause-value
+unfolding seen_over
+returns-in-Passed-clause-value g c pools around =
+    let is = sym c.slot.ensures ∙ (c.in-Made.is ∙ ap (slot.Made c.in-Made.name c.in-Made.field-1) c.in-Passed.is) in
+    stray_passed (seen c.args.store.now (in_context c.args.context.now pools around) c.args.instance.now c.args.call.now)
+    (calls_in (in_context c.args.context.now pools around) c.args.call.now) (lists c.args.store.now) (slot_at c.args.instance.now c.args.b) c.in-Made.name c.in-Made.field-1 is

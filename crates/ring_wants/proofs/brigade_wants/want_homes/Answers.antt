@@ -1,8 +1,7 @@
 -- A dead home of the list is one of the brigade in the variable.
-use Rattle.std.proofs.Common.{sym, ap, ◌∙◌, rules}
+use Rattle.std.proofs.Common.{sym, ap, ◌∙◌}
 use Rattle.std.specs.Bool.{then_some}
 use Rattle.run_model.specs.declared.fault.FaultKind.TheVariants.{F5}
-use Rattle.run_model.specs.Buckets.{is_dead}
 use Rattle.run_model.specs.Faults.{homes_fault}
 use Rattle.brigade_ops.specs.Store.{lists, next_name}
 use Rattle.ring_calls.specs.Seen.{calls_in}
@@ -19,7 +18,7 @@ returns-clause-value g c pools around =
     let s = c.args.store.now in
     let i = c.args.instance.now in
     c.then_some.ensures
-    ∙ (ap (λ t. then_some t F5) (c.any_bucket-dead.ensures is_dead (calls_in over call) (search rules))
+    ∙ (ap (λ t. then_some t F5) (c.has_unfit-dead.ensures (lists s) (next_name s) pools around)
     ∙ (some_where _ F5
     ∙ (ap homes_fault (live_contents s c.live.new.store c.live.ensures.asked (calls_in over call)
     (slot_at i c.args.b) c.in-Some.name (sym c.in-Some.is ∙ (c.live.ensures.value ∙ ap (live_in (lists s)) c.slot.ensures)))
