@@ -1,5 +1,5 @@
 -- By what a clear makes of each brigade, and what it hands on.
-use Rattle.std.proofs.Common.{◌++◌, refl, sym, ap, ◌∙◌}
+use Rattle.std.proofs.Common.{◌≡◌, ◌++◌, ℕ, List, Option, Some, refl, sym, ap, subst, ◌∙◌}
 use Rattle.run_model.specs.declared.payload.Payload.{Payload}
 use Rattle.run_model.specs.Clearing.{run_down}
 use Rattle.run_model.specs.Effects.{files_let_go}
@@ -9,10 +9,88 @@ use Rattle.run_model.specs.State.{name_in, with_pools}
 use Rattle.pool_tree.specs.Tree.{map_of}
 use Rattle.brigade_ops.specs.Store.{lists, next_name}
 use Rattle.ring_calls.specs.Seen.{seen_over}
+use Rattle.stored_rings.specs.Items.{Items}
+use Rattle.ring_calls.specs.declared.machine.Instance.{Instance}
+use Rattle.ring_calls.specs.declared.machine.Call.{Call}
+use Rattle.ring_calls.specs.declared.context.Context.{Context}
+use Rattle.ring_calls.specs.Around.{Around}
+use Rattle.ring_calls.specs.LeftAlone.{LeavesUncleared}
+use Rattle.ring_calls.proofs.LeftAlone.{rest_none, rest_same}
+use Rattle.ring_calls.proofs.Names.{no_less}
+use Rattle.ring_calls.proofs.Quiet.{told_err}
 use Rattle.ring_run.specs.CarriedOut.{during, labels_handed}
+use Rattle.ring_run.specs.declared.labels_run.LabelsRun.{LabelsRun}
 use Rattle.ring_run.proofs.CarriedOut.{done_clear}
 use Rattle.ring_run.proofs.Cleared.{held_cleared, seen_cleared}
+use Rattle.ring_run.proofs.Makes.{held_same}
+use Rattle.ring_run.proofs.Trees.{not_ok, seen_kept}
 use Rattle.ring_run.proofs.clears.clear_pool.Goals as goal
+
+some_is : (a b : ℕ) → Some a ≡ Some b → a ≡ b
+some_is a b e = cc
+
+-- what is the same is seen as the same
+same_during : (L M : ℕ → Option Items) (k l : ℕ) (s : Context) (ps qs : Pools Payload) (hs later : List LabelsRun) (i : Instance) (call : Call) → l ≡ k → qs ≡ ps → ((n : ℕ) → M n ≡ L n)
+    → later ≡ hs → (around : Around) → seen_over M l (during s qs later around) i call ≡ seen_over L k (during s ps hs around) i call
+same_during L M k l s ps qs hs later i call next same out e around =
+    seen_kept L M k l ps qs (during s ps later around) i call next same out ∙ ap (λ (ls : List LabelsRun). seen_over L k (during s ps ls around) i call) e
+
+pub returns-in_err-reserve : goal.returns-in_err-reserve
+returns-in_err-reserve g c =
+    let s = c.args.store.now in
+    let ps = map_of c.args.tree.now in
+    let i = c.args.instance.now in
+    let call = c.args.call.now in
+    record {
+      ok = not_ok c.from_residual.result _ _ c.from_residual.ensures.1;
+      cleared = not_ok c.from_residual.result _ _ c.from_residual.ensures.1;
+      err = told_err _ _ (same_during (lists s) (lists s) (next_name s) (next_name s) c.args.context.now ps ps _ _ i call refl refl (λ n. refl) c.reserve.ensures.items);
+      kept = told_err _ _ refl;
+      unread = told_err _ _ refl;
+      unmoved = told_err _ _ (rest_none s i call);
+      held = c.requires.held;
+      house = c.requires.house;
+      «open» = c.requires.open;
+      next = refl;
+      names = λ id there born. there;
+      unasked = refl;
+      tree_unasked = refl;
+    }
+
+pub returns-in_err-ran : goal.returns-in_err-ran
+returns-in_err-ran g c =
+    let s = c.args.store.now in
+    let new = c.clear.new.self in
+    let ps = map_of c.args.tree.now in
+    let i = c.args.instance.now in
+    let call = c.args.call.now in
+    let e = c.in_err-ran.ensures in
+    record {
+      ok = not_ok c.from_residual-in_err-ran.result _ _ c.from_residual-in_err-ran.ensures.1;
+      cleared = not_ok c.from_residual-in_err-ran.result _ _ c.from_residual-in_err-ran.ensures.1;
+      err = told_err _ _ (same_during (lists s) (lists new) (next_name s) (next_name new) c.args.context.now ps (map_of c.clear.new.tree) _ _ i call e.next e.kept e.err c.reserve.ensures.items);
+      kept = told_err _ _ e.kept;
+      unread = told_err _ _ e.unread;
+      unmoved = told_err _ _ (rest_same s new (no_less _ _ e.next) e.names (λ n. ap (λ (on : ℕ → Option ℕ). on n) e.pools) e.unasked e.err i call);
+      held = held_same s new e.next e.names e.pools e.err i call c.requires.held;
+      house = e.house;
+      «open» = e.open;
+      next = e.next;
+      names = e.names;
+      unasked = e.unasked;
+      tree_unasked = e.tree_unasked;
+    }
+
+pub returns-clause-cleared : goal.returns-clause-cleared
+returns-clause-cleared g c pool named =
+    subst (λ (p : ℕ). LeavesUncleared (is_under (map_of c.args.tree.now) p) c.args.context.now.rings.now c.args.store.now c.clear.new.self)
+    (some_is _ _ (c.in-Some.ensures ∙ (ap name_in c.variable.ensures ∙ named))) (record { lists = c.in_ok-ran.ensures.out; pools = c.in_ok-ran.ensures.off })
+
+pub returns-clause-house : goal.returns-clause-house
+returns-clause-house g c = c.clear.ensures.house
+
+pub returns-clause-open : goal.returns-clause-open
+returns-clause-open g c = c.clear.ensures.open
 
 pub returns-clause-ok : goal.returns-clause-ok
 unfolding seen_over

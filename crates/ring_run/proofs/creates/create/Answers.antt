@@ -1,6 +1,7 @@
 -- The new brigade has the next name.
 use Rattle.std.proofs.Common.{◌==◌, ℕ, [], Some, sym, ap, subst, ◌∙◌}
 use Rattle.std.specs.Prelude.{if◌then◌else◌}
+use Rattle.std.proofs.Math.Path.{fun_ext}
 use Rattle.bucket_ring.specs.Lists as ring
 use Rattle.run_model.specs.declared.bucket.Mark.TheVariants.{Usable}
 use Rattle.run_model.specs.declared.payload.Payload.TheVariants as payload
@@ -10,10 +11,33 @@ use Rattle.brigade_ops.specs.Store.{lists, brigade_of, pool_of, next_name}
 use Rattle.ring_calls.specs.declared.machine.Slot.TheVariants as slot
 use Rattle.ring_calls.specs.Held.{HeldOver}
 use Rattle.ring_calls.specs.Slots.{slot_at}
-use Rattle.ring_run.proofs.CarriedOut.{names_made}
-use Rattle.ring_calls.proofs.LeftAlone.{rest_made}
+use Rattle.ring_run.proofs.CarriedOut.{names_made, names_same}
+use Rattle.ring_run.proofs.Makes.{held_same}
+use Rattle.ring_calls.proofs.LeftAlone.{rest_made, rest_same}
+use Rattle.ring_calls.proofs.Names.{no_less}
 use Rattle.ring_run.proofs.NewBrigades.{created_step, created_held}
+use Rattle.ring_run.proofs.Trees.{seen_kept}
 use Rattle.ring_run.proofs.creates.create.Goals as goal
+
+pub returns-in_default : goal.returns-in_default
+returns-in_default g c =
+    let s = c.args.store.now in
+    let new = c.create.new.self in
+    let i = c.args.instance.now in
+    let e = c.in_default.ensures in
+    record {
+      ok = tt;
+      house = e.house;
+      references = e.references;
+      tree_unasked = e.tree_unasked;
+      slots = names_same (next_name s) (next_name new) i;
+      err = λ around call. seen_kept (lists s) (lists new) (next_name s) (next_name new) (map_of c.args.tree.now) (map_of c.create.new.tree) around i call e.next e.kept e.err;
+      held = λ call. held_same s new e.next e.names (fun_ext e.off) e.err i call;
+      left = λ call. rest_same s new (no_less _ _ e.next) e.names e.off e.unasked e.err i call;
+    }
+
+pub returns-clause-house : goal.returns-clause-house
+returns-clause-house g c = c.in-Ok.ensures.house
 
 pub returns-clause-ok : goal.returns-clause-ok
 returns-clause-ok g c =

@@ -1,33 +1,138 @@
 -- The clear, the read, and all others.
-use Rattle.std.proofs.Common.{◌≡◌, ℕ, Some, refl, sym, ap, ◌∙◌}
+use Rattle.std.proofs.Common.{rules, ◌≡◌, ◌<◌, ℕ, List, Some, None, nat_lt, true, false, refl, sym, ap, ◌∙◌, arith}
+use Rattle.std.proofs.lemmas.Bool.{false≢true}
+use Rattle.std.proofs.lemmas.Bool.Decides.{nat_tests}
 use Rattle.run_model.specs.Faults.{InBrigade, WCursor, WHome}
 use Rattle.pool_tree.specs.Tree.{map_of}
-use Rattle.brigade_ops.specs.Store.{lists, next_name}
+use Rattle.brigade_ops.specs.Store.{lists, next_name, references}
+use Rattle.run_model.specs.declared.payload.Payload.{Payload}
+use Rattle.run_model.specs.BucketSteps.{content_at, names_to_read}
+use Rattle.run_model.specs.Cursors.{spot}
+use Rattle.run_model.specs.Cutting.{wanted}
+use Rattle.run_model.specs.Pools.{Pools}
 use Rattle.ring_run.specs.Apart.{clears_pool_by, is_carried_by, keeps_files_by}
 use Rattle.ring_run.specs.CarriedOut.{during}
 use Rattle.ring_run.specs.Grows.{grows_by}
+use Rattle.ring_run.specs.declared.labels_run.LabelsRun.{LabelsRun}
+use Rattle.ring_calls.specs.declared.context.Context.{Context}
 use Rattle.module_code.specs.declared.instr.Instr.{Instr}
+use Rattle.module_code.specs.Program.{Program, fits}
 use Rattle.run_model.specs.declared.effect.ClearKind.{ClearKind}
 use Rattle.run_model.specs.declared.effect.Effect.{Effect}
 use Rattle.run_model.specs.declared.effect.Effect.TheVariants as effect
-use Rattle.run_model.specs.EffectOf.{effect_of}
+use Rattle.run_model.specs.EffectOf.{effect_of, instr_with}
 use Rattle.ring_calls.specs.declared.machine.Instance.{Instance}
 use Rattle.ring_run.specs.Operands.{cleared_in, pool_to_clear}
 use Rattle.ring_calls.specs.Around.{Around}
 use Rattle.ring_calls.specs.Seen.{seen_over}
 use Rattle.ring_calls.specs.Context.{in_context}
 use Rattle.ring_run.proofs.Carried.{read_within}
-use Rattle.ring_run.proofs.CarriedOut.{carried, carried_read, done_inside, pools_same}
+use Rattle.ring_run.proofs.CarriedOut.{carried, carried_read, done_inside, names_same, pools_same}
+use Rattle.ring_run.proofs.Trees.{house_left, not_ok, open_left}
+use Rattle.ring_calls.proofs.LeftAlone.{rest_others}
+use Rattle.ring_calls.proofs.Names.{no_less}
 use Rattle.ring_calls.proofs.Faultless.{nowhere}
 use Rattle.ring_run.proofs.Instructions.{clears_live, keeps_rest, pool_cleared, reads_so, unanswered, uncleared}
 use Rattle.ring_calls.proofs.Needed.{faultless_by, fits_by, met, stands}
-use Rattle.ring_calls.proofs.Quiet.{told_err}
+use Rattle.ring_calls.proofs.Quiet.{grown_none, told_err}
 use Rattle.ring_calls.proofs.OpenFiles.{open_spot}
 use Rattle.ring_run.proofs.execute_instr.execute_instr.Goals as goal
 
 emptied : (i : Instance) (x : Instr) (e : Effect) (kind : ClearKind) (q pool : ℕ) → e ≡ effect_of x → e ≡ effect.EmptyPool kind q → pool_to_clear i (effect.EmptyPool kind q) ≡ Some pool
     → cleared_in i x ≡ Some pool
 emptied i x e kind q pool of is named = ap (pool_to_clear i) (sym of ∙ is) ∙ named
+
+no_pool : (n : ℕ) → None ≡ Some n → ⊥
+no_pool n e = cc
+
+nothing_over : (n : ℕ) → nat_lt 0 n ≡ false → n ≡ 0
+nothing_over n h = grind (arith, nat_tests)
+
+each_during : (P : Around → Type 0) → ((around : Around) → P around) → (s : Context) (ps : Pools Payload) (hs : List LabelsRun) → (around : Around) → P (during s ps hs around)
+each_during P all s ps hs around = all (during s ps hs around)
+
+pub returns-in_err-clear_pool-in-EmptyPool : goal.returns-in_err-clear_pool-in-EmptyPool
+returns-in_err-clear_pool-in-EmptyPool g c =
+    let s = c.args.store.now in
+    let e = c.in_err-clear_pool-in-EmptyPool.ensures in
+    let clears = pool_cleared c.args.instr (ap clears_pool_by (sym (sym c.in-EmptyPool.is ∙ c.effect_of-effect.ensures))) in
+    record {
+      ok = not_ok c.from_residual.result _ _ c.from_residual.ensures.1;
+      cleared = not_ok c.from_residual.result _ _ c.from_residual.ensures.1;
+      err = told_err _ _ e.err;
+      kept = told_err _ _ e.kept;
+      unread = told_err _ _ e.unread;
+      unmoved = told_err _ _ e.unmoved;
+      sure = λ around none. absurd (false≢true (sym none ∙ clears.wants_memory (seen_over (lists s) (next_name s)
+          (in_context c.args.context.now (map_of c.args.tree.now) around) c.args.instance.now c.args.call.now)));
+      held = e.held;
+      house = e.house;
+      «open» = e.open;
+      name = refl;
+      slots = names_same _ _ c.args.instance.now;
+      rises = no_less _ _ e.next;
+      names = e.names;
+      left = λ un. e.unmoved;
+      unasked = e.unasked;
+      tree_unasked = e.tree_unasked;
+    }
+
+pub returns-in_err-well-in-Read : goal.returns-in_err-well-in-Read
+returns-in_err-well-in-Read g c =
+    let s = c.args.store.now in
+    let ps = map_of c.args.tree.now in
+    let i = c.args.instance.now in
+    let call = c.args.call.now in
+    let e = c.in_err-well-in-Read.ensures in
+    let no_ok = c.from_residual-in_err-well-in-Read.ensures.1 in
+    record {
+      ok = not_ok c.from_residual-in_err-well-in-Read.result _ _ no_ok;
+      cleared = not_ok c.from_residual-in_err-well-in-Read.result _ _ no_ok;
+      err = told_err _ _ (each_during _ e.err c.args.context.now ps c.args.handed.now.items);
+      kept = told_err _ _ refl;
+      unread = told_err _ _ e.unread;
+      unmoved = told_err _ _ (rest_others s c.read.new.store i call e.left);
+      sure = λ around none. (
+          let over = in_context c.args.context.now ps around in
+          let r = seen_over (lists s) (next_name s) over i call in
+          let w = wanted (content_at (spot r c.in-Read.c)) in
+          let never = e.sure over (nothing_over w (grown_none (names_to_read (spot r c.in-Read.c)) 0 (nat_lt 0 w) (ap (grows_by r) (sym c.in-Read.is ∙ c.effect_of-effect.ensures) ∙ none)).1) in
+          absurd (cc));
+      held = e.held;
+      house = house_left s c.read.new.store i call ps e.left c.requires.house;
+      «open» = open_left (g.F.Files.device c.args.files.now) (g.F.Files.device c.read.new.files) (references s) (references c.read.new.store) e.left.references e.open_files c.requires.open;
+      name = e.name;
+      slots = names_same _ _ i;
+      rises = e.left.rises;
+      names = e.left.names;
+      left = λ un. rest_others s c.read.new.store i call e.left;
+      unasked = e.left.asked;
+      tree_unasked = refl;
+    }
+
+pub returns-in_ok-well-in-Read-clause-house : goal.returns-in_ok-well-in-Read-clause-house
+returns-in_ok-well-in-Read-clause-house g c =
+    house_left c.args.store.now c.read.new.store c.args.instance.now c.args.call.now (map_of c.args.tree.now) c.read.ensures.left c.requires.house
+
+pub returns-in_ok-well-in-Read-clause-open : goal.returns-in_ok-well-in-Read-clause-open
+returns-in_ok-well-in-Read-clause-open g c =
+    open_left (g.F.Files.device c.args.files.now) (g.F.Files.device c.read.new.files) (references c.args.store.now) (references c.read.new.store)
+    c.read.ensures.left.references c.read.ensures.open_files c.requires.open
+
+pub returns-in_ok-well-in-Read-clause-left : goal.returns-in_ok-well-in-Read-clause-left
+returns-in_ok-well-in-Read-clause-left g c un = rest_others c.args.store.now c.read.new.store c.args.instance.now c.args.call.now c.read.ensures.left
+
+pub returns-in_ok-well-in-Read-clause-slots : goal.returns-in_ok-well-in-Read-clause-slots
+returns-in_ok-well-in-Read-clause-slots g c = names_same (next_name c.args.store.now) (next_name c.read.new.store) c.args.instance.now
+
+pub returns-in_ok-well-in-Read-clause-cleared : goal.returns-in_ok-well-in-Read-clause-cleared
+returns-in_ok-well-in-Read-clause-cleared g c pool named = absurd (no_pool pool (ap (pool_to_clear c.args.instance.now) (sym c.in-Read.is ∙ c.effect_of-effect.ensures) ∙ named))
+
+pub returns-in_ok-clear_pool-in-EmptyPool-clause-left : goal.returns-in_ok-clear_pool-in-EmptyPool-clause-left
+returns-in_ok-clear_pool-in-EmptyPool-clause-left g c un = absurd (false≢true (sym un ∙ ap clears_pool_by (sym (sym c.in-EmptyPool.is ∙ c.effect_of-effect.ensures))))
+
+pub returns-in_ok-clear_pool-in-EmptyPool-clause-slots : goal.returns-in_ok-clear_pool-in-EmptyPool-clause-slots
+returns-in_ok-clear_pool-in-EmptyPool-clause-slots g c = names_same (next_name c.args.store.now) (next_name c.clear_pool.new.store) c.args.instance.now
 
 pub clear_pool-requires-clause-live : goal.clear_pool-requires-clause-live
 clear_pool-requires-clause-live g c =
@@ -164,3 +269,33 @@ returns-in_err-execute_without_files-in_default-clause-sure g c =
     let r = seen_over (lists c.args.store.now) (next_name c.args.store.now) (in_context c.args.context.now (map_of c.args.tree.now) around) c.args.instance.now c.args.call.now in
     let never = c.in_err-execute_without_files-in_default.ensures.sure around (ap (grows_by r) c.effect_of-effect.ensures ∙ none) in
     absurd (cc)
+
+pub returns-in_ok-execute_without_files-in_default-clause-open : goal.returns-in_ok-execute_without_files-in_default-clause-open
+returns-in_ok-execute_without_files-in_default-clause-open g c = c.execute_without_files.ensures.open (g.F.Files.device c.args.files.now) c.requires.ranges c.requires.open
+
+pub returns-in_err-execute_without_files-in_default-clause-open : goal.returns-in_err-execute_without_files-in_default-clause-open
+returns-in_err-execute_without_files-in_default-clause-open g c = c.execute_without_files.ensures.open (g.F.Files.device c.args.files.now) c.requires.ranges c.requires.open
+
+pub returns-in_ok-execute_without_files-in_default-clause-left : goal.returns-in_ok-execute_without_files-in_default-clause-left
+returns-in_ok-execute_without_files-in_default-clause-left g c un = c.execute_without_files.ensures.left
+
+pub returns-in_err-execute_without_files-in_default-clause-left : goal.returns-in_err-execute_without_files-in_default-clause-left
+returns-in_err-execute_without_files-in_default-clause-left g c un = c.execute_without_files.ensures.left
+
+pub returns-in_err-execute_without_files-in_default-clause-unmoved : goal.returns-in_err-execute_without_files-in_default-clause-unmoved
+returns-in_err-execute_without_files-in_default-clause-unmoved g c = told_err _ _ c.execute_without_files.ensures.left
+
+pub returns-in_err-execute_without_files-in_default-clause-ok : goal.returns-in_err-execute_without_files-in_default-clause-ok
+returns-in_err-execute_without_files-in_default-clause-ok g c =
+    not_ok c.from_residual-in_err-execute_without_files-in_default.result _ _ c.from_residual-in_err-execute_without_files-in_default.ensures.1
+
+pub returns-in_err-execute_without_files-in_default-clause-cleared : goal.returns-in_err-execute_without_files-in_default-clause-cleared
+returns-in_err-execute_without_files-in_default-clause-cleared g c =
+    not_ok c.from_residual-in_err-execute_without_files-in_default.result _ _ c.from_residual-in_err-execute_without_files-in_default.ensures.1
+
+read_fits : (p : Program) (c : ℕ) → fits p (instr_with (effect.Read c)) ≡ true → c < 9
+read_fits p c fit = search rules
+
+pub read-requires-clause-cursor : goal.read-requires-clause-cursor
+read-requires-clause-cursor g c =
+    read_fits c.args.code.now c.in-Read.c (fits_by c.args.code.now c.args.instr (effect.Read c.in-Read.c) (sym c.in-Read.is ∙ c.effect_of-effect.ensures) c.requires.fit)

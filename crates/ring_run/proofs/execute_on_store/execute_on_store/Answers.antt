@@ -1,13 +1,17 @@
 -- What the effect wants is so, since there is no fault.
-use Rattle.std.proofs.Common.{ℕ, false, refl, sym, ap, ◌∙◌}
-use Rattle.std.proofs.lemmas.Result.{on_ok_weaker}
+use Rattle.std.proofs.Common.{◌≡◌, ℕ, Bool, true, false, not, refl, sym, ap, ◌∙◌}
+use Rattle.std.proofs.lemmas.Bool.{false≢true}
+use Rattle.std.proofs.lemmas.Result.{on_err_weaker, on_ok_weaker}
 use Rattle.module_code.specs.Program.{fits}
-use Rattle.run_model.specs.BucketSteps.{items_at, names_to_part}
+use Rattle.run_model.specs.BucketSteps.{items_at, names_to_part, names_to_split}
+use Rattle.run_model.specs.Cursors.{spot}
+use Rattle.run_model.specs.Effects.{is_full}
 use Rattle.run_model.specs.Faults.{InBrigade, InThis, WHome, WHomeAcross}
 use Rattle.run_model.specs.Steps.{value_of}
 use Rattle.run_model.specs.declared.effect.Effect.{Effect}
 use Rattle.pool_tree.specs.Tree.{map_of}
-use Rattle.brigade_ops.specs.Store.{lists, next_name}
+use Rattle.brigade_ops.specs.Store.{brigade_of, lists, next_name, pool_of}
+use Rattle.ring_calls.proofs.LeftAlone.{left_none}
 use Rattle.ring_calls.specs.Context.{in_context}
 use Rattle.ring_calls.specs.Seen.{seen_over}
 use Rattle.ring_calls.proofs.Faultless.{nowhere}
@@ -80,3 +84,76 @@ returns-in-PartBrigade-clause-sure g c around none =
     let at = c.from-point.ensures ∙ c.value_of-in-PartBrigade.ensures (lists c.args.store.now) (next_name c.args.store.now) over c.args.call.now in
     c.bpart.ensures.sure over (ap (λ (n : ℕ). names_to_part n (items_at r c.in-PartBrigade.b)) at
     ∙ (grown_none (names_to_part (value_of r c.in-PartBrigade.x) (items_at r c.in-PartBrigade.b)) 0 false (sym (ap (grows_by r) c.in-PartBrigade.is) ∙ none)).0)
+
+not_full : (t : Bool) → not t ≡ false → t ≡ true
+not_full true e = refl
+not_full false e = absurd (false≢true (sym e))
+
+pub returns-in-Nothing-clause-ok : goal.returns-in-Nothing-clause-ok
+returns-in-Nothing-clause-ok g c = rw c.in-Nothing.is (λ around choice. refl)
+
+pub returns-in-Number-clause-ok : goal.returns-in-Number-clause-ok
+returns-in-Number-clause-ok g c = rw c.in-Number.is (λ around choice. c.change_number.ensures.new (in_context c.args.context.now (map_of c.args.tree.now) around))
+
+pub returns-in-Put-clause-ok : goal.returns-in-Put-clause-ok
+returns-in-Put-clause-ok g c =
+    rw c.in-Put.is (on_ok_weaker c.put.result (λ made around choice.
+    made (lists c.args.store.now) (next_name c.args.store.now) (in_context c.args.context.now (map_of c.args.tree.now) around)) c.put.ensures.ok)
+
+pub returns-in-Concat-clause-ok : goal.returns-in-Concat-clause-ok
+returns-in-Concat-clause-ok g c =
+    rw c.in-Concat.is (on_ok_weaker c.concat.result (λ made around choice.
+    made (in_context c.args.context.now (map_of c.args.tree.now) around) c.args.call.now c.requires.held) c.concat.ensures.ok)
+
+pub returns-in-SplitBrigade-clause-ok : goal.returns-in-SplitBrigade-clause-ok
+returns-in-SplitBrigade-clause-ok g c =
+    rw c.in-SplitBrigade.is (on_ok_weaker c.bsplit.result (λ made around choice.
+    made (in_context c.args.context.now (map_of c.args.tree.now) around)) c.bsplit.ensures.ok)
+
+pub returns-in-Clean-clause-ok : goal.returns-in-Clean-clause-ok
+returns-in-Clean-clause-ok g c around choice = c.move_buckets.ensures.state (in_context c.args.context.now (map_of c.args.tree.now) around) choice
+
+pub returns-in-Put-clause-err : goal.returns-in-Put-clause-err
+returns-in-Put-clause-err g c = on_err_weaker c.put.result (λ same around. same (lists c.args.store.now) (next_name c.args.store.now) around) c.put.ensures.err
+
+pub returns-in-Concat-clause-err : goal.returns-in-Concat-clause-err
+returns-in-Concat-clause-err g c = on_err_weaker c.concat.result (λ same around. same around c.args.call.now) c.concat.ensures.err
+
+pub returns-in-Put-clause-sure : goal.returns-in-Put-clause-sure
+returns-in-Put-clause-sure g c around none =
+    let over = in_context c.args.context.now (map_of c.args.tree.now) around in
+    let r = seen_over (lists c.args.store.now) (next_name c.args.store.now) over c.args.instance.now c.args.call.now in
+    c.put.ensures.sure (lists c.args.store.now) (next_name c.args.store.now) over
+    (not_full (is_full r c.in-Put.x) (grown_none 0 0 (not (is_full r c.in-Put.x)) (sym (ap (grows_by r) c.in-Put.is) ∙ none)).1)
+
+pub returns-in-Make-clause-sure : goal.returns-in-Make-clause-sure
+returns-in-Make-clause-sure g c around none =
+    let over = in_context c.args.context.now (map_of c.args.tree.now) around in
+    let r = seen_over (lists c.args.store.now) (next_name c.args.store.now) over c.args.instance.now c.args.call.now in
+    absurd (false≢true (sym none ∙ ap (grows_by r) c.in-Make.is))
+
+pub returns-in-Split-clause-sure : goal.returns-in-Split-clause-sure
+returns-in-Split-clause-sure g c around none =
+    let over = in_context c.args.context.now (map_of c.args.tree.now) around in
+    let r = seen_over (lists c.args.store.now) (next_name c.args.store.now) over c.args.instance.now c.args.call.now in
+    let at = c.from-n.ensures ∙ c.value_of.ensures (lists c.args.store.now) (next_name c.args.store.now) over c.args.call.now in
+    c.split.ensures.sure over (ap (λ (n : ℕ). names_to_split n (spot r c.in-Split.c)) at
+    ∙ (grown_none (names_to_split (value_of r c.in-Split.x) (spot r c.in-Split.c)) 0 false (sym (ap (grows_by r) c.in-Split.is) ∙ none)).0)
+
+pub returns-in-Put-clause-held : goal.returns-in-Put-clause-held
+returns-in-Put-clause-held g c = c.put.ensures.held (brigade_of c.args.store.now) (lists c.args.store.now) (pool_of c.args.store.now) (next_name c.args.store.now) c.requires.held
+
+pub returns-in-Concat-clause-held : goal.returns-in-Concat-clause-held
+returns-in-Concat-clause-held g c = c.concat.ensures.held c.args.call.now c.requires.held
+
+pub returns-in-Nothing-clause-left : goal.returns-in-Nothing-clause-left
+returns-in-Nothing-clause-left g c = left_none c.args.store.now c.args.instance.now c.args.call.now
+
+pub returns-in-Number-clause-left : goal.returns-in-Number-clause-left
+returns-in-Number-clause-left g c = left_none c.args.store.now c.args.instance.now c.args.call.now
+
+pub returns-in-Put-clause-left : goal.returns-in-Put-clause-left
+returns-in-Put-clause-left g c = left_none c.args.store.now c.args.instance.now c.args.call.now
+
+pub returns-in-ClearBuffer-clause-left : goal.returns-in-ClearBuffer-clause-left
+returns-in-ClearBuffer-clause-left g c = left_none c.args.store.now c.args.instance.now c.args.call.now

@@ -1,7 +1,8 @@
 -- The pools that instructions name are live, since there is no fault.
 use Rattle.std.proofs.Common.{ℕ, Option, refl, sym, ap, ◌∙◌}
 use Rattle.std.specs.Prelude.{option_to_list}
-use Rattle.std.proofs.lemmas.Result.{on_ok_weaker}
+use Rattle.std.proofs.lemmas.Bool.{false≢true}
+use Rattle.std.proofs.lemmas.Result.{on_err_weaker, on_ok_weaker}
 use Rattle.module_code.specs.Program.{pool_of_brigade, pool_of_pool}
 use Rattle.module_code.specs.declared.instr.PoolRef.{PoolRef}
 use Rattle.run_model.specs.BucketSteps.{items_at}
@@ -12,12 +13,15 @@ use Rattle.run_model.specs.State.{items_of, pool_named}
 use Rattle.run_model.specs.Steps.{takes_reference}
 use Rattle.pool_tree.specs.Tree.{map_of}
 use Rattle.pool_tree.proofs.Trees.{tree_formed}
-use Rattle.brigade_ops.specs.Store.{lists, next_name, pool_of, references}
+use Rattle.brigade_ops.specs.Store.{brigade_of, lists, next_name, pool_of, references}
 use Rattle.brigade_ops.proofs.Housed.{house_live}
 use Rattle.ring_calls.specs.Seen.{seen_over}
 use Rattle.ring_calls.specs.Context.{in_context}
 use Rattle.ring_calls.specs.Slots.{name_in}
+use Rattle.ring_calls.proofs.HeldAlike.{held_slots}
+use Rattle.ring_calls.proofs.LeftAlone.{rest_none, rest_others}
 use Rattle.ring_run.proofs.CarriedOut.{names_kept}
+use Rattle.ring_run.proofs.Trees.{house_left, over_pools}
 use Rattle.ring_calls.proofs.OpenFiles.{open_items, open_spot, refs_same}
 use Rattle.ring_calls.proofs.Faultless.{nowhere}
 use Rattle.ring_calls.proofs.Quiet.{grown_none}
@@ -150,3 +154,93 @@ returns-in-Aside-clause-sure g c around none =
     let plain = (grown_none 0 0 (takes_reference (map_of c.args.tree.now) (pool_named r c.in-Aside.pool) bs) (sym (ap (grows_by r) c.in-Aside.is) ∙ none)).1 in
     c.aside.ensures.sure over
     (sym (ap (λ (p : Option ℕ). takes_reference (map_of c.args.tree.now) p bs) (c.live_pool-to.ensures.named (lists c.args.store.now) (next_name c.args.store.now) around c.args.call.now)) ∙ plain)
+
+pub returns-in_default : goal.returns-in_default
+returns-in_default g c =
+    let s = c.args.store.now in
+    let new = c.execute_on_store.new.store in
+    let i = c.args.instance.now in
+    let call = c.args.call.now in
+    let e = c.execute_on_store.ensures in
+    record {
+      ok = e.ok;
+      err = on_err_weaker c.execute_on_store.result (λ same around. same (over_pools (map_of c.args.tree.now) around)) e.err;
+      sure = e.sure;
+      held = e.held;
+      name = e.name;
+      tree_unasked = refl;
+      house = house_left s new i call (map_of c.args.tree.now) e.left c.requires.house;
+      «open» = λ d ranges all. refs_same d (references s) (references new) (λ f. ap (λ (h : ℕ → ℕ). h f) e.left.references) all;
+      slots = names_kept (next_name s) (next_name new) i c.execute_on_store.new.instance e.slots;
+      left = rest_others s new i call e.left;
+    }
+
+pub returns-in-MakePool-clause-err : goal.returns-in-MakePool-clause-err
+returns-in-MakePool-clause-err g c = on_err_weaker c.create_pool.result (λ same around. same (lists c.args.store.now) (next_name c.args.store.now) around c.args.call.now) c.create_pool.ensures.err
+
+pub returns-in-Register-clause-err : goal.returns-in-Register-clause-err
+returns-in-Register-clause-err g c =
+    on_err_weaker c.label.result (λ same around. same (lists c.args.store.now) (next_name c.args.store.now) around c.args.instance.now c.args.call.now)
+    c.label.ensures.err
+
+pub returns-in-MakeBrigade-clause-err : goal.returns-in-MakeBrigade-clause-err
+returns-in-MakeBrigade-clause-err g c = on_err_weaker c.create.result (λ same around. same around c.args.call.now) c.create.ensures.err
+
+pub returns-in-Save-clause-err : goal.returns-in-Save-clause-err
+returns-in-Save-clause-err g c = on_err_weaker c.save.result (λ same around. same around c.args.call.now) c.save.ensures.err
+
+pub returns-in-Aside-clause-err : goal.returns-in-Aside-clause-err
+returns-in-Aside-clause-err g c = c.aside.ensures.err
+
+pub returns-in-MakePool-clause-sure : goal.returns-in-MakePool-clause-sure
+returns-in-MakePool-clause-sure g c around none =
+    let over = in_context c.args.context.now (map_of c.args.tree.now) around in
+    absurd (false≢true (sym none ∙ ap (grows_by (seen_over (lists c.args.store.now) (next_name c.args.store.now) over c.args.instance.now c.args.call.now)) c.in-MakePool.is))
+
+pub returns-in-Register-clause-sure : goal.returns-in-Register-clause-sure
+returns-in-Register-clause-sure g c around none =
+    let over = in_context c.args.context.now (map_of c.args.tree.now) around in
+    absurd (false≢true (sym none ∙ ap (grows_by (seen_over (lists c.args.store.now) (next_name c.args.store.now) over c.args.instance.now c.args.call.now)) c.in-Register.is))
+
+pub returns-in-MakeBrigade-clause-sure : goal.returns-in-MakeBrigade-clause-sure
+returns-in-MakeBrigade-clause-sure g c around none =
+    let over = in_context c.args.context.now (map_of c.args.tree.now) around in
+    absurd (false≢true (sym none ∙ ap (grows_by (seen_over (lists c.args.store.now) (next_name c.args.store.now) over c.args.instance.now c.args.call.now)) c.in-MakeBrigade.is))
+
+pub returns-in-MakePool-clause-held : goal.returns-in-MakePool-clause-held
+returns-in-MakePool-clause-held g c =
+    held_slots (brigade_of c.args.store.now) (lists c.args.store.now) (pool_of c.args.store.now) (next_name c.args.store.now) c.args.instance.now c.create_pool.new.instance
+    c.args.call.now c.create_pool.ensures.slots c.requires.held
+
+pub returns-in-MakeBrigade-clause-held : goal.returns-in-MakeBrigade-clause-held
+returns-in-MakeBrigade-clause-held g c = c.create.ensures.held c.args.call.now c.requires.held
+
+pub returns-in-Save-clause-held : goal.returns-in-Save-clause-held
+returns-in-Save-clause-held g c = c.save.ensures.held c.args.call.now c.requires.held
+
+pub returns-in-MakePool-clause-house : goal.returns-in-MakePool-clause-house
+returns-in-MakePool-clause-house g c = c.create_pool.ensures.house _ _ _ c.requires.house
+
+pub returns-in-MakePool-clause-left : goal.returns-in-MakePool-clause-left
+returns-in-MakePool-clause-left g c = rest_none c.args.store.now c.args.instance.now c.args.call.now
+
+pub returns-in-Register-clause-house : goal.returns-in-Register-clause-house
+returns-in-Register-clause-house g c = c.label.ensures.house _ _ _ c.requires.house
+
+pub returns-in-Register-clause-left : goal.returns-in-Register-clause-left
+returns-in-Register-clause-left g c = rest_none c.args.store.now c.args.instance.now c.args.call.now
+
+pub returns-in-Kill-clause-house : goal.returns-in-Kill-clause-house
+returns-in-Kill-clause-house g c = c.unlabel.ensures.house _ _ _ c.requires.house
+
+pub returns-in-Kill-clause-left : goal.returns-in-Kill-clause-left
+returns-in-Kill-clause-left g c = rest_none c.args.store.now c.args.instance.now c.args.call.now
+
+pub returns-in-MakeBrigade-clause-house : goal.returns-in-MakeBrigade-clause-house
+returns-in-MakeBrigade-clause-house g c = c.create.ensures.house c.requires.house
+
+pub returns-in-Save-clause-house : goal.returns-in-Save-clause-house
+returns-in-Save-clause-house g c = c.save.ensures.house c.requires.house
+
+pub returns-in-Aside-clause-house : goal.returns-in-Aside-clause-house
+returns-in-Aside-clause-house g c = c.aside.ensures.house c.requires.house
