@@ -63,7 +63,7 @@ no_request p (instr.Unlabel q t) apart h = one_pool 8 p.pools q [] (apart_from_r
 no_request p (instr.BCreate o) apart h = one_pool 8 p.pools (pool_of_brigade p o) _ (apart_from_req p (instr.BCreate o) apart).0 refl h
 no_request p (instr.PoolB c q) apart h = one_pool 8 p.pools q [] (apart_from_req p (instr.PoolB c q) apart).1 refl h
 no_request p (instr.Aside c q) apart h = one_pool 8 p.pools q _ (apart_from_req p (instr.Aside c q) apart).1 refl h
-no_request p i apart h = cc
+no_request p i _ h = cc
 
 -- Exits.
 
