@@ -23,9 +23,7 @@ pub fn read_all<R: Source>(
     let mut buffer = [0; READ_BYTES];
     for _ in 0..reader.left() {
         match reader.read(&mut buffer) {
-            Ok(ReadAnswer::Bytes(count)) => text
-                .extend_from_slice(&buffer[..count])
-                .map_err(|_| PlayFault::NoMemory)?,
+            Ok(ReadAnswer::Bytes(count)) => text.extend_from_slice(&buffer[..count])?,
             Ok(ReadAnswer::End) => return Ok(text),
             Ok(ReadAnswer::NotNow) => continue,
             Err(_) => return Err(PlayFault::Read),
