@@ -45,31 +45,30 @@ fn differing(state: &State, given: &State) -> u8 {
     PARTS
 }
 
-fn put_place(told: &mut Page, source: &Source, form: &str, place: StatePlace) {
-    told.push(form);
+// Adds a text, and behind it the name of a place.
+fn put_place(told: &mut Page, source: &Source, text: &str, place: StatePlace) {
     match place {
-        StatePlace::Idle => told.push("`idle`"),
-        StatePlace::Ready => told.push("`ready`"),
-        StatePlace::At(pc) => put_at(told, source, pc, "line #, `@`", ""),
+        StatePlace::At(pc) => put_at(told, source, pc, "$line #, `@`", text),
+        StatePlace::Idle => told.put("$`idle`", 0, &[], text),
+        StatePlace::Ready => told.put("$`ready`", 0, &[], text),
     }
 }
 
 // Tells what the certificate says of the first part in which a state that comes is not below the one that is given.
 fn put_difference(told: &mut Page, state: &State, given: &State) {
-    let there = "  the certificate says there: ";
     let index = differing(state, given);
     if state.sent() && !given.sent() {
-        told.push("an EOS of this request may have been passed\n");
-        told.push(there);
-        told.push("no EOS of this request was passed\n");
+        told.push(
+            "an EOS of this request may have been passed\n  the certificate says there: no EOS of this request was passed\n",
+        );
     } else if index == PARTS {
-        told.push("two cursors may be at one bucket\n");
-        told.push(there);
-        told.push("they are at different buckets\n");
+        told.push(
+            "two cursors may be at one bucket\n  the certificate says there: they are at different buckets\n",
+        );
     } else {
         let (topic, of) = part(index);
         put_known(told, state, topic, of);
-        told.push(there);
+        told.push("  the certificate says there: ");
         put_known(told, given, topic, of);
     }
 }

@@ -157,34 +157,18 @@ fn add_way(
     ways: &mut Vec<Way>,
     from: StatePlace,
     to: StatePlace,
+    jumps: bool,
     state: Option<State>,
 ) -> Result<(), AllocError> {
-    if let Some(state) = state {
-        let jumps = false;
-        ways.push(Way {
+    match state {
+        Some(state) => Ok(ways.push(Way {
             from,
             to,
             jumps,
             state,
-        })?;
+        })?),
+        None => Ok(()),
     }
-    Ok(())
-}
-
-// Adds the ways of an instruction with this target to what follows it.
-fn add_led(
-    pc: usize,
-    target: usize,
-    led: &Successors,
-    ways: &mut Vec<Way>,
-) -> Result<(), AllocError> {
-    let from = StatePlace::At(pc);
-    add_way(ways, from, StatePlace::At(pc.saturating_add(1)), led.next)?;
-    add_way(ways, from, StatePlace::At(target), led.jump)?;
-    if let (Some(_), Some(last)) = (led.jump, ways.last_mut()) {
-        last.jumps = true;
-    }
-    Ok(())
 }
 
 fn add_ways_of_line(
@@ -201,14 +185,17 @@ fn add_ways_of_line(
     let (Some(Ok(led)), Some(instr)) = (answer(code, pc, &met), instr_at(code, pc)) else {
         return Ok(());
     };
-    add_led(pc, instr.target(), &led, ways)?;
+    let from = StatePlace::At(pc);
+    let next = StatePlace::At(pc.saturating_add(1));
+    add_way(ways, from, next, false, led.next)?;
+    add_way(ways, from, StatePlace::At(instr.target()), true, led.jump)?;
     let left = if pc < code.init() {
         StatePlace::Idle
     } else {
         StatePlace::Ready
     };
     match instr {
-        Instr::Ret(_) => add_way(ways, StatePlace::At(pc), left, Some(at_return(state))),
+        Instr::Ret(_) => add_way(ways, from, left, false, Some(at_return(state))),
         _ => Ok(()),
     }
 }
@@ -224,15 +211,21 @@ pub fn add_ways_of(
 ) -> Result<(), AllocError> {
     match place {
         StatePlace::At(pc) => add_ways_of_line(code, pc, state, goes_on, ways),
-        StatePlace::Idle => add_way(ways, place, StatePlace::At(code.init()), Some(*state)),
+        StatePlace::Idle => add_way(
+            ways,
+            place,
+            StatePlace::At(code.init()),
+            false,
+            Some(*state),
+        ),
         StatePlace::Ready => {
             let main = StatePlace::At(code.main());
-            add_way(ways, place, main, Some(at_main(state)))?;
+            add_way(ways, place, main, false, Some(at_main(state)))?;
             if state.pool_count() == code.pool_count()
                 && state.brigade_count() == code.brigade_count()
             {
                 let ended = at_end_of_request(code, state);
-                add_way(ways, place, StatePlace::Idle, Some(ended))?;
+                add_way(ways, place, StatePlace::Idle, false, Some(ended))?;
             }
             Ok(())
         }

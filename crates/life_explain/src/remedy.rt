@@ -1,7 +1,7 @@
 //! A refusal with what is known around it, and the remedies that the rules have for it.
 
 use crate::flow::{FlowRefusal, home_of, instr_at, parent_of};
-use crate::rules::{Fresh, Per, RULES, Rule, Test, When, names_of};
+use crate::rules::{Fresh, Per, Rule, Test, When, names_of, rule_tables};
 use crate::trail::Trail;
 use byte_text::{after_token, begins, is_text, tail, token};
 use life_cert::StatePlace;
@@ -416,15 +416,13 @@ impl<'s> Case<'s> {
     fn expand(&mut self, form: &[u8]) {
         for byte in form {
             let byte = *byte;
-            let number = self.number;
-            let name = self
-                .names
-                .get(usize::from(byte.wrapping_sub(b'A')))
-                .copied();
-            if let Some(name) = name {
-                self.page.push_line(name);
-            } else if byte == b'#' {
+            let capital = usize::from(byte.wrapping_sub(b'A'));
+            if byte == b'#' {
+                let number = self.number;
                 self.page.put("#", number, &[], "");
+            } else if capital < 26 {
+                let name = self.names[capital];
+                self.page.push_line(name);
             } else {
                 self.page.push_line(&[byte]);
             }
@@ -579,15 +577,22 @@ impl<'s> Case<'s> {
         self.names[Y] = self.source.instruction(self.refusal.pc);
     }
 
+    // Adds the remedies of the rules of a table.
+    fn add_rules(&mut self, rules: &[Rule]) {
+        let sort = self.refusal.doubt.sort;
+        for rule in rules {
+            if rule.is_of(sort) && self.is_made_by(rule.made) && self.is_when(rule.when) {
+                self.add_rule(rule);
+            }
+        }
+    }
+
     /// Finds the remedies of the refusal, the likeliest first.
     pub fn find_remedies(&mut self) {
         self.name_made();
         self.name_doubt();
-        let sort = self.refusal.doubt.sort;
-        for rule in &RULES {
-            if rule.is_of(sort) && self.is_made_by(rule.made) && self.is_when(rule.when) {
-                self.add_rule(rule);
-            }
+        for rules in rule_tables() {
+            self.add_rules(rules);
         }
     }
 }

@@ -153,8 +153,8 @@ const PLAIN: Rule = Rule {
     last: "",
 };
 
-/// The rules. Of those of one sort, the ones that are tried first stand before the others.
-pub const RULES: [Rule; 36] = [
+// Of data behind an EOS.
+static OF_EOS: &[Rule] = &[
     Rule {
         sorts: &[Sort::Sent],
         pattern: Pattern::AskJsent,
@@ -214,6 +214,10 @@ pub const RULES: [Rule; 36] = [
         first: "behind main jsent N;before end M;before end bclean in;before end ret ok",
         ..PLAIN
     },
+];
+
+// Of brigades that were passed, and of buckets that are kept.
+static OF_KEPT: &[Rule] = &[
     Rule {
         sorts: &[Sort::Passed],
         when: When::Keeps,
@@ -295,6 +299,10 @@ pub const RULES: [Rule; 36] = [
         first: "before here bclean B",
         ..PLAIN
     },
+];
+
+// Of cursors.
+static OF_CURSORS: &[Rule] = &[
     Rule {
         sorts: &[Sort::AtEnd],
         pattern: Pattern::AskJend,
@@ -327,6 +335,45 @@ pub const RULES: [Rule; 36] = [
         each: "before here read C L",
         ..PLAIN
     },
+    Rule {
+        sorts: &[Sort::InBrigade],
+        pattern: Pattern::MoveInTwoSteps,
+        first: "before here unlink C",
+        ..PLAIN
+    },
+    Rule {
+        sorts: &[Sort::Unset, Sort::InBrigade, Sort::Loose],
+        made: "unlink",
+        pattern: Pattern::MoveInTwoSteps,
+        first: "over maker ;behind here X",
+        ..PLAIN
+    },
+    Rule {
+        sorts: &[Sort::Unset, Sort::InBrigade, Sort::Loose],
+        made: "unlink",
+        pattern: Pattern::MoveInTwoSteps,
+        first: "over here ",
+        ..PLAIN
+    },
+    Rule {
+        sorts: &[Sort::Unset, Sort::InBrigade, Sort::Loose],
+        made: "bdelete",
+        pattern: Pattern::SetAgain,
+        first: "over maker ;behind here X",
+        ..PLAIN
+    },
+    Rule {
+        sorts: &[Sort::Unset],
+        made: "-",
+        pattern: Pattern::SetAgain,
+        per: Per::Label,
+        last: "before here first C in;before here jend C L",
+        ..PLAIN
+    },
+];
+
+// Of homes, and of brigades and pools that are to be there, or not yet.
+static OF_VARIABLES: &[Rule] = &[
     Rule {
         sorts: &[Sort::DeadIn],
         pattern: Pattern::OutliveTheRequest,
@@ -394,42 +441,13 @@ pub const RULES: [Rule; 36] = [
         first: "over here ",
         ..PLAIN
     },
-    Rule {
-        sorts: &[Sort::InBrigade],
-        pattern: Pattern::MoveInTwoSteps,
-        first: "before here unlink C",
-        ..PLAIN
-    },
-    Rule {
-        sorts: &[Sort::Unset, Sort::InBrigade, Sort::Loose],
-        made: "unlink",
-        pattern: Pattern::MoveInTwoSteps,
-        first: "over maker ;behind here X",
-        ..PLAIN
-    },
-    Rule {
-        sorts: &[Sort::Unset, Sort::InBrigade, Sort::Loose],
-        made: "unlink",
-        pattern: Pattern::MoveInTwoSteps,
-        first: "over here ",
-        ..PLAIN
-    },
-    Rule {
-        sorts: &[Sort::Unset, Sort::InBrigade, Sort::Loose],
-        made: "bdelete",
-        pattern: Pattern::SetAgain,
-        first: "over maker ;behind here X",
-        ..PLAIN
-    },
-    Rule {
-        sorts: &[Sort::Unset],
-        made: "-",
-        pattern: Pattern::SetAgain,
-        per: Per::Label,
-        last: "before here first C in;before here jend C L",
-        ..PLAIN
-    },
 ];
+
+/// The tables of the rules, by what they are about. Of the rules of one sort, which stand in one table, those that are tried first stand before
+/// the others. They are several, since the proof of what a static holds takes longer by the square of its parts.
+pub fn rule_tables() -> [&'static [Rule]; 4] {
+    [OF_EOS, OF_KEPT, OF_CURSORS, OF_VARIABLES]
+}
 
 /// The names that are tried for a new label, each with the colon before it.
 pub fn names_of(fresh: Fresh) -> [&'static str; 9] {

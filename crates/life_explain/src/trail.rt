@@ -89,33 +89,42 @@ fn is_seen(nodes: &[TrailNode], place: StatePlace) -> bool {
     false
 }
 
-// Finds the way by which it comes to the place of this number from one that makes it so. Adds the places from which it comes,
-// and tells whether there is one.
+// How it comes to a place: by a way that makes it so, from this place; by ways that do not; or by none.
+#[derive(Clone, Copy)]
+enum Coming {
+    Made(StatePlace),
+    Led,
+    Begun,
+}
+
+// Finds how it comes to the place of this number. Adds the places from which it comes; one that makes it so is the last.
 fn look(
     known: &Known<'_>,
     nodes: &mut Vec<TrailNode>,
     next: usize,
     place: StatePlace,
     doubt: Doubt,
-) -> Result<(bool, Option<Way>), AllocError> {
-    let mut comes = false;
+) -> Result<Coming, AllocError> {
+    let mut coming = Coming::Begun;
     for way in known.ways {
-        let ends = doubt.is_of_cursor() && !matches!(way.from, StatePlace::At(_));
+        let from = way.from;
+        let ends = doubt.is_of_cursor() && !matches!(from, StatePlace::At(_));
         if is_same(way.to, place) && !ends && doubt.holds(&way.state) {
-            if is_made(known, way, doubt)? {
-                return Ok((true, Some(*way)));
-            }
-            comes = true;
-            if !is_seen(nodes.as_slice(), way.from) {
+            coming = Coming::Led;
+            let is_made = is_made(known, way, doubt)?;
+            if is_made || !is_seen(nodes.as_slice(), from) {
                 nodes.push(TrailNode {
-                    place: way.from,
+                    place: from,
                     jumps: way.jumps,
                     next,
                 })?;
             }
+            if is_made {
+                return Ok(Coming::Made(from));
+            }
         }
     }
-    Ok((comes, None))
+    Ok(coming)
 }
 
 // The trail from the place of this number up to the first.
@@ -175,18 +184,13 @@ fn trail_by(
         let Some(TrailNode { place, .. }) = nodes.get(number).copied() else {
             break
         };
-        let (comes, made) = look(known, nodes, number, place, doubt)?;
-        if let Some(way) = made {
-            let last = nodes.len();
-            nodes.push(TrailNode {
-                place: way.from,
-                jumps: way.jumps,
-                next: number,
-            })?;
-            return trail_from(alloc, nodes.as_slice(), last, way.from, true);
-        }
-        if !comes {
-            return trail_from(alloc, nodes.as_slice(), number, place, false);
+        match look(known, nodes, number, place, doubt)? {
+            Coming::Made(from) => {
+                let last = nodes.len().saturating_sub(1);
+                return trail_from(alloc, nodes.as_slice(), last, from, true);
+            }
+            Coming::Begun => return trail_from(alloc, nodes.as_slice(), number, place, false),
+            Coming::Led => {}
         }
     }
     trail_from(alloc, nodes.as_slice(), 0, start, false)
