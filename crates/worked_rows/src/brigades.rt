@@ -10,7 +10,7 @@ use crate::cuts::make_all;
 use crate::missing::Missing;
 use crate::shown::{Listed, Seen, shown};
 use crate::there::{want_both, want_brigade, want_bucket, want_place, want_two};
-use crate::world::{ONE, OTHER, World};
+use crate::world::{ONE, OTHER, RowStore};
 use anyhow::Result;
 use brigade_ops::{BrigadeId, Brigades, BucketId, Rings, Stored};
 use bucket_kinds::{Bucket, keep_own};
@@ -135,7 +135,7 @@ fn own_two(alloc: Global, first: &'static [u8], second: &'static [u8]) -> Result
     Ok(vec![in alloc; keep_own(first), keep_own(second)]?)
 }
 
-impl<R: Rings<Stored> + Drop> World<R> {
+impl<R: Rings<Stored> + Drop> RowStore<R> {
     /// Makes a brigade.
     pub(crate) fn make(&mut self, rt: &HostRuntime) -> Result<()> {
         match self.store.loose() {

@@ -15,7 +15,7 @@ use crate::calls::At;
 use crate::missing::Missing;
 use crate::reads::files_of;
 use crate::there::{want_both, want_brigade, want_bucket};
-use crate::world::{A, ONE, World};
+use crate::world::{A, ONE, RowStore};
 use anyhow::Result;
 use brigade_ops::{BrigadeId, Brigades, BucketId, ContentView, Cut, Rings, Stored, View};
 use bucket_kinds::{Bucket, FileNo, Files, MemFiles};
@@ -106,7 +106,7 @@ fn read<R: Rings<Stored> + Drop, F: Files>(
     Ok(())
 }
 
-impl<R: Rings<Stored> + Drop> World<R> {
+impl<R: Rings<Stored> + Drop> RowStore<R> {
     /// Splits a bucket. Where it is refused, that is told.
     pub(crate) fn split(&mut self, rt: &HostRuntime, bucket: usize, at: u64) -> Result<()> {
         print!(rt; " at {at}: ")?;

@@ -34,7 +34,6 @@ where
     S: Rings<Stored> + Drop,
     T: Rings<Stored> + Drop,
 {
-    rings::show_rows::<P, R>(rt)?;
     commands::commands_alike::<P, R>(rt)?;
     sizes::node_sizes(rt)?;
     regions::region_spans(rt)?;

@@ -19,7 +19,7 @@ end
 ";
 
 /// What is known of `IDENTITY`.
-pub(crate) const IDENTITY_CERT: &[u8] = b"cert 1
+pub(crate) const IDENTITY_CERT: &str = "cert 1
 idle sent=no
 ready sent=maybe
 0 sent=no
@@ -34,7 +34,7 @@ end
 ";
 
 /// The same in its slim form.
-pub(crate) const IDENTITY_SLIM: &[u8] = b"slim 1
+pub(crate) const IDENTITY_SLIM: &str = "slim 1
 idle sent=no
 ready sent=maybe
 0 sent=no
@@ -64,7 +64,7 @@ end
 ";
 
 /// It says nothing of whether the two cursors are at two buckets.
-pub(crate) const ALIAS_WITHOUT_FACT: &[u8] = b"cert 1
+pub(crate) const ALIAS_WITHOUT_FACT: &str = "cert 1
 idle sent=no
 ready sent=no
 0 sent=no
@@ -80,7 +80,7 @@ end
 ";
 
 /// It says that they are.
-pub(crate) const ALIAS_CERT: &[u8] = b"cert 1
+pub(crate) const ALIAS_CERT: &str = "cert 1
 idle sent=no
 ready sent=no
 0 sent=no
@@ -175,7 +175,7 @@ end
 ";
 
 /// It says that what is kept may have a home that has ended.
-pub(crate) const ASIDE_CERT: &[u8] = b"cert 1
+pub(crate) const ASIDE_CERT: &str = "cert 1
 idle sent=no b0=l/u/o/dead
 ready sent=maybe b0=l/u/o/req,dead
 0 sent=no b0=n

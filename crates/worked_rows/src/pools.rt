@@ -117,12 +117,12 @@ fn kill(rt: &HostRuntime, tree: &mut PoolTree<u8>, pool: PoolId, letter: u8) -> 
     Ok(println!(rt; "{told} {}", letter as char)?)
 }
 
-/// Clears a pool, or destroys it, and tells what ran.
+/// Clears a pool, or destroys it, and tells what ran. The root is not destroyed.
 fn empty(rt: &HostRuntime, tree: &mut PoolTree<u8>, pool: PoolId, ends: bool) -> Result<()> {
-    if !tree.is_live(pool) {
+    if !tree.is_live(pool) || ends && pool == tree.root() {
         return Err(Missing.into());
     }
-    let ran = if ends && pool != tree.root() {
+    let ran = if ends {
         tree.destroy(pool)?
     } else {
         tree.clear(pool)?

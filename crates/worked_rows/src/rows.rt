@@ -19,8 +19,9 @@ enum Row {
     Steps(&'static [Step], &'static [Step]),
     /// The same over rings in a slab.
     InSlab(&'static [Step], &'static [Step]),
-    /// Steps over a store with two names.
+    /// Steps over a store with two names, and the same over rings in a slab.
     Spent(&'static [Step]),
+    SpentInSlab(&'static [Step]),
     /// A call on a bucket that is in no brigade.
     Bucket(Made, buckets::Call),
     /// Bytes in memory are read.
@@ -218,18 +219,26 @@ const OPENINGS_FAIL: &[reads::Step] = &[
     reads::Step::Failures,
 ];
 
+/// A name of 300 bytes.
+const TOO_LONG: &[u8] = b"\
+    xxxxxxxxxxxxxxxxxxxxxxxxxxxxxxxxxxxxxxxxxxxxxxxxxxxxxxxxxxxxxxxxxxxxxxxxxxx\
+    xxxxxxxxxxxxxxxxxxxxxxxxxxxxxxxxxxxxxxxxxxxxxxxxxxxxxxxxxxxxxxxxxxxxxxxxxxx\
+    xxxxxxxxxxxxxxxxxxxxxxxxxxxxxxxxxxxxxxxxxxxxxxxxxxxxxxxxxxxxxxxxxxxxxxxxxxx\
+    xxxxxxxxxxxxxxxxxxxxxxxxxxxxxxxxxxxxxxxxxxxxxxxxxxxxxxxxxxxxxxxxxxxxxxxxxxx";
+
 /// A file is read where the system reads none from so far on. What is not there, and a folder, are no failures. No file system takes a name
 /// of 300 bytes.
 const FAR: Changed = Changed {
     text: b"abcdefghij",
     is_far: true,
-    names: &[&[b'x'; 300], b"/no such file", b"/"],
+    names: &[TOO_LONG, b"/no such file", b"/"],
 };
 
-/// The rows, in their order. A read takes 8000 bytes at most, and what is longer has a rest. Where the file is shorter it fails. Memory is left
-/// as it is.
-static ROWS: &[Row] = &[
-    Row::Says("moves of brigades"),
+/// Brigades are made, and buckets put in, moved and split off.
+static BRIGADES: &[Row] = &[
+    Row::Says("moves of brigades, on rings in a slab"),
+    Row::InSlab(&[], MOVES),
+    Row::Says("moves of brigades, on rings in a raw block"),
     Row::Steps(&[], MOVES),
     Row::Says("brigades are split"),
     Row::Steps(
@@ -242,8 +251,14 @@ static ROWS: &[Row] = &[
     ),
     Row::Says("brigades and buckets at once"),
     Row::Steps(&[], AT_ONCE),
-    Row::Says("the names of brigades run out"),
+    Row::Says("the names of brigades run out, on rings in a slab"),
+    Row::SpentInSlab(NAMES_SPENT),
+    Row::Says("the names of brigades run out, on rings in a raw block"),
     Row::Spent(NAMES_SPENT),
+];
+
+/// Calls on one bucket.
+static BUCKETS: &[Row] = &[
     Row::Says("buckets are split"),
     Row::Bucket(AB, buckets::Call::Split(0)),
     Row::Bucket(AB, buckets::Call::Split(1)),
@@ -262,6 +277,10 @@ static ROWS: &[Row] = &[
     Row::Says("its home is not above:"),
     Row::Bucket(RANGE, buckets::Call::Aside(false)),
     Row::Bucket(A_LETTER, buckets::Call::Aside(false)),
+];
+
+/// Calls on a bucket of a brigade, and brigades that are parted.
+static CUTS: &[Row] = &[
     Row::Says("buckets of a brigade are split"),
     Row::Steps(AB_IN, &[Step::Split(A, 0), Step::List(ONE)]),
     Row::Steps(AB_IN, &[Step::Split(A, 1), Step::List(ONE)]),
@@ -302,6 +321,10 @@ static ROWS: &[Row] = &[
     ),
     Row::Steps(&[Step::Part(&[], 0)], &[Step::Text(", "), Step::List(ONE)]),
     Row::Steps(&[Step::Part(&[], 1)], &[Step::Text(", "), Step::List(ONE)]),
+];
+
+/// A read takes 8000 bytes at most, and what is longer has a rest. Where the file is shorter it fails.
+static SAVES: &[Row] = &[
     Row::Says("buckets of a brigade are read"),
     Row::Steps(&[Step::Make, Step::Read(8001, 8001)], &[Step::List(ONE)]),
     Row::Steps(&[Step::Make, Step::Read(8001, 8000)], &[Step::List(ONE)]),
@@ -325,12 +348,20 @@ static ROWS: &[Row] = &[
     Row::Steps(POOLS, &[Step::Refer(2, 7), Step::Payloads(2)]),
     Row::Says("a pool is cleared under a brigade"),
     Row::Steps(POOLS, CLEARED),
+];
+
+/// Bytes of a pool that is cleared, over rings of both kinds.
+static OUTLIVING: &[Row] = &[
     Row::Says("bytes of a pool outlive its clear, on rings in a slab"),
     Row::InSlab(POOLED, IN_PARTS),
     Row::InSlab(POOLED, WHOLE),
     Row::Says("bytes of a pool outlive its clear, on rings in a raw block"),
     Row::Steps(POOLED, IN_PARTS),
     Row::Steps(POOLED, WHOLE),
+];
+
+/// Memory is left as it is.
+static FILES: &[Row] = &[
     Row::Says("files are read"),
     Row::Files(8001, &[reads::Step::Sized(8001)]),
     Row::Files(8001, &[reads::Step::Sized(8000)]),
@@ -368,6 +399,7 @@ fn show_row<P: Rings<Stored> + Drop, R: Rings<Stored> + Drop>(
         Row::Steps(made, then) => play::<R>(rt, 1, made, then),
         Row::InSlab(made, then) => play::<P>(rt, 1, made, then),
         Row::Spent(steps) => play::<R>(rt, LAST, &[], steps),
+        Row::SpentInSlab(steps) => play::<P>(rt, LAST, &[], steps),
         Row::Bucket(made, call) => buckets::show_call(rt, made, call),
         Row::ReadMemory(kind) => reads::show_memory(rt, kind),
         Row::Files(size, steps) => reads::play(rt, size, steps),
@@ -375,12 +407,23 @@ fn show_row<P: Rings<Stored> + Drop, R: Rings<Stored> + Drop>(
     }
 }
 
-/// Tells the rows one after another.
+/// Tells the rows of a table.
+fn show_table<P: Rings<Stored> + Drop, R: Rings<Stored> + Drop>(
+    rt: &HostRuntime,
+    rows: &[Row],
+) -> Result<()> {
+    for row in rows {
+        show_row::<P, R>(rt, *row)?;
+    }
+    Ok(())
+}
+
+/// Tells the rows one after another. They are several tables, since the proof of what a static holds takes longer by the square of its parts.
 pub(crate) fn show_rows<P: Rings<Stored> + Drop, R: Rings<Stored> + Drop>(
     rt: &HostRuntime,
 ) -> Result<()> {
-    for row in ROWS {
-        show_row::<P, R>(rt, *row)?;
+    for rows in [BRIGADES, BUCKETS, CUTS, SAVES, OUTLIVING, FILES] {
+        show_table::<P, R>(rt, rows)?;
     }
     Ok(())
 }

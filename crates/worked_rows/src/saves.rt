@@ -8,7 +8,7 @@ ghost use Rattle.brigade_ops.specs.Store.{pool_of};
 use crate::buckets::{Made, make};
 use crate::missing::Missing;
 use crate::there::{want_brigade, want_bucket, want_pool, want_two};
-use crate::world::World;
+use crate::world::RowStore;
 use anyhow::Result;
 use brigade_ops::{BrigadeId, Brigades, FileNo, Rings, Stored};
 use bucket_kinds::Bucket;
@@ -70,7 +70,7 @@ fn save<R: Rings<Stored> + Drop>(
     save_onto(store, tree, pool, onto, from)
 }
 
-impl<R: Rings<Stored> + Drop> World<R> {
+impl<R: Rings<Stored> + Drop> RowStore<R> {
     /// Makes a pool under another.
     pub(crate) fn create_pool(&mut self, parent: PoolId) -> Result<()> {
         want_pool(&mut self.tree, parent)?;

@@ -77,7 +77,7 @@ pub(crate) const D: usize = 3;
 
 /// A store of brigades with a tree of pools, the buckets that were put in, whether names are told, and how many cleanups the last clear ran.
 #[derive(Drop)]
-pub(crate) struct World<R: Rings<Stored>> {
+pub(crate) struct RowStore<R: Rings<Stored>> {
     pub(crate) store: Brigades<R>,
     pub(crate) tree: PoolTree<Payload>,
     pub(crate) buckets: Buckets,
@@ -85,10 +85,10 @@ pub(crate) struct World<R: Rings<Stored>> {
     pub(crate) ran: usize,
 }
 
-impl<R: Rings<Stored> + Drop> World<R> {
+impl<R: Rings<Stored> + Drop> RowStore<R> {
     /// No brigades, whose first name is `first`, and the pool 1.
     fn new(alloc: Global, first: u64) -> Result<Self> {
-        Ok(World {
+        Ok(RowStore {
             tree: PoolTree::new(alloc, 1)?,
             store: Brigades::new(alloc, first),
             buckets: NO_BUCKETS,
@@ -105,7 +105,21 @@ impl<R: Rings<Stored> + Drop> World<R> {
                 self.tells = true;
                 Ok(())
             }
-            Step::Pool(parent) => self.create_pool(parent),
+            Step::Bucket(bucket) => {
+                show_bucket(rt, &mut self.store, self.buckets.name(bucket), "")
+            }
+            Step::List(brigade) => self.show_brigade(rt, brigade),
+            Step::Letters(what) => self.show_letters(rt, what),
+            Step::Next => Ok(println!(rt; "{}", self.store.next_name())?),
+            Step::Payloads(pool) => self.show_payloads(rt, pool),
+            Step::Live(pool) => self.show_live(rt, pool),
+            step => self.change(rt, step),
+        }
+    }
+
+    /// Makes a step that changes the brigades.
+    fn change(&mut self, rt: &HostRuntime, step: Step) -> Result<()> {
+        match step {
             Step::Make => self.make(rt),
             Step::Pair(first, second) => self.make_pair(rt.alloc(), first, second),
             Step::Put(place, made) => self.put(rt, place, made),
@@ -115,20 +129,21 @@ impl<R: Rings<Stored> + Drop> World<R> {
             Step::SplitAt(brigade, place, into) => self.split_at(brigade, place, into),
             Step::Split(bucket, at) => self.split(rt, bucket, at),
             Step::Copy(bucket, brigade) => self.copy(bucket, brigade),
+            step => self.change_more(rt, step),
+        }
+    }
+
+    /// Makes a step that needs a pool or a file, or parts a brigade.
+    fn change_more(&mut self, rt: &HostRuntime, step: Step) -> Result<()> {
+        match step {
+            Step::Pool(parent) => self.create_pool(parent),
             Step::Part(made, point) => self.part(rt, made, point),
             Step::Read(size, len) => self.read(rt, size, len),
             Step::Aside(bucket, pool) => self.aside(rt, bucket, pool),
             Step::Save(pool, made, from) => self.save(rt.alloc(), pool, made, from),
             Step::Refer(pool, file) => self.refer(pool, file),
             Step::Clear(pool, brigade) => self.clear(pool, brigade),
-            Step::Bucket(bucket) => {
-                show_bucket(rt, &mut self.store, self.buckets.name(bucket), "")
-            }
-            Step::List(brigade) => self.show_brigade(rt, brigade),
-            Step::Letters(what) => self.show_letters(rt, what),
-            Step::Next => Ok(println!(rt; "{}", self.store.next_name())?),
-            Step::Payloads(pool) => self.show_payloads(rt, pool),
-            Step::Live(pool) => self.show_live(rt, pool),
+            _ => Ok(()),
         }
     }
 
@@ -148,5 +163,5 @@ pub(crate) fn play<R: Rings<Stored> + Drop>(
     made: &[Step],
     then: &[Step],
 ) -> Result<()> {
-    World::<R>::new(rt.alloc(), first)?.play(rt, made, then)
+    RowStore::<R>::new(rt.alloc(), first)?.play(rt, made, then)
 }
