@@ -6,6 +6,7 @@ use crate::requests::{GET, PLAIN};
 use crate::streams::{Feed, Taker};
 use anyhow::Result;
 use byte_streams::{CountedSource, READS, Sink, Source};
+use filter_chain::{Rings, Stored};
 use http_front::FrontKind;
 use module_tools::{Ended, PlayFault, run_assemble, run_certify, run_check, run_new};
 use script_play::run_play;
@@ -149,12 +150,12 @@ fn end_of(ended: Result<Ended, PlayFault>) -> End {
     }
 }
 
-fn end_of_serve<R: Source, W: Sink>(
+fn end_of_serve<B: Rings<Stored> + Drop, R: Source, W: Sink>(
     alloc: Global,
     reader: &mut CountedSource<R>,
     writer: &mut W,
 ) -> Result<End> {
-    match serve_all(alloc, PLAIN, reader, writer)? {
+    match serve_all::<B, R, W>(alloc, PLAIN, reader, writer)? {
         Ok(_) => Ok(End::Done),
         Err(fault) if fault.left.is_some() => Ok(End::Other),
         Err(fault) => Ok(match fault.kind {
@@ -167,7 +168,7 @@ fn end_of_serve<R: Source, W: Sink>(
 }
 
 /// Makes a call, and says how it ended.
-fn ask<R: Source + Drop, W: Sink>(
+fn ask<B: Rings<Stored> + Drop, R: Source + Drop, W: Sink>(
     alloc: Global,
     call: Call,
     source: R,
@@ -177,7 +178,7 @@ fn ask<R: Source + Drop, W: Sink>(
     let mut module = CountedSource::new(IDENTITY, READS);
     let mut cert = CountedSource::new(IDENTITY_CERT, READS);
     Ok(match call {
-        Call::Serve => end_of_serve(alloc, &mut reader, writer)?,
+        Call::Serve => end_of_serve::<B, _, _>(alloc, &mut reader, writer)?,
         Call::Play => end_of(run_play(alloc, &mut reader, writer)),
         Call::Assemble => end_of(run_assemble(alloc, &mut reader, writer)),
         Call::Certify => end_of(run_certify(alloc, &mut reader, writer, false)),
@@ -189,41 +190,43 @@ fn ask<R: Source + Drop, W: Sink>(
 }
 
 /// A reader that gives a byte a read, and one that pauses before each byte and never ends: how the call ended, and what it wrote.
-fn show_slow(rt: &HostRuntime, call: Call, feed: Feed<'_>, taker: Taker<'_>) -> Result<()> {
+fn show_slow<B: Rings<Stored> + Drop>(
+    rt: &HostRuntime,
+    call: Call,
+    feed: Feed<'_>,
+    taker: Taker<'_>,
+) -> Result<()> {
     let slow = Feed { step: 1, ..feed };
     let mut writer = taker;
-    let end = ask(rt.alloc(), call, Feed { again: b"", ..slow }, &mut writer)?;
+    let end = ask::<B, _, _>(rt.alloc(), call, Feed { again: b"", ..slow }, &mut writer)?;
     let is_same = writer.is_front && writer.due.is_empty();
     println!(rt; "  a byte a read: {end:?}, the same answer: {is_same}")?;
     let mut writer = taker;
-    let end = ask(
-        rt.alloc(),
-        call,
-        Feed {
-            pauses: PAUSES,
-            ..slow
-        },
-        &mut writer,
-    )?;
+    let endless = Feed {
+        pauses: PAUSES,
+        ..slow
+    };
+    let end = ask::<B, _, _>(rt.alloc(), call, endless, &mut writer)?;
     let count = taker.room.saturating_sub(writer.room);
     println!(rt; "  without an end: {end:?}, {count} bytes are written")?;
     Ok(())
 }
 
 /// The readers that fail after each number of bytes: how many calls reported it, wrote nothing, and wrote a front of the answer.
-fn show_readers(rt: &HostRuntime, call: Call, feed: Feed<'_>, taker: Taker<'_>) -> Result<()> {
+fn show_readers<B: Rings<Stored> + Drop>(
+    rt: &HostRuntime,
+    call: Call,
+    feed: Feed<'_>,
+    taker: Taker<'_>,
+) -> Result<()> {
     let (mut reported, mut silent, mut fronts) = (0u32, 0u32, 0u32);
     for fails_after in 0..=feed.text.len() {
         let mut writer = taker;
-        let end = ask(
-            rt.alloc(),
-            call,
-            Feed {
-                fails_after,
-                ..feed
-            },
-            &mut writer,
-        )?;
+        let cut = Feed {
+            fails_after,
+            ..feed
+        };
+        let end = ask::<B, _, _>(rt.alloc(), call, cut, &mut writer)?;
         reported = reported.saturating_add((end == End::Read) as u32);
         silent = silent.saturating_add((writer.room == taker.room) as u32);
         fronts = fronts.saturating_add(writer.is_front as u32);
@@ -236,11 +239,16 @@ fn show_readers(rt: &HostRuntime, call: Call, feed: Feed<'_>, taker: Taker<'_>) 
 }
 
 /// The writers that take each number of bytes below those of the answer: how many calls reported it, and wrote just so many bytes of the answer.
-fn show_writers(rt: &HostRuntime, call: Call, feed: Feed<'_>, taker: Taker<'_>) -> Result<()> {
+fn show_writers<B: Rings<Stored> + Drop>(
+    rt: &HostRuntime,
+    call: Call,
+    feed: Feed<'_>,
+    taker: Taker<'_>,
+) -> Result<()> {
     let (mut reported, mut fronts) = (0u32, 0u32);
     for room in 0..taker.due.len() {
         let mut writer = Taker { room, ..taker };
-        let end = ask(rt.alloc(), call, feed, &mut writer)?;
+        let end = ask::<B, _, _>(rt.alloc(), call, feed, &mut writer)?;
         reported = reported.saturating_add((end == End::Write) as u32);
         fronts = fronts.saturating_add((writer.is_front && writer.room == 0) as u32);
     }
@@ -252,15 +260,14 @@ fn show_writers(rt: &HostRuntime, call: Call, feed: Feed<'_>, taker: Taker<'_>) 
 }
 
 /// A call that reads this text, with streams that are slow, fail, or never end. The answer is written where nothing is yet.
-fn show_text(rt: &HostRuntime, row: Row, text: &[u8], answer: &mut Vec<u8>) -> Result<()> {
-    let Row {
-        call,
-        what,
-        text: _,
-        then: _,
-        again,
-    } = row;
-    let end = ask(rt.alloc(), call, text, answer)?;
+fn show_text<B: Rings<Stored> + Drop>(
+    rt: &HostRuntime,
+    row: Row,
+    text: &[u8],
+    answer: &mut Vec<u8>,
+) -> Result<()> {
+    let (call, what, again) = (row.call, row.what, row.again);
+    let end = ask::<B, _, _>(rt.alloc(), call, text, answer)?;
     let count = answer.len();
     println!(rt; "{call:?} of {what}: {end:?}, {count} bytes are written")?;
     let feed = Feed {
@@ -278,23 +285,23 @@ fn show_text(rt: &HostRuntime, row: Row, text: &[u8], answer: &mut Vec<u8>) -> R
         is_front: true,
         has_failed: false,
     };
-    show_slow(rt, call, Feed { again, ..feed }, taker)?;
-    show_readers(rt, call, feed, taker)?;
-    show_writers(rt, call, feed, taker)
+    show_slow::<B>(rt, call, Feed { again, ..feed }, taker)?;
+    show_readers::<B>(rt, call, feed, taker)?;
+    show_writers::<B>(rt, call, feed, taker)
 }
 
 /// A call, with streams that are slow, fail, or never end.
-fn show_row(rt: &HostRuntime, row: Row) -> Result<()> {
+fn show_row<B: Rings<Stored> + Drop>(rt: &HostRuntime, row: Row) -> Result<()> {
     let mut text = row.text.to_vec(rt.alloc())?;
     text.extend_from_slice(row.then)?;
     let mut answer = Vec::new(rt.alloc());
-    show_text(rt, row, text.as_slice(), &mut answer)
+    show_text::<B>(rt, row, text.as_slice(), &mut answer)
 }
 
 /// Each call, with streams that are slow, fail, or never end.
-pub(crate) fn failing_streams(rt: &HostRuntime) -> Result<()> {
+pub(crate) fn failing_streams<B: Rings<Stored> + Drop>(rt: &HostRuntime) -> Result<()> {
     for row in ROWS {
-        show_row(rt, *row)?;
+        show_row::<B>(rt, *row)?;
     }
     Ok(())
 }

@@ -6,7 +6,7 @@ use crate::pages::{host, site};
 use crate::requests::{GET, PLAIN};
 use crate::shown::shown;
 use anyhow::Result;
-use filter_chain::{Files, Host, MemFiles};
+use filter_chain::{Files, Host, MemFiles, Rings, Stored};
 use http_front::Site;
 use http_serve::{Deadline, serve_stream};
 use std::io::{self, Read, Write};
@@ -27,11 +27,11 @@ fn asking(rt: &HostRuntime, listener: &TcpListener) -> Result<TcpStream> {
 }
 
 /// Serves the client that asked, and closes its connection.
-fn serve_client(
+fn serve_client<B: Rings<Stored> + Drop>(
     rt: &HostRuntime,
     listener: &TcpListener,
     site: &Site,
-    host: &mut Host<MemFiles>,
+    host: &mut Host<MemFiles, B>,
 ) -> Result<()>
     requires { IsAlive ⟦<MemFiles as Files>⟧.device host.old }
 {
@@ -59,7 +59,11 @@ fn show_answer(rt: &HostRuntime, client: &mut TcpStream) -> Result<()> {
 }
 
 /// Serves a client that asks and then reads, and tells what it reads.
-fn serve_and_show(rt: &HostRuntime, site: &Site, host: &mut Host<MemFiles>) -> Result<()>
+fn serve_and_show<B: Rings<Stored> + Drop>(
+    rt: &HostRuntime,
+    site: &Site,
+    host: &mut Host<MemFiles, B>,
+) -> Result<()>
     requires { IsAlive ⟦<MemFiles as Files>⟧.device host.old }
 {
     let listener = TcpListener::bind(rt, SocketAddr::new(IpAddr::V4(Ipv4Addr::LOCALHOST), 0))?;
@@ -68,14 +72,9 @@ fn serve_and_show(rt: &HostRuntime, site: &Site, host: &mut Host<MemFiles>) -> R
     show_answer(rt, &mut client)
 }
 
-/// A client of this machine is served a site over a socket.
-fn serve_site(rt: &HostRuntime, site: &Site) -> Result<()> {
-    let mut host = host(rt.alloc(), PLAIN)?;
-    serve_and_show(rt, site, &mut host)
-}
-
 /// A client of this machine is served over a socket.
-pub(crate) fn serves_over_a_socket(rt: &HostRuntime) -> Result<()> {
+pub(crate) fn serves_over_a_socket<B: Rings<Stored> + Drop>(rt: &HostRuntime) -> Result<()> {
     let site = site(rt.alloc())?;
-    serve_site(rt, &site)
+    let mut host = host::<B>(rt.alloc(), PLAIN)?;
+    serve_and_show(rt, &site, &mut host)
 }

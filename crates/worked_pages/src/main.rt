@@ -13,11 +13,17 @@ mod stopped_clock;
 mod streams;
 
 use anyhow::Result;
+use filter_chain::{RawRings, Rings, Stored};
+
+/// Tells all rows, with hosts over rings of one kind.
+fn show_all<B: Rings<Stored> + Drop>(rt: &HostRuntime) -> Result<()> {
+    requests::show_rows::<B>(rt)?;
+    requests::cut_requests::<B>(rt)?;
+    names_spent::names_spent_host::<B>(rt)?;
+    failing::failing_streams::<B>(rt)?;
+    loopback::serves_over_a_socket::<B>(rt)
+}
 
 fn main(rt: HostRuntime) -> Result<()> {
-    requests::show_rows(&rt)?;
-    requests::cut_requests(&rt)?;
-    names_spent::names_spent_host(&rt)?;
-    failing::failing_streams(&rt)?;
-    loopback::serves_over_a_socket(&rt)
+    show_all::<RawRings<Stored>>(&rt)
 }

@@ -6,7 +6,7 @@ ghost use Rattle.filter_chain.specs.Led.{IsAlive};
 use crate::modules::{CLEANUP_ORDER, IDENTITY};
 use crate::pages::{BUDGET, chain};
 use anyhow::Result;
-use filter_chain::{CheckedChain, Files, Host, Limits, MemFiles, PoolId, Refusal, Rings, Stored};
+use filter_chain::{Files, Host, Limits, MemFiles, PoolId, Refusal, Rings, Stored};
 use std::alloc::Global;
 use std::io;
 
@@ -57,35 +57,22 @@ const ROWS: [Row; 3] = [
 
 const BEGUN_TWICE: [Call; 5] = [Call::Open, Call::Step, Call::Begin, Call::Begin, Call::Step];
 
-/// A host of a chain that is accepted, whose names begin with `first`.
-fn checked_host(alloc: Global, chain: CheckedChain, first: PoolId) -> Result<Host<MemFiles>>
-    requires named { 0 < first }
-    ensures { IfOk result (λ h. IsAlive ⟦<MemFiles as Files>⟧.device h) }
-{
-    let limits = Limits { budget: BUDGET };
-    Ok(Host::checked_at(alloc, MemFiles::new(alloc), chain, limits, first)?)
-}
-
-/// One of the same modules, which watches them.
-fn watched_host(alloc: Global, chain: CheckedChain, first: PoolId) -> Result<Host<MemFiles>>
-    requires named { 0 < first }
-    ensures { IfOk result (λ h. IsAlive ⟦<MemFiles as Files>⟧.device h) }
-{
-    let limits = Limits { budget: BUDGET };
-    let modules = chain.into_modules();
-    Ok(Host::watched_at(alloc, MemFiles::new(alloc), modules, limits, first)?)
-}
-
-/// A host of one filter, whose names begin with `first`.
-fn host(alloc: Global, module: &[u8], checked: bool, first: PoolId) -> Result<Host<MemFiles>>
+/// A host of one filter, whose names begin with `first`, and which watches it where it is not said to be checked.
+fn host<B: Rings<Stored> + Drop>(
+    alloc: Global,
+    module: &[u8],
+    checked: bool,
+    first: PoolId,
+) -> Result<Host<MemFiles, B>>
     requires named { 0 < first }
     ensures { IfOk result (λ h. IsAlive ⟦<MemFiles as Files>⟧.device h) }
 {
     let chain = chain(alloc, module)?;
+    let (files, limits) = (MemFiles::new(alloc), Limits { budget: BUDGET });
     if checked {
-        return checked_host(alloc, chain, first);
+        return Ok(Host::checked_at(alloc, files, chain, limits, first)?);
     }
-    watched_host(alloc, chain, first)
+    Ok(Host::watched_at(alloc, files, chain.into_modules(), limits, first)?)
 }
 
 fn make<F: Files + Drop, B: Rings<Stored> + Drop>(
@@ -142,25 +129,19 @@ fn tell_all<F: Files + Drop, B: Rings<Stored> + Drop>(
 }
 
 /// Makes a host, and the calls of its row.
-fn show(rt: &HostRuntime, row: &Row) -> Result<()> {
+fn show<B: Rings<Stored> + Drop>(rt: &HostRuntime, row: &Row) -> Result<()> {
     println!(rt; "{}, names from {FIRST}", row.what)?;
-    let mut host = host(rt.alloc(), row.module, row.checked, FIRST)?;
+    let mut host = host::<B>(rt.alloc(), row.module, row.checked, FIRST)?;
     tell_all(rt, &mut host, row.calls)
 }
 
-/// Makes a host that no name is left for.
-fn make_nameless(alloc: Global) -> Result<()> {
-    host(alloc, IDENTITY, false, u64::MAX)?;
-    Ok(())
-}
-
 /// Names that begin so near to the end that the first request finds none, or the first pool of a filter; and names that cannot begin.
-pub(crate) fn names_spent_host(rt: &HostRuntime) -> Result<()> {
+pub(crate) fn names_spent_host<B: Rings<Stored> + Drop>(rt: &HostRuntime) -> Result<()> {
     for row in &ROWS {
-        show(rt, row)?;
+        show::<B>(rt, row)?;
     }
-    match make_nameless(rt.alloc()) {
-        Ok(()) => println!(rt; "a host of no names")?,
+    match host::<B>(rt.alloc(), IDENTITY, false, u64::MAX) {
+        Ok(_) => println!(rt; "a host of no names")?,
         Err(refusal) => println!(rt; "names from {}: {refusal}", u64::MAX)?,
     }
     Ok(())

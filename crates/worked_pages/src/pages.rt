@@ -7,7 +7,7 @@ use crate::shown::shown;
 use crate::stopped_clock::StoppedClock;
 use anyhow::Result;
 use byte_streams::{CountedSource, READS, Sink, Source};
-use filter_chain::{CheckedChain, Files, Host, Limits, MemFiles};
+use filter_chain::{CheckedChain, Files, Host, Limits, MemFiles, Rings, Stored};
 use http_front::{FrontFault, Served, Site, serve};
 use life_cert::make;
 use life_check::accept_chain;
@@ -82,7 +82,11 @@ pub(crate) fn site(alloc: Global) -> Result<Site> {
     Ok(site)
 }
 
-pub(crate) fn host(alloc: Global, server: Server) -> Result<Host<MemFiles>>
+/// A host of the chain and the files of a server.
+pub(crate) fn host<B: Rings<Stored> + Drop>(
+    alloc: Global,
+    server: Server,
+) -> Result<Host<MemFiles, B>>
     ensures { IfOk result (λ h. IsAlive ⟦<MemFiles as Files>⟧.device h) }
 {
     let limits = Limits {
@@ -96,42 +100,51 @@ pub(crate) fn host(alloc: Global, server: Server) -> Result<Host<MemFiles>>
 }
 
 /// Serves a site to what a reader gives.
-fn serve_site<R: Source, W: Sink>(
+fn serve_site<B: Rings<Stored> + Drop, R: Source, W: Sink>(
     alloc: Global,
     server: Server,
     site: &Site,
     reader: &mut CountedSource<R>,
     writer: &mut W,
 ) -> Result<Result<Served, FrontFault>> {
-    let mut host = host(alloc, server)?;
+    let mut host = host::<B>(alloc, server)?;
     let mut clock = StoppedClock(server.moment);
     Ok(serve(alloc, reader, writer, site, &mut host, &mut clock))
 }
 
 /// Serves what a reader gives.
-pub(crate) fn serve_all<R: Source, W: Sink>(
+pub(crate) fn serve_all<B: Rings<Stored> + Drop, R: Source, W: Sink>(
     alloc: Global,
     server: Server,
     reader: &mut CountedSource<R>,
     writer: &mut W,
 ) -> Result<Result<Served, FrontFault>> {
     let site = site(alloc)?;
-    serve_site(alloc, server, &site, reader, writer)
+    serve_site::<B, R, W>(alloc, server, &site, reader, writer)
 }
 
 /// Serves a stream, and tells how many responses were written, and what.
-pub(crate) fn answers(alloc: Global, server: Server, stream: &[u8]) -> Result<(u64, Vec<u8>)> {
+pub(crate) fn answers<B: Rings<Stored> + Drop>(
+    alloc: Global,
+    server: Server,
+    stream: &[u8],
+) -> Result<(u64, Vec<u8>)> {
     let mut reader = CountedSource::new(stream, READS);
     let mut written = Vec::new(alloc);
-    match serve_all(alloc, server, &mut reader, &mut written)? {
+    match serve_all::<B, _, _>(alloc, server, &mut reader, &mut written)? {
         Ok(served) => Ok((served.requests, written)),
         Err(fault) => Err(fault.kind.into()),
     }
 }
 
 /// Serves a stream, and prints what is written.
-pub(crate) fn show(rt: &HostRuntime, server: Server, what: &str, stream: &[u8]) -> Result<()> {
-    let (requests, written) = answers(rt.alloc(), server, stream)?;
+pub(crate) fn show<B: Rings<Stored> + Drop>(
+    rt: &HostRuntime,
+    server: Server,
+    what: &str,
+    stream: &[u8],
+) -> Result<()> {
+    let (requests, written) = answers::<B>(rt.alloc(), server, stream)?;
     println!(rt; "{what}: {requests} answered")?;
     let text = shown(rt.alloc(), written.as_slice())?;
     io::writer(rt).write_all(text.as_slice())?;

@@ -3,6 +3,7 @@
 use crate::modules::{FAILING, IDENTITY, POOL_BYTES};
 use crate::pages::{BUDGET, MOMENT, Server, answers, show};
 use anyhow::Result;
+use filter_chain::{Rings, Stored};
 use std::alloc::Global;
 
 /// The server of most rows: its chain passes on what it gets.
@@ -164,46 +165,51 @@ fn asked(alloc: Global, method: &str, target: &str, fields: u32) -> Result<Strin
 }
 
 /// Serves a stream, and prints what is written.
-fn show_row(rt: &HostRuntime, server: Server, what: &str, stream: Stream) -> Result<()> {
+fn show_row<B: Rings<Stored> + Drop>(
+    rt: &HostRuntime,
+    server: Server,
+    what: &str,
+    stream: Stream,
+) -> Result<()> {
     match stream {
-        Stream::Text(text) => show(rt, server, what, text),
+        Stream::Text(text) => show::<B>(rt, server, what, text),
         Stream::Asks(method, target, fields) => {
             let request = asked(rt.alloc(), method, target, fields)?;
-            show(rt, server, what, request.as_bytes())
+            show::<B>(rt, server, what, request.as_bytes())
         }
     }
 }
 
 /// Tells what other servers answer.
-fn show_others(rt: &HostRuntime) -> Result<()> {
+fn show_others<B: Rings<Stored> + Drop>(rt: &HostRuntime) -> Result<()> {
     for (other, what, stream) in OTHERS {
-        show_row(rt, server(*other), what, *stream)?;
+        show_row::<B>(rt, server(*other), what, *stream)?;
     }
     Ok(())
 }
 
 /// Tells the rows one after another.
-pub(crate) fn show_rows(rt: &HostRuntime) -> Result<()> {
+pub(crate) fn show_rows<B: Rings<Stored> + Drop>(rt: &HostRuntime) -> Result<()> {
     for (what, stream) in ROWS {
-        show_row(rt, PLAIN, what, *stream)?;
+        show_row::<B>(rt, PLAIN, what, *stream)?;
     }
-    show_others(rt)
+    show_others::<B>(rt)
 }
 
 /// Tells what a request that is cut is answered.
-fn show_cut(rt: &HostRuntime, cut: &[u8]) -> Result<()> {
+fn show_cut<B: Rings<Stored> + Drop>(rt: &HostRuntime, cut: &[u8]) -> Result<()> {
     let what = format!(in rt.alloc(); "a GET cut to {} bytes", cut.len())?;
-    show(rt, PLAIN, what.as_str(), cut)
+    show::<B>(rt, PLAIN, what.as_str(), cut)
 }
 
 /// A request that is cut is answered 400, unless nothing of it came. The answer is told where it is another than that to a byte less.
-pub(crate) fn cut_requests(rt: &HostRuntime) -> Result<()> {
+pub(crate) fn cut_requests<B: Rings<Stored> + Drop>(rt: &HostRuntime) -> Result<()> {
     let alloc = rt.alloc();
     let mut last = Vec::new(alloc);
     for len in 0..=GET.len() {
-        let (_, written) = answers(alloc, PLAIN, &GET[..len])?;
+        let (_, written) = answers::<B>(alloc, PLAIN, &GET[..len])?;
         if len == 0 || written.as_slice() != last.as_slice() {
-            show_cut(rt, &GET[..len])?;
+            show_cut::<B>(rt, &GET[..len])?;
         }
         last = written;
     }
