@@ -14,3 +14,4 @@ pub mod Renumbered
 pub mod PoolsReached
 pub mod Asked
 pub mod Added
+pub mod Visited

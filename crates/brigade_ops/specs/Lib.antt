@@ -4,4 +4,5 @@ pub mod Files
 pub mod Reads
 pub mod House
 pub mod Due
+pub mod Visits
 pub mod Prelude

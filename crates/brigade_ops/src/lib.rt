@@ -15,6 +15,7 @@ mod references;
 mod rooms;
 mod saving;
 mod store;
+mod visits;
 mod walking;
 
 pub use bucket_kinds::{FileNo, Files, Stored};
@@ -24,6 +25,7 @@ pub use pool_tree::{ClearKind, PoolId, PoolTree};
 pub use run_model::{Bucket, Content, Home, Kind, Payload, Seq};
 pub use store::{BrigadeId, Brigades};
 pub use stored_rings::{
-    ContentView, Cut, ReadRefusal, SplitRefusal, View, lists_are_the_models, points_are_the_models,
-    worked_changes,
+    ContentView, Cut, Point, ReadRefusal, SplitRefusal, View, lists_are_the_models,
+    points_are_the_models, worked_changes,
 };
+pub use visits::Visitor;

@@ -1,15 +1,53 @@
 //! A brigade is walked along: measured, split and parted.
 
-ghost use Rattle.std.specs.Prelude.{◌≡◌, ◌≢◌, ◌&&◌, ℕ, ◌+◌, ◌<◌, ◌^◌, [], ◌∷◌, drop, length, Some, None, Ok, Err, true, false, is_some, is_ok, if◌then◌else◌, IsOk, IfOk, IfSome, OnOk, OnErr};
+ghost use Rattle.std.specs.Prelude.{◌≡◌, ◌≢◌, ◌==◌, ◌&&◌, ◌||◌, ℕ, ◌+◌, ◌-◌, ◌<◌, ◌^◌, nat_lt, min};
+ghost use Rattle.std.specs.Prelude.{[], ◌∷◌, drop, Some, None, Ok, Err, true, false, is_some, is_ok, if◌then◌else◌, IsOk, IfOk, IfSome, OnOk, OnErr};
 ghost use Rattle.brigade_ops.specs.Prelude.{on, list_at, rest, first_of, NoneRevived, length_in, EndsInFile, form_of, form_of_kind, length_of, split_at, named, replaced, before_place, from_place};
 ghost use Rattle.brigade_ops.specs.Prelude.{point_in, is_inside, cut_at};
 
 use crate::store::{BrigadeId, Brigades};
+use crate::visits::Visitor;
 use bucket_kinds::Stored;
 use bucket_ring::{BucketId, RingRefusal, Rings};
 use run_model::Bucket;
 use std::alloc::AllocError;
-use stored_rings::{Cut, Point, SplitRefusal};
+use stored_rings::{Cut, Point, SplitRefusal, View};
+
+/// What goes along a brigade up to a point.
+#[derive(Drop)]
+struct Finder {
+    /// How far the point is behind the next bucket's first byte.
+    left: u64,
+}
+
+impl Visitor for Finder {
+    ghost visits = { λ s id x stop t. (stop ≡ (s.left == 0 || nat_lt s.left (length_of x.content))) × (t.left ≡ (if stop then s.left else s.left - length_of x.content)) };
+
+    fn visit(&mut self, _id: BucketId, bucket: &View<'_>) -> bool {
+        let len = bucket.content.len();
+        if self.left == 0 || len > self.left {
+            return true;
+        }
+        self.left -= len;
+        false
+    }
+}
+
+/// What adds up the lengths of a brigade.
+#[derive(Drop)]
+struct Sum {
+    /// The bytes so far. It never comes to its largest number: a brigade has less than 2^64 buckets of less than 2^64 bytes.
+    total: u128,
+}
+
+impl Visitor for Sum {
+    ghost visits = { λ s id x stop t. (stop ≡ false) × (length_of x.content < 2 ^ 64) × (t.total ≡ min (s.total + length_of x.content) (2 ^ 128 - 1)) };
+
+    fn visit(&mut self, _id: BucketId, bucket: &View<'_>) -> bool {
+        self.total = self.total.saturating_add(bucket.content.len() as u128);
+        false
+    }
+}
 
 #[tactic(auto, unfolding(crate::specs::Store::lists, crate::specs::Store::brigade_of, crate::specs::Store::pool_of, crate::specs::Store::next_name, crate::specs::Store::references))]
 impl<R: Rings<Stored> + Drop> Brigades<R> {
@@ -22,7 +60,6 @@ impl<R: Rings<Stored> + Drop> Brigades<R> {
         ensures first { result ≡ first_of (list_at (lists self.now) b) }
         ensures whole { from_place result (list_at (lists self.now) b) ≡ list_at (lists self.now) b }
         ensures inside { IfSome result (λ id. brigade_of self.now id ≡ Some b) }
-        ensures few { length (list_at (lists self.now) b) < 2 ^ 64 }
     {
         self.held.first(b)
     }
@@ -42,42 +79,20 @@ impl<R: Rings<Stored> + Drop> Brigades<R> {
         }
     }
 
-    /// The length of a bucket, where a walk along its brigade comes to it.
-    pub(crate) fn length_at(&self, id: BucketId) -> u64
-        requires { is_some (brigade_of self.now id) ≡ true }
-        ensures head { (b : ℕ) → brigade_of self.now id ≡ Some b → (x : Bucket)
-            × (rest id (list_at (lists self.now) b) ≡ (id, x) ∷ drop 1 (rest id (list_at (lists self.now) b))) × (result ≡ length_of x.content) }
-        ensures one { (b : ℕ) → brigade_of self.now id ≡ Some b → length (rest id (list_at (lists self.now) b)) ≡ length (drop 1 (rest id (list_at (lists self.now) b))) + 1 }
-        ensures sum { (b : ℕ) → brigade_of self.now id ≡ Some b
-            → length_in (named (rest id (list_at (lists self.now) b))) ≡ result + length_in (named (drop 1 (rest id (list_at (lists self.now) b)))) }
-    {
-        let bucket = self.payload(id);
-        bucket.content.len()
-    }
-
     /// Where a point of a brigade lies.
-    fn find(&self, b: BrigadeId, point: u64) -> Point
+    pub fn find(&self, b: BrigadeId, point: u64) -> Point
         requires { is_some (lists self.now b) ≡ true }
         ensures value { result ≡ point_in point (list_at (lists self.now) b) }
         ensures inside { (id : BucketId) (n : ℕ) → result ≡ Point.Inside id n → brigade_of self.now id ≡ Some b }
     {
-        let mut left = point;
-        let mut place = self.start(b);
-        while let Some(id) = place {
-            let len = self.length_at(id);
-            if left == 0 {
-                return Point::At(Some(id));
-            }
-            if len > left {
-                return Point::Inside(id, left);
-            }
-            left -= len;
-            place = self.behind(id);
+        let mut finder = Finder { left: point };
+        let place = self.visit(b, &mut finder);
+        if finder.left == 0 {
+            return Point::At(place);
         }
-        if left == 0 {
-            Point::At(None)
-        } else {
-            Point::Short
+        match place {
+            Some(id) => Point::Inside(id, finder.left),
+            None => Point::Short,
         }
     }
 
@@ -152,12 +167,8 @@ impl<R: Rings<Stored> + Drop> Brigades<R> {
         requires { is_some (lists self.now b) ≡ true }
         ensures { result ≡ length_in (named (list_at (lists self.now) b)) }
     {
-        let mut total = 0;
-        let mut place = self.start(b);
-        while let Some(id) = place {
-            total += self.length_at(id) as u128;
-            place = self.behind(id);
-        }
-        total
+        let mut sum = Sum { total: 0 };
+        self.visit(b, &mut sum);
+        sum.total
     }
 }

@@ -6,40 +6,12 @@ use Rattle.bucket_ring.specs.Lists.{same, times, found}
 use Rattle.bucket_ring.specs.Laws.{same_self, found_times}
 use Rattle.run_model.specs.declared.bucket.Bucket.{Bucket}
 use Rattle.run_model.specs.Cutting.{length_of}
-use Rattle.run_model.specs.BrigadeLists as model
-use Rattle.run_model.specs.BrigadeLists.{bucket_across, partition_answer}
+use Rattle.run_model.specs.BrigadeLists.{bucket_across}
 use Rattle.stored_rings.specs.Items.{Item, Items, named, named_item}
-use Rattle.stored_rings.specs.Laws.{place_cut}
+pub use Rattle.stored_rings.specs.declared.parting.Point.{Point}
+pub use Rattle.stored_rings.specs.declared.parting.Point.TheVariants.{Short, At, Inside}
 use Rattle.stored_rings.specs.Points.{point_in, is_inside}
-use Rattle.stored_rings.proofs.Parts.{points_are_the_models}
 use Rattle.ring_calls.specs.Seen.{read_in}
-
--- The points of brigade_ops, which it keeps to itself, by its laws on them.
-abbrev point_type : {P : Type 0} → (ℕ → Items → P) → Type 0
-point_type {P} pt = P
-
-abbrev pub Point : Type 0
-Point = point_type point_in
-
-abbrev short_of : {P : Type 0} {S : P} {pt : ℕ → Items → P} → ((new p : ℕ) (xs : Items) → pt p xs ≡ S → partition_answer new p (named xs) ≡ model.Incomplete) → P
-short_of {P} {S} {pt} law = S
-
-abbrev pub Short : Point
-Short = short_of points_are_the_models.short
-
-abbrev at_of : {P : Type 0} {A : Option BucketId → P} {pt : ℕ → Items → P}
-    → ((new p : ℕ) (place : Option BucketId) (xs : Items) → pt p xs ≡ A place → partition_answer new p (named xs) ≡ place_cut place) → Option BucketId → P
-at_of {P} {A} {pt} law = A
-
-abbrev pub At : Option BucketId → Point
-At = at_of points_are_the_models.at
-
-abbrev inside_of : {P : Type 0} {I : BucketId → ℕ → P} {pt : ℕ → Items → P} → ((new p n : ℕ) (id : BucketId) (xs : Items) → pt p xs ≡ I id n → partition_answer new p (named xs) ≡ model.Found new)
-    → BucketId → ℕ → P
-inside_of {P} {I} {pt} law = I
-
-abbrev pub Inside : BucketId → ℕ → Point
-Inside = inside_of points_are_the_models.inside
 
 -- where a point lies
 pub by_point : (p : ℕ) (xs : Items) (C : Type 0) → (point_in p xs ≡ Short → C) → ((place : Option BucketId) → point_in p xs ≡ At place → C)

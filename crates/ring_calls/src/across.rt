@@ -3,7 +3,7 @@
 ghost use Rattle.std.specs.Prelude.{◌≡◌, ◌<◌, ℕ, Bool, true, is_some, IfSome};
 ghost use Rattle.ring_calls.specs.Prelude.{list_at, bucket_across, lists, brigade_of, bucket_at, shown, shown_at};
 
-use brigade_ops::{BrigadeId, Brigades, BucketId, Rings, Stored};
+use brigade_ops::{BrigadeId, Brigades, BucketId, Point, Rings, Stored};
 
 /// The bucket that a point of a brigade lies inside.
 pub fn bucket_across<R: Rings<Stored> + Drop>(
@@ -15,18 +15,8 @@ pub fn bucket_across<R: Rings<Stored> + Drop>(
     ensures at { (runs : ℕ → Bool) → shown_at runs (bucket_at store.now) result ≡ bucket_across point (shown runs (list_at (lists store.now) b)) }
     ensures there { IfSome result (λ id. is_some (brigade_of store.now id) ≡ true) }
 {
-    let mut left = point;
-    let mut place = store.start(b);
-    while let Some(id) = place {
-        if left == 0 {
-            return None;
-        }
-        let len = store.payload(id).content.len();
-        if left < len {
-            return Some(id);
-        }
-        left -= len;
-        place = store.behind(id);
+    match store.find(b, point) {
+        Point::Inside(id, _) => Some(id),
+        Point::At(_) | Point::Short => None,
     }
-    None
 }

@@ -4,7 +4,7 @@ ghost use Rattle.std.specs.Prelude.{◌≡◌, ◌≢◌, ◌==◌, ◌<◌, ◌
 ghost use Rattle.ring_passes.specs.Prelude.{list_at, has_eos, is_eos_kind, set_brigade, do_pass, lists, Call, Around, contents, lent, IsHeld, seen, calls_in, shown, shown_slot, live_in, marked};
 ghost use Rattle.ring_passes.specs.Prelude.{name_in, slot_at};
 
-use brigade_ops::{BrigadeId, Brigades, Rings, Stored};
+use brigade_ops::{BrigadeId, Brigades, BucketId, Rings, Stored, View, Visitor};
 use ring_calls::machine::{Instance, Slot};
 use run_model::{Kind, Mark};
 
@@ -15,20 +15,24 @@ pub(crate) fn is_eos(kind: Kind) -> bool
     matches!(kind, Kind::Eos)
 }
 
+/// What looks for an EOS.
+#[derive(Drop)]
+struct Ends;
+
+impl Visitor for Ends {
+    ghost visits = { λ s id x stop t. (t ≡ s) × (stop ≡ is_eos_kind x.kind) };
+
+    fn visit(&mut self, _id: BucketId, bucket: &View<'_>) -> bool {
+        is_eos(bucket.kind)
+    }
+}
+
 /// Whether an EOS stands in a brigade.
 pub(crate) fn has_eos<R: Rings<Stored> + Drop>(store: &Brigades<R>, b: BrigadeId) -> bool
     requires { is_some (lists store.now b) ≡ true }
     ensures { (runs : ℕ → Bool) → result ≡ has_eos (shown runs (list_at (lists store.now) b)) }
 {
-    let mut place = store.start(b);
-    while let Some(id) = place {
-        let kind = store.payload(id).kind;
-        if is_eos(kind) {
-            return true;
-        }
-        place = store.behind(id);
-    }
-    false
+    store.visit(b, &mut Ends).is_some()
 }
 
 /// Whether an EOS stands in the brigade of a variable.

@@ -2,3 +2,4 @@ pub mod QuietRuns
 pub mod OnlyAsked
 pub mod FirstFault
 pub mod LiveContents
+pub mod LateVisits

@@ -32,7 +32,7 @@ fn is_running(call: &Call, context: &Context<'_>, n: BrigadeId) -> bool
 }
 
 /// The home of a bucket of this birth.
-fn home_in(call: &Call, context: &Context<'_>, birth: u64, home: Home) -> Home
+pub(crate) fn home_in(call: &Call, context: &Context<'_>, birth: u64, home: Home) -> Home
     ensures { result ≡ home_in (is_running call.now.name context.now.waits.now) birth home }
 {
     match home {

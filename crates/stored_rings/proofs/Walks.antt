@@ -1,14 +1,11 @@
 -- Walks along a brigade.
-use Rattle.std.proofs.Common.{◌≡◌, ℕ, suc, ◌+◌, ◌<◌, ◌≤◌, Option, None, Some, Ok, Err, List, [], ◌∷◌, drop, length, refl, ap, subst, arith}
+use Rattle.std.proofs.Common.{◌≡◌, ℕ, suc, ◌<◌, ◌≤◌, Option, None, Some, Ok, Err, List, [], ◌∷◌, drop, length, refl, ap, subst, arith}
 use Rattle.std.specs.Prelude.{IfSome}
-use Rattle.run_model.specs.declared.bucket.Bucket.{Bucket}
-use Rattle.run_model.specs.BrigadeLists.{length_in}
-use Rattle.run_model.specs.Cutting.{length_of}
 use Rattle.bucket_ring.specs.declared.names.BucketId.{BucketId}
 use Rattle.bucket_ring.specs.Lists.{times, rest, first_of, next_in, or_end, found}
 use Rattle.bucket_ring.specs.Kept.{once_in}
 use Rattle.bucket_ring.specs.Laws.{same_self}
-use Rattle.stored_rings.specs.Items.{Items, named, from_place}
+use Rattle.stored_rings.specs.Items.{from_place}
 use Rattle.stored_rings.proofs.Lists.{rest_head, rest_next}
 
 once_most : (r : ℕ) (o : Option ℕ) → once_in r o ≤ 1
@@ -65,16 +62,6 @@ fewer_behind id place behind xs x e here told =
     let at : length (from_place place xs) ≡ length (rest id xs) = ap (λ p. length (from_place p xs)) here in
     omega (arith, less, one, at)
 
--- the length of what begins with a bucket
-pub length_head : (id : BucketId) (xs : Items) (x : Bucket) → found id xs ≡ Some x → length_in (named (rest id xs)) ≡ length_of x.content + length_in (named (drop 1 (rest id xs)))
-unfolding length_in
-length_head id xs x e = ap (λ ys. length_in (named ys)) (rest_head id xs x e)
-
 pub told_some : {X : Type 0} (P : X → Type 0) (o : Option X) → IfSome o P → (x : X) → o ≡ Some x → P x
 told_some P None told x e = cc
 told_some P (Some y) told x e = let is : y ≡ x = cc in subst P is told
-
-pub at_end : (place : Option BucketId) (xs : Items) → ((id : BucketId) → place ≡ Some id → ⊥) → length_in (named (from_place place xs)) ≡ 0
-unfolding length_in
-at_end None xs never = refl
-at_end (Some id) xs never = absurd (never id refl)

@@ -22,28 +22,30 @@ use Rattle.brigade_ops.proofs.Added.{added}
 use Rattle.brigade_ops.proofs.store.Brigades.split.Goals as goal
 
 -- a refusal is told as what it was, and as nothing else
-unsplit_metadata : {A B P : Type 0} (why : SplitError) → (◌≡◌ {A = Result A SplitError} (Err why) (Err halving.Metadata)) ↔ P → (◌≡◌ {A = Result B SplitRefusal} (Err (unsplit why)) (Err split.Metadata)) ↔ P
-unsplit_metadata halving.TooLong h = (λ e. absurd (cc), λ p. absurd (cc (h.1 p)))
-unsplit_metadata halving.Metadata h = (λ e. h.0 refl, λ p. refl)
-unsplit_metadata halving.NoMemory h = (λ e. absurd (cc), λ p. absurd (cc (h.1 p)))
+module _ {A B P : Type 0} where
+  unsplit_metadata : (why : SplitError) → (◌≡◌ {A = Result A SplitError} (Err why) (Err halving.Metadata)) ↔ P → (◌≡◌ {A = Result B SplitRefusal} (Err (unsplit why)) (Err split.Metadata)) ↔ P
+  unsplit_metadata halving.TooLong h = (λ e. absurd (cc), λ p. absurd (cc (h.1 p)))
+  unsplit_metadata halving.Metadata h = (λ e. h.0 refl, λ p. refl)
+  unsplit_metadata halving.NoMemory h = (λ e. absurd (cc), λ p. absurd (cc (h.1 p)))
 
-unsplit_too_long : {A B P : Type 0} (why : SplitError) → (◌≡◌ {A = Result A SplitError} (Err why) (Err halving.TooLong)) ↔ P → (◌≡◌ {A = Result B SplitRefusal} (Err (unsplit why)) (Err split.TooLong)) ↔ P
-unsplit_too_long halving.TooLong h = (λ e. h.0 refl, λ p. refl)
-unsplit_too_long halving.Metadata h = (λ e. absurd (cc), λ p. absurd (cc (h.1 p)))
-unsplit_too_long halving.NoMemory h = (λ e. absurd (cc), λ p. absurd (cc (h.1 p)))
+  unsplit_too_long : (why : SplitError) → (◌≡◌ {A = Result A SplitError} (Err why) (Err halving.TooLong)) ↔ P → (◌≡◌ {A = Result B SplitRefusal} (Err (unsplit why)) (Err split.TooLong)) ↔ P
+  unsplit_too_long halving.TooLong h = (λ e. h.0 refl, λ p. refl)
+  unsplit_too_long halving.Metadata h = (λ e. absurd (cc), λ p. absurd (cc (h.1 p)))
+  unsplit_too_long halving.NoMemory h = (λ e. absurd (cc), λ p. absurd (cc (h.1 p)))
 
 unsplit_unspent : {B P : Type 0} (why : SplitError) → ◌≡◌ {A = Result B SplitRefusal} (Err (unsplit why)) (Err split.NamesSpent) → P
 unsplit_unspent halving.TooLong e = absurd (cc)
 unsplit_unspent halving.Metadata e = absurd (cc)
 unsplit_unspent halving.NoMemory e = absurd (cc)
 
-unnamed_metadata : {A B P : Type 0} {x : A} (why : RingRefusal) → (◌≡◌ {A = Result A SplitError} (Ok x) (Err halving.Metadata)) ↔ P → (◌≡◌ {A = Result B SplitRefusal} (Err (unnamed why)) (Err split.Metadata)) ↔ P
-unnamed_metadata ring.NoMemory h = (λ e. absurd (cc), λ p. absurd (cc (h.1 p)))
-unnamed_metadata ring.NamesSpent h = (λ e. absurd (cc), λ p. absurd (cc (h.1 p)))
+module _ {A B P : Type 0} {x : A} where
+  unnamed_metadata : (why : RingRefusal) → (◌≡◌ {A = Result A SplitError} (Ok x) (Err halving.Metadata)) ↔ P → (◌≡◌ {A = Result B SplitRefusal} (Err (unnamed why)) (Err split.Metadata)) ↔ P
+  unnamed_metadata ring.NoMemory h = (λ e. absurd (cc), λ p. absurd (cc (h.1 p)))
+  unnamed_metadata ring.NamesSpent h = (λ e. absurd (cc), λ p. absurd (cc (h.1 p)))
 
-unnamed_too_long : {A B P : Type 0} {x : A} (why : RingRefusal) → (◌≡◌ {A = Result A SplitError} (Ok x) (Err halving.TooLong)) ↔ P → (◌≡◌ {A = Result B SplitRefusal} (Err (unnamed why)) (Err split.TooLong)) ↔ P
-unnamed_too_long ring.NoMemory h = (λ e. absurd (cc), λ p. absurd (cc (h.1 p)))
-unnamed_too_long ring.NamesSpent h = (λ e. absurd (cc), λ p. absurd (cc (h.1 p)))
+  unnamed_too_long : (why : RingRefusal) → (◌≡◌ {A = Result A SplitError} (Ok x) (Err halving.TooLong)) ↔ P → (◌≡◌ {A = Result B SplitRefusal} (Err (unnamed why)) (Err split.TooLong)) ↔ P
+  unnamed_too_long ring.NoMemory h = (λ e. absurd (cc), λ p. absurd (cc (h.1 p)))
+  unnamed_too_long ring.NamesSpent h = (λ e. absurd (cc), λ p. absurd (cc (h.1 p)))
 
 unnamed_spent : {A B : Type 0} (why : RingRefusal) → ◌≡◌ {A = Result B SplitRefusal} (Err (unnamed why)) (Err split.NamesSpent) → ◌≡◌ {A = Result A RingRefusal} (Err why) (Err ring.NamesSpent)
 unnamed_spent ring.NoMemory e = absurd (cc)
