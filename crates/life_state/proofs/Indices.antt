@@ -1,11 +1,16 @@
 -- One state is below another where each index passes.
-use Rattle.std.proofs.Common.{◌≡◌, ℕ, ◌<◌, ◌≤◌, Bool, true, false, ◌&&◌, ◌||◌, ◌==◌, refl, sym, ◌∙◌, ⊎_elim, arith}
+use Rattle.std.proofs.Common.{◌≡◌, ℕ, ◌<◌, ◌≤◌, Bool, true, false, ◌&&◌, ◌||◌, ◌==◌, List, length, slice_index_or, refl, sym, ap, ◌∙◌, ⊎_elim, arith}
+use Rattle.std.proofs.lemmas.List.{get_or_default}
 use Rattle.std.proofs.lemmas.Bool.{cases_lt, eq-eqb, ne_eqb}
 use Rattle.life_state.specs.States.{State}
 use Rattle.life_state.specs.Facts.{known}
 use Rattle.life_state.specs.Order.{implies, all_below, pool_le, brigade_le, cursor_le, same_variables, pools_le, brigades_le, cursors_le, facts_le, leq}
 use Rattle.life_state.proofs.Below.{all_below_holds}
 use Rattle.life_state.proofs.Tests.{split2, and2, split3, and3, or_left, or_right, all_at}
+
+-- an item that stands is the same by whatever would stand in for it
+pub read_at : {X : Type 0} (xs : List X) (i k : ℕ) (d e : X) → i ≡ k → k < length xs → slice_index_or xs i d ≡ slice_index_or xs k e
+read_at xs i k d e same low = ap (λ j. slice_index_or xs j d) same ∙ get_or_default xs k d e low
 
 -- the variables, cursor and facts of one index
 abbrev pub below_at : State → State → ℕ → Bool

@@ -26,10 +26,11 @@ pub fn leq(a: &State, b: &State) -> bool
     ensures { result ≡ leq (seen a.now) (seen b.now) }
 {
     for k in 0..9u8 {
-        let pool = (k == 8) | a.pool(k).is_in(&b.pool(k));
-        let brigade = a.brigade(k).is_in(&b.brigade(k));
-        let cursor = a.cursor(k).is_in(&b.cursor(k));
         let facts = are_known(a, b, k);
+        let pool = (k == 8) | a.pool(k).is_in(&b.pool(k));
+        // Compared where they stand: to copy them would cost more than to compare them.
+        let brigade = a.brigades[usize::from(k)].is_in(&b.brigades[usize::from(k)]);
+        let cursor = a.cursors[usize::from(k)].is_in(&b.cursors[usize::from(k)]);
         let below = pool & brigade & cursor & facts;
         if !below {
             return false;

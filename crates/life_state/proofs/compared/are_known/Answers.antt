@@ -1,5 +1,5 @@
 -- One that is not known decides, and each is where the loop ends.
-use Rattle.std.proofs.Common.{◌≡◌, ℕ, Bool, true, false, ap₂, sym, ◌∙◌, arith}
+use Rattle.std.proofs.Common.{◌≡◌, ℕ, Bool, false, ap₂, sym, ◌∙◌, arith}
 use Rattle.life_state.specs.Facts.{known}
 use Rattle.life_state.specs.Order.{implies}
 use Rattle.life_state.specs.Seen.{seen}
