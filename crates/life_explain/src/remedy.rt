@@ -207,24 +207,31 @@ impl<'s> Case<'s> {
         }
     }
 
+    // Whether all of `in` was moved at once.
+    fn moves_all(&self) -> bool {
+        self.shape(self.maker).1.second.index() == 8 && self.is_made_by("bsave bconcat")
+    }
+
+    // Whether an instruction is `ret fail`.
+    fn fails(&self, pc: usize) -> bool {
+        matches!(instr_at(self.code, pc), Some(Instr::Ret(Status::Fail)))
+    }
+
     fn is_when(&mut self, when: When) -> bool {
-        let of = self.refusal.doubt.of;
-        let second = self.shape(self.maker).1.second.index();
-        let is_whole = second == 8 && self.is_made_by("bsave bconcat");
-        let here = instr_at(self.code, self.refusal.pc);
-        let fails = matches!(here, Some(Instr::Ret(Status::Fail)));
+        let is_own = self.refusal.doubt.of != 8;
+        let is_left = self.exit != NO_LINE;
         match when {
             When::Always => true,
             When::Gone => self.source.find(":gone") != NO_LINE,
-            When::Brought => of == 8 && self.code.brigade_count() < 8,
-            When::Whole => of != 8 && is_whole,
-            When::Part => of != 8 && !is_whole,
-            When::Keeps => self.exit == NO_LINE || self.may_be(self.exit).0,
-            When::Lost => self.exit != NO_LINE && !self.may_be(self.exit).0,
-            When::Left => self.exit != NO_LINE,
-            When::Own => of != 8,
-            When::Fails => fails,
-            When::Ends => !fails,
+            When::Brought => !is_own && self.code.brigade_count() < 8,
+            When::Whole => is_own && self.moves_all(),
+            When::Part => is_own && !self.moves_all(),
+            When::Keeps => !is_left || self.may_be(self.exit).0,
+            When::Lost => is_left && !self.may_be(self.exit).0,
+            When::Left => is_left,
+            When::Own => is_own,
+            When::Fails => self.fails(self.refusal.pc),
+            When::Ends => !self.fails(self.refusal.pc),
             When::Early => self.finds_early(self.first_cursor()),
         }
     }
@@ -312,8 +319,7 @@ impl<'s> Case<'s> {
             Op::Tail | Op::Head if x == 8 => "over at tail O D",
             Op::BConcat if x == 8 => "over at bconcat O A",
             Op::Pass if x == 8 => "over at pass O L;over at bclean O",
-            Op::Ret if matches!(instr_at(self.code, pc), Some(Instr::Ret(Status::Fail))) =>
-                "before at bclean O",
+            Op::Ret if self.fails(pc) => "before at bclean O",
             _ => "",
         }
     }
@@ -412,6 +418,28 @@ impl<'s> Case<'s> {
         }
     }
 
+    // What stands for a capital.
+    fn name(&self, capital: usize) -> &'s [u8] {
+        let of = self.refusal.doubt.of;
+        let made = self.shape(self.maker).1;
+        let first = made.first.index();
+        let brigade = match capital {
+            B => of,
+            O => self.code.brigade_count(),
+            S => first,
+            _ => made.second.index(),
+        };
+        match capital {
+            B | O | S | T => brigade_name(brigade).as_bytes(),
+            P => pool_text(home_of(self.code, of)),
+            Q => pool_text(PoolRef::Own(first)),
+            V => pool_text(PoolRef::Own(of)),
+            X => self.source.instruction(self.maker),
+            Y => self.source.instruction(self.refusal.pc),
+            _ => self.names.get(capital).copied().unwrap_or(&[]),
+        }
+    }
+
     // Adds a form to the lines that are to be written, with the names in place of capitals.
     fn expand(&mut self, form: &[u8]) {
         for byte in form {
@@ -421,7 +449,7 @@ impl<'s> Case<'s> {
                 let number = self.number;
                 self.page.put("#", number, &[], "");
             } else if capital < 26 {
-                let name = self.names[capital];
+                let name = self.name(capital);
                 self.page.push_line(name);
             } else {
                 self.page.push_line(&[byte]);
@@ -461,13 +489,17 @@ impl<'s> Case<'s> {
     fn write(&mut self, script: &str) {
         self.last = NO_LINE;
         for step in script.split(';') {
-            let how = token(step.as_bytes());
-            let rest = tail(after_token(step.as_bytes()));
-            if is_text(how, b"label") {
-                self.mark();
-            } else if !how.is_empty() {
-                self.edit(how, token(rest), tail(after_token(rest)));
-            }
+            self.write_step(step.as_bytes());
+        }
+    }
+
+    fn write_step(&mut self, step: &[u8]) {
+        let how = token(step);
+        let rest = tail(after_token(step));
+        if is_text(how, b"label") {
+            self.mark();
+        } else if !how.is_empty() {
+            self.edit(how, token(rest), tail(after_token(rest)));
         }
     }
 
@@ -549,32 +581,12 @@ impl<'s> Case<'s> {
         self.names[M] = name;
         self.names[N] = tail(name);
         self.names[C] = cursor_text(self.first_cursor());
-        self.names[L] = last_word(self.names[Y]);
+        self.names[L] = last_word(self.source.instruction(self.refusal.pc));
         if let Per::Label = rule.per {
             self.add_labels(rule);
         } else {
             self.add_all(rule);
         }
-    }
-
-    // What stands for the capitals of the instruction that made it so.
-    fn name_made(&mut self) {
-        let args = self.shape(self.maker).1;
-        let first = args.first.index();
-        self.names[S] = brigade_name(first).as_bytes();
-        self.names[T] = brigade_name(args.second.index()).as_bytes();
-        self.names[Q] = pool_text(PoolRef::Own(first));
-        self.names[X] = self.source.instruction(self.maker);
-    }
-
-    // What stands for the capitals of the doubt and of the refused instruction.
-    fn name_doubt(&mut self) {
-        let of = self.refusal.doubt.of;
-        self.names[B] = brigade_name(of).as_bytes();
-        self.names[O] = brigade_name(self.code.brigade_count()).as_bytes();
-        self.names[P] = pool_text(home_of(self.code, of));
-        self.names[V] = pool_text(PoolRef::Own(of));
-        self.names[Y] = self.source.instruction(self.refusal.pc);
     }
 
     // Adds the remedies of the rules of a table.
@@ -589,9 +601,7 @@ impl<'s> Case<'s> {
 
     /// Finds the remedies of the refusal, the likeliest first.
     pub fn find_remedies(&mut self) {
-        self.name_made();
-        self.name_doubt();
-        for rules in rule_tables() {
+        for rules in &rule_tables() {
             self.add_rules(rules);
         }
     }

@@ -4,7 +4,7 @@ use crate::page::Page;
 use crate::script::lines_of;
 use crate::words::text_of;
 use byte_text::{begins, is_text, tail, unindented};
-use std::alloc::{AllocError, Global};
+use std::alloc::Global;
 
 /// What no line and no instruction has for its number.
 pub const NO_LINE: usize = usize::MAX;
@@ -61,14 +61,14 @@ impl Source {
         }
     }
 
-    /// The lines of a text, before which so many stand.
-    pub fn of(alloc: Global, text: &[u8], before: usize) -> Result<Source, AllocError> {
-        let lines = lines_of(alloc, text, before)?;
+    /// The lines of a text, before which so many stand. Its page is full where memory was refused.
+    pub fn of(alloc: Global, text: &[u8], before: usize) -> Source {
         let mut source = Source::new(alloc);
+        let lines = lines_of(&mut source.page, text, before);
         for line in &lines {
             source.add(line.number, unindented(line.text));
         }
-        Ok(source)
+        source
     }
 
     fn add(&mut self, number: usize, line: &[u8]) {
