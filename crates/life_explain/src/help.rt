@@ -10,8 +10,8 @@ use module_code::Module;
 use module_lang::{AsmRefusal, assemble};
 use std::alloc::{AllocError, Global};
 
-// The module of a text; nothing where it is none, which is told.
-fn module_of(told: &mut Page, text: ScriptText<'_>) -> Option<Module> {
+/// The module of a text; nothing where it is none, which is told.
+pub fn module_of(told: &mut Page, text: ScriptText<'_>) -> Option<Module> {
     match assemble(told.alloc, text.text) {
         Ok(code) => return Some(code),
         Err(AsmRefusal::Fault { line, code }) => tell_asm_fault(told, text, line, code),
@@ -20,8 +20,8 @@ fn module_of(told: &mut Page, text: ScriptText<'_>) -> Option<Module> {
     None
 }
 
-// The certificate of a text; nothing where it is none, which is told.
-fn cert_of(told: &mut Page, text: ScriptText<'_>) -> Option<Cert> {
+/// The certificate of a text; nothing where it is none, which is told.
+pub fn cert_of(told: &mut Page, text: ScriptText<'_>) -> Option<Cert> {
     match read_cert(told.alloc, text.text) {
         Ok(cert) => return Some(cert),
         Err(CertRefusal::Fault { line, code }) => tell_cert_fault(told, text, line, code),
@@ -30,23 +30,17 @@ fn cert_of(told: &mut Page, text: ScriptText<'_>) -> Option<Cert> {
     None
 }
 
-/// Tells what is wrong with a module text.
-pub fn tell_module_text(told: &mut Page, text: ScriptText<'_>) {
-    module_of(told, text);
-}
-
-/// Tells what is wrong with a certificate text.
-pub fn tell_cert_text(told: &mut Page, text: ScriptText<'_>) {
-    cert_of(told, text);
-}
-
 /// Tells what is wrong with the texts of a script, or why a module is refused, alone or with its certificate.
 pub fn tell_texts(told: &mut Page, text: ScriptText<'_>, cert: Option<ScriptText<'_>>) {
     if let Some(code) = module_of(told, text) {
-        match cert {
-            Some(given) => tell_with(told, text, &code, given),
-            None => tell_unmade(told, text, &code),
-        }
+        tell_module(told, text, &code, cert);
+    }
+}
+
+fn tell_module(told: &mut Page, text: ScriptText<'_>, code: &Module, cert: Option<ScriptText<'_>>) {
+    match cert {
+        Some(given) => tell_with(told, text, code, given),
+        None => tell_unmade(told, text, code),
     }
 }
 

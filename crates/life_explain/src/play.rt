@@ -1,12 +1,12 @@
 //! The help on what a play answered.
 
-use crate::help::{tell_cert_text, tell_module_text, tell_texts};
+use crate::help::{cert_of, module_of, tell_texts};
 use crate::session::tell_fault;
 use crate::told::put_at;
 use byte_text::{is_text, token};
 use line_help::{
-    Answered, Page, Script, ScriptLine, ScriptText, Source, fault_of, is_told, lines_of, number, shown,
-    tell_refused, tell_script_fault, word,
+    Answered, Page, Script, ScriptLine, ScriptText, Source, fault_of, is_told, lines_of, number,
+    shown, tell_refused, tell_script_fault, word,
 };
 use run_model::FaultKind;
 use script_text::{fault_name, fault_named};
@@ -95,13 +95,7 @@ fn tell_fault_of(told: &mut Page, script: &Script<'_>, answered: &Answered<'_>) 
 }
 
 // Tells of a fault in the module of this number and this text, at this instruction.
-fn tell_fault_at(
-    told: &mut Page,
-    text: ScriptText<'_>,
-    index: usize,
-    pc: usize,
-    kind: FaultKind,
-) {
+fn tell_fault_at(told: &mut Page, text: ScriptText<'_>, index: usize, pc: usize, kind: FaultKind) {
     let source = Source::of(told.alloc, text.text, text.before);
     put_at(told, &source, pc, "line #, `@`, of module ", "");
     told.put("# has $: ", index, &[], fault_name(kind));
@@ -123,10 +117,12 @@ fn tell_module(told: &mut Page, script: &Script<'_>, answer: &[u8]) {
 
 // Tells what is wrong with the text that a line of this number is of.
 fn tell_text(told: &mut Page, script: &Script<'_>, number: usize) {
-    match script.text_with(number) {
-        Some(text) if text.is_cert => tell_cert_text(told, text),
-        Some(text) => tell_module_text(told, text),
-        None => {}
+    if let Some(text) = script.text_with(number) {
+        if text.is_cert {
+            cert_of(told, text);
+        } else {
+            module_of(told, text);
+        }
     }
 }
 
@@ -154,7 +150,8 @@ fn tell_answers(told: &mut Page, script: &Script<'_>, answered: &[Answered<'_>])
     let mut done = Vec::new(told.alloc);
     for (index, answer) in answered.iter().enumerate() {
         if done.len() == MOST {
-            return told.push("what is answered from then on is not explained\n");
+            told.push("what is answered from then on is not explained\n");
+            break;
         }
         let earlier = answered.get(..index).unwrap_or(&[]);
         if !is_told(done.as_slice(), answer) && tell_answer(told, script, earlier, answer) {

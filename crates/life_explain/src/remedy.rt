@@ -18,8 +18,6 @@ use std::alloc::Global;
 // The places of the capitals.
 const A: usize = 0;
 
-const B: usize = 1;
-
 const C: usize = 2;
 
 const D: usize = 3;
@@ -29,22 +27,6 @@ const L: usize = 11;
 const M: usize = 12;
 
 const N: usize = 13;
-
-const O: usize = 14;
-
-const P: usize = 15;
-
-const Q: usize = 16;
-
-const S: usize = 18;
-
-const T: usize = 19;
-
-const V: usize = 21;
-
-const X: usize = 23;
-
-const Y: usize = 24;
 
 const Z: usize = 25;
 
@@ -124,8 +106,11 @@ impl<'s> Case<'s> {
         text_of(self.shape(self.maker).0.text())
     }
 
-    // Whether a `bsplit` stands in the handler before the refused instruction.
+    // Whether a `bsplit` stands in the handler before the refused instruction, and it came from no earlier call.
     fn cuts_before(&self) -> bool {
+        if self.exit != NO_LINE {
+            return false;
+        }
         for pc in self.code.main()..self.refusal.pc {
             if let Some(Instr::BSplit(_, _, _)) = instr_at(self.code, pc) {
                 return true;
@@ -137,17 +122,23 @@ impl<'s> Case<'s> {
     /// The pattern of the refusal.
     pub fn pattern(&self) -> Pattern {
         let doubt = self.refusal.doubt;
-        let is_late = matches!(doubt.sort, Sort::LateData);
-        let made = self.made_by();
-        let cuts = self.exit == NO_LINE && self.cuts_before();
-        if cuts && (is_late || matches!(doubt.sort, Sort::Sent)) || is_late && made == "bsplit" {
+        match doubt.sort {
+            Sort::Sent if self.cuts_before() => Pattern::CutWithoutEos,
+            Sort::LateData => self.late_pattern(),
+            _ => doubt.row().pattern,
+        }
+    }
+
+    // The pattern of data behind an EOS.
+    fn late_pattern(&self) -> Pattern {
+        if self.cuts_before() || self.is_made_by("bsplit") {
             Pattern::CutWithoutEos
-        } else if is_late && doubt.of == 8 {
+        } else if self.refusal.doubt.of == 8 {
             Pattern::InsertIntoOwn
-        } else if is_late && stands_in("bsave bconcat", made) {
+        } else if self.is_made_by("bsave bconcat") {
             Pattern::MoveOneByOne
         } else {
-            doubt.row().pattern
+            Pattern::LeaveAtEos
         }
     }
 
@@ -357,17 +348,12 @@ impl<'s> Case<'s> {
             (Test::Drops, Op::JEq | Op::JLt) => self.drops(pc),
             (Test::Saves, Op::BSave | Op::BConcat) => is_of && y == 8,
             (Test::Leaves, Op::Ret) => self.may_be(pc).1,
-            (Test::PutsOfCall, Op::Tail | Op::Head) => is_of && self.is_of_call(pc, y),
+            (Test::PutsOfCall, Op::Tail | Op::Head) => match self.cursor(pc, y) {
+                CursorState::Loose(_, homes) => is_of && homes.call,
+                _ => false,
+            },
             (Test::Reads, Op::Read) => true,
             (Test::Asides, Op::Aside) => !matches!(args.second.place(), PoolRef::Conn),
-            _ => false,
-        }
-    }
-
-    // Whether the loose bucket at a cursor may end with the call.
-    fn is_of_call(&self, pc: usize, c: u8) -> bool {
-        match self.cursor(pc, c) {
-            CursorState::Loose(_, homes) => homes.call,
             _ => false,
         }
     }
@@ -419,24 +405,22 @@ impl<'s> Case<'s> {
     }
 
     // What stands for a capital.
-    fn name(&self, capital: usize) -> &'s [u8] {
+    fn name(&self, capital: u8) -> &'s [u8] {
         let of = self.refusal.doubt.of;
         let made = self.shape(self.maker).1;
         let first = made.first.index();
-        let brigade = match capital {
-            B => of,
-            O => self.code.brigade_count(),
-            S => first,
-            _ => made.second.index(),
-        };
+        let place = usize::from(capital.wrapping_sub(b'A'));
         match capital {
-            B | O | S | T => brigade_name(brigade).as_bytes(),
-            P => pool_text(home_of(self.code, of)),
-            Q => pool_text(PoolRef::Own(first)),
-            V => pool_text(PoolRef::Own(of)),
-            X => self.source.instruction(self.maker),
-            Y => self.source.instruction(self.refusal.pc),
-            _ => self.names.get(capital).copied().unwrap_or(&[]),
+            b'B' => brigade_name(of).as_bytes(),
+            b'O' => brigade_name(self.code.brigade_count()).as_bytes(),
+            b'S' => brigade_name(first).as_bytes(),
+            b'T' => brigade_name(made.second.index()).as_bytes(),
+            b'P' => pool_text(home_of(self.code, of)),
+            b'Q' => pool_text(PoolRef::Own(first)),
+            b'V' => pool_text(PoolRef::Own(of)),
+            b'X' => self.source.instruction(self.maker),
+            b'Y' => self.source.instruction(self.refusal.pc),
+            _ => self.names.get(place).copied().unwrap_or(&[]),
         }
     }
 
@@ -444,12 +428,11 @@ impl<'s> Case<'s> {
     fn expand(&mut self, form: &[u8]) {
         for byte in form {
             let byte = *byte;
-            let capital = usize::from(byte.wrapping_sub(b'A'));
             if byte == b'#' {
                 let number = self.number;
                 self.page.put("#", number, &[], "");
-            } else if capital < 26 {
-                let name = self.name(capital);
+            } else if byte.is_ascii_uppercase() {
+                let name = self.name(byte);
                 self.page.push_line(name);
             } else {
                 self.page.push_line(&[byte]);
@@ -567,9 +550,12 @@ impl<'s> Case<'s> {
     fn add_read(&mut self, rule: &Rule) {
         let trail = self.trail;
         for step in &trail.steps {
-            if let (StatePlace::At(from), true) = (step.from, step.jumps) {
-                self.at = from;
-                self.add(rule, rule.first);
+            match step.from {
+                StatePlace::At(from) if step.jumps => {
+                    self.at = from;
+                    self.add(rule, rule.first);
+                }
+                _ => {}
             }
         }
         self.add(rule, rule.each);

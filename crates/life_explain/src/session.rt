@@ -76,7 +76,10 @@ fn is_settled(source: &Source, judged: &Judged, line: usize) -> bool {
 // How many tests may fail in a source, and whether a line is refused no more; `NO_LINE` where it is no module.
 fn outcome(told: &mut Page, source: &Source, line: usize) -> (usize, bool) {
     match study_of(told, source) {
-        Some(study) => (study.judged.failures, is_settled(source, &study.judged, line)),
+        Some(study) => (
+            study.judged.failures,
+            is_settled(source, &study.judged, line),
+        ),
         None => (NO_LINE, false),
     }
 }
@@ -105,15 +108,17 @@ fn tries(
 
 // The edits of a remedy.
 fn edits_of<'a>(case: &'a Case<'_>, index: usize) -> &'a [Edit] {
-    let from = match case.heads.get(index) {
-        Some(head) => head.from,
-        None => 0,
-    };
-    let to = match case.heads.get(index.saturating_add(1)) {
-        Some(next) => next.from,
-        None => case.edits.len(),
-    };
+    let from = first_edit(case, index);
+    let to = first_edit(case, index.saturating_add(1));
     case.edits.get(from..to).unwrap_or(&[])
+}
+
+// Where the edits of a remedy begin; behind the last remedy, where those of all end.
+fn first_edit(case: &Case<'_>, index: usize) -> usize {
+    match case.heads.get(index) {
+        Some(head) => head.from,
+        None => case.edits.len(),
+    }
 }
 
 // The first remedy that leaves the fewest tests that may fail, and fewer than there are.
@@ -153,12 +158,7 @@ fn left_of(mended: &Option<Mended>) -> usize {
 }
 
 // The same without cleans that change nothing.
-fn prune(
-    told: &mut Page,
-    case: &Case<'_>,
-    edits: &mut Vec<Edit>,
-    mended: &mut Option<Mended>,
-) {
+fn prune(told: &mut Page, case: &Case<'_>, edits: &mut Vec<Edit>, mended: &mut Option<Mended>) {
     let mut index = 0usize;
     for _ in 0..edits.len() {
         if edits.len() > 1 && !goes(told, case, index, edits, mended) {
@@ -286,12 +286,7 @@ fn next_refusal(source: &Source, refusals: &[FlowRefusal], seen: &[usize]) -> Op
 }
 
 // Tells the first refusal of a study whose line was not told yet, if there is one.
-fn tell_first(
-    told: &mut Page,
-    source: &mut Source,
-    study: &Study,
-    seen: &mut Vec<usize>,
-) -> bool {
+fn tell_first(told: &mut Page, source: &mut Source, study: &Study, seen: &mut Vec<usize>) -> bool {
     let refusals = study.judged.refusals.as_slice();
     if refusals.is_empty() {
         told.push("with these lines the module is accepted\n");

@@ -109,13 +109,7 @@ impl Trail {
     }
 
     // Finds how it comes to the place of this number. Adds the places from which it comes; one that makes it so is the last.
-    fn look(
-        &mut self,
-        known: &Known<'_>,
-        next: usize,
-        place: StatePlace,
-        doubt: Doubt,
-    ) -> Coming {
+    fn look(&mut self, known: &Known<'_>, next: usize, place: StatePlace, doubt: Doubt) -> Coming {
         let mut coming = Coming::Begun;
         for way in known.ways {
             let from = way.from;

@@ -87,7 +87,8 @@ fn hex_digit(number: u8) -> u8 {
 fn tell_byte(told: &mut Page, index: usize, byte: u8) {
     let name = if byte == b'\t' { ", a tab" } else { "" };
     let digits = [hex_digit(byte / 16), hex_digit(byte % 16)];
-    let form = "  its byte # is 0x@$; a line has bytes from 0x20 to 0x7e alone, and other bytes stand in quotes, as `\\x@`\n";
+    let form =
+        "  its byte # is 0x@$; a line has bytes from 0x20 to 0x7e alone, and other bytes stand in quotes, as `\\x@`\n";
     told.put(form, index.saturating_add(1), &digits, name);
 }
 

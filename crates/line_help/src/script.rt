@@ -60,19 +60,21 @@ pub fn lines_of<'a>(told: &mut Page, text: &'a [u8], before: usize) -> Vec<Scrip
 }
 
 impl<'a> Script<'a> {
-    // The text that begins behind so many lines, and ends behind so many.
-    fn text(&self, script: &'a [u8], before: usize, end: usize) -> ScriptText<'a> {
-        let (start, is_cert) = match self.lines.get(before) {
-            Some(line) => (
-                line.start,
-                before != 0 && begins_cert(line.text, line.ended),
-            ),
-            None => (script.len(), false),
-        };
-        let end = match self.lines.get(end) {
+    // Where the line behind so many begins, or the script ends.
+    fn start_of(&self, script: &[u8], before: usize) -> usize {
+        match self.lines.get(before) {
             Some(line) => line.start,
             None => script.len(),
+        }
+    }
+
+    // The text that begins behind so many lines, and ends behind so many.
+    fn text(&self, script: &'a [u8], before: usize, end: usize) -> ScriptText<'a> {
+        let is_cert = match self.lines.get(before) {
+            Some(line) => before != 0 && begins_cert(line.text, line.ended),
+            None => false,
         };
+        let (start, end) = (self.start_of(script, before), self.start_of(script, end));
         let text = script.get(start..end).unwrap_or(&[]);
         ScriptText {
             is_cert,
@@ -112,13 +114,7 @@ impl<'a> Script<'a> {
     }
 
     // Takes a line before the commands; tells whether more of these may follow.
-    fn take(
-        &mut self,
-        told: &mut Page,
-        script: &'a [u8],
-        texts: &mut Texts,
-        index: usize,
-    ) -> bool {
+    fn take(&mut self, told: &mut Page, script: &'a [u8], texts: &mut Texts, index: usize) -> bool {
         let Some(line) = self.lines.get(index).copied() else {
             return false;
         };

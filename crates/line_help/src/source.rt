@@ -121,7 +121,7 @@ impl Source {
 
     /// The number of the line at a place, or of the next one that is there already.
     pub fn number_at(&self, index: usize) -> usize {
-        for line in self.lines.iter().skip(index) {
+        for line in self.lines.get(index..).unwrap_or(&[]) {
             if line.number != 0 {
                 return line.number;
             }
@@ -147,7 +147,8 @@ impl Source {
     /// The label that stands before a place; nothing where there is none.
     pub fn label_before(&self, place: usize) -> &[u8] {
         let mut label = self.text_at(NO_LINE);
-        for line in self.lines.iter().take(place) {
+        let count = place.min(self.lines.len());
+        for line in self.lines.get(..count).unwrap_or(&[]) {
             let text = cut(&self.page, line.start, line.end);
             if begins(text, b':') {
                 label = tail(text);
