@@ -1,13 +1,12 @@
 //! What a certificate says against its module.
 
-use crate::flow::{add_ways_of, state_at};
+use crate::flow::{Ways, add_ways_of, state_at};
 use crate::told::{handler_name, put_at};
 use life_cert::StatePlace;
 use life_check::{Cert, CheckRefusal, Rule};
 use life_state::{State, at_open, leq};
 use line_help::{Page, Source, Topic, put_known};
 use module_code::Module;
-use std::alloc::AllocError;
 
 // The variables and cursors of a state: eight pools, nine brigades and nine cursors.
 const PARTS: u8 = 26;
@@ -99,42 +98,29 @@ fn put_not_below(
     }
 }
 
-fn put_from(
-    told: &mut Page,
-    source: &Source,
-    code: &Module,
-    cert: &Cert,
-    place: StatePlace,
-) -> Result<(), AllocError> {
-    let mut ways = Vec::new(told.alloc);
+fn put_from(told: &mut Page, source: &Source, code: &Module, cert: &Cert, place: StatePlace) {
+    let mut ways = Ways::new(told.alloc);
     if let Some(state) = state_at(cert, place) {
-        add_ways_of(code, place, &state, false, &mut ways)?;
+        add_ways_of(code, place, &state, false, &mut ways);
     }
-    for way in &ways {
+    told.full |= ways.full;
+    for way in &ways.all {
         if put_not_below(told, source, cert, way.to, &way.state) {
             break;
         }
     }
-    Ok(())
 }
 
-fn put_entry(
-    told: &mut Page,
-    source: &Source,
-    code: &Module,
-    cert: &Cert,
-    pc: usize,
-) -> Result<(), AllocError> {
+fn put_entry(told: &mut Page, source: &Source, code: &Module, cert: &Cert, pc: usize) {
     let form = "line #: `$` does not begin as the certificate says\n";
     put_at(told, source, pc, form, handler_name(code, pc));
     if pc == code.main() {
-        put_from(told, source, code, cert, StatePlace::Ready)
+        put_from(told, source, code, cert, StatePlace::Ready);
     } else if pc == code.init() {
-        put_from(told, source, code, cert, StatePlace::Idle)
+        put_from(told, source, code, cert, StatePlace::Idle);
     } else {
         let first = at_open(code.pool_count(), code.brigade_count());
         put_not_below(told, source, cert, StatePlace::At(0), &first);
-        Ok(())
     }
 }
 
@@ -145,7 +131,7 @@ pub fn put_certificate(
     code: &Module,
     cert: &Cert,
     refusal: CheckRefusal,
-) -> Result<(), AllocError> {
+) {
     let pc = refusal.pc;
     match refusal.rule {
         Rule::Shape => {
@@ -157,11 +143,10 @@ pub fn put_certificate(
                     "  a slim certificate has lines only for the first instruction of each handler and for targets\n",
                 );
             }
-            Ok(())
         }
         Rule::Request => {
             told.push("the end of a request leaves what `idle` does not allow\n");
-            put_from(told, source, code, cert, StatePlace::Ready)
+            put_from(told, source, code, cert, StatePlace::Ready);
         }
         Rule::Entry => put_entry(told, source, code, cert, pc),
         Rule::Exit | Rule::Flow | Rule::May(_) => {
@@ -170,7 +155,7 @@ pub fn put_certificate(
                 _ => "leads to what the certificate does not allow",
             };
             put_at(told, source, pc, "line #: `@` $\n", says);
-            put_from(told, source, code, cert, StatePlace::At(pc))
+            put_from(told, source, code, cert, StatePlace::At(pc));
         }
     }
 }

@@ -7,7 +7,7 @@ use crate::needs::doubt_of;
 use life_cert::{Arrival, Growth, StatePlace, round_count};
 use life_check::{Cert, heads};
 use life_state::{State, Successors, after, at_end_of_request, at_main, at_return};
-use line_help::Doubt;
+use line_help::{Doubt, Page};
 use module_code::{Instr, Module, PoolRef};
 use run_model::FaultKind;
 use std::alloc::{AllocError, Global};
@@ -28,6 +28,13 @@ pub struct FlowRefusal {
     pub pc: usize,
     pub kind: FaultKind,
     pub doubt: Doubt,
+}
+
+/// Ways, and whether memory was refused for one.
+#[derive(Drop)]
+pub struct Ways {
+    pub all: Vec<Way>,
+    pub full: bool,
 }
 
 /// The states that a module would have if each rule were met, the refusals in them, one at most of each instruction, and how many
@@ -153,50 +160,47 @@ fn meet(code: &Module, pc: usize, state: &mut State) -> usize {
     usize::from(TESTS)
 }
 
-fn add_way(
-    ways: &mut Vec<Way>,
-    from: StatePlace,
-    to: StatePlace,
-    jumps: bool,
-    state: Option<State>,
-) -> Result<(), AllocError> {
-    match state {
-        Some(state) => Ok(ways.push(Way {
-            from,
-            to,
-            jumps,
-            state,
-        })?),
-        None => Ok(()),
+impl Ways {
+    /// None yet.
+    pub fn new(alloc: Global) -> Ways {
+        Ways {
+            all: Vec::new(alloc),
+            full: false,
+        }
+    }
+
+    fn add(&mut self, from: StatePlace, to: StatePlace, jumps: bool, state: Option<State>) {
+        if let Some(state) = state {
+            let way = Way {
+                from,
+                to,
+                jumps,
+                state,
+            };
+            self.full |= self.all.push(way).is_err();
+        }
     }
 }
 
-fn add_ways_of_line(
-    code: &Module,
-    pc: usize,
-    state: &State,
-    goes_on: bool,
-    ways: &mut Vec<Way>,
-) -> Result<(), AllocError> {
+fn add_ways_of_line(code: &Module, pc: usize, state: &State, goes_on: bool, ways: &mut Ways) {
     let mut met = *state;
     if goes_on {
         meet(code, pc, &mut met);
     }
     let (Some(Ok(led)), Some(instr)) = (answer(code, pc, &met), instr_at(code, pc)) else {
-        return Ok(());
+        return;
     };
     let from = StatePlace::At(pc);
     let next = StatePlace::At(pc.saturating_add(1));
-    add_way(ways, from, next, false, led.next)?;
-    add_way(ways, from, StatePlace::At(instr.target()), true, led.jump)?;
-    let left = if pc < code.init() {
-        StatePlace::Idle
-    } else {
-        StatePlace::Ready
-    };
-    match instr {
-        Instr::Ret(_) => add_way(ways, from, left, false, Some(at_return(state))),
-        _ => Ok(()),
+    ways.add(from, next, false, led.next);
+    ways.add(from, StatePlace::At(instr.target()), true, led.jump);
+    if let Instr::Ret(_) = instr {
+        let left = if pc < code.init() {
+            StatePlace::Idle
+        } else {
+            StatePlace::Ready
+        };
+        ways.add(from, left, false, Some(at_return(state)));
     }
 }
 
@@ -207,56 +211,44 @@ pub fn add_ways_of(
     place: StatePlace,
     state: &State,
     goes_on: bool,
-    ways: &mut Vec<Way>,
-) -> Result<(), AllocError> {
+    ways: &mut Ways,
+) {
     match place {
         StatePlace::At(pc) => add_ways_of_line(code, pc, state, goes_on, ways),
-        StatePlace::Idle => add_way(
-            ways,
-            place,
-            StatePlace::At(code.init()),
-            false,
-            Some(*state),
-        ),
+        StatePlace::Idle => ways.add(place, StatePlace::At(code.init()), false, Some(*state)),
         StatePlace::Ready => {
             let main = StatePlace::At(code.main());
-            add_way(ways, place, main, false, Some(at_main(state)))?;
+            ways.add(place, main, false, Some(at_main(state)));
             if state.pool_count() == code.pool_count()
                 && state.brigade_count() == code.brigade_count()
             {
                 let ended = at_end_of_request(code, state);
-                add_way(ways, place, StatePlace::Idle, false, Some(ended))?;
+                ways.add(place, StatePlace::Idle, false, Some(ended));
             }
-            Ok(())
         }
     }
 }
 
-fn add_ways(
-    code: &Module,
-    states: &Cert,
-    place: StatePlace,
-    ways: &mut Vec<Way>,
-) -> Result<(), AllocError> {
-    match state_at(states, place) {
-        Some(state) => add_ways_of(code, place, &state, true, ways),
-        None => Ok(()),
+fn add_ways(code: &Module, states: &Cert, place: StatePlace, ways: &mut Ways) {
+    if let Some(state) = state_at(states, place) {
+        add_ways_of(code, place, &state, true, ways);
     }
 }
 
 /// All ways, where these are the states. One that may have a fault leads where it would if its rule were met, since it led there
 /// before its state grew.
-pub fn all_ways(alloc: Global, code: &Module, states: &Cert) -> Result<Vec<Way>, AllocError> {
-    let mut ways = Vec::new(alloc);
+pub fn all_ways(alloc: Global, code: &Module, states: &Cert) -> Ways {
+    let mut ways = Ways::new(alloc);
     for pc in 0..code.len() {
-        add_ways(code, states, StatePlace::At(pc), &mut ways)?;
+        add_ways(code, states, StatePlace::At(pc), &mut ways);
     }
-    add_ways(code, states, StatePlace::Idle, &mut ways)?;
-    add_ways(code, states, StatePlace::Ready, &mut ways)?;
-    Ok(ways)
+    add_ways(code, states, StatePlace::Idle, &mut ways);
+    add_ways(code, states, StatePlace::Ready, &mut ways);
+    ways
 }
 
-fn arrive(growth: &mut Growth, way: &Way) -> Result<(), AllocError> {
+// Lets a state come by a way; tells whether memory was refused for it.
+fn arrive(growth: &mut Growth, way: &Way) -> bool {
     let is_inside = match way.to {
         StatePlace::At(pc) => pc < growth.cert.at.len(),
         StatePlace::Idle | StatePlace::Ready => true,
@@ -268,38 +260,47 @@ fn arrive(growth: &mut Growth, way: &Way) -> Result<(), AllocError> {
         }
         None => true,
     };
-    if is_inside && fits {
-        growth.arrive(&Arrival {
-            place: way.to,
-            state: way.state,
-        })?;
-    }
-    Ok(())
+    let arrival = Arrival {
+        place: way.to,
+        state: way.state,
+    };
+    is_inside && fits && growth.arrive(&arrival).is_err()
 }
 
-// A round of the maker, in which an instruction that may have a fault hands on what it would if its rule were met.
-fn round(alloc: Global, code: &Module, growth: &mut Growth) -> Result<(), AllocError> {
-    let mut ways = Vec::new(alloc);
+// The ways from where the states grew.
+fn grown_ways(alloc: Global, code: &Module, growth: &Growth) -> Ways {
+    let mut ways = Ways::new(alloc);
     for place in &growth.grown {
-        add_ways(code, &growth.cert, *place, &mut ways)?;
+        add_ways(code, &growth.cert, *place, &mut ways);
     }
-    growth.grown.clear();
-    for way in &ways {
-        arrive(growth, way)?;
-    }
-    Ok(())
+    ways
 }
 
-// The states of a module, as the maker of certificates lets them grow, but that an instruction that may have a fault leads where it
-// would if its rule were met.
-fn states_of(alloc: Global, code: &Module) -> Result<Cert, AllocError> {
-    let mut growth = Growth::new(alloc, code)?;
+// A round of the maker, in which an instruction that may have a fault hands on what it would if its rule were met. The page is full
+// where memory was refused.
+fn round(told: &mut Page, code: &Module, growth: &mut Growth) {
+    let ways = grown_ways(told.alloc, code, growth);
+    told.full |= ways.full;
+    growth.grown.clear();
+    for way in &ways.all {
+        told.full |= arrive(growth, way);
+    }
+}
+
+fn grow(told: &mut Page, code: &Module, growth: &mut Growth) {
     for _ in 0..round_count(code) {
         if growth.grown.is_empty() {
             break;
         }
-        round(alloc, code, &mut growth)?;
+        round(told, code, growth);
     }
+}
+
+// The states of a module, as the maker of certificates lets them grow, but that an instruction that may have a fault leads where it
+// would if its rule were met.
+fn states_of(told: &mut Page, code: &Module) -> Result<Cert, AllocError> {
+    let mut growth = Growth::new(told.alloc, code)?;
+    grow(told, code, &mut growth);
     Ok(growth.cert)
 }
 
@@ -321,32 +322,32 @@ pub fn refusal_of(
     None
 }
 
-// The instructions that may have a fault in these states; tells how many tests may fail.
-fn judge(
-    code: &Module,
-    states: &Cert,
-    refusals: &mut Vec<FlowRefusal>,
-) -> Result<usize, AllocError> {
+// The instructions that may have a fault in these states.
+fn judge(told: &mut Page, code: &Module, states: Cert) -> Judged {
+    let mut refusals = Vec::new(told.alloc);
     let mut failures = 0usize;
     for pc in 0..code.len() {
-        if let Some(refusal) = refusal_of(code, states, pc, None) {
-            refusals.push(refusal)?;
+        if let Some(refusal) = refusal_of(code, &states, pc, None) {
+            told.full |= refusals.push(refusal).is_err();
         }
         if let Some(mut state) = states.state(pc) {
             failures = failures.saturating_add(meet(code, pc, &mut state));
         }
     }
-    Ok(failures)
-}
-
-/// The states of a module, and the instructions that may have a fault in them.
-pub fn judged_of(alloc: Global, code: &Module) -> Result<Judged, AllocError> {
-    let states = states_of(alloc, code)?;
-    let mut refusals = Vec::new(alloc);
-    let failures = judge(code, &states, &mut refusals)?;
-    Ok(Judged {
+    Judged {
         states,
         refusals,
         failures,
-    })
+    }
+}
+
+/// The states of a module, and the instructions that may have a fault in them; nothing where memory was refused. The page is then full.
+pub fn judged_of(told: &mut Page, code: &Module) -> Option<Judged> {
+    match states_of(told, code) {
+        Ok(states) => Some(judge(told, code, states)),
+        Err(_) => {
+            told.full = true;
+            None
+        }
+    }
 }

@@ -10,62 +10,34 @@ use module_code::Module;
 use module_lang::{AsmRefusal, assemble};
 use std::alloc::{AllocError, Global};
 
-fn tell_no_module(
-    told: &mut Page,
-    text: ScriptText<'_>,
-    refusal: AsmRefusal,
-) -> Result<(), AllocError> {
-    match refusal {
-        AsmRefusal::Fault { line, code } => tell_asm_fault(told, text, line, code),
-        AsmRefusal::NoMemory => Err(AllocError),
-    }
-}
-
-fn tell_no_cert(
-    told: &mut Page,
-    text: ScriptText<'_>,
-    refusal: CertRefusal,
-) -> Result<(), AllocError> {
-    match refusal {
-        CertRefusal::Fault { line, code } => tell_cert_fault(told, text, line, code),
-        CertRefusal::NoMemory => Err(AllocError),
-    }
-}
-
-/// Tells what is wrong with a module text.
-pub fn tell_module_text(told: &mut Page, text: ScriptText<'_>) -> Result<(), AllocError> {
+/// The module of a text; nothing where it is none, which is told.
+pub fn module_of(told: &mut Page, text: ScriptText<'_>) -> Option<Module> {
     match assemble(told.alloc, text.text) {
-        Ok(_) => Ok(()),
-        Err(refusal) => tell_no_module(told, text, refusal),
+        Ok(code) => return Some(code),
+        Err(AsmRefusal::Fault { line, code }) => tell_asm_fault(told, text, line, code),
+        Err(AsmRefusal::NoMemory) => told.full = true,
     }
+    None
 }
 
-/// Tells what is wrong with a certificate text.
-pub fn tell_cert_text(told: &mut Page, text: ScriptText<'_>) -> Result<(), AllocError> {
+/// The certificate of a text; nothing where it is none, which is told.
+pub fn cert_of(told: &mut Page, text: ScriptText<'_>) -> Option<Cert> {
     match read_cert(told.alloc, text.text) {
-        Ok(_) => Ok(()),
-        Err(refusal) => tell_no_cert(told, text, refusal),
+        Ok(cert) => return Some(cert),
+        Err(CertRefusal::Fault { line, code }) => tell_cert_fault(told, text, line, code),
+        Err(CertRefusal::NoMemory) => told.full = true,
     }
+    None
 }
 
 /// Tells what is wrong with the texts of a script, or why a module is refused, alone or with its certificate.
-pub fn tell_texts(
-    told: &mut Page,
-    text: ScriptText<'_>,
-    cert: Option<ScriptText<'_>>,
-) -> Result<(), AllocError> {
-    match assemble(told.alloc, text.text) {
-        Ok(code) => tell_module(told, text, &code, cert),
-        Err(refusal) => tell_no_module(told, text, refusal),
+pub fn tell_texts(told: &mut Page, text: ScriptText<'_>, cert: Option<ScriptText<'_>>) {
+    if let Some(code) = module_of(told, text) {
+        tell_module(told, text, &code, cert);
     }
 }
 
-fn tell_module(
-    told: &mut Page,
-    text: ScriptText<'_>,
-    code: &Module,
-    cert: Option<ScriptText<'_>>,
-) -> Result<(), AllocError> {
+fn tell_module(told: &mut Page, text: ScriptText<'_>, code: &Module, cert: Option<ScriptText<'_>>) {
     match cert {
         Some(given) => tell_with(told, text, code, given),
         None => tell_unmade(told, text, code),
@@ -73,62 +45,53 @@ fn tell_module(
 }
 
 // What is wrong with a certificate of a module, or why it is refused.
-fn tell_with(
-    told: &mut Page,
-    text: ScriptText<'_>,
-    code: &Module,
-    given: ScriptText<'_>,
-) -> Result<(), AllocError> {
-    match read_cert(told.alloc, given.text) {
-        Ok(cert) => tell_against(told, text, code, &cert),
-        Err(refusal) => tell_no_cert(told, given, refusal),
+fn tell_with(told: &mut Page, text: ScriptText<'_>, code: &Module, given: ScriptText<'_>) {
+    if let Some(cert) = cert_of(told, given) {
+        tell_against(told, text, code, &cert);
     }
 }
 
 // Why a certificate of a module is refused: of the states that are given where their shape is refused, else of those that are meant.
-fn tell_against(
-    told: &mut Page,
-    text: ScriptText<'_>,
-    code: &Module,
-    cert: &Cert,
-) -> Result<(), AllocError> {
+fn tell_against(told: &mut Page, text: ScriptText<'_>, code: &Module, cert: &Cert) {
     let Err(refusal) = check(code, cert) else {
-        return Ok(());
+        return;
     };
     if let Rule::Shape = refusal.rule {
         return tell_unchecked(told, text, code, cert, refusal);
     }
-    let states = meant(told.alloc, code, cert)?;
-    tell_unchecked(told, text, code, &states, refusal)
-}
-
-// The instruction at which the maker refuses a module, if it does.
-fn refused_at(alloc: Global, code: &Module) -> Result<Option<usize>, AllocError> {
-    match make(alloc, code) {
-        Ok(_) => Ok(None),
-        Err(MakeRefusal::NoMemory) => Err(AllocError),
-        Err(MakeRefusal::At { pc, rule: _ }) => Ok(Some(pc)),
+    match meant(told.alloc, code, cert) {
+        Ok(states) => tell_unchecked(told, text, code, &states, refusal),
+        Err(_) => told.full = true,
     }
 }
 
-fn tell_unmade(told: &mut Page, text: ScriptText<'_>, code: &Module) -> Result<(), AllocError> {
-    let Some(pc) = refused_at(told.alloc, code)? else {
-        return Ok(());
+// The instruction at which the maker refuses a module, if it does. The page is full where memory was refused.
+fn refused_at(told: &mut Page, code: &Module) -> Option<usize> {
+    match make(told.alloc, code) {
+        Ok(_) => None,
+        Err(MakeRefusal::At { pc, rule: _ }) => Some(pc),
+        Err(MakeRefusal::NoMemory) => {
+            told.full = true;
+            None
+        }
+    }
+}
+
+fn tell_unmade(told: &mut Page, text: ScriptText<'_>, code: &Module) {
+    let Some(pc) = refused_at(told, code) else {
+        return;
     };
-    let states = grown(told.alloc, code)?;
-    tell_may(told, text, code, &states, pc)
+    match grown(told.alloc, code) {
+        Ok(states) => tell_may(told, text, code, &states, pc),
+        Err(_) => told.full = true,
+    }
 }
 
 // Tells of an instruction that may have a fault in these states.
-fn tell_may(
-    told: &mut Page,
-    text: ScriptText<'_>,
-    code: &Module,
-    states: &Cert,
-    pc: usize,
-) -> Result<(), AllocError> {
-    let mut source = Source::of(told.alloc, text.text, text.before)?;
-    tell_refusals(told, &mut source, code, states, pc)
+fn tell_may(told: &mut Page, text: ScriptText<'_>, code: &Module, states: &Cert, pc: usize) {
+    let mut source = Source::of(told.alloc, text.text, text.before);
+    told.full |= source.page.full;
+    tell_refusals(told, &mut source, code, states, pc);
 }
 
 fn tell_unchecked(
@@ -137,18 +100,16 @@ fn tell_unchecked(
     code: &Module,
     cert: &Cert,
     refusal: CheckRefusal,
-) -> Result<(), AllocError> {
+) {
     if let Rule::May(_) = refusal.rule {
         return tell_may(told, text, code, cert, refusal.pc);
     }
-    tell_states(told, text, code, cert, refusal)?;
-    let is_made = refused_at(told.alloc, code)?.is_none();
-    told.push(if is_made {
-        "`certify` makes a certificate with which the module is accepted\n"
-    } else {
-        "the module is refused whatever its certificate; ask `certify --explain`\n"
-    });
-    Ok(())
+    tell_states(told, text, code, cert, refusal);
+    let verdict = match refused_at(told, code) {
+        None => "`certify` makes a certificate with which the module is accepted\n",
+        Some(_) => "the module is refused whatever its certificate; ask `certify --explain`\n",
+    };
+    told.push(verdict);
 }
 
 // Tells what a certificate says against its module.
@@ -158,9 +119,10 @@ fn tell_states(
     code: &Module,
     cert: &Cert,
     refusal: CheckRefusal,
-) -> Result<(), AllocError> {
-    let source = Source::of(told.alloc, text.text, text.before)?;
-    put_certificate(told, &source, code, cert, refusal)
+) {
+    let source = Source::of(told.alloc, text.text, text.before);
+    told.full |= source.page.full;
+    put_certificate(told, &source, code, cert, refusal);
 }
 
 /// Why no certificate of a module text is made, in words; nothing where one is made.
@@ -171,7 +133,7 @@ pub fn explain_certify(alloc: Global, text: &[u8]) -> Result<String, AllocError>
         before: 0,
         text,
     };
-    tell_texts(&mut told, text, None)?;
+    tell_texts(&mut told, text, None);
     told.finished()
 }
 
@@ -188,6 +150,6 @@ pub fn explain_check(alloc: Global, text: &[u8], cert: &[u8]) -> Result<String, 
         before: 0,
         text: cert,
     };
-    tell_texts(&mut told, text, Some(cert))?;
+    tell_texts(&mut told, text, Some(cert));
     told.finished()
 }

@@ -1,12 +1,12 @@
 //! The help on what a play answered.
 
-use crate::help::{tell_cert_text, tell_module_text, tell_texts};
+use crate::help::{cert_of, module_of, tell_texts};
 use crate::session::tell_fault;
 use crate::told::put_at;
 use byte_text::{is_text, token};
 use line_help::{
-    Answered, Page, Script, ScriptLine, Source, fault_of, is_told, lines_of, number, shown,
-    tell_refused, tell_script_fault, word,
+    Answered, Page, Script, ScriptLine, ScriptText, Source, fault_of, is_told, lines_of, number,
+    shown, tell_refused, tell_script_fault, word,
 };
 use run_model::FaultKind;
 use script_text::{fault_name, fault_named};
@@ -46,23 +46,21 @@ fn kind_of(answer: &[u8]) -> AnswerKind {
     }
 }
 
-// The lines of the answers, each with its command. Of `pools` the last line alone is that of the next command.
-fn answered<'a>(
-    alloc: Global,
-    script: &Script<'a>,
-    answers: &'a [u8],
-) -> Result<Vec<Answered<'a>>, AllocError> {
-    let lines = lines_of(alloc, answers, 0)?;
-    let mut found = Vec::new(alloc);
-    add_answers(script, lines.as_slice(), &mut found)?;
-    Ok(found)
+// Whether a command has a further line of answers behind this one: of `pools` the last line alone is that of the next command.
+fn goes_on(command: Option<ScriptLine<'_>>, answer: &[u8]) -> bool {
+    match command {
+        Some(command) => is_text(command.text, b"pools") && !is_text(answer, b"ok"),
+        None => false,
+    }
 }
 
-fn add_answers<'a>(
+// The lines of the answers, each with its command.
+fn answered<'a>(
+    told: &mut Page,
     script: &Script<'a>,
     lines: &[ScriptLine<'a>],
-    found: &mut Vec<Answered<'a>>,
-) -> Result<(), AllocError> {
+) -> Vec<Answered<'a>> {
+    let mut found = Vec::new(told.alloc);
     let mut at = script.before;
     for line in lines {
         let answer = line.text;
@@ -73,24 +71,14 @@ fn add_answers<'a>(
                 .copied(),
             _ => None,
         };
-        found.push(Answered { command, answer })?;
-        let prints = match command {
-            Some(command) => is_text(command.text, b"pools") && !is_text(answer, b"ok"),
-            None => false,
-        };
-        if !prints {
-            at = at.saturating_add(1);
-        }
+        told.full |= found.push(Answered { command, answer }).is_err();
+        at = at.saturating_add(usize::from(!goes_on(command, answer)));
     }
-    Ok(())
+    found
 }
 
 // Tells what a fault means, where it is and what to write instead.
-fn tell_fault_of(
-    told: &mut Page,
-    script: &Script<'_>,
-    answered: &Answered<'_>,
-) -> Result<(), AllocError> {
+fn tell_fault_of(told: &mut Page, script: &Script<'_>, answered: &Answered<'_>) {
     let answer = answered.answer;
     let (Some(kind), Some(index), Some(pc), Some(command)) = (
         fault_named(word(answer, 1)),
@@ -98,49 +86,43 @@ fn tell_fault_of(
         number(answer, 5),
         answered.command,
     ) else {
-        return Ok(());
+        return;
     };
-    let Some((text, _)) = script.module(index) else {
-        return Ok(());
-    };
-    let source = Source::of(told.alloc, text.text, text.before)?;
-    told.put("line #, `@`: ", command.number, shown(command.text), "");
-    tell_fault_at(told, &source, index, pc, kind)
+    if let Some((text, _)) = script.module(index) {
+        told.put("line #, `@`: ", command.number, shown(command.text), "");
+        tell_fault_at(told, text, index, pc, kind);
+    }
 }
 
-// Tells of a fault in the module of this number, at this instruction.
-fn tell_fault_at(
-    told: &mut Page,
-    source: &Source,
-    index: usize,
-    pc: usize,
-    kind: FaultKind,
-) -> Result<(), AllocError> {
-    put_at(told, source, pc, "line #, `@`, of module ", "");
+// Tells of a fault in the module of this number and this text, at this instruction.
+fn tell_fault_at(told: &mut Page, text: ScriptText<'_>, index: usize, pc: usize, kind: FaultKind) {
+    let source = Source::of(told.alloc, text.text, text.before);
+    put_at(told, &source, pc, "line #, `@`, of module ", "");
     told.put("# has $: ", index, &[], fault_name(kind));
     told.put("$\n", 0, &[], fault_of(kind).0);
-    tell_fault(told, source, pc, kind)
+    tell_fault(told, &source, pc, kind);
 }
 
-fn tell_module(told: &mut Page, script: &Script<'_>, answer: &[u8]) -> Result<(), AllocError> {
+fn tell_module(told: &mut Page, script: &Script<'_>, answer: &[u8]) {
     let Some(index) = number(answer, 2) else {
-        return Ok(());
+        return;
     };
-    let Some((text, cert)) = script.module(index) else {
-        return Ok(());
-    };
-    told.put("module #, ", index, &[], "");
-    let first = text.before.saturating_add(1);
-    told.put("from line # on, is not accepted\n", first, &[], "");
-    tell_texts(told, text, cert)
+    if let Some((text, cert)) = script.module(index) {
+        told.put("module #, ", index, &[], "");
+        let first = text.before.saturating_add(1);
+        told.put("from line # on, is not accepted\n", first, &[], "");
+        tell_texts(told, text, cert);
+    }
 }
 
 // Tells what is wrong with the text that a line of this number is of.
-fn tell_text(told: &mut Page, script: &Script<'_>, number: usize) -> Result<(), AllocError> {
-    match script.text_with(number) {
-        Some(text) if text.is_cert => tell_cert_text(told, text),
-        Some(text) => tell_module_text(told, text),
-        None => Ok(()),
+fn tell_text(told: &mut Page, script: &Script<'_>, number: usize) {
+    if let Some(text) = script.text_with(number) {
+        if text.is_cert {
+            cert_of(told, text);
+        } else {
+            module_of(told, text);
+        }
     }
 }
 
@@ -150,38 +132,21 @@ fn tell_answer(
     script: &Script<'_>,
     earlier: &[Answered<'_>],
     answered: &Answered<'_>,
-) -> Result<bool, AllocError> {
+) -> bool {
     let line = number(answered.answer, 2).unwrap_or(0);
     match kind_of(answered.answer) {
-        AnswerKind::Fault => tell_fault_of(told, script, answered)?,
+        AnswerKind::Fault => tell_fault_of(told, script, answered),
         AnswerKind::Refused => tell_refused(told, script, earlier, answered),
-        AnswerKind::RefusedModule => tell_module(told, script, answered.answer)?,
-        AnswerKind::Text => tell_text(told, script, line)?,
+        AnswerKind::RefusedModule => tell_module(told, script, answered.answer),
+        AnswerKind::Text => tell_text(told, script, line),
         AnswerKind::Script => tell_script_fault(told, script, line),
-        AnswerKind::Well => return Ok(false),
+        AnswerKind::Well => return false,
     }
-    Ok(true)
+    true
 }
 
-// Tells what an answer means, where it was not told before; it is then one of those that were.
-fn tell_new<'a>(
-    told: &mut Page,
-    script: &Script<'_>,
-    earlier: &[Answered<'_>],
-    answer: &Answered<'a>,
-    done: &mut Vec<Answered<'a>>,
-) -> Result<(), AllocError> {
-    if !is_told(done.as_slice(), answer) && tell_answer(told, script, earlier, answer)? {
-        done.push(*answer)?;
-    }
-    Ok(())
-}
-
-fn tell_answers(
-    told: &mut Page,
-    script: &Script<'_>,
-    answered: &[Answered<'_>],
-) -> Result<(), AllocError> {
+// Tells what the answers mean, each where it was not told before.
+fn tell_answers(told: &mut Page, script: &Script<'_>, answered: &[Answered<'_>]) {
     let mut done = Vec::new(told.alloc);
     for (index, answer) in answered.iter().enumerate() {
         if done.len() == MOST {
@@ -189,15 +154,17 @@ fn tell_answers(
             break;
         }
         let earlier = answered.get(..index).unwrap_or(&[]);
-        tell_new(told, script, earlier, answer, &mut done)?;
+        if !is_told(done.as_slice(), answer) && tell_answer(told, script, earlier, answer) {
+            told.full |= done.push(*answer).is_err();
+        }
     }
-    Ok(())
 }
 
-fn tell_play<'a>(told: &mut Page, script: &'a [u8], answers: &'a [u8]) -> Result<(), AllocError> {
-    let script = Script::of(told.alloc, script)?;
-    let answered = answered(told.alloc, &script, answers)?;
-    tell_answers(told, &script, answered.as_slice())
+fn tell_play<'a>(told: &mut Page, script: &'a [u8], answers: &'a [u8]) {
+    let script = Script::of(told, script);
+    let lines = lines_of(told, answers, 0);
+    let answered = answered(told, &script, lines.as_slice());
+    tell_answers(told, &script, answered.as_slice());
 }
 
 /// What the answers of a play mean that tell a fault or refuse, in words; nothing where there are none. The same
@@ -208,6 +175,6 @@ pub fn explain_play<'a>(
     answers: &'a [u8],
 ) -> Result<String, AllocError> {
     let mut told = Page::new(alloc);
-    tell_play(&mut told, script, answers)?;
+    tell_play(&mut told, script, answers);
     told.finished()
 }

@@ -18,8 +18,6 @@ use std::alloc::Global;
 // The places of the capitals.
 const A: usize = 0;
 
-const B: usize = 1;
-
 const C: usize = 2;
 
 const D: usize = 3;
@@ -29,22 +27,6 @@ const L: usize = 11;
 const M: usize = 12;
 
 const N: usize = 13;
-
-const O: usize = 14;
-
-const P: usize = 15;
-
-const Q: usize = 16;
-
-const S: usize = 18;
-
-const T: usize = 19;
-
-const V: usize = 21;
-
-const X: usize = 23;
-
-const Y: usize = 24;
 
 const Z: usize = 25;
 
@@ -124,8 +106,11 @@ impl<'s> Case<'s> {
         text_of(self.shape(self.maker).0.text())
     }
 
-    // Whether a `bsplit` stands in the handler before the refused instruction.
+    // Whether a `bsplit` stands in the handler before the refused instruction, and it came from no earlier call.
     fn cuts_before(&self) -> bool {
+        if self.exit != NO_LINE {
+            return false;
+        }
         for pc in self.code.main()..self.refusal.pc {
             if let Some(Instr::BSplit(_, _, _)) = instr_at(self.code, pc) {
                 return true;
@@ -137,17 +122,23 @@ impl<'s> Case<'s> {
     /// The pattern of the refusal.
     pub fn pattern(&self) -> Pattern {
         let doubt = self.refusal.doubt;
-        let is_late = matches!(doubt.sort, Sort::LateData);
-        let made = self.made_by();
-        let cuts = self.exit == NO_LINE && self.cuts_before();
-        if cuts && (is_late || matches!(doubt.sort, Sort::Sent)) || is_late && made == "bsplit" {
+        match doubt.sort {
+            Sort::Sent if self.cuts_before() => Pattern::CutWithoutEos,
+            Sort::LateData => self.late_pattern(),
+            _ => doubt.row().pattern,
+        }
+    }
+
+    // The pattern of data behind an EOS.
+    fn late_pattern(&self) -> Pattern {
+        if self.cuts_before() || self.is_made_by("bsplit") {
             Pattern::CutWithoutEos
-        } else if is_late && doubt.of == 8 {
+        } else if self.refusal.doubt.of == 8 {
             Pattern::InsertIntoOwn
-        } else if is_late && stands_in("bsave bconcat", made) {
+        } else if self.is_made_by("bsave bconcat") {
             Pattern::MoveOneByOne
         } else {
-            doubt.row().pattern
+            Pattern::LeaveAtEos
         }
     }
 
@@ -207,24 +198,31 @@ impl<'s> Case<'s> {
         }
     }
 
+    // Whether all of `in` was moved at once.
+    fn moves_all(&self) -> bool {
+        self.shape(self.maker).1.second.index() == 8 && self.is_made_by("bsave bconcat")
+    }
+
+    // Whether an instruction is `ret fail`.
+    fn fails(&self, pc: usize) -> bool {
+        matches!(instr_at(self.code, pc), Some(Instr::Ret(Status::Fail)))
+    }
+
     fn is_when(&mut self, when: When) -> bool {
-        let of = self.refusal.doubt.of;
-        let second = self.shape(self.maker).1.second.index();
-        let is_whole = second == 8 && self.is_made_by("bsave bconcat");
-        let here = instr_at(self.code, self.refusal.pc);
-        let fails = matches!(here, Some(Instr::Ret(Status::Fail)));
+        let is_own = self.refusal.doubt.of != 8;
+        let is_left = self.exit != NO_LINE;
         match when {
             When::Always => true,
             When::Gone => self.source.find(":gone") != NO_LINE,
-            When::Brought => of == 8 && self.code.brigade_count() < 8,
-            When::Whole => of != 8 && is_whole,
-            When::Part => of != 8 && !is_whole,
-            When::Keeps => self.exit == NO_LINE || self.may_be(self.exit).0,
-            When::Lost => self.exit != NO_LINE && !self.may_be(self.exit).0,
-            When::Left => self.exit != NO_LINE,
-            When::Own => of != 8,
-            When::Fails => fails,
-            When::Ends => !fails,
+            When::Brought => !is_own && self.code.brigade_count() < 8,
+            When::Whole => is_own && self.moves_all(),
+            When::Part => is_own && !self.moves_all(),
+            When::Keeps => !is_left || self.may_be(self.exit).0,
+            When::Lost => is_left && !self.may_be(self.exit).0,
+            When::Left => is_left,
+            When::Own => is_own,
+            When::Fails => self.fails(self.refusal.pc),
+            When::Ends => !self.fails(self.refusal.pc),
             When::Early => self.finds_early(self.first_cursor()),
         }
     }
@@ -312,8 +310,7 @@ impl<'s> Case<'s> {
             Op::Tail | Op::Head if x == 8 => "over at tail O D",
             Op::BConcat if x == 8 => "over at bconcat O A",
             Op::Pass if x == 8 => "over at pass O L;over at bclean O",
-            Op::Ret if matches!(instr_at(self.code, pc), Some(Instr::Ret(Status::Fail))) =>
-                "before at bclean O",
+            Op::Ret if self.fails(pc) => "before at bclean O",
             _ => "",
         }
     }
@@ -351,17 +348,12 @@ impl<'s> Case<'s> {
             (Test::Drops, Op::JEq | Op::JLt) => self.drops(pc),
             (Test::Saves, Op::BSave | Op::BConcat) => is_of && y == 8,
             (Test::Leaves, Op::Ret) => self.may_be(pc).1,
-            (Test::PutsOfCall, Op::Tail | Op::Head) => is_of && self.is_of_call(pc, y),
+            (Test::PutsOfCall, Op::Tail | Op::Head) => match self.cursor(pc, y) {
+                CursorState::Loose(_, homes) => is_of && homes.call,
+                _ => false,
+            },
             (Test::Reads, Op::Read) => true,
             (Test::Asides, Op::Aside) => !matches!(args.second.place(), PoolRef::Conn),
-            _ => false,
-        }
-    }
-
-    // Whether the loose bucket at a cursor may end with the call.
-    fn is_of_call(&self, pc: usize, c: u8) -> bool {
-        match self.cursor(pc, c) {
-            CursorState::Loose(_, homes) => homes.call,
             _ => false,
         }
     }
@@ -412,16 +404,35 @@ impl<'s> Case<'s> {
         }
     }
 
+    // What stands for a capital.
+    fn name(&self, capital: u8) -> &'s [u8] {
+        let of = self.refusal.doubt.of;
+        let made = self.shape(self.maker).1;
+        let first = made.first.index();
+        let place = usize::from(capital.wrapping_sub(b'A'));
+        match capital {
+            b'B' => brigade_name(of).as_bytes(),
+            b'O' => brigade_name(self.code.brigade_count()).as_bytes(),
+            b'S' => brigade_name(first).as_bytes(),
+            b'T' => brigade_name(made.second.index()).as_bytes(),
+            b'P' => pool_text(home_of(self.code, of)),
+            b'Q' => pool_text(PoolRef::Own(first)),
+            b'V' => pool_text(PoolRef::Own(of)),
+            b'X' => self.source.instruction(self.maker),
+            b'Y' => self.source.instruction(self.refusal.pc),
+            _ => self.names.get(place).copied().unwrap_or(&[]),
+        }
+    }
+
     // Adds a form to the lines that are to be written, with the names in place of capitals.
     fn expand(&mut self, form: &[u8]) {
         for byte in form {
             let byte = *byte;
-            let capital = usize::from(byte.wrapping_sub(b'A'));
             if byte == b'#' {
                 let number = self.number;
                 self.page.put("#", number, &[], "");
-            } else if capital < 26 {
-                let name = self.names[capital];
+            } else if byte.is_ascii_uppercase() {
+                let name = self.name(byte);
                 self.page.push_line(name);
             } else {
                 self.page.push_line(&[byte]);
@@ -461,13 +472,17 @@ impl<'s> Case<'s> {
     fn write(&mut self, script: &str) {
         self.last = NO_LINE;
         for step in script.split(';') {
-            let how = token(step.as_bytes());
-            let rest = tail(after_token(step.as_bytes()));
-            if is_text(how, b"label") {
-                self.mark();
-            } else if !how.is_empty() {
-                self.edit(how, token(rest), tail(after_token(rest)));
-            }
+            self.write_step(step.as_bytes());
+        }
+    }
+
+    fn write_step(&mut self, step: &[u8]) {
+        let how = token(step);
+        let rest = tail(after_token(step));
+        if is_text(how, b"label") {
+            self.mark();
+        } else if !how.is_empty() {
+            self.edit(how, token(rest), tail(after_token(rest)));
         }
     }
 
@@ -535,9 +550,12 @@ impl<'s> Case<'s> {
     fn add_read(&mut self, rule: &Rule) {
         let trail = self.trail;
         for step in &trail.steps {
-            if let (StatePlace::At(from), true) = (step.from, step.jumps) {
-                self.at = from;
-                self.add(rule, rule.first);
+            match step.from {
+                StatePlace::At(from) if step.jumps => {
+                    self.at = from;
+                    self.add(rule, rule.first);
+                }
+                _ => {}
             }
         }
         self.add(rule, rule.each);
@@ -549,32 +567,12 @@ impl<'s> Case<'s> {
         self.names[M] = name;
         self.names[N] = tail(name);
         self.names[C] = cursor_text(self.first_cursor());
-        self.names[L] = last_word(self.names[Y]);
+        self.names[L] = last_word(self.source.instruction(self.refusal.pc));
         if let Per::Label = rule.per {
             self.add_labels(rule);
         } else {
             self.add_all(rule);
         }
-    }
-
-    // What stands for the capitals of the instruction that made it so.
-    fn name_made(&mut self) {
-        let args = self.shape(self.maker).1;
-        let first = args.first.index();
-        self.names[S] = brigade_name(first).as_bytes();
-        self.names[T] = brigade_name(args.second.index()).as_bytes();
-        self.names[Q] = pool_text(PoolRef::Own(first));
-        self.names[X] = self.source.instruction(self.maker);
-    }
-
-    // What stands for the capitals of the doubt and of the refused instruction.
-    fn name_doubt(&mut self) {
-        let of = self.refusal.doubt.of;
-        self.names[B] = brigade_name(of).as_bytes();
-        self.names[O] = brigade_name(self.code.brigade_count()).as_bytes();
-        self.names[P] = pool_text(home_of(self.code, of));
-        self.names[V] = pool_text(PoolRef::Own(of));
-        self.names[Y] = self.source.instruction(self.refusal.pc);
     }
 
     // Adds the remedies of the rules of a table.
@@ -589,9 +587,7 @@ impl<'s> Case<'s> {
 
     /// Finds the remedies of the refusal, the likeliest first.
     pub fn find_remedies(&mut self) {
-        self.name_made();
-        self.name_doubt();
-        for rules in rule_tables() {
+        for rules in &rule_tables() {
             self.add_rules(rules);
         }
     }

@@ -6,12 +6,11 @@ use crate::told::{put_advice, put_at, put_remedy, put_trail};
 use crate::trail::{Known, trail_to};
 use life_check::Cert;
 use life_state::State;
-use line_help::{Edit, Page, Pattern, Sort, Source, fault_of, put_rule};
+use line_help::{Edit, NO_LINE, Page, Pattern, Sort, Source, fault_of, put_rule};
 use module_code::Module;
 use module_lang::{AsmRefusal, assemble};
 use run_model::FaultKind;
 use script_text::fault_name;
-use std::alloc::{AllocError, Global};
 
 /// How many refusals are told of a module at most.
 const MOST: u8 = 16;
@@ -33,19 +32,22 @@ struct Mended {
     left: usize,
 }
 
-fn studied(alloc: Global, code: Module) -> Result<Study, AllocError> {
-    let judged = judged_of(alloc, &code)?;
-    Ok(Study { code, judged })
+// The study of a source; nothing where it is no module, or memory was refused. The page is full then.
+fn study_of(told: &mut Page, source: &Source) -> Option<Study> {
+    told.full |= source.page.full;
+    match assemble(told.alloc, source.page.text.as_bytes()) {
+        Ok(code) => studied(told, code),
+        Err(refusal) => {
+            told.full |= matches!(refusal, AsmRefusal::NoMemory);
+            None
+        }
+    }
 }
 
-fn study_of(alloc: Global, source: &Source) -> Result<Option<Study>, AllocError> {
-    if source.page.full {
-        return Err(AllocError);
-    }
-    match assemble(alloc, source.page.text.as_bytes()) {
-        Ok(code) => Ok(Some(studied(alloc, code)?)),
-        Err(AsmRefusal::Fault { line: _, code: _ }) => Ok(None),
-        Err(AsmRefusal::NoMemory) => Err(AllocError),
+fn studied(told: &mut Page, code: Module) -> Option<Study> {
+    match judged_of(told, &code) {
+        Some(judged) => Some(Study { code, judged }),
+        None => None,
     }
 }
 
@@ -61,9 +63,8 @@ fn undoes(source: &Source, edits: &[Edit]) -> bool {
     false
 }
 
-// Whether the line of the refusal is refused no more.
-fn is_settled(case: &Case<'_>, source: &Source, judged: &Judged) -> bool {
-    let line = case.source.number_of(case.refusal.pc);
+// Whether a line is refused no more.
+fn is_settled(source: &Source, judged: &Judged, line: usize) -> bool {
     for refusal in &judged.refusals {
         if source.number_of(refusal.pc) == line {
             return false;
@@ -72,58 +73,61 @@ fn is_settled(case: &Case<'_>, source: &Source, judged: &Judged) -> bool {
     true
 }
 
-// How many tests may fail in a source with edits, and whether it settles the refusal; nothing where the text is no module.
-fn outcome(case: &Case<'_>, source: &Source) -> Result<Option<(usize, bool)>, AllocError> {
-    match study_of(case.page.alloc, source)? {
-        Some(study) => Ok(Some((
+// How many tests may fail in a source, and whether a line is refused no more; `NO_LINE` where it is no module.
+fn outcome(told: &mut Page, source: &Source, line: usize) -> (usize, bool) {
+    match study_of(told, source) {
+        Some(study) => (
             study.judged.failures,
-            is_settled(case, source, &study.judged),
-        ))),
-        None => Ok(None),
+            is_settled(source, &study.judged, line),
+        ),
+        None => (NO_LINE, false),
     }
 }
 
 // Tries these edits, and keeps what is mended by them where fewer tests than this may fail, or as many where such ties count and it
 // settles the refusal; tells whether it is kept.
 fn tries(
+    told: &mut Page,
     case: &Case<'_>,
     edits: &[Edit],
-    least: usize,
-    ties: bool,
+    (least, ties): (usize, bool),
     mended: &mut Option<Mended>,
-) -> Result<bool, AllocError> {
+) -> bool {
     if undoes(case.source, edits) {
-        return Ok(false);
+        return false;
     }
     let source = case.source.edited(&case.page, edits);
-    match outcome(case, &source)? {
-        Some((left, settled)) if left < least || ties && settled && left == least => {
-            *mended = Some(Mended { source, left });
-            Ok(true)
-        }
-        _ => Ok(false),
+    let line = case.source.number_of(case.refusal.pc);
+    let (left, settled) = outcome(told, &source, line);
+    let helps = left < least || ties && settled && left == least;
+    if helps {
+        *mended = Some(Mended { source, left });
     }
+    helps
 }
 
 // The edits of a remedy.
 fn edits_of<'a>(case: &'a Case<'_>, index: usize) -> &'a [Edit] {
-    let from = match case.heads.get(index) {
-        Some(head) => head.from,
-        None => 0,
-    };
-    let to = match case.heads.get(index.saturating_add(1)) {
-        Some(next) => next.from,
-        None => case.edits.len(),
-    };
+    let from = first_edit(case, index);
+    let to = first_edit(case, index.saturating_add(1));
     case.edits.get(from..to).unwrap_or(&[])
+}
+
+// Where the edits of a remedy begin; behind the last remedy, where those of all end.
+fn first_edit(case: &Case<'_>, index: usize) -> usize {
+    match case.heads.get(index) {
+        Some(head) => head.from,
+        None => case.edits.len(),
+    }
 }
 
 // The first remedy that leaves the fewest tests that may fail, and fewer than there are.
 fn best(
+    told: &mut Page,
     case: &Case<'_>,
     now: usize,
     mended: &mut Option<Mended>,
-) -> Result<Option<usize>, AllocError> {
+) -> Option<usize> {
     let mut best = None;
     let mut least = now;
     // A variable that is made may bring to light as much as it settles.
@@ -137,13 +141,13 @@ fn best(
             | Sort::LiveBrigade
     );
     for index in 0..case.heads.len().min(TRIES) {
-        if least != 0 && tries(case, edits_of(case, index), least, ties, mended)? {
+        if least != 0 && tries(told, case, edits_of(case, index), (least, ties), mended) {
             ties = false;
             least = left_of(mended);
             best = Some(index);
         }
     }
-    Ok(best)
+    best
 }
 
 fn left_of(mended: &Option<Mended>) -> usize {
@@ -154,78 +158,62 @@ fn left_of(mended: &Option<Mended>) -> usize {
 }
 
 // The same without cleans that change nothing.
-fn prune(
-    case: &Case<'_>,
-    edits: &mut Vec<Edit>,
-    mended: &mut Option<Mended>,
-) -> Result<(), AllocError> {
+fn prune(told: &mut Page, case: &Case<'_>, edits: &mut Vec<Edit>, mended: &mut Option<Mended>) {
     let mut index = 0usize;
     for _ in 0..edits.len() {
-        if edits.len() > 1 && !goes(case, index, edits, mended)? {
+        if edits.len() > 1 && !goes(told, case, index, edits, mended) {
             index = index.saturating_add(1);
         }
     }
-    Ok(())
 }
 
 // Takes out an edit where no more tests may fail without it; tells whether it did.
 fn goes(
+    told: &mut Page,
     case: &Case<'_>,
     index: usize,
     edits: &mut Vec<Edit>,
     mended: &mut Option<Mended>,
-) -> Result<bool, AllocError> {
+) -> bool {
     let Some(edit) = edits.get(index).copied() else {
-        return Ok(false);
+        return false;
     };
     edits.remove(index);
     let least = left_of(mended).saturating_add(1);
-    let goes = tries(case, edits.as_slice(), least, false, mended)?;
+    let goes = tries(told, case, edits.as_slice(), (least, false), mended);
     if !goes {
-        edits.insert(index, edit)?;
+        told.full |= edits.insert(index, edit).is_err();
     }
-    Ok(goes)
+    goes
 }
 
 // Tells what to write, as it was tried, or in words.
-fn tell_remedy(
-    told: &mut Page,
-    case: &mut Case<'_>,
-    now: usize,
-    mended: &mut Option<Mended>,
-) -> Result<(), AllocError> {
+fn tell_remedy(told: &mut Page, case: &mut Case<'_>, now: usize, mended: &mut Option<Mended>) {
     if now == 0 {
-        return Ok(());
+        return;
     }
     case.find_remedies();
-    if case.page.full {
-        return Err(AllocError);
-    }
-    match best(case, now, mended)? {
+    told.full |= case.page.full;
+    match best(told, case, now, mended) {
         Some(index) => tell_best(told, case, index, mended),
-        None => {
-            put_advice(told, case.pattern());
-            Ok(())
-        }
+        None => put_advice(told, case.pattern()),
     }
 }
 
-fn tell_best(
-    told: &mut Page,
-    case: &Case<'_>,
-    index: usize,
-    mended: &mut Option<Mended>,
-) -> Result<(), AllocError> {
+fn tell_best(told: &mut Page, case: &Case<'_>, index: usize, mended: &mut Option<Mended>) {
     let pattern = match case.heads.get(index) {
         Some(head) => head.pattern,
         None => case.pattern(),
     };
-    let mut edits = Vec::from_slice(case.page.alloc, edits_of(case, index))?;
-    if let Pattern::CleanWhenFailed = pattern {
-        prune(case, &mut edits, mended)?;
+    match Vec::from_slice(told.alloc, edits_of(case, index)) {
+        Ok(mut edits) => {
+            if let Pattern::CleanWhenFailed = pattern {
+                prune(told, case, &mut edits, mended);
+            }
+            put_remedy(told, case.source, pattern, &case.page, edits.as_slice());
+        }
+        Err(_) => told.full = true,
     }
-    put_remedy(told, case.source, pattern, &case.page, edits.as_slice());
-    Ok(())
 }
 
 // Tells where what may be so comes from, and what to write. It keeps the source as it is mended, where lines were found that help.
@@ -236,20 +224,21 @@ fn tell_cause(
     refusal: FlowRefusal,
     now: usize,
     mended: &mut Option<Mended>,
-) -> Result<(), AllocError> {
+) {
     let (code, states) = module;
     let alloc = told.alloc;
-    let ways = all_ways(alloc, code, states)?;
+    let ways = all_ways(alloc, code, states);
     let known = Known {
         alloc,
         code,
         states,
-        ways: ways.as_slice(),
+        ways: ways.all.as_slice(),
     };
-    let trail = trail_to(&known, refusal.pc, refusal.doubt)?;
+    let trail = trail_to(&known, refusal.pc, refusal.doubt);
+    told.full |= ways.full || trail.full;
     put_trail(told, source, code, &trail, refusal.doubt);
     let mut case = Case::new(alloc, source, module, &trail, refusal);
-    tell_remedy(told, &mut case, now, mended)
+    tell_remedy(told, &mut case, now, mended);
 }
 
 fn tell_may(told: &mut Page, source: &Source, state: &State, refusal: FlowRefusal) {
@@ -269,24 +258,21 @@ fn tell(
     refusal: FlowRefusal,
     now: usize,
     seen: &mut Vec<usize>,
-) -> Result<(), AllocError> {
+) {
     if let Some(state) = module.1.state(refusal.pc) {
         tell_may(told, source, &state, refusal);
     }
     let line = source.number_of(refusal.pc);
     let mut mended = None;
-    tell_cause(told, source, module, refusal, now, &mut mended)?;
-    match mended {
-        Some(mended) => {
-            *source = mended.source;
-            if mended.left < now {
-                return Ok(());
-            }
-        }
-        None => {}
+    tell_cause(told, source, module, refusal, now, &mut mended);
+    let mut left = now;
+    if let Some(mended) = mended {
+        *source = mended.source;
+        left = mended.left;
     }
-    seen.push(line)?;
-    Ok(())
+    if left >= now {
+        told.full |= seen.push(line).is_err();
+    }
 }
 
 // The first refusal whose line was not told yet.
@@ -300,49 +286,35 @@ fn next_refusal(source: &Source, refusals: &[FlowRefusal], seen: &[usize]) -> Op
 }
 
 // Tells the first refusal of a study whose line was not told yet, if there is one.
-fn tell_first(
-    told: &mut Page,
-    source: &mut Source,
-    study: &Study,
-    seen: &mut Vec<usize>,
-) -> Result<bool, AllocError> {
+fn tell_first(told: &mut Page, source: &mut Source, study: &Study, seen: &mut Vec<usize>) -> bool {
     let refusals = study.judged.refusals.as_slice();
     if refusals.is_empty() {
         told.push("with these lines the module is accepted\n");
-        return Ok(false);
+        return false;
     }
     let Some(refusal) = next_refusal(source, refusals, seen.as_slice()) else {
-        return Ok(false);
+        return false;
     };
     let module = (&study.code, &study.judged.states);
-    tell(told, source, module, refusal, study.judged.failures, seen)?;
-    Ok(true)
+    tell(told, source, module, refusal, study.judged.failures, seen);
+    true
 }
 
 // The same of a source; nothing is told where it is no module.
-fn tell_next(
-    told: &mut Page,
-    source: &mut Source,
-    seen: &mut Vec<usize>,
-) -> Result<bool, AllocError> {
-    match study_of(told.alloc, source)? {
+fn tell_next(told: &mut Page, source: &mut Source, seen: &mut Vec<usize>) -> bool {
+    match study_of(told, source) {
         Some(study) => tell_first(told, source, &study, seen),
-        None => Ok(false),
+        None => false,
     }
 }
 
 // Tells the refusals that are left, up to sixteen.
-fn tell_rest(
-    told: &mut Page,
-    source: &mut Source,
-    seen: &mut Vec<usize>,
-) -> Result<(), AllocError> {
+fn tell_rest(told: &mut Page, source: &mut Source, seen: &mut Vec<usize>) {
     for _ in 0..MOST {
-        if !tell_next(told, source, seen)? {
+        if !tell_next(told, source, seen) {
             break;
         }
     }
-    Ok(())
 }
 
 /// What stands against a module that would be accepted with the certificate that is made of it.
@@ -356,21 +328,16 @@ fn tell_from(
     module: (&Module, &Cert),
     refusal: FlowRefusal,
     seen: &mut Vec<usize>,
-) -> Result<(), AllocError> {
-    let now = failures_of(told.alloc, source)?;
-    tell(told, source, module, refusal, now, seen)?;
+) {
+    let now = match outcome(told, source, NO_LINE).0 {
+        NO_LINE => 0,
+        now => now,
+    };
+    tell(told, source, module, refusal, now, seen);
     if now == 0 {
         told.push(NOTHING);
-        return Ok(());
-    }
-    tell_rest(told, source, seen)
-}
-
-// How many tests may fail in a source; none where it is no module.
-fn failures_of(alloc: Global, source: &Source) -> Result<usize, AllocError> {
-    match study_of(alloc, source)? {
-        Some(study) => Ok(study.judged.failures),
-        None => Ok(0),
+    } else {
+        tell_rest(told, source, seen);
     }
 }
 
@@ -382,48 +349,32 @@ pub fn tell_refusals(
     code: &Module,
     states: &Cert,
     pc: usize,
-) -> Result<(), AllocError> {
-    match refusal_of(code, states, pc, None) {
-        Some(refusal) => {
-            let mut seen = Vec::new(told.alloc);
-            tell_from(told, source, (code, states), refusal, &mut seen)
-        }
-        None => Ok(()),
+) {
+    if let Some(refusal) = refusal_of(code, states, pc, None) {
+        let mut seen = Vec::new(told.alloc);
+        tell_from(told, source, (code, states), refusal, &mut seen);
     }
 }
 
 /// Tells what the rule of an instruction wants that had this fault, where that comes from, and what to write instead.
-pub fn tell_fault(
-    told: &mut Page,
-    source: &Source,
-    pc: usize,
-    kind: FaultKind,
-) -> Result<(), AllocError> {
-    match study_of(told.alloc, source)? {
-        Some(study) => tell_fault_in(told, source, &study, pc, kind),
-        None => Ok(()),
+pub fn tell_fault(told: &mut Page, source: &Source, pc: usize, kind: FaultKind) {
+    if let Some(study) = study_of(told, source) {
+        tell_fault_in(told, source, &study, pc, kind);
     }
 }
 
-fn tell_fault_in(
-    told: &mut Page,
-    source: &Source,
-    study: &Study,
-    pc: usize,
-    kind: FaultKind,
-) -> Result<(), AllocError> {
+fn tell_fault_in(told: &mut Page, source: &Source, study: &Study, pc: usize, kind: FaultKind) {
     let module = (&study.code, &study.judged.states);
     let (Some(refusal), Some(state)) = (
         refusal_of(module.0, module.1, pc, Some(kind)),
         module.1.state(pc),
     ) else {
-        put_advice(told, fault_of(kind).1);
-        return Ok(());
+        return put_advice(told, fault_of(kind).1);
     };
     put_rule(told, &state, refusal.doubt);
     let mut mended = None;
     let now = study.judged.failures;
-    tell_cause(told, source, module, refusal, now, &mut mended)?;
+    tell_cause(told, source, module, refusal, now, &mut mended);
     match &mended {
         Some(mended) if mended.left == 0 => told.push("with these lines the module is accepted\n"),
         Some(_) => told.push(
@@ -431,5 +382,4 @@ fn tell_fault_in(
         ),
         None => {}
     }
-    Ok(())
 }

@@ -26,7 +26,7 @@ pub fn put_at(told: &mut Page, source: &Source, pc: usize, form: &str, text: &st
 pub fn put_trail(told: &mut Page, source: &Source, code: &Module, trail: &Trail, doubt: Doubt) {
     put_origin(told, source, code, trail, doubt);
     let between = trail.is_made && !matches!(trail.origin, StatePlace::At(_));
-    for step in trail.steps.iter().skip(usize::from(between)) {
+    for step in trail.steps.get(usize::from(between)..).unwrap_or(&[]) {
         put_step(told, source, step, doubt);
     }
 }
@@ -53,27 +53,24 @@ fn put_origin(told: &mut Page, source: &Source, code: &Module, trail: &Trail, do
 
 fn put_deed(told: &mut Page, code: &Module, pc: usize, doubt: Doubt) {
     let is_unset = matches!(doubt.sort, Sort::Unset | Sort::Unread);
-    match instr_at(code, pc) {
-        Some(Instr::BDelete(c)) if is_unset && c == doubt.of => told.push("destroys its bucket\n"),
-        Some(Instr::BDelete(_)) if is_unset => {
-            let form = "destroys a bucket, and $ may be that one\n";
-            told.put(form, 0, &[], cursor_name(doubt.of));
-        }
-        _ => told.put("$\n", 0, &[], doubt.row().deed),
-    }
+    let form = match instr_at(code, pc) {
+        Some(Instr::BDelete(c)) if is_unset => if c == doubt.of {
+            "destroys its bucket\n"
+        } else {
+            "destroys a bucket, and @ may be that one\n"
+        },
+        _ => "$\n",
+    };
+    let cursor = cursor_name(doubt.of).as_bytes();
+    told.put(form, 0, cursor, doubt.row().deed);
 }
 
 fn put_step(told: &mut Page, source: &Source, step: &TrailStep, doubt: Doubt) {
     match (step.from, step.to) {
         (StatePlace::At(pc), StatePlace::At(_)) => {
             if step.jumps && doubt.is_of_cursor() {
-                put_at(
-                    told,
-                    source,
-                    pc,
-                    "  then: line #, `@`, goes to its label\n",
-                    "",
-                );
+                let form = "  then: line #, `@`, goes to its label\n";
+                put_at(told, source, pc, form, "");
             }
         }
         (StatePlace::At(pc), _) => {
@@ -89,13 +86,13 @@ fn put_step(told: &mut Page, source: &Source, step: &TrailStep, doubt: Doubt) {
 
 /// Tells in words what to write.
 pub fn put_advice(told: &mut Page, pattern: Pattern) {
-    let (name, advice) = pattern.texts();
-    told.put("  pattern: @\n  write: $\n", 0, name.as_bytes(), advice);
+    let name = pattern.name().as_bytes();
+    told.put("  pattern: @\n  write: $\n", 0, name, pattern.advice());
 }
 
 /// Tells what to write, by these edits, whose lines stand on a page.
 pub fn put_remedy(told: &mut Page, source: &Source, pattern: Pattern, page: &Page, edits: &[Edit]) {
-    told.put("  pattern: $\n", 0, &[], pattern.texts().0);
+    told.put("  pattern: $\n", 0, &[], pattern.name());
     for edit in edits {
         let text = cut(page, edit.start, edit.end);
         if !edit.follows {

@@ -1,11 +1,11 @@
 //! Where what may be so at an instruction comes from.
 
-use crate::flow::{Way, add_ways_of, is_same, state_at};
+use crate::flow::{Way, Ways, add_ways_of, is_same, state_at};
 use life_cert::StatePlace;
 use life_check::Cert;
 use line_help::{Doubt, Sort};
 use module_code::Module;
-use std::alloc::{AllocError, Global};
+use std::alloc::Global;
 
 /// A module with its states and the ways between them.
 #[derive(Clone, Copy)]
@@ -34,6 +34,10 @@ pub struct Trail {
     pub is_made: bool,
     /// From where it began up to the instruction.
     pub steps: Vec<TrailStep>,
+    /// Whether memory was refused.
+    pub full: bool,
+    // The places that were looked at.
+    nodes: Vec<TrailNode>,
 }
 
 impl Trail {
@@ -56,18 +60,6 @@ struct TrailNode {
     place: StatePlace,
     jumps: bool,
     next: usize,
-}
-
-// Whether it would come by this way also if it were not so before.
-fn is_made(known: &Known<'_>, way: &Way, doubt: Doubt) -> Result<bool, AllocError> {
-    let Some(mut state) = state_at(known.states, way.from) else {
-        return Ok(false);
-    };
-    doubt.mend(&mut state);
-    let mut led = Vec::new(known.alloc);
-    let goes_on = !matches!(doubt.sort, Sort::LivePool | Sort::LiveBrigade);
-    add_ways_of(known.code, way.from, &state, goes_on, &mut led)?;
-    Ok(leads_so(led.as_slice(), way, doubt))
 }
 
 // Whether one of these ways is the same as another, and comes with what may be so.
@@ -97,101 +89,100 @@ enum Coming {
     Begun,
 }
 
-// Finds how it comes to the place of this number. Adds the places from which it comes; one that makes it so is the last.
-fn look(
-    known: &Known<'_>,
-    nodes: &mut Vec<TrailNode>,
-    next: usize,
-    place: StatePlace,
-    doubt: Doubt,
-) -> Result<Coming, AllocError> {
-    let mut coming = Coming::Begun;
-    for way in known.ways {
-        let from = way.from;
-        let ends = doubt.is_of_cursor() && !matches!(from, StatePlace::At(_));
-        if is_same(way.to, place) && !ends && doubt.holds(&way.state) {
-            coming = Coming::Led;
-            let is_made = is_made(known, way, doubt)?;
-            if is_made || !is_seen(nodes.as_slice(), from) {
-                nodes.push(TrailNode {
-                    place: from,
-                    jumps: way.jumps,
-                    next,
-                })?;
-            }
-            if is_made {
-                return Ok(Coming::Made(from));
-            }
-        }
+impl Trail {
+    fn add(&mut self, place: StatePlace, jumps: bool, next: usize) {
+        let node = TrailNode { place, jumps, next };
+        self.full |= self.nodes.push(node).is_err();
     }
-    Ok(coming)
-}
 
-// The trail from the place of this number up to the first.
-fn trail_from(
-    alloc: Global,
-    nodes: &[TrailNode],
-    number: usize,
-    origin: StatePlace,
-    is_made: bool,
-) -> Result<Trail, AllocError> {
-    let mut steps = Vec::new(alloc);
-    let mut at = number;
-    for _ in 0..nodes.len() {
-        let Some(node) = nodes.get(at) else { break };
-        let Some(next) = nodes.get(node.next) else {
-            break
+    // Whether it would come by this way also if it were not so before.
+    fn makes(&mut self, known: &Known<'_>, way: &Way, doubt: Doubt) -> bool {
+        let Some(mut state) = state_at(known.states, way.from) else {
+            return false;
         };
-        if at == 0 {
-            break;
-        }
-        steps.push(TrailStep {
-            from: node.place,
-            to: next.place,
-            jumps: node.jumps,
-        })?;
-        at = node.next;
+        doubt.mend(&mut state);
+        let mut led = Ways::new(known.alloc);
+        let goes_on = !matches!(doubt.sort, Sort::LivePool | Sort::LiveBrigade);
+        add_ways_of(known.code, way.from, &state, goes_on, &mut led);
+        self.full |= led.full;
+        leads_so(led.all.as_slice(), way, doubt)
     }
-    Ok(Trail {
-        origin,
-        is_made,
-        steps,
-    })
+
+    // Finds how it comes to the place of this number. Adds the places from which it comes; one that makes it so is the last.
+    fn look(&mut self, known: &Known<'_>, next: usize, place: StatePlace, doubt: Doubt) -> Coming {
+        let mut coming = Coming::Begun;
+        for way in known.ways {
+            let from = way.from;
+            let ends = doubt.is_of_cursor() && !matches!(from, StatePlace::At(_));
+            if is_same(way.to, place) && !ends && doubt.holds(&way.state) {
+                coming = Coming::Led;
+                let makes = self.makes(known, way, doubt);
+                if makes || !is_seen(self.nodes.as_slice(), from) {
+                    self.add(from, way.jumps, next);
+                }
+                if makes {
+                    return Coming::Made(from);
+                }
+            }
+        }
+        coming
+    }
+
+    // Finds where it began; the number of the place from which the trail leads on.
+    fn find(&mut self, known: &Known<'_>, doubt: Doubt) -> usize {
+        for number in 0..known.code.len().saturating_add(2) {
+            let Some(TrailNode { place, .. }) = self.nodes.get(number).copied() else {
+                break
+            };
+            match self.look(known, number, place, doubt) {
+                Coming::Made(from) => {
+                    self.origin = from;
+                    self.is_made = true;
+                    return self.nodes.len().saturating_sub(1);
+                }
+                Coming::Begun => {
+                    self.origin = place;
+                    return number;
+                }
+                Coming::Led => {}
+            }
+        }
+        0
+    }
+
+    // Adds the steps from the place of this number up to the first.
+    fn follow(&mut self, number: usize) {
+        let mut at = number;
+        for _ in 0..self.nodes.len() {
+            let (Some(node), true) = (self.nodes.get(at).copied(), at != 0) else {
+                break
+            };
+            let Some(next) = self.nodes.get(node.next) else {
+                break
+            };
+            let step = TrailStep {
+                from: node.place,
+                to: next.place,
+                jumps: node.jumps,
+            };
+            self.full |= self.steps.push(step).is_err();
+            at = node.next;
+        }
+    }
 }
 
 /// How it came to an instruction, by the fewest steps.
-pub fn trail_to(known: &Known<'_>, pc: usize, doubt: Doubt) -> Result<Trail, AllocError> {
-    let place = StatePlace::At(pc);
-    let mut nodes = vec![in known.alloc;
-        TrailNode {
-            place,
-            jumps: false,
-            next: 0
-        },
-    ]?;
-    trail_by(known, &mut nodes, place, doubt)
-}
-
-// The same, where the instruction is the first of the places that are looked at.
-fn trail_by(
-    known: &Known<'_>,
-    nodes: &mut Vec<TrailNode>,
-    start: StatePlace,
-    doubt: Doubt,
-) -> Result<Trail, AllocError> {
-    let alloc = known.alloc;
-    for number in 0..known.code.len().saturating_add(2) {
-        let Some(TrailNode { place, .. }) = nodes.get(number).copied() else {
-            break
-        };
-        match look(known, nodes, number, place, doubt)? {
-            Coming::Made(from) => {
-                let last = nodes.len().saturating_sub(1);
-                return trail_from(alloc, nodes.as_slice(), last, from, true);
-            }
-            Coming::Begun => return trail_from(alloc, nodes.as_slice(), number, place, false),
-            Coming::Led => {}
-        }
-    }
-    trail_from(alloc, nodes.as_slice(), 0, start, false)
+pub fn trail_to(known: &Known<'_>, pc: usize, doubt: Doubt) -> Trail {
+    let origin = StatePlace::At(pc);
+    let mut trail = Trail {
+        origin,
+        is_made: false,
+        steps: Vec::new(known.alloc),
+        full: false,
+        nodes: Vec::new(known.alloc),
+    };
+    trail.add(origin, false, 0);
+    let number = trail.find(known, doubt);
+    trail.follow(number);
+    trail
 }

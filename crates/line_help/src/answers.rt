@@ -142,32 +142,27 @@ fn row_of(name: &[u8]) -> &'static RefusalRow {
     &UNKNOWN
 }
 
-impl<'a> Answered<'a> {
-    // The command, where this answers one of these of a connection, and it was done.
-    fn done(&self, words: &str, conn: &[u8]) -> Option<ScriptLine<'a>> {
-        let command = self.command?;
-        let first = token(command.text);
-        let of = if is_text(first, b"open") {
-            word(self.answer, 1)
-        } else {
-            word(command.text, 1)
-        };
-        let did = of == conn && !is_text(token(self.answer), b"refused");
-        if did && stands_in(words, text_of(first)) {
-            Some(command)
-        } else {
-            None
-        }
-    }
+// Whether a command is one of these of a connection, and was done by this answer.
+fn is_done(command: &[u8], answer: &[u8], words: &str, conn: &[u8]) -> bool {
+    let first = token(command);
+    let named = if is_text(first, b"open") {
+        answer
+    } else {
+        command
+    };
+    word(named, 1) == conn
+        && !is_text(token(answer), b"refused")
+        && stands_in(words, text_of(first))
 }
 
 // The last of these commands of a connection that was done.
 fn last_done<'a>(earlier: &[Answered<'a>], words: &str, conn: &[u8]) -> Option<ScriptLine<'a>> {
     let mut found = None;
     for answered in earlier {
-        let done = answered.done(words, conn);
-        if done.is_some() {
-            found = done;
+        if let Some(command) = answered.command {
+            if is_done(command.text, answered.answer, words, conn) {
+                found = Some(command);
+            }
         }
     }
     found
@@ -185,8 +180,8 @@ fn tell_broken(told: &mut Page, earlier: &[Answered<'_>], conn: &[u8]) {
 }
 
 fn tell_budget(told: &mut Page, script: &Script<'_>) {
-    for line in script.lines.iter().take(script.before) {
-        if is_text(token(line.text), b"budget") {
+    for line in &script.lines {
+        if line.number <= script.before && is_text(token(line.text), b"budget") {
             let form =
                 "  the budget is @, by line #; look for a loop that does not end, or allow more\n";
             return told.put(form, line.number, word(line.text, 1), "");

@@ -184,50 +184,70 @@ const NO_ROW: SortRow = SortRow {
     pattern: Pattern::SetAgain,
 };
 
-const BRIGADES: [&str; 9] = ["b0", "b1", "b2", "b3", "b4", "b5", "b6", "b7", "in"];
-
-const CURSORS: [&str; 9] = [
-    "`c0`",
-    "`c1`",
-    "`c2`",
-    "`c3`",
-    "`c4`",
-    "`c5`",
-    "`c6`",
-    "`c7`",
-    "what was read last",
-];
-
-const CURSOR_TEXTS: [&str; 8] = ["c0", "c1", "c2", "c3", "c4", "c5", "c6", "c7"];
-
-const POOLS: [&str; 8] = ["p0", "p1", "p2", "p3", "p4", "p5", "p6", "p7"];
-
 /// The name of a brigade variable, or `in`.
 pub fn brigade_name(b: u8) -> &'static str {
-    BRIGADES.get(usize::from(b)).copied().unwrap_or("")
+    match b {
+        0 => "b0",
+        1 => "b1",
+        2 => "b2",
+        3 => "b3",
+        4 => "b4",
+        5 => "b5",
+        6 => "b6",
+        7 => "b7",
+        8 => "in",
+        _ => "",
+    }
 }
 
 /// What a cursor is called, or what was read last.
 pub fn cursor_name(c: u8) -> &'static str {
-    CURSORS.get(usize::from(c)).copied().unwrap_or("")
+    match c {
+        0 => "`c0`",
+        1 => "`c1`",
+        2 => "`c2`",
+        3 => "`c3`",
+        4 => "`c4`",
+        5 => "`c5`",
+        6 => "`c6`",
+        7 => "`c7`",
+        8 => "what was read last",
+        _ => "",
+    }
 }
 
 /// How a cursor is written.
 pub fn cursor_text(c: u8) -> &'static [u8] {
-    match CURSOR_TEXTS.get(usize::from(c)) {
-        Some(name) => name.as_bytes(),
-        None => b"",
-    }
+    let name = match c {
+        0 => "c0",
+        1 => "c1",
+        2 => "c2",
+        3 => "c3",
+        4 => "c4",
+        5 => "c5",
+        6 => "c6",
+        7 => "c7",
+        _ => "",
+    };
+    name.as_bytes()
 }
 
 /// How a pool is written.
 pub fn pool_text(pool: PoolRef) -> &'static [u8] {
     let name = match pool {
-        PoolRef::Conn => Some("conn"),
-        PoolRef::Req => Some("req"),
-        PoolRef::Own(q) => POOLS.get(usize::from(q)).copied(),
+        PoolRef::Conn => "conn",
+        PoolRef::Req => "req",
+        PoolRef::Own(0) => "p0",
+        PoolRef::Own(1) => "p1",
+        PoolRef::Own(2) => "p2",
+        PoolRef::Own(3) => "p3",
+        PoolRef::Own(4) => "p4",
+        PoolRef::Own(5) => "p5",
+        PoolRef::Own(6) => "p6",
+        PoolRef::Own(7) => "p7",
+        PoolRef::Own(_) => "",
     };
-    name.unwrap_or("").as_bytes()
+    name.as_bytes()
 }
 
 /// A sort, and the variable or cursor that it is about, by its number in a state; the other brigade is that of `Elsewhere`.

@@ -11,7 +11,6 @@ use life_cert::CertCode;
 use module_code::{Op, Word, word_of};
 use module_lang::Code;
 use script_text::{LINE_BYTES, is_skipped};
-use std::alloc::{AllocError, Global};
 
 /// How many bytes of a line are shown at most.
 const SHOWN: usize = 100;
@@ -62,22 +61,35 @@ struct Faulty<'a> {
 
 // What may stand behind these lines: the last of them that says it.
 fn due_behind(lines: &[ScriptLine<'_>]) -> &'static str {
-    for line in lines.iter().rev() {
-        let due = found_in(&DUE, token(unindented(line.text)));
-        if !due.is_empty() {
-            return due;
+    let mut last: &[u8] = &[];
+    for line in lines {
+        let first = token(unindented(line.text));
+        if !found_in(&DUE, first).is_empty() {
+            last = first;
         }
     }
-    "`module 1`"
+    match found_in(&DUE, last) {
+        "" => "`module 1`",
+        due => due,
+    }
+}
+
+// The digit of a number below 16.
+fn hex_digit(number: u8) -> u8 {
+    if number < 10 {
+        number.wrapping_add(b'0')
+    } else {
+        number.wrapping_sub(10).wrapping_add(b'a')
+    }
 }
 
 // Tells of the byte behind so many that may not stand on a line.
 fn tell_byte(told: &mut Page, index: usize, byte: u8) {
     let name = if byte == b'\t' { ", a tab" } else { "" };
-    told.put("  its byte # is 0x", index.saturating_add(1), &[], "");
-    told.full |= write!(told.text, "{byte:02x}{name}").is_err();
-    told.push("; a line has bytes from 0x20 to 0x7e alone, and other bytes stand in quotes, as `");
-    told.full |= writeln!(told.text, "\\x{byte:02x}`").is_err();
+    let digits = [hex_digit(byte / 16), hex_digit(byte % 16)];
+    let form =
+        "  its byte # is 0x@$; a line has bytes from 0x20 to 0x7e alone, and other bytes stand in quotes, as `\\x@`\n";
+    told.put(form, index.saturating_add(1), &digits, name);
 }
 
 // Tells which byte may not stand on a line, of a text that may have so many bytes.
@@ -234,15 +246,10 @@ fn tell_line(told: &mut Page, number: usize, of: &str, line: Option<&[u8]>) {
 }
 
 /// Tells what is wrong with the first faulty line of a module text, by its number in the text.
-pub fn tell_asm_fault(
-    told: &mut Page,
-    text: ScriptText<'_>,
-    line: usize,
-    code: Code,
-) -> Result<(), AllocError> {
-    let lines = lines_of(told.alloc, text.text, text.before)?;
+pub fn tell_asm_fault(told: &mut Page, text: ScriptText<'_>, line: usize, code: Code) {
+    let lines = lines_of(told, text.text, text.before);
     let number = text.before.saturating_add(line);
-    tell_asm_line(told, lines.as_slice(), line.saturating_sub(1), number, code)
+    tell_asm_line(told, lines.as_slice(), line.saturating_sub(1), number, code);
 }
 
 // The same, of these lines, by the place of the line and its number.
@@ -252,52 +259,49 @@ fn tell_asm_line<'a>(
     index: usize,
     number: usize,
     code: Code,
-) -> Result<(), AllocError> {
+) {
     let there = lines.get(index).copied();
-    match there {
-        Some(there) => tell_line(told, number, "", Some(unindented(there.text))),
-        None => tell_line(told, number, "", None),
-    }
-    writeln!(told.text, "{code}")?;
-    if let Some(there) = there {
-        let text = unindented(there.text);
+    let shown = match there {
+        Some(there) => Some(unindented(there.text)),
+        None => None,
+    };
+    tell_line(told, number, "", shown);
+    told.full |= writeln!(told.text, "{code}").is_err();
+    if let (Some(there), Some(text)) = (there, shown) {
         Faulty { there, text, lines }.tell(told, code);
     }
     if let Code::NotDue = code {
         let due = due_behind(lines.get(..index).unwrap_or(&[]));
         told.put("  due here is $\n", 0, &[], due);
     }
-    Ok(())
-}
-
-fn line_at<'a>(
-    alloc: Global,
-    text: ScriptText<'a>,
-    index: usize,
-) -> Result<Option<ScriptLine<'a>>, AllocError> {
-    let lines = lines_of(alloc, text.text, text.before)?;
-    Ok(lines.get(index).copied())
 }
 
 /// Tells what is wrong with the first faulty line of a certificate text, by its number in the text.
-pub fn tell_cert_fault(
-    told: &mut Page,
-    text: ScriptText<'_>,
-    line: usize,
-    code: CertCode,
-) -> Result<(), AllocError> {
-    let there = line_at(told.alloc, text, line.saturating_sub(1))?;
+pub fn tell_cert_fault(told: &mut Page, text: ScriptText<'_>, line: usize, code: CertCode) {
+    let lines = lines_of(told, text.text, text.before);
+    let there = lines.get(line.saturating_sub(1)).copied();
+    let number = text.before.saturating_add(line);
     let of = if text.before == 0 {
         " of the certificate"
     } else {
         ""
     };
-    let number = text.before.saturating_add(line);
-    match there {
-        Some(line) => tell_line(told, number, of, Some(line.text)),
-        None => tell_line(told, number, of, None),
-    }
-    writeln!(told.text, "{code}")?;
+    tell_cert_line(told, there, number, of, code);
+}
+
+fn tell_cert_line(
+    told: &mut Page,
+    there: Option<ScriptLine<'_>>,
+    number: usize,
+    of: &str,
+    code: CertCode,
+) {
+    let shown = match there {
+        Some(line) => Some(line.text),
+        None => None,
+    };
+    tell_line(told, number, of, shown);
+    told.full |= writeln!(told.text, "{code}").is_err();
     match (code, there) {
         (CertCode::BadByte, Some(there)) => tell_bad_byte(told, &there, "4,194,304"),
         (CertCode::NotState, _) => told.push(
@@ -307,7 +311,6 @@ pub fn tell_cert_fault(
             "  its lines are `cert 1` or `slim 1`, `idle`, `ready`, one of each instruction that is reached, by rising numbers, and `end`; no empty lines, no comments, no spaces in front\n",
         ),
     }
-    Ok(())
 }
 
 // What is wrong with the bytes of a printable line, whatever its words.

@@ -8,11 +8,6 @@ use script_text::COMMAND_WORDS;
 /// The letters of what stands behind a word, one for each operand.
 pub type Letters = [&'static str; 4];
 
-// The letter of each kind of operand, in the order of `OperandKind`.
-const LETTERS: [&str; 14] = [
-    "", "1", "P", "Q", "O", "B", "E", "L", "T", "V", "n", "x", "c", "K",
-];
-
 // What stands behind the words of commands, in the order of `CommandForm`.
 const COMMANDS: [Letters; 4] = [
     ["", "", "", ""],
@@ -65,8 +60,24 @@ const MEANINGS: [(&str, &str); 20] = [
     ),
 ];
 
+// The letter of a kind of operand.
 fn letter_of(kind: OperandKind) -> &'static str {
-    LETTERS.get(kind as usize).copied().unwrap_or("")
+    match kind {
+        OperandKind::Nothing => "",
+        OperandKind::One => "1",
+        OperandKind::Place => "P",
+        OperandKind::Pool => "Q",
+        OperandKind::Brigade => "O",
+        OperandKind::Source => "B",
+        OperandKind::Ending => "E",
+        OperandKind::Label => "L",
+        OperandKind::Text => "T",
+        OperandKind::Variable => "V",
+        OperandKind::Number => "n",
+        OperandKind::Value => "x",
+        OperandKind::Cursor => "c",
+        OperandKind::KindTest => "K",
+    }
 }
 
 /// What stands behind a word of a module text.

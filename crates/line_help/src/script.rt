@@ -1,8 +1,8 @@
 //! The texts and the commands of a script.
 
+use crate::page::Page;
 use byte_text::first_line;
 use script_text::{LineTaken, Texts, begins_cert, is_end};
-use std::alloc::{AllocError, Global};
 
 // More lines than a script can have.
 const MOST_LINES: usize = 1 << 62;
@@ -38,44 +38,43 @@ pub struct Script<'a> {
     pub before: usize,
 }
 
-/// The lines of a text, of which so many stand before it.
-pub fn lines_of<'a>(
-    alloc: Global,
-    text: &'a [u8],
-    before: usize,
-) -> Result<Vec<ScriptLine<'a>>, AllocError> {
-    let mut lines = Vec::new(alloc);
+/// The lines of a text, of which so many stand before it. The page is full where memory was refused.
+pub fn lines_of<'a>(told: &mut Page, text: &'a [u8], before: usize) -> Vec<ScriptLine<'a>> {
+    let mut lines = Vec::new(told.alloc);
     let mut rest = text;
     for index in 0..text.len() {
         if rest.is_empty() {
             break;
         }
         let line = first_line(rest);
-        lines.push(ScriptLine {
+        let taken = lines.push(ScriptLine {
             number: before.saturating_add(index).saturating_add(1),
             text: line.text,
             ended: line.ended,
             start: text.len().saturating_sub(rest.len()),
-        })?;
+        });
+        told.full |= taken.is_err();
         rest = &rest[line.width..];
     }
-    Ok(lines)
+    lines
 }
 
 impl<'a> Script<'a> {
-    // The text that begins behind so many lines, and ends behind so many.
-    fn text(&self, script: &'a [u8], before: usize, end: usize) -> ScriptText<'a> {
-        let (start, is_cert) = match self.lines.get(before) {
-            Some(line) => (
-                line.start,
-                before != 0 && begins_cert(line.text, line.ended),
-            ),
-            None => (script.len(), false),
-        };
-        let end = match self.lines.get(end) {
+    // Where the line behind so many begins, or the script ends.
+    fn start_of(&self, script: &[u8], before: usize) -> usize {
+        match self.lines.get(before) {
             Some(line) => line.start,
             None => script.len(),
+        }
+    }
+
+    // The text that begins behind so many lines, and ends behind so many.
+    fn text(&self, script: &'a [u8], before: usize, end: usize) -> ScriptText<'a> {
+        let is_cert = match self.lines.get(before) {
+            Some(line) => before != 0 && begins_cert(line.text, line.ended),
+            None => false,
         };
+        let (start, end) = (self.start_of(script, before), self.start_of(script, end));
         let text = script.get(start..end).unwrap_or(&[]);
         ScriptText {
             is_cert,
@@ -84,59 +83,66 @@ impl<'a> Script<'a> {
         }
     }
 
-    /// What a script is made of, up to the first fault of a text. A text that does not end is all up to its end.
-    pub fn of(alloc: Global, script: &'a [u8]) -> Result<Self, AllocError> {
-        let lines = lines_of(alloc, script, 0)?;
+    /// What a script is made of, up to the first fault of a text. A text that does not end is all up to its end. The page is full where
+    /// memory was refused.
+    pub fn of(told: &mut Page, script: &'a [u8]) -> Self {
+        let lines = lines_of(told, script, 0);
         let before = lines.len();
-        let texts = Vec::new(alloc);
         let mut read = Script {
             lines,
-            texts,
+            texts: Vec::new(told.alloc),
             before,
         };
-        let mut texts = Texts::new(alloc);
-        for index in 0..before {
-            let taken = read.take(alloc, script, &mut texts, index)?;
-            if !taken {
-                return Ok(read);
+        read.take_all(told, script, &mut Texts::new(told.alloc));
+        read
+    }
+
+    // Takes the lines before the commands.
+    fn take_all(&mut self, told: &mut Page, script: &'a [u8], texts: &mut Texts) {
+        let count = self.lines.len();
+        for index in 0..count {
+            if !self.take(told, script, texts, index) {
+                return;
             }
         }
-        let last = read.text(script, texts.before(), before);
-        read.texts.push(last)?;
-        Ok(read)
+        self.add_text(told, script, texts.before(), count);
+    }
+
+    fn add_text(&mut self, told: &mut Page, script: &'a [u8], before: usize, end: usize) {
+        let text = self.text(script, before, end);
+        told.full |= self.texts.push(text).is_err();
     }
 
     // Takes a line before the commands; tells whether more of these may follow.
-    fn take(
-        &mut self,
-        alloc: Global,
-        script: &'a [u8],
-        texts: &mut Texts,
-        index: usize,
-    ) -> Result<bool, AllocError> {
+    fn take(&mut self, told: &mut Page, script: &'a [u8], texts: &mut Texts, index: usize) -> bool {
         let Some(line) = self.lines.get(index).copied() else {
-            return Ok(false);
+            return false;
         };
         if line.number == 0 || texts.before() >= MOST_LINES {
-            return Ok(false);
+            return false;
         }
-        let mut answer = Vec::new(alloc);
-        let taken = texts.take(alloc, line.number, line.text, line.ended, &mut answer)?;
-        let ends = match taken {
-            LineTaken::More => is_end(line.text, line.ended),
-            LineTaken::Over => true,
-            LineTaken::Checked | LineTaken::Command => false,
+        let mut answer = Vec::new(told.alloc);
+        let taken = texts.take(told.alloc, line.number, line.text, line.ended, &mut answer);
+        let (ends, more) = match taken {
+            Ok(LineTaken::More) => (is_end(line.text, line.ended), true),
+            Ok(LineTaken::Over) => (true, false),
+            Ok(LineTaken::Checked) => {
+                self.before = line.number;
+                (false, false)
+            }
+            Ok(LineTaken::Command) => {
+                self.before = index;
+                (false, false)
+            }
+            Err(_) => {
+                told.full = true;
+                (false, false)
+            }
         };
         if ends {
-            let text = self.text(script, texts.before(), line.number);
-            self.texts.push(text)?;
+            self.add_text(told, script, texts.before(), line.number);
         }
-        match taken {
-            LineTaken::Checked => self.before = line.number,
-            LineTaken::Command => self.before = index,
-            LineTaken::More | LineTaken::Over => {}
-        }
-        Ok(matches!(taken, LineTaken::More))
+        more
     }
 
     /// The text of a module, by its place in the chain, and that of the certificate behind it, if there is one.

@@ -4,7 +4,7 @@ use crate::page::Page;
 use crate::script::lines_of;
 use crate::words::text_of;
 use byte_text::{begins, is_text, tail, unindented};
-use std::alloc::{AllocError, Global};
+use std::alloc::Global;
 
 /// What no line and no instruction has for its number.
 pub const NO_LINE: usize = usize::MAX;
@@ -61,14 +61,14 @@ impl Source {
         }
     }
 
-    /// The lines of a text, before which so many stand.
-    pub fn of(alloc: Global, text: &[u8], before: usize) -> Result<Source, AllocError> {
-        let lines = lines_of(alloc, text, before)?;
+    /// The lines of a text, before which so many stand. Its page is full where memory was refused.
+    pub fn of(alloc: Global, text: &[u8], before: usize) -> Source {
         let mut source = Source::new(alloc);
+        let lines = lines_of(&mut source.page, text, before);
         for line in &lines {
             source.add(line.number, unindented(line.text));
         }
-        Ok(source)
+        source
     }
 
     fn add(&mut self, number: usize, line: &[u8]) {
@@ -121,7 +121,7 @@ impl Source {
 
     /// The number of the line at a place, or of the next one that is there already.
     pub fn number_at(&self, index: usize) -> usize {
-        for line in self.lines.iter().skip(index) {
+        for line in self.lines.get(index..).unwrap_or(&[]) {
             if line.number != 0 {
                 return line.number;
             }
@@ -147,7 +147,8 @@ impl Source {
     /// The label that stands before a place; nothing where there is none.
     pub fn label_before(&self, place: usize) -> &[u8] {
         let mut label = self.text_at(NO_LINE);
-        for line in self.lines.iter().take(place) {
+        let count = place.min(self.lines.len());
+        for line in self.lines.get(..count).unwrap_or(&[]) {
             let text = cut(&self.page, line.start, line.end);
             if begins(text, b':') {
                 label = tail(text);

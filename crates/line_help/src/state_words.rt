@@ -28,15 +28,6 @@ const CLASSES: [&str; 8] = [
     "any kind",
 ];
 
-// What a brigade may hold, in the order of `Contents`.
-const CONTENTS: [&str; 5] = [
-    ", holds nothing",
-    ", holds FLUSH buckets at most; its buckets may depend on ",
-    ", may hold data, and no EOS; its buckets may depend on ",
-    ", may hold data and an EOS, and no data behind an EOS; its buckets may depend on ",
-    ", may hold data behind an EOS; its buckets may depend on ",
-];
-
 // What buckets may depend on.
 const HOMES: [&str; 11] = [
     "the call",
@@ -105,7 +96,15 @@ fn put_brigade(told: &mut Page, state: &State, b: u8) {
 }
 
 fn put_contents(told: &mut Page, content: Contents, homes: &HomeSet) {
-    told.push(CONTENTS.get(content as usize).copied().unwrap_or(""));
+    let text = match content {
+        Contents::Empty => ", holds nothing",
+        Contents::Flushes => ", holds FLUSH buckets at most; its buckets may depend on ",
+        Contents::NoEos => ", may hold data, and no EOS; its buckets may depend on ",
+        Contents::NoLateData =>
+            ", may hold data and an EOS, and no data behind an EOS; its buckets may depend on ",
+        Contents::Any => ", may hold data behind an EOS; its buckets may depend on ",
+    };
+    told.push(text);
     if !matches!(content, Contents::Empty) {
         put_homes(told, homes);
     }

@@ -42,25 +42,34 @@ pub fn found_in(table: &[(&'static str, &'static str)], word: &[u8]) -> &'static
     ""
 }
 
-/// Whether two words are the same but for one letter that is wrong, missing or too many, or for two that are turned.
-pub fn is_near(a: &[u8], b: &[u8]) -> bool {
-    let mut same = 0usize;
-    for (x, y) in a.iter().zip(b.iter()) {
-        if x != y {
-            break;
+// How many letters two words have in common at their front.
+fn common_front(a: &[u8], b: &[u8]) -> usize {
+    let mut rest = b;
+    for (index, letter) in a.iter().enumerate() {
+        if !begins(rest, *letter) {
+            return index;
         }
-        same = same.saturating_add(1);
+        rest = tail(rest);
     }
-    let a = a.get(same..).unwrap_or(&[]);
-    let b = b.get(same..).unwrap_or(&[]);
+    a.len()
+}
+
+// Whether two words begin with two letters that are turned, and go on alike.
+fn is_turned(a: &[u8], b: &[u8]) -> bool {
     let (c, d) = (tail(a), tail(b));
-    if c == d || c == b || a == d {
-        return true;
-    }
     match (a.first(), b.first()) {
         (Some(x), Some(y)) => begins(d, *x) && begins(c, *y) && tail(c) == tail(d),
         _ => false,
     }
+}
+
+/// Whether two words are the same but for one letter that is wrong, missing or too many, or for two that are turned.
+pub fn is_near(a: &[u8], b: &[u8]) -> bool {
+    let same = common_front(a, b);
+    let a = a.get(same..).unwrap_or(&[]);
+    let b = b.get(same..).unwrap_or(&[]);
+    let (c, d) = (tail(a), tail(b));
+    c == d || c == b || a == d || is_turned(a, b)
 }
 
 /// Whether two spaces stand together outside of texts in quotes.
