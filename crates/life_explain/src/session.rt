@@ -73,14 +73,14 @@ fn is_settled(source: &Source, judged: &Judged, line: usize) -> bool {
     true
 }
 
-// How many tests may fail in a source, and whether a line is refused no more; `NO_LINE` where it is no module.
-fn outcome(told: &mut Page, source: &Source, line: usize) -> (usize, bool) {
+// How many tests may fail in a source, and whether a line is refused no more; nothing where it is no module.
+fn outcome(told: &mut Page, source: &Source, line: usize) -> Option<(usize, bool)> {
     match study_of(told, source) {
-        Some(study) => (
+        Some(study) => Some((
             study.judged.failures,
             is_settled(source, &study.judged, line),
-        ),
-        None => (NO_LINE, false),
+        )),
+        None => None,
     }
 }
 
@@ -98,7 +98,9 @@ fn tries(
     }
     let source = case.source.edited(&case.page, edits);
     let line = case.source.number_of(case.refusal.pc);
-    let (left, settled) = outcome(told, &source, line);
+    let Some((left, settled)) = outcome(told, &source, line) else {
+        return false;
+    };
     let helps = left < least || ties && settled && left == least;
     if helps {
         *mended = Some(Mended { source, left });
@@ -329,9 +331,9 @@ fn tell_from(
     refusal: FlowRefusal,
     seen: &mut Vec<usize>,
 ) {
-    let now = match outcome(told, source, NO_LINE).0 {
-        NO_LINE => 0,
-        now => now,
+    let now = match outcome(told, source, NO_LINE) {
+        Some((now, _)) => now,
+        None => 0,
     };
     tell(told, source, module, refusal, now, seen);
     if now == 0 {
