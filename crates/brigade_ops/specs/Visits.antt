@@ -8,12 +8,12 @@ use Rattle.stored_rings.specs.Items.{Item, Items}
 abbrev pub BucketVisits : Type 0 → Type 1
 BucketVisits S = S → BucketId → Bucket → Bool → S → Type 0
 
--- the visitor stops at this bucket
+-- the visitor stops at this bucket, and is left in state t
 pub record StopsAt {S : Type 0} (visits : BucketVisits S) (s : S) (x : Item) (stop : Option BucketId) (t : S) : Type 0 where
   pub here : stop ≡ Some x.0
   pub seen : visits s x.0 x.1 true t
 
--- a visitor sees these buckets in turn, up to the first at which it stops
+-- A visitor sees these buckets in turn, up to the first at which it stops (None where it stops at none), and is left in state t.
 abbrev pub AreVisited : {S : Type 0} → BucketVisits S → S → Items → Option BucketId → S → Type 0
 AreVisited visits s [] stop t = (stop ≡ None) × (t ≡ s)
 AreVisited {S} visits s (x ∷ xs) stop t = StopsAt visits s x stop t ⊎ ((u : S) × visits s x.0 x.1 false u × AreVisited visits u xs stop t)

@@ -10,18 +10,18 @@ use stored_rings::View;
 
 /// What looks at the buckets of a brigade, one after another, until it has seen enough.
 pub trait Visitor {
-    /// What a bucket does: the state before it, its name, the bucket, whether the walk stops there, and the state that it leaves.
+    /// What a bucket does to a visitor: the state before it, its name, the bucket, whether the walk stops there, and the state that it leaves.
     ghost visits: { Self → BucketId → Bucket → Bool → Self → Type 0 };
 
     /// Looks at the next bucket, and tells whether the walk stops there.
-    fn visit(&mut self, id: BucketId, bucket: &View<'_>) -> bool
+    fn stops_at(&mut self, id: BucketId, bucket: &View<'_>) -> bool
         ensures { visits self.old id (bucket_of bucket.now) result self.new };
 }
 
 impl<R: Rings<Stored> + Drop> Brigades<R> {
     ghost use Rattle.brigade_ops.specs.Store.{lists, brigade_of};
 
-    /// Shows a visitor the buckets of a brigade, from the first on, and gives the one at which it stopped; `None` where it saw them all.
+    /// Shows a visitor the buckets of a brigade, from the first on, and gives the one at which it stopped; `None` where it stopped at none.
     #[inline(always)]
     pub fn visit<V: Visitor>(&self, b: BrigadeId, visitor: &mut V) -> Option<BucketId>
         requires { is_some (lists self.now b) ≡ true }
@@ -30,7 +30,7 @@ impl<R: Rings<Stored> + Drop> Brigades<R> {
     {
         let mut place = self.start(b);
         while let Some(id) = place {
-            if visitor.visit(id, &self.payload(id)) {
+            if visitor.stops_at(id, &self.payload(id)) {
                 return Some(id);
             }
             place = self.behind(id);

@@ -1,7 +1,7 @@
 //! A brigade is walked along: measured, split and parted.
 
 ghost use Rattle.std.specs.Prelude.{◌≡◌, ◌≢◌, ◌==◌, ◌&&◌, ◌||◌, ℕ, ◌+◌, ◌-◌, ◌<◌, ◌^◌, nat_lt, min};
-ghost use Rattle.std.specs.Prelude.{[], ◌∷◌, drop, Some, None, Ok, Err, true, false, is_some, is_ok, if◌then◌else◌, IsOk, IfOk, IfSome, OnOk, OnErr};
+ghost use Rattle.std.specs.Prelude.{[], ◌∷◌, drop, length, Some, None, Ok, Err, true, false, is_some, is_ok, if◌then◌else◌, IsOk, IfOk, IfSome, OnOk, OnErr};
 ghost use Rattle.brigade_ops.specs.Prelude.{on, list_at, rest, first_of, NoneRevived, length_in, EndsInFile, form_of, form_of_kind, length_of, split_at, named, replaced, before_place, from_place};
 ghost use Rattle.brigade_ops.specs.Prelude.{point_in, is_inside, cut_at};
 
@@ -16,14 +16,14 @@ use stored_rings::{Cut, Point, SplitRefusal, View};
 /// What goes along a brigade up to a point.
 #[derive(Drop)]
 struct Finder {
-    /// How far the point is behind the next bucket's first byte.
+    /// How many bytes behind the front of the next bucket the point lies.
     left: u64,
 }
 
 impl Visitor for Finder {
     ghost visits = { λ s id x stop t. (stop ≡ (s.left == 0 || nat_lt s.left (length_of x.content))) × (t.left ≡ (if stop then s.left else s.left - length_of x.content)) };
 
-    fn visit(&mut self, _id: BucketId, bucket: &View<'_>) -> bool {
+    fn stops_at(&mut self, _id: BucketId, bucket: &View<'_>) -> bool {
         let len = bucket.content.len();
         if self.left == 0 || len > self.left {
             return true;
@@ -35,15 +35,15 @@ impl Visitor for Finder {
 
 /// What adds up the lengths of a brigade.
 #[derive(Drop)]
-struct Sum {
-    /// The bytes so far. It never comes to its largest number: a brigade has less than 2^64 buckets of less than 2^64 bytes.
+struct Lengths {
+    /// The bytes so far. It never comes to its largest number: a brigade has fewer than 2^64 buckets, of less than 2^64 bytes each.
     total: u128,
 }
 
-impl Visitor for Sum {
+impl Visitor for Lengths {
     ghost visits = { λ s id x stop t. (stop ≡ false) × (length_of x.content < 2 ^ 64) × (t.total ≡ min (s.total + length_of x.content) (2 ^ 128 - 1)) };
 
-    fn visit(&mut self, _id: BucketId, bucket: &View<'_>) -> bool {
+    fn stops_at(&mut self, _id: BucketId, bucket: &View<'_>) -> bool {
         self.total = self.total.saturating_add(bucket.content.len() as u128);
         false
     }
@@ -60,6 +60,7 @@ impl<R: Rings<Stored> + Drop> Brigades<R> {
         ensures first { result ≡ first_of (list_at (lists self.now) b) }
         ensures whole { from_place result (list_at (lists self.now) b) ≡ list_at (lists self.now) b }
         ensures inside { IfSome result (λ id. brigade_of self.now id ≡ Some b) }
+        ensures few { length (list_at (lists self.now) b) < 2 ^ 64 }
     {
         self.held.first(b)
     }
@@ -167,8 +168,8 @@ impl<R: Rings<Stored> + Drop> Brigades<R> {
         requires { is_some (lists self.now b) ≡ true }
         ensures { result ≡ length_in (named (list_at (lists self.now) b)) }
     {
-        let mut sum = Sum { total: 0 };
-        self.visit(b, &mut sum);
-        sum.total
+        let mut lengths = Lengths { total: 0 };
+        self.visit(b, &mut lengths);
+        lengths.total
     }
 }

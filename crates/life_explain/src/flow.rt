@@ -247,8 +247,8 @@ pub fn all_ways(alloc: Global, code: &Module, states: &Cert) -> Ways {
     ways
 }
 
-// Lets a state come by a way; tells whether memory was refused for it.
-fn arrive(growth: &mut Growth, way: &Way) -> bool {
+// Lets a state come by a way, where it fits. The page is full where memory was refused for it.
+fn arrive(told: &mut Page, growth: &mut Growth, way: &Way) {
     let is_inside = match way.to {
         StatePlace::At(pc) => pc < growth.cert.at.len(),
         StatePlace::Idle | StatePlace::Ready => true,
@@ -264,7 +264,9 @@ fn arrive(growth: &mut Growth, way: &Way) -> bool {
         place: way.to,
         state: way.state,
     };
-    is_inside && fits && growth.arrive(&arrival).is_err()
+    if is_inside && fits {
+        told.full |= growth.arrive(&arrival).is_err();
+    }
 }
 
 // The ways from where the states grew.
@@ -283,7 +285,7 @@ fn round(told: &mut Page, code: &Module, growth: &mut Growth) {
     told.full |= ways.full;
     growth.grown.clear();
     for way in &ways.all {
-        told.full |= arrive(growth, way);
+        arrive(told, growth, way);
     }
 }
 
@@ -341,7 +343,8 @@ fn judge(told: &mut Page, code: &Module, states: Cert) -> Judged {
     }
 }
 
-/// The states of a module, and the instructions that may have a fault in them; nothing where memory was refused. The page is then full.
+/// The states of a module, and the instructions that may have a fault in them. Where memory was refused the page is full, and what is
+/// given is not whole, or nothing.
 pub fn judged_of(told: &mut Page, code: &Module) -> Option<Judged> {
     match states_of(told, code) {
         Ok(states) => Some(judge(told, code, states)),

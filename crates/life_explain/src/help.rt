@@ -10,7 +10,7 @@ use module_code::Module;
 use module_lang::{AsmRefusal, assemble};
 use std::alloc::{AllocError, Global};
 
-/// The module of a text; nothing where it is none, which is told.
+/// The module of a text; nothing where it is none, which is told, or where memory was refused.
 pub fn module_of(told: &mut Page, text: ScriptText<'_>) -> Option<Module> {
     match assemble(told.alloc, text.text) {
         Ok(code) => return Some(code),
@@ -20,7 +20,7 @@ pub fn module_of(told: &mut Page, text: ScriptText<'_>) -> Option<Module> {
     None
 }
 
-/// The certificate of a text; nothing where it is none, which is told.
+/// The certificate of a text; nothing where it is none, which is told, or where memory was refused.
 pub fn cert_of(told: &mut Page, text: ScriptText<'_>) -> Option<Cert> {
     match read_cert(told.alloc, text.text) {
         Ok(cert) => return Some(cert),

@@ -119,9 +119,9 @@ fn tell_module(told: &mut Page, script: &Script<'_>, answer: &[u8]) {
 fn tell_text(told: &mut Page, script: &Script<'_>, number: usize) {
     if let Some(text) = script.text_with(number) {
         if text.is_cert {
-            cert_of(told, text);
+            let _told = cert_of(told, text);
         } else {
-            module_of(told, text);
+            let _told = module_of(told, text);
         }
     }
 }

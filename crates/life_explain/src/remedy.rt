@@ -57,7 +57,7 @@ pub struct Case<'s> {
     number: usize,
     // The place of the last edit.
     last: usize,
-    // What stands for each capital.
+    // What stands for each of the capitals A, C, D, L, M, N and Z; `name` finds what stands for the others.
     names: [&'s [u8]; 26],
 }
 
@@ -106,7 +106,7 @@ impl<'s> Case<'s> {
         text_of(self.shape(self.maker).0.text())
     }
 
-    // Whether a `bsplit` stands in the handler before the refused instruction, and it came from no earlier call.
+    // Whether a `bsplit` stands in the handler before the refused instruction, where what it tests came from no earlier call.
     fn cuts_before(&self) -> bool {
         if self.exit != NO_LINE {
             return false;

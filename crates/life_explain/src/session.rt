@@ -6,7 +6,7 @@ use crate::told::{put_advice, put_at, put_remedy, put_trail};
 use crate::trail::{Known, trail_to};
 use life_check::Cert;
 use life_state::State;
-use line_help::{Edit, NO_LINE, Page, Pattern, Sort, Source, fault_of, put_rule};
+use line_help::{Edit, Page, Pattern, Sort, Source, fault_of, put_rule};
 use module_code::Module;
 use module_lang::{AsmRefusal, assemble};
 use run_model::FaultKind;
@@ -32,7 +32,8 @@ struct Mended {
     left: usize,
 }
 
-// The study of a source; nothing where it is no module, or memory was refused. The page is full then.
+// The study of a source; nothing where it is no module. Where memory was refused the page is full, and the study may be missing or not
+// whole.
 fn study_of(told: &mut Page, source: &Source) -> Option<Study> {
     told.full |= source.page.full;
     match assemble(told.alloc, source.page.text.as_bytes()) {
@@ -331,8 +332,8 @@ fn tell_from(
     refusal: FlowRefusal,
     seen: &mut Vec<usize>,
 ) {
-    let now = match outcome(told, source, NO_LINE) {
-        Some((now, _)) => now,
+    let now = match study_of(told, source) {
+        Some(study) => study.judged.failures,
         None => 0,
     };
     tell(told, source, module, refusal, now, seen);

@@ -54,11 +54,8 @@ fn put_origin(told: &mut Page, source: &Source, code: &Module, trail: &Trail, do
 fn put_deed(told: &mut Page, code: &Module, pc: usize, doubt: Doubt) {
     let is_unset = matches!(doubt.sort, Sort::Unset | Sort::Unread);
     let form = match instr_at(code, pc) {
-        Some(Instr::BDelete(c)) if is_unset => if c == doubt.of {
-            "destroys its bucket\n"
-        } else {
-            "destroys a bucket, and @ may be that one\n"
-        },
+        Some(Instr::BDelete(c)) if is_unset && c == doubt.of => "destroys its bucket\n",
+        Some(Instr::BDelete(_)) if is_unset => "destroys a bucket, and @ may be that one\n",
         _ => "$\n",
     };
     let cursor = cursor_name(doubt.of).as_bytes();

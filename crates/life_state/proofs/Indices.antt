@@ -8,7 +8,7 @@ use Rattle.life_state.specs.Order.{implies, all_below, pool_le, brigade_le, curs
 use Rattle.life_state.proofs.Below.{all_below_holds}
 use Rattle.life_state.proofs.Tests.{split2, and2, split3, and3, or_left, or_right, all_at}
 
--- an item that stands is the same by whatever would stand in for it
+-- what is there is read as the same, whatever the default
 pub read_at : {X : Type 0} (xs : List X) (i k : ℕ) (d e : X) → i ≡ k → k < length xs → slice_index_or xs i d ≡ slice_index_or xs k e
 read_at xs i k d e same low = ap (λ j. slice_index_or xs j d) same ∙ get_or_default xs k d e low
 

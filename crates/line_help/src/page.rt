@@ -3,7 +3,7 @@
 use byte_text::is_printable;
 use std::alloc::{AllocError, Global};
 
-/// A text that grows. Where memory was refused it is full, and its text is not whole.
+/// A text that grows. Where memory was refused, for it or for what it tells of, it is full.
 #[derive(Drop)]
 pub struct Page {
     pub alloc: Global,
@@ -48,7 +48,7 @@ impl Page {
         }
     }
 
-    /// The text. `AllocError`: memory was refused while it grew.
+    /// The text. `AllocError`: it is full.
     pub fn finished(self) -> Result<String, AllocError> {
         if self.full {
             return Err(AllocError);

@@ -17,12 +17,12 @@ pub(crate) fn is_eos(kind: Kind) -> bool
 
 /// What looks for an EOS.
 #[derive(Drop)]
-struct Ends;
+struct FirstEos;
 
-impl Visitor for Ends {
+impl Visitor for FirstEos {
     ghost visits = { λ s id x stop t. (t ≡ s) × (stop ≡ is_eos_kind x.kind) };
 
-    fn visit(&mut self, _id: BucketId, bucket: &View<'_>) -> bool {
+    fn stops_at(&mut self, _id: BucketId, bucket: &View<'_>) -> bool {
         is_eos(bucket.kind)
     }
 }
@@ -32,7 +32,7 @@ pub(crate) fn has_eos<R: Rings<Stored> + Drop>(store: &Brigades<R>, b: BrigadeId
     requires { is_some (lists store.now b) ≡ true }
     ensures { (runs : ℕ → Bool) → result ≡ has_eos (shown runs (list_at (lists store.now) b)) }
 {
-    store.visit(b, &mut Ends).is_some()
+    store.visit(b, &mut FirstEos).is_some()
 }
 
 /// Whether an EOS stands in the brigade of a variable.

@@ -14,17 +14,17 @@ use run_model::Kind;
 
 /// What looks for data behind an EOS.
 #[derive(Drop)]
-struct LateData {
-    /// Whether an EOS came before the next bucket.
+struct FirstLateData {
+    /// Whether an EOS came before the next bucket, in the brigade or before it.
     late: bool,
 }
 
-impl Visitor for LateData {
+impl Visitor for FirstLateData {
     ghost visits = { λ s id x stop t. (stop ≡ (s.late && is_data_kind x.kind)) × (t.late ≡ (s.late || is_eos_kind x.kind)) };
 
-    fn visit(&mut self, _id: BucketId, bucket: &View<'_>) -> bool {
+    fn stops_at(&mut self, _id: BucketId, bucket: &View<'_>) -> bool {
         let stop = self.late && !matches!(bucket.kind, Kind::Flush | Kind::Eos);
-        self.late = self.late || matches!(bucket.kind, Kind::Eos);
+        self.late |= matches!(bucket.kind, Kind::Eos);
         stop
     }
 }
@@ -38,24 +38,24 @@ pub(crate) fn has_late_data<R: Rings<Stored> + Drop>(
     requires { is_some (lists store.now b) ≡ true }
     ensures { (runs : ℕ → Bool) → result ≡ late_data sent (shown runs (list_at (lists store.now) b)) }
 {
-    store.visit(b, &mut LateData { late: sent }).is_some()
+    store.visit(b, &mut FirstLateData { late: sent }).is_some()
 }
 
-/// What looks for a bucket whose home is dead, or, of `strays`, does not outlast the call.
+/// What looks for a bucket whose home is dead, or, where `strays`, does not outlast the call.
 #[derive(Drop)]
-struct Unfit<'a> {
+struct FirstUnfit<'a> {
     instance: &'a Instance,
     call: &'a Call,
     context: &'a Context<'a>,
     strays: bool,
 }
 
-impl Visitor for Unfit<'_> {
+impl Visitor for FirstUnfit<'_> {
     ghost visits = { λ s id x stop t. (t ≡ s) × ((rings : ℕ → Option Items) (next : ℕ) (pools : Pools Payload) (around : Around)
         → let over = in_context s.context.now pools around in let home = home_in (calls_in over s.call.now) id.birth x.home in
         stop ≡ (if s.strays then is_stray (seen_over rings next over s.instance.now s.call.now) home else is_ended home)) };
 
-    fn visit(&mut self, id: BucketId, bucket: &View<'_>) -> bool {
+    fn stops_at(&mut self, id: BucketId, bucket: &View<'_>) -> bool {
         let home = home_in(self.call, self.context, id.birth, bucket.home);
         if self.strays {
             is_stray(self.instance, self.context, home)
@@ -65,7 +65,7 @@ impl Visitor for Unfit<'_> {
     }
 }
 
-/// Whether a brigade has a bucket whose home is dead, or, of `strays`, does not outlast the call.
+/// Whether a brigade has a bucket whose home is dead, or, where `strays`, does not outlast the call.
 #[inline(always)]
 pub(crate) fn has_unfit<R: Rings<Stored> + Drop>(
     instance: &Instance,
@@ -80,11 +80,11 @@ pub(crate) fn has_unfit<R: Rings<Stored> + Drop>(
         result ≡ list_any (λ x. if strays then is_stray (seen_over rings next over instance.now call.now) x.bucket.home else is_ended x.bucket.home)
         (shown (calls_in over call.now) (list_at (lists store.now) b)) }
 {
-    let mut unfit = Unfit {
+    let mut first = FirstUnfit {
         instance,
         call,
         context,
         strays,
     };
-    store.visit(b, &mut unfit).is_some()
+    store.visit(b, &mut first).is_some()
 }

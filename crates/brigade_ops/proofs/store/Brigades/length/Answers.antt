@@ -1,5 +1,5 @@
 -- The lengths are added up, and the total is never too large: the brigade has fewer than 2^64 buckets.
-use Rattle.std.proofs.Common.{◌+◌, ◌*◌, ◌^◌, ◌<◌, length, arith}
+use Rattle.std.proofs.Common.{arith}
 use Rattle.bucket_ring.specs.Lists.{list_at}
 use Rattle.brigade_ops.specs.Store.{lists, brigade_of, next_name}
 use Rattle.brigade_ops.proofs.Visited.{all_added}

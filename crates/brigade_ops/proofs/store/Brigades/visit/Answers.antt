@@ -10,16 +10,16 @@ use Rattle.brigade_ops.specs.Visits.{AreVisited}
 use Rattle.brigade_ops.proofs.Stores.{bucket_found}
 use Rattle.brigade_ops.proofs.store.Brigades.visit.Goals as goal
 
-pub returns-then-visit-clause-all : goal.returns-then-visit-clause-all
-returns-then-visit-clause-all g c =
+pub returns-then-stops_at-clause-all : goal.returns-then-stops_at-clause-all
+returns-then-stops_at-clause-all g c =
     let xs : Items = list_at (lists c.args.self.now) c.args.b in
     let id = c.in-Some.id in
     let x = bucket_of c.payload.result in
     let head = ap (λ p. from_place p xs) c.in-Some.is
     ∙ rest_head id xs x (bucket_found c.args.self.now id c.args.b x (c.loop-place.invariant.inside id c.in-Some.is) c.payload.ensures) in
-    c.loop-place.invariant.left (Some id) c.visit.new.self
-    (subst (λ (ys : Items). AreVisited g.V.Visitor.visits c.loop-place.visitor ys (Some id) c.visit.new.self) (sym head)
-    (inl (record { here = refl; seen = rw c.if-visit.true at c.visit.ensures })))
+    c.loop-place.invariant.left (Some id) c.stops_at.new.self
+    (subst (λ (ys : Items). AreVisited g.V.Visitor.visits c.loop-place.visitor ys (Some id) c.stops_at.new.self) (sym head)
+    (inl (record { here = refl; seen = rw c.if-stops_at.true at c.stops_at.ensures })))
 
 pub loop-place-preserved : goal.loop-place-preserved
 loop-place-preserved g c =
@@ -30,6 +30,6 @@ loop-place-preserved g c =
     record {
       left = λ stop t walked.
           c.loop-place.invariant.left stop t
-          (subst (λ (ys : Items). AreVisited g.V.Visitor.visits c.loop-place.visitor ys stop t) (sym head) (inr (c.visit.new.self, rw c.if-visit.false at c.visit.ensures, walked)));
+          (subst (λ (ys : Items). AreVisited g.V.Visitor.visits c.loop-place.visitor ys stop t) (sym head) (inr (c.stops_at.new.self, rw c.if-stops_at.false at c.stops_at.ensures, walked)));
       inside = told_some (λ j. brigade_of c.args.self.now j ≡ Some c.args.b) c.behind-place.result (c.behind-place.ensures.inside c.args.b inside);
     }
