@@ -6,6 +6,7 @@ ghost use Rattle.script_play.specs.Written.{Stage as ModelStage};
 
 use crate::session::Session;
 use byte_text::first_line;
+use filter_chain::{Rings, Stored};
 use module_tools::Ended;
 use script_text::{LineTaken, Texts, put_refused_module};
 use std::alloc::{AllocError, Global};
@@ -13,25 +14,25 @@ use std::mem;
 
 /// How far a script is.
 #[derive(Drop)]
-enum Stage {
+enum Stage<R: Rings<Stored>> {
     /// Its texts are read.
     Texts(Texts),
     /// Its commands are done.
-    Session(Session),
+    Session(Session<R>),
     /// It is over: a fault was told.
     Over,
 }
 
 /// A script that is played line by line.
 #[derive(Drop)]
-pub struct Player {
+pub struct Player<R: Rings<Stored>> {
     alloc: Global,
     // How many lines were taken.
     lines: usize,
-    stage: Stage,
+    stage: Stage<R>,
 }
 
-impl Player {
+impl<R: Rings<Stored> + Drop> Player<R> {
     /// No line was taken yet.
     pub fn new(alloc: Global) -> Self
         ensures at { IsAt result (Reading no_head) }
