@@ -32,7 +32,7 @@ returns-in-More-clause-ok g c = λ s at.
 pub returns-in-Over-clause-ok : goal.returns-in-Over-clause-ok
 returns-in-Over-clause-ok g c = λ s at.
     let k = heard c.args.self.now _ c.in-Texts.texts c.take.new.self _ taken.Over c.args.out.now.items c.take.new.out.items s c.requires.few (cc) at c.in-Over.is c.in_ok-take.ensures.ok in
-    heard_over _ _ _ _ _ _ _ s k refl
+    rw c.stop.ensures (heard_over _ _ _ _ _ _ _ s k refl)
 
 pub returns-in-Checked-clause-ok : goal.returns-in-Checked-clause-ok
 returns-in-Checked-clause-ok g c = λ s at.
