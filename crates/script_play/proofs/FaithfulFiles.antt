@@ -16,7 +16,7 @@ use Rattle.bucket_kinds.specs.MemDevice.{files_of, held_of}
 use Rattle.module_run.specs.Proceeding.{MayHold}
 use Rattle.module_run.specs.declared.conn.Conn.{Conn}
 use Rattle.filter_chain.specs.Hosted.{conn_at}
-use Rattle.filter_chain.specs.Hosting.{IsHostedIf, IsHosting, chain_of, file_answer, step_answer}
+use Rattle.filter_chain.specs.Hosting.{Ghosts, Stored, IsHostedIf, IsHosting, chain_of, file_answer, step_answer}
 use Rattle.filter_chain.specs.HostViews.{HostView}
 use Rattle.filter_chain.proofs.MayFail.{acts_kind, acts_unfailing, goes_kind}
 use Rattle.script_text.specs.declared.command.Command.{Command}
@@ -41,7 +41,7 @@ holds_then : (o : Option (List ℕ)) (bytes : List ℕ) → MayHold (held_of o) 
 holds_then None bytes may = absurd may
 holds_then (Some held) bytes may = ap Holds may
 
-module _ (s : CodeSession) (v : Session) (hosted : IsHosted s v) where
+module _ {R : Type 0} {g : Ghosts R Stored} (s : CodeSession R g) (v : Session) (hosted : IsHosted s v) where
   abbrev d : Device
   d = device s.host
 

@@ -13,6 +13,7 @@ use Rattle.module_tools.specs.declared.ended.Ended.{Ended}
 use Rattle.module_tools.specs.declared.ended.Ended.TheVariants as ended
 use Rattle.module_tools.specs.declared.fault.PlayFault.{PlayFault}
 use Rattle.module_tools.specs.declared.fault.PlayFault.TheVariants as fault
+use Rattle.filter_chain.specs.Hosting.{Ghosts, Stored}
 use Rattle.script_play.specs.declared.player.Player.{Player}
 use Rattle.script_text.specs.Heads.{no_head}
 use Rattle.module_tools.specs.Streams.{Writes}
@@ -23,7 +24,7 @@ use Rattle.script_play.proofs.ScriptLines.{lines_append, lines_few, whole_append
 use Rattle.script_play.proofs.TakenLaws.{taken_append, taken_over}
 
 -- How far a play is: whole lines were taken, and their answers written; a part of a line is held back.
-pub record Going (from to before after : Option (List ℕ)) (p : Player) (held : List ℕ) (bound : ℕ) : Type 0 where
+pub record Going {R : Type 0} {i : Ghosts R Stored} (from to before after : Option (List ℕ)) (p : Player R i) (held : List ℕ) (bound : ℕ) : Type 0 where
   pub whole : List ℕ
   pub is_whole : IsWhole whole
   pub told : List ℕ
@@ -37,7 +38,7 @@ pub record Going (from to before after : Option (List ℕ)) (p : Player) (held :
   pub wrote : Appends before after told
   pub few : p.lines + length held ≤ bound
 
-pub going_first : (r w : Option (List ℕ)) (p : Player) (held : List ℕ) → IsAt p (Reading no_head) → p.lines ≡ 0 → held ≡ [] → Going r r w w p held 0
+pub going_first : {R : Type 0} {i : Ghosts R Stored} (r w : Option (List ℕ)) (p : Player R i) (held : List ℕ) → IsAt p (Reading no_head) → p.lines ≡ 0 → held ≡ [] → Going r r w w p held 0
 unfolding lines_of TakesAll
 going_first r w p held at none empty =
     record {
@@ -71,7 +72,7 @@ read_more : (from to next : Option (List ℕ)) (whole held bytes : List ℕ) →
 read_more from to next whole held bytes first second = subst (Consumes from next) (append_assoc whole held bytes) (Consumes-trans from to next (whole ++ held) bytes first second)
 
 -- What is written of a script of which these bytes were read next, and these are left.
-module _ (from to before mid : Option (List ℕ)) (p : Player) (held bytes unread : List ℕ) (bound : ℕ) (g : Going from to before mid p held bound) where
+module _ {R : Type 0} {i : Ghosts R Stored} (from to before mid : Option (List ℕ)) (p : Player R i) (held bytes unread : List ℕ) (bound : ℕ) (g : Going from to before mid p held bound) where
   abbrev Script : List ℕ
   Script = g.whole ++ (held ++ bytes) ++ unread
 
@@ -146,14 +147,16 @@ module _ (from to before mid : Option (List ℕ)) (p : Player) (held bytes unrea
         }
 
 -- Where no memory was left or the writer failed.
-pub going_failed : (from to next before mid after : Option (List ℕ)) (p new : Player) (held bytes left : List ℕ) (bound : ℕ) (g : Going from to before mid p held bound) → Consumes to next bytes
+pub going_failed : {R : Type 0} {i : Ghosts R Stored} (from to next before mid after : Option (List ℕ)) (p new : Player R i) (held bytes left : List ℕ) (bound : ℕ)
+    (g : Going from to before mid p held bound) → Consumes to next bytes
     → length bytes ≤ 8192 → PlaysBytes p new mid after (held ++ bytes) left g.stage (Err fault.NoMemory) → Writes from before after (λ script text. IsFrontOf script text next)
 going_failed from to next before mid after p new held bytes left bound g second few (whole, rest, is, split, (text, k, added)) =
     let wrote = Appends-trans before mid after g.told text g.wrote added in
     of_left from next (g.whole ++ (held ++ bytes)) (λ script. (t : List ℕ) × IsFrontOf script t next × Appends before after t) (read_more from to next g.whole held bytes g.read second)
     (λ unread leaves. (g.told ++ text, front_behind from to before mid p held bytes unread bound g next few leaves whole rest (split, inl is) text k, wrote))
 
-pub going_cut : (from to next before mid after : Option (List ℕ)) (p new : Player) (held bytes left : List ℕ) (bound : ℕ) (g : Going from to before mid p held bound) → Consumes to next bytes
+pub going_cut : {R : Type 0} {i : Ghosts R Stored} (from to next before mid after : Option (List ℕ)) (p new : Player R i) (held bytes left : List ℕ) (bound : ℕ)
+    (g : Going from to before mid p held bound) → Consumes to next bytes
     → length bytes ≤ 8192 → PlaysBytes p new mid after (held ++ bytes) left g.stage (Err fault.Write) → Writes from before after (λ script text. IsCutOf script text next)
 going_cut from to next before mid after p new held bytes left bound g second few (whole, rest, is, split, (text, k, added)) =
     let wrote = Appends-trans before mid after g.told text g.wrote added in
@@ -161,8 +164,8 @@ going_cut from to next before mid after p new held bytes left bound g second few
     (λ unread leaves. (g.told ++ text, cut_behind from to before mid p held bytes unread bound g next few leaves whole rest (split, inl is) text k, wrote))
 
 -- The reader failed, or was read too often. Its last reads gave nothing more.
-pub going_read : (from to next before after : Option (List ℕ)) (p : Player) (held : List ℕ) (bound : ℕ) (g : Going from to before after p held bound) → Consumes from next (g.whole ++ held)
-    → Writes from before after (λ script text. AnswersLinesRead script text next)
+pub going_read : {R : Type 0} {i : Ghosts R Stored} (from to next before after : Option (List ℕ)) (p : Player R i) (held : List ℕ) (bound : ℕ) (g : Going from to before after p held bound)
+    → Consumes from next (g.whole ++ held) → Writes from before after (λ script text. AnswersLinesRead script text next)
 going_read from to next before after p held bound g read =
     of_left from next (g.whole ++ held) (λ script. (t : List ℕ) × AnswersLinesRead script t next × Appends before after t) read
     (λ rest leaves. (
@@ -188,24 +191,24 @@ refused_kept left rest before after was is buffer counted.Failed (one, kept, fai
 refused_kept left rest before after was is buffer counted.TooManyReads (none, still, kept, same) = kept
 
 -- A read that failed gave nothing.
-pub going_kept : (from to next before after : Option (List ℕ)) (p : Player) (held : List ℕ) (bound : ℕ) → Going from to before after p held bound → Keeps to next
+pub going_kept : {R : Type 0} {i : Ghosts R Stored} (from to next before after : Option (List ℕ)) (p : Player R i) (held : List ℕ) (bound : ℕ) → Going from to before after p held bound → Keeps to next
     → Writes from before after (λ script text. AnswersLinesRead script text next)
 going_kept from to next before after p held bound g kept = going_read from to next before after p held bound g (Consumes-kept from to next (g.whole ++ held) g.read kept)
 
 -- The reader is at its end, behind these last bytes.
-pub record Last (from next before mid : Option (List ℕ)) (p : Player) (last : List ℕ) : Type 0 where
+pub record Last {R : Type 0} {i : Ghosts R Stored} (from next before mid : Option (List ℕ)) (p : Player R i) (last : List ℕ) : Type 0 where
   pub to : Option (List ℕ)
   pub bound : ℕ
   pub going : Going from to before mid p last bound
   pub read : Consumes from next (going.whole ++ last)
   pub end : IsAtEnd next
 
-pub going_last : (from to next before mid : Option (List ℕ)) (p : Player) (held last : List ℕ) (bound : ℕ) → Going from to before mid p held bound → Keeps to next × IsAtEnd next → last ≡ held
-    → Last from next before mid p last
+pub going_last : {R : Type 0} {i : Ghosts R Stored} (from to next before mid : Option (List ℕ)) (p : Player R i) (held last : List ℕ) (bound : ℕ) → Going from to before mid p held bound
+    → Keeps to next × IsAtEnd next → last ≡ held → Last from next before mid p last
 going_last from to next before mid p held last bound g (kept, end) is =
     subst (Last from next before mid p) (sym is) (record { to = to; bound = bound; going = g; read = Consumes-kept from to next (g.whole ++ held) g.read kept; end = end })
 
-module _ (from next before mid after : Option (List ℕ)) (p : Player) (last : List ℕ) where
+module _ {R : Type 0} {i : Ghosts R Stored} (from next before mid after : Option (List ℕ)) (p : Player R i) (last : List ℕ) where
   -- the play ends so, at whatever stage the player is
   abbrev Ends : Result Ended PlayFault → Type 0
   Ends r = (s : Stage) → IsAt p s → PlaysEnd (p.lines + 1) mid after (lines_of last) s r
@@ -268,7 +271,8 @@ module _ (from next before mid after : Option (List ℕ)) (p : Player) (last : L
 same_fault : (r : Result Ended PlayFault) (e f : PlayFault) → IsErrAnd r (λ y. y ≡ e) → r ≡ Err f → e ≡ f
 same_fault r e f left told = let p = err_from_is_err_and r left in let is = p.1 in let same = p.2 in cc
 
-module _ (from to next before mid after : Option (List ℕ)) (p new : Player) (held bytes left : List ℕ) (bound : ℕ) (g : Going from to before mid p held bound) (second : Consumes to next bytes)
+module _ {R : Type 0} {i : Ghosts R Stored} (from to next before mid after : Option (List ℕ)) (p new : Player R i) (held bytes left : List ℕ) (bound : ℕ) (g : Going from to before mid p held bound)
+    (second : Consumes to next bytes)
     (r : Result Ended PlayFault) (e : PlayFault) (handed : IsErrAnd r (λ y. y ≡ e)) (plays : (s : Stage) → IsAt p s → PlaysBytes p new mid after (held ++ bytes) left s (Err e)) where
   -- the bytes are taken until this fault
   taken_until : (f : PlayFault) → r ≡ Err f → PlaysBytes p new mid after (held ++ bytes) left g.stage (Err f)
@@ -288,7 +292,8 @@ whole_more a b is (inl none) = subst IsWhole (sym (append-nil a) ∙ ap (λ l. a
 whole_more a b is (inr ends) = inr (whole_append a b ends)
 
 -- The bytes were taken, and the play goes on.
-pub going_on : (from to next before mid after : Option (List ℕ)) (p new : Player) (held bytes left : List ℕ) (bound more : ℕ) (g : Going from to before mid p held bound) → Consumes to next bytes
+pub going_on : {R : Type 0} {i : Ghosts R Stored} (from to next before mid after : Option (List ℕ)) (p new : Player R i) (held bytes left : List ℕ) (bound more : ℕ)
+    (g : Going from to before mid p held bound) → Consumes to next bytes
     → bound + length bytes ≤ more → (whole : List ℕ) → IsWhole whole → held ++ bytes ≡ whole ++ left → (k : PlaysOn p new mid after (lines_of whole) g.stage) → HasNoLf left
     → is_over k.stage ≡ false → Going from next before after new left more
 going_on from to next before mid after p new held bytes left bound more g second wide whole is split k unended running =
@@ -316,7 +321,8 @@ going_on from to next before mid after p new held bytes left bound more g second
     }
 
 -- A fault was told, and what is left of the script is not looked at.
-pub going_over : (from to next before mid after : Option (List ℕ)) (p new : Player) (held bytes left : List ℕ) (bound : ℕ) (g : Going from to before mid p held bound) → Consumes to next bytes
+pub going_over : {R : Type 0} {i : Ghosts R Stored} (from to next before mid after : Option (List ℕ)) (p new : Player R i) (held bytes left : List ℕ) (bound : ℕ)
+    (g : Going from to before mid p held bound) → Consumes to next bytes
     → (whole : List ℕ) → IsWhole whole → held ++ bytes ≡ whole ++ left → (k : PlaysOn p new mid after (lines_of whole) g.stage) → is_over k.stage ≡ true
     → Writes from before after (λ script text. IsWrittenFor script text ended.Refused)
 going_over from to next before mid after p new held bytes left bound g second whole is split k over = by k.stage k.takes over

@@ -2,6 +2,7 @@
 use Rattle.std.proofs.Common.{◌≡◌, ℕ, ◌+◌, ◌^◌, ◌<◌, Bool, true, false, if◌then◌else◌, List, [], ◌++◌, map, None, Result, Ok, Err, IfOk, OnErr, refl, ap, sym, subst, ◌∙◌}
 use Rattle.std.proofs.lemmas.List.{append-nil}
 use Rattle.byte_text.specs.TextLines.{RawLine}
+use Rattle.filter_chain.specs.Hosting.{Ghosts, Stored}
 use Rattle.script_play.specs.declared.player.Player.{Player}
 use Rattle.script_play.specs.declared.player.Stage.{Stage as CodeStage}
 use Rattle.script_play.specs.declared.player.Stage.TheVariants as code
@@ -18,19 +19,19 @@ use Rattle.script_play.specs.Written.{Session, Stage, Reading, Serving, Over, Be
 use Rattle.script_text.proofs.Bounds.{Kept, line_kept}
 
 -- the head that texts of the code stand for
-head_is : (old : CodeStage) (t : Texts) (h : ScriptHead) → old ≡ code.Texts t → IsStage old (Reading h) → h ≡ head_of t
+head_is : {R : Type 0} {g : Ghosts R Stored} (old : CodeStage R g) (t : Texts) (h : ScriptHead) → old ≡ code.Texts t → IsStage old (Reading h) → h ≡ head_of t
 head_is old t h is at = subst (λ x. IsStage x (Reading h)) is at
 
 -- the session that the commands of texts begin with
 abbrev first_session : Bool → Texts → Session
 first_session checked t = record { chain = codes_of (map seen_part t.parts.items); budget = t.budget; is_checked = checked; host_view = first_view }
 
-begun_at : (p : Player) (text : List ℕ) (t : Texts) (h : ScriptHead) (s : CodeSession) (checked is : Bool) → checked ≡ is → h ≡ head_of t → (if is then refused_in h.parts else None) ≡ None
-    → IsHosted s (first_session is t) → p.stage ≡ code.Session s → Leaves p text text (λ told v. Begins checked h told v)
+begun_at : {R : Type 0} {g : Ghosts R Stored} (p : Player R g) (text : List ℕ) (t : Texts) (h : ScriptHead) (s : CodeSession R g) (checked is : Bool) → checked ≡ is → h ≡ head_of t
+    → (if is then refused_in h.parts else None) ≡ None → IsHosted s (first_session is t) → p.stage ≡ code.Session s → Leaves p text text (λ told v. Begins checked h told v)
 begun_at p text t h s checked is known same none hosted now =
     let v : Session = session_of is h in
     let to : first_session is t ≡ v = ap (λ (x : ScriptHead). session_of is x) (sym same) in
-    let P : CodeStage → Type 0 = λ x. IsStage x (Serving v) in
+    let P : CodeStage _ _ → Type 0 = λ x. IsStage x (Serving v) in
     let Q : Bool → Type 0 = λ b. Begins b h [] (Serving v) in
     let R : _ = λ o. BeginsUnless o is h [] (Serving v) in
     record {
@@ -42,26 +43,28 @@ begun_at p text t h s checked is known same none hosted now =
     }
 
 -- The commands begin, without a check.
-pub begun_watched : (p : Player) (text : List ℕ) (old : CodeStage) (t : Texts) (h : ScriptHead) (s : CodeSession) (checked : Bool) → old ≡ code.Texts t → MayBeginCommands old h → checked ≡ false
-    → IsHosted s (first_session false t) → p.stage ≡ code.Session s → Leaves p text text (λ told v. Begins checked h told v)
+pub begun_watched : {R : Type 0} {g : Ghosts R Stored} (p : Player R g) (text : List ℕ) (old : CodeStage R g) (t : Texts) (h : ScriptHead) (s : CodeSession R g) (checked : Bool) → old ≡ code.Texts t
+    → MayBeginCommands old h → checked ≡ false → IsHosted s (first_session false t) → p.stage ≡ code.Session s → Leaves p text text (λ told v. Begins checked h told v)
 begun_watched p text old t h s checked was ready unchecked hosted now =
     begun_at p text t h s checked false unchecked (head_is old t h was ready.stage) refl hosted now
 
 -- The chain is accepted, and the commands begin.
-pub begun_checked : {E : Type 0} (r : Result CodeSession E) (p : Player) (text : List ℕ) (old : CodeStage) (t : Texts) (h : ScriptHead) (s : CodeSession) (checked : Bool) → old ≡ code.Texts t
+pub begun_checked : {R : Type 0} {g : Ghosts R Stored} {E : Type 0} (r : Result (CodeSession R g) E) (p : Player R g) (text : List ℕ) (old : CodeStage R g) (t : Texts) (h : ScriptHead)
+    (s : CodeSession R g) (checked : Bool) → old ≡ code.Texts t
     → MayBeginCommands old h → checked ≡ true → r ≡ Ok s → IfOk r (λ x. (refused_in (map seen_part t.parts.items) ≡ None) × IsHosted x (first_session true t)) → p.stage ≡ code.Session s
     → Leaves p text text (λ told v. Begins checked h told v)
 begun_checked r p text old t h s checked was ready given is accepted now =
     let same = head_is old t h was ready.stage in
-    let P : Result CodeSession _ → Type 0 = λ q. IfOk q (λ x. (refused_in (map seen_part t.parts.items) ≡ None) × IsHosted x (first_session true t)) in
+    let P : Result (CodeSession _ _) _ → Type 0 = λ q. IfOk q (λ x. (refused_in (map seen_part t.parts.items) ≡ None) × IsHosted x (first_session true t)) in
     let known = subst P is accepted in
     begun_at p text t h s checked true given same (ap (λ (x : ScriptHead). refused_in x.parts) same ∙ known.0) known.1 now
 
 -- A command is taken.
 
 -- The line was a command, and was answered.
-pub served : (p : Player) (old : CodeStage) (x new : CodeSession) (before after : List ℕ) (number : ℕ) (l : RawLine) (was : Bool) (s : Stage) → old ≡ code.Session x → was ≡ true → p.stage
-    ≡ code.Session new → ((v : Session) → IsHosted x v → TakesOne new before after number l v was) → IsStage old s → HasBegun s → Leaves p before after (λ told t. TakesAt number l s told t)
+pub served : {R : Type 0} {g : Ghosts R Stored} (p : Player R g) (old : CodeStage R g) (x new : CodeSession R g) (before after : List ℕ) (number : ℕ) (l : RawLine) (was : Bool) (s : Stage)
+    → old ≡ code.Session x → was ≡ true → p.stage ≡ code.Session new → ((v : Session) → IsHosted x v → TakesOne new before after number l v was)
+    → IsStage old s → HasBegun s → Leaves p before after (λ told t. TakesAt number l s told t)
 served p old x new before after number l was (Reading h) at done now takes stage begun = absurd begun
 served p old x new before after number l was Over at done now takes stage begun = absurd (subst (λ c. IsStage c Over) at stage)
 served p old x new before after number l was (Serving v) at done now takes stage begun =
@@ -75,7 +78,8 @@ served p old x new before after number l was (Serving v) at done now takes stage
     }
 
 -- The line was none, which is told.
-pub unserved : (p : Player) (old : CodeStage) (x new : CodeSession) (before after : List ℕ) (number : ℕ) (l : RawLine) (was : Bool) (s : Stage) → old ≡ code.Session x → was ≡ false
+pub unserved : {R : Type 0} {g : Ghosts R Stored} (p : Player R g) (old : CodeStage R g) (x new : CodeSession R g) (before after : List ℕ) (number : ℕ) (l : RawLine) (was : Bool) (s : Stage)
+    → old ≡ code.Session x → was ≡ false
     → p.stage ≡ code.Over → ((v : Session) → IsHosted x v → TakesOne new before after number l v was) → IsStage old s → HasBegun s → Leaves p before after (λ told t. TakesAt number l s told t)
 unserved p old x new before after number l was (Reading h) at none now takes stage begun = absurd begun
 unserved p old x new before after number l was Over at none now takes stage begun = absurd (subst (λ c. IsStage c Over) at stage)
@@ -90,12 +94,12 @@ unserved p old x new before after number l was (Serving v) at none now takes sta
     }
 
 -- A fault was told, and the line is not looked at.
-pub passed : (p : Player) (text : List ℕ) (number : ℕ) (l : RawLine) (s : Stage) → ((x : CodeSession) → p.stage ≡ code.Session x → ⊥) → IsAt p s → HasBegun s
+pub passed : {R : Type 0} {g : Ghosts R Stored} (p : Player R g) (text : List ℕ) (number : ℕ) (l : RawLine) (s : Stage) → ((x : CodeSession R g) → p.stage ≡ code.Session x → ⊥) → IsAt p s → HasBegun s
     → Leaves p text text (λ told t. TakesAt number l s told t)
 passed p text number l (Reading h) none at begun = absurd begun
 passed p text number l (Serving v) none at begun = absurd (by p.stage refl at.stage)
   where
-    by : (c : CodeStage) → p.stage ≡ c → IsStage c (Serving v) → ⊥
+    by : (c : CodeStage _ _) → p.stage ≡ c → IsStage c (Serving v) → ⊥
     by (code.Texts t) e i = i
     by (code.Session x) e i = none x e
     by code.Over e i = i
@@ -111,24 +115,24 @@ pub record Heard (lines : ℕ) (l : RawLine) (x new : Texts) (t : LineTaken) (be
   pub kept : Kept (lines + 1) t told (head_of new)
   pub added : after ≡ before ++ told
 
-stage_is : (p : Player) (x : Texts) (s : Stage) → p.stage ≡ code.Texts x → IsAt p s → (s ≡ Reading (head_of x)) × IsBounded p.lines (head_of x)
+stage_is : {R : Type 0} {g : Ghosts R Stored} (p : Player R g) (x : Texts) (s : Stage) → p.stage ≡ code.Texts x → IsAt p s → (s ≡ Reading (head_of x)) × IsBounded p.lines (head_of x)
 stage_is p x (Reading h) is at =
     let same = head_is p.stage x h is at.stage in
     (ap Reading same, subst (IsBounded p.lines) same at.bounded)
 stage_is p x (Serving v) is at = absurd (subst (λ c. IsStage c (Serving v)) is at.stage)
 stage_is p x Over is at = absurd (subst (λ c. IsStage c Over) is at.stage)
 
-pub heard : (p : Player) (l : RawLine) (x new : Texts) (t is : LineTaken) (before after : List ℕ) (s : Stage) → p.lines < 2 ^ 62 → p.stage ≡ code.Texts x → IsAt p s → t ≡ is
-    → TellsMore before after (λ told. TakesLine (p.lines + 1) l (head_of x) t told (head_of new)) → Heard p.lines l x new is before after s
+pub heard : {R : Type 0} {g : Ghosts R Stored} (p : Player R g) (l : RawLine) (x new : Texts) (t is : LineTaken) (before after : List ℕ) (s : Stage) → p.lines < 2 ^ 62 → p.stage ≡ code.Texts x
+    → IsAt p s → t ≡ is → TellsMore before after (λ told. TakesLine (p.lines + 1) l (head_of x) t told (head_of new)) → Heard p.lines l x new is before after s
 heard p l x new t is before after s low stage at same tells =
     let known = stage_is p x s stage at in
     let takes = subst (λ y. TakesLine (p.lines + 1) l (head_of x) y tells.0 (head_of new)) same tells.2 in
     record { told = tells.0; head = known.0; takes = takes; kept = line_kept p.lines l (head_of x) is tells.0 (head_of new) low known.1 takes; added = tells.1 }
 
-pub heard_more : (p : Player) (lines : ℕ) (l : RawLine) (x new : Texts) (before after : List ℕ) (s : Stage) → Heard lines l x new taken.More before after s → p.stage ≡ code.Texts new
-    → p.lines ≡ lines + 1 → Leaves p before after (λ told v. PlaysLine (lines + 1) l s told v)
+pub heard_more : {R : Type 0} {g : Ghosts R Stored} (p : Player R g) (lines : ℕ) (l : RawLine) (x new : Texts) (before after : List ℕ) (s : Stage) → Heard lines l x new taken.More before after s
+    → p.stage ≡ code.Texts new → p.lines ≡ lines + 1 → Leaves p before after (λ told v. PlaysLine (lines + 1) l s told v)
 heard_more p lines l x new before after s k now count =
-    let P : CodeStage → Type 0 = λ c. IsStage c (Reading (head_of new)) in
+    let P : CodeStage _ _ → Type 0 = λ c. IsStage c (Reading (head_of new)) in
     let Q : ℕ → Type 0 = λ n. IsBounded n (head_of new) in
     let R : Stage → Type 0 = λ v. PlaysLine (lines + 1) l v k.told (Reading (head_of new)) in
     record {
@@ -139,8 +143,8 @@ heard_more p lines l x new before after s k now count =
       added = k.added;
     }
 
-pub heard_over : (p : Player) (lines : ℕ) (l : RawLine) (x new : Texts) (before after : List ℕ) (s : Stage) → Heard lines l x new taken.Over before after s → p.stage ≡ code.Over
-    → Leaves p before after (λ told v. PlaysLine (lines + 1) l s told v)
+pub heard_over : {R : Type 0} {g : Ghosts R Stored} (p : Player R g) (lines : ℕ) (l : RawLine) (x new : Texts) (before after : List ℕ) (s : Stage) → Heard lines l x new taken.Over before after s
+    → p.stage ≡ code.Over → Leaves p before after (λ told v. PlaysLine (lines + 1) l s told v)
 heard_over p lines l x new before after s k now =
     let R : Stage → Type 0 = λ v. PlaysLine (lines + 1) l v k.told Over in
     record {
@@ -151,13 +155,15 @@ heard_over p lines l x new before after s k now =
       added = k.added;
     }
 
-ready_by : (n : ℕ) (new : Texts) (told : List ℕ) → Kept n taken.Checked told (head_of new) → MayBeginCommands (code.Texts new) (head_of new)
+ready_by : {R : Type 0} {g : Ghosts R Stored} (n : ℕ) (new : Texts) (told : List ℕ) → Kept n taken.Checked told (head_of new) → MayBeginCommands {R = R} {g = g} (code.Texts new) (head_of new)
 ready_by n new told k = record { stage = refl; some = k.0.some k.1; few = k.0.few }
 
-pub heard_ready : (lines : ℕ) (l : RawLine) (x new : Texts) (before after : List ℕ) (s : Stage) → Heard lines l x new taken.Checked before after s → MayBeginCommands (code.Texts new) (head_of new)
+pub heard_ready : {R : Type 0} {g : Ghosts R Stored} (lines : ℕ) (l : RawLine) (x new : Texts) (before after : List ℕ) (s : Stage) → Heard lines l x new taken.Checked before after s
+    → MayBeginCommands {R = R} {g = g} (code.Texts new) (head_of new)
 heard_ready lines l x new before after s k = ready_by (lines + 1) new k.told k.kept
 
-pub heard_begun : (lines : ℕ) (l : RawLine) (x new : Texts) (before after : List ℕ) (s : Stage) → Heard lines l x new taken.Command before after s → MayBeginCommands (code.Texts new) (head_of new)
+pub heard_begun : {R : Type 0} {g : Ghosts R Stored} (lines : ℕ) (l : RawLine) (x new : Texts) (before after : List ℕ) (s : Stage) → Heard lines l x new taken.Command before after s
+    → MayBeginCommands {R = R} {g = g} (code.Texts new) (head_of new)
 heard_begun lines l x new before after s k = ready_by (lines + 1) new k.told k.kept
 
 same_by : (before after told : List ℕ) → told ≡ [] → after ≡ before ++ told → after ≡ before
@@ -170,8 +176,8 @@ pub heard_still : (lines : ℕ) (l : RawLine) (x new : Texts) (before after : Li
 heard_still lines l x new before after s k = same_by before after k.told k.kept.2 k.added
 
 -- The chain is checked, and the commands begin or a module is refused.
-pub heard_checked : (p : Player) (lines : ℕ) (l : RawLine) (x new : Texts) (before mid after : List ℕ) (s : Stage) → Heard lines l x new taken.Checked before mid s
-    → Leaves p mid after (λ told v. Begins true (head_of new) told v) → Leaves p before after (λ told v. PlaysLine (lines + 1) l s told v)
+pub heard_checked : {R : Type 0} {g : Ghosts R Stored} (p : Player R g) (lines : ℕ) (l : RawLine) (x new : Texts) (before mid after : List ℕ) (s : Stage)
+    → Heard lines l x new taken.Checked before mid s → Leaves p mid after (λ told v. Begins true (head_of new) told v) → Leaves p before after (λ told v. PlaysLine (lines + 1) l s told v)
 heard_checked p lines l x new before mid after s k b =
     let R : Stage → Type 0 = λ v. PlaysLine (lines + 1) l v b.told b.stage in
     record {
@@ -183,10 +189,12 @@ heard_checked p lines l x new before mid after s k b =
     }
 
 -- The commands have begun without a check.
-pub begun_by : (p : Player) (h : ScriptHead) (before after : List ℕ) (b : Leaves p before after (λ told v. Begins false h told v)) → HasBegun b.stage × (after ≡ before)
+pub begun_by : {R : Type 0} {g : Ghosts R Stored} (p : Player R g) (h : ScriptHead) (before after : List ℕ) (b : Leaves p before after (λ told v. Begins false h told v))
+    → HasBegun b.stage × (after ≡ before)
 begun_by p h before after b = (subst HasBegun (sym b.holds.1) tt, same_by before after b.told b.holds.0 b.added)
 
-pub heard_command : (old p : Player) (lines : ℕ) (l : RawLine) (x new : Texts) (before mid still after : List ℕ) (s : Stage) → Heard lines l x new taken.Command before mid s
+pub heard_command : {R : Type 0} {g : Ghosts R Stored} (old p : Player R g) (lines : ℕ) (l : RawLine) (x new : Texts) (before mid still after : List ℕ) (s : Stage)
+    → Heard lines l x new taken.Command before mid s
     → (b : Leaves old mid still (λ told v. Begins false (head_of new) told v)) → old.lines ≡ lines + 1 → Leaves p still after (λ told v. TakesAt old.lines l b.stage told v)
     → Leaves p before after (λ told v. PlaysLine (lines + 1) l s told v)
 heard_command old p lines l x new before mid still after s k b count t =
@@ -206,5 +214,5 @@ on_err_any (Ok x) p = tt
 on_err_any (Err e) p = p
 
 -- The texts stand low enough to be told of.
-pub texts_low : (p : Player) (x : Texts) (s : Stage) → p.stage ≡ code.Texts x → IsAt p s → x.before < 2 ^ 63
+pub texts_low : {R : Type 0} {g : Ghosts R Stored} (p : Player R g) (x : Texts) (s : Stage) → p.stage ≡ code.Texts x → IsAt p s → x.before < 2 ^ 63
 texts_low p x s is at = (stage_is p x s is at).1.small

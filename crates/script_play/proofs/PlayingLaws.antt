@@ -8,6 +8,7 @@ use Rattle.byte_text.specs.TextLines.{RawLine, lines_of}
 use Rattle.module_tools.specs.declared.ended.Ended.{Ended}
 use Rattle.module_tools.specs.declared.fault.PlayFault.{PlayFault}
 use Rattle.module_tools.specs.declared.fault.PlayFault.TheVariants as fault
+use Rattle.filter_chain.specs.Hosting.{Ghosts, Stored}
 use Rattle.script_play.specs.declared.player.Player.{Player}
 use Rattle.module_tools.specs.Streams.{WritesText}
 use Rattle.script_play.specs.Playing.{IsCutOfSome, AddsText, PlaysOn, PlaysLines, PlaysBytes, EndsLines, PlaysEnd}
@@ -18,8 +19,8 @@ use Rattle.script_play.proofs.ScriptLines.{whole_append, ends_at}
 -- Lines are played.
 
 -- all answers were written
-pub played_all : (old new : Player) (w v : Option (List ℕ)) (before after : List ℕ) (ls : List RawLine) (s : Stage) → before ≡ [] → TakesOn old new before after ls s → Appends w v after
-    → PlaysOn old new w v ls s
+pub played_all : {R : Type 0} {g : Ghosts R Stored} (old new : Player R g) (w v : Option (List ℕ)) (before after : List ℕ) (ls : List RawLine) (s : Stage) → before ≡ []
+    → TakesOn old new before after ls s → Appends w v after → PlaysOn old new w v ls s
 played_all old new w v before after ls s none t wrote =
     record { told = t.told; stage = t.stage; takes = t.takes; at = t.at; lines = t.lines; added = subst (Appends w v) (t.added ∙ ap (λ l. l ++ t.told) none) wrote }
 
@@ -49,12 +50,12 @@ cut_some : (number : ℕ) (w v : Option (List ℕ)) (text : List ℕ) (ls : List
 cut_some number w v text ls s n lt some wrote = (take n text, (drop n text, some_left text n lt, subst (IsSomeOf number ls s) (sym (take-append-drop n text)) some), wrote)
 
 -- what a player left of its lines
-abbrev pub Took : Player → Player → List ℕ → List ℕ → List RawLine → Stage → Result (Unit {0}) PlayFault → Type 0
+abbrev pub Took : {R : Type 0} {g : Ghosts R Stored} → Player R g → Player R g → List ℕ → List ℕ → List RawLine → Stage → Result (Unit {0}) PlayFault → Type 0
 Took old new before after ls s (Ok u) = TakesOn old new before after ls s
 Took old new before after ls s (Err e) = SomeTaken (old.lines + 1) ls s before after
 
-took_some : {E : Type 0} (old new : Player) (before after : List ℕ) (ls : List RawLine) (s : Stage) (r : Result (Unit {0}) E) → before ≡ [] → IfOk r (λ u. TakesOn old new before after ls s)
-    → IfErr r (λ e. SomeTaken (old.lines + 1) ls s before after) → IsSomeOf (old.lines + 1) ls s after
+took_some : {R : Type 0} {g : Ghosts R Stored} {E : Type 0} (old new : Player R g) (before after : List ℕ) (ls : List RawLine) (s : Stage) (r : Result (Unit {0}) E) → before ≡ []
+    → IfOk r (λ u. TakesOn old new before after ls s) → IfErr r (λ e. SomeTaken (old.lines + 1) ls s before after) → IsSomeOf (old.lines + 1) ls s after
 took_some old new before after ls s (Ok u) none t other =
     subst (IsSomeOf (old.lines + 1) ls s) (sym (t.added ∙ ap (λ l. l ++ t.told) none)) (all_some (old.lines + 1) ls s t.stage t.told t.takes)
 took_some old new before after ls s (Err e) none other t = some_of (old.lines + 1) ls s before after none t
@@ -68,7 +69,8 @@ unfolding TakesAll
 none_some number w v ls s kept = ([], record { count = 0; stage = s; takes = (refl, refl) }, kept_none w v kept)
 
 -- not all answers were written
-pub played_cut : {E : Type 0} (old new : Player) (w v : Option (List ℕ)) (before after text : List ℕ) (ls : List RawLine) (s : Stage) (r : Result (Unit {0}) E) (f : PlayFault) → before ≡ []
+pub played_cut : {R : Type 0} {g : Ghosts R Stored} {E : Type 0} (old new : Player R g) (w v : Option (List ℕ)) (before after text : List ℕ) (ls : List RawLine) (s : Stage) (r : Result (Unit {0}) E)
+    (f : PlayFault) → before ≡ []
     → IfOk r (λ u. TakesOn old new before after ls s) → IfErr r (λ e. SomeTaken (old.lines + 1) ls s before after) → text ≡ after → WritesText {T = Unit {0}} w v text (Err f)
     → PlaysLines old new w v ls s (Err f)
 played_cut old new w v before after text ls s r fault.Read none ok err same wrote = wrote
@@ -101,8 +103,8 @@ ended_cut w v before after text s (Err e) fault.Write none ends quiet same (n, l
     absurd (let empty : length text ≡ 0 = ap (λ (xs : List ℕ). length xs) (same ∙ quiet ∙ none) in omega (arith, lt, empty))
 
 -- The last lines are played, and then the play ends.
-pub ends_behind : (old mid : Player) (w u v : Option (List ℕ)) (ls : List RawLine) (s : Stage) (r : Result Ended PlayFault) → (k : PlaysOn old mid w u ls s) → EndsLines u v k.stage r
-    → PlaysEnd (old.lines + 1) w v ls s r
+pub ends_behind : {R : Type 0} {g : Ghosts R Stored} (old mid : Player R g) (w u v : Option (List ℕ)) (ls : List RawLine) (s : Stage) (r : Result Ended PlayFault) → (k : PlaysOn old mid w u ls s)
+    → EndsLines u v k.stage r → PlaysEnd (old.lines + 1) w v ls s r
 ends_behind old mid w u v ls s (Ok e) k (text, ends, added) =
     (k.told ++ text, record { stage = k.stage; answers = k.told; last = text; takes = k.takes; ends = ends; written = refl }, Appends-trans w u v k.told text k.added added)
 ends_behind old mid w u v ls s (Err fault.Read) k none = none
@@ -128,19 +130,20 @@ ends_behind old mid w u v ls s (Err fault.Write) k (text, (more, some, (e, ends)
   Appends-trans w u v k.told text k.added added,
 )
 
-pub ends_failed : (old new : Player) (w v : Option (List ℕ)) (ls : List RawLine) (s : Stage) (f : PlayFault) → PlaysLines old new w v ls s (Err f) → PlaysEnd (old.lines + 1) w v ls s (Err f)
+pub ends_failed : {R : Type 0} {g : Ghosts R Stored} (old new : Player R g) (w v : Option (List ℕ)) (ls : List RawLine) (s : Stage) (f : PlayFault) → PlaysLines old new w v ls s (Err f)
+    → PlaysEnd (old.lines + 1) w v ls s (Err f)
 ends_failed old new w v ls s fault.Read k = k
 ends_failed old new w v ls s fault.NoMemory k = k
 ends_failed old new w v ls s fault.Write (text, (more, left, some), added) = (text, (more, left, inl some), added)
 
 -- Bytes are taken.
 
-pub none_played : (p : Player) (w v : Option (List ℕ)) (s : Stage) → IsAt p s → Appends w v [] → PlaysOn p p w v (lines_of []) s
+pub none_played : {R : Type 0} {g : Ghosts R Stored} (p : Player R g) (w v : Option (List ℕ)) (s : Stage) → IsAt p s → Appends w v [] → PlaysOn p p w v (lines_of []) s
 unfolding lines_of TakesAll
 none_played p w v s at added =
     record { told = []; stage = s; takes = (refl, refl); at = at; lines = λ _. omega arith; added = added }
 
-pub bytes_unheld : (p : Player) (w : Option (List ℕ)) (bytes held : List ℕ) (s : Stage) → IsAt p s → PlaysBytes p p w w bytes held s (Err fault.NoMemory)
+pub bytes_unheld : {R : Type 0} {g : Ghosts R Stored} (p : Player R g) (w : Option (List ℕ)) (bytes held : List ℕ) (s : Stage) → IsAt p s → PlaysBytes p p w w bytes held s (Err fault.NoMemory)
 unfolding lines_of TakesAll
 bytes_unheld p w bytes held s at =
     ([], bytes, inl refl, refl, ([], record { count = 0; stage = s; takes = (refl, refl) }, Appends-nil w))
@@ -152,8 +155,8 @@ whole_front held bytes n some within lf = inr (whole_append held (take n bytes) 
 front_is : (held bytes : List ℕ) (n : ℕ) → held ++ bytes ≡ (held ++ take n bytes) ++ drop n bytes
 front_is held bytes n = ap (λ l. held ++ l) (sym (take-append-drop n bytes)) ∙ sym (append_assoc held (take n bytes) (drop n bytes))
 
-pub bytes_failed : (old new : Player) (w v : Option (List ℕ)) (held bytes whole left : List ℕ) (n : ℕ) (s : Stage) (f : PlayFault) → 0 < n → n ≤ length bytes → get_or bytes (n - 1) 0 ≡ 10
-    → whole ≡ held ++ take n bytes → PlaysLines old new w v (lines_of whole) s (Err f) → PlaysBytes old new w v (held ++ bytes) left s (Err f)
+pub bytes_failed : {R : Type 0} {g : Ghosts R Stored} (old new : Player R g) (w v : Option (List ℕ)) (held bytes whole left : List ℕ) (n : ℕ) (s : Stage) (f : PlayFault) → 0 < n → n ≤ length bytes
+    → get_or bytes (n - 1) 0 ≡ 10 → whole ≡ held ++ take n bytes → PlaysLines old new w v (lines_of whole) s (Err f) → PlaysBytes old new w v (held ++ bytes) left s (Err f)
 bytes_failed old new w v held bytes whole left n s fault.Read some within lf is k = k
 bytes_failed old new w v held bytes whole left n s fault.NoMemory some within lf is k =
     (whole, drop n bytes, subst IsWhole (sym is) (whole_front held bytes n some within lf), front_is held bytes n ∙ ap (λ l. l ++ drop n bytes) (sym is), k)
@@ -161,7 +164,7 @@ bytes_failed old new w v held bytes whole left n s fault.Write some within lf is
     (whole, drop n bytes, subst IsWhole (sym is) (whole_front held bytes n some within lf), front_is held bytes n ∙ ap (λ l. l ++ drop n bytes) (sym is), k)
 
 -- The whole lines were played, and this is held back, before the rest.
-pub record Joined (old new : Player) (w v : Option (List ℕ)) (all held rest : List ℕ) (s : Stage) : Type 0 where
+pub record Joined {R : Type 0} {g : Ghosts R Stored} (old new : Player R g) (w v : Option (List ℕ)) (all held rest : List ℕ) (s : Stage) : Type 0 where
   pub whole : List ℕ
   pub is_whole : IsWhole whole
   pub split : all ≡ whole ++ (held ++ rest)
@@ -175,11 +178,11 @@ no_lf bytes n none = λ k d less.
     let here : get_or (drop n bytes) k d ≡ get_or bytes (n + k) 0 = get_or-drop n bytes k d ∙ get_or_default bytes (n + k) d 0 (omega (arith, less, long)) in
     subst (λ b. b ≢ 10) (sym here) (none (n + k) (omega arith) (omega (arith, less, long)))
 
-pub joined_none : (p new : Player) (w v : Option (List ℕ)) (held bytes kept : List ℕ) (n : ℕ) (s : Stage) → HasNoLf held → ((k : ℕ) → n ≤ k → k < length bytes → get_or bytes k 0 ≢ 10) → n ≤ 0
-    → IsAt p s → new ≡ p → v ≡ w → kept ≡ held → Joined p new w v (held ++ bytes) kept (drop n bytes) s
+pub joined_none : {R : Type 0} {g : Ghosts R Stored} (p new : Player R g) (w v : Option (List ℕ)) (held bytes kept : List ℕ) (n : ℕ) (s : Stage) → HasNoLf held
+    → ((k : ℕ) → n ≤ k → k < length bytes → get_or bytes k 0 ≢ 10) → n ≤ 0 → IsAt p s → new ≡ p → v ≡ w → kept ≡ held → Joined p new w v (held ++ bytes) kept (drop n bytes) s
 joined_none p new w v held bytes kept n s unended lacks none at same wrote is =
     let zero : n ≡ 0 = omega (arith, none) in
-    let P : Player → Option (List ℕ) → Type 0 = λ q o. PlaysOn p q w o (lines_of []) s in
+    let P : Player _ _ → Option (List ℕ) → Type 0 = λ q o. PlaysOn p q w o (lines_of []) s in
     record {
       whole = [];
       is_whole = inl refl;
@@ -188,11 +191,12 @@ joined_none p new w v held bytes kept n s unended lacks none at same wrote is =
       unended = subst (λ l. HasNoLf (l ++ drop n bytes)) (sym is) (All-append (λ b. b ≢ 10) held (drop n bytes) unended (no_lf bytes n lacks));
     }
 
-pub joined_some : (old new now : Player) (w v u : Option (List ℕ)) (held bytes whole kept : List ℕ) (n : ℕ) (s : Stage) → ((k : ℕ) → n ≤ k → k < length bytes → get_or bytes k 0 ≢ 10) → 0 < n
+pub joined_some : {R : Type 0} {g : Ghosts R Stored} (old new now : Player R g) (w v u : Option (List ℕ)) (held bytes whole kept : List ℕ) (n : ℕ) (s : Stage)
+    → ((k : ℕ) → n ≤ k → k < length bytes → get_or bytes k 0 ≢ 10) → 0 < n
     → n ≤ length bytes → get_or bytes (n - 1) 0 ≡ 10 → whole ≡ held ++ take n bytes → PlaysOn old now w u (lines_of whole) s → new ≡ now → v ≡ u → kept ≡ []
     → Joined old new w v (held ++ bytes) kept (drop n bytes) s
 joined_some old new now w v u held bytes whole kept n s lacks some within lf is k same wrote none =
-    let P : Player → Option (List ℕ) → Type 0 = λ q o. PlaysOn old q w o (lines_of whole) s in
+    let P : Player _ _ → Option (List ℕ) → Type 0 = λ q o. PlaysOn old q w o (lines_of whole) s in
     record {
       whole = whole;
       is_whole = subst IsWhole (sym is) (whole_front held bytes n some within lf);
@@ -202,12 +206,13 @@ joined_some old new now w v u held bytes whole kept n s lacks some within lf is 
     }
 
 -- what is left was held back
-pub joined_held : (old new : Player) (w v : Option (List ℕ)) (all held rest left : List ℕ) (s : Stage) (u : Unit {0}) → Joined old new w v all held rest s → left ≡ held ++ rest
-    → PlaysBytes old new w v all left s (Ok u)
+pub joined_held : {R : Type 0} {g : Ghosts R Stored} (old new : Player R g) (w v : Option (List ℕ)) (all held rest left : List ℕ) (s : Stage) (u : Unit {0}) → Joined old new w v all held rest s
+    → left ≡ held ++ rest → PlaysBytes old new w v all left s (Ok u)
 joined_held old new w v all held rest left s u j is = (j.whole, j.is_whole, j.split ∙ ap (λ l. j.whole ++ l) (sym is), j.plays, subst HasNoLf (sym is) j.unended)
 
 -- there was no memory for what is left
-pub joined_lost : (old new : Player) (w v : Option (List ℕ)) (all held rest left : List ℕ) (s : Stage) → Joined old new w v all held rest s → PlaysBytes old new w v all left s (Err fault.NoMemory)
+pub joined_lost : {R : Type 0} {g : Ghosts R Stored} (old new : Player R g) (w v : Option (List ℕ)) (all held rest left : List ℕ) (s : Stage) → Joined old new w v all held rest s
+    → PlaysBytes old new w v all left s (Err fault.NoMemory)
 joined_lost old new w v all held rest left s j =
     let k = j.plays in
     (j.whole, held ++ rest, j.is_whole, j.split, (k.told, all_some (old.lines + 1) (lines_of j.whole) s k.stage k.told k.takes, k.added))

@@ -4,7 +4,7 @@ use Rattle.module_code.specs.Program.{Program}
 use Rattle.byte_text.specs.TextLines.{RawLine}
 use Rattle.bucket_kinds.specs.Device.{Device}
 use Rattle.life_check.specs.ChainTheorem.{ChainNeverFaults}
-use Rattle.filter_chain.specs.Hosting.{budget_of, chain_of}
+use Rattle.filter_chain.specs.Hosting.{Ghosts, Stored, budget_of, chain_of}
 use Rattle.filter_chain.specs.Safe.{IsSafe}
 use Rattle.filter_chain.specs.HostViews.{HostView, host_view}
 use Rattle.script_text.specs.declared.command.Command.{Command}
@@ -17,7 +17,8 @@ use Rattle.script_play.specs.Written.{Session, Serving, Over, Replies}
 use Rattle.script_play.proofs.FaithfulFiles.{faithful_of, serves_sound, serves_unfailing}
 
 -- A command was answered.
-module _ (new old : CodeSession) (c : Command) (r : Reply) (v : Session) (hosted : IsHosted old v) (served : IsServed old.host new.host c r v.host_view.world) where
+module _ {R : Type 0} {g : Ghosts R Stored} (new old : CodeSession R g) (c : Command) (r : Reply) (v : Session) (hosted : IsHosted old v)
+    (served : IsServed old.host new.host c r v.host_view.world) where
   abbrev pub then : Session
   then = record v { host_view = host_view served.to (device new.host) }
 

@@ -2,6 +2,7 @@
 use Rattle.std.proofs.Common.{◌≡◌, ℕ, ◌+◌, ◌-◌, ◌<◌, ◌≤◌, ◌⊎◌, inl, inr, Bool, true, List, [], ◌∷◌, ◌++◌, length, take, drop, refl, ap, sym, subst, ◌∙◌, arith}
 use Rattle.std.proofs.lemmas.List.{append_assoc, append-nil, length-append, length-drop, take_at, take_rest, nil_from_length}
 use Rattle.byte_text.specs.TextLines.{RawLine, lines_of, first_line, width}
+use Rattle.filter_chain.specs.Hosting.{Ghosts, Stored}
 use Rattle.script_play.specs.declared.player.Player.{Player}
 use Rattle.script_play.specs.Players.{Leaves}
 use Rattle.script_play.specs.Sessions.{IsAt, TakesOn}
@@ -9,7 +10,7 @@ use Rattle.script_play.specs.Written.{Stage, Reading, Serving, Over, is_over, Pl
 use Rattle.script_play.proofs.TakenLaws.{taken_append, taken_none, taken_one, taken_over}
 
 -- Of all bytes, the lines before the rest were taken.
-pub record Taking (old now : Player) (before after all rest : List ℕ) (s : Stage) : Type 0 where
+pub record Taking {R : Type 0} {g : Ghosts R Stored} (old now : Player R g) (before after all rest : List ℕ) (s : Stage) : Type 0 where
   pub done : List RawLine
   pub told : List ℕ
   pub stage : Stage
@@ -20,7 +21,7 @@ pub record Taking (old now : Player) (before after all rest : List ℕ) (s : Sta
   pub few : length done + length rest ≤ length all
   pub added : after ≡ before ++ told
 
-pub taking_first : (p : Player) (text all : List ℕ) (s : Stage) → IsAt p s → Taking p p text text all all s
+pub taking_first : {R : Type 0} {g : Ghosts R Stored} (p : Player R g) (text all : List ℕ) (s : Stage) → IsAt p s → Taking p p text text all all s
 taking_first p text all s at =
     record {
       done = [];
@@ -48,7 +49,8 @@ line_is rest text ended wide f =
     let of : List ℕ → Bool → RawLine = λ t e. record { text = t; ended = e } in
     ap (λ t. of t ended) f.text_is ∙ ap (of (first_line rest).text) f.ended_is
 
-taking_line : (old now new : Player) (before mid after all rest text : List ℕ) (ended : Bool) (wide : ℕ) (s : Stage) → (k : Taking old now before mid all rest s) → IsFirst rest text ended wide
+taking_line : {R : Type 0} {g : Ghosts R Stored} (old now new : Player R g) (before mid after all rest text : List ℕ) (ended : Bool) (wide : ℕ) (s : Stage) → (k : Taking old now before mid all rest s)
+    → IsFirst rest text ended wide
     → Leaves new mid after (λ told t. PlaysLine (now.lines + 1) (record { text = text; ended = ended }) k.stage told t) → new.lines ≡ now.lines + 1 → Taking old new before after all (drop wide rest) s
 taking_line old now new before mid after all rest text ended wide s k f l more =
     let line : RawLine = record { text = text; ended = ended } in
@@ -69,21 +71,24 @@ taking_line old now new before mid after all rest text ended wide s k f l more =
     }
 
 -- One line more is taken.
-pub taking_more : (old now new : Player) (before mid after all rest text : List ℕ) (ended : Bool) (wide : ℕ) (s : Stage) → (k : Taking old now before mid all rest s) → IsFirst rest text ended wide
+pub taking_more : {R : Type 0} {g : Ghosts R Stored} (old now new : Player R g) (before mid after all rest text : List ℕ) (ended : Bool) (wide : ℕ) (s : Stage)
+    → (k : Taking old now before mid all rest s) → IsFirst rest text ended wide
     → Leaves new mid after (λ told t. PlaysLine (now.lines + 1) (record { text = text; ended = ended }) k.stage told t) → new.lines ≡ now.lines + 1
     → Taking old new before after all (take (length rest - wide) (drop wide rest)) s
 taking_more old now new before mid after all rest text ended wide s k f l more =
     subst (λ r. Taking old new before after all r s) (sym (take_rest rest wide)) (taking_line old now new before mid after all rest text ended wide s k f l more)
 
 -- Without memory the lines that were taken are the first of all.
-pub taking_some : (old now : Player) (before mid after all rest : List ℕ) (s : Stage) → Taking old now before mid all rest s → after ≡ mid → (n : ℕ) × (told : List ℕ) × (last : Stage)
+pub taking_some : {R : Type 0} {g : Ghosts R Stored} (old now : Player R g) (before mid after all rest : List ℕ) (s : Stage) → Taking old now before mid all rest s → after ≡ mid
+    → (n : ℕ) × (told : List ℕ) × (last : Stage)
     × TakesAll (old.lines + 1) (take n (lines_of all)) s told last × (after ≡ before ++ told)
 taking_some old now before mid after all rest s k same =
     let front : take (length k.done) (lines_of all) ≡ k.done = ap (take (length k.done)) k.lines ∙ take_at k.done (lines_of rest) (length k.done) refl in
     (length k.done, k.told, k.stage, subst (λ ls. TakesAll (old.lines + 1) ls s k.told k.stage) (sym front) k.takes, same ∙ k.added)
 
 -- No line is left.
-taking_all : (old now : Player) (before after all rest : List ℕ) (s : Stage) → Taking old now before after all rest s → length rest ≡ 0 → TakesOn old now before after (lines_of all) s
+taking_all : {R : Type 0} {g : Ghosts R Stored} (old now : Player R g) (before after all rest : List ℕ) (s : Stage) → Taking old now before after all rest s → length rest ≡ 0
+    → TakesOn old now before after (lines_of all) s
 unfolding lines_of
 taking_all old now before after all rest s k none =
     let same : lines_of all ≡ k.done = k.lines ∙ ap (λ r. k.done ++ lines_of r) (nil_from_length rest none) ∙ append-nil k.done in
@@ -97,7 +102,8 @@ taking_all old now before after all rest s k none =
     }
 
 -- A fault was told, and the lines that are left are not looked at.
-taking_over : (old now : Player) (before after all rest : List ℕ) (s : Stage) (k : Taking old now before after all rest s) → is_over k.stage ≡ true → TakesOn old now before after (lines_of all) s
+taking_over : {R : Type 0} {g : Ghosts R Stored} (old now : Player R g) (before after all rest : List ℕ) (s : Stage) (k : Taking old now before after all rest s) → is_over k.stage ≡ true
+    → TakesOn old now before after (lines_of all) s
 taking_over old now before after all rest s k over = by k.stage k.takes k.at over
   where
     by : (t : Stage) → TakesAll (old.lines + 1) k.done s k.told t → IsAt now t → is_over t ≡ true → TakesOn old now before after (lines_of all) s
@@ -116,7 +122,7 @@ taking_over old now before after all rest s k over = by k.stage k.takes k.at ove
           added = k.added;
         }
 
-pub taking_end : (old now : Player) (before after all rest : List ℕ) (s : Stage) (k : Taking old now before after all rest s) → (length rest ≡ 0) ⊎ (is_over k.stage ≡ true)
-    → TakesOn old now before after (lines_of all) s
+pub taking_end : {R : Type 0} {g : Ghosts R Stored} (old now : Player R g) (before after all rest : List ℕ) (s : Stage) (k : Taking old now before after all rest s)
+    → (length rest ≡ 0) ⊎ (is_over k.stage ≡ true) → TakesOn old now before after (lines_of all) s
 taking_end old now before after all rest s k (inl none) = taking_all old now before after all rest s k none
 taking_end old now before after all rest s k (inr over) = taking_over old now before after all rest s k over

@@ -1,5 +1,6 @@
 -- What the code of a play does with a line, and with a part of a script.
 use Rattle.std.specs.Prelude.{◌≡◌, ℕ, ◌<◌, ◌≤◌, List, ◌++◌, length}
+use Rattle.filter_chain.specs.Hosting.{Ghosts, Stored}
 use Rattle.script_play.specs.declared.player.Player.{Player}
 use Rattle.script_play.specs.declared.player.Stage.{Stage as CodeStage}
 use Rattle.script_text.specs.Heads.{ScriptHead}
@@ -7,7 +8,7 @@ use Rattle.script_play.specs.Written.{Stage, Reading, Serving, Over}
 use Rattle.script_play.specs.Sessions.{IsStage, IsAt}
 
 -- A line is taken so, and what is told of it is added.
-pub record Leaves (new : Player) (before after : List ℕ) (P : List ℕ → Stage → Type 0) : Type 0 where
+pub record Leaves {R : Type 0} {g : Ghosts R Stored} (new : Player R g) (before after : List ℕ) (P : List ℕ → Stage → Type 0) : Type 0 where
   pub told : List ℕ
   pub stage : Stage
   pub holds : P told stage
@@ -15,7 +16,7 @@ pub record Leaves (new : Player) (before after : List ℕ) (P : List ℕ → Sta
   pub added : after ≡ before ++ told
 
 -- The commands may begin behind what was read.
-pub record MayBeginCommands (c : CodeStage) (h : ScriptHead) : Type 0 where
+pub record MayBeginCommands {R : Type 0} {g : Ghosts R Stored} (c : CodeStage R g) (h : ScriptHead) : Type 0 where
   pub stage : IsStage c (Reading h)
   pub some : 0 < length h.parts
   pub few : length h.parts ≤ 16

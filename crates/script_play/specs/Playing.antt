@@ -5,6 +5,7 @@ use Rattle.byte_text.specs.TextLines.{RawLine, lines_of}
 use Rattle.module_tools.specs.declared.ended.Ended.{Ended}
 use Rattle.module_tools.specs.declared.fault.PlayFault.{PlayFault}
 use Rattle.module_tools.specs.declared.fault.PlayFault.TheVariants as fault
+use Rattle.filter_chain.specs.Hosting.{Ghosts, Stored}
 use Rattle.script_play.specs.declared.player.Player.{Player}
 use Rattle.script_play.specs.Written.{Stage, is_over, TakesAll, IsSomeOf, EndsAt, IsWhole, HasNoLf}
 use Rattle.script_play.specs.Sessions.{IsAt}
@@ -29,7 +30,7 @@ abbrev pub AddsText : Option (List ℕ) → Option (List ℕ) → (List ℕ → 
 AddsText before after P = (text : List ℕ) × P text × Appends before after text
 
 -- These lines are taken, and what is told of them is written. They are counted up to a fault.
-pub record PlaysOn (old new : Player) (before after : Option (List ℕ)) (ls : List RawLine) (s : Stage) : Type 0 where
+pub record PlaysOn {R : Type 0} {g : Ghosts R Stored} (old new : Player R g) (before after : Option (List ℕ)) (ls : List RawLine) (s : Stage) : Type 0 where
   pub told : List ℕ
   pub stage : Stage
   pub takes : TakesAll (old.lines + 1) ls s told stage
@@ -37,7 +38,7 @@ pub record PlaysOn (old new : Player) (before after : Option (List ℕ)) (ls : L
   pub lines : is_over stage ≡ false → new.lines ≡ old.lines + length ls
   pub added : Appends before after told
 
-module _ (old new : Player) (before after : Option (List ℕ)) where
+module _ {R : Type 0} {g : Ghosts R Stored} (old new : Player R g) (before after : Option (List ℕ)) where
   -- Lines are played. Where that fails, what some of them say is written, or a front of it.
   abbrev pub PlaysLines : List RawLine → Stage → Result (Unit {0}) PlayFault → Type 0
   PlaysLines ls s (Ok u) = PlaysOn old new before after ls s

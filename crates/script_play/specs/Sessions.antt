@@ -38,7 +38,7 @@ pub record IsServed {R : Type 0} {g : Ghosts R Stored} (old new : Host MemFiles 
   pub budget : budget_of new ≡ budget_of old
 
 -- A session of the code stands for one of the model.
-pub record IsHosted (s : CodeSession) (v : Session) : Type 0 where
+pub record IsHosted {R : Type 0} {g : Ghosts R Stored} (s : CodeSession R g) (v : Session) : Type 0 where
   pub chain : chain_of s.host ≡ v.chain
   pub budget : budget_of s.host ≡ v.budget
   pub hosts : IsHosting (device s.host) s.host v.host_view.world
@@ -47,11 +47,11 @@ pub record IsHosted (s : CodeSession) (v : Session) : Type 0 where
   pub sound : v.host_view.device.plan ≡ Sound
 
 -- A line was taken of a session, and what is told of it is added. was: whether it was a command.
-abbrev pub TakesOne : CodeSession → List ℕ → List ℕ → ℕ → RawLine → Session → Bool → Type 0
+abbrev pub TakesOne : {R : Type 0} {g : Ghosts R Stored} → CodeSession R g → List ℕ → List ℕ → ℕ → RawLine → Session → Bool → Type 0
 TakesOne new before after number l v true = (told : List ℕ) × (then : Session) × TakesCommand number l v told (Serving then) × IsHosted new then × (after ≡ before ++ told)
 TakesOne new before after number l v false = (told : List ℕ) × TakesCommand number l v told Over × (after ≡ before ++ told)
 
-abbrev pub IsStage : CodeStage → Stage → Type 0
+abbrev pub IsStage : {R : Type 0} {g : Ghosts R Stored} → CodeStage R g → Stage → Type 0
 IsStage (code.Texts t) (Reading h) = h ≡ head_of t
 IsStage (code.Session s) (Serving v) = IsHosted s v
 IsStage code.Over Over = Unit {0}
@@ -63,12 +63,12 @@ Bounded lines (Serving v) = Unit {0}
 Bounded lines Over = Unit {0}
 
 -- A player is at this stage of its script.
-pub record IsAt (p : Player) (s : Stage) : Type 0 where
+pub record IsAt {R : Type 0} {g : Ghosts R Stored} (p : Player R g) (s : Stage) : Type 0 where
   pub stage : IsStage p.stage s
   pub bounded : Bounded p.lines s
 
 -- These lines are taken, and what is told of them is added. They are counted up to a fault.
-pub record TakesOn (old new : Player) (before after : List ℕ) (ls : List RawLine) (s : Stage) : Type 0 where
+pub record TakesOn {R : Type 0} {g : Ghosts R Stored} (old new : Player R g) (before after : List ℕ) (ls : List RawLine) (s : Stage) : Type 0 where
   pub told : List ℕ
   pub stage : Stage
   pub takes : TakesAll (old.lines + 1) ls s told stage

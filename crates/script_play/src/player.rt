@@ -6,6 +6,7 @@ ghost use Rattle.script_play.specs.Written.{Stage as ModelStage};
 
 use crate::session::Session;
 use byte_text::first_line;
+use filter_chain::{Rings, Stored};
 use module_tools::Ended;
 use script_text::{LineTaken, Texts, put_refused_module};
 use std::alloc::{AllocError, Global};
@@ -13,25 +14,25 @@ use std::mem;
 
 /// How far a script is.
 #[derive(Drop)]
-enum Stage {
+enum Stage<R: Rings<Stored>> {
     /// Its texts are read.
     Texts(Texts),
     /// Its commands are done.
-    Session(Session),
+    Session(Session<R>),
     /// It is over: a fault was told.
     Over,
 }
 
 /// A script that is played line by line.
 #[derive(Drop)]
-pub struct Player {
+pub struct Player<R: Rings<Stored>> {
     alloc: Global,
     // How many lines were taken.
     lines: usize,
-    stage: Stage,
+    stage: Stage<R>,
 }
 
-impl Player {
+impl<R: Rings<Stored> + Drop> Player<R> {
     /// No line was taken yet.
     pub fn new(alloc: Global) -> Self
         ensures at { IsAt result (Reading no_head) }
@@ -58,32 +59,44 @@ impl Player {
         ensures err { OnErr result (out.new.items ≡ out.old.items) }
         ensures lines { self.new.lines ≡ self.old.lines }
     {
-        let Stage::Texts(texts) = mem::replace(&mut self.stage, Stage::Over) else {
+        let Stage::Texts(texts) = &mut self.stage else {
             return Ok(());
         };
         let budget = texts.budget;
+        let parts = mem::replace(&mut texts.parts, Vec::new(self.alloc));
         if !is_checked {
-            self.stage = Stage::Session(Session::watched(self.alloc, texts.parts, budget)?);
+            let session = Session::watched(self.alloc, parts, budget)?;
+            self.turn_to(Stage::Session(session));
             return Ok(());
         }
-        match Session::checked(self.alloc, texts.parts, budget)? {
+        match Session::checked(self.alloc, parts, budget)? {
             Ok(session) => {
-                self.stage = Stage::Session(session);
+                self.turn_to(Stage::Session(session));
                 Ok(())
             }
             Err(at) => {
+                self.turn_to(Stage::Over);
                 put_refused_module(self.alloc, out, at.index, at.refusal.pc, at.refusal.rule)
             }
         }
     }
 
-    /// A fault was told: what is left of the script is not looked at.
+    /// The script goes on so, or is over.
     // Apart from what is done for each line: a session that is dropped takes a large frame, which is set to zero at each call.
+    #[inline(never)]
+    fn turn_to(&mut self, stage: Stage<R>)
+        ensures { self.new ≡ record self.old { stage = stage } }
+    {
+        self.stage = stage;
+    }
+
+    /// A fault was told: what is left of the script is not looked at.
+    // Apart from what is done for each line: a stage takes a large frame.
     #[inline(never)]
     fn stop(&mut self)
         ensures { self.new ≡ record self.old { stage = Stage.Over } }
     {
-        self.stage = Stage::Over;
+        self.turn_to(Stage::Over);
     }
 
     /// Takes a line that has to be a command.
@@ -124,7 +137,7 @@ impl Player {
         match texts.take(self.alloc, self.lines, text, ended, out)? {
             LineTaken::More => Ok(()),
             LineTaken::Over => {
-                self.stage = Stage::Over;
+                self.stop();
                 Ok(())
             }
             LineTaken::Checked => self.begin(true, out),

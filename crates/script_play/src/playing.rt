@@ -6,13 +6,14 @@ ghost use Rattle.script_play.specs.Prelude.{AnswersLinesRead, IsWrittenFor, IsFr
 
 use crate::player::Player;
 use byte_streams::{CountedSource, READ_BYTES, READS, ReadAnswer, Sink, Source};
+use filter_chain::{RawRings, Rings, Stored};
 use module_tools::{Ended, PlayFault, write_text};
 use std::alloc::{AllocError, Global};
 
 /// Plays lines, and writes the answers. Without memory for an answer what was answered so far is written; without memory in the writer, nothing.
-fn play_lines<W: Sink>(
+fn play_lines<R: Rings<Stored> + Drop, W: Sink>(
     alloc: Global,
-    player: &mut Player,
+    player: &mut Player<R>,
     lines: &[u8],
     writer: &mut W,
 ) -> Result<(), PlayFault>
@@ -31,9 +32,9 @@ fn play_lines<W: Sink>(
 }
 
 /// The script has no more lines: tells how the play ends, and writes what is answered of that.
-fn end_lines<W: Sink>(
+fn end_lines<R: Rings<Stored> + Drop, W: Sink>(
     alloc: Global,
-    player: &mut Player,
+    player: &mut Player<R>,
     writer: &mut W,
 ) -> Result<Ended, PlayFault>
     requires at { (s : Stage) × IsAt player.old s }
@@ -50,9 +51,9 @@ fn end_lines<W: Sink>(
 }
 
 /// The script has ended, with this line, which has no LF, or at the end of a line.
-fn end_play<W: Sink>(
+fn end_play<R: Rings<Stored> + Drop, W: Sink>(
     alloc: Global,
-    player: &mut Player,
+    player: &mut Player<R>,
     last: &[u8],
     writer: &mut W,
 ) -> Result<Ended, PlayFault>
@@ -79,9 +80,9 @@ fn whole_lines(bytes: &[u8]) -> usize
 }
 
 /// Takes bytes behind those that are held back of a line, and plays the lines that are whole by then. What is left is held back.
-fn take_bytes<W: Sink>(
+fn take_bytes<R: Rings<Stored> + Drop, W: Sink>(
     alloc: Global,
-    player: &mut Player,
+    player: &mut Player<R>,
     held: &mut Vec<u8>,
     bytes: &[u8],
     writer: &mut W,
@@ -103,28 +104,28 @@ fn take_bytes<W: Sink>(
 }
 
 /// Plays the script that a reader gives, from its first line on.
-fn play_all<R: Source, W: Sink>(
+fn play_all<R: Rings<Stored> + Drop, S: Source, W: Sink>(
     alloc: Global,
-    player: &mut Player,
+    player: &mut Player<R>,
     held: &mut Vec<u8>,
-    reader: &mut CountedSource<R>,
+    reader: &mut CountedSource<S>,
     writer: &mut W,
 ) -> Result<Ended, PlayFault>
     requires reads { reads_left reader.old ≡ READS }
     requires at { IsAt player.old (Reading no_head) }
     requires none { player.old.lines ≡ 0 }
     requires empty { held.old.items ≡ [] }
-    ensures ok { IfOk result (λ e. Writes (R.remaining (source_of reader.old)) (W.contents writer.old) (W.contents writer.new) (λ script text. IsWrittenFor script text e)) }
+    ensures ok { IfOk result (λ e. Writes (S.remaining (source_of reader.old)) (W.contents writer.old) (W.contents writer.new) (λ script text. IsWrittenFor script text e)) }
     ensures read { result ≡ Err PlayFault.Read
-        → Writes (R.remaining (source_of reader.old)) (W.contents writer.old) (W.contents writer.new) (λ script text. AnswersLinesRead script text
-        (R.remaining (source_of reader.new))) }
+        → Writes (S.remaining (source_of reader.old)) (W.contents writer.old) (W.contents writer.new) (λ script text. AnswersLinesRead script text
+        (S.remaining (source_of reader.new))) }
     ensures memory { result ≡ Err PlayFault.NoMemory
-        → Writes (R.remaining (source_of reader.old)) (W.contents writer.old) (W.contents writer.new) (λ script text. IsFrontOf script text (R.remaining
+        → Writes (S.remaining (source_of reader.old)) (W.contents writer.old) (W.contents writer.new) (λ script text. IsFrontOf script text (S.remaining
         (source_of reader.new))) }
     ensures write { result ≡ Err PlayFault.Write
-        → Writes (R.remaining (source_of reader.old)) (W.contents writer.old) (W.contents writer.new) (λ script text. IsCutOf script text (R.remaining
+        → Writes (S.remaining (source_of reader.old)) (W.contents writer.old) (W.contents writer.new) (λ script text. IsCutOf script text (S.remaining
         (source_of reader.new))) }
-    ensures reader { TellsOfReader (R.failed (source_of reader.old)) (R.failed (source_of reader.new)) (reads_left reader.new) result }
+    ensures reader { TellsOfReader (S.failed (source_of reader.old)) (S.failed (source_of reader.new)) (reads_left reader.new) result }
     ensures writer { TellsOfWriter (W.failed writer.old) (W.failed writer.new) result }
 {
     let mut buffer = [0; READ_BYTES];
@@ -142,6 +143,31 @@ fn play_all<R: Source, W: Sink>(
         }
     }
     Err(PlayFault::Read)
+}
+
+/// Plays the script that a reader gives, on a host over these rings.
+fn play_over<R: Rings<Stored> + Drop, S: Source, W: Sink>(
+    alloc: Global,
+    reader: &mut CountedSource<S>,
+    writer: &mut W,
+) -> Result<Ended, PlayFault>
+    requires { reads_left reader.old ≡ READS }
+    ensures ok { IfOk result (λ e. Writes (S.remaining (source_of reader.old)) (W.contents writer.old) (W.contents writer.new) (λ script text. IsWrittenFor script text e)) }
+    ensures read { result ≡ Err PlayFault.Read
+        → Writes (S.remaining (source_of reader.old)) (W.contents writer.old) (W.contents writer.new) (λ script text. AnswersLinesRead script text
+        (S.remaining (source_of reader.new))) }
+    ensures memory { result ≡ Err PlayFault.NoMemory
+        → Writes (S.remaining (source_of reader.old)) (W.contents writer.old) (W.contents writer.new) (λ script text. IsFrontOf script text (S.remaining
+        (source_of reader.new))) }
+    ensures write { result ≡ Err PlayFault.Write
+        → Writes (S.remaining (source_of reader.old)) (W.contents writer.old) (W.contents writer.new) (λ script text. IsCutOf script text (S.remaining
+        (source_of reader.new))) }
+    ensures reader { TellsOfReader (S.failed (source_of reader.old)) (S.failed (source_of reader.new)) (reads_left reader.new) result }
+    ensures writer { TellsOfWriter (W.failed writer.old) (W.failed writer.new) result }
+{
+    let mut player = Player::<R>::new(alloc);
+    let mut held = Vec::new(alloc);
+    play_all(alloc, &mut player, &mut held, reader, writer)
 }
 
 /// Plays the script that a reader gives, and writes the answers. What was read is answered before more is read.
@@ -170,7 +196,5 @@ pub fn run_play<R: Source, W: Sink>(
     ensures reader { TellsOfReader (R.failed (source_of reader.old)) (R.failed (source_of reader.new)) (reads_left reader.new) result }
     ensures writer { TellsOfWriter (W.failed writer.old) (W.failed writer.new) result }
 {
-    let mut player = Player::new(alloc);
-    let mut held = Vec::new(alloc);
-    play_all(alloc, &mut player, &mut held, reader, writer)
+    play_over::<RawRings<Stored>, R, W>(alloc, reader, writer)
 }

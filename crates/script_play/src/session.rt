@@ -6,12 +6,12 @@ ghost use Rattle.script_play.specs.Written.{Session as ModelSession};
 
 use crate::commands::serve;
 use crate::due::due_command;
-use filter_chain::{Host, Limits, MemFiles};
+use filter_chain::{Host, Limits, MemFiles, Rings, Stored};
 use script_text::{Part, Refused, Reply, accept_parts, modules_of, put_reply, put_script_fault};
 use std::alloc::{AllocError, Global};
 
 /// Gives the block of an output that was told back to the host, for the next one.
-fn give_back(host: &mut Host<MemFiles>, reply: Reply)
+fn give_back<R: Rings<Stored> + Drop>(host: &mut Host<MemFiles, R>, reply: Reply)
     ensures { host.new ≡ host.old }
 {
     match reply {
@@ -22,13 +22,13 @@ fn give_back(host: &mut Host<MemFiles>, reply: Reply)
 
 /// A host that the commands of a script are done on.
 #[derive(Drop)]
-pub struct Session {
-    pub(crate) host: Host<MemFiles>,
+pub struct Session<R: Rings<Stored>> {
+    pub(crate) host: Host<MemFiles, R>,
 }
 
-impl Session {
+impl<R: Rings<Stored> + Drop> Session<R> {
     /// No connection yet, on a chain of these modules.
-    pub fn watched(alloc: Global, parts: Vec<Part>, budget: u64) -> Result<Session, AllocError>
+    pub fn watched(alloc: Global, parts: Vec<Part>, budget: u64) -> Result<Self, AllocError>
         requires some { 0 < length parts.items }
         ensures { IfOk result (λ s. IsHosted s (record { chain = codes_of (map seen_part parts.items); budget = budget; is_checked = false; host_view = first_view })) }
     {
@@ -43,7 +43,7 @@ impl Session {
         alloc: Global,
         parts: Vec<Part>,
         budget: u64,
-    ) -> Result<Result<Session, Refused>, AllocError>
+    ) -> Result<Result<Self, Refused>, AllocError>
         requires some { 0 < length parts.items }
         requires few { length parts.items ≤ 16 }
         ensures accepted { IfOk result (λ r. IfOk r (λ s. (refused_in (map seen_part parts.items) ≡ None)

@@ -6,7 +6,7 @@ use Rattle.script_play.proofs.player.Player.take.Given as goal
 
 -- the lines before the rest were taken
 abbrev pub invariant-loop-self : goal.invariant-loop-self
-invariant-loop-self l = (s : Stage) → IsAt l.fn.self s → Taking l.fn.self l.self l.fn.out.items l.out.items l.lines l.rest s
+invariant-loop-self g l = (s : Stage) → IsAt l.fn.self s → Taking l.fn.self l.self l.fn.out.items l.out.items l.lines l.rest s
 
 abbrev pub decreases-loop-self : goal.decreases-loop-self
-decreases-loop-self l = length l.rest
+decreases-loop-self g l = length l.rest

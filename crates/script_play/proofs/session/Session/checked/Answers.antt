@@ -9,7 +9,7 @@ use Rattle.script_text.specs.Parts.{codes_of, refused_in}
 use Rattle.script_play.proofs.session.Session.checked.Goals as goal
 
 pub returns-in_ok-host-in-Ok-clause-accepted : goal.returns-in_ok-host-in-Ok-clause-accepted
-returns-in_ok-host-in-Ok-clause-accepted c =
+returns-in_ok-host-in-Ok-clause-accepted g c =
     let parts = map seen_part c.args.parts.items in
     let a = subst (λ r. IfOk r (λ chain. (chain ≡ codes_of parts) × (refused_in parts ≡ None) × ChainNeverFaults chain)) c.in-Ok.is c.in_ok-chain.ensures.accepted in
     let e = c.in_ok-host-in-Ok.ensures in (

@@ -5,7 +5,7 @@ use Rattle.bucket_kinds.specs.declared.mem_files.MemFiles.{MemFiles}
 use Rattle.script_play.proofs.session.Session.watched.Goals as goal
 
 pub returns : goal.returns
-returns c =
+returns g c =
     let e = c.in_ok-host.ensures in
     record {
       chain = e.chain ∙ c.in_ok-modules.ensures.value;
