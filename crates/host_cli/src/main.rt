@@ -16,7 +16,7 @@ use module_tools::{
 };
 use script_play::run_play;
 use std::alloc::AllocError;
-use std::io::IsTerminal;
+use std::io::{IsTerminal, Read};
 use std::process::ExitCode;
 use std::{env, io};
 use task::{Task, task_of};
@@ -79,30 +79,23 @@ fn is_refused(ended: &Result<Ended, PlayFault>) -> bool {
     matches!(ended, Ok(Ended::Refused))
 }
 
-fn certify_file(rt: &HostRuntime, file: &str, is_slim: bool, asked: bool) -> ExitCode {
+/// Makes a certificate of what a reader of this name gives.
+fn certify<T: Read + Drop>(
+    rt: &HostRuntime,
+    input: T,
+    name: &str,
+    is_slim: bool,
+    asked: bool,
+) -> ExitCode {
     let helps = tells_help(rt, asked);
-    let file_reader = Recorded::new(rt.alloc(), NamedFile::new(rt, file), helps);
-    let mut reader = CountedSource::from_reader(file_reader);
+    let mut reader = CountedSource::from_reader(Recorded::new(rt.alloc(), input, helps));
     let mut writer = StdSink::new(rt.stdout());
     let certified = run_certify(rt.alloc(), &mut reader, &mut writer, is_slim);
     if helps && is_refused(&certified) {
         let given = reader.source().reader.given();
         tell_help(rt, explain_certify(rt.alloc(), given));
     }
-    end(rt, certified, file)
-}
-
-fn certify_input(rt: &HostRuntime, is_slim: bool, asked: bool) -> ExitCode {
-    let helps = tells_help(rt, asked);
-    let input = Recorded::new(rt.alloc(), rt.stdin(), helps);
-    let mut reader = CountedSource::from_reader(input);
-    let mut writer = StdSink::new(rt.stdout());
-    let certified = run_certify(rt.alloc(), &mut reader, &mut writer, is_slim);
-    if helps && is_refused(&certified) {
-        let given = reader.source().reader.given();
-        tell_help(rt, explain_certify(rt.alloc(), given));
-    }
-    end(rt, certified, "standard input")
+    end(rt, certified, name)
 }
 
 fn play_script(rt: &HostRuntime, asked: bool) -> ExitCode {
@@ -118,27 +111,30 @@ fn play_script(rt: &HostRuntime, asked: bool) -> ExitCode {
     end(rt, played, "standard input")
 }
 
-fn check_file(rt: &HostRuntime, file: &str, cert: &str, asked: bool) -> ExitCode {
-    let helps = tells_help(rt, asked);
-    let file_reader = Recorded::new(rt.alloc(), NamedFile::new(rt, file), helps);
-    let cert_reader = Recorded::new(rt.alloc(), NamedFile::new(rt, cert), helps);
-    let mut reader = CountedSource::from_reader(file_reader);
-    let mut certs = CountedSource::from_reader(cert_reader);
+/// Checks a certificate of a module, and tells how that ended.
+fn check<T: Read + Drop, C: Read + Drop>(
+    rt: &HostRuntime,
+    file: T,
+    cert: C,
+    helps: bool,
+) -> Result<Ended, PlayFault> {
+    let mut reader = CountedSource::from_reader(Recorded::new(rt.alloc(), file, helps));
+    let mut certs = CountedSource::from_reader(Recorded::new(rt.alloc(), cert, helps));
     let mut writer = StdSink::new(rt.stdout());
     let checked = run_check(rt.alloc(), &mut reader, &mut certs, &mut writer);
-    let file_read = &reader.source().reader;
-    let cert_read = &certs.source().reader;
     if helps && is_refused(&checked) {
-        tell_help(
-            rt,
-            explain_check(rt.alloc(), file_read.given(), cert_read.given()),
-        );
+        let given = reader.source().reader.given();
+        let cert_given = certs.source().reader.given();
+        tell_help(rt, explain_check(rt.alloc(), given, cert_given));
     }
-    let name = if cert_read.reader().is_read() {
-        cert
-    } else {
-        file
-    };
+    checked
+}
+
+fn check_file(rt: &HostRuntime, file: &str, cert: &str, asked: bool) -> ExitCode {
+    let mut cert_file = NamedFile::new(rt, cert);
+    let helps = tells_help(rt, asked);
+    let checked = check(rt, NamedFile::new(rt, file), &mut cert_file, helps);
+    let name = if cert_file.is_read() { cert } else { file };
     end(rt, checked, name)
 }
 
@@ -151,12 +147,12 @@ fn perform(rt: &HostRuntime, task: Task<'_>) -> ExitCode {
             file: Some(file),
             is_slim,
             explains,
-        } => certify_file(rt, file, is_slim, explains),
+        } => certify(rt, NamedFile::new(rt, file), file, is_slim, explains),
         Task::Certify {
             file: None,
             is_slim,
             explains,
-        } => certify_input(rt, is_slim, explains),
+        } => certify(rt, rt.stdin(), "standard input", is_slim, explains),
         Task::Check {
             file,
             cert,

@@ -57,13 +57,18 @@ fn tool_of<'a>(name: &str, given: &ArgMatches<'a>) -> Task<'a> {
     }
 }
 
-/// What these words ask for, of which the first is the program's name. `Error`: they are no words of the program, they ask for
-/// help, or there was no memory.
-pub fn task_of<'a>(alloc: Global, words: &'a [String]) -> Result<Task<'a>, Error> {
-    let matches = program(alloc)?.try_get_matches_from(words)?;
+/// What the command that was found is called for.
+fn found_task<'a>(alloc: Global, matches: &ArgMatches<'a>) -> Result<Task<'a>, Error> {
     match matches.subcommand() {
         None => Ok(Task::Play { explains: false }),
         Some(("serve", given)) => Ok(Task::Serve(front_of(alloc, given)?)),
         Some((name, given)) => Ok(tool_of(name, given)),
     }
+}
+
+/// What these words ask for, of which the first is the program's name. `Error`: they are no words of the program, they ask for
+/// help, or there was no memory.
+pub fn task_of<'a>(alloc: Global, words: &'a [String]) -> Result<Task<'a>, Error> {
+    let matches = program(alloc)?.try_get_matches_from(words)?;
+    found_task(alloc, &matches)
 }

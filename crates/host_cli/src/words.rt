@@ -86,7 +86,8 @@ const EXPLAIN_PLAYS: Word = Word {
     help: "Tells on the standard error, behind the answers, what faults and refusals mean, and what to write instead; so it does on a terminal",
 };
 
-const SERVE: &[Word] = &[
+/// What `serve` serves, and where.
+const SERVE_AT: &[Word] = &[
     Word {
         name: "site",
         takes: Takes::Text,
@@ -105,6 +106,10 @@ const SERVE: &[Word] = &[
         shown: "ADDRESS",
         help: "The address that is listened on; 0.0.0.0 stands for all of them",
     },
+];
+
+/// How long and how much `serve` serves.
+const SERVE_WITHIN: &[Word] = &[
     Word {
         name: "conns",
         takes: Takes::NumberOr("1", 0, 4_294_967_295),
@@ -129,6 +134,10 @@ const SERVE: &[Word] = &[
         shown: "SECONDS",
         help: "How long a request may take to come, and a write",
     },
+];
+
+/// How `serve` serves, and through what.
+const SERVE_THROUGH: &[Word] = &[
     Word {
         name: "at-once",
         takes: Takes::NumberOr("1", 1, 65_535),
@@ -149,7 +158,8 @@ const SERVE: &[Word] = &[
     },
 ];
 
-const COMMANDS: &[Row] = &[
+/// What plays and what writes modules.
+const WRITING: &[Row] = &[
     Row {
         name: "play",
         about: "Plays a script from standard input; so it does with no command",
@@ -165,6 +175,10 @@ const COMMANDS: &[Row] = &[
         about: "Prints a module, or the first fault of its text",
         words: &[FILE],
     },
+];
+
+/// What judges modules.
+const JUDGING: &[Row] = &[
     Row {
         name: "certify",
         about: "Makes a certificate of a module, or tells why there is none; of standard input with no file",
@@ -175,29 +189,33 @@ const COMMANDS: &[Row] = &[
         about: "Checks a certificate of a module",
         words: &[FILE, CERT, EXPLAIN],
     },
-    Row {
-        name: "serve",
-        about: "Serves the files of a site over HTTP/1.1, through a chain of filters that is checked first",
-        words: SERVE,
-    },
 ];
+
+/// The word with the number of a port.
+fn taking_port(arg: Arg<'_>) -> Arg<'_> {
+    arg.required(true)
+        .value_parser(value_parser!(u16).range(1..))
+}
+
+/// The word with a number within these bounds.
+fn taking_number(arg: Arg<'_>, least: i64, most: i64) -> Arg<'_> {
+    arg.value_parser(value_parser!(u32).range(least..=most))
+}
 
 /// The word with what it takes.
 fn taking<'a>(arg: Arg<'a>, takes: Takes) -> Result<Arg<'a>, AllocError> {
-    Ok(match takes {
-        Takes::File | Takes::Text => arg.required(true),
-        Takes::AnyFile => arg,
-        Takes::Files => arg.required(true).num_args(1..=16),
-        Takes::Nothing => arg.action(ArgAction::SetTrue),
-        Takes::InPlaceOf(other) => arg.action(ArgAction::SetTrue).conflicts_with(other)?,
-        Takes::TextOr(default) => arg.default_value(default),
-        Takes::Port => arg
-            .required(true)
-            .value_parser(value_parser!(u16).range(1..)),
-        Takes::NumberOr(default, least, most) => arg
-            .value_parser(value_parser!(u32).range(least..=most))
-            .default_value(default),
-    })
+    match takes {
+        Takes::File | Takes::Text => Ok(arg.required(true)),
+        Takes::AnyFile => Ok(arg),
+        Takes::Files => Ok(arg.required(true).num_args(1..=16)),
+        Takes::Nothing => Ok(arg.action(ArgAction::SetTrue)),
+        Takes::InPlaceOf(other) => arg.action(ArgAction::SetTrue).conflicts_with(other),
+        Takes::TextOr(default) => Ok(arg.default_value(default)),
+        Takes::Port => Ok(taking_port(arg)),
+        Takes::NumberOr(default, least, most) => {
+            Ok(taking_number(arg, least, most).default_value(default))
+        }
+    }
 }
 
 fn is_file(takes: Takes) -> bool {
@@ -214,27 +232,68 @@ fn named<'a>(alloc: Global, word: &'static Word) -> Arg<'a> {
 }
 
 fn arg_of<'a>(alloc: Global, word: &'static Word) -> Result<Arg<'a>, AllocError> {
-    let arg = taking(named(alloc, word), word.takes)?;
+    let arg = named(alloc, word);
     if word.help.is_empty() {
-        return Ok(arg);
+        return taking(arg, word.takes);
     }
-    Ok(arg.help(word.help))
+    taking(arg.help(word.help), word.takes)
+}
+
+fn add_words<'a>(
+    alloc: Global,
+    args: &mut Vec<Arg<'a>>,
+    words: &'static [Word],
+) -> Result<(), AllocError> {
+    for word in words {
+        args.push(arg_of(alloc, word)?)?;
+    }
+    Ok(())
 }
 
 fn command_of<'a>(alloc: Global, row: &'static Row) -> Result<Command<'a>, AllocError> {
     let mut args = Vec::new(alloc);
-    for word in row.words {
-        args.push(arg_of(alloc, word)?)?;
-    }
+    add_words(alloc, &mut args, row.words)?;
     Command::new(alloc, row.name).about(row.about).args(args)
+}
+
+fn add_serve_words(alloc: Global, args: &mut Vec<Arg<'_>>) -> Result<(), AllocError> {
+    add_words(alloc, args, SERVE_AT)?;
+    add_words(alloc, args, SERVE_WITHIN)?;
+    add_words(alloc, args, SERVE_THROUGH)
+}
+
+fn serve_command<'a>(alloc: Global) -> Result<Command<'a>, AllocError> {
+    let mut args = Vec::new(alloc);
+    add_serve_words(alloc, &mut args)?;
+    Command::new(alloc, "serve")
+        .about(
+            "Serves the files of a site over HTTP/1.1, through a chain of filters that is checked first",
+        )
+        .args(args)
+}
+
+fn add_rows<'a>(
+    alloc: Global,
+    commands: &mut Vec<Command<'a>>,
+    rows: &'static [Row],
+) -> Result<(), AllocError> {
+    for row in rows {
+        commands.push(command_of(alloc, row)?)?;
+    }
+    Ok(())
+}
+
+fn add_commands(alloc: Global, commands: &mut Vec<Command<'_>>) -> Result<(), AllocError> {
+    add_rows(alloc, commands, WRITING)?;
+    add_rows(alloc, commands, JUDGING)?;
+    commands.push(serve_command(alloc)?)?;
+    Ok(())
 }
 
 /// The program, with its commands.
 pub fn program<'a>(alloc: Global) -> Result<Command<'a>, AllocError> {
     let mut commands = Vec::new(alloc);
-    for row in COMMANDS {
-        commands.push(command_of(alloc, row)?)?;
-    }
+    add_commands(alloc, &mut commands)?;
     Command::new(alloc, "host_cli")
         .about("A host of output filters")
         .subcommands(commands)

@@ -7,9 +7,11 @@ use crate::head_reader::Deadline;
 use crate::request_log::{RequestLog, told_by};
 use crate::socket::Socket;
 use crate::system_clock::SystemClock;
-use byte_streams::{SocketSink, StdSource};
+use byte_streams::{Sink, SocketSink, Source, StdSource};
 use filter_chain::{Files, Host, Rings, Stored};
-use http_front::{FrontFault, FrontKind, HttpConn, Next, RequestTask, Served, Site, Turned};
+use http_front::{
+    Clock as TellsTime, FrontFault, FrontKind, HttpConn, Next, RequestTask, Served, Site, Turned,
+};
 use mio::net::TcpStream;
 use std::io::{ErrorKind, Read};
 use std::net::{Shutdown, SocketAddr};
@@ -78,6 +80,38 @@ pub struct Client {
 /// A moment that much later.
 pub fn later(now: Instant, by: Duration) -> Instant {
     now.checked_add(by).unwrap_or(now)
+}
+
+/// One turn of a connection of this number on the host, over its streams and a clock.
+fn turn_conn<R, F, B, S, W, K>(
+    conn: &mut HttpConn<RequestTask>,
+    shared: &mut Shared<'_, R>,
+    host: &mut Host<F, B>,
+    host_number: u64,
+    source: &mut S,
+    sink: &mut W,
+    clock: &mut K,
+) -> Result<Turned, FrontKind>
+where
+    R: Clock + Eprint + AllocGlobal,
+    F: Files + Drop,
+    B: Rings<Stored> + Drop,
+    S: Source,
+    W: Sink,
+    K: TellsTime,
+    requires { IsAlive F.device host.old }
+    ensures { IsAlive F.device host.new }
+{
+    conn.turn(
+        shared.runtime.alloc(),
+        source,
+        sink,
+        shared.site,
+        host,
+        host_number,
+        clock,
+        shared.buffer.as_mut_slice(),
+    )
 }
 
 impl Client {
@@ -230,15 +264,14 @@ impl Client {
             log: told_by(shared.logs, &log),
         };
         let mut source = StdSource::polled(Socket::new(&self.stream));
-        let turned = self.conn.turn(
-            shared.runtime.alloc(),
-            &mut source,
-            &mut SocketSink::polled(Socket::new(&self.stream)),
-            shared.site,
+        let turned = turn_conn(
+            &mut self.conn,
+            shared,
             host,
             self.host_number,
+            &mut source,
+            &mut SocketSink::polled(Socket::new(&self.stream)),
             &mut clock,
-            shared.buffer.as_mut_slice(),
         );
         // The system reports more bytes when they come.
         if source.reader.drained && !self.reads_on {

@@ -62,6 +62,15 @@ impl Hall {
         }
     }
 
+    /// A client takes a place and gets its turn. Answers whether there was memory for it.
+    fn seat(&mut self, client: Client) -> bool {
+        let Ok(key) = self.clients.insert(client) else {
+            return false;
+        };
+        self.wake(key);
+        true
+    }
+
     /// A client leaves. Where there is no memory to close its connection on the host, that is tried again at each sweep.
     fn leave<F: Files + Drop, B: Rings<Stored> + Drop>(&mut self, host: &mut Host<F, B>, key: usize)
         requires { IsAlive F.device host.old }
@@ -263,13 +272,11 @@ fn welcome<R: Clock + Eprint + AllocGlobal, F: Files + Drop, B: Rings<Stored> + 
 {
     let (mut stream, peer) = taken;
     let host_number = enter(&mut stream, host, poll, hall.clients.vacant_key())?;
-    let client = Client::new(shared, stream, peer, host_number, number, now);
-    let Ok(key) = hall.clients.insert(client) else {
-        let _ = close_turns(host, host_number);
-        return Err(io::Error::from(ErrorKind::OutOfMemory));
-    };
-    hall.wake(key);
-    Ok(())
+    if hall.seat(Client::new(shared, stream, peer, host_number, number, now)) {
+        return Ok(());
+    }
+    let _ = close_turns(host, host_number);
+    Err(io::Error::from(ErrorKind::OutOfMemory))
 }
 
 /// Takes those that wait, as many as there are places.

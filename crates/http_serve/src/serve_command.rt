@@ -10,7 +10,7 @@ use crate::listening::{ServeSettings, serve_all};
 use bucket_kinds::DiskFiles;
 use byte_streams::{CountedSource, READ_BYTES, READS};
 use byte_text::put_all;
-use filter_chain::{CheckedChain, Files, Host, Limits, Rings, Stored};
+use filter_chain::{CheckedChain, Files, Host, Limits, RawRings, Rings, Stored};
 use http_message::{SITE_BYTES, Site, SiteRefusal, site_of};
 use module_tools::{CommandOutput, Loaded, NamedFile, PlayFault, load_part};
 use script_text::{Part, Refused, accept_parts, put_refused_module};
@@ -226,14 +226,15 @@ fn unless_too_few(alloc: Global, at_once: u32) -> Result<(), StartError> {
 }
 
 /// A host of this chain over the files of the runtime.
-fn host_of<R>(
+fn host_of<R, B>(
     rt: &R,
     front: &ServeOptions<'_>,
     chain: CheckedChain,
-) -> Result<Host<DiskFiles<R>>, StartError>
+) -> Result<Host<DiskFiles<R>, B>, StartError>
 where
     R: Runtime + AllocGlobal,
     R::File: FileExt,
+    B: Rings<Stored> + Drop,
     ensures alive { IfOk result (IsAlive ⟦<DiskFiles<R> as Files>⟧.device) }
     ensures safe { IfOk result IsSafe }
 {
@@ -328,18 +329,17 @@ fn serve_listener<R: Clock + Eprint + AllocGlobal + Net, F: Files + Drop, B: Rin
 }
 
 /// Serves connections that come to a listener, and tells first that it listens.
-fn serve_behind<R>(
+fn serve_behind<R, F: Files + Drop, B: Rings<Stored> + Drop>(
     rt: &R,
     front: &ServeOptions<'_>,
-    host: &mut Host<DiskFiles<R>>,
+    host: &mut Host<F, B>,
     site: &Site,
     listener: TcpListener,
     address: SocketAddr,
 ) -> ExitCode
 where
-    R: Runtime + AllocGlobal + Net<Listener = TcpListener, Stream = TcpStream>,
-    R::File: FileExt,
-    requires alive { IsAlive ⟦<DiskFiles<R> as Files>⟧.device host.old }
+    R: Clock + Print + Eprint + AllocGlobal + Net<Listener = TcpListener, Stream = TcpStream>,
+    requires alive { IsAlive F.device host.old }
     requires safe { IsSafe host.old }
 {
     if !is_told_where(rt, address) {
@@ -349,16 +349,15 @@ where
 }
 
 /// Listens, and serves what comes: what listens has a host of a chain that is accepted, which never faults.
-fn serve_site<R>(
+fn serve_site<R, F: Files + Drop, B: Rings<Stored> + Drop>(
     rt: &R,
     front: &ServeOptions<'_>,
-    host: &mut Host<DiskFiles<R>>,
+    host: &mut Host<F, B>,
     site: &Site,
 ) -> ExitCode
 where
-    R: Runtime + AllocGlobal + Net<Listener = TcpListener, Stream = TcpStream>,
-    R::File: FileExt,
-    requires alive { IsAlive ⟦<DiskFiles<R> as Files>⟧.device host.old }
+    R: Clock + Print + Eprint + AllocGlobal + Net<Listener = TcpListener, Stream = TcpStream>,
+    requires alive { IsAlive F.device host.old }
     requires safe { IsSafe host.old }
 {
     match listen(rt, front) {
@@ -368,7 +367,7 @@ where
 }
 
 /// Serves a site through a chain that was accepted.
-fn serve_chain<R>(
+fn serve_chain<R, B>(
     rt: &R,
     front: &ServeOptions<'_>,
     chain: CheckedChain,
@@ -377,21 +376,23 @@ fn serve_chain<R>(
 where
     R: Runtime + AllocGlobal + Net<Listener = TcpListener, Stream = TcpStream>,
     R::File: FileExt,
+    B: Rings<Stored> + Drop,
 {
-    let mut host = host_of(rt, front, chain)?;
+    let mut host = host_of::<R, B>(rt, front, chain)?;
     Ok(serve_site(rt, front, &mut host, site))
 }
 
 /// Reads and checks the chain, reads the site, and serves it.
-fn serve_files<R>(rt: &R, front: &ServeOptions<'_>) -> Result<ExitCode, StartError>
+fn serve_files<R, B>(rt: &R, front: &ServeOptions<'_>) -> Result<ExitCode, StartError>
 where
     R: Runtime + AllocGlobal + Net<Listener = TcpListener, Stream = TcpStream>,
     R::File: FileExt,
+    B: Rings<Stored> + Drop,
 {
     unless_too_few(rt.alloc(), front.at_once)?;
     let chain = read_chain(rt, front.modules.as_slice())?;
     let site = read_site(rt, front.site)?;
-    serve_chain(rt, front, chain, &site)
+    serve_chain::<R, B>(rt, front, chain, &site)
 }
 
 /// Serves connections behind a port. What it tells goes to the standard output, and what it logs to the standard error. It fails where the chain
@@ -401,7 +402,7 @@ where
     R: Runtime + AllocGlobal + Net<Listener = TcpListener, Stream = TcpStream>,
     R::File: FileExt,
 {
-    match serve_files(rt, front) {
+    match serve_files::<R, RawRings<Stored>>(rt, front) {
         Ok(code) => code,
         Err(why) => tell_stop(rt, why),
     }

@@ -59,26 +59,39 @@ fn texts_of<'a>(alloc: Global, script: &'a [u8], told: &mut Vec<u8>) -> Result<(
     Ok((texts, rest))
 }
 
-/// Does the command of a line, or has the device fail later, and tells the answer.
-fn take<R: Rings<Stored> + Drop>(
+/// Does the command of a line, and tells the answer.
+fn answer<R: Rings<Stored> + Drop>(
     alloc: Global,
-    mut host: Host<MemFiles, R>,
+    host: &mut Host<MemFiles, R>,
     text: &[u8],
     told: &mut Vec<u8>,
-) -> Result<Host<MemFiles, R>>
-    requires { IsMemHostAlive host }
-    ensures { IfOk result IsMemHostAlive }
+) -> Result<()>
+    requires { IsMemHostAlive host.old }
+    ensures { IfOk result (λ _. IsMemHostAlive host.new) }
 {
-    if let Some(call) = operand_of(text, b"fail_at") {
-        host.fail_at(call);
-        return Ok(host);
-    }
     let Some(command) = due_command(alloc, text, true, host.files())? else {
         return Err(NoScript(0).into());
     };
-    let reply = serve(alloc, &mut host, command)?;
+    let reply = serve(alloc, host, command)?;
     put_reply(alloc, told, &reply)?;
-    Ok(host)
+    Ok(())
+}
+
+/// Does the command of a line, or has the device fail later, and tells the answer.
+fn take<R: Rings<Stored> + Drop>(
+    alloc: Global,
+    host: &mut Host<MemFiles, R>,
+    text: &[u8],
+    told: &mut Vec<u8>,
+) -> Result<()>
+    requires { IsMemHostAlive host.old }
+    ensures { IfOk result (λ _. IsMemHostAlive host.new) }
+{
+    if let Some(call) = operand_of(text, b"fail_at") {
+        host.fail_at(call);
+        return Ok(());
+    }
+    answer(alloc, host, text, told)
 }
 
 /// Plays a script on a host over these rings, and adds its answers to the text. What was answered before an error stands there.
@@ -95,7 +108,7 @@ pub(crate) fn play<R: Rings<Stored> + Drop>(
     let mut host = host_of::<R>(alloc, texts, first)?;
     while !rest.is_empty() {
         let line = first_line(rest);
-        host = take(alloc, host, line.text, told)?;
+        take(alloc, &mut host, line.text, told)?;
         rest = &rest[line.width..];
     }
     Ok(())

@@ -33,99 +33,56 @@ enum Call {
     New,
 }
 
-/// What a call reads.
-#[derive(Clone, Copy)]
-struct Row {
-    call: Call,
-    what: &'static str,
-    text: &'static [u8],
-    /// What comes after the text.
-    then: &'static [u8],
-    /// What comes after both, again and again, where there is no end.
-    again: &'static [u8],
-}
+type Text = &'static [u8];
+
+/// A call, how what it reads is called, a text, what comes after it, and what comes after both, again and again, where there is no end.
+type Row = (Call, &'static str, Text, Text, Text);
 
 /// How many reads give nothing before each byte of a reader without an end: so it gives 50,000 bytes in all.
 const PAUSES: u32 = 19;
 
 const ROWS: &[Row] = &[
-    Row {
-        call: Call::Serve,
-        what: "two requests",
-        text: GET,
-        then: GET,
-        again: GET,
-    },
-    Row {
-        call: Call::Serve,
-        what: "refusals, a HEAD and a GET",
-        text: b"POST /a HTTP/1.1\r\nHost: h\r\n\r\nGET /b HTTP/1.1\r\nHost: h\r\n\r\nHEAD /a HTTP/1.1\r\nHost: h\r\n\r\n",
-        then: GET,
-        again: GET,
-    },
-    Row {
-        call: Call::Serve,
-        what: "a head that is none",
-        text: b"GET /a HTTP/1.1\r\n\r\n",
-        then: b"",
-        again: GET,
-    },
-    Row {
-        call: Call::Play,
-        what: "a script",
-        text: IDENTITY,
-        then: b"open\nrun 1\nbegin 1\nrun 1\nbring 1 heap \"ab\" eos\nrun 1\noutput 1\n",
-        again: b"labels 1\n",
-    },
-    Row {
-        call: Call::Play,
-        what: "a script with a line that is none",
-        text: IDENTITY,
-        then: b"open\nrun\n",
-        again: b"labels 1\n",
-    },
-    Row {
-        call: Call::Assemble,
-        what: "a module",
-        text: IDENTITY,
-        then: b"",
-        again: IDENTITY,
-    },
-    Row {
-        call: Call::Certify,
-        what: "a module",
-        text: IDENTITY,
-        then: b"",
-        again: IDENTITY,
-    },
-    Row {
-        call: Call::Slim,
-        what: "a module",
-        text: IDENTITY,
-        then: b"",
-        again: IDENTITY,
-    },
-    Row {
-        call: Call::Check,
-        what: "a module",
-        text: IDENTITY,
-        then: b"",
-        again: IDENTITY,
-    },
-    Row {
-        call: Call::CheckWith,
-        what: "a certificate",
-        text: IDENTITY_CERT,
-        then: b"",
-        again: IDENTITY_CERT,
-    },
-    Row {
-        call: Call::New,
-        what: "nothing",
-        text: b"",
-        then: b"",
-        again: IDENTITY,
-    },
+    (Call::Serve, "two requests", GET, GET, GET),
+    (
+        Call::Serve,
+        "refusals, a HEAD and a GET",
+        b"POST /a HTTP/1.1\r\nHost: h\r\n\r\nGET /b HTTP/1.1\r\nHost: h\r\n\r\nHEAD /a HTTP/1.1\r\nHost: h\r\n\r\n",
+        GET,
+        GET,
+    ),
+    (
+        Call::Serve,
+        "a head that is none",
+        b"GET /a HTTP/1.1\r\n\r\n",
+        b"",
+        GET,
+    ),
+    (
+        Call::Play,
+        "a script",
+        IDENTITY,
+        b"open\nrun 1\nbegin 1\nrun 1\nbring 1 heap \"ab\" eos\nrun 1\noutput 1\n",
+        b"labels 1\n",
+    ),
+    (
+        Call::Play,
+        "a script with a line that is none",
+        IDENTITY,
+        b"open\nrun\n",
+        b"labels 1\n",
+    ),
+    (Call::Assemble, "a module", IDENTITY, b"", IDENTITY),
+    (Call::Certify, "a module", IDENTITY, b"", IDENTITY),
+    (Call::Slim, "a module", IDENTITY, b"", IDENTITY),
+    (Call::Check, "a module", IDENTITY, b"", IDENTITY),
+    (
+        Call::CheckWith,
+        "a certificate",
+        IDENTITY_CERT,
+        b"",
+        IDENTITY_CERT,
+    ),
+    (Call::New, "nothing", b"", b"", IDENTITY),
 ];
 
 /// How a call ends.
@@ -266,7 +223,7 @@ fn show_text<B: Rings<Stored> + Drop>(
     text: &[u8],
     answer: &mut Vec<u8>,
 ) -> Result<()> {
-    let (call, what, again) = (row.call, row.what, row.again);
+    let (call, what, _, _, again) = row;
     let end = ask::<B, _, _>(rt.alloc(), call, text, answer)?;
     let count = answer.len();
     println!(rt; "{call:?} of {what}: {end:?}, {count} bytes are written")?;
@@ -292,8 +249,9 @@ fn show_text<B: Rings<Stored> + Drop>(
 
 /// A call, with streams that are slow, fail, or never end.
 fn show_row<B: Rings<Stored> + Drop>(rt: &HostRuntime, row: Row) -> Result<()> {
-    let mut text = row.text.to_vec(rt.alloc())?;
-    text.extend_from_slice(row.then)?;
+    let (_, _, before, then, _) = row;
+    let mut text = before.to_vec(rt.alloc())?;
+    text.extend_from_slice(then)?;
     let mut answer = Vec::new(rt.alloc());
     show_text::<B>(rt, row, text.as_slice(), &mut answer)
 }

@@ -75,26 +75,20 @@ fn host<B: Rings<Stored> + Drop>(
     Ok(Host::watched_at(alloc, files, chain.into_modules(), limits, first)?)
 }
 
+/// Makes a call, and gives its refusal.
 fn make<F: Files + Drop, B: Rings<Stored> + Drop>(
     host: &mut Host<F, B>,
     call: Call,
-) -> Result<(), Refusal>
+) -> Option<Refusal>
     requires { IsAlive F.device host.old }
     ensures { IsAlive F.device host.new }
 {
     match call {
-        Call::Open => {
-            host.open_conn()?;
-        }
-        Call::Step => {
-            host.step(CONN)?;
-        }
-        Call::Begin => host.begin(CONN)?,
-        Call::Close => {
-            host.close(CONN)?;
-        }
+        Call::Open => host.open_conn().err(),
+        Call::Step => host.step(CONN).err(),
+        Call::Begin => host.begin(CONN).err(),
+        Call::Close => host.close(CONN).err(),
     }
-    Ok(())
 }
 
 /// Makes a call, and prints what it answers.
@@ -107,8 +101,8 @@ fn tell<F: Files + Drop, B: Rings<Stored> + Drop>(
     ensures { IsAlive F.device host.new }
 {
     match make(host, call) {
-        Ok(()) => println!(rt; "{call:?}: done"),
-        Err(refusal) => println!(rt; "{call:?}: {refusal}"),
+        None => println!(rt; "{call:?}: done"),
+        Some(refusal) => println!(rt; "{call:?}: {refusal}"),
     }
 }
 
@@ -135,14 +129,19 @@ fn show<B: Rings<Stored> + Drop>(rt: &HostRuntime, row: &Row) -> Result<()> {
     tell_all(rt, &mut host, row.calls)
 }
 
-/// Names that begin so near to the end that the first request finds none, or the first pool of a filter; and names that cannot begin.
-pub(crate) fn names_spent_host<B: Rings<Stored> + Drop>(rt: &HostRuntime) -> Result<()> {
-    for row in &ROWS {
-        show::<B>(rt, row)?;
-    }
+/// A host whose names cannot begin.
+fn show_refused<B: Rings<Stored> + Drop>(rt: &HostRuntime) -> Result<()> {
     match host::<B>(rt.alloc(), IDENTITY, false, u64::MAX) {
         Ok(_) => println!(rt; "a host of no names")?,
         Err(refusal) => println!(rt; "names from {}: {refusal}", u64::MAX)?,
     }
     Ok(())
+}
+
+/// Names that begin so near to the end that the first request finds none, or the first pool of a filter; and names that cannot begin.
+pub(crate) fn names_spent_host<B: Rings<Stored> + Drop>(rt: &HostRuntime) -> Result<()> {
+    for row in &ROWS {
+        show::<B>(rt, row)?;
+    }
+    show_refused::<B>(rt)
 }
