@@ -74,11 +74,11 @@ pub(crate) fn put<R: Rings<Stored> + Drop>(
 }
 
 /// Moves a bucket.
-fn shift<R: Rings<Stored> + Drop>(
+pub(crate) fn shift<R: Rings<Stored> + Drop>(
     store: &mut Brigades<R>,
     id: BucketId,
     place: Place,
-) -> Result<(), Missing> {
+) -> Result<()> {
     match place {
         Place::Head(brigade) => {
             want_both(store, id, brigade)?;
@@ -93,9 +93,20 @@ fn shift<R: Rings<Stored> + Drop>(
             want_bucket(store, at)?;
             store.move_before(at, id);
         }
-        Place::After(_) => return Err(Missing),
+        Place::After(_) => return Err(Missing.into()),
     }
     Ok(())
+}
+
+/// Puts new buckets at the tail of a brigade at once.
+pub(crate) fn put_all<R: Rings<Stored> + Drop>(
+    alloc: Global,
+    store: &mut Brigades<R>,
+    brigade: BrigadeId,
+    made: &[Made],
+) -> Result<()> {
+    want_brigade(store, brigade)?;
+    Ok(store.add_all(brigade, make_all(alloc, made)?)?)
 }
 
 /// Moves all buckets of a brigade to the tail of another.
@@ -168,24 +179,6 @@ impl<R: Rings<Stored> + Drop> RowStore<R> {
             Err((why, back)) => println!(rt; "{why}, and {} comes back", shown(&back))?,
         }
         Ok(())
-    }
-
-    /// Puts new buckets at the tail of a brigade at once.
-    pub(crate) fn put_all(
-        &mut self,
-        alloc: Global,
-        brigade: BrigadeId,
-        made: &[Made],
-    ) -> Result<()> {
-        let buckets = make_all(alloc, made)?;
-        want_brigade(&mut self.store, brigade)?;
-        Ok(self.store.add_all(brigade, buckets)?)
-    }
-
-    /// Moves a bucket.
-    pub(crate) fn shift(&mut self, bucket: usize, place: At) -> Result<()> {
-        let id = self.buckets.name(bucket);
-        Ok(shift(&mut self.store, id, place.among(&self.buckets))?)
     }
 
     /// Splits a brigade at a bucket, or at its end, into another.

@@ -106,39 +106,52 @@ fn read<R: Rings<Stored> + Drop, F: Files>(
     Ok(())
 }
 
+/// Splits a bucket. Where it is refused, that is told.
+pub(crate) fn split<R: Rings<Stored> + Drop>(
+    rt: &HostRuntime,
+    store: &mut Brigades<R>,
+    id: BucketId,
+    at: u64,
+) -> Result<()> {
+    print!(rt; " at {at}: ")?;
+    want_bucket(store, id)?;
+    if !ends_in_file(store.payload(id)) {
+        return Err(Missing.into());
+    }
+    match store.split(id, at) {
+        Ok(_) => Ok(()),
+        Err(why) => Ok(print!(rt; "{why}, and it is ")?),
+    }
+}
+
+/// Puts a copy of a bucket at the tail of a brigade.
+pub(crate) fn copy<R: Rings<Stored> + Drop>(
+    store: &mut Brigades<R>,
+    id: BucketId,
+    brigade: BrigadeId,
+) -> Result<()> {
+    want_both(store, id, brigade)?;
+    store.copy(id, brigade)?;
+    Ok(())
+}
+
+/// Makes a brigade of these buckets, parts it at a point, and tells the place.
+pub(crate) fn show_part<R: Rings<Stored> + Drop>(
+    rt: &HostRuntime,
+    store: &mut Brigades<R>,
+    made: &[Made],
+    point: u64,
+) -> Result<()> {
+    print!(rt; "at {point}: ")?;
+    let place = match part(store, make_all(rt.alloc(), made)?, point)? {
+        Cut::Found(id) => return show_bucket(rt, store, id, "before "),
+        Cut::AtEnd => "the end",
+        Cut::Incomplete => "incomplete",
+    };
+    Ok(print!(rt; "{place}")?)
+}
+
 impl<R: Rings<Stored> + Drop> RowStore<R> {
-    /// Splits a bucket. Where it is refused, that is told.
-    pub(crate) fn split(&mut self, rt: &HostRuntime, bucket: usize, at: u64) -> Result<()> {
-        print!(rt; " at {at}: ")?;
-        let id = self.buckets.name(bucket);
-        want_bucket(&mut self.store, id)?;
-        if !ends_in_file(self.store.payload(id)) {
-            return Err(Missing.into());
-        }
-        match self.store.split(id, at) {
-            Ok(_) => Ok(()),
-            Err(why) => Ok(print!(rt; "{why}, and it is ")?),
-        }
-    }
-
-    /// Puts a copy of a bucket at the tail of a brigade.
-    pub(crate) fn copy(&mut self, bucket: usize, brigade: BrigadeId) -> Result<()> {
-        let id = self.buckets.name(bucket);
-        want_both(&mut self.store, id, brigade)?;
-        self.store.copy(id, brigade)?;
-        Ok(())
-    }
-
-    /// Makes a brigade of these buckets, parts it at a point, and tells the place.
-    pub(crate) fn part(&mut self, rt: &HostRuntime, made: &[Made], point: u64) -> Result<()> {
-        print!(rt; "at {point}: ")?;
-        match part(&mut self.store, make_all(rt.alloc(), made)?, point)? {
-            Cut::Found(id) => show_bucket(rt, &mut self.store, id, "before "),
-            Cut::AtEnd => Ok(print!(rt; "the end")?),
-            Cut::Incomplete => Ok(print!(rt; "incomplete")?),
-        }
-    }
-
     /// Reads the first bytes of a file of so many, by a bucket of a brigade.
     pub(crate) fn read(&mut self, rt: &HostRuntime, size: usize, len: u32) -> Result<()> {
         self.read_of(rt, &mut files_of(rt.alloc(), size)?, len)

@@ -11,7 +11,6 @@ use crate::there::{want_brigade, want_bucket, want_pool, want_two};
 use crate::world::RowStore;
 use anyhow::Result;
 use brigade_ops::{BrigadeId, Brigades, FileNo, Rings, Stored};
-use bucket_kinds::Bucket;
 use pool_tree::{PoolId, PoolTree};
 use run_model::Payload;
 use std::alloc::Global;
@@ -52,18 +51,19 @@ fn save_onto<R: Rings<Stored> + Drop>(
     Ok(store.save(tree, onto, from)?)
 }
 
-/// Makes a brigade with a bucket on a pool, and saves another into it.
-fn save<R: Rings<Stored> + Drop>(
+/// Makes a brigade of one bucket on a pool, and saves another into it.
+pub(crate) fn save<R: Rings<Stored> + Drop>(
     store: &mut Brigades<R>,
     tree: &mut PoolTree<Payload>,
+    alloc: Global,
     pool: PoolId,
-    first: Bucket,
+    made: Made,
     from: BrigadeId,
 ) -> Result<()> {
     want_pool(tree, pool)?;
     let onto = store.create(tree, pool)?;
     want_brigade(store, onto)?;
-    if let Err((why, _)) = store.add_tail(onto, first) {
+    if let Err((why, _)) = store.add_tail(onto, make(alloc, made)?) {
         return Err(why.into());
     }
     want_pool(tree, pool)?;
@@ -85,18 +85,6 @@ impl<R: Rings<Stored> + Drop> RowStore<R> {
         want_bucket(&mut self.store, id)?;
         want_pool(&mut self.tree, pool)?;
         Ok(self.store.aside(&mut self.tree, id, pool)?)
-    }
-
-    /// Makes a brigade of one bucket on a pool, and saves another into it.
-    pub(crate) fn save(
-        &mut self,
-        alloc: Global,
-        pool: PoolId,
-        made: Made,
-        from: BrigadeId,
-    ) -> Result<()> {
-        let first = make(alloc, made)?;
-        save(&mut self.store, &mut self.tree, pool, first, from)
     }
 
     /// Refers to a file, for a pool.

@@ -1,8 +1,10 @@
 //! What the rows of brigades go through, step by step.
 
-use crate::brigades::{concat, show_bucket};
+use crate::brigades::{concat, put_all, shift, show_bucket};
 use crate::buckets::Made;
 use crate::calls::{At, Buckets, NO_BUCKETS};
+use crate::cuts::{copy, show_part, split};
+use crate::saves::save;
 use anyhow::Result;
 use brigade_ops::{BrigadeId, Brigades, FileNo, Rings, Stored};
 use pool_tree::{PoolId, PoolTree};
@@ -123,12 +125,19 @@ impl<R: Rings<Stored> + Drop> RowStore<R> {
             Step::Make => self.make(rt),
             Step::Pair(first, second) => self.make_pair(rt.alloc(), first, second),
             Step::Put(place, made) => self.put(rt, place, made),
-            Step::PutAll(brigade, made) => self.put_all(rt.alloc(), brigade, made),
-            Step::Move(bucket, place) => self.shift(bucket, place),
+            Step::PutAll(brigade, made) => put_all(rt.alloc(), &mut self.store, brigade, made),
+            Step::Move(bucket, place) => {
+                let id = self.buckets.name(bucket);
+                shift(&mut self.store, id, place.among(&self.buckets))
+            }
             Step::Concat(onto, from) => concat(&mut self.store, onto, from),
             Step::SplitAt(brigade, place, into) => self.split_at(brigade, place, into),
-            Step::Split(bucket, at) => self.split(rt, bucket, at),
-            Step::Copy(bucket, brigade) => self.copy(bucket, brigade),
+            Step::Split(bucket, at) => split(rt, &mut self.store, self.buckets.name(bucket), at),
+            Step::Copy(bucket, brigade) => copy(
+                &mut self.store,
+                self.buckets.name(bucket),
+                brigade,
+            ),
             step => self.change_more(rt, step),
         }
     }
@@ -137,19 +146,28 @@ impl<R: Rings<Stored> + Drop> RowStore<R> {
     fn change_more(&mut self, rt: &HostRuntime, step: Step) -> Result<()> {
         match step {
             Step::Pool(parent) => self.create_pool(parent),
-            Step::Part(made, point) => self.part(rt, made, point),
+            Step::Part(made, point) => show_part(rt, &mut self.store, made, point),
             Step::Read(size, len) => self.read(rt, size, len),
             Step::Aside(bucket, pool) => self.aside(rt, bucket, pool),
-            Step::Save(pool, made, from) => self.save(rt.alloc(), pool, made, from),
+            Step::Save(pool, made, from) => {
+                save(
+                    &mut self.store,
+                    &mut self.tree,
+                    rt.alloc(),
+                    pool,
+                    made,
+                    from,
+                )
+            }
             Step::Refer(pool, file) => self.refer(pool, file),
             Step::Clear(pool, brigade) => self.clear(pool, brigade),
             _ => Ok(()),
         }
     }
 
-    /// Makes the steps of a row.
-    fn play(&mut self, rt: &HostRuntime, made: &[Step], then: &[Step]) -> Result<()> {
-        for step in made.iter().chain(then) {
+    /// Makes steps one after another.
+    fn play(&mut self, rt: &HostRuntime, steps: &[Step]) -> Result<()> {
+        for step in steps {
             self.take(rt, *step)?;
         }
         Ok(())
@@ -163,5 +181,7 @@ pub(crate) fn play<R: Rings<Stored> + Drop>(
     made: &[Step],
     then: &[Step],
 ) -> Result<()> {
-    RowStore::<R>::new(rt.alloc(), first)?.play(rt, made, then)
+    let mut store = RowStore::<R>::new(rt.alloc(), first)?;
+    store.play(rt, made)?;
+    store.play(rt, then)
 }
