@@ -86,8 +86,7 @@ const EXPLAIN_PLAYS: Word = Word {
     help: "Tells on the standard error, behind the answers, what faults and refusals mean, and what to write instead; so it does on a terminal",
 };
 
-/// What `serve` serves, and where.
-const SERVE_AT: &[Word] = &[
+const SERVE: &[Word] = &[
     Word {
         name: "site",
         takes: Takes::Text,
@@ -106,10 +105,6 @@ const SERVE_AT: &[Word] = &[
         shown: "ADDRESS",
         help: "The address that is listened on; 0.0.0.0 stands for all of them",
     },
-];
-
-/// How long and how much `serve` serves.
-const SERVE_WITHIN: &[Word] = &[
     Word {
         name: "conns",
         takes: Takes::NumberOr("1", 0, 4_294_967_295),
@@ -134,10 +129,6 @@ const SERVE_WITHIN: &[Word] = &[
         shown: "SECONDS",
         help: "How long a request may take to come, and a write",
     },
-];
-
-/// How `serve` serves, and through what.
-const SERVE_THROUGH: &[Word] = &[
     Word {
         name: "at-once",
         takes: Takes::NumberOr("1", 1, 65_535),
@@ -158,8 +149,7 @@ const SERVE_THROUGH: &[Word] = &[
     },
 ];
 
-/// What plays and what writes modules.
-const WRITING: &[Row] = &[
+const COMMANDS: &[Row] = &[
     Row {
         name: "play",
         about: "Plays a script from standard input; so it does with no command",
@@ -175,10 +165,6 @@ const WRITING: &[Row] = &[
         about: "Prints a module, or the first fault of its text",
         words: &[FILE],
     },
-];
-
-/// What judges modules.
-const JUDGING: &[Row] = &[
     Row {
         name: "certify",
         about: "Makes a certificate of a module, or tells why there is none; of standard input with no file",
@@ -188,6 +174,11 @@ const JUDGING: &[Row] = &[
         name: "check",
         about: "Checks a certificate of a module",
         words: &[FILE, CERT, EXPLAIN],
+    },
+    Row {
+        name: "serve",
+        about: "Serves the files of a site over HTTP/1.1, through a chain of filters that is checked first",
+        words: SERVE,
     },
 ];
 
@@ -239,61 +230,20 @@ fn arg_of<'a>(alloc: Global, word: &'static Word) -> Result<Arg<'a>, AllocError>
     taking(arg.help(word.help), word.takes)
 }
 
-fn add_words<'a>(
-    alloc: Global,
-    args: &mut Vec<Arg<'a>>,
-    words: &'static [Word],
-) -> Result<(), AllocError> {
-    for word in words {
-        args.push(arg_of(alloc, word)?)?;
-    }
-    Ok(())
-}
-
 fn command_of<'a>(alloc: Global, row: &'static Row) -> Result<Command<'a>, AllocError> {
     let mut args = Vec::new(alloc);
-    add_words(alloc, &mut args, row.words)?;
-    Command::new(alloc, row.name).about(row.about).args(args)
-}
-
-fn add_serve_words(alloc: Global, args: &mut Vec<Arg<'_>>) -> Result<(), AllocError> {
-    add_words(alloc, args, SERVE_AT)?;
-    add_words(alloc, args, SERVE_WITHIN)?;
-    add_words(alloc, args, SERVE_THROUGH)
-}
-
-fn serve_command<'a>(alloc: Global) -> Result<Command<'a>, AllocError> {
-    let mut args = Vec::new(alloc);
-    add_serve_words(alloc, &mut args)?;
-    Command::new(alloc, "serve")
-        .about(
-            "Serves the files of a site over HTTP/1.1, through a chain of filters that is checked first",
-        )
-        .args(args)
-}
-
-fn add_rows<'a>(
-    alloc: Global,
-    commands: &mut Vec<Command<'a>>,
-    rows: &'static [Row],
-) -> Result<(), AllocError> {
-    for row in rows {
-        commands.push(command_of(alloc, row)?)?;
+    for word in row.words {
+        args.push(arg_of(alloc, word)?)?;
     }
-    Ok(())
-}
-
-fn add_commands(alloc: Global, commands: &mut Vec<Command<'_>>) -> Result<(), AllocError> {
-    add_rows(alloc, commands, WRITING)?;
-    add_rows(alloc, commands, JUDGING)?;
-    commands.push(serve_command(alloc)?)?;
-    Ok(())
+    Command::new(alloc, row.name).about(row.about).args(args)
 }
 
 /// The program, with its commands.
 pub fn program<'a>(alloc: Global) -> Result<Command<'a>, AllocError> {
     let mut commands = Vec::new(alloc);
-    add_commands(alloc, &mut commands)?;
+    for row in COMMANDS {
+        commands.push(command_of(alloc, row)?)?;
+    }
     Command::new(alloc, "host_cli")
         .about("A host of output filters")
         .subcommands(commands)
