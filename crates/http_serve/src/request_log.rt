@@ -127,45 +127,44 @@ fn or_dash(sent: &[u8]) -> &[u8] {
 }
 
 impl<R: Clock + Eprint + AllocGlobal> RequestLog<'_, R> {
-    /// Puts a line of this connection; where there is no memory for what it tells, it is left out.
-    fn put(&self, told: Result<String, AllocError>) {
-        let Ok(told) = told else {
-            return;
-        };
-        let at = Moment::now(self.runtime);
-        let peer = self.peer;
-        let number = self.number;
-        let line = format!(in self.runtime.alloc(); "{at} {peer} connection {number}: {told}\n");
-        put_line(self.runtime, line);
-    }
-
     /// Tells a request: its method and target, the status, the bytes of the body and the microseconds since its last bytes came; and of a
     /// failure the cause.
     pub fn tell(&self, exchange: &Exchange<'_>) {
+        let at = Moment::now(self.runtime);
+        let peer = self.peer;
+        let number = self.number;
         let method = or_dash(exchange.method).escape_ascii();
         let target = or_dash(exchange.target).escape_ascii();
         let status = exchange.status;
         let size = exchange.size;
         let micros = self.deadline.taken(self.runtime).as_micros();
         let why = Reason(exchange.failure);
-        self.put(format!(in self.runtime.alloc();
-            "{method} {target}: {status}, {size} bytes, {micros} us{why}"
-        ));
+        let line = format!(in self.runtime.alloc();
+            "{at} {peer} connection {number}: {method} {target}: {status}, {size} bytes, {micros} us{why}\n"
+        );
+        put_line(self.runtime, line);
     }
 
     /// Tells a connection: how many requests were answered, that it was idle too long, or why it ended.
     pub fn tell_end(&self, outcome: Result<Served, FrontFault>) {
+        let at = Moment::now(self.runtime);
+        let peer = self.peer;
+        let number = self.number;
         let alloc = self.runtime.alloc();
-        match outcome {
-            Ok(served) => self.put(format!(in alloc; "requests {}", served.requests)),
+        let line = match outcome {
+            Ok(served) => {
+                let requests = served.requests;
+                format!(in alloc; "{at} {peer} connection {number}: requests {requests}\n")
+            }
             Err(fault) => {
                 let why = End {
                     kind: fault.kind,
                     is_late: self.deadline.was_late(),
                     is_idle: self.deadline.was_idle(),
                 };
-                self.put(format!(in alloc; "{why}"));
+                format!(in alloc; "{at} {peer} connection {number}: {why}\n")
             }
-        }
+        };
+        put_line(self.runtime, line);
     }
 }
