@@ -9,6 +9,5 @@ pub returns-clause-ok : goal.returns-clause-ok
 returns-clause-ok c =
     let same : c.match-stored.kept ≡ c.args.stored.now.kept = elim c.match-stored.branch [
       | in-Own+in_ok-content_copy-in-Own w ↦ w.kept-is ∙ (ap (λ k. kept.Own k) w.in_ok-content_copy-in-Own.ensures.ok ∙ sym w.in-Own.is)
-      | in-Placed w ↦ w.kept-is ∙ sym w.in-Placed.is
-    ] in
-    ap (λ k. let x : Stored = record c.args.stored.now { kept = k } in x) same
+      | in-Placed w ↦ (let is : c.match-stored.kept ≡ kept.Placed w.in-Placed.place = w.kept-is in is ∙ sym w.in-Placed.is)
+    ] in ap (λ k. let x : Stored = record c.args.stored.now { kept = k } in x) same
