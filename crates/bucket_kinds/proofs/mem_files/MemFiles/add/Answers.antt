@@ -1,4 +1,4 @@
-use Rattle.std.proofs.Common.{◌≡◌, ℕ, List, None, Some, cond, is_some, false, rules}
+use Rattle.std.proofs.Common.{◌≡◌, ℕ, List, None, Some, cond, is_some, false, refl, sym, ◌∙◌, rules}
 use Rattle.std.proofs.Math.Path.{fun_ext}
 use Rattle.std.specs.Str.{bytes_eq}
 use Rattle.bucket_kinds.specs.InMemory.{under}
@@ -17,3 +17,6 @@ returns-clause-files c =
     let put : (q : List ℕ) → under c.put.new.files q ≡ cond (bytes_eq q name) (Some c.args.bytes.items) (under mem.files q) =
     rw same at c.in_ok-put.ensures.ok in
     (missing, renamed_after (files_of mem) (fun_ext put) (same_numbered mem.files c.put.new.files mem.opened name c.args.bytes.items put missing mem.there))
+
+pub returns-then-has-clause-files : goal.returns-then-has-clause-files
+returns-then-has-clause-files c = (sym c.has.ensures ∙ c.if-has.true, refl)
