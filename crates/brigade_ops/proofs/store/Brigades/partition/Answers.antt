@@ -1,5 +1,5 @@
 -- A bucket that the point lies inside is data, and longer than what stands before the point.
-use Rattle.std.proofs.Common.{◌≡◌, ◌<◌, ◌+◌, ℕ, true, false, cond, Some, Err, sym, ap, ◌∙◌, arith}
+use Rattle.std.proofs.Common.{◌≡◌, ◌<◌, ◌+◌, ℕ, true, false, cond, Some, Ok, Err, refl, sym, ap, ◌∙◌, arith}
 use Rattle.std.proofs.lemmas.Bool.{false≢true}
 use Rattle.run_model.specs.Buckets.{is_data_kind}
 use Rattle.run_model.specs.Cutting.{length_of}
@@ -8,8 +8,8 @@ use Rattle.bucket_ring.specs.declared.names.BucketId.{BucketId}
 use Rattle.bucket_ring.specs.Lists.{list_at}
 use Rattle.stored_rings.specs.declared.refusal.SplitRefusal.{SplitRefusal}
 use Rattle.stored_rings.specs.declared.parting.Point.{Point}
-use Rattle.stored_rings.specs.declared.parting.Point.TheVariants.{Inside}
-use Rattle.stored_rings.specs.Points.{is_inside}
+use Rattle.stored_rings.specs.declared.parting.Point.TheVariants.{At, Inside}
+use Rattle.stored_rings.specs.Points.{cut_at, is_inside}
 use Rattle.stored_rings.specs.Items.{Items}
 use Rattle.brigade_ops.specs.Store.{lists, brigade_of, bucket_at, next_name}
 use Rattle.stored_rings.proofs.Parts.{inside_short, bytes_are_data}
@@ -91,3 +91,12 @@ unreachable-requires-in-Err-TooLong g c =
     let over : length_of x.0.content < c.in-Inside.n =
     ((c.split.ensures.too_long x.0 x.1).0 (c.in-Err-TooLong.is ∙ ap (λ (e : SplitRefusal). Err e) c.in-Err-TooLong.field-0-is)).1 in
     omega arith
+
+pub returns-in-Short-clause-between : goal.returns-in-Short-clause-between
+returns-in-Short-clause-between g c out = (ap (λ (p : Point). Ok (cut_at p)) (sym c.in-Short.is ∙ c.find.ensures.value), λ m. refl)
+
+pub returns-in-At-None-clause-between : goal.returns-in-At-None-clause-between
+returns-in-At-None-clause-between g c out = (ap (λ (p : Point). Ok (cut_at p)) (sym (c.in-At-None.is ∙ ap At c.in-At-None.field-0-is) ∙ c.find.ensures.value), λ m. refl)
+
+pub returns-in-At-Some-clause-between : goal.returns-in-At-Some-clause-between
+returns-in-At-Some-clause-between g c out = (ap (λ (p : Point). Ok (cut_at p)) (sym (c.in-At-Some.is ∙ ap At c.in-At-Some.field-0-is) ∙ c.find.ensures.value), λ m. refl)
