@@ -1,7 +1,8 @@
 -- By what it is made from.
-use Rattle.std.proofs.Common.{◌≡◌, ap, ◌∙◌, inl, inr, sym}
+use Rattle.std.proofs.Common.{◌≡◌, ap, ap₂, ◌∙◌, inl, inr, sym}
+use Rattle.life_state.specs.declared.parts.Classes.{Classes}
 use Rattle.life_state.specs.States.{Homes, State, no_homes}
-use Rattle.life_state.specs.Rules.{only_bytes, only_flush, only_eos, made, after_make}
+use Rattle.life_state.specs.Rules.{only_bytes, only_flush, only_eos, classes_of, homes_at, made, after_make}
 use Rattle.life_state.specs.Seen.{seen}
 use Rattle.run_model.specs.declared.effect.MadeFrom.{MadeFrom}
 use Rattle.life_state.proofs.state.State.make.Goals as goal
@@ -32,3 +33,11 @@ returns-in-EosBucket c =
     let s = seen c.args.self in
     c.made-in-EosBucket.ensures
     ∙ (ap (λ (h : Homes). made c.args.c only_eos h s) c.none-in-EosBucket.ensures ∙ sym (ap (λ (x : MadeFrom). after_make c.args.c x s) c.in-EosBucket.is))
+
+pub returns-in-CopyAt : goal.returns-in-CopyAt
+returns-in-CopyAt c =
+    let s = seen c.args.self in
+    let classes = c.classes.ensures ∙ ap classes_of c.cursor-cursor.ensures in
+    let homes = c.homes_at.ensures ∙ ap (homes_at s) c.cursor-cursor.ensures in
+    c.made-in-CopyAt.ensures
+    ∙ (ap₂ (λ (k : Classes) (h : Homes). made c.args.c k h s) classes homes ∙ sym (ap (λ (x : MadeFrom). after_make c.args.c x s) c.in-CopyAt.is))
