@@ -75,8 +75,3 @@ returns-in-Err-clause-house g c house =
     (λ n p at some. ap is_some (c.in-Err.ensures.err n) ∙ some)
     c.in_ok-reserve.ensures.values
     (λ f. refl))
-
-pub returns-in-Ok-new_ring-clause-on : goal.returns-in-Ok-new_ring-clause-on
-unfolding pool_of upd
-returns-in-Ok-new_ring-clause-on g c n =
-    c.put.ensures.values n ∙ ap (λ (o : Option ℕ). cond (n == c.in-Ok-new_ring.b) (Some c.args.pool) o) (c.in_ok-reserve.ensures.values n)

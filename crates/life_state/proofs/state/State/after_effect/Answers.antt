@@ -1,4 +1,4 @@
--- By the effect; two brigades in one have the homes of both.
+-- The homes of both.
 use Rattle.std.proofs.Common.{ap, sym, ◌∙◌}
 use Rattle.run_model.specs.declared.effect.Effect.{Effect}
 use Rattle.life_state.specs.States.{Homes, both_homes}
@@ -15,6 +15,3 @@ returns-in-Concat c =
     (c.both.ensures ∙ (ap (λ (h : Homes). both_homes h (seen_homes c.homes-in-Concat.result)) c.homes.ensures
     ∙ ap (both_homes (s.brigades a).homes) c.homes-in-Concat.ensures))
     ∙ sym (ap (λ (e : Effect). after c.args.code.now e s) c.in-Concat.is))
-
-pub returns-in-Delete : goal.returns-in-Delete
-returns-in-Delete c = c.move_bucket.ensures ∙ sym (ap (λ (e : Effect). after c.args.code.now e (seen c.args.self)) c.in-Delete.is)
