@@ -5,7 +5,6 @@
 mod failing;
 mod loopback;
 mod modules;
-mod names_spent;
 mod pages;
 mod requests;
 mod shown;
@@ -19,7 +18,6 @@ use filter_chain::{RawRings, Rings, Stored};
 fn show_all<B: Rings<Stored> + Drop>(rt: &HostRuntime) -> Result<()> {
     requests::show_rows::<B>(rt)?;
     requests::cut_requests::<B>(rt)?;
-    names_spent::names_spent_host::<B>(rt)?;
     failing::failing_streams::<B>(rt)?;
     loopback::serves_over_a_socket::<B>(rt)
 }

@@ -68,22 +68,3 @@ bclean b0
 ret fail
 end
 ";
-
-/// Makes two pools, one under the other, each with labels, and clears the upper one.
-pub(crate) const CLEANUP_ORDER: &[u8] = b"module 1
-pool p0 conn
-pool p1 p0
-open
-pcreate p0
-label p0 \"1\"
-label p0 \"2\"
-pcreate p1
-label p1 \"3\"
-pclear p0
-ret ok
-init
-ret ok
-main
-ret ok
-end
-";

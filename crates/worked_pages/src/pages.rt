@@ -46,7 +46,7 @@ pub(crate) struct Server {
 }
 
 /// The chain of one module, which is accepted.
-pub(crate) fn chain(alloc: Global, text: &[u8]) -> Result<CheckedChain> {
+fn chain(alloc: Global, text: &[u8]) -> Result<CheckedChain> {
     let code = assemble(alloc, text)?;
     let Ok(cert) = make(alloc, &code) else {
         return Err(Refused.into());

@@ -1,100 +1,28 @@
-//! Rows of one bucket: splits, copies and setting aside.
+//! Rows of one bucket that is in no brigade: splits, copies and setting aside.
 
 ghost use Rattle.std.specs.Prelude.{◌≡◌, ◌≤◌, ◌+◌, ◌-◌, ◌^◌, ◌<◌, IfOk, true};
-ghost use Rattle.run_model.specs.Cutting.{EndsInFile, Memory, form_of, form_of_kind};
+ghost use Rattle.run_model.specs.Cutting.{EndsInFile};
 
-use crate::shown::shown;
 use anyhow::Result;
 use bucket_kinds::{
     Bucket, Content, Home, Kind, Seq, SplitError, aside_bucket, copy_bucket, split_bucket,
 };
 use std::alloc::{AllocError, Global};
-use std::{fmt, io};
+use std::fmt;
 
 /// A bucket that a row makes.
 #[derive(Clone, Copy)]
-pub(crate) enum Made {
-    Heap(&'static [u8]),
-    /// Bytes of a call.
-    Transient(u64, &'static [u8]),
-    /// Bytes in a pool.
-    Pool(u64, &'static [u8]),
-    /// A file, and the first byte and the length of a range of it. Its home is the pool 2.
-    Range(u64, u32, u32),
+enum Made {
+    /// Bytes of a kind, with their home.
+    Bytes(Kind, Home, &'static [u8]),
+    /// Ten bytes of the file 7, from the fifth on. Its home is the pool 2.
+    Range,
     Eos,
-}
-
-/// A bucket of bytes in memory.
-pub(crate) fn in_memory(
-    alloc: Global,
-    kind: Kind,
-    home: Home,
-    text: &[u8],
-) -> Result<Bucket, AllocError>
-    ensures content { IfOk result (λ b. b.content ≡ Content.Bytes text.now) }
-    ensures ends { IfOk result (λ b. EndsInFile b.content) }
-    ensures fits { form_of_kind kind ≡ Memory → IfOk result (λ b. form_of b.content ≡ form_of_kind b.kind) }
-{
-    let mut bytes = Seq::new(alloc);
-    bytes.extend(text)?;
-    Ok(Bucket {
-        kind,
-        content: Content::Bytes(bytes),
-        home,
-    })
-}
-
-/// A range of an open file, whose home is the pool 2.
-pub(crate) fn range(file: u64, start: u64, len: u32) -> Bucket
-    requires { start < 2 ^ 64 - 2 ^ 32 }
-    ensures content { result.content ≡ Content.Range file start len }
-    ensures ends { EndsInFile result.content }
-    ensures fits { form_of result.content ≡ form_of_kind result.kind }
-{
-    Bucket {
-        kind: Kind::File,
-        content: Content::Range {
-            file,
-            start,
-            len: len as u64,
-        },
-        home: Home::Pool(2),
-    }
-}
-
-pub(crate) fn make(alloc: Global, made: Made) -> Result<Bucket, AllocError>
-    ensures ends { IfOk result (λ b. EndsInFile b.content) }
-    ensures fits { IfOk result (λ b. form_of b.content ≡ form_of_kind b.kind) }
-{
-    match made {
-        Made::Heap(text) => in_memory(alloc, Kind::Heap, Home::Free, text),
-        Made::Transient(call, text) => in_memory(alloc, Kind::Transient, Home::Call(call), text),
-        Made::Pool(pool, text) => in_memory(alloc, Kind::Pool(pool), Home::Free, text),
-        Made::Range(file, start, len) => Ok(range(file, start as u64, len)),
-        Made::Eos => Ok(Bucket {
-            kind: Kind::Eos,
-            content: Content::Nothing,
-            home: Home::Free,
-        }),
-    }
-}
-
-/// Tells a bucket, and what a split or a read left beside it, or why it was left as it is.
-pub(crate) fn show_answer<E: fmt::Display>(
-    rt: &HostRuntime,
-    bucket: &Bucket,
-    answer: &Result<Option<Bucket>, E>,
-) -> io::Result<()> {
-    match answer {
-        Ok(Some(rest)) => println!(rt; "{} | {}", shown(bucket), shown(rest)),
-        Ok(None) => println!(rt; "{}", shown(bucket)),
-        Err(why) => println!(rt; "{why}, and it is {}", shown(bucket)),
-    }
 }
 
 /// A call on one bucket.
 #[derive(Clone, Copy)]
-pub(crate) enum Call {
+enum Call {
     /// It is split at a place.
     Split(u64),
     /// Its copy takes its place, which has its kind, its bytes and its home.
@@ -103,12 +31,106 @@ pub(crate) enum Call {
     Aside(bool),
 }
 
-impl fmt::Display for Call {
+const AB: Made = Made::Bytes(Kind::Heap, Home::Free, b"ab");
+
+const POOLED: Made = Made::Bytes(Kind::Pool(2), Home::Free, b"ab");
+
+const LENT: Made = Made::Bytes(Kind::Transient, Home::Call(3), b"a");
+
+/// Each row has what is told before it, if anything, a bucket, and a call on it.
+static ROWS: &[(&str, Made, Call)] = &[
+    ("buckets are split", AB, Call::Split(0)),
+    ("", AB, Call::Split(1)),
+    ("", AB, Call::Split(2)),
+    ("", AB, Call::Split(3)),
+    ("", Made::Eos, Call::Split(0)),
+    ("", Made::Eos, Call::Split(1)),
+    ("", Made::Range, Call::Split(4)),
+    ("buckets are copied", POOLED, Call::Copy),
+    ("", Made::Eos, Call::Copy),
+    (
+        "buckets are set aside into pool 9",
+        LENT,
+        Call::Aside(false),
+    ),
+    ("its home is above:", Made::Range, Call::Aside(true)),
+    ("its home is not above:", Made::Range, Call::Aside(false)),
+    ("", AB, Call::Aside(false)),
+];
+
+/// A bucket: its kind, its content, and its home where it has one.
+#[derive(Clone, Copy)]
+struct Seen<'a>(&'a Bucket);
+
+fn put_kind<W: fmt::Write>(f: &mut fmt::Formatter<W>, kind: Kind) -> fmt::Result {
+    let word = match kind {
+        Kind::Heap => "heap",
+        Kind::Transient => "transient",
+        Kind::Immortal => "immortal",
+        Kind::Pool(pool) => return write!(f, "pool {pool}"),
+        Kind::File => "file",
+        Kind::Flush => "flush",
+        Kind::Eos => "eos",
+    };
+    f.write_str(word)
+}
+
+fn put_content<W: fmt::Write>(f: &mut fmt::Formatter<W>, content: &Content) -> fmt::Result {
+    match content {
+        Content::Bytes(bytes) => match str::from_utf8(bytes.as_slice()) {
+            Ok(text) => write!(f, " \"{text}\""),
+            Err(_) => Err(fmt::Error),
+        },
+        Content::Range { file, start, len } => write!(f, " {file} from {start}, length {len}"),
+        Content::Nothing => Ok(()),
+    }
+}
+
+impl fmt::Display for Seen<'_> {
     fn fmt<W: fmt::Write>(&self, f: &mut fmt::Formatter<W>) -> fmt::Result {
-        match self {
-            Call::Split(at) => write!(f, " at {at}: "),
-            Call::Copy | Call::Aside(_) => f.write_str(": "),
+        put_kind(f, self.0.kind)?;
+        put_content(f, &self.0.content)?;
+        match self.0.home {
+            Home::Call(call) => write!(f, ", home call {call}"),
+            Home::Pool(pool) => write!(f, ", home pool {pool}"),
+            Home::Free | Home::Ended => Ok(()),
         }
+    }
+}
+
+/// A bucket that keeps its own bytes.
+fn bucket_of(alloc: Global, kind: Kind, home: Home, text: &[u8]) -> Result<Bucket, AllocError>
+    ensures { IfOk result (λ b. EndsInFile b.content) }
+{
+    let mut bytes = Seq::new(alloc);
+    bytes.extend(text)?;
+    let content = Content::Bytes(bytes);
+    Ok(Bucket {
+        kind,
+        content,
+        home,
+    })
+}
+
+fn make(alloc: Global, made: Made) -> Result<Bucket, AllocError>
+    ensures { IfOk result (λ b. EndsInFile b.content) }
+{
+    match made {
+        Made::Bytes(kind, home, text) => bucket_of(alloc, kind, home, text),
+        Made::Range => Ok(Bucket {
+            kind: Kind::File,
+            content: Content::Range {
+                file: 7,
+                start: 5,
+                len: 10,
+            },
+            home: Home::Pool(2),
+        }),
+        Made::Eos => Ok(Bucket {
+            kind: Kind::Eos,
+            content: Content::Nothing,
+            home: Home::Free,
+        }),
     }
 }
 
@@ -117,7 +139,7 @@ fn make_call(alloc: Global, bucket: &mut Bucket, call: Call) -> Result<Option<Bu
     requires { EndsInFile bucket.old.content }
 {
     match call {
-        Call::Split(at) => return split_bucket(alloc, bucket, at).map(Some),
+        Call::Split(at) => return Ok(Some(split_bucket(alloc, bucket, at)?)),
         Call::Copy => *bucket = copy_bucket(alloc, bucket)?,
         Call::Aside(is_ancestor) => aside_bucket(bucket, 9, is_ancestor),
     }
@@ -125,9 +147,27 @@ fn make_call(alloc: Global, bucket: &mut Bucket, call: Call) -> Result<Option<Bu
 }
 
 /// Tells a bucket, and what a call makes of it.
-pub(crate) fn show_call(rt: &HostRuntime, made: Made, call: Call) -> Result<()> {
+fn show_call(rt: &HostRuntime, made: Made, call: Call) -> Result<()> {
     let mut bucket = make(rt.alloc(), made)?;
-    print!(rt; "{}{call}", shown(&bucket))?;
-    let answer = make_call(rt.alloc(), &mut bucket, call);
-    Ok(show_answer(rt, &bucket, &answer)?)
+    print!(rt; "{}", Seen(&bucket))?;
+    if let Call::Split(at) = call {
+        print!(rt; " at {at}")?;
+    }
+    match make_call(rt.alloc(), &mut bucket, call) {
+        Ok(Some(rest)) => println!(rt; ": {} | {}", Seen(&bucket), Seen(&rest))?,
+        Ok(None) => println!(rt; ": {}", Seen(&bucket))?,
+        Err(why) => println!(rt; ": {why}, and it is {}", Seen(&bucket))?,
+    }
+    Ok(())
+}
+
+/// Tells the rows one after another.
+pub(crate) fn show_rows(rt: &HostRuntime) -> Result<()> {
+    for (says, made, call) in ROWS {
+        if !says.is_empty() {
+            println!(rt; "{says}")?;
+        }
+        show_call(rt, *made, *call)?;
+    }
+    Ok(())
 }

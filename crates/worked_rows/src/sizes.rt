@@ -1,8 +1,8 @@
 //! What a bucket of a brigade takes in its ring, computed from the types.
 
 use anyhow::Result;
-use brigade_ops::Stored;
 use bucket_kinds::{Content, Kept};
+use filter_chain::Stored;
 use raw_nodes::Node;
 use std::mem::size_of;
 
