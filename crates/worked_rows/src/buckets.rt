@@ -8,7 +8,7 @@ use bucket_kinds::{
     Bucket, Content, Home, Kind, Seq, SplitError, aside_bucket, copy_bucket, split_bucket,
 };
 use std::alloc::{AllocError, Global};
-use std::fmt;
+use std::{fmt, io};
 
 /// A bucket that a row makes.
 #[derive(Clone, Copy)]
@@ -134,6 +134,15 @@ fn make(alloc: Global, made: Made) -> Result<Bucket, AllocError>
     }
 }
 
+impl fmt::Display for Call {
+    fn fmt<W: fmt::Write>(&self, f: &mut fmt::Formatter<W>) -> fmt::Result {
+        match self {
+            Call::Split(at) => write!(f, " at {at}"),
+            Call::Copy | Call::Aside(_) => Ok(()),
+        }
+    }
+}
+
 /// Makes a call, and gives what was split off.
 fn make_call(alloc: Global, bucket: &mut Bucket, call: Call) -> Result<Option<Bucket>, SplitError>
     requires { EndsInFile bucket.old.content }
@@ -146,19 +155,25 @@ fn make_call(alloc: Global, bucket: &mut Bucket, call: Call) -> Result<Option<Bu
     Ok(None)
 }
 
+/// Tells a bucket, and what a call left beside it, or why it was left as it is.
+pub(crate) fn show_answer<E: fmt::Display>(
+    rt: &HostRuntime,
+    bucket: &Bucket,
+    answer: &Result<Option<Bucket>, E>,
+) -> io::Result<()> {
+    match answer {
+        Ok(Some(rest)) => println!(rt; "{} | {}", Seen(bucket), Seen(rest)),
+        Ok(None) => println!(rt; "{}", Seen(bucket)),
+        Err(why) => println!(rt; "{why}, and it is {}", Seen(bucket)),
+    }
+}
+
 /// Tells a bucket, and what a call makes of it.
 fn show_call(rt: &HostRuntime, made: Made, call: Call) -> Result<()> {
     let mut bucket = make(rt.alloc(), made)?;
-    print!(rt; "{}", Seen(&bucket))?;
-    if let Call::Split(at) = call {
-        print!(rt; " at {at}")?;
-    }
-    match make_call(rt.alloc(), &mut bucket, call) {
-        Ok(Some(rest)) => println!(rt; ": {} | {}", Seen(&bucket), Seen(&rest))?,
-        Ok(None) => println!(rt; ": {}", Seen(&bucket))?,
-        Err(why) => println!(rt; ": {why}, and it is {}", Seen(&bucket))?,
-    }
-    Ok(())
+    print!(rt; "{}{call}: ", Seen(&bucket))?;
+    let answer = make_call(rt.alloc(), &mut bucket, call);
+    Ok(show_answer(rt, &bucket, &answer)?)
 }
 
 /// Tells the rows one after another.

@@ -1,8 +1,11 @@
 //! Rows of files of a real disk, in the folder where the program runs.
 
 ghost use Rattle.std.specs.Prelude.{◌≡◌, ◌-◌, ◌^◌, ◌<◌, true};
+ghost use Rattle.run_model.specs.Cutting.{EndsInFile};
 ghost use Rattle.bucket_kinds.specs.Device.{is_there};
+ghost use Rattle.bucket_kinds.specs.Reading.{IsOpenFor};
 
+use crate::buckets::show_answer;
 use anyhow::Result;
 use bucket_kinds::{Bucket, Content, DiskFiles, FileNo, Files, Home, Kind, read_bucket};
 use std::fs;
@@ -43,12 +46,13 @@ const ROWS: &[Changed] = &[
     },
 ];
 
-/// Tells ten bytes of a file, from a byte on, or why they cannot be read.
-fn show_read<F: Files>(rt: &HostRuntime, files: &mut F, file: FileNo, start: u64) -> Result<()>
-    requires there { is_there ((F.device files.old).numbered file) ≡ true }
-    requires ends { start < 2 ^ 64 - 2 ^ 32 }
+/// Ten bytes of an open file, from a byte on.
+fn range(file: FileNo, start: u64) -> Bucket
+    requires { start < 2 ^ 64 - 2 ^ 32 }
+    ensures content { result.content ≡ Content.Range file start 10 }
+    ensures ends { EndsInFile result.content }
 {
-    let mut bucket = Bucket {
+    Bucket {
         kind: Kind::File,
         content: Content::Range {
             file,
@@ -56,14 +60,24 @@ fn show_read<F: Files>(rt: &HostRuntime, files: &mut F, file: FileNo, start: u64
             len: 10,
         },
         home: Home::Free,
-    };
-    let read = read_bucket(rt.alloc(), &mut bucket, files);
-    match (read, &bucket.content) {
-        (Ok(_), Content::Bytes(bytes)) => println!(rt; "{}", str::from_utf8(bytes.as_slice())?)?,
-        (Ok(_), _) => println!(rt; "no bytes")?,
-        (Err(why), _) => println!(rt; "{why}")?,
     }
-    Ok(())
+}
+
+/// Tells what a read made of a bucket.
+fn show_bucket<F: Files>(rt: &HostRuntime, files: &mut F, mut bucket: Bucket) -> Result<()>
+    requires ends { EndsInFile bucket.content }
+    requires open { IsOpenFor (F.device files.old) bucket.content }
+{
+    let rest = read_bucket(rt.alloc(), &mut bucket, files);
+    Ok(show_answer(rt, &bucket, &rest)?)
+}
+
+/// Tells ten bytes of a file, from a byte on, or why they cannot be read.
+fn show_read<F: Files>(rt: &HostRuntime, files: &mut F, file: FileNo, start: u64) -> Result<()>
+    requires there { is_there ((F.device files.old).numbered file) ≡ true }
+    requires ends { start < 2 ^ 64 - 2 ^ 32 }
+{
+    show_bucket(rt, files, range(file, start))
 }
 
 /// Opens a file, and tells its first ten bytes, or why there is none of that name.
