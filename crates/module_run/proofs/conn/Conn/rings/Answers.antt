@@ -1,4 +1,4 @@
-use Rattle.std.proofs.Common.{◌≡◌, true, List, length, refl, arith, sym, ap, subst, ◌∙◌, inl, inr}
+use Rattle.std.proofs.Common.{◌≡◌, true, List, [], length, refl, arith, sym, ap, subst, ◌∙◌, inl, inr}
 use Rattle.std.specs.Prelude.{slice_index_or}
 use Rattle.std.proofs.lemmas.Bool.{cases_eq}
 use Rattle.std.proofs.lemmas.Option.{slice_get_within, slice_get_read}
@@ -8,6 +8,13 @@ use Rattle.module_run.specs.Conns.{filter_at}
 use Rattle.module_run.specs.Stacked.{named_at}
 use Rattle.ring_calls.proofs.Pushed.{item_is}
 use Rattle.module_run.proofs.conn.Conn.rings.Goals as goal
+
+pub loop-filter-init : goal.loop-filter-init
+loop-filter-init c = record {
+  only = λ n e. absurd (let h : is_in n [] ≡ true = ap (is_in n) (sym c.new-rings.ensures.items) ∙ e in cc);
+  named = λ k b n f lt is e. absurd (omega (arith, lt));
+  loose = λ k f lt is. absurd (omega (arith, lt));
+}
 
 pub loop-filter-preserved : goal.loop-filter-preserved
 unfolding filter_at

@@ -1,5 +1,5 @@
 -- By the instruction that was read.
-use Rattle.std.proofs.Common.{◌∙◌, ℕ, sym, ap}
+use Rattle.std.proofs.Common.{◌∙◌, ℕ, refl, sym, ap}
 use Rattle.module_code.specs.declared.instr.Instr.{Instr}
 use Rattle.run_model.specs.Passing.{after_pass}
 use Rattle.module_run.proofs.CurrentAt.{current_at}
@@ -13,3 +13,6 @@ behind_pass-self-requires-clause-passes c =
 pub returns-clause-call : goal.returns-clause-call
 returns-clause-call c = ap (λ (n : ℕ). record c.args.self.now.call { pc = n })
     (c.behind_pass-self.ensures ∙ ap (λ (i : Instr). after_pass c.args.status i c.args.self.now.call.pc) (sym (current_at c.args.code.now c.args.self.now.call.pc c.at.result c.at.ensures.value)))
+
+pub returns-clause-lent : goal.returns-clause-lent
+returns-clause-lent c = refl
