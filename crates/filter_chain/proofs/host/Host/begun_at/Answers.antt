@@ -47,3 +47,6 @@ returns-clause-chain g c = refl
 pub returns-clause-budget : goal.returns-clause-budget
 unfolding budget_of
 returns-clause-budget g c = refl
+
+pub returns-clause-spent : goal.returns-clause-spent
+returns-clause-spent g c = ((λ ill. absurd (ok_apart _ _ ill)), λ is. absurd (ok_apart _ _ (c.in_ok-tree.ensures.spent.1 is)))

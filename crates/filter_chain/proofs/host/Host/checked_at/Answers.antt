@@ -21,3 +21,6 @@ returns-clause-chain g c = if_ok_weaker c.begun_at.result (λ host same. same �
 pub returns-clause-safe : goal.returns-clause-safe
 returns-clause-safe g c = if_ok_weaker c.begun_at.result
     (λ host same. subst (λ (chain : List Program). ChainNeverFaults chain) (sym (same ∙ c.into_modules.ensures.value)) c.into_modules.ensures.safe) c.begun_at.ensures.chain
+
+pub returns-clause-empty : goal.returns-clause-empty
+returns-clause-empty g c = c.begun_at.ensures.empty
