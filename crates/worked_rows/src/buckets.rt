@@ -1,6 +1,6 @@
 //! Rows of one bucket that is in no brigade: splits, copies and setting aside.
 
-ghost use Rattle.std.specs.Prelude.{◌≡◌, ◌≤◌, ◌+◌, ◌-◌, ◌^◌, ◌<◌, IfOk, true};
+ghost use Rattle.std.specs.Prelude.{IfOk};
 ghost use Rattle.run_model.specs.Cutting.{EndsInFile};
 
 use anyhow::Result;
@@ -15,7 +15,7 @@ use std::{fmt, io};
 enum Made {
     /// Bytes of a kind, with their home.
     Bytes(Kind, Home, &'static [u8]),
-    /// Ten bytes of the file 7, from the fifth on. Its home is the pool 2.
+    /// Ten bytes of the file 7, from byte 5 on. Their home is the pool 2.
     Range,
     Eos,
 }
@@ -25,9 +25,9 @@ enum Made {
 enum Call {
     /// It is split at a place.
     Split(u64),
-    /// Its copy takes its place, which has its kind, its bytes and its home.
+    /// A copy takes its place, of the same kind, bytes and home.
     Copy,
-    /// It is set aside into the pool 9, which its home is above or not.
+    /// It is set aside into the pool 9; whether its home is above that.
     Aside(bool),
 }
 
@@ -37,25 +37,29 @@ const POOLED: Made = Made::Bytes(Kind::Pool(2), Home::Free, b"ab");
 
 const LENT: Made = Made::Bytes(Kind::Transient, Home::Call(3), b"a");
 
-/// Each row has what is told before it, if anything, a bucket, and a call on it.
-static ROWS: &[(&str, Made, Call)] = &[
-    ("buckets are split", AB, Call::Split(0)),
-    ("", AB, Call::Split(1)),
-    ("", AB, Call::Split(2)),
-    ("", AB, Call::Split(3)),
-    ("", Made::Eos, Call::Split(0)),
-    ("", Made::Eos, Call::Split(1)),
-    ("", Made::Range, Call::Split(4)),
-    ("buckets are copied", POOLED, Call::Copy),
-    ("", Made::Eos, Call::Copy),
+/// Each row has what is told before it, where anything is, a bucket, and a call on it.
+static ROWS: &[(Option<&str>, Made, Call)] = &[
+    (Some("buckets are split"), AB, Call::Split(0)),
+    (None, AB, Call::Split(1)),
+    (None, AB, Call::Split(2)),
+    (None, AB, Call::Split(3)),
+    (None, Made::Eos, Call::Split(0)),
+    (None, Made::Eos, Call::Split(1)),
+    (None, Made::Range, Call::Split(4)),
+    (Some("buckets are copied"), POOLED, Call::Copy),
+    (None, Made::Eos, Call::Copy),
     (
-        "buckets are set aside into pool 9",
+        Some("buckets are set aside into pool 9"),
         LENT,
         Call::Aside(false),
     ),
-    ("its home is above:", Made::Range, Call::Aside(true)),
-    ("its home is not above:", Made::Range, Call::Aside(false)),
-    ("", AB, Call::Aside(false)),
+    (Some("its home is above:"), Made::Range, Call::Aside(true)),
+    (
+        Some("its home is not above:"),
+        Made::Range,
+        Call::Aside(false),
+    ),
+    (None, AB, Call::Aside(false)),
 ];
 
 /// A bucket: its kind, its content, and its home where it has one.
@@ -93,7 +97,8 @@ impl fmt::Display for Seen<'_> {
         match self.0.home {
             Home::Call(call) => write!(f, ", home call {call}"),
             Home::Pool(pool) => write!(f, ", home pool {pool}"),
-            Home::Free | Home::Ended => Ok(()),
+            Home::Ended => f.write_str(", home ended"),
+            Home::Free => Ok(()),
         }
     }
 }
@@ -110,6 +115,13 @@ fn bucket_of(alloc: Global, kind: Kind, home: Home, text: &[u8]) -> Result<Bucke
         content,
         home,
     })
+}
+
+/// Bytes on the heap.
+pub(crate) fn letters(alloc: Global, text: &[u8]) -> Result<Bucket, AllocError>
+    ensures { IfOk result (λ b. EndsInFile b.content) }
+{
+    bucket_of(alloc, Kind::Heap, Home::Free, text)
 }
 
 fn make(alloc: Global, made: Made) -> Result<Bucket, AllocError>
@@ -134,6 +146,7 @@ fn make(alloc: Global, made: Made) -> Result<Bucket, AllocError>
     }
 }
 
+/// The place of a split; of other calls nothing.
 impl fmt::Display for Call {
     fn fmt<W: fmt::Write>(&self, f: &mut fmt::Formatter<W>) -> fmt::Result {
         match self {
@@ -179,7 +192,7 @@ fn show_call(rt: &HostRuntime, made: Made, call: Call) -> Result<()> {
 /// Tells the rows one after another.
 pub(crate) fn show_rows(rt: &HostRuntime) -> Result<()> {
     for (says, made, call) in ROWS {
-        if !says.is_empty() {
+        if let Some(says) = says {
             println!(rt; "{says}")?;
         }
         show_call(rt, *made, *call)?;

@@ -5,9 +5,8 @@
 //! rows of `action_of`, a ring of the four, another, the place of a bucket in the first, and one in the other, each below 8, and a letter of 26.
 //! A place behind the last bucket stands for the last. A command that wants a bucket, and finds its ring empty, is left out.
 
-use crate::calls::{Call, Place};
 use crate::missing::Missing;
-use crate::rings::{list, make_call, put};
+use crate::rings::{Call, Place, list, make_call, put};
 use anyhow::Result;
 use bucket_ring::{BucketId, RingId, Rings};
 use std::alloc::{AllocError, Global};

@@ -11,7 +11,7 @@ use bucket_kinds::{Bucket, Content, DiskFiles, FileNo, Files, Home, Kind, read_b
 use std::fs;
 use std::path::Path;
 
-/// What a file gets after it was opened, whether it is read from 2^63 on, where the system reads none, and names that are opened then.
+/// What is written to a file after it was opened; whether it is read from 2^63 on, where the system reads none; and names that are opened then.
 #[derive(Clone, Copy)]
 struct Changed {
     text: &'static [u8],
@@ -28,7 +28,7 @@ const TOO_LONG: &[u8] = b"\
 
 /// A file is read that has other bytes than when it was opened, one that was cut short, and one where the system reads none from so far on.
 /// What is not there, and a folder, are no failures of the disk. No file system takes a name of 300 bytes.
-const ROWS: &[Changed] = &[
+static ROWS: &[Changed] = &[
     Changed {
         text: b"jihgfedcba",
         is_far: false,

@@ -2,7 +2,7 @@
 
 use thiserror::Error;
 
-/// A ring, a bucket, a brigade, a pool or a file that a row made is not there.
+/// A ring, a brigade or a bucket that a row made is not there, or a part of its chain is none.
 #[derive(Clone, Copy, Debug, Error)]
 #[error("what the row made is not there")]
 pub(crate) struct Missing;

@@ -1,9 +1,31 @@
 //! The calls on rings, each of what is there.
 
-use crate::calls::{Call, Place, Put};
 use crate::missing::Missing;
-use bucket_ring::{BucketId, RingId, Rings};
+use bucket_ring::{BucketId, RingId, RingRefusal, Rings};
 use std::alloc::AllocError;
+
+/// What a call answers that puts a bucket in: its name, or why there is none, with what was to be put in.
+pub(crate) type Put<T> = Result<BucketId, (RingRefusal, T)>;
+
+/// Where a bucket is put: at an end of a ring of this name, or beside another bucket.
+#[derive(Clone, Copy)]
+pub(crate) enum Place {
+    Head(u64),
+    Tail(u64),
+    Before(BucketId),
+    After(BucketId),
+}
+
+/// A call that moves buckets.
+#[derive(Clone, Copy)]
+pub(crate) enum Call {
+    /// Moves one bucket.
+    Move(BucketId, Place),
+    /// Moves a bucket and those behind it to the tail of this one.
+    WithRest(BucketId, u64),
+    /// Moves all buckets of the second to the tail of the first.
+    All(u64, u64),
+}
 
 /// No ring of a row has more buckets.
 const MOST: usize = 1_000;

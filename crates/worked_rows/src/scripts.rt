@@ -1,5 +1,5 @@
-//! Scripts where things may fail, one after another. Each begins with `first N`, which says where names begin; `fail_at K` may stand among
-//! its commands.
+//! Scripts, one after another. Each begins with a line `first N`, which says where names begin. A line `fail_at K` among its commands has
+//! the K-th opening or read after it fail.
 
 ghost use Rattle.std.specs.Prelude.{IfOk};
 ghost use Rattle.script_play.specs.Sessions.{IsMemHostAlive};
@@ -14,13 +14,13 @@ use script_text::{
 use std::alloc::Global;
 use thiserror::Error;
 
-/// More scripts are not played.
+/// So many scripts are played at most.
 const MOST: usize = 10_000;
 
-/// A script does not say where names begin, its texts are faulty or its chain is refused, or a line is no command. The line is told by its
-/// number in the script, where it is one of the texts.
+/// A script is faulty. The line is told by its number, from `first N` on; 1 stands for no module, or too many, too, and 0 for a chain that is
+/// refused, a line behind the texts that is no command, and too many scripts.
 #[derive(Clone, Copy, Debug, Error)]
-#[error("no script at line {0}")]
+#[error("a script is faulty at line {0}")]
 struct NoScript(usize);
 
 /// A line `WORD N`: its number.
@@ -62,6 +62,7 @@ fn read_texts<'a>(
     let mut rest = script;
     for number in 2..usize::MAX {
         let line = first_line(rest);
+        // A text has no more lines than bytes.
         if line.width == 0 || texts.before() > script.len() {
             return Err(NoScript(number).into());
         }
@@ -164,5 +165,9 @@ pub(crate) fn play_all<R: Rings<Stored> + Drop>(
         }
         rest = play::<R>(alloc, rest, told)?;
     }
-    Ok(())
+    if rest.is_empty() {
+        Ok(())
+    } else {
+        Err(NoScript(0).into())
+    }
 }
