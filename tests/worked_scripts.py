@@ -1,9 +1,9 @@
 #!/usr/bin/env python3
-"""Checks that the program worked_rows plays these cases of tests/cases.
+"""Checks that stdin and stdout of the program worked_rows have these cases of tests/cases.
 
     python3 tests/worked_scripts.py
 
-Its stdin begins with them, each behind a line `first 1`, and its stdout has their answers. Behind them stand scripts whose names begin elsewhere.
+Its stdin begins with them, each behind a line `first 1`, and its stdout has their answers. Behind them stand scripts that no case can have.
 """
 import os
 
@@ -41,7 +41,8 @@ def main():
     scripts = ''.join('first 1\n' + text for text in of_cases('.script'))
     answers = ''.join(of_cases('.stdout'))
     told = []
-    if not read('crates', 'worked_rows', 'stdin').startswith(scripts):
+    stdin = read('crates', 'worked_rows', 'stdin')
+    if not stdin.startswith(scripts) or not stdin[len(scripts):].startswith('first '):
         told.append('stdin does not begin with the cases')
     if answers not in read('crates', 'worked_rows', 'stdout'):
         told.append('stdout does not have the answers of the cases')
