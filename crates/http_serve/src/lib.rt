@@ -12,6 +12,4 @@ mod socket;
 mod system_clock;
 mod unclosed;
 
-pub use head_reader::Deadline;
-pub use listening::serve_stream;
 pub use serve_command::{ServeOptions, serve_front};

@@ -48,8 +48,8 @@ fn differing(state: &State, given: &State) -> u8 {
 fn put_place(told: &mut Page, source: &Source, text: &str, place: StatePlace) {
     match place {
         StatePlace::At(pc) => put_at(told, source, pc, "$line #, `@`", text),
-        StatePlace::Idle => told.put("$`idle`", 0, &[], text),
-        StatePlace::Ready => told.put("$`ready`", 0, &[], text),
+        StatePlace::Idle => told.put_text("$`idle`", text),
+        StatePlace::Ready => told.put_text("$`ready`", text),
     }
 }
 

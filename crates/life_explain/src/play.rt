@@ -89,7 +89,7 @@ fn tell_fault_of(told: &mut Page, script: &Script<'_>, answered: &Answered<'_>) 
         return;
     };
     if let Some((text, _)) = script.module(index) {
-        told.put("line #, `@`: ", command.number, shown(command.text), "");
+        told.put_line("line #, `@`: ", command.number, shown(command.text));
         tell_fault_at(told, text, index, pc, kind);
     }
 }
@@ -99,7 +99,7 @@ fn tell_fault_at(told: &mut Page, text: ScriptText<'_>, index: usize, pc: usize,
     let source = Source::of(told.alloc, text.text, text.before);
     put_at(told, &source, pc, "line #, `@`, of module ", "");
     told.put("# has $: ", index, &[], fault_name(kind));
-    told.put("$\n", 0, &[], fault_of(kind).0);
+    told.put_text("$\n", fault_of(kind).0);
     tell_fault(told, &source, pc, kind);
 }
 
@@ -108,9 +108,9 @@ fn tell_module(told: &mut Page, script: &Script<'_>, answer: &[u8]) {
         return;
     };
     if let Some((text, cert)) = script.module(index) {
-        told.put("module #, ", index, &[], "");
+        told.put_number("module #, ", index);
         let first = text.before.saturating_add(1);
-        told.put("from line # on, is not accepted\n", first, &[], "");
+        told.put_number("from line # on, is not accepted\n", first);
         tell_texts(told, text, cert);
     }
 }
@@ -146,8 +146,12 @@ fn tell_answer(
 }
 
 // Tells what the answers mean, each where it was not told before.
-fn tell_answers(told: &mut Page, script: &Script<'_>, answered: &[Answered<'_>]) {
-    let mut done = Vec::new(told.alloc);
+fn tell_answers<'a>(
+    told: &mut Page,
+    script: &Script<'_>,
+    answered: &[Answered<'a>],
+    done: &mut Vec<Answered<'a>>,
+) {
     for (index, answer) in answered.iter().enumerate() {
         if done.len() == MOST {
             told.push("what is answered from then on is not explained\n");
@@ -164,7 +168,12 @@ fn tell_play<'a>(told: &mut Page, script: &'a [u8], answers: &'a [u8]) {
     let script = Script::of(told, script);
     let lines = lines_of(told, answers, 0);
     let answered = answered(told, &script, lines.as_slice());
-    tell_answers(told, &script, answered.as_slice());
+    tell_answers(
+        told,
+        &script,
+        answered.as_slice(),
+        &mut Vec::new(told.alloc),
+    );
 }
 
 /// What the answers of a play mean that tell a fault or refuse, in words; nothing where there are none. The same

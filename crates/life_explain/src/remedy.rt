@@ -3,7 +3,7 @@
 use crate::flow::{FlowRefusal, home_of, instr_at, parent_of};
 use crate::rules::{Fresh, Per, Rule, Test, When, names_of, rule_tables};
 use crate::trail::Trail;
-use byte_text::{after_token, begins, is_text, tail, token};
+use byte_text::{after_token, begins, is_text, len_before, tail, token};
 use life_cert::StatePlace;
 use life_check::Cert;
 use life_state::{Classes, CursorState};
@@ -18,6 +18,8 @@ use std::alloc::Global;
 // The places of the capitals.
 const A: usize = 0;
 
+const B: usize = 1;
+
 const C: usize = 2;
 
 const D: usize = 3;
@@ -27,6 +29,22 @@ const L: usize = 11;
 const M: usize = 12;
 
 const N: usize = 13;
+
+const O: usize = 14;
+
+const P: usize = 15;
+
+const Q: usize = 16;
+
+const S: usize = 18;
+
+const T: usize = 19;
+
+const V: usize = 21;
+
+const X: usize = 23;
+
+const Y: usize = 24;
 
 const Z: usize = 25;
 
@@ -57,8 +75,37 @@ pub struct Case<'s> {
     number: usize,
     // The place of the last edit.
     last: usize,
-    // What stands for each of the capitals A, C, D, L, M, N and Z; `name` finds what stands for the others.
+    // What stands for each of the capitals.
     names: [&'s [u8]; 26],
+}
+
+// The word and the operands of an instruction; those of `clearbuf` where there is none.
+fn shape(code: &Module, pc: usize) -> (Op, Args) {
+    parts(instr_at(code, pc).unwrap_or(Instr::ClearBuf))
+}
+
+// What stands for the capitals that are the same for all remedies.
+fn first_names<'s>(
+    source: &'s Source,
+    code: &'s Module,
+    of: u8,
+    maker: usize,
+    pc: usize,
+) -> [&'s [u8]; 26] {
+    let nothing: &'s [u8] = &[];
+    let mut names = [nothing; 26];
+    let made = shape(code, maker).1;
+    let first = made.first.index();
+    names[B] = brigade_name(of).as_bytes();
+    names[O] = brigade_name(code.brigade_count()).as_bytes();
+    names[S] = brigade_name(first).as_bytes();
+    names[T] = brigade_name(made.second.index()).as_bytes();
+    names[P] = pool_text(home_of(code, of));
+    names[Q] = pool_text(PoolRef::Own(first));
+    names[V] = pool_text(PoolRef::Own(of));
+    names[X] = source.instruction(maker);
+    names[Y] = source.instruction(pc);
+    names
 }
 
 impl<'s> Case<'s> {
@@ -70,7 +117,6 @@ impl<'s> Case<'s> {
         trail: &'s Trail,
         refusal: FlowRefusal,
     ) -> Case<'s> {
-        let nothing: &'s [u8] = &[];
         let maker = match trail.origin {
             StatePlace::At(pc) if trail.is_made => pc,
             _ => NO_LINE,
@@ -89,13 +135,8 @@ impl<'s> Case<'s> {
             at: NO_LINE,
             number: 0,
             last: NO_LINE,
-            names: [nothing; 26],
+            names: first_names(source, module.0, refusal.doubt.of, maker, refusal.pc),
         }
-    }
-
-    // The word and the operands of an instruction; those of `clearbuf` where there is none.
-    fn shape(&self, pc: usize) -> (Op, Args) {
-        parts(instr_at(self.code, pc).unwrap_or(Instr::ClearBuf))
     }
 
     /// The word of the instruction that made it so; nothing where none did.
@@ -103,7 +144,7 @@ impl<'s> Case<'s> {
         if self.maker == NO_LINE {
             return "";
         }
-        text_of(self.shape(self.maker).0.text())
+        text_of(shape(self.code, self.maker).0.text())
     }
 
     // Whether a `bsplit` stands in the handler before the refused instruction, where what it tests came from no earlier call.
@@ -112,7 +153,7 @@ impl<'s> Case<'s> {
             return false;
         }
         for pc in self.code.main()..self.refusal.pc {
-            if let Some(Instr::BSplit(_, _, _)) = instr_at(self.code, pc) {
+            if let Op::BSplit = shape(self.code, pc).0 {
                 return true;
             }
         }
@@ -178,11 +219,10 @@ impl<'s> Case<'s> {
     fn finds_early(&mut self, c: u8) -> bool {
         for step in 1..5usize {
             let pc = self.maker.saturating_sub(step);
-            if let Some(Instr::Aside(d, _)) = instr_at(self.code, pc) {
-                if c == d {
-                    self.at = pc;
-                    return true;
-                }
+            let (op, args) = shape(self.code, pc);
+            if matches!(op, Op::Aside) && args.first.index() == c {
+                self.at = pc;
+                return true;
             }
         }
         false
@@ -190,7 +230,7 @@ impl<'s> Case<'s> {
 
     // The cursor that the doubt is about, or of the bucket that was put in.
     fn first_cursor(&self) -> u8 {
-        let (op, args) = self.shape(self.maker);
+        let (op, args) = shape(self.code, self.maker);
         match (self.refusal.doubt.is_of_cursor(), op) {
             (true, _) => self.refusal.doubt.of,
             (_, Op::Before) => args.first.index(),
@@ -200,12 +240,13 @@ impl<'s> Case<'s> {
 
     // Whether all of `in` was moved at once.
     fn moves_all(&self) -> bool {
-        self.shape(self.maker).1.second.index() == 8 && self.is_made_by("bsave bconcat")
+        shape(self.code, self.maker).1.second.index() == 8 && self.is_made_by("bsave bconcat")
     }
 
     // Whether an instruction is `ret fail`.
     fn fails(&self, pc: usize) -> bool {
-        matches!(instr_at(self.code, pc), Some(Instr::Ret(Status::Fail)))
+        let (op, args) = shape(self.code, pc);
+        matches!(op, Op::Ret) && matches!(args.first.status(), Status::Fail)
     }
 
     fn is_when(&mut self, when: When) -> bool {
@@ -214,11 +255,11 @@ impl<'s> Case<'s> {
         match when {
             When::Always => true,
             When::Gone => self.source.find(":gone") != NO_LINE,
-            When::Brought => !is_own && self.code.brigade_count() < 8,
-            When::Whole => is_own && self.moves_all(),
-            When::Part => is_own && !self.moves_all(),
-            When::Keeps => !is_left || self.may_be(self.exit).0,
-            When::Lost => is_left && !self.may_be(self.exit).0,
+            When::Brought => !is_own & (self.code.brigade_count() < 8),
+            When::Whole => is_own & self.moves_all(),
+            When::Part => is_own & !self.moves_all(),
+            When::Keeps => !is_left | self.may_be(self.exit).0,
+            When::Lost => is_left & !self.may_be(self.exit).0,
             When::Left => is_left,
             When::Own => is_own,
             When::Fails => self.fails(self.refusal.pc),
@@ -247,9 +288,10 @@ impl<'s> Case<'s> {
             return false;
         };
         for step in 0..4usize {
-            match instr_at(self.code, instr.target().saturating_add(step)) {
-                Some(Instr::BClean(_)) => {}
-                Some(Instr::Ret(Status::Success)) => return true,
+            let at = instr.target().saturating_add(step);
+            match shape(self.code, at).0 {
+                Op::BClean => {}
+                Op::Ret => return !self.fails(at),
                 _ => return false,
             }
         }
@@ -260,12 +302,12 @@ impl<'s> Case<'s> {
     fn finds_jump(&mut self, pc: usize) -> bool {
         for step in 1..6usize {
             let next = pc.saturating_add(step);
-            match instr_at(self.code, next) {
-                Some(Instr::Jump(_)) => {
+            match shape(self.code, next).0 {
+                Op::Jump => {
                     self.at = next;
                     return true;
                 }
-                None | Some(Instr::Ret(_) | Instr::Pass(_, _)) => return false,
+                Op::Ret | Op::Pass => return false,
                 _ => {}
             }
         }
@@ -291,7 +333,7 @@ impl<'s> Case<'s> {
 
     // What is written where an instruction is about `in`, with a brigade of its own in place of that.
     fn rewritten(&mut self, pc: usize) -> &'static str {
-        let (op, args) = self.shape(pc);
+        let (op, args) = shape(self.code, pc);
         let (x, y) = (args.first.index(), args.second.index());
         self.names[A] = brigade_name(y).as_bytes();
         self.names[C] = cursor_text(x);
@@ -317,7 +359,7 @@ impl<'s> Case<'s> {
 
     // Whether an instruction fits, or what is of this number.
     fn fits(&mut self, test: Test, pc: usize) -> bool {
-        let (op, args) = self.shape(pc);
+        let (op, args) = shape(self.code, pc);
         let (x, y) = (args.first.index(), args.second.index());
         self.names[C] = cursor_text(if let Op::Aside = op { x } else { y });
         match test {
@@ -361,7 +403,7 @@ impl<'s> Case<'s> {
     // Whether the brigade of this number lies on the pool that ended, or the cursor is at a bucket of a brigade.
     fn fits_number(&mut self, test: Test, number: usize) -> bool {
         let number = number.min(255) as u8;
-        let ended = self.shape(self.maker).1.first.index();
+        let ended = shape(self.code, self.maker).1.first.index();
         self.names[A] = brigade_name(number).as_bytes();
         self.names[C] = cursor_text(number);
         if let Test::Inside = test {
@@ -406,22 +448,8 @@ impl<'s> Case<'s> {
 
     // What stands for a capital.
     fn name(&self, capital: u8) -> &'s [u8] {
-        let of = self.refusal.doubt.of;
-        let made = self.shape(self.maker).1;
-        let first = made.first.index();
         let place = usize::from(capital.wrapping_sub(b'A'));
-        match capital {
-            b'B' => brigade_name(of).as_bytes(),
-            b'O' => brigade_name(self.code.brigade_count()).as_bytes(),
-            b'S' => brigade_name(first).as_bytes(),
-            b'T' => brigade_name(made.second.index()).as_bytes(),
-            b'P' => pool_text(home_of(self.code, of)),
-            b'Q' => pool_text(PoolRef::Own(first)),
-            b'V' => pool_text(PoolRef::Own(of)),
-            b'X' => self.source.instruction(self.maker),
-            b'Y' => self.source.instruction(self.refusal.pc),
-            _ => self.names.get(place).copied().unwrap_or(&[]),
-        }
+        self.names.get(place).copied().unwrap_or(&[])
     }
 
     // Adds a form to the lines that are to be written, with the names in place of capitals.
@@ -430,7 +458,7 @@ impl<'s> Case<'s> {
             let byte = *byte;
             if byte == b'#' {
                 let number = self.number;
-                self.page.put("#", number, &[], "");
+                self.page.put_number("#", number);
             } else if byte.is_ascii_uppercase() {
                 let name = self.name(byte);
                 self.page.push_line(name);
@@ -471,8 +499,11 @@ impl<'s> Case<'s> {
 
     fn write(&mut self, script: &str) {
         self.last = NO_LINE;
-        for step in script.split(';') {
-            self.write_step(step.as_bytes());
+        let mut rest = script.as_bytes();
+        for _ in 0..script.len() {
+            let len = len_before(rest, b';');
+            self.write_step(&rest[..len]);
+            rest = tail(&rest[len..]);
         }
     }
 
@@ -526,7 +557,7 @@ impl<'s> Case<'s> {
     fn add_likely(&mut self, rule: &Rule) {
         for step in 1..8usize {
             let pc = self.refusal.pc.saturating_sub(step);
-            if let Some(Instr::JEmpty(_, _) | Instr::JEnd(_, _)) = instr_at(self.code, pc) {
+            if let Op::JEmpty | Op::JEnd = shape(self.code, pc).0 {
                 return self.add_label(rule, last_word(self.source.instruction(pc)));
             }
         }

@@ -248,7 +248,7 @@ fn tell_may(told: &mut Page, source: &Source, state: &State, refusal: FlowRefusa
     let kind = refusal.kind;
     let form = "line #: `@` may have $: ";
     put_at(told, source, refusal.pc, form, fault_name(kind));
-    told.put("$\n", 0, &[], fault_of(kind).0);
+    told.put_text("$\n", fault_of(kind).0);
     put_rule(told, state, refusal.doubt);
 }
 
@@ -332,8 +332,8 @@ fn tell_from(
     refusal: FlowRefusal,
     seen: &mut Vec<usize>,
 ) {
-    let now = match study_of(told, source) {
-        Some(study) => study.judged.failures,
+    let now = match outcome(told, source, 0) {
+        Some((failures, _)) => failures,
         None => 0,
     };
     tell(told, source, module, refusal, now, seen);

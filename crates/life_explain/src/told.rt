@@ -36,7 +36,7 @@ fn put_origin(told: &mut Page, source: &Source, code: &Module, trail: &Trail, do
         StatePlace::At(pc) => pc,
         _ if trail.is_made => {
             let form = "  from: the end of a request $\n";
-            return told.put(form, 0, &[], doubt.row().deed);
+            return told.put_text(form, doubt.row().deed);
         }
         _ => return told.push("  from: calls that know different things end alike\n"),
     };
@@ -44,7 +44,7 @@ fn put_origin(told: &mut Page, source: &Source, code: &Module, trail: &Trail, do
         put_at(told, source, pc, "  from: line #, `@`, ", "");
         put_deed(told, code, pc, doubt);
     } else if pc == 0 || pc == code.init() || pc == code.main() {
-        told.put("  from: `$` begins so\n", 0, &[], handler_name(code, pc));
+        told.put_text("  from: `$` begins so\n", handler_name(code, pc));
     } else {
         let form = "  from: ways that know different things meet at line #, `@`\n";
         put_at(told, source, pc, form, "");
@@ -89,14 +89,14 @@ pub fn put_advice(told: &mut Page, pattern: Pattern) {
 
 /// Tells what to write, by these edits, whose lines stand on a page.
 pub fn put_remedy(told: &mut Page, source: &Source, pattern: Pattern, page: &Page, edits: &[Edit]) {
-    told.put("  pattern: $\n", 0, &[], pattern.name());
+    told.put_text("  pattern: $\n", pattern.name());
     for edit in edits {
         let text = cut(page, edit.start, edit.end);
         if !edit.follows {
             put_place(told, source, edit, text);
         }
         if !text.is_empty() {
-            told.put("    @\n", 0, text, "");
+            told.put_line("    @\n", 0, text);
         }
     }
 }
@@ -109,5 +109,5 @@ fn put_place(told: &mut Page, source: &Source, edit: &Edit, text: &[u8]) {
         (false, _) => "  before line # write\n",
     };
     let there = source.text_at(edit.at);
-    told.put(form, source.number_at(edit.at), there, "");
+    told.put_line(form, source.number_at(edit.at), there);
 }

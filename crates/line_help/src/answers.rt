@@ -172,7 +172,7 @@ fn tell_broken(told: &mut Page, earlier: &[Answered<'_>], conn: &[u8]) {
     for answered in earlier {
         if let Some(command) = answered.command {
             if is_text(token(answered.answer), b"fault") && word(command.text, 1) == conn {
-                told.put("  the fault answers line #\n", command.number, &[], "");
+                told.put_number("  the fault answers line #\n", command.number);
             }
         }
     }
@@ -184,7 +184,7 @@ fn tell_budget(told: &mut Page, script: &Script<'_>) {
         if line.number <= script.before && is_text(token(line.text), b"budget") {
             let form =
                 "  the budget is @, by line #; look for a loop that does not end, or allow more\n";
-            return told.put(form, line.number, word(line.text, 1), "");
+            return told.put_line(form, line.number, word(line.text, 1));
         }
     }
     told.push(
@@ -231,7 +231,7 @@ pub fn tell_refused(
     let conn = word(command.text, 1);
     match last_done(earlier, row.done, conn) {
         Some(done) => told.put(row.found, done.number, shown(done.text), text_of(conn)),
-        None => told.put(row.otherwise, 0, &[], text_of(conn)),
+        None => told.put_text(row.otherwise, text_of(conn)),
     }
     if is_text(name, b"Broken(OutOfSteps)") {
         tell_budget(told, script);

@@ -105,7 +105,7 @@ fn tell_bad_byte(told: &mut Page, line: &ScriptLine<'_>, most: &str) {
         }
     }
     if line.ended {
-        told.put("  the text has more than $ bytes here\n", 0, &[], most);
+        told.put_text("  the text has more than $ bytes here\n", most);
     } else {
         told.push("  it is the last line, and has no LF; write one behind it\n");
     }
@@ -115,7 +115,7 @@ fn tell_near(told: &mut Page, near: &str, unknown: &str) {
     if near.is_empty() {
         told.push(unknown);
     } else {
-        told.put("  perhaps `$` is meant\n", 0, &[], near);
+        told.put_text("  perhaps `$` is meant\n", near);
     }
 }
 
@@ -208,7 +208,7 @@ impl Faulty<'_> {
         } else {
             "  `:@` stands on line #, which is of another handler\n"
         };
-        told.put(form, number, name, "");
+        told.put_line(form, number, name);
     }
 
     fn tell(&self, told: &mut Page, code: Code) {
@@ -240,7 +240,7 @@ impl Faulty<'_> {
 fn tell_line(told: &mut Page, number: usize, of: &str, line: Option<&[u8]>) {
     told.put("line #$: ", number, &[], of);
     match line {
-        Some(line) => told.put("`@`: ", 0, shown(line), ""),
+        Some(line) => told.put_line("`@`: ", 0, shown(line)),
         None => told.push("the text ends here: "),
     }
 }
@@ -272,7 +272,7 @@ fn tell_asm_line<'a>(
     }
     if let Code::NotDue = code {
         let due = due_behind(lines.get(..index).unwrap_or(&[]));
-        told.put("  due here is $\n", 0, &[], due);
+        told.put_text("  due here is $\n", due);
     }
 }
 
@@ -340,7 +340,7 @@ fn tell_words(told: &mut Page, script: &Script<'_>, line: &ScriptLine<'_>) {
     let number = line_with(commands, "file", word(line.text, 1), line.number);
     if number != 0 && is_text(first, b"file") {
         let form = "  line # gave this name to a file; a name may be given once\n";
-        told.put(form, number, &[], "");
+        told.put_number(form, number);
     }
 }
 
@@ -350,10 +350,10 @@ pub fn tell_script_fault(told: &mut Page, script: &Script<'_>, number: usize) {
         return;
     };
     if line.text.is_empty() {
-        told.put("line #: an empty line is no command\n", number, &[], "");
+        told.put_number("line #: an empty line is no command\n", number);
     } else {
         let form = "line #: `@`: no command that may stand here\n";
-        told.put(form, number, shown(line.text), "");
+        told.put_line(form, number, shown(line.text));
     }
     if !all_printable(line.text) || !line.ended {
         return tell_bad_byte(told, line, "");

@@ -141,10 +141,10 @@ fn tell_letters(told: &mut Page, letters: &Letters) {
 
 /// Tells what is due on a line that begins with this word, and what is wrong with its spaces.
 pub fn tell_form(told: &mut Page, word: &[u8], letters: &Letters, line: &[u8]) {
-    told.put("  due is `@", 0, word, "");
+    told.put_line("  due is `@", 0, word);
     for letter in letters {
         if !letter.is_empty() {
-            told.put(" $", 0, &[], letter);
+            told.put_text(" $", letter);
         }
     }
     if letters[0].is_empty() {

@@ -48,6 +48,21 @@ impl Page {
         }
     }
 
+    /// Adds a form, with the text in place of each `$`.
+    pub fn put_text(&mut self, form: &str, text: &str) {
+        self.put(form, 0, &[], text);
+    }
+
+    /// Adds a form, with the number in place of each `#`.
+    pub fn put_number(&mut self, form: &str, number: usize) {
+        self.put(form, number, &[], "");
+    }
+
+    /// Adds a form, with the number in place of each `#`, and the line in place of each `@`.
+    pub fn put_line(&mut self, form: &str, number: usize, line: &[u8]) {
+        self.put(form, number, line, "");
+    }
+
     /// The text. `AllocError`: it is full.
     pub fn finished(self) -> Result<String, AllocError> {
         if self.full {

@@ -24,10 +24,12 @@ pub fn number(line: &[u8], index: usize) -> Option<usize> {
 
 /// Whether a word stands in a list, with spaces between.
 pub fn stands_in(list: &str, word: &str) -> bool {
-    for other in list.split(' ') {
-        if other == word {
+    let mut rest = list.as_bytes();
+    for _ in 0..list.len() {
+        if !rest.is_empty() && token(rest) == word.as_bytes() {
             return true;
         }
+        rest = tail(after_token(rest));
     }
     false
 }

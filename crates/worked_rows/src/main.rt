@@ -1,5 +1,5 @@
-//! Worked values: rows of rings, buckets, brigades, regions, files of a disk, modules and certificates, and scripts. What they must print is
-//! `stdout`.
+//! Worked values: rows of rings, buckets, brigades, regions, files of a disk, modules and certificates, of responses of the server and of
+//! streams that fail, and scripts. What they must print is `stdout`.
 #![tactic(auto)]
 
 mod brigades;
@@ -7,12 +7,18 @@ mod buckets;
 mod certs;
 mod commands;
 mod disk;
+mod failing;
 mod missing;
 mod modules;
+mod pages;
 mod regions;
+mod requests;
 mod rings;
 mod scripts;
+mod shown;
 mod sizes;
+mod stopped_clock;
+mod streams;
 
 use anyhow::Result;
 use bucket_ring::{PlainRings, RawRings, Rings};
@@ -30,7 +36,10 @@ fn show_rows<P: Rings<u8> + Drop, R: Rings<u8> + Drop, S: Rings<Stored> + Drop>(
     buckets::show_rows(rt)?;
     brigades::show_rows::<S>(rt)?;
     disk::show_rows(rt)?;
-    certs::show_rows(rt)
+    certs::show_rows(rt)?;
+    requests::show_rows::<S>(rt)?;
+    requests::cut_requests::<S>(rt)?;
+    failing::failing_streams::<S>(rt)
 }
 
 /// Plays the scripts of the standard input.

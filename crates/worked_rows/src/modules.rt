@@ -239,3 +239,39 @@ pclear p0
 ret ok
 end
 ";
+
+/// Answers that it failed.
+pub(crate) const FAILING: &[u8] = b"module 1
+open
+ret ok
+init
+ret ok
+main
+ret fail
+end
+";
+
+/// Passes on bytes of its own, which lie in a pool that it clears before.
+pub(crate) const POOL_BYTES: &[u8] = b"module 1
+pool p0 conn
+brigade b0 conn
+open
+pcreate p0
+bcreate b0
+ret ok
+init
+ret ok
+main
+put 104 bad
+put 105 bad
+poolb c0 p0
+tail b0 c0
+pclear p0
+pass b0 bad
+bclean b0
+ret ok
+:bad
+bclean b0
+ret fail
+end
+";

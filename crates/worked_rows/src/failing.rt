@@ -27,7 +27,7 @@ enum Call {
     Slim,
     /// It is checked. The certificate is read from memory.
     Check,
-    /// It is checked. The module is read from memory.
+    /// It is checked. The module is read from memory, and the certificate of `IDENTITY` is what the row reads.
     CheckWith,
     /// A module to begin with is written; nothing is read.
     New,
@@ -75,13 +75,7 @@ const ROWS: &[Row] = &[
     (Call::Certify, "a module", IDENTITY, b"", IDENTITY),
     (Call::Slim, "a module", IDENTITY, b"", IDENTITY),
     (Call::Check, "a module", IDENTITY, b"", IDENTITY),
-    (
-        Call::CheckWith,
-        "a certificate",
-        IDENTITY_CERT,
-        b"",
-        IDENTITY_CERT,
-    ),
+    (Call::CheckWith, "a certificate", b"", b"", IDENTITY),
     (Call::New, "nothing", b"", b"", IDENTITY),
 ];
 
@@ -133,7 +127,7 @@ fn ask<B: Rings<Stored> + Drop, R: Source + Drop, W: Sink>(
 ) -> Result<End> {
     let mut reader = CountedSource::new(source, READS);
     let mut module = CountedSource::new(IDENTITY, READS);
-    let mut cert = CountedSource::new(IDENTITY_CERT, READS);
+    let mut cert = CountedSource::new(IDENTITY_CERT.as_bytes(), READS);
     Ok(match call {
         Call::Serve => end_of_serve::<B, _, _>(alloc, &mut reader, writer)?,
         Call::Play => end_of(run_play(alloc, &mut reader, writer)),
@@ -249,8 +243,12 @@ fn show_text<B: Rings<Stored> + Drop>(
 
 /// A call, with streams that are slow, fail, or never end.
 fn show_row<B: Rings<Stored> + Drop>(rt: &HostRuntime, row: Row) -> Result<()> {
-    let (_, _, before, then, _) = row;
-    let mut text = before.to_vec(rt.alloc())?;
+    let (call, _, before, then, _) = row;
+    let begun = match call {
+        Call::CheckWith => IDENTITY_CERT.as_bytes(),
+        _ => before,
+    };
+    let mut text = begun.to_vec(rt.alloc())?;
     text.extend_from_slice(then)?;
     let mut answer = Vec::new(rt.alloc());
     show_text::<B>(rt, row, text.as_slice(), &mut answer)
