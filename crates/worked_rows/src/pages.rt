@@ -3,6 +3,7 @@
 ghost use Rattle.std.specs.Prelude.{IfOk};
 ghost use Rattle.http_front.specs.Driven.{IsAlive};
 
+use crate::missing::Missing;
 use crate::shown::shown;
 use crate::stopped_clock::StoppedClock;
 use anyhow::Result;
@@ -14,23 +15,12 @@ use life_check::accept_chain;
 use module_lang::assemble;
 use std::alloc::Global;
 use std::io::{self, Write};
-use thiserror::Error;
 
 /// Sunday, 6 November 1994, at 08:49:37 (RFC 9110, section 5.6.7).
 pub(crate) const MOMENT: u64 = 784_111_777;
 
 /// The program's own budget.
 pub(crate) const BUDGET: u64 = 1_000_000;
-
-/// A module of a row is refused.
-#[derive(Clone, Copy, Debug, Error)]
-#[error("the module is refused")]
-struct Refused;
-
-/// The files of a row give the number that is no file's.
-#[derive(Clone, Copy, Debug, Error)]
-#[error("no file can be opened")]
-struct NoFiles;
 
 /// What a row is served by.
 #[derive(Clone, Copy)]
@@ -49,11 +39,11 @@ pub(crate) struct Server {
 fn chain(alloc: Global, text: &[u8]) -> Result<CheckedChain> {
     let code = assemble(alloc, text)?;
     let Ok(cert) = make(alloc, &code) else {
-        return Err(Refused.into());
+        return Err(Missing.into());
     };
     match accept_chain(alloc, vec![in alloc; (code, cert)]?) {
         Ok(chain) => Ok(chain),
-        Err(_) => Err(Refused.into()),
+        Err(_) => Err(Missing.into()),
     }
 }
 
@@ -94,7 +84,7 @@ pub(crate) fn host<B: Rings<Stored> + Drop>(
     };
     let files = files(alloc, server.fails_at)?;
     if files.next_number() == 0 {
-        return Err(NoFiles.into());
+        return Err(Missing.into());
     }
     Ok(Host::checked(alloc, files, chain(alloc, server.module)?, limits)?)
 }
