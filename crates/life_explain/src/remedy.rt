@@ -153,7 +153,7 @@ impl<'s> Case<'s> {
             return false;
         }
         for pc in self.code.main()..self.refusal.pc {
-            if let Op::BSplit = shape(self.code, pc).0 {
+            if let Some(Instr::BSplit(_, _, _)) = instr_at(self.code, pc) {
                 return true;
             }
         }
@@ -219,10 +219,11 @@ impl<'s> Case<'s> {
     fn finds_early(&mut self, c: u8) -> bool {
         for step in 1..5usize {
             let pc = self.maker.saturating_sub(step);
-            let (op, args) = shape(self.code, pc);
-            if matches!(op, Op::Aside) && args.first.index() == c {
-                self.at = pc;
-                return true;
+            if let Some(Instr::Aside(d, _)) = instr_at(self.code, pc) {
+                if c == d {
+                    self.at = pc;
+                    return true;
+                }
             }
         }
         false
@@ -245,8 +246,7 @@ impl<'s> Case<'s> {
 
     // Whether an instruction is `ret fail`.
     fn fails(&self, pc: usize) -> bool {
-        let (op, args) = shape(self.code, pc);
-        matches!(op, Op::Ret) && matches!(args.first.status(), Status::Fail)
+        matches!(instr_at(self.code, pc), Some(Instr::Ret(Status::Fail)))
     }
 
     fn is_when(&mut self, when: When) -> bool {
@@ -255,11 +255,11 @@ impl<'s> Case<'s> {
         match when {
             When::Always => true,
             When::Gone => self.source.find(":gone") != NO_LINE,
-            When::Brought => !is_own & (self.code.brigade_count() < 8),
-            When::Whole => is_own & self.moves_all(),
-            When::Part => is_own & !self.moves_all(),
-            When::Keeps => !is_left | self.may_be(self.exit).0,
-            When::Lost => is_left & !self.may_be(self.exit).0,
+            When::Brought => !is_own && self.code.brigade_count() < 8,
+            When::Whole => is_own && self.moves_all(),
+            When::Part => is_own && !self.moves_all(),
+            When::Keeps => !is_left || self.may_be(self.exit).0,
+            When::Lost => is_left && !self.may_be(self.exit).0,
             When::Left => is_left,
             When::Own => is_own,
             When::Fails => self.fails(self.refusal.pc),
@@ -288,10 +288,9 @@ impl<'s> Case<'s> {
             return false;
         };
         for step in 0..4usize {
-            let at = instr.target().saturating_add(step);
-            match shape(self.code, at).0 {
-                Op::BClean => {}
-                Op::Ret => return !self.fails(at),
+            match instr_at(self.code, instr.target().saturating_add(step)) {
+                Some(Instr::BClean(_)) => {}
+                Some(Instr::Ret(Status::Success)) => return true,
                 _ => return false,
             }
         }
@@ -302,12 +301,12 @@ impl<'s> Case<'s> {
     fn finds_jump(&mut self, pc: usize) -> bool {
         for step in 1..6usize {
             let next = pc.saturating_add(step);
-            match shape(self.code, next).0 {
-                Op::Jump => {
+            match instr_at(self.code, next) {
+                Some(Instr::Jump(_)) => {
                     self.at = next;
                     return true;
                 }
-                Op::Ret | Op::Pass => return false,
+                None | Some(Instr::Ret(_) | Instr::Pass(_, _)) => return false,
                 _ => {}
             }
         }
@@ -557,7 +556,7 @@ impl<'s> Case<'s> {
     fn add_likely(&mut self, rule: &Rule) {
         for step in 1..8usize {
             let pc = self.refusal.pc.saturating_sub(step);
-            if let Op::JEmpty | Op::JEnd = shape(self.code, pc).0 {
+            if let Some(Instr::JEmpty(_, _) | Instr::JEnd(_, _)) = instr_at(self.code, pc) {
                 return self.add_label(rule, last_word(self.source.instruction(pc)));
             }
         }
