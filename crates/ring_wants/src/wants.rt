@@ -14,7 +14,6 @@ use ring_calls::machine::{Call, Instance};
 use run_model::{FaultKind, Instr, Module, Payload, PoolRef, Want, wants};
 
 /// The fault of a want, if it is not so.
-#[tactic(auto, using(crate::proofs::OnlyAsked::asked_nothing, crate::proofs::OnlyAsked::tree_asked_nothing, ring_calls::proofs::Wanted::marks_told))]
 #[inline(always)]
 fn fault_of<R: Rings<Stored> + Drop>(
     instance: &Instance,
@@ -48,7 +47,7 @@ fn fault_of<R: Rings<Stored> + Drop>(
 }
 
 /// The fault of an instruction, if it has one: the first of what it wants that is not so.
-#[tactic(auto, using(crate::proofs::OnlyAsked::asked_nothing, crate::proofs::OnlyAsked::asked_again, crate::proofs::OnlyAsked::tree_asked_nothing, crate::proofs::OnlyAsked::tree_asked_again))]
+#[tactic(auto, using(crate::proofs::OnlyAsked::asked_nothing, crate::proofs::OnlyAsked::tree_asked_nothing))]
 pub fn fault<R: Rings<Stored> + Drop>(
     code: &Module,
     instance: &Instance,

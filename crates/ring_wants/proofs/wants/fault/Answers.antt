@@ -1,5 +1,5 @@
 -- Each want is asked of the store and of the tree that the one before left.
-use Rattle.std.proofs.Common.{◌≡◌, [], ◌∙◌, None, Some, Option, ap, sym}
+use Rattle.std.proofs.Common.{rules, ◌≡◌, [], ◌∙◌, None, Some, Option, ap, sym}
 use Rattle.run_model.specs.declared.fault.FaultKind.{FaultKind}
 use Rattle.run_model.specs.declared.payload.Payload.{Payload}
 use Rattle.run_model.specs.Faults.{fault, fault_want, first_fault}
@@ -76,3 +76,28 @@ returns-in-None-clause-value g c around =
     past_first g at.In-Some-second around None
     (goes_on r w.second c.in-Some-second.second c.in-Some-second.is (and_then w.third []) None (sym c.in_default-fault_of-2.is ∙ second_told g at.After-fault_of-2 around)
     (met r w.third [] c.in-None.is))
+
+pub returns-in-Some-fault_of : goal.returns-in-Some-fault_of
+returns-in-Some-fault_of g c = search rules
+
+pub returns-in_default-second : goal.returns-in_default-second
+returns-in_default-second g c = search rules
+
+pub returns-in-Some-fault_of-2-clause-tree_asked : goal.returns-in-Some-fault_of-2-clause-tree_asked
+returns-in-Some-fault_of-2-clause-tree_asked g c = tree_asked_again _ _ _ c.fault_of.ensures.tree_asked c.fault_of-2.ensures.tree_asked
+
+pub returns-in-Some-fault_of-2-clause-asked : goal.returns-in-Some-fault_of-2-clause-asked
+returns-in-Some-fault_of-2-clause-asked g c = asked_again _ _ _ c.fault_of.ensures.asked c.fault_of-2.ensures.asked
+
+pub returns-in-None-clause-tree_asked : goal.returns-in-None-clause-tree_asked
+returns-in-None-clause-tree_asked g c = tree_asked_again _ _ _ c.fault_of.ensures.tree_asked c.fault_of-2.ensures.tree_asked
+
+pub returns-in-None-clause-asked : goal.returns-in-None-clause-asked
+returns-in-None-clause-asked g c = asked_again _ _ _ c.fault_of.ensures.asked c.fault_of-2.ensures.asked
+
+pub returns-in-Some-third-clause-tree_asked : goal.returns-in-Some-third-clause-tree_asked
+returns-in-Some-third-clause-tree_asked g c =
+    tree_asked_again _ _ _ c.fault_of.ensures.tree_asked (tree_asked_again _ _ _ c.fault_of-2.ensures.tree_asked c.fault_of-in-Some-third.ensures.tree_asked)
+
+pub returns-in-Some-third-clause-asked : goal.returns-in-Some-third-clause-asked
+returns-in-Some-third-clause-asked g c = asked_again _ _ _ c.fault_of.ensures.asked (asked_again _ _ _ c.fault_of-2.ensures.asked c.fault_of-in-Some-third.ensures.asked)
