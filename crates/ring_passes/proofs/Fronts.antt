@@ -21,3 +21,7 @@ as_long n m end xs fits order = sym (take_all m (drop n (take end xs)) (let size
 -- more behind what is seen
 pub longer : (n start : ℕ) (xs more : List ℕ) → n ≤ start → start ≤ length xs → drop n (take start xs ++ more) ≡ drop n (take start xs) ++ more
 longer n start xs more past fits = drop-append-le n (take start xs) more (let size = length-take-le start xs fits in omega (arith, past, size))
+
+-- a list that grew is seen as it was
+pub kept : (n end : ℕ) (old new : List ℕ) → end ≤ length old → take (length old) new ≡ old → drop n (take end new) ≡ drop n (take end old)
+kept n end old new fits front = ap (drop n) (sym (take-take end (length old) new fits) ∙ ap (take end) front)

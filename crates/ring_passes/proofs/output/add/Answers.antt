@@ -1,19 +1,26 @@
 -- Bytes in memory are added as they are, and of a range those of its reads.
-use Rattle.std.proofs.Common.{[], true, sym, subst}
-use Rattle.std.proofs.lemmas.List.{append-nil}
-use Rattle.bucket_kinds.specs.Device.{SomeWentWell}
+use Rattle.std.proofs.Common.{rules, [], true, length, take, refl, sym, ap, subst, ◌∙◌}
+use Rattle.std.proofs.Math.Seq.{take-length}
+use Rattle.std.proofs.lemmas.List.{append-nil, nil_from_length}
+use Rattle.std.proofs.lemmas.Result.{err_from_is_err_and}
+use Rattle.run_model.specs.Cutting.{length_of}
 use Rattle.stored_rings.specs.declared.view.ContentView.{ContentView}
 use Rattle.stored_rings.specs.Views.{content_of}
 use Rattle.ring_passes.specs.Delivery.{ContentAdded}
 use Rattle.ring_passes.proofs.Delivering.{memory_taken, nothing_taken}
-use Rattle.ring_calls.proofs.Quiet.{told_err}
 use Rattle.ring_passes.proofs.WellRead.{none_went}
 use Rattle.ring_passes.proofs.output.add.Goals as goal
 
-pub returns-in_err-extend-in-Bytes-clause-read : goal.returns-in_err-extend-in-Bytes-clause-read
-returns-in_err-extend-in-Bytes-clause-read g c =
-    let d = g.F.Files.device c.args.files.now in
-    told_err c.from_residual.result (SomeWentWell d d) (none_went d)
+pub returns-in_err-extend-in-Bytes : goal.returns-in_err-extend-in-Bytes
+returns-in_err-extend-in-Bytes g c =
+    let out = c.args.out.now in
+    rw (err_from_is_err_and c.from_residual.result c.from_residual.ensures.1).1 (record {
+      added = tt;
+      front = ap (take (length out)) c.in_err-extend-in-Bytes.ensures.err ∙ take-length out;
+      sure = λ none. c.in_err-extend-in-Bytes.ensures.sure (nil_from_length c.in-Bytes.bytes.now (sym (ap (λ (v : ContentView). length_of (content_of v)) c.in-Bytes.is) ∙ none));
+      read = none_went (g.F.Files.device c.args.files.now);
+      open_files = refl;
+    })
 
 pub returns-in_ok-extend-in-Bytes-clause-added : goal.returns-in_ok-extend-in-Bytes-clause-added
 returns-in_ok-extend-in-Bytes-clause-added g c =
@@ -27,3 +34,6 @@ returns-in-Nothing-clause-added g c =
     let d = g.F.Files.device c.args.files.now in
     let out = c.args.out.now in
     subst (λ (v : ContentView). ContentAdded d d (content_of v) true out out) (sym c.in-Nothing.is) (record { added = []; grown = sym (append-nil out); taken_so = nothing_taken d })
+
+pub returns-in-Range : goal.returns-in-Range
+returns-in-Range g c = search rules

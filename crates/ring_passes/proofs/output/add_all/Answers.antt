@@ -2,7 +2,7 @@
 use Rattle.std.proofs.Common.{◌≡◌, true, false, ◌++◌, List, ℕ, length, take, drop, refl, sym, ap, subst, ◌∙◌, Some, [], rules}
 use Rattle.std.proofs.Math.Seq.{drop-append_seam, drop-length, take-append_seam}
 use Rattle.std.proofs.lemmas.List.{append-nil}
-use Rattle.bucket_kinds.specs.Device.{SomeWentWell}
+use Rattle.std.proofs.lemmas.Result.{err_from_is_err_and}
 use Rattle.bucket_ring.specs.Lists.{list_at, rest}
 use Rattle.run_model.specs.Buckets.{has_eos, is_eos, is_eos_kind}
 use Rattle.run_model.specs.Steps.{has_bytes}
@@ -12,7 +12,7 @@ use Rattle.stored_rings.specs.Views.{bucket_of}
 use Rattle.stored_rings.proofs.Walks.{told_some}
 use Rattle.ring_passes.proofs.Buffers.{behind, both_parts}
 use Rattle.ring_passes.proofs.Delivering.{ItemsSoFar, items_none, items_end, items_eos, items_failed, items_more, items_left, place_end as none_left}
-use Rattle.ring_calls.proofs.Quiet.{told_err, quiet_more}
+use Rattle.ring_calls.proofs.Quiet.{quiet_more}
 use Rattle.ring_calls.specs.Seen.{shown}
 use Rattle.ring_calls.proofs.Walked.{WalkAt, any_on, any_stop, head_here, inside_on, shorter}
 use Rattle.ring_passes.proofs.WellRead.{none_went, more_went, open_still}
@@ -125,23 +125,28 @@ returns-clause-added g c =
       taken_so = items_end (g.F.Files.device c.args.files.now) xs (g.F.Files.device l.files) (from_place l.place xs) front l.invariant.read (none_left l.place xs c.in_default.not-Some);
     }
 
-pub returns-in_err-add-clause-sure : goal.returns-in_err-add-clause-sure
-returns-in_err-add-clause-sure g c none =
-    let id = c.in-Some.id in
-    let w = at g (goal.at.returns-in_err-add-clause-sure g c).After-payload-bucket in
+pub returns-in_err-add : goal.returns-in_err-add
+returns-in_err-add g c =
+    let l = c.loop-place in
+    let old = c.args.out.now in
+    let w = at g (goal.at.returns-in_err-add g c).After-payload-bucket in
     let plain = sym c.is_eos.ensures ∙ c.if-is_eos.false in
-    let quiet = sym (ap (λ (zs : Items). has_bytes (named zs)) (head_here w)) ∙ c.loop-place.invariant.quiet none in
-    let sure = c.in_err-add.ensures.sure (quiet_more id (bucket_of c.payload-bucket.result) (drop 1 (rest id (list_at (lists c.args.store.now) c.args.b))) plain quiet).0 in
-    absurd (cc sure)
+    rw (err_from_is_err_and c.from_residual.result c.from_residual.ensures.1).1 (record {
+      added = tt;
+      eos = tt;
+      none = tt;
+      front = ap (take (length old)) (behind old l.out (drop (length l.out) c.add.new.out) c.add.new.out l.invariant.front (both_parts l.out c.add.new.out c.add.ensures.front))
+          ∙ take-append_seam old (drop (length old) l.out ++ drop (length l.out) c.add.new.out);
+      sure = λ none.
+          let quiet = sym (ap (λ (zs : Items). has_bytes (named zs)) (head_here w)) ∙ l.invariant.quiet none in
+          let sure = c.in_err-add.ensures.sure (quiet_more c.in-Some.id (bucket_of c.payload-bucket.result) (drop 1 (rest c.in-Some.id (list_at (lists c.args.store.now) c.args.b))) plain quiet).0 in
+          absurd (cc sure);
+      read = more_went (g.F.Files.device c.args.files.now) (g.F.Files.device l.files) (g.F.Files.device c.add.new.files) l.invariant.went c.in_err-add.ensures.read;
+      open_files = c.add.ensures.open_files ∙ l.invariant.open_files;
+    })
 
 pub add-requires-clause-open : goal.add-requires-clause-open
 add-requires-clause-open g c =
     let w = at g (goal.at.add-requires-clause-open g c).After-payload-bucket in
     open_still (g.F.Files.device c.args.files.now) (g.F.Files.device c.loop-place.files) (bucket_of c.payload-bucket.result).content c.loop-place.invariant.open_files
     (c.requires.open c.in-Some.id (bucket_of c.payload-bucket.result) w.inside w.here)
-
-pub returns-in_err-add-clause-read : goal.returns-in_err-add-clause-read
-returns-in_err-add-clause-read g c =
-    let d = g.F.Files.device c.args.files.now in
-    let e = g.F.Files.device c.add.new.files in
-    told_err c.from_residual.result (SomeWentWell d e) (more_went d (g.F.Files.device c.loop-place.files) e c.loop-place.invariant.went c.in_err-add.ensures.read)

@@ -1,10 +1,11 @@
 -- What was read stands behind the output, or the output is as it was.
-use Rattle.std.proofs.Common.{rules, ◌≡◌, ◌+◌, ◌≤◌, ◌++◌, ℕ, List, length, drop, sym, ap, subst, ◌∙◌, arith}
+use Rattle.std.proofs.Common.{rules, ◌≡◌, ◌+◌, ◌≤◌, ◌++◌, ℕ, List, length, drop, refl, sym, ap, subst, ◌∙◌, arith}
 use Rattle.std.proofs.lemmas.List.{append-nil}
+use Rattle.std.proofs.lemmas.Result.{err_from_is_err_and}
 use Rattle.ring_passes.specs.Delivery.{IsFetched}
 use Rattle.ring_passes.specs.declared.output.Fetched.TheVariants as fetched
 use Rattle.ring_passes.proofs.Buffers.{PartRead, part_size, part_written, part_unread}
-use Rattle.ring_passes.proofs.Fronts.{longer}
+use Rattle.ring_passes.proofs.Fronts.{kept, longer}
 use Rattle.ring_passes.proofs.Spans.{none_given}
 use Rattle.ring_passes.proofs.output_block.OutputBlock.add_span.Goals as goal
 use Rattle.ring_passes.proofs.output_block.OutputBlock.add_span.Goals.{After-fetch}
@@ -60,3 +61,22 @@ returns-in_default-fetch g c =
       unread = tt;
       open_files = c.fetch.ensures.open_files;
     }
+
+pub returns-in_err-start : goal.returns-in_err-start
+returns-in_err-start g c =
+    rw (err_from_is_err_and c.from_residual.result c.from_residual.ensures.1).1 (record {
+      added = tt;
+      unread = (kept 48 c.self.inside.end c.self.inside.block c.make_headroom.new.block (omega arith) c.make_headroom.ensures.front ∙ c.self.view_is, refl);
+      open_files = refl;
+    })
+
+pub returns-in_default : goal.returns-in_default
+returns-in_default g c = search rules
+
+pub returns-in_err-reach : goal.returns-in_err-reach
+returns-in_err-reach g c =
+    rw (err_from_is_err_and c.from_residual-in_err-reach.result c.from_residual-in_err-reach.ensures.1).1 (record {
+      added = tt;
+      unread = (kept 48 c.in_ok-start.start c.make_headroom.new.block c.reach.new.block c.in_ok-start.ensures.place.1 c.reach.ensures.front ∙ (c.in_ok-start.ensures.same ∙ c.self.view_is), refl);
+      open_files = refl;
+    })
