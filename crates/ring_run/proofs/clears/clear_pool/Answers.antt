@@ -81,21 +81,9 @@ returns-in_err-ran g c =
       tree_unasked = e.tree_unasked;
     }
 
-pub returns-clause-cleared : goal.returns-clause-cleared
-returns-clause-cleared g c pool named =
-    subst (λ (p : ℕ). LeavesUncleared (is_under (map_of c.args.tree.now) p) c.args.context.now.rings.now c.args.store.now c.clear.new.self)
-    (some_is _ _ (c.in-Some.ensures ∙ (ap name_in c.variable.ensures ∙ named))) (record { lists = c.in_ok-ran.ensures.out; pools = c.in_ok-ran.ensures.off })
-
-pub returns-clause-house : goal.returns-clause-house
-returns-clause-house g c = c.clear.ensures.house
-
-pub returns-clause-open : goal.returns-clause-open
-returns-clause-open g c = c.clear.ensures.open
-
-pub returns-clause-ok : goal.returns-clause-ok
+pub returns : goal.returns
 unfolding seen_over
-returns-clause-ok g c =
-    λ code around.
+returns g c =
     let old = c.args.store.now in
     let new = c.clear.new.self in
     let i = c.args.instance.now in
@@ -103,23 +91,25 @@ returns-clause-ok g c =
     let ps = map_of c.args.tree.now in
     let pool = c.in-Some.pool in
     let handed = c.args.handed.now.items in
+    let e = c.clear.ensures in
+    let done = c.in_ok-ran.ensures in
     let named = sym (c.in-Some.ensures ∙ ap name_in c.variable.ensures) in
-    let over = during c.args.context.now ps handed around in
-    let r = seen_over (lists old) (next_name old) over i call in
-    let labels = c.add_labels.ensures.told ∙ (ap (λ hs. labels_handed hs ++ labels_in c.in_ok-ran.ran.items) c.reserve.ensures.items
-    ∙ ap (λ xs. labels_handed handed ++ labels_in xs) c.in_ok-ran.ensures.ran) in
-    done_clear (g.F.Files.device c.args.files.now) (g.F.Files.device c.clear.new.files) code c.args.kind c.args.q
-    c.args.context.now ps (map_of c.clear.new.tree) handed c.add_labels.new.handed.items around pool
-    (lists old) (next_name old) (lists new) (next_name new) i call named labels
-    (record { closed = c.in_ok-ran.ensures.closed; others = c.clear.ensures.others })
-    (seen_cleared old new c.args.context.now.rings.now (is_under ps pool) i call c.requires.held (c.requires.looks pool named)
-    c.in_ok-ran.ensures.out pool ps (map_of c.clear.new.tree) over refl c.clear.ensures.next
-    ∙ ap (λ (left : Pools Payload). files_let_go pool r (with_pools left (run_down pool r))) c.in_ok-ran.ensures.ok)
-
-pub returns-clause-held : goal.returns-clause-held
-returns-clause-held g c =
-    let pool = c.in-Some.pool in
-    let named = sym (c.in-Some.ensures ∙ ap name_in c.variable.ensures) in
-    held_cleared c.args.store.now c.clear.new.self c.args.context.now.rings.now (is_under (map_of c.args.tree.now) pool) c.args.instance.now c.args.call.now c.requires.held
-    (c.requires.looks pool named) c.in_ok-ran.ensures.out
-    c.clear.ensures.next c.clear.ensures.names c.in_ok-ran.ensures.off
+    record {
+      ok = λ code around.
+          let over = during c.args.context.now ps handed around in
+          let r = seen_over (lists old) (next_name old) over i call in
+          let labels = c.add_labels.ensures.told ∙ (ap (λ hs. labels_handed hs ++ labels_in c.in_ok-ran.ran.items) c.reserve.ensures.items
+          ∙ ap (λ xs. labels_handed handed ++ labels_in xs) done.ran) in
+          done_clear (g.F.Files.device c.args.files.now) (g.F.Files.device c.clear.new.files) code c.args.kind c.args.q
+          c.args.context.now ps (map_of c.clear.new.tree) handed c.add_labels.new.handed.items around pool
+          (lists old) (next_name old) (lists new) (next_name new) i call named labels
+          (record { closed = done.closed; others = e.others })
+          (seen_cleared old new c.args.context.now.rings.now (is_under ps pool) i call c.requires.held (c.requires.looks pool named) done.out pool ps (map_of c.clear.new.tree) over refl e.next
+          ∙ ap (λ (left : Pools Payload). files_let_go pool r (with_pools left (run_down pool r))) done.ok);
+      cleared = λ pool named.
+          subst (λ (p : ℕ). LeavesUncleared (is_under ps p) c.args.context.now.rings.now old new) (some_is _ _ (c.in-Some.ensures ∙ (ap name_in c.variable.ensures ∙ named)))
+          (record { lists = done.out; pools = done.off });
+      err = tt; kept = tt; unread = tt; unmoved = tt;
+      held = held_cleared old new c.args.context.now.rings.now (is_under ps pool) i call c.requires.held (c.requires.looks pool named) done.out e.next e.names done.off;
+      house = e.house; «open» = e.open; next = e.next; names = e.names; unasked = e.unasked; tree_unasked = e.tree_unasked;
+    }

@@ -2,6 +2,7 @@
 use Rattle.std.proofs.Common.{rules, ◌≡◌, ◌<◌, ℕ, List, Some, None, nat_lt, true, false, refl, sym, ap, ◌∙◌, arith}
 use Rattle.std.proofs.lemmas.Bool.{false≢true}
 use Rattle.std.proofs.lemmas.Bool.Decides.{nat_tests}
+use Rattle.std.proofs.lemmas.Result.{err_from_is_err_and}
 use Rattle.run_model.specs.Faults.{InBrigade, WCursor, WHome}
 use Rattle.pool_tree.specs.Tree.{map_of}
 use Rattle.brigade_ops.specs.Store.{lists, next_name, references}
@@ -110,30 +111,6 @@ returns-in_err-well-in-Read g c =
       tree_unasked = refl;
     }
 
-pub returns-in_ok-well-in-Read-clause-house : goal.returns-in_ok-well-in-Read-clause-house
-returns-in_ok-well-in-Read-clause-house g c =
-    house_left c.args.store.now c.read.new.store c.args.instance.now c.args.call.now (map_of c.args.tree.now) c.read.ensures.left c.requires.house
-
-pub returns-in_ok-well-in-Read-clause-open : goal.returns-in_ok-well-in-Read-clause-open
-returns-in_ok-well-in-Read-clause-open g c =
-    open_left (g.F.Files.device c.args.files.now) (g.F.Files.device c.read.new.files) (references c.args.store.now) (references c.read.new.store)
-    c.read.ensures.left.references c.read.ensures.open_files c.requires.open
-
-pub returns-in_ok-well-in-Read-clause-left : goal.returns-in_ok-well-in-Read-clause-left
-returns-in_ok-well-in-Read-clause-left g c un = rest_others c.args.store.now c.read.new.store c.args.instance.now c.args.call.now c.read.ensures.left
-
-pub returns-in_ok-well-in-Read-clause-slots : goal.returns-in_ok-well-in-Read-clause-slots
-returns-in_ok-well-in-Read-clause-slots g c = names_same (next_name c.args.store.now) (next_name c.read.new.store) c.args.instance.now
-
-pub returns-in_ok-well-in-Read-clause-cleared : goal.returns-in_ok-well-in-Read-clause-cleared
-returns-in_ok-well-in-Read-clause-cleared g c pool named = absurd (no_pool pool (ap (pool_to_clear c.args.instance.now) (sym c.in-Read.is ∙ c.effect_of-effect.ensures) ∙ named))
-
-pub returns-in_ok-clear_pool-in-EmptyPool-clause-left : goal.returns-in_ok-clear_pool-in-EmptyPool-clause-left
-returns-in_ok-clear_pool-in-EmptyPool-clause-left g c un = absurd (false≢true (sym un ∙ ap clears_pool_by (sym (sym c.in-EmptyPool.is ∙ c.effect_of-effect.ensures))))
-
-pub returns-in_ok-clear_pool-in-EmptyPool-clause-slots : goal.returns-in_ok-clear_pool-in-EmptyPool-clause-slots
-returns-in_ok-clear_pool-in-EmptyPool-clause-slots g c = names_same (next_name c.args.store.now) (next_name c.clear_pool.new.store) c.args.instance.now
-
 pub clear_pool-requires-clause-live : goal.clear_pool-requires-clause-live
 clear_pool-requires-clause-live g c =
     let over = in_context c.args.context.now (map_of c.args.tree.now) nowhere in
@@ -170,36 +147,6 @@ read-requires-clause-stands g c =
     (c.requires.faultless nowhere) in
     stands none c.in-Read.is 0 c.in-Read.c InBrigade refl
 
-pub returns-in_ok-clear_pool-in-EmptyPool-clause-ok : goal.returns-in_ok-clear_pool-in-EmptyPool-clause-ok
-returns-in_ok-clear_pool-in-EmptyPool-clause-ok g c =
-    λ around.
-    let is = sym c.in-EmptyPool.is ∙ c.effect_of-effect.ensures in
-    let clears = pool_cleared c.args.instr (ap clears_pool_by (sym is)) in
-    let r = seen_over (lists c.args.store.now) (next_name c.args.store.now) (during c.args.context.now (map_of c.args.tree.now) c.args.handed.now.items around) c.args.instance.now c.args.call.now in
-    carried (g.F.Files.device c.args.files.now) (g.F.Files.device c.clear_pool.new.files) c.args.code.now c.args.instr (effect.EmptyPool c.in-EmptyPool.kind c.in-EmptyPool.q) r _ _ is
-    (λ choice. sym (clears.goes_on c.args.code.now choice r)) (c.in_ok-clear_pool-in-EmptyPool.ensures.ok c.args.code.now around)
-
-pub returns-in_ok-clear_pool-in-EmptyPool-clause-cleared : goal.returns-in_ok-clear_pool-in-EmptyPool-clause-cleared
-returns-in_ok-clear_pool-in-EmptyPool-clause-cleared g c =
-    λ pool named. c.in_ok-clear_pool-in-EmptyPool.ensures.cleared pool
-    (ap (pool_to_clear c.args.instance.now) (sym c.in-EmptyPool.is ∙ c.effect_of-effect.ensures) ∙ named)
-
-pub returns-in_ok-well-in-Read-clause-ok : goal.returns-in_ok-well-in-Read-clause-ok
-returns-in_ok-well-in-Read-clause-ok g c =
-    λ around.
-    let store = c.args.store.now in
-    let i = c.args.instance.now in
-    let call = c.args.call.now in
-    let over = during c.args.context.now (map_of c.args.tree.now) c.args.handed.now.items around in
-    let r = seen_over (lists store) (next_name store) over i call in
-    let none = faultless_by c.args.code.now c.args.store.now over c.args.instance.now c.args.call.now c.args.instr c.effect_of-effect.result c.effect_of-effect.ensures (c.requires.faultless over) in
-    let at = read_within r c.in-Read.c (met none c.in-Read.is 0 (WCursor c.in-Read.c InBrigade) refl)
-    (met none c.in-Read.is 1 (WHome c.in-Read.c) refl) in
-    let reads = reads_so c.args.instr c.in-Read.c (sym c.in-Read.is ∙ c.effect_of-effect.ensures) in
-    carried_read (g.F.Files.device c.args.files.now) (g.F.Files.device c.read.new.files) c.args.code.now c.args.instr c.in-Read.c reads.0 reads.1
-    (lists c.read.new.store) (next_name c.read.new.store) over i c.read.new.call
-    r c.in_ok-well-in-Read.well _ (c.in_ok-well-in-Read.ensures.ok over at.0 at.1 at.2 at.3) c.jumps_if.ensures
-
 pub exit-leads-requires-clause-other : goal.exit-leads-requires-clause-other
 exit-leads-requires-clause-other g c =
     let effect = c.effect_of-effect.result in
@@ -222,80 +169,101 @@ execute_without_files-requires-clause-faultless g c =
     let over = in_context c.args.context.now (map_of c.args.tree.now) around in
     faultless_by c.args.code.now c.args.store.now over c.args.instance.now c.args.call.now c.args.instr c.effect_of-effect.result c.effect_of-effect.ensures (c.requires.faultless around)
 
-pub returns-in_ok-execute_without_files-in_default-clause-ok : goal.returns-in_ok-execute_without_files-in_default-clause-ok
-returns-in_ok-execute_without_files-in_default-clause-ok g c =
-    λ around.
-    let store = c.args.store.now in
-    let d = g.F.Files.device c.args.files.now in
-    let handed = c.args.handed.now.items in
-    let over = during c.args.context.now (map_of c.args.tree.now) handed around in
-    let r = seen_over (lists store) (next_name store) over c.args.instance.now c.args.call.now in
-    let effect = c.effect_of-effect.result in
-    let is = c.effect_of-effect.ensures in
-    let keeps = keeps_rest effect (ap is_carried_by is ∙ c.requires.kind) c.in_default.not-EmptyPool c.in_default.not-Read in
-    carried d d c.args.code.now c.args.instr effect r _ _ is (λ choice. c.exit-leads.ensures over choice)
-    (done_inside d c.args.code.now effect keeps (lists c.execute_without_files.new.store) (next_name c.execute_without_files.new.store)
-    (during c.args.context.now (map_of c.execute_without_files.new.tree) handed around) c.execute_without_files.new.instance c.execute_without_files.new.call r
-    (λ choice. c.in_ok-execute_without_files-in_default.ensures.ok over choice))
-
-pub returns-in_ok-execute_without_files-in_default-clause-cleared : goal.returns-in_ok-execute_without_files-in_default-clause-cleared
-returns-in_ok-execute_without_files-in_default-clause-cleared g c =
-    λ pool named.
-    let effect = c.effect_of-effect.result in
-    let is = c.effect_of-effect.ensures in
-    let keeps = keeps_rest effect (ap is_carried_by is ∙ c.requires.kind) c.in_default.not-EmptyPool c.in_default.not-Read in
-    let none = sym (uncleared c.args.instance.now effect keeps) ∙ (ap (pool_to_clear c.args.instance.now) is ∙ named) in
-    absurd (cc)
-
-pub returns-in_err-execute_without_files-in_default-clause-err : goal.returns-in_err-execute_without_files-in_default-clause-err
-returns-in_err-execute_without_files-in_default-clause-err g c =
-    let handed = c.args.handed.now.items in
-    let same : (around : Around)
-    → seen_over (lists c.execute_without_files.new.store) (next_name c.execute_without_files.new.store)
-    (during c.args.context.now (map_of c.execute_without_files.new.tree) handed around) c.execute_without_files.new.instance c.execute_without_files.new.call
-    ≡ seen_over (lists c.args.store.now) (next_name c.args.store.now) (during c.args.context.now (map_of c.args.tree.now) handed around) c.args.instance.now c.args.call.now
-    = λ around. c.in_err-execute_without_files-in_default.ensures.err (during c.args.context.now (map_of c.args.tree.now) handed around) in
-    told_err _ _ same
-
-pub returns-in_err-execute_without_files-in_default-clause-kept : goal.returns-in_err-execute_without_files-in_default-clause-kept
-returns-in_err-execute_without_files-in_default-clause-kept g c =
-    told_err _ _ (pools_same (lists c.args.store.now) (lists c.execute_without_files.new.store) (next_name c.args.store.now) (next_name c.execute_without_files.new.store)
-    (map_of c.args.tree.now) (map_of c.execute_without_files.new.tree) nowhere c.args.instance.now c.execute_without_files.new.instance c.args.call.now c.execute_without_files.new.call
-    (c.in_err-execute_without_files-in_default.ensures.err nowhere))
-
-pub returns-in_err-execute_without_files-in_default-clause-sure : goal.returns-in_err-execute_without_files-in_default-clause-sure
-returns-in_err-execute_without_files-in_default-clause-sure g c =
-    λ around none.
-    let r = seen_over (lists c.args.store.now) (next_name c.args.store.now) (in_context c.args.context.now (map_of c.args.tree.now) around) c.args.instance.now c.args.call.now in
-    let never = c.in_err-execute_without_files-in_default.ensures.sure around (ap (grows_by r) c.effect_of-effect.ensures ∙ none) in
-    absurd (cc)
-
-pub returns-in_ok-execute_without_files-in_default-clause-open : goal.returns-in_ok-execute_without_files-in_default-clause-open
-returns-in_ok-execute_without_files-in_default-clause-open g c = c.execute_without_files.ensures.open (g.F.Files.device c.args.files.now) c.requires.ranges c.requires.open
-
-pub returns-in_err-execute_without_files-in_default-clause-open : goal.returns-in_err-execute_without_files-in_default-clause-open
-returns-in_err-execute_without_files-in_default-clause-open g c = c.execute_without_files.ensures.open (g.F.Files.device c.args.files.now) c.requires.ranges c.requires.open
-
-pub returns-in_ok-execute_without_files-in_default-clause-left : goal.returns-in_ok-execute_without_files-in_default-clause-left
-returns-in_ok-execute_without_files-in_default-clause-left g c un = c.execute_without_files.ensures.left
-
-pub returns-in_err-execute_without_files-in_default-clause-left : goal.returns-in_err-execute_without_files-in_default-clause-left
-returns-in_err-execute_without_files-in_default-clause-left g c un = c.execute_without_files.ensures.left
-
-pub returns-in_err-execute_without_files-in_default-clause-unmoved : goal.returns-in_err-execute_without_files-in_default-clause-unmoved
-returns-in_err-execute_without_files-in_default-clause-unmoved g c = told_err _ _ c.execute_without_files.ensures.left
-
-pub returns-in_err-execute_without_files-in_default-clause-ok : goal.returns-in_err-execute_without_files-in_default-clause-ok
-returns-in_err-execute_without_files-in_default-clause-ok g c =
-    not_ok c.from_residual-in_err-execute_without_files-in_default.result _ _ c.from_residual-in_err-execute_without_files-in_default.ensures.1
-
-pub returns-in_err-execute_without_files-in_default-clause-cleared : goal.returns-in_err-execute_without_files-in_default-clause-cleared
-returns-in_err-execute_without_files-in_default-clause-cleared g c =
-    not_ok c.from_residual-in_err-execute_without_files-in_default.result _ _ c.from_residual-in_err-execute_without_files-in_default.ensures.1
-
 read_fits : (p : Program) (c : ℕ) → fits p (instr_with (effect.Read c)) ≡ true → c < 9
 read_fits p c fit = search rules
 
 pub read-requires-clause-cursor : goal.read-requires-clause-cursor
 read-requires-clause-cursor g c =
     read_fits c.args.code.now c.in-Read.c (fits_by c.args.code.now c.args.instr (effect.Read c.in-Read.c) (sym c.in-Read.is ∙ c.effect_of-effect.ensures) c.requires.fit)
+
+pub returns-in_ok-clear_pool-in-EmptyPool : goal.returns-in_ok-clear_pool-in-EmptyPool
+returns-in_ok-clear_pool-in-EmptyPool g c =
+    let s = c.args.store.now in
+    let is = sym c.in-EmptyPool.is ∙ c.effect_of-effect.ensures in
+    let clears = pool_cleared c.args.instr (ap clears_pool_by (sym is)) in
+    let e = c.clear_pool.ensures in
+    let done = c.in_ok-clear_pool-in-EmptyPool.ensures in
+    record {
+      ok = λ around.
+          let r = seen_over (lists s) (next_name s) (during c.args.context.now (map_of c.args.tree.now) c.args.handed.now.items around) c.args.instance.now c.args.call.now in
+          carried (g.F.Files.device c.args.files.now) (g.F.Files.device c.clear_pool.new.files) c.args.code.now c.args.instr (effect.EmptyPool c.in-EmptyPool.kind c.in-EmptyPool.q) r _ _ is
+          (λ choice. sym (clears.goes_on c.args.code.now choice r)) (done.ok c.args.code.now around);
+      cleared = λ pool named. done.cleared pool (ap (pool_to_clear c.args.instance.now) is ∙ named);
+      err = tt; kept = tt; unread = tt; unmoved = tt;
+      sure = λ around none. refl;
+      held = e.held; house = e.house; «open» = e.open; name = refl; names = e.names; unasked = e.unasked; tree_unasked = e.tree_unasked;
+      slots = names_same _ _ c.args.instance.now;
+      rises = no_less _ _ e.next;
+      left = λ un. absurd (false≢true (sym un ∙ ap clears_pool_by (sym is)));
+    }
+
+pub returns-in_ok-well-in-Read : goal.returns-in_ok-well-in-Read
+returns-in_ok-well-in-Read g c =
+    let s = c.args.store.now in
+    let ps = map_of c.args.tree.now in
+    let i = c.args.instance.now in
+    let d = g.F.Files.device c.args.files.now in
+    let is = sym c.in-Read.is ∙ c.effect_of-effect.ensures in
+    let left = c.read.ensures.left in
+    record {
+      ok = λ around.
+          let over = during c.args.context.now ps c.args.handed.now.items around in
+          let r = seen_over (lists s) (next_name s) over i c.args.call.now in
+          let none = faultless_by c.args.code.now s over i c.args.call.now c.args.instr c.effect_of-effect.result c.effect_of-effect.ensures (c.requires.faultless over) in
+          let at = read_within r c.in-Read.c (met none c.in-Read.is 0 (WCursor c.in-Read.c InBrigade) refl) (met none c.in-Read.is 1 (WHome c.in-Read.c) refl) in
+          let reads = reads_so c.args.instr c.in-Read.c is in
+          carried_read d (g.F.Files.device c.read.new.files) c.args.code.now c.args.instr c.in-Read.c reads.0 reads.1 (lists c.read.new.store) (next_name c.read.new.store) over i c.read.new.call
+          r c.in_ok-well-in-Read.well _ (c.in_ok-well-in-Read.ensures.ok over at.0 at.1 at.2 at.3) c.jumps_if.ensures;
+      cleared = λ pool named. absurd (no_pool pool (ap (pool_to_clear i) is ∙ named));
+      err = tt; kept = tt; unread = tt; unmoved = tt;
+      sure = λ around none. refl;
+      held = c.read.ensures.held; name = c.read.ensures.name; rises = left.rises; names = left.names; unasked = left.asked; tree_unasked = refl;
+      house = house_left s c.read.new.store i c.args.call.now ps left c.requires.house;
+      «open» = open_left d (g.F.Files.device c.read.new.files) (references s) (references c.read.new.store) left.references c.read.ensures.open_files c.requires.open;
+      slots = names_same _ _ i;
+      left = λ un. rest_others s c.read.new.store i c.args.call.now left;
+    }
+
+pub returns-in_ok-execute_without_files-in_default : goal.returns-in_ok-execute_without_files-in_default
+returns-in_ok-execute_without_files-in_default g c =
+    let s = c.args.store.now in
+    let d = g.F.Files.device c.args.files.now in
+    let new = c.execute_without_files.new in
+    let e = c.execute_without_files.ensures in
+    let effect = c.effect_of-effect.result in
+    let is = c.effect_of-effect.ensures in
+    let keeps = keeps_rest effect (ap is_carried_by is ∙ c.requires.kind) c.in_default.not-EmptyPool c.in_default.not-Read in
+    record {
+      ok = λ around.
+          let over = during c.args.context.now (map_of c.args.tree.now) c.args.handed.now.items around in
+          let r = seen_over (lists s) (next_name s) over c.args.instance.now c.args.call.now in
+          carried d d c.args.code.now c.args.instr effect r _ _ is (λ choice. c.exit-leads.ensures over choice)
+          (done_inside d c.args.code.now effect keeps (lists new.store) (next_name new.store) (during c.args.context.now (map_of new.tree) c.args.handed.now.items around) new.instance new.call r
+          (λ choice. c.in_ok-execute_without_files-in_default.ensures.ok over choice));
+      cleared = λ pool named. absurd (no_pool pool (sym (uncleared c.args.instance.now effect keeps) ∙ (ap (pool_to_clear c.args.instance.now) is ∙ named)));
+      err = tt; kept = tt; unread = tt; unmoved = tt;
+      sure = λ around none. refl;
+      held = e.held; house = e.house; name = e.name; slots = e.slots; rises = e.left.rises; names = e.left.names; unasked = e.left.asked; tree_unasked = e.tree_unasked;
+      «open» = e.open d c.requires.ranges c.requires.open;
+      left = λ un. e.left;
+    }
+
+pub returns-in_err-execute_without_files-in_default : goal.returns-in_err-execute_without_files-in_default
+returns-in_err-execute_without_files-in_default g c =
+    let s = c.args.store.now in
+    let ps = map_of c.args.tree.now in
+    let new = c.execute_without_files.new in
+    let e = c.execute_without_files.ensures in
+    let failed = c.in_err-execute_without_files-in_default.ensures in
+    rw (err_from_is_err_and c.from_residual-in_err-execute_without_files-in_default.result c.from_residual-in_err-execute_without_files-in_default.ensures.1).1 (record {
+      ok = tt; cleared = tt; unread = refl;
+      err = λ around. failed.err (during c.args.context.now ps c.args.handed.now.items around);
+      kept = pools_same (lists s) (lists new.store) (next_name s) (next_name new.store) ps (map_of new.tree) nowhere c.args.instance.now new.instance c.args.call.now new.call (failed.err nowhere);
+      unmoved = e.left;
+      sure = λ around none.
+          let r = seen_over (lists s) (next_name s) (in_context c.args.context.now ps around) c.args.instance.now c.args.call.now in
+          failed.sure around (ap (grows_by r) c.effect_of-effect.ensures ∙ none);
+      held = e.held; house = e.house; name = e.name; slots = e.slots; rises = e.left.rises; names = e.left.names; unasked = e.left.asked; tree_unasked = e.tree_unasked;
+      «open» = e.open (g.F.Files.device c.args.files.now) c.requires.ranges c.requires.open;
+      left = λ un. e.left;
+    })
