@@ -18,7 +18,6 @@ use std::alloc::{AllocError, Global};
 
 /// What an effect does that neither clears a pool nor reads, where there is no fault. Without memory, and where the names are spent, nothing
 /// is changed.
-#[tactic(auto, using(ring_calls::proofs::LeftAlone::rest_none, crate::proofs::CarriedOut::names_same))]
 #[inline(always)]
 pub(crate) fn execute_without_files<R: Rings<Stored> + Drop>(
     alloc: Global,

@@ -1,5 +1,5 @@
 -- The pools that instructions name are live, since there is no fault.
-use Rattle.std.proofs.Common.{ℕ, Option, refl, sym, ap, ◌∙◌}
+use Rattle.std.proofs.Common.{rules, ℕ, Option, refl, sym, ap, ◌∙◌}
 use Rattle.std.specs.Prelude.{option_to_list}
 use Rattle.std.proofs.lemmas.Bool.{false≢true}
 use Rattle.std.proofs.lemmas.Result.{on_err_weaker, on_ok_weaker}
@@ -20,7 +20,7 @@ use Rattle.ring_calls.specs.Context.{in_context}
 use Rattle.ring_calls.specs.Slots.{name_in}
 use Rattle.ring_calls.proofs.HeldAlike.{held_slots}
 use Rattle.ring_calls.proofs.LeftAlone.{rest_none, rest_others}
-use Rattle.ring_run.proofs.CarriedOut.{names_kept}
+use Rattle.ring_run.proofs.CarriedOut.{names_kept, names_same}
 use Rattle.ring_run.proofs.Trees.{house_left, over_pools}
 use Rattle.ring_calls.proofs.OpenFiles.{open_items, open_spot, refs_same}
 use Rattle.ring_calls.proofs.Faultless.{nowhere}
@@ -71,90 +71,6 @@ live_pool-to-requires g c =
     let none = met (c.requires.faultless nowhere) c.in-Aside.is 1 (WPool c.in-Aside.pool) refl in
     record { there = (lists c.args.store.now, (next_name c.args.store.now, (nowhere, (c.args.call.now, none)))) }
 
-pub returns-in-MakePool-clause-ok : goal.returns-in-MakePool-clause-ok
-returns-in-MakePool-clause-ok g c =
-    rw c.in-MakePool.is (on_ok_weaker c.create_pool.result (λ made around choice.
-    made c.args.code.now (lists c.args.store.now) (next_name c.args.store.now) (in_context c.args.context.now (map_of c.args.tree.now) around) c.args.call.now
-    (rw c.pool_parent.ensures at (c.live_pool-parent.ensures.named (lists c.args.store.now) (next_name c.args.store.now) around c.args.call.now)))
-    c.create_pool.ensures.ok)
-
-pub returns-in-Register-clause-ok : goal.returns-in-Register-clause-ok
-returns-in-Register-clause-ok g c =
-    rw c.in-Register.is (on_ok_weaker c.label.result (λ made around choice.
-    rw (c.live_pool-on.ensures.named (lists c.args.store.now) (next_name c.args.store.now) around c.args.call.now)
-    (made (lists c.args.store.now) (next_name c.args.store.now) (in_context c.args.context.now (map_of c.args.tree.now) around) c.args.instance.now c.args.call.now))
-    c.label.ensures.ok)
-
-pub returns-in-Kill-clause-ok : goal.returns-in-Kill-clause-ok
-returns-in-Kill-clause-ok g c =
-    rw c.in-Kill.is (λ around choice.
-    rw (c.live_pool-on-in-Kill.ensures.named (lists c.args.store.now) (next_name c.args.store.now) around c.args.call.now)
-    (c.unlabel.ensures.new (lists c.args.store.now) (next_name c.args.store.now) (in_context c.args.context.now (map_of c.args.tree.now) around) c.args.instance.now c.args.call.now))
-
-pub returns-in-MakeBrigade-clause-ok : goal.returns-in-MakeBrigade-clause-ok
-returns-in-MakeBrigade-clause-ok g c =
-    rw c.in-MakeBrigade.is (on_ok_weaker c.create.result (λ made around choice.
-    made c.args.code.now (in_context c.args.context.now (map_of c.args.tree.now) around) c.args.call.now c.requires.held
-    (rw c.brigade_pool.ensures at (c.live_pool-on-in-MakeBrigade.ensures.named (lists c.args.store.now) (next_name c.args.store.now) around c.args.call.now)))
-    c.create.ensures.ok)
-
-pub returns-in-Save-clause-ok : goal.returns-in-Save-clause-ok
-returns-in-Save-clause-ok g c =
-    rw c.in-Save.is (on_ok_weaker c.save.result (λ made around choice. made (in_context c.args.context.now (map_of c.args.tree.now) around) c.args.call.now c.requires.held) c.save.ensures.ok)
-
-pub returns-in-Aside-clause-ok : goal.returns-in-Aside-clause-ok
-returns-in-Aside-clause-ok g c =
-    rw c.in-Aside.is (on_ok_weaker c.aside.result (λ made around choice.
-    rw (c.live_pool-to.ensures.named (lists c.args.store.now) (next_name c.args.store.now) around c.args.call.now) (made (in_context c.args.context.now (map_of c.args.tree.now) around)))
-    c.aside.ensures.ok)
-
-pub returns-in-MakePool-clause-slots : goal.returns-in-MakePool-clause-slots
-returns-in-MakePool-clause-slots g c =
-    names_kept (next_name c.args.store.now) (next_name c.args.store.now) c.args.instance.now c.create_pool.new.instance (λ b. ap name_in (c.create_pool.ensures.slots b))
-
-pub returns-in-MakeBrigade-clause-open : goal.returns-in-MakeBrigade-clause-open
-returns-in-MakeBrigade-clause-open g c = λ d ranges all. refs_same d (references c.args.store.now) (references c.create.new.store) (λ f. ap (λ (r : ℕ → ℕ). r f) c.create.ensures.references) all
-
-pub returns-in-MakeBrigade-clause-left : goal.returns-in-MakeBrigade-clause-left
-returns-in-MakeBrigade-clause-left g c = c.create.ensures.left c.args.call.now
-
-pub returns-in-Save-clause-open : goal.returns-in-Save-clause-open
-returns-in-Save-clause-open g c =
-    λ d ranges all.
-    let over = in_context c.args.context.now (map_of c.args.tree.now) nowhere in
-    let r = seen_over (lists c.args.store.now) (next_name c.args.store.now) over c.args.instance.now c.args.call.now in
-    let alive = met (c.requires.faultless nowhere) c.in-Save.is 2 (WHomes c.in-Save.b) refl in
-    c.save.ensures.open d over c.args.call.now (open_items d (items_of (r.instance.brigades c.in-Save.b)) ((ranges nowhere).brigades c.in-Save.b) alive) all
-
-pub returns-in-Save-clause-left : goal.returns-in-Save-clause-left
-returns-in-Save-clause-left g c = c.save.ensures.left c.args.call.now
-
-pub returns-in-Aside-clause-open : goal.returns-in-Aside-clause-open
-returns-in-Aside-clause-open g c =
-    λ d ranges all.
-    let over = in_context c.args.context.now (map_of c.args.tree.now) nowhere in
-    let r = seen_over (lists c.args.store.now) (next_name c.args.store.now) over c.args.instance.now c.args.call.now in
-    let alive = met (c.requires.faultless nowhere) c.in-Aside.is 2 (WHome c.in-Aside.c) refl in
-    c.aside.ensures.open d over (open_spot d r c.in-Aside.c (ranges nowhere) alive) all
-
-pub returns-in-Save-clause-sure : goal.returns-in-Save-clause-sure
-unfolding map_of seen_over
-returns-in-Save-clause-sure g c around none =
-    let over = in_context c.args.context.now (map_of c.args.tree.now) around in
-    let r = seen_over (lists c.args.store.now) (next_name c.args.store.now) over c.args.instance.now c.args.call.now in
-    c.save.ensures.sure over c.args.call.now
-    (grown_none 0 0 (takes_reference (map_of c.args.tree.now) (made_on (r.instance.brigades c.in-Save.o)) (items_at r c.in-Save.b)) (sym (ap (grows_by r) c.in-Save.is) ∙ none)).1
-
-pub returns-in-Aside-clause-sure : goal.returns-in-Aside-clause-sure
-unfolding map_of seen_over
-returns-in-Aside-clause-sure g c around none =
-    let over = in_context c.args.context.now (map_of c.args.tree.now) around in
-    let r = seen_over (lists c.args.store.now) (next_name c.args.store.now) over c.args.instance.now c.args.call.now in
-    let bs = option_to_list (bucket_at (spot r c.in-Aside.c)) in
-    let plain = (grown_none 0 0 (takes_reference (map_of c.args.tree.now) (pool_named r c.in-Aside.pool) bs) (sym (ap (grows_by r) c.in-Aside.is) ∙ none)).1 in
-    c.aside.ensures.sure over
-    (sym (ap (λ (p : Option ℕ). takes_reference (map_of c.args.tree.now) p bs) (c.live_pool-to.ensures.named (lists c.args.store.now) (next_name c.args.store.now) around c.args.call.now)) ∙ plain)
-
 pub returns-in_default : goal.returns-in_default
 returns-in_default g c =
     let s = c.args.store.now in
@@ -175,72 +91,104 @@ returns-in_default g c =
       left = rest_others s new i call e.left;
     }
 
-pub returns-in-MakePool-clause-err : goal.returns-in-MakePool-clause-err
-returns-in-MakePool-clause-err g c = on_err_weaker c.create_pool.result (λ same around. same (lists c.args.store.now) (next_name c.args.store.now) around c.args.call.now) c.create_pool.ensures.err
+pub execute_on_store-requires : goal.execute_on_store-requires
+execute_on_store-requires g c = search rules
 
-pub returns-in-Register-clause-err : goal.returns-in-Register-clause-err
-returns-in-Register-clause-err g c =
-    on_err_weaker c.label.result (λ same around. same (lists c.args.store.now) (next_name c.args.store.now) around c.args.instance.now c.args.call.now)
-    c.label.ensures.err
+pub returns-in-MakePool : goal.returns-in-MakePool
+returns-in-MakePool g c = record {
+  ok = rw c.in-MakePool.is (on_ok_weaker c.create_pool.result (λ made around choice.
+      made c.args.code.now (lists c.args.store.now) (next_name c.args.store.now) (in_context c.args.context.now (map_of c.args.tree.now) around) c.args.call.now
+      (rw c.pool_parent.ensures at (c.live_pool-parent.ensures.named (lists c.args.store.now) (next_name c.args.store.now) around c.args.call.now)))
+      c.create_pool.ensures.ok);
+  err = on_err_weaker c.create_pool.result (λ same around. same (lists c.args.store.now) (next_name c.args.store.now) around c.args.call.now) c.create_pool.ensures.err;
+  sure = λ around none.
+      let over = in_context c.args.context.now (map_of c.args.tree.now) around in
+      absurd (false≢true (sym none ∙ ap (grows_by (seen_over (lists c.args.store.now) (next_name c.args.store.now) over c.args.instance.now c.args.call.now)) c.in-MakePool.is));
+  held = held_slots (brigade_of c.args.store.now) (lists c.args.store.now) (pool_of c.args.store.now) (next_name c.args.store.now) c.args.instance.now c.create_pool.new.instance
+      c.args.call.now c.create_pool.ensures.slots c.requires.held;
+  slots = names_kept (next_name c.args.store.now) (next_name c.args.store.now) c.args.instance.now c.create_pool.new.instance (λ b. ap name_in (c.create_pool.ensures.slots b));
+  left = rest_none c.args.store.now c.args.instance.now c.args.call.now;
+  house = c.create_pool.ensures.house _ _ _ c.requires.house; «open» = λ d ranges all. all; name = refl; tree_unasked = c.create_pool.ensures.tree_unasked;
+}
 
-pub returns-in-MakeBrigade-clause-err : goal.returns-in-MakeBrigade-clause-err
-returns-in-MakeBrigade-clause-err g c = on_err_weaker c.create.result (λ same around. same around c.args.call.now) c.create.ensures.err
+pub returns-in-Register : goal.returns-in-Register
+returns-in-Register g c = record {
+  ok = rw c.in-Register.is (on_ok_weaker c.label.result (λ made around choice.
+      rw (c.live_pool-on.ensures.named (lists c.args.store.now) (next_name c.args.store.now) around c.args.call.now)
+      (made (lists c.args.store.now) (next_name c.args.store.now) (in_context c.args.context.now (map_of c.args.tree.now) around) c.args.instance.now c.args.call.now))
+      c.label.ensures.ok);
+  err = on_err_weaker c.label.result (λ same around. same (lists c.args.store.now) (next_name c.args.store.now) around c.args.instance.now c.args.call.now)
+      c.label.ensures.err;
+  sure = λ around none.
+      let over = in_context c.args.context.now (map_of c.args.tree.now) around in
+      absurd (false≢true (sym none ∙ ap (grows_by (seen_over (lists c.args.store.now) (next_name c.args.store.now) over c.args.instance.now c.args.call.now)) c.in-Register.is));
+  left = rest_none c.args.store.now c.args.instance.now c.args.call.now;
+  held = c.requires.held; house = c.label.ensures.house _ _ _ c.requires.house; «open» = λ d ranges all. all; name = refl; slots = names_same _ _ c.args.instance.now;
+  tree_unasked = c.label.ensures.tree_unasked;
+}
 
-pub returns-in-Save-clause-err : goal.returns-in-Save-clause-err
-returns-in-Save-clause-err g c = on_err_weaker c.save.result (λ same around. same around c.args.call.now) c.save.ensures.err
+pub returns-in-Kill : goal.returns-in-Kill
+returns-in-Kill g c = record {
+  ok = rw c.in-Kill.is (λ around choice.
+      rw (c.live_pool-on-in-Kill.ensures.named (lists c.args.store.now) (next_name c.args.store.now) around c.args.call.now)
+      (c.unlabel.ensures.new (lists c.args.store.now) (next_name c.args.store.now) (in_context c.args.context.now (map_of c.args.tree.now) around) c.args.instance.now c.args.call.now));
+  left = rest_none c.args.store.now c.args.instance.now c.args.call.now;
+  err = tt; sure = λ around none. refl; held = c.requires.held; house = c.unlabel.ensures.house _ _ _ c.requires.house; «open» = λ d ranges all. all; name = refl;
+  slots = names_same _ _ c.args.instance.now; tree_unasked = c.unlabel.ensures.tree_unasked;
+}
 
-pub returns-in-Aside-clause-err : goal.returns-in-Aside-clause-err
-returns-in-Aside-clause-err g c = c.aside.ensures.err
+pub returns-in-MakeBrigade : goal.returns-in-MakeBrigade
+returns-in-MakeBrigade g c = record {
+  ok = rw c.in-MakeBrigade.is (on_ok_weaker c.create.result (λ made around choice.
+      made c.args.code.now (in_context c.args.context.now (map_of c.args.tree.now) around) c.args.call.now c.requires.held
+      (rw c.brigade_pool.ensures at (c.live_pool-on-in-MakeBrigade.ensures.named (lists c.args.store.now) (next_name c.args.store.now) around c.args.call.now)))
+      c.create.ensures.ok);
+  err = on_err_weaker c.create.result (λ same around. same around c.args.call.now) c.create.ensures.err;
+  sure = λ around none.
+      let over = in_context c.args.context.now (map_of c.args.tree.now) around in
+      absurd (false≢true (sym none ∙ ap (grows_by (seen_over (lists c.args.store.now) (next_name c.args.store.now) over c.args.instance.now c.args.call.now)) c.in-MakeBrigade.is));
+  «open» = λ d ranges all. refs_same d (references c.args.store.now) (references c.create.new.store) (λ f. ap (λ (r : ℕ → ℕ). r f) c.create.ensures.references) all;
+  held = c.create.ensures.held c.args.call.now c.requires.held; house = c.create.ensures.house c.requires.house; name = refl; slots = c.create.ensures.slots;
+  left = c.create.ensures.left c.args.call.now; tree_unasked = c.create.ensures.tree_unasked;
+}
 
-pub returns-in-MakePool-clause-sure : goal.returns-in-MakePool-clause-sure
-returns-in-MakePool-clause-sure g c around none =
-    let over = in_context c.args.context.now (map_of c.args.tree.now) around in
-    absurd (false≢true (sym none ∙ ap (grows_by (seen_over (lists c.args.store.now) (next_name c.args.store.now) over c.args.instance.now c.args.call.now)) c.in-MakePool.is))
+pub returns-in-Save : goal.returns-in-Save
+unfolding map_of seen_over
+returns-in-Save g c = record {
+  ok = rw c.in-Save.is (on_ok_weaker c.save.result (λ made around choice. made (in_context c.args.context.now (map_of c.args.tree.now) around) c.args.call.now c.requires.held) c.save.ensures.ok);
+  err = on_err_weaker c.save.result (λ same around. same around c.args.call.now) c.save.ensures.err;
+  sure = λ around none.
+      let over = in_context c.args.context.now (map_of c.args.tree.now) around in
+      let r = seen_over (lists c.args.store.now) (next_name c.args.store.now) over c.args.instance.now c.args.call.now in
+      c.save.ensures.sure over c.args.call.now
+      (grown_none 0 0 (takes_reference (map_of c.args.tree.now) (made_on (r.instance.brigades c.in-Save.o)) (items_at r c.in-Save.b)) (sym (ap (grows_by r) c.in-Save.is) ∙ none)).1;
+  «open» = λ d ranges all.
+      let over = in_context c.args.context.now (map_of c.args.tree.now) nowhere in
+      let r = seen_over (lists c.args.store.now) (next_name c.args.store.now) over c.args.instance.now c.args.call.now in
+      let alive = met (c.requires.faultless nowhere) c.in-Save.is 2 (WHomes c.in-Save.b) refl in
+      c.save.ensures.open d over c.args.call.now (open_items d (items_of (r.instance.brigades c.in-Save.b)) ((ranges nowhere).brigades c.in-Save.b) alive) all;
+  held = c.save.ensures.held c.args.call.now c.requires.held; house = c.save.ensures.house c.requires.house; name = refl; slots = names_same _ _ c.args.instance.now;
+  left = c.save.ensures.left c.args.call.now; tree_unasked = c.save.ensures.tree_unasked;
+}
 
-pub returns-in-Register-clause-sure : goal.returns-in-Register-clause-sure
-returns-in-Register-clause-sure g c around none =
-    let over = in_context c.args.context.now (map_of c.args.tree.now) around in
-    absurd (false≢true (sym none ∙ ap (grows_by (seen_over (lists c.args.store.now) (next_name c.args.store.now) over c.args.instance.now c.args.call.now)) c.in-Register.is))
-
-pub returns-in-MakeBrigade-clause-sure : goal.returns-in-MakeBrigade-clause-sure
-returns-in-MakeBrigade-clause-sure g c around none =
-    let over = in_context c.args.context.now (map_of c.args.tree.now) around in
-    absurd (false≢true (sym none ∙ ap (grows_by (seen_over (lists c.args.store.now) (next_name c.args.store.now) over c.args.instance.now c.args.call.now)) c.in-MakeBrigade.is))
-
-pub returns-in-MakePool-clause-held : goal.returns-in-MakePool-clause-held
-returns-in-MakePool-clause-held g c =
-    held_slots (brigade_of c.args.store.now) (lists c.args.store.now) (pool_of c.args.store.now) (next_name c.args.store.now) c.args.instance.now c.create_pool.new.instance
-    c.args.call.now c.create_pool.ensures.slots c.requires.held
-
-pub returns-in-MakeBrigade-clause-held : goal.returns-in-MakeBrigade-clause-held
-returns-in-MakeBrigade-clause-held g c = c.create.ensures.held c.args.call.now c.requires.held
-
-pub returns-in-Save-clause-held : goal.returns-in-Save-clause-held
-returns-in-Save-clause-held g c = c.save.ensures.held c.args.call.now c.requires.held
-
-pub returns-in-MakePool-clause-house : goal.returns-in-MakePool-clause-house
-returns-in-MakePool-clause-house g c = c.create_pool.ensures.house _ _ _ c.requires.house
-
-pub returns-in-MakePool-clause-left : goal.returns-in-MakePool-clause-left
-returns-in-MakePool-clause-left g c = rest_none c.args.store.now c.args.instance.now c.args.call.now
-
-pub returns-in-Register-clause-house : goal.returns-in-Register-clause-house
-returns-in-Register-clause-house g c = c.label.ensures.house _ _ _ c.requires.house
-
-pub returns-in-Register-clause-left : goal.returns-in-Register-clause-left
-returns-in-Register-clause-left g c = rest_none c.args.store.now c.args.instance.now c.args.call.now
-
-pub returns-in-Kill-clause-house : goal.returns-in-Kill-clause-house
-returns-in-Kill-clause-house g c = c.unlabel.ensures.house _ _ _ c.requires.house
-
-pub returns-in-Kill-clause-left : goal.returns-in-Kill-clause-left
-returns-in-Kill-clause-left g c = rest_none c.args.store.now c.args.instance.now c.args.call.now
-
-pub returns-in-MakeBrigade-clause-house : goal.returns-in-MakeBrigade-clause-house
-returns-in-MakeBrigade-clause-house g c = c.create.ensures.house c.requires.house
-
-pub returns-in-Save-clause-house : goal.returns-in-Save-clause-house
-returns-in-Save-clause-house g c = c.save.ensures.house c.requires.house
-
-pub returns-in-Aside-clause-house : goal.returns-in-Aside-clause-house
-returns-in-Aside-clause-house g c = c.aside.ensures.house c.requires.house
+pub returns-in-Aside : goal.returns-in-Aside
+unfolding map_of seen_over
+returns-in-Aside g c = record {
+  ok = rw c.in-Aside.is (on_ok_weaker c.aside.result (λ made around choice.
+      rw (c.live_pool-to.ensures.named (lists c.args.store.now) (next_name c.args.store.now) around c.args.call.now) (made (in_context c.args.context.now (map_of c.args.tree.now) around)))
+      c.aside.ensures.ok);
+  sure = λ around none.
+      let over = in_context c.args.context.now (map_of c.args.tree.now) around in
+      let r = seen_over (lists c.args.store.now) (next_name c.args.store.now) over c.args.instance.now c.args.call.now in
+      let bs = option_to_list (bucket_at (spot r c.in-Aside.c)) in
+      let plain = (grown_none 0 0 (takes_reference (map_of c.args.tree.now) (pool_named r c.in-Aside.pool) bs) (sym (ap (grows_by r) c.in-Aside.is) ∙ none)).1 in
+      c.aside.ensures.sure over
+      (sym (ap (λ (p : Option ℕ). takes_reference (map_of c.args.tree.now) p bs) (c.live_pool-to.ensures.named (lists c.args.store.now) (next_name c.args.store.now) around c.args.call.now)) ∙ plain);
+  «open» = λ d ranges all.
+      let over = in_context c.args.context.now (map_of c.args.tree.now) nowhere in
+      let r = seen_over (lists c.args.store.now) (next_name c.args.store.now) over c.args.instance.now c.args.call.now in
+      let alive = met (c.requires.faultless nowhere) c.in-Aside.is 2 (WHome c.in-Aside.c) refl in
+      c.aside.ensures.open d over (open_spot d r c.in-Aside.c (ranges nowhere) alive) all;
+  err = c.aside.ensures.err; held = c.aside.ensures.held; house = c.aside.ensures.house c.requires.house; name = refl; slots = names_same _ _ c.args.instance.now;
+  left = c.aside.ensures.left; tree_unasked = c.aside.ensures.tree_unasked;
+}
