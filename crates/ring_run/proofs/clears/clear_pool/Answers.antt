@@ -109,7 +109,15 @@ returns g c =
       cleared = λ pool named.
           subst (λ (p : ℕ). LeavesUncleared (is_under ps p) c.args.context.now.rings.now old new) (some_is _ _ (c.in-Some.ensures ∙ (ap name_in c.variable.ensures ∙ named)))
           (record { lists = done.out; pools = done.off });
-      err = tt; kept = tt; unread = tt; unmoved = tt;
+      err = tt;
+      kept = tt;
+      unread = tt;
+      unmoved = tt;
       held = held_cleared old new c.args.context.now.rings.now (is_under ps pool) i call c.requires.held (c.requires.looks pool named) done.out e.next e.names done.off;
-      house = e.house; «open» = e.open; next = e.next; names = e.names; unasked = e.unasked; tree_unasked = e.tree_unasked;
+      house = e.house;
+      «open» = e.open;
+      next = e.next;
+      names = e.names;
+      unasked = e.unasked;
+      tree_unasked = e.tree_unasked;
     }

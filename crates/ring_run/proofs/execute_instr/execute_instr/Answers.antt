@@ -189,9 +189,18 @@ returns-in_ok-clear_pool-in-EmptyPool g c =
           carried (g.F.Files.device c.args.files.now) (g.F.Files.device c.clear_pool.new.files) c.args.code.now c.args.instr (effect.EmptyPool c.in-EmptyPool.kind c.in-EmptyPool.q) r _ _ is
           (λ choice. sym (clears.goes_on c.args.code.now choice r)) (done.ok c.args.code.now around);
       cleared = λ pool named. done.cleared pool (ap (pool_to_clear c.args.instance.now) is ∙ named);
-      err = tt; kept = tt; unread = tt; unmoved = tt;
+      err = tt;
+      kept = tt;
+      unread = tt;
+      unmoved = tt;
       sure = λ around none. refl;
-      held = e.held; house = e.house; «open» = e.open; name = refl; names = e.names; unasked = e.unasked; tree_unasked = e.tree_unasked;
+      held = e.held;
+      house = e.house;
+      «open» = e.open;
+      name = refl;
+      names = e.names;
+      unasked = e.unasked;
+      tree_unasked = e.tree_unasked;
       slots = names_same _ _ c.args.instance.now;
       rises = no_less _ _ e.next;
       left = λ un. absurd (false≢true (sym un ∙ ap clears_pool_by (sym is)));
@@ -215,9 +224,17 @@ returns-in_ok-well-in-Read g c =
           carried_read d (g.F.Files.device c.read.new.files) c.args.code.now c.args.instr c.in-Read.c reads.0 reads.1 (lists c.read.new.store) (next_name c.read.new.store) over i c.read.new.call
           r c.in_ok-well-in-Read.well _ (c.in_ok-well-in-Read.ensures.ok over at.0 at.1 at.2 at.3) c.jumps_if.ensures;
       cleared = λ pool named. absurd (no_pool pool (ap (pool_to_clear i) is ∙ named));
-      err = tt; kept = tt; unread = tt; unmoved = tt;
+      err = tt;
+      kept = tt;
+      unread = tt;
+      unmoved = tt;
       sure = λ around none. refl;
-      held = c.read.ensures.held; name = c.read.ensures.name; rises = left.rises; names = left.names; unasked = left.asked; tree_unasked = refl;
+      held = c.read.ensures.held;
+      name = c.read.ensures.name;
+      rises = left.rises;
+      names = left.names;
+      unasked = left.asked;
+      tree_unasked = refl;
       house = house_left s c.read.new.store i c.args.call.now ps left c.requires.house;
       «open» = open_left d (g.F.Files.device c.read.new.files) (references s) (references c.read.new.store) left.references c.read.ensures.open_files c.requires.open;
       slots = names_same _ _ i;
@@ -241,9 +258,19 @@ returns-in_ok-execute_without_files-in_default g c =
           (done_inside d c.args.code.now effect keeps (lists new.store) (next_name new.store) (during c.args.context.now (map_of new.tree) c.args.handed.now.items around) new.instance new.call r
           (λ choice. c.in_ok-execute_without_files-in_default.ensures.ok over choice));
       cleared = λ pool named. absurd (no_pool pool (sym (uncleared c.args.instance.now effect keeps) ∙ (ap (pool_to_clear c.args.instance.now) is ∙ named)));
-      err = tt; kept = tt; unread = tt; unmoved = tt;
+      err = tt;
+      kept = tt;
+      unread = tt;
+      unmoved = tt;
       sure = λ around none. refl;
-      held = e.held; house = e.house; name = e.name; slots = e.slots; rises = e.left.rises; names = e.left.names; unasked = e.left.asked; tree_unasked = e.tree_unasked;
+      held = e.held;
+      house = e.house;
+      name = e.name;
+      slots = e.slots;
+      rises = e.left.rises;
+      names = e.left.names;
+      unasked = e.left.asked;
+      tree_unasked = e.tree_unasked;
       «open» = e.open d c.requires.ranges c.requires.open;
       left = λ un. e.left;
     }
@@ -256,14 +283,23 @@ returns-in_err-execute_without_files-in_default g c =
     let e = c.execute_without_files.ensures in
     let failed = c.in_err-execute_without_files-in_default.ensures in
     rw (err_from_is_err_and c.from_residual-in_err-execute_without_files-in_default.result c.from_residual-in_err-execute_without_files-in_default.ensures.1).1 (record {
-      ok = tt; cleared = tt; unread = refl;
+      ok = tt;
+      cleared = tt;
+      unread = refl;
       err = λ around. failed.err (during c.args.context.now ps c.args.handed.now.items around);
       kept = pools_same (lists s) (lists new.store) (next_name s) (next_name new.store) ps (map_of new.tree) nowhere c.args.instance.now new.instance c.args.call.now new.call (failed.err nowhere);
       unmoved = e.left;
       sure = λ around none.
           let r = seen_over (lists s) (next_name s) (in_context c.args.context.now ps around) c.args.instance.now c.args.call.now in
           failed.sure around (ap (grows_by r) c.effect_of-effect.ensures ∙ none);
-      held = e.held; house = e.house; name = e.name; slots = e.slots; rises = e.left.rises; names = e.left.names; unasked = e.left.asked; tree_unasked = e.tree_unasked;
+      held = e.held;
+      house = e.house;
+      name = e.name;
+      slots = e.slots;
+      rises = e.left.rises;
+      names = e.left.names;
+      unasked = e.left.asked;
+      tree_unasked = e.tree_unasked;
       «open» = e.open (g.F.Files.device c.args.files.now) c.requires.ranges c.requires.open;
       left = λ un. e.left;
     })

@@ -108,7 +108,10 @@ returns-in-MakePool g c = record {
       c.args.call.now c.create_pool.ensures.slots c.requires.held;
   slots = names_kept (next_name c.args.store.now) (next_name c.args.store.now) c.args.instance.now c.create_pool.new.instance (λ b. ap name_in (c.create_pool.ensures.slots b));
   left = rest_none c.args.store.now c.args.instance.now c.args.call.now;
-  house = c.create_pool.ensures.house _ _ _ c.requires.house; «open» = λ d ranges all. all; name = refl; tree_unasked = c.create_pool.ensures.tree_unasked;
+  house = c.create_pool.ensures.house _ _ _ c.requires.house;
+  «open» = λ d ranges all. all;
+  name = refl;
+  tree_unasked = c.create_pool.ensures.tree_unasked;
 }
 
 pub returns-in-Register : goal.returns-in-Register
@@ -123,7 +126,11 @@ returns-in-Register g c = record {
       let over = in_context c.args.context.now (map_of c.args.tree.now) around in
       absurd (false≢true (sym none ∙ ap (grows_by (seen_over (lists c.args.store.now) (next_name c.args.store.now) over c.args.instance.now c.args.call.now)) c.in-Register.is));
   left = rest_none c.args.store.now c.args.instance.now c.args.call.now;
-  held = c.requires.held; house = c.label.ensures.house _ _ _ c.requires.house; «open» = λ d ranges all. all; name = refl; slots = names_same _ _ c.args.instance.now;
+  held = c.requires.held;
+  house = c.label.ensures.house _ _ _ c.requires.house;
+  «open» = λ d ranges all. all;
+  name = refl;
+  slots = names_same _ _ c.args.instance.now;
   tree_unasked = c.label.ensures.tree_unasked;
 }
 
@@ -133,8 +140,14 @@ returns-in-Kill g c = record {
       rw (c.live_pool-on-in-Kill.ensures.named (lists c.args.store.now) (next_name c.args.store.now) around c.args.call.now)
       (c.unlabel.ensures.new (lists c.args.store.now) (next_name c.args.store.now) (in_context c.args.context.now (map_of c.args.tree.now) around) c.args.instance.now c.args.call.now));
   left = rest_none c.args.store.now c.args.instance.now c.args.call.now;
-  err = tt; sure = λ around none. refl; held = c.requires.held; house = c.unlabel.ensures.house _ _ _ c.requires.house; «open» = λ d ranges all. all; name = refl;
-  slots = names_same _ _ c.args.instance.now; tree_unasked = c.unlabel.ensures.tree_unasked;
+  err = tt;
+  sure = λ around none. refl;
+  held = c.requires.held;
+  house = c.unlabel.ensures.house _ _ _ c.requires.house;
+  «open» = λ d ranges all. all;
+  name = refl;
+  slots = names_same _ _ c.args.instance.now;
+  tree_unasked = c.unlabel.ensures.tree_unasked;
 }
 
 pub returns-in-MakeBrigade : goal.returns-in-MakeBrigade
@@ -148,8 +161,12 @@ returns-in-MakeBrigade g c = record {
       let over = in_context c.args.context.now (map_of c.args.tree.now) around in
       absurd (false≢true (sym none ∙ ap (grows_by (seen_over (lists c.args.store.now) (next_name c.args.store.now) over c.args.instance.now c.args.call.now)) c.in-MakeBrigade.is));
   «open» = λ d ranges all. refs_same d (references c.args.store.now) (references c.create.new.store) (λ f. ap (λ (r : ℕ → ℕ). r f) c.create.ensures.references) all;
-  held = c.create.ensures.held c.args.call.now c.requires.held; house = c.create.ensures.house c.requires.house; name = refl; slots = c.create.ensures.slots;
-  left = c.create.ensures.left c.args.call.now; tree_unasked = c.create.ensures.tree_unasked;
+  held = c.create.ensures.held c.args.call.now c.requires.held;
+  house = c.create.ensures.house c.requires.house;
+  name = refl;
+  slots = c.create.ensures.slots;
+  left = c.create.ensures.left c.args.call.now;
+  tree_unasked = c.create.ensures.tree_unasked;
 }
 
 pub returns-in-Save : goal.returns-in-Save
@@ -167,8 +184,12 @@ returns-in-Save g c = record {
       let r = seen_over (lists c.args.store.now) (next_name c.args.store.now) over c.args.instance.now c.args.call.now in
       let alive = met (c.requires.faultless nowhere) c.in-Save.is 2 (WHomes c.in-Save.b) refl in
       c.save.ensures.open d over c.args.call.now (open_items d (items_of (r.instance.brigades c.in-Save.b)) ((ranges nowhere).brigades c.in-Save.b) alive) all;
-  held = c.save.ensures.held c.args.call.now c.requires.held; house = c.save.ensures.house c.requires.house; name = refl; slots = names_same _ _ c.args.instance.now;
-  left = c.save.ensures.left c.args.call.now; tree_unasked = c.save.ensures.tree_unasked;
+  held = c.save.ensures.held c.args.call.now c.requires.held;
+  house = c.save.ensures.house c.requires.house;
+  name = refl;
+  slots = names_same _ _ c.args.instance.now;
+  left = c.save.ensures.left c.args.call.now;
+  tree_unasked = c.save.ensures.tree_unasked;
 }
 
 pub returns-in-Aside : goal.returns-in-Aside
@@ -189,6 +210,11 @@ returns-in-Aside g c = record {
       let r = seen_over (lists c.args.store.now) (next_name c.args.store.now) over c.args.instance.now c.args.call.now in
       let alive = met (c.requires.faultless nowhere) c.in-Aside.is 2 (WHome c.in-Aside.c) refl in
       c.aside.ensures.open d over (open_spot d r c.in-Aside.c (ranges nowhere) alive) all;
-  err = c.aside.ensures.err; held = c.aside.ensures.held; house = c.aside.ensures.house c.requires.house; name = refl; slots = names_same _ _ c.args.instance.now;
-  left = c.aside.ensures.left; tree_unasked = c.aside.ensures.tree_unasked;
+  err = c.aside.ensures.err;
+  held = c.aside.ensures.held;
+  house = c.aside.ensures.house c.requires.house;
+  name = refl;
+  slots = names_same _ _ c.args.instance.now;
+  left = c.aside.ensures.left;
+  tree_unasked = c.aside.ensures.tree_unasked;
 }
