@@ -1,6 +1,7 @@
 -- One bucket after another.
 use Rattle.std.proofs.Common.{◌≡◌, true, false, ◌++◌, List, ℕ, length, take, drop, refl, sym, ap, subst, ◌∙◌, Some, [], rules}
 use Rattle.std.proofs.Math.Seq.{drop-append_seam, drop-length, take-append_seam}
+use Rattle.std.proofs.lemmas.Bool.{false≢true}
 use Rattle.std.proofs.lemmas.List.{append-nil}
 use Rattle.std.proofs.lemmas.Result.{err_from_is_err_and}
 use Rattle.bucket_ring.specs.Lists.{list_at, rest}
@@ -36,47 +37,55 @@ loop-place-init g c =
       inside = told_some (λ j. brigade_of c.args.store.now j ≡ Some c.args.b) c.start-place.result c.start-place.ensures.inside;
     }
 
-pub returns-then-is_eos-clause-added : goal.returns-then-is_eos-clause-added
-returns-then-is_eos-clause-added g c =
+pub returns-then-is_eos : goal.returns-then-is_eos
+returns-then-is_eos g c =
     let l = c.loop-place in
     let d = g.F.Files.device c.args.files.now in
     let xs = list_at (lists c.args.store.now) c.args.b in
     let id = c.in-Some.id in
-    let w = at g (goal.at.returns-then-is_eos-clause-added g c).After-payload-bucket in
+    let w = at g (goal.at.returns-then-is_eos g c).After-payload-bucket in
     let front = drop (length c.args.out.now) l.out in
     record {
-      added = front;
-      grown = both_parts c.args.out.now l.out l.invariant.front;
-      taken_so = items_eos d xs (g.F.Files.device l.files) (from_place l.place xs) id (bucket_of c.payload-bucket.result) (drop 1 (rest id xs)) front l.invariant.read (head_here w)
-          (sym c.is_eos.ensures ∙ c.if-is_eos.true);
+      added = record {
+        added = front;
+        grown = both_parts c.args.out.now l.out l.invariant.front;
+        taken_so = items_eos d xs (g.F.Files.device l.files) (from_place l.place xs) id (bucket_of c.payload-bucket.result) (drop 1 (rest id xs)) front l.invariant.read (head_here w)
+            (sym c.is_eos.ensures ∙ c.if-is_eos.true);
+      };
+      eos = λ runs is. sym (any_stop w is_eos runs (sym c.is_eos.ensures ∙ c.if-is_eos.true) ∙ l.invariant.left runs);
+      none = λ runs whole none. absurd (false≢true (sym none));
+      front = l.invariant.front;
+      sure = λ none. refl;
+      read = tt;
+      open_files = l.invariant.open_files;
     }
 
-pub returns-then-is_eos-clause-eos : goal.returns-then-is_eos-clause-eos
-returns-then-is_eos-clause-eos g c runs is =
-    let w = at g (goal.at.returns-then-is_eos-clause-eos g c).After-payload-bucket in
-    sym (any_stop w is_eos runs (sym c.is_eos.ensures ∙ c.if-is_eos.true) ∙ c.loop-place.invariant.left runs)
-
-pub returns-clause-none : goal.returns-clause-none
-returns-clause-none g c runs whole none =
-    let xs = list_at (lists c.args.store.now) c.args.b in
-    sym (c.loop-place.invariant.left runs) ∙ ap (λ (ys : Items). has_eos (shown runs ys)) (none_left c.loop-place.place xs c.in_default.not-Some)
-
-pub returns-then-not-branch-clause-added : goal.returns-then-not-branch-clause-added
-returns-then-not-branch-clause-added g c =
+pub returns-then-not-branch : goal.returns-then-not-branch
+returns-then-not-branch g c =
     let l = c.loop-place in
     let d = g.F.Files.device c.args.files.now in
     let xs = list_at (lists c.args.store.now) c.args.b in
     let id = c.in-Some.id in
-    let w = at g (goal.at.returns-then-not-branch-clause-added g c).After-payload-bucket in
+    let w = at g (goal.at.returns-then-not-branch g c).After-payload-bucket in
     let whole = c.in_ok-add.field-0 in
     let took = c.in_ok-add.ensures.added in
-    let front = drop (length c.args.out.now) l.out in
+    let old = c.args.out.now in
+    let front = drop (length old) l.out in
     let failed : whole ≡ false = search rules in
     record {
-      added = front ++ took.added;
-      grown = behind c.args.out.now l.out took.added c.add.new.out l.invariant.front took.grown;
-      taken_so = items_failed d xs (g.F.Files.device l.files) (from_place l.place xs) id (bucket_of c.payload-bucket.result) (drop 1 (rest id xs)) front l.invariant.read (head_here w)
-          (g.F.Files.device c.add.new.files) whole took.added (sym c.is_eos.ensures ∙ c.if-is_eos.false) took.taken_so failed;
+      added = record {
+        added = front ++ took.added;
+        grown = behind old l.out took.added c.add.new.out l.invariant.front took.grown;
+        taken_so = items_failed d xs (g.F.Files.device l.files) (from_place l.place xs) id (bucket_of c.payload-bucket.result) (drop 1 (rest id xs)) front l.invariant.read (head_here w)
+            (g.F.Files.device c.add.new.files) whole took.added (sym c.is_eos.ensures ∙ c.if-is_eos.false) took.taken_so failed;
+      };
+      eos = λ runs is. absurd (false≢true is);
+      none = λ runs whole none. absurd (false≢true whole);
+      front = ap (take (length old)) (behind old l.out (drop (length l.out) c.add.new.out) c.add.new.out l.invariant.front (both_parts l.out c.add.new.out c.add.ensures.front))
+          ∙ take-append_seam old (drop (length old) l.out ++ drop (length l.out) c.add.new.out);
+      sure = λ none. refl;
+      read = tt;
+      open_files = c.add.ensures.open_files ∙ l.invariant.open_files;
     }
 
 pub loop-place-preserved : goal.loop-place-preserved
@@ -114,15 +123,24 @@ loop-place-smaller g c =
     let w = at g (goal.at.loop-place-smaller g c).After-payload-bucket in
     shorter w c.behind-place.result (c.behind-place.ensures.others c.args.b w.inside)
 
-pub returns-clause-added : goal.returns-clause-added
-returns-clause-added g c =
+pub returns : goal.returns
+returns g c =
     let l = c.loop-place in
     let xs = list_at (lists c.args.store.now) c.args.b in
     let front = drop (length c.args.out.now) l.out in
+    let ended = none_left l.place xs c.in_default.not-Some in
     record {
-      added = front;
-      grown = both_parts c.args.out.now l.out l.invariant.front;
-      taken_so = items_end (g.F.Files.device c.args.files.now) xs (g.F.Files.device l.files) (from_place l.place xs) front l.invariant.read (none_left l.place xs c.in_default.not-Some);
+      added = record {
+        added = front;
+        grown = both_parts c.args.out.now l.out l.invariant.front;
+        taken_so = items_end (g.F.Files.device c.args.files.now) xs (g.F.Files.device l.files) (from_place l.place xs) front l.invariant.read ended;
+      };
+      eos = λ runs is. absurd (false≢true is);
+      none = λ runs whole none. sym (l.invariant.left runs) ∙ ap (λ (ys : Items). has_eos (shown runs ys)) ended;
+      front = l.invariant.front;
+      sure = λ none. refl;
+      read = tt;
+      open_files = l.invariant.open_files;
     }
 
 pub returns-in_err-add : goal.returns-in_err-add
@@ -140,7 +158,7 @@ returns-in_err-add g c =
       sure = λ none.
           let quiet = sym (ap (λ (zs : Items). has_bytes (named zs)) (head_here w)) ∙ l.invariant.quiet none in
           let sure = c.in_err-add.ensures.sure (quiet_more c.in-Some.id (bucket_of c.payload-bucket.result) (drop 1 (rest c.in-Some.id (list_at (lists c.args.store.now) c.args.b))) plain quiet).0 in
-          absurd (cc sure);
+          absurd (false≢true sure);
       read = more_went (g.F.Files.device c.args.files.now) (g.F.Files.device l.files) (g.F.Files.device c.add.new.files) l.invariant.went c.in_err-add.ensures.read;
       open_files = c.add.ensures.open_files ∙ l.invariant.open_files;
     })
