@@ -37,6 +37,12 @@ unchanged ps old new c d same pools rises names filters = record {
   holds = λ n pos h. inl (record { at = h.at; filter = h.filter; is = sym (filters h.at) ∙ h.is; by = h.by });
 }
 
+pub rises_by : {a b : ℕ} → b ≡ a → a ≤ b
+rises_by e = omega arith
+
+pub unmoved : {R : Type 0} {g : Ghosts R Stored} (ps : Pools Payload) (store : Brigades R g) (c d : Conn) → ((k : ℕ) → filter_at d k ≡ filter_at c k) → LeavesOthers ps store store c d
+unmoved ps store c d filters = unchanged ps store store c d (λ n. refl) refl (rises_by refl) (λ id there young. there) filters
+
 -- Nothing that is seen of the store changed after an event.
 pub then_same : {R : Type 0} {g : Ghosts R Stored} (ps : Pools Payload) (old mid new : Brigades R g) (c d : Conn) → LeavesOthers ps old mid c d → ((n : ℕ) → lists new n ≡ lists mid n)
     → next_name new ≡ next_name mid → brigade_of new ≡ brigade_of mid → pool_of new ≡ pool_of mid → LeavesOthers ps old new c d

@@ -2,14 +2,18 @@
 use Rattle.std.proofs.Common.{◌≡◌, ℕ, zero, suc, Bool, true, false, ◌&&◌, not, cond, List, refl, sym, ap, ◌∙◌, arith}
 use Rattle.std.specs.Prelude.{if◌then◌else◌, count_by}
 use Rattle.std.specs.List.{list_any}
-use Rattle.bucket_kinds.specs.Device.{Held, Missing}
+use Rattle.bucket_kinds.specs.Device.{Device, Held, Missing}
 use Rattle.run_model.specs.declared.payload.Payload.{Payload}
 use Rattle.run_model.specs.Holding.{refers}
 use Rattle.run_model.specs.Payloads.{is_file_ref}
 use Rattle.run_model.specs.Pools.{Pools, is_live, is_under}
 use Rattle.run_model.specs.RunOrder.{IsPoolMap, run_order}
 use Rattle.run_model.proofs.Sums.{all_none}
+use Rattle.brigade_ops.specs.Files.{SameButOpen}
 use Rattle.brigade_ops.proofs.Counts.{any_none, any_some, run_counted}
+
+pub same_device : (d : Device) → SameButOpen d d
+same_device d = record { named = refl; next = refl; failures = refl; plan = refl }
 
 none_counted : (test : Payload → Bool) (xs : List Payload) → list_any test xs ≡ false → count_by test xs ≡ 0
 none_counted test xs none = go (count_by test xs) refl where

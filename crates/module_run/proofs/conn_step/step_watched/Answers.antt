@@ -1,10 +1,10 @@
 -- By its fault, or by what the call on top does.
-use Rattle.std.proofs.Common.{refl, sym, ◌∙◌, arith}
+use Rattle.std.proofs.Common.{refl, sym, ◌∙◌}
 use Rattle.pool_tree.specs.Tree.{map_of}
 use Rattle.module_run.proofs.CallsLeave.{ends_unchanged}
 use Rattle.module_run.proofs.Executing.{none_there}
 use Rattle.module_run.proofs.Looking.{seen_next, stands_at}
-use Rattle.module_run.proofs.Neighbours.{unchanged}
+use Rattle.module_run.proofs.Neighbours.{unmoved}
 use Rattle.module_run.proofs.OnlyAsked.{ends_asked, leaves_asked, left_asked, on_top_asked}
 use Rattle.module_run.proofs.conn_step.step_watched.Goals as goal
 
@@ -34,7 +34,7 @@ pub returns-in-Some-clause-leaves : goal.returns-in-Some-clause-leaves
 returns-in-Some-clause-leaves g c =
     let s = c.fault_of.new.store in
     leaves_asked c.args.conn.now c.args.conn.now c.args.tree.now c.fault_of.new.tree c.args.store.now s s c.fault_of.ensures.tree_asked c.fault_of.ensures.asked
-    (unchanged (map_of c.fault_of.new.tree) s s c.args.conn.now c.args.conn.now (λ n. refl) refl (omega arith) (λ id there young. there) (λ k. refl))
+    (unmoved (map_of c.fault_of.new.tree) s c.args.conn.now c.args.conn.now (λ k. refl))
 
 pub returns-in-Some-clause-ended : goal.returns-in-Some-clause-ended
 returns-in-Some-clause-ended g c =

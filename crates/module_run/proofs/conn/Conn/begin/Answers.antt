@@ -1,5 +1,5 @@
 -- By the tests, and by what is left where none refuses.
-use Rattle.std.proofs.Common.{◌≡◌, ℕ, true, false, Some, None, refl, sym, ap, subst, ◌∙◌, arith}
+use Rattle.std.proofs.Common.{◌≡◌, ℕ, true, false, Some, None, refl, sym, ap, subst, ◌∙◌}
 use Rattle.run_model.specs.Turns.{begins, begun}
 use Rattle.pool_tree.specs.Tree.{map_of}
 use Rattle.brigade_ops.specs.Store.{lists, next_name}
@@ -9,7 +9,7 @@ use Rattle.module_run.specs.Happened.{has_lasted}
 use Rattle.module_run.proofs.Refusing.{begin_refused, begin_passed}
 use Rattle.module_run.proofs.RequestBegins.{begun_left, conn_live, happened_as, begin_idle, never_some}
 use Rattle.module_run.proofs.Unchanged.{left_same}
-use Rattle.module_run.proofs.Neighbours.{unchanged}
+use Rattle.module_run.proofs.Neighbours.{rises_by, unchanged, unmoved}
 use Rattle.module_run.proofs.NeighboursLeft.{first_leaves}
 use Rattle.module_run.proofs.conn.Conn.begin.Goals as goal
 
@@ -48,13 +48,13 @@ returns-clause-happened g c d v stands =
 
 pub returns-in-Some-clause-leaves : goal.returns-in-Some-clause-leaves
 returns-in-Some-clause-leaves g c =
-    unchanged (map_of c.args.tree.now) c.args.store.now c.args.store.now c.args.self.now c.args.self.now (λ n. refl) refl (omega arith) (λ id there young. there) (λ k. refl)
+    unmoved (map_of c.args.tree.now) c.args.store.now c.args.self.now c.args.self.now (λ k. refl)
 
 pub returns-in_default-call_and_pool-clause-leaves : goal.returns-in_default-call_and_pool-clause-leaves
 returns-in_default-call_and_pool-clause-leaves g c =
     let e = c.in_default-call_and_pool.ensures in
     let next = e.next in
-    unchanged (map_of c.args.tree.now) c.args.store.now c.call_and_pool.new.store c.args.self.now c.args.self.now e.err e.pools (omega (arith, next)) e.names (λ k. refl)
+    unchanged (map_of c.args.tree.now) c.args.store.now c.call_and_pool.new.store c.args.self.now c.args.self.now e.err e.pools (rises_by next) e.names (λ k. refl)
 
 pub returns-clause-leaves : goal.returns-clause-leaves
 returns-clause-leaves g c =

@@ -12,7 +12,7 @@ use Rattle.module_run.specs.Happened.{has_lasted}
 use Rattle.module_run.specs.Refused.{bring_tests}
 use Rattle.module_run.proofs.CallsLeave.{main_leaves}
 use Rattle.module_run.proofs.FirstCalls.{filter_first}
-use Rattle.module_run.proofs.Neighbours.{unchanged}
+use Rattle.module_run.proofs.Neighbours.{rises_by, unchanged, unmoved}
 use Rattle.module_run.proofs.MainStacked.{has_brought, left_brought}
 use Rattle.module_run.proofs.Refusing.{bring_refused, bring_passed}
 use Rattle.module_run.proofs.RequestBegins.{bring_idle, happened_as, req_is}
@@ -61,13 +61,13 @@ returns-clause-happened g c tree d v stands =
     tree d v.0 v.1 stands.left e.references e.next e.rings.1.1)
 
 pub returns-in-Err-clause-leaves : goal.returns-in-Err-clause-leaves
-returns-in-Err-clause-leaves g c ps = unchanged ps c.args.store.now c.args.store.now c.args.self.now c.args.self.now (λ n. refl) refl (omega arith) (λ id there young. there) (λ k. refl)
+returns-in-Err-clause-leaves g c ps = unmoved ps c.args.store.now c.args.self.now c.args.self.now (λ k. refl)
 
 pub returns-in_default-clause-leaves : goal.returns-in_default-clause-leaves
 returns-in_default-clause-leaves g c ps =
     let e = c.in_default.ensures in
     let next = e.next in
-    unchanged ps c.args.store.now c.call_and_brigade.new.store c.args.self.now c.args.self.now e.err e.pools (omega (arith, next)) e.names (λ k. refl)
+    unchanged ps c.args.store.now c.call_and_brigade.new.store c.args.self.now c.args.self.now e.err e.pools (rises_by next) e.names (λ k. refl)
 
 pub returns-clause-leaves : goal.returns-clause-leaves
 returns-clause-leaves g c ps =

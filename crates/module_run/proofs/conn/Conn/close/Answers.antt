@@ -1,9 +1,11 @@
 -- What is given up in the end changes nothing that is seen.
-use Rattle.std.proofs.Common.{ℕ, is_some, sym, ap, subst, ◌∙◌}
+use Rattle.std.proofs.Common.{ℕ, is_some, refl, sym, ap, subst, ◌∙◌, rules}
+use Rattle.std.proofs.lemmas.Result.{err_from_is_err_and}
 use Rattle.pool_tree.specs.Tree.{map_of}
 use Rattle.brigade_ops.specs.House.{AreOpen}
 use Rattle.brigade_ops.proofs.HouseCalls.{house_still}
-use Rattle.module_run.proofs.Neighbours.{then_same}
+use Rattle.module_run.proofs.Neighbours.{then_same, unmoved}
+use Rattle.module_run.proofs.Unreferred.{same_device}
 use Rattle.module_run.proofs.conn.Conn.close.Goals as goal
 
 pub returns-clause-gone : goal.returns-clause-gone
@@ -24,3 +26,24 @@ returns-clause-house g c =
 
 pub returns-clause-references : goal.returns-clause-references
 returns-clause-references g c = subst (λ (f : ℕ → ℕ). AreOpen f (g.F.Files.device c.destroy_all.new.files)) (sym c.give_up.ensures.references) c.destroy_all.ensures.references
+
+pub returns-in_err-pools : goal.returns-in_err-pools
+returns-in_err-pools g c =
+    let p = err_from_is_err_and c.from_residual.result c.from_residual.ensures.1 in
+    let o = same_device (g.F.Files.device c.args.files.now) in
+    let l = unmoved (map_of c.args.tree.now) c.args.store.now c.args.self.now c.args.self.now (λ k. refl) in
+    let s = c.requires.stands.1.so.left in
+    rw p.1 (search (rules, o, l, s.none, s.house, s.references))
+
+pub returns-in_err-push : goal.returns-in_err-push
+returns-in_err-push g c =
+    let p = err_from_is_err_and c.from_residual-in_err-push.result c.from_residual-in_err-push.ensures.1 in
+    let o = same_device (g.F.Files.device c.args.files.now) in
+    let l = unmoved (map_of c.args.tree.now) c.args.store.now c.args.self.now c.args.self.now (λ k. refl) in
+    let s = c.requires.stands.1.so.left in
+    rw p.1 (search (rules, o, l, s.none, s.house, s.references))
+
+pub returns-in_err-destroy_all : goal.returns-in_err-destroy_all
+returns-in_err-destroy_all g c =
+    let p = err_from_is_err_and c.from_residual-in_err-destroy_all.result c.from_residual-in_err-destroy_all.ensures.1 in
+    rw p.1 (search rules)

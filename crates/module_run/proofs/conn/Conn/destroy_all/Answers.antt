@@ -1,6 +1,7 @@
 -- By what the end of the pool hands on, and what of its calls is ended.
-use Rattle.std.proofs.Common.{◌≡◌, ℕ, ◌<◌, List, length, Option, Some, None, is_some, ◌++◌, refl, sym, ap, subst, ◌∙◌, inr, arith}
+use Rattle.std.proofs.Common.{◌≡◌, ℕ, ◌+◌, ◌<◌, List, length, Option, Some, None, is_some, ◌++◌, refl, sym, ap, subst, ◌∙◌, inr, arith}
 use Rattle.std.proofs.lemmas.Option.{slice_get_read}
+use Rattle.std.proofs.lemmas.Result.{err_from_is_err_and}
 use Rattle.bucket_kinds.specs.Device.{Device}
 use Rattle.bucket_ring.specs.Lists as ring
 use Rattle.run_model.specs.declared.payload.Payload.{Payload}
@@ -18,13 +19,16 @@ use Rattle.module_run.specs.Stacked.{named_at}
 use Rattle.module_run.proofs.Alongside.{left_relabelled}
 use Rattle.module_run.proofs.Known.{some_is}
 use Rattle.module_run.proofs.Leaving.{all_gone, conn_below, free_calls, house_ended, leaving, none_cleared, none_kept, off_still}
-use Rattle.module_run.proofs.Neighbours.{unchanged}
+use Rattle.module_run.proofs.Neighbours.{rises_by, unchanged, unmoved}
 use Rattle.module_run.proofs.RequestBegins.{conn_live}
 use Rattle.module_run.proofs.RequestEnds.{closed_labels}
-use Rattle.module_run.proofs.Unchanged.{left_same, on_err}
-use Rattle.module_run.proofs.Unreferred.{unreferred_stays}
+use Rattle.module_run.proofs.Unchanged.{left_same}
+use Rattle.module_run.proofs.Unreferred.{same_device, unreferred_stays}
 use Rattle.ring_run.specs.declared.labels_run.LabelsRun.{LabelsRun}
 use Rattle.module_run.proofs.conn.Conn.destroy_all.Goals as goal
+
+first_below : {w n m : ℕ} (first : ℕ) → first + w < m → n ≡ m → first < n
+first_below first lt same = omega arith
 
 pub clear-requires-clause-live : goal.clear-requires-clause-live
 clear-requires-clause-live g c = (let s = c.requires.stands in conn_live s.0 c.args.tree.now c.args.store.now (g.F.Files.device c.args.files.now) c.args.self.now s.1.linked s.1.so)
@@ -44,7 +48,7 @@ end_brigade-requires g c =
     let s = c.requires.stands in
     let stacked = s.1.so.left.stacked in
     let self = c.args.self.now in
-    let within : self.first < length self.filters.items = (let w = stacked.within in let m = stacked.many in omega (arith, w, m)) in
+    let within : self.first < length self.filters.items = first_below self.first stacked.within stacked.many in
     let was = stacked.brought c.in-Some.name c.index.result.now (slice_get_read self.filters.items (length self.filters.items) self.first c.index.result.now refl within c.index.ensures)
     (sym c.incoming.ensures ∙ c.in-Some.is) in
     record {
@@ -63,7 +67,7 @@ returns-in-Some-clause-leaves g c =
     let l = c.end_calls.ensures in
     let d = c.clear.ensures in
     let next = d.next in
-    let within : self.first < length self.filters.items = (let w = stacked.within in let m = stacked.many in omega (arith, w, m)) in
+    let within : self.first < length self.filters.items = first_below self.first stacked.within stacked.many in
     leaving s.0 c.args.tree.now c.args.store.now
     (g.F.Files.device c.args.files.now) self s.1.linked s.1.so c.clear.new.self c.in_ok-ran.ensures.out c.in_ok-ran.ensures.off c.end_brigade.new.store _ (λ k. refl)
     (λ n unheld. e.out n ∙ (ring_off (lists c.end_calls.new.store) c.in-Some.name n None
@@ -75,7 +79,7 @@ returns-in-Some-clause-leaves g c =
     }))
     ∙ l.others n (λ h. unheld (record { at = h.at; filter = h.filter; is = h.is; by = h.by }))))
     (e.pools ∙ l.pools) (e.next ∙ (l.next ∙ d.next))
-    (λ id there young. d.names id (l.names id (e.names id there (let a = l.next in omega (arith, young, a, next))) (omega (arith, young, next))) young)
+    (λ id there young. d.names id (l.names id (e.names id there (rw (l.next, next) young)) (rw next young)) young)
 
 pub returns-in_default-clause-leaves : goal.returns-in_default-clause-leaves
 unfolding filter_at
@@ -87,7 +91,7 @@ returns-in_default-clause-leaves g c =
     leaving s.0 c.args.tree.now c.args.store.now
     (g.F.Files.device c.args.files.now) c.args.self.now s.1.linked s.1.so c.clear.new.self c.in_ok-ran.ensures.out c.in_ok-ran.ensures.off c.end_calls.new.store _ (λ k. refl)
     (λ n unheld. l.others n (λ h. unheld (record { at = h.at; filter = h.filter; is = h.is; by = h.by })))
-    l.pools (l.next ∙ d.next) (λ id there young. d.names id (l.names id there (omega (arith, young, next))) young)
+    l.pools (l.next ∙ d.next) (λ id there young. d.names id (l.names id there (rw next young)) young)
 
 pub returns-in-Some-clause-labels : goal.returns-in-Some-clause-labels
 returns-in-Some-clause-labels g c chain v stands =
@@ -121,7 +125,7 @@ returns-in-Some-clause-gone g c =
     let s = c.requires.stands in
     let self = c.args.self.now in
     let e = c.end_brigade.ensures in
-    let within : self.first < length self.filters.items = (let w = s.1.so.left.stacked.within in let m = s.1.so.left.stacked.many in omega (arith, w, m)) in
+    let within : self.first < length self.filters.items = first_below self.first s.1.so.left.stacked.within s.1.so.left.stacked.many in
     let here = slice_get_read self.filters.items (length self.filters.items) self.first c.index.result.now refl within c.index.ensures in
     all_gone s.0 c.args.tree.now c.args.store.now (g.F.Files.device c.args.files.now) c.args.self.now s.1.linked s.1.so c.clear.new.self c.in_ok-ran.ensures.out c.in_ok-ran.ensures.off
     (lists c.end_brigade.new.store)
@@ -137,7 +141,7 @@ unfolding filter_at
 returns-in_default-clause-gone g c =
     let s = c.requires.stands in
     let self = c.args.self.now in
-    let within : self.first < length self.filters.items = (let w = s.1.so.left.stacked.within in let m = s.1.so.left.stacked.many in omega (arith, w, m)) in
+    let within : self.first < length self.filters.items = first_below self.first s.1.so.left.stacked.within s.1.so.left.stacked.many in
     let here = slice_get_read self.filters.items (length self.filters.items) self.first c.index.result.now refl within c.index.ensures in
     all_gone s.0 c.args.tree.now c.args.store.now (g.F.Files.device c.args.files.now) c.args.self.now s.1.linked s.1.so c.clear.new.self c.in_ok-ran.ensures.out c.in_ok-ran.ensures.off
     (lists c.end_calls.new.store) c.end_calls.ensures.none c.end_calls.ensures.gone
@@ -151,7 +155,7 @@ returns-in-Some-clause-house g c =
     let s = c.requires.stands in
     let self = c.args.self.now in
     let e = c.end_brigade.ensures in
-    let within : self.first < length self.filters.items = (let w = s.1.so.left.stacked.within in let m = s.1.so.left.stacked.many in omega (arith, w, m)) in
+    let within : self.first < length self.filters.items = first_below self.first s.1.so.left.stacked.within s.1.so.left.stacked.many in
     let here = slice_get_read self.filters.items (length self.filters.items) self.first c.index.result.now refl within c.index.ensures in
     let was = s.1.so.left.stacked.brought c.in-Some.name c.index.result.now here (sym c.incoming.ensures ∙ c.in-Some.is) in
     let off = off_still s.0 c.args.tree.now c.args.store.now
@@ -163,46 +167,55 @@ returns-in-Some-clause-house g c =
 pub returns-in_default-clause-house : goal.returns-in_default-clause-house
 returns-in_default-clause-house g c = c.end_calls.ensures.house (map_of c.clear.new.tree) c.clear.ensures.house
 
-pub returns-in_err-reserve-clause-house : goal.returns-in_err-reserve-clause-house
-returns-in_err-reserve-clause-house g c = c.requires.stands.1.so.left.house
-
-pub returns-in_err-reserve-clause-references : goal.returns-in_err-reserve-clause-references
-returns-in_err-reserve-clause-references g c = c.requires.stands.1.so.left.references
-
-pub returns-in_err-reserve-clause-leaves : goal.returns-in_err-reserve-clause-leaves
+pub returns-in_err-reserve : goal.returns-in_err-reserve
 unfolding filter_at
-returns-in_err-reserve-clause-leaves g c = unchanged (map_of c.args.tree.now) c.args.store.now c.args.store.now c.args.self.now _ (λ n. refl) refl (omega arith) (λ id there young. there) (λ k. refl)
+returns-in_err-reserve g c =
+    let p = err_from_is_err_and c.from_residual.result c.from_residual.ensures.1 in
+    let left = c.requires.stands.1.so.left in
+    rw p.1 (record {
+      labels = tt;
+      pools = tt;
+      gone = tt;
+      next = refl;
+      closed = tt;
+      unreferred = λ file none. refl;
+      others = same_device (g.F.Files.device c.args.files.now);
+      leaves = unmoved (map_of c.args.tree.now) c.args.store.now c.args.self.now _ (λ k. refl);
+      none = left.none;
+      house = left.house;
+      references = left.references;
+      rest = refl;
+      err = λ chain v left. left_relabelled chain c.args.tree.now c.args.store.now (g.F.Files.device c.args.files.now) c.args.self.now v c.reserve.new.self c.reserve.ensures.items left;
+      unread = refl;
+    })
 
-pub returns-in_err-ran-clause-leaves : goal.returns-in_err-ran-clause-leaves
+pub returns-in_err-ran : goal.returns-in_err-ran
 unfolding filter_at
-returns-in_err-ran-clause-leaves g c =
+returns-in_err-ran g c =
+    let p = err_from_is_err_and c.from_residual-in_err-ran.result c.from_residual-in_err-ran.ensures.1 in
     let e = c.in_err-ran.ensures in
-    let next = c.clear.ensures.next in
-    unchanged (map_of c.args.tree.now) c.args.store.now c.clear.new.self c.args.self.now _ e.err e.pools (omega (arith, next))
-    (λ id there young. sym (ap is_some (same_brigade c.args.store.now c.clear.new.self e.err id)) ∙ there) (λ k. refl)
-
-pub returns-in_err-ran-clause-unreferred : goal.returns-in_err-ran-clause-unreferred
-returns-in_err-ran-clause-unreferred g c file none = ap (λ (d : Device). d.numbered file) c.in_err-ran.ensures.unread
-
-pub returns-in_err-reserve-clause-err : goal.returns-in_err-reserve-clause-err
-returns-in_err-reserve-clause-err g c =
-    on_err c.from_residual.result _
-    (λ chain v left. left_relabelled chain c.args.tree.now c.args.store.now (g.F.Files.device c.args.files.now) c.args.self.now v c.reserve.new.self c.reserve.ensures.items left)
-
-pub returns-in_err-ran-clause-err : goal.returns-in_err-ran-clause-err
-returns-in_err-ran-clause-err g c =
-    let e = c.in_err-ran.ensures in
+    let l = c.clear.ensures in
+    let next = l.next in
     let d = g.F.Files.device c.args.files.now in
-    on_err c.from_residual-in_err-ran.result _ (λ chain v left.
-    subst (λ (x : Device). LeftAs chain c.clear.new.tree c.clear.new.self x (record c.args.self.now { labels = c.reserve.new.self }) v) (sym e.unread)
-    (left_relabelled chain c.clear.new.tree c.clear.new.self d c.args.self.now v c.reserve.new.self c.reserve.ensures.items
-    (left_same c.args.store.now c.clear.new.self e.err c.clear.ensures.next e.pools chain c.args.tree.now c.clear.new.tree d c.args.self.now v e.kept e.uncounted left)))
-
-pub returns-in_err-reserve-clause-none : goal.returns-in_err-reserve-clause-none
-returns-in_err-reserve-clause-none g c = c.requires.stands.1.so.left.none
-
-pub returns-in_err-ran-clause-none : goal.returns-in_err-ran-clause-none
-returns-in_err-ran-clause-none g c = c.in_err-ran.ensures.err 0 ∙ c.requires.stands.1.so.left.none
+    rw p.1 (record {
+      labels = tt;
+      pools = tt;
+      gone = tt;
+      next = next;
+      closed = tt;
+      unreferred = λ file none. ap (λ (d : Device). d.numbered file) e.unread;
+      others = l.others;
+      leaves = unchanged (map_of c.args.tree.now) c.args.store.now c.clear.new.self c.args.self.now _ e.err e.pools (rises_by next)
+          (λ id there young. sym (ap is_some (same_brigade c.args.store.now c.clear.new.self e.err id)) ∙ there) (λ k. refl);
+      none = e.err 0 ∙ c.requires.stands.1.so.left.none;
+      house = l.house;
+      references = l.open;
+      rest = refl;
+      err = λ chain v left. subst (λ (x : Device). LeftAs chain c.clear.new.tree c.clear.new.self x (record c.args.self.now { labels = c.reserve.new.self }) v) (sym e.unread)
+          (left_relabelled chain c.clear.new.tree c.clear.new.self d c.args.self.now v c.reserve.new.self c.reserve.ensures.items
+          (left_same c.args.store.now c.clear.new.self e.err l.next e.pools chain c.args.tree.now c.clear.new.tree d c.args.self.now v e.kept e.uncounted left));
+      unread = e.unread;
+    })
 
 pub returns-in_default-clause-none : goal.returns-in_default-clause-none
 returns-in_default-clause-none g c =

@@ -1,5 +1,5 @@
 -- By the tests, and by what is left where none refuses.
-use Rattle.std.proofs.Common.{◌≡◌, ℕ, true, false, map, Option, Some, None, is_some, refl, sym, ap, subst, ◌∙◌, arith}
+use Rattle.std.proofs.Common.{◌≡◌, ℕ, true, false, map, Option, Some, None, is_some, refl, sym, ap, subst, ◌∙◌}
 use Rattle.bucket_kinds.specs.Device.{Device}
 use Rattle.run_model.specs.declared.event.Refusal.TheVariants as refusal
 use Rattle.run_model.specs.Turns.{ended, ends, request_over, unless_refused}
@@ -16,7 +16,7 @@ use Rattle.module_run.proofs.RequestBegins.{happened_as, req_is, request_below, 
 use Rattle.module_run.proofs.RequestEnds.{request_left_as}
 use Rattle.brigade_ops.proofs.Stores.{same_brigade}
 use Rattle.module_run.specs.Conns.{filter_at}
-use Rattle.module_run.proofs.Neighbours.{unchanged}
+use Rattle.module_run.proofs.Neighbours.{rises_by, unchanged, unmoved}
 use Rattle.module_run.proofs.NeighboursLeft.{destroyed_leaves}
 use Rattle.model_laws.proofs.parts.Paths.{under_trans}
 use Rattle.module_run.proofs.Unchanged.{left_same}
@@ -76,14 +76,14 @@ returns-clause-closed g c =
 
 pub returns-in-Err-clause-leaves : goal.returns-in-Err-clause-leaves
 returns-in-Err-clause-leaves g c =
-    unchanged (map_of c.args.tree.now) c.args.store.now c.args.store.now c.args.self.now c.args.self.now (λ n. refl) refl (omega arith) (λ id there young. there) (λ k. refl)
+    unmoved (map_of c.args.tree.now) c.args.store.now c.args.self.now c.args.self.now (λ k. refl)
 
 pub returns-in_default-clause-leaves : goal.returns-in_default-clause-leaves
 unfolding filter_at
 returns-in_default-clause-leaves g c =
     let e = c.in_default.ensures in
     let next = e.next in
-    unchanged (map_of c.args.tree.now) c.args.store.now c.destroy.new.store c.args.self.now c.destroy.new.self e.err e.pools (omega (arith, next))
+    unchanged (map_of c.args.tree.now) c.args.store.now c.destroy.new.store c.args.self.now c.destroy.new.self e.err e.pools (rises_by next)
     (λ id there young. sym (ap is_some (same_brigade c.args.store.now c.destroy.new.store e.err id)) ∙ there) (λ k. ap (λ (x : Conn). filter_at x k) e.rest)
 
 pub returns-clause-leaves : goal.returns-clause-leaves

@@ -14,7 +14,7 @@ use Rattle.module_run.specs.Happened.{has_lasted}
 use Rattle.module_run.specs.OpenedFile.{WasOpened}
 use Rattle.module_run.specs.Proceeding.{LeftAs}
 use Rattle.module_run.specs.Conns.{filter_at}
-use Rattle.module_run.proofs.Neighbours.{unchanged}
+use Rattle.module_run.proofs.Neighbours.{rises_by, unchanged, unmoved}
 use Rattle.module_run.proofs.FileOpens.{closed_again, file_left, left_device, left_refiled, numbered_closed, some_bytes}
 use Rattle.module_run.proofs.OpeningsTold.{may_tell_unasked, not_spent, opening_is, rest_of, stays_unasked, unasked, was_opened, was_refused}
 use Rattle.module_run.proofs.Refusing.{open_left, open_refused}
@@ -88,18 +88,18 @@ returns-clause-opened g c chain v stands below =
 
 pub returns-in-Err-clause-leaves : goal.returns-in-Err-clause-leaves
 returns-in-Err-clause-leaves g c =
-    unchanged (map_of c.args.tree.now) c.args.store.now c.args.store.now c.args.self.now c.args.self.now (λ n. refl) refl (omega arith) (λ id there young. there) (λ k. refl)
+    unmoved (map_of c.args.tree.now) c.args.store.now c.args.self.now c.args.self.now (λ k. refl)
 
 pub returns-in-Err-open_file-clause-leaves : goal.returns-in-Err-open_file-clause-leaves
 returns-in-Err-open_file-clause-leaves g c =
-    unchanged (map_of c.args.tree.now) c.args.store.now c.args.store.now c.args.self.now c.args.self.now (λ n. refl) refl (omega arith) (λ id there young. there) (λ k. refl)
+    unmoved (map_of c.args.tree.now) c.args.store.now c.args.self.now c.args.self.now (λ k. refl)
 
 pub returns-in_default-clause-leaves : goal.returns-in_default-clause-leaves
 unfolding filter_at
 returns-in_default-clause-leaves g c =
     let e = c.keep_file.ensures in
     let next = e.next in
-    unchanged (map_of c.args.tree.now) c.args.store.now c.keep_file.new.store c.args.self.now c.keep_file.new.self (λ n. ap (λ (f : ℕ → _). f n) e.lists) e.pools (omega (arith, next))
+    unchanged (map_of c.args.tree.now) c.args.store.now c.keep_file.new.store c.args.self.now c.keep_file.new.self (λ n. ap (λ (f : ℕ → _). f n) e.lists) e.pools (rises_by next)
     (λ id there young. ap (λ (f : _ → _). is_some (f id)) (sym e.brigades) ∙ there) (λ k. ap (λ (x : Conn). filter_at x k) e.rest)
 
 pub returns-clause-leaves : goal.returns-clause-leaves
@@ -107,5 +107,5 @@ unfolding filter_at
 returns-clause-leaves g c =
     let e = c.keep_file.ensures in
     let next = e.next in
-    unchanged (map_of c.args.tree.now) c.args.store.now c.keep_file.new.store c.args.self.now c.keep_file.new.self (λ n. ap (λ (f : ℕ → _). f n) e.lists) e.pools (omega (arith, next))
+    unchanged (map_of c.args.tree.now) c.args.store.now c.keep_file.new.store c.args.self.now c.keep_file.new.self (λ n. ap (λ (f : ℕ → _). f n) e.lists) e.pools (rises_by next)
     (λ id there young. ap (λ (f : _ → _). is_some (f id)) (sym e.brigades) ∙ there) (λ k. ap (λ (x : Conn). filter_at x k) e.rest)

@@ -31,7 +31,7 @@ use Rattle.module_run.proofs.HandsOnBuilt.{on_err, pushed_ok, same_back, reads_n
 use Rattle.module_run.proofs.HandsOnLeft.{OneMore, held_more, live_more, lists_kept, hands_on}
 use Rattle.pool_tree.specs.Tree.{map_of}
 use Rattle.module_run.proofs.CallsLeave.{ends_unchanged, handed_ends, handed_leaves}
-use Rattle.module_run.proofs.Neighbours.{unchanged}
+use Rattle.module_run.proofs.Neighbours.{rises_by, unchanged, unmoved}
 use Rattle.module_run.proofs.Spared.{left_spared}
 use Rattle.module_run.proofs.TopFilter.{module_read}
 use Rattle.module_run.proofs.Tops.{OnTop}
@@ -259,7 +259,7 @@ returns-clause-ok g c tree d l v f rest ready =
 
 pub returns-in_err-reserve-clause-leaves : goal.returns-in_err-reserve-clause-leaves
 unfolding filter_at
-returns-in_err-reserve-clause-leaves g c ps = unchanged ps c.args.store.now c.args.store.now c.args.self.now _ (λ n. refl) refl (omega arith) (λ id there young. there) (λ k. refl)
+returns-in_err-reserve-clause-leaves g c ps = unmoved ps c.args.store.now c.args.self.now _ (λ k. refl)
 
 pub returns-in_err-reserve-clause-ended : goal.returns-in_err-reserve-clause-ended
 unfolding filter_at
@@ -270,7 +270,7 @@ unfolding filter_at
 returns-in_err-begin_in-clause-leaves g c ps =
     let e = c.in_err-begin_in.ensures in
     let next = e.next in
-    unchanged ps c.args.store.now c.begin_in.new.store c.args.self.now _ e.err c.begin_in.ensures.pools (omega (arith, next)) c.begin_in.ensures.names
+    unchanged ps c.args.store.now c.begin_in.new.store c.args.self.now _ e.err c.begin_in.ensures.pools (rises_by next) c.begin_in.ensures.names
     (λ k. ap (λ (fs : List Filter). slice_get fs k) (put_back g c))
 
 pub returns-in_err-begin_in-clause-ended : goal.returns-in_err-begin_in-clause-ended

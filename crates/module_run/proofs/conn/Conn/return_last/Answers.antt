@@ -22,7 +22,7 @@ use Rattle.module_run.proofs.Ending.{ending}
 use Rattle.module_run.proofs.FirstReady.{SetNext, as_was, first_brought, first_held, first_read, first_runs, first_within, made_brought, made_empty, made_free, made_held, made_none, one_begins}
 use Rattle.module_run.proofs.FirstReady.{queue_later, set_first, set_next, zero_free}
 use Rattle.pool_tree.specs.Tree.{map_of}
-use Rattle.module_run.proofs.Neighbours.{unchanged}
+use Rattle.module_run.proofs.Neighbours.{rises_by, unchanged}
 use Rattle.module_run.proofs.LeftSame.{left_same}
 use Rattle.module_run.proofs.NextTurn.{Turns, turned, turning}
 use Rattle.module_run.proofs.TopFilter.{module_read, on_top_of}
@@ -218,7 +218,7 @@ pub returns-in_default-clause-leaves : goal.returns-in_default-clause-leaves
 returns-in_default-clause-leaves g c ps =
     let e = c.in_default.ensures in
     let next = e.next in
-    unchanged ps c.args.store.now c.loose.new.self c.args.self.now c.args.self.now e.err e.pools (omega (arith, next)) e.names (λ k. refl)
+    unchanged ps c.args.store.now c.loose.new.self c.args.self.now c.args.self.now e.err e.pools (rises_by next) e.names (λ k. refl)
 
 pub returns-in_default-clause-ended : goal.returns-in_default-clause-ended
 returns-in_default-clause-ended g c = ends_unchanged c.args.store.now c.loose.new.self c.args.self.now c.args.self.now (λ k. refl)

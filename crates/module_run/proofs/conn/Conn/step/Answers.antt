@@ -9,7 +9,7 @@ use Rattle.module_run.specs.Conns.{filter_at}
 use Rattle.module_run.specs.Stepping.{IsStep, settled}
 use Rattle.module_run.proofs.CallsLeave.{ends_alike, ends_unchanged, leaves_alike}
 use Rattle.module_run.proofs.Executing.{answer_settled, can_step, cause_of, count_of, none_there, refusal_settled, runs_on_top, settled_filters, step_broken, step_goes, step_idle, step_over}
-use Rattle.module_run.proofs.Neighbours.{unchanged}
+use Rattle.module_run.proofs.Neighbours.{unchanged, unmoved}
 use Rattle.module_run.proofs.conn.Conn.step.Goals as goal
 
 pub returns-in-Some-clause-steps : goal.returns-in-Some-clause-steps
@@ -72,14 +72,14 @@ returns-in-Err-clause-steps g c v stands bare =
 
 pub returns-in-Some-clause-leaves : goal.returns-in-Some-clause-leaves
 returns-in-Some-clause-leaves g c =
-    unchanged (map_of c.args.tree.now) c.args.store.now c.args.store.now c.args.self.now c.args.self.now (λ n. refl) refl (omega arith) (λ id there young. there) (λ k. refl)
+    unmoved (map_of c.args.tree.now) c.args.store.now c.args.self.now c.args.self.now (λ k. refl)
 
 pub returns-in-Some-clause-ended : goal.returns-in-Some-clause-ended
 returns-in-Some-clause-ended g c = ends_unchanged c.args.store.now c.args.store.now c.args.self.now c.args.self.now (λ k. refl)
 
 pub returns-then-not-self-clause-leaves : goal.returns-then-not-self-clause-leaves
 returns-then-not-self-clause-leaves g c =
-    unchanged (map_of c.args.tree.now) c.args.store.now c.args.store.now c.args.self.now c.args.self.now (λ n. refl) refl (omega arith) (λ id there young. there) (λ k. refl)
+    unmoved (map_of c.args.tree.now) c.args.store.now c.args.self.now c.args.self.now (λ k. refl)
 
 pub returns-then-not-self-clause-ended : goal.returns-then-not-self-clause-ended
 returns-then-not-self-clause-ended g c = ends_unchanged c.args.store.now c.args.store.now c.args.self.now c.args.self.now (λ k. refl)
