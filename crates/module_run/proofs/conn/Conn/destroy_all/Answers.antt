@@ -1,5 +1,5 @@
 -- By what the end of the pool hands on, and what of its calls is ended.
-use Rattle.std.proofs.Common.{◌≡◌, ℕ, ◌+◌, ◌<◌, List, length, Option, Some, None, is_some, ◌++◌, refl, sym, ap, subst, ◌∙◌, inr, arith}
+use Rattle.std.proofs.Common.{◌≡◌, ℕ, ◌<◌, List, length, Option, Some, None, is_some, ◌++◌, refl, sym, ap, subst, ◌∙◌, inr, arith}
 use Rattle.std.proofs.lemmas.Option.{slice_get_read}
 use Rattle.std.proofs.lemmas.Result.{err_from_is_err_and}
 use Rattle.bucket_kinds.specs.Device.{Device}
@@ -9,11 +9,13 @@ use Rattle.run_model.specs.Files.{is_referred}
 use Rattle.run_model.specs.Payloads.{labels_in}
 use Rattle.pool_tree.specs.Tree.{map_of}
 use Rattle.pool_tree.proofs.Trees.{tree_formed}
+use Rattle.brigade_ops.specs.House.{AreOpen}
 use Rattle.brigade_ops.specs.Store.{lists, next_name}
 use Rattle.brigade_ops.proofs.Stores.{same_brigade}
 use Rattle.ring_calls.proofs.Changes.{ring_here, ring_off}
+use Rattle.module_run.specs.declared.conn.Conn.{Conn}
 use Rattle.module_run.specs.declared.conn.Filter.{Filter}
-use Rattle.module_run.specs.Conns.{filter_at, labels_handed}
+use Rattle.module_run.specs.Conns.{filter_at, labels_handed, top_of}
 use Rattle.module_run.specs.Proceeding.{LeftAs}
 use Rattle.module_run.specs.Stacked.{named_at}
 use Rattle.module_run.proofs.Alongside.{left_relabelled}
@@ -27,8 +29,8 @@ use Rattle.module_run.proofs.Unreferred.{same_device, unreferred_stays}
 use Rattle.ring_run.specs.declared.labels_run.LabelsRun.{LabelsRun}
 use Rattle.module_run.proofs.conn.Conn.destroy_all.Goals as goal
 
-first_below : {w n m : ℕ} (first : ℕ) → first + w < m → n ≡ m → first < n
-first_below first lt same = omega arith
+first_below : (c : Conn) (many : ℕ) → top_of c < many → length c.filters.items ≡ many → c.first < length c.filters.items
+first_below c many lt same = omega arith
 
 pub clear-requires-clause-live : goal.clear-requires-clause-live
 clear-requires-clause-live g c = (let s = c.requires.stands in conn_live s.0 c.args.tree.now c.args.store.now (g.F.Files.device c.args.files.now) c.args.self.now s.1.linked s.1.so)
@@ -48,7 +50,7 @@ end_brigade-requires g c =
     let s = c.requires.stands in
     let stacked = s.1.so.left.stacked in
     let self = c.args.self.now in
-    let within : self.first < length self.filters.items = first_below self.first stacked.within stacked.many in
+    let within : self.first < length self.filters.items = first_below self (length s.0) stacked.within stacked.many in
     let was = stacked.brought c.in-Some.name c.index.result.now (slice_get_read self.filters.items (length self.filters.items) self.first c.index.result.now refl within c.index.ensures)
     (sym c.incoming.ensures ∙ c.in-Some.is) in
     record {
@@ -56,116 +58,6 @@ end_brigade-requires g c =
           ∙ off_still s.0 c.args.tree.now c.args.store.now
           (g.F.Files.device c.args.files.now) self s.1.linked s.1.so c.clear.new.self c.in_ok-ran.ensures.out c.in_ok-ran.ensures.off c.in-Some.name was.0;
     }
-
-pub returns-in-Some-clause-leaves : goal.returns-in-Some-clause-leaves
-unfolding filter_at
-returns-in-Some-clause-leaves g c =
-    let s = c.requires.stands in
-    let stacked = s.1.so.left.stacked in
-    let self = c.args.self.now in
-    let e = c.end_brigade.ensures in
-    let l = c.end_calls.ensures in
-    let d = c.clear.ensures in
-    let next = d.next in
-    let within : self.first < length self.filters.items = first_below self.first stacked.within stacked.many in
-    leaving s.0 c.args.tree.now c.args.store.now
-    (g.F.Files.device c.args.files.now) self s.1.linked s.1.so c.clear.new.self c.in_ok-ran.ensures.out c.in_ok-ran.ensures.off c.end_brigade.new.store _ (λ k. refl)
-    (λ n unheld. e.out n ∙ (ring_off (lists c.end_calls.new.store) c.in-Some.name n None
-    (λ same. unheld (record {
-      at = self.first;
-      filter = c.index.result.now;
-      is = slice_get_read self.filters.items (length self.filters.items) self.first c.index.result.now refl within c.index.ensures;
-      by = inr (8, sym c.incoming.ensures ∙ (c.in-Some.is ∙ ap (λ (m : ℕ). Some m) (sym same)));
-    }))
-    ∙ l.others n (λ h. unheld (record { at = h.at; filter = h.filter; is = h.is; by = h.by }))))
-    (e.pools ∙ l.pools) (e.next ∙ (l.next ∙ d.next))
-    (λ id there young. d.names id (l.names id (e.names id there (rw (l.next, next) young)) (rw next young)) young)
-
-pub returns-in_default-clause-leaves : goal.returns-in_default-clause-leaves
-unfolding filter_at
-returns-in_default-clause-leaves g c =
-    let s = c.requires.stands in
-    let l = c.end_calls.ensures in
-    let d = c.clear.ensures in
-    let next = d.next in
-    leaving s.0 c.args.tree.now c.args.store.now
-    (g.F.Files.device c.args.files.now) c.args.self.now s.1.linked s.1.so c.clear.new.self c.in_ok-ran.ensures.out c.in_ok-ran.ensures.off c.end_calls.new.store _ (λ k. refl)
-    (λ n unheld. l.others n (λ h. unheld (record { at = h.at; filter = h.filter; is = h.is; by = h.by })))
-    l.pools (l.next ∙ d.next) (λ id there young. d.names id (l.names id there (rw next young)) young)
-
-pub returns-in-Some-clause-labels : goal.returns-in-Some-clause-labels
-returns-in-Some-clause-labels g c chain v stands =
-    (c.add_labels.ensures.told ∙ (ap (λ (hs : List LabelsRun). labels_handed hs ++ labels_in c.in_ok-ran.ran.items) c.reserve.ensures.items
-    ∙ ap (λ (xs : List (ℕ × Payload)). labels_handed c.args.self.now.labels.items ++ labels_in xs) c.in_ok-ran.ensures.ran))
-    ∙ closed_labels (map_of c.args.tree.now) (lists c.args.store.now) (next_name c.args.store.now) c.args.self.now v stands.left.seen
-
-pub returns-in-Some-clause-unreferred : goal.returns-in-Some-clause-unreferred
-returns-in-Some-clause-unreferred g c file none =
-    let s = c.requires.stands in
-    unreferred_stays (map_of c.args.tree.now) (tree_formed c.args.tree.now) c.args.self.now.conn (conn_live s.0 c.args.tree.now c.args.store.now
-    (g.F.Files.device c.args.files.now) c.args.self.now s.1.linked s.1.so) file none (is_referred (map_of c.clear.new.tree) file) ((g.F.Files.device c.clear.new.files).numbered file)
-    ((g.F.Files.device c.args.files.now).numbered file) (c.in_ok-ran.ensures.closed file)
-
-pub returns-in_default-clause-labels : goal.returns-in_default-clause-labels
-returns-in_default-clause-labels g c chain v stands =
-    (c.add_labels.ensures.told ∙ (ap (λ (hs : List LabelsRun). labels_handed hs ++ labels_in c.in_ok-ran.ran.items) c.reserve.ensures.items
-    ∙ ap (λ (xs : List (ℕ × Payload)). labels_handed c.args.self.now.labels.items ++ labels_in xs) c.in_ok-ran.ensures.ran))
-    ∙ closed_labels (map_of c.args.tree.now) (lists c.args.store.now) (next_name c.args.store.now) c.args.self.now v stands.left.seen
-
-pub returns-in_default-clause-unreferred : goal.returns-in_default-clause-unreferred
-returns-in_default-clause-unreferred g c file none =
-    let s = c.requires.stands in
-    unreferred_stays (map_of c.args.tree.now) (tree_formed c.args.tree.now) c.args.self.now.conn (conn_live s.0 c.args.tree.now c.args.store.now
-    (g.F.Files.device c.args.files.now) c.args.self.now s.1.linked s.1.so) file none (is_referred (map_of c.clear.new.tree) file) ((g.F.Files.device c.clear.new.files).numbered file)
-    ((g.F.Files.device c.args.files.now).numbered file) (c.in_ok-ran.ensures.closed file)
-
-pub returns-in-Some-clause-gone : goal.returns-in-Some-clause-gone
-unfolding filter_at
-returns-in-Some-clause-gone g c =
-    let s = c.requires.stands in
-    let self = c.args.self.now in
-    let e = c.end_brigade.ensures in
-    let within : self.first < length self.filters.items = first_below self.first s.1.so.left.stacked.within s.1.so.left.stacked.many in
-    let here = slice_get_read self.filters.items (length self.filters.items) self.first c.index.result.now refl within c.index.ensures in
-    all_gone s.0 c.args.tree.now c.args.store.now (g.F.Files.device c.args.files.now) c.args.self.now s.1.linked s.1.so c.clear.new.self c.in_ok-ran.ensures.out c.in_ok-ran.ensures.off
-    (lists c.end_brigade.new.store)
-    (λ n none. none_kept (lists c.end_calls.new.store) (lists c.end_brigade.new.store) c.in-Some.name e.out n (c.end_calls.ensures.none n none))
-    (λ k f is. none_kept (lists c.end_calls.new.store) (lists c.end_brigade.new.store) c.in-Some.name e.out f.call.name (c.end_calls.ensures.gone k f is))
-    (λ n brought.
-    let same : brought.0 ≡ c.index.result.now = some_is brought.0 c.index.result.now (sym brought.1.0 ∙ here) in
-    let name : n ≡ c.in-Some.name = some_is n c.in-Some.name (sym brought.1.1 ∙ (ap (λ (f : Filter). named_at f 8) same ∙ (sym c.incoming.ensures ∙ c.in-Some.is))) in
-    e.out n ∙ (ap (ring.upd (lists c.end_calls.new.store) c.in-Some.name None) name ∙ ring_here (lists c.end_calls.new.store) c.in-Some.name None))
-
-pub returns-in_default-clause-gone : goal.returns-in_default-clause-gone
-unfolding filter_at
-returns-in_default-clause-gone g c =
-    let s = c.requires.stands in
-    let self = c.args.self.now in
-    let within : self.first < length self.filters.items = first_below self.first s.1.so.left.stacked.within s.1.so.left.stacked.many in
-    let here = slice_get_read self.filters.items (length self.filters.items) self.first c.index.result.now refl within c.index.ensures in
-    all_gone s.0 c.args.tree.now c.args.store.now (g.F.Files.device c.args.files.now) c.args.self.now s.1.linked s.1.so c.clear.new.self c.in_ok-ran.ensures.out c.in_ok-ran.ensures.off
-    (lists c.end_calls.new.store) c.end_calls.ensures.none c.end_calls.ensures.gone
-    (λ n brought. absurd (
-    let same : brought.0 ≡ c.index.result.now = some_is brought.0 c.index.result.now (sym brought.1.0 ∙ here) in
-    c.in_default.not-Some n (c.incoming.ensures ∙ (ap (λ (f : Filter). named_at f 8) (sym same) ∙ brought.1.1))))
-
-pub returns-in-Some-clause-house : goal.returns-in-Some-clause-house
-unfolding filter_at
-returns-in-Some-clause-house g c =
-    let s = c.requires.stands in
-    let self = c.args.self.now in
-    let e = c.end_brigade.ensures in
-    let within : self.first < length self.filters.items = first_below self.first s.1.so.left.stacked.within s.1.so.left.stacked.many in
-    let here = slice_get_read self.filters.items (length self.filters.items) self.first c.index.result.now refl within c.index.ensures in
-    let was = s.1.so.left.stacked.brought c.in-Some.name c.index.result.now here (sym c.incoming.ensures ∙ c.in-Some.is) in
-    let off = off_still s.0 c.args.tree.now c.args.store.now
-    (g.F.Files.device c.args.files.now) c.args.self.now s.1.linked s.1.so c.clear.new.self c.in_ok-ran.ensures.out c.in_ok-ran.ensures.off c.in-Some.name was.0 in
-    house_ended c.end_calls.new.store c.end_brigade.new.store (map_of c.clear.new.tree) c.in-Some.name
-    (ap (λ (f : ℕ → Option ℕ). f c.in-Some.name) c.end_calls.ensures.pools ∙ off) e.out e.pools e.references
-    (c.end_calls.ensures.house (map_of c.clear.new.tree) c.clear.ensures.house)
-
-pub returns-in_default-clause-house : goal.returns-in_default-clause-house
-returns-in_default-clause-house g c = c.end_calls.ensures.house (map_of c.clear.new.tree) c.clear.ensures.house
 
 pub returns-in_err-reserve : goal.returns-in_err-reserve
 unfolding filter_at
@@ -217,15 +109,96 @@ returns-in_err-ran g c =
       unread = e.unread;
     })
 
-pub returns-in_default-clause-none : goal.returns-in_default-clause-none
-returns-in_default-clause-none g c =
+pub returns-in-Some : goal.returns-in-Some
+unfolding filter_at
+returns-in-Some g c =
     let s = c.requires.stands in
-    c.end_calls.ensures.none 0
-    (none_cleared s.0 c.args.tree.now c.args.store.now (g.F.Files.device c.args.files.now) c.args.self.now s.1.linked s.1.so c.clear.new.self c.in_ok-ran.ensures.out c.in_ok-ran.ensures.off)
+    let self = c.args.self.now in
+    let tree = c.args.tree.now in
+    let store = c.args.store.now in
+    let device = g.F.Files.device c.args.files.now in
+    let new = g.F.Files.device c.clear.new.files in
+    let ran = c.in_ok-ran.ensures in
+    let l = c.end_calls.ensures in
+    let d = c.clear.ensures in
+    let next = d.next in
+    let within : self.first < length self.filters.items = first_below self (length s.0) s.1.so.left.stacked.within s.1.so.left.stacked.many in
+    let here = slice_get_read self.filters.items (length self.filters.items) self.first c.index.result.now refl within c.index.ensures in
+    let e = c.end_brigade.ensures in
+    let was = s.1.so.left.stacked.brought c.in-Some.name c.index.result.now here (sym c.incoming.ensures ∙ c.in-Some.is) in
+    let off = off_still s.0 tree store device self s.1.linked s.1.so c.clear.new.self ran.out ran.off c.in-Some.name was.0 in
+    let kept = none_kept (lists c.end_calls.new.store) (lists c.end_brigade.new.store) c.in-Some.name e.out in
+    record {
+      labels = λ chain v stands. (c.add_labels.ensures.told ∙ (ap (λ (hs : List LabelsRun). labels_handed hs ++ labels_in c.in_ok-ran.ran.items) c.reserve.ensures.items
+          ∙ ap (λ (xs : List (ℕ × Payload)). labels_handed self.labels.items ++ labels_in xs) ran.ran))
+          ∙ closed_labels (map_of tree) (lists store) (next_name store) self v stands.left.seen;
+      pools = ran.ok;
+      gone = all_gone s.0 tree store device self s.1.linked s.1.so c.clear.new.self ran.out ran.off (lists c.end_brigade.new.store)
+          (λ n none. kept n (l.none n none)) (λ k f is. kept f.call.name (l.gone k f is))
+          (λ n brought.
+          let same : brought.0 ≡ c.index.result.now = some_is brought.0 c.index.result.now (sym brought.1.0 ∙ here) in
+          let name : n ≡ c.in-Some.name = some_is n c.in-Some.name (sym brought.1.1 ∙ (ap (λ (f : Filter). named_at f 8) same ∙ (sym c.incoming.ensures ∙ c.in-Some.is))) in
+          e.out n ∙ (ap (ring.upd (lists c.end_calls.new.store) c.in-Some.name None) name ∙ ring_here (lists c.end_calls.new.store) c.in-Some.name None));
+      next = e.next ∙ (l.next ∙ next);
+      closed = ran.closed;
+      unreferred = λ file none. unreferred_stays (map_of tree) (tree_formed tree) self.conn (conn_live s.0 tree store device self s.1.linked s.1.so) file none
+          (is_referred (map_of c.clear.new.tree) file) (new.numbered file) (device.numbered file) (ran.closed file);
+      others = d.others;
+      leaves = leaving s.0 tree store device self s.1.linked s.1.so c.clear.new.self ran.out ran.off c.end_brigade.new.store _ (λ k. refl)
+          (λ n unheld. e.out n ∙ (ring_off (lists c.end_calls.new.store) c.in-Some.name n None
+          (λ same. unheld (record {
+            at = self.first;
+            filter = c.index.result.now;
+            is = here;
+            by = inr (8, sym c.incoming.ensures ∙ (c.in-Some.is ∙ ap (λ (m : ℕ). Some m) (sym same)));
+          }))
+          ∙ l.others n (λ h. unheld (record { at = h.at; filter = h.filter; is = h.is; by = h.by }))))
+          (e.pools ∙ l.pools) (e.next ∙ (l.next ∙ next)) (λ id there young. d.names id (l.names id (e.names id there (rw (l.next, next) young)) (rw next young)) young);
+      none = kept 0 (l.none 0 (none_cleared s.0 tree store device self s.1.linked s.1.so c.clear.new.self ran.out ran.off));
+      house = house_ended c.end_calls.new.store c.end_brigade.new.store (map_of c.clear.new.tree) c.in-Some.name (ap (λ (f : ℕ → Option ℕ). f c.in-Some.name) l.pools ∙ off)
+          e.out e.pools e.references (l.house (map_of c.clear.new.tree) d.house);
+      references = subst (λ (f : ℕ → ℕ). AreOpen f new) (sym (e.references ∙ l.references)) d.open;
+      rest = refl;
+      err = tt;
+      unread = tt;
+    }
 
-pub returns-in-Some-clause-none : goal.returns-in-Some-clause-none
-returns-in-Some-clause-none g c =
+pub returns-in_default : goal.returns-in_default
+unfolding filter_at
+returns-in_default g c =
     let s = c.requires.stands in
-    none_kept (lists c.end_calls.new.store) (lists c.end_brigade.new.store) c.in-Some.name c.end_brigade.ensures.out 0
-    (c.end_calls.ensures.none 0
-    (none_cleared s.0 c.args.tree.now c.args.store.now (g.F.Files.device c.args.files.now) c.args.self.now s.1.linked s.1.so c.clear.new.self c.in_ok-ran.ensures.out c.in_ok-ran.ensures.off))
+    let self = c.args.self.now in
+    let tree = c.args.tree.now in
+    let store = c.args.store.now in
+    let device = g.F.Files.device c.args.files.now in
+    let new = g.F.Files.device c.clear.new.files in
+    let ran = c.in_ok-ran.ensures in
+    let l = c.end_calls.ensures in
+    let d = c.clear.ensures in
+    let next = d.next in
+    let within : self.first < length self.filters.items = first_below self (length s.0) s.1.so.left.stacked.within s.1.so.left.stacked.many in
+    let here = slice_get_read self.filters.items (length self.filters.items) self.first c.index.result.now refl within c.index.ensures in
+    record {
+      labels = λ chain v stands. (c.add_labels.ensures.told ∙ (ap (λ (hs : List LabelsRun). labels_handed hs ++ labels_in c.in_ok-ran.ran.items) c.reserve.ensures.items
+          ∙ ap (λ (xs : List (ℕ × Payload)). labels_handed self.labels.items ++ labels_in xs) ran.ran))
+          ∙ closed_labels (map_of tree) (lists store) (next_name store) self v stands.left.seen;
+      pools = ran.ok;
+      gone = all_gone s.0 tree store device self s.1.linked s.1.so c.clear.new.self ran.out ran.off (lists c.end_calls.new.store) l.none l.gone
+          (λ n brought. absurd (
+          let same : brought.0 ≡ c.index.result.now = some_is brought.0 c.index.result.now (sym brought.1.0 ∙ here) in
+          c.in_default.not-Some n (c.incoming.ensures ∙ (ap (λ (f : Filter). named_at f 8) (sym same) ∙ brought.1.1))));
+      next = l.next ∙ next;
+      closed = ran.closed;
+      unreferred = λ file none. unreferred_stays (map_of tree) (tree_formed tree) self.conn (conn_live s.0 tree store device self s.1.linked s.1.so) file none
+          (is_referred (map_of c.clear.new.tree) file) (new.numbered file) (device.numbered file) (ran.closed file);
+      others = d.others;
+      leaves = leaving s.0 tree store device self s.1.linked s.1.so c.clear.new.self ran.out ran.off c.end_calls.new.store _ (λ k. refl)
+          (λ n unheld. l.others n (λ h. unheld (record { at = h.at; filter = h.filter; is = h.is; by = h.by }))) l.pools (l.next ∙ next)
+          (λ id there young. d.names id (l.names id there (rw next young)) young);
+      none = l.none 0 (none_cleared s.0 tree store device self s.1.linked s.1.so c.clear.new.self ran.out ran.off);
+      house = l.house (map_of c.clear.new.tree) d.house;
+      references = subst (λ (f : ℕ → ℕ). AreOpen f new) (sym l.references) d.open;
+      rest = refl;
+      err = tt;
+      unread = tt;
+    }
