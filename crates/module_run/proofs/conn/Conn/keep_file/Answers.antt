@@ -9,7 +9,8 @@ returns-in_err-reserve g c =
     let p = err_from_is_err_and c.from_residual.result c.from_residual.ensures.1 in
     let s = c.reserve.ensures.items in
     let t = tree_formed c.args.tree.now in
-    rw p.1 (record { files = tt; rest = refl; same = s; map = tt; counted = tt; lists = refl; brigades = refl; pools = refl; next = refl; formed = t; kept = refl; uncounted = λ f. refl; house = λ h. h })
+    rw p.1
+    (record { files = tt; rest = refl; same = s; map = tt; counted = tt; lists = refl; brigades = refl; pools = refl; next = refl; formed = t; kept = refl; uncounted = λ f. refl; house = λ h. h })
 
 pub returns-in_err-refer : goal.returns-in_err-refer
 returns-in_err-refer g c =
