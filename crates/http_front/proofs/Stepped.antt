@@ -75,8 +75,7 @@ begins_wider limit room seen h size fits begins =
 -- nothing lies behind the front
 nothing_more : (limit : ℕ) (seen more : List ℕ) (whole : Bool) → (whole ≡ true → more ≡ []) → (whole && nat_le (length seen) limit) ≡ true
     → drop limit seen ++ more ≡ []
-nothing_more limit seen more true over is =
-    ap (λ x. x ++ more) (drop_all limit seen (leb-true (length seen) limit is)) ∙ over refl
+nothing_more limit seen more true over is = ap (λ x. x ++ more) (drop_all limit seen (leb-true (length seen) limit is)) ∙ over refl
 nothing_more limit seen more false over is = cc
 
 -- what a front of the bytes never becomes
@@ -87,7 +86,7 @@ headless_wider limit room seen whole never more over h rest begins =
     ap (λ x. x ++ more) (sym (take-append-drop limit seen)) ∙ append_assoc (take limit seen) (drop limit seen) more in
     never (drop limit seen ++ more) (nothing_more limit seen more whole over) h rest (subst (λ x. BeginsWithin limit room x h rest) same begins)
 
-so_not : {b : Bool} → b ≡ false → b ≡ true → ⊥
+pub so_not : {b : Bool} → b ≡ false → b ≡ true → ⊥
 so_not fails holds = cc
 
 pub is_empty : (xs : List ℕ) → true ≡ (length xs == 0) → xs ≡ []
@@ -178,8 +177,7 @@ module _ {H K : Type 0} (site : Site) (handles : H → Method → List ℕ → R
       → DoesStep site handles tells old before seen whole s text new after
   steps_wider old new before after seen whole text (step.Stays size) x = serves_wider old new before after seen false size text x
   steps_wider old new before after seen whole text (step.Closes size) x = serves_wider old new before after seen true size text x
-  steps_wider old new before after seen whole text step.Refused x =
-      (λ none. x.0 (ap (take head_limit) none), headless_wider head_limit fields_limit seen whole x.1, x.2, x.3)
+  steps_wider old new before after seen whole text step.Refused x = (λ none. x.0 (ap (take head_limit) none), headless_wider head_limit fields_limit seen whole x.1, x.2, x.3)
   steps_wider old new before after seen whole text step.More x =
       let wider = more_wider seen whole x.0 x.1 in (wider.0, wider.1, x.2)
   steps_wider old new before after seen whole text step.Done x =
