@@ -1,5 +1,5 @@
 -- That a sink or a source failed, over several calls.
-use Rattle.std.proofs.Common.{◌≡◌, ℕ, Bool, Result, Ok, Err, refl, sym, subst, ◌∙◌, ap}
+use Rattle.std.proofs.Common.{◌≡◌, ℕ, Bool, Result, Ok, Err, refl, ◌∙◌}
 use Rattle.http_front.specs.declared.fault.FrontKind.{FrontKind}
 use Rattle.http_front.specs.declared.fault.FrontKind.TheVariants as kind
 use Rattle.http_front.specs.Serving.{BlamesSink, BlamesSource}
@@ -29,16 +29,10 @@ source_apart T e was is left apart more same = same
 
 -- how a `?` leaves
 module _ (T U : Type 0) where
-  sink_err : (e : FrontKind) (was is : Bool) → BlamesSink {T = T} (Err e) was is → BlamesSink {T = U} (Err e) was is
+  pub sink_err : (e : FrontKind) (was is : Bool) → BlamesSink {T = T} (Err e) was is → BlamesSink {T = U} (Err e) was is
   sink_err kind.Write was is h = h
   sink_err e was is h = h
 
-  source_err : (e : FrontKind) (was is : Bool) (left : ℕ) → BlamesSource {T = T} (Err e) was is left → BlamesSource {T = U} (Err e) was is left
+  pub source_err : (e : FrontKind) (was is : Bool) (left : ℕ) → BlamesSource {T = T} (Err e) was is left → BlamesSource {T = U} (Err e) was is left
   source_err kind.Read was is left h = h
   source_err e was is left h = h
-
-  pub sink_by : (r : Result U FrontKind) (y e : FrontKind) (was is : Bool) → r ≡ Err y → y ≡ e → BlamesSink {T = T} (Err e) was is → BlamesSink r was is
-  sink_by r y e was is same kind h = subst (λ (x : Result U FrontKind). BlamesSink x was is) (sym (same ∙ ap Err kind)) (sink_err e was is h)
-
-  pub source_by : (r : Result U FrontKind) (y e : FrontKind) (was is : Bool) (left : ℕ) → r ≡ Err y → y ≡ e → BlamesSource {T = T} (Err e) was is left → BlamesSource r was is left
-  source_by r y e was is left same kind h = subst (λ (x : Result U FrontKind). BlamesSource x was is left) (sym (same ∙ ap Err kind)) (source_err e was is left h)

@@ -1,11 +1,13 @@
-use Rattle.std.proofs.Common.{◌≡◌, ℕ, Bool, true, false, length, Ok, ap, refl, ◌∙◌, sym, subst, arith, length-append}
+use Rattle.std.proofs.Common.{◌≡◌, ℕ, Bool, true, false, length, Ok, Err, ap, refl, ◌∙◌, sym, subst, arith, length-append}
 use Rattle.byte_streams.specs.Counted.{source_of}
 use Rattle.std.proofs.lemmas.Result.{err_from_is_err_and}
 use Rattle.http_message.specs.Inboxes.{unread}
 use Rattle.http_front.specs.Serving.{EndsWell, Standing}
 use Rattle.http_front.proofs.ServingLaws.{far_start}
 use Rattle.http_front.proofs.Stepped.{none_wants}
-use Rattle.http_front.proofs.ServedLaws.{far_adds, far_loses, fails_err}
+use Rattle.http_front.specs.declared.fault.Served.{Served}
+use Rattle.http_front.proofs.BlameLaws.{sink_apart, sink_err, sink_since, source_apart, source_err, source_since}
+use Rattle.http_front.proofs.ServedLaws.{far_adds, far_loses}
 use Rattle.http_front.proofs.serving.serve_open.Goals as goal
 
 pub loop-conn-init : goal.loop-conn-init
@@ -24,30 +26,38 @@ loop-conn-init g c = record {
   wrote_well = refl;
 }
 
-pub returns-in_err-take_counted-clause-err : goal.returns-in_err-take_counted-clause-err
-returns-in_err-take_counted-clause-err g c =
+pub returns-in_err-take_counted : goal.returns-in_err-take_counted
+returns-in_err-take_counted g c =
     let p = err_from_is_err_and c.from_residual.result c.from_residual.ensures.1 in
-    let site = c.args.site.now in
+    let e = c.in_err-take_counted.field-0.0 in
+    let says = c.in_err-take_counted.ensures in
+    let inv = c.loop-conn.invariant in
     let r = g.R.Source.remaining in
-    let w = g.W.Sink.contents in
-    fails_err site (λ h. g.H.Handler.handles h c.args.number) g.K.Clock.tells (λ h. g.H.Handler.lacks h c.args.number) c.args.handler.now c.args.clock.now
-    (r (source_of c.args.reader.now)) (r (source_of c.take_counted.new.reader)) (w c.args.sink.now)
-    (w c.loop-conn.sink) c.loop-conn.handler c.loop-conn.clock c.from_residual.result p.0 c.in_err-take_counted.field-0.0 p.1 p.2
-    (far_loses site (λ h. g.H.Handler.handles h c.args.number) g.K.Clock.tells (λ h. g.H.Handler.lacks h c.args.number) c.args.handler.now c.args.clock.now
-    (r (source_of c.args.reader.now)) (r (source_of c.loop-conn.reader)) (r (source_of c.take_counted.new.reader)) (w c.args.sink.now)
-    (w c.loop-conn.sink) _ _ _ _ c.in_err-take_counted.field-0.0 c.loop-conn.invariant.far c.loop-conn.invariant.wants c.in_err-take_counted.ensures.err)
+    rw (p.1, p.2) (record {
+      «open» = inv.opened; beside = inv.beside; ok = tt;
+      err =
+          far_loses c.args.site.now (λ h. g.H.Handler.handles h c.args.number) g.K.Clock.tells (λ h. g.H.Handler.lacks h c.args.number) c.args.handler.now c.args.clock.now
+          (r (source_of c.args.reader.now)) (r (source_of c.loop-conn.reader)) (r (source_of c.take_counted.new.reader)) (g.W.Sink.contents c.args.sink.now)
+          (g.W.Sink.contents c.loop-conn.sink) _ _ _ _ e inv.far inv.wants says.err;
+      source = source_err (Unit {0}) Served e _ _ _ (source_since {T = Unit {0}} (Err e) _ _ _ _ inv.read_well says.blames);
+      sink = sink_apart Served e _ _ (λ is. says.unwritten (ap Err is)) inv.wrote_well;
+    })
 
-pub returns-in_err-answer_all-clause-err : goal.returns-in_err-answer_all-clause-err
-returns-in_err-answer_all-clause-err g c =
+pub returns-in_err-answer_all : goal.returns-in_err-answer_all
+returns-in_err-answer_all g c =
     let p = err_from_is_err_and c.from_residual-in_err-answer_all.result c.from_residual-in_err-answer_all.ensures.1 in
+    let e = c.in_err-answer_all.field-0.0 in
     let adds = c.in_ok-take_counted.ensures.ok in
+    let says = c.in_err-answer_all.ensures in
+    let inv = c.loop-conn.invariant in
     let r = g.R.Source.remaining in
-    let w = g.W.Sink.contents in
-    fails_err c.args.site.now (λ h. g.H.Handler.handles h c.args.number) g.K.Clock.tells
-    (λ h. g.H.Handler.lacks h c.args.number) c.args.handler.now c.args.clock.now (r (source_of c.args.reader.now)) (r (source_of c.take_counted.new.reader))
-    (w c.args.sink.now) (w c.answer_all.new.sink) c.answer_all.new.handler c.answer_all.new.clock c.from_residual-in_err-answer_all.result p.0 c.in_err-answer_all.field-0.0 p.1 p.2
-    (c.in_err-answer_all.ensures.goes c.args.handler.now c.args.clock.now (r (source_of c.args.reader.now)) (r (source_of c.take_counted.new.reader)) (w c.args.sink.now) adds.end
-    (far_adds _ _ _ (λ h. g.H.Handler.lacks h c.args.number) _ _ _ _ _ _ _ _ _ _ _ _ _ _ _ c.take_counted.ensures.requests c.loop-conn.invariant.far adds))
+    rw (p.1, p.2) (record {
+      «open» = c.answer_all.ensures.open; beside = λ from so. c.answer_all.ensures.beside from (inv.beside from so); ok = tt;
+      err = says.goes c.args.handler.now c.args.clock.now (r (source_of c.args.reader.now)) (r (source_of c.take_counted.new.reader)) (g.W.Sink.contents c.args.sink.now) adds.end
+          (far_adds _ _ _ (λ h. g.H.Handler.lacks h c.args.number) _ _ _ _ _ _ _ _ _ _ _ _ _ _ _ c.take_counted.ensures.requests inv.far adds);
+      source = source_apart Served e _ _ _ (λ is. says.unread.0 (ap Err is)) (λ is. says.unread.1 (ap Err is)) (c.in_ok-take_counted.ensures.blames ∙ inv.read_well);
+      sink = sink_err Bool Served e _ _ (sink_since {T = Bool} (Err e) _ _ _ inv.wrote_well says.blames);
+    })
 
 pub returns-then-branch-clause-ok : goal.returns-then-branch-clause-ok
 returns-then-branch-clause-ok g c =
@@ -76,14 +86,8 @@ loop-conn-preserved g c =
     record {
       opened = c.answer_all.ensures.open;
       beside = λ from so. c.answer_all.ensures.beside from (inv.beside from so);
-      few =
-          let one = e.few (ap Ok c.if-branch.false) in
-          let all = inv.few in
-          let read = adds.few in
-          let long = ap length adds.added ∙ length-append (unread c.loop-conn.conn.inbox) adds.bytes in
-          let count = c.in_ok-take_counted.ensures.counted in
-          let same = c.take_counted.ensures.requests in
-          omega (arith, one, all, read, long, count, same);
+      few = omega (arith, e.few (ap Ok c.if-branch.false), inv.few, adds.few, ap length adds.added ∙ length-append (unread c.loop-conn.conn.inbox) adds.bytes,
+          c.in_ok-take_counted.ensures.counted, c.take_counted.ensures.requests);
       range = inv.range;
       room = c.take_counted.ensures.room;
       going = going;
