@@ -80,3 +80,6 @@ err_by P (Err k) y e is same p = let here : e ≡ k = cc in subst P here p
 pub err_both : {T : Type 0} (r : Result T FrontKind) (P Q : FrontKind → Type 0) → IfErr r P → IfErr r Q → IfErr r (λ e. P e × Q e)
 err_both (Ok x) P Q p q = tt
 err_both (Err e) P Q p q = (p, q)
+
+pub lack_named : {P : Type 0} → kind.NoMemory ≡ kind.NamesSpent → P
+lack_named is = absurd (cc)

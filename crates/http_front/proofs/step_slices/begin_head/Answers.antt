@@ -1,9 +1,9 @@
-use Rattle.std.proofs.Common.{refl, subst, sym}
+use Rattle.std.proofs.Common.{inl, refl, subst, sym}
 use Rattle.std.proofs.lemmas.Result.{err_from_is_err_and}
 use Rattle.http_front.specs.Stepping.{DoesStep}
 use Rattle.http_front.specs.Texts.{text_of}
 use Rattle.http_front.specs.UnderWays.{BeginsHead}
-use Rattle.http_front.proofs.Beside.{err_by}
+use Rattle.http_front.proofs.Beside.{lack_named}
 use Rattle.http_front.proofs.BeginLaws.{found_does, found_works}
 use Rattle.http_front.proofs.step_slices.begin_head.Goals as goal
 
@@ -34,10 +34,22 @@ returns-in-Works-clause-ok g c whole = (
   c.requires.empty,
 )
 
-pub returns-in_err-outcome-clause-err : goal.returns-in_err-outcome-clause-err
-returns-in_err-outcome-clause-err g c =
+pub returns-in_err-wanted : goal.returns-in_err-wanted
+returns-in_err-wanted g c =
+    let p = err_from_is_err_and c.from_residual.result c.from_residual.ensures.1 in
+    rw (p.1, p.2) (record { «open» = c.requires.open; beside = λ from so. so; clock = λ from so. so; ok = tt; err = (inl refl, λ is. lack_named is); few = g.met.P.Pace.steps_none _ _ _ })
+
+pub returns-in_err-outcome : goal.returns-in_err-outcome
+returns-in_err-outcome g c =
     let p = err_from_is_err_and c.from_residual-in_err-outcome.result c.from_residual-in_err-outcome.ensures.1 in
-    let e = c.in_err-outcome.field-0.0 in
     let why = c.in_err-outcome.ensures.err in
-    err_by _ c.from_residual-in_err-outcome.result p.0 e p.1 p.2
-    (why.0, λ names h at. why.1 names c.args.site.now h (c.in_ok-wanted.ensures h at) (c.asked_by-asked.ensures.by h at).method)
+    rw (p.1, p.2) (record {
+      «open» = c.begin_wanted.ensures.open; beside = c.begin_wanted.ensures.beside; clock = λ from so. so; ok = tt; few = c.begin_wanted.ensures.few;
+      err = (why.0, λ names h at. why.1 names c.args.site.now h (c.in_ok-wanted.ensures h at) (c.asked_by-asked.ensures.by h at).method);
+    })
+
+pub returns-in_err-step-in-Done : goal.returns-in_err-step-in-Done
+returns-in_err-step-in-Done g c =
+    let p = err_from_is_err_and c.from_residual-in_err-step-in-Done.result c.from_residual-in_err-step-in-Done.ensures.1 in
+    let b = c.begin_wanted.ensures in
+    rw (p.1, p.2, c.send.ensures.still) (record { «open» = b.open; beside = b.beside; clock = c.send.ensures.clock; ok = tt; err = (inl refl, λ is. lack_named is); few = b.few })
