@@ -1,6 +1,6 @@
 -- Steps in slices: a head begins a request, and the response to it.
-use Rattle.std.proofs.Common.{◌≡◌, ℕ, ◌≤◌, ◌<◌, Bool, true, false, Ok, Err, Option, Some, None, List, length, take, drop, refl, sym, inl, inr, ◌∙◌, ap, subst, arith, length-take, Result}
-use Rattle.std.specs.Prelude.{Result, IfOk, ◌⊎◌, ◌&&◌, nat_le}
+use Rattle.std.proofs.Common.{◌≡◌, ℕ, ◌≤◌, ◌<◌, Bool, true, false, Ok, Option, Some, None, List, length, take, drop, refl, sym, inr, ◌∙◌, ap, subst, arith, length-take, Result}
+use Rattle.std.specs.Prelude.{Result, IfOk, ◌&&◌, nat_le}
 use Rattle.std.proofs.lemmas.List.{take_all}
 use Rattle.httparse.specs.Grammar.{RequestHead}
 use Rattle.httparse.specs.Spans.{IsRequestAt, IsRequestWithin, IsWithin, span_bytes}
@@ -14,10 +14,8 @@ use Rattle.http_message.specs.Looking.{IsFound}
 use Rattle.http_message.specs.declared.reply.Method.{Method}
 use Rattle.http_message.specs.declared.reply.Reply.{Reply}
 use Rattle.http_message.specs.declared.site.Site.{Site}
-use Rattle.http_message.specs.declared.status.StatusCode.{StatusCode}
-use Rattle.http_message.specs.declared.status.StatusCode.TheVariants.{NotFound}
 use Rattle.http_front.specs.Nearing.{Nears}
-use Rattle.http_front.specs.Outcomes.{IsBare, IsReplyTo, file_of}
+use Rattle.http_front.specs.Outcomes.{IsReplyTo, file_of}
 use Rattle.http_front.specs.Stepping.{DoesStep, IsWritten, ServesRequest}
 use Rattle.http_front.specs.Talking.{Follows, one_more, pending}
 use Rattle.http_front.specs.Texts.{text_of}
@@ -92,37 +90,7 @@ module _ {H T : Type 0} (site : Site) (among : H → Method → List ℕ → Req
   -- a head that nothing refuses, and whose path has a file, comes to what the request for it does
   comes_so : (h : RequestHead) (file : List ℕ) (o : RequestOutcome) (old new : H) → refusal h ≡ None → file_of site h ≡ Some file
       → among old (method_of h.method) file o new → ComesUnless site among (refusal h) old h o new
-  comes_so h file o old new allowed named x =
-      subst (λ r. ComesUnless site among r old h o new) (sym allowed) (subst (λ f. ComesTo site among f old h o new) (sym named) x)
-
-  pub begins_status : (h : RequestHead) (status : StatusCode) (o : RequestOutcome) (old : H) → (refusal h ≡ Some status)
-      ⊎ ((refusal h ≡ None) × ((file_of site h ≡ None) × (status ≡ NotFound))) → IsBare status o → BeginsHead site among rests h old (request.Done o) old
-  begins_status h status o old (inl is) bare = subst (λ r. ComesUnless site among r old h o old) (sym is) (bare, refl)
-  begins_status h status o old (inr p) bare =
-      subst (λ r. ComesUnless site among r old h o old) (sym p.0) (subst (λ f. ComesTo site among f old h o old) (sym p.1.0) (subst (λ (s : StatusCode). IsBare s o) p.1.1 bare, refl))
-
-  begins_file : (h : RequestHead) (method : Method) (file : List ℕ) (old new : H) (s : Slice T) → refusal h ≡ None → file_of site h ≡ Some file
-      → method ≡ method_of h.method → Nears (among old method file) (rests new) new s → BeginsHead site among rests h old s new
-  begins_file h method file old new (request.Done o) allowed named is near = comes_so h file o old new allowed named (subst (λ (m : Method). among old m file o new) is near)
-  begins_file h method file old new (request.Works k) allowed named is
-      near = record { file = file; allowed = allowed; named = named; goes = λ o z r. subst (λ (m : Method). among old m file o z) is (near o z r) }
-
-  pub begins_so : {E : Type 0} (r : Result (Slice T) E) (h : RequestHead) (method : Method) (file : List ℕ) (old new : H) → refusal h ≡ None
-      → file_of site h ≡ Some file → method ≡ method_of h.method → IfOk r (Nears (among old method file) (rests new) new) → IfOk r (λ s. BeginsHead site among rests h old s new)
-  begins_so (Ok s) h method file old new allowed named is near = begins_file h method file old new s allowed named is near
-  begins_so (Err e) h method file old new allowed named is near = tt
-
-  -- a request goes on
-  pub goes_on_so : (seen : List ℕ) (u : UnderWay T) (old now new : H) (k : T) → IsUnderWay site among rests seen u old now
-      → Nears (rests now u.task) (rests new) new (request.Works k) → IsUnderWay site among rests seen (record { asked = u.asked; task = k }) old new
-  goes_on_so seen u old now new k w near =
-      record {
-        head = w.head;
-        asked = w.asked;
-        begins = w.begins;
-        fits = w.fits;
-        asks = record { file = w.asks.file; allowed = w.asks.allowed; named = w.asks.named; goes = λ o z r. w.asks.goes o z (near o z r) };
-      }
+  comes_so h file o old new allowed named x = subst (λ r. ComesUnless site among r old h o new) (sym allowed) (subst (λ f. ComesTo site among f old h o new) (sym named) x)
 
   module _ {K : Type 0} (tells : K → Said → K → Type 0) (before after : K) where
     -- the head is answered

@@ -18,8 +18,7 @@ wanted_all method file less get is =
 pub last_left : (file len start left : ℕ) (pieces : List Piece) → left ≡ 0 → pieces ≡ by.last_brigade file start (len - start)
     → by.brigades_from file len start left ≡ pieces ∷ []
 unfolding by.brigades_from
-last_left file len start left pieces none is =
-    subst (λ (n : ℕ). by.brigades_from file len start n ≡ pieces ∷ []) (sym none) (ap (λ (p : List Piece). p ∷ []) (sym is))
+last_left file len start left pieces none is = subst (λ (n : ℕ). by.brigades_from file len start n ≡ pieces ∷ []) (sym none) (ap (λ (p : List Piece). p ∷ []) (sym is))
 
 pub more_left : (file len start left : ℕ) (pieces : List Piece) → 0 < left → pieces ≡ piece.File file start 65536 ∷ []
     → by.brigades_from file len start left ≡ pieces ∷ by.brigades_from file len (start + 65536) (left - 1)

@@ -21,26 +21,19 @@ module _ (b : ℕ) (c : List Program) (number : ℕ) where
 
   one_more : (n : ℕ) (what : Event) (answer : Answer) (s m t : HostView) → IsOfConn what → Few n s m → Answers b c number what m answer t → Few (is_step what + n) s t
   unfolding GoesBy steps_in
-  one_more n what answer s m t own so acts =
-      let bound = so.2 in
-      ((what, answer) ∷ so.0, (m, so.1, own, acts), omega (arith, bound))
+  one_more n what answer s m t own so acts = ((what, answer) ∷ so.0, (m, so.1, own, acts), omega (arith, so.2))
 
   goes_on : (k n : ℕ) (s m t : HostView) → Few n s m → steps.HostGoesOn b c number k m t → Few (k + n) s t
   unfolding steps.HostGoesOn
-  goes_on zero n s m t so same =
-      let bound = so.2 in
-      subst (λ (v : HostView). Few (0 + n) s v) (sym same) (so.0, so.1, omega (arith, bound))
+  goes_on zero n s m t so same = subst (λ (v : HostView). Few (0 + n) s v) (sym same) (so.0, so.1, omega (arith, so.2))
   goes_on (suc k) n s m t so goes =
       let rest = goes_on k (1 + n) s goes.0 t (one_more n event.Step (Step stepped.Went) s m goes.0 tt so goes.1) goes.2 in
-      let bound = rest.2 in
-      (rest.0, rest.1, omega (arith, bound))
+      (rest.0, rest.1, omega (arith, rest.2))
 
   steps_on : (n more most : ℕ) (answer : Result Stepped Refusal) (s m t : HostView) → more + 1 ≤ most → Few n s m → steps.StepsOn b c number more m answer t → Few (n + most) s t
   steps_on n more most answer s m t room so x =
       let all = one_more (x.count + n) event.Step (step_answer answer) s x.before t tt (goes_on x.count n s m x.before so x.goes) x.last in
-      let bound = all.2 in
-      let few = x.few in
-      (all.0, all.1, omega (arith, bound, few, room))
+      (all.0, all.1, omega (arith, all.2, x.few, room))
 
 module _ {F R : Type 0} {g : Ghosts R Stored} (device : F → Device) (number : ℕ) (from old : Host F R g) (n : ℕ) (so : StepsAtMost device from number n old) where
   -- an event that is no step
@@ -59,5 +52,4 @@ module _ {F R : Type 0} {g : Ghosts R Stored} (device : F → Device) (number : 
 
   pub few_more : (most : ℕ) → n ≤ most → StepsAtMost device from number most old
   unfolding StepsAtMost
-  few_more most room =
-      leads_as device from old (λ b c s t. Few b c number n s t) (λ b c s t. Few b c number most s t) (λ b c s t x. (let bound = x.2 in (x.0, x.1, omega (arith, bound, room)))) so
+  few_more most room = leads_as device from old (λ b c s t. Few b c number n s t) (λ b c s t. Few b c number most s t) (λ b c s t x. (let bound = x.2 in (x.0, x.1, omega (arith, bound, room)))) so

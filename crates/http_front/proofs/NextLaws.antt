@@ -94,11 +94,7 @@ module _ {H K : Type 0} (site : Site) (handles : H → Method → List ℕ → R
     pub step_few : (s : ServeStep) → c.requests + length (unread c.inbox) < 2 ^ 63 → DoesStep site handles tells mid then (unread c.inbox) c.whole s text new after → Follows s c d → d.over ≡ false
         → d.requests + length (unread d.inbox) ≤ c.requests + length (unread c.inbox)
     step_few (step.Stays size) few did f going =
-        let left = ap length f.still ∙ length-drop size (unread c.inbox) in
-        let count = counts c.requests (length (unread c.inbox)) d.requests few f.counted in
-        let some = did.some in
-        let fits = did.fits in
-        omega (arith, left, count, some, fits)
+        omega (arith, ap length f.still ∙ length-drop size (unread c.inbox), counts c.requests (length (unread c.inbox)) d.requests few f.counted, did.some, did.fits)
     step_few (step.Closes size) few did f going = absurd (cc)
     step_few step.Refused few did f going = absurd (cc)
     step_few step.More few did f going = let left = ap length f.still in let count = f.counted in omega (arith, left, count)

@@ -90,8 +90,7 @@ module _ {F R : Type 0} {g : Ghosts R Stored} (device : F → Device) (number : 
 
     output_unfinished : (o : RequestOutcome) → Refines device old mid (λ b c s t. TakesOutput b c number s o t) → Refines device mid new (λ b c s t. Unit {0})
         → Refines device old new (λ b c s t. Unit {0})
-    output_unfinished o =
-        leads_on device old mid new (λ b c s t. TakesOutput b c number s o t) (λ b c s t. Unit {0}) (λ b c s t. Unit {0}) (λ b c s m t x y. tt)
+    output_unfinished o = leads_on device old mid new (λ b c s t. TakesOutput b c number s o t) (λ b c s t. Unit {0}) (λ b c s t. Unit {0}) (λ b c s m t x y. tt)
 
     pub output_lacked : (o : RequestOutcome) (r : Result (Slice RequestTask) FrontKind) (e : FrontKind) → r ≡ Err e
         → Refines device old mid (λ b c s t. TakesOutput b c number s o t) → Refines device mid new (λ b c s t. Unit {0})

@@ -1,5 +1,5 @@
 -- Serving a connection, read by read.
-use Rattle.std.proofs.Common.{◌≡◌, ℕ, List, [], Option, Result, Ok, Err, sym, subst, append-nil}
+use Rattle.std.proofs.Common.{◌≡◌, ℕ, List, [], Option, Result, Err, sym, subst, append-nil}
 use Rattle.http_message.specs.Clocks.{Said}
 use Rattle.http_message.specs.declared.reply.Method.{Method}
 use Rattle.http_message.specs.declared.site.Site.{Site}
@@ -9,7 +9,7 @@ use Rattle.http_front.specs.declared.handler.RequestOutcome.{RequestOutcome}
 use Rattle.http_front.specs.Serving.{AddsBytes, Loses, SoFar, FailsBy, Goes}
 use Rattle.http_front.specs.Turns.{WantsMore}
 use Rattle.http_front.proofs.ServingLaws.{far_loses_read, far_read, far_wants}
-use Rattle.std.specs.Prelude.{Bool, IfErr}
+use Rattle.std.specs.Prelude.{Bool}
 
 module _ {H K : Type 0} (site : Site) (handles : H → Method → List ℕ → RequestOutcome → H → Type 0) (tells : K → Said → K → Type 0) (lacks : H → Method → List ℕ → FrontKind → H → Type 0) where
   -- bytes are added to those at hand
@@ -29,13 +29,7 @@ module _ {H K : Type 0} (site : Site) (handles : H → Method → List ℕ → R
   far_loses old before r q p w v unread n new after kind.Write so wants lost = absurd lost
   far_loses old before r q p w v unread n new after kind.NamesSpent so wants lost = absurd lost
 
-  -- how a `?` leaves
-  pub fails_err : {T : Type 0} (old : H) (before : K) (r q w v : Option (List ℕ)) (new : H) (after : K) (result : Result T FrontKind) (y e : FrontKind)
-      → result ≡ Err y → y ≡ e → FailsBy site handles tells lacks old before r q w v new after e → IfErr result (λ k. FailsBy site handles tells lacks old before r q w v new after k)
-  fails_err old before r q w v new after (Ok x) y e is same fails = tt
-  fails_err old before r q w v new after (Err k) y e is same fails = let here : e ≡ k = cc in subst (FailsBy site handles tells lacks old before r q w v new after) here fails
-
-  -- the same, of what goes on or fails
+  -- how a `?` leaves, of what goes on or fails
   pub fails_as : {T : Type 0} (old : H) (before : K) (r q w v : Option (List ℕ)) (over : Bool) (unread : List ℕ) (n : ℕ) (new : H) (after : K) (result : Result T FrontKind) (y e : FrontKind)
       → result ≡ Err y → y ≡ e → FailsBy site handles tells lacks old before r q w v new after e → Goes site handles tells lacks old before r q w v over unread n new after result
   fails_as old before r q w v over unread n new after result y e is same fails =

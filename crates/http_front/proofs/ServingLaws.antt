@@ -59,8 +59,7 @@ module _ {H K : Type 0} (site : Site) (handles : H → Method → List ℕ → R
   unfolding AnswersAll
   answers_more old before [] mid then t new after all one =
       (new, after, subst (λ h. AnswersRequest site handles tells h before t new after) all.0 (subst (λ k. AnswersRequest site handles tells mid k t new after) all.1 one), (refl, refl))
-  answers_more old before (x ∷ turns) mid then t new after all one =
-      (all.0, all.1, all.2, answers_more all.0 all.1 turns mid then t new after all.3 one)
+  answers_more old before (x ∷ turns) mid then t new after all one = (all.0, all.1, all.2, answers_more all.0 all.1 turns mid then t new after all.3 one)
 
   -- Nothing is read yet.
   pub far_start : (old : H) (before : K) (r w : Option (List ℕ)) (unread : List ℕ) (n : ℕ) → unread ≡ [] → n ≡ 0 → Far old before r r w w unread n old before

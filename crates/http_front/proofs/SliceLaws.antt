@@ -77,8 +77,7 @@ module _ (way : Way) (b : ℕ) (c : List Program) (number : ℕ) where
 
   carries_none : (how : CallEnd) (left : List (List Piece)) (s : HostView) → ¬ (how ≡ ended.Succeeded) → (o : RequestOutcome) (t : HostView)
       → FinishesIn way b c number how s o t → CarriesIn way b c number how left s o t
-  carries_none how left s not o t x =
-      record { how = how; mid = s; brings = stopped how s (BringsAllIn way b c number left s how s) not; finishes = x }
+  carries_none how left s not o t x = record { how = how; mid = s; brings = stopped how s (BringsAllIn way b c number left s how s) not; finishes = x }
 
   carries_last : (how : CallEnd) (s : HostView) (o : RequestOutcome) (t : HostView) → FinishesIn way b c number how s o t → CarriesIn way b c number how [] s o t
   unfolding by.BringsAll
@@ -150,8 +149,7 @@ module _ {F R : Type 0} {g : Ghosts R Stored} (device : F → Device) (number : 
 
   -- a host that is alive is so after a slice
   pub alive_after : (old new : Host F R g) (all : Whole) (r : Result (Slice RequestTask) FrontKind) → IsAlive device old → MakesSlice device number all old r new → IsAlive device new
-  alive_after old new all r alive h =
-      alive_then device old new (λ b c s t. IfOk r (λ x. Slices among b c number (all among b c) s x t)) alive (h among)
+  alive_after old new all r alive h = alive_then device old new (λ b c s t. IfOk r (λ x. Slices among b c number (all among b c) s x t)) alive (h among)
 
   -- and after a slice of a call
   pub alive_stepped : (old new : Host F R g) (how : Option CallEnd) → IsAlive device old
@@ -161,8 +159,7 @@ module _ {F R : Type 0} {g : Ghosts R Stored} (device : F → Device) (number : 
   -- what lacked in a part lacked in the whole
   pub part_lacked : (old new : Host F R g) (all part : Whole) (x r : Result (Slice RequestTask) FrontKind) (e : FrontKind) → r ≡ Err e
       → MakesSlice device number part old x new → MakesSlice device number all old r new
-  part_lacked old new all part x r e is h =
-      lacked device number old new all (λ b c s t. IfOk x (λ y. Slices among b c number (part among b c) s y t)) r e is (h among)
+  part_lacked old new all part x r e is h = lacked device number old new all (λ b c s t. IfOk x (λ y. Slices among b c number (part among b c) s y t)) r e is (h among)
 
   -- the same slice
   pub slice_is : (old new : Host F R g) (all : Whole) (x y : Slice RequestTask) → x ≡ y → MakesSlice device number all old (Ok x) new

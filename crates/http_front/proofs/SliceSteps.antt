@@ -55,8 +55,7 @@ module _ (b : ℕ) (c : List Program) (number : ℕ) where
   others_keep (e ∷ es) s t x goes h at =
       let there = others_keep es s goes.0 x goes.1 h at in
       let next = not_next number goes.0.world x (others_numbered es s goes.0 goes.1 h) there in
-      let acts = goes.3 in
-      sym (ap (λ (p : Answer × World). p.1.conns number) acts.is) ∙ (elsewhere acts.memory b c acts.told e.0 number e.1 goes.0.world next goes.2 ∙ there)
+      sym (ap (λ (p : Answer × World). p.1.conns number) goes.3.is) ∙ (elsewhere goes.3.memory b c goes.3.told e.0 number e.1 goes.0.world next goes.2 ∙ there)
 
   step_numbered : (answer : Answer) (s t : HostView) → AnswersLater b c number event.Step s answer t → WorldNumbers s.world → WorldNumbers t.world
   step_numbered answer s t a h = one_numbered number event.Step answer a.0 t a.2 (others_numbered a.1.0 s a.0 a.1.1 h)
@@ -71,30 +70,24 @@ module _ (b : ℕ) (c : List Program) (number : ℕ) where
       let both : Some y ≡ Some one.before = sym (others_keep here.1.0 s here.0 y here.1.1 h at) ∙ one.is in
       let alike : y ≡ one.before = cc in
       let counts = ap (λ (x : Connection). x.count) alike in
-      let below = one.below in
-      omega (arith, below, counts, le)
+      omega (arith, one.below, counts, le)
   few_from (suc n) k s t new y at le h goes a =
       let first = goes.1 in
       let one = acts_count b c number first.0 goes.0 first.2 in
       let both : Some y ≡ Some one.before = sym (others_keep first.1.0 s first.0 y first.1.1 h at) ∙ one.is in
       let alike : y ≡ one.before = cc in
       let counts = ap (λ (x : Connection). x.count) alike in
-      let more = one.more in
-      let rest = few_from n (k + 1) goes.0 t new one.after one.then (omega (arith, more, counts, le)) (step_numbered _ s goes.0 first h) goes.2 a in
-      omega (arith, rest)
+      omega (arith, few_from n (k + 1) goes.0 t new one.after one.then (omega (arith, one.more, counts, le)) (step_numbered _ s goes.0 first h) goes.2 a)
 
   goes_few : (n : ℕ) (s t new : HostView) → WorldNumbers s.world → GoesOnLater b c number n s t → AnswersLater b c number event.Step t (Step stepped.Went) new → n < b
   unfolding GoesOnLater
   goes_few zero s t new h same a =
       let one = acts_count b c number a.0 new a.2 in
-      let below = one.below in
-      omega (arith, below)
+      omega (arith, one.below)
   goes_few (suc n) s t new h goes a =
       let first = goes.1 in
       let one = acts_count b c number first.0 goes.0 first.2 in
-      let more = one.more in
-      let rest = few_from n 1 goes.0 t new one.after one.then (omega (arith, more)) (step_numbered _ s goes.0 first h) goes.2 a in
-      omega (arith, rest)
+      omega (arith, few_from n 1 goes.0 t new one.after one.then (omega (arith, one.more)) (step_numbered _ s goes.0 first h) goes.2 a)
 
   last_step : (n : ℕ) (s t : HostView) → GoesOnLater b c number (suc n) s t → (q : HostView) × GoesOnLater b c number n s q × AnswersLater b c number event.Step q (Step stepped.Went) t
   unfolding GoesOnLater

@@ -64,10 +64,6 @@ module _ {A E : Type 0} where
   on_err_as (Ok x) P Q into h = tt
   on_err_as (Err e) P Q into h = into h
 
--- a result that is there
-pub ok_at : {A E : Type 0} (P : A → Type 0) (r : Result A E) (x : A) → r ≡ Ok x → IfOk r P → P x
-ok_at P r x is h = subst (λ y. IfOk y P) is h
-
 -- why a slice fails
 module _ {H T : Type 0} (site : Site) (lacks : H → Method → List ℕ → FrontKind → H → Type 0) (lacks_rest : H → T → FrontKind → H → Type 0) (old new : H) (seen : List ℕ) (whole : Bool) where
   pub slice_lack : (hand : Option (UnderWay T)) (e : FrontKind) → LacksSlice site lacks lacks_rest hand old seen whole new e → IsLack e

@@ -6,6 +6,4 @@ pub returns-then-rest-eq0 : goal.returns-then-rest-eq0
 returns-then-rest-eq0 c = last_left c.args.rest.file c.args.rest.len c.args.rest.start c.args.rest.left c.in_ok-pieces.pieces c.if-rest-eq0.true c.in_ok-pieces.ensures
 
 pub returns : goal.returns
-returns c =
-    let some = c.if-rest-eq0.false in
-    more_left c.args.rest.file c.args.rest.len c.args.rest.start c.args.rest.left c.in_ok-pieces-2.pieces (omega (arith, some)) c.in_ok-pieces-2.ensures
+returns c = more_left c.args.rest.file c.args.rest.len c.args.rest.start c.args.rest.left c.in_ok-pieces-2.pieces (omega (arith, c.if-rest-eq0.false)) c.in_ok-pieces-2.ensures

@@ -5,12 +5,10 @@ use Rattle.http_front.proofs.RequestLaws.{output_taken, output_refused}
 use Rattle.http_front.proofs.requests.output.Goals as goal
 
 pub returns-in-Ok-clause-leads : goal.returns-in-Ok-clause-leads
-returns-in-Ok-clause-leads g c =
-    output_taken g.F.Files.device c.args.number c.args.host.now c.take_output.new.self _ c.in-Ok.body refl refl refl c.in-Ok.ensures.event
+returns-in-Ok-clause-leads g c = output_taken g.F.Files.device c.args.number c.args.host.now c.take_output.new.self _ c.in-Ok.body refl refl refl c.in-Ok.ensures.event
 
 pub returns-in-Err-clause-leads : goal.returns-in-Err-clause-leads
-returns-in-Err-clause-leads g c =
-    output_refused g.F.Files.device c.args.number c.args.host.now c.take_output.new.self c.bare.result c.in-Err.refusal c.bare.ensures c.in-Err.ensures.event
+returns-in-Err-clause-leads g c = output_refused g.F.Files.device c.args.number c.args.host.now c.take_output.new.self c.bare.result c.in-Err.refusal c.bare.ensures c.in-Err.ensures.event
 
 pub returns-in-Ok-clause-beside : goal.returns-in-Ok-clause-beside
 returns-in-Ok-clause-beside g c from so = beside_event g.F.Files.device c.args.number from c.args.host.now c.take_output.new.self so _ _ tt c.in-Ok.ensures.event

@@ -35,8 +35,7 @@ loop-slice-preserved g c =
 pub loop-slice-smaller : goal.loop-slice-smaller
 loop-slice-smaller g c =
     let here : calls_after c.loop-slice.slice ≡ calls_left c.in-Works.task = ap calls_after c.in-Works.is in
-    let less = c.in_ok-slice-in-Works.ensures.calls in
-    omega (arith, here, less)
+    omega (arith, here, c.in_ok-slice-in-Works.ensures.calls)
 
 pub returns-in-Done-clause-leads : goal.returns-in-Done-clause-leads
 returns-in-Done-clause-leads g c =
@@ -57,8 +56,7 @@ returns-in_err-slice-in-Works-clause-leads g c =
     (λ way b h. ComesIn way b h c.args.number c.args.method c.args.name.now) c.in-Works.is c.loop-slice.invariant.made went)
 
 pub returns-in_err-slice-in-Works-clause-beside : goal.returns-in_err-slice-in-Works-clause-beside
-returns-in_err-slice-in-Works-clause-beside g c from so =
-    c.end_call.ensures.beside from (c.run_call-how.ensures.beside from (c.loop-slice.invariant.beside from so))
+returns-in_err-slice-in-Works-clause-beside g c from so = c.end_call.ensures.beside from (c.run_call-how.ensures.beside from (c.loop-slice.invariant.beside from so))
 
 pub returns-in_err-slice-in-Works-clause-lacks : goal.returns-in_err-slice-in-Works-clause-lacks
 returns-in_err-slice-in-Works-clause-lacks g c from so =

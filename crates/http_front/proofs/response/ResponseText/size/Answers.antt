@@ -6,8 +6,5 @@ pub returns-in_err-size-clause-none : goal.returns-in_err-size-clause-none
 returns-in_err-size-clause-none c none empty =
     let t = c.args.self.now in
     let all = lengths_of_none t.head.items t.body t.tail.items empty in
-    let first = c.in_ok-opening.ensures in
-    let head = c.len.ensures in
-    let tail = c.len-2.ensures in
     let body : length c.as_slice.result.now ≡ length t.body = ap (λ (l : List ℕ). length l) c.as_slice.ensures in
-    c.in_err-size.ensures (omega (arith, all, first, head, tail, body))
+    c.in_err-size.ensures (omega (arith, all, c.in_ok-opening.ensures, c.len.ensures, c.len-2.ensures, body))
