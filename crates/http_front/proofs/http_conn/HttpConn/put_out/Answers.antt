@@ -1,4 +1,4 @@
-use Rattle.std.proofs.Common.{length, refl, ap, ◌∙◌, arith, length-drop, []}
+use Rattle.std.proofs.Common.{length, inl, inr, refl, ap, ◌∙◌, arith, length-drop, []}
 use Rattle.std.proofs.KnownBytes.{Appends-kept, Appends-nil}
 use Rattle.http_front.specs.Texts.{text_of}
 use Rattle.http_front.proofs.RestLaws.{rest_further, rest_none}
@@ -24,22 +24,41 @@ invariant_of-self-clause-sends g c =
     let w = rw c.in-Ok-Bytes.field-0-is at c.in-Ok-Bytes.ensures.written in
     omega (arith, w.1, ap length c.rest.ensures ∙ length-drop t.sent (text_of t.text), t.sized, t.sends, c.requires)
 
-pub returns-then-self-clause-wrote : goal.returns-then-self-clause-wrote
-returns-then-self-clause-wrote g c =
+pub returns-then-self : goal.returns-then-self
+returns-then-self g c =
     let t = c.args.self.now in
     let w = rw (c.in-Ok-Bytes.field-0-is, c.rest.ensures) at c.in-Ok-Bytes.ensures.written in
-    (c.in-Ok-Bytes.count, w.2, c.forget_text.ensures.pending ∙ rest_none (text_of t.text) t.sent c.in-Ok-Bytes.count (c.if-self.true ∙ t.sized))
+    let f = c.forget_text.ensures in
+    record {
+      wrote = (c.in-Ok-Bytes.count, w.2, f.pending ∙ rest_none (text_of t.text) t.sent c.in-Ok-Bytes.count (c.if-self.true ∙ t.sized));
+      inbox = f.inbox; over = f.over; hand = f.hand; whole = f.whole; wants = f.wants; requests = f.requests; still = f.still; kinds = tt; sink = w.3;
+    }
 
-pub returns-else-self-clause-wrote : goal.returns-else-self-clause-wrote
-returns-else-self-clause-wrote g c =
+pub returns-else-self : goal.returns-else-self
+returns-else-self g c =
     let w = rw (c.in-Ok-Bytes.field-0-is, c.rest.ensures) at c.in-Ok-Bytes.ensures.written in
-    (c.in-Ok-Bytes.count, w.2, rest_further (text_of c.args.self.now.text) c.args.self.now.sent c.in-Ok-Bytes.count)
+    record {
+      wrote = (c.in-Ok-Bytes.count, w.2, rest_further (text_of c.args.self.now.text) c.args.self.now.sent c.in-Ok-Bytes.count);
+      inbox = refl; over = refl; hand = refl; whole = refl; wants = refl; requests = refl; still = refl; kinds = tt; sink = w.3;
+    }
 
-pub returns-in-Ok-NotNow-clause-wrote : goal.returns-in-Ok-NotNow-clause-wrote
-returns-in-Ok-NotNow-clause-wrote g c = (0, Appends-kept _ _ _ [] (Appends-nil _) (rw c.in-Ok-NotNow.field-0-is at c.in-Ok-NotNow.ensures.written).0, refl)
+pub returns-in-Ok-NotNow : goal.returns-in-Ok-NotNow
+returns-in-Ok-NotNow g c =
+    let w = rw c.in-Ok-NotNow.field-0-is at c.in-Ok-NotNow.ensures.written in
+    record {
+      wrote = (0, Appends-kept _ _ _ [] (Appends-nil _) w.0, refl); inbox = refl; over = refl; hand = refl; whole = refl; wants = refl; requests = refl; still = refl; kinds = tt; sink = w.1;
+    }
 
-pub returns-in-Err-Failed-clause-wrote : goal.returns-in-Err-Failed-clause-wrote
-returns-in-Err-Failed-clause-wrote g c = (0, Appends-kept _ _ _ [] (Appends-nil _) (rw c.in-Err-Failed.field-0-is at c.in-Err-Failed.ensures.written).0, refl)
+pub returns-in-Err-Failed : goal.returns-in-Err-Failed
+returns-in-Err-Failed g c =
+    let w = rw c.in-Err-Failed.field-0-is at c.in-Err-Failed.ensures.written in
+    record {
+      wrote = (0, Appends-kept _ _ _ [] (Appends-nil _) w.0, refl); inbox = refl; over = refl; hand = refl; whole = refl; wants = refl; requests = refl; still = refl; kinds = inl refl; sink = w.1;
+    }
 
-pub returns-in-Err-NoMemory-clause-wrote : goal.returns-in-Err-NoMemory-clause-wrote
-returns-in-Err-NoMemory-clause-wrote g c = (0, Appends-kept _ _ _ [] (Appends-nil _) (rw c.in-Err-NoMemory.field-0-is at c.in-Err-NoMemory.ensures.written).0, refl)
+pub returns-in-Err-NoMemory : goal.returns-in-Err-NoMemory
+returns-in-Err-NoMemory g c =
+    let w = rw c.in-Err-NoMemory.field-0-is at c.in-Err-NoMemory.ensures.written in
+    record {
+      wrote = (0, Appends-kept _ _ _ [] (Appends-nil _) w.0, refl); inbox = refl; over = refl; hand = refl; whole = refl; wants = refl; requests = refl; still = refl; kinds = inr refl; sink = w.1;
+    }

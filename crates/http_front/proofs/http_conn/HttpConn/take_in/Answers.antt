@@ -1,35 +1,49 @@
-use Rattle.std.proofs.Common.{take, sym, append-nil, []}
+use Rattle.std.proofs.Common.{take, [], inl, inr, refl, sym, append-nil, rules}
 use Rattle.std.proofs.KnownBytes.{Consumes-kept, Consumes-nil}
 use Rattle.http_front.proofs.TurnLaws.{read_short, read_some}
 use Rattle.http_front.proofs.http_conn.HttpConn.take_in.Goals as goal
 
-pub returns-in-Err-add-clause-lost : goal.returns-in-Err-add-clause-lost
-returns-in-Err-add-clause-lost g c =
+pub returns-then-self-eq0 : goal.returns-then-self-eq0
+returns-then-self-eq0 g c = record {
+  took = ([], Consumes-nil _, tt); text = refl; over = refl; hand = refl; whole = λ is. inl is; wants = λ is. is; requests = refl;
+  lost = Consumes-nil _; source = (c.if-self-eq0.true, refl); unwritten = search rules;
+}
+
+pub returns-in-Ok-End : goal.returns-in-Ok-End
+returns-in-Ok-End g c =
+    let got = rw c.in-Ok-End.field-0-is at c.in-Ok-End.ensures in
+    record {
+      took = ([], Consumes-kept _ _ _ [] (Consumes-nil _) got.0, sym (append-nil _)); text = refl; over = refl; hand = refl; whole = λ is. inr got.1;
+      wants = search rules; requests = refl; lost = tt; source = got.2; unwritten = search rules;
+    }
+
+pub returns-in-Ok-NotNow : goal.returns-in-Ok-NotNow
+returns-in-Ok-NotNow g c =
+    let got = rw c.in-Ok-NotNow.field-0-is at c.in-Ok-NotNow.ensures in
+    record {
+      took = ([], Consumes-kept _ _ _ [] (Consumes-nil _) got.0, sym (append-nil _)); text = refl; over = refl; hand = refl; whole = λ is. inl is;
+      wants = λ is. is; requests = refl; lost = tt; source = got.1; unwritten = search rules;
+    }
+
+pub returns-in-Ok : goal.returns-in-Ok
+returns-in-Ok g c =
     let got = rw c.in-Ok-Bytes.field-0-is at c.in-Ok-Bytes.ensures in
-    (take c.in-Ok-Bytes.count c.read.new.buffer, read_some c.in-Ok-Bytes.count c.read.new.buffer got.0 got.1, read_short c.in-Ok-Bytes.count c.read.new.buffer got.1, got.2)
+    record {
+      took = (take c.in-Ok-Bytes.count c.read.new.buffer, got.2, c.in-Ok.ensures.ok); text = refl; over = refl; hand = refl; whole = λ is. inl is;
+      wants = search rules; requests = refl; lost = tt; source = got.3; unwritten = search rules;
+    }
 
-pub returns-in-Ok-clause-took : goal.returns-in-Ok-clause-took
-returns-in-Ok-clause-took g c =
+pub returns-in-Err-add : goal.returns-in-Err-add
+returns-in-Err-add g c =
     let got = rw c.in-Ok-Bytes.field-0-is at c.in-Ok-Bytes.ensures in
-    (take c.in-Ok-Bytes.count c.read.new.buffer, got.2, c.in-Ok.ensures.ok)
+    record {
+      took = (take c.in-Ok-Bytes.count c.read.new.buffer, got.2, tt); text = refl; over = refl; hand = refl; whole = λ is. inl is;
+      wants = λ is. is; requests = refl; source = got.3; unwritten = search rules;
+      lost = (take c.in-Ok-Bytes.count c.read.new.buffer, read_some c.in-Ok-Bytes.count c.read.new.buffer got.0 got.1, read_short c.in-Ok-Bytes.count c.read.new.buffer got.1, got.2);
+    }
 
-pub returns-then-self-eq0-clause-took : goal.returns-then-self-eq0-clause-took
-returns-then-self-eq0-clause-took g c = ([], Consumes-nil _, tt)
-
-pub returns-then-self-eq0-clause-lost : goal.returns-then-self-eq0-clause-lost
-returns-then-self-eq0-clause-lost g c = Consumes-nil _
-
-pub returns-in-Ok-End-clause-took : goal.returns-in-Ok-End-clause-took
-returns-in-Ok-End-clause-took g c = ([], Consumes-kept _ _ _ [] (Consumes-nil _) (rw c.in-Ok-End.field-0-is at c.in-Ok-End.ensures).0, sym (append-nil _))
-
-pub returns-in-Ok-NotNow-clause-took : goal.returns-in-Ok-NotNow-clause-took
-returns-in-Ok-NotNow-clause-took g c = ([], Consumes-kept _ _ _ [] (Consumes-nil _) (rw c.in-Ok-NotNow.field-0-is at c.in-Ok-NotNow.ensures).0, sym (append-nil _))
-
-pub returns-in-Err-add-clause-took : goal.returns-in-Err-add-clause-took
-returns-in-Err-add-clause-took g c = (take c.in-Ok-Bytes.count c.read.new.buffer, (rw c.in-Ok-Bytes.field-0-is at c.in-Ok-Bytes.ensures).2, tt)
-
-pub returns-in-Err-clause-took : goal.returns-in-Err-clause-took
-returns-in-Err-clause-took g c = ([], Consumes-kept _ _ _ [] (Consumes-nil _) c.in-Err.ensures.0, tt)
-
-pub returns-in-Err-clause-lost : goal.returns-in-Err-clause-lost
-returns-in-Err-clause-lost g c = Consumes-kept _ _ _ [] (Consumes-nil _) c.in-Err.ensures.0
+pub returns-in-Err : goal.returns-in-Err
+returns-in-Err g c = record {
+  took = ([], Consumes-kept _ _ _ [] (Consumes-nil _) c.in-Err.ensures.0, tt); text = refl; over = refl; hand = refl; whole = λ is. inl is; wants = λ is. is; requests = refl;
+  lost = Consumes-kept _ _ _ [] (Consumes-nil _) c.in-Err.ensures.0; source = c.in-Err.ensures.1; unwritten = search rules;
+}
