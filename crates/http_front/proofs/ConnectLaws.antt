@@ -120,8 +120,7 @@ module _ {F K R : Type 0} {g : Ghosts R Stored} (device : F → Device) (tells :
         served = served;
         opens = opens;
         done =
-            front_whole site (λ o. Handles device o number) tells (λ o method file. LacksFor device o number) opened before stream text unread n s.requests served
-            after all;
+            front_whole site (λ o. Handles device o number) tells (λ o method file. LacksFor device o number) opened before stream text unread n s.requests served after all;
         alive = alive;
         beside = beside;
         closes = closes;

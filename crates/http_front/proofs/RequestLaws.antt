@@ -31,8 +31,7 @@ use Rattle.filter_chain.proofs.Driving.{Happened, by_event, leads_any, leads_as,
 pub runs_told : {F R : Type 0} {g : Ghosts R Stored} (device : F → Device) (number : ℕ) (old new : Host F R g) (answer : Result Stepped Refusal) (how : CallEnd) → how ≡ ended_of answer
     → Refines device old new (λ b c s t. steps.StepsToEnd b c number s answer t) → Refines device old new (λ b c s t. RunsCall b c number s how t)
 runs_told device number old new answer how told =
-    leads_as device old new (λ b c s t. steps.StepsToEnd b c number s answer t) (λ b c s t. RunsCall b c number s how t)
-    (λ b c s t x. record { answer = answer; runs = x; told = told })
+    leads_as device old new (λ b c s t. steps.StepsToEnd b c number s answer t) (λ b c s t. RunsCall b c number s how t) (λ b c s t x. record { answer = answer; runs = x; told = told })
 
 -- What happens with nothing of others before it happens so among others, too.
 
@@ -66,8 +65,7 @@ module _ {F R : Type 0} {g : Ghosts R Stored} (device : F → Device) (number : 
     pub bare_finished : (why : Option Failure) (o : RequestOutcome) → IsUnserved why o → Refines device old new (λ b c s t. EndsRequest b c number s t)
         → MakesSlice device number (λ way b c. EndsBareIn way b c number why) old (Ok (slice.Done o)) new
     bare_finished why o bare h way =
-        leads_as device old new (λ b c s t. EndsRequest b c number s t) (λ b c s t. EndsBareIn way b c number why s o t)
-        (λ b c s t e. (bare, ends_now way b c number s t e)) h
+        leads_as device old new (λ b c s t. EndsRequest b c number s t) (λ b c s t. EndsBareIn way b c number why s o t) (λ b c s t e. (bare, ends_now way b c number s t e)) h
 
     -- something lacked
     pub lacked : (all : Whole) (first : Transition) (r : Result (Slice RequestTask) FrontKind) (e : FrontKind) → r ≡ Err e → Refines device old new first

@@ -285,8 +285,7 @@ module _ {H K : Type 0} (site : Site) (handles : H → Method → List ℕ → R
       let bare = unwritten old before (Some stream) q w v unread n mid then so in
       let next = far_stays old before (Some stream) q None None None unread (drop size unread) n (n + 1) size mid new then after text bare serves tt refl refl in
       let all : texts_of next.turns ≡ texts_of so.turns ++ text = texts_more so.turns serves.turn ∙ ap (λ l. texts_of so.turns ++ l) (sym serves.written) in
-      cut_of old before q w v u stream unread n k mid new then after text so
-      (subst (λ l. IsNext site handles tells old before stream l (n + 1) new after) all
+      cut_of old before q w v u stream unread n k mid new then after text so (subst (λ l. IsNext site handles tells old before stream l (n + 1) new after) all
       (inl (front_of old before stream q None None (drop size unread) (n + 1) new after next, refl, refl, refl))) few wrote
 
   pub cut_closes : (old : H) (before : K) (r q w v u : Option (List ℕ)) (unread : List ℕ) (n size k : ℕ) (mid new : H) (then after : K) (text : List ℕ)
@@ -294,8 +293,7 @@ module _ {H K : Type 0} (site : Site) (handles : H → Method → List ℕ → R
       → k < length text → Appends v u (take k text) → Writes r w u (λ stream text. IsCut site handles tells old before stream text new after)
   cut_closes old before None q w v u unread n size k mid new then after text so serves few wrote = tt
   cut_closes old before (Some stream) q w v u unread n size k mid new then after text so serves few wrote =
-      cut_of old before q w v u stream unread n k mid new then after text so
-      (inr (inr (inl (closed old before stream q w v unread n (n + 1) size mid new then after text so serves refl)))) few wrote
+      cut_of old before q w v u stream unread n k mid new then after text so (inr (inr (inl (closed old before stream q w v unread n (n + 1) size mid new then after text so serves refl)))) few wrote
 
   pub cut_refused : (old : H) (before : K) (r q w v u : Option (List ℕ)) (unread : List ℕ) (whole : Bool) (n k : ℕ) (mid new : H) (then after : K) (text : List ℕ)
       → Far old before r q w v unread n mid then → (whole ≡ true → IsAtEnd q) → Bad mid then unread whole text new after

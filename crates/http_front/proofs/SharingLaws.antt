@@ -238,8 +238,7 @@ module _ {H K T : Type 0} (site : Site) (among : H → Method → List ℕ → R
     then = s.then;
     so =
         so_as (came ++ bytes) false new.over (went ++ pending old) (went ++ pending new) (unread old.inbox ++ bytes) (unread new.inbox) s.mid s.then
-        (sym (over ∙ was)) (ap (λ l. went ++ l) (sym still)) (sym added)
-        (open_more came bytes (went ++ pending old) (unread old.inbox) s.mid s.then (is_open came went old now at was s));
+        (sym (over ∙ was)) (ap (λ l. went ++ l) (sym still)) (sym added) (open_more came bytes (went ++ pending old) (unread old.inbox) s.mid s.then (is_open came went old now at was s));
     hand =
         subst (λ (x : Option (UnderWay T)). Hand (came ++ bytes) went x (unread new.inbox) s.mid now) (sym (hand ∙ none))
         (subst (λ (x : Option (UnderWay T)). Hand came went x (unread old.inbox) s.mid now) none s.hand);
@@ -284,8 +283,7 @@ module _ {H K T : Type 0} (site : Site) (among : H → Method → List ℕ → R
       stands_step : (st : ServeStep) → DoesStep site among tells from at (unread old.inbox) old.whole st (pending new) to after → Follows st old new → Stand came went new to after
       stands_step (step.Stays size) did f =
           let l = serves_later site among tells apart same later (unread old.inbox) false size (pending new) s.mid from to s.then at after gap s.passed did in
-          behind false (drop size (unread old.inbox)) l.0 after f.over f.still idle
-          (so_stays site among (TellsLater tells) start first came went (unread old.inbox) (drop size (unread old.inbox))
+          behind false (drop size (unread old.inbox)) l.0 after f.over f.still idle (so_stays site among (TellsLater tells) start first came went (unread old.inbox) (drop size (unread old.inbox))
           (pending new) size s.mid l.0 s.then after here l.1 refl) l.2 (passes_none tells after)
       stands_step (step.Closes size) did f =
           let l = serves_later site among tells apart same later (unread old.inbox) true size (pending new) s.mid from to s.then at after gap s.passed did in
@@ -294,8 +292,7 @@ module _ {H K T : Type 0} (site : Site) (among : H → Method → List ℕ → R
       stands_step step.Refused did f =
           behind true (unread old.inbox) s.mid after f.over f.still idle
           (so_refused site among (TellsLater tells) start first came went (unread old.inbox) (pending new) old.whole s.mid s.then after here did.0 did.1
-          (bad_later site among tells apart same later (pending new) s.then at after s.passed did.3))
-          (subst (λ (x : H). apart s.mid x) (sym did.2) gap) (passes_none tells after)
+          (bad_later site among tells apart same later (pending new) s.then at after s.passed did.3)) (subst (λ (x : H). apart s.mid x) (sym did.2) gap) (passes_none tells after)
       stands_step step.More did f =
           behind false (unread old.inbox) s.mid s.then f.over f.still idle
           (so_as came false false went (went ++ pending new) (unread old.inbox) (unread old.inbox) s.mid s.then refl (sym (append-nil went) ∙ ap (λ l. went ++ l) (sym did.2.none)) refl here)

@@ -170,15 +170,13 @@ module _ {F R : Type 0} {g : Ghosts R Stored} (device : F → Device) (number : 
     pub carried_stopped : (left : List (List Piece)) → ¬ (how ≡ ended.Succeeded) → MakesSlice device number (λ way b c. FinishesIn way b c number how) old r new
         → MakesSlice device number (λ way b c. CarriesIn way b c number how left) old r new
     carried_stopped left not =
-        slices_as r old new (λ way b c. FinishesIn way b c number how) (λ way b c. CarriesIn way b c number how left)
-        (λ way b c s o t x. carries_none way b c number how left s not o t x)
+        slices_as r old new (λ way b c. FinishesIn way b c number how) (λ way b c. CarriesIn way b c number how left) (λ way b c s o t x. carries_none way b c number how left s not o t x)
 
     pub carried_last : (rest : Option FileRest) → rest ≡ None → MakesSlice device number (λ way b c. FinishesIn way b c number how) old r new
         → MakesSlice device number (λ way b c. CarriesIn way b c number how (brigades_left rest)) old r new
     carried_last rest none h =
         subst (λ (f : Option FileRest). MakesSlice device number (λ way b c. CarriesIn way b c number how (brigades_left f)) old r new) (sym none)
-        (slices_as r old new (λ way b c. FinishesIn way b c number how) (λ way b c. CarriesIn way b c number how [])
-        (λ way b c s o t x. carries_last way b c number how s o t x) h)
+        (slices_as r old new (λ way b c. FinishesIn way b c number how) (λ way b c. CarriesIn way b c number how []) (λ way b c s o t x. carries_last way b c number how s o t x) h)
 
     pub carried_on : (rest : Option FileRest) (more : FileRest) → how ≡ ended.Succeeded → rest ≡ Some more
         → MakesSlice device number (λ way b c. CarriesIn way b c number ended.Succeeded (brigades_left (Some more))) old r new
@@ -213,8 +211,7 @@ module _ {F R : Type 0} {g : Ghosts R Stored} (device : F → Device) (number : 
     brought pieces all left is h way =
         leads_as device old mid (λ b c s t. Answers b c number (event.Bring pieces) s Done t)
         (λ b c s t. Slices way b c number (CarriesIn way b c number ended.Succeeded all) s (slice.Works (task.Brings left)) t)
-        (λ b c s t a. λ o z x. carries_brought way b c number pieces all (brigades_left left) s t is a o z x)
-        (by_event device old mid number (event.Bring pieces) Done h)
+        (λ b c s t a. λ o z x. carries_brought way b c number pieces all (brigades_left left) s t is a o z x) (by_event device old mid number (event.Bring pieces) Done h)
 
     module _ (new : Host F R g) (r : Result (Slice RequestTask) FrontKind) where
       pub not_brought : (pieces : List Piece) (all left : List (List Piece)) (why : Refusal) → all ≡ pieces ∷ left → lack_of why ≡ None
@@ -224,8 +221,7 @@ module _ {F R : Type 0} {g : Ghosts R Stored} (device : F → Device) (number : 
       not_brought pieces all left why is well h =
           slices_then r old mid new (λ way b c s t. Answers b c number (event.Bring pieces) s (Refused why) t)
           (λ way b c. FinishesIn way b c number (ended.Failed (failure.Refused why))) (λ way b c. CarriesIn way b c number ended.Succeeded all)
-          (λ way b c s m a o t x. carries_refused way b c number pieces all left why s m is well a o t x)
-          (λ way. by_event device old mid number (event.Bring pieces) (Refused why) h)
+          (λ way b c s m a o t x. carries_refused way b c number pieces all left why s m is well a o t x) (λ way. by_event device old mid number (event.Bring pieces) (Refused why) h)
 
       pub opened_so : (init : CallEnd) (method : Method) (name : List ℕ) (file : ℕ × ℕ) (left : Option FileRest) → brigades_left left ≡ brigades_for method file
           → Happened device old mid number (event.OpenFile name) (Opened file.0 file.1)
@@ -244,25 +240,21 @@ module _ {F R : Type 0} {g : Ghosts R Stored} (device : F → Device) (number : 
       not_opened init method name why status is well h =
           slices_then r old mid new (λ way b c s t. Answers b c number (event.OpenFile name) s (Refused why) t)
           (λ way b c. EndsBareIn way b c number status) (λ way b c. OpensIn way b c number init method name)
-          (λ way b c s m a o t x. opens_not way b c number init method name why status s m is well a o t x)
-          (λ way. by_event device old mid number (event.OpenFile name) (Refused why) h)
+          (λ way b c s m a o t x. opens_not way b c number init method name why status s m is well a o t x) (λ way. by_event device old mid number (event.OpenFile name) (Refused why) h)
 
       pub inited : (init : CallEnd) (method : Method) (name : List ℕ) → ((way : Way) → Refines device old mid (λ b c s t. RunsSlice way b c number (Some init) s t))
           → MakesSlice device number (λ way b c. OpensUnlessIn way b c number init method name) mid r new
           → MakesSlice device number (λ way b c. InitsIn way b c number method name) old r new
       inited init method name =
-          slices_then r old mid new (λ way b c s t. RunsSlice way b c number (Some init) s t)
-          (λ way b c. OpensUnlessIn way b c number init method name) (λ way b c. InitsIn way b c number method name)
+          slices_then r old mid new (λ way b c s t. RunsSlice way b c number (Some init) s t) (λ way b c. OpensUnlessIn way b c number init method name) (λ way b c. InitsIn way b c number method name)
           (λ way b c s m d o t x. record { init = init; mid = m; runs = d; opens = x })
 
       pub begun : (method : Method) (name : List ℕ) → Happened device old mid number event.Begin Done
           → MakesSlice device number (λ way b c. InitsIn way b c number method name) mid r new
           → MakesSlice device number (λ way b c. ComesIn way b c number method name) old r new
       begun method name h =
-          slices_then r old mid new (λ way b c s t. Answers b c number event.Begin s Done t)
-          (λ way b c. InitsIn way b c number method name) (λ way b c. ComesIn way b c number method name)
-          (λ way b c s m a o t x. record { answer = None; mid = m; acts = now_acts way b c number event.Begin Done s m a; inits = x })
-          (λ way. by_event device old mid number event.Begin Done h)
+          slices_then r old mid new (λ way b c s t. Answers b c number event.Begin s Done t) (λ way b c. InitsIn way b c number method name) (λ way b c. ComesIn way b c number method name)
+          (λ way b c s m a o t x. record { answer = None; mid = m; acts = now_acts way b c number event.Begin Done s m a; inits = x }) (λ way. by_event device old mid number event.Begin Done h)
 
       -- the call ended so, and the request went on
       pub ends_then : (k : RequestTask) (how : CallEnd) → ((way : Way) → Refines device old mid (λ b c s t. RunsSlice way b c number (Some how) s t))
@@ -289,8 +281,7 @@ module _ {F R : Type 0} {g : Ghosts R Stored} (device : F → Device) (number : 
         → ((way : Way) → Refines device old mid (λ b c s t. RunsSlice way b c number None s t))
         → MakesSlice device number (λ way b c. InitsIn way b c number method name) old (Ok (slice.Works k)) mid
     init_on method name k is h way =
-        leads_as device old mid (λ b c s t. RunsSlice way b c number None s t)
-        (λ b c s t. Slices way b c number (InitsIn way b c number method name) s (slice.Works k) t)
+        leads_as device old mid (λ b c s t. RunsSlice way b c number None s t) (λ b c s t. Slices way b c number (InitsIn way b c number method name) s (slice.Works k) t)
         (λ b c s t more. λ o z x. inits_on way b c number method name k s t is more o z x) (h way)
 
     pub call_on : (k : RequestTask) → ((way : Way) → Refines device old mid (λ b c s t. RunsSlice way b c number None s t))

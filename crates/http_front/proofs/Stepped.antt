@@ -188,5 +188,4 @@ module _ {H K : Type 0} (site : Site) (handles : H → Method → List ℕ → R
       → DoesStep site handles tells old before low ended s text new after → DoesStep site handles tells old before seen whole s text new after
   steps_front old new before after seen low whole ended text s front over x =
       let at_front = subst (λ (l : List ℕ). DoesStep site handles tells old before l ended s text new after) front x in
-      steps_wider old new before after seen whole text s
-      (subst (λ (e : Bool). DoesStep site handles tells old before (take head_limit seen) e s text new after) over at_front)
+      steps_wider old new before after seen whole text s (subst (λ (e : Bool). DoesStep site handles tells old before (take head_limit seen) e s text new after) over at_front)

@@ -11,8 +11,7 @@ returns-in-Ok-clause-ok g c =
     c.close.new.host c.serve_open-served.new.clock (opened_conn g.F.Files.device c.in-Ok.number c.args.host.now c.run_call.new.host c.open_conn.new.self
     c.run_call.result c.in-Ok.ensures.event c.run_call.ensures.leads) c.serve_open-served.ensures.open
     (c.serve_open-served.ensures.beside c.run_call.new.host (beside_same g.F.Files.device c.in-Ok.number c.run_call.new.host))
-    (g.S.Source.remaining (source_of c.args.reader.now)) c.serve_open-served.result c.close.result c.close.ensures
-    c.serve_open-served.ensures.ok c.outcome_of.result c.outcome_of.ensures
+    (g.S.Source.remaining (source_of c.args.reader.now)) c.serve_open-served.result c.close.result c.close.ensures c.serve_open-served.ensures.ok c.outcome_of.result c.outcome_of.ensures
 
 pub returns-in-Ok-clause-err : goal.returns-in-Ok-clause-err
 returns-in-Ok-clause-err g c =

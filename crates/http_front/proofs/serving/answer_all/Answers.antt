@@ -20,8 +20,7 @@ loop-conn-preserved g c =
       wants = λ is. let w = e.wants is in (c.answer_next.ensures.whole ∙ w.0, w.1);
       sound = e.blames ∙ inv.sound;
       goes = λ old before r q w ends so.
-          e.goes old before r q w (λ is. ends (sym inv.whole ∙ is))
-          (subst (λ (b : Bool). Standing c.args.site.now (λ h. g.H.Handler.handles h c.args.number) g.K.Clock.tells old before r q w
+          e.goes old before r q w (λ is. ends (sym inv.whole ∙ is)) (subst (λ (b : Bool). Standing c.args.site.now (λ h. g.H.Handler.handles h c.args.number) g.K.Clock.tells old before r q w
           (g.W.Sink.contents c.loop-conn.sink) b (unread c.loop-conn.conn.inbox) c.loop-conn.conn.requests c.loop-conn.handler c.loop-conn.clock) at.0 (inv.goes old before r q w ends so));
     }
 

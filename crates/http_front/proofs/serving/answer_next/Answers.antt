@@ -38,8 +38,7 @@ returns-in_err-step-clause-goes g c old before r q w ends so =
     fails_as c.args.site.now (λ h. g.H.Handler.handles h c.args.number) g.K.Clock.tells (λ h. g.H.Handler.lacks h c.args.number) old before r q w
     (g.W.Sink.contents c.args.sink.now) c.step.new.self.over (unread c.step.new.self.inbox) c.step.new.self.requests c.step.new.handler c.step.new.clock c.from_residual.result p.0 e p.1 p.2
     (far_lacks_by c.args.site.now (λ h. g.H.Handler.handles h c.args.number) g.K.Clock.tells (λ h. g.H.Handler.lacks h c.args.number) old before r q w
-    (g.W.Sink.contents c.args.sink.now) (unread c.args.conn.now.inbox) c.args.conn.now.whole c.args.conn.now.requests c.args.handler.now c.step.new.handler
-    c.args.clock.now c.step.new.clock e so ends
+    (g.W.Sink.contents c.args.sink.now) (unread c.args.conn.now.inbox) c.args.conn.now.whole c.args.conn.now.requests c.args.handler.now c.step.new.handler c.args.clock.now c.step.new.clock e so ends
     (slice_lacks c.args.site.now (λ h. g.H.Handler.lacks h c.args.number) (λ h k o z. ⊥)
     (λ t. elim t [ ]) c.args.conn.now.hand c.args.handler.now c.step.new.handler (unread c.args.conn.now.inbox) c.args.conn.now.whole e c.in_err-step.ensures.lacks))
 
@@ -53,8 +52,7 @@ pub returns-clause-less : goal.returns-clause-less
 returns-clause-less g c =
     let x = made g c in
     less_put c.put_all.result c.args.conn.now c.step.new.self c.put_all.new.self c.put_all.ensures.over c.put_all.ensures.wants c.put_all.ensures.inbox c.put_all.ensures.requests
-    (step_less x.0 c.args.conn.now c.step.new.self c.requires.going c.requires.ready x.2
-    (stays_some c.args.site.now _ _ x.0 (unread c.args.conn.now.inbox) c.args.conn.now.whole _ _ _ _ _ x.1))
+    (step_less x.0 c.args.conn.now c.step.new.self c.requires.going c.requires.ready x.2 (stays_some c.args.site.now _ _ x.0 (unread c.args.conn.now.inbox) c.args.conn.now.whole _ _ _ _ _ x.1))
 
 pub returns-clause-wants : goal.returns-clause-wants
 returns-clause-wants g c =

@@ -20,8 +20,7 @@ pub loop-slice-preserved : goal.loop-slice-preserved
 loop-slice-preserved g c =
     let inv = c.loop-slice.invariant in
     let went = runs_on g.F.Files.device c.args.number c.loop-slice.host c.run_call-how.new.host c.end_call.new.host
-    (Ok c.in_ok-slice-in-Works.slice) c.in-Works.task c.run_call-how.result c.run_call-how.ensures.leads
-    c.in_ok-slice-in-Works.ensures.leads in
+    (Ok c.in_ok-slice-in-Works.slice) c.in-Works.task c.run_call-how.result c.run_call-how.ensures.leads c.in_ok-slice-in-Works.ensures.leads in
     let made = goes_on g.F.Files.device c.args.number c.args.host.now c.loop-slice.host c.end_call.new.host (Ok c.in_ok-slice-in-Works.slice) c.loop-slice.slice c.in-Works.task
     (λ way b h. ComesIn way b h c.args.number c.args.method c.args.name.now) c.in-Works.is inv.made went in
     record {
@@ -66,5 +65,4 @@ returns-in_err-slice-in-Works-clause-lacks g c from so =
 
 pub end_call-requires : goal.end_call-requires
 end_call-requires g c =
-    alive_then g.F.Files.device c.loop-slice.host c.run_call-how.new.host (λ b h s t. RunsCall b h c.args.number s c.run_call-how.result t)
-    c.loop-slice.invariant.alive c.run_call-how.ensures.leads
+    alive_then g.F.Files.device c.loop-slice.host c.run_call-how.new.host (λ b h s t. RunsCall b h c.args.number s c.run_call-how.result t) c.loop-slice.invariant.alive c.run_call-how.ensures.leads

@@ -13,8 +13,7 @@ returns-in-Ok-clause-leads g c =
 pub returns-in_ok-unless_lack-in-Err-clause-leads : goal.returns-in_ok-unless_lack-in-Err-clause-leads
 returns-in_ok-unless_lack-in-Err-clause-leads g c =
     not_opened g.F.Files.device c.args.number c.args.host.now c.open_file.new.self c.finish_bare.new.host c.finish_bare.result c.args.init c.args.method
-    c.args.name.now c.in-Err.refusal c.unopened.result c.unopened.ensures
-    c.in_ok-unless_lack-in-Err.ensures.ok c.in-Err.ensures.event c.finish_bare.ensures.leads
+    c.args.name.now c.in-Err.refusal c.unopened.result c.unopened.ensures c.in_ok-unless_lack-in-Err.ensures.ok c.in-Err.ensures.event c.finish_bare.ensures.leads
 
 pub returns-in-Ok-clause-beside : goal.returns-in-Ok-clause-beside
 returns-in-Ok-clause-beside g c from so = c.carry_on.ensures.beside from (beside_event g.F.Files.device c.args.number from c.args.host.now c.open_file.new.self so _ _ tt c.in-Ok.ensures.event)

@@ -10,5 +10,4 @@ returns-in-Succeeded-clause-leads g c =
 pub returns-in-Failed-clause-leads : goal.returns-in-Failed-clause-leads
 returns-in-Failed-clause-leads g c =
     opened_unless g.F.Files.device c.args.number c.args.host.now c.open_slice-in-Failed.new.host c.open_slice-in-Failed.result c.args.init c.args.method
-    c.args.name.now (ended.Failed c.in-Failed.field-0) c.in-Failed.is (λ h. h)
-    c.open_slice-in-Failed.ensures.leads
+    c.args.name.now (ended.Failed c.in-Failed.field-0) c.in-Failed.is (λ h. h) c.open_slice-in-Failed.ensures.leads

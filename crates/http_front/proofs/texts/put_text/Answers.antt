@@ -26,8 +26,7 @@ returns c =
     let old = c.clear.new.self.head.items in
     let body = onto_as old _ _ _ c.middle-2.ensures date.2 c.in_ok-extend_from_slice-2.ensures.items in
     let end = c.as_bytes-2.ensures.value ∙ c.closing-2.ensures in
-    on_ok_weaker c.extend_from_slice-3.result
-    (λ (last : c.extend_from_slice-3.new.self.items ≡ c.extend_from_slice-2.new.self.items ++ c.as_bytes-2.result.now). (
+    on_ok_weaker c.extend_from_slice-3.result (λ (last : c.extend_from_slice-3.new.self.items ≡ c.extend_from_slice-2.new.self.items ++ c.as_bytes-2.result.now). (
       date.0,
       date.1,
       rw (c.clear.ensures.body, c.clear.ensures.tail)
