@@ -1,6 +1,5 @@
 -- By the new ring, which is empty.
-use Rattle.std.proofs.Common.{rules, ◌∙◌, ap, ℕ, [], Some}
-use Rattle.std.proofs.lemmas.Result.{err_from_is_err_and}
+use Rattle.std.proofs.Common.{◌∙◌, ap, ℕ, [], Some}
 use Rattle.bucket_ring.specs.Lists.{upd}
 use Rattle.brigade_ops.specs.Store.{lists}
 use Rattle.ring_passes.proofs.Begins.{held_begun, seen_begun}
@@ -17,8 +16,3 @@ returns-clause-held g c =
     held_begun c.args.store.now c.loose.new.self c.args.instance.now c.args.call.now c.start.new.self c.requires.held c.requires.idle
     (λ n. c.in_ok-name.ensures.ok n ∙ ap (λ (j : ℕ). upd (lists c.args.store.now) j (Some []) n) c.in_ok-name.ensures.name)
     (c.start.ensures.name ∙ c.in_ok-name.ensures.name) c.start.ensures.cursors c.in_ok-name.ensures.next c.loose.ensures.names c.loose.ensures.pools c.requires.free
-
-pub returns-in_err-name : goal.returns-in_err-name
-returns-in_err-name g c =
-    let gone = err_from_is_err_and c.from_residual.result c.from_residual.ensures.1 in
-    rw (gone.1, gone.2) (search rules)
