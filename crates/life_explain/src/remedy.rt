@@ -445,12 +445,6 @@ impl<'s> Case<'s> {
         }
     }
 
-    // What stands for a capital.
-    fn name(&self, capital: u8) -> &'s [u8] {
-        let place = usize::from(capital.wrapping_sub(b'A'));
-        self.names.get(place).copied().unwrap_or(&[])
-    }
-
     // Adds a form to the lines that are to be written, with the names in place of capitals.
     fn expand(&mut self, form: &[u8]) {
         for byte in form {
@@ -459,7 +453,8 @@ impl<'s> Case<'s> {
                 let number = self.number;
                 self.page.put_number("#", number);
             } else if byte.is_ascii_uppercase() {
-                let name = self.name(byte);
+                let place = usize::from(byte.wrapping_sub(b'A'));
+                let name = self.names.get(place).copied().unwrap_or(&[]);
                 self.page.push_line(name);
             } else {
                 self.page.push_line(&[byte]);

@@ -27,7 +27,7 @@ enum Call {
     Slim,
     /// It is checked. The certificate is read from memory.
     Check,
-    /// It is checked. The module is read from memory, and the certificate of `IDENTITY` is what the row reads.
+    /// It is checked. The module is read from memory.
     CheckWith,
     /// A module to begin with is written; nothing is read.
     New,
@@ -36,6 +36,7 @@ enum Call {
 type Text = &'static [u8];
 
 /// A call, how what it reads is called, a text, what comes after it, and what comes after both, again and again, where there is no end.
+/// `CheckWith` reads the certificate of `IDENTITY` in place of the text.
 type Row = (Call, &'static str, Text, Text, Text);
 
 /// How many reads give nothing before each byte of a reader without an end: so it gives 50,000 bytes in all.
