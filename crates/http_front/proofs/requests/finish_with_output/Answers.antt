@@ -11,8 +11,11 @@ returns-in_err-end_request g c =
     let e = c.in_err-end_request.field-0.0 in
     rw (p.1, p.2) (record {
       leads = output_lacked g.F.Files.device c.args.number c.args.host.now c.output-outcome.new.host c.end_request.new.host c.output-outcome.result (Err e) e refl o.leads n.leads;
-      beside = λ from so. n.beside from (o.beside from so); err = n.err; lacks = λ from so. n.lacks from (o.beside from so);
-      few = λ from k so. n.few from k (o.few from k so); calls = tt;
+      beside = λ from so. n.beside from (o.beside from so);
+      err = n.err;
+      lacks = λ from so. n.lacks from (o.beside from so);
+      few = λ from k so. n.few from k (o.few from k so);
+      calls = tt;
     })
 
 pub returns-clause-leads : goal.returns-clause-leads

@@ -33,5 +33,7 @@ returns-in-Err-clause-leads g c w hosts =
     record {
       to = x.to;
       did = on_ok_weaker {P = lack_of c.in-Err.refusal ≡ None} c.unless_lack.result (λ none. record { answer = Some c.in-Err.refusal; acts = x.acts; lacks = λ r is. cc }) c.unless_lack.ensures.ok;
-      hosts = x.hosts; chain = x.chain; budget = x.budget;
+      hosts = x.hosts;
+      chain = x.chain;
+      budget = x.budget;
     }

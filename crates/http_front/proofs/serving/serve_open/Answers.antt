@@ -34,7 +34,9 @@ returns-in_err-take_counted g c =
     let inv = c.loop-conn.invariant in
     let r = g.R.Source.remaining in
     rw (p.1, p.2) (record {
-      «open» = inv.opened; beside = inv.beside; ok = tt;
+      «open» = inv.opened;
+      beside = inv.beside;
+      ok = tt;
       err =
           far_loses c.args.site.now (λ h. g.H.Handler.handles h c.args.number) g.K.Clock.tells (λ h. g.H.Handler.lacks h c.args.number) c.args.handler.now c.args.clock.now
           (r (source_of c.args.reader.now)) (r (source_of c.loop-conn.reader)) (r (source_of c.take_counted.new.reader)) (g.W.Sink.contents c.args.sink.now)
@@ -52,7 +54,9 @@ returns-in_err-answer_all g c =
     let inv = c.loop-conn.invariant in
     let r = g.R.Source.remaining in
     rw (p.1, p.2) (record {
-      «open» = c.answer_all.ensures.open; beside = λ from so. c.answer_all.ensures.beside from (inv.beside from so); ok = tt;
+      «open» = c.answer_all.ensures.open;
+      beside = λ from so. c.answer_all.ensures.beside from (inv.beside from so);
+      ok = tt;
       err = says.goes c.args.handler.now c.args.clock.now (r (source_of c.args.reader.now)) (r (source_of c.take_counted.new.reader)) (g.W.Sink.contents c.args.sink.now) adds.end
           (far_adds _ _ _ (λ h. g.H.Handler.lacks h c.args.number) _ _ _ _ _ _ _ _ _ _ _ _ _ _ _ c.take_counted.ensures.requests inv.far adds);
       source = source_apart Served e _ _ _ (λ is. says.unread.0 (ap Err is)) (λ is. says.unread.1 (ap Err is)) (c.in_ok-take_counted.ensures.blames ∙ inv.read_well);
@@ -86,8 +90,15 @@ loop-conn-preserved g c =
     record {
       opened = c.answer_all.ensures.open;
       beside = λ from so. c.answer_all.ensures.beside from (inv.beside from so);
-      few = omega (arith, e.few (ap Ok c.if-branch.false), inv.few, adds.few, ap length adds.added ∙ length-append (unread c.loop-conn.conn.inbox) adds.bytes,
-          c.in_ok-take_counted.ensures.counted, c.take_counted.ensures.requests);
+      few = omega (
+        arith,
+        e.few (ap Ok c.if-branch.false),
+        inv.few,
+        adds.few,
+        ap length adds.added ∙ length-append (unread c.loop-conn.conn.inbox) adds.bytes,
+        c.in_ok-take_counted.ensures.counted,
+        c.take_counted.ensures.requests,
+      );
       range = inv.range;
       room = c.take_counted.ensures.room;
       going = going;

@@ -41,7 +41,11 @@ returns-in_err-outcome g c =
     let p = err_from_is_err_and c.from_residual-in_err-outcome.result c.from_residual-in_err-outcome.ensures.1 in
     let why = c.in_err-outcome.ensures.err in
     rw (p.1, p.2) (record {
-      «open» = c.begin_wanted.ensures.open; beside = c.begin_wanted.ensures.beside; clock = λ from so. so; ok = tt; few = c.begin_wanted.ensures.few;
+      «open» = c.begin_wanted.ensures.open;
+      beside = c.begin_wanted.ensures.beside;
+      clock = λ from so. so;
+      ok = tt;
+      few = c.begin_wanted.ensures.few;
       err = (why.0, λ names h at. why.1 names c.args.site.now h (c.in_ok-wanted.ensures h at) (c.asked_by-asked.ensures.by h at).method);
     })
 

@@ -39,7 +39,10 @@ returns-in_err-put_reply-in-Headless g c =
     let p = err_from_is_err_and c.from_residual.result c.from_residual.ensures.1 in
     let never = rw (c.look_at.ensures.room ∙ c.requires.room) at c.in-Headless.ensures.looks in
     rw (p.1, p.2) (record {
-      «open» = c.requires.open; beside = λ from so. so; clock = c.put_reply.ensures.clock; ok = tt;
+      «open» = c.requires.open;
+      beside = λ from so. so;
+      clock = c.put_reply.ensures.clock;
+      ok = tt;
       err = inr (not_empty c.args.seen.now c.if-is_empty-2.ensures, never);
       few = g.met.P.Pace.steps_none _ _ _;
     })

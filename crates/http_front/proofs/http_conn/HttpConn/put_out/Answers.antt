@@ -31,7 +31,15 @@ returns-then-self g c =
     let f = c.forget_text.ensures in
     record {
       wrote = (c.in-Ok-Bytes.count, w.2, f.pending ∙ rest_none (text_of t.text) t.sent c.in-Ok-Bytes.count (c.if-self.true ∙ t.sized));
-      inbox = f.inbox; over = f.over; hand = f.hand; whole = f.whole; wants = f.wants; requests = f.requests; still = f.still; kinds = tt; sink = w.3;
+      inbox = f.inbox;
+      over = f.over;
+      hand = f.hand;
+      whole = f.whole;
+      wants = f.wants;
+      requests = f.requests;
+      still = f.still;
+      kinds = tt;
+      sink = w.3;
     }
 
 pub returns-else-self : goal.returns-else-self
@@ -39,26 +47,61 @@ returns-else-self g c =
     let w = rw (c.in-Ok-Bytes.field-0-is, c.rest.ensures) at c.in-Ok-Bytes.ensures.written in
     record {
       wrote = (c.in-Ok-Bytes.count, w.2, rest_further (text_of c.args.self.now.text) c.args.self.now.sent c.in-Ok-Bytes.count);
-      inbox = refl; over = refl; hand = refl; whole = refl; wants = refl; requests = refl; still = refl; kinds = tt; sink = w.3;
+      inbox = refl;
+      over = refl;
+      hand = refl;
+      whole = refl;
+      wants = refl;
+      requests = refl;
+      still = refl;
+      kinds = tt;
+      sink = w.3;
     }
 
 pub returns-in-Ok-NotNow : goal.returns-in-Ok-NotNow
 returns-in-Ok-NotNow g c =
     let w = rw c.in-Ok-NotNow.field-0-is at c.in-Ok-NotNow.ensures.written in
     record {
-      wrote = (0, Appends-kept _ _ _ [] (Appends-nil _) w.0, refl); inbox = refl; over = refl; hand = refl; whole = refl; wants = refl; requests = refl; still = refl; kinds = tt; sink = w.1;
+      wrote = (0, Appends-kept _ _ _ [] (Appends-nil _) w.0, refl);
+      inbox = refl;
+      over = refl;
+      hand = refl;
+      whole = refl;
+      wants = refl;
+      requests = refl;
+      still = refl;
+      kinds = tt;
+      sink = w.1;
     }
 
 pub returns-in-Err-Failed : goal.returns-in-Err-Failed
 returns-in-Err-Failed g c =
     let w = rw c.in-Err-Failed.field-0-is at c.in-Err-Failed.ensures.written in
     record {
-      wrote = (0, Appends-kept _ _ _ [] (Appends-nil _) w.0, refl); inbox = refl; over = refl; hand = refl; whole = refl; wants = refl; requests = refl; still = refl; kinds = inl refl; sink = w.1;
+      wrote = (0, Appends-kept _ _ _ [] (Appends-nil _) w.0, refl);
+      inbox = refl;
+      over = refl;
+      hand = refl;
+      whole = refl;
+      wants = refl;
+      requests = refl;
+      still = refl;
+      kinds = inl refl;
+      sink = w.1;
     }
 
 pub returns-in-Err-NoMemory : goal.returns-in-Err-NoMemory
 returns-in-Err-NoMemory g c =
     let w = rw c.in-Err-NoMemory.field-0-is at c.in-Err-NoMemory.ensures.written in
     record {
-      wrote = (0, Appends-kept _ _ _ [] (Appends-nil _) w.0, refl); inbox = refl; over = refl; hand = refl; whole = refl; wants = refl; requests = refl; still = refl; kinds = inr refl; sink = w.1;
+      wrote = (0, Appends-kept _ _ _ [] (Appends-nil _) w.0, refl);
+      inbox = refl;
+      over = refl;
+      hand = refl;
+      whole = refl;
+      wants = refl;
+      requests = refl;
+      still = refl;
+      kinds = inr refl;
+      sink = w.1;
     }

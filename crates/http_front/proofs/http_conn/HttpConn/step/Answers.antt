@@ -30,7 +30,13 @@ returns-in_err-slice g c =
     let e = c.in_err-slice.field-0.0 in
     let o = c.step_on-did.ensures in
     rw (p.1, p.2) (record {
-      «open» = o.open; beside = o.beside; clock = o.clock; did = tt; whole = refl; none = c.in_err-slice.ensures.none; sent = refl;
+      «open» = o.open;
+      beside = o.beside;
+      clock = o.clock;
+      did = tt;
+      whole = refl;
+      none = c.in_err-slice.ensures.none;
+      sent = refl;
       lacks =
           lack_as c.args.site.now (λ old. g.H.Handler.lacks old c.args.number) (λ old. g.P.Pace.lacks_rest old c.args.number) c.args.handler.now c.step_on-did.new.handler
           c.take-hand.result c.args.self.now.hand c.unread-seen.result.now (unread c.args.self.now.inbox) c.args.self.now.whole e c.take-hand.ensures.value c.unread-seen.ensures
