@@ -1,7 +1,7 @@
 #!/usr/bin/env python3
 """Makes each rule of the checker unsound, and asks the prover for the law of that instruction, which it must refuse.
 
-    python3 tests/unsound.py                    # all 46, the most in four groups: some minutes
+    python3 tests/unsound.py                    # all of them, the most in four groups: some minutes
     python3 tests/unsound.py pass ret           # the rules of these instructions, each alone
 
 The rules are definitions in crates/life_state/specs; their laws are proved in crates/life_check/proofs. Each change is made in a copy

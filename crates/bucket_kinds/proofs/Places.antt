@@ -7,7 +7,7 @@ use Rattle.run_model.specs.declared.bucket.Content.TheVariants as content
 use Rattle.run_model.specs.declared.bucket.Kind.{Kind}
 use Rattle.run_model.specs.declared.bucket.Kind.TheVariants as kind
 use Rattle.run_model.specs.Cutting.{EndsInFile, length_of, front_of, rest_of, split_at, set_aside}
-use Rattle.bucket_kinds.specs.declared.stored.Place.{Place}
+use Rattle.bucket_kinds.specs.declared.stored.RegionBytes.{RegionBytes}
 use Rattle.bucket_kinds.specs.declared.stored.Kept.{Kept}
 use Rattle.bucket_kinds.specs.declared.stored.Kept.TheVariants as kept
 use Rattle.bucket_kinds.specs.declared.stored.Stored.{Stored}
@@ -19,18 +19,18 @@ take_take (suc n) zero xs le = absurd (omega arith)
 take_take (suc n) (suc m) [] le = refl
 take_take (suc n) (suc m) (x ∷ xs) le = ap (λ ys. x ∷ ys) (take_take n m xs (omega arith))
 
-pub part_there : (o : Option (List ℕ)) (p : Place) → has_part o p ≡ true → is_some o ≡ true
+pub part_there : (o : Option (List ℕ)) (p : RegionBytes) → has_part o p ≡ true → is_some o ≡ true
 part_there None p e = absurd (false≢true e)
 part_there (Some bs) p e = refl
 
-pub part_within : (o : Option (List ℕ)) (bs : List ℕ) (p : Place) → o ≡ Some bs → has_part o p ≡ true → p.start + p.len ≤ length bs
+pub part_within : (o : Option (List ℕ)) (bs : List ℕ) (p : RegionBytes) → o ≡ Some bs → has_part o p ≡ true → p.start + p.len ≤ length bs
 part_within o bs p is e = leb-true (p.start + p.len) (length bs) (and_parts (nat_le (p.start + p.len) (length bs)) (nat_lt (p.start + p.len) (2 ^ 64)) (sym (ap (λ q. has_part q p) is) ∙ e)).0
 
-pub part_ends : (o : Option (List ℕ)) (p : Place) → has_part o p ≡ true → p.start + p.len < 2 ^ 64
+pub part_ends : (o : Option (List ℕ)) (p : RegionBytes) → has_part o p ≡ true → p.start + p.len < 2 ^ 64
 part_ends None p e = absurd (false≢true e)
 part_ends (Some bs) p e = ltb-true (p.start + p.len) (2 ^ 64) (and_parts (nat_le (p.start + p.len) (length bs)) (nat_lt (p.start + p.len) (2 ^ 64)) e).1
 
-pub has_part_is : (bs : List ℕ) (p : Place) → p.start + p.len ≤ length bs → p.start + p.len < 2 ^ 64 → has_part (Some bs) p ≡ true
+pub has_part_is : (bs : List ℕ) (p : RegionBytes) → p.start + p.len ≤ length bs → p.start + p.len < 2 ^ 64 → has_part (Some bs) p ≡ true
 has_part_is bs p within ends = rw (le-leb (p.start + p.len) (length bs) within, lt-ltb (p.start + p.len) (2 ^ 64) ends) refl
 
 module _ (look : Look) where
@@ -38,7 +38,7 @@ module _ (look : Look) where
   ends_kept (kept.Own c) whole ends = ends
   ends_kept (kept.Placed p) whole ends = part_ends (look p.pool p.span) p whole
 
-  length_part : (o : Option (List ℕ)) (p : Place) → has_part o p ≡ true → length (part o p) ≡ p.len
+  length_part : (o : Option (List ℕ)) (p : RegionBytes) → has_part o p ≡ true → length (part o p) ≡ p.len
   length_part None p e = absurd (false≢true e)
   length_part (Some bs) p e =
       let within = part_within (Some bs) bs p refl e in
@@ -48,14 +48,14 @@ module _ (look : Look) where
   length_kept (kept.Own c) whole = refl
   length_kept (kept.Placed p) whole = length_part (look p.pool p.span) p whole
 
-  front_part : (n : ℕ) (o : Option (List ℕ)) (p : Place) → n ≤ p.len → has_part o p ≡ true → has_part o (record p { len = n }) ≡ true
+  front_part : (n : ℕ) (o : Option (List ℕ)) (p : RegionBytes) → n ≤ p.len → has_part o p ≡ true → has_part o (record p { len = n }) ≡ true
   front_part n None p le e = e
   front_part n (Some bs) p le e =
       let within = part_within (Some bs) bs p refl e in
       let ends = part_ends (Some bs) p e in
       has_part_is bs (record p { len = n }) (omega (arith, within, le)) (omega (arith, ends, le))
 
-  rest_part : (n : ℕ) (o : Option (List ℕ)) (p : Place) → n ≤ p.len → has_part o p ≡ true → has_part o (record p { start = p.start + n; len = p.len - n }) ≡ true
+  rest_part : (n : ℕ) (o : Option (List ℕ)) (p : RegionBytes) → n ≤ p.len → has_part o p ≡ true → has_part o (record p { start = p.start + n; len = p.len - n }) ≡ true
   rest_part n None p le e = e
   rest_part n (Some bs) p le e =
       let within = part_within (Some bs) bs p refl e in

@@ -8,7 +8,7 @@ use Rattle.run_model.specs.declared.bucket.Content.TheVariants as content
 use Rattle.run_model.specs.declared.bucket.Home.TheVariants as home
 use Rattle.run_model.specs.declared.bucket.Kind.TheVariants as kind
 use Rattle.run_model.specs.Cutting.{EndsInFile, length_of, front_of, rest_of, set_aside}
-use Rattle.bucket_kinds.specs.declared.stored.Place.{Place}
+use Rattle.bucket_kinds.specs.declared.stored.RegionBytes.{RegionBytes}
 use Rattle.bucket_kinds.specs.declared.stored.Kept.{Kept}
 use Rattle.bucket_kinds.specs.declared.stored.Kept.TheVariants as kept
 use Rattle.bucket_kinds.specs.declared.stored.Stored.{Stored}
@@ -18,10 +18,10 @@ abbrev pub Look : Type 0
 Look = ℕ → Span → Option (List ℕ)
 
 -- a place in the bytes of its span: the bytes there, and whether there are so many, with an end below 2 ^ 64
-abbrev pub part : Option (List ℕ) → Place → List ℕ
+abbrev pub part : Option (List ℕ) → RegionBytes → List ℕ
 part bytes p = take p.len (drop p.start (option_map_or (λ bs. bs) bytes []))
 
-abbrev pub has_part : Option (List ℕ) → Place → Bool
+abbrev pub has_part : Option (List ℕ) → RegionBytes → Bool
 has_part None p = false
 has_part (Some bytes) p = nat_le (p.start + p.len) (length bytes) && nat_lt (p.start + p.len) (2 ^ 64)
 

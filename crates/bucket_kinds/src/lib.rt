@@ -23,4 +23,4 @@ pub use placing::{
 pub use reading::{read_bucket, read_into, rest_of_read, room_to_read};
 pub use refusal::{AddRefusal, FileFault, ReadError, ReadFault, SplitError};
 pub use run_model::{Bucket, Content, Home, Kind, Seq};
-pub use stored::{Kept, Place, Stored};
+pub use stored::{Kept, RegionBytes, Stored};

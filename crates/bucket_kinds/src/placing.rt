@@ -6,7 +6,7 @@ ghost use Rattle.bucket_kinds.specs.Prelude.{kept_rest, parts_at, shown, aside};
 
 use crate::cutting::{bytes_copy, content_copy, is_metadata, length, parts};
 use crate::refusal::SplitError;
-use crate::stored::{Kept, Place, Stored};
+use crate::stored::{Kept, RegionBytes, Stored};
 use apr_region::{Region, Span};
 use run_model::{Bucket, Content, Home, Kind};
 use std::alloc::{AllocError, Global};
@@ -30,7 +30,7 @@ pub fn place_pool(pool: u64, region: &mut Region, bytes: &[u8]) -> Result<Stored
     ensures err { OnErr result ((s : Span) → bytes_at region.new s ≡ bytes_at region.old s) }
 {
     let span = region.place(bytes)?;
-    let place = Place {
+    let place = RegionBytes {
         pool,
         span,
         start: 0,
@@ -44,7 +44,7 @@ pub fn place_pool(pool: u64, region: &mut Region, bytes: &[u8]) -> Result<Stored
 }
 
 /// The bytes at a place in the region of its pool.
-pub fn placed_bytes(region: &Region, place: Place) -> &[u8]
+pub fn placed_bytes(region: &Region, place: RegionBytes) -> &[u8]
     requires { has_part (bytes_at region.now place.span) place ≡ true }
     ensures { result.now ≡ part (bytes_at region.now place.span) place }
 {
@@ -55,7 +55,7 @@ pub fn placed_bytes(region: &Region, place: Place) -> &[u8]
 }
 
 /// A HEAP bucket of the bytes at a place in the region of its pool.
-pub fn heap_copy(alloc: Global, region: &Region, place: Place) -> Result<Bucket, AllocError>
+pub fn heap_copy(alloc: Global, region: &Region, place: RegionBytes) -> Result<Bucket, AllocError>
     requires { has_part (bytes_at region.now place.span) place ≡ true }
     ensures { IfOk result (λ x. x ≡ heap_of (Content.Bytes (part (bytes_at region.now place.span) place))) }
 {
@@ -90,8 +90,8 @@ fn kept_parts(alloc: Global, kept: &Kept, n: u64) -> Result<(Kept, Kept), AllocE
             Ok((Kept::Own(front), Kept::Own(rest)))
         }
         Kept::Placed(place) => {
-            let front = Place { len: n, ..*place };
-            let rest = Place {
+            let front = RegionBytes { len: n, ..*place };
+            let rest = RegionBytes {
                 start: place.start + n,
                 len: place.len - n,
                 ..*place

@@ -5,7 +5,7 @@ use run_model::{Content, Home, Kind};
 
 /// `len` bytes, from the byte `start` on, of those that a span names in the region of the pool of this name.
 #[derive(Clone, Copy)]
-pub struct Place {
+pub struct RegionBytes {
     pub pool: u64,
     pub span: Span,
     pub start: u64,
@@ -18,7 +18,7 @@ pub enum Kept {
     /// A content of its own.
     Own(Content),
     /// Bytes in the region of a pool.
-    Placed(Place),
+    Placed(RegionBytes),
 }
 
 /// A bucket as a store holds it.

@@ -5,7 +5,7 @@ use Rattle.std.specs.Prelude.{All}
 use Rattle.std.proofs.lemmas.Bool.{and_parts, ltb-true, ltb-false, le-leb, lt-leb, not-true, leb-true}
 use Rattle.byte_text.specs.Bytes.{is_printable}
 use Rattle.byte_text.specs.Quoted.{Quoted, hex_digit, hex_value, quoted, text_from}
-use Rattle.byte_text.specs.QuotedTexts.{Piece, plain, quote, backslash, line_feed, carriage_return, hex, Spells, is_piece, piece_byte, pieces_text}
+use Rattle.byte_text.specs.QuotedTexts.{BytePiece, plain, quote, backslash, line_feed, carriage_return, hex, Spells, is_piece, piece_byte, pieces_text}
 use Rattle.byte_text.specs.declared.quoted.Scan.TheVariants as scan
 use Rattle.byte_text.proofs.ListLaws.{all_cons, all_head, all_tail}
 
@@ -39,7 +39,7 @@ one_more : (acc : List ℕ) (b : ℕ) (bs : List ℕ) → (acc ++ b ∷ []) ++ b
 one_more acc b bs = append_assoc acc (b ∷ []) bs
 
 -- the pieces of a text are read one by one, up to the closing quote
-pub pieces_again : (cs : List Piece) (acc : List ℕ) (n : ℕ) (rest : List ℕ) → All (λ c. is_piece c ≡ true) cs
+pub pieces_again : (cs : List BytePiece) (acc : List ℕ) (n : ℕ) (rest : List ℕ) → All (λ c. is_piece c ≡ true) cs
     → text_from scan.Plain acc n (pieces_text cs ++ 34 ∷ rest) ≡ read_as (acc ++ map piece_byte cs) (n + length (pieces_text cs) + 1)
 pieces_again [] acc n rest h = reads acc (acc ++ []) (n + 1) (n + 0 + 1) (sym (append-nil acc)) (omega arith)
 pieces_again (plain b ∷ cs) acc n rest h =
@@ -72,11 +72,11 @@ quoted_again s bytes rest h =
     rw (h.whole, h.same, join) (pieces_again h.pieces [] 1 rest h.right ∙ reads _ _ _ _ refl (omega (arith, size)))
 
 -- the bytes of a text are bytes
-pieces_bytes : (cs : List Piece) → All (λ c. is_piece c ≡ true) cs → All (λ b. b < 256) (map piece_byte cs)
+pieces_bytes : (cs : List BytePiece) → All (λ c. is_piece c ≡ true) cs → All (λ b. b < 256) (map piece_byte cs)
 pieces_bytes [] h = λ k d lt. absurd (omega arith)
 pieces_bytes (c ∷ cs) h = all_cons (λ b. b < 256) (piece_byte c) (map piece_byte cs) (byte c (all_head (λ c. is_piece c ≡ true) c cs h)) (pieces_bytes cs (all_tail (λ c. is_piece c ≡ true) c cs h))
   where
-    byte : (c : Piece) → is_piece c ≡ true → piece_byte c < 256
+    byte : (c : BytePiece) → is_piece c ≡ true → piece_byte c < 256
     byte (plain b) e =
         let x = and_parts (is_printable b && not (eqb b 34)) (not (eqb b 92)) e in
         let y = and_parts (is_printable b) (not (eqb b 34)) x.0 in

@@ -5,7 +5,7 @@ use Rattle.std.specs.Prelude.{All, IfOk, IfSome}
 use Rattle.std.proofs.lemmas.Bool.{and_parts, eqb-true, leb-true, le-ltb, lt-ltb}
 use Rattle.byte_text.specs.Bytes.{is_printable}
 use Rattle.byte_text.specs.Quoted.{Quoted, IsBelow16, hex_digit, hex_value, high_digit, low_digit, made, moved, quoted, text_from, text_of, text_step}
-use Rattle.byte_text.specs.QuotedTexts.{Piece, Spells, StandsIn, plain, quote, backslash, line_feed, carriage_return, hex, is_piece, piece_byte, piece_text, pieces_text}
+use Rattle.byte_text.specs.QuotedTexts.{BytePiece, Spells, StandsIn, plain, quote, backslash, line_feed, carriage_return, hex, is_piece, piece_byte, piece_text, pieces_text}
 use Rattle.byte_text.specs.declared.quoted.ByteRead.{ByteRead}
 use Rattle.byte_text.specs.declared.quoted.Scan.{Scan}
 use Rattle.byte_text.specs.declared.quoted.Scan.TheVariants as scan
@@ -43,8 +43,8 @@ begun scan.High = 92 ∷ 120 ∷ []
 begun (scan.Low h) = 92 ∷ 120 ∷ hex_digit h ∷ []
 begun scan.Done = []
 
-record Taken (s : Scan) (acc : List ℕ) (n : ℕ) (bs : List ℕ) (q : Quoted) : Type 0 where
-  pieces : List Piece
+record ScansTo (s : Scan) (acc : List ℕ) (n : ℕ) (bs : List ℕ) (q : Quoted) : Type 0 where
+  pieces : List BytePiece
   rest : List ℕ
   right : All (λ c. is_piece c ≡ true) pieces
   whole : begun s ++ bs ≡ pieces_text pieces ++ 34 ∷ rest
@@ -52,8 +52,8 @@ record Taken (s : Scan) (acc : List ℕ) (n : ℕ) (bs : List ℕ) (q : Quoted) 
   used : q.used + length (begun s) ≡ n + length (pieces_text pieces) + 1
 
 -- a piece in front of those that were taken
-more_pieces : (c : Piece) (s : Scan) (acc : List ℕ) (n : ℕ) (b : ℕ) (bs : List ℕ) (q : Quoted) → is_piece c ≡ true → begun s ++ b ∷ [] ≡ piece_text c
-    → Taken scan.Plain (acc ++ piece_byte c ∷ []) (n + 1) bs q → Taken s acc n (b ∷ bs) q
+more_pieces : (c : BytePiece) (s : Scan) (acc : List ℕ) (n : ℕ) (b : ℕ) (bs : List ℕ) (q : Quoted) → is_piece c ≡ true → begun s ++ b ∷ [] ≡ piece_text c
+    → ScansTo scan.Plain (acc ++ piece_byte c ∷ []) (n + 1) bs q → ScansTo s acc n (b ∷ bs) q
 more_pieces c s acc n b bs q p e t =
     let size = ap length e in
     let one = length-append (begun s) (b ∷ []) in
@@ -68,7 +68,7 @@ more_pieces c s acc n b bs q p e t =
     }
 
 -- the reader goes on within a piece
-within : (s u : Scan) (acc : List ℕ) (n : ℕ) (b : ℕ) (bs : List ℕ) (q : Quoted) → begun s ++ b ∷ [] ≡ begun u → Taken u (acc ++ []) (n + 1) bs q → Taken s acc n (b ∷ bs) q
+within : (s u : Scan) (acc : List ℕ) (n : ℕ) (b : ℕ) (bs : List ℕ) (q : Quoted) → begun s ++ b ∷ [] ≡ begun u → ScansTo u (acc ++ []) (n + 1) bs q → ScansTo s acc n (b ∷ bs) q
 within s u acc n b bs q e t =
     let size = ap length e in
     let one = length-append (begun s) (b ∷ []) in
@@ -84,12 +84,12 @@ within s u acc n b bs q e t =
 abbrev steps : Option ByteRead → List ℕ → ℕ → List ℕ → Option Quoted
 steps r acc n bs = text_step r acc n (λ t more. text_from t more (n + 1) bs)
 
-taken_from : (bs : List ℕ) (s : Scan) (acc : List ℕ) (n : ℕ) (q : Quoted) → IsBelow16 s → text_from s acc n bs ≡ Some q → Taken s acc n bs q
+taken_from : (bs : List ℕ) (s : Scan) (acc : List ℕ) (n : ℕ) (q : Quoted) → IsBelow16 s → text_from s acc n bs ≡ Some q → ScansTo s acc n bs q
 taken_from [] s acc n q w h = absurd (cc h)
 taken_from (b ∷ bs) s acc n q w h = state s w h (λ t a. taken_from bs t a (n + 1) q)
   where
     plainly : (x y z : Bool) → eqb b 34 ≡ x → eqb b 92 ≡ y → is_printable b ≡ z → steps (cond x (moved scan.Done) (cond y (moved scan.Escape) (cond z (made b) None))) acc n bs ≡ Some q
-        → ((t : Scan) (a : List ℕ) → IsBelow16 t → text_from t a (n + 1) bs ≡ Some q → Taken t a (n + 1) bs q) → Taken scan.Plain acc n (b ∷ bs) q
+        → ((t : Scan) (a : List ℕ) → IsBelow16 t → text_from t a (n + 1) bs ≡ Some q → ScansTo t a (n + 1) bs q) → ScansTo scan.Plain acc n (b ∷ bs) q
     plainly true y z e f g h more =
         let same : record { text = acc; used = n + 1 } ≡ q = cc h in
         record {
@@ -105,7 +105,7 @@ taken_from (b ∷ bs) s acc n q w h = state s w h (λ t a. taken_from bs t a (n 
     plainly false false false e f g h more = absurd (cc h)
 
     escape : (x y z u v : Bool) → eqb b 34 ≡ x → eqb b 92 ≡ y → eqb b 110 ≡ z → eqb b 114 ≡ u → eqb b 120 ≡ v → steps (cond x (made 34) (cond y (made 92) (cond z (made 10) (cond u (made 13) (cond v
-        (moved scan.High) None))))) acc n bs ≡ Some q → ((t : Scan) (a : List ℕ) → IsBelow16 t → text_from t a (n + 1) bs ≡ Some q → Taken t a (n + 1) bs q) → Taken scan.Escape acc n (b ∷ bs) q
+        (moved scan.High) None))))) acc n bs ≡ Some q → ((t : Scan) (a : List ℕ) → IsBelow16 t → text_from t a (n + 1) bs ≡ Some q → ScansTo t a (n + 1) bs q) → ScansTo scan.Escape acc n (b ∷ bs) q
     escape true y z u v e f g i j h more = more_pieces quote scan.Escape acc n b bs q refl (ap (λ x. 92 ∷ x ∷ []) (eqb-true b 34 e)) (more scan.Plain (acc ++ 34 ∷ []) tt h)
     escape false true z u v e f g i j h more = more_pieces backslash scan.Escape acc n b bs q refl (ap (λ x. 92 ∷ x ∷ []) (eqb-true b 92 f)) (more scan.Plain (acc ++ 92 ∷ []) tt h)
     escape false false true u v e f g i j h more = more_pieces line_feed scan.Escape acc n b bs q refl (ap (λ x. 92 ∷ x ∷ []) (eqb-true b 110 g)) (more scan.Plain (acc ++ 10 ∷ []) tt h)
@@ -113,22 +113,22 @@ taken_from (b ∷ bs) s acc n q w h = state s w h (λ t a. taken_from bs t a (n 
     escape false false false false true e f g i j h more = within scan.Escape scan.High acc n b bs q (ap (λ x. 92 ∷ x ∷ []) (eqb-true b 120 j)) (more scan.High (acc ++ []) tt h)
     escape false false false false false e f g i j h more = absurd (cc h)
 
-    high : (o : Option ℕ) → hex_value b ≡ o → steps (high_digit o) acc n bs ≡ Some q → ((t : Scan) (a : List ℕ) → IsBelow16 t → text_from t a (n + 1) bs ≡ Some q → Taken t a (n + 1) bs q)
-        → Taken scan.High acc n (b ∷ bs) q
+    high : (o : Option ℕ) → hex_value b ≡ o → steps (high_digit o) acc n bs ≡ Some q → ((t : Scan) (a : List ℕ) → IsBelow16 t → text_from t a (n + 1) bs ≡ Some q → ScansTo t a (n + 1) bs q)
+        → ScansTo scan.High acc n (b ∷ bs) q
     high None e h more = absurd (cc h)
     high (Some d) e h more =
         let z = digit_found b d e in
         within scan.High (scan.Low d) acc n b bs q (ap (λ x. 92 ∷ 120 ∷ x ∷ []) z.1) (more (scan.Low d) (acc ++ []) z.0 h)
 
     low : (u : ℕ) (o : Option ℕ) → u < 16 → hex_value b ≡ o → steps (low_digit u o) acc n bs ≡ Some q
-        → ((t : Scan) (a : List ℕ) → IsBelow16 t → text_from t a (n + 1) bs ≡ Some q → Taken t a (n + 1) bs q) → Taken (scan.Low u) acc n (b ∷ bs) q
+        → ((t : Scan) (a : List ℕ) → IsBelow16 t → text_from t a (n + 1) bs ≡ Some q → ScansTo t a (n + 1) bs q) → ScansTo (scan.Low u) acc n (b ∷ bs) q
     low u None w e h more = absurd (cc h)
     low u (Some d) w e h more =
         let z = digit_found b d e in
         more_pieces (hex u d) (scan.Low u) acc n b bs q (rw (lt-ltb u 16 w, lt-ltb d 16 z.0) refl) (ap (λ x. 92 ∷ 120 ∷ hex_digit u ∷ x ∷ []) z.1) (more scan.Plain (acc ++ (16 * u + d) ∷ []) tt h)
 
-    state : (s : Scan) → IsBelow16 s → text_from s acc n (b ∷ bs) ≡ Some q → ((t : Scan) (a : List ℕ) → IsBelow16 t → text_from t a (n + 1) bs ≡ Some q → Taken t a (n + 1) bs q)
-        → Taken s acc n (b ∷ bs) q
+    state : (s : Scan) → IsBelow16 s → text_from s acc n (b ∷ bs) ≡ Some q → ((t : Scan) (a : List ℕ) → IsBelow16 t → text_from t a (n + 1) bs ≡ Some q → ScansTo t a (n + 1) bs q)
+        → ScansTo s acc n (b ∷ bs) q
     state scan.Plain w h more = plainly (eqb b 34) (eqb b 92) (is_printable b) refl refl refl h more
     state scan.Escape w h more = escape (eqb b 34) (eqb b 92) (eqb b 110) (eqb b 114) (eqb b 120) refl refl refl refl refl h more
     state scan.High w h more = high (hex_value b) refl h more

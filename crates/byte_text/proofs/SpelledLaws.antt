@@ -6,12 +6,12 @@ use Rattle.std.proofs.lemmas.Bool.{eqb-true, le-leb, lt-ltb}
 use Rattle.std.proofs.lemmas.List.Folds.{list_all-append}
 use Rattle.byte_text.specs.Bytes.{is_printable}
 use Rattle.byte_text.specs.Quoted.{hex_digit, spelled, spelled_all, spelling}
-use Rattle.byte_text.specs.QuotedTexts.{Piece, Spells, plain, quote, backslash, hex, is_piece, piece_byte, piece_text, pieces_text}
+use Rattle.byte_text.specs.QuotedTexts.{BytePiece, Spells, plain, quote, backslash, hex, is_piece, piece_byte, piece_text, pieces_text}
 use Rattle.byte_text.proofs.ListLaws.{all_cons, all_head, all_tail}
 
 -- how a byte is printed: as one piece, of printable bytes, four at most
-record IsPrinted (b : ℕ) : Type 0 where
-  piece : Piece
+record IsSpelled (b : ℕ) : Type 0 where
+  piece : BytePiece
   right : is_piece piece ≡ true
   same : piece_byte piece ≡ b
   text : piece_text piece ≡ spelled b
@@ -25,10 +25,10 @@ hex_printable d h = small (ltb d 10) refl
     small true q = rw (le-leb 32 (48 + d) (omega arith), le-leb (48 + d) 126 (omega arith)) refl
     small false q = rw (le-leb 32 (87 + d) (omega arith), le-leb (87 + d) 126 (omega arith)) refl
 
-printed_byte : (b : ℕ) → b < 256 → IsPrinted b
+printed_byte : (b : ℕ) → b < 256 → IsSpelled b
 printed_byte b low = by_case (eqb b 34) (eqb b 92) (is_printable b) refl refl refl
   where
-    by_case : (x y z : Bool) → eqb b 34 ≡ x → eqb b 92 ≡ y → is_printable b ≡ z → IsPrinted b
+    by_case : (x y z : Bool) → eqb b 34 ≡ x → eqb b 92 ≡ y → is_printable b ≡ z → IsSpelled b
     by_case true y z e f g = let s = eqb-true b 34 e in record { piece = quote; right = refl; same = sym s; text = rw s refl; clean = rw s refl; short = rw s (omega arith) }
     by_case false true z e f g = let s = eqb-true b 92 f in record { piece = backslash; right = refl; same = sym s; text = rw s refl; clean = rw s refl; short = rw s (omega arith) }
     by_case false false true e f g = record { piece = plain b; right = rw (g, e, f) refl; same = refl; text = rw (e, f, g) refl; clean = rw (e, f, g) (rw g refl); short = rw (e, f, g) (omega arith) }
@@ -46,7 +46,7 @@ printed_byte b low = by_case (eqb b 34) (eqb b 92) (is_printable b) refl refl re
         }
 
 record ArePrinted (text : List ℕ) : Type 0 where
-  pieces : List Piece
+  pieces : List BytePiece
   right : All (λ c. is_piece c ≡ true) pieces
   same : text ≡ map piece_byte pieces
   whole : spelled_all text ≡ pieces_text pieces

@@ -52,13 +52,13 @@ one_step device host number here {modules} same b answer x w hosts =
     (λ c s so given. steps_serves same s given (x.step _ (record { stands = lent same so; faultless = is_faultless (device host.files) host number w hosts modules same c s })))
 
 module _ {F R : Type 0} {g : Ghosts R Stored} (device : F → Device) (host : Host F R g) (number : ℕ) {conn0 : Conn} {table : Conn → Conns} (here : IsLent host.conns number conn0 table) where
-  abbrev View : Type 0
-  View = ViewIn host
+  abbrev GoingView : Type 0
+  GoingView = ViewIn host
 
-  abbrev pub with_view : View → Host F R g
+  abbrev pub with_view : GoingView → Host F R g
   with_view = host_with host table
 
-  abbrev pub begun : View
+  abbrev pub begun : GoingView
   begun = conn_view conn0 host.tree host.store host.files
 
   lent_still : (x : Conn) → IsLent (table x) number x table
@@ -67,10 +67,10 @@ module _ {F R : Type 0} {g : Ghosts R Stored} (device : F → Device) (host : Ho
     holds = λ y. over_written (conn_at host.conns) (conn_at (table x)) (conn_at (table y)) number (Some x) (Some y) (here.holds x) (here.holds y);
   }
 
-  abbrev GoOn : ℕ → View → View → Type 0
-  GoOn = ConnGoesOn device (budget_of host) (chain_of host) host.chain.bare
+  abbrev ViewsGoOn : ℕ → GoingView → GoingView → Type 0
+  ViewsGoOn = ConnGoesOn device (budget_of host) (chain_of host) host.chain.bare
 
-  next_step : (a b : View) (answer : Result Stepped Refusal) → StepAnswers device (budget_of host) (chain_of host) host.chain.bare a answer b
+  next_step : (a b : GoingView) (answer : Result Stepped Refusal) → StepAnswers device (budget_of host) (chain_of host) host.chain.bare a answer b
       → Happened device (with_view a) (with_view b) number event.Step (step_answer answer)
   unfolding chain_of budget_of
   next_step a b answer = one_step device (with_view a) number (lent_still a.conn) refl b answer
@@ -89,16 +89,17 @@ module _ {F R : Type 0} {g : Ghosts R Stored} (device : F → Device) (host : Ho
         subst (λ (f : ℕ → Option Conn). HoldsWorld (budget_of host) (chain_of host) (device host.files) host.tree host.store host.last f w)
         (fun_ext (λ k. written_same (conn_at host.conns) number (Some conn0) here.at k ∙ sym (here.holds conn0 k))) hosts
 
-  many_go : (n made : ℕ) (a b : View) → GoOn n a b → IsGoing device host (with_view a) number made → IsGoing device host (with_view b) number (made + n)
+  many_go : (n made : ℕ) (a b : GoingView) → ViewsGoOn n a b → IsGoing device host (with_view a) number made → IsGoing device host (with_view b) number (made + n)
   unfolding ConnGoesOn
   many_go zero made a b same so =
-      subst (λ (n : ℕ). IsGoing device host (with_view b) number n) (let e : made ≡ made + 0 = omega arith in e) (subst (λ (z : View). IsGoing device host (with_view z) number made) (sym same) so)
+      subst (λ (n : ℕ). IsGoing device host (with_view b) number n) (let e : made ≡ made + 0 = omega arith in e) (subst (λ (z : GoingView). IsGoing device host (with_view z) number made)
+      (sym same) so)
   many_go (suc n) made a b (mid, (first, more)) so =
       subst (λ (m : ℕ). IsGoing device host (with_view b) number m) (let e : suc made + n ≡ made + suc n = omega arith in e)
       (many_go n (suc made) mid b more (going_on device number host (with_view a) (with_view mid) made so (Ok stepped.Went) (next_step a mid (Ok stepped.Went) first) refl))
 
   module _ (alive : IsAlive device host) where
-    went_on : (n : ℕ) (b : View) → GoOn n begun b → IsGoing device host (with_view b) number n
+    went_on : (n : ℕ) (b : GoingView) → ViewsGoOn n begun b → IsGoing device host (with_view b) number n
     went_on n b goes = subst (λ (m : ℕ). IsGoing device host (with_view b) number m) (let e : 0 + n ≡ n = omega arith in e) (many_go n 0 begun b goes (begins alive))
 
     -- By these modules, which are the chain.
@@ -110,8 +111,8 @@ module _ {F R : Type 0} {g : Ghosts R Stored} (device : F → Device) (host : Ho
           let can = can_step (device b.files) (with_view b) number on.alive.0 on.alive.1 modules same b.conn (lent_still b.conn).at in
           (can.0, record { stands = can.1.0; faultless = can.1.1 })
 
-      module _ (more : ℕ) (b : View) (answer : Result Stepped Refusal) (end : ConnStepsOn device (budget_of host) modules host.chain.bare more begun answer b) where
-        goes : GoOn end.count begun end.before
+      module _ (more : ℕ) (b : GoingView) (answer : Result Stepped Refusal) (end : ConnStepsOn device (budget_of host) modules host.chain.bare more begun answer b) where
+        goes : ViewsGoOn end.count begun end.before
         goes = subst (λ (m : List Program). ConnGoesOn device (budget_of host) m host.chain.bare end.count begun end.before) same end.goes
 
         last : Happened device (with_view end.before) (with_view b) number event.Step (step_answer answer)

@@ -19,7 +19,7 @@ use Rattle.run_model.specs.Worlds.{World, Told, Step, happens_on, step_answered}
 use Rattle.model_laws.specs.Reached.{IsReached}
 use Rattle.model_laws.specs.SharedPools.{LiesOver, over}
 use Rattle.model_laws.proofs.parts.Seen.{steps_in_part}
-use Rattle.model_laws.proofs.chains.LeftTree.{Stands}
+use Rattle.model_laws.proofs.chains.LeftTree.{TreeStands}
 use Rattle.bucket_kinds.specs.Device.{Device}
 use Rattle.pool_tree.specs.Tree.{map_of}
 use Rattle.life_check.specs.ChainTheorem.{ChainNeverFaults}
@@ -89,7 +89,8 @@ module _ {F R : Type 0} {g : Ghosts R Stored} (d : Device) (host : Host F R g) (
   unfolding chain_of
   never bare = host.chain.checked bare
 
-  pub is_faultless : (c : Connection) → Stands (chain_of host) w (map_of host.tree) number c → host.chain.bare ≡ true → NextIsFaultless (budget_of host) modules (w.common, over (map_of host.tree) c)
+  pub is_faultless : (c : Connection) → TreeStands (chain_of host) w (map_of host.tree) number c → host.chain.bare ≡ true
+      → NextIsFaultless (budget_of host) modules (w.common, over (map_of host.tree) c)
   unfolding IsHosting
   is_faultless c s bare =
       subst (λ (chain : List Program). NextIsFaultless (budget_of host) chain (w.common, over (map_of host.tree) c)) (sym same)

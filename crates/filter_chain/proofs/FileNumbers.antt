@@ -18,13 +18,13 @@ use Rattle.model_laws.proofs.EventAnswers.{unless_so}
 use Rattle.model_laws.proofs.chains.Proceeds.{proceeds_so}
 use Rattle.model_laws.proofs.chains.StepCases.{steps_so}
 
-abbrev Same : ℕ → Configuration → Type 0
-Same n s = s.shared.files.next ≡ n
+abbrev SameNumbers : ℕ → Configuration → Type 0
+SameNumbers n s = s.shared.files.next ≡ n
 
-step_file : (p : Program) (choice : Choice) (i : Instr) (r : Configuration) → Same r.shared.files.next (step p choice i r).state
+step_file : (p : Program) (choice : Choice) (i : Instr) (r : Configuration) → SameNumbers r.shared.files.next (step p choice i r).state
 unfolding with_pools run_down
-step_file p choice (instr.PClear q) r = on_named (Same r.shared.files.next) pool_cleared (pool_named r (pool.Own q)) r refl (λ n e. refl)
-step_file p choice (instr.PDestroy q) r = on_named (Same r.shared.files.next) pool_destroyed (pool_named r (pool.Own q)) r refl (λ n e. refl)
+step_file p choice (instr.PClear q) r = on_named (SameNumbers r.shared.files.next) pool_cleared (pool_named r (pool.Own q)) r refl (λ n e. refl)
+step_file p choice (instr.PDestroy q) r = on_named (SameNumbers r.shared.files.next) pool_destroyed (pool_named r (pool.Own q)) r refl (λ n e. refl)
 step_file p choice i r = ap (λ (fs : Files). fs.next) ((step_changes_only p choice i r).files refl)
 
 module _ (memory : Bool) (chain : List Program) (g : Common) (c : Connection) where

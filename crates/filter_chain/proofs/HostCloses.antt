@@ -21,7 +21,7 @@ use Rattle.model_laws.specs.PartSteps.{OwnFiles}
 use Rattle.model_laws.specs.Reached.{IsReached}
 use Rattle.model_laws.specs.SharedPools.{over}
 use Rattle.model_laws.proofs.chains.EventTurns.{Same}
-use Rattle.model_laws.proofs.chains.LeftTree.{Stands}
+use Rattle.model_laws.proofs.chains.LeftTree.{TreeStands}
 use Rattle.model_laws.proofs.chains.OpenedTree.{closing_takes}
 use Rattle.model_laws.proofs.chains.PutBack.{looking}
 use Rattle.model_laws.proofs.parts.LetGo.{lets_go, lets_go_alike}
@@ -56,7 +56,7 @@ use Rattle.filter_chain.proofs.StepsSeen.{own_pools}
 
 -- Where there is no memory it is there as it was.
 pub close_serves : {R : Type 0} {g : Ghosts R Stored} {budget : ℕ} {chain : List Program} {d e : Device} {w : World} {tree : PoolTree Payload} {number : ℕ} {c : Connection}
-    → Stands chain w (map_of tree) number c → w.common.file ≤ d.next
+    → TreeStands chain w (map_of tree) number c → w.common.file ≤ d.next
     → {newer : PoolTree Payload} {store : Brigades R g} {conn : Conn} → LeftAs chain newer store e conn (w.common, over (map_of tree) c) → Spares d e c → e ≡ d
     → Serves budget chain d e w tree number c event.Close (Refused refusal.NoMemory) newer store conn
 unfolding happens_on TellsEvent
@@ -80,7 +80,7 @@ without number w = record w { conns = upd w.conns number None }
 
 -- What a close closes.
 
-module _ (chain : List Program) (w : World) (ps : Pools Payload) (number : ℕ) (c : Connection) (s : Stands chain w ps number c) where
+module _ (chain : List Program) (w : World) (ps : Pools Payload) (number : ℕ) (c : Connection) (s : TreeStands chain w ps number c) where
   pub closed_own : (d e : Device) → ((file : ℕ) → e.numbered file ≡ (if lets_go ps c.conn (destroyed c.conn ps) file then Missing else d.numbered file)) → SameButOpen d e
       → ClosedWith d e (Some c.conn) (pools_of w.common c) (destroyed c.conn (pools_of w.common c))
   unfolding configuration

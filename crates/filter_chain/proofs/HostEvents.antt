@@ -12,14 +12,14 @@ use Rattle.model_laws.specs.Reached.{IsReached}
 use Rattle.run_model.specs.Turns.{Failing}
 use Rattle.run_model.specs.Worlds.{World, Told, Answer, Refused, put_conn, happens, happens_on}
 use Rattle.run_model.proofs.Updates.{upd_at}
-use Rattle.model_laws.proofs.chains.EventTurns.{Turn}
+use Rattle.model_laws.proofs.chains.EventTurns.{EventTurn}
 use Rattle.model_laws.proofs.chains.Reached.{event_reaches}
 use Rattle.bucket_kinds.specs.Device.{Device}
 use Rattle.bucket_ring.specs.declared.rings.Rings.{Ghosts}
 use Rattle.run_model.specs.declared.payload.Payload.{Payload}
 use Rattle.model_laws.specs.PartSteps.{linked_in_part}
 use Rattle.model_laws.specs.SharedPools.{over}
-use Rattle.model_laws.proofs.chains.LeftTree.{Stands}
+use Rattle.model_laws.proofs.chains.LeftTree.{TreeStands}
 use Rattle.pool_tree.specs.declared.tree.PoolTree.{PoolTree}
 use Rattle.pool_tree.specs.Tree.{map_of}
 use Rattle.bucket_kinds.specs.declared.stored.Stored.{Stored}
@@ -156,7 +156,7 @@ pub record Serves {R : Type 0} {g : Ghosts R Stored} (budget : ℕ) (chain : Lis
   pub tells : TellsEvent chain number what (host_view w d) answer told e
   pub closes : ClosesFiles d e chain what answer w.common (Some c) all.0 (Some (linked_in_part c.conn all).1)
   pub short : TellsLengths IsShortLength answer
-  pub turn : Turn chain AnyLength w.common (over (map_of tree) c) all
+  pub turn : EventTurn chain AnyLength w.common (over (map_of tree) c) all
   pub left : LeftAs chain newer new e conn all
   pub files : all.0.file ≤ e.next
   pub spared : Spares d e c
@@ -164,7 +164,7 @@ pub record Serves {R : Type 0} {g : Ghosts R Stored} (budget : ℕ) (chain : Lis
 -- Whatever the connection is in the world, it serves so.
 abbrev pub AlwaysServes : {F R : Type 0} {g : Ghosts R Stored} → Device → Device → Host F R g → ℕ → World → Event → Answer → PoolTree Payload → Brigades R g → Conn → Conn → Type 0
 AlwaysServes d e host number w what answer newer new conn0 conn =
-    (c : Connection) → Stands (chain_of host) w (map_of host.tree) number c → StandsFor (chain_of host) host.tree host.store d conn0 (w.common, over (map_of host.tree) c) → w.common.file ≤ d.next
+    (c : Connection) → TreeStands (chain_of host) w (map_of host.tree) number c → StandsFor (chain_of host) host.tree host.store d conn0 (w.common, over (map_of host.tree) c) → w.common.file ≤ d.next
     → Serves (budget_of host) (chain_of host) d e w host.tree number c what answer newer new conn
 
 -- So it does by the chain as it was handed on.

@@ -17,7 +17,7 @@ use Rattle.bucket_ring.specs.declared.rings.Rings.{Ghosts}
 use Rattle.run_model.specs.declared.payload.Payload.{Payload}
 use Rattle.model_laws.specs.PartSteps.{linked_in_part}
 use Rattle.model_laws.specs.SharedPools.{over}
-use Rattle.model_laws.proofs.chains.LeftTree.{Stands}
+use Rattle.model_laws.proofs.chains.LeftTree.{TreeStands}
 use Rattle.model_laws.proofs.parts.Seen.{opens_file_in_part}
 use Rattle.pool_tree.specs.declared.tree.PoolTree.{PoolTree}
 use Rattle.pool_tree.specs.Tree.{map_of}
@@ -53,7 +53,7 @@ after_answer name (Ok file) d e after = after
 after_answer name (Err r) d e after = after
 
 pub opens_serves : {R : Type 0} {g : Ghosts R Stored} {budget : ℕ} {chain : List Program} {d e : Device} {w : World} {tree : PoolTree Payload} {number : ℕ} {c : Connection}
-    → Stands chain w (map_of tree) number c
+    → TreeStands chain w (map_of tree) number c
     → {newer : PoolTree Payload} {store : Brigades R g} {conn : Conn} {name : List ℕ} {answer : Result (ℕ × ℕ) Refusal}
     → WasOpened chain newer store d e conn name answer (w.common, over (map_of tree) c) → Serves budget chain d e w tree number c (event.OpenFile name) (file_answer answer) newer store conn
 unfolding happens_on opens_file TellsEvent

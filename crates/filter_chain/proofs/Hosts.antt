@@ -22,7 +22,7 @@ use Rattle.model_laws.specs.Reached.{WorldLaws}
 use Rattle.model_laws.specs.Registered.{IsMadeInOne}
 use Rattle.model_laws.specs.SharedPools.{over}
 use Rattle.run_model.proofs.Updates.{upd_either}
-use Rattle.model_laws.proofs.chains.LeftTree.{Stands, reached_stands}
+use Rattle.model_laws.proofs.chains.LeftTree.{TreeStands, reached_stands}
 use Rattle.model_laws.proofs.chains.PutBack.{looking}
 use Rattle.model_laws.proofs.chains.Reached.{reached_holds}
 use Rattle.model_laws.proofs.parts.Paths.{part_payloads, under_belongs}
@@ -95,8 +95,8 @@ module _ {R : Type 0} {g : Ghosts R Stored} {budget : ℕ} {chain : List Program
   pub laws : WorldLaws chain w
   laws = reached_holds budget chain w h.chained h.reached
 
-  pub known : (k : ℕ) (c : Connection) → w.conns k ≡ Some c → Stands chain w (map_of tree) k c
-  known k c here = subst (λ (ps : Pools Payload). Stands chain w ps k c) (sym h.pools) (reached_stands budget chain w k c h.chained h.reached here)
+  pub known : (k : ℕ) (c : Connection) → w.conns k ≡ Some c → TreeStands chain w (map_of tree) k c
+  known k c here = subst (λ (ps : Pools Payload). TreeStands chain w ps k c) (sym h.pools) (reached_stands budget chain w k c h.chained h.reached here)
 
   -- A connection over the tree.
   module _ (k : ℕ) (c : Connection) (here : w.conns k ≡ Some c) where

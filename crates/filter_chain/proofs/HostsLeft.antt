@@ -16,7 +16,7 @@ use Rattle.model_laws.specs.PartSteps.{linked_in_part}
 use Rattle.model_laws.specs.Reached.{IsReached}
 use Rattle.model_laws.specs.SharedPools.{over}
 use Rattle.run_model.proofs.Updates.{upd_either}
-use Rattle.model_laws.proofs.chains.EventTurns.{Turn}
+use Rattle.model_laws.proofs.chains.EventTurns.{EventTurn}
 use Rattle.model_laws.proofs.chains.LeftTree.{left_tree}
 use Rattle.model_laws.proofs.chains.WorldKept.{AnyLength}
 use Rattle.pool_tree.specs.declared.tree.PoolTree.{PoolTree}
@@ -130,7 +130,7 @@ module _ {R : Type 0} {g : Ghosts R Stored} {budget : ℕ} {chain : List Program
   -- One connection is served, and the others are as they were. all: what is left of it over the tree.
   module _ (number : ℕ) (conn0 conn : Conn) (at : conns number ≡ Some conn0) (c : Connection) (here : w.conns number ≡ Some c) (e : Device) (spared : Spares d e c) (newer : PoolTree Payload)
       (new : Brigades R g)
-      (leaves : LeavesOthers (map_of tree) store new conn0 conn) (all : Linked) (turn : Turn chain AnyLength w.common (over (map_of tree) c) all) (left : LeftAs chain newer new e conn all)
+      (leaves : LeavesOthers (map_of tree) store new conn0 conn) (all : Linked) (turn : EventTurn chain AnyLength w.common (over (map_of tree) c) all) (left : LeftAs chain newer new e conn all)
       (files : all.0.file ≤ e.next) where
     part : Linked
     part = linked_in_part c.conn all

@@ -23,9 +23,9 @@ use Rattle.model_laws.specs.ChainFiles.{TellsLengths, IsShortLength}
 use Rattle.model_laws.specs.Parts.{part}
 use Rattle.model_laws.specs.PartSteps.{linked_in_part}
 use Rattle.model_laws.specs.SharedPools.{over, seen_in}
-use Rattle.model_laws.proofs.chains.EventTurns.{Turn, Drained, begins_turn, brings_turn, ends_turn, steps_turn}
+use Rattle.model_laws.proofs.chains.EventTurns.{EventTurn, Drained, begins_turn, brings_turn, ends_turn, steps_turn}
 use Rattle.std.proofs.lemmas.Bool.{false_from_ne_true}
-use Rattle.model_laws.proofs.chains.LeftTree.{Stands, turn_within}
+use Rattle.model_laws.proofs.chains.LeftTree.{TreeStands, turn_within}
 use Rattle.model_laws.proofs.parts.Seen.{begins_in_part, brings_in_part, ends_in_part, its_part, steps_in_part, whole_pools}
 use Rattle.pool_tree.specs.declared.tree.PoolTree.{PoolTree}
 use Rattle.pool_tree.specs.Tree.{map_of}
@@ -104,7 +104,7 @@ step_closes chain d e g h c x (Err r) closed = tt
 done_serves : {R : Type 0} {g : Ghosts R Stored} (budget : ℕ) (chain : List Program) (d e : Device) (w : World) (tree : PoolTree Payload) (number : ℕ) (c : Connection) → w.conns number ≡ Some c
     → (what : Event) (memory : Bool) (answer o : Option Refusal) (new : Linked) (all : Option Refusal × Linked)
     → happens_on memory budget chain nothing_told what number (Some c) w ≡ answered number w (unless_refused o (w.common, c) new) → unless_refused o (w.common, c) new ≡ seen_in c.conn all
-    → Turn chain AnyLength w.common (over (map_of tree) c) all.1
+    → EventTurn chain AnyLength w.common (over (map_of tree) c) all.1
     → TellsEvent chain number what (host_view w d) (done_answer answer) nothing_told e
     → ClosesFiles d e chain what (done_answer answer) w.common (Some c) all.1.0 (Some (linked_in_part c.conn all.1).1) → (newer : PoolTree Payload) (store : Brigades R g) (conn : Conn)
     → Happened chain newer store e conn answer all → all.1.0.file ≤ e.next → Spares d e c → Serves budget chain d e w tree number c what (done_answer answer) newer store conn
@@ -129,7 +129,7 @@ all w tree c = (w.common, over (map_of tree) c)
 
 -- modules: the chain, as it was handed on.
 module _ {R : Type 0} {g : Ghosts R Stored} {budget : ℕ} {chain modules : List Program} (same : modules ≡ chain) {d : Device} {w : World} {tree : PoolTree Payload} {number : ℕ} {c : Connection}
-    (s : Stands chain w (map_of tree) number c) (given : w.common.file ≤ d.next)
+    (s : TreeStands chain w (map_of tree) number c) (given : w.common.file ≤ d.next)
     {newer : PoolTree Payload} {store : Brigades R g} {conn : Conn} where
   pub begins_serves : (memory : Bool) {answer : Option Refusal} → Happened modules newer store d conn answer (begins memory modules (all w tree c))
       → Serves budget chain d d w tree number c event.Begin (done_answer answer) newer store conn
@@ -190,7 +190,7 @@ spares_unreferred d e ps c lasts same rest = record {
   not_held file p none under = false_from_ne_true (refers ps p file) (λ there. let is_open : is_some (c.opened file) ≡ true = lasts p file under there in let gone = ap is_some none in cc)
 
 -- What the end of a request closes.
-end_closes : {R : Type 0} {g : Ghosts R Stored} (chain : List Program) (d e : Device) (w : World) (ps : Pools Payload) (number : ℕ) (c : Connection) (s : Stands chain w ps number c)
+end_closes : {R : Type 0} {g : Ghosts R Stored} (chain : List Program) (d e : Device) (w : World) (ps : Pools Payload) (number : ℕ) (c : Connection) (s : TreeStands chain w ps number c)
     (newer : PoolTree Payload) (new : Brigades R g) (conn : Conn) (r : Result (Unit {0}) Refusal)
     → Happened chain newer new e conn (refusal_of r) (ends (lasted r) (w.common, over ps c)) → OnOk r (ClosedWith d e c.req ps (map_of newer)) → OnErr r (e ≡ d)
     → (let v = (ends (lasted r) (w.common, over ps c)).1 in ClosesFiles d e chain event.End (done_answer (refusal_of r)) w.common (Some c) v.0 (Some (linked_in_part c.conn v).1))
@@ -206,7 +206,7 @@ end_closes chain d e w ps number c s newer new conn (Ok x) happened closed unrea
 end_closes chain d e w ps number c s newer new conn (Err r) happened closed unread = unread
 
 module _ {R : Type 0} {g : Ghosts R Stored} (budget : ℕ) (chain : List Program) (d e : Device) (w : World) (tree : PoolTree Payload) (number : ℕ) (c : Connection)
-    (s : Stands chain w (map_of tree) number c) (given : w.common.file ≤ d.next)
+    (s : TreeStands chain w (map_of tree) number c) (given : w.common.file ≤ d.next)
     (newer : PoolTree Payload) (store : Brigades R g) (conn : Conn) where
   pub ends_serves : (r : Result (Unit {0}) Refusal) → Happened chain newer store e conn (refusal_of r) (ends (lasted r) (w.common, over (map_of tree) c))
       → OnOk r (ClosedWith d e c.req (map_of tree) (map_of newer)) → OnErr r (e ≡ d) → IsUnasked d e → Spares d e c
@@ -231,7 +231,7 @@ closed_spares {d = d} {e = e} {common = common} {tree = tree} {store = store} {c
 
 -- So it does by what an end of a request answers. conn0: the connection before.
 pub ended_serves : {R : Type 0} {g : Ghosts R Stored} {budget : ℕ} {chain : List Program} {d e : Device} {w : World} {tree : PoolTree Payload} {store0 : Brigades R g} {conn0 : Conn} {number : ℕ}
-    {c : Connection} → Stands chain w (map_of tree) number c → StandsFor chain tree store0 d conn0 (w.common, over (map_of tree) c) → w.common.file ≤ d.next
+    {c : Connection} → TreeStands chain w (map_of tree) number c → StandsFor chain tree store0 d conn0 (w.common, over (map_of tree) c) → w.common.file ≤ d.next
     → {newer : PoolTree Payload} {store : Brigades R g} {conn : Conn} (r : Result (Unit {0}) Refusal)
     → Happened chain newer store e conn (refusal_of r) (ends (lasted r) (w.common, over (map_of tree) c))
     → OnOk r (ClosedWith d e conn0.req (map_of tree) (map_of newer)) → OnErr r (e ≡ d) → SameButOpen d e
@@ -248,7 +248,7 @@ ended_serves {budget = budget} {chain = chain} {d = d} {e = e} {w = w} {tree = t
 
 -- Its output is taken.
 pub takes_serves : {R : Type 0} {g : Ghosts R Stored} {budget : ℕ} {chain : List Program} {d : Device} {w : World} {tree : PoolTree Payload} {number : ℕ} {c : Connection}
-    → Stands chain w (map_of tree) number c → w.common.file ≤ d.next
+    → TreeStands chain w (map_of tree) number c → w.common.file ≤ d.next
     → {store : Brigades R g} {conn : Conn} {bytes : List ℕ} → bytes ≡ c.out.bytes → LeftAs chain tree store d conn (w.common, drained (over (map_of tree) c))
     → Serves budget chain d d w tree number c event.TakeOutput (Output bytes) tree store conn
 unfolding happens_on TellsEvent part

@@ -27,7 +27,7 @@ use Rattle.model_laws.specs.PartSteps.{LiesIn, linked_in_part}
 use Rattle.model_laws.specs.SharedPools.{LiesOver, over}
 use Rattle.model_laws.proofs.StepPools.{wanted_pool}
 use Rattle.model_laws.proofs.chains.EventTurns.{steps_turn}
-use Rattle.model_laws.proofs.chains.LeftTree.{Stands, turn_within}
+use Rattle.model_laws.proofs.chains.LeftTree.{TreeStands, turn_within}
 use Rattle.model_laws.proofs.chains.PutBack.{looking}
 use Rattle.model_laws.proofs.chains.WorldKept.{AnyLength}
 use Rattle.model_laws.proofs.parts.LetGo.{lets_go_alike}
@@ -91,7 +91,7 @@ module _ (ps : Pools Payload) (g : Common) (c : Connection) (l : LiesOver ps g c
   closed_in_part d e None v within formed under closed = closed
   closed_in_part d e (Some n) v within formed under closed = let_go_in_part d e n v within formed (under n refl) closed
 
-module _ (budget : ℕ) (chain : List Program) (d e : Device) (w : World) (ps : Pools Payload) (number : ℕ) (c : Connection) (s : Stands chain w ps number c) (memory : Bool) (reads : Reads) where
+module _ (budget : ℕ) (chain : List Program) (d e : Device) (w : World) (ps : Pools Payload) (number : ℕ) (c : Connection) (s : TreeStands chain w ps number c) (memory : Bool) (reads : Reads) where
   abbrev before : Linked
   before = (w.common, over ps c)
 

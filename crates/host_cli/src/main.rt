@@ -8,7 +8,7 @@ mod words;
 use byte_streams::{CountedSource, StdSink};
 use clap::Error;
 use clap::error::ErrorKind;
-use http_serve::serve_front;
+use http_serve::run_serve;
 use life_explain::{explain_certify, explain_check, explain_play};
 use module_tools::{
     Ended, NamedFile, PlayFault, Recorded, RecordedWriter, run_assemble, run_certify, run_check,
@@ -19,7 +19,7 @@ use std::alloc::AllocError;
 use std::io::{IsTerminal, Read};
 use std::process::ExitCode;
 use std::{env, io};
-use task::{Task, task_of};
+use task::{CliTask, task_of};
 
 /// Tells that a line cannot be written.
 fn end_unwritten(rt: &HostRuntime) -> ExitCode {
@@ -138,27 +138,27 @@ fn check_file(rt: &HostRuntime, file: &str, cert: &str, asked: bool) -> ExitCode
     end(rt, checked, name)
 }
 
-fn perform(rt: &HostRuntime, task: Task<'_>) -> ExitCode {
+fn perform(rt: &HostRuntime, task: CliTask<'_>) -> ExitCode {
     match task {
-        Task::Play { explains } => play_script(rt, explains),
-        Task::New => end(rt, run_new(&mut StdSink::new(rt.stdout())), ""),
-        Task::Assemble { file } => assemble_file(rt, file),
-        Task::Certify {
+        CliTask::Play { explains } => play_script(rt, explains),
+        CliTask::New => end(rt, run_new(&mut StdSink::new(rt.stdout())), ""),
+        CliTask::Assemble { file } => assemble_file(rt, file),
+        CliTask::Certify {
             file: Some(file),
             is_slim,
             explains,
         } => certify(rt, NamedFile::new(rt, file), file, is_slim, explains),
-        Task::Certify {
+        CliTask::Certify {
             file: None,
             is_slim,
             explains,
         } => certify(rt, rt.stdin(), "standard input", is_slim, explains),
-        Task::Check {
+        CliTask::Check {
             file,
             cert,
             explains,
         } => check_file(rt, file, cert, explains),
-        Task::Serve(front) => serve_front(rt, &front),
+        CliTask::Serve(options) => run_serve(rt, &options),
     }
 }
 

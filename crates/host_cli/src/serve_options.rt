@@ -22,7 +22,10 @@ fn modules_of<'a>(alloc: Global, given: &ArgMatches<'a>) -> Result<Vec<&'a str>,
 }
 
 /// What the words of the command ask for.
-pub fn front_of<'a>(alloc: Global, given: &ArgMatches<'a>) -> Result<ServeOptions<'a>, AllocError> {
+pub fn options_of<'a>(
+    alloc: Global,
+    given: &ArgMatches<'a>,
+) -> Result<ServeOptions<'a>, AllocError> {
     Ok(ServeOptions {
         site: given.get_str("site").unwrap_or(""),
         port: given.get_one::<u16>("port").unwrap_or(1),

@@ -1,6 +1,6 @@
 //! What the program is called for.
 
-use crate::serve_options::front_of;
+use crate::serve_options::options_of;
 use crate::words::program;
 use clap::{ArgMatches, Error};
 use http_serve::ServeOptions;
@@ -8,7 +8,7 @@ use std::alloc::Global;
 
 /// What the words of the command line ask for.
 #[derive(Drop)]
-pub enum Task<'a> {
+pub enum CliTask<'a> {
     /// A script is played.
     Play {
         explains: bool,
@@ -36,39 +36,39 @@ pub enum Task<'a> {
 }
 
 /// What a command is called for that judges or plays.
-fn tool_of<'a>(name: &str, given: &ArgMatches<'a>) -> Task<'a> {
+fn tool_of<'a>(name: &str, given: &ArgMatches<'a>) -> CliTask<'a> {
     let given_file = given.get_str("FILE");
     let file = given_file.unwrap_or("");
     let explains = given.get_flag("explain");
     match name {
-        "new" => Task::New,
-        "assemble" => Task::Assemble { file },
-        "certify" => Task::Certify {
+        "new" => CliTask::New,
+        "assemble" => CliTask::Assemble { file },
+        "certify" => CliTask::Certify {
             file: given_file,
             is_slim: given.get_flag("slim"),
             explains,
         },
-        "check" => Task::Check {
+        "check" => CliTask::Check {
             file,
             cert: given.get_str("CERT").unwrap_or(""),
             explains,
         },
-        _ => Task::Play { explains },
+        _ => CliTask::Play { explains },
     }
 }
 
 /// What the command that was found is called for.
-fn found_task<'a>(alloc: Global, matches: &ArgMatches<'a>) -> Result<Task<'a>, Error> {
+fn found_task<'a>(alloc: Global, matches: &ArgMatches<'a>) -> Result<CliTask<'a>, Error> {
     match matches.subcommand() {
-        None => Ok(Task::Play { explains: false }),
-        Some(("serve", given)) => Ok(Task::Serve(front_of(alloc, given)?)),
+        None => Ok(CliTask::Play { explains: false }),
+        Some(("serve", given)) => Ok(CliTask::Serve(options_of(alloc, given)?)),
         Some((name, given)) => Ok(tool_of(name, given)),
     }
 }
 
 /// What these words ask for, of which the first is the program's name. `Error`: they are no words of the program, they ask for
 /// help, or there was no memory.
-pub fn task_of<'a>(alloc: Global, words: &'a [String]) -> Result<Task<'a>, Error> {
+pub fn task_of<'a>(alloc: Global, words: &'a [String]) -> Result<CliTask<'a>, Error> {
     let matches = program(alloc)?.try_get_matches_from(words)?;
     found_task(alloc, &matches)
 }

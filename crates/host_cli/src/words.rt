@@ -5,7 +5,7 @@ use std::alloc::{AllocError, Global};
 
 /// What a word is, and what stands behind it.
 #[derive(Clone, Copy)]
-enum Takes {
+enum WordTakes {
     /// It is a file, which must be named.
     File,
     /// It is a file, which may be named.
@@ -27,155 +27,155 @@ enum Takes {
 }
 
 /// A word of a command.
-struct Word {
+struct UsageWord {
     name: &'static str,
-    takes: Takes,
+    takes: WordTakes,
     /// How what it takes is called; of a word that takes nothing, or is a file, this is not shown.
     shown: &'static str,
     help: &'static str,
 }
 
 /// A command of the program.
-struct Row {
+struct CommandRow {
     name: &'static str,
     about: &'static str,
-    words: &'static [Word],
+    words: &'static [UsageWord],
 }
 
-const FILE: Word = Word {
+const FILE: UsageWord = UsageWord {
     name: "FILE",
-    takes: Takes::File,
+    takes: WordTakes::File,
     shown: "FILE",
     help: "",
 };
 
-const CERT: Word = Word {
+const CERT: UsageWord = UsageWord {
     name: "CERT",
-    takes: Takes::File,
+    takes: WordTakes::File,
     shown: "CERT",
     help: "",
 };
 
-const MODULE: Word = Word {
+const MODULE: UsageWord = UsageWord {
     name: "FILE",
-    takes: Takes::AnyFile,
+    takes: WordTakes::AnyFile,
     shown: "FILE",
     help: "",
 };
 
-const SLIM: Word = Word {
+const SLIM: UsageWord = UsageWord {
     name: "slim",
-    takes: Takes::Nothing,
+    takes: WordTakes::Nothing,
     shown: "",
     help: "Gives states only for the first instruction of each handler and for targets; the rules say the others",
 };
 
 /// Where a module is judged.
-const EXPLAIN: Word = Word {
+const EXPLAIN: UsageWord = UsageWord {
     name: "explain",
-    takes: Takes::Nothing,
+    takes: WordTakes::Nothing,
     shown: "",
     help: "Tells on the standard error why a module is refused, and what to write instead; so it does on a terminal",
 };
 
 /// Where a script is played.
-const EXPLAIN_PLAYS: Word = Word {
+const EXPLAIN_PLAYS: UsageWord = UsageWord {
     name: "explain",
-    takes: Takes::Nothing,
+    takes: WordTakes::Nothing,
     shown: "",
     help: "Tells on the standard error, behind the answers, what faults and refusals mean, and what to write instead; so it does on a terminal",
 };
 
-const SERVE: &[Word] = &[
-    Word {
+const SERVE: &[UsageWord] = &[
+    UsageWord {
         name: "site",
-        takes: Takes::Text,
+        takes: WordTakes::Text,
         shown: "FILE",
         help: "The site file: on each line a path, a space and the name of a file",
     },
-    Word {
+    UsageWord {
         name: "port",
-        takes: Takes::Port,
+        takes: WordTakes::Port,
         shown: "N",
         help: "The port that is listened on",
     },
-    Word {
+    UsageWord {
         name: "listen",
-        takes: Takes::TextOr("127.0.0.1"),
+        takes: WordTakes::TextOr("127.0.0.1"),
         shown: "ADDRESS",
         help: "The address that is listened on; 0.0.0.0 stands for all of them",
     },
-    Word {
+    UsageWord {
         name: "conns",
-        takes: Takes::NumberOr("1", 0, 4_294_967_295),
+        takes: WordTakes::NumberOr("1", 0, 4_294_967_295),
         shown: "N",
         help: "How many connections are served",
     },
-    Word {
+    UsageWord {
         name: "forever",
-        takes: Takes::InPlaceOf("conns"),
+        takes: WordTakes::InPlaceOf("conns"),
         shown: "",
         help: "Serves connections until it is stopped",
     },
-    Word {
+    UsageWord {
         name: "budget",
-        takes: Takes::NumberOr("1000000", 0, 4_294_967_295),
+        takes: WordTakes::NumberOr("1000000", 0, 4_294_967_295),
         shown: "N",
         help: "How many instructions a call of the chain may take",
     },
-    Word {
+    UsageWord {
         name: "timeout",
-        takes: Takes::NumberOr("30", 1, 4_294_967_295),
+        takes: WordTakes::NumberOr("30", 1, 4_294_967_295),
         shown: "SECONDS",
         help: "How long a request may take to come, and a write",
     },
-    Word {
+    UsageWord {
         name: "at-once",
-        takes: Takes::NumberOr("1", 1, 65_535),
+        takes: WordTakes::NumberOr("1", 1, 65_535),
         shown: "N",
         help: "How many connections are served at once, by turns",
     },
-    Word {
+    UsageWord {
         name: "log",
-        takes: Takes::Nothing,
+        takes: WordTakes::Nothing,
         shown: "",
         help: "Tells each request and each connection on the standard error",
     },
-    Word {
+    UsageWord {
         name: "MODULE",
-        takes: Takes::Files,
+        takes: WordTakes::Files,
         shown: "MODULE",
         help: "The filters, the first first; the certificate of each in MODULE.cert",
     },
 ];
 
-const COMMANDS: &[Row] = &[
-    Row {
+const COMMANDS: &[CommandRow] = &[
+    CommandRow {
         name: "play",
         about: "Plays a script from standard input; so it does with no command",
         words: &[EXPLAIN_PLAYS],
     },
-    Row {
+    CommandRow {
         name: "new",
         about: "Prints a module to begin with, which is accepted as it stands",
         words: &[],
     },
-    Row {
+    CommandRow {
         name: "assemble",
         about: "Prints a module, or the first fault of its text",
         words: &[FILE],
     },
-    Row {
+    CommandRow {
         name: "certify",
         about: "Makes a certificate of a module, or tells why there is none; of standard input with no file",
         words: &[MODULE, SLIM, EXPLAIN],
     },
-    Row {
+    CommandRow {
         name: "check",
         about: "Checks a certificate of a module",
         words: &[FILE, CERT, EXPLAIN],
     },
-    Row {
+    CommandRow {
         name: "serve",
         about: "Serves the files of a site over HTTP/1.1, through a chain of filters that is checked first",
         words: SERVE,
@@ -194,27 +194,30 @@ fn taking_number(arg: Arg<'_>, least: i64, most: i64) -> Arg<'_> {
 }
 
 /// The word with what it takes.
-fn taking<'a>(arg: Arg<'a>, takes: Takes) -> Result<Arg<'a>, AllocError> {
+fn taking<'a>(arg: Arg<'a>, takes: WordTakes) -> Result<Arg<'a>, AllocError> {
     match takes {
-        Takes::File | Takes::Text => Ok(arg.required(true)),
-        Takes::AnyFile => Ok(arg),
-        Takes::Files => Ok(arg.required(true).num_args(1..=16)),
-        Takes::Nothing => Ok(arg.action(ArgAction::SetTrue)),
-        Takes::InPlaceOf(other) => arg.action(ArgAction::SetTrue).conflicts_with(other),
-        Takes::TextOr(default) => Ok(arg.default_value(default)),
-        Takes::Port => Ok(taking_port(arg)),
-        Takes::NumberOr(default, least, most) => {
+        WordTakes::File | WordTakes::Text => Ok(arg.required(true)),
+        WordTakes::AnyFile => Ok(arg),
+        WordTakes::Files => Ok(arg.required(true).num_args(1..=16)),
+        WordTakes::Nothing => Ok(arg.action(ArgAction::SetTrue)),
+        WordTakes::InPlaceOf(other) => arg.action(ArgAction::SetTrue).conflicts_with(other),
+        WordTakes::TextOr(default) => Ok(arg.default_value(default)),
+        WordTakes::Port => Ok(taking_port(arg)),
+        WordTakes::NumberOr(default, least, most) => {
             Ok(taking_number(arg, least, most).default_value(default))
         }
     }
 }
 
-fn is_file(takes: Takes) -> bool {
-    matches!(takes, Takes::File | Takes::AnyFile | Takes::Files)
+fn is_file(takes: WordTakes) -> bool {
+    matches!(
+        takes,
+        WordTakes::File | WordTakes::AnyFile | WordTakes::Files
+    )
 }
 
 /// The word as it is written and shown.
-fn named<'a>(alloc: Global, word: &'static Word) -> Arg<'a> {
+fn named<'a>(alloc: Global, word: &'static UsageWord) -> Arg<'a> {
     let arg = Arg::new(alloc, word.name);
     if is_file(word.takes) {
         return arg;
@@ -222,7 +225,7 @@ fn named<'a>(alloc: Global, word: &'static Word) -> Arg<'a> {
     arg.long(word.name).value_name(word.shown)
 }
 
-fn arg_of<'a>(alloc: Global, word: &'static Word) -> Result<Arg<'a>, AllocError> {
+fn arg_of<'a>(alloc: Global, word: &'static UsageWord) -> Result<Arg<'a>, AllocError> {
     let arg = named(alloc, word);
     if word.help.is_empty() {
         return taking(arg, word.takes);
@@ -230,7 +233,7 @@ fn arg_of<'a>(alloc: Global, word: &'static Word) -> Result<Arg<'a>, AllocError>
     taking(arg.help(word.help), word.takes)
 }
 
-fn command_of<'a>(alloc: Global, row: &'static Row) -> Result<Command<'a>, AllocError> {
+fn command_of<'a>(alloc: Global, row: &'static CommandRow) -> Result<Command<'a>, AllocError> {
     let mut args = Vec::new(alloc);
     for word in row.words {
         args.push(arg_of(alloc, word)?)?;

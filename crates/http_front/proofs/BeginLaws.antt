@@ -10,17 +10,17 @@ use Rattle.http_message.specs.Asking.{method_of, refusal}
 use Rattle.http_message.specs.Clocks.{Said}
 use Rattle.http_message.specs.Heads.{BeginsWithin}
 use Rattle.http_message.specs.Inboxes.{unread}
-use Rattle.http_message.specs.Looking.{IsFound}
+use Rattle.http_message.specs.Looking.{IsHeadFound}
 use Rattle.http_message.specs.declared.reply.Method.{Method}
 use Rattle.http_message.specs.declared.reply.Reply.{Reply}
 use Rattle.http_message.specs.declared.site.Site.{Site}
 use Rattle.http_front.specs.Nearing.{Nears}
 use Rattle.http_front.specs.Outcomes.{IsReplyTo, file_of}
-use Rattle.http_front.specs.Stepping.{DoesStep, IsWritten, ServesRequest}
-use Rattle.http_front.specs.Talking.{Follows, one_more, pending}
+use Rattle.http_front.specs.Stepping.{DoesStep, IsReplyWritten, ServesRequest}
+use Rattle.http_front.specs.Talking.{StepFollows, one_more, pending}
 use Rattle.http_front.specs.Texts.{text_of}
 use Rattle.http_front.specs.Turns.{ComesTo, ComesUnless, fields_limit, head_limit}
-use Rattle.http_front.specs.UnderWays.{Answered, BeginsHead, IsAskedBy, IsUnderWay, Sends, Steps, StepsFrom, Wants, WantsPath}
+use Rattle.http_front.specs.UnderWays.{RequestAnswered, BeginsHead, IsAskedBy, IsUnderWay, Sends, StepMade, StepsFrom, Wants, WantsPath}
 use Rattle.http_front.specs.declared.fault.FrontKind.{FrontKind}
 use Rattle.http_front.specs.declared.handler.RequestOutcome.{RequestOutcome}
 use Rattle.http_front.specs.declared.handler.Slice.{Slice}
@@ -33,33 +33,40 @@ use Rattle.http_front.specs.declared.under_way.Asked.{Asked}
 use Rattle.http_front.specs.declared.under_way.StepSlice.{StepSlice}
 use Rattle.http_front.specs.declared.under_way.StepSlice.TheVariants as slice
 use Rattle.http_front.specs.declared.under_way.UnderWay.{UnderWay}
-use Rattle.http_front.specs.declared.wanted.Wanted.{Wanted}
-use Rattle.http_front.specs.declared.wanted.Wanted.TheVariants as wanted
+use Rattle.http_front.specs.declared.wanted.SiteTarget.{SiteTarget}
+use Rattle.http_front.specs.declared.wanted.SiteTarget.TheVariants as wanted
 use Rattle.http_front.proofs.Stepped.{begins_wider, some_bytes, steps_front}
 
 -- The text of a response is that of the reply to the head.
 module _ {K : Type 0} (tells : K → Said → K → Type 0) (before after : K) where
   written_for : (seen method target : List ℕ) (a : Asked) (h : RequestHead) (r : Reply) (text : List ℕ) → IsAskedBy seen a h
       → (IsWithin (length seen) a.head.method → method ≡ span_bytes seen a.head.method) → (IsWithin (length seen) a.head.path → target ≡ span_bytes seen a.head.path)
-      → IsWritten tells before method target r text after → IsWritten tells before h.method h.target r text after
+      → IsReplyWritten tells before method target r text after → IsReplyWritten tells before h.method h.target r text after
   written_for seen method target a h r text asked sent named w =
       let fits = asked.within.section.len_fits in
       let m = sent (asked.within.method.0, omega (arith, fits, asked.within.method.1)) ∙ asked.at.method in
       let t = named (asked.within.path.0, omega (arith, fits, asked.within.path.1)) ∙ asked.at.path in
-      subst (λ (x : List ℕ). IsWritten tells before x h.target r text after) m (subst (λ (x : List ℕ). IsWritten tells before method x r text after) t w)
+      subst (λ (x : List ℕ). IsReplyWritten tells before x h.target r text after) m (subst (λ (x : List ℕ). IsReplyWritten tells before method x r text after) t w)
 
   pub sends_so : (seen method target : List ℕ) (a : Asked) (o : RequestOutcome) (r : Reply) (s : ServeStep) (text : List ℕ) (closes : Bool)
       → ((seen : List ℕ) (h : RequestHead) → IsAskedBy seen a h → IsReplyTo h o r) → (IsWithin (length seen) a.head.method → method ≡ span_bytes seen a.head.method)
       → (IsWithin (length seen) a.head.path → target ≡ span_bytes seen a.head.path)
-      → IsWritten tells before method target r text after → r.closes ≡ closes → Answered closes a.head.len s → (h : RequestHead) → IsAskedBy seen a h → Sends tells before h o a.head.len s text after
+      → IsReplyWritten tells before method target r text after → r.closes ≡ closes → RequestAnswered closes a.head.len s → (h : RequestHead) → IsAskedBy seen a h
+      → Sends tells before h o a.head.len s text after
   sends_so seen method target a o r s text closes is sent named w same step h asked =
-      record { reply = r; is = is seen h asked; written = written_for seen method target a h r text asked sent named w; answered = subst (λ (b : Bool). Answered b a.head.len s) (sym same) step }
+      record {
+        reply = r;
+        is = is seen h asked;
+        written = written_for seen method target a h r text asked sent named w;
+        answered = subst (λ (b : Bool). RequestAnswered b a.head.len s)
+            (sym same) step;
+      }
 
 -- nothing of a text is written yet
 pub pending_all : {T : Type 0} (c : HttpConn T) (t : ResponseText) → c.sent ≡ 0 → c.text ≡ t → pending c ≡ text_of t
 pending_all c t none is = subst (λ (n : ℕ). drop n (text_of c.text) ≡ text_of t) (sym none) (ap text_of is)
 
-pub follows_as : {T : Type 0} (s : ServeStep) (a b new : HttpConn T) → a.inbox ≡ b.inbox → a.wants ≡ b.wants → a.requests ≡ b.requests → Follows s a new → Follows s b new
+pub follows_as : {T : Type 0} (s : ServeStep) (a b new : HttpConn T) → a.inbox ≡ b.inbox → a.wants ≡ b.wants → a.requests ≡ b.requests → StepFollows s a new → StepFollows s b new
 follows_as (step.Stays size) a b new inbox wants count f = record {
   still = f.still ∙ ap (λ i. drop size (unread i)) inbox;
   wants = f.wants ∙ wants;
@@ -77,7 +84,7 @@ follows_as step.More a b new inbox wants count f = record { still = f.still ∙ 
 follows_as step.Done a b new inbox wants count f = record { still = f.still ∙ ap unread inbox; wants = f.wants ∙ wants; over = f.over; counted = f.counted ∙ count }
 
 -- A head that nothing refuses wants what its path does.
-pub wants_path : (site : Site) (h : RequestHead) (w : Wanted) → refusal h ≡ None → WantsPath site h w → Wants site h w
+pub wants_path : (site : Site) (h : RequestHead) (w : SiteTarget) → refusal h ≡ None → WantsPath site h w → Wants site h w
 wants_path site h (wanted.Status status) none p = inr (none, p)
 wants_path site h (wanted.File file) none p = (none, p)
 
@@ -117,7 +124,7 @@ module _ {H T : Type 0} (site : Site) (among : H → Method → List ℕ → Req
       goes_on = refl;
     }
 
-    by_closes : (closes : Bool) (seen : List ℕ) (whole : Bool) (size : ℕ) (s : ServeStep) (text : List ℕ) (old new : H) → Answered closes size s
+    by_closes : (closes : Bool) (seen : List ℕ) (whole : Bool) (size : ℕ) (s : ServeStep) (text : List ℕ) (old new : H) → RequestAnswered closes size s
         → ServesRequest site among tells old before seen closes size text new after → DoesStep site among tells old before seen whole s text new after
     by_closes true seen whole size s text old new is x = subst (λ (t : ServeStep). DoesStep site among tells old before seen whole t text new after) (sym is) x
     by_closes false seen whole size s text old new is x = subst (λ (t : ServeStep). DoesStep site among tells old before seen whole t text new after) (sym is) x
@@ -130,7 +137,7 @@ module _ {H T : Type 0} (site : Site) (among : H → Method → List ℕ → Req
 
     -- a head that was found: it is answered
     pub found_does : (seen : List ℕ) (spans : List HeaderSpan) (whole : Bool) (r : RequestSpans) (a : Asked) (o : RequestOutcome) (old new : H) (s : ServeStep)
-        (text : List ℕ) → IsRequestWithin seen spans r → length spans ≡ fields_limit → (found : IsFound head_limit seen spans r)
+        (text : List ℕ) → IsRequestWithin seen spans r → length spans ≡ fields_limit → (found : IsHeadFound head_limit seen spans r)
         → a.head ≡ r → ((h : RequestHead) → IsRequestAt seen spans r h → IsAskedBy seen a h) → BeginsHead site among rests found.0 old (request.Done o) new
         → ((h : RequestHead) → IsAskedBy seen a h → Sends tells before h o a.head.len s text after)
         → DoesStep site among tells old before seen whole s text new after
@@ -162,13 +169,13 @@ module _ {H T : Type 0} (site : Site) (among : H → Method → List ℕ → Req
 
     -- a request was in hand
     pub steps_some : (hand : Option (UnderWay T)) (u : UnderWay T) (now new : H) (seen : List ℕ) (whole : Bool) (x : StepSlice T) (text : List ℕ) → hand ≡ Some u
-        → ((old : H) → IsUnderWay site among rests seen u old now → Steps site among rests tells old before seen whole x text new after)
+        → ((old : H) → IsUnderWay site among rests seen u old now → StepMade site among rests tells old before seen whole x text new after)
         → StepsFrom site among rests tells hand now before seen whole x text new after
     steps_some hand u now new seen whole x text is says = subst (λ (h : Option (UnderWay T)). StepsFrom site among rests tells h now before seen whole x text new after) (sym is) says
 
     -- a step over a front of the bytes is one over them all
     pub slices_front : (old new : H) (seen low : List ℕ) (whole ended : Bool) (text : List ℕ) (x : StepSlice T) → low ≡ take head_limit seen → ended ≡ (whole && nat_le (length seen) head_limit)
-        → Steps site among rests tells old before low ended x text new after → Steps site among rests tells old before seen whole x text new after
+        → StepMade site among rests tells old before low ended x text new after → StepMade site among rests tells old before seen whole x text new after
     slices_front old new seen low whole ended text (slice.Did s) front over x = steps_front site among tells old new before after seen low whole ended text s front over x
     slices_front old new seen low whole ended text (slice.Works u) front over x = (wider u (subst (λ (l : List ℕ). IsUnderWay site among rests l u old new) front x.0), x.1, x.2) where
       wider : (u : UnderWay T) → IsUnderWay site among rests (take head_limit seen) u old new → IsUnderWay site among rests seen u old new
@@ -182,7 +189,7 @@ module _ {H T : Type 0} (site : Site) (among : H → Method → List ℕ → Req
 
   -- a head that was found: its request is under way
   pub found_works : (seen : List ℕ) (spans : List HeaderSpan) (r : RequestSpans) (a : Asked) (k : T) (old new : H) → IsRequestWithin seen spans r
-      → length spans ≡ fields_limit → length seen ≤ head_limit → (found : IsFound head_limit seen spans r)
+      → length spans ≡ fields_limit → length seen ≤ head_limit → (found : IsHeadFound head_limit seen spans r)
       → a.head ≡ r → ((h : RequestHead) → IsRequestAt seen spans r h → IsAskedBy seen a h) → BeginsHead site among rests found.0 old (request.Works k) new
       → IsUnderWay site among rests seen (record { asked = a; task = k }) old new
   found_works seen spans r a k old new within room few found is asked asks = record {

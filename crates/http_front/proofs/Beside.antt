@@ -1,5 +1,5 @@
 -- Events of one connection lead a host on.
-use Rattle.std.proofs.Common.{ℕ, zero, suc, ◌≡◌, List, [], ◌∷◌, Result, Ok, Err, Some, inl, inr, refl, sym, subst}
+use Rattle.std.proofs.Common.{ℕ, zero, suc, ◌≡◌, ◌≤◌, List, [], ◌∷◌, Result, Ok, Err, Some, inl, inr, refl, sym, subst}
 use Rattle.std.specs.Prelude.{IfErr}
 use Rattle.module_code.specs.Program.{Program}
 use Rattle.run_model.specs.declared.event.Event.{Event}
@@ -13,7 +13,8 @@ use Rattle.filter_chain.specs.declared.host.Host.{Host}
 use Rattle.filter_chain.specs.Hosting.{Ghosts, Stored, step_answer}
 use Rattle.filter_chain.specs.Running as steps
 use Rattle.filter_chain.specs.HostViews.{HostView, Answers}
-use Rattle.http_front.specs.Driven.{Refines, GoesBy, IsOfConn, Lacks, LacksFor, OnlyEventsOf}
+use Rattle.http_front.specs.Apart.{none_made}
+use Rattle.http_front.specs.Driven.{Refines, GoesBy, IsOfConn, Lacks, LacksFor, OnlyEventsOf, StepsAtMost, steps_in}
 use Rattle.http_front.specs.Requests.{IsOfRequest, lack_of}
 use Rattle.http_front.specs.declared.fault.FrontKind.{FrontKind}
 use Rattle.http_front.specs.declared.fault.FrontKind.TheVariants as kind
@@ -33,6 +34,15 @@ unfolding steps.HostGoesOn
 steps_more b c number zero s m t so same = subst (λ (x : HostView). Some-events b c number s x) (sym same) so
 steps_more b c number (suc n) s m t so goes = steps_more b c number n s goes.0 t (one_more b c number event.Step (Step stepped.Went) s m goes.0 tt so goes.1) goes.2
 
+-- more events after these
+all_more : (b : ℕ) (c : List Program) (number : ℕ) (events : List (Event × Answer)) (s m t : HostView) → Some-events b c number s m → GoesBy b c number events m t
+    → Some-events b c number s t
+unfolding GoesBy
+all_more b c number [] s m t so same = subst (λ (x : HostView). Some-events b c number s x) (sym same) so
+all_more b c number (x ∷ xs) s m t so goes =
+    let before = all_more b c number xs s m goes.0 so goes.1 in
+    (x ∷ before.0, (goes.0, before.1, goes.2, goes.3))
+
 module _ {F R : Type 0} {g : Ghosts R Stored} (device : F → Device) (number : ℕ) where
   pub beside_same : (host : Host F R g) → OnlyEventsOf device host number host
   unfolding OnlyEventsOf GoesBy
@@ -51,11 +61,16 @@ module _ {F R : Type 0} {g : Ghosts R Stored} (device : F → Device) (number : 
         leads_on device from old new (λ b c s t. Some-events b c number s t) (λ b c s t. steps.StepsToEnd b c number s answer t) (λ b c s t. Some-events b c number s t)
         (λ b c s m t x r. one_more b c number event.Step (step_answer answer) s r.before t tt (steps_more b c number r.count s m r.before x r.goes) r.last) so h
 
-    pub beside_steps : (more : ℕ) (answer : Result Stepped Refusal) → Refines device old new (λ b c s t. steps.StepsOn b c number more s answer t) → OnlyEventsOf device from number new
-    unfolding OnlyEventsOf
-    beside_steps more answer h =
-        leads_on device from old new (λ b c s t. Some-events b c number s t) (λ b c s t. steps.StepsOn b c number more s answer t) (λ b c s t. Some-events b c number s t)
-        (λ b c s m t x r. one_more b c number event.Step (step_answer answer) s r.before t tt (steps_more b c number r.count s m r.before x r.goes) r.last) so h
+    -- what makes at most so many steps makes events of this connection alone
+    pub beside_few : (n : ℕ) → StepsAtMost device old number n new → OnlyEventsOf device from number new
+    unfolding OnlyEventsOf StepsAtMost
+    beside_few n few =
+        leads_on device from old new (λ b c s t. Some-events b c number s t) (λ b c s t. (events : List (Event × Answer)) × GoesBy b c number events s t × (steps_in events ≤ n))
+        (λ b c s t. Some-events b c number s t) (λ b c s m t x y. all_more b c number y.0 s m t x y.1) so few
+
+    pub beside_made : (most : ℕ → ℕ) → ((first : Host F R g) (n : ℕ) → StepsAtMost device first number n old → StepsAtMost device first number (most n) new)
+        → OnlyEventsOf device from number new
+    beside_made most made = beside_few (most 0) (made old 0 (none_made device number old 0))
 
     -- the last event of them was refused
     pub beside_lacks : (what : Event) (why : Refusal) (e : FrontKind) → IsOfRequest what → lack_of why ≡ Some e → Happened device old new number what (Refused why) → LacksFor device from number e new

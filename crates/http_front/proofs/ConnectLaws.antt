@@ -16,11 +16,11 @@ use Rattle.http_message.specs.declared.site.Site.{Site}
 use Rattle.http_front.specs.declared.fault.FrontKind.{FrontKind}
 use Rattle.http_front.specs.declared.fault.FrontKind.TheVariants as kind
 use Rattle.http_front.specs.declared.handler.RequestOutcome.{RequestOutcome}
-use Rattle.http_front.specs.Connecting.{kind_result, ServingFails, FallsBy, IsClosed, IsOpened, ServesAll, Visits, kind_of, outcome_of}
+use Rattle.http_front.specs.Connecting.{kind_result, ServingFails, FallsBy, IsClosed, IsConnOpened, ServesAll, Visits, kind_of, outcome_of}
 use Rattle.http_front.specs.Driven.{HasConn, LacksFor, OnlyEventsOf, Handles, IsAlive, Refines}
 use Rattle.http_front.specs.Requests.{RunsCall}
 use Rattle.http_front.specs.Serving.{BlamesSink, BlamesSource, FailsBy, Writes}
-use Rattle.http_front.specs.Turns.{LacksMemory, Responses}
+use Rattle.http_front.specs.Turns.{MemoryLacked, Responses}
 use Rattle.http_front.specs.declared.fault.FrontFault.{FrontFault}
 use Rattle.http_front.specs.declared.fault.Served.{Served}
 use Rattle.http_front.specs.declared.running.CallEnd.{CallEnd}
@@ -45,8 +45,8 @@ module _ {F R : Type 0} {g : Ghosts R Stored} (device : F → Device) (number : 
       (λ b c s t a. (refl, subst (λ (r : Refusal). Answers b c number event.Close s (Refused r) t) (lacks_memory why has h) a)) (by_event device old new number event.Close (Refused why) h))
 
   pub opened_conn : (mid : Host F R g) (how : CallEnd) → Happened device old mid 0 event.Open (Connected number)
-      → Refines device mid new (λ b c s t. RunsCall b c number s how t) → Refines device old new (λ b c s t. IsOpened b c number s t)
-  opened_conn mid how h = leads_on device old mid new (λ b c s t. Answers b c 0 event.Open s (Connected number) t) (λ b c s t. RunsCall b c number s how t) (λ b c s t. IsOpened b c number s t)
+      → Refines device mid new (λ b c s t. RunsCall b c number s how t) → Refines device old new (λ b c s t. IsConnOpened b c number s t)
+  opened_conn mid how h = leads_on device old mid new (λ b c s t. Answers b c 0 event.Open s (Connected number) t) (λ b c s t. RunsCall b c number s how t) (λ b c s t. IsConnOpened b c number s t)
       (λ b c s m t a r. record { mid = m; how = how; acts = a; runs = r }) (by_event device old mid 0 event.Open (Connected number) h)
 
 -- What is written where serving fails.
@@ -57,7 +57,7 @@ module _ {H K : Type 0} (site : Site) (handles : H → Method → List ℕ → R
   front_whole stream text unread m n new after all = inr ((λ none. cc), n, all)
 
   lacking : (read unread was is : Option (List ℕ)) (left : Option ℕ) (new : H) (after : K)
-      → Writes read was is (λ stream text. LacksMemory site handles tells old before stream text unread new after)
+      → Writes read was is (λ stream text. MemoryLacked site handles tells old before stream text unread new after)
       → Writes read was is (λ stream text. FallsBy site handles tells lacks kind.NoMemory left old before stream text unread new after)
   lacking None unread was is left new after h = tt
   lacking (Some stream) unread was is left new after h = (h.0, inl h.1, h.2)
@@ -85,7 +85,7 @@ module _ {F K R : Type 0} {g : Ghosts R Stored} (device : F → Device) (tells :
     still = refl;
   }
 
-  module _ (number : ℕ) (opened served new : Host F R g) (after : K) (opens : Refines device old opened (λ b c s t. IsOpened b c number s t))
+  module _ (number : ℕ) (opened served new : Host F R g) (after : K) (opens : Refines device old opened (λ b c s t. IsConnOpened b c number s t))
       (alive : IsAlive device served) (beside : OnlyEventsOf device opened number served) where
     -- what serving the open connection comes to
     abbrev AllSo : Option (List ℕ) → Served → Type 0
@@ -158,7 +158,7 @@ module _ {F K R : Type 0} {g : Ghosts R Stored} (device : F → Device) (tells :
   pub not_visited : (new : Host F R g) (e : FrontFault) (why : Refusal) → Happened device old new 0 event.Open (Refused why) → Visits device tells site old (Err e) new
   not_visited new e why h = inl (why, by_event device old new 0 event.Open (Refused why) h)
 
-  module _ (number : ℕ) (opened served new : Host F R g) (opens : Refines device old opened (λ b c s t. IsOpened b c number s t)) (alive : IsAlive device served)
+  module _ (number : ℕ) (opened served new : Host F R g) (opens : Refines device old opened (λ b c s t. IsConnOpened b c number s t)) (alive : IsAlive device served)
       (beside : OnlyEventsOf device opened number served) where
     visits_by : (r : Result Served FrontKind) (left : Option ℕ) → Refines device served new (λ b c s t. IsClosed b c number left s t) → Visits device tells site old (outcome_of r left) new
     visits_by (Ok s) None closes = record { number = number; opened = opened; served = served; opens = opens; done = tt; alive = alive; beside = beside; closes = closes }

@@ -20,8 +20,8 @@ use Rattle.http_front.specs.declared.under_way.StepSlice.TheVariants as slice
 use Rattle.http_front.specs.declared.under_way.UnderWay.{UnderWay}
 use Rattle.http_front.specs.Turns.{IsCut, WantsMore, texts_of}
 use Rattle.http_front.specs.Stepping.{DoesStep, LacksAnswer}
-use Rattle.http_front.specs.Serving.{Goes, IsSinkKind, SoFar, Standing, Writes}
-use Rattle.http_front.specs.Talking.{Follows, IsNext, Lands, one_more, pending, to_do}
+use Rattle.http_front.specs.Serving.{ServeGoes, IsSinkKind, ServedSoFar, ServeStanding, Writes}
+use Rattle.http_front.specs.Talking.{StepFollows, IsNext, SliceLands, one_more, pending, to_do}
 use Rattle.byte_streams.specs.Texts.{AppendsFront}
 use Rattle.http_front.specs.UnderWays.{LacksSlice, StepsFrom}
 use Rattle.http_front.proofs.TurnLaws.{on_ok}
@@ -33,7 +33,7 @@ counts n k m few is = is ∙ min-eq_left (omega (arith, few))
 
 module _ {T : Type 0} where
   -- A step leaves less to be done.
-  pub step_less : (s : ServeStep) (c d : HttpConn T) → c.over ≡ false → c.wants ≡ false → Follows s c d
+  pub step_less : (s : ServeStep) (c d : HttpConn T) → c.over ≡ false → c.wants ≡ false → StepFollows s c d
       → (is : (size : ℕ) → s ≡ step.Stays size → (0 < size) × (size ≤ length (unread c.inbox))) → to_do d < to_do c
   step_less (step.Stays size) c d going ready f is =
       let some = is size refl in
@@ -61,7 +61,8 @@ module _ {H K T : Type 0} (site : Site) (handles : H → Method → List ℕ →
     (tells : K → Said → K → Type 0) (never : T → ⊥) where
   -- a slice is a step, where nothing is ever under way
   pub slice_step : (hand : Option (UnderWay T)) (x : StepSlice T) (c d : HttpConn T) (seen : List ℕ) (whole : Bool) (mid new : H) (then after : K) (text : List ℕ)
-      → StepsFrom site handles rests tells hand mid then seen whole x text new after → Lands x c d → (s : ServeStep) × DoesStep site handles tells mid then seen whole s text new after × Follows s c d
+      → StepsFrom site handles rests tells hand mid then seen whole x text new after → SliceLands x c d
+      → (s : ServeStep) × DoesStep site handles tells mid then seen whole s text new after × StepFollows s c d
   slice_step None (slice.Did s) c d seen whole mid new then after text did lands = (s, did, lands.0)
   slice_step None (slice.Works u) c d seen whole mid new then after text did lands = absurd (never u.task)
   slice_step (Some u) x c d seen whole mid new then after text did lands = absurd (never u.task)
@@ -82,7 +83,7 @@ module _ {H K : Type 0} (site : Site) (handles : H → Method → List ℕ → R
 
   module _ {T : Type 0} (c d : HttpConn T) (mid new : H) (then after : K) (text : List ℕ) where
     -- more bytes are wanted
-    pub wants_more : (s : ServeStep) → c.wants ≡ false → DoesStep site handles tells mid then (unread c.inbox) c.whole s text new after → Follows s c d
+    pub wants_more : (s : ServeStep) → c.wants ≡ false → DoesStep site handles tells mid then (unread c.inbox) c.whole s text new after → StepFollows s c d
         → d.wants ≡ true → (c.whole ≡ false) × WantsMore (unread d.inbox)
     wants_more (step.Stays size) ready did f wants = absurd (cc)
     wants_more (step.Closes size) ready did f wants = absurd (cc)
@@ -91,7 +92,7 @@ module _ {H K : Type 0} (site : Site) (handles : H → Method → List ℕ → R
     wants_more step.Done ready did f wants = absurd (cc)
 
     -- no more requests than bytes
-    pub step_few : (s : ServeStep) → c.requests + length (unread c.inbox) < 2 ^ 63 → DoesStep site handles tells mid then (unread c.inbox) c.whole s text new after → Follows s c d → d.over ≡ false
+    pub step_few : (s : ServeStep) → c.requests + length (unread c.inbox) < 2 ^ 63 → DoesStep site handles tells mid then (unread c.inbox) c.whole s text new after → StepFollows s c d → d.over ≡ false
         → d.requests + length (unread d.inbox) ≤ c.requests + length (unread c.inbox)
     step_few (step.Stays size) few did f going =
         omega (arith, ap length f.still ∙ length-drop size (unread c.inbox), counts c.requests (length (unread c.inbox)) d.requests few f.counted, did.some, did.fits)
@@ -100,15 +101,15 @@ module _ {H K : Type 0} (site : Site) (handles : H → Method → List ℕ → R
     step_few step.More few did f going = let left = ap length f.still in let count = f.counted in omega (arith, left, count)
     step_few step.Done few did f going = absurd (cc)
 
-    module _ (old : H) (before : K) (r q w v u : Option (List ℕ)) (so : SoFar site handles tells old before r q w v (unread c.inbox) c.requests mid then) (end : c.whole ≡ true → IsAtEnd q) where
+    module _ (old : H) (before : K) (r q w v u : Option (List ℕ)) (so : ServedSoFar site handles tells old before r q w v (unread c.inbox) c.requests mid then) (end : c.whole ≡ true → IsAtEnd q) where
       -- nothing is answered
       still_far : (left : List ℕ) (m : ℕ) → new ≡ mid → after ≡ then → text ≡ [] → Appends v u text → left ≡ unread c.inbox → m ≡ c.requests
-          → SoFar site handles tells old before r q w u left m new after
+          → ServedSoFar site handles tells old before r q w u left m new after
       still_far left m same clock none wrote still count =
-          subst (λ (h : H). SoFar site handles tells old before r q w u left m h after) (sym same)
-          (subst (λ (k : K). SoFar site handles tells old before r q w u left m mid k) (sym clock)
-          (subst (λ (l : List ℕ). SoFar site handles tells old before r q w u l m mid then) (sym still)
-          (subst (λ (n : ℕ). SoFar site handles tells old before r q w u (unread c.inbox) n mid then) (sym count)
+          subst (λ (h : H). ServedSoFar site handles tells old before r q w u left m h after) (sym same)
+          (subst (λ (k : K). ServedSoFar site handles tells old before r q w u left m mid k) (sym clock)
+          (subst (λ (l : List ℕ). ServedSoFar site handles tells old before r q w u l m mid then) (sym still)
+          (subst (λ (n : ℕ). ServedSoFar site handles tells old before r q w u (unread c.inbox) n mid then) (sym count)
           (record {
             turns = so.turns;
             stay = so.stay;
@@ -120,8 +121,8 @@ module _ {H K : Type 0} (site : Site) (handles : H → Method → List ℕ → R
 
       -- all of the text is written
       pub goes_well : (s : ServeStep) → c.requests + length (unread c.inbox) < 2 ^ 63
-          → DoesStep site handles tells mid then (unread c.inbox) c.whole s text new after → Follows s c d → Appends v u text
-          → Standing site handles tells old before r q w u d.over (unread d.inbox) d.requests new after
+          → DoesStep site handles tells mid then (unread c.inbox) c.whole s text new after → StepFollows s c d → Appends v u text
+          → ServeStanding site handles tells old before r q w u d.over (unread d.inbox) d.requests new after
       goes_well (step.Stays size) few did f wrote =
           rw f.over (far_stays site handles tells old before r q w v u (unread c.inbox) (unread d.inbox) c.requests d.requests size mid new then after text so did
           wrote f.still (counts c.requests (length (unread c.inbox)) d.requests few f.counted))
@@ -148,9 +149,9 @@ module _ {H K : Type 0} (site : Site) (handles : H → Method → List ℕ → R
       -- it is put so; put: the connection once it is
       pub goes_put : {A : Type 0} (lacks : H → Method → List ℕ → FrontKind → H → Type 0) (put : HttpConn T) (s : ServeStep) (result : Result A FrontKind)
           → c.requests + length (unread c.inbox) < 2 ^ 63
-          → DoesStep site handles tells mid then (unread c.inbox) c.whole s text new after → Follows s c d → put.over ≡ d.over → put.inbox ≡ d.inbox → put.requests ≡ d.requests
+          → DoesStep site handles tells mid then (unread c.inbox) c.whole s text new after → StepFollows s c d → put.over ≡ d.over → put.inbox ≡ d.inbox → put.requests ≡ d.requests
           → IfOk result (λ x. Appends v u text) → IfErr result (λ e. IsSinkKind e × AppendsFront v u text)
-          → Goes site handles tells lacks old before r q w u put.over (unread put.inbox) put.requests new after result
+          → ServeGoes site handles tells lacks old before r q w u put.over (unread put.inbox) put.requests new after result
       goes_put lacks put s (Ok x) few did f over inbox count wrote failed = rw (over, inbox, count) (goes_well s few did f wrote)
       goes_put lacks put s (Err e) few did f over inbox count wrote failed = cut_by site handles tells lacks old before r q w u new after e failed.0 (goes_cut s did failed.1)
 

@@ -15,7 +15,7 @@ use Rattle.filter_chain.specs.Running as steps
 use Rattle.http_message.specs.declared.failure.Failure.{Failure}
 use Rattle.http_message.specs.declared.failure.Failure.TheVariants as failure
 use Rattle.http_message.specs.declared.status.StatusCode.TheVariants.{Success}
-use Rattle.http_front.specs.Among.{Acts, EndsBareIn, EndsIn, EndsWithOutputIn, FinishesIn, MakesSlice, Slices, TakesOutputIn, Way, Whole, alone, among}
+use Rattle.http_front.specs.Among.{AnswersIn, EndsBareIn, EndsRequestIn, EndsWithOutputIn, FinishesIn, MakesSlice, Slices, TakesOutputIn, Way, Whole, alone, among}
 use Rattle.http_front.specs.Driven.{GoesByOthers, Refines}
 use Rattle.http_front.specs.Outcomes.{IsUnserved}
 use Rattle.http_front.specs.Requests.{EndsRequest, RunsCall, TakesOutput, ended_of}
@@ -36,13 +36,13 @@ runs_told device number old new answer how told =
 -- What happens with nothing of others before it happens so among others, too.
 
 pub now_acts : (way : Way) (b : ℕ) (c : List Program) (number : ℕ) (what : Event) (answer : Answer) (s t : HostView)
-    → Answers b c number what s answer t → Acts way b c number what s answer t
+    → Answers b c number what s answer t → AnswersIn way b c number what s answer t
 unfolding GoesByOthers
 now_acts alone b c number what answer s t a = a
 now_acts among b c number what answer s t a = (s, ([], refl), a)
 
 module _ (way : Way) (b : ℕ) (c : List Program) (number : ℕ) where
-  ends_now : (s t : HostView) → EndsRequest b c number s t → EndsIn way b c number s t
+  ends_now : (s t : HostView) → EndsRequest b c number s t → EndsRequestIn way b c number s t
   ends_now s t e = record { answer = e.answer; acts = now_acts way b c number event.End _ s t e.acts; lacks = e.lacks }
 
   takes_now : (s : HostView) (o : RequestOutcome) (t : HostView) → TakesOutput b c number s o t → TakesOutputIn way b c number s o t

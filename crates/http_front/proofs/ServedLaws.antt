@@ -6,7 +6,7 @@ use Rattle.http_message.specs.declared.site.Site.{Site}
 use Rattle.http_front.specs.declared.fault.FrontKind.{FrontKind}
 use Rattle.http_front.specs.declared.fault.FrontKind.TheVariants as kind
 use Rattle.http_front.specs.declared.handler.RequestOutcome.{RequestOutcome}
-use Rattle.http_front.specs.Serving.{AddsBytes, Loses, SoFar, FailsBy, Goes}
+use Rattle.http_front.specs.Serving.{AddsBytes, Loses, ServedSoFar, FailsBy, ServeGoes}
 use Rattle.http_front.specs.Turns.{WantsMore}
 use Rattle.http_front.proofs.ServingLaws.{far_loses_read, far_read, far_wants}
 use Rattle.std.specs.Prelude.{Bool}
@@ -14,13 +14,14 @@ use Rattle.std.specs.Prelude.{Bool}
 module _ {H K : Type 0} (site : Site) (handles : H → Method → List ℕ → RequestOutcome → H → Type 0) (tells : K → Said → K → Type 0) (lacks : H → Method → List ℕ → FrontKind → H → Type 0) where
   -- bytes are added to those at hand
   pub far_adds : (old : H) (before : K) (r q p w v : Option (List ℕ)) (unread all : List ℕ) (limit : ℕ) (whole : Bool) (n m : ℕ) (new : H) (after : K)
-      → m ≡ n → SoFar site handles tells old before r q w v unread n new after → AddsBytes q p unread all limit whole → SoFar site handles tells old before r p w v all m new after
+      → m ≡ n → ServedSoFar site handles tells old before r q w v unread n new after → AddsBytes q p unread all limit whole → ServedSoFar site handles tells old before r p w v all m new after
   far_adds old before r q p w v unread all limit whole n m new after same so adds =
-      subst (λ k. SoFar site handles tells old before r p w v all k new after) (sym same) (far_read site handles tells old before r q p w v unread adds.bytes all n new after so adds.took adds.added)
+      subst (λ k. ServedSoFar site handles tells old before r p w v all k new after) (sym same)
+      (far_read site handles tells old before r q p w v unread adds.bytes all n new after so adds.took adds.added)
 
   -- no bytes are added
   pub far_loses : (old : H) (before : K) (r q p w v : Option (List ℕ)) (unread : List ℕ) (n : ℕ) (new : H) (after : K) (e : FrontKind)
-      → SoFar site handles tells old before r q w v unread n new after → WantsMore unread → Loses 8192 q p e → FailsBy site handles tells lacks old before r p w v new after e
+      → ServedSoFar site handles tells old before r q w v unread n new after → WantsMore unread → Loses 8192 q p e → FailsBy site handles tells lacks old before r p w v new after e
   far_loses old before r q p w v unread n new after kind.Read so wants none =
       far_wants site handles tells old before r p w v unread n new after (far_read site handles tells old before r q p w v unread [] unread n new after so none (sym (append-nil unread))) wants
   far_loses old before r q p w v unread n new after kind.TooManyReads so wants none =
@@ -31,6 +32,7 @@ module _ {H K : Type 0} (site : Site) (handles : H → Method → List ℕ → R
 
   -- how a `?` leaves, of what goes on or fails
   pub fails_as : {T : Type 0} (old : H) (before : K) (r q w v : Option (List ℕ)) (over : Bool) (unread : List ℕ) (n : ℕ) (new : H) (after : K) (result : Result T FrontKind) (y e : FrontKind)
-      → result ≡ Err y → y ≡ e → FailsBy site handles tells lacks old before r q w v new after e → Goes site handles tells lacks old before r q w v over unread n new after result
+      → result ≡ Err y → y ≡ e → FailsBy site handles tells lacks old before r q w v new after e → ServeGoes site handles tells lacks old before r q w v over unread n new after result
   fails_as old before r q w v over unread n new after result y e is same fails =
-      subst (λ x. Goes site handles tells lacks old before r q w v over unread n new after x) (sym is) (subst (λ k. FailsBy site handles tells lacks old before r q w v new after k) (sym same) fails)
+      subst (λ x. ServeGoes site handles tells lacks old before r q w v over unread n new after x) (sym is) (subst (λ k. FailsBy site handles tells lacks old before r q w v new after k)
+      (sym same) fails)

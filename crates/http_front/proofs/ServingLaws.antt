@@ -14,9 +14,9 @@ use Rattle.http_front.specs.declared.fault.FrontKind.{FrontKind}
 use Rattle.http_front.specs.declared.fault.FrontKind.TheVariants as kind
 use Rattle.http_front.specs.declared.handler.RequestOutcome.{RequestOutcome}
 use Rattle.http_front.specs.Turns.{Turn, AllStay, AnswersRequest, AnswersAll, AnswersRequestsRead, SendsBad, WantsMore, heads_of, texts_of, head_limit}
-use Rattle.http_front.specs.Turns.{fields_limit, ClosesAfter, RefusesAfter, IsDue, IsResponsesFront, IsCut, IsNext, LacksAt, LacksFile, LacksMemory}
+use Rattle.http_front.specs.Turns.{fields_limit, ClosesAfter, RefusesAfter, IsDue, IsResponsesFront, IsCut, IsNext, LacksAt, LacksFile, MemoryLacked}
 use Rattle.http_front.specs.Stepping.{LacksAnswer, ServesRequest, WantsAnswer}
-use Rattle.http_front.specs.Serving.{Writes, SoFar, EndsWell, FailsBy, IsSinkKind}
+use Rattle.http_front.specs.Serving.{Writes, ServedSoFar, EndsWell, FailsBy, IsSinkKind}
 
 -- Lists of turns with one more.
 
@@ -39,10 +39,10 @@ is_due seen left whole over (inl begins) = inl begins
 is_due seen left whole over (inr bad) = inr (bad.0, whole, over, bad.1)
 
 -- What a reader had left, where it is known, is what was taken and what it has.
-abbrev pub IsLeft : List ℕ → Option (List ℕ) → List ℕ → Type 0
-IsLeft stream q taken = (rest : List ℕ) × (q ≡ Some rest) × (stream ≡ taken ++ rest)
+abbrev pub WasLeft : List ℕ → Option (List ℕ) → List ℕ → Type 0
+WasLeft stream q taken = (rest : List ℕ) × (q ≡ Some rest) × (stream ≡ taken ++ rest)
 
-left_of : (stream taken : List ℕ) (q : Option (List ℕ)) → Consumes (Some stream) q taken → IsLeft stream q taken
+left_of : (stream taken : List ℕ) (q : Option (List ℕ)) → Consumes (Some stream) q taken → WasLeft stream q taken
 left_of stream taken None took = absurd took
 left_of stream taken (Some rest) took = (rest, refl, took)
 
@@ -51,7 +51,7 @@ at_end q rest same end = subst IsAtEnd same end
 
 module _ {H K : Type 0} (site : Site) (handles : H → Method → List ℕ → RequestOutcome → H → Type 0) (tells : K → Said → K → Type 0) where
   abbrev pub Far : H → K → Option (List ℕ) → Option (List ℕ) → Option (List ℕ) → Option (List ℕ) → List ℕ → ℕ → H → K → Type 0
-  Far = SoFar site handles tells
+  Far = ServedSoFar site handles tells
 
   pub answers_more : (old : H) (before : K) (turns : List Turn) (mid : H) (then : K) (t : Turn) (new : H) (after : K)
       → AnswersAll site handles tells old before turns mid then → AnswersRequest site handles tells mid then t new after
@@ -160,9 +160,9 @@ module _ {H K : Type 0} (site : Site) (handles : H → Method → List ℕ → R
   -- Memory is lacking for bytes that were read.
   pub far_loses_read : (old : H) (before : K) (r q p w v : Option (List ℕ)) (unread lost : List ℕ) (n : ℕ) (new : H) (after : K)
       → Far old before r q w v unread n new after → WantsMore unread → ¬ (lost ≡ []) → length lost ≤ 8192 → Consumes q p lost
-      → Writes r w v (λ stream text. LacksMemory site handles tells old before stream text p new after)
+      → Writes r w v (λ stream text. MemoryLacked site handles tells old before stream text p new after)
   far_loses_read old before r q p w v unread lost n new after so wants some few took =
-      far_told (λ stream text. LacksMemory site handles tells old before stream text p new after) old before r q w v unread n new after so (λ stream left leaves splits.
+      far_told (λ stream text. MemoryLacked site handles tells old before stream text p new after) old before r q w v unread n new after so (λ stream left leaves splits.
       let rest = left_of left lost p (subst (λ x. Consumes x p lost) leaves took) in
       inr (inl (record {
         first = heads_of so.turns;
@@ -307,7 +307,7 @@ module _ {H K : Type 0} (site : Site) (handles : H → Method → List ℕ → R
   module _ (lacks : H → Method → List ℕ → FrontKind → H → Type 0) where
     lack_memory : (r q w v : Option (List ℕ)) (old : H) (before : K) (new : H) (after : K)
         → Writes r w v (λ stream text. LacksAt site handles tells (λ mid. IsDue) old before stream text q)
-        → Writes r w v (λ stream text. LacksMemory site handles tells old before stream text q new after)
+        → Writes r w v (λ stream text. MemoryLacked site handles tells old before stream text q new after)
     lack_memory None q w v old before new after h = tt
     lack_memory (Some stream) q w v old before new after h = (h.0, inl h.1, h.2)
 
@@ -321,7 +321,7 @@ module _ {H K : Type 0} (site : Site) (handles : H → Method → List ℕ → R
 
     -- The sink fails, or lacks memory.
     cut_lacks : (r q w v : Option (List ℕ)) (old : H) (before : K) (new : H) (after : K)
-        → Writes r w v (λ stream text. IsCut site handles tells old before stream text new after) → Writes r w v (λ stream text. LacksMemory site handles tells old before stream text q new after)
+        → Writes r w v (λ stream text. IsCut site handles tells old before stream text new after) → Writes r w v (λ stream text. MemoryLacked site handles tells old before stream text q new after)
     cut_lacks None q w v old before new after h = tt
     cut_lacks (Some stream) q w v old before new after h = (h.0, inr (inr h.1), h.2)
 

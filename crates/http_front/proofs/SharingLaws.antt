@@ -15,7 +15,7 @@ use Rattle.http_message.specs.declared.status.StatusCode.{StatusCode}
 use Rattle.http_front.specs.Outcomes.{file_of}
 use Rattle.http_front.specs.Sharing.{IsOpenSo, IsSo, Passes, TellsLater}
 use Rattle.http_front.specs.Stepping.{DoesStep, ServesRequest}
-use Rattle.http_front.specs.Talking.{Follows, GoesSo, IsInHand, Lands, Stands, StandsCut, pending}
+use Rattle.http_front.specs.Talking.{StepFollows, GoesSo, IsInHand, SliceLands, ConnStands, StandsCut, pending}
 use Rattle.http_front.specs.UnderWays.{IsUnderWay, StepsFrom}
 use Rattle.http_message.specs.Heads.{IsHeadlessWithin, StaysHeadless}
 use Rattle.http_front.specs.Turns.{Turn, fields_limit, head_limit, AnswersRequest, ComesTo, ComesUnless, IsDated, Responses, SendsBad, heads_of, texts_of}
@@ -161,11 +161,11 @@ module _ {H K : Type 0} (site : Site) (among : H → Method → List ℕ → Req
 -- A connection stands so.
 module _ {H K T : Type 0} (site : Site) (among : H → Method → List ℕ → RequestOutcome → H → Type 0) (rests : H → T → RequestOutcome → H → Type 0)
     (tells : K → Said → K → Type 0) (apart : H → H → Type 0) (start : H) (first : K) where
-  abbrev Stand : List ℕ → List ℕ → HttpConn T → H → K → Type 0
-  Stand came went c now at = Stands site among rests tells apart start first came went c now at
+  abbrev StandsHere : List ℕ → List ℕ → HttpConn T → H → K → Type 0
+  StandsHere came went c now at = ConnStands site among rests tells apart start first came went c now at
 
-  abbrev Hand : List ℕ → List ℕ → Option (UnderWay T) → List ℕ → H → H → Type 0
-  Hand came went hand seen mid now = IsInHand site among rests tells apart start first came went hand seen mid now
+  abbrev HandOver : List ℕ → List ℕ → Option (UnderWay T) → List ℕ → H → H → Type 0
+  HandOver came went hand seen mid now = IsInHand site among rests tells apart start first came went hand seen mid now
 
   abbrev So : List ℕ → Bool → List ℕ → List ℕ → H → K → Type 0
   So came over text left mid then = IsSo site among (TellsLater tells) start first came over text left mid then
@@ -176,7 +176,7 @@ module _ {H K T : Type 0} (site : Site) (among : H → Method → List ℕ → R
 
   -- others had their turns
   hand_later : (came went : List ℕ) (hand : Option (UnderWay T)) (seen : List ℕ) (mid now new : H) → ((from : H) → apart from now → apart from new)
-      → ((k : T) (o : RequestOutcome) (z : H) → rests new k o z → rests now k o z) → Hand came went hand seen mid now → Hand came went hand seen mid new
+      → ((k : T) (o : RequestOutcome) (z : H) → rests new k o z → rests now k o z) → HandOver came went hand seen mid now → HandOver came went hand seen mid new
   hand_later came went None seen mid now new gap rest h = gap mid h
   hand_later came went (Some u) seen mid now new gap rest h =
       record {
@@ -189,22 +189,22 @@ module _ {H K T : Type 0} (site : Site) (among : H → Method → List ℕ → R
 
   pub stands_later : (came went : List ℕ) (c : HttpConn T) (now new : H) (at after : K) → ((from : H) → apart from now → apart from new)
       → ((k : T) (o : RequestOutcome) (z : H) → rests new k o z → rests now k o z)
-      → ((from : K) → Passes tells from at → Passes tells from after) → Stand came went c now at → Stand came went c new after
+      → ((from : K) → Passes tells from at → Passes tells from after) → StandsHere came went c now at → StandsHere came went c new after
   stands_later came went c now new at after gap rest pass s =
       record { mid = s.mid; then = s.then; so = s.so; hand = hand_later came went c.hand (unread c.inbox) s.mid now new gap rest s.hand; passed = pass s.then s.passed }
 
   hand_as : (came went more text : List ℕ) (old new : HttpConn T) (mid now to : H) → to ≡ now → new.inbox ≡ old.inbox → new.hand ≡ old.hand
-      → Hand came went old.hand (unread old.inbox) mid now → Hand more text new.hand (unread new.inbox) mid to
+      → HandOver came went old.hand (unread old.inbox) mid now → HandOver more text new.hand (unread new.inbox) mid to
   hand_as came went more text old new mid now to still inbox hand h =
-      subst (λ (x : H). Hand more text new.hand (unread new.inbox) mid x) (sym still) (subst (λ (x : Option (UnderWay T)). Hand more text x (unread new.inbox) mid now) (sym hand)
-      (subst (λ (x : List ℕ). Hand more text old.hand x mid now) (ap unread (sym inbox)) (moved old.hand h))) where
-        moved : (x : Option (UnderWay T)) → Hand came went x (unread old.inbox) mid now → Hand more text x (unread old.inbox) mid now
+      subst (λ (x : H). HandOver more text new.hand (unread new.inbox) mid x) (sym still) (subst (λ (x : Option (UnderWay T)). HandOver more text x (unread new.inbox) mid now) (sym hand)
+      (subst (λ (x : List ℕ). HandOver more text old.hand x mid now) (ap unread (sym inbox)) (moved old.hand h))) where
+        moved : (x : Option (UnderWay T)) → HandOver came went x (unread old.inbox) mid now → HandOver more text x (unread old.inbox) mid now
         moved None h = h
         moved (Some u) h = h
 
   -- a part of a response is written
   pub stands_wrote : (came went : List ℕ) (old new : HttpConn T) (now to : H) (at : K) (n : ℕ) → to ≡ now → pending new ≡ drop n (pending old)
-      → new.inbox ≡ old.inbox → new.over ≡ old.over → new.hand ≡ old.hand → Stand came went old now at → Stand came (went ++ take n (pending old)) new to at
+      → new.inbox ≡ old.inbox → new.over ≡ old.over → new.hand ≡ old.hand → StandsHere came went old now at → StandsHere came (went ++ take n (pending old)) new to at
   stands_wrote came went old new now to at n still left inbox over hand s = record {
     mid = s.mid;
     then = s.then;
@@ -226,13 +226,13 @@ module _ {H K T : Type 0} (site : Site) (among : H → Method → List ℕ → R
   }
 
   -- the connection is open
-  is_open : (came went : List ℕ) (c : HttpConn T) (now : H) (at : K) → c.over ≡ false → (s : Stand came went c now at)
+  is_open : (came went : List ℕ) (c : HttpConn T) (now : H) (at : K) → c.over ≡ false → (s : StandsHere came went c now at)
       → IsOpenSo site among (TellsLater tells) start first came (went ++ pending c) (unread c.inbox) s.mid s.then
   is_open came went c now at over s = so_as came c.over false (went ++ pending c) (went ++ pending c) (unread c.inbox) (unread c.inbox) s.mid s.then over refl refl s.so
 
   -- bytes came in
   pub stands_read : (came went bytes : List ℕ) (old new : HttpConn T) (now : H) (at : K) → unread new.inbox ≡ unread old.inbox ++ bytes → pending new ≡ pending old
-      → new.over ≡ old.over → old.over ≡ false → new.hand ≡ old.hand → old.hand ≡ None → Stand came went old now at → Stand (came ++ bytes) went new now at
+      → new.over ≡ old.over → old.over ≡ false → new.hand ≡ old.hand → old.hand ≡ None → StandsHere came went old now at → StandsHere (came ++ bytes) went new now at
   stands_read came went bytes old new now at added still over was hand none s = record {
     mid = s.mid;
     then = s.then;
@@ -240,13 +240,13 @@ module _ {H K T : Type 0} (site : Site) (among : H → Method → List ℕ → R
         so_as (came ++ bytes) false new.over (went ++ pending old) (went ++ pending new) (unread old.inbox ++ bytes) (unread new.inbox) s.mid s.then
         (sym (over ∙ was)) (ap (λ l. went ++ l) (sym still)) (sym added) (open_more came bytes (went ++ pending old) (unread old.inbox) s.mid s.then (is_open came went old now at was s));
     hand =
-        subst (λ (x : Option (UnderWay T)). Hand (came ++ bytes) went x (unread new.inbox) s.mid now) (sym (hand ∙ none))
-        (subst (λ (x : Option (UnderWay T)). Hand came went x (unread old.inbox) s.mid now) none s.hand);
+        subst (λ (x : Option (UnderWay T)). HandOver (came ++ bytes) went x (unread new.inbox) s.mid now) (sym (hand ∙ none))
+        (subst (λ (x : Option (UnderWay T)). HandOver came went x (unread old.inbox) s.mid now) none s.hand);
     passed = s.passed;
   }
 
   -- bytes came in, and there was no room for them
-  pub cut_read : (came went bytes : List ℕ) (old : HttpConn T) (now : H) (at : K) → old.over ≡ false → Stand came went old now at
+  pub cut_read : (came went bytes : List ℕ) (old : HttpConn T) (now : H) (at : K) → old.over ≡ false → StandsHere came went old now at
       → StandsCut site among rests tells apart start first (came ++ bytes) went
   cut_read came went bytes old now at was s = record {
     over = false;
@@ -258,29 +258,29 @@ module _ {H K T : Type 0} (site : Site) (among : H → Method → List ℕ → R
   }
 
   -- nothing more is done
-  pub stands_cut : (came went : List ℕ) (c : HttpConn T) (now : H) (at : K) → Stand came went c now at → StandsCut site among rests tells apart start first came went
+  pub stands_cut : (came went : List ℕ) (c : HttpConn T) (now : H) (at : K) → StandsHere came went c now at → StandsCut site among rests tells apart start first came went
   stands_cut came went c now at s = record { over = c.over; rest = pending c; left = unread c.inbox; mid = s.mid; then = s.then; so = s.so }
 
   module _ (same : (h : H) → apart h h) (later : (mid now new : H) (method : Method) (file : List ℕ) (o : RequestOutcome) → apart mid now → among now method file o new → among mid method file o new)
-      (came went : List ℕ) (old new : HttpConn T) (now to : H) (at after : K) (none : pending old ≡ []) (was : old.over ≡ false) (s : Stand came went old now at) where
+      (came went : List ℕ) (old new : HttpConn T) (now to : H) (at after : K) (none : pending old ≡ []) (was : old.over ≡ false) (s : StandsHere came went old now at) where
     here : IsOpenSo site among (TellsLater tells) start first came went (unread old.inbox) s.mid s.then
     here =
         so_as came false false (went ++ pending old) went (unread old.inbox) (unread old.inbox) s.mid s.then refl (ap (λ l. went ++ l) none ∙ append-nil went) refl (is_open came went old now at was s)
 
     -- it stands behind a step
     behind : (over : Bool) (left : List ℕ) (mid : H) (then : K) → new.over ≡ over → unread new.inbox ≡ left → new.hand ≡ None
-        → So came over (went ++ pending new) left mid then → apart mid to → Passes tells then after → Stand came went new to after
+        → So came over (went ++ pending new) left mid then → apart mid to → Passes tells then after → StandsHere came went new to after
     behind over left mid then ends reads idle so gap pass = record {
       mid = mid;
       then = then;
       so = so_as came over new.over (went ++ pending new) (went ++ pending new) left (unread new.inbox) mid then (sym ends) refl (sym reads) so;
-      hand = subst (λ (x : Option (UnderWay T)). Hand came went x (unread new.inbox) mid to) (sym idle) gap;
+      hand = subst (λ (x : Option (UnderWay T)). HandOver came went x (unread new.inbox) mid to) (sym idle) gap;
       passed = pass;
     }
 
     -- the step was made from this state of the handler on: it is apart from that of the last answer
     module _ (from : H) (gap : apart s.mid from) (idle : new.hand ≡ None) where
-      stands_step : (st : ServeStep) → DoesStep site among tells from at (unread old.inbox) old.whole st (pending new) to after → Follows st old new → Stand came went new to after
+      stands_step : (st : ServeStep) → DoesStep site among tells from at (unread old.inbox) old.whole st (pending new) to after → StepFollows st old new → StandsHere came went new to after
       stands_step (step.Stays size) did f =
           let l = serves_later site among tells apart same later (unread old.inbox) false size (pending new) s.mid from to s.then at after gap s.passed did in
           behind false (drop size (unread old.inbox)) l.0 after f.over f.still idle (so_stays site among (TellsLater tells) start first came went (unread old.inbox) (drop size (unread old.inbox))
@@ -305,14 +305,14 @@ module _ {H K T : Type 0} (site : Site) (among : H → Method → List ℕ → R
 
     -- a request is under way
     stands_works : (u : UnderWay T) → IsUnderWay site among rests (unread old.inbox) u s.mid to → after ≡ at → pending new ≡ []
-        → unread new.inbox ≡ unread old.inbox → new.over ≡ false → new.hand ≡ Some u → Stand came went new to after
+        → unread new.inbox ≡ unread old.inbox → new.over ≡ false → new.hand ≡ Some u → StandsHere came went new to after
     stands_works u way still nothing reads going hand = record {
       mid = s.mid;
       then = s.then;
       so =
           so_as came false new.over went (went ++ pending new) (unread old.inbox) (unread new.inbox) s.mid s.then (sym going)
           (sym (append-nil went) ∙ ap (λ l. went ++ l) (sym nothing)) (sym reads) here;
-      hand = subst (λ (x : Option (UnderWay T)). Hand came went x (unread new.inbox) s.mid to) (sym hand) (subst (λ (x : List ℕ). IsUnderWay site among rests x u s.mid to) (sym reads) way);
+      hand = subst (λ (x : Option (UnderWay T)). HandOver came went x (unread new.inbox) s.mid to) (sym hand) (subst (λ (x : List ℕ). IsUnderWay site among rests x u s.mid to) (sym reads) way);
       passed = subst (λ (x : K). Passes tells s.then x) (sym still) s.passed;
     }
 
@@ -325,14 +325,15 @@ module _ {H K T : Type 0} (site : Site) (among : H → Method → List ℕ → R
       asks = record { file = w.asks.file; allowed = w.asks.allowed; named = w.asks.named; goes = λ o z r. later s.mid now z (method_of w.head.method) w.asks.file o gap (w.asks.goes o z r) };
     }
 
-    lands : (hand : Option (UnderWay T)) (x : StepSlice T) → Hand came went hand (unread old.inbox) s.mid now
-        → StepsFrom site among rests tells hand now at (unread old.inbox) old.whole x (pending new) to after → Lands x old new → Stand came went new to after
+    lands : (hand : Option (UnderWay T)) (x : StepSlice T) → HandOver came went hand (unread old.inbox) s.mid now
+        → StepsFrom site among rests tells hand now at (unread old.inbox) old.whole x (pending new) to after → SliceLands x old new → StandsHere came went new to after
     lands None (slice.Did st) gap did l = stands_step now gap l.1 st did l.0
     lands None (slice.Works u) gap did l = stands_works u (under_later u gap did.0) did.1 did.2 l.0.still l.0.over l.1
     lands (Some v) (slice.Did st) way did l = stands_step s.mid (same s.mid) l.1 st (did s.mid way) l.0
     lands (Some v) (slice.Works u) way did l = (let d = did s.mid way in stands_works u d.0 d.1 d.2 l.0.still l.0.over l.1)
 
-    pub stands_lands : (x : StepSlice T) → StepsFrom site among rests tells old.hand now at (unread old.inbox) old.whole x (pending new) to after → Lands x old new → Stand came went new to after
+    pub stands_lands : (x : StepSlice T) → StepsFrom site among rests tells old.hand now at (unread old.inbox) old.whole x (pending new) to after → SliceLands x old new
+        → StandsHere came went new to after
     stands_lands x did l = lands old.hand x s.hand did l
 
 -- A turn that takes nothing in and puts nothing out.
@@ -343,22 +344,22 @@ quiet r w P own = ([], [], Consumes-nil r, Appends-nil w, own)
 module _ {H K T : Type 0} (site : Site) (among : H → Method → List ℕ → RequestOutcome → H → Type 0) (rests : H → T → RequestOutcome → H → Type 0)
     (tells : K → Said → K → Type 0) (apart : H → H → Type 0) (same : (h : H) → apart h h)
     (later : (mid now new : H) (method : Method) (file : List ℕ) (o : RequestOutcome) → apart mid now → among now method file o new → among mid method file o new) where
-  abbrev Goes : H → K → List ℕ → List ℕ → Result Turned FrontKind → HttpConn T → H → K → Type 0
-  Goes start first came went = GoesSo site among rests tells apart start first came went
+  abbrev TurnGoes : H → K → List ℕ → List ℕ → Result Turned FrontKind → HttpConn T → H → K → Type 0
+  TurnGoes start first came went = GoesSo site among rests tells apart start first came went
 
   abbrev pub Own : H → K → HttpConn T → List ℕ → List ℕ → Result Turned FrontKind → HttpConn T → H → K → Type 0
   Own now at old bytes text r new to after =
-      (start : H) (first : K) (came went : List ℕ) → Stands site among rests tells apart start first came went old now at → Goes start first (came ++ bytes) (went ++ text) r new to after
+      (start : H) (first : K) (came went : List ℕ) → ConnStands site among rests tells apart start first came went old now at → TurnGoes start first (came ++ bytes) (went ++ text) r new to after
 
   goes_any : (start : H) (first : K) (came went : List ℕ) (r : Result Turned FrontKind) (c : HttpConn T) (now : H) (at : K)
-      → Stands site among rests tells apart start first came went c now at → Goes start first came went r c now at
+      → ConnStands site among rests tells apart start first came went c now at → TurnGoes start first came went r c now at
   goes_any start first came went (Ok t) c now at s = s
   goes_any start first came went (Err e) c now at s = stands_cut site among rests tells apart start first came went c now at s
 
   goes_as : (start : H) (first : K) (came more went text : List ℕ) (r : Result Turned FrontKind) (c : HttpConn T) (now : H) (at : K) → came ≡ more → went ≡ text
-      → Goes start first came went r c now at → Goes start first more text r c now at
+      → TurnGoes start first came went r c now at → TurnGoes start first more text r c now at
   goes_as start first came more went text r c now at in_as out_as s =
-      subst (λ (l : List ℕ). Goes start first l text r c now at) in_as (subst (λ (l : List ℕ). Goes start first came l r c now at) out_as s)
+      subst (λ (l : List ℕ). TurnGoes start first l text r c now at) in_as (subst (λ (l : List ℕ). TurnGoes start first came l r c now at) out_as s)
 
   pub own_over : (r : Result Turned FrontKind) (c : HttpConn T) (now : H) (at : K) → Own now at c [] [] r c now at
   own_over r c now at start first came went s =
@@ -380,7 +381,7 @@ module _ {H K T : Type 0} (site : Site) (among : H → Method → List ℕ → R
       (cut_read site among rests tells apart start first came went bytes old now at was s)
 
   pub own_step : (r : Result Turned FrontKind) (old new : HttpConn T) (now to : H) (at after : K) → pending old ≡ [] → old.over ≡ false
-      → OnOk r ((x : StepSlice T) × StepsFrom site among rests tells old.hand now at (unread old.inbox) old.whole x (pending new) to after × Lands x old new) → Own now at old [] [] r new to after
+      → OnOk r ((x : StepSlice T) × StepsFrom site among rests tells old.hand now at (unread old.inbox) old.whole x (pending new) to after × SliceLands x old new) → Own now at old [] [] r new to after
   own_step (Ok t) old new now to at after none was did start first came went s =
       goes_as start first came (came ++ []) went (went ++ []) (Ok t) new to after (sym (append-nil came)) (sym (append-nil went))
       (stands_lands site among rests tells apart start first same later came went old new now to at after none was s did.0 did.1 did.2)

@@ -14,7 +14,7 @@ use Rattle.filter_chain.specs.Led.{IsAlive, Refines, Transition}
 use Rattle.http_message.specs.declared.failure.Failure.{Failure}
 use Rattle.http_message.specs.declared.failure.Failure.TheVariants as failure
 use Rattle.http_message.specs.declared.reply.Method.{Method}
-use Rattle.http_front.specs.Among.{BringsAllIn, CarriesIn, ComesIn, EndsBareIn, EndsCallIn, FinishesIn, HandlesAmong, InitsIn, IsOpening, MakesSlice, OpensIn}
+use Rattle.http_front.specs.Among.{BringsAllIn, CarriesIn, ComesIn, EndsBareIn, EndsCallIn, FinishesIn, HandlesAmong, InitsIn, OpensNext, MakesSlice, OpensIn}
 use Rattle.http_front.specs.Among.{OpensUnlessIn, Rests, RestsAmong, RestsBehind, RunsIn, RunsSlice, Slices, Way, Whole, alone, among, brigades_left}
 use Rattle.http_front.specs.Nearing.{Nears}
 use Rattle.http_front.specs.Outcomes.{IsUnserved}
@@ -101,7 +101,7 @@ module _ (way : Way) (b : ℕ) (c : List Program) (number : ℕ) where
       record { answer = Err why; mid = m; acts = acts; feeds = (well, subst (λ (f : Option Failure). EndsBareIn way b c number f m o t) is x) }
 
   -- `init` is under way
-  inits_on : (method : Method) (name : List ℕ) (k : RequestTask) (s m : HostView) → IsOpening method name k → RunsSlice way b c number None s m
+  inits_on : (method : Method) (name : List ℕ) (k : RequestTask) (s m : HostView) → OpensNext method name k → RunsSlice way b c number None s m
       → (o : RequestOutcome) (t : HostView) → Rests way b c number k m o t → InitsIn way b c number method name s o t
   inits_on method name (task.Opens asked copy) s m is more o t x =
       let z = subst (λ (a : Method). InitsIn way b c number a copy.items m o t) is.0 x in
@@ -277,7 +277,7 @@ module _ {F R : Type 0} {g : Ghosts R Stored} (device : F → Device) (number : 
           ends_then k how (λ way. leads_as device old mid (λ b c s t. RunsCall b c number s how t) (λ b c s t. RunsSlice way b c number (Some how) s t)
           (λ b c s t d. runs_now b c number way how s t d) h)
 
-    pub init_on : (method : Method) (name : List ℕ) (k : RequestTask) → IsOpening method name k
+    pub init_on : (method : Method) (name : List ℕ) (k : RequestTask) → OpensNext method name k
         → ((way : Way) → Refines device old mid (λ b c s t. RunsSlice way b c number None s t))
         → MakesSlice device number (λ way b c. InitsIn way b c number method name) old (Ok (slice.Works k)) mid
     init_on method name k is h way =

@@ -13,7 +13,7 @@ use Rattle.percent_encoding.specs.Percent.{percent_decode}
 use Rattle.http_message.specs.Clocks.{Said}
 use Rattle.http_message.specs.Asking.{target_path}
 use Rattle.http_message.specs.Heads.{BeginsWithin, IsHeadlessWithin, StaysHeadless}
-use Rattle.http_message.specs.Looking.{IsFound}
+use Rattle.http_message.specs.Looking.{IsHeadFound}
 use Rattle.http_message.specs.Sites.{route_of}
 use Rattle.http_message.specs.declared.reply.Method.{Method}
 use Rattle.http_message.specs.declared.site.Site.{Site}
@@ -142,7 +142,7 @@ module _ {H : Type 0} (site : Site) (lacks : H → Method → List ℕ → Front
 
   -- why a head that was found gets no answer
   pub found_lack : {A : Type 0} (seen : List ℕ) (spans : List HeaderSpan) (whole : Bool) (head : RequestSpans) (r : Result A FrontKind)
-      → length spans ≡ fields_limit → IsFound head_limit seen spans head
+      → length spans ≡ fields_limit → IsHeadFound head_limit seen spans head
       → IfErr r (λ e. IsLack e × (e ≡ kind.NamesSpent → (h : RequestHead) → IsRequestAt seen spans head h → LacksNamesAt lacks site old h new)) → IfErr r (LacksAnswer site lacks old seen whole new)
   found_lack seen spans whole head (Ok s) room found lack = tt
   found_lack seen spans whole head (Err e) room found lack =

@@ -19,7 +19,7 @@ use Rattle.http_front.specs.declared.under_way.StepSlice.{StepSlice}
 use Rattle.http_front.specs.declared.under_way.StepSlice.TheVariants as slice
 use Rattle.http_front.specs.declared.under_way.UnderWay.{UnderWay}
 use Rattle.http_message.specs.Inboxes.{unread}
-use Rattle.http_front.specs.Talking.{CountsOn, FailsAs, Follows, IsNext, Lands, WantsSo, pending}
+use Rattle.http_front.specs.Talking.{CountsOn, FailsAs, StepFollows, IsNext, SliceLands, WantsSo, pending}
 use Rattle.http_front.specs.declared.http_conn.Next.{Next}
 use Rattle.http_front.specs.declared.http_conn.Next.TheVariants as next
 use Rattle.http_front.specs.Turns.{WantsMore}
@@ -147,35 +147,35 @@ module _ {A E T : Type 0} (r : Result A E) (c d : HttpConn T) where
 
 -- what a step does
 module _ {T : Type 0} (c d : HttpConn T) where
-  counts_step : (s : ServeStep) → Follows s c d → CountsOn c d
+  counts_step : (s : ServeStep) → StepFollows s c d → CountsOn c d
   counts_step step.More f = inl f.counted
   counts_step step.Done f = inl f.counted
   counts_step s f = inr f.counted
 
-  counts_slice : (x : StepSlice T) → Lands x c d → CountsOn c d
+  counts_slice : (x : StepSlice T) → SliceLands x c d → CountsOn c d
   counts_slice (slice.Did s) l = counts_step s l.0
   counts_slice (slice.Works u) l = inl l.0.counted
 
   module _ {H K : Type 0} (site : Site) (among : H → Method → List ℕ → RequestOutcome → H → Type 0) (rests : H → T → RequestOutcome → H → Type 0)
       (tells : K → Said → K → Type 0) (now new : H) (before after : K) (whole : Bool) (text : List ℕ) where
-    wants_step : (s : ServeStep) → DoesStep site among tells now before (unread c.inbox) whole s text new after → Follows s c d → d.wants ≡ true → (c.wants ≡ true) ⊎ WantsMore (unread d.inbox)
+    wants_step : (s : ServeStep) → DoesStep site among tells now before (unread c.inbox) whole s text new after → StepFollows s c d → d.wants ≡ true → (c.wants ≡ true) ⊎ WantsMore (unread d.inbox)
     wants_step step.More did f is = inr (subst WantsMore (sym f.still) did.1)
     wants_step s did f is = inl (sym f.wants ∙ is)
 
     wants_slice : (hand : Option (UnderWay T)) (x : StepSlice T) → StepsFrom site among rests tells hand now before (unread c.inbox) whole x text new after
-        → Lands x c d → hand ≡ None → d.wants ≡ true → (c.wants ≡ true) ⊎ WantsMore (unread d.inbox)
+        → SliceLands x c d → hand ≡ None → d.wants ≡ true → (c.wants ≡ true) ⊎ WantsMore (unread d.inbox)
     wants_slice None (slice.Did s) did l none is = wants_step s did l.0 is
     wants_slice hand (slice.Works u) did l none is = inl (sym l.0.wants ∙ is)
     wants_slice (Some u) (slice.Did s) did l none is = absurd (cc)
 
-    abbrev Made : Type 0
-    Made = (x : StepSlice T) × StepsFrom site among rests tells c.hand now before (unread c.inbox) whole x text new after × Lands x c d
+    abbrev TurnMade : Type 0
+    TurnMade = (x : StepSlice T) × StepsFrom site among rests tells c.hand now before (unread c.inbox) whole x text new after × SliceLands x c d
 
-    pub wants_made : {A E : Type 0} (r : Result A E) → OnOk r Made → OnOk r (WantsSo c d)
+    pub wants_made : {A E : Type 0} (r : Result A E) → OnOk r TurnMade → OnOk r (WantsSo c d)
     wants_made (Ok y) m = λ none is. wants_slice c.hand m.0 m.1 m.2 none is
     wants_made (Err e) m = tt
 
-    pub counts_made : {A E : Type 0} (r : Result A E) → OnOk r Made → OnOk r (CountsOn c d)
+    pub counts_made : {A E : Type 0} (r : Result A E) → OnOk r TurnMade → OnOk r (CountsOn c d)
     counts_made (Ok y) m = counts_slice m.0 m.2
     counts_made (Err e) m = tt
 

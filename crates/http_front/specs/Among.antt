@@ -39,12 +39,12 @@ brigades_left (Some rest) = by.brigades_from rest.file rest.len rest.start rest.
 
 module _ (budget : ℕ) (chain : List Program) (number : ℕ) where
   -- Events of other connections happened, it may be none.
-  abbrev pub Others : HostView → HostView → Type 0
-  Others old new = (events : List (ℕ × Event × Answer)) × GoesByOthers budget chain number events old new
+  abbrev pub OthersHappen : HostView → HostView → Type 0
+  OthersHappen old new = (events : List (ℕ × Event × Answer)) × GoesByOthers budget chain number events old new
 
   -- An event of this connection is answered. Before it, only events of others happened.
   abbrev pub AnswersLater : Event → HostView → Answer → HostView → Type 0
-  AnswersLater what old answer new = (mid : HostView) × Others old mid × Answers budget chain number what mid answer new
+  AnswersLater what old answer new = (mid : HostView) × OthersHappen old mid × Answers budget chain number what mid answer new
 
   -- So many steps go on, and events of others happened before each.
   unfoldable pub GoesOnLater : ℕ → HostView → HostView → Type 0
@@ -61,54 +61,54 @@ module _ (budget : ℕ) (chain : List Program) (number : ℕ) where
     pub stops : ¬ (answer ≡ Ok stepped.Went)
 
 -- an event of the connection of this number
-abbrev pub Acts : Way → ℕ → List Program → ℕ → Event → HostView → Answer → HostView → Type 0
-Acts alone budget chain number = Answers budget chain number
-Acts among budget chain number = AnswersLater budget chain number
+abbrev pub AnswersIn : Way → ℕ → List Program → ℕ → Event → HostView → Answer → HostView → Type 0
+AnswersIn alone budget chain number = Answers budget chain number
+AnswersIn among budget chain number = AnswersLater budget chain number
 
 -- steps of it, until one answers something else than that it went
-abbrev pub Calls : Way → ℕ → List Program → ℕ → HostView → Result Stepped Refusal → HostView → Type 0
-Calls alone budget chain number = StepsToEnd budget chain number
-Calls among budget chain number = StepsLater budget chain number
+abbrev pub CallsIn : Way → ℕ → List Program → ℕ → HostView → Result Stepped Refusal → HostView → Type 0
+CallsIn alone budget chain number = StepsToEnd budget chain number
+CallsIn among budget chain number = StepsLater budget chain number
 
 module _ (way : Way) (budget : ℕ) (chain : List Program) (number : ℕ) where
   abbrev pub RunsIn : HostView → CallEnd → HostView → Type 0
-  RunsIn = by.RunsCall (Acts way budget chain number) (Calls way budget chain number)
+  RunsIn = by.RunsCall (AnswersIn way budget chain number) (CallsIn way budget chain number)
 
-  abbrev pub EndsIn : HostView → HostView → Type 0
-  EndsIn = by.EndsRequest (Acts way budget chain number) (Calls way budget chain number)
+  abbrev pub EndsRequestIn : HostView → HostView → Type 0
+  EndsRequestIn = by.EndsRequest (AnswersIn way budget chain number) (CallsIn way budget chain number)
 
   abbrev pub EndsBareIn : Option Failure → HostView → RequestOutcome → HostView → Type 0
-  EndsBareIn = by.EndsBare (Acts way budget chain number) (Calls way budget chain number)
+  EndsBareIn = by.EndsBare (AnswersIn way budget chain number) (CallsIn way budget chain number)
 
   abbrev pub TakesOutputIn : HostView → RequestOutcome → HostView → Type 0
-  TakesOutputIn = by.TakesOutput (Acts way budget chain number) (Calls way budget chain number)
+  TakesOutputIn = by.TakesOutput (AnswersIn way budget chain number) (CallsIn way budget chain number)
 
   abbrev pub EndsWithOutputIn : HostView → RequestOutcome → HostView → Type 0
-  EndsWithOutputIn = by.EndsWithOutput (Acts way budget chain number) (Calls way budget chain number)
+  EndsWithOutputIn = by.EndsWithOutput (AnswersIn way budget chain number) (CallsIn way budget chain number)
 
   abbrev pub FinishesIn : CallEnd → HostView → RequestOutcome → HostView → Type 0
-  FinishesIn = by.Finishes (Acts way budget chain number) (Calls way budget chain number)
+  FinishesIn = by.Finishes (AnswersIn way budget chain number) (CallsIn way budget chain number)
 
   abbrev pub BringsAllIn : List (List Piece) → HostView → CallEnd → HostView → Type 0
-  BringsAllIn = by.BringsAll (Acts way budget chain number) (Calls way budget chain number)
+  BringsAllIn = by.BringsAll (AnswersIn way budget chain number) (CallsIn way budget chain number)
 
   abbrev pub CarriesIn : CallEnd → List (List Piece) → HostView → RequestOutcome → HostView → Type 0
-  CarriesIn = by.Carries (Acts way budget chain number) (Calls way budget chain number)
+  CarriesIn = by.Carries (AnswersIn way budget chain number) (CallsIn way budget chain number)
 
   abbrev pub EndsCallIn : List (List Piece) → HostView → RequestOutcome → HostView → Type 0
-  EndsCallIn = by.EndsCall (Acts way budget chain number) (Calls way budget chain number)
+  EndsCallIn = by.EndsCall (AnswersIn way budget chain number) (CallsIn way budget chain number)
 
   abbrev pub OpensIn : CallEnd → Method → List ℕ → HostView → RequestOutcome → HostView → Type 0
-  OpensIn = by.OpensAndFeeds (Acts way budget chain number) (Calls way budget chain number)
+  OpensIn = by.OpensAndFeeds (AnswersIn way budget chain number) (CallsIn way budget chain number)
 
   abbrev pub OpensUnlessIn : CallEnd → Method → List ℕ → HostView → RequestOutcome → HostView → Type 0
-  OpensUnlessIn = by.OpensUnless (Acts way budget chain number) (Calls way budget chain number)
+  OpensUnlessIn = by.OpensUnless (AnswersIn way budget chain number) (CallsIn way budget chain number)
 
   abbrev pub InitsIn : Method → List ℕ → HostView → RequestOutcome → HostView → Type 0
-  InitsIn = by.Inits (Acts way budget chain number) (Calls way budget chain number)
+  InitsIn = by.Inits (AnswersIn way budget chain number) (CallsIn way budget chain number)
 
   abbrev pub ComesIn : Method → List ℕ → HostView → RequestOutcome → HostView → Type 0
-  ComesIn = by.ComesOf (Acts way budget chain number) (Calls way budget chain number)
+  ComesIn = by.ComesOf (AnswersIn way budget chain number) (CallsIn way budget chain number)
 
   -- A slice of a call ended it so. Or what is left of the call, when it is run, makes it whole.
   abbrev pub RunsSlice : Option CallEnd → HostView → HostView → Type 0
@@ -150,9 +150,9 @@ unfoldable pub RestsAmong : {F R : Type 0} {g : Ghosts R Stored} → (F → Devi
 RestsAmong device old number task o new = Refines device old new (λ b c s t. Rests among b c number task s o t)
 
 -- `init` is under way, and then this file is to be opened.
-abbrev pub IsOpening : Method → List ℕ → RequestTask → Type 0
-IsOpening method name (task.Opens m n) = (m ≡ method) × (n.items ≡ name)
-IsOpening method name (task.Brings rest) = ⊥
+abbrev pub OpensNext : Method → List ℕ → RequestTask → Type 0
+OpensNext method name (task.Opens m n) = (m ≡ method) × (n.items ≡ name)
+OpensNext method name (task.Brings rest) = ⊥
 
 -- how many calls are under way or still made of a request, at most; a file has fewer brigades than 2^64
 abbrev pub calls_left : RequestTask → ℕ

@@ -9,7 +9,7 @@ use Rattle.filter_chain.specs.declared.host.Host.{Host}
 use Rattle.filter_chain.specs.Hosting.{Ghosts, Stored, step_answer}
 use Rattle.filter_chain.specs.HostViews.{HostView}
 use Rattle.http_message.specs.declared.reply.Method.{Method}
-use Rattle.http_front.specs.Among.{AnswersLater, ComesLater, GoesOnLater, HandlesAmong, Others, Rests, RestsAmong, RunsIn, among}
+use Rattle.http_front.specs.Among.{AnswersLater, ComesLater, GoesOnLater, HandlesAmong, OthersHappen, Rests, RestsAmong, RunsIn, among}
 use Rattle.http_front.specs.Driven.{GoesByOthers, NoEventsOf}
 use Rattle.http_front.specs.declared.handler.RequestOutcome.{RequestOutcome}
 use Rattle.http_front.specs.declared.running.CallEnd.{CallEnd}
@@ -18,14 +18,14 @@ use Rattle.http_front.specs.declared.task.RequestTask.TheVariants as task
 use Rattle.filter_chain.proofs.Driving.{leads_on}
 
 module _ (b : ℕ) (c : List Program) (number : ℕ) where
-  others_join : (events : List (ℕ × Event × Answer)) (s m t : HostView) → Others b c number s m → GoesByOthers b c number events m t → Others b c number s t
+  others_join : (events : List (ℕ × Event × Answer)) (s m t : HostView) → OthersHappen b c number s m → GoesByOthers b c number events m t → OthersHappen b c number s t
   unfolding GoesByOthers
-  others_join [] s m t so same = subst (λ (v : HostView). Others b c number s v) (sym same) so
+  others_join [] s m t so same = subst (λ (v : HostView). OthersHappen b c number s v) (sym same) so
   others_join (x ∷ xs) s m t so goes =
       let before = others_join xs s m goes.0 so goes.1 in
       (x ∷ before.0, (goes.0, before.1, goes.2, goes.3))
 
-  module _ (s m : HostView) (gap : Others b c number s m) where
+  module _ (s m : HostView) (gap : OthersHappen b c number s m) where
     pub answers_before : (what : Event) (answer : Answer) (t : HostView) → AnswersLater b c number what m answer t → AnswersLater b c number what s answer t
     answers_before what answer t a = (a.0, others_join a.1.0 s m a.0 gap a.1.1, a.2)
 
@@ -53,11 +53,11 @@ module _ {F R : Type 0} {g : Ghosts R Stored} (device : F → Device) (number : 
       → HandlesAmong device old number method file o new
   unfolding NoEventsOf HandlesAmong
   among_later method file o gap comes =
-      leads_on device old now new (λ b c s t. Others b c number s t) (λ b c s t. ComesLater b c number method file s o t) (λ b c s t. ComesLater b c number method file s o t)
+      leads_on device old now new (λ b c s t. OthersHappen b c number s t) (λ b c s t. ComesLater b c number method file s o t) (λ b c s t. ComesLater b c number method file s o t)
       (λ b c s m t x y. comes_before b c number s m x method file o t y) gap comes
 
   pub rests_later : (k : RequestTask) (o : RequestOutcome) → NoEventsOf device old number now → RestsAmong device now number k o new → RestsAmong device old number k o new
   unfolding NoEventsOf RestsAmong
   rests_later k o gap rests =
-      leads_on device old now new (λ b c s t. Others b c number s t) (λ b c s t. Rests among b c number k s o t) (λ b c s t. Rests among b c number k s o t)
+      leads_on device old now new (λ b c s t. OthersHappen b c number s t) (λ b c s t. Rests among b c number k s o t) (λ b c s t. Rests among b c number k s o t)
       (λ b c s m t x y. rests_before b c number s m x k o t y) gap rests

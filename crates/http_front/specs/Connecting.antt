@@ -18,7 +18,7 @@ use Rattle.http_front.specs.declared.fault.FrontKind.TheVariants as kind
 use Rattle.http_front.specs.declared.handler.RequestOutcome.{RequestOutcome}
 use Rattle.http_front.specs.Driven.{LacksFor, OnlyEventsOf, IsAlive, Refines, Handles}
 use Rattle.http_front.specs.Requests.{RunsCall}
-use Rattle.http_front.specs.Turns.{AnswersRequestsRead, IsCut, LacksMemory, LacksNames, Responses}
+use Rattle.http_front.specs.Turns.{AnswersRequestsRead, IsCut, MemoryLacked, LacksNames, Responses}
 use Rattle.http_front.specs.declared.fault.FrontFault.{FrontFault}
 use Rattle.http_front.specs.declared.fault.Served.{Served}
 use Rattle.http_front.specs.declared.running.CallEnd.{CallEnd}
@@ -41,7 +41,7 @@ kind_result (Err e) = Err e.kind
 
 module _ (budget : ℕ) (chain : List Program) (number : ℕ) where
   -- A connection of this number is opened, and its `open` handlers run, however they end.
-  pub record IsOpened (old new : HostView) : Type 0 where
+  pub record IsConnOpened (old new : HostView) : Type 0 where
     pub mid : HostView
     pub how : CallEnd
     pub acts : Answers budget chain 0 event.Open old (Connected number) mid
@@ -68,7 +68,7 @@ module _ {H K : Type 0} (site : Site) (handles : H → Method → List ℕ → R
   FallsBy lacks kind.TooManyReads left old before stream text unread new after = AnswersRequestsRead site handles tells old before stream text unread new after
   FallsBy lacks kind.NamesSpent left old before stream text unread new after = LacksNames site handles tells lacks old before stream text unread new
   FallsBy lacks kind.NoMemory left old before stream text unread new after =
-      LacksMemory site handles tells old before stream text unread new after
+      MemoryLacked site handles tells old before stream text unread new after
       ⊎ (¬ (left ≡ None) × (n : ℕ) × Responses site handles tells old before stream text n new after)
 
 module _ {F K R : Type 0} {g : Ghosts R Stored} (device : F → Device) (tells : K → Said → K → Type 0) (site : Site) where
@@ -78,7 +78,7 @@ module _ {F K R : Type 0} {g : Ghosts R Stored} (device : F → Device) (tells :
     pub number : ℕ
     pub opened : Host F R g
     pub served : Host F R g
-    pub opens : Refines device old opened (λ b c s t. IsOpened b c number s t)
+    pub opens : Refines device old opened (λ b c s t. IsConnOpened b c number s t)
     pub done : serves number opened served
     pub alive : IsAlive device served
     pub beside : OnlyEventsOf device opened number served

@@ -40,12 +40,12 @@ module _ {H : Type 0} (lacks : H → Method → List ℕ → FrontKind → H →
   LacksNamesAt site old h new = (refusal h ≡ None) × LacksNamesFor (file_of site h) old (method_of h.method) new
 
 -- the outcome is this status, without content
-abbrev pub IsBare : StatusCode → RequestOutcome → Type 0
-IsBare status o = (o.status ≡ status) × (o.body ≡ []) × (o.failure ≡ None)
+abbrev pub IsStatusOnly : StatusCode → RequestOutcome → Type 0
+IsStatusOnly status o = (o.status ≡ status) × (o.body ≡ []) × (o.failure ≡ None)
 
 -- the outcome is 500 for a failure, and 404 where there is none, without content
 abbrev pub IsUnserved : Option Failure → RequestOutcome → Type 0
-IsUnserved None o = IsBare NotFound o
+IsUnserved None o = IsStatusOnly NotFound o
 IsUnserved (Some failure) o = (o.status ≡ InternalServerError) × (o.body ≡ []) × (o.failure ≡ Some failure)
 
 -- the reply to a head

@@ -13,7 +13,7 @@ use Rattle.http_message.specs.declared.reply.Version.TheVariants.{Http11}
 use Rattle.http_message.specs.declared.site.Site.{Site}
 use Rattle.http_message.specs.declared.status.StatusCode.{StatusCode}
 use Rattle.http_message.specs.declared.status.StatusCode.TheVariants.{Success, BadRequest, NotFound, MethodNotAllowed, ContentTooLarge, InternalServerError, NotImplemented}
-use Rattle.http_front.specs.Outcomes.{file_of, IsBare, IsUnserved, IsReplyTo, IsBadReply}
+use Rattle.http_front.specs.Outcomes.{file_of, IsStatusOnly, IsUnserved, IsReplyTo, IsBadReply}
 use Rattle.http_front.specs.declared.handler.RequestOutcome.{RequestOutcome}
 use Rattle.http_front.specs.Turns.{IsWithinLimits, head_limit, fields_limit}
 
@@ -110,7 +110,7 @@ IsAnswered h o text closes = (reply_text (reply_of h o) date ≡ text) × ((repl
 pub record RepliesAreThese : Type 0 where
   pub reply : (h : RequestHead) (o : RequestOutcome) (r : Reply) → IsReplyTo h o r → r ≡ reply_of h o
   pub bad : (r : Reply) → IsBadReply r → r ≡ bad_reply
-  pub without : (status : StatusCode) (o : RequestOutcome) → IsBare status o → o ≡ bare status
+  pub without : (status : StatusCode) (o : RequestOutcome) → IsStatusOnly status o → o ≡ bare status
   pub unserved : (why : Failure) (o : RequestOutcome) → IsUnserved (Some why) o → o ≡ failed why
   pub dated : (text : List ℕ) → IsDateLine 784111777 text → text ≡ date
 

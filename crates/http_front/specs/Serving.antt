@@ -7,7 +7,7 @@ use Rattle.http_message.specs.declared.site.Site.{Site}
 use Rattle.http_front.specs.declared.fault.FrontKind.{FrontKind}
 use Rattle.http_front.specs.declared.fault.FrontKind.TheVariants as kind
 use Rattle.http_front.specs.declared.handler.RequestOutcome.{RequestOutcome}
-use Rattle.http_front.specs.Turns.{Turn, AllStay, AnswersAll, AnswersRequestsRead, heads_of, texts_of, Responses, IsCut, LacksMemory, LacksNames}
+use Rattle.http_front.specs.Turns.{Turn, AllStay, AnswersAll, AnswersRequestsRead, heads_of, texts_of, Responses, IsCut, MemoryLacked, LacksNames}
 
 -- the kinds of faults of a sink
 abbrev pub IsSinkKind : FrontKind → Type 0
@@ -46,7 +46,7 @@ Loses limit r q e = ⊥
 module _ {H K : Type 0} (site : Site) (handles : H → Method → List ℕ → RequestOutcome → H → Type 0) (tells : K → Said → K → Type 0) where
   -- So many requests are answered, and the connection stays open. r, q: what the reader had left, and has. w, v: what the writer held,
   -- and holds. unread: what is read and not answered.
-  pub record SoFar (old : H) (before : K) (r q w v : Option (List ℕ)) (unread : List ℕ) (n : ℕ) (new : H) (after : K) : Type 0 where
+  pub record ServedSoFar (old : H) (before : K) (r q w v : Option (List ℕ)) (unread : List ℕ) (n : ℕ) (new : H) (after : K) : Type 0 where
     pub turns : List Turn
     pub stay : AllStay turns
     pub answers : AnswersAll site handles tells old before turns new after
@@ -66,16 +66,16 @@ module _ {H K : Type 0} (site : Site) (handles : H → Method → List ℕ → R
   FailsBy lacks old before r q w v new after kind.Write = Writes r w v (λ stream text. IsCut site handles tells old before stream text new after)
   FailsBy lacks old before r q w v new after kind.Read = Writes r w v (λ stream text. AnswersRequestsRead site handles tells old before stream text q new after)
   FailsBy lacks old before r q w v new after kind.TooManyReads = Writes r w v (λ stream text. AnswersRequestsRead site handles tells old before stream text q new after)
-  FailsBy lacks old before r q w v new after kind.NoMemory = Writes r w v (λ stream text. LacksMemory site handles tells old before stream text q new after)
+  FailsBy lacks old before r q w v new after kind.NoMemory = Writes r w v (λ stream text. MemoryLacked site handles tells old before stream text q new after)
   FailsBy lacks old before r q w v new after kind.NamesSpent = Writes r w v (λ stream text. LacksNames site handles tells lacks old before stream text q new)
 
   -- It ends well where no more is answered; else so many requests are answered, and it stays open.
-  abbrev pub Standing : H → K → Option (List ℕ) → Option (List ℕ) → Option (List ℕ) → Option (List ℕ) → Bool → List ℕ → ℕ → H → K → Type 0
-  Standing old before r q w v true unread n new after = EndsWell old before r w v n new after
-  Standing old before r q w v false unread n new after = SoFar old before r q w v unread n new after
+  abbrev pub ServeStanding : H → K → Option (List ℕ) → Option (List ℕ) → Option (List ℕ) → Option (List ℕ) → Bool → List ℕ → ℕ → H → K → Type 0
+  ServeStanding old before r q w v true unread n new after = EndsWell old before r w v n new after
+  ServeStanding old before r q w v false unread n new after = ServedSoFar old before r q w v unread n new after
 
   -- It goes on so, or fails.
-  abbrev pub Goes : {T : Type 0} → (H → Method → List ℕ → FrontKind → H → Type 0) → H → K → Option (List ℕ) → Option (List ℕ) → Option (List ℕ) → Option (List ℕ)
+  abbrev pub ServeGoes : {T : Type 0} → (H → Method → List ℕ → FrontKind → H → Type 0) → H → K → Option (List ℕ) → Option (List ℕ) → Option (List ℕ) → Option (List ℕ)
       → Bool → List ℕ → ℕ → H → K → Result T FrontKind → Type 0
-  Goes lacks old before r q w v over unread n new after (Ok x) = Standing old before r q w v over unread n new after
-  Goes lacks old before r q w v over unread n new after (Err e) = FailsBy lacks old before r q w v new after e
+  ServeGoes lacks old before r q w v over unread n new after (Ok x) = ServeStanding old before r q w v over unread n new after
+  ServeGoes lacks old before r q w v over unread n new after (Err e) = FailsBy lacks old before r q w v new after e

@@ -27,7 +27,7 @@ LacksAnswer site lacks old seen whole new kind.NamesSpent = LacksFile site lacks
 LacksAnswer site lacks old seen whole new e = ⊥
 
 -- The text of a reply to such a request is made, with the Date line of a moment that the clock told. The clock is told of it.
-pub record IsWritten {K : Type 0} (tells : K → Said → K → Type 0) (before : K) (method target : List ℕ) (r : Reply) (text : List ℕ) (after : K) : Type 0 where
+pub record IsReplyWritten {K : Type 0} (tells : K → Said → K → Type 0) (before : K) (method target : List ℕ) (r : Reply) (text : List ℕ) (after : K) : Type 0 where
   pub date : List ℕ
   pub then : K
   pub dated : IsDated tells before date then

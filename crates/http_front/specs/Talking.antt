@@ -44,7 +44,7 @@ module _ {H K T : Type 0} (site : Site) (among : H → Method → List ℕ → R
 
   -- What went and what is to go are the responses to what came, by the events of this connection, and no others; and those of the request that is
   -- under way, if there is one. now, at: handler and clock
-  pub record Stands (c : HttpConn T) (now : H) (at : K) : Type 0 where
+  pub record ConnStands (c : HttpConn T) (now : H) (at : K) : Type 0 where
     pub mid : H
     pub then : K
     pub so : IsSo site among (TellsLater tells) start first came c.over (went ++ pending c) (unread c.inbox) mid then
@@ -62,7 +62,7 @@ module _ {H K T : Type 0} (site : Site) (among : H → Method → List ℕ → R
 
   -- how far it is behind a turn
   abbrev pub GoesSo : Result Turned FrontKind → HttpConn T → H → K → Type 0
-  GoesSo (Ok t) c now at = Stands c now at
+  GoesSo (Ok t) c now at = ConnStands c now at
   GoesSo (Err e) c now at = StandsCut
 
 -- what is left behind a step, whether more bytes are wanted, whether no more is answered, and how many responses were made
@@ -76,17 +76,17 @@ pub record FollowsAs {T : Type 0} (left : List ℕ) (reads ends : Bool) (count :
 abbrev pub one_more : ℕ → ℕ
 one_more n = min (n + 1) 18446744073709551615
 
-abbrev pub Follows : {T : Type 0} → ServeStep → HttpConn T → HttpConn T → Type 0
-Follows (step.Stays size) old new = FollowsAs (drop size (unread old.inbox)) old.wants false (one_more old.requests) new
-Follows (step.Closes size) old new = FollowsAs (drop size (unread old.inbox)) old.wants true (one_more old.requests) new
-Follows step.Refused old new = FollowsAs (unread old.inbox) old.wants true (one_more old.requests) new
-Follows step.More old new = FollowsAs (unread old.inbox) true false old.requests new
-Follows step.Done old new = FollowsAs (unread old.inbox) old.wants true old.requests new
+abbrev pub StepFollows : {T : Type 0} → ServeStep → HttpConn T → HttpConn T → Type 0
+StepFollows (step.Stays size) old new = FollowsAs (drop size (unread old.inbox)) old.wants false (one_more old.requests) new
+StepFollows (step.Closes size) old new = FollowsAs (drop size (unread old.inbox)) old.wants true (one_more old.requests) new
+StepFollows step.Refused old new = FollowsAs (unread old.inbox) old.wants true (one_more old.requests) new
+StepFollows step.More old new = FollowsAs (unread old.inbox) true false old.requests new
+StepFollows step.Done old new = FollowsAs (unread old.inbox) old.wants true old.requests new
 
 -- what follows a slice: a step is made, and nothing is in hand; or a request is
-abbrev pub Lands : {T : Type 0} → StepSlice T → HttpConn T → HttpConn T → Type 0
-Lands (slice.Did s) old new = Follows s old new × (new.hand ≡ None)
-Lands (slice.Works u) old new = FollowsAs (unread old.inbox) old.wants false old.requests new × (new.hand ≡ Some u)
+abbrev pub SliceLands : {T : Type 0} → StepSlice T → HttpConn T → HttpConn T → Type 0
+SliceLands (slice.Did s) old new = StepFollows s old new × (new.hand ≡ None)
+SliceLands (slice.Works u) old new = FollowsAs (unread old.inbox) old.wants false old.requests new × (new.hand ≡ Some u)
 
 -- Where no request was in hand, more bytes are wanted only where those at hand begin with no head yet, or where they were wanted.
 abbrev pub WantsSo : {T : Type 0} → HttpConn T → HttpConn T → Type 0

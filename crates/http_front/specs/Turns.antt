@@ -11,7 +11,7 @@ use Rattle.http_message.specs.declared.reply.Reply.{Reply}
 use Rattle.http_message.specs.declared.site.Site.{Site}
 use Rattle.http_message.specs.declared.status.StatusCode.{StatusCode}
 use Rattle.http_message.specs.declared.status.StatusCode.TheVariants.{NotFound}
-use Rattle.http_front.specs.Outcomes.{LacksNamesAt, file_of, IsBare, IsReplyTo, IsBadReply}
+use Rattle.http_front.specs.Outcomes.{LacksNamesAt, file_of, IsStatusOnly, IsReplyTo, IsBadReply}
 use Rattle.http_front.specs.declared.fault.FrontKind.{FrontKind}
 use Rattle.http_front.specs.declared.handler.RequestOutcome.{RequestOutcome}
 
@@ -70,11 +70,11 @@ pub record IsWithinLimits (h : RequestHead) : Type 0 where
 module _ {H : Type 0} (site : Site) (handles : H → Method → List ℕ → RequestOutcome → H → Type 0) where
   -- what a head with this file comes to, where nothing refuses it: 404 where there is no file at its path
   abbrev pub ComesTo : Option (List ℕ) → H → RequestHead → RequestOutcome → H → Type 0
-  ComesTo None old h o new = IsBare NotFound o × (new ≡ old)
+  ComesTo None old h o new = IsStatusOnly NotFound o × (new ≡ old)
   ComesTo (Some file) old h o new = handles old (method_of h.method) file o new
 
   abbrev pub ComesUnless : Option StatusCode → H → RequestHead → RequestOutcome → H → Type 0
-  ComesUnless (Some status) old h o new = IsBare status o × (new ≡ old)
+  ComesUnless (Some status) old h o new = IsStatusOnly status o × (new ≡ old)
   ComesUnless None old h o new = ComesTo (file_of site h) old h o new
 
 -- K: a clock. tells: what passes between it and the server.
@@ -218,8 +218,8 @@ module _ {H K : Type 0} (site : Site) (handles : H → Method → List ℕ → R
     pub written : text ≡ front ++ part
 
   -- Memory was lacking: for the request at hand, for bytes that were read, or for what is written into.
-  abbrev pub LacksMemory : H → K → List ℕ → List ℕ → Option (List ℕ) → H → K → Type 0
-  LacksMemory old before stream text left new after = LacksAt (λ mid. IsDue) old before stream text left ⊎ (LosesRead old before stream text left new after ⊎ IsCut old before stream text new after)
+  abbrev pub MemoryLacked : H → K → List ℕ → List ℕ → Option (List ℕ) → H → K → Type 0
+  MemoryLacked old before stream text left new after = LacksAt (λ mid. IsDue) old before stream text left ⊎ (LosesRead old before stream text left new after ⊎ IsCut old before stream text new after)
 
   -- Names were lacking: for the request at hand, which nothing refuses, and whose path has a file.
   abbrev pub LacksNames : (H → Method → List ℕ → FrontKind → H → Type 0) → H → K → List ℕ → List ℕ → Option (List ℕ) → H → Type 0

@@ -12,7 +12,7 @@ use Rattle.http_message.specs.declared.site.Site.{Site}
 use Rattle.http_message.specs.declared.status.StatusCode.TheVariants.{NotFound}
 use Rattle.http_front.specs.Nearing.{slice_steps}
 use Rattle.http_front.specs.Outcomes.{IsReplyTo, file_of}
-use Rattle.http_front.specs.Stepping.{DoesStep, IsWritten, LacksAnswer}
+use Rattle.http_front.specs.Stepping.{DoesStep, IsReplyWritten, LacksAnswer}
 use Rattle.http_front.specs.Turns.{ComesUnless, fields_limit, head_limit}
 use Rattle.http_front.specs.declared.fault.FrontKind.{FrontKind}
 use Rattle.http_front.specs.declared.fault.FrontKind.TheVariants as kind
@@ -25,8 +25,8 @@ use Rattle.http_front.specs.declared.under_way.Asked.{Asked}
 use Rattle.http_front.specs.declared.under_way.StepSlice.{StepSlice}
 use Rattle.http_front.specs.declared.under_way.StepSlice.TheVariants as slice
 use Rattle.http_front.specs.declared.under_way.UnderWay.{UnderWay}
-use Rattle.http_front.specs.declared.wanted.Wanted.{Wanted}
-use Rattle.http_front.specs.declared.wanted.Wanted.TheVariants as wanted
+use Rattle.http_front.specs.declared.wanted.SiteTarget.{SiteTarget}
+use Rattle.http_front.specs.declared.wanted.SiteTarget.TheVariants as wanted
 
 -- What was found of a head, with which these bytes begin.
 pub record IsAskedBy (seen : List ℕ) (a : Asked) (h : RequestHead) : Type 0 where
@@ -37,26 +37,26 @@ pub record IsAskedBy (seen : List ℕ) (a : Asked) (h : RequestHead) : Type 0 wh
   pub closes : a.closes ≡ head_closes h
 
 -- A head that nothing refuses asks for the file at its path: 404 where there is none.
-abbrev pub WantsPath : Site → RequestHead → Wanted → Type 0
+abbrev pub WantsPath : Site → RequestHead → SiteTarget → Type 0
 WantsPath site h (wanted.Status status) = (file_of site h ≡ None) × (status ≡ NotFound)
 WantsPath site h (wanted.File file) = file_of site h ≡ Some file.now
 
 -- A head gets the status that refuses it, or asks for the file at its path.
-abbrev pub Wants : Site → RequestHead → Wanted → Type 0
+abbrev pub Wants : Site → RequestHead → SiteTarget → Type 0
 Wants site h (wanted.Status status) = (refusal h ≡ Some status) ⊎ ((refusal h ≡ None) × WantsPath site h (wanted.Status status))
 Wants site h (wanted.File file) = (refusal h ≡ None) × WantsPath site h (wanted.File file)
 
 -- A request of this length is answered, and the connection closes or not.
-abbrev pub Answered : Bool → ℕ → ServeStep → Type 0
-Answered true size s = s ≡ step.Closes size
-Answered false size s = s ≡ step.Stays size
+abbrev pub RequestAnswered : Bool → ℕ → ServeStep → Type 0
+RequestAnswered true size s = s ≡ step.Closes size
+RequestAnswered false size s = s ≡ step.Stays size
 
 -- The text of the reply to a head, with this outcome, is made, and the clock is told of it.
 pub record Sends {K : Type 0} (tells : K → Said → K → Type 0) (before : K) (h : RequestHead) (o : RequestOutcome) (size : ℕ) (s : ServeStep) (text : List ℕ) (after : K) : Type 0 where
   pub reply : Reply
   pub is : IsReplyTo h o reply
-  pub written : IsWritten tells before h.method h.target reply text after
-  pub answered : Answered reply.closes size s
+  pub written : IsReplyWritten tells before h.method h.target reply text after
+  pub answered : RequestAnswered reply.closes size s
 
 module _ {H T : Type 0} (site : Site) (among : H → Method → List ℕ → RequestOutcome → H → Type 0) (rests : H → T → RequestOutcome → H → Type 0) where
   -- Nothing refuses a head, its path has a file, and a request for that is under way. What is left of it, when it is done, makes it whole. old, now: the
@@ -81,14 +81,14 @@ module _ {H T : Type 0} (site : Site) (among : H → Method → List ℕ → Req
     pub asks : Asks head u.task old now
 
   -- a step is made, or a request is under way, and nothing is answered yet
-  abbrev pub Steps : {K : Type 0} → (K → Said → K → Type 0) → H → K → List ℕ → Bool → StepSlice T → List ℕ → H → K → Type 0
-  Steps tells old before seen whole (slice.Did s) text new after = DoesStep site among tells old before seen whole s text new after
-  Steps tells old before seen whole (slice.Works u) text new after = IsUnderWay seen u old new × (after ≡ before) × (text ≡ [])
+  abbrev pub StepMade : {K : Type 0} → (K → Said → K → Type 0) → H → K → List ℕ → Bool → StepSlice T → List ℕ → H → K → Type 0
+  StepMade tells old before seen whole (slice.Did s) text new after = DoesStep site among tells old before seen whole s text new after
+  StepMade tells old before seen whole (slice.Works u) text new after = IsUnderWay seen u old new × (after ≡ before) × (text ≡ [])
 
   -- the same, from a request that is in hand, if there is one
   abbrev pub StepsFrom : {K : Type 0} → (K → Said → K → Type 0) → Option (UnderWay T) → H → K → List ℕ → Bool → StepSlice T → List ℕ → H → K → Type 0
-  StepsFrom tells None now before seen whole x text new after = Steps tells now before seen whole x text new after
-  StepsFrom tells (Some u) now before seen whole x text new after = (old : H) → IsUnderWay seen u old now → Steps tells old before seen whole x text new after
+  StepsFrom tells None now before seen whole x text new after = StepMade tells now before seen whole x text new after
+  StepsFrom tells (Some u) now before seen whole x text new after = (old : H) → IsUnderWay seen u old now → StepMade tells old before seen whole x text new after
 
 -- Why a slice of a step fails: there is no request in hand, and the bytes get no answer for this. Or memory is lacking for the request that is in hand, or for
 -- its response; or names are, for what is left of that request. lacks, lacks_rest: that the handler leaves a request without an outcome, or what was left of one

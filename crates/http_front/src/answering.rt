@@ -2,7 +2,7 @@
 
 ghost use Rattle.std.specs.Prelude.{◌≡◌, ◌||◌};
 ghost use Rattle.http_message.specs.Asking.{status_closes};
-ghost use Rattle.http_front.specs.Outcomes.{IsBare, IsBadReply};
+ghost use Rattle.http_front.specs.Outcomes.{IsStatusOnly, IsBadReply};
 
 use crate::handler::RequestOutcome;
 use filter_chain::BlockBytes;
@@ -10,7 +10,7 @@ use http_message::{Method, Reply, StatusCode, Version, status_closes};
 use std::alloc::Global;
 
 pub(crate) fn bare(alloc: Global, status: StatusCode) -> RequestOutcome
-    ensures { IsBare status result }
+    ensures { IsStatusOnly status result }
 {
     RequestOutcome {
         status,

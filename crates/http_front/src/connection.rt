@@ -1,6 +1,6 @@
 //! A connection of the host, from its opening to its close.
 
-ghost use Rattle.http_front.specs.Prelude.{reads_left, source_of, Program, Connected, Refused, Open, HostView, Answers, kind_result, ClosesTurns, ServingFails, IsClosed, IsOpened, ServesAll};
+ghost use Rattle.http_front.specs.Prelude.{reads_left, source_of, Program, Connected, Refused, Open, HostView, Answers, kind_result, ClosesTurns, ServingFails, IsClosed, IsConnOpened, ServesAll};
 ghost use Rattle.http_front.specs.Prelude.{Visits, kind_of, outcome_of, BlamesSink, BlamesSource, HasConn, IsAlive, NoEventsOf, Refines};
 ghost use Rattle.std.specs.Prelude.{◌≡◌, ◌≢◌, ◌↔◌, ℕ, List, IfOk, IfErr, IfSome, IsTrue};
 
@@ -44,7 +44,7 @@ pub fn open_turns<F: Files + Drop, R: Rings<Stored> + Drop>(
 ) -> Result<u64, FrontKind>
     requires { IsAlive F.device host.old }
     ensures still { IsAlive F.device host.new }
-    ensures ok { IfOk result (λ number. Refines F.device host.old host.new (λ (b : ℕ) (c : List Program) (s t : HostView). IsOpened b c number s t)) }
+    ensures ok { IfOk result (λ number. Refines F.device host.old host.new (λ (b : ℕ) (c : List Program) (s t : HostView). IsConnOpened b c number s t)) }
     ensures others { (k : ℕ) → k ≢ 0 → IfOk result (λ number. k ≢ number) → (from : Host F R R.Rings) → NoEventsOf F.device from k host.old → NoEventsOf F.device from k host.new }
 {
     match host.open_conn() {

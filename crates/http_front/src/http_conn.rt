@@ -108,7 +108,7 @@ fn sized<T: Drop>(
 }
 
 impl<T: Drop> HttpConn<T> {
-    ghost use Rattle.http_front.specs.Talking.{CountsOn, Fails, Follows, GoesSo, IsNext, Lands, Stands, WantsSo, pending};
+    ghost use Rattle.http_front.specs.Talking.{CountsOn, Fails, StepFollows, GoesSo, IsNext, SliceLands, ConnStands, WantsSo, pending};
 
     /// Nothing came yet. It takes no memory.
     pub fn new(alloc: Global) -> HttpConn<T>
@@ -321,7 +321,7 @@ impl<T: Drop> HttpConn<T> {
     /// What follows a step: its text is there.
     fn follow(&mut self, step: ServeStep)
         requires going { self.old.over ≡ false }
-        ensures follows { Follows step self.old self.new }
+        ensures follows { StepFollows step self.old self.new }
         ensures text { self.new.text ≡ self.old.text }
         ensures sent { self.new.sent ≡ self.old.sent }
         ensures hand { self.new.hand ≡ self.old.hand }
@@ -362,7 +362,7 @@ impl<T: Drop> HttpConn<T> {
         ensures clock { (from : K) → Passes K.tells from clock.old → Passes K.tells from clock.new }
         ensures did { OnOk result ((x : StepSlice T) × StepsFrom site.now (λ old. P.comes old number) (λ old. P.rests old number) K.tells self.old.hand handler.old
             clock.old (unread self.old.inbox) self.old.whole x (pending self.new) handler.new clock.new
-            × Lands x self.old self.new) }
+            × SliceLands x self.old self.new) }
         ensures whole { self.new.whole ≡ self.old.whole }
         ensures lacks { IfErr result (LacksSlice site.now (λ old. H.lacks old number) (λ old. P.lacks_rest old number) self.old.hand handler.old (unread self.old.inbox) self.old.whole handler.new) }
         ensures none { OnErr result (pending self.new ≡ []) }
@@ -410,13 +410,13 @@ impl<T: Drop> HttpConn<T> {
         requires room { 0 < length buffer.old }
         ensures open { H.is_open handler.new number }
         ensures own { (bytes text : List ℕ) × Consumes (R.remaining reader.old) (R.remaining reader.new) bytes × Appends (W.contents sink.old) (W.contents sink.new) text
-            × ((start : H) (first : K) (came went : List ℕ) → Stands site.now (λ old. H.among old number) (λ old. H.rests old number) K.tells
+            × ((start : H) (first : K) (came went : List ℕ) → ConnStands site.now (λ old. H.among old number) (λ old. H.rests old number) K.tells
             (λ old new. H.apart old number new) start first came went self.old handler.old clock.old
             → GoesSo site.now (λ old. H.among old number) (λ old. H.rests old number) K.tells (λ old new. H.apart old number new) start first (came ++ bytes)
             (went ++ text) result self.new handler.new clock.new) }
         ensures others { (k : ℕ) → k ≢ number → (start : H) (first : K) (came went : List ℕ) (other : HttpConn T)
-            → Stands site.now (λ old. H.among old k) (λ old. H.rests old k) K.tells (λ old new. H.apart old k new) start first came went other handler.old clock.old
-            → Stands site.now (λ old. H.among old k) (λ old. H.rests old k) K.tells (λ old new. H.apart old k new) start first came went other handler.new clock.new }
+            → ConnStands site.now (λ old. H.among old k) (λ old. H.rests old k) K.tells (λ old new. H.apart old k new) start first came went other handler.old clock.old
+            → ConnStands site.now (λ old. H.among old k) (λ old. H.rests old k) K.tells (λ old new. H.apart old k new) start first came went other handler.new clock.new }
         ensures whole { self.new.whole ≡ true → (self.old.whole ≡ true) ⊎ IsAtEnd (R.remaining reader.new) }
         ensures fails { IfErr result (Fails site.now (λ old. H.lacks old number) (λ old. H.lacks_rest old number) (length buffer.new) (R.remaining reader.old)
             (R.remaining reader.new) handler.old handler.new self.old) }

@@ -1,7 +1,7 @@
 //! How a request for a file ends on the host of chains, and the host as what handles requests.
 
 ghost use Rattle.std.specs.Prelude.{◌≡◌, ℕ, List, IfOk, IfErr};
-ghost use Rattle.http_front.specs.Prelude.{Program, HostView, EndsBareIn, EndsWithOutputIn, FinishesIn, MakesSlice, Way, calls_after, IsLack, IsUnserved, LacksFor, OnlyEventsOf, IsAlive, Refines};
+ghost use Rattle.http_front.specs.Prelude.{Program, HostView, EndsBareIn, FinishesIn, MakesSlice, Way, calls_after, IsLack, IsUnserved, LacksFor, OnlyEventsOf, IsAlive, Refines};
 ghost use Rattle.http_front.specs.Prelude.{StepsAtMost, TakesOutput, unopened};
 
 use crate::fault::FrontKind;
@@ -46,7 +46,6 @@ fn output<F: Files + Drop, R: Rings<Stored> + Drop>(
 ) -> RequestOutcome
     requires { IsAlive F.device host.old }
     ensures leads { Refines F.device host.old host.new (λ (b : ℕ) (c : List Program) (s t : HostView). TakesOutput b c number s result t) }
-    ensures beside { (from : Host F R R.Rings) → OnlyEventsOf F.device from number host.old → OnlyEventsOf F.device from number host.new }
     ensures few { (from : Host F R R.Rings) (n : ℕ) → StepsAtMost F.device from number n host.old → StepsAtMost F.device from number n host.new }
 {
     match host.take_output(number) {
@@ -59,25 +58,6 @@ fn output<F: Files + Drop, R: Rings<Stored> + Drop>(
     }
 }
 
-/// Takes the output, and ends the request.
-fn finish_with_output<F: Files + Drop, R: Rings<Stored> + Drop>(
-    alloc: Global,
-    host: &mut Host<F, R>,
-    number: u64,
-) -> Result<Slice<RequestTask>, FrontKind>
-    requires { IsAlive F.device host.old }
-    ensures leads { MakesSlice F.device number (λ (way : Way) (b : ℕ) (c : List Program). EndsWithOutputIn way b c number) host.old result host.new }
-    ensures beside { (from : Host F R R.Rings) → OnlyEventsOf F.device from number host.old → OnlyEventsOf F.device from number host.new }
-    ensures err { IfErr result IsLack }
-    ensures lacks { (from : Host F R R.Rings) → OnlyEventsOf F.device from number host.old → IfErr result (λ e. LacksFor F.device from number e host.new) }
-    ensures few { (from : Host F R R.Rings) (n : ℕ) → StepsAtMost F.device from number n host.old → StepsAtMost F.device from number n host.new }
-    ensures calls { IfOk result (λ r. calls_after r ≡ 0) }
-{
-    let outcome = output(alloc, host, number);
-    end_request(host, number)?;
-    Ok(Slice::Done(outcome))
-}
-
 /// Ends the request without content.
 pub(crate) fn finish_bare<F: Files + Drop, R: Rings<Stored> + Drop>(
     alloc: Global,
@@ -87,7 +67,6 @@ pub(crate) fn finish_bare<F: Files + Drop, R: Rings<Stored> + Drop>(
 ) -> Result<Slice<RequestTask>, FrontKind>
     requires { IsAlive F.device host.old }
     ensures leads { MakesSlice F.device number (λ (way : Way) (b : ℕ) (c : List Program). EndsBareIn way b c number failure) host.old result host.new }
-    ensures beside { (from : Host F R R.Rings) → OnlyEventsOf F.device from number host.old → OnlyEventsOf F.device from number host.new }
     ensures err { IfErr result IsLack }
     ensures lacks { (from : Host F R R.Rings) → OnlyEventsOf F.device from number host.old → IfErr result (λ e. LacksFor F.device from number e host.new) }
     ensures few { (from : Host F R R.Rings) (n : ℕ) → StepsAtMost F.device from number n host.old → StepsAtMost F.device from number n host.new }
@@ -106,14 +85,17 @@ pub(crate) fn finish<F: Files + Drop, R: Rings<Stored> + Drop>(
 ) -> Result<Slice<RequestTask>, FrontKind>
     requires { IsAlive F.device host.old }
     ensures leads { MakesSlice F.device number (λ (way : Way) (b : ℕ) (c : List Program). FinishesIn way b c number how) host.old result host.new }
-    ensures beside { (from : Host F R R.Rings) → OnlyEventsOf F.device from number host.old → OnlyEventsOf F.device from number host.new }
     ensures err { IfErr result IsLack }
     ensures lacks { (from : Host F R R.Rings) → OnlyEventsOf F.device from number host.old → IfErr result (λ e. LacksFor F.device from number e host.new) }
     ensures few { (from : Host F R R.Rings) (n : ℕ) → StepsAtMost F.device from number n host.old → StepsAtMost F.device from number n host.new }
     ensures calls { IfOk result (λ r. calls_after r ≡ 0) }
 {
     match how {
-        CallEnd::Succeeded => finish_with_output(alloc, host, number),
+        CallEnd::Succeeded => {
+            let outcome = output(alloc, host, number);
+            end_request(host, number)?;
+            Ok(Slice::Done(outcome))
+        }
         CallEnd::Failed(why) => finish_bare(alloc, host, number, Some(why)),
         CallEnd::Broke(why) => Ok(Slice::Done(bare(alloc, Some(why)))),
     }

@@ -1,6 +1,6 @@
 //! The requests of a connection beside which no other is served, from a source, and the responses, into a sink: both may wait.
 
-ghost use Rattle.http_front.specs.Prelude.{reads_left, source_of, unread, SoFar, Goes, EndsWell, FailsBy, BlamesSink, BlamesSource, pending, to_do, WantsMore};
+ghost use Rattle.http_front.specs.Prelude.{reads_left, source_of, unread, ServedSoFar, ServeGoes, EndsWell, FailsBy, BlamesSink, BlamesSource, pending, to_do, WantsMore};
 ghost use Rattle.std.specs.Prelude.{◌≡◌, ◌≢◌, ℕ, List, ◌+◌, ◌<◌, ◌≤◌, ◌^◌, Option, length, [], true, false, Ok, Err, IfOk, IfErr, OnOk, OnErr};
 ghost use Rattle.std.specs.Io.KnownBytes.{IsAtEnd};
 
@@ -37,8 +37,8 @@ fn answer_next<W: Sink, H: Handler, K: Clock>(
     ensures blames { BlamesSink result (W.failed sink.old) (W.failed sink.new) }
     ensures unread { result ≢ Err FrontKind.Read × result ≢ Err FrontKind.TooManyReads }
     ensures goes { (old : H) (before : K) (r q w : Option (List ℕ)) → (conn.old.whole ≡ true → IsAtEnd q)
-        → SoFar site.now (λ h. H.handles h number) K.tells old before r q w (W.contents sink.old) (unread conn.old.inbox) conn.old.requests handler.old clock.old
-        → Goes site.now (λ h. H.handles h number) K.tells (λ h. H.lacks h number) old before r q w (W.contents sink.new) conn.new.over
+        → ServedSoFar site.now (λ h. H.handles h number) K.tells old before r q w (W.contents sink.old) (unread conn.old.inbox) conn.old.requests handler.old clock.old
+        → ServeGoes site.now (λ h. H.handles h number) K.tells (λ h. H.lacks h number) old before r q w (W.contents sink.new) conn.new.over
         (unread conn.new.inbox) conn.new.requests handler.new clock.new result }
 {
     conn.step::<H, K, AtOnce>(alloc, site, handler, number, clock)?;
@@ -69,8 +69,8 @@ fn answer_all<W: Sink, H: Handler, K: Clock>(
     ensures blames { BlamesSink result (W.failed sink.old) (W.failed sink.new) }
     ensures unread { result ≢ Err FrontKind.Read × result ≢ Err FrontKind.TooManyReads }
     ensures goes { (old : H) (before : K) (r q w : Option (List ℕ)) → (conn.old.whole ≡ true → IsAtEnd q)
-        → SoFar site.now (λ h. H.handles h number) K.tells old before r q w (W.contents sink.old) (unread conn.old.inbox) conn.old.requests handler.old clock.old
-        → Goes site.now (λ h. H.handles h number) K.tells (λ h. H.lacks h number) old before r q w (W.contents sink.new) conn.new.over
+        → ServedSoFar site.now (λ h. H.handles h number) K.tells old before r q w (W.contents sink.old) (unread conn.old.inbox) conn.old.requests handler.old clock.old
+        → ServeGoes site.now (λ h. H.handles h number) K.tells (λ h. H.lacks h number) old before r q w (W.contents sink.new) conn.new.over
         (unread conn.new.inbox) conn.new.requests handler.new clock.new result }
 {
     loop {

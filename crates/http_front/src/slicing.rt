@@ -1,7 +1,7 @@
 //! A request for a file on the host of chains, in slices. Between two of them others may be served.
 
 ghost use Rattle.std.specs.Prelude.{◌≡◌, ◌↔◌, ◌+◌, ◌<◌, ◌≤◌, ◌^◌, ℕ, List, length, Ok, Some, IfOk, IfErr, IsTrue};
-ghost use Rattle.http_front.specs.Prelude.{Program, HostView, IsLack, slice_steps, IsAlive, LacksFor, OnlyEventsOf, Refines, StepsAtMost, ComesOf, CarriesIn, ComesIn, InitsIn, IsOpening};
+ghost use Rattle.http_front.specs.Prelude.{Program, HostView, IsLack, slice_steps, IsAlive, LacksFor, OnlyEventsOf, Refines, StepsAtMost, ComesOf, CarriesIn, ComesIn, InitsIn, OpensNext};
 ghost use Rattle.http_front.specs.Prelude.{MakesSlice, OpensIn, OpensUnlessIn, Rests, RestsBehind, RunsSlice, Way, brigades_left, calls_after, calls_left};
 
 use crate::fault::FrontKind;
@@ -30,7 +30,6 @@ fn step_slice<F: Files + Drop, R: Rings<Stored> + Drop>(
 ) -> Option<CallEnd>
     requires { IsAlive F.device host.old }
     ensures leads { (way : Way) → Refines F.device host.old host.new (λ (b : ℕ) (c : List Program) (s t : HostView). RunsSlice way b c number result s t) }
-    ensures beside { (from : Host F R R.Rings) → OnlyEventsOf F.device from number host.old → OnlyEventsOf F.device from number host.new }
     ensures few { (from : Host F R R.Rings) (n : ℕ) → StepsAtMost F.device from number n host.old → StepsAtMost F.device from number (n + slice_steps) host.new }
 {
     let answer = host.step_up_to(number, SLICE_STEPS);
@@ -49,7 +48,6 @@ fn bring_next<F: Files + Drop, R: Rings<Stored> + Drop>(
 ) -> Result<Slice<RequestTask>, FrontKind>
     requires { IsAlive F.device host.old }
     ensures leads { MakesSlice F.device number (λ (way : Way) (b : ℕ) (c : List Program). CarriesIn way b c number CallEnd.Succeeded (brigades_left (Some rest))) host.old result host.new }
-    ensures beside { (from : Host F R R.Rings) → OnlyEventsOf F.device from number host.old → OnlyEventsOf F.device from number host.new }
     ensures err { IfErr result IsLack }
     ensures lacks { (from : Host F R R.Rings) → OnlyEventsOf F.device from number host.old → IfErr result (λ e. LacksFor F.device from number e host.new) }
     ensures few { (from : Host F R R.Rings) (n : ℕ) → StepsAtMost F.device from number n host.old → StepsAtMost F.device from number n host.new }
@@ -76,7 +74,6 @@ fn carry_on<F: Files + Drop, R: Rings<Stored> + Drop>(
 ) -> Result<Slice<RequestTask>, FrontKind>
     requires { IsAlive F.device host.old }
     ensures leads { MakesSlice F.device number (λ (way : Way) (b : ℕ) (c : List Program). CarriesIn way b c number how (brigades_left rest)) host.old result host.new }
-    ensures beside { (from : Host F R R.Rings) → OnlyEventsOf F.device from number host.old → OnlyEventsOf F.device from number host.new }
     ensures err { IfErr result IsLack }
     ensures lacks { (from : Host F R R.Rings) → OnlyEventsOf F.device from number host.old → IfErr result (λ e. LacksFor F.device from number e host.new) }
     ensures few { (from : Host F R R.Rings) (n : ℕ) → StepsAtMost F.device from number n host.old → StepsAtMost F.device from number n host.new }
@@ -102,7 +99,6 @@ fn open_slice<F: Files + Drop, R: Rings<Stored> + Drop>(
 ) -> Result<Slice<RequestTask>, FrontKind>
     requires { IsAlive F.device host.old }
     ensures leads { MakesSlice F.device number (λ (way : Way) (b : ℕ) (c : List Program). OpensIn way b c number init method name.now) host.old result host.new }
-    ensures beside { (from : Host F R R.Rings) → OnlyEventsOf F.device from number host.old → OnlyEventsOf F.device from number host.new }
     ensures err { IfErr result IsLack }
     ensures lacks { (from : Host F R R.Rings) → OnlyEventsOf F.device from number host.old → IfErr result (λ e. LacksFor F.device from number e host.new) }
     ensures few { (from : Host F R R.Rings) (n : ℕ) → StepsAtMost F.device from number n host.old → StepsAtMost F.device from number n host.new }
@@ -128,7 +124,6 @@ fn open_unless<F: Files + Drop, R: Rings<Stored> + Drop>(
 ) -> Result<Slice<RequestTask>, FrontKind>
     requires { IsAlive F.device host.old }
     ensures leads { MakesSlice F.device number (λ (way : Way) (b : ℕ) (c : List Program). OpensUnlessIn way b c number init method name.now) host.old result host.new }
-    ensures beside { (from : Host F R R.Rings) → OnlyEventsOf F.device from number host.old → OnlyEventsOf F.device from number host.new }
     ensures err { IfErr result IsLack }
     ensures lacks { (from : Host F R R.Rings) → OnlyEventsOf F.device from number host.old → IfErr result (λ e. LacksFor F.device from number e host.new) }
     ensures few { (from : Host F R R.Rings) (n : ℕ) → StepsAtMost F.device from number n host.old → StepsAtMost F.device from number n host.new }
@@ -143,7 +138,7 @@ fn open_unless<F: Files + Drop, R: Rings<Stored> + Drop>(
 
 /// A request whose `init` is under way.
 fn opens_later(alloc: Global, method: Method, name: &[u8]) -> Result<RequestTask, AllocError>
-    ensures { IfOk result (λ task. IsOpening method name.now task) }
+    ensures { IfOk result (λ task. OpensNext method name.now task) }
 {
     let mut copy = Vec::new(alloc);
     copy.extend_from_slice(name)?;
@@ -160,7 +155,6 @@ fn init_slice<F: Files + Drop, R: Rings<Stored> + Drop>(
 ) -> Result<Slice<RequestTask>, FrontKind>
     requires { IsAlive F.device host.old }
     ensures leads { MakesSlice F.device number (λ (way : Way) (b : ℕ) (c : List Program). InitsIn way b c number method name.now) host.old result host.new }
-    ensures beside { (from : Host F R R.Rings) → OnlyEventsOf F.device from number host.old → OnlyEventsOf F.device from number host.new }
     ensures err { IfErr result IsLack }
     ensures lacks { (from : Host F R R.Rings) → OnlyEventsOf F.device from number host.old → IfErr result (λ e. LacksFor F.device from number e host.new) }
     ensures few { (from : Host F R R.Rings) (n : ℕ) → StepsAtMost F.device from number n host.old → StepsAtMost F.device from number (n + slice_steps) host.new }
@@ -181,7 +175,6 @@ fn begin_init<F: Files + Drop, R: Rings<Stored> + Drop>(
 ) -> Result<Slice<RequestTask>, FrontKind>
     requires { IsAlive F.device host.old }
     ensures leads { MakesSlice F.device number (λ (way : Way) (b : ℕ) (c : List Program). ComesIn way b c number method name.now) host.old result host.new }
-    ensures beside { (from : Host F R R.Rings) → OnlyEventsOf F.device from number host.old → OnlyEventsOf F.device from number host.new }
     ensures err { IfErr result IsLack }
     ensures lacks { (from : Host F R R.Rings) → OnlyEventsOf F.device from number host.old → IfErr result (λ e. LacksFor F.device from number e host.new) }
     ensures few { (from : Host F R R.Rings) (n : ℕ) → StepsAtMost F.device from number n host.old → StepsAtMost F.device from number (n + slice_steps) host.new }
@@ -205,7 +198,6 @@ fn end_call<F: Files + Drop, R: Rings<Stored> + Drop>(
 ) -> Result<Slice<RequestTask>, FrontKind>
     requires { IsAlive F.device host.old }
     ensures leads { MakesSlice F.device number (λ (way : Way) (b : ℕ) (c : List Program). RestsBehind way b c number task how) host.old result host.new }
-    ensures beside { (from : Host F R R.Rings) → OnlyEventsOf F.device from number host.old → OnlyEventsOf F.device from number host.new }
     ensures err { IfErr result IsLack }
     ensures lacks { (from : Host F R R.Rings) → OnlyEventsOf F.device from number host.old → IfErr result (λ e. LacksFor F.device from number e host.new) }
     ensures few { (from : Host F R R.Rings) (n : ℕ) → StepsAtMost F.device from number n host.old → StepsAtMost F.device from number n host.new }
@@ -228,7 +220,6 @@ pub(crate) fn go_on_request<F: Files + Drop, R: Rings<Stored> + Drop>(
 ) -> Result<Slice<RequestTask>, FrontKind>
     requires { IsAlive F.device host.old }
     ensures leads { MakesSlice F.device number (λ (way : Way) (b : ℕ) (c : List Program). Rests way b c number task) host.old result host.new }
-    ensures beside { (from : Host F R R.Rings) → OnlyEventsOf F.device from number host.old → OnlyEventsOf F.device from number host.new }
     ensures err { IfErr result IsLack }
     ensures lacks { (from : Host F R R.Rings) → OnlyEventsOf F.device from number host.old → IfErr result (λ e. LacksFor F.device from number e host.new) }
     ensures few { (from : Host F R R.Rings) (n : ℕ) → StepsAtMost F.device from number n host.old → StepsAtMost F.device from number (n + slice_steps) host.new }
@@ -249,7 +240,6 @@ pub(crate) fn begin_request<F: Files + Drop, R: Rings<Stored> + Drop>(
 ) -> Result<Slice<RequestTask>, FrontKind>
     requires { IsAlive F.device host.old }
     ensures leads { MakesSlice F.device number (λ (way : Way) (b : ℕ) (c : List Program). ComesIn way b c number method name.now) host.old result host.new }
-    ensures beside { (from : Host F R R.Rings) → OnlyEventsOf F.device from number host.old → OnlyEventsOf F.device from number host.new }
     ensures err { IfErr result IsLack }
     ensures lacks { (from : Host F R R.Rings) → OnlyEventsOf F.device from number host.old → IfErr result (λ e. LacksFor F.device from number e host.new) }
     ensures few { (from : Host F R R.Rings) (n : ℕ) → StepsAtMost F.device from number n host.old → StepsAtMost F.device from number (n + slice_steps + slice_steps) host.new }

@@ -1,8 +1,8 @@
 //! A step of a connection, in slices.
 
 ghost use Rattle.std.specs.Prelude.{◌≡◌, ◌≤◌, ◌*◌, ℕ, Bool, List, [], length, IfOk, IfErr};
-ghost use Rattle.http_front.specs.Prelude.{RequestHead, IsRequestAt, IsRequestWithin, method_of, IsFound, slice_steps, IsLack, LacksNamesAt, Passes, LacksAnswer, text_of, head_limit, fields_limit};
-ghost use Rattle.http_front.specs.Prelude.{BeginsHead, IsAskedBy, IsUnderWay, LacksSlice, Sends, Steps, StepsFrom, Wants, most_steps, Site};
+ghost use Rattle.http_front.specs.Prelude.{RequestHead, IsRequestAt, IsRequestWithin, method_of, IsHeadFound, slice_steps, IsLack, LacksNamesAt, Passes, LacksAnswer, text_of, head_limit};
+ghost use Rattle.http_front.specs.Prelude.{fields_limit, BeginsHead, IsAskedBy, IsUnderWay, LacksSlice, Sends, StepMade, StepsFrom, Wants, most_steps, Site};
 
 use crate::answering::{bad_reply, bare};
 use crate::fault::FrontKind;
@@ -12,7 +12,7 @@ use crate::response::ResponseText;
 use crate::steps::{FIELDS_LIMIT, HEAD_LIMIT, ServeStep, ends_within, front};
 use crate::texts::put_reply;
 use crate::under_way::{Asked, StepSlice, UnderWay, asked_by, reply_of, span_in};
-use crate::wanted::{Wanted, wanted_of};
+use crate::wanted::{SiteTarget, wanted_of};
 use http_message::{Clock, HeadLook, Method, Site, look_at};
 use httparse::spans::{EMPTY_HEADER_SPAN, HeaderSpan, RequestSpans};
 use std::alloc::{AllocError, Global};
@@ -46,7 +46,7 @@ fn send<H: Handler, K: Clock>(
 /// Begins what a head asks for.
 fn begin_wanted<H: Handler, P: Pace<H>>(
     alloc: Global,
-    wanted: Wanted<'_>,
+    wanted: SiteTarget<'_>,
     method: Method,
     handler: &mut H,
     number: u64,
@@ -61,8 +61,8 @@ fn begin_wanted<H: Handler, P: Pace<H>>(
     ensures few { P.steps handler.old number (2 * slice_steps) handler.new }
 {
     match wanted {
-        Wanted::Status(status) => Ok(Slice::Done(bare(alloc, status))),
-        Wanted::File(file) => P::begin(alloc, handler, number, method, file),
+        SiteTarget::Status(status) => Ok(Slice::Done(bare(alloc, status))),
+        SiteTarget::File(file) => P::begin(alloc, handler, number, method, file),
     }
 }
 
@@ -79,7 +79,7 @@ fn begin_head<H: Handler, K: Clock, P: Pace<H>>(
     text: &mut ResponseText,
 ) -> Result<StepSlice<P::Task>, FrontKind>
     requires within { IsRequestWithin seen.now spans.now head }
-    requires found { IsFound head_limit seen.now spans.now head }
+    requires found { IsHeadFound head_limit seen.now spans.now head }
     requires room { length spans.now ≡ fields_limit }
     requires size { length seen.now ≤ head_limit }
     requires empty { text_of text.old ≡ [] }
@@ -87,7 +87,7 @@ fn begin_head<H: Handler, K: Clock, P: Pace<H>>(
     ensures open { H.is_open handler.new number }
     ensures beside { (from : H) → H.beside from number handler.old → H.beside from number handler.new }
     ensures clock { (from : K) → Passes K.tells from clock.old → Passes K.tells from clock.new }
-    ensures ok { IfOk result (λ x. (whole : Bool) → Steps site.now (λ old. P.comes old number) (λ old. P.rests old number) K.tells handler.old clock.old seen.now
+    ensures ok { IfOk result (λ x. (whole : Bool) → StepMade site.now (λ old. P.comes old number) (λ old. P.rests old number) K.tells handler.old clock.old seen.now
         whole x (text_of text.new) handler.new clock.new) }
     ensures err { IfErr result (λ e. IsLack e × (e ≡ FrontKind.NamesSpent → (h : RequestHead) → IsRequestAt seen.now spans.now head h
         → LacksNamesAt (λ old. H.lacks old number) site.now handler.old h handler.new)) }
@@ -122,7 +122,7 @@ fn begin_within<H: Handler, K: Clock, P: Pace<H>>(
     ensures open { H.is_open handler.new number }
     ensures beside { (from : H) → H.beside from number handler.old → H.beside from number handler.new }
     ensures clock { (from : K) → Passes K.tells from clock.old → Passes K.tells from clock.new }
-    ensures ok { IfOk result (λ x. Steps site.now (λ old. P.comes old number) (λ old. P.rests old number) K.tells handler.old clock.old seen.now whole x (text_of text.new) handler.new clock.new) }
+    ensures ok { IfOk result (λ x. StepMade site.now (λ old. P.comes old number) (λ old. P.rests old number) K.tells handler.old clock.old seen.now whole x (text_of text.new) handler.new clock.new) }
     ensures err { IfErr result (LacksAnswer site.now (λ old. H.lacks old number) handler.old seen.now whole handler.new) }
     ensures few { P.steps handler.old number (2 * slice_steps) handler.new }
 {
@@ -161,7 +161,7 @@ fn begin_step<H: Handler, K: Clock, P: Pace<H>>(
     ensures open { H.is_open handler.new number }
     ensures beside { (from : H) → H.beside from number handler.old → H.beside from number handler.new }
     ensures clock { (from : K) → Passes K.tells from clock.old → Passes K.tells from clock.new }
-    ensures ok { IfOk result (λ x. Steps site.now (λ old. P.comes old number) (λ old. P.rests old number) K.tells handler.old clock.old seen.now whole x (text_of text.new) handler.new clock.new) }
+    ensures ok { IfOk result (λ x. StepMade site.now (λ old. P.comes old number) (λ old. P.rests old number) K.tells handler.old clock.old seen.now whole x (text_of text.new) handler.new clock.new) }
     ensures err { IfErr result (LacksAnswer site.now (λ old. H.lacks old number) handler.old seen.now whole handler.new) }
     ensures few { P.steps handler.old number (2 * slice_steps) handler.new }
 {
@@ -194,7 +194,7 @@ fn go_on_step<H: Handler, K: Clock, P: Pace<H>>(
     ensures beside { (from : H) → H.beside from number handler.old → H.beside from number handler.new }
     ensures clock { (from : K) → Passes K.tells from clock.old → Passes K.tells from clock.new }
     ensures ok { IfOk result (λ x. (site : Site) (whole : Bool) (old : H) → IsUnderWay site (λ old. P.comes old number) (λ old. P.rests old number) seen.now under_way old handler.old
-        → Steps site (λ old. P.comes old number) (λ old. P.rests old number) K.tells old clock.old seen.now whole x (text_of text.new) handler.new clock.new) }
+        → StepMade site (λ old. P.comes old number) (λ old. P.rests old number) K.tells old clock.old seen.now whole x (text_of text.new) handler.new clock.new) }
     ensures err { IfErr result (λ e. IsLack e × (e ≡ FrontKind.NamesSpent → P.lacks_rest handler.old number under_way.task e handler.new)) }
     ensures few { P.steps handler.old number slice_steps handler.new }
 {

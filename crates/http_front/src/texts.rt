@@ -1,7 +1,7 @@
 //! The text of a response, in buffers that are kept.
 
 ghost use Rattle.std.specs.Prelude.{◌≡◌, ℕ, List, OnOk};
-ghost use Rattle.http_front.specs.Prelude.{IsExchange, IsDateLine, reply_text, IsWritten, Passes, text_of};
+ghost use Rattle.http_front.specs.Prelude.{IsExchange, IsDateLine, reply_text, IsReplyWritten, Passes, text_of};
 
 use crate::response::ResponseText;
 use filter_chain::BlockBytes;
@@ -55,7 +55,7 @@ pub(crate) fn put_reply<K: Clock>(
     clock: &mut K,
     text: &mut ResponseText,
 ) -> Result<(), AllocError>
-    ensures written { OnOk result (IsWritten K.tells clock.old method.now target.now reply.old (text_of text.new) clock.new) }
+    ensures written { OnOk result (IsReplyWritten K.tells clock.old method.now target.now reply.old (text_of text.new) clock.new) }
     ensures clock { (from : K) → Passes K.tells from clock.old → Passes K.tells from clock.new }
 {
     let moment = clock.now();

@@ -10,23 +10,27 @@ use httparse::spans::{HeaderSpan, RequestSpans};
 use std::alloc::{AllocError, Global};
 
 /// What a head asks for.
-pub enum Wanted<'a> {
+pub enum SiteTarget<'a> {
     /// It gets this status, without content.
     Status(StatusCode),
     /// This file of the site.
     File(&'a [u8]),
 }
 
-fn path_wanted<'a>(alloc: Global, target: &[u8], site: &'a Site) -> Result<Wanted<'a>, AllocError>
+fn path_wanted<'a>(
+    alloc: Global,
+    target: &[u8],
+    site: &'a Site,
+) -> Result<SiteTarget<'a>, AllocError>
     ensures { IfOk result (λ w. (h : RequestHead) → target.now ≡ h.target → WantsPath site.now h w) }
 {
     let Some(sent) = target_path(target) else {
-        return Ok(Wanted::Status(StatusCode::NotFound));
+        return Ok(SiteTarget::Status(StatusCode::NotFound));
     };
     let path = decoded(alloc, sent)?;
     match site.route(path.as_slice()) {
-        Some(file) => Ok(Wanted::File(file)),
-        None => Ok(Wanted::Status(StatusCode::NotFound)),
+        Some(file) => Ok(SiteTarget::File(file)),
+        None => Ok(SiteTarget::Status(StatusCode::NotFound)),
     }
 }
 
@@ -37,12 +41,12 @@ pub(crate) fn wanted_of<'a>(
     spans: &[HeaderSpan],
     head: RequestSpans,
     site: &'a Site,
-) -> Result<Wanted<'a>, AllocError>
+) -> Result<SiteTarget<'a>, AllocError>
     requires { IsRequestWithin seen.now spans.now head }
     ensures { IfOk result (λ w. (h : RequestHead) → IsRequestAt seen.now spans.now head h → Wants site.now h w) }
 {
     match refusal(seen, spans, head) {
-        Some(status) => Ok(Wanted::Status(status)),
+        Some(status) => Ok(SiteTarget::Status(status)),
         None => path_wanted(alloc, head.path.of(seen), site),
     }
 }

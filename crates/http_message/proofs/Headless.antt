@@ -11,7 +11,7 @@ use Rattle.httparse.specs.declared.Status.TheVariants.{Partial}
 use Rattle.httparse.specs.declared.spans.HeaderSpan.{HeaderSpan}
 use Rattle.httparse.specs.declared.spans.RequestSpans.{RequestSpans}
 use Rattle.http_message.specs.Heads.{IsHeadlessWithin, StaysHeadless}
-use Rattle.http_message.specs.Looking.{IsFound}
+use Rattle.http_message.specs.Looking.{IsHeadFound}
 
 -- the fields are as many as the spans that were written
 fields_count : (buf : List ℕ) (spans : List HeaderSpan) (r : RequestSpans) (h : RequestHead)
@@ -23,7 +23,7 @@ fields_count buf spans r h at =
 
 -- a head that was read is within the limits
 pub found_within : (limit : ℕ) (buf : List ℕ) (spans : List HeaderSpan) (r : RequestSpans)
-    → length buf ≤ limit → IsRequestWithin buf spans r → ((h : RequestHead) × IsRequestAt buf spans r h) → IsFound limit buf spans r
+    → length buf ≤ limit → IsRequestWithin buf spans r → ((h : RequestHead) × IsRequestAt buf spans r h) → IsHeadFound limit buf spans r
 found_within limit buf spans r fits within found = (
   found.0,
   found.1,

@@ -6,9 +6,9 @@ use Rattle.matchit.specs.Seek.{own, step, or_else, seek, first, param_step, has_
 use Rattle.matchit.specs.Order.{placed, lookup}
 
 -- tokens that are bytes
-abbrev pub AreBytes : List ℕ → Type 0
-AreBytes [] = Unit {0}
-AreBytes (x ∷ t) = (x < 256) × AreBytes t
+abbrev pub TokensAreBytes : List ℕ → Type 0
+TokensAreBytes [] = Unit {0}
+TokensAreBytes (x ∷ t) = (x < 256) × TokensAreBytes t
 
 pub same-text : (a b : List ℕ) → same_text a b ≡ true → a ≡ b
 same-text [] [] e = refl
@@ -33,7 +33,7 @@ module _ {K : Type 0} where
   -- rows without parameters
   abbrev pub AreLiteral : RowsOf K → Type 0
   AreLiteral [] = Unit {0}
-  AreLiteral ((t, _) ∷ rest) = AreBytes t × AreLiteral rest
+  AreLiteral ((t, _) ∷ rest) = TokensAreBytes t × AreLiteral rest
 
   pub own-lookup : (rows : RowsOf K) → own rows ≡ lookup [] rows
   own-lookup [] = refl

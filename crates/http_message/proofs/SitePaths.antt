@@ -13,7 +13,7 @@ use Rattle.matchit.specs.Seek.{same_text, first}
 use Rattle.matchit.specs.declared.error.InsertError.{InsertError}
 use Rattle.http_message.specs.Routes.{is_path_byte, is_site_path, have_site_paths}
 use Rattle.http_message.specs.Asking.{is_origin}
-use Rattle.http_message.proofs.Literal.{AreBytes, AreLiteral, same-text, first-lookup, lookup-placed}
+use Rattle.http_message.proofs.Literal.{TokensAreBytes, AreLiteral, same-text, first-lookup, lookup-placed}
 
 pub both : (a b : Bool) → (a && b) ≡ true → (a ≡ true) × (b ≡ true)
 both true b e = (refl, e)
@@ -41,14 +41,14 @@ scan-path w (b ∷ p) h =
     let c = path-byte-close b g.0 in
     rw (o, c) (scan-path (w ++ b ∷ []) p g.1 ∙ ap (λ z. Ok (seen z)) (append_assoc w (b ∷ []) p))
 
-pub path-bytes : (p : List ℕ) → list_all is_path_byte p ≡ true → AreBytes p
+pub path-bytes : (p : List ℕ) → list_all is_path_byte p ≡ true → TokensAreBytes p
 path-bytes [] h = tt
 path-bytes (b ∷ p) h =
     let g = both (is_path_byte b) (list_all is_path_byte p) h in
     let l : b < 128 = path-byte-low b g.0 in
     (omega arith, path-bytes p g.1)
 
-pub shape-bytes : (p : List ℕ) → AreBytes p → shape_error p ≡ None
+pub shape-bytes : (p : List ℕ) → TokensAreBytes p → shape_error p ≡ None
 shape-bytes [] h = refl
 shape-bytes (x ∷ p) h =
     let low : x < 256 = h.0 in

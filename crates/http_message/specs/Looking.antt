@@ -9,14 +9,14 @@ use Rattle.http_message.specs.declared.looking.HeadLook.{HeadLook}
 use Rattle.http_message.specs.declared.looking.HeadLook.TheVariants.{Head, More, Headless}
 
 -- the spans are those of a head within the limits, with which the bytes begin
-abbrev pub IsFound : ℕ → List ℕ → List HeaderSpan → RequestSpans → Type 0
-IsFound limit seen spans r =
+abbrev pub IsHeadFound : ℕ → List ℕ → List HeaderSpan → RequestSpans → Type 0
+IsHeadFound limit seen spans r =
     (h : RequestHead) × IsRequestAt seen spans r h
     × BeginsWithin limit (length spans) seen h (drop r.len seen)
 
 -- a head is found, or more bytes are needed, or there is none whatever comes
 abbrev pub Looks : ℕ → List ℕ → Bool → List HeaderSpan → HeadLook → Type 0
-Looks limit seen whole spans (Head r) = IsRequestWithin seen spans r × IsFound limit seen spans r
+Looks limit seen whole spans (Head r) = IsRequestWithin seen spans r × IsHeadFound limit seen spans r
 Looks limit seen whole spans More =
     (whole ≡ false) × (length seen < limit) × MayBecomeRequest seen × IsHeadlessWithin limit (length spans) seen
 Looks limit seen whole spans Headless = StaysHeadless limit (length spans) seen whole

@@ -20,7 +20,7 @@ pub record NamesFile (text path file : List ℕ) : Type 0 where
   pub file_text : IsUtf8 file
 
 -- A line says that a file stands at a path.
-pub record Says (l : RawLine) (path file : List ℕ) : Type 0 where
+pub record LineSays (l : RawLine) (path file : List ℕ) : Type 0 where
   pub ended : l.ended ≡ true
   pub names : NamesFile l.text path file
   pub is_path : is_site_path path ≡ true
@@ -29,13 +29,13 @@ pub record Says (l : RawLine) (path file : List ℕ) : Type 0 where
 pub record AddsLine (l : RawLine) (old new : Routes) : Type 0 where
   pub path : List ℕ
   pub file : List ℕ
-  pub says : Says l path file
+  pub says : LineSays l path file
   pub free : old path ≡ None
   pub puts : (q : List ℕ) → new q ≡ (if bytes_eq path q then Some file else old q)
 
 -- It says none, or its path is taken.
 abbrev pub AddsNothing : RawLine → Routes → Type 0
-AddsNothing l old = (path file : List ℕ) → Says l path file → ¬ (old path ≡ None)
+AddsNothing l old = (path file : List ℕ) → LineSays l path file → ¬ (old path ≡ None)
 
 -- Each of these lines adds its file, one after another.
 unfoldable pub AddsLines : List RawLine → Routes → Routes → Type 0

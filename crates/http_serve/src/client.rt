@@ -29,7 +29,7 @@ const MOVES: u32 = 5;
 
 /// What a turn comes to.
 #[derive(Clone, Copy)]
-pub enum Turn {
+pub enum TurnOutcome {
     /// It can go on.
     Again,
     /// It waits for its socket.
@@ -40,7 +40,7 @@ pub enum Turn {
 
 /// What the turns of all clients share.
 #[derive(Drop)]
-pub struct Shared<'a, R: Clock + Eprint + AllocGlobal> {
+pub struct SharedState<'a, R: Clock + Eprint + AllocGlobal> {
     pub runtime: &'a R,
     pub site: &'a Site,
     /// How long a head may take, a response to be taken, and an idle connection.
@@ -85,7 +85,7 @@ pub fn later(now: Instant, by: Duration) -> Instant {
 /// One turn of a connection of this number on the host, over its streams and a clock.
 fn turn_conn<R, F, B, S, W, K>(
     conn: &mut HttpConn<RequestTask>,
-    shared: &mut Shared<'_, R>,
+    shared: &mut SharedState<'_, R>,
     host: &mut Host<F, B>,
     host_number: u64,
     source: &mut S,
@@ -117,7 +117,7 @@ where
 impl Client {
     /// A client that was just taken.
     pub fn new<R: Clock + Eprint + AllocGlobal>(
-        shared: &Shared<'_, R>,
+        shared: &SharedState<'_, R>,
         stream: TcpStream,
         peer: SocketAddr,
         host_number: u64,
@@ -142,59 +142,59 @@ impl Client {
     }
 
     /// Reads what is still sent, and drops it.
-    fn linger(&mut self, buffer: &mut [u8], left: u32) -> Turn {
+    fn linger(&mut self, buffer: &mut [u8], left: u32) -> TurnOutcome {
         if left == 0 {
-            return Turn::Over;
+            return TurnOutcome::Over;
         }
         if !self.readable {
-            return Turn::Waits;
+            return TurnOutcome::Waits;
         }
         match Socket::new(&self.stream).read(buffer) {
-            Ok(0) => Turn::Over,
+            Ok(0) => TurnOutcome::Over,
             Ok(_) => {
                 self.lingers = Some(left - 1);
-                Turn::Again
+                TurnOutcome::Again
             }
             Err(error) if error.kind() == ErrorKind::WouldBlock => {
                 self.readable = false;
-                Turn::Waits
+                TurnOutcome::Waits
             }
-            Err(_) => Turn::Over,
+            Err(_) => TurnOutcome::Over,
         }
     }
 
     /// Ends sending, so that the last response is not lost: a socket that is closed with bytes unread takes back what is not yet delivered.
-    fn end_sending(&mut self, now: Instant) -> Turn {
+    fn end_sending(&mut self, now: Instant) -> TurnOutcome {
         if self.stream.shutdown(Shutdown::Write).is_err() {
-            return Turn::Over;
+            return TurnOutcome::Over;
         }
         self.due = later(now, Duration::from_millis(LINGER_MILLIS));
         self.lingers = Some(LINGER_READS);
-        Turn::Again
+        TurnOutcome::Again
     }
 
     /// What follows a turn of the connection.
-    fn follow(&mut self, turned: Turned, patience: Duration, now: Instant) -> Turn {
+    fn follow(&mut self, turned: Turned, patience: Duration, now: Instant) -> TurnOutcome {
         match turned {
             Turned::Moved => {
                 if self.conn.next() == Next::Writes && !self.deadline.is_writing() {
                     self.deadline.begin_write();
                     self.due = later(now, patience);
                 }
-                Turn::Again
+                TurnOutcome::Again
             }
             Turned::Sent => {
                 self.deadline.renew();
                 self.due = later(now, patience);
-                Turn::Again
+                TurnOutcome::Again
             }
             Turned::NoBytes => {
                 self.readable = false;
-                Turn::Waits
+                TurnOutcome::Waits
             }
             Turned::NoRoom => {
                 self.writable = false;
-                Turn::Waits
+                TurnOutcome::Waits
             }
             Turned::Over => self.end_sending(now),
         }
@@ -203,11 +203,11 @@ impl Client {
     /// What follows a turn of the connection, of a read or not, or the fault that ended it.
     fn after_turn<R: Clock + Eprint + AllocGlobal>(
         &mut self,
-        shared: &Shared<'_, R>,
+        shared: &SharedState<'_, R>,
         turned: Result<Turned, FrontKind>,
         reads: bool,
         now: Instant,
-    ) -> Turn {
+    ) -> TurnOutcome {
         match turned {
             Ok(turned) => {
                 if reads && turned == Turned::Moved {
@@ -217,7 +217,7 @@ impl Client {
             }
             Err(kind) => {
                 self.tell_end(shared, Err(FrontFault { kind, left: None }));
-                Turn::Over
+                TurnOutcome::Over
             }
         }
     }
@@ -239,10 +239,10 @@ impl Client {
     /// One move: a read, a slice of a step, or a write.
     fn move_once<R: Clock + Eprint + AllocGlobal, F: Files + Drop, B: Rings<Stored> + Drop>(
         &mut self,
-        shared: &mut Shared<'_, R>,
+        shared: &mut SharedState<'_, R>,
         host: &mut Host<F, B>,
         now: Instant,
-    ) -> Turn
+    ) -> TurnOutcome
         requires { IsAlive F.device host.old }
         ensures { IsAlive F.device host.new }
     {
@@ -250,7 +250,7 @@ impl Client {
             return self.linger(shared.buffer.as_mut_slice(), left);
         }
         if self.must_wait() {
-            return Turn::Waits;
+            return TurnOutcome::Waits;
         }
         let reads = self.conn.next() == Next::Reads;
         let log = RequestLog {
@@ -283,17 +283,17 @@ impl Client {
     /// As many moves as one turn has. Behind a slice of a request that is then under way there is none.
     pub fn turn<R: Clock + Eprint + AllocGlobal, F: Files + Drop, B: Rings<Stored> + Drop>(
         &mut self,
-        shared: &mut Shared<'_, R>,
+        shared: &mut SharedState<'_, R>,
         host: &mut Host<F, B>,
         now: Instant,
-    ) -> Turn
+    ) -> TurnOutcome
         requires { IsAlive F.device host.old }
         ensures { IsAlive F.device host.new }
     {
         for _ in 0..MOVES {
             let had_all = self.lingers.is_some();
             match self.move_once(shared, host, now) {
-                Turn::Again => {
+                TurnOutcome::Again => {
                     if !had_all && self.lingers.is_some() {
                         self.tell_end(
                             shared,
@@ -303,19 +303,19 @@ impl Client {
                         );
                     }
                     if self.works() {
-                        return Turn::Again;
+                        return TurnOutcome::Again;
                     }
                 }
                 other => return other,
             }
         }
-        Turn::Again
+        TurnOutcome::Again
     }
 
     /// Tells how it ended, where that is told.
     fn tell_end<R: Clock + Eprint + AllocGlobal>(
         &self,
-        shared: &Shared<'_, R>,
+        shared: &SharedState<'_, R>,
         outcome: Result<Served, FrontFault>,
     ) {
         if shared.logs {
@@ -325,7 +325,7 @@ impl Client {
 
     fn log<'a, R: Clock + Eprint + AllocGlobal>(
         &'a self,
-        shared: &Shared<'a, R>,
+        shared: &SharedState<'a, R>,
     ) -> RequestLog<'a, R> {
         RequestLog {
             runtime: shared.runtime,
@@ -336,7 +336,7 @@ impl Client {
     }
 
     /// Its time is over.
-    pub fn tell_late<R: Clock + Eprint + AllocGlobal>(&self, shared: &Shared<'_, R>) {
+    pub fn tell_late<R: Clock + Eprint + AllocGlobal>(&self, shared: &SharedState<'_, R>) {
         if self.lingers.is_some() || self.gone {
             return;
         }

@@ -2,7 +2,7 @@
 
 ghost use Rattle.http_front.specs.Driven.{IsAlive};
 
-use crate::client::{Client, Shared, Turn, later};
+use crate::client::{Client, SharedState, TurnOutcome, later};
 use crate::listening::ServeSettings;
 use crate::request_log::{tell_refused, tell_unready};
 use filter_chain::{Files, Host, Rings, Stored};
@@ -63,7 +63,7 @@ impl Hall {
     }
 
     /// A client takes a place and gets its turn. Answers whether there was memory for it.
-    fn seat(&mut self, client: Client) -> bool {
+    fn admit(&mut self, client: Client) -> bool {
         let Ok(key) = self.clients.insert(client) else {
             return false;
         };
@@ -89,7 +89,7 @@ impl Hall {
     /// The turn of a client that was in the queue.
     fn serve_turn<R: Clock + Eprint + AllocGlobal, F: Files + Drop, B: Rings<Stored> + Drop>(
         &mut self,
-        shared: &mut Shared<'_, R>,
+        shared: &mut SharedState<'_, R>,
         host: &mut Host<F, B>,
         key: usize,
         now: Instant,
@@ -105,16 +105,16 @@ impl Hall {
             return;
         }
         match client.turn(shared, host, now) {
-            Turn::Waits => {}
-            Turn::Again => self.wake(key),
-            Turn::Over => self.leave(host, key),
+            TurnOutcome::Waits => {}
+            TurnOutcome::Again => self.wake(key),
+            TurnOutcome::Over => self.leave(host, key),
         }
     }
 
     /// The turns of those that are in the queue.
     fn go_round<R: Clock + Eprint + AllocGlobal, F: Files + Drop, B: Rings<Stored> + Drop>(
         &mut self,
-        shared: &mut Shared<'_, R>,
+        shared: &mut SharedState<'_, R>,
         host: &mut Host<F, B>,
         now: Instant,
     )
@@ -130,7 +130,11 @@ impl Hall {
     }
 
     /// Finds those that are too late.
-    fn find_late<R: Clock + Eprint + AllocGlobal>(&mut self, shared: &Shared<'_, R>, now: Instant) {
+    fn find_late<R: Clock + Eprint + AllocGlobal>(
+        &mut self,
+        shared: &SharedState<'_, R>,
+        now: Instant,
+    ) {
         self.late.clear();
         for (key, client) in self.clients.iter() {
             if client.gone || (client.due <= now && !client.works()) {
@@ -143,7 +147,7 @@ impl Hall {
     /// Sends away those that are too late.
     fn sweep<R: Clock + Eprint + AllocGlobal, F: Files + Drop, B: Rings<Stored> + Drop>(
         &mut self,
-        shared: &Shared<'_, R>,
+        shared: &SharedState<'_, R>,
         host: &mut Host<F, B>,
         now: Instant,
     )
@@ -162,7 +166,7 @@ impl Hall {
     /// Sends away those that are too late, where it was not done for a while. Answers when it was done last.
     fn sweep_in_time<R: Clock + Eprint + AllocGlobal, F: Files + Drop, B: Rings<Stored> + Drop>(
         &mut self,
-        shared: &Shared<'_, R>,
+        shared: &SharedState<'_, R>,
         host: &mut Host<F, B>,
         swept: Instant,
         now: Instant,
@@ -260,7 +264,7 @@ fn enter<F: Files + Drop, B: Rings<Stored> + Drop>(
 /// A client comes in.
 fn welcome<R: Clock + Eprint + AllocGlobal, F: Files + Drop, B: Rings<Stored> + Drop>(
     hall: &mut Hall,
-    shared: &Shared<'_, R>,
+    shared: &SharedState<'_, R>,
     host: &mut Host<F, B>,
     poll: &Poll,
     taken: (TcpStream, SocketAddr),
@@ -272,7 +276,7 @@ fn welcome<R: Clock + Eprint + AllocGlobal, F: Files + Drop, B: Rings<Stored> + 
 {
     let (mut stream, peer) = taken;
     let host_number = enter(&mut stream, host, poll, hall.clients.vacant_key())?;
-    if hall.seat(Client::new(shared, stream, peer, host_number, number, now)) {
+    if hall.admit(Client::new(shared, stream, peer, host_number, number, now)) {
         return Ok(());
     }
     let _ = close_turns(host, host_number);
@@ -283,7 +287,7 @@ fn welcome<R: Clock + Eprint + AllocGlobal, F: Files + Drop, B: Rings<Stored> + 
 fn take<R: Clock + Eprint + AllocGlobal, F: Files + Drop, B: Rings<Stored> + Drop>(
     door: &mut Door,
     hall: &mut Hall,
-    shared: &Shared<'_, R>,
+    shared: &SharedState<'_, R>,
     host: &mut Host<F, B>,
     poll: &Poll,
     now: Instant,
@@ -344,7 +348,7 @@ fn wait(poll: &mut Poll, events: &mut Events, most: Option<Duration>) -> io::Res
 /// Serves the clients of a hall by turns, and those that come in, until all are served.
 fn serve_hall<R: Clock + Eprint + AllocGlobal, F: Files + Drop, B: Rings<Stored> + Drop>(
     hall: &mut Hall,
-    shared: &mut Shared<'_, R>,
+    shared: &mut SharedState<'_, R>,
     host: &mut Host<F, B>,
     poll: &mut Poll,
     events: &mut Events,
@@ -370,7 +374,7 @@ fn serve_hall<R: Clock + Eprint + AllocGlobal, F: Files + Drop, B: Rings<Stored>
 
 /// Serves connections by turns, up to so many at once.
 fn run<R: Clock + Eprint + AllocGlobal, F: Files + Drop, B: Rings<Stored> + Drop>(
-    shared: &mut Shared<'_, R>,
+    shared: &mut SharedState<'_, R>,
     host: &mut Host<F, B>,
     poll: &mut Poll,
     events: &mut Events,
@@ -388,17 +392,17 @@ fn run<R: Clock + Eprint + AllocGlobal, F: Files + Drop, B: Rings<Stored> + Drop
 }
 
 /// The door behind which these settings serve.
-fn door_of(listener: TcpListener, manner: ServeSettings) -> Door {
+fn door_of(listener: TcpListener, settings: ServeSettings) -> Door {
     Door {
         listener,
         open: true,
         pause: None,
-        left: match manner.conns {
+        left: match settings.conns {
             Some(conns) => u64::from(conns),
             None => u64::MAX,
         },
         taken: 0,
-        at_once: manner.at_once,
+        at_once: settings.at_once,
     }
 }
 
@@ -407,7 +411,7 @@ fn serve_door<R: Clock + Eprint + AllocGlobal, F: Files + Drop, B: Rings<Stored>
     rt: &R,
     site: &Site,
     host: &mut Host<F, B>,
-    manner: ServeSettings,
+    settings: ServeSettings,
     poll: &mut Poll,
     events: &mut Events,
     door: &mut Door,
@@ -416,11 +420,11 @@ fn serve_door<R: Clock + Eprint + AllocGlobal, F: Files + Drop, B: Rings<Stored>
 {
     poll.registry()
         .register(&mut door.listener, Token(DOOR), Interest::READABLE)?;
-    let mut shared = Shared {
+    let mut shared = SharedState {
         runtime: rt,
         site,
-        patience: manner.patience,
-        logs: manner.logs,
+        patience: settings.patience,
+        logs: settings.logs,
         buffer: vec![in rt.alloc(); 0; 8192]?,
     };
     run(&mut shared, host, poll, events, door)
@@ -432,12 +436,12 @@ pub fn serve_turns<R: Clock + Eprint + AllocGlobal + Net, F: Files + Drop, B: Ri
     listener: TcpListener,
     site: &Site,
     host: &mut Host<F, B>,
-    manner: ServeSettings,
+    settings: ServeSettings,
 ) -> io::Result<()>
     requires { IsAlive F.device host.old }
 {
     let mut poll = Poll::new(rt)?;
     let mut events = Events::with_capacity(rt.alloc(), REPORTS)?;
-    let mut door = door_of(listener, manner);
-    serve_door(rt, site, host, manner, &mut poll, &mut events, &mut door)
+    let mut door = door_of(listener, settings);
+    serve_door(rt, site, host, settings, &mut poll, &mut events, &mut door)
 }

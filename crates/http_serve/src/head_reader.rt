@@ -27,7 +27,7 @@ pub struct Deadline {
 }
 
 impl Deadline {
-    /// No deadline yet; each head may take so long.
+    /// No deadline yet; each head may take this long.
     pub fn new(patience: Duration) -> Deadline {
         Deadline {
             at: Cell::new(None),
@@ -40,7 +40,7 @@ impl Deadline {
         }
     }
 
-    /// The time since bytes last came, or since this was last asked: so long a response took.
+    /// The time since bytes last came, or since this was last asked: this long a response took.
     pub fn taken(&self, rt: &impl Clock) -> Duration {
         let Ok(now) = Instant::now(rt) else {
             return Duration::ZERO;
@@ -113,7 +113,7 @@ impl Deadline {
         }
     }
 
-    /// Lets a read of the stream wait so long.
+    /// Lets a read of the stream wait this long.
     fn set_timeout(&self, stream: &TcpStream, left: Duration) -> io::Result<()> {
         if !self.is_set(left) {
             stream.set_read_timeout(Some(left))?;

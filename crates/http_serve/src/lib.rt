@@ -12,4 +12,4 @@ mod socket;
 mod system_clock;
 mod unclosed;
 
-pub use serve_command::{ServeOptions, serve_front};
+pub use serve_command::{ServeOptions, run_serve};

@@ -92,29 +92,29 @@ fn serve_taken<R: Clock + Eprint + AllocGlobal, F: Files + Drop, B: Rings<Stored
     stream: &TcpStream,
     site: &Site,
     host: &mut Host<F, B>,
-    manner: ServeSettings,
+    settings: ServeSettings,
     peer: SocketAddr,
     number: u64,
 ) -> Option<u64>
     requires { IsAlive F.device host.old }
     ensures { IsAlive F.device host.new }
 {
-    let deadline = Deadline::new(manner.patience);
+    let deadline = Deadline::new(settings.patience);
     let log = RequestLog {
         runtime: rt,
         deadline: &deadline,
         peer,
         number,
     };
-    if let Err(error) = set_up(stream, manner.patience) {
-        if manner.logs {
+    if let Err(error) = set_up(stream, settings.patience) {
+        if settings.logs {
             tell_unready(rt, peer, number, &error);
         }
         return None;
     }
-    let told = told_by(manner.logs, &log);
+    let told = told_by(settings.logs, &log);
     let outcome = serve_stream(rt, stream, site, host, &deadline, told);
-    if manner.logs {
+    if settings.logs {
         log.tell_end(outcome);
     }
     let _ = drain(rt, stream);
@@ -130,11 +130,11 @@ pub fn serve_all<R: Clock + Eprint + AllocGlobal, F: Files + Drop, B: Rings<Stor
     listener: &TcpListener,
     site: &Site,
     host: &mut Host<F, B>,
-    manner: ServeSettings,
+    settings: ServeSettings,
 )
     requires { IsAlive F.device host.old }
 {
-    let most = match manner.conns {
+    let most = match settings.conns {
         Some(0) => return,
         Some(conns) => u64::from(conns),
         None => u64::MAX,
@@ -145,7 +145,7 @@ pub fn serve_all<R: Clock + Eprint + AllocGlobal, F: Files + Drop, B: Rings<Stor
         let (stream, peer) = match listener.accept() {
             Ok(taken) => taken,
             Err(error) => {
-                if manner.logs {
+                if settings.logs {
                     tell_refused(rt, &error);
                 }
                 thread::sleep(rt, Duration::from_millis(PAUSE_MILLIS));
@@ -153,7 +153,7 @@ pub fn serve_all<R: Clock + Eprint + AllocGlobal, F: Files + Drop, B: Rings<Stor
             }
         };
         number = number.saturating_add(1);
-        if let Some(conn) = serve_taken(rt, &stream, site, host, manner, peer, number) {
+        if let Some(conn) = serve_taken(rt, &stream, site, host, settings, peer, number) {
             left.add(conn);
         }
         left.close(host);

@@ -13,7 +13,7 @@ use byte_text::put_all;
 use filter_chain::{CheckedChain, Files, Host, Limits, RawRings, Rings, Stored};
 use http_message::{SITE_BYTES, Site, SiteRefusal, site_of};
 use module_tools::{CommandOutput, Loaded, NamedFile, PlayFault, load_part};
-use script_text::{Part, Refused, accept_parts, put_refused_module};
+use script_text::{Refused, ScriptModule, accept_parts, put_refused_module};
 use std::alloc::{AllocError, Global};
 use std::io::{self, Read};
 use std::net::{IpAddr, Net, SocketAddr, TcpListener, TcpStream};
@@ -88,7 +88,7 @@ fn part_of(
     alloc: Global,
     loaded: Result<Loaded, PlayFault>,
     name: &str,
-) -> Result<Part, StartError> {
+) -> Result<ScriptModule, StartError> {
     match loaded {
         Ok(Loaded::Part(part)) => Ok(part),
         Ok(Loaded::Told(CommandOutput { text, ended: _ })) => Err(StartError::Told(text)),
@@ -101,7 +101,7 @@ fn read_files<R: FileSystem + AllocGlobal>(
     rt: &R,
     name: &str,
     cert_name: &str,
-) -> Result<Part, StartError> {
+) -> Result<ScriptModule, StartError> {
     let alloc = rt.alloc();
     let mut reader = CountedSource::from_reader(NamedFile::new(rt, name));
     let mut cert = CountedSource::from_reader(NamedFile::new(rt, cert_name));
@@ -115,7 +115,7 @@ fn read_files<R: FileSystem + AllocGlobal>(
 }
 
 /// Reads a module and its certificate, which stands in the file of its name with `.cert` behind it.
-fn read_part<R: FileSystem + AllocGlobal>(rt: &R, name: &str) -> Result<Part, StartError> {
+fn read_part<R: FileSystem + AllocGlobal>(rt: &R, name: &str) -> Result<ScriptModule, StartError> {
     let cert_name = format!(in rt.alloc(); "{name}.cert")?;
     read_files(rt, name, cert_name.as_str())
 }
@@ -129,7 +129,7 @@ fn no_chain(alloc: Global) -> StartError {
 fn read_parts<R: FileSystem + AllocGlobal>(
     rt: &R,
     names: &[&str],
-    parts: &mut Vec<Part>,
+    parts: &mut Vec<ScriptModule>,
 ) -> Result<(), StartError> {
     for name in names {
         parts.push(read_part(rt, name)?).map_err(AllocError::from)?;
@@ -145,7 +145,7 @@ fn stop_of_module(alloc: Global, at: Refused) -> Result<StartError, AllocError> 
 }
 
 /// The chain of these modules, which is checked.
-fn chain_of(alloc: Global, parts: Vec<Part>) -> Result<CheckedChain, StartError> {
+fn chain_of(alloc: Global, parts: Vec<ScriptModule>) -> Result<CheckedChain, StartError> {
     if parts.is_empty() {
         return Err(no_chain(alloc));
     }
@@ -204,9 +204,9 @@ fn read_site<R: FileSystem + AllocGlobal>(rt: &R, name: &str) -> Result<Site, St
 }
 
 /// The address and the port, where they are one.
-fn address_of(front: &ServeOptions<'_>) -> Option<SocketAddr> {
-    let address = front.listen.parse::<IpAddr>().ok()?;
-    Some(SocketAddr::new(address, front.port))
+fn address_of(options: &ServeOptions<'_>) -> Option<SocketAddr> {
+    let address = options.listen.parse::<IpAddr>().ok()?;
+    Some(SocketAddr::new(address, options.port))
 }
 
 fn cannot_listen(alloc: Global) -> StartError {
@@ -228,7 +228,7 @@ fn unless_too_few(alloc: Global, at_once: u32) -> Result<(), StartError> {
 /// A host of this chain over the files of the runtime.
 fn host_of<R, B>(
     rt: &R,
-    front: &ServeOptions<'_>,
+    options: &ServeOptions<'_>,
     chain: CheckedChain,
 ) -> Result<Host<DiskFiles<R>, B>, StartError>
 where
@@ -238,19 +238,19 @@ where
     ensures alive { IfOk result (IsAlive ⟦<DiskFiles<R> as Files>⟧.device) }
     ensures safe { IfOk result IsSafe }
 {
-    let files = DiskFiles::keeping(rt.clone()?, files_to_keep(front.at_once));
+    let files = DiskFiles::keeping(rt.clone()?, files_to_keep(options.at_once));
     let limits = Limits {
-        budget: u64::from(front.budget),
+        budget: u64::from(options.budget),
     };
     Ok(Host::checked(rt.alloc(), files, chain, limits)?)
 }
 
 /// Listens, and tells where.
-fn listen<R>(rt: &R, front: &ServeOptions<'_>) -> Result<(TcpListener, SocketAddr), StartError>
+fn listen<R>(rt: &R, options: &ServeOptions<'_>) -> Result<(TcpListener, SocketAddr), StartError>
 where
     R: AllocGlobal + Net<Listener = TcpListener, Stream = TcpStream>,
 {
-    let Some(address) = address_of(front) else {
+    let Some(address) = address_of(options) else {
         return Err(cannot_listen(rt.alloc()));
     };
     match TcpListener::bind(rt, address) {
@@ -295,12 +295,12 @@ fn is_told_where<R: Print + Eprint>(rt: &R, address: SocketAddr) -> bool {
 }
 
 /// How connections are served.
-fn manner_of(front: &ServeOptions<'_>) -> ServeSettings {
+fn settings_of(options: &ServeOptions<'_>) -> ServeSettings {
     ServeSettings {
-        conns: front.conns,
-        at_once: usize::try_from(front.at_once).unwrap_or(1),
-        patience: Duration::from_secs(u64::from(front.timeout)),
-        logs: front.logs,
+        conns: options.conns,
+        at_once: usize::try_from(options.at_once).unwrap_or(1),
+        patience: Duration::from_secs(u64::from(options.timeout)),
+        logs: options.logs,
     }
 }
 
@@ -310,19 +310,19 @@ fn serve_listener<R: Clock + Eprint + AllocGlobal + Net, F: Files + Drop, B: Rin
     host: &mut Host<F, B>,
     site: &Site,
     listener: TcpListener,
-    manner: ServeSettings,
+    settings: ServeSettings,
 ) -> ExitCode
     requires { IsAlive F.device host.old }
 {
-    if manner.at_once <= 1 {
-        serve_all(rt, &listener, site, host, manner);
+    if settings.at_once <= 1 {
+        serve_all(rt, &listener, site, host, settings);
         return ExitCode::SUCCESS;
     }
     if listener.set_nonblocking(true).is_err() {
         return tell_events(rt);
     }
     let door = mio::net::TcpListener::from_std(listener);
-    match serve_turns(rt, door, site, host, manner) {
+    match serve_turns(rt, door, site, host, settings) {
         Ok(()) => ExitCode::SUCCESS,
         Err(_) => tell_events(rt),
     }
@@ -331,7 +331,7 @@ fn serve_listener<R: Clock + Eprint + AllocGlobal + Net, F: Files + Drop, B: Rin
 /// Serves connections that come to a listener, and tells first that it listens.
 fn serve_behind<R, F: Files + Drop, B: Rings<Stored> + Drop>(
     rt: &R,
-    front: &ServeOptions<'_>,
+    options: &ServeOptions<'_>,
     host: &mut Host<F, B>,
     site: &Site,
     listener: TcpListener,
@@ -345,13 +345,13 @@ where
     if !is_told_where(rt, address) {
         return ExitCode::FAILURE;
     }
-    serve_listener(rt, host, site, listener, manner_of(front))
+    serve_listener(rt, host, site, listener, settings_of(options))
 }
 
 /// Listens, and serves what comes: what listens has a host of a chain that is accepted, which never faults.
 fn serve_site<R, F: Files + Drop, B: Rings<Stored> + Drop>(
     rt: &R,
-    front: &ServeOptions<'_>,
+    options: &ServeOptions<'_>,
     host: &mut Host<F, B>,
     site: &Site,
 ) -> ExitCode
@@ -360,8 +360,8 @@ where
     requires alive { IsAlive F.device host.old }
     requires safe { IsSafe host.old }
 {
-    match listen(rt, front) {
-        Ok((listener, address)) => serve_behind(rt, front, host, site, listener, address),
+    match listen(rt, options) {
+        Ok((listener, address)) => serve_behind(rt, options, host, site, listener, address),
         Err(why) => tell_stop(rt, why),
     }
 }
@@ -369,7 +369,7 @@ where
 /// Serves a site through a chain that was accepted.
 fn serve_chain<R, B>(
     rt: &R,
-    front: &ServeOptions<'_>,
+    options: &ServeOptions<'_>,
     chain: CheckedChain,
     site: &Site,
 ) -> Result<ExitCode, StartError>
@@ -378,31 +378,31 @@ where
     R::File: FileExt,
     B: Rings<Stored> + Drop,
 {
-    let mut host = host_of::<R, B>(rt, front, chain)?;
-    Ok(serve_site(rt, front, &mut host, site))
+    let mut host = host_of::<R, B>(rt, options, chain)?;
+    Ok(serve_site(rt, options, &mut host, site))
 }
 
 /// Reads and checks the chain, reads the site, and serves it.
-fn serve_files<R, B>(rt: &R, front: &ServeOptions<'_>) -> Result<ExitCode, StartError>
+fn serve_files<R, B>(rt: &R, options: &ServeOptions<'_>) -> Result<ExitCode, StartError>
 where
     R: Runtime + AllocGlobal + Net<Listener = TcpListener, Stream = TcpStream>,
     R::File: FileExt,
     B: Rings<Stored> + Drop,
 {
-    unless_too_few(rt.alloc(), front.at_once)?;
-    let chain = read_chain(rt, front.modules.as_slice())?;
-    let site = read_site(rt, front.site)?;
-    serve_chain::<R, B>(rt, front, chain, &site)
+    unless_too_few(rt.alloc(), options.at_once)?;
+    let chain = read_chain(rt, options.modules.as_slice())?;
+    let site = read_site(rt, options.site)?;
+    serve_chain::<R, B>(rt, options, chain, &site)
 }
 
 /// Serves connections behind a port. What it tells goes to the standard output, and what it logs to the standard error. It fails where the chain
 /// or the site is none, where the port is not to be had, and where the standard output fails; a connection that fails ends alone.
-pub fn serve_front<R>(rt: &R, front: &ServeOptions<'_>) -> ExitCode
+pub fn run_serve<R>(rt: &R, options: &ServeOptions<'_>) -> ExitCode
 where
     R: Runtime + AllocGlobal + Net<Listener = TcpListener, Stream = TcpStream>,
     R::File: FileExt,
 {
-    match serve_files::<R, RawRings<Stored>>(rt, front) {
+    match serve_files::<R, RawRings<Stored>>(rt, options) {
         Ok(code) => code,
         Err(why) => tell_stop(rt, why),
     }

@@ -21,8 +21,8 @@ use Rattle.life_cert.proofs.RoundsFit.{handed_on_fits, alike, forgotten, rounds_
 use Rattle.life_cert.proofs.RoundsFormed.{Good, AllFormed, on_good, rounds_formed}
 use Rattle.life_cert.proofs.Enough.{rounds_end}
 
-abbrev Under : Certificate → Arrival → Type 0
-Under c a = is_below a.state (state_at c a.place) ≡ true
+abbrev UnderCert : Certificate → Arrival → Type 0
+UnderCert c a = is_below a.state (state_at c a.place) ≡ true
 
 pub under_grown : (s : State) (o q : Option State) → HasGrown o q → is_below s o ≡ true → is_below s q ≡ true
 under_grown s None q h k = cc
@@ -37,25 +37,25 @@ written (place.At pc) s c = upd_at c.at pc (Some s)
 under_at : (s t : State) (o : Option State) → o ≡ Some t → leq s t ≡ true → is_below s o ≡ true
 under_at s t o e h = ap (is_below s) e ∙ h
 
-under_by : (p : Program) (a : Arrival) (g : Grown) (o : Option State) → state_at g.states a.place ≡ o → IsOf p g → IsFit p a → Good p a → Under (arrive_by o a g).states a
+under_by : (p : Program) (a : Arrival) (g : Grown) (o : Option State) → state_at g.states a.place ≡ o → IsOf p g → IsFit p a → Good p a → UnderCert (arrive_by o a g).states a
 under_by p a g None e h fit good =
     under_at a.state a.state (state_at (with_state a.place a.state g.states) a.place) (written a.place a.state g.states) (below_itself p (is_in_main p a.place) a.state good)
 under_by p a g (Some t) e h fit good = by_order (leq a.state t) refl
   where
-    by_order : (b : Bool) → leq a.state t ≡ b → Under (if b then g else grow a.place (join t a.state) g).states a
+    by_order : (b : Bool) → leq a.state t ≡ b → UnderCert (if b then g else grow a.place (join t a.state) g).states a
     by_order true below = under_at a.state t (state_at g.states a.place) e below
     by_order false apart =
         under_at a.state (join t a.state) (state_at (with_state a.place (join t a.state) g.states) a.place) (written a.place (join t a.state) g.states)
         ((join_above t a.state (alike p t a.state (h.states a.place t e) fit.declared)).1)
 
-arrived_under : (p : Program) (rest : List Arrival) (g : Grown) → IsOf p g → All (IsFit p) rest → All (Good p) rest → All (Under (arrived rest g).states) rest
+arrived_under : (p : Program) (rest : List Arrival) (g : Grown) → IsOf p g → All (IsFit p) rest → All (Good p) rest → All (UnderCert (arrived rest g).states) rest
 unfolding arrived
-arrived_under p [] g h fit good = All-nil (Under g.states)
+arrived_under p [] g h fit good = All-nil (UnderCert g.states)
 arrived_under p (a ∷ rest) g h fit good =
     let first : IsFit p a = fit 0 a (omega arith) in
     let next = arrive_keeps p a g h first in
     let others : All (IsFit p) rest = λ k d below. fit (suc k) d (omega arith) in
-    All-cons (Under (arrived rest (arrive a g)).states) a rest
+    All-cons (UnderCert (arrived rest (arrive a g)).states) a rest
     (under_grown a.state (state_at (arrive a g).states a.place) (state_at (arrived rest (arrive a g)).states a.place) (arrived_grows p rest (arrive a g) next others a.place)
     (under_by p a g (state_at g.states a.place) refl h first (good 0 a (omega arith))))
     (arrived_under p rest (arrive a g) next others (λ k d below. good (suc k) d (omega arith)))
@@ -121,22 +121,22 @@ has_handed p c Q v (w ∷ ws) has h =
       | inr more ↦ has_handed p c Q v ws more (all_back Q (handed_by p w (state_at c w)) (handed_on p c ws) h)
     ]
 
-all_grown : (c d : Certificate) → ((v : StatePlace) → HasGrown (state_at c v) (state_at d v)) → (rest : List Arrival) → All (Under c) rest → All (Under d) rest
-all_grown c d more [] h = All-nil (Under d)
+all_grown : (c d : Certificate) → ((v : StatePlace) → HasGrown (state_at c v) (state_at d v)) → (rest : List Arrival) → All (UnderCert c) rest → All (UnderCert d) rest
+all_grown c d more [] h = All-nil (UnderCert d)
 all_grown c d more (a ∷ rest) h =
-    All-cons (Under d) a rest (under_grown a.state (state_at c a.place) (state_at d a.place) (more a.place) (h 0 a (omega arith)))
+    All-cons (UnderCert d) a rest (under_grown a.state (state_at c a.place) (state_at d a.place) (more a.place) (h 0 a (omega arith)))
     (all_grown c d more rest (λ k e below. h (suc k) e (omega arith)))
 
 -- a place grew in the last round, or what it hands on stands where it arrives
 abbrev ClosedBut : Program → Grown → StatePlace → Type 0
-ClosedBut p g w = Has w g.grown ⊎ All (Under g.states) (handed_by p w (state_at g.states w))
+ClosedBut p g w = Has w g.grown ⊎ All (UnderCert g.states) (handed_by p w (state_at g.states w))
 
 begun_closed : (p : Program) (w : StatePlace) → ClosedBut p (begun p) w
 unfolding Has
 begun_closed p w =
     elim (read_written (place.At 0) w (at_open (length p.pools) (length p.brigades)) (nothing p)) [
       | inl here ↦ inl (inl (here.0))
-      | inr other ↦ inr (subst (λ (o : Option State). All (Under (begun p).states) (handed_by p w o)) (sym (other ∙ nothing_at w)) (All-nil (Under (begun p).states)))
+      | inr other ↦ inr (subst (λ (o : Option State). All (UnderCert (begun p).states) (handed_by p w o)) (sym (other ∙ nothing_at w)) (All-nil (UnderCert (begun p).states)))
     ]
   where
     nothing_at : (v : StatePlace) → state_at (nothing p) v ≡ None
@@ -153,9 +153,9 @@ round_closed p m g h formed closed w =
     let good : All (Good p) rest = on_good p m g.states g.grown formed in
     elim (arrived_same w rest start) [
       | inl has ↦ inl has
-      | inr same ↦ inr (subst (λ (o : Option State). All (Under (round p g).states) (handed_by p w o)) (sym same)
+      | inr same ↦ inr (subst (λ (o : Option State). All (UnderCert (round p g).states) (handed_by p w o)) (sym same)
           (elim (closed w) [
-            | inl has ↦ has_handed p g.states (Under (round p g).states) w g.grown has (arrived_under p rest start of fit good)
+            | inl has ↦ has_handed p g.states (UnderCert (round p g).states) w g.grown has (arrived_under p rest start of fit good)
             | inr all ↦ all_grown g.states (round p g).states (arrived_grows p rest start of fit) (handed_by p w (state_at g.states w)) all
           ]))
     ]

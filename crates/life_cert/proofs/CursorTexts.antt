@@ -7,7 +7,7 @@ use Rattle.life_state.specs.Facts.{is_set}
 use Rattle.life_cert.specs.StateText.{where_holds, classes_text, homes, homes_text, cursor_name, brigade_name, place_text_of, cursor_text}
 use Rattle.life_cert.specs.StateFromText.{at_past, at_read, behind, classes_past, classes_read, cursor_past, cursor_read, homes_from, homes_past, homes_read, key, loose_past, loose_read, number_in}
 use Rattle.life_cert.specs.StateFromText.{past, place_past, place_read, starts}
-use Rattle.life_cert.proofs.Taking.{Ended, ThreeTaken, behind_self, brigade_first, brigade_named, classes_taken, one, second_of, starts_self}
+use Rattle.life_cert.proofs.Taking.{TextEnded, ThreeTaken, behind_self, brigade_first, brigade_named, classes_taken, one, second_of, starts_self}
 use Rattle.life_cert.proofs.HomeTexts.{bits, homes_taken}
 
 pub same_classes : (s : Classes) (m t : List ℕ) → ThreeTaken 100 102 101 s.bytes s.flush s.eos m t → classes_read t ≡ s
@@ -60,7 +60,7 @@ named_place b v r m below read more =
 again_at : (v : CursorKnown) (m t u : List ℕ) → t ≡ u → PlaceTaken v m u → PlaceTaken v m t
 again_at v m t u is h = subst (PlaceTaken v m) (sym is) h
 
-pub place_taken : (v : CursorKnown) (m : List ℕ) → is_set v ≡ true → CanSay v → Ended m → PlaceTaken v m (place_text_of v ++ m)
+pub place_taken : (v : CursorKnown) (m : List ℕ) → is_set v ≡ true → CanSay v → TextEnded m → PlaceTaken v m (place_text_of v ++ m)
 unfolding place_read place_past at_read at_past
 place_taken Unset m set say e = cc set
 place_taken (Loose s h) m set say e =
@@ -90,7 +90,7 @@ pub record CursorTaken (c : ℕ) (v : CursorKnown) (m t : List ℕ) : Type 0 whe
   pub read : cursor_read c t ≡ v
   pub more : cursor_past c t ≡ m
 
-pub cursor_taken : (c : ℕ) (v : CursorKnown) (m : List ℕ) → CanSay v → Ended m → starts (key c) m ≡ false → CursorTaken c v m (cursor_text c v ++ m)
+pub cursor_taken : (c : ℕ) (v : CursorKnown) (m : List ℕ) → CanSay v → TextEnded m → starts (key c) m ≡ false → CursorTaken c v m (cursor_text c v ++ m)
 cursor_taken c v m say e none = by (is_set v) refl
   where
     unset : (v : CursorKnown) → is_set v ≡ false → v ≡ Unset

@@ -28,12 +28,12 @@ use Rattle.life_cert.specs.Drafts.{Counts, IsLineAdded, IsCertDraft, seen_draft,
 use Rattle.life_cert.proofs.Lines.{all_formed, formed_at, formed_more, last_some, lines_are, lines_more, lines_text}
 
 -- What is known of a line that is due.
-abbrev pub Found : Due → List ℕ → CertLine → Type 0
-Found d l (line.Header slim) = (d ≡ due.Header) × (l ++ 10 ∷ [] ≡ first_line slim)
-Found d l line.Idle = (d ≡ due.Idle) × (l ≡ codes "idle" ++ after_token l)
-Found d l line.Ready = (d ≡ due.Ready) × (l ≡ codes "ready" ++ after_token l)
-Found d l (line.Instruction pc) = (next : ℕ) × ((d ≡ due.States next) × (next ≤ pc) × (pc < 1024) × (l ≡ decimal pc ++ after_token l))
-Found d l line.End = (next : ℕ) × ((d ≡ due.States next) × (l ≡ codes "end"))
+abbrev pub DueFound : Due → List ℕ → CertLine → Type 0
+DueFound d l (line.Header slim) = (d ≡ due.Header) × (l ++ 10 ∷ [] ≡ first_line slim)
+DueFound d l line.Idle = (d ≡ due.Idle) × (l ≡ codes "idle" ++ after_token l)
+DueFound d l line.Ready = (d ≡ due.Ready) × (l ≡ codes "ready" ++ after_token l)
+DueFound d l (line.Instruction pc) = (next : ℕ) × ((d ≡ due.States next) × (next ≤ pc) × (pc < 1024) × (l ≡ decimal pc ++ after_token l))
+DueFound d l line.End = (next : ℕ) × ((d ≡ due.States next) × (l ≡ codes "end"))
 
 due_there : (b : Bool) (x y : CertLine) → where_due b x ≡ Some y → (b ≡ true) × (x ≡ y)
 due_there true x y h = (refl, cc h)
@@ -46,7 +46,7 @@ and_there : (a b : Bool) → (a && b) ≡ true → (a ≡ true) × (b ≡ true)
 and_there true b h = (refl, h)
 and_there false b h = cc h
 
-pc_there : (next : ℕ) (l : List ℕ) (o : Option ℕ) (x : CertLine) → decimal_below (2 ^ 32) (token l) ≡ o → pc_due next o ≡ Some x → Found (due.States next) l x
+pc_there : (next : ℕ) (l : List ℕ) (o : Option ℕ) (x : CertLine) → decimal_below (2 ^ 32) (token l) ≡ o → pc_due next o ≡ Some x → DueFound (due.States next) l x
 unfolding constant_of
 pc_there next l None x e h = cc h
 pc_there next l (Some pc) x e h =
@@ -55,29 +55,29 @@ pc_there next l (Some pc) x e h =
     let low = leb-true next pc both.0 in
     let high = leb-true pc 1023 both.1 in
     let word : l ≡ decimal pc ++ after_token l = tokens l ∙ ap (λ t. t ++ after_token l) (constant_found (token l) pc e).0 in
-    subst (Found (due.States next) l) is.1 (next, (refl, low, omega (arith, high), word))
+    subst (DueFound (due.States next) l) is.1 (next, (refl, low, omega (arith, high), word))
 
-end_there : (next : ℕ) (l : List ℕ) (b : Bool) (x : CertLine) → pointwise nat_eq l (codes "end") ≡ b → end_or_pc next l ≡ Some x → Found (due.States next) l x
+end_there : (next : ℕ) (l : List ℕ) (b : Bool) (x : CertLine) → pointwise nat_eq l (codes "end") ≡ b → end_or_pc next l ≡ Some x → DueFound (due.States next) l x
 end_there next l true x e h =
     let is : Some line.End ≡ Some x = rw e at h in
     let end : line.End ≡ x = cc is in
-    subst (Found (due.States next) l) end (next, (refl, same_text l (codes "end") (sym e)))
+    subst (DueFound (due.States next) l) end (next, (refl, same_text l (codes "end") (sym e)))
 end_there next l false x e h = pc_there next l (decimal_below (2 ^ 32) (token l)) x refl (rw e at h)
 
-head_there : (l : List ℕ) (b : Bool) (x : CertLine) → pointwise nat_eq l (codes "slim 1") ≡ b → header l ≡ Some x → Found due.Header l x
+head_there : (l : List ℕ) (b : Bool) (x : CertLine) → pointwise nat_eq l (codes "slim 1") ≡ b → header l ≡ Some x → DueFound due.Header l x
 head_there l true x e h =
     let is : Some (line.Header true) ≡ Some x = rw e at h in
     let slim : line.Header true ≡ x = cc is in
-    subst (Found due.Header l) slim (refl, ap (λ t. t ++ 10 ∷ []) (same_text l (codes "slim 1") (sym e)))
+    subst (DueFound due.Header l) slim (refl, ap (λ t. t ++ 10 ∷ []) (same_text l (codes "slim 1") (sym e)))
 head_there l false x e h =
     let is = due_there (pointwise nat_eq l (codes "cert 1")) (line.Header false) x (rw e at h) in
-    subst (Found due.Header l) is.1 (refl, ap (λ t. t ++ 10 ∷ []) (same_text l (codes "cert 1") (sym is.0)))
+    subst (DueFound due.Header l) is.1 (refl, ap (λ t. t ++ 10 ∷ []) (same_text l (codes "cert 1") (sym is.0)))
 
-pub found : (d : Due) (l : List ℕ) (x : CertLine) → due_line d l ≡ Some x → Found d l x
+pub found : (d : Due) (l : List ℕ) (x : CertLine) → due_line d l ≡ Some x → DueFound d l x
 unfolding due_line
 found due.Header l x h = head_there l (pointwise nat_eq l (codes "slim 1")) x refl h
-found due.Idle l x h = let is = due_there (pointwise nat_eq (token l) (codes "idle")) line.Idle x h in subst (Found due.Idle l) is.1 (refl, word_there l (codes "idle") is.0)
-found due.Ready l x h = let is = due_there (pointwise nat_eq (token l) (codes "ready")) line.Ready x h in subst (Found due.Ready l) is.1 (refl, word_there l (codes "ready") is.0)
+found due.Idle l x h = let is = due_there (pointwise nat_eq (token l) (codes "idle")) line.Idle x h in subst (DueFound due.Idle l) is.1 (refl, word_there l (codes "idle") is.0)
+found due.Ready l x h = let is = due_there (pointwise nat_eq (token l) (codes "ready")) line.Ready x h in subst (DueFound due.Ready l) is.1 (refl, word_there l (codes "ready") is.0)
 found (due.States next) l x h = end_there next l (pointwise nat_eq l (codes "end")) x refl h
 found due.Nothing l x h = cc h
 

@@ -6,7 +6,7 @@ use Rattle.life_state.specs.States.{CursorKnown, State}
 use Rattle.life_state.specs.Facts.{is_set}
 use Rattle.life_cert.specs.StateText.{each, where_holds, cursor_name, place_text_of, cursor_text, fact_text, facts_text}
 use Rattle.life_cert.specs.StateFromText.{cursor_past, cursor_read, fact_past, fact_word, key, past_each, row_past, starts}
-use Rattle.life_cert.proofs.Taking.{Ended, cursor_first, cursor_named, second_of, second_tells, skips, word_is, word_past}
+use Rattle.life_cert.proofs.Taking.{TextEnded, cursor_first, cursor_named, second_of, second_tells, skips, word_is, word_past}
 use Rattle.life_cert.proofs.CursorTexts.{CanSay, cursor_taken}
 
 -- a name with another number
@@ -114,10 +114,10 @@ each_taken f p Says Free h k (suc n) m high e =
     }
 
 -- texts of which each is taken where an ended one follows, and ends what stands before it
-pub ended_taken : (f : ℕ → List ℕ) (p : List ℕ → List ℕ) (Says : ℕ → List ℕ → Type 0) (n : ℕ) (m : List ℕ) → ((i : ℕ) (r : List ℕ) → i < 9 → Ended r → Says i (f i ++ r) × (p (f i ++ r) ≡ r))
-    → ((i : ℕ) (r : List ℕ) → Ended (f i ++ r)) → n ≤ 9 → Ended m → EachTaken (λ i. p) Says 0 n m (each 0 n f ++ m)
+pub ended_taken : (f : ℕ → List ℕ) (p : List ℕ → List ℕ) (Says : ℕ → List ℕ → Type 0) (n : ℕ) (m : List ℕ) → ((i : ℕ) (r : List ℕ) → i < 9 → TextEnded r → Says i (f i ++ r) × (p (f i ++ r) ≡ r))
+    → ((i : ℕ) (r : List ℕ) → TextEnded (f i ++ r)) → n ≤ 9 → TextEnded m → EachTaken (λ i. p) Says 0 n m (each 0 n f ++ m)
 ended_taken f p Says n m taken ends few e =
-    each_taken f (λ i. p) Says (λ i. Ended) (record {
+    each_taken f (λ i. p) Says (λ i. TextEnded) (record {
       says = λ i r below g. (taken i r below g).0;
       more = λ i r below g. (taken i r below g).1;
       free = λ i j r low high g. ends j r;
@@ -125,9 +125,9 @@ ended_taken f p Says n m taken ends few e =
 
 -- The cursors, in turn.
 abbrev pub FreeOfCursor : ℕ → List ℕ → Type 0
-FreeOfCursor c m = Ended m × (starts (key c) m ≡ false)
+FreeOfCursor c m = TextEnded m × (starts (key c) m ≡ false)
 
-ended_where : (b : Bool) (t m : List ℕ) → Ended m → Ended (where_holds b (32 ∷ t) ++ m)
+ended_where : (b : Bool) (t m : List ℕ) → TextEnded m → TextEnded (where_holds b (32 ∷ t) ++ m)
 ended_where true t m h = inl refl
 ended_where false t m h = h
 

@@ -9,7 +9,7 @@ use Rattle.life_cert.specs.declared.print_state.HomeWord.{HomeWord}
 use Rattle.life_cert.specs.declared.print_state.HomeWord.TheVariants as home
 use Rattle.life_cert.specs.StateText.{where_holds, homes, home_text, has_home, more_homes, some_homes, homes_text}
 use Rattle.life_cert.specs.StateFromText.{behind, homes_from, homes_past, homes_read, more_there, past, past_more, past_some, some_there, starts}
-use Rattle.life_cert.proofs.Taking.{Ended, not_begun, behind_self, skips, starts_self, word_is, word_past}
+use Rattle.life_cert.proofs.Taking.{TextEnded, not_begun, behind_self, skips, starts_self, word_is, word_past}
 
 -- the two bytes by which a home's name begins, and the others
 abbrev first : HomeWord → ℕ
@@ -70,7 +70,7 @@ abbrev pub bits : Homes → List HomeWord → List Bool
 bits h [] = []
 bits h (x ∷ xs) = has_home h x ∷ bits h xs
 
-no_more : (x : HomeWord) (ys : List HomeWord) (h : Homes) (m : List ℕ) → is_small x ≡ true → is_apart_from x ys ≡ true → Ended m → starts (44 ∷ home_text x) (more_homes h ys ++ m) ≡ false
+no_more : (x : HomeWord) (ys : List HomeWord) (h : Homes) (m : List ℕ) → is_small x ≡ true → is_apart_from x ys ≡ true → TextEnded m → starts (44 ∷ home_text x) (more_homes h ys ++ m) ≡ false
 no_more x [] h m p a e = not_begun 44 (home_text x) m e refl refl refl
 no_more x (y ∷ ys) h m p a e =
     let two = split2 (is_small y && are_apart x y) (is_apart_from x ys) a in
@@ -83,7 +83,7 @@ pub record MoreTaken (xs : List HomeWord) (h : Homes) (m t : List ℕ) : Type 0 
   pub there : more_there xs t ≡ bits h xs
   pub more : past_more xs t ≡ m
 
-pub more_taken : (xs : List HomeWord) (h : Homes) (m : List ℕ) → all_apart xs ≡ true → Ended m → MoreTaken xs h m (more_homes h xs ++ m)
+pub more_taken : (xs : List HomeWord) (h : Homes) (m : List ℕ) → all_apart xs ≡ true → TextEnded m → MoreTaken xs h m (more_homes h xs ++ m)
 more_taken [] h m a e = record { there = refl; more = refl }
 more_taken (x ∷ xs) h m a e =
     let two = split2 (is_small x && is_apart_from x xs) (all_apart xs) a in
@@ -121,11 +121,11 @@ no_some x (y ∷ ys) h m p a =
     by true small far on = ap (starts (home_text x)) (append_assoc (home_text y) (more_homes h ys) m) ∙ apart x y (more_homes h ys ++ m) p small far
     by false small far on = on
 
-pub record SomeTaken (xs : List HomeWord) (h : Homes) (m t : List ℕ) : Type 0 where
+pub record HomesTaken (xs : List HomeWord) (h : Homes) (m t : List ℕ) : Type 0 where
   pub there : some_there xs t ≡ bits h xs
   pub more : past_some xs t ≡ m
 
-some_taken : (xs : List HomeWord) (h : Homes) (m : List ℕ) → all_apart xs ≡ true → Ended m → SomeTaken xs h m (some_homes h xs ++ m)
+some_taken : (xs : List HomeWord) (h : Homes) (m : List ℕ) → all_apart xs ≡ true → TextEnded m → HomesTaken xs h m (some_homes h xs ++ m)
 some_taken [] h m a e = record { there = refl; more = refl }
 some_taken (x ∷ xs) h m a e =
     let two = split2 (is_small x && is_apart_from x xs) (all_apart xs) a in
@@ -138,8 +138,8 @@ some_taken (x ∷ xs) h m a e =
     found : (r t : List ℕ) → t ≡ w ++ r → (starts w t ≡ true) × (behind w t ≡ r)
     found r t is = (ap (starts w) is ∙ starts_self w r, ap (behind w) is ∙ behind_self w r)
 
-    by : (b : Bool) → has_home h x ≡ b → starts w (some_homes h xs ++ m) ≡ false → MoreTaken xs h m (more_homes h xs ++ m) → SomeTaken xs h m (some_homes h xs ++ m)
-        → SomeTaken (x ∷ xs) h m (some_homes h (x ∷ xs) ++ m)
+    by : (b : Bool) → has_home h x ≡ b → starts w (some_homes h xs ++ m) ≡ false → MoreTaken xs h m (more_homes h xs ++ m) → HomesTaken xs h m (some_homes h xs ++ m)
+        → HomesTaken (x ∷ xs) h m (some_homes h (x ∷ xs) ++ m)
     by true has none more on =
         let t = some_homes h (x ∷ xs) ++ m in
         let rest = more_homes h xs ++ m in
@@ -161,6 +161,6 @@ some_taken (x ∷ xs) h m a e =
         }
 
 -- Of a text of homes, those are taken that are meant, and what follows is left.
-pub homes_taken : (h : Homes) (m : List ℕ) → homes_from (bits h homes) ≡ h → Ended m → (homes_read (homes_text h ++ m) ≡ h) × (homes_past (homes_text h ++ m) ≡ m)
+pub homes_taken : (h : Homes) (m : List ℕ) → homes_from (bits h homes) ≡ h → TextEnded m → (homes_read (homes_text h ++ m) ≡ h) × (homes_past (homes_text h ++ m) ≡ m)
 unfolding homes_text homes_read homes_past
 homes_taken h m is e = let taken = some_taken homes h m homes_apart e in (ap homes_from taken.there ∙ is, taken.more)

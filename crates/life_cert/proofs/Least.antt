@@ -24,8 +24,8 @@ use Rattle.life_cert.specs.Least.{IsBelow}
 use Rattle.life_cert.proofs.Arriving.{read_written}
 use Rattle.life_cert.proofs.RoundsFormed.{AllFormed, Good, on_good, formed_by, rounds_formed}
 
-abbrev pub Under : Certificate → Arrival → Type 0
-Under c a = is_below a.state (state_at c a.place) ≡ true
+abbrev pub CertUnder : Certificate → Arrival → Type 0
+CertUnder c a = is_below a.state (state_at c a.place) ≡ true
 
 join_under : (s t : State) (o : Option State) → IsFormed s → IfSome o IsFormed → is_below s o ≡ true → is_below t o ≡ true → is_below (join s t) o ≡ true
 join_under s t None f g p q = cc
@@ -42,62 +42,62 @@ formed_at c f (place.At pc) = f.at pc
 module _ (p : Program) (c : Certificate) (typed : IsTyped p c) (formed : AreFormed c) where
   -- What is handed on.
 
-  edge_under : (w : StatePlace) (o q : Option State) → edge_le o q ≡ true → flows q (state_at c w) ≡ true → All (Under c) (arriving w o)
-  edge_under w None q le h = All-nil (Under c)
+  edge_under : (w : StatePlace) (o q : Option State) → edge_le o q ≡ true → flows q (state_at c w) ≡ true → All (CertUnder c) (arriving w o)
+  edge_under w None q le h = All-nil (CertUnder c)
   edge_under w (Some a) None le h = absurd (clash le)
-  edge_under w (Some a) (Some b) le h = All-cons (Under c) (record { place = w; state = a }) [] (below_trans a b (state_at c w) le h) (All-nil (Under c))
+  edge_under w (Some a) (Some b) le h = All-cons (CertUnder c) (record { place = w; state = a }) [] (below_trans a b (state_at c w) le h) (All-nil (CertUnder c))
 
   left_at : (pc : ℕ) → state_at c (left_place p pc) ≡ left_by p c pc
   left_at pc = elim (nat_lt pc p.init) as (λ b. state_at c (if b then place.Idle else place.Ready) ≡ (if b then c.idle else c.ready)) [ true ↦ refl | false ↦ refl ]
 
-  return_under : (pc : ℕ) (i : Instr) (s t : State) → IsFormed s → IsFormed t → leq s t ≡ true → exits p c pc i t ≡ true → All (Under c) (arriving (left_place p pc) (returned i s))
+  return_under : (pc : ℕ) (i : Instr) (s t : State) → IsFormed s → IsFormed t → leq s t ≡ true → exits p c pc i t ≡ true → All (CertUnder c) (arriving (left_place p pc) (returned i s))
   return_under pc (instr.Ret u) s t f g le h =
-      All-cons (Under c) (record { place = left_place p pc; state = at_return s }) []
-      (below_trans (at_return s) (at_return t) (state_at c (left_place p pc)) (entries_are_monotone.returns s t f g le) (ap (is_below (at_return t)) (left_at pc) ∙ h)) (All-nil (Under c))
-  return_under pc _ s t f g le h = All-nil (Under c)
+      All-cons (CertUnder c) (record { place = left_place p pc; state = at_return s }) []
+      (below_trans (at_return s) (at_return t) (state_at c (left_place p pc)) (entries_are_monotone.returns s t f g le) (ap (is_below (at_return t)) (left_at pc) ∙ h)) (All-nil (CertUnder c))
+  return_under pc _ s t f g le h = All-nil (CertUnder c)
 
   and_both : (x y : Bool) → (x && y) ≡ true → (x ≡ true) × (y ≡ true)
   and_both true y h = (refl, h)
   and_both false y h = cc
 
-  led_under : (pc : ℕ) (i : Instr) (s t : State) → IsFormed s → IsFormed t → leq s t ≡ true → IsLed p c pc i t → All (Under c) (handed_by_rule p pc i s (rule p i s))
+  led_under : (pc : ℕ) (i : Instr) (s t : State) → IsFormed s → IsFormed t → leq s t ≡ true → IsLed p c pc i t → All (CertUnder c) (handed_by_rule p pc i s (rule p i s))
   led_under pc i s t f g le h =
       let less : LeadsBelow p i s h.edges = rules_are_monotone p i s t h.edges f g le h.safe in
       let d = less.edges in
       let on = and_both (flows h.edges.next (c.at (pc + 1))) (flows h.edges.jump (c.at (unwrap_or (target i) 0))) h.leads in
-      subst (λ (r : Result Edges FaultKind). All (Under c) (handed_by_rule p pc i s r)) (sym less.safe)
-      (All-append (Under c) (edges_arriving pc i d) (arriving (left_place p pc) (returned i s))
-      (All-append (Under c) (arriving (place.At (pc + 1)) d.next) (arriving (place.At (unwrap_or (target i) 0)) d.jump)
+      subst (λ (r : Result Edges FaultKind). All (CertUnder c) (handed_by_rule p pc i s r)) (sym less.safe)
+      (All-append (CertUnder c) (edges_arriving pc i d) (arriving (left_place p pc) (returned i s))
+      (All-append (CertUnder c) (arriving (place.At (pc + 1)) d.next) (arriving (place.At (unwrap_or (target i) 0)) d.jump)
       (edge_under (place.At (pc + 1)) d.next h.edges.next less.next (on.0)) (edge_under (place.At (unwrap_or (target i) 0)) d.jump h.edges.jump less.jump (on.1)))
       (return_under pc i s t f g le h.exits))
 
-  line_under : (pc : ℕ) (s t : State) (o : Option Instr) → slice_get p.code pc ≡ o → c.at pc ≡ Some t → IsFormed s → IsFormed t → leq s t ≡ true → All (Under c) (handed_by_line p pc o s)
-  line_under pc s t None e here f g le = All-nil (Under c)
+  line_under : (pc : ℕ) (s t : State) (o : Option Instr) → slice_get p.code pc ≡ o → c.at pc ≡ Some t → IsFormed s → IsFormed t → leq s t ≡ true → All (CertUnder c) (handed_by_line p pc o s)
+  line_under pc s t None e here f g le = All-nil (CertUnder c)
   line_under pc s t (Some i) e here f g le = led_under pc i s t f g le (typed.lines pc i t e here)
 
   -- by the state of the certificate
-  by_under : (w : StatePlace) (s : State) (q : Option State) → state_at c w ≡ q → IsFormed s → is_below s q ≡ true → All (Under c) (handed_by p w (Some s))
+  by_under : (w : StatePlace) (s : State) (q : Option State) → state_at c w ≡ q → IsFormed s → is_below s q ≡ true → All (CertUnder c) (handed_by p w (Some s))
   by_under w s None e f h = absurd (clash h)
   by_under place.Idle s (Some t) e f le =
       edge_under (place.At p.init) (Some s) c.idle (ap (edge_le (Some s)) e ∙ le) typed.inits
   by_under place.Ready s (Some t) e f le =
       let g : IsFormed t = subst (λ (o : Option State). IfSome o IsFormed) e formed.ready in
-      All-append (Under c) (arriving (place.At p.main) (Some (at_main s))) (arriving place.Idle (Some (at_end_of_request p s)))
+      All-append (CertUnder c) (arriving (place.At p.main) (Some (at_main s))) (arriving place.Idle (Some (at_end_of_request p s)))
       (edge_under (place.At p.main) (Some (at_main s)) (main_from c.ready)
       (ap (λ (o : Option State). edge_le (Some (at_main s)) (main_from o)) e ∙ entries_are_monotone.serves s t f g le) typed.serves)
       (edge_under place.Idle (Some (at_end_of_request p s)) (request_end p c.ready)
       (ap (λ (o : Option State). edge_le (Some (at_end_of_request p s)) (request_end p o)) e ∙ entries_are_monotone.ends p s t f g le) typed.requests)
   by_under (place.At pc) s (Some t) e f le = line_under pc s t (slice_get p.code pc) refl e f (subst (λ (o : Option State). IfSome o IsFormed) e (formed.at pc)) le
 
-  handed_under : (w : StatePlace) (o : Option State) → ((s : State) → o ≡ Some s → IsFormed s × (is_below s (state_at c w) ≡ true)) → All (Under c) (handed_by p w o)
-  handed_under w None h = All-nil (Under c)
+  handed_under : (w : StatePlace) (o : Option State) → ((s : State) → o ≡ Some s → IsFormed s × (is_below s (state_at c w) ≡ true)) → All (CertUnder c) (handed_by p w o)
+  handed_under w None h = All-nil (CertUnder c)
   handed_under w (Some s) h = let both = h s refl in by_under w s (state_at c w) refl (both.0) (both.1)
 
-  on_under : (d : Certificate) (ws : List StatePlace) → AllFormed p d → IsBelow d c → All (Under c) (handed_on p d ws)
+  on_under : (d : Certificate) (ws : List StatePlace) → AllFormed p d → IsBelow d c → All (CertUnder c) (handed_on p d ws)
   unfolding handed_on
-  on_under d [] f h = All-nil (Under c)
+  on_under d [] f h = All-nil (CertUnder c)
   on_under d (w ∷ ws) f h =
-      All-append (Under c) (handed_by p w (state_at d w)) (handed_on p d ws) (handed_under w (state_at d w) (λ s e. ((f.each w s e).formed, h w s e))) (on_under d ws f h)
+      All-append (CertUnder c) (handed_by p w (state_at d w)) (handed_on p d ws) (handed_under w (state_at d w) (λ s e. ((f.each w s e).formed, h w s e))) (on_under d ws f h)
 
   -- What arrives.
 
@@ -111,13 +111,13 @@ module _ (p : Program) (c : Certificate) (typed : IsTyped p c) (formed : AreForm
       some_is : {x y : State} → Some x ≡ Some y → x ≡ y
       some_is k = cc
 
-  under_by : (a : Arrival) (g : Grown) (o : Option State) → state_at g.states a.place ≡ o → AllFormed p g.states → Under c a → IsBelow g.states c → IsBelow (arrive_by o a g).states c
+  under_by : (a : Arrival) (g : Grown) (o : Option State) → state_at g.states a.place ≡ o → AllFormed p g.states → CertUnder c a → IsBelow g.states c → IsBelow (arrive_by o a g).states c
   under_by a g None e f new h = grow_under a.place a.state g new h
   under_by a g (Some t) e f new h =
       elim (leq a.state t) as (λ b. IsBelow (if b then g else grow a.place (join t a.state) g).states c)
       [ true ↦ h | false ↦ grow_under a.place (join t a.state) g (join_under t a.state (state_at c a.place) (f.each a.place t e).formed (formed_at c formed a.place) (h a.place t e) new) h ]
 
-  arrived_under : (rest : List Arrival) (g : Grown) → AllFormed p g.states → All (Good p) rest → All (Under c) rest → IsBelow g.states c → IsBelow (arrived rest g).states c
+  arrived_under : (rest : List Arrival) (g : Grown) → AllFormed p g.states → All (Good p) rest → All (CertUnder c) rest → IsBelow g.states c → IsBelow (arrived rest g).states c
   unfolding arrived
   arrived_under [] g f good new h = h
   arrived_under (a ∷ rest) g f good new h =

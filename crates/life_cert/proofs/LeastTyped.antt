@@ -34,65 +34,65 @@ use Rattle.life_cert.proofs.Arriving.{read_written}
 use Rattle.life_cert.proofs.RoundsFit.{rounds_fit, states_only_grow}
 use Rattle.life_cert.proofs.RoundsFormed.{begun_formed, rounds_formed}
 use Rattle.life_cert.proofs.Closed.{under_grown, states_are_closed}
-use Rattle.life_cert.proofs.Least.{Under, made_is_least}
+use Rattle.life_cert.proofs.Least.{CertUnder, made_is_least}
 
 -- Between calls no cursor is set.
 
-abbrev Bare : StatePlace → State → Type 0
-Bare place.Idle s = (k : ℕ) → s.cursors k ≡ Unset
-Bare place.Ready s = (k : ℕ) → s.cursors k ≡ Unset
-Bare (place.At pc) s = Unit {0}
+abbrev BareState : StatePlace → State → Type 0
+BareState place.Idle s = (k : ℕ) → s.cursors k ≡ Unset
+BareState place.Ready s = (k : ℕ) → s.cursors k ≡ Unset
+BareState (place.At pc) s = Unit {0}
 
-abbrev IsBare : Arrival → Type 0
-IsBare a = Bare a.place a.state
+abbrev IsBareArrival : Arrival → Type 0
+IsBareArrival a = BareState a.place a.state
 
 AllBare : Certificate → Type 0
-AllBare c = (w : StatePlace) (s : State) → state_at c w ≡ Some s → Bare w s
+AllBare c = (w : StatePlace) (s : State) → state_at c w ≡ Some s → BareState w s
 
-at_line : (pc : ℕ) (o : Option State) → All IsBare (arriving (place.At pc) o)
-at_line pc None = All-nil IsBare
-at_line pc (Some s) = All-cons IsBare (record { place = place.At pc; state = s }) [] tt (All-nil IsBare)
+at_line : (pc : ℕ) (o : Option State) → All IsBareArrival (arriving (place.At pc) o)
+at_line pc None = All-nil IsBareArrival
+at_line pc (Some s) = All-cons IsBareArrival (record { place = place.At pc; state = s }) [] tt (All-nil IsBareArrival)
 
-left_bare : (p : Program) (pc : ℕ) (s : State) → Bare (left_place p pc) (at_return s)
-left_bare p pc s = elim (nat_lt pc p.init) as (λ b. Bare (if b then place.Idle else place.Ready) (at_return s)) [ true ↦ λ k. refl | false ↦ λ k. refl ]
+left_bare : (p : Program) (pc : ℕ) (s : State) → BareState (left_place p pc) (at_return s)
+left_bare p pc s = elim (nat_lt pc p.init) as (λ b. BareState (if b then place.Idle else place.Ready) (at_return s)) [ true ↦ λ k. refl | false ↦ λ k. refl ]
 
-return_bare : (p : Program) (pc : ℕ) (i : Instr) (s : State) → All IsBare (arriving (left_place p pc) (returned i s))
-return_bare p pc (instr.Ret u) s = All-cons IsBare (record { place = left_place p pc; state = at_return s }) [] (left_bare p pc s) (All-nil IsBare)
-return_bare p pc _ s = All-nil IsBare
+return_bare : (p : Program) (pc : ℕ) (i : Instr) (s : State) → All IsBareArrival (arriving (left_place p pc) (returned i s))
+return_bare p pc (instr.Ret u) s = All-cons IsBareArrival (record { place = left_place p pc; state = at_return s }) [] (left_bare p pc s) (All-nil IsBareArrival)
+return_bare p pc _ s = All-nil IsBareArrival
 
-line_bare : (p : Program) (pc : ℕ) (o : Option Instr) (s : State) → All IsBare (handed_by_line p pc o s)
-line_bare p pc None s = All-nil IsBare
+line_bare : (p : Program) (pc : ℕ) (o : Option Instr) (s : State) → All IsBareArrival (handed_by_line p pc o s)
+line_bare p pc None s = All-nil IsBareArrival
 line_bare p pc (Some i) s = of (rule p i s)
   where
-    of : (r : Result Edges FaultKind) → All IsBare (handed_by_rule p pc i s r)
-    of (Err k) = All-nil IsBare
+    of : (r : Result Edges FaultKind) → All IsBareArrival (handed_by_rule p pc i s r)
+    of (Err k) = All-nil IsBareArrival
     of (Ok e) =
-        All-append IsBare (edges_arriving pc i e) (arriving (left_place p pc) (returned i s))
-        (All-append IsBare (arriving (place.At (pc + 1)) e.next) (arriving (place.At (unwrap_or (target i) 0)) e.jump) (at_line (pc + 1) e.next) (at_line (unwrap_or (target i) 0) e.jump))
+        All-append IsBareArrival (edges_arriving pc i e) (arriving (left_place p pc) (returned i s))
+        (All-append IsBareArrival (arriving (place.At (pc + 1)) e.next) (arriving (place.At (unwrap_or (target i) 0)) e.jump) (at_line (pc + 1) e.next) (at_line (unwrap_or (target i) 0) e.jump))
         (return_bare p pc i s)
 
 end_bare : (p : Program) (s : State) → ((k : ℕ) → s.cursors k ≡ Unset) → (k : ℕ) → (at_end_of_request p s).cursors k ≡ Unset
 unfolding at_end_of_request cleared_under moved
 end_bare p s h k = ap (cleared_cursor p (is_under p pool.Req)) (h k)
 
-by_bare : (p : Program) (w : StatePlace) (o : Option State) → ((s : State) → o ≡ Some s → Bare w s) → All IsBare (handed_by p w o)
-by_bare p w None h = All-nil IsBare
+by_bare : (p : Program) (w : StatePlace) (o : Option State) → ((s : State) → o ≡ Some s → BareState w s) → All IsBareArrival (handed_by p w o)
+by_bare p w None h = All-nil IsBareArrival
 by_bare p place.Idle (Some s) h = at_line p.init (Some s)
 by_bare p place.Ready (Some s) h =
-    All-append IsBare (arriving (place.At p.main) (Some (at_main s))) (arriving place.Idle (Some (at_end_of_request p s))) (at_line p.main (Some (at_main s)))
-    (All-cons IsBare (record { place = place.Idle; state = at_end_of_request p s }) [] (end_bare p s (h s refl)) (All-nil IsBare))
+    All-append IsBareArrival (arriving (place.At p.main) (Some (at_main s))) (arriving place.Idle (Some (at_end_of_request p s))) (at_line p.main (Some (at_main s)))
+    (All-cons IsBareArrival (record { place = place.Idle; state = at_end_of_request p s }) [] (end_bare p s (h s refl)) (All-nil IsBareArrival))
 by_bare p (place.At pc) (Some s) h = line_bare p pc (slice_get p.code pc) s
 
-on_bare : (p : Program) (c : Certificate) (ws : List StatePlace) → AllBare c → All IsBare (handed_on p c ws)
+on_bare : (p : Program) (c : Certificate) (ws : List StatePlace) → AllBare c → All IsBareArrival (handed_on p c ws)
 unfolding handed_on AllBare
-on_bare p c [] h = All-nil IsBare
-on_bare p c (w ∷ ws) h = All-append IsBare (handed_by p w (state_at c w)) (handed_on p c ws) (by_bare p w (state_at c w) (h w)) (on_bare p c ws h)
+on_bare p c [] h = All-nil IsBareArrival
+on_bare p c (w ∷ ws) h = All-append IsBareArrival (handed_by p w (state_at c w)) (handed_on p c ws) (by_bare p w (state_at c w) (h w)) (on_bare p c ws h)
 
 joined_unset : (s t : State) (k : ℕ) → s.cursors k ≡ Unset → t.cursors k ≡ Unset → (join s t).cursors k ≡ Unset
 unfolding join both_cursors
 joined_unset s t k a b = ap₂ (λ x y. kept_cursor (joined_brigades s t) (both_cursors x y)) a b
 
-joined_bare : (w : StatePlace) (s t : State) → Bare w s → Bare w t → Bare w (join s t)
+joined_bare : (w : StatePlace) (s t : State) → BareState w s → BareState w t → BareState w (join s t)
 joined_bare place.Idle s t f g = λ k. joined_unset s t k (f k) (g k)
 joined_bare place.Ready s t f g = λ k. joined_unset s t k (f k) (g k)
 joined_bare (place.At pc) s t f g = tt
@@ -100,22 +100,22 @@ joined_bare (place.At pc) s t f g = tt
 some_is : {x y : State} → Some x ≡ Some y → x ≡ y
 some_is e = cc
 
-grow_bare : (w : StatePlace) (s : State) (g : Grown) → AllBare g.states → Bare w s → AllBare (grow w s g).states
+grow_bare : (w : StatePlace) (s : State) (g : Grown) → AllBare g.states → BareState w s → AllBare (grow w s g).states
 unfolding AllBare
 grow_bare w s g h new v t e =
     elim (read_written w v s g.states) [
-      | inl here ↦ subst (λ (x : StatePlace). Bare x t) (sym (here.0)) (subst (Bare w) (some_is (sym (here.1) ∙ e)) new)
+      | inl here ↦ subst (λ (x : StatePlace). BareState x t) (sym (here.0)) (subst (BareState w) (some_is (sym (here.1) ∙ e)) new)
       | inr other ↦ h v t (sym other ∙ e)
     ]
 
-bare_by : (a : Arrival) (g : Grown) (o : Option State) → state_at g.states a.place ≡ o → AllBare g.states → IsBare a → AllBare (arrive_by o a g).states
+bare_by : (a : Arrival) (g : Grown) (o : Option State) → state_at g.states a.place ≡ o → AllBare g.states → IsBareArrival a → AllBare (arrive_by o a g).states
 unfolding AllBare
 bare_by a g None e h new = grow_bare a.place a.state g h new
 bare_by a g (Some t) e h new =
     elim (leq a.state t) as (λ b. AllBare (if b then g else grow a.place (join t a.state) g).states)
     [ true ↦ h | false ↦ grow_bare a.place (join t a.state) g h (joined_bare a.place t a.state (h a.place t e) new) ]
 
-arrived_bare : (rest : List Arrival) (g : Grown) → AllBare g.states → All IsBare rest → AllBare (arrived rest g).states
+arrived_bare : (rest : List Arrival) (g : Grown) → AllBare g.states → All IsBareArrival rest → AllBare (arrived rest g).states
 unfolding arrived
 arrived_bare [] g h new = h
 arrived_bare (a ∷ rest) g h new = arrived_bare rest (arrive a g) (bare_by a g (state_at g.states a.place) refl h (new 0 a (omega arith))) (λ k d below. new (suc k) d (omega arith))
@@ -182,37 +182,37 @@ module _ (p : Program) (c : Certificate) (m : IsModule p) (formed : AreFormed c)
 
   -- What is handed on has arrived.
 
-  closed : (w : StatePlace) → All (Under (made p)) (handed_by p w (state_at (made p) w))
+  closed : (w : StatePlace) → All (CertUnder (made p)) (handed_by p w (state_at (made p) w))
   closed w = states_are_closed p m w
 
-  flows_there : (w : StatePlace) (o : Option State) → All (Under (made p)) (arriving w o) → flows o (state_at (made p) w) ≡ true
+  flows_there : (w : StatePlace) (o : Option State) → All (CertUnder (made p)) (arriving w o) → flows o (state_at (made p) w) ≡ true
   flows_there w None h = refl
-  flows_there w (Some s) h = All-head (Under (made p)) (record { place = w; state = s }) [] h
+  flows_there w (Some s) h = All-head (CertUnder (made p)) (record { place = w; state = s }) [] h
 
-  front : (xs ys : List Arrival) → All (Under (made p)) (xs ++ ys) → All (Under (made p)) xs
-  front [] ys h = All-nil (Under (made p))
-  front (x ∷ xs) ys h = All-cons (Under (made p)) x xs (h 0 x (omega arith)) (front xs ys (λ k d low. h (suc k) d (omega arith)))
+  front : (xs ys : List Arrival) → All (CertUnder (made p)) (xs ++ ys) → All (CertUnder (made p)) xs
+  front [] ys h = All-nil (CertUnder (made p))
+  front (x ∷ xs) ys h = All-cons (CertUnder (made p)) x xs (h 0 x (omega arith)) (front xs ys (λ k d low. h (suc k) d (omega arith)))
 
-  back : (xs ys : List Arrival) → All (Under (made p)) (xs ++ ys) → All (Under (made p)) ys
+  back : (xs ys : List Arrival) → All (CertUnder (made p)) (xs ++ ys) → All (CertUnder (made p)) ys
   back [] ys h = h
   back (x ∷ xs) ys h = back xs ys (λ k d low. h (suc k) d (omega arith))
 
-  inits_there : (o : Option State) → All (Under (made p)) (handed_by p place.Idle o) → flows o ((made p).at p.init) ≡ true
+  inits_there : (o : Option State) → All (CertUnder (made p)) (handed_by p place.Idle o) → flows o ((made p).at p.init) ≡ true
   inits_there None h = refl
   inits_there (Some s) h = flows_there (place.At p.init) (Some s) h
 
-  serves_there : (o : Option State) → All (Under (made p)) (handed_by p place.Ready o) → flows (main_from o) ((made p).at p.main) ≡ true
+  serves_there : (o : Option State) → All (CertUnder (made p)) (handed_by p place.Ready o) → flows (main_from o) ((made p).at p.main) ≡ true
   serves_there None h = refl
   serves_there (Some s) h = flows_there (place.At p.main) (Some (at_main s)) (front (arriving (place.At p.main) (Some (at_main s))) (arriving place.Idle (Some (at_end_of_request p s))) h)
 
-  requests_there : (o : Option State) → All (Under (made p)) (handed_by p place.Ready o) → flows (request_end p o) (made p).idle ≡ true
+  requests_there : (o : Option State) → All (CertUnder (made p)) (handed_by p place.Ready o) → flows (request_end p o) (made p).idle ≡ true
   requests_there None h = refl
   requests_there (Some s) h = flows_there place.Idle (Some (at_end_of_request p s)) (back (arriving (place.At p.main) (Some (at_main s))) (arriving place.Idle (Some (at_end_of_request p s))) h)
 
   left_at : (pc : ℕ) → state_at (made p) (left_place p pc) ≡ left_by p (made p) pc
   left_at pc = elim (nat_lt pc p.init) as (λ b. state_at (made p) (if b then place.Idle else place.Ready) ≡ (if b then (made p).idle else (made p).ready)) [ true ↦ refl | false ↦ refl ]
 
-  exits_there : (pc : ℕ) (i : Instr) (s : State) → All (Under (made p)) (arriving (left_place p pc) (returned i s)) → exits p (made p) pc i s ≡ true
+  exits_there : (pc : ℕ) (i : Instr) (s : State) → All (CertUnder (made p)) (arriving (left_place p pc) (returned i s)) → exits p (made p) pc i s ≡ true
   exits_there pc (instr.Ret u) s h = ap (is_below (at_return s)) (sym (left_at pc)) ∙ flows_there (left_place p pc) (Some (at_return s)) h
   exits_there pc _ s h = refl
 
@@ -225,9 +225,9 @@ module _ (p : Program) (c : Certificate) (m : IsModule p) (formed : AreFormed c)
       let of_t = typed.lines pc i t here e in
       let less = rules_are_monotone p i s t of_t.edges f g le of_t.safe in
       let d = less.edges in
-      let all : All (Under (made p)) (handed_by_rule p pc i s (Ok d)) = subst (λ (r : Result Edges FaultKind). All (Under (made p)) (handed_by_rule p pc i s r)) less.safe
-      (subst (λ (o : Option Instr). All (Under (made p)) (handed_by_line p pc o s)) here
-      (subst (λ (o : Option State). All (Under (made p)) (handed_by p (place.At pc) o)) line (closed (place.At pc)))) in
+      let all : All (CertUnder (made p)) (handed_by_rule p pc i s (Ok d)) = subst (λ (r : Result Edges FaultKind). All (CertUnder (made p)) (handed_by_rule p pc i s r)) less.safe
+      (subst (λ (o : Option Instr). All (CertUnder (made p)) (handed_by_line p pc o s)) here
+      (subst (λ (o : Option State). All (CertUnder (made p)) (handed_by p (place.At pc) o)) line (closed (place.At pc)))) in
       let on = front (edges_arriving pc i d) (arriving (left_place p pc) (returned i s)) all in
       let next = arriving (place.At (pc + 1)) d.next in
       let jump = arriving (place.At (unwrap_or (target i) 0)) d.jump in

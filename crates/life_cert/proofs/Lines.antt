@@ -69,28 +69,28 @@ lines_more xs m s pc at long =
     ∙ ap (λ t. lines_text 0 xs ++ t) some
 
 -- Lines whose states are in form.
-abbrev pub AreFormed : List (Option code.State) → Type 0
-AreFormed [] = Unit {0}
-AreFormed (x ∷ xs) = IfSome (seen_some x) IsFormed × AreFormed xs
+abbrev pub LinesFormed : List (Option code.State) → Type 0
+LinesFormed [] = Unit {0}
+LinesFormed (x ∷ xs) = IfSome (seen_some x) IsFormed × LinesFormed xs
 
-pub all_formed : (xs : List (Option code.State)) → ((pc : ℕ) → IfSome (seen_line (slice_get xs pc)) IsFormed) → AreFormed xs
+pub all_formed : (xs : List (Option code.State)) → ((pc : ℕ) → IfSome (seen_line (slice_get xs pc)) IsFormed) → LinesFormed xs
 all_formed [] h = tt
 all_formed (x ∷ xs) h = (h 0, all_formed xs (λ pc. h (suc pc)))
 
-pub formed_at : (xs : List (Option code.State)) → AreFormed xs → (pc : ℕ) → IfSome (seen_line (slice_get xs pc)) IsFormed
+pub formed_at : (xs : List (Option code.State)) → LinesFormed xs → (pc : ℕ) → IfSome (seen_line (slice_get xs pc)) IsFormed
 formed_at [] h pc = tt
 formed_at (x ∷ xs) h zero = h.0
 formed_at (x ∷ xs) h (suc pc) = formed_at xs h.1 pc
 
-formed_both : (xs ys : List (Option code.State)) → AreFormed xs → AreFormed ys → AreFormed (xs ++ ys)
+formed_both : (xs ys : List (Option code.State)) → LinesFormed xs → LinesFormed ys → LinesFormed (xs ++ ys)
 formed_both [] ys h k = k
 formed_both (x ∷ xs) ys h k = (h.0, formed_both xs ys h.1 k)
 
-formed_none : (m : ℕ) → AreFormed (replicate m None)
+formed_none : (m : ℕ) → LinesFormed (replicate m None)
 formed_none zero = tt
 formed_none (suc m) = (tt, formed_none m)
 
-pub formed_more : (xs : List (Option code.State)) (m : ℕ) (s : code.State) → AreFormed xs → IsFormed (seen s) → AreFormed ((xs ++ replicate m None) ++ Some s ∷ [])
+pub formed_more : (xs : List (Option code.State)) (m : ℕ) (s : code.State) → LinesFormed xs → IsFormed (seen s) → LinesFormed ((xs ++ replicate m None) ++ Some s ∷ [])
 formed_more xs m s h k = formed_both (xs ++ replicate m None) (Some s ∷ []) (formed_both xs (replicate m None) h (formed_none m)) (k, tt)
 
 pub last_some : (xs : List (Option code.State)) (s : code.State) (pc : ℕ) → pc ≡ length xs → IsSome (seen_line (slice_get (xs ++ Some s ∷ []) pc))

@@ -17,7 +17,7 @@ use Rattle.life_cert.specs.declared.refusal.CertRefusal.{CertRefusal}
 use Rattle.life_cert.specs.declared.refusal.CertRefusal.TheVariants.{Fault, NoMemory}
 use Rattle.life_cert.specs.StateText.{each, sent_text, state_text}
 use Rattle.life_cert.specs.CertText.{first_line, between_line, cert_text, pc_line, state_or_none}
-use Rattle.life_cert.specs.Reading.{HaveSameStates, IsCertificate, IsPrinted, IsCertText, IsTold, IsWritable}
+use Rattle.life_cert.specs.Reading.{HaveSameStates, IsCertificate, IsPrinted, IsCertText, IsReported, IsWritable}
 use Rattle.life_cert.proofs.OneState.{read_as, state_back}
 use Rattle.life_cert.proofs.PrintedCert.{no_fault}
 use Rattle.life_cert.proofs.StateReading.{from_pools, parts}
@@ -144,14 +144,14 @@ seen_writable r h =
     record { idle = h.idle; ready = h.ready; at = h.at; none = gone; few = λ pc high. gone pc (omega (arith, few, high)) }
 
 -- What was printed is read again.
-pub read_again : (text : List ℕ) (r : Result Cert CertRefusal) → IfOk r (λ x. IsCertText text x.slim (seen_cert x)) → IfErr r (λ e. IsTold text e) → (slim : Bool) (c : Certificate)
+pub read_again : (text : List ℕ) (r : Result Cert CertRefusal) → IfOk r (λ x. IsCertText text x.slim (seen_cert x)) → IfErr r (λ e. IsReported text e) → (slim : Bool) (c : Certificate)
     → IsPrinted text slim c → MatchResult r (λ x. (x.slim ≡ slim) × HaveSameStates (seen_cert x) c) (λ e. e ≡ NoMemory)
 read_again text (Ok x) is told slim c p = one_cert x.slim slim (seen_cert x) c (seen_writable x is.sound) p.writable (sym is.whole ∙ p.whole)
 read_again text (Err (Fault n k)) is told slim c p = absurd (no_fault text slim c n k p told.fits)
 read_again text (Err NoMemory) is told slim c p = refl
 
 -- as the reader of lines tells it
-pub read_short : (text : List ℕ) (r : Result Cert CertRefusal) → IfOk r (λ x. (false ≡ false) × IsCertText text x.slim (seen_cert x)) → IfErr r (λ e. IsTold text e)
+pub read_short : (text : List ℕ) (r : Result Cert CertRefusal) → IfOk r (λ x. (false ≡ false) × IsCertText text x.slim (seen_cert x)) → IfErr r (λ e. IsReported text e)
     → (slim : Bool) (c : Certificate) → IsPrinted text slim c → MatchResult r (λ x. (x.slim ≡ slim) × HaveSameStates (seen_cert x) c) (λ e. e ≡ NoMemory)
 read_short text (Ok x) is told slim c p = read_again text (Ok x) is.1 told slim c p
 read_short text (Err e) is told slim c p = read_again text (Err e) is told slim c p

@@ -138,15 +138,15 @@ module _ (c : Certificate) (h : IsWritable c) where
   )
 
 -- No line of these has a fault, where this line is due first.
-abbrev pub NoFaults : Due → List (List ℕ) → Type 0
-NoFaults d ls = (n m : ℕ) (k : CertCode) → CertLinesHaveCode false d n ls m k → ⊥
+abbrev pub LinesFaultless : Due → List (List ℕ) → Type 0
+LinesFaultless d ls = (n m : ℕ) (k : CertCode) → CertLinesHaveCode false d n ls m k → ⊥
 
-no_faults : (d : Due) (l : List ℕ) (ls : List (List ℕ)) (x : CertLine) → IsClean l → due_line d l ≡ Some x → HasState x (after_token l) → NoFaults (due_after x) ls → NoFaults d (l ∷ ls)
+no_faults : (d : Due) (l : List ℕ) (ls : List (List ℕ)) (x : CertLine) → IsClean l → due_line d l ≡ Some x → HasState x (after_token l) → LinesFaultless (due_after x) ls → LinesFaultless d (l ∷ ls)
 unfolding all_printable
 no_faults d l ls x clean is has more n m k (inl f) = right d l x clean.clean is has k f.1
 no_faults d l ls x clean is has more n m k (inr f) = more (n + 1) m k (subst (λ (u : Due). CertLinesHaveCode false u (n + 1) ls m k) (ap (left_by d) is) f)
 
-none_after : NoFaults due.Nothing []
+none_after : LinesFaultless due.Nothing []
 none_after n m code.BadByte h = cc (h.1)
 none_after n m code.NotDue h = cc (h.1)
 none_after n m code.NotState h = h.1
@@ -169,13 +169,13 @@ pc_is_due next pc r low high =
     rw (not_end (decimal pc) r (decimal_begins 101 pc refl small), token_is, constant_again pc small, le-leb next pc low, le-leb pc 1023 (omega (arith, high))) refl
 
 module _ (c : Certificate) (h : IsWritable c) where
-  pcs_right : (next pc n : ℕ) → next ≤ pc → NoFaults (due.States next) (pc_lines pc n c.at)
+  pcs_right : (next pc n : ℕ) → next ≤ pc → LinesFaultless (due.States next) (pc_lines pc n c.at)
   unfolding due_line
   pcs_right next pc zero low = no_faults (due.States next) (codes "end") [] line.End (plain (codes "end") refl) refl tt none_after
   pcs_right next pc (suc n) low = by (c.at pc) refl (h.at pc) (pcs_right next (pc + 1) n (omega (arith, low))) (pcs_right (pc + 1) (pc + 1) n (omega arith))
     where
-      by : (o : Option State) → c.at pc ≡ o → IfSome o IsFormed → NoFaults (due.States next) (pc_lines (pc + 1) n c.at) → NoFaults (due.States (pc + 1)) (pc_lines (pc + 1) n c.at)
-          → NoFaults (due.States next) (more_lines pc o (pc_lines (pc + 1) n c.at))
+      by : (o : Option State) → c.at pc ≡ o → IfSome o IsFormed → LinesFaultless (due.States next) (pc_lines (pc + 1) n c.at) → LinesFaultless (due.States (pc + 1)) (pc_lines (pc + 1) n c.at)
+          → LinesFaultless (due.States next) (more_lines pc o (pc_lines (pc + 1) n c.at))
       by None e formed same others = same
       by (Some s) e formed same others =
           let high = low_pc c h pc s e in
@@ -184,7 +184,7 @@ module _ (c : Certificate) (h : IsWritable c) where
           no_faults (due.States next) (decimal pc ++ (32 ∷ state_text s)) (pc_lines (pc + 1) n c.at) (line.Instruction pc) clean (pc_is_due next pc (state_text s) low high)
           (s, (formed, after_again (decimal pc) (32 ∷ state_text s) (decimal_without 32 pc refl (omega (arith, high))) refl)) others
 
-  lines_right : (slim : Bool) → NoFaults due.Header (cert_lines slim c)
+  lines_right : (slim : Bool) → LinesFaultless due.Header (cert_lines slim c)
   unfolding due_line
   lines_right slim =
       let i = state_or_none c.idle in

@@ -15,7 +15,7 @@ use Rattle.life_cert.specs.declared.refusal.CertRefusal.{CertRefusal}
 use Rattle.life_cert.specs.declared.refusal.CertRefusal.TheVariants.{Fault, NoMemory}
 use Rattle.life_cert.specs.Codes.{code_number}
 use Rattle.life_cert.specs.CertText.{cert_text}
-use Rattle.life_cert.specs.Reading.{EndTold, IsCertificate, IsCertText, IsTold, IsToldBy, IsToldFirst, IsToldOf, CertLinesHaveCode, goes_on, is_over, left, more_than}
+use Rattle.life_cert.specs.Reading.{EndTold, IsCertificate, IsCertText, IsReported, IsToldBy, IsToldFirst, IsToldOf, CertLinesHaveCode, goes_on, is_over, left, more_than}
 use Rattle.life_cert.specs.Drafts.{Counts, IsLineAdded, IsCertDraft, IsRefused, LineAdded, seen_draft, text_so_far}
 
 -- the text of lines that were taken
@@ -135,7 +135,7 @@ read_whole long text d s n at sound taken r small =
     (both.0, record { sound = done.1; whole = whole ∙ sym text_is; small = small })
 
 -- A text that is not too long is read whole.
-told_short : (text : List ℕ) (e : CertRefusal) → length text ≤ 4194304 → IsToldOf false text e → IsTold text e
+told_short : (text : List ℕ) (e : CertRefusal) → length text ≤ 4194304 → IsToldOf false text e → IsReported text e
 told_short text e short h =
     let cut = take 4194304 text in
     let whole : cut ≡ text = take_all 4194304 text short in
@@ -144,6 +144,6 @@ told_short text e short h =
     subst (λ (b : Bool). IsToldBy (CertLinesHaveCode b due.Header 1 (lines_from [] cut)) e) on
     (subst (λ (t : List ℕ). IsToldBy (CertLinesHaveCode (more_than false (rest_from [] t)) due.Header 1 (lines_from [] t)) e) (sym whole) h)
 
-pub all_told : {X : Type 0} (text : List ℕ) (r : Result X CertRefusal) → length text ≤ 4194304 → IfErr r (λ e. IsToldOf false text e) → IfErr r (λ e. IsTold text e)
+pub all_told : {X : Type 0} (text : List ℕ) (r : Result X CertRefusal) → length text ≤ 4194304 → IfErr r (λ e. IsToldOf false text e) → IfErr r (λ e. IsReported text e)
 all_told text (Ok x) short h = h
 all_told text (Err e) short h = told_short text e short h

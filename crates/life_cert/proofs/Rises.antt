@@ -3,21 +3,21 @@ use Rattle.std.proofs.Common.{◌≡◌, ℕ, zero, suc, ◌+◌, ◌*◌, ◌<�
 use Rattle.std.proofs.lemmas.Bool.{cases_eq}
 use Rattle.life_state.specs.Order.{implies}
 
-pub data Rises (m n : ℕ) (B : Type 0) : Type 0 where
-  Grows : m < n → Rises m n B
-  Stays : m ≡ n → B → Rises m n B
+pub data Climbs (m n : ℕ) (B : Type 0) : Type 0 where
+  Grows : m < n → Climbs m n B
+  Stays : m ≡ n → B → Climbs m n B
 
-pub both : {m n k l : ℕ} {A B : Type 0} → Rises m n A → Rises k l B → Rises (m + k) (n + l) (A × B)
+pub both : {m n k l : ℕ} {A B : Type 0} → Climbs m n A → Climbs k l B → Climbs (m + k) (n + l) (A × B)
 both (Grows p) (Grows q) = Grows (omega arith)
 both (Grows p) (Stays q b) = Grows (omega arith)
 both (Stays p a) (Grows q) = Grows (omega arith)
 both (Stays p a) (Stays q b) = Stays (omega arith) (a, b)
 
-pub map_back : {m n : ℕ} {A B : Type 0} → (A → B) → Rises m n A → Rises m n B
+pub map_back : {m n : ℕ} {A B : Type 0} → (A → B) → Climbs m n A → Climbs m n B
 map_back f (Grows p) = Grows p
 map_back f (Stays p a) = Stays p (f a)
 
-pub raised : {m n : ℕ} {A : Type 0} (k : ℕ) → Rises m n A → Rises (k + m) (k + n) A
+pub raised : {m n : ℕ} {A : Type 0} (k : ℕ) → Climbs m n A → Climbs (k + m) (k + n) A
 raised k (Grows p) = Grows (omega arith)
 raised k (Stays p a) = Stays (omega arith) a
 
@@ -25,7 +25,7 @@ abbrev pub bit : Bool → ℕ
 bit true = 1
 bit false = 0
 
-pub bit_rises : (a b : Bool) → implies a b ≡ true → Rises (bit a) (bit b) (implies b a ≡ true)
+pub bit_rises : (a b : Bool) → implies a b ≡ true → Climbs (bit a) (bit b) (implies b a ≡ true)
 bit_rises true true h = Stays refl refl
 bit_rises true false h = cc
 bit_rises false true h = Grows (omega arith)
@@ -40,7 +40,7 @@ unfoldable pub sum_to : ℕ → (ℕ → ℕ) → ℕ
 sum_to zero f = 0
 sum_to (suc n) f = sum_to n f + f n
 
-pub sum_rises : (n : ℕ) (f g : ℕ → ℕ) (P : ℕ → Type 0) → ((k : ℕ) → k < n → Rises (f k) (g k) (P k)) → Rises (sum_to n f) (sum_to n g) ((k : ℕ) → k < n → P k)
+pub sum_rises : (n : ℕ) (f g : ℕ → ℕ) (P : ℕ → Type 0) → ((k : ℕ) → k < n → Climbs (f k) (g k) (P k)) → Climbs (sum_to n f) (sum_to n g) ((k : ℕ) → k < n → P k)
 unfolding sum_to
 sum_rises zero f g P all = Stays refl (λ k h. absurd (omega arith))
 sum_rises (suc n) f g P all =

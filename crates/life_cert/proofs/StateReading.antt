@@ -6,10 +6,10 @@ use Rattle.life_state.specs.States.{never_made, is_live_brigade, State}
 use Rattle.life_state.proofs.Tests.{not_true, split3}
 use Rattle.life_cert.specs.StateText.{brigade_text, cursor_name, cursor_text, each, facts_text, in_text, pool_text, sent_text, state_text}
 use Rattle.life_cert.specs.StateFromText.{at_pools, count_each, cursor_past, cursor_read, fact_past, fact_word, in_past, in_read, own_past, own_read, past_each, pool_past, pool_read, row_past, starts}
-use Rattle.life_cert.proofs.Taking.{Ended, skips}
+use Rattle.life_cert.proofs.Taking.{TextEnded, skips}
 use Rattle.life_cert.proofs.FactTexts.{EachTaken, cursors_taken, ended_taken, facts_taken, is_written}
 use Rattle.life_cert.proofs.VariableTexts.{body, in_taken, own_taken, pool_taken}
-use Rattle.life_cert.proofs.StateTexts.{Follows, IsLineEnd, counted, cursors_follow, each_keeps, ended_at, facts_follow, facts_free, line_ended, no_space, says_brigade, says_cursor}
+use Rattle.life_cert.proofs.StateTexts.{MayFollow, IsLineEnd, counted, cursors_follow, each_keeps, ended_at, facts_follow, facts_free, line_ended, no_space, says_brigade, says_cursor}
 
 abbrev pub cursors_text : State → List ℕ
 cursors_text s = each 0 9 (λ c. cursor_text c (s.cursors c))
@@ -58,13 +58,13 @@ module _ (s : State) (formed : IsFormed s) (m : List ℕ) (h : IsLineEnd m) wher
       body_of : ℕ → ℕ → List ℕ
       body_of c d = cursor_name c ++ (33 ∷ cursor_name d)
 
-  ends : (p : ℕ) (w : List ℕ) → Follows p w m
+  ends : (p : ℕ) (w : List ℕ) → MayFollow p w m
   ends p w = record { ended = line_ended m h; free = no_space (p ∷ w) m h }
 
-  in_free : Follows 105 (codes "n=") from_cursors
+  in_free : MayFollow 105 (codes "n=") from_cursors
   in_free = cursors_follow 105 (codes "n=") s.cursors from_facts refl refl (facts_follow 105 (codes "n=") s m refl refl (ends 105 (codes "n=")))
 
-  brigades_free : Follows 98 [] from_in
+  brigades_free : MayFollow 98 [] from_in
   brigades_free =
       let k = cursors_follow 98 [] s.cursors from_facts refl refl (facts_follow 98 [] s m refl refl (ends 98 [])) in
       record {
@@ -72,14 +72,14 @@ module _ (s : State) (formed : IsFormed s) (m : List ℕ) (h : IsLineEnd m) wher
         free = skips (codes " b") (codes " in=" ++ body (s.brigades 8)) (s.brigades 8).live from_cursors refl k.free;
       }
 
-  pools_free : Follows 112 [] from_brigades
+  pools_free : MayFollow 112 [] from_brigades
   pools_free =
       let k = cursors_follow 112 [] s.cursors from_facts refl refl (facts_follow 112 [] s m refl refl (ends 112 [])) in
-      let i : Follows 112 [] from_in = record {
+      let i : MayFollow 112 [] from_in = record {
         ended = ended_at (s.brigades 8).live (codes "in=" ++ body (s.brigades 8)) from_cursors k.ended;
         free = skips (codes " p") (codes " in=" ++ body (s.brigades 8)) (s.brigades 8).live from_cursors refl k.free;
       } in
-      each_keeps (Follows 112 []) (λ b. brigade_text b (s.brigades b)) 0 s.brigade_count from_in (λ b below r q. record { ended = inl refl; free = refl }) i
+      each_keeps (MayFollow 112 []) (λ b. brigade_text b (s.brigades b)) 0 s.brigade_count from_in (λ b below r q. record { ended = inl refl; free = refl }) i
 
   pub in_told : (in_read from_in ≡ s.brigades 8) × (in_past from_in ≡ from_cursors)
   in_told =
@@ -104,7 +104,7 @@ module _ (s : State) (formed : IsFormed s) (m : List ℕ) (h : IsLineEnd m) wher
   pub brigades_counted : count_each (codes " b") own_past 8 from_brigades ≡ s.brigade_count
   brigades_counted =
       let few = formed.brigade_count in
-      counted (codes " b") own_past (λ b. brigade_text b (s.brigades b)) Ended (λ b below r e. inl refl)
+      counted (codes " b") own_past (λ b. brigade_text b (s.brigades b)) TextEnded (λ b below r e. inl refl)
       (λ b below r e. let t = own_taken b (s.brigades b) r (omega (arith, below)) (says_brigade s (s.brigades b) formed.pool_count (formed.brigades b) (formed.homes b)) e in (t.begins, t.more))
       0 s.brigade_count 8 from_in (omega (arith, few)) few brigades_free.ended brigades_free.free
 
@@ -117,6 +117,6 @@ module _ (s : State) (formed : IsFormed s) (m : List ℕ) (h : IsLineEnd m) wher
   pub pools_counted : count_each (codes " p") pool_past 8 from_pools ≡ s.pool_count
   pools_counted =
       let few = formed.pool_count in
-      counted (codes " p") pool_past (λ q. pool_text q (s.pools q)) Ended (λ q below r e. inl refl)
+      counted (codes " p") pool_past (λ q. pool_text q (s.pools q)) TextEnded (λ q below r e. inl refl)
       (λ q below r e. let t = pool_taken q (s.pools q) r (omega (arith, below)) e in (t.begins, t.more))
       0 s.pool_count 8 from_brigades (omega (arith, few)) few pools_free.ended pools_free.free

@@ -11,7 +11,7 @@ use Rattle.life_state.specs.Form.{FormedBrigade, FormedCursor, NamesDeclared}
 use Rattle.life_state.specs.States.{Homes, BrigadeKnown, CursorKnown, Unset, Loose, In, End, InOrEnd, State}
 use Rattle.life_cert.specs.StateText.{cursor_name, cursor_text, each, facts_text, fact_text, homes, place_text_of, where_holds}
 use Rattle.life_cert.specs.StateFromText.{at_from, count_each, fact_word, homes_from, key, known_dead, own_from, starts}
-use Rattle.life_cert.proofs.Taking.{Ended, skips}
+use Rattle.life_cert.proofs.Taking.{TextEnded, skips}
 use Rattle.life_cert.proofs.HomeTexts.{bits}
 use Rattle.life_cert.proofs.CursorTexts.{CanSay}
 use Rattle.life_cert.proofs.FactTexts.{is_written, no_fact_key}
@@ -101,7 +101,7 @@ abbrev pub IsLineEnd : List ℕ → Type 0
 IsLineEnd [] = Unit {0}
 IsLineEnd (b ∷ m) = b ≡ 10
 
-pub line_ended : (m : List ℕ) → IsLineEnd m → Ended m
+pub line_ended : (m : List ℕ) → IsLineEnd m → TextEnded m
 line_ended [] h = tt
 line_ended (b ∷ m) h = inr (inr h)
 
@@ -129,7 +129,7 @@ no_fact_begins p c d w b m r l h =
     skips (32 ∷ (p ∷ w)) (fact_word c d) b m
     (ap (starts (p ∷ w)) (append_assoc (cursor_name c) (33 ∷ cursor_name d) m) ∙ no_name p c w (33 ∷ (cursor_name d ++ m)) r l) h
 
-pub ended_at : (b : Bool) (t m : List ℕ) → Ended m → Ended (where_holds b (32 ∷ t) ++ m)
+pub ended_at : (b : Bool) (t m : List ℕ) → TextEnded m → TextEnded (where_holds b (32 ∷ t) ++ m)
 ended_at true t m h = inl refl
 ended_at false t m h = h
 
@@ -138,21 +138,21 @@ pub rows_keep : (P : List ℕ → Type 0) (s : State) (m : List ℕ) → ((c d :
 rows_keep P s m one h = each_keeps P (facts_text s) 0 9 m (λ c below r q. each_keeps P (fact_text s c) 0 9 r (λ d inside x k. one c d (omega (arith, below)) (omega (arith, inside)) x k) q) h
 
 -- A text that others are written before: it may stand behind a word, and begins with none of these.
-pub record Follows (p : ℕ) (w m : List ℕ) : Type 0 where
-  pub ended : Ended m
+pub record MayFollow (p : ℕ) (w m : List ℕ) : Type 0 where
+  pub ended : TextEnded m
   pub free : starts (32 ∷ (p ∷ w)) m ≡ false
 
-pub facts_follow : (p : ℕ) (w : List ℕ) (s : State) (m : List ℕ) → eqb 114 p ≡ false → eqb 99 p ≡ false → Follows p w m → Follows p w (each 0 9 (facts_text s) ++ m)
-facts_follow p w s m r l h = rows_keep (Follows p w) s m
+pub facts_follow : (p : ℕ) (w : List ℕ) (s : State) (m : List ℕ) → eqb 114 p ≡ false → eqb 99 p ≡ false → MayFollow p w m → MayFollow p w (each 0 9 (facts_text s) ++ m)
+facts_follow p w s m r l h = rows_keep (MayFollow p w) s m
     (λ c d cs ds x k. record { ended = ended_at (is_written s c d) (cursor_name c ++ (33 ∷ cursor_name d)) x k.ended; free = no_fact_begins p c d w (is_written s c d) x r l k.free }) h
 
-pub cursors_follow : (p : ℕ) (w : List ℕ) (v : ℕ → CursorKnown) (m : List ℕ) → eqb 114 p ≡ false → eqb 99 p ≡ false → Follows p w m → Follows p w (each 0 9 (λ c. cursor_text c (v c)) ++ m)
-cursors_follow p w v m r l h = each_keeps (Follows p w) (λ c. cursor_text c (v c)) 0 9 m
+pub cursors_follow : (p : ℕ) (w : List ℕ) (v : ℕ → CursorKnown) (m : List ℕ) → eqb 114 p ≡ false → eqb 99 p ≡ false → MayFollow p w m → MayFollow p w (each 0 9 (λ c. cursor_text c (v c)) ++ m)
+cursors_follow p w v m r l h = each_keeps (MayFollow p w) (λ c. cursor_text c (v c)) 0 9 m
     (λ c below x k. record { ended = ended_at (is_set (v c)) (cursor_name c ++ (61 ∷ place_text_of (v c))) x k.ended; free = no_cursor_begins p c w (v c) x r l k.free }) h
 
 -- before the facts and what ends the line, no word of a cursor is begun
-pub facts_free : (s : State) (m : List ℕ) → IsLineEnd m → (c : ℕ) → c < 9 → Ended (each 0 9 (facts_text s) ++ m) × (starts (key c) (each 0 9 (facts_text s) ++ m) ≡ false)
+pub facts_free : (s : State) (m : List ℕ) → IsLineEnd m → (c : ℕ) → c < 9 → TextEnded (each 0 9 (facts_text s) ++ m) × (starts (key c) (each 0 9 (facts_text s) ++ m) ≡ false)
 facts_free s m h c below = (
-  rows_keep Ended s m (λ i j is js x k. ended_at (is_written s i j) (cursor_name i ++ (33 ∷ cursor_name j)) x k) (line_ended m h),
+  rows_keep TextEnded s m (λ i j is js x k. ended_at (is_written s i j) (cursor_name i ++ (33 ∷ cursor_name j)) x k) (line_ended m h),
   rows_keep (λ x. starts (key c) x ≡ false) s m (λ i j is js x k. no_fact_key c i j (is_written s i j) x below is k) (no_space (cursor_name c ++ codes "=") m h),
 )

@@ -109,19 +109,19 @@ second_tells eight c d high first second e = by (eqb c 8) (eqb d 8) refl refl e
     by false false p q h = omega (arith, h)
 
 -- a text ends, or goes on with a space, a slash or an LF
-abbrev pub Ended : List ℕ → Type 0
-Ended [] = Unit {0}
-Ended (b ∷ m) = (b ≡ 32) ⊎ ((b ≡ 47) ⊎ (b ≡ 10))
+abbrev pub TextEnded : List ℕ → Type 0
+TextEnded [] = Unit {0}
+TextEnded (b ∷ m) = (b ≡ 32) ⊎ ((b ≡ 47) ⊎ (b ≡ 10))
 
-pub not_begun : (c : ℕ) (w m : List ℕ) → Ended m → eqb 32 c ≡ false → eqb 47 c ≡ false → eqb 10 c ≡ false → starts (c ∷ w) m ≡ false
+pub not_begun : (c : ℕ) (w m : List ℕ) → TextEnded m → eqb 32 c ≡ false → eqb 47 c ≡ false → eqb 10 c ≡ false → starts (c ∷ w) m ≡ false
 not_begun c w [] h space slash line = refl
 not_begun c w (b ∷ m) (inl e) space slash line = ap (λ (x : ℕ). eqb x c && starts w m) e ∙ ap (λ (x : Bool). x && starts w m) space
 not_begun c w (b ∷ m) (inr (inl e)) space slash line = ap (λ (x : ℕ). eqb x c && starts w m) e ∙ ap (λ (x : Bool). x && starts w m) slash
 not_begun c w (b ∷ m) (inr (inr e)) space slash line = ap (λ (x : ℕ). eqb x c && starts w m) e ∙ ap (λ (x : Bool). x && starts w m) line
 
 -- `dfe` and `ngl`
-pub classes_taken : (s : Classes) (m : List ℕ) → Ended m → ThreeTaken 100 102 101 s.bytes s.flush s.eos m (classes_text s ++ m)
+pub classes_taken : (s : Classes) (m : List ℕ) → TextEnded m → ThreeTaken 100 102 101 s.bytes s.flush s.eos m (classes_text s ++ m)
 classes_taken s m h = three_taken 100 102 101 s.bytes s.flush s.eos m refl refl refl (not_begun 100 [] m h refl refl refl) (not_begun 102 [] m h refl refl refl) (not_begun 101 [] m h refl refl refl)
 
-pub set_taken : (null gone live : Bool) (m : List ℕ) → Ended m → ThreeTaken 110 103 108 null gone live m (set_text null gone live ++ m)
+pub set_taken : (null gone live : Bool) (m : List ℕ) → TextEnded m → ThreeTaken 110 103 108 null gone live m (set_text null gone live ++ m)
 set_taken null gone live m h = three_taken 110 103 108 null gone live m refl refl refl (not_begun 110 [] m h refl refl refl) (not_begun 103 [] m h refl refl refl) (not_begun 108 [] m h refl refl refl)

@@ -120,10 +120,10 @@ rows_others s c n t h i below =
     subst (λ (k : ℕ). RowSays s k 0 9 (past_each row_past (c + 1) i (row_past c t))) same (h (suc i) (omega (arith, below)))
 
 -- Each fact that is told is one of the state.
-abbrev pub Within : State → (ℕ → ℕ → Bool) → Type 0
-Within s f = (i j : ℕ) → f i j ≡ true → s.facts i j ≡ true
+abbrev pub FactsWithin : State → (ℕ → ℕ → Bool) → Type 0
+FactsWithin s f = (i j : ℕ) → f i j ≡ true → s.facts i j ≡ true
 
-step_within : (s : State) (f : ℕ → ℕ → Bool) (c d : ℕ) (b : Bool) → IsFormed s → b ≡ is_written s c d → Within s f → Within s (cond b (with_both f c d) f)
+step_within : (s : State) (f : ℕ → ℕ → Bool) (c d : ℕ) (b : Bool) → IsFormed s → b ≡ is_written s c d → FactsWithin s f → FactsWithin s (cond b (with_both f c d) f)
 step_within s f c d false formed is h i j k = h i j k
 step_within s f c d true formed is h i j k =
     let one = (split2 (nat_lt c d) (s.facts c d) (sym is)).1 in
@@ -133,14 +133,14 @@ step_within s f c d true formed is h i j k =
     (λ (m : (i ≡ d) × (j ≡ c)). ap (λ (x : ℕ). s.facts x j) m.0 ∙ ap (s.facts d) m.1 ∙ other)
     (one_only (with_one f c d) d c i j k)
 
-row_within : (s : State) (c d n : ℕ) (t : List ℕ) (f : ℕ → ℕ → Bool) → IsFormed s → RowSays s c d n t → Within s f → Within s (row_facts c d n t f)
+row_within : (s : State) (c d n : ℕ) (t : List ℕ) (f : ℕ → ℕ → Bool) → IsFormed s → RowSays s c d n t → FactsWithin s f → FactsWithin s (row_facts c d n t f)
 unfolding row_facts
 row_within s c d zero t f formed says h = h
 row_within s c d (suc n) t f formed says h =
     let b = starts (fact_word c d) t in
     row_within s c (d + 1) n (fact_past c d t) (cond b (with_both f c d) f) formed (row_others s c d n t says) (step_within s f c d b formed (row_first s c d n t says) h)
 
-rows_within : (s : State) (c n : ℕ) (t : List ℕ) (f : ℕ → ℕ → Bool) → IsFormed s → RowsSay s c n t → Within s f → Within s (all_facts c n t f)
+rows_within : (s : State) (c n : ℕ) (t : List ℕ) (f : ℕ → ℕ → Bool) → IsFormed s → RowsSay s c n t → FactsWithin s f → FactsWithin s (all_facts c n t f)
 unfolding all_facts
 rows_within s c zero t f formed says h = h
 rows_within s c (suc n) t f formed says h =

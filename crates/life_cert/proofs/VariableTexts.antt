@@ -9,7 +9,7 @@ use Rattle.life_state.specs.States.{no_homes, BrigadeKnown, never_made}
 use Rattle.life_cert.specs.StateText.{where_holds, homes, homes_text, set_text, content_text, usable_text, live_text, pool_text, brigade_text, in_text}
 use Rattle.life_cert.specs.StateFromText.{behind, behind_marks, content_read, homes_at, homes_from, homes_past, homes_read, in_past, in_read, known_dead, known_live, live_past, live_read, own_past}
 use Rattle.life_cert.specs.StateFromText.{own_read, past, pool_past, pool_read, set_past, set_read, starts}
-use Rattle.life_cert.proofs.Taking.{Ended, ThreeTaken, not_begun, one, past_none, set_taken, three_taken}
+use Rattle.life_cert.proofs.Taking.{TextEnded, ThreeTaken, not_begun, one, past_none, set_taken, three_taken}
 use Rattle.life_cert.proofs.HomeTexts.{bits, homes_taken}
 
 abbrev pub set_of : Bool → Bool → Bool → PoolState
@@ -27,7 +27,7 @@ pub record PoolTaken (v : PoolState) (m t : List ℕ) : Type 0 where
   pub read : pool_read t ≡ v
   pub more : pool_past t ≡ m
 
-pub pool_taken : (q : ℕ) (v : PoolState) (m : List ℕ) → q < 10 → Ended m → PoolTaken v m (pool_text q v ++ m)
+pub pool_taken : (q : ℕ) (v : PoolState) (m : List ℕ) → q < 10 → TextEnded m → PoolTaken v m (pool_text q v ++ m)
 pool_taken q v m below e =
     let r = set_text v.null v.gone v.live ++ m in
     let is : pool_text q v ++ m ≡ 32 ∷ (112 ∷ ((48 + q) ∷ (61 ∷ r))) = ap (λ d. 32 ∷ (112 ∷ ((d ++ (61 ∷ set_text v.null v.gone v.live)) ++ m))) (decimal_digit q below) in
@@ -61,12 +61,12 @@ pub record LiveTaken (v : BrigadeKnown) (m t : List ℕ) : Type 0 where
 
 -- what stands behind the marks
 record UsableTaken (v : BrigadeKnown) (m t : List ℕ) : Type 0 where
-  ended : Ended t
+  ended : TextEnded t
   content : cond v.usable (content_read (behind (codes "/") t)) Empty ≡ v.content
   homes_read : cond v.usable (homes_read (homes_at t)) no_homes ≡ v.homes
   more : cond v.usable (homes_past (homes_at t)) t ≡ m
 
-usable_taken : (v : BrigadeKnown) (m : List ℕ) → CanSayBrigade v → Ended m → UsableTaken v m (usable_text v ++ m)
+usable_taken : (v : BrigadeKnown) (m : List ℕ) → CanSayBrigade v → TextEnded m → UsableTaken v m (usable_text v ++ m)
 usable_taken v m say e = by v.usable refl say.bare
   where
     h : List ℕ
@@ -104,7 +104,7 @@ marks_apart true false u m = refl
 marks_apart false true u m = refl
 marks_apart false false u m = refl
 
-pub live_taken : (v : BrigadeKnown) (m : List ℕ) → v.live ≡ true → CanSayBrigade v → Ended m → LiveTaken v m (body v ++ m)
+pub live_taken : (v : BrigadeKnown) (m : List ℕ) → v.live ≡ true → CanSayBrigade v → TextEnded m → LiveTaken v m (body v ++ m)
 unfolding live_read live_past
 live_taken v m live say e =
     let u = usable_text v ++ m in
@@ -132,10 +132,10 @@ pub record OwnTaken (v : BrigadeKnown) (m t : List ℕ) : Type 0 where
   pub more : own_past t ≡ m
 
 -- behind the set of a brigade
-ended_live : (v : BrigadeKnown) (m : List ℕ) → Ended m → Ended (live_text (codes "/") v ++ m)
+ended_live : (v : BrigadeKnown) (m : List ℕ) → TextEnded m → TextEnded (live_text (codes "/") v ++ m)
 ended_live v m e = by v.live
   where
-    by : (b : Bool) → Ended (where_holds b (47 ∷ body v) ++ m)
+    by : (b : Bool) → TextEnded (where_holds b (47 ∷ body v) ++ m)
     by true = inr (inl refl)
     by false = e
 
@@ -145,7 +145,7 @@ record HalfTaken (v : BrigadeKnown) (m t : List ℕ) : Type 0 where
   read : own_read t ≡ cond v.live (live_read v.null v.gone (behind (codes "/") (live_text (codes "/") v ++ m))) (known_dead v.null v.gone)
   more : own_past t ≡ cond v.live (live_past (behind (codes "/") (live_text (codes "/") v ++ m))) (live_text (codes "/") v ++ m)
 
-pub own_taken : (b : ℕ) (v : BrigadeKnown) (m : List ℕ) → b < 10 → CanSayBrigade v → Ended m → OwnTaken v m (brigade_text b v ++ m)
+pub own_taken : (b : ℕ) (v : BrigadeKnown) (m : List ℕ) → b < 10 → CanSayBrigade v → TextEnded m → OwnTaken v m (brigade_text b v ++ m)
 unfolding own_read own_past
 own_taken b v m below say e =
     let set = set_text v.null v.gone v.live in
@@ -187,7 +187,7 @@ pub record InTaken (v : BrigadeKnown) (m t : List ℕ) : Type 0 where
   pub read : in_read t ≡ v
   pub more : in_past t ≡ m
 
-pub in_taken : (v : BrigadeKnown) (m : List ℕ) → CanSayBrigade v → (v ≡ never_made) ⊎ ((v.live ≡ true) × (v.null ≡ false) × (v.gone ≡ false)) → Ended m → starts (codes " in=") m ≡ false
+pub in_taken : (v : BrigadeKnown) (m : List ℕ) → CanSayBrigade v → (v ≡ never_made) ⊎ ((v.live ≡ true) × (v.null ≡ false) × (v.gone ≡ false)) → TextEnded m → starts (codes " in=") m ≡ false
     → InTaken v m (in_text v ++ m)
 in_taken v m say (inl never) e none =
     subst (λ (x : BrigadeKnown). InTaken x m (in_text x ++ m)) (sym never) (record {

@@ -14,7 +14,7 @@ use Rattle.life_state.proofs.Below.{all_below_holds}
 use Rattle.life_state.proofs.Tests.{split2, and2, split3, and3, or_left, implies_by, all_at}
 use Rattle.life_state.proofs.OrderLaws.{leq_says, leq_holds, leq_trans, known_below}
 use Rattle.life_state.proofs.JoinAbove.{join_above}
-use Rattle.life_cert.proofs.Rises.{Rises, Grows, Stays, both, map_back, raised, bit, bit_rises, bit_small, sum_to, sum_rises, sum_small}
+use Rattle.life_cert.proofs.Rises.{Climbs, Grows, Stays, both, map_back, raised, bit, bit_rises, bit_small, sum_to, sum_rises, sum_small}
 
 abbrev class_weight : Classes → ℕ
 class_weight t = bit t.bytes + bit t.flush + bit t.eos
@@ -37,25 +37,25 @@ cursor_weight (InOrEnd b s) = 4 + class_weight s
 
 -- three bits that rise rise together
 bits_rise : (a b c x y z : Bool) → (implies a x && implies b y && implies c z) ≡ true
-    → Rises (bit a + bit b + bit c) (bit x + bit y + bit z) ((implies x a && implies y b && implies z c) ≡ true)
+    → Climbs (bit a + bit b + bit c) (bit x + bit y + bit z) ((implies x a && implies y b && implies z c) ≡ true)
 bits_rise a b c x y z h =
     let h3 = split3 (implies a x) (implies b y) (implies c z) h in
     map_back (λ r. and3 (implies x a) (implies y b) (implies z c) r.0.0 r.0.1 r.1)
     (both (both (bit_rises a x (h3.0)) (bit_rises b y (h3.1))) (bit_rises c z (h3.2)))
 
-classes_rise : (a b : Classes) → classes_le a b ≡ true → Rises (class_weight a) (class_weight b) (classes_le b a ≡ true)
+classes_rise : (a b : Classes) → classes_le a b ≡ true → Climbs (class_weight a) (class_weight b) (classes_le b a ≡ true)
 classes_rise a b = bits_rise a.bytes a.flush a.eos b.bytes b.flush b.eos
 
 classes_small : (t : Classes) → class_weight t ≤ 3
 classes_small t = let a = bit_small t.bytes in let b = bit_small t.flush in let c = bit_small t.eos in omega arith
 
-pool_rises : (a b : PoolState) → pool_le a b ≡ true → Rises (pool_weight a) (pool_weight b) (pool_le b a ≡ true)
+pool_rises : (a b : PoolState) → pool_le a b ≡ true → Climbs (pool_weight a) (pool_weight b) (pool_le b a ≡ true)
 pool_rises a b = bits_rise a.null a.gone a.live b.null b.gone b.live
 
 pool_small : (v : PoolState) → pool_weight v ≤ 3
 pool_small v = let a = bit_small v.null in let b = bit_small v.gone in let c = bit_small v.live in omega arith
 
-homes_rise : (a b : Homes) → homes_le a b ≡ true → Rises (home_weight a) (home_weight b) (homes_le b a ≡ true)
+homes_rise : (a b : Homes) → homes_le a b ≡ true → Climbs (home_weight a) (home_weight b) (homes_le b a ≡ true)
 homes_rise a b h =
     let own : ℕ → Bool = λ i. implies (a.at (pool.Own i)) (b.at (pool.Own i)) in
     let back : ℕ → Bool = λ i. implies (b.at (pool.Own i)) (a.at (pool.Own i)) in
@@ -75,10 +75,10 @@ homes_small h =
     let own = sum_small 8 1 (λ i. bit (h.at (pool.Own i))) (λ i below. bit_small (h.at (pool.Own i))) in
     omega arith
 
-content_rises : (a b : Contents) → content_le a b ≡ true → Rises (rank a) (rank b) (content_le b a ≡ true)
+content_rises : (a b : Contents) → content_le a b ≡ true → Climbs (rank a) (rank b) (content_le b a ≡ true)
 content_rises a b h = by_order (rank a) (rank b) (leb-true (rank a) (rank b) h)
   where
-    by_order : (m n : ℕ) → m ≤ n → Rises m n (nat_le n m ≡ true)
+    by_order : (m n : ℕ) → m ≤ n → Climbs m n (nat_le n m ≡ true)
     by_order m n h = elim (cases_eq m n) [ inl e ↦ Stays e (le-leb n m (omega arith)) | inr ne ↦ Grows (omega arith) ]
 
 pub content_small : (a : Contents) → rank a ≤ 4
@@ -88,7 +88,7 @@ content_small NoEos = omega arith
 content_small NoLateData = omega arith
 content_small Any = omega arith
 
-brigade_rises : (a b : BrigadeKnown) → brigade_le a b ≡ true → Rises (brigade_weight a) (brigade_weight b) (brigade_le b a ≡ true)
+brigade_rises : (a b : BrigadeKnown) → brigade_le a b ≡ true → Climbs (brigade_weight a) (brigade_weight b) (brigade_le b a ≡ true)
 unfolding brigade_le
 brigade_rises a b h =
     let outer = split2 (variable_le a b && marks_le a b && content_le a.content b.content) (homes_le a.homes b.homes) h in
@@ -131,12 +131,12 @@ turned : (b c : ℕ) → (b == c) ≡ true → (c == b) ≡ true
 turned b c h = eq-eqb c b (sym (eqb-true b c h))
 
 -- at one brigade
-here_rises : (b c : ℕ) (s t : Classes) → (b == c && classes_le s t) ≡ true → Rises (class_weight s) (class_weight t) ((c == b && classes_le t s) ≡ true)
+here_rises : (b c : ℕ) (s t : Classes) → (b == c && classes_le s t) ≡ true → Climbs (class_weight s) (class_weight t) ((c == b && classes_le t s) ≡ true)
 here_rises b c s t h =
     let h2 = split2 (b == c) (classes_le s t) h in
     map_back (λ back. and2 (c == b) (classes_le t s) (turned b c (h2.0)) back) (classes_rise s t (h2.1))
 
-cursor_rises : (x y : CursorKnown) → cursor_le x y ≡ true → Rises (cursor_weight x) (cursor_weight y) (cursor_le y x ≡ true)
+cursor_rises : (x y : CursorKnown) → cursor_le x y ≡ true → Climbs (cursor_weight x) (cursor_weight y) (cursor_le y x ≡ true)
 cursor_rises Unset Unset h = Stays refl refl
 cursor_rises (Loose s k) Unset h = let a = classes_small s in let b = homes_small k in Grows (omega arith)
 cursor_rises (In b s) Unset h = let a = classes_small s in Grows (omega arith)
@@ -203,13 +203,13 @@ unfolding known
 written_known s c d ne h =
     and2 (not (c == d)) (s.facts c d || is_apart (s.cursors c) (s.cursors d)) (ap not (ne_eqb c d ne)) (or_left (s.facts c d) (is_apart (s.cursors c) (s.cursors d)) h)
 
-unknown_rises : (a b : State) → Below a b → Rises (unknown_weight a) (unknown_weight b) ((c : ℕ) → c < 9 → (d : ℕ) → d < 9 → implies (not (known b c d)) (not (known a c d)) ≡ true)
+unknown_rises : (a b : State) → Below a b → Climbs (unknown_weight a) (unknown_weight b) ((c : ℕ) → c < 9 → (d : ℕ) → d < 9 → implies (not (known b c d)) (not (known a c d)) ≡ true)
 unknown_rises a b h =
     sum_rises 9 (λ c. sum_to 9 (λ d. bit (not (known a c d)))) (λ c. sum_to 9 (λ d. bit (not (known b c d)))) (λ c. (d : ℕ) → d < 9 → implies (not (known b c d)) (not (known a c d)) ≡ true)
     (λ c first. sum_rises 9 (λ d. bit (not (known a c d))) (λ d. bit (not (known b c d))) (λ d. implies (not (known b c d)) (not (known a c d)) ≡ true)
     (λ d second. bit_rises (not (known a c d)) (not (known b c d)) (not_implies (known a c d) (known b c d) (known_below a b h c d first second))))
 
-self_rises : (a b : State) → Below a b → Rises (self_weight a) (self_weight b) ((c : ℕ) → c < 9 → implies (not (b.facts c c)) (not (a.facts c c)) ≡ true)
+self_rises : (a b : State) → Below a b → Climbs (self_weight a) (self_weight b) ((c : ℕ) → c < 9 → implies (not (b.facts c c)) (not (a.facts c c)) ≡ true)
 self_rises a b h =
     sum_rises 9 (λ c. bit (not (a.facts c c))) (λ c. bit (not (b.facts c c))) (λ c. implies (not (b.facts c c)) (not (a.facts c c)) ≡ true)
     (λ c below. bit_rises (not (a.facts c c)) (not (b.facts c c)) (not_implies (a.facts c c) (b.facts c c) (λ e. absurd (self_known a c (h.facts c c below below e)))))
@@ -219,7 +219,7 @@ sent_back true y h e = h
 sent_back false y h e = cc
 
 -- a state above another weighs more, or is also below it
-pub weight_rises : (a b : State) → Below a b → Rises (weight a) (weight b) (Below b a)
+pub weight_rises : (a b : State) → Below a b → Climbs (weight a) (weight b) (Below b a)
 unfolding weight
 weight_rises a b h =
     let counts = split2 (a.pool_count == b.pool_count) (a.brigade_count == b.brigade_count) h.variables in
@@ -272,6 +272,6 @@ join_heavier a b same apart = by_rise (weight_rises a (join a b) (leq_says a (jo
     not_both true p q = cc
     not_both false p q = cc
 
-    by_rise : Rises (weight a) (weight (join a b)) (Below (join a b) a) → weight a < weight (join a b)
+    by_rise : Climbs (weight a) (weight (join a b)) (Below (join a b) a) → weight a < weight (join a b)
     by_rise (Grows p) = p
     by_rise (Stays p back) = absurd (not_both (leq b a) (leq_trans b (join a b) a ((join_above a b same).1) (leq_holds (join a b) a back)) apart)

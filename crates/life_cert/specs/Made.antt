@@ -9,10 +9,10 @@ use Rattle.life_cert.specs.declared.refusal.MakeRefusal.TheVariants.{At, NoMemor
 use Rattle.life_cert.specs.Rounds.{made}
 
 -- the certificate is that of the rounds; a refusal is the first that the check finds in it
-abbrev pub IsMade : Program → Result Cert MakeRefusal → Type 0
-IsMade p (Ok c) = seen_cert c ≡ made p
-IsMade p (Err (At pc rule)) = first_refusal p (made p) ≡ Some (refusal pc rule)
-IsMade p (Err NoMemory) = Unit {0}
+abbrev pub IsCertMade : Program → Result Cert MakeRefusal → Type 0
+IsCertMade p (Ok c) = seen_cert c ≡ made p
+IsCertMade p (Err (At pc rule)) = first_refusal p (made p) ≡ Some (refusal pc rule)
+IsCertMade p (Err NoMemory) = Unit {0}
 
 -- the module is refused: it was not that memory was wanting
 abbrev pub IsRefused : Result Cert MakeRefusal → Type 0

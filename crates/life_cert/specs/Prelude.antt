@@ -14,8 +14,8 @@ pub use Rattle.life_cert.specs.CertText.{between_line, cert_text, first_line, pc
 pub use Rattle.life_cert.specs.Drafts.{IsNoState, IsReadState, NoStateIsIn, NoStateOrNoneIsIn}
 pub use Rattle.life_cert.specs.Fitting.{IsDeclared, IsFit, IsOf, is_inside}
 pub use Rattle.life_cert.specs.Least.{IsBelow}
-pub use Rattle.life_cert.specs.Made.{IsMade, IsRefused}
-pub use Rattle.life_cert.specs.Reading.{EndTold, HaveSameStates, IsCertText, IsPrinted, IsState, IsStateOrNone, IsTold, IsToldOf}
+pub use Rattle.life_cert.specs.Made.{IsCertMade, IsRefused}
+pub use Rattle.life_cert.specs.Reading.{EndTold, HaveSameStates, IsCertText, IsPrinted, IsState, IsStateOrNone, IsReported, IsToldOf}
 pub use Rattle.life_cert.specs.Reading.{IsToldState, more_than}
 pub use Rattle.life_cert.specs.Rounds.{arrive, arriving, begun, edges_arriving, enough, grow, handed_by, handed_by_line, handed_on}
 pub use Rattle.life_cert.specs.Rounds.{left_place, made, returned, round, state_at, with_state}

@@ -155,8 +155,8 @@ abbrev pub IsToldBy : (ℕ → CertCode → Type 0) → CertRefusal → Type 0
 IsToldBy P (Fault n c) = IsToldFirst P n c
 IsToldBy P NoMemory = Unit {0}
 
-abbrev pub IsTold : List ℕ → CertRefusal → Type 0
-IsTold text e = IsToldBy (HasCertLineCode text) e
+abbrev pub IsReported : List ℕ → CertRefusal → Type 0
+IsReported text e = IsToldBy (HasCertLineCode text) e
 
 -- the same of a text that is short enough, and goes on where it is `long`
 abbrev pub more_than : Bool → List ℕ → Bool

@@ -1,7 +1,7 @@
 //! The maker of certificates.
 
 ghost use Rattle.std.specs.Prelude.{◌≡◌, ◌∷◌, [], false, OnOk, IfOk};
-ghost use Rattle.life_cert.specs.Prelude.{IsModule, Certificate, AreFormed, seen_cert, ChainNeverFaults, IsTyped, round, enough, made, IsOf, seen_growth, IsMade, IsRefused, IsBelow};
+ghost use Rattle.life_cert.specs.Prelude.{IsModule, Certificate, AreFormed, seen_cert, ChainNeverFaults, IsTyped, round, enough, made, IsOf, seen_growth, IsCertMade, IsRefused, IsBelow};
 
 use crate::growth::Growth;
 use crate::handing::handed_on;
@@ -60,7 +60,7 @@ pub fn grown(alloc: Global, code: &Module) -> Result<Cert, AllocError>
 pub fn make(alloc: Global, code: &Module) -> Result<Cert, MakeRefusal>
     ensures whole { IfOk result (λ c. c.slim ≡ false) }
     ensures typed { IfOk result (λ c. IsTyped code.now (seen_cert c)) }
-    ensures made { IsMade code.now result }
+    ensures made { IsCertMade code.now result }
     ensures least { IfOk result (λ c. (other : Certificate) → AreFormed other → IsTyped code.now other → IsBelow (seen_cert c) other) }
     ensures complete { IsRefused result → (other : Certificate) → AreFormed other → IsTyped code.now other → ⊥ }
     ensures safe { OnOk result (ChainNeverFaults (code.now ∷ [])) }

@@ -1,7 +1,7 @@
 //! Certificates from their texts.
 
 ghost use Rattle.std.specs.Prelude.{◌≡◌, Bool, ◌≤◌, ◌<◌, ◌++◌, IfOk, IfErr, MatchResult, OnOk, Result, length, take, not, ◌||◌, ◌==◌, true, false};
-ghost use Rattle.life_cert.specs.Prelude.{Certificate, seen_cert, HaveSameStates, IsPrinted, IsCertText, IsTold, IsToldOf, EndTold, more_than};
+ghost use Rattle.life_cert.specs.Prelude.{Certificate, seen_cert, HaveSameStates, IsPrinted, IsCertText, IsReported, IsToldOf, EndTold, more_than};
 ghost use Rattle.life_cert.specs.declared.refusal.CertRefusal.TheVariants.{NoMemory};
 
 use crate::draft::CertDraft;
@@ -61,7 +61,7 @@ fn read_lines(alloc: Global, text: &[u8], long: bool) -> Result<Cert, CertRefusa
 /// most 4,194,304 bytes; `NoMemory` is the answer where memory was wanting.
 pub fn read_cert(alloc: Global, text: &[u8]) -> Result<Cert, CertRefusal>
     ensures right { IfOk result (λ c. IsCertText text.now c.slim (seen_cert c)) }
-    ensures told { IfErr result (λ e. IsTold text.now e) }
+    ensures told { IfErr result (λ e. IsReported text.now e) }
     ensures again { (slim : Bool) (c : Certificate) → IsPrinted text.now slim c → MatchResult result (λ r. (r.slim ≡ slim) × HaveSameStates (seen_cert r) c) (λ e. e ≡ NoMemory) }
 {
     if MAX_LEN < text.len() {

@@ -46,7 +46,7 @@ use Rattle.life_check.specs.Soundness.{LivesOutside, LawOf}
 use Rattle.run_model.proofs.RunOrderLaws.{under_itself}
 use Rattle.model_laws.proofs.chains.Apart.{some_is}
 use Rattle.life_check.proofs.Filled.{covers_first, covers_second, IsFull, full_of, rearranged_stays, rearranged_brigades, finds_kept, bucket_moved}
-use Rattle.life_check.proofs.Standing.{Stays, Finds, finds_same, loose_stays, in_stays, end_stays, usable_below, spot_in, spot_loose}
+use Rattle.life_check.proofs.Standing.{CursorStays, Finds, finds_same, loose_stays, in_stays, end_stays, usable_below, spot_in, spot_loose}
 use Rattle.life_check.proofs.Lists.{IsSorted, named_map, map_found, holds_map, each_of_all, all_of_each}
 use Rattle.life_check.proofs.Pools.{covers_moves, same_names, same_live, pool_kept, brigade_more, fits_beside}
 use Rattle.life_check.proofs.Tree.{under_declared}
@@ -238,7 +238,7 @@ module _ {lives : Home → Type 0} (p : Program) (r : Configuration) (s : State)
           (all_of_each (λ y. Covers p (pool_view r) lives (s.brigades b).homes y.bucket.home) (items_at r b) was_full.homes));
     }
 
-    stays : (v : Cursor) → Stays (λ h y. Unit {0}) (λ h y. Unit {0}) left new v
+    stays : (v : Cursor) → CursorStays (λ h y. Unit {0}) (λ h y. Unit {0}) left new v
     unfolding with_pools set_brigade set_loose
     stays v = rearranged_stays (λ h y. Unit {0}) left b items left.call.loose v usable
         (λ n at. λ y is. record {

@@ -23,7 +23,7 @@ use Rattle.life_state.specs.States.{Homes, both_homes, BrigadeKnown, CursorKnown
 use Rattle.life_state.specs.Facts.{known, moved, forgotten, move_bucket}
 use Rattle.life_state.proofs.Tests.{or_left, or_right}
 use Rattle.life_check.specs.Meaning.{CoversPool, ByConnection, ByMember, ByDead, ByCall, Covers, Each, HoldsContents, FitsMark, FitsBrigade, FitsCursor, Differ, Fits}
-use Rattle.life_check.proofs.Standing.{upd_both, upd_first, upd_second, moved_facts, Finds, finds_same, Stays, cursor_stays, forgotten_fits}
+use Rattle.life_check.proofs.Standing.{upd_both, upd_first, upd_second, moved_facts, Finds, finds_same, CursorStays, cursor_stays, forgotten_fits}
 
 -- Homes of which there are more.
 
@@ -114,7 +114,7 @@ module _ (C : Homes → Home → Type 0) (r : Configuration) (b : ℕ) (ys loose
   -- a cursor stays where its bucket is still found
   pub rearranged_stays : (v : Cursor) → usable_fault (r.instance.brigades b) ≡ None → ((n : ℕ) → v ≡ cursor.At n → Finds C C n (items_at r b) ys)
       → ((n : ℕ) → v ≡ cursor.At n → Finds C C n r.call.loose loose)
-      → Stays C C r (rearranged b ys loose r) v
+      → CursorStays C C r (rearranged b ys loose r) v
   unfolding set_brigade set_loose
   rearranged_stays v usable within loosely = record {
     loose = loosely;
@@ -146,7 +146,7 @@ with_buckets brigades loose r = record r { instance = record r.instance { brigad
 pub bucket_moved : (C : Homes → Home → Type 0) (r : Configuration) (s : State) (c n : ℕ) (v : CursorKnown) (known_now : ℕ → BrigadeKnown) (brigades : ℕ → BrigadeVar) (loose : List NamedBucket)
     → SoundNames r → Fits C s r → r.call.cursors c ≡ cursor.At n
     → ((j : ℕ) → FitsBrigade C (known_now j) (brigades j))
-    → ((w : Cursor) → ((m : ℕ) → w ≡ cursor.At m → m ≢ n) → Stays C C r (with_buckets brigades loose r) w)
+    → ((w : Cursor) → ((m : ℕ) → w ≡ cursor.At m → m ≢ n) → CursorStays C C r (with_buckets brigades loose r) w)
     → FitsCursor C (with_buckets brigades loose r) v (r.call.cursors c)
     → Fits C (move_bucket c v (record s { brigades = known_now })) (with_buckets brigades loose r)
 unfolding moved known

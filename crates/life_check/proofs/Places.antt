@@ -31,7 +31,7 @@ use Rattle.life_state.specs.Rules.{cursor_need, bucket_or_end, after_next, no_ot
 use Rattle.life_check.specs.Meaning.{class_has, Covers, Each, HoldsContents, IsAtBucketOf, IsEndOf, FitsCursor, Differ, Fits}
 use Rattle.life_check.specs.Soundness.{LawOf}
 use Rattle.life_check.proofs.Lists.{named_first, named_later, each_named}
-use Rattle.life_check.proofs.Standing.{spot_in, once_in, Stays, cursor_stays}
+use Rattle.life_check.proofs.Standing.{spot_in, once_in, CursorStays, cursor_stays}
 use Rattle.life_check.proofs.Filled.{full_of, finds_kept}
 use Rattle.life_check.proofs.Sets.{with_cursor, cursor_set}
 
@@ -123,7 +123,7 @@ unfolding set_cursor
 placed_fits C r s names f c b place other usable there away =
     let v : Cursor = cursor_at (r.instance.brigades b) place in
     let new : Configuration = with_cursor c v r.call.loose r.shared.next r in
-    let stays : (w : Cursor) → Stays C C r new w = λ w. record {
+    let stays : (w : Cursor) → CursorStays C C r new w = λ w. record {
       loose = λ m at. finds_kept C m r.call.loose r.call.loose (λ y is. is);
       within = λ j m at. finds_kept C m (items_at r j) (items_at r j) (λ y is. is);
       names = λ j. refl;

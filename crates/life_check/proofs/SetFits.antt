@@ -8,11 +8,11 @@ use Rattle.run_model.specs.State.{Configuration}
 use Rattle.life_state.specs.Facts.{is_set, set_cursor}
 use Rattle.life_state.specs.States.{Homes, CursorKnown, State}
 use Rattle.life_check.specs.Meaning.{Differ, FitsCursor, Fits}
-use Rattle.life_check.proofs.Standing.{upd_both, set_facts, Stays, finds_same, cursor_stays}
+use Rattle.life_check.proofs.Standing.{upd_both, set_facts, CursorStays, finds_same, cursor_stays}
 
 module _ (C : Homes → Home → Type 0) (r : Configuration) where
   -- a cursor that is set changes no place
-  pub set_stays : (c : ℕ) (w v : Cursor) → Stays C C r (model.set_cursor c w r) v
+  pub set_stays : (c : ℕ) (w v : Cursor) → CursorStays C C r (model.set_cursor c w r) v
   unfolding model.set_cursor
   set_stays c w v = record {
     loose = λ n e. finds_same C C n _ _ (λ h x y. y) refl;

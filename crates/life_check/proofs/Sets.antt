@@ -9,7 +9,7 @@ use Rattle.run_model.specs.State.{Configuration}
 use Rattle.life_state.specs.States.{Homes, CursorKnown, State}
 use Rattle.life_state.specs.Facts.{is_set, set_cursor}
 use Rattle.life_check.specs.Meaning.{FitsCursor, Differ, Fits}
-use Rattle.life_check.proofs.Standing.{upd_both, set_facts, Stays, cursor_stays}
+use Rattle.life_check.proofs.Standing.{upd_both, set_facts, CursorStays, cursor_stays}
 
 -- c is set to w; there are these loose buckets, and names are given out up to this one
 abbrev pub with_cursor : ℕ → Cursor → List NamedBucket → ℕ → Configuration → Configuration
@@ -20,7 +20,7 @@ with_cursor c w loose next r = record r {
 
 pub cursor_set : (C : Homes → Home → Type 0) (r : Configuration) (s : State) → SoundNames r → Fits C s r
     → (c : ℕ) (v : CursorKnown) (w : Cursor) (loose : List NamedBucket) (next : ℕ) (other : ℕ → Bool)
-    → ((k : ℕ) → Stays C C r (with_cursor c w loose next r) (r.call.cursors k))
+    → ((k : ℕ) → CursorStays C C r (with_cursor c w loose next r) (r.call.cursors k))
     → FitsCursor C (with_cursor c w loose next r) v w
     → ((k : ℕ) → k ≢ c → is_set (s.cursors k) ≡ true → other k ≡ true → Differ w (r.call.cursors k))
     → Fits C (set_cursor c v other s) (with_cursor c w loose next r)

@@ -215,34 +215,34 @@ module _ (p : Program) (lives : Home → Type 0) (r : Configuration) (s : State)
   abbrev C : Homes → Home → Type 0
   C = Covers p (pool_view r) lives
 
-  abbrev IsSplit : Place → Type 0
-  IsSplit at = Fits (Covers p (pool_view (do_bsplit b at a r)) lives) (after_bsplit b c a s) (do_bsplit b at a r)
+  abbrev IsPlaceSplit : Place → Type 0
+  IsPlaceSplit at = Fits (Covers p (pool_view (do_bsplit b at a r)) lives) (after_bsplit b c a s) (do_bsplit b at a r)
 
   old_full : IsFull C (s.brigades b) (items_at r b)
   old_full = full_of C (s.brigades b) (r.instance.brigades b) usable_b (f.brigades b)
 
   -- c is at the bucket of i
   split_within : (t : Classes) → is_end (s.cursors c) ≡ false → (i : IsAtBucketOf r (r.call.cursors c) b t)
-      → FitsCursor C (split_there b (Some i.bucket.name) a r) (carried a b (s.cursors c)) (r.call.cursors c) → IsSplit (spot r c)
+      → FitsCursor C (split_there b (Some i.bucket.name) a r) (carried a b (s.cursors c)) (r.call.cursors c) → IsPlaceSplit (spot r c)
   unfolding set_brigade
   split_within t bucket i here =
-      subst IsSplit (sym (spot_in r (r.call.cursors c) b t names i))
+      subst IsPlaceSplit (sym (spot_in r (r.call.cursors c) b t names i))
       (split_fits C r b a (Some i.bucket.name) differ usable_b usable_a s c (split_part (s.cursors c) (s.brigades b)) names f
       (subst (λ (e : Bool). IsFull C (cond e (holds Empty no_homes) (holds (s.brigades b).content (s.brigades b).homes)) (moves (Some i.bucket.name) (items_at r b))) (sym bucket)
       (moved_full C (s.brigades b) (Some i.bucket.name) (items_at r b) old_full)) here)
 
   -- c is at the end, and nothing moves
-  split_end : IsEndOf r (r.call.cursors c) b → FitsCursor C (split_there b None a r) (carried a b (s.cursors c)) (r.call.cursors c) → IsSplit (spot r c)
+  split_end : IsEndOf r (r.call.cursors c) b → FitsCursor C (split_there b None a r) (carried a b (s.cursors c)) (r.call.cursors c) → IsPlaceSplit (spot r c)
   unfolding set_brigade
   split_end i here =
-      subst IsSplit (sym (spot_end r (r.call.cursors c) b names i))
+      subst IsPlaceSplit (sym (spot_end r (r.call.cursors c) b names i))
       (split_fits C r b a None differ usable_b usable_a s c (split_part (s.cursors c) (s.brigades b)) names f (by_end (is_end (s.cursors c))) here) where
         by_end : (e : Bool) → IsFull C (cond e (holds Empty no_homes) (holds (s.brigades b).content (s.brigades b).homes)) []
         by_end true = nothing_moves C
         by_end false = moved_full C (s.brigades b) None (items_at r b) old_full
 
   -- by what is known of c
-  split_in : (t : Classes) → s.cursors c ≡ In b t → IsSplit (spot r c)
+  split_in : (t : Classes) → s.cursors c ≡ In b t → IsPlaceSplit (spot r c)
   unfolding set_brigade
   split_in t is =
       let i : IsAtBucketOf r (r.call.cursors c) b t = subst (λ (k : CursorKnown). FitsCursor C r k (r.call.cursors c)) is (f.cursors c) in
@@ -251,7 +251,7 @@ module _ (p : Program) (lives : Home → Type 0) (r : Configuration) (s : State)
       (subst (λ (e : Bool). FitsCursor C (split_there b (Some i.bucket.name) a r) (cond e (In a t) (In b t)) (r.call.cursors c)) (sym (eq-eqb b b refl))
       (moves_along C r b a t (r.call.cursors c) differ usable_b usable_a i)))
 
-  split_at_end : s.cursors c ≡ End b → IsSplit (spot r c)
+  split_at_end : s.cursors c ≡ End b → IsPlaceSplit (spot r c)
   unfolding set_brigade
   split_at_end is =
       let i : IsEndOf r (r.call.cursors c) b = subst (λ (k : CursorKnown). FitsCursor C r k (r.call.cursors c)) is (f.cursors c) in
@@ -259,18 +259,18 @@ module _ (p : Program) (lives : Home → Type 0) (r : Configuration) (s : State)
       (subst (λ (k : CursorKnown). FitsCursor C (split_there b None a r) (carried a b k) (r.call.cursors c)) (sym is)
       (end_stays C C r (split_there b None a r) (r.call.cursors c) b (split_names C r b a None differ usable_b usable_a b) (split_usable C r b a None differ usable_b usable_a b ∙ usable_b) i))
 
-  split_either : (t : Classes) → s.cursors c ≡ InOrEnd b t → IsSplit (spot r c)
+  split_either : (t : Classes) → s.cursors c ≡ InOrEnd b t → IsPlaceSplit (spot r c)
   split_either t is = by_place (subst (λ (k : CursorKnown). FitsCursor C r k (r.call.cursors c)) is (f.cursors c)) where
     unset : (place : Option ℕ) → FitsCursor C (split_there b place a r) (carried a b (s.cursors c)) (r.call.cursors c)
     unset place =
         subst (λ (k : CursorKnown). FitsCursor C (split_there b place a r) (carried a b k) (r.call.cursors c)) (sym is)
         (subst (λ (e : Bool). FitsCursor C (split_there b place a r) (cond e Unset (InOrEnd b t)) (r.call.cursors c)) (sym (eq-eqb b b refl)) tt)
 
-    by_place : IsAtBucketOf r (r.call.cursors c) b t ⊎ IsEndOf r (r.call.cursors c) b → IsSplit (spot r c)
+    by_place : IsAtBucketOf r (r.call.cursors c) b t ⊎ IsEndOf r (r.call.cursors c) b → IsPlaceSplit (spot r c)
     by_place (inl i) = split_within t (ap is_end is) i (unset (Some i.bucket.name))
     by_place (inr i) = split_end i (unset None)
 
-  split_known : (k : CursorKnown) → s.cursors c ≡ k → cursor_need (InThis b) k ≡ None → IsSplit (spot r c)
+  split_known : (k : CursorKnown) → s.cursors c ≡ k → cursor_need (InThis b) k ≡ None → IsPlaceSplit (spot r c)
   split_known (In v t) is met = split_in t (is ∙ ap (λ (j : ℕ). In j t) (in_this v b met))
   split_known (End v) is met = split_at_end (is ∙ ap End (in_this v b met))
   split_known (InOrEnd v t) is met = split_either t (is ∙ ap (λ (j : ℕ). InOrEnd j t) (in_this v b (second_none (end_fault (InThis b) v) (within_fault (InThis b) v) met)))

@@ -108,11 +108,11 @@ once_loose C r v t h s i = subst (BucketOnce r i.bucket.name) (loose_at r i.buck
 -- Cursors at different buckets.
 
 -- the bucket of this name stands at a place: 0 where it is loose, 1 and more in a brigade
-data IsPlaced (r : Configuration) (n place : ℕ) : Type 0 where
-  LooseThere : (x : NamedBucket) → bucket_named n r.call.loose ≡ Some x → place ≡ 0 → IsPlaced r n place
-  WithinThere : (b : ℕ) (x : NamedBucket) → bucket_named n (items_at r b) ≡ Some x → place ≡ b + 1 → IsPlaced r n place
+data BucketAt (r : Configuration) (n place : ℕ) : Type 0 where
+  LooseThere : (x : NamedBucket) → bucket_named n r.call.loose ≡ Some x → place ≡ 0 → BucketAt r n place
+  WithinThere : (b : ℕ) (x : NamedBucket) → bucket_named n (items_at r b) ≡ Some x → place ≡ b + 1 → BucketAt r n place
 
-one_place : (r : Configuration) (n i j : ℕ) → SoundNames r → IsPlaced r n i → IsPlaced r n j → i ≡ j
+one_place : (r : Configuration) (n i j : ℕ) → SoundNames r → BucketAt r n i → BucketAt r n j → i ≡ j
 one_place r n i j s (LooseThere x is here) (LooseThere y too there) = here ∙ sym there
 one_place r n i j s (LooseThere x is here) (WithinThere b y too there) = absurd (let both = sym (loose_at r n x s is) ∙ within_at r n b y s too in cc)
 one_place r n i j s (WithinThere a x is here) (LooseThere y too there) = absurd (let both = sym (within_at r n a x s is) ∙ loose_at r n y s too in cc)
@@ -122,14 +122,14 @@ one_place r n i j s (WithinThere a x is here) (WithinThere b y too there) =
 name_is : (m n : ℕ) (v : Cursor) → v ≡ cursor.At m → v ≡ cursor.At n → m ≡ n
 name_is m n v is too = (let both = sym is ∙ too in cc)
 
-in_placed : (r : Configuration) (v : Cursor) (b n : ℕ) (t : Classes) → v ≡ cursor.At n → IsAtBucketOf r v b t → IsPlaced r n (b + 1)
+in_placed : (r : Configuration) (v : Cursor) (b n : ℕ) (t : Classes) → v ≡ cursor.At n → IsAtBucketOf r v b t → BucketAt r n (b + 1)
 in_placed r v b n t at i = WithinThere b i.bucket (ap (λ (k : ℕ). bucket_named k (items_at r b)) (sym (name_is i.bucket.name n v i.at at)) ∙ i.there) refl
 
 not_end : (r : Configuration) (v : Cursor) (b n : ℕ) → v ≡ cursor.At n → IsEndOf r v b → ⊥
 not_end r v b n at i = (let both = sym at ∙ i.at in cc)
 
 module _ (C : Homes → Home → Type 0) (r : Configuration) where
-  placed : (k : CursorKnown) (v : Cursor) (n : ℕ) → v ≡ cursor.At n → is_set k ≡ true → FitsCursor C r k v → IsPlaced r n (place_of k)
+  placed : (k : CursorKnown) (v : Cursor) (n : ℕ) → v ≡ cursor.At n → is_set k ≡ true → FitsCursor C r k v → BucketAt r n (place_of k)
   placed Unset v n at set f = absurd (cc)
   placed (Loose t h) v n at set f = LooseThere f.bucket (ap (λ (k : ℕ). bucket_named k r.call.loose) (sym (name_is f.bucket.name n v f.at at)) ∙ f.there) refl
   placed (In b t) v n at set f = in_placed r v b n t at f
@@ -139,7 +139,7 @@ module _ (C : Homes → Home → Type 0) (r : Configuration) where
   -- a cursor that is set is at a bucket that is there
   pub set_there : SoundNames r → (k : CursorKnown) (v : Cursor) (n : ℕ) → v ≡ cursor.At n → is_set k ≡ true → FitsCursor C r k v → 1 ≤ count r n
   set_there s k v n at set f = by_place (placed k v n at set f) where
-    by_place : IsPlaced r n (place_of k) → 1 ≤ count r n
+    by_place : BucketAt r n (place_of k) → 1 ≤ count r n
     by_place (LooseThere x is here) = omega (arith, there n x r.call.loose is)
     by_place (WithinThere b x is here) = omega (arith, there n x (items_at r b) is, in_brigade b n r s)
 
@@ -273,20 +273,20 @@ module _ (C D : Homes → Home → Type 0) (r new : Configuration) (v : Cursor) 
   end_stays b name usable i = record { called = i.called; at = i.at; there = name ∙ i.there; usable = usable }
 
   -- What a change leaves of the place of a cursor.
-  pub record Stays : Type 0 where
+  pub record CursorStays : Type 0 where
     pub loose : (n : ℕ) → v ≡ cursor.At n → Finds C D n r.call.loose new.call.loose
     pub within : (b n : ℕ) → v ≡ cursor.At n → Finds C D n (items_at r b) (items_at new b)
     pub names : (b : ℕ) → brigade_name (new.instance.brigades b) ≡ brigade_name (r.instance.brigades b)
     pub usable : (b : ℕ) → usable_fault (r.instance.brigades b) ≡ None → usable_fault (new.instance.brigades b) ≡ None
 
-  in_place : (b : ℕ) (t : Classes) → Stays → IsAtBucketOf r v b t → IsAtBucketOf new v b t
+  in_place : (b : ℕ) (t : Classes) → CursorStays → IsAtBucketOf r v b t → IsAtBucketOf new v b t
   in_place b t s i = in_stays b b t (s.within b) (s.usable b i.usable) i
 
-  end_place : (b : ℕ) → Stays → IsEndOf r v b → IsEndOf new v b
+  end_place : (b : ℕ) → CursorStays → IsEndOf r v b → IsEndOf new v b
   end_place b s i = end_stays b (s.names b) (s.usable b i.usable) i
 
   -- it fits what was known of it
-  pub cursor_stays : Stays → (k : CursorKnown) → FitsCursor C r k v → FitsCursor D new k v
+  pub cursor_stays : CursorStays → (k : CursorKnown) → FitsCursor C r k v → FitsCursor D new k v
   cursor_stays s Unset f = tt
   cursor_stays s (Loose t h) f = loose_stays t h s.loose f
   cursor_stays s (In b t) f = in_place b t s f

@@ -5,7 +5,7 @@ use crate::told::{handler_name, put_at};
 use life_cert::StatePlace;
 use life_check::{Cert, CheckRefusal, Rule};
 use life_state::{State, at_open, leq};
-use line_help::{Page, Source, Topic, put_known};
+use line_help::{ModuleText, Page, Topic, put_known};
 use module_code::Module;
 
 // The variables and cursors of a state: eight pools, nine brigades and nine cursors.
@@ -45,7 +45,7 @@ fn differing(state: &State, given: &State) -> u8 {
 }
 
 // Adds a text, and behind it the name of a place.
-fn put_place(told: &mut Page, source: &Source, text: &str, place: StatePlace) {
+fn put_place(told: &mut Page, source: &ModuleText, text: &str, place: StatePlace) {
     match place {
         StatePlace::At(pc) => put_at(told, source, pc, "$line #, `@`", text),
         StatePlace::Idle => told.put_text("$`idle`", text),
@@ -75,7 +75,7 @@ fn put_difference(told: &mut Page, state: &State, given: &State) {
 // Tells how a state that comes to a place is not below the one that the certificate has there, and whether it is not.
 fn put_not_below(
     told: &mut Page,
-    source: &Source,
+    source: &ModuleText,
     cert: &Cert,
     place: StatePlace,
     state: &State,
@@ -98,7 +98,7 @@ fn put_not_below(
     }
 }
 
-fn put_from(told: &mut Page, source: &Source, code: &Module, cert: &Cert, place: StatePlace) {
+fn put_from(told: &mut Page, source: &ModuleText, code: &Module, cert: &Cert, place: StatePlace) {
     let mut ways = Ways::new(told.alloc);
     if let Some(state) = state_at(cert, place) {
         add_ways_of(code, place, &state, false, &mut ways);
@@ -111,7 +111,7 @@ fn put_from(told: &mut Page, source: &Source, code: &Module, cert: &Cert, place:
     }
 }
 
-fn put_entry(told: &mut Page, source: &Source, code: &Module, cert: &Cert, pc: usize) {
+fn put_entry(told: &mut Page, source: &ModuleText, code: &Module, cert: &Cert, pc: usize) {
     let form = "line #: `$` does not begin as the certificate says\n";
     put_at(told, source, pc, form, handler_name(code, pc));
     if pc == code.main() {
@@ -127,7 +127,7 @@ fn put_entry(told: &mut Page, source: &Source, code: &Module, cert: &Cert, pc: u
 /// Tells what a certificate says against its module.
 pub fn put_certificate(
     told: &mut Page,
-    source: &Source,
+    source: &ModuleText,
     code: &Module,
     cert: &Cert,
     refusal: CheckRefusal,

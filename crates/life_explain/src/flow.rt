@@ -14,7 +14,7 @@ use std::alloc::{AllocError, Global};
 
 /// A way from one place to another, and the state that comes by it.
 #[derive(Clone, Copy)]
-pub struct Way {
+pub struct FlowEdge {
     pub from: StatePlace,
     pub to: StatePlace,
     /// Whether it goes to the instruction's label.
@@ -33,7 +33,7 @@ pub struct FlowRefusal {
 /// Ways, and whether memory was refused for one.
 #[derive(Drop)]
 pub struct Ways {
-    pub all: Vec<Way>,
+    pub all: Vec<FlowEdge>,
     pub full: bool,
 }
 
@@ -171,7 +171,7 @@ impl Ways {
 
     fn add(&mut self, from: StatePlace, to: StatePlace, jumps: bool, state: Option<State>) {
         if let Some(state) = state {
-            let way = Way {
+            let way = FlowEdge {
                 from,
                 to,
                 jumps,
@@ -248,7 +248,7 @@ pub fn all_ways(alloc: Global, code: &Module, states: &Cert) -> Ways {
 }
 
 // Lets a state come by a way, where it fits. The page is full where memory was refused for it.
-fn arrive(told: &mut Page, growth: &mut Growth, way: &Way) {
+fn arrive(told: &mut Page, growth: &mut Growth, way: &FlowEdge) {
     let is_inside = match way.to {
         StatePlace::At(pc) => pc < growth.cert.at.len(),
         StatePlace::Idle | StatePlace::Ready => true,

@@ -5,7 +5,7 @@ use crate::flow::meant;
 use crate::session::tell_refusals;
 use life_cert::{CertRefusal, MakeRefusal, grown, make, read_cert};
 use life_check::{Cert, CheckRefusal, Rule, check};
-use line_help::{Page, ScriptText, Source, tell_asm_fault, tell_cert_fault};
+use line_help::{ModuleText, Page, ScriptText, tell_asm_fault, tell_cert_fault};
 use module_code::Module;
 use module_lang::{AsmRefusal, assemble};
 use std::alloc::{AllocError, Global};
@@ -89,7 +89,7 @@ fn tell_unmade(told: &mut Page, text: ScriptText<'_>, code: &Module) {
 
 // Tells of an instruction that may have a fault in these states.
 fn tell_may(told: &mut Page, text: ScriptText<'_>, code: &Module, states: &Cert, pc: usize) {
-    let mut source = Source::of(told.alloc, text.text, text.before);
+    let mut source = ModuleText::of(told.alloc, text.text, text.before);
     told.full |= source.page.full;
     tell_refusals(told, &mut source, code, states, pc);
 }
@@ -120,7 +120,7 @@ fn tell_states(
     cert: &Cert,
     refusal: CheckRefusal,
 ) {
-    let source = Source::of(told.alloc, text.text, text.before);
+    let source = ModuleText::of(told.alloc, text.text, text.before);
     told.full |= source.page.full;
     put_certificate(told, &source, code, cert, refusal);
 }

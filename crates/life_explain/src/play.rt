@@ -5,8 +5,8 @@ use crate::session::tell_fault;
 use crate::told::put_at;
 use byte_text::{is_text, token};
 use line_help::{
-    Answered, Page, Script, ScriptLine, ScriptText, Source, fault_of, is_told, lines_of, number,
-    shown, tell_refused, tell_script_fault, word,
+    AnsweredCommand, ModuleText, Page, Script, ScriptLine, ScriptText, fault_of, is_told, lines_of,
+    number, shown, tell_refused, tell_script_fault, word,
 };
 use run_model::FaultKind;
 use script_text::{fault_name, fault_named};
@@ -59,7 +59,7 @@ fn answered<'a>(
     told: &mut Page,
     script: &Script<'a>,
     lines: &[ScriptLine<'a>],
-) -> Vec<Answered<'a>> {
+) -> Vec<AnsweredCommand<'a>> {
     let mut found = Vec::new(told.alloc);
     let mut at = script.before;
     for line in lines {
@@ -71,14 +71,14 @@ fn answered<'a>(
                 .copied(),
             _ => None,
         };
-        told.full |= found.push(Answered { command, answer }).is_err();
+        told.full |= found.push(AnsweredCommand { command, answer }).is_err();
         at = at.saturating_add(usize::from(!goes_on(command, answer)));
     }
     found
 }
 
 // Tells what a fault means, where it is and what to write instead.
-fn tell_fault_of(told: &mut Page, script: &Script<'_>, answered: &Answered<'_>) {
+fn tell_fault_of(told: &mut Page, script: &Script<'_>, answered: &AnsweredCommand<'_>) {
     let answer = answered.answer;
     let (Some(kind), Some(index), Some(pc), Some(command)) = (
         fault_named(word(answer, 1)),
@@ -96,7 +96,7 @@ fn tell_fault_of(told: &mut Page, script: &Script<'_>, answered: &Answered<'_>) 
 
 // Tells of a fault in the module of this number and this text, at this instruction.
 fn tell_fault_at(told: &mut Page, text: ScriptText<'_>, index: usize, pc: usize, kind: FaultKind) {
-    let source = Source::of(told.alloc, text.text, text.before);
+    let source = ModuleText::of(told.alloc, text.text, text.before);
     put_at(told, &source, pc, "line #, `@`, of module ", "");
     told.put("# has $: ", index, &[], fault_name(kind));
     told.put_text("$\n", fault_of(kind).0);
@@ -130,8 +130,8 @@ fn tell_text(told: &mut Page, script: &Script<'_>, number: usize) {
 fn tell_answer(
     told: &mut Page,
     script: &Script<'_>,
-    earlier: &[Answered<'_>],
-    answered: &Answered<'_>,
+    earlier: &[AnsweredCommand<'_>],
+    answered: &AnsweredCommand<'_>,
 ) -> bool {
     let line = number(answered.answer, 2).unwrap_or(0);
     match kind_of(answered.answer) {
@@ -149,8 +149,8 @@ fn tell_answer(
 fn tell_answers<'a>(
     told: &mut Page,
     script: &Script<'_>,
-    answered: &[Answered<'a>],
-    done: &mut Vec<Answered<'a>>,
+    answered: &[AnsweredCommand<'a>],
+    done: &mut Vec<AnsweredCommand<'a>>,
 ) {
     for (index, answer) in answered.iter().enumerate() {
         if done.len() == MOST {

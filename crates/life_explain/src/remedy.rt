@@ -1,14 +1,14 @@
 //! A refusal with what is known around it, and the remedies that the rules have for it.
 
 use crate::flow::{FlowRefusal, home_of, instr_at, parent_of};
-use crate::rules::{Fresh, Per, Rule, Test, When, names_of, rule_tables};
+use crate::rules::{Fresh, HelpRule, Per, Test, When, names_of, rule_tables};
 use crate::trail::Trail;
 use byte_text::{after_token, begins, is_text, len_before, tail, token};
 use life_cert::StatePlace;
 use life_check::Cert;
 use life_state::{Classes, CursorState};
 use line_help::{
-    Edit, NO_LINE, Page, Pattern, Sort, Source, Topic, brigade_name, cursor_text, last_word,
+    Edit, ModuleText, NO_LINE, Page, Pattern, Sort, Topic, brigade_name, cursor_text, last_word,
     pool_text, stands_in, text_of,
 };
 use module_code::parts::parts;
@@ -58,7 +58,7 @@ pub struct Head {
 /// A refusal with what is known around it.
 #[derive(Drop)]
 pub struct Case<'s> {
-    pub source: &'s Source,
+    pub source: &'s ModuleText,
     pub code: &'s Module,
     pub states: &'s Cert,
     pub trail: &'s Trail,
@@ -86,7 +86,7 @@ fn shape(code: &Module, pc: usize) -> (Op, Args) {
 
 // What stands for the capitals that are the same for all remedies.
 fn first_names<'s>(
-    source: &'s Source,
+    source: &'s ModuleText,
     code: &'s Module,
     of: u8,
     maker: usize,
@@ -112,7 +112,7 @@ impl<'s> Case<'s> {
     /// A refusal, and no remedies yet.
     pub fn new(
         alloc: Global,
-        source: &'s Source,
+        source: &'s ModuleText,
         module: (&'s Module, &'s Cert),
         trail: &'s Trail,
         refusal: FlowRefusal,
@@ -416,7 +416,7 @@ impl<'s> Case<'s> {
     }
 
     // The script of a rule for an instruction; nothing where it does not fit.
-    fn script(&mut self, rule: &Rule, pc: usize) -> &'static str {
+    fn script(&mut self, rule: &HelpRule, pc: usize) -> &'static str {
         if let Test::Nothing = rule.test {
             return "";
         }
@@ -512,7 +512,7 @@ impl<'s> Case<'s> {
     }
 
     // Adds a remedy.
-    fn add(&mut self, rule: &Rule, script: &str) {
+    fn add(&mut self, rule: &HelpRule, script: &str) {
         let head = Head {
             pattern: rule.pattern,
             from: self.edits.len(),
@@ -522,7 +522,7 @@ impl<'s> Case<'s> {
     }
 
     // Adds a remedy, or one for each instruction that fits.
-    fn add_all(&mut self, rule: &Rule) {
+    fn add_all(&mut self, rule: &HelpRule) {
         if let Per::Once = rule.per {
             self.add(rule, rule.first);
         }
@@ -539,7 +539,7 @@ impl<'s> Case<'s> {
     }
 
     // A remedy behind what set the cursor, and one before the refused instruction, to this label.
-    fn add_label(&mut self, rule: &Rule, label: &'s [u8]) {
+    fn add_label(&mut self, rule: &HelpRule, label: &'s [u8]) {
         self.names[L] = label;
         if !rule.first.is_empty() && self.is_made_by("first next") {
             self.add(rule, rule.first);
@@ -548,7 +548,7 @@ impl<'s> Case<'s> {
     }
 
     // The label of a `jempty` or `jend` nearest before the use goes first.
-    fn add_likely(&mut self, rule: &Rule) {
+    fn add_likely(&mut self, rule: &HelpRule) {
         for step in 1..8usize {
             let pc = self.refusal.pc.saturating_sub(step);
             if let Some(Instr::JEmpty(_, _) | Instr::JEnd(_, _)) = instr_at(self.code, pc) {
@@ -557,7 +557,7 @@ impl<'s> Case<'s> {
         }
     }
 
-    fn add_labels(&mut self, rule: &Rule) {
+    fn add_labels(&mut self, rule: &HelpRule) {
         if !rule.first.is_empty() {
             self.add_likely(rule);
         }
@@ -572,7 +572,7 @@ impl<'s> Case<'s> {
         }
     }
 
-    fn add_read(&mut self, rule: &Rule) {
+    fn add_read(&mut self, rule: &HelpRule) {
         let trail = self.trail;
         for step in &trail.steps {
             match step.from {
@@ -586,7 +586,7 @@ impl<'s> Case<'s> {
         self.add(rule, rule.each);
     }
 
-    fn add_rule(&mut self, rule: &Rule) {
+    fn add_rule(&mut self, rule: &HelpRule) {
         self.number = 0;
         let name = self.source.new_label(names_of(rule.fresh)).as_bytes();
         self.names[M] = name;
@@ -601,7 +601,7 @@ impl<'s> Case<'s> {
     }
 
     // Adds the remedies of the rules of a table.
-    fn add_rules(&mut self, rules: &[Rule]) {
+    fn add_rules(&mut self, rules: &[HelpRule]) {
         let sort = self.refusal.doubt.sort;
         for rule in rules {
             if rule.is_of(sort) && self.is_made_by(rule.made) && self.is_when(rule.when) {

@@ -112,7 +112,7 @@ const NAMES: [[&str; 9]; 5] = [
 /// of that instruction (X), of the refused one (Y), and of the one that fits (Z). `label send` marks the refused instruction with a
 /// label, where it has none.
 #[derive(Clone, Copy)]
-pub struct Rule {
+pub struct HelpRule {
     pub sorts: &'static [Sort],
     pub when: When,
     /// The words of the instructions that may have made it so: `*` for any, `-` for none; nothing where that is no matter.
@@ -127,7 +127,7 @@ pub struct Rule {
     pub last: &'static str,
 }
 
-impl Rule {
+impl HelpRule {
     /// Whether it is about refusals of this sort.
     pub fn is_of(&self, sort: Sort) -> bool {
         for of in self.sorts {
@@ -140,7 +140,7 @@ impl Rule {
 }
 
 // What most rules have.
-const PLAIN: Rule = Rule {
+const PLAIN: HelpRule = HelpRule {
     sorts: &[],
     when: When::Always,
     made: "",
@@ -154,8 +154,8 @@ const PLAIN: Rule = Rule {
 };
 
 // Of data behind an EOS.
-static OF_EOS: &[Rule] = &[
-    Rule {
+static OF_EOS: &[HelpRule] = &[
+    HelpRule {
         sorts: &[Sort::Sent],
         pattern: Pattern::AskJsent,
         per: Per::Each,
@@ -163,7 +163,7 @@ static OF_EOS: &[Rule] = &[
         each: "over at jsent L",
         ..PLAIN
     },
-    Rule {
+    HelpRule {
         sorts: &[Sort::LateData],
         when: When::Brought,
         pattern: Pattern::InsertIntoOwn,
@@ -171,7 +171,7 @@ static OF_EOS: &[Rule] = &[
         first: "before open brigade O req;behind init bcreate O",
         ..PLAIN
     },
-    Rule {
+    HelpRule {
         sorts: &[Sort::LateData],
         when: When::Whole,
         pattern: Pattern::MoveOneByOne,
@@ -182,7 +182,7 @@ static OF_EOS: &[Rule] = &[
         last: "before end M;before end tail B c7;before end jump L",
         ..PLAIN
     },
-    Rule {
+    HelpRule {
         sorts: &[Sort::LateData],
         when: When::Part,
         pattern: Pattern::LeaveAtEos,
@@ -191,7 +191,7 @@ static OF_EOS: &[Rule] = &[
         each: "label send;over at jump L",
         ..PLAIN
     },
-    Rule {
+    HelpRule {
         sorts: &[Sort::LateData],
         when: When::Part,
         pattern: Pattern::LeaveAtEos,
@@ -201,14 +201,14 @@ static OF_EOS: &[Rule] = &[
         each: "label send;before at jkind C eos N;before end M;before end Z;before end jump L",
         ..PLAIN
     },
-    Rule {
+    HelpRule {
         sorts: &[Sort::Sent, Sort::LateData],
         when: When::Gone,
         pattern: Pattern::Guard,
         first: "behind main jsent gone",
         ..PLAIN
     },
-    Rule {
+    HelpRule {
         sorts: &[Sort::Sent, Sort::LateData],
         pattern: Pattern::Guard,
         first: "behind main jsent N;before end M;before end bclean in;before end ret ok",
@@ -217,8 +217,8 @@ static OF_EOS: &[Rule] = &[
 ];
 
 // Of brigades that were passed, and of buckets that are kept.
-static OF_KEPT: &[Rule] = &[
-    Rule {
+static OF_KEPT: &[HelpRule] = &[
+    HelpRule {
         sorts: &[Sort::Passed],
         when: When::Keeps,
         made: "*",
@@ -226,14 +226,14 @@ static OF_KEPT: &[Rule] = &[
         first: "behind maker bclean B",
         ..PLAIN
     },
-    Rule {
+    HelpRule {
         sorts: &[Sort::Passed],
         when: When::Left,
         pattern: Pattern::CleanWhenFailed,
         first: "before exit bclean B",
         ..PLAIN
     },
-    Rule {
+    HelpRule {
         sorts: &[Sort::Passed],
         when: When::Own,
         pattern: Pattern::CleanWhenFailed,
@@ -241,7 +241,7 @@ static OF_KEPT: &[Rule] = &[
         each: "before at bclean B",
         ..PLAIN
     },
-    Rule {
+    HelpRule {
         sorts: &[Sort::Passed],
         when: When::Lost,
         made: "*",
@@ -249,27 +249,27 @@ static OF_KEPT: &[Rule] = &[
         first: "behind maker bclean B",
         ..PLAIN
     },
-    Rule {
+    HelpRule {
         sorts: &[Sort::Passed],
         pattern: Pattern::CleanWhenFailed,
         first: "before here bclean B",
         ..PLAIN
     },
-    Rule {
+    HelpRule {
         sorts: &[Sort::Kept],
         when: When::Fails,
         pattern: Pattern::CleanWhenFailed,
         first: "before here bclean B",
         ..PLAIN
     },
-    Rule {
+    HelpRule {
         sorts: &[Sort::Kept],
         made: "bconcat",
         pattern: Pattern::AsideWhatIsKept,
         first: "over maker bsave S T",
         ..PLAIN
     },
-    Rule {
+    HelpRule {
         sorts: &[Sort::Kept],
         when: When::Early,
         made: "tail head before",
@@ -277,14 +277,14 @@ static OF_KEPT: &[Rule] = &[
         first: "before maker aside C P;over at ",
         ..PLAIN
     },
-    Rule {
+    HelpRule {
         sorts: &[Sort::Kept],
         made: "tail head before",
         pattern: Pattern::AsideWhatIsKept,
         first: "before maker aside C P",
         ..PLAIN
     },
-    Rule {
+    HelpRule {
         sorts: &[Sort::Kept],
         made: "tail head before",
         pattern: Pattern::AsideWhatIsKept,
@@ -292,7 +292,7 @@ static OF_KEPT: &[Rule] = &[
         each: "before at aside C P",
         ..PLAIN
     },
-    Rule {
+    HelpRule {
         sorts: &[Sort::Kept],
         when: When::Ends,
         pattern: Pattern::CleanWhenFailed,
@@ -302,8 +302,8 @@ static OF_KEPT: &[Rule] = &[
 ];
 
 // Of cursors.
-static OF_CURSORS: &[Rule] = &[
-    Rule {
+static OF_CURSORS: &[HelpRule] = &[
+    HelpRule {
         sorts: &[Sort::AtEnd],
         pattern: Pattern::AskJend,
         per: Per::Label,
@@ -311,14 +311,14 @@ static OF_CURSORS: &[Rule] = &[
         last: "before here jend C L",
         ..PLAIN
     },
-    Rule {
+    HelpRule {
         sorts: &[Sort::AtEnd],
         pattern: Pattern::AskJend,
         fresh: Fresh::None,
         first: "before here jend C N;before end M;before end ret ok",
         ..PLAIN
     },
-    Rule {
+    HelpRule {
         sorts: &[Sort::Unread],
         pattern: Pattern::ReadOnEachWay,
         per: Per::Read,
@@ -327,7 +327,7 @@ static OF_CURSORS: &[Rule] = &[
         each: "before here Z",
         ..PLAIN
     },
-    Rule {
+    HelpRule {
         sorts: &[Sort::Unread],
         pattern: Pattern::ReadOnEachWay,
         per: Per::Each,
@@ -335,34 +335,34 @@ static OF_CURSORS: &[Rule] = &[
         each: "before here read C L",
         ..PLAIN
     },
-    Rule {
+    HelpRule {
         sorts: &[Sort::InBrigade],
         pattern: Pattern::MoveInTwoSteps,
         first: "before here unlink C",
         ..PLAIN
     },
-    Rule {
+    HelpRule {
         sorts: &[Sort::Unset, Sort::InBrigade, Sort::Loose],
         made: "unlink",
         pattern: Pattern::MoveInTwoSteps,
         first: "over maker ;behind here X",
         ..PLAIN
     },
-    Rule {
+    HelpRule {
         sorts: &[Sort::Unset, Sort::InBrigade, Sort::Loose],
         made: "unlink",
         pattern: Pattern::MoveInTwoSteps,
         first: "over here ",
         ..PLAIN
     },
-    Rule {
+    HelpRule {
         sorts: &[Sort::Unset, Sort::InBrigade, Sort::Loose],
         made: "bdelete",
         pattern: Pattern::SetAgain,
         first: "over maker ;behind here X",
         ..PLAIN
     },
-    Rule {
+    HelpRule {
         sorts: &[Sort::Unset],
         made: "-",
         pattern: Pattern::SetAgain,
@@ -373,21 +373,21 @@ static OF_CURSORS: &[Rule] = &[
 ];
 
 // Of homes, and of brigades and pools that are to be there, or not yet.
-static OF_VARIABLES: &[Rule] = &[
-    Rule {
+static OF_VARIABLES: &[HelpRule] = &[
+    HelpRule {
         sorts: &[Sort::DeadIn],
         pattern: Pattern::OutliveTheRequest,
         test: Test::Asides,
         each: "over at aside C P",
         ..PLAIN
     },
-    Rule {
+    HelpRule {
         sorts: &[Sort::DeadIn],
         pattern: Pattern::OutliveTheRequest,
         first: "behind init bclean B",
         ..PLAIN
     },
-    Rule {
+    HelpRule {
         sorts: &[
             Sort::NullBrigade,
             Sort::GoneBrigade,
@@ -401,13 +401,13 @@ static OF_VARIABLES: &[Rule] = &[
         each: "behind maker bcreate A",
         ..PLAIN
     },
-    Rule {
+    HelpRule {
         sorts: &[Sort::NullBrigade, Sort::GoneBrigade],
         pattern: Pattern::MakeWhereItBegins,
         first: "behind begin bcreate B",
         ..PLAIN
     },
-    Rule {
+    HelpRule {
         sorts: &[Sort::NullBrigade, Sort::GoneBrigade],
         pattern: Pattern::MakeWhereItBegins,
         test: Test::Makes,
@@ -415,13 +415,13 @@ static OF_VARIABLES: &[Rule] = &[
         each: "over at ",
         ..PLAIN
     },
-    Rule {
+    HelpRule {
         sorts: &[Sort::NullPool, Sort::GonePool],
         pattern: Pattern::MakeWhereItBegins,
         first: "behind begin pcreate V",
         ..PLAIN
     },
-    Rule {
+    HelpRule {
         sorts: &[Sort::NullPool, Sort::GonePool],
         pattern: Pattern::MakeWhereItBegins,
         test: Test::Makes,
@@ -429,13 +429,13 @@ static OF_VARIABLES: &[Rule] = &[
         each: "over at ",
         ..PLAIN
     },
-    Rule {
+    HelpRule {
         sorts: &[Sort::LiveBrigade, Sort::LivePool],
         pattern: Pattern::MakeWhereItBegins,
         first: "behind begin Y;over here ",
         ..PLAIN
     },
-    Rule {
+    HelpRule {
         sorts: &[Sort::LiveBrigade, Sort::LivePool],
         pattern: Pattern::MakeWhereItBegins,
         first: "over here ",
@@ -445,7 +445,7 @@ static OF_VARIABLES: &[Rule] = &[
 
 /// The tables of the rules, by what they are about. Of the rules of one sort, which stand in one table, those that are tried first stand before
 /// the others. They are several, since the proof of what a static holds takes longer by the square of its parts.
-pub fn rule_tables() -> [&'static [Rule]; 4] {
+pub fn rule_tables() -> [&'static [HelpRule]; 4] {
     [OF_EOS, OF_KEPT, OF_CURSORS, OF_VARIABLES]
 }
 

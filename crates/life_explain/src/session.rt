@@ -6,7 +6,7 @@ use crate::told::{put_advice, put_at, put_remedy, put_trail};
 use crate::trail::{Known, trail_to};
 use life_check::Cert;
 use life_state::State;
-use line_help::{Edit, Page, Pattern, Sort, Source, fault_of, put_rule};
+use line_help::{Edit, ModuleText, Page, Pattern, Sort, fault_of, put_rule};
 use module_code::Module;
 use module_lang::{AsmRefusal, assemble};
 use run_model::FaultKind;
@@ -28,13 +28,13 @@ struct Study {
 // The source with the edits that help, and how many tests may still fail.
 #[derive(Drop)]
 struct Mended {
-    source: Source,
+    source: ModuleText,
     left: usize,
 }
 
 // The study of a source; nothing where it is no module. Where memory was refused the page is full, and the study may be missing or not
 // whole.
-fn study_of(told: &mut Page, source: &Source) -> Option<Study> {
+fn study_of(told: &mut Page, source: &ModuleText) -> Option<Study> {
     told.full |= source.page.full;
     match assemble(told.alloc, source.page.text.as_bytes()) {
         Ok(code) => studied(told, code),
@@ -53,7 +53,7 @@ fn studied(told: &mut Page, code: Module) -> Option<Study> {
 }
 
 // Whether an edit takes out a line that is to be written.
-fn undoes(source: &Source, edits: &[Edit]) -> bool {
+fn undoes(source: &ModuleText, edits: &[Edit]) -> bool {
     for edit in edits {
         if let (true, Some(line)) = (edit.removes, source.lines.get(edit.at)) {
             if line.number == 0 {
@@ -65,7 +65,7 @@ fn undoes(source: &Source, edits: &[Edit]) -> bool {
 }
 
 // Whether a line is refused no more.
-fn is_settled(source: &Source, judged: &Judged, line: usize) -> bool {
+fn is_settled(source: &ModuleText, judged: &Judged, line: usize) -> bool {
     for refusal in &judged.refusals {
         if source.number_of(refusal.pc) == line {
             return false;
@@ -75,7 +75,7 @@ fn is_settled(source: &Source, judged: &Judged, line: usize) -> bool {
 }
 
 // How many tests may fail in a source, and whether a line is refused no more; nothing where it is no module.
-fn outcome(told: &mut Page, source: &Source, line: usize) -> Option<(usize, bool)> {
+fn outcome(told: &mut Page, source: &ModuleText, line: usize) -> Option<(usize, bool)> {
     match study_of(told, source) {
         Some(study) => Some((
             study.judged.failures,
@@ -222,7 +222,7 @@ fn tell_best(told: &mut Page, case: &Case<'_>, index: usize, mended: &mut Option
 // Tells where what may be so comes from, and what to write. It keeps the source as it is mended, where lines were found that help.
 fn tell_cause(
     told: &mut Page,
-    source: &Source,
+    source: &ModuleText,
     module: (&Module, &Cert),
     refusal: FlowRefusal,
     now: usize,
@@ -244,7 +244,7 @@ fn tell_cause(
     tell_remedy(told, &mut case, now, mended);
 }
 
-fn tell_may(told: &mut Page, source: &Source, state: &State, refusal: FlowRefusal) {
+fn tell_may(told: &mut Page, source: &ModuleText, state: &State, refusal: FlowRefusal) {
     let kind = refusal.kind;
     let form = "line #: `@` may have $: ";
     put_at(told, source, refusal.pc, form, fault_name(kind));
@@ -256,7 +256,7 @@ fn tell_may(told: &mut Page, source: &Source, state: &State, refusal: FlowRefusa
 // tests that may fail, the line is one of those that were seen.
 fn tell(
     told: &mut Page,
-    source: &mut Source,
+    source: &mut ModuleText,
     module: (&Module, &Cert),
     refusal: FlowRefusal,
     now: usize,
@@ -279,7 +279,11 @@ fn tell(
 }
 
 // The first refusal whose line was not told yet.
-fn next_refusal(source: &Source, refusals: &[FlowRefusal], seen: &[usize]) -> Option<FlowRefusal> {
+fn next_refusal(
+    source: &ModuleText,
+    refusals: &[FlowRefusal],
+    seen: &[usize],
+) -> Option<FlowRefusal> {
     for refusal in refusals {
         if !seen.contains(&source.number_of(refusal.pc)) {
             return Some(*refusal);
@@ -289,7 +293,12 @@ fn next_refusal(source: &Source, refusals: &[FlowRefusal], seen: &[usize]) -> Op
 }
 
 // Tells the first refusal of a study whose line was not told yet, if there is one.
-fn tell_first(told: &mut Page, source: &mut Source, study: &Study, seen: &mut Vec<usize>) -> bool {
+fn tell_first(
+    told: &mut Page,
+    source: &mut ModuleText,
+    study: &Study,
+    seen: &mut Vec<usize>,
+) -> bool {
     let refusals = study.judged.refusals.as_slice();
     if refusals.is_empty() {
         told.push("with these lines the module is accepted\n");
@@ -304,7 +313,7 @@ fn tell_first(told: &mut Page, source: &mut Source, study: &Study, seen: &mut Ve
 }
 
 // The same of a source; nothing is told where it is no module.
-fn tell_next(told: &mut Page, source: &mut Source, seen: &mut Vec<usize>) -> bool {
+fn tell_next(told: &mut Page, source: &mut ModuleText, seen: &mut Vec<usize>) -> bool {
     match study_of(told, source) {
         Some(study) => tell_first(told, source, &study, seen),
         None => false,
@@ -312,7 +321,7 @@ fn tell_next(told: &mut Page, source: &mut Source, seen: &mut Vec<usize>) -> boo
 }
 
 // Tells the refusals that are left, up to sixteen.
-fn tell_rest(told: &mut Page, source: &mut Source, seen: &mut Vec<usize>) {
+fn tell_rest(told: &mut Page, source: &mut ModuleText, seen: &mut Vec<usize>) {
     for _ in 0..MOST {
         if !tell_next(told, source, seen) {
             break;
@@ -327,7 +336,7 @@ const NOTHING: &str =
 // Tells of the refusals of a module, of which this is the first.
 fn tell_from(
     told: &mut Page,
-    source: &mut Source,
+    source: &mut ModuleText,
     module: (&Module, &Cert),
     refusal: FlowRefusal,
     seen: &mut Vec<usize>,
@@ -348,7 +357,7 @@ fn tell_from(
 /// it is mended.
 pub fn tell_refusals(
     told: &mut Page,
-    source: &mut Source,
+    source: &mut ModuleText,
     code: &Module,
     states: &Cert,
     pc: usize,
@@ -360,13 +369,13 @@ pub fn tell_refusals(
 }
 
 /// Tells what the rule of an instruction wants that had this fault, where that comes from, and what to write instead.
-pub fn tell_fault(told: &mut Page, source: &Source, pc: usize, kind: FaultKind) {
+pub fn tell_fault(told: &mut Page, source: &ModuleText, pc: usize, kind: FaultKind) {
     if let Some(study) = study_of(told, source) {
         tell_fault_in(told, source, &study, pc, kind);
     }
 }
 
-fn tell_fault_in(told: &mut Page, source: &Source, study: &Study, pc: usize, kind: FaultKind) {
+fn tell_fault_in(told: &mut Page, source: &ModuleText, study: &Study, pc: usize, kind: FaultKind) {
     let module = (&study.code, &study.judged.states);
     let (Some(refusal), Some(state)) = (
         refusal_of(module.0, module.1, pc, Some(kind)),

@@ -3,7 +3,7 @@
 use crate::flow::instr_at;
 use crate::trail::{Trail, TrailStep};
 use life_cert::StatePlace;
-use line_help::{Doubt, Edit, Page, Pattern, Sort, Source, cursor_name, cut};
+use line_help::{Doubt, Edit, ModuleText, Page, Pattern, Sort, cursor_name, cut};
 use module_code::{Instr, Module};
 
 /// The handler that an instruction is in.
@@ -18,12 +18,12 @@ pub fn handler_name(code: &Module, pc: usize) -> &'static str {
 }
 
 /// Adds a form, with the number of an instruction's line, the line, and a text.
-pub fn put_at(told: &mut Page, source: &Source, pc: usize, form: &str, text: &str) {
+pub fn put_at(told: &mut Page, source: &ModuleText, pc: usize, form: &str, text: &str) {
     told.put(form, source.number_of(pc), source.instruction(pc), text);
 }
 
 /// Tells where what may be so comes from.
-pub fn put_trail(told: &mut Page, source: &Source, code: &Module, trail: &Trail, doubt: Doubt) {
+pub fn put_trail(told: &mut Page, source: &ModuleText, code: &Module, trail: &Trail, doubt: Doubt) {
     put_origin(told, source, code, trail, doubt);
     let between = trail.is_made && !matches!(trail.origin, StatePlace::At(_));
     for step in trail.steps.get(usize::from(between)..).unwrap_or(&[]) {
@@ -31,7 +31,7 @@ pub fn put_trail(told: &mut Page, source: &Source, code: &Module, trail: &Trail,
     }
 }
 
-fn put_origin(told: &mut Page, source: &Source, code: &Module, trail: &Trail, doubt: Doubt) {
+fn put_origin(told: &mut Page, source: &ModuleText, code: &Module, trail: &Trail, doubt: Doubt) {
     let pc = match trail.origin {
         StatePlace::At(pc) => pc,
         _ if trail.is_made => {
@@ -62,7 +62,7 @@ fn put_deed(told: &mut Page, code: &Module, pc: usize, doubt: Doubt) {
     told.put(form, 0, cursor, doubt.row().deed);
 }
 
-fn put_step(told: &mut Page, source: &Source, step: &TrailStep, doubt: Doubt) {
+fn put_step(told: &mut Page, source: &ModuleText, step: &TrailStep, doubt: Doubt) {
     match (step.from, step.to) {
         (StatePlace::At(pc), StatePlace::At(_)) => {
             if step.jumps && doubt.is_of_cursor() {
@@ -88,7 +88,13 @@ pub fn put_advice(told: &mut Page, pattern: Pattern) {
 }
 
 /// Tells what to write, by these edits, whose lines stand on a page.
-pub fn put_remedy(told: &mut Page, source: &Source, pattern: Pattern, page: &Page, edits: &[Edit]) {
+pub fn put_remedy(
+    told: &mut Page,
+    source: &ModuleText,
+    pattern: Pattern,
+    page: &Page,
+    edits: &[Edit],
+) {
     told.put_text("  pattern: $\n", pattern.name());
     for edit in edits {
         let text = cut(page, edit.start, edit.end);
@@ -102,7 +108,7 @@ pub fn put_remedy(told: &mut Page, source: &Source, pattern: Pattern, page: &Pag
 }
 
 // Tells where a line is to be written, or which is to be taken out.
-fn put_place(told: &mut Page, source: &Source, edit: &Edit, text: &[u8]) {
+fn put_place(told: &mut Page, source: &ModuleText, edit: &Edit, text: &[u8]) {
     let form = match (edit.removes, text.is_empty()) {
         (true, true) => "  take out line #, `@`\n",
         (true, false) => "  in place of line #, `@`, write\n",

@@ -1,6 +1,6 @@
 //! Where what may be so at an instruction comes from.
 
-use crate::flow::{Way, Ways, add_ways_of, is_same, state_at};
+use crate::flow::{FlowEdge, Ways, add_ways_of, is_same, state_at};
 use life_cert::StatePlace;
 use life_check::Cert;
 use line_help::{Doubt, Sort};
@@ -13,7 +13,7 @@ pub struct Known<'a> {
     pub alloc: Global,
     pub code: &'a Module,
     pub states: &'a Cert,
-    pub ways: &'a [Way],
+    pub ways: &'a [FlowEdge],
 }
 
 /// A part of the way to an instruction.
@@ -63,7 +63,7 @@ struct TrailNode {
 }
 
 // Whether one of these ways is the same as another, and comes with what may be so.
-fn leads_so(led: &[Way], way: &Way, doubt: Doubt) -> bool {
+fn leads_so(led: &[FlowEdge], way: &FlowEdge, doubt: Doubt) -> bool {
     for other in led {
         if is_same(other.to, way.to) && other.jumps == way.jumps && doubt.holds(&other.state) {
             return true;
@@ -96,7 +96,7 @@ impl Trail {
     }
 
     // Whether it would come by this way also if it were not so before.
-    fn makes(&mut self, known: &Known<'_>, way: &Way, doubt: Doubt) -> bool {
+    fn makes(&mut self, known: &Known<'_>, way: &FlowEdge, doubt: Doubt) -> bool {
         let Some(mut state) = state_at(known.states, way.from) else {
             return false;
         };

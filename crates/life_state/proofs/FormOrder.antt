@@ -15,7 +15,7 @@ use Rattle.life_state.specs.Form.{NamesDeclared, FormedCursor, IsFormed}
 use Rattle.life_state.specs.Laws.{Below, LeqIsAntisymmetric}
 use Rattle.life_state.proofs.Tests.{split2, split3, all_at, not_true, or_either}
 use Rattle.life_state.proofs.OrderLaws.{leq_says}
-use Rattle.life_state.proofs.JoinLeast.{Parts, parts}
+use Rattle.life_state.proofs.JoinLeast.{BrigadeParts, parts}
 
 same_test : (a b : Bool) → implies a b ≡ true → implies b a ≡ true → a ≡ b
 same_test true true p q = refl
@@ -91,7 +91,7 @@ homes_both h k few less p q =
         (all_at 8 i (λ i. implies (k.at (pool.Own i)) (h.at (pool.Own i))) d low))
         (λ (high : 8 ≤ i). none_past h i few high ∙ sym (none_past k i less high)) (cases_lt i 8)
 
-brigade_both : (v w : BrigadeKnown) → Few v.homes → Few w.homes → Parts v w → Parts w v → v ≡ w
+brigade_both : (v w : BrigadeKnown) → Few v.homes → Few w.homes → BrigadeParts v w → BrigadeParts w v → v ≡ w
 brigade_both v w few less p q =
     λ i. record {
       null = same_test v.null w.null p.null q.null i;

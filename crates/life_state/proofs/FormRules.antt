@@ -60,8 +60,8 @@ not_null v e h = clash (sym (ap not e) ∙ h)
     clash x = cc
 
 module _ (p : Program) (call : Bool) (s : State) (m : IsModule p) (f : IsFormedIn p call s) where
-  abbrev AreFormed : Edges → Type 0
-  AreFormed e = IfSome e.next (IsFormedIn p call) × IfSome e.jump (IsFormedIn p call)
+  abbrev RulesFormed : Edges → Type 0
+  RulesFormed e = IfSome e.next (IsFormedIn p call) × IfSome e.jump (IsFormedIn p call)
 
   if_reached : (e : Bool) (t : State) → (e ≡ true → IsFormedIn p call t) → IfSome (some_if e t) (IsFormedIn p call)
   if_reached true t g = g refl
@@ -91,7 +91,7 @@ module _ (p : Program) (call : Bool) (s : State) (m : IsModule p) (f : IsFormedI
   brigades_home : (o : ℕ) → NamesDeclared s (home_in (pool_of_brigade p o))
   brigades_home o = home_named s (pool_of_brigade p o) (subst (λ (n : ℕ). place_is_declared n (pool_of_brigade p o) ≡ true) (sym f.pools) (brigade_declared p o m))
 
-  end_edges : (s : State) → IsFormedIn p call s → (c : ℕ) (x : CursorKnown) → c < 9 → FormedCursor s x → AreFormed (edges_jend c x s)
+  end_edges : (s : State) → IsFormedIn p call s → (c : ℕ) (x : CursorKnown) → c < 9 → FormedCursor s x → RulesFormed (edges_jend c x s)
   end_edges s f c (End b) inside here = (tt, f)
   end_edges s f c (InOrEnd b t) inside here = (told_formed p call s c (In b t) f inside here, told_formed p call s c (End b) f inside (here.1))
   end_edges s f c Unset inside here = (f, tt)
@@ -103,7 +103,7 @@ module _ (p : Program) (call : Bool) (s : State) (m : IsModule p) (f : IsFormedI
       if_reached (some_class t) (told c (with_classes t (s.cursors c)) s)
       (λ e. told_formed p call s c (with_classes t (s.cursors c)) f inside (classes_formed s t (s.cursors c) e (f.formed.cursors c)))
 
-  null_edges : (s : State) → IsFormedIn p call s → (v : VarRef) → is_variable p v ≡ true → AreFormed (edges_jnull v s)
+  null_edges : (s : State) → IsFormedIn p call s → (v : VarRef) → is_variable p v ≡ true → RulesFormed (edges_jnull v s)
   null_edges s f (variable.Pool q) h = (
     if_reached ((s.pools q).gone || (s.pools q).live) (set_pool q (pool_not_null (s.pools q)) s) (λ e. pool_formed p call s q (pool_not_null (s.pools q)) f (own_pool s q f h) e),
     if_reached (s.pools q).null (set_pool q only_null s) (λ e. pool_formed p call s q only_null f (own_pool s q f h) refl),
@@ -166,7 +166,7 @@ module _ (p : Program) (call : Bool) (s : State) (m : IsModule p) (f : IsFormedI
 
   -- t is what an effect makes of s
   module _ (t : State) (g : IsFormedIn p call t) where
-    on_condition_formed : (when : Condition) → BranchTakes t (JumpIf when) → AreFormed (on_condition when s t)
+    on_condition_formed : (when : Condition) → BranchTakes t (JumpIf when) → RulesFormed (on_condition when s t)
     unfolding BranchTakes
     on_condition_formed (condition.TooShort b x c) h = (g, set_cursor_formed p call s c (End b) no_other f (h.0) (h.1))
     on_condition_formed (condition.NoBucket b) h = (if_reached (not (is_empty (t.brigades b).content)) t (λ e. g), emptied_at p call t b g h)
@@ -177,14 +177,14 @@ module _ (p : Program) (call : Bool) (s : State) (m : IsModule p) (f : IsFormedI
     on_condition_formed condition.WasSent h = (sent_formed p call t false g, if_reached t.sent t (λ e. g))
     on_condition_formed when h = (g, g)
 
-    led_formed : (branch : Branch) → BranchTakes t branch → AreFormed (led branch s t)
+    led_formed : (branch : Branch) → BranchTakes t branch → RulesFormed (led branch s t)
     unfolding BranchTakes
     led_formed ToNext h = (g, tt)
     led_formed (JumpIf when) h = on_condition_formed when h
     led_formed JumpAlways h = (tt, g)
     led_formed EndCall h = (tt, tt)
 
-  edges_formed : (i : Instr) → fits p i ≡ true → first_need s (wants p i) ≡ None → AreFormed (edges p i s)
+  edges_formed : (i : Instr) → fits p i ≡ true → first_need s (wants p i) ≡ None → RulesFormed (edges p i s)
   edges_formed i fit none =
       let e = effect_of i in
       let fit_with = fits_with p i fit in
@@ -192,8 +192,8 @@ module _ (p : Program) (call : Bool) (s : State) (m : IsModule p) (f : IsFormedI
       (leads i (fits_parts p i fit) (met s (wants p i) none))
 
 pub rules_keep_form : RulesKeepForm
-rules_keep_form p call i s e m fit f h = subst (λ r. IfOk r (AreFormed p call s m f)) h (answered (first_need s (wants p i)) refl)
+rules_keep_form p call i s e m fit f h = subst (λ r. IfOk r (RulesFormed p call s m f)) h (answered (first_need s (wants p i)) refl)
   where
-    answered : (k : Option FaultKind) → first_need s (wants p i) ≡ k → IfOk (need_or k (edges p i s)) (AreFormed p call s m f)
+    answered : (k : Option FaultKind) → first_need s (wants p i) ≡ k → IfOk (need_or k (edges p i s)) (RulesFormed p call s m f)
     answered None none = edges_formed p call s m f i fit none
     answered (Some k) none = tt

@@ -75,7 +75,7 @@ content_least a b u p q = pick (content_le a b)
     pick false = p
 
 -- the parts of what the order says of a brigade
-pub record Parts (a u : BrigadeKnown) : Type 0 where
+pub record BrigadeParts (a u : BrigadeKnown) : Type 0 where
   pub null : implies a.null u.null ≡ true
   pub gone : implies a.gone u.gone ≡ true
   pub live : implies a.live u.live ≡ true
@@ -84,7 +84,7 @@ pub record Parts (a u : BrigadeKnown) : Type 0 where
   pub content : content_le a.content u.content ≡ true
   pub homes : homes_le a.homes u.homes ≡ true
 
-pub parts : (a u : BrigadeKnown) → brigade_le a u ≡ true → Parts a u
+pub parts : (a u : BrigadeKnown) → brigade_le a u ≡ true → BrigadeParts a u
 unfolding brigade_le
 parts a u p =
     let p2 = split2 (variable_le a u && marks_le a u && content_le a.content u.content) (homes_le a.homes u.homes) p in
@@ -93,7 +93,7 @@ parts a u p =
     let m2 = split2 (implies a.usable u.usable) (implies a.passed u.passed) (p3.1) in
     record { null = v3.0; gone = v3.1; live = v3.2; usable = m2.0; passed = m2.1; content = p3.2; homes = p2.1 }
 
-brigade_least : (a b u : BrigadeKnown) → Parts a u → Parts b u → brigade_le (both_brigades a b) u ≡ true
+brigade_least : (a b u : BrigadeKnown) → BrigadeParts a u → BrigadeParts b u → brigade_le (both_brigades a b) u ≡ true
 unfolding brigade_le both_brigades
 brigade_least a b u p q =
     let both = both_brigades a b in
@@ -107,7 +107,7 @@ brigade_least a b u p q =
     (homes_least a.homes b.homes u.homes p.homes q.homes)
 
 -- a brigade that is exactly usable above two is so in their join
-hand_joined : (a b u : BrigadeKnown) → FormedBrigade a → Parts a u → Parts b u → is_at_hand u ≡ true → is_at_hand (both_brigades a b) ≡ true
+hand_joined : (a b u : BrigadeKnown) → FormedBrigade a → BrigadeParts a u → BrigadeParts b u → is_at_hand u ≡ true → is_at_hand (both_brigades a b) ≡ true
 unfolding both_brigades
 hand_joined a b u formed p q h =
     let u2 = split2 (is_live_brigade u) (is_usable_alone u) h in

@@ -20,7 +20,7 @@ use Rattle.life_state.specs.Form.{FormedBrigade, IsFormed}
 use Rattle.life_state.proofs.FormNeeds.{or_none}
 use Rattle.life_state.proofs.Tests.{split2, split3, and3, implies_says}
 use Rattle.life_state.proofs.PartsOrder.{as_pool, content_trans}
-use Rattle.life_state.proofs.JoinLeast.{Parts, parts}
+use Rattle.life_state.proofs.JoinLeast.{BrigadeParts, parts}
 use Rattle.life_state.proofs.Within.{Within}
 use Rattle.life_state.proofs.WithinParts.{homes_call, homes_dead, any_more, alone_within, homes_at_within}
 
@@ -156,7 +156,7 @@ module _ (s t : State) (f : IsFormed s) (w : Within s t) where
       let live = live_within (s.brigades b) (t.brigades b) (w.brigades b) (f.brigades b) (both.0) in
       none_both (is_live_brigade (s.brigades b)) (is_usable_alone (s.brigades b)) F7 F2 live (usable_within (s.brigades b) (t.brigades b) (w.brigades b) (f.brigades b) live (both.1))
 
-  of : (b : ℕ) → Parts (s.brigades b) (t.brigades b)
+  of : (b : ℕ) → BrigadeParts (s.brigades b) (t.brigades b)
   of b = parts (s.brigades b) (t.brigades b) (w.brigades b)
 
   homes_met : (b : ℕ) → homes_need (t.brigades b).homes ≡ None → homes_need (s.brigades b).homes ≡ None

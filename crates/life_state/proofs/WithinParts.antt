@@ -72,14 +72,14 @@ pool_of_all f h v = three_of (λ a b c. f (record { null = a; gone = b; live = c
 -- Contents.
 
 -- a test of four contents
-abbrev Joins : Contents → Contents → Contents → Contents → Bool
-Joins a b c d = implies (content_le a c && content_le b d) (content_le (joined_content a b) (joined_content c d))
+abbrev FourContents : Contents → Contents → Contents → Contents → Bool
+FourContents a b c d = implies (content_le a c && content_le b d) (content_le (joined_content a b) (joined_content c d))
 
 pub content_joined : (a b c d : Contents) → content_le a c ≡ true → content_le b d ≡ true → content_le (joined_content a b) (joined_content c d) ≡ true
 content_joined a b c d p q =
     implies_says (content_le a c && content_le b d) (content_le (joined_content a b) (joined_content c d))
-    (content_of_all (λ d. Joins a b c d) (content_of_all (λ c. all_contents (λ d. Joins a b c d)) (content_of_all (λ b. all_contents (λ c. all_contents (λ d. Joins a b c d)))
-    (content_of_all (λ a. all_contents (λ b. all_contents (λ c. all_contents (λ d. Joins a b c d)))) refl a) b) c) d)
+    (content_of_all (λ d. FourContents a b c d) (content_of_all (λ c. all_contents (λ d. FourContents a b c d)) (content_of_all (λ b. all_contents (λ c. all_contents (λ d. FourContents a b c d)))
+    (content_of_all (λ a. all_contents (λ b. all_contents (λ c. all_contents (λ d. FourContents a b c d)))) refl a) b) c) d)
     (and2 (content_le a c) (content_le b d) p q)
 
 -- what a bucket makes of contents

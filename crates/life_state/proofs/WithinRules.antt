@@ -37,7 +37,7 @@ use Rattle.life_state.specs.Rules.{may_end, after_pass, pool_not_null, brigade_n
 use Rattle.life_state.specs.Monotone.{edge_le, LeadsBelow, RulesAreMonotone, EntriesAreMonotone}
 use Rattle.life_state.proofs.Tests.{split2, and2, split3, or_either, or_left, or_right, implies_says}
 use Rattle.life_state.proofs.PartsOrder.{pool_same, brigade_same, homes_same, cursor_same}
-use Rattle.life_state.proofs.JoinLeast.{Parts, parts}
+use Rattle.life_state.proofs.JoinLeast.{BrigadeParts, parts}
 use Rattle.life_state.proofs.Within.{Within, within, below, known_within, moved_within, set_within, told_within, told_over, move_within, pool_within, brigade_within, sent_within}
 use Rattle.life_state.proofs.WithinParts.{content_joined, Rises, tail_rises, head_rises, before_rises, may_end_rises, not_empty_rises, of_kind_rises, not_of_kind_rises, some_rises, homes_joined}
 use Rattle.life_state.proofs.WithinParts.{homes_ended, pool_ended, not_null_within, holds_within, ended_within, homes_changed, brigade_not_null_within, emptied_within, left_within, carried_within}
@@ -89,7 +89,7 @@ brigade_cleared p under a b n h = pick (lies_under p under n)
     pick false = homes_changed (dead_where under) (a.brigades n) (b.brigades n) (homes_ended under) h
 
 module _ (p : Program) (s t : State) (w : Within s t) where
-  of : (b : ℕ) → Parts (s.brigades b) (t.brigades b)
+  of : (b : ℕ) → BrigadeParts (s.brigades b) (t.brigades b)
   of b = parts (s.brigades b) (t.brigades b) (w.brigades b)
 
   pub cleared_both : (top : PoolRef) → Within (cleared p top s) (cleared p top t)

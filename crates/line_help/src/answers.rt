@@ -8,7 +8,7 @@ use byte_text::{is_text, token};
 
 /// A line of the answers, with the command that it answers, if it answers one.
 #[derive(Clone, Copy)]
-pub struct Answered<'a> {
+pub struct AnsweredCommand<'a> {
     pub command: Option<ScriptLine<'a>>,
     pub answer: &'a [u8],
 }
@@ -156,7 +156,11 @@ fn is_done(command: &[u8], answer: &[u8], words: &str, conn: &[u8]) -> bool {
 }
 
 // The last of these commands of a connection that was done.
-fn last_done<'a>(earlier: &[Answered<'a>], words: &str, conn: &[u8]) -> Option<ScriptLine<'a>> {
+fn last_done<'a>(
+    earlier: &[AnsweredCommand<'a>],
+    words: &str,
+    conn: &[u8],
+) -> Option<ScriptLine<'a>> {
     let mut found = None;
     for answered in earlier {
         if let Some(command) = answered.command {
@@ -168,7 +172,7 @@ fn last_done<'a>(earlier: &[Answered<'a>], words: &str, conn: &[u8]) -> Option<S
     found
 }
 
-fn tell_broken(told: &mut Page, earlier: &[Answered<'_>], conn: &[u8]) {
+fn tell_broken(told: &mut Page, earlier: &[AnsweredCommand<'_>], conn: &[u8]) {
     for answered in earlier {
         if let Some(command) = answered.command {
             if is_text(token(answered.answer), b"fault") && word(command.text, 1) == conn {
@@ -194,7 +198,7 @@ fn tell_budget(told: &mut Page, script: &Script<'_>) {
 
 /// Whether the same answer of the same connection is among those that were explained; where a call is to be run first, to the same
 /// command.
-pub fn is_told(explained: &[Answered<'_>], answered: &Answered<'_>) -> bool {
+pub fn is_told(explained: &[AnsweredCommand<'_>], answered: &AnsweredCommand<'_>) -> bool {
     let Some(command) = answered.command else {
         return false;
     };
@@ -218,8 +222,8 @@ pub fn is_told(explained: &[Answered<'_>], answered: &Answered<'_>) -> bool {
 pub fn tell_refused(
     told: &mut Page,
     script: &Script<'_>,
-    earlier: &[Answered<'_>],
-    refused: &Answered<'_>,
+    earlier: &[AnsweredCommand<'_>],
+    refused: &AnsweredCommand<'_>,
 ) {
     let Some(command) = refused.command else {
         return;

@@ -13,12 +13,12 @@ mod source;
 mod state_words;
 mod words;
 
-pub use answers::{Answered, is_told, tell_refused};
+pub use answers::{AnsweredCommand, is_told, tell_refused};
 pub use doubt::{Doubt, Sort, SortRow, Topic, brigade_name, cursor_name, cursor_text, pool_text};
 pub use faulty::{shown, tell_asm_fault, tell_cert_fault, tell_script_fault};
 pub use page::Page;
 pub use patterns::{Pattern, fault_of};
 pub use script::{Script, ScriptLine, ScriptText, lines_of};
-pub use source::{Edit, ModuleLine, NO_LINE, Source, cut};
+pub use source::{Edit, ModuleLine, ModuleText, NO_LINE, cut};
 pub use state_words::{put_known, put_rule};
 pub use words::{last_word, number, stands_in, text_of, word};

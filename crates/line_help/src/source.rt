@@ -35,7 +35,7 @@ pub struct Edit {
 
 /// A module text.
 #[derive(Drop)]
-pub struct Source {
+pub struct ModuleText {
     pub page: Page,
     pub lines: Vec<ModuleLine>,
     // How many instructions there are, where `open` was.
@@ -52,9 +52,9 @@ fn is_skipped(line: &[u8]) -> bool {
     line.is_empty() || begins(line, b'#')
 }
 
-impl Source {
-    fn new(alloc: Global) -> Source {
-        Source {
+impl ModuleText {
+    fn new(alloc: Global) -> ModuleText {
+        ModuleText {
             page: Page::new(alloc),
             lines: Vec::new(alloc),
             count: None,
@@ -62,8 +62,8 @@ impl Source {
     }
 
     /// The lines of a text, before which so many stand. Its page is full where memory was refused.
-    pub fn of(alloc: Global, text: &[u8], before: usize) -> Source {
-        let mut source = Source::new(alloc);
+    pub fn of(alloc: Global, text: &[u8], before: usize) -> ModuleText {
+        let mut source = ModuleText::new(alloc);
         let lines = lines_of(&mut source.page, text, before);
         for line in &lines {
             source.add(line.number, unindented(line.text));
@@ -170,8 +170,8 @@ impl Source {
     }
 
     /// The source with these edits, whose lines stand on this page.
-    pub fn edited(&self, page: &Page, edits: &[Edit]) -> Source {
-        let mut source = Source::new(page.alloc);
+    pub fn edited(&self, page: &Page, edits: &[Edit]) -> ModuleText {
+        let mut source = ModuleText::new(page.alloc);
         for (index, line) in self.lines.iter().enumerate() {
             if source.add_edits(page, edits, index) {
                 source.add(line.number, cut(&self.page, line.start, line.end));

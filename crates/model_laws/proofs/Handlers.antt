@@ -12,7 +12,7 @@ use Rattle.run_model.specs.Steps.{current}
 use Rattle.model_laws.specs.Handlers.{IsHandlerCode, StandsIn}
 
 -- where an instruction can lead, and this is true there
-pub record Leads (P : ℕ → Type 0) (pc : ℕ) (i : Instr) : Type 0 where
+pub record LeadsWhere (P : ℕ → Type 0) (pc : ℕ) (i : Instr) : Type 0 where
   pub jump : IfSome (target i) P
   pub next : goes_on i ≡ true → P (pc + 1)
 
@@ -22,7 +22,7 @@ unfolding current
 current_at p pc lt = slice_get-get_or p.code pc (instr.Ret Success) lt
 
 -- an instruction of a handler leads within it
-handler_leads : (p : Program) (q : Part) (from to pc : ℕ) → IsHandler p q from to → to ≤ length p.code → StandsIn from to pc → Leads (StandsIn from to) pc (current p pc)
+handler_leads : (p : Program) (q : Part) (from to pc : ℕ) → IsHandler p q from to → to ≤ length p.code → StandsIn from to pc → LeadsWhere (StandsIn from to) pc (current p pc)
 handler_leads p q from to pc h le stands =
     let at : slice_get p.code pc ≡ Some (current p pc) = current_at p pc (omega (arith, stands.1)) in
     record { jump = (h.inside pc (current p pc) stands.0 stands.1 at).target; next = λ on. by_end on at (cases_lt (pc + 1) to) } where
@@ -34,11 +34,11 @@ handler_leads p q from to pc h le stands =
           let ends : goes_on (current p pc) ≡ false = h.ends (current p pc) (ap (λ (k : ℕ). slice_get p.code k) (sym is) ∙ at) in
           absurd (let no : true ≡ false = sym on ∙ ends in cc)
 
-at_bounds : (p : Program) (q : Part) (a b from to pc : ℕ) → from ≡ a → to ≡ b → IsHandler p q a b → b ≤ length p.code → StandsIn from to pc → Leads (StandsIn from to) pc (current p pc)
+at_bounds : (p : Program) (q : Part) (a b from to pc : ℕ) → from ≡ a → to ≡ b → IsHandler p q a b → b ≤ length p.code → StandsIn from to pc → LeadsWhere (StandsIn from to) pc (current p pc)
 at_bounds p q a b from to pc first last h le =
     handler_leads p q from to pc (subst (λ (k : ℕ). IsHandler p q k to) (sym first) (subst (λ (k : ℕ). IsHandler p q a k) (sym last) h)) (omega (arith, last, le))
 
-pub code_leads : (p : Program) → IsModule p → (from to pc : ℕ) → IsHandlerCode p from to → StandsIn from to pc → Leads (StandsIn from to) pc (current p pc)
+pub code_leads : (p : Program) → IsModule p → (from to pc : ℕ) → IsHandlerCode p from to → StandsIn from to pc → LeadsWhere (StandsIn from to) pc (current p pc)
 code_leads p m from to pc (inl e) = at_bounds p part.Open 0 p.init from to pc e.0 e.1 m.opening (omega (arith, m.inits))
 code_leads p m from to pc (inr (inl e)) = at_bounds p part.Init p.init p.main from to pc e.0 e.1 m.initial (omega (arith, m.mains))
 code_leads p m from to pc (inr (inr e)) = at_bounds p part.Main p.main (length p.code) from to pc e.0 e.1 m.serving (omega arith)

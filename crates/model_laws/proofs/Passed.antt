@@ -84,61 +84,61 @@ used_operand r k (WCursor c f) h = refl
 used_operand r k w h = absurd (cc)
 
 -- F7, or one that may come first
-abbrev Told : Option FaultKind → Type 0
-Told None = Unit {0}
-Told (Some k) = (k ≡ F7) ⊎ (may_come_first k ≡ true)
+abbrev MayComeFirst : Option FaultKind → Type 0
+MayComeFirst None = Unit {0}
+MayComeFirst (Some k) = (k ≡ F7) ⊎ (may_come_first k ≡ true)
 
-either_told : (a b : Option FaultKind) → Told a → Told b → Told (or_else a b)
+either_told : (a b : Option FaultKind) → MayComeFirst a → MayComeFirst b → MayComeFirst (or_else a b)
 either_told None b first second = second
 either_told (Some k) b first second = first
 
-test_told : (b : Bool) → Told (cond b (Some F7) None)
+test_told : (b : Bool) → MayComeFirst (cond b (Some F7) None)
 test_told true = inl refl
 test_told false = tt
 
-same_told : (b : Bool) → Told (cond b None (Some F9))
+same_told : (b : Bool) → MayComeFirst (cond b None (Some F9))
 same_told true = tt
 same_told false = inr refl
 
-usable_told : (v : BrigadeVar) → Told (usable_fault v)
+usable_told : (v : BrigadeVar) → MayComeFirst (usable_fault v)
 usable_told var.Null = inr refl
 usable_told var.Gone = inr refl
 usable_told (var.Live v) = test_told (is_passed v.mark)
 
-mark_told : (v : BrigadeVar) → Told (passed_fault v)
+mark_told : (v : BrigadeVar) → MayComeFirst (passed_fault v)
 mark_told var.Null = tt
 mark_told var.Gone = tt
 mark_told (var.Live v) = test_told (is_passed v.mark)
 
-loose_told : (f : Need) → Told (loose_fault f)
+loose_told : (f : Need) → MayComeFirst (loose_fault f)
 loose_told Anywhere = tt
 loose_told OnBucket = tt
 loose_told OnLoose = tt
 loose_told InBrigade = inr refl
 loose_told (InThis a) = inr refl
 
-within_told : (f : Need) (b : ℕ) → Told (within_fault f b)
+within_told : (f : Need) (b : ℕ) → MayComeFirst (within_fault f b)
 within_told Anywhere b = tt
 within_told OnBucket b = tt
 within_told OnLoose b = inr refl
 within_told InBrigade b = tt
 within_told (InThis a) b = same_told (b == a)
 
-end_told : (f : Need) (b : ℕ) → Told (end_fault f b)
+end_told : (f : Need) (b : ℕ) → MayComeFirst (end_fault f b)
 end_told Anywhere b = tt
 end_told OnBucket b = inr refl
 end_told OnLoose b = inr refl
 end_told InBrigade b = inr refl
 end_told (InThis a) b = same_told (b == a)
 
-spot_told : (r : Configuration) (f : Need) (s : Place) → Told (cursor_fault r f s)
+spot_told : (r : Configuration) (f : Need) (s : Place) → MayComeFirst (cursor_fault r f s)
 unfolding cursor_fault
 spot_told r f Nowhere = inr refl
 spot_told r f (AtLoose x) = loose_told f
 spot_told r f (Within b x) = either_told _ _ (mark_told (r.instance.brigades b)) (within_told f b)
 spot_told r f (AtEndOf b) = either_told _ _ (mark_told (r.instance.brigades b)) (end_told f b)
 
-operand_told : (r : Configuration) (w : Want) → is_operand w ≡ true → Told (fault_want r w)
+operand_told : (r : Configuration) (w : Want) → is_operand w ≡ true → MayComeFirst (fault_want r w)
 operand_told r (WUsable b) h = usable_told (r.instance.brigades b)
 operand_told r (WCursor c f) h = spot_told r f (spot r c)
 operand_told r w h = absurd (cc)
@@ -168,7 +168,7 @@ ordered w ws h some = by_test (is_operand w) h where
   by_test false h = absurd (let no_operand : not true ≡ true = ap not (sym some) ∙ h in cc)
 
 -- the same of a list of wants as `FaultBefore` of an instruction
-record Before (r : Configuration) (k : ℕ) (ws : List Want) : Type 0 where
+record WantsBefore (r : Configuration) (k : ℕ) (ws : List Want) : Type 0 where
   kind : FaultKind
   told : first_fault r ws ≡ Some kind
   one_of : may_come_first kind ≡ true
@@ -180,10 +180,10 @@ record Before (r : Configuration) (k : ℕ) (ws : List Want) : Type 0 where
   unused : list_any (wants_use r k) (earlier ++ want ∷ []) ≡ false
 
 told_first : (r : Configuration) (k : ℕ) (ws : List Want) → operands_first ws ≡ true → list_any (wants_use r k) ws ≡ true → HoldsPassed (r.instance.brigades k)
-    → (first_fault r ws ≡ Some F7) ⊎ Before r k ws
+    → (first_fault r ws ≡ Some F7) ⊎ WantsBefore r k ws
 told_first r k [] fine used h = absurd (cc)
 told_first r k (w ∷ ws) fine used h = by_use (λ rest later. told_first r k ws rest later h) (wants_use r k w) refl used where
-  one_more : fault_want r w ≡ None → wants_use r k w ≡ false → (first_fault r ws ≡ Some F7) ⊎ Before r k ws → (first_fault r (w ∷ ws) ≡ Some F7) ⊎ Before r k (w ∷ ws)
+  one_more : fault_want r w ≡ None → wants_use r k w ≡ false → (first_fault r ws ≡ Some F7) ⊎ WantsBefore r k ws → (first_fault r (w ∷ ws) ≡ Some F7) ⊎ WantsBefore r k (w ∷ ws)
   one_more none unused (inl e) = inl (ap (λ (o : Option FaultKind). or_else o (first_fault r ws)) none ∙ e)
   one_more none unused (inr e) = inr (record {
     kind = e.kind;
@@ -197,7 +197,7 @@ told_first r k (w ∷ ws) fine used h = by_use (λ rest later. told_first r k ws
     unused = ap (λ (b : Bool). b || list_any (wants_use r k) (e.earlier ++ e.want ∷ [])) unused ∙ e.unused;
   })
 
-  here : (j : FaultKind) → fault_want r w ≡ Some j → wants_use r k w ≡ false → (j ≡ F7) ⊎ (may_come_first j ≡ true) → (first_fault r (w ∷ ws) ≡ Some F7) ⊎ Before r k (w ∷ ws)
+  here : (j : FaultKind) → fault_want r w ≡ Some j → wants_use r k w ≡ false → (j ≡ F7) ⊎ (may_come_first j ≡ true) → (first_fault r (w ∷ ws) ≡ Some F7) ⊎ WantsBefore r k (w ∷ ws)
   here j is unused (inl e) = inl (ap (λ (o : Option FaultKind). or_else o (first_fault r ws)) is ∙ ap (λ (x : FaultKind). Some x) e)
   here j is unused (inr e) = inr (record {
     kind = j;
@@ -211,13 +211,13 @@ told_first r k (w ∷ ws) fine used h = by_use (λ rest later. told_first r k ws
     unused = ap (λ (b : Bool). b || false) unused;
   })
 
-  by_fault : (operands_first ws ≡ true → list_any (wants_use r k) ws ≡ true → (first_fault r ws ≡ Some F7) ⊎ Before r k ws) → (o : Option FaultKind) → fault_want r w ≡ o → Told o
-      → wants_use r k w ≡ false → list_any (wants_use r k) ws ≡ true → operands_first ws ≡ true → (first_fault r (w ∷ ws) ≡ Some F7) ⊎ Before r k (w ∷ ws)
+  by_fault : (operands_first ws ≡ true → list_any (wants_use r k) ws ≡ true → (first_fault r ws ≡ Some F7) ⊎ WantsBefore r k ws) → (o : Option FaultKind) → fault_want r w ≡ o → MayComeFirst o
+      → wants_use r k w ≡ false → list_any (wants_use r k) ws ≡ true → operands_first ws ≡ true → (first_fault r (w ∷ ws) ≡ Some F7) ⊎ WantsBefore r k (w ∷ ws)
   by_fault behind None none as_told unused later rest = one_more none unused (behind rest later)
   by_fault behind (Some j) is as_told unused later rest = here j is unused as_told
 
-  by_use : (operands_first ws ≡ true → list_any (wants_use r k) ws ≡ true → (first_fault r ws ≡ Some F7) ⊎ Before r k ws) → (b : Bool) → wants_use r k w ≡ b
-      → (b || list_any (wants_use r k) ws) ≡ true → (first_fault r (w ∷ ws) ≡ Some F7) ⊎ Before r k (w ∷ ws)
+  by_use : (operands_first ws ≡ true → list_any (wants_use r k) ws ≡ true → (first_fault r ws ≡ Some F7) ⊎ WantsBefore r k ws) → (b : Bool) → wants_use r k w ≡ b
+      → (b || list_any (wants_use r k) ws) ≡ true → (first_fault r (w ∷ ws) ≡ Some F7) ⊎ WantsBefore r k (w ∷ ws)
   by_use behind true is later = inl (ap (λ (o : Option FaultKind). or_else o (first_fault r ws)) (use_told r k w h is))
   by_use behind false is later =
       let parts = ordered w ws fine (used_any r k ws later) in by_fault behind (fault_want r w) refl (operand_told r w parts.0) is later parts.1

@@ -23,18 +23,18 @@ use Rattle.run_model.specs.Worlds.{World, Told, Answer, Refused, put_conn, answe
 use Rattle.model_laws.specs.RefusalOrder.{RefusedChangesNothing, RefusedStepBreaks, FaultBreaks, BrokenStaysBroken, SameWorld, breaks, is_work}
 use Rattle.run_model.proofs.Updates.{upd_either}
 
-abbrev Out : Type 0
-Out = Answer × World
+abbrev OutLeft : Type 0
+OutLeft = Answer × World
 
-left : (a b : Out) → a ≡ b → b.1 ≡ a.1
-left a b e = sym (ap (λ (x : Out). x.1) e)
+left : (a b : OutLeft) → a ≡ b → b.1 ≡ a.1
+left a b e = sym (ap (λ (x : OutLeft). x.1) e)
 
 abbrev is_refused : Answer → Bool
 is_refused (Refused r) = true
 is_refused a = false
 
-served : (a : Out) (r : Refusal) (new : World) → is_refused a.0 ≡ false → a ≡ (Refused r, new) → ⊥
-served a r new is e = let was : is_refused a.0 ≡ true = ap (λ (x : Out). is_refused x.0) e in cc
+served : (a : OutLeft) (r : Refusal) (new : World) → is_refused a.0 ≡ false → a ≡ (Refused r, new) → ⊥
+served a r new is e = let was : is_refused a.0 ≡ true = ap (λ (x : OutLeft). is_refused x.0) e in cc
 
 module _ (k : ℕ) (w new : World) (r : Refusal) where
   answered_same : (a : Option Refusal × Linked) → answered k w a ≡ (Refused r, new) → new ≡ w
@@ -184,8 +184,8 @@ first_broken None k tests is = absurd (cc)
 first_broken (Some j) k tests is = let same : j ≡ k = cc in ap (λ (x : Cause). Some (refusal.Broken x)) same
 
 module _ (memory : Bool) (budget : ℕ) (chain : List Program) (told : Told) (k : ℕ) (c : Connection) (w : World) (why : Cause) (at : w.conns k ≡ Some c) (is : c.broken ≡ Some why) where
-  abbrev Stays : Out → Type 0
-  Stays a = (a.0 ≡ Refused (refusal.Broken why)) × SameWorld w a.1
+  abbrev OutStays : OutLeft → Type 0
+  OutStays a = (a.0 ≡ Refused (refusal.Broken why)) × SameWorld w a.1
 
   same : SameWorld w w
   same = record { conns = λ j. refl; last = refl; common = refl }
@@ -193,19 +193,19 @@ module _ (memory : Bool) (budget : ℕ) (chain : List Program) (told : Told) (k 
   put_same : SameWorld w (put_conn k (w.common, c) w)
   put_same = record { conns = λ j. elim (upd_either w.conns k j (Some c)) [ inl here ↦ here.1 ∙ sym at ∙ sym (ap w.conns here.0) | inr off ↦ off.1 ]; last = refl; common = refl }
 
-  refused_so : (o : Option Refusal) (old new : Linked) → o ≡ Some (refusal.Broken why) → Stays (answered k w (unless_refused o old new))
+  refused_so : (o : Option Refusal) (old new : Linked) → o ≡ Some (refusal.Broken why) → OutStays (answered k w (unless_refused o old new))
   refused_so None old new e = absurd (cc)
   refused_so (Some r) old new e = (let it : r ≡ refusal.Broken why = cc in ap Refused it, same)
 
-  file_so : (o : Option Refusal) (req : Option ℕ) (opening : Opening) (v : Linked) → o ≡ Some (refusal.Broken why) → Stays (file_answered k w (file_answer o req opening v))
+  file_so : (o : Option Refusal) (req : Option ℕ) (opening : Opening) (v : Linked) → o ≡ Some (refusal.Broken why) → OutStays (file_answered k w (file_answer o req opening v))
   file_so None req opening v e = absurd (cc)
   file_so (Some r) req opening v e = (let it : r ≡ refusal.Broken why = cc in ap Refused it, same)
 
-  step_so : (b : Option Cause) → b ≡ Some why → Stays (step_answered k w (step_unless b memory budget chain told.reads (w.common, c)))
+  step_so : (b : Option Cause) → b ≡ Some why → OutStays (step_answered k w (step_unless b memory budget chain told.reads (w.common, c)))
   step_so None e = absurd (cc)
   step_so (Some j) e = (let it : j ≡ why = cc in ap (λ (x : Cause). Refused (refusal.Broken x)) it, put_same)
 
-  stays : (e : Event) → is_work e ≡ true → Stays (happens_on memory budget chain told e k (Some c) w)
+  stays : (e : Event) → is_work e ≡ true → OutStays (happens_on memory budget chain told e k (Some c) w)
   unfolding happens_on begins brings opens_file ends steps
   stays event.Begin work = refused_so _ (w.common, c) (begun chain (w.common, c)) (first_broken c.broken why _ is)
   stays (event.Bring pieces) work = refused_so _ (w.common, c) (brought chain pieces c.req (w.common, c)) (first_broken c.broken why _ is)

@@ -233,11 +233,11 @@ all_same r b = same_brigade (r.instance.brigades b)
 -- Steps, where others hold these brigades.
 
 module _ (Others : ℕ → ℕ → Type 0) where
-  abbrev With : Configuration → Type 0
-  With r = AreRegistered (IsMadeOr Others r.instance) r.shared.pools
+  abbrev WithPools : Configuration → Type 0
+  WithPools r = AreRegistered (IsMadeOr Others r.instance) r.shared.pools
 
   kept : (r new : Configuration) → ((name p : ℕ) → times_held new.shared.pools name p ≡ times_held r.shared.pools name p)
-      → ((b : ℕ) → SameBrigade (r.instance.brigades b) (new.instance.brigades b)) → With r → With new
+      → ((b : ℕ) → SameBrigade (r.instance.brigades b) (new.instance.brigades b)) → WithPools r → WithPools new
   kept r new times slots s =
       kept_as (IsMadeOr Others r.instance) (IsMadeOr Others new.instance) r.shared.pools new.shared.pools times
       (λ name p. either (IsMadeIn r.instance name p) (IsMadeIn new.instance name p) (Others name p) (Others name p) (made_same r.instance new.instance slots name p).0 (λ o. o))
@@ -247,7 +247,7 @@ module _ (Others : ℕ → ℕ → Type 0) where
   none_next r names given p (inl m) = let lt : r.shared.next < r.shared.next = names.given m.0 r.shared.next m.1 in omega arith
   none_next r names given p (inr o) = let lt : r.shared.next < r.shared.next = given r.shared.next p o in omega arith
 
-  not_held : (r : Configuration) → SoundNames r → ((name q : ℕ) → Others name q → name < r.shared.next) → With r → (p : ℕ) → times_held r.shared.pools r.shared.next p ≡ 0
+  not_held : (r : Configuration) → SoundNames r → ((name q : ℕ) → Others name q → name < r.shared.next) → WithPools r → (p : ℕ) → times_held r.shared.pools r.shared.next p ≡ 0
   not_held r names given s p = elim (cases_lt 0 (times_held r.shared.pools r.shared.next p)) [
     | inl lt ↦ absurd (none_next r names given p (s.only r.shared.next p lt))
     | inr le ↦ omega arith
@@ -273,8 +273,8 @@ module _ (Others : ℕ → ℕ → Type 0) where
         held_elsewhere n (Brigade r.shared.next) r.shared.pools r.shared.next p ne in omega arith)
   ]
 
-  made_registered : (p : Program) (o : ℕ) (r : Configuration) → new_fault (r.instance.brigades o) ≡ None → SoundNames r → ((name q : ℕ) → Others name q → name < r.shared.next) → With r
-      → With (do_create p o r)
+  made_registered : (p : Program) (o : ℕ) (r : Configuration) → new_fault (r.instance.brigades o) ≡ None → SoundNames r → ((name q : ℕ) → Others name q → name < r.shared.next) → WithPools r
+      → WithPools (do_create p o r)
   unfolding set_brigade
   made_registered p o r free names given s = record { once = once; only = only } where
     on : Option ℕ
@@ -316,7 +316,7 @@ module _ (Others : ℕ → ℕ → Type 0) where
       | inr ne ↦ stays name q (s.only name q (subst (λ (k : ℕ). 0 < k) (held_made (pool_named r (pool_of_brigade p o)) r.shared.next r.shared.pools name q ne) h))
     ]
 
-  returned_registered : (p : Program) (r : Configuration) → AsDeclared p r → With r → With (do_return r)
+  returned_registered : (p : Program) (r : Configuration) → AsDeclared p r → WithPools r → WithPools (do_return r)
   returned_registered p r d s = kept r (do_return r) (still r.shared.pools) (λ b. left b (cases_eq b 8)) s where
     at_in : (b : ℕ) (t : Bool) → (b == 8) ≡ t → (t ≡ true → SameBrigade (r.instance.brigades b) var.Null)
         → SameBrigade (r.instance.brigades b) (cond t var.Null (returned_var r.call.name (r.instance.brigades b)))
@@ -328,14 +328,14 @@ module _ (Others : ℕ → ℕ → Type 0) where
         (λ name q h. in_on_none p r d name q (subst (λ (k : ℕ). LiesOn (r.instance.brigades k) name q) is h)) (λ name q h. let no = h.0 in cc))
     left b (inr ne) = at_in b (b == 8) refl (λ t. absurd (let both : true ≡ false = sym t ∙ ne_eqb b 8 ne in cc))
 
-  saved_registered : (o b target : ℕ) (r : Configuration) → With r → With (saved_into o b target r)
+  saved_registered : (o b target : ℕ) (r : Configuration) → WithPools r → WithPools (saved_into o b target r)
   unfolding set_brigade with_pools
   saved_registered o b target r s =
       kept r (saved_into o b target r) (held_referred target (filter_map (new_ref r.shared.pools target) (items_of (r.instance.brigades b))) r.shared.pools)
       (at_two SameBrigade r.instance.brigades b o (with_items [] (r.instance.brigades b)) (with_items _ (r.instance.brigades o)) (filled_same [] (r.instance.brigades b))
       (filled_same _ (r.instance.brigades o)) same_brigade) s
 
-  registered_frame : IsFrame With
+  registered_frame : IsFrame WithPools
   unfolding set_brigade set_loose set_number with_pools
   registered_frame = record {
     items = λ b xs r s. kept r (set_items b xs r) (still r.shared.pools)
@@ -347,25 +347,25 @@ module _ (Others : ℕ → ℕ → Type 0) where
     refs = λ target files r lives s. kept r (with_pools (all_referred target files r.shared.pools) r) (held_referred target files r.shared.pools) (all_same r) s;
   }
 
-  registered_placed : (c : ℕ) (v : Cursor) (r : Configuration) → With r → With (set_cursor c v r)
+  registered_placed : (c : ℕ) (v : Cursor) (r : Configuration) → WithPools r → WithPools (set_cursor c v r)
   unfolding set_cursor
   registered_placed c v r s = kept r (set_cursor c v r) (still r.shared.pools) (all_same r) s
 
   -- all but clears
   stays_registered : (p : Program) (choice : Choice) (i : Instr) (r : Configuration) → is_clear i ≡ false → MayExecute p r i → Sound r → AsDeclared p r
-      → ((name q : ℕ) → Others name q → name < r.shared.next) → With r
-      → With (step p choice i r).state
+      → ((name q : ℕ) → Others name q → name < r.shared.next) → WithPools r
+      → WithPools (step p choice i r).state
   unfolding set_brigade set_pool with_pools
   stays_registered p choice (instr.PCreate q) r on may sound d given s =
-      made_under_named With p q r s
+      made_under_named WithPools p q r s
       (λ parent e. kept r (set_pool q (poolvar.Made r.shared.pools.next) (with_pools (created parent r.shared.pools) r)) (held_created parent r.shared.pools sound.pools.formed) (all_same r) s)
   stays_registered p choice (instr.PClear q) r on may sound d given s = absurd (cc)
   stays_registered p choice (instr.PDestroy q) r on may sound d given s = absurd (cc)
   stays_registered p choice (instr.Label q t) r on may sound d given s =
-      on_named With (label_registered (text_of p t)) (pool_named r q) r s
+      on_named WithPools (label_registered (text_of p t)) (pool_named r q) r s
       (λ n e. kept r (label_registered (text_of p t) n r) (λ name k. held_beside n (Label (text_of p t)) r.shared.pools name k refl) (all_same r) s)
   stays_registered p choice (instr.Unlabel q t) r on may sound d given s =
-      on_named With (label_killed (text_of p t)) (pool_named r q) r s (λ n e. kept r (label_killed (text_of p t) n r) (held_killed n (text_of p t) r.shared.pools) (all_same r) s)
+      on_named WithPools (label_killed (text_of p t)) (pool_named r q) r s (λ n e. kept r (label_killed (text_of p t) n r) (held_killed n (text_of p t) r.shared.pools) (all_same r) s)
   stays_registered p choice (instr.BCreate o) r on may sound d given s =
       made_registered p o r (first_none (new_fault (r.instance.brigades o)) None
       (second_none (fault_want r (WPool (pool_of_brigade p o))) (or_else (new_fault (r.instance.brigades o)) None) may.faultless)) sound.names given s
@@ -376,11 +376,11 @@ module _ (Others : ℕ → ℕ → Type 0) where
       (at_two SameBrigade r.instance.brigades b a (with_items [] (r.instance.brigades b)) (with_items (items_of (r.instance.brigades a) ++ items_of (r.instance.brigades b)) (r.instance.brigades a))
       (filled_same [] (r.instance.brigades b))
       (filled_same (items_of (r.instance.brigades a) ++ items_of (r.instance.brigades b)) (r.instance.brigades a)) same_brigade) s
-  stays_registered p choice (instr.BSave o b) r on may sound d given s = on_named With (saved_into o b) (made_on (r.instance.brigades o)) r s (λ target e. saved_registered o b target r s)
+  stays_registered p choice (instr.BSave o b) r on may sound d given s = on_named WithPools (saved_into o b) (made_on (r.instance.brigades o)) r s (λ target e. saved_registered o b target r s)
   stays_registered p choice (instr.Pass b l) r on may sound d given s =
       kept r (do_pass b r) (still r.shared.pools) (at_each SameBrigade r.instance.brigades b (handed_over (r.instance.brigades b)) (handed_same (r.instance.brigades b)) same_brigade) s
   stays_registered p choice (instr.Ret st) r on may sound d given s = returned_registered p r d s
-  stays_registered p choice i r on may sound d given s = placed_step With registered_frame registered_placed p choice i r refl may s
+  stays_registered p choice i r on may sound d given s = placed_step WithPools registered_frame registered_placed p choice i r refl may s
 
   -- what is left of others where a pool goes
   Left : (ℕ → Bool) → Configuration → Type 0
@@ -393,7 +393,7 @@ module _ (Others : ℕ → ℕ → Type 0) where
       (λ name q. either (IsMadeIn i name q) (IsMadeIn i name q) (Others name q) (Others name q × (false ≡ false)) (λ m. m) (λ o. (o, refl)))
       (λ name q. either (IsMadeIn i name q) (IsMadeIn i name q) (Others name q × (false ≡ false)) (Others name q) (λ m. m) (λ o. o.0)) s
 
-  went : (n : ℕ) (r new : Configuration) → Emptied n r.shared.pools new.shared.pools → ((b : ℕ) → Spared (is_under r.shared.pools n) (r.instance.brigades b) (new.instance.brigades b)) → With r
+  went : (n : ℕ) (r new : Configuration) → Emptied n r.shared.pools new.shared.pools → ((b : ℕ) → Spared (is_under r.shared.pools n) (r.instance.brigades b) (new.instance.brigades b)) → WithPools r
       → Left (is_under r.shared.pools n) new
   unfolding Left
   went n r new e brigades s =
@@ -408,7 +408,7 @@ module _ (Others : ℕ → ℕ → Type 0) where
         left name q (inr o) = (inr o.0, o.1)
 
   gone_registered : (gone : ℕ → Configuration → Configuration) (o : Option ℕ) (r : Configuration) → ((n : ℕ) → Emptied n r.shared.pools (gone n r).shared.pools)
-      → ((n b : ℕ) → Spared (is_under r.shared.pools n) (r.instance.brigades b) ((gone n r).instance.brigades b)) → With r → Left (is_under_named r.shared.pools o) (on_pool gone o r)
+      → ((n b : ℕ) → Spared (is_under r.shared.pools n) (r.instance.brigades b) ((gone n r).instance.brigades b)) → WithPools r → Left (is_under_named r.shared.pools o) (on_pool gone o r)
   unfolding Left
   gone_registered gone None r e left s = all_left r.instance r.shared.pools s
   gone_registered gone (Some n) r e left s = went n r (gone n r) (e n) (left n) s

@@ -80,19 +80,19 @@ pub data Move : Type 0 where
   End : Move
 
 -- What is told of a move. Most tell nothing.
-pub data Told : Type 0 where
-  Done : Told
+pub data ToldOfMove : Type 0 where
+  Done : ToldOfMove
   -- these buckets go to the next filter
-  Passes : List NamedBucket → Told
+  Passes : List NamedBucket → ToldOfMove
   -- the call ended with this status, and leaves these buckets of those that it was called with
-  Returns : Status → List NamedBucket → Told
+  Returns : Status → List NamedBucket → ToldOfMove
   -- the instruction has this fault
-  Faults : FaultKind → Told
+  Faults : FaultKind → ToldOfMove
 
 -- The instance.
 
 -- What an instruction without a fault leaves. Where it passes, the call waits; where it returns, the call has ended.
-unfoldable pub executed : Program → Option (List ℕ) → Instr → Standing → Told × Standing
+unfoldable pub executed : Program → Option (List ℕ) → Instr → Standing → ToldOfMove × Standing
 executed p given (instr.Pass b l) s = (Passes (items_of (s.now.instance.brigades b)), record s { phase = Waits; now = do_pass b s.now })
 executed p given (instr.Ret t) s = (Returns t (map (returned_bucket s.now.call.name) (items_of (s.now.instance.brigades 8))), record { phase = Rests; lasting = none_lasts; now = do_return s.now })
 executed p given i s =
@@ -100,11 +100,11 @@ executed p given i s =
     (Done, record s { now = record o.state { pc = led_to o.exit i s.now.pc } })
 
 -- A fault breaks the connection. Where names are spent or memory is refused the connection breaks too, and the run stops there.
-abbrev pub Attempts : Option FaultKind → Program → Option (List ℕ) → Standing → Told → Standing → Type 0
+abbrev pub Attempts : Option FaultKind → Program → Option (List ℕ) → Standing → ToldOfMove → Standing → Type 0
 Attempts None p given s told new = (lacks_names s.now (current p s.now.pc) ≡ false) × (executed p given (current p s.now.pc) s ≡ (told, new))
 Attempts (Some k) p given s told new = (told ≡ Faults k) × (new ≡ record s { phase = Broken })
 
-abbrev pub Executes : Program → Option (List ℕ) → Standing → Told → Standing → Type 0
+abbrev pub Executes : Program → Option (List ℕ) → Standing → ToldOfMove → Standing → Type 0
 Executes p given s told new = (s.phase ≡ Runs) × Attempts (fault p s.now (current p s.now.pc)) p given s told new
 
 -- Its surroundings.
@@ -190,7 +190,7 @@ pub record Calls (p : Program) (items : List NamedBucket) (s new : Standing) : T
 abbrev pub answered : Program → Status → List NamedBucket → Configuration → Configuration
 answered p t items r = record r { instance = given_back (passed_by (current p r.pc)) items r.instance; pc = after_pass t (current p r.pc) r.pc }
 
-pub record Answers (p : Program) (t : Status) (items : List NamedBucket) (s new : Standing) : Type 0 where
+pub record AnswersCall (p : Program) (t : Status) (items : List NamedBucket) (s new : Standing) : Type 0 where
   pub phase : s.phase ≡ Waits
   pub come : Come s.now s.now.shared.next items
   pub is : new ≡ record s { phase = Runs; now = answered p t items s.now }
@@ -278,10 +278,10 @@ pub record Ends (s new : Standing) : Type 0 where
 -- Runs.
 
 -- this move may tell this, and lead from one to the other
-unfoldable pub IsMove : Program → Standing → Move → Told → Standing → Type 0
+unfoldable pub IsMove : Program → Standing → Move → ToldOfMove → Standing → Type 0
 IsMove p s Start told new = (told ≡ Done) × Starts p s new
 IsMove p s (Execute given) told new = Executes p given s told new
-IsMove p s (Answer t items) told new = (told ≡ Done) × Answers p t items s new
+IsMove p s (Answer t items) told new = (told ≡ Done) × AnswersCall p t items s new
 IsMove p s Others told new = (told ≡ Done) × GoOn s new
 IsMove p s Elsewhere told new = (told ≡ Done) × GoOnElsewhere s new
 IsMove p s Begin told new = (told ≡ Done) × Begins s new
@@ -289,7 +289,7 @@ IsMove p s (Main items) told new = (told ≡ Done) × Calls p items s new
 IsMove p s End told new = (told ≡ Done) × Ends s new
 
 -- These moves, one after another. A run stops at any moment.
-unfoldable pub IsOpenRun : Program → Standing → List Move → List Told → Standing → Type 0
+unfoldable pub IsOpenRun : Program → Standing → List Move → List ToldOfMove → Standing → Type 0
 IsOpenRun p s [] [] new = new ≡ s
 IsOpenRun p s (m ∷ moves) (t ∷ told) new = (mid : Standing) × IsMove p s m t mid × IsOpenRun p mid moves told new
 IsOpenRun p s [] (t ∷ told) new = ⊥
@@ -304,19 +304,19 @@ pub record IsOpened (r : Configuration) : Type 0 where
   pub conn : is_live r.shared.pools r.shared.conn ≡ true
   pub limits : (r.shared.next < 2 ^ 64) × (r.shared.pools.next < 2 ^ 64)
 
-abbrev pub IsHarmless : Told → Type 0
+abbrev pub IsHarmless : ToldOfMove → Type 0
 IsHarmless Done = Unit {0}
 IsHarmless (Passes items) = Unit {0}
 IsHarmless (Returns t items) = Unit {0}
 IsHarmless (Faults k) = ⊥
 
-unfoldable pub AreHarmless : List Told → Type 0
+unfoldable pub AreHarmless : List ToldOfMove → Type 0
 AreHarmless [] = Unit {0}
 AreHarmless (t ∷ told) = IsHarmless t × AreHarmless told
 
 -- The instances of a module are safe: no open run reaches a fault, whatever filters stand before and behind.
 abbrev pub InstancesAreSafe : Program → Type 0
-InstancesAreSafe p = (r : Configuration) (moves : List Move) (told : List Told) (new : Standing) → IsOpened r
+InstancesAreSafe p = (r : Configuration) (moves : List Move) (told : List ToldOfMove) (new : Standing) → IsOpened r
     → IsOpenRun p (record { phase = Due; lasting = none_lasts; now = r }) moves told new → AreHarmless told
 
 -- What is true of each standing that an open run reaches: what the instance sees is sound, its variables stand as declared, and the pools of
@@ -327,7 +327,7 @@ pub record StandsSound (p : Program) (s : Standing) : Type 0 where
   pub others : (n : ℕ) → is_in n s.lasting.pools ≡ true → IsOthers s.now n
 
 abbrev pub OpenRunsStaySound : Type 0
-OpenRunsStaySound = (p : Program) (r : Configuration) (moves : List Move) (told : List Told) (new : Standing) → IsModule p → IsOpened r
+OpenRunsStaySound = (p : Program) (r : Configuration) (moves : List Move) (told : List ToldOfMove) (new : Standing) → IsModule p → IsOpened r
     → IsOpenRun p (record { phase = Due; lasting = none_lasts; now = r }) moves told new → StandsSound p new
 
 -- What an instance passes may be brought to another: no data stands behind an EOS of its own or of the request, and no home has ended.

@@ -40,7 +40,7 @@ abbrev pub at_most_one : Bool → Bool → Bool → Bool → Bool
 at_most_one a b c d = not (a && b) && not ((a || b) && c) && not ((a || b || c) && d)
 
 -- At most one operand is a target, a text is the second, and no variable stands beside a brigade.
-pub record AreFormed (a : Args) : Type 0 where
+pub record ArgsFormed (a : Args) : Type 0 where
   pub targets : at_most_one (is_some (names_target a.first)) (is_some (names_target a.second)) (is_some (names_target a.third)) (is_some (names_target a.fourth)) ≡ true
   pub first : names_text a.first ≡ None
   pub second : first_some (names_text a.first) (names_text a.second) (names_text a.third) (names_text a.fourth) ≡ names_text a.second
@@ -50,7 +50,7 @@ pub record AreFormed (a : Args) : Type 0 where
   pub one_three : mixes a.first a.third ≡ false
   pub two_three : mixes a.second a.third ≡ false
 
-pub formed : (i : Instr) → AreFormed (args i)
+pub formed : (i : Instr) → ArgsFormed (args i)
 formed instr.ClearBuf = record { targets = refl; first = refl; second = refl; third = refl; fourth = refl; one_two = refl; one_three = refl; two_three = refl }
 formed _ = record { targets = refl; first = refl; second = refl; third = refl; fourth = refl; one_two = refl; one_three = refl; two_three = refl }
 

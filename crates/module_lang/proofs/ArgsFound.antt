@@ -34,7 +34,7 @@ use Rattle.byte_text.proofs.QuoteAgain.{quoted_again}
 use Rattle.module_lang.proofs.SpellingLaws.{padded}
 
 -- An operand that was read is spelled in front of what follows: a label by its name, a text by its spelling.
-pub record Found (k : OperandKind) (rest : List ℕ) (o : Operand) (x : ℕ) : Type 0 where
+pub record OperandFound (k : OperandKind) (rest : List ℕ) (o : Operand) (x : ℕ) : Type 0 where
   pub name : List ℕ
   pub spelled : List ℕ
   pub text : List ℕ
@@ -72,7 +72,7 @@ label_named kind.Label t _ d h l = absurd (cc d)
 label_named _ t o d h l = absurd (cc l)
 
 bare_found : (k : OperandKind) (rest : List ℕ) (o : Operand) (x : ℕ) → is_version k ≡ false → operand_kind_is_nothing k ≡ false → operand_kind_is_text k ≡ false → operand_at k rest ≡ Ok o
-    → Found k rest o x
+    → OperandFound k rest o x
 bare_found k rest o x v n q h =
     let y = read_token k rest o n q h in
     let d = read_kind k rest o h in
@@ -89,7 +89,7 @@ bare_found k rest o x v n q h =
       bare = λ e. ap from_quote y.spelled ∙ quote_behind y.token (after_operand k rest) (token_unquoted o y.token z);
     }
 
-text_found : (rest : List ℕ) (o : Operand) (x : ℕ) → operand_at kind.Text rest ≡ Ok o → Found kind.Text rest o x
+text_found : (rest : List ℕ) (o : Operand) (x : ℕ) → operand_at kind.Text rest ≡ Ok o → OperandFound kind.Text rest o x
 text_found rest o x h =
     let t = text_taken rest o h in
     let z = quoted_found (tail rest) t.quote t.read in
@@ -108,7 +108,7 @@ text_found rest o x h =
       bare = λ e. absurd (cc e);
     }
 
-none_found : (rest : List ℕ) (o : Operand) (x : ℕ) → operand_at kind.Nothing rest ≡ Ok o → Found kind.Nothing rest o x
+none_found : (rest : List ℕ) (o : Operand) (x : ℕ) → operand_at kind.Nothing rest ≡ Ok o → OperandFound kind.Nothing rest o x
 unfolding operand_at after_operand
 none_found rest o x h =
     let e : operand.Nothing ≡ o = cc h in
@@ -124,7 +124,7 @@ none_found rest o x h =
       bare = λ e. refl;
     }
 
-pub found : (k : OperandKind) (rest : List ℕ) (o : Operand) (x : ℕ) → is_version k ≡ false → operand_at k rest ≡ Ok o → Found k rest o x
+pub found : (k : OperandKind) (rest : List ℕ) (o : Operand) (x : ℕ) → is_version k ≡ false → operand_at k rest ≡ Ok o → OperandFound k rest o x
 found kind.Nothing rest o x v h = none_found rest o x h
 found kind.Text rest o x v h = text_found rest o x h
 found kind.One rest o x v h = absurd (cc v)

@@ -43,7 +43,7 @@ use Rattle.module_lang.proofs.InverseLaws.{token_unquoted}
 use Rattle.byte_text.proofs.ListLaws.{number_at, some_both}
 use Rattle.module_lang.proofs.QuoteLaws.{place_unquoted, quote_behind, quote_unindented}
 use Rattle.byte_text.proofs.QuoteAgain.{quoted_again}
-use Rattle.module_lang.proofs.RunLaws.{Goes, IsAt, goes_item, goes_label, instr_judged}
+use Rattle.module_lang.proofs.RunLaws.{Goes, DraftAt, goes_item, goes_label, instr_judged}
 use Rattle.module_lang.proofs.SpellingLaws.{AreSaid, IsSaid, args_said, instr_again, word_of_instr, padded, operands, pool_operand, place_operand, own_operand, two_again, declared_up, text_len}
 
 -- the labels of lines of code with their padded names, and the instructions as they are written
@@ -132,8 +132,8 @@ text_list p None = []
 text_list p (Some t) = text_at p t ∷ []
 
 -- a draft in a handler of a program, with the lines of its handlers so far
-pub record Holds (p : Program) (q : Part) (a b c : List CodeLine) (d : Draft) : Type 0 where
-  pub at : IsAt p q d
+pub record HoldsLines (p : Program) (q : Part) (a b c : List CodeLine) (d : Draft) : Type 0 where
+  pub at : DraftAt p q d
   pub first : Matches p a d.open
   pub second : Matches p b d.init
   pub third : Matches p c d.main
@@ -147,7 +147,7 @@ step_with p q i d x = step_added q (record d { texts = d.texts ++ text_list p (t
 pub record IsStage (p : Program) (q : Part) (front : List Instr) (H : List CodeLine → Draft → Type 0) : Type 0 where
   pub due : (i : Op) → is_due q (word.Op i) ≡ true
   pub handled : is_handler q ≡ true
-  pub at : (code : List CodeLine) (d : Draft) → H code d → IsAt p q d
+  pub at : (code : List CodeLine) (d : Draft) → H code d → DraftAt p q d
   pub count : (code : List CodeLine) (d : Draft) → H code d → instruction_count d ≡ length (front ++ instrs code)
   pub texts : (code : List CodeLine) (d : Draft) → H code d → d.texts ≡ texts_of p (front ++ instrs code)
   pub labels : (code : List CodeLine) (d : Draft) (n : ℕ) (name : List ℕ) → H code d → H (code ++ label name ∷ []) (label_added q d n (padded name))
@@ -289,7 +289,7 @@ module _ (p : Program) where
   one_instr : (front : List Instr) (c : List CodeLine) (i : Instr) (name s : List ℕ) → front ++ instrs (c ++ step i name s ∷ []) ≡ (front ++ instrs c) ++ i ∷ []
   one_instr front c i name s = ap (λ x. front ++ x) (instrs-append c (step i name s ∷ [])) ∙ sym (append_assoc front (instrs c) (i ∷ []))
 
-  pub open_stage : IsStage p part.Open [] (λ c d. Holds p part.Open c [] [] d)
+  pub open_stage : IsStage p part.Open [] (λ c d. HoldsLines p part.Open c [] [] d)
   open_stage = record {
     due = λ i. refl;
     handled = refl;
@@ -315,7 +315,7 @@ module _ (p : Program) where
       bared : (c : List CodeLine) → (instrs c ++ []) ++ [] ≡ instrs c
       bared c = append-nil (instrs c ++ []) ∙ append-nil (instrs c)
 
-  pub init_stage : (a : List CodeLine) → IsStage p part.Init (instrs a) (λ c d. Holds p part.Init a c [] d)
+  pub init_stage : (a : List CodeLine) → IsStage p part.Init (instrs a) (λ c d. HoldsLines p part.Init a c [] d)
   init_stage a = record {
     due = λ i. refl;
     handled = refl;
@@ -339,7 +339,7 @@ module _ (p : Program) where
     };
   }
 
-  pub main_stage : (a b : List CodeLine) → IsStage p part.Main (instrs a ++ instrs b) (λ c d. Holds p part.Main a b c d)
+  pub main_stage : (a b : List CodeLine) → IsStage p part.Main (instrs a ++ instrs b) (λ c d. HoldsLines p part.Main a b c d)
   main_stage a b = record {
     due = λ i. refl;
     handled = refl;

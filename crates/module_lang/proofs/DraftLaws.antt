@@ -187,14 +187,14 @@ brigade_keeps d b o s h =
     (pushed_few d.brigades q (next_brigade (length d.brigades) o.first (kinds_read (word_kinds word.Brigade) h.rest o h.read).first say.next))
     s.parents (pushed_item (λ k x. place_is_declared (length d.pools) x ≡ true) d.brigades q s.homes say.home) zero
 
-record IsSound (d : Draft) (i : Op) (o : Operands) : Type 0 where
+record IsLineSound (d : Draft) (i : Op) (o : Operands) : Type 0 where
   apart : has_equal_brigades o ≡ false
   short : has_long_text o ≡ false
   declared : are_declared (length d.pools) (length d.brigades) o ≡ true
   allowed : is_misplaced d i o ≡ false
   room : has_room d o ≡ true
 
-sound_op : (d : Draft) (i : Op) (o : Operands) → op_judged d i o ≡ Ok tt → IsSound d i o
+sound_op : (d : Draft) (i : Op) (o : Operands) → op_judged d i o ≡ Ok tt → IsLineSound d i o
 sound_op d i o h =
     let f4 = λ (_ : Unit {0}). unless (not (has_room d o)) code.TooMany in
     let f3 = λ (_ : Unit {0}). unless (is_misplaced d i o) code.Misplaced >>= f4 in
@@ -338,7 +338,7 @@ op_keeps : (d : Draft) (n : ℕ) (bytes : List ℕ) (i : Op) (o : Operands) → 
 unfolding judged word_kinds
 op_keeps d n bytes i o s h = texts (text_has i d (unindented bytes) o h)
   where
-    sound : IsSound d i o
+    sound : IsLineSound d i o
     sound = sound_op d i o h.sound
 
     room : (ltb (instruction_count d) 1024 ≡ true) × ((not (has_text o) || ltb (length d.texts) 64) ≡ true)

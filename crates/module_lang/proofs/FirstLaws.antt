@@ -18,20 +18,20 @@ use Rattle.module_lang.proofs.TextAgain.{text_again}
 use Rattle.module_lang.proofs.TextFaults.{lines_ordered, lines_tell, or_fault, read_is, text_fault}
 
 -- what a computed answer says of the first fault
-abbrev Judged : List ℕ → Result Program AsmRefusal → Type 0
-Judged text (Ok p) = (n : ℕ) (c : Code) → IsFirstFault text n c → ⊥
-Judged text (Err (Fault n c)) = IsFirstFault text n c
-Judged text (Err NoMemory) = ⊥
+abbrev SaysFirst : List ℕ → Result Program AsmRefusal → Type 0
+SaysFirst text (Ok p) = (n : ℕ) (c : Code) → IsFirstFault text n c → ⊥
+SaysFirst text (Err (Fault n c)) = IsFirstFault text n c
+SaysFirst text (Err NoMemory) = ⊥
 
-judged : (text : List ℕ) → Judged text (assembling text)
+judged : (text : List ℕ) → SaysFirst text (assembling text)
 unfolding assembling draft_read
-judged text = subst (λ r. Judged text (r >>= λ d. program_of d)) (sym (read_is (take 1048576 text) (ltb 1048576 (length text)) empty_draft 1 []))
+judged text = subst (λ r. SaysFirst text (r >>= λ d. program_of d)) (sym (read_is (take 1048576 text) (ltb 1048576 (length text)) empty_draft 1 []))
     (by lines refl (lines_tell (goes_on text) empty_draft 1 (lines_of text)))
   where
     lines : Option LineFault
     lines = text_fault (goes_on text) empty_draft 1 (lines_of text)
 
-    module_judged : ((n : ℕ) (c : Code) → HasLineCode text n c → ⊥) → (f : Option LineFault) (p : Program) → Tells f (HasModuleCode text) → Judged text (or_fault f p)
+    module_judged : ((n : ℕ) (c : Code) → HasLineCode text n c → ⊥) → (f : Option LineFault) (p : Program) → Tells f (HasModuleCode text) → SaysFirst text (or_fault f p)
     module_judged none (Some f) p t = inr (none, t)
     module_judged none None p t = first
       where
@@ -39,18 +39,18 @@ judged text = subst (λ r. Judged text (r >>= λ d. program_of d)) (sym (read_is
         first n c (inl x) = none n c x.holds
         first n c (inr x) = t n c x.1.holds
 
-    by : (f : Option LineFault) → lines ≡ f → Tells f (HasLineCode text) → Judged text (or_fault f (draft_of text) >>= λ d. program_of d)
+    by : (f : Option LineFault) → lines ≡ f → Tells f (HasLineCode text) → SaysFirst text (or_fault f (draft_of text) >>= λ d. program_of d)
     by (Some f) q t = inl t
     by None q t =
         let o = lines_ordered (goes_on text) empty_draft 1 (lines_of text) q blank_ordered in
         let p = program_is (draft_of text) in
-        subst (Judged text) (sym p.1) (module_judged t (draft_fault (draft_of text)) p.0 (draft_tells o.0 (draft_of text) o.2 o.1))
+        subst (SaysFirst text) (sym p.1) (module_judged t (draft_fault (draft_of text)) p.0 (draft_tells o.0 (draft_of text) o.2 o.1))
 
 module_none : (text : List ℕ) (m : Program) → assembling text ≡ Ok m → (n : ℕ) (c : Code) → IsFirstFault text n c → ⊥
-module_none text m h = subst (Judged text) h (judged text)
+module_none text m h = subst (SaysFirst text) h (judged text)
 
 fault_first : (text : List ℕ) (n : ℕ) (c : Code) → assembling text ≡ Err (Fault n c) → IsFirstFault text n c
-fault_first text n c h = subst (Judged text) h (judged text)
+fault_first text n c h = subst (SaysFirst text) h (judged text)
 
 -- there is one first fault
 same_first : (P : ℕ → Code → Type 0) (n m : ℕ) (c e : Code) → IsFirst P n c → IsFirst P m e → (n ≡ m) × (c ≡ e)
@@ -72,7 +72,7 @@ one_first text n m c e (inr x) (inr y) = same_first (HasModuleCode text) n m c e
 pub reads_some : (text : List ℕ) → (r : Result Program AsmRefusal) × IsReadAs text r
 reads_some text = by (assembling text) refl (judged text)
   where
-    by : (r : Result Program AsmRefusal) → assembling text ≡ r → Judged text r → (s : Result Program AsmRefusal) × IsReadAs text s
+    by : (r : Result Program AsmRefusal) → assembling text ≡ r → SaysFirst text r → (s : Result Program AsmRefusal) × IsReadAs text s
     by (Ok p) q j = (Ok p, text_found text p q)
     by (Err (Fault n c)) q j = (Err (Fault n c), j)
     by (Err NoMemory) q j = absurd j

@@ -72,7 +72,7 @@ Clear part.Init d a b c = c ≡ []
 Clear part.Main d a b c = Unit {0}
 Clear part.End d a b c = Unit {0}
 
-pub record Told (q : Part) (d : Draft) (ss : List (List ℕ)) : Type 0 where
+pub record PartTold (q : Part) (d : Draft) (ss : List (List ℕ)) : Type 0 where
   pub a : List Raw
   pub b : List Raw
   pub c : List Raw
@@ -163,25 +163,25 @@ brigade_line d s o h =
 
 -- the lines of the handlers are these, and the statements are those of them
 telling : {q : Part} {d : Draft} {ss : List (List ℕ)} (a b c : List Raw) → Built a d.open → Built b d.init → Built c d.main → ss ≡ told q d a b c → Clear q d a b c
-    → AreTexted d.texts a → AreTexted d.texts b → AreTexted d.texts c → Told q d ss
+    → AreTexted d.texts a → AreTexted d.texts b → AreTexted d.texts c → PartTold q d ss
 telling a b c first second third text clear texts_a texts_b texts_c =
     record { a = a; b = b; c = c; first = first; second = second; third = third; text = text; clear = clear; texts_a = texts_a; texts_b = texts_b; texts_c = texts_c }
 
 -- another statement, and the same lines of the handlers
-kept : {q r : Part} {d e : Draft} {ss us : List (List ℕ)} (t : Told q d ss) → Built t.a e.open → Built t.b e.init → Built t.c e.main → d.texts ≡ e.texts
-    → us ≡ told r e t.a t.b t.c → Clear r e t.a t.b t.c → Told r e us
+kept : {q r : Part} {d e : Draft} {ss us : List (List ℕ)} (t : PartTold q d ss) → Built t.a e.open → Built t.b e.init → Built t.c e.main → d.texts ≡ e.texts
+    → us ≡ told r e t.a t.b t.c → Clear r e t.a t.b t.c → PartTold r e us
 kept t first second third same text clear =
     let held = λ (rs : List Raw) (x : AreTexted _ rs). subst (λ ts. AreTexted ts rs) same x in
     telling t.a t.b t.c first second third text clear (held t.a t.texts_a) (held t.b t.texts_b) (held t.c t.texts_c)
 
-tell_module : (d : Draft) (n : ℕ) (ss : List (List ℕ)) (s : List ℕ) (o : Operands) → Item d s word.Module o → Told part.Start d ss → Told part.Pools (with_part d part.Pools n) (ss ++ s ∷ [])
+tell_module : (d : Draft) (n : ℕ) (ss : List (List ℕ)) (s : List ℕ) (o : Operands) → Item d s word.Module o → PartTold part.Start d ss → PartTold part.Pools (with_part d part.Pools n) (ss ++ s ∷ [])
 tell_module d n ss s o h t =
     kept t t.first t.second t.third refl
     (ap (λ x. x ++ s ∷ []) t.text ∙ ap (λ x. x ∷ []) (module_line d s o h) ∙ ap (λ ps. codes "module 1" ∷ pool_texts 0 ps) (sym t.clear.0))
     (t.clear.1, t.clear.2, t.clear.3, t.clear.4)
 
-tell_pool : (d : Draft) (ss : List (List ℕ)) (s : List ℕ) (o : Operands) → Item d s word.Pool o → Told part.Pools d ss
-    → Told part.Pools (record d { pools = d.pools ++ operand_place o.second ∷ [] }) (ss ++ s ∷ [])
+tell_pool : (d : Draft) (ss : List (List ℕ)) (s : List ℕ) (o : Operands) → Item d s word.Pool o → PartTold part.Pools d ss
+    → PartTold part.Pools (record d { pools = d.pools ++ operand_place o.second ∷ [] }) (ss ++ s ∷ [])
 tell_pool d ss s o h t =
     let q = operand_place o.second in
     let z : 0 + length d.pools ≡ length d.pools = omega arith in
@@ -190,13 +190,13 @@ tell_pool d ss s o h t =
     (pool_line d s o h ∙ ap (λ k. line_text (codes "pool") (place_text (pool.Own k) ∷ place_text q ∷ [])) (sym z)) ∙ ap (λ x. codes "module 1" ∷ x) (sym (pool_texts-push 0 d.pools q)))
     t.clear
 
-all_pools : (d : Draft) (ss : List (List ℕ)) → Told part.Pools d ss → Told part.Brigades d ss
+all_pools : (d : Draft) (ss : List (List ℕ)) → PartTold part.Pools d ss → PartTold part.Brigades d ss
 all_pools d ss t =
     kept t t.first t.second t.third refl (t.text ∙ sym (append-nil (head_of d)) ∙ ap (λ bs. head_of d ++ brigade_texts 0 bs) (sym t.clear.0))
     (t.clear.1, t.clear.2, t.clear.3)
 
-tell_brigade : (d : Draft) (ss : List (List ℕ)) (s : List ℕ) (o : Operands) → Item d s word.Brigade o → Told part.Brigades d ss
-    → Told part.Brigades (record d { part = part.Brigades; brigades = d.brigades ++ operand_place o.second ∷ [] }) (ss ++ s ∷ [])
+tell_brigade : (d : Draft) (ss : List (List ℕ)) (s : List ℕ) (o : Operands) → Item d s word.Brigade o → PartTold part.Brigades d ss
+    → PartTold part.Brigades (record d { part = part.Brigades; brigades = d.brigades ++ operand_place o.second ∷ [] }) (ss ++ s ∷ [])
 tell_brigade d ss s o h t =
     let q = operand_place o.second in
     let z : 0 + length d.brigades ≡ length d.brigades = omega arith in
@@ -205,42 +205,42 @@ tell_brigade d ss s o h t =
     (brigade_line d s o h ∙ ap (λ k. line_text (codes "brigade") (own_text k ∷ place_text q ∷ [])) (sym z)) ∙ ap (λ x. head_of d ++ x) (sym (brigade_texts-push 0 d.brigades q)))
     t.clear
 
-tell_open : (d : Draft) (n : ℕ) (ss : List (List ℕ)) (s : List ℕ) (o : Operands) → Item d s word.Open o → Told part.Brigades d ss → Told part.Open (with_part d part.Open n) (ss ++ s ∷ [])
+tell_open : (d : Draft) (n : ℕ) (ss : List (List ℕ)) (s : List ℕ) (o : Operands) → Item d s word.Open o → PartTold part.Brigades d ss → PartTold part.Open (with_part d part.Open n) (ss ++ s ∷ [])
 unfolding word_kinds word_text
 tell_open d n ss s o h t =
     kept t (record { labels = t.first.labels; steps = t.first.steps; lines = t.first.lines }) t.second t.third refl
     (ap (λ x. x ++ s ∷ []) t.text ∙ ap (λ x. declared_of d ++ x ∷ []) (bare_line word.Open d s o refl h) ∙ ap (λ r. declared_of d ++ (codes "open" ∷ map raw_text r)) (sym t.clear.0))
     (t.clear.1, t.clear.2)
 
-tell_init : (d : Draft) (n : ℕ) (ss : List (List ℕ)) (s : List ℕ) (o : Operands) → Item d s word.Init o → Told part.Open d ss → Told part.Init (with_part d part.Init n) (ss ++ s ∷ [])
+tell_init : (d : Draft) (n : ℕ) (ss : List (List ℕ)) (s : List ℕ) (o : Operands) → Item d s word.Init o → PartTold part.Open d ss → PartTold part.Init (with_part d part.Init n) (ss ++ s ∷ [])
 unfolding word_kinds word_text
 tell_init d n ss s o h t =
     kept t t.first (record { labels = t.second.labels; steps = t.second.steps; lines = t.second.lines }) t.third refl
     (ap (λ x. x ++ s ∷ []) t.text ∙ ap (λ x. opened d t.a ++ x ∷ []) (bare_line word.Init d s o refl h) ∙ ap (λ r. opened d t.a ++ (codes "init" ∷ map raw_text r)) (sym t.clear.0))
     t.clear.1
 
-tell_main : (d : Draft) (n : ℕ) (ss : List (List ℕ)) (s : List ℕ) (o : Operands) → Item d s word.Main o → Told part.Init d ss → Told part.Main (with_part d part.Main n) (ss ++ s ∷ [])
+tell_main : (d : Draft) (n : ℕ) (ss : List (List ℕ)) (s : List ℕ) (o : Operands) → Item d s word.Main o → PartTold part.Init d ss → PartTold part.Main (with_part d part.Main n) (ss ++ s ∷ [])
 unfolding word_kinds word_text
 tell_main d n ss s o h t =
     kept t t.first t.second (record { labels = t.third.labels; steps = t.third.steps; lines = t.third.lines }) refl
     (ap (λ x. x ++ s ∷ []) t.text ∙ ap (λ x. begun d t.a t.b ++ x ∷ []) (bare_line word.Main d s o refl h) ∙ ap (λ r. begun d t.a t.b ++ (codes "main" ∷ map raw_text r)) (sym t.clear))
     tt
 
-tell_end : (d : Draft) (n : ℕ) (ss : List (List ℕ)) (s : List ℕ) (o : Operands) → Item d s word.End o → Told part.Main d ss → Told part.End (with_part d part.End n) (ss ++ s ∷ [])
+tell_end : (d : Draft) (n : ℕ) (ss : List (List ℕ)) (s : List ℕ) (o : Operands) → Item d s word.End o → PartTold part.Main d ss → PartTold part.End (with_part d part.End n) (ss ++ s ∷ [])
 unfolding word_kinds word_text
 tell_end d n ss s o h t =
     kept t t.first t.second t.third refl (ap (λ x. x ++ s ∷ []) t.text ∙ ap (λ x. served d t.a t.b t.c ++ x ∷ []) (bare_line word.End d s o refl h)) tt
 
 -- a step that is read into the handler of this part, and a label
 abbrev Did : Part → Type 0
-Did q = (d : Draft) (us : List (List ℕ)) (ss : List (List ℕ)) (s : List ℕ) (st : DraftStep) (name w : List ℕ) → Told q d ss → s ≡ raw_text (did st name w)
+Did q = (d : Draft) (us : List (List ℕ)) (ss : List (List ℕ)) (s : List ℕ) (st : DraftStep) (name w : List ℕ) → PartTold q d ss → s ≡ raw_text (did st name w)
     → IsWritten st name
     → IfSome (target (op_instr st.op st.operands st.text 0)) (λ _. is_name name ≡ true) → IsTexted (d.texts ++ us) st w
-    → Told q (step_added q (record d { texts = d.texts ++ us }) st) (ss ++ s ∷ [])
+    → PartTold q (step_added q (record d { texts = d.texts ++ us }) st) (ss ++ s ∷ [])
 
 abbrev Marks : Part → Type 0
-Marks q = (d : Draft) (n : ℕ) (ss : List (List ℕ)) (s name : List ℕ) → Told q d ss → s ≡ 58 ∷ name → is_name name ≡ true
-    → Told q (label_added q d n (padded name)) (ss ++ s ∷ [])
+Marks q = (d : Draft) (n : ℕ) (ss : List (List ℕ)) (s name : List ℕ) → PartTold q d ss → s ≡ 58 ∷ name → is_name name ≡ true
+    → PartTold q (label_added q d n (padded name)) (ss ++ s ∷ [])
 
 did_open : Did part.Open
 did_open d us ss s st name w t e same named one =
@@ -287,15 +287,15 @@ marked_main d n ss s name t e named =
 -- a statement that begins with this word
 abbrev OnWord : Word → Type 0
 OnWord w = (q : Part) (d : Draft) (n : ℕ) (bytes : List ℕ) (ss : List (List ℕ)) (s : List ℕ) (o : Operands) → d.part ≡ q → is_due q w ≡ true → Item d s w o
-    → Told q d ss
-    → Told (item_entered d n bytes w o).part (item_entered d n bytes w o) (ss ++ s ∷ [])
+    → PartTold q d ss
+    → PartTold (item_entered d n bytes w o).part (item_entered d n bytes w o) (ss ++ s ∷ [])
 
 on_module : OnWord word.Module
 on_module part.Start d n bytes ss s o e due h t = tell_module d n ss s o h t
 on_module _ d n bytes ss s o e due h t = absurd (cc due)
 
 on_pool : OnWord word.Pool
-on_pool part.Pools d n bytes ss s o e due h t = subst (λ x. Told x (record d { pools = d.pools ++ operand_place o.second ∷ [] }) (ss ++ s ∷ [])) (sym e) (tell_pool d ss s o h t)
+on_pool part.Pools d n bytes ss s o e due h t = subst (λ x. PartTold x (record d { pools = d.pools ++ operand_place o.second ∷ [] }) (ss ++ s ∷ [])) (sym e) (tell_pool d ss s o h t)
 on_pool _ d n bytes ss s o e due h t = absurd (cc due)
 
 on_brigade : OnWord word.Brigade
@@ -326,27 +326,27 @@ same_part part.Init d st = refl
 same_part _ d st = refl
 
 op_done : (q : Part) → Did q → (i : Op) (d : Draft) (n : ℕ) (bytes : List ℕ) (ss : List (List ℕ)) (s : List ℕ) (o : Operands) → d.part ≡ q
-    → from_quote bytes ≡ from_quote s → Item d s (word.Op i) o → Told q d ss
-    → Told (step_entered d n bytes i o).part (step_entered d n bytes i o) (ss ++ s ∷ [])
+    → from_quote bytes ≡ from_quote s → Item d s (word.Op i) o → PartTold q d ss
+    → PartTold (step_entered d n bytes i o).part (step_entered d n bytes i o) (ss ++ s ∷ [])
 op_done q done i d n bytes ss s o e u h t =
     let x = op_spelled d s i o (length d.texts) h in
     let next : Draft = record d { texts = d.texts ++ step_texts o bytes } in
     let st : DraftStep = record { line = n; op = i; operands = o; text = length d.texts } in
     let one = text_last (text_of_instr (op_instr i o (length d.texts) 0)) (length d.texts) d.texts (step_texts o bytes) x.text (modules.own_text i o (length d.texts) 0) refl (x.texted bytes u) in
-    subst (λ y. Told (step_added y next st).part (step_added y next st) (ss ++ s ∷ [])) (sym e)
-    (subst (λ y. Told y (step_added q next st) (ss ++ s ∷ []))
+    subst (λ y. PartTold (step_added y next st).part (step_added y next st) (ss ++ s ∷ [])) (sym e)
+    (subst (λ y. PartTold y (step_added q next st) (ss ++ s ∷ []))
     (sym (same_part q next st ∙ e)) (done d (step_texts o bytes) ss s st x.name x.text t x.spelled (x.len, x.same) x.named one))
 
 on_op : (q : Part) (i : Op) (d : Draft) (n : ℕ) (bytes : List ℕ) (ss : List (List ℕ)) (s : List ℕ) (o : Operands) → d.part ≡ q
-    → is_due q (word.Op i) ≡ true → from_quote bytes ≡ from_quote s → Item d s (word.Op i) o → Told q d ss → Told (step_entered d n bytes i o).part
+    → is_due q (word.Op i) ≡ true → from_quote bytes ≡ from_quote s → Item d s (word.Op i) o → PartTold q d ss → PartTold (step_entered d n bytes i o).part
     (step_entered d n bytes i o) (ss ++ s ∷ [])
 on_op part.Open i d n bytes ss s o e due = op_done part.Open did_open i d n bytes ss s o e
 on_op part.Init i d n bytes ss s o e due = op_done part.Init did_init i d n bytes ss s o e
 on_op part.Main i d n bytes ss s o e due = op_done part.Main did_main i d n bytes ss s o e
 on_op _ i d n bytes ss s o e due = absurd (cc due)
 
-on_item : (d : Draft) (n : ℕ) (bytes : List ℕ) (ss : List (List ℕ)) (s : List ℕ) (w : Word) (o : Operands) → from_quote bytes ≡ from_quote s → Item d s w o → Told d.part d ss
-    → Told (item_entered d n bytes w o).part (item_entered d n bytes w o) (ss ++ s ∷ [])
+on_item : (d : Draft) (n : ℕ) (bytes : List ℕ) (ss : List (List ℕ)) (s : List ℕ) (w : Word) (o : Operands) → from_quote bytes ≡ from_quote s → Item d s w o → PartTold d.part d ss
+    → PartTold (item_entered d n bytes w o).part (item_entered d n bytes w o) (ss ++ s ∷ [])
 on_item d n bytes ss s word.Module o u h t = on_module d.part d n bytes ss s o refl h.due h t
 on_item d n bytes ss s word.Pool o u h t = on_pool d.part d n bytes ss s o refl h.due h t
 on_item d n bytes ss s word.Brigade o u h t = on_brigade d.part d n bytes ss s o refl h.due h t
@@ -357,26 +357,26 @@ on_item d n bytes ss s word.End o u h t = on_end d.part d n bytes ss s o refl h.
 on_item d n bytes ss s (word.Op i) o u h t = on_op d.part i d n bytes ss s o refl h.due u h t
 
 label_done : (q : Part) → Marks q → (d : Draft) (n : ℕ) (ss : List (List ℕ)) (s name : List ℕ) → d.part ≡ q → s ≡ 58 ∷ name → is_name name ≡ true
-    → Told q d ss → Told d.part (label_added q d n (padded name)) (ss ++ s ∷ [])
-label_done q done d n ss s name e p v t = subst (λ y. Told y (label_added q d n (padded name)) (ss ++ s ∷ [])) (sym e) (done d n ss s name t p v)
+    → PartTold q d ss → PartTold d.part (label_added q d n (padded name)) (ss ++ s ∷ [])
+label_done q done d n ss s name e p v t = subst (λ y. PartTold y (label_added q d n (padded name)) (ss ++ s ∷ [])) (sym e) (done d n ss s name t p v)
 
-on_label : (q : Part) (d : Draft) (n : ℕ) (ss : List (List ℕ)) (s name : List ℕ) → d.part ≡ q → is_handler q ≡ true → s ≡ 58 ∷ name → is_name name ≡ true → Told q d ss
-    → Told d.part (label_added q d n (padded name)) (ss ++ s ∷ [])
+on_label : (q : Part) (d : Draft) (n : ℕ) (ss : List (List ℕ)) (s name : List ℕ) → d.part ≡ q → is_handler q ≡ true → s ≡ 58 ∷ name → is_name name ≡ true → PartTold q d ss
+    → PartTold d.part (label_added q d n (padded name)) (ss ++ s ∷ [])
 on_label part.Open d n ss s name e due = label_done part.Open marked_open d n ss s name e
 on_label part.Init d n ss s name e due = label_done part.Init marked_init d n ss s name e
 on_label part.Main d n ss s name e due = label_done part.Main marked_main d n ss s name e
 on_label _ d n ss s name e due = absurd (cc due)
 
 -- a statement that says something
-pub on_line : (d : Draft) (n : ℕ) (bytes : List ℕ) (ss : List (List ℕ)) (s : List ℕ) (x : Line) → from_quote bytes ≡ from_quote s → Spelled d s x → Told d.part d ss
-    → Told (entered d n bytes x).part (entered d n bytes x) (ss ++ s ∷ [])
+pub on_line : (d : Draft) (n : ℕ) (bytes : List ℕ) (ss : List (List ℕ)) (s : List ℕ) (x : Line) → from_quote bytes ≡ from_quote s → Spelled d s x → PartTold d.part d ss
+    → PartTold (entered d n bytes x).part (entered d n bytes x) (ss ++ s ∷ [])
 on_line d n bytes ss s line.Skipped u h t = absurd h
 on_line d n bytes ss s (line.Label m) u h t =
-    subst (λ y. Told (label_added d.part d n y).part (label_added d.part d n y) (ss ++ s ∷ [])) (sym h.3) (labelled d.part refl (on_label d.part d n ss s h.0 refl h.4 h.1 h.2 t))
+    subst (λ y. PartTold (label_added d.part d n y).part (label_added d.part d n y) (ss ++ s ∷ [])) (sym h.3) (labelled d.part refl (on_label d.part d n ss s h.0 refl h.4 h.1 h.2 t))
   where
-    labelled : (q : Part) → d.part ≡ q → Told d.part (label_added d.part d n (padded h.0)) (ss ++ s ∷ [])
-        → Told (label_added d.part d n (padded h.0)).part (label_added d.part d n (padded h.0)) (ss ++ s ∷ [])
-    labelled q e t = subst (λ y. Told y (label_added d.part d n (padded h.0)) (ss ++ s ∷ [])) (sym (same d.part d)) t
+    labelled : (q : Part) → d.part ≡ q → PartTold d.part (label_added d.part d n (padded h.0)) (ss ++ s ∷ [])
+        → PartTold (label_added d.part d n (padded h.0)).part (label_added d.part d n (padded h.0)) (ss ++ s ∷ [])
+    labelled q e t = subst (λ y. PartTold y (label_added d.part d n (padded h.0)) (ss ++ s ∷ [])) (sym (same d.part d)) t
       where
         same : (q : Part) (x : Draft) → (label_added q x n (padded h.0)).part ≡ x.part
         same part.Start x = refl

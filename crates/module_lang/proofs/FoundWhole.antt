@@ -25,7 +25,7 @@ use Rattle.module_lang.specs.declared.refusal.Code.{Code}
 use Rattle.module_lang.specs.declared.refusal.AsmRefusal.{AsmRefusal}
 use Rattle.module_lang.proofs.DraftLaws.{entered_keeps}
 use Rattle.module_lang.proofs.FoundLabels.{labels_distinct, lines_aimed}
-use Rattle.module_lang.proofs.FoundLaws.{Told, served}
+use Rattle.module_lang.proofs.FoundLaws.{PartTold, served}
 use Rattle.module_lang.proofs.RawLines.{AreTexted, Built, Raw, raw_labels, raw_steps, raw_text}
 use Rattle.module_lang.proofs.FoundModule.{instrs_same, labels_good, labels_marked, line_of, lines_spelled, texts_same}
 use Rattle.module_lang.proofs.FoundText.{cut_lines, fold_told}
@@ -73,15 +73,15 @@ fold_sound [] d n e s f = subst IsDraft f s
 fold_sound (l ∷ ls) d n e s f = fold_sound ls f.0 (n + 1) e (taken_sound d n l f.0 s f.1) f.2
 
 -- a draft that a text was read as
-record IsRead (text : List ℕ) (d : Draft) : Type 0 where
+record DraftRead (text : List ℕ) (d : Draft) : Type 0 where
   lines : List (List ℕ)
   whole : text ≡ joined lines
   small : length text ≤ 1048576
   clean : All (λ l. all_printable l ≡ true) lines
-  told : Told part.End d (statements lines)
+  told : PartTold part.End d (statements lines)
   sound : IsDraft d
 
-ended : (q : Part) (d : Draft) (ss : List (List ℕ)) → is_end q ≡ true → Told q d ss → Told part.End d ss
+ended : (q : Part) (d : Draft) (ss : List (List ℕ)) → is_end q ≡ true → PartTold q d ss → PartTold part.End d ss
 ended part.Start d ss h t = absurd (cc h)
 ended part.Pools d ss h t = absurd (cc h)
 ended part.Brigades d ss h t = absurd (cc h)
@@ -90,7 +90,7 @@ ended part.Init d ss h t = absurd (cc h)
 ended part.Main d ss h t = absurd (cc h)
 ended part.End d ss h t = t
 
-none_told : Told part.Start empty_draft []
+none_told : PartTold part.Start empty_draft []
 none_told = let none : Built [] empty_draft.open = record { labels = refl; steps = refl; lines = tt } in record {
   a = [];
   b = [];
@@ -105,7 +105,7 @@ none_told = let none : Built [] empty_draft.open = record { labels = refl; steps
   texts_c = tt;
 }
 
-read_as : (text : List ℕ) (d : Draft) → draft_read text ≡ Ok d → IsRead text d
+read_as : (text : List ℕ) (d : Draft) → draft_read text ≡ Ok d → DraftRead text d
 unfolding draft_read
 read_as text d h =
     let c = cut_lines (take 1048576 text) (nat_lt 1048576 (length text)) empty_draft 1 [] d h in
@@ -163,7 +163,7 @@ told_again d m a b c i j k p q =
     rw (texts_same i d.open.labels a, texts_same j d.init.labels b, texts_same k d.main.labels c, p, q) (nested (codes "module 1" ∷ pool_texts 0 d.pools) (brigade_texts 0 d.brigades)
     (codes "open" ∷ map raw_text a) (codes "init" ∷ map raw_text b) (codes "main" ∷ map raw_text c) (codes "end" ∷ []))
 
-of_draft : (text : List ℕ) (d : Draft) (x y z : List Instr) → IsRead text d → handler_resolved [] d.open [] ≡ Ok x → handler_resolved d.open.labels d.init x ≡ Ok y
+of_draft : (text : List ℕ) (d : Draft) (x y z : List Instr) → DraftRead text d → handler_resolved [] d.open [] ≡ Ok x → handler_resolved d.open.labels d.init x ≡ Ok y
     → handler_resolved (d.open.labels ++ d.init.labels) d.main y ≡ Ok z → IsTextOf text (program d.pools d.brigades d.texts z (length x) (length y))
 of_draft text d x y z r p q s =
     let m = program d.pools d.brigades d.texts z (length x) (length y) in

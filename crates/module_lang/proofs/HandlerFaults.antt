@@ -83,10 +83,10 @@ module _ (before : List Label) (n : ℕ) (h : HandlerLines) (o : HasLines n h) w
   abbrev Labels : ℕ → Code → Type 0
   Labels m c = LabelsHaveCode before (length h.steps) h.labels m c
 
-  abbrev Steps : ℕ → Code → Type 0
-  Steps m c = StepsHaveCode h.labels h.steps m c
+  abbrev FaultSteps : ℕ → Code → Type 0
+  FaultSteps m c = StepsHaveCode h.labels h.steps m c
 
-  inner_within : (m : ℕ) (c : Code) → Labels m c ⊎ Steps m c → (h.line + 1 ≤ m) × (m < n)
+  inner_within : (m : ℕ) (c : Code) → Labels m c ⊎ FaultSteps m c → (h.line + 1 ≤ m) × (m < n)
   inner_within m c (inl x) = labels_within before (length h.steps) (h.line + 1) n h.labels m c o.labels x
   inner_within m c (inr x) = steps_within h.labels (h.line + 1) n h.steps m c o.steps x
 
@@ -94,15 +94,15 @@ module _ (before : List Label) (n : ℕ) (h : HandlerLines) (o : HasLines n h) w
   handler_within m c (inl x) = let e = x.0 in let z = rises_le label_line (h.line + 1) n h.labels o.labels in (omega (arith, e), omega (arith, e, z))
   handler_within m c (inr x) = let y = inner_within m c x in let z = y.0 in (omega (arith, z), y.1)
 
-  inner_tells : Tells (sooner (label_fault before (length h.steps) h.labels) (jump_fault h.labels h.steps)) (λ m c. Labels m c ⊎ Steps m c)
-  inner_tells = tells_sooner _ _ Labels Steps (λ m c e x y. let a = label_low before (length h.steps) h.labels m c x in let b = step_high h.labels h.steps m e y in omega (arith, a, b))
+  inner_tells : Tells (sooner (label_fault before (length h.steps) h.labels) (jump_fault h.labels h.steps)) (λ m c. Labels m c ⊎ FaultSteps m c)
+  inner_tells = tells_sooner _ _ Labels FaultSteps (λ m c e x y. let a = label_low before (length h.steps) h.labels m c x in let b = step_high h.labels h.steps m e y in omega (arith, a, b))
       (labels_tell before (length h.steps) (h.line + 1) n h.labels o.labels) (steps_tell h.labels (h.line + 1) n h.steps o.steps)
 
   handler_tells : Tells (handler_fault before h) (HandlerHasCode before h)
   unfolding handler_fault
   handler_tells =
       subst (λ x. Tells x (HandlerHasCode before h)) (same (ends_open h.steps) (sooner (label_fault before (length h.steps) h.labels) (jump_fault h.labels h.steps)))
-      (tells_here h.line (header_has_code h) (λ m c. Labels m c ⊎ Steps m c) (sooner (label_fault before (length h.steps) h.labels) (jump_fault h.labels h.steps))
+      (tells_here h.line (header_has_code h) (λ m c. Labels m c ⊎ FaultSteps m c) (sooner (label_fault before (length h.steps) h.labels) (jump_fault h.labels h.steps))
       (λ m c x. let z = (inner_within m c x).0 in omega (arith, z)) inner_tells)
     where
       same : (a : Bool) (x : Option LineFault) → or_later h.line (cond a (Err code.OpenEnd) (Ok tt)) x ≡ cond a (fault h.line code.OpenEnd) x

@@ -135,7 +135,7 @@ read_kind kind.One rest o e = word_kind kind.One (not (begins 32 rest)) (token (
 read_kind k rest o e = word_kind k (not (begins 32 rest)) (token (tail rest)) o e
 
 -- the operands of a line, one behind another
-pub record IsChain (k : OperandKinds) (rest : List ℕ) (o : Operands) : Type 0 where
+pub record OperandsFollow (k : OperandKinds) (rest : List ℕ) (o : Operands) : Type 0 where
   pub first : operand_at k.first rest ≡ Ok o.first
   pub second : operand_at k.second (after_operand k.first rest) ≡ Ok o.second
   pub third : operand_at k.third (after_operand k.second (after_operand k.first rest)) ≡ Ok o.third
@@ -146,7 +146,7 @@ empty_is : (xs : List ℕ) → eqb (length xs) 0 ≡ true → xs ≡ []
 empty_is [] h = refl
 empty_is (x ∷ xs) h = let e = eqb-true (length (x ∷ xs)) 0 h in absurd (omega (arith, e))
 
-pub chain : (k : OperandKinds) (rest : List ℕ) (o : Operands) → operands_at k rest ≡ Ok o → IsChain k rest o
+pub chain : (k : OperandKinds) (rest : List ℕ) (o : Operands) → operands_at k rest ≡ Ok o → OperandsFollow k rest o
 unfolding operands_at
 chain k rest o h =
     let r1 = after_operand k.first rest in
@@ -165,7 +165,7 @@ chain k rest o h =
     let u = bind_ok (unless (not (eqb (length r4) 0)) code.WrongOperands) (last a.0 b.0 c.0 d.0) o d.2 in
     let s : made a.0 b.0 c.0 d.0 ≡ o = cc u.2 in
     let none = empty_is r4 (not_false (eqb (length r4) 0) (unless_ok (not (eqb (length r4) 0)) code.WrongOperands u.0 u.1)) in
-    subst (λ x. IsChain k rest x) s (record { first = a.1; second = b.1; third = c.1; fourth = d.1; last = none })
+    subst (λ x. OperandsFollow k rest x) s (record { first = a.1; second = b.1; third = c.1; fourth = d.1; last = none })
 
 pub kinds_read : (k : OperandKinds) (rest : List ℕ) (o : Operands) → operands_at k rest ≡ Ok o → IsOfKinds k o
 kinds_read k rest o h =

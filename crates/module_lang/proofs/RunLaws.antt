@@ -156,7 +156,7 @@ short_all i n k h =
     rw (one_short a.first n k h, one_short a.second n k h, one_short a.third n k h, one_short a.fourth n k h) refl
 
 -- the part, the pools and the brigades of a draft in a handler of a program
-pub record IsAt (p : Program) (q : Part) (d : Draft) : Type 0 where
+pub record DraftAt (p : Program) (q : Part) (d : Draft) : Type 0 where
   pub part : d.part ≡ q
   pub pools : d.pools ≡ p.pools
   pub brigades : d.brigades ≡ p.brigades
@@ -166,7 +166,7 @@ room_for None m h = refl
 room_for (Some t) m h = lt-ltb m 64 h
 
 -- an instruction of a program is judged right
-pub instr_judged : (p : Program) (q : Part) (d : Draft) (i : Instr) (n : List ℕ) (k : ℕ) → IsAt p q d → instruction_count d < 1024 → fits p i ≡ true
+pub instr_judged : (p : Program) (q : Part) (d : Draft) (i : Instr) (n : List ℕ) (k : ℕ) → DraftAt p q d → instruction_count d < 1024 → fits p i ≡ true
     → misplaced q p.pools p.brigades (op_of i) (operands_of i [] 0) ≡ false → k ≤ 255 → IfSome (text_of_instr i) (λ _. length d.texts < 64) → judged d (word.Op (op_of i)) (operands_of i n k) ≡ Ok tt
 unfolding judged
 instr_judged p q d i n k at low fit allowed short few =

@@ -14,7 +14,7 @@ use Rattle.module_code.specs.declared.operand.Operand.TheVariants as operand
 use Rattle.module_code.specs.declared.word.OperandKind.TheVariants as kind
 use Rattle.module_code.specs.declared.word.Word.TheVariants as word
 use Rattle.module_lang.proofs.AssemblingLaws.{done, read_short}
-use Rattle.module_lang.proofs.BodyLaws.{AreRight, Declares, Holds, Matches, body_goes, brigades_go, homes_from, init_stage, lower_from, main_stage, open_stage, pools_go, texts_of}
+use Rattle.module_lang.proofs.BodyLaws.{AreRight, Declares, HoldsLines, Matches, body_goes, brigades_go, homes_from, init_stage, lower_from, main_stage, open_stage, pools_go, texts_of}
 use Rattle.module_lang.proofs.LabelLaws.{AreNamed-append, marked_from, named-append, named_of, names_of}
 use Rattle.byte_text.proofs.ListLaws.{items_of}
 use Rattle.module_lang.proofs.RunLaws.{Goes, fold_read, goes_item, run}
@@ -27,10 +27,10 @@ one_is = record { some = refl; bare = refl; read = refl; plain = refl }
 
 module _ (p : Program) (a b c : List CodeLine) (s : IsModule p) (whole : p.code ≡ instrs a ++ (instrs b ++ instrs c)) (first : AreRight p part.Open a) (second : AreRight p part.Init b)
     (third : AreRight p part.Main c) where
-  end_goes : (d : Draft) → Holds p part.Main a b c d → Goes d (codes "end" ∷ []) (Holds p part.End a b c)
+  end_goes : (d : Draft) → HoldsLines p part.Main a b c d → Goes d (codes "end" ∷ []) (HoldsLines p part.End a b c)
   unfolding word_kinds word_text judged
   end_goes d h =
-      goes_item d word.End [] (operands operand.Nothing operand.Nothing) (λ n. record d { part = part.End }) [] (Holds p part.End a b c) (ap (λ x. is_due x word.End) h.at.part) no_operands refl
+      goes_item d word.End [] (operands operand.Nothing operand.Nothing) (λ n. record d { part = part.End }) [] (HoldsLines p part.End a b c) (ap (λ x. is_due x word.End) h.at.part) no_operands refl
       (λ n bytes _. refl) (λ n. record {
         at = record { part = refl; pools = h.at.pools; brigades = h.at.brigades };
         first = h.first;
@@ -39,12 +39,13 @@ module _ (p : Program) (a b c : List CodeLine) (s : IsModule p) (whole : p.code 
         texts = h.texts;
       })
 
-  main_goes : (d : Draft) → Holds p part.Init a b [] d → Goes d (codes "main" ∷ (map code_text c ++ codes "end" ∷ [])) (Holds p part.End a b c)
+  main_goes : (d : Draft) → HoldsLines p part.Init a b [] d → Goes d (codes "main" ∷ (map code_text c ++ codes "end" ∷ [])) (HoldsLines p part.End a b c)
   unfolding word_kinds word_text judged
   main_goes d h =
-      goes_item d word.Main [] (operands operand.Nothing operand.Nothing) (λ n. with_part d part.Main n) (map code_text c ++ codes "end" ∷ []) (Holds p part.End a b c)
+      goes_item d word.Main [] (operands operand.Nothing operand.Nothing) (λ n. with_part d part.Main n) (map code_text c ++ codes "end" ∷ []) (HoldsLines p part.End a b c)
       (ap (λ x. is_due x word.Main) h.at.part) no_operands refl (λ n bytes _. refl) (λ n.
-      body_goes p part.Main (instrs a ++ instrs b) [] (λ x d. Holds p part.Main a b x d) (main_stage p a b) s c [] (with_part d part.Main n) (codes "end" ∷ []) (Holds p part.End a b c) (record {
+      body_goes p part.Main (instrs a ++ instrs b) [] (λ x d. HoldsLines p part.Main a b x d) (main_stage p a b) s c [] (with_part d part.Main n) (codes "end" ∷ [])
+      (HoldsLines p part.End a b c) (record {
         at = record { part = refl; pools = h.at.pools; brigades = h.at.brigades };
         first = h.first;
         second = h.second;
@@ -52,13 +53,13 @@ module _ (p : Program) (a b c : List CodeLine) (s : IsModule p) (whole : p.code 
         texts = h.texts;
       }) third (whole ∙ sym (append_assoc (instrs a) (instrs b) (instrs c)) ∙ ap (λ x. (instrs a ++ instrs b) ++ x) (sym (append-nil (instrs c)))) end_goes)
 
-  init_goes : (d : Draft) → Holds p part.Open a [] [] d → Goes d (codes "init" ∷ (map code_text b ++ (codes "main" ∷ (map code_text c ++ codes "end" ∷ [])))) (Holds p part.End a b c)
+  init_goes : (d : Draft) → HoldsLines p part.Open a [] [] d → Goes d (codes "init" ∷ (map code_text b ++ (codes "main" ∷ (map code_text c ++ codes "end" ∷ [])))) (HoldsLines p part.End a b c)
   unfolding word_kinds word_text judged
   init_goes d h =
       goes_item d word.Init [] (operands operand.Nothing operand.Nothing) (λ n. with_part d part.Init n) (map code_text b ++ (codes "main" ∷ (map code_text c ++ codes "end" ∷ [])))
-      (Holds p part.End a b c) (ap (λ x. is_due x word.Init) h.at.part) no_operands refl (λ n bytes _. refl) (λ n.
-      body_goes p part.Init (instrs a) (instrs c) (λ x d. Holds p part.Init a x [] d) (init_stage p a) s b [] (with_part d part.Init n) (codes "main" ∷ (map code_text c ++ codes "end" ∷ []))
-      (Holds p part.End a b c) (record {
+      (HoldsLines p part.End a b c) (ap (λ x. is_due x word.Init) h.at.part) no_operands refl (λ n bytes _. refl) (λ n.
+      body_goes p part.Init (instrs a) (instrs c) (λ x d. HoldsLines p part.Init a x [] d) (init_stage p a) s b [] (with_part d part.Init n) (codes "main" ∷ (map code_text c ++ codes "end" ∷ []))
+      (HoldsLines p part.End a b c) (record {
         at = record { part = refl; pools = h.at.pools; brigades = h.at.brigades };
         first = h.first;
         second = record { labels = h.second.labels; steps = h.second.steps };
@@ -67,13 +68,13 @@ module _ (p : Program) (a b c : List CodeLine) (s : IsModule p) (whole : p.code 
       }) second whole main_goes)
 
   open_goes : (d : Draft) → Declares p p.pools p.brigades d
-      → Goes d (codes "open" ∷ (map code_text a ++ (codes "init" ∷ (map code_text b ++ (codes "main" ∷ (map code_text c ++ codes "end" ∷ [])))))) (Holds p part.End a b c)
+      → Goes d (codes "open" ∷ (map code_text a ++ (codes "init" ∷ (map code_text b ++ (codes "main" ∷ (map code_text c ++ codes "end" ∷ [])))))) (HoldsLines p part.End a b c)
   unfolding word_kinds word_text judged
   open_goes d h =
       let ss = codes "init" ∷ (map code_text b ++ (codes "main" ∷ (map code_text c ++ codes "end" ∷ []))) in
-      goes_item d word.Open [] (operands operand.Nothing operand.Nothing) (λ n. with_part d part.Open n) (map code_text a ++ ss) (Holds p part.End a b c) h.opening no_operands refl
+      goes_item d word.Open [] (operands operand.Nothing operand.Nothing) (λ n. with_part d part.Open n) (map code_text a ++ ss) (HoldsLines p part.End a b c) h.opening no_operands refl
       (λ n bytes _. refl) (λ n.
-      body_goes p part.Open [] (instrs b ++ instrs c) (λ x d. Holds p part.Open x [] [] d) (open_stage p) s a [] (with_part d part.Open n) ss (Holds p part.End a b c) (record {
+      body_goes p part.Open [] (instrs b ++ instrs c) (λ x d. HoldsLines p part.Open x [] [] d) (open_stage p) s a [] (with_part d part.Open n) ss (HoldsLines p part.End a b c) (record {
         at = record { part = refl; pools = h.pools; brigades = h.brigades };
         first = record { labels = h.first.labels; steps = h.first.steps };
         second = h.second;
@@ -81,14 +82,14 @@ module _ (p : Program) (a b c : List CodeLine) (s : IsModule p) (whole : p.code 
         texts = h.texts;
       }) first whole init_goes)
 
-  module_goes : Goes empty_draft (module_texts p a b c) (Holds p part.End a b c)
+  module_goes : Goes empty_draft (module_texts p a b c) (HoldsLines p part.End a b c)
   unfolding word_kinds word_text judged
   module_goes =
       let code = codes "open" ∷ (map code_text a ++ (codes "init" ∷ (map code_text b ++ (codes "main" ∷ (map code_text c ++ codes "end" ∷ []))))) in
       let none : Matches p [] empty_draft.open = record { labels = refl; steps = refl } in
       goes_item empty_draft word.Module (codes "1" ∷ []) (operands operand.One operand.Nothing) (λ n. record empty_draft { part = part.Pools })
-      (pool_texts 0 p.pools ++ (brigade_texts 0 p.brigades ++ code)) (Holds p part.End a b c) refl (one_again kind.One operand.One (codes "1") one_is) refl (λ n bytes _. refl) (λ n.
-      pools_go p p.pools [] 0 (record empty_draft { part = part.Pools }) (brigade_texts 0 p.brigades ++ code) (Holds p part.End a b c) refl (record {
+      (pool_texts 0 p.pools ++ (brigade_texts 0 p.brigades ++ code)) (HoldsLines p part.End a b c) refl (one_again kind.One operand.One (codes "1") one_is) refl (λ n bytes _. refl) (λ n.
+      pools_go p p.pools [] 0 (record empty_draft { part = part.Pools }) (brigade_texts 0 p.brigades ++ code) (HoldsLines p part.End a b c) refl (record {
         brigade = refl;
         opening = refl;
         pools = refl;
@@ -98,7 +99,7 @@ module _ (p : Program) (a b c : List CodeLine) (s : IsModule p) (whole : p.code 
         second = none;
         third = none;
       }) refl s.pools (lower_from 0 p.pools (λ j q e. let z : 0 + j ≡ j = omega arith in rw z (s.parents j q e))) (λ e h.
-      brigades_go p p.pools p.brigades [] 0 e code (Holds p part.End a b c) h refl s.brigades s.pools (homes_from (length p.pools) p.brigades s.homes) open_goes))
+      brigades_go p p.pools p.brigades [] 0 e code (HoldsLines p part.End a b c) h refl s.brigades s.pools (homes_from (length p.pools) p.brigades s.homes) open_goes))
 
 -- the texts of all instructions are those of the module
 all_texts : (p : Program) → IsModule p → texts_of p p.code ≡ p.texts
@@ -141,7 +142,7 @@ text_again text m t =
     let right_c = right_from m part.Main zs names_c m.main t.third
     (part_right m part.Main m.main (length m.code) (A ++ B) C [] s s.serving whole_c front end_c) names_c t.serving.aimed t.serving.texts in
     let goes = module_goes m t.first t.second t.third s whole right_a right_b right_c in
-    let ran = run t.lines empty_draft 1 (Holds m part.End t.first t.second t.third) t.clean (rw t.spelled goes) in
+    let ran = run t.lines empty_draft 1 (HoldsLines m part.End t.first t.second t.third) t.clean (rw t.spelled goes) in
     let d = ran.0 in
     let h = ran.2 in
     let read : draft_read text ≡ Ok d = read_short text t.small ∙ ap (lines_read false empty_draft 1 []) t.whole ∙ fold_read t.lines empty_draft d 1 t.clean ran.1 (ap is_end h.at.part) in

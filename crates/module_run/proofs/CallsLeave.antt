@@ -380,7 +380,7 @@ module _ {R : Type 0} {g : Ghosts R Stored} (ps : Pools Payload) (old new : Brig
     | inr ne ↦ came_same c (next_name old) k f (sym (others k ne) ∙ is)
   ]
 
-  pub one_leaves : run.LeavesOthers old new x.instance x.call → LeavesOthers ps old new c d
+  pub one_leaves : run.LeavesForeign old new x.instance x.call → LeavesOthers ps old new c d
   one_leaves left = record {
     rises = left.rises;
     names = left.names;

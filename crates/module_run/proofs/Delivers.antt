@@ -26,11 +26,11 @@ use Rattle.ring_calls.specs.declared.machine.Instance.{Instance}
 use Rattle.ring_calls.specs.declared.machine.Call.{Call}
 use Rattle.module_run.specs.declared.conn.Filter.{Filter}
 use Rattle.module_run.specs.declared.conn.Conn.{Conn}
-use Rattle.ring_calls.specs.Around.{Around}
+use Rattle.ring_calls.specs.ContextViews.{ContextView}
 use Rattle.module_run.specs.Conns.{conn_of, filter_at, top_of, IsSeenAs}
 use Rattle.ring_passes.specs.Delivery.{IfElse, ReadsGiven, out_of}
 use Rattle.ring_calls.specs.Held.{IsHeld}
-use Rattle.ring_calls.specs.LeftAlone.{LeavesOthers}
+use Rattle.ring_calls.specs.LeftAlone.{LeavesForeign}
 use Rattle.module_run.specs.Proceeding.{IsReady, LeftAs, RefinesStep, MayHold}
 use Rattle.ring_calls.specs.Seen.{seen, seen_over}
 use Rattle.ring_calls.specs.Slots.{slot_at, cursor_at, name_in, marked}
@@ -67,14 +67,14 @@ module _ {R : Type 0} {g : Ghosts R Stored} (chain : List Program) (b l : ℕ) (
   abbrev then_conn : Conn
   then_conn = changed c fs c.labels
 
-  abbrev around : Around
+  abbrev around : ContextView
   around = around_of (map_of tree) c v
 
   module _ (after : filter_at then_conn (top_of c) ≡ Some passed_on) (others : (k : ℕ) → k ≢ top_of c → filter_at then_conn k ≡ filter_at c k) (many : length fs.items ≡ length c.filters.items)
       (slots : (a : ℕ) → slot_at i a ≡ (if a == b then marked Passed (slot_at x.instance b) else slot_at x.instance a))
-      (passed : (around : Around) (call : Call) → IsHeld old x.instance call → seen new around i call ≡ do_pass b (seen old around x.instance call))
+      (passed : (around : ContextView) (call : Call) → IsHeld old x.instance call → seen new around i call ≡ do_pass b (seen old around x.instance call))
       (kept : (call : Call) → IsHeld old x.instance call → IsHeld new i call)
-      (left : (call : Call) → LeavesOthers old new x.instance call) where
+      (left : (call : Call) → LeavesForeign old new x.instance call) where
     abbrev top : OnTop (lists old) c f rest
     top = passer chain b l tree old d c v f rest ready
 

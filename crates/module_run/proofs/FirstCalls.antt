@@ -27,7 +27,7 @@ use Rattle.brigade_ops.specs.Store.{lists, next_name}
 use Rattle.module_run.specs.declared.conn.Conn.{Conn}
 use Rattle.module_run.specs.declared.conn.Filter.{Filter}
 use Rattle.ring_calls.specs.declared.machine.Instance.{Instance}
-use Rattle.module_run.specs.CalledFirst.{CalledFirst, Starts}
+use Rattle.module_run.specs.CalledFirst.{CalledFirst, CallStarts}
 use Rattle.module_run.specs.Conns.{call_name, conn_of, counting, filter_at, lent_by, runs_of, shown_call, shown_filter, shown_frame, shown_instance, stack_of, stack_up, top_of}
 use Rattle.module_run.specs.Conns.{waiting}
 use Rattle.ring_calls.specs.Seen.{is_running, shown, shown_cursor, shown_slot}
@@ -128,7 +128,7 @@ module _ (d : Conn) (waits : d.waits.items ≡ []) (first : d.first ≡ 0) where
 -- The call of the first filter begins, in a request or in none.
 module _ {R : Type 0} {g : Ghosts R Stored} (chain : List Program) (old new : Brigades R g) (c d : Conn) (r : Option ℕ) (stacked : IsStacked chain old c) (idle : c.busy ≡ false)
     (begins : CalledFirst chain (next_name old) (record c { req = r }) d) (over : (n : ℕ) → lists new n ≡ ring.upd (lists old) (next_name old) (Some []) n) where
-  pub started : (f : Filter) → filter_at c 0 ≡ Some f → (e : Filter) × ((filter_at d 0 ≡ Some e) × Starts (next_name old) (handler_at r (module_at chain 0)) f e)
+  pub started : (f : Filter) → filter_at c 0 ≡ Some f → (e : Filter) × ((filter_at d 0 ≡ Some e) × CallStarts (next_name old) (handler_at r (module_at chain 0)) f e)
   unfolding filter_at
   started = begins.first
 
@@ -148,7 +148,7 @@ module _ {R : Type 0} {g : Ghosts R Stored} (chain : List Program) (old new : Br
   pub after_is : filter_at d 0 ≡ Some after
   after_is = (started before before_is).1.0
 
-  pub starts : Starts (next_name old) (handler_at r (module_at chain 0)) before after
+  pub starts : CallStarts (next_name old) (handler_at r (module_at chain 0)) before after
   starts = (started before before_is).1.1
 
   pub waits_are : d.waits.items ≡ []

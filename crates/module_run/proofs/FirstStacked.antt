@@ -22,7 +22,7 @@ use Rattle.module_run.specs.declared.conn.Conn.{Conn}
 use Rattle.module_run.specs.declared.conn.Filter.{Filter}
 use Rattle.ring_calls.specs.declared.machine.Call.{Call}
 use Rattle.ring_calls.specs.declared.machine.Instance.{Instance}
-use Rattle.module_run.specs.CalledFirst.{CalledFirst, Starts}
+use Rattle.module_run.specs.CalledFirst.{CalledFirst, CallStarts}
 use Rattle.module_run.specs.Conns.{conn_of, filter_at, top_of, waiting}
 use Rattle.ring_calls.specs.Held.{IsHeld}
 use Rattle.module_run.specs.Proceeding.{LeftAs}
@@ -55,19 +55,19 @@ module _ {R : Type 0} {g : Ghosts R Stored} (chain : List Program) (old new : Br
     (begins : CalledFirst chain (next_name old) (record c { req = r }) d) (over : (n : ℕ) → lists new n ≡ ring.upd (lists old) (next_name old) (Some []) n)
     (next : next_name new ≡ next_name old + 1) (names : NoneRevived (brigade_of old) (brigade_of new) (next_name old)) (pools : pool_of new ≡ pool_of old)
     (free : pool_of old (next_name old) ≡ None) where
-  abbrev There : ℕ → Filter → Type 0
-  There k f = Was chain old new c d r stacked idle begins over k f
+  abbrev FilterThere : ℕ → Filter → Type 0
+  FilterThere k f = Was chain old new c d r stacked idle begins over k f
 
-  there : (k : ℕ) (f : Filter) → filter_at d k ≡ Some f → There k f
+  there : (k : ℕ) (f : Filter) → filter_at d k ≡ Some f → FilterThere k f
   there = was chain old new c d r stacked idle begins over
 
   abbrev first : Filter
   first = after chain old new c d r stacked idle begins over
 
-  named_as : (k b : ℕ) (f : Filter) (w : There k f) → named_at f b ≡ named_at w.filter b
+  named_as : (k b : ℕ) (f : Filter) (w : FilterThere k f) → named_at f b ≡ named_at w.filter b
   named_as k b f w = ap (λ (i : Instance). name_in (slot_at i b)) w.instance
 
-  named_so : (k b m : ℕ) (f : Filter) (w : There k f) → named_at f b ≡ Some m → named_at w.filter b ≡ Some m
+  named_so : (k b m : ℕ) (f : Filter) (w : FilterThere k f) → named_at f b ≡ Some m → named_at w.filter b ≡ Some m
   named_so k b m f w e = sym (named_as k b f w) ∙ e
 
   not_in : (k : ℕ) (f : Filter) → filter_at d k ≡ Some f → (m : ℕ) → named_at f 8 ≡ Some m → ⊥
@@ -77,7 +77,7 @@ module _ {R : Type 0} {g : Ghosts R Stored} (chain : List Program) (old new : Br
   never_lent k b f is e = (let w = there k f is in no_lent w.filter.lent b (not_lent chain old c stacked idle k w.filter w.is) (sym w.lent ∙ e))
 
   -- only the first filter has a call
-  name_of : (k : ℕ) (f : Filter) (w : There k f) → k ≢ 0 → f.call.name ≡ 0
+  name_of : (k : ℕ) (f : Filter) (w : FilterThere k f) → k ≢ 0 → f.call.name ≡ 0
   name_of k f w other = elim w.call [
     | inl e ↦ absurd (other e.0)
     | inr e ↦ ap (λ (x : Call). x.name) e.1 ∙ no_call chain old c stacked idle k w.filter w.is
@@ -96,7 +96,7 @@ module _ {R : Type 0} {g : Ghosts R Stored} (chain : List Program) (old new : Br
     loose = λ i j b f e fi ej. no_loose i j b f e fi (there i f fi) (there j e ej);
     calls = λ i j f e fi ej pos same. is_first i f fi pos ∙ sym (is_first j e ej (omega (arith, pos, same)));
   } where
-    no_loose : (i j b : ℕ) (f e : Filter) → filter_at d i ≡ Some f → There i f → There j e → named_at f b ≢ Some e.call.name
+    no_loose : (i j b : ℕ) (f e : Filter) → filter_at d i ≡ Some f → FilterThere i f → FilterThere j e → named_at f b ≢ Some e.call.name
     no_loose i j b f e fi w u is = elim u.call [
       | inl q ↦ (let lt = (stacked.held i w.filter w.is).named b e.call.name (named_so i b e.call.name f w is) in let same = q.1 in omega (arith, lt, same))
       | inr q ↦ stacked.apart.loose i j b w.filter u.filter w.is u.is (named_so i b e.call.name f w is ∙ ap (λ (x : Call). Some x.name) q.1)
@@ -135,7 +135,7 @@ module _ {R : Type 0} {g : Ghosts R Stored} (chain : List Program) (old new : Br
         (first_is chain old new c d r stacked idle begins over)));
     quiet = λ e. absurd (true_false d.busy (ap (λ (x : Conn). x.busy) begins.rest) e);
   } where
-    first_runs : (k : ℕ) (f : Filter) → filter_at d k ≡ Some f → There k f → k ≡ 0 → 0 < f.call.name
+    first_runs : (k : ℕ) (f : Filter) → filter_at d k ≡ Some f → FilterThere k f → k ≡ 0 → 0 < f.call.name
     first_runs k f is w z = elim w.call [
       | inl e ↦ (let same = e.1 in let pos = (stacked.held k w.filter w.is).called in omega (arith, same, pos))
       | inr e ↦ absurd (e.0 z)
@@ -147,7 +147,7 @@ module _ {R : Type 0} {g : Ghosts R Stored} (chain : List Program) (old new : Br
   first_was : filter_at c 0 ≡ Some was_first
   first_was = before_is chain old new c d r stacked idle begins over
 
-  began : Starts (next_name old) (handler_at r (module_at chain 0)) was_first first
+  began : CallStarts (next_name old) (handler_at r (module_at chain 0)) was_first first
   began = starts chain old new c d r stacked idle begins over
 
   held_called : (k : ℕ) (f : Filter) → filter_at d k ≡ Some f → IsHeld new f.instance f.call

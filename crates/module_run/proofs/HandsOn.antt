@@ -101,14 +101,14 @@ module _ (c : Conn) (fs : Vec Filter) (ws : Vec ℕ) (next b m : ℕ) (x e y z :
   named_behind a other = ap name_in (h.slots_behind a) ∙ ap (λ (t : Bool). name_in (if t then slot.Made m None Usable else slot_at e.instance a)) (ne_eqb a 8 other)
 
   -- the filter that was there before, of one that is there after the pass: its own brigades were its own
-  pub record Before (j : ℕ) (f : Filter) : Type 0 where
+  pub record FilterBefore (j : ℕ) (f : Filter) : Type 0 where
     pub filter : Filter
     pub is : filter_at c j ≡ Some filter
     pub named : (a n : ℕ) → named_at f a ≡ Some n → (named_at filter a ≡ Some n) ⊎ ((j ≡ top_of c + 1) × (a ≡ 8) × (n ≡ m))
     pub call : j ≢ top_of c + 1 → f.call ≡ filter.call
     pub lent : j ≢ top_of c → j ≢ top_of c + 1 → f.lent ≡ filter.lent
 
-  pub before : (j : ℕ) (f : Filter) → filter_at (changed c fs ws) j ≡ Some f → Before j f
+  pub before : (j : ℕ) (f : Filter) → filter_at (changed c fs ws) j ≡ Some f → FilterBefore j f
   before j f is = elim (cases_eq j (top_of c)) [
     | inl q ↦ (let same : y ≡ f = same_some y f (sym h.top_after ∙ (ap (filter_at (changed c fs ws)) (sym q) ∙ is)) in record {
       filter = x;
@@ -199,7 +199,7 @@ module _ (c : Conn) (fs : Vec Filter) (ws : Vec ℕ) (next b m : ℕ) (x e y z :
     ]
 
     -- and where an earlier one has it, that one lent it
-    handed_here : (i a : ℕ) (f : Filter) → i < top_of c + 1 → filter_at (changed c fs ws) i ≡ Some f → (p : Before i f) → named_at p.filter a ≡ Some m → f.lent ≡ Some a
+    handed_here : (i a : ℕ) (f : Filter) → i < top_of c + 1 → filter_at (changed c fs ws) i ≡ Some f → (p : FilterBefore i f) → named_at p.filter a ≡ Some m → f.lent ≡ Some a
     handed_here i a f less fi p fa = elim (cases_eq i (top_of c)) [
       | inl q ↦
           (let same : f ≡ y = same_some f y (sym fi ∙ (ap (filter_at (changed c fs ws)) q ∙ h.top_after)) in
@@ -219,7 +219,7 @@ module _ (c : Conn) (fs : Vec Filter) (ws : Vec ℕ) (next b m : ℕ) (x e y z :
               apart.own i (top_of c) a b m p.filter x (omega (arith, nine, ne)) (omega (arith, v, off)) p.is h.top fa h.handed in omega (arith, same, low))
         ]
 
-    handed_before : (i j a k : ℕ) (f g : Filter) → i < j → filter_at (changed c fs ws) i ≡ Some f → (p : Before i f) (q : Before j g) → named_at f a ≡ Some k → named_at q.filter 8 ≡ Some k
+    handed_before : (i j a k : ℕ) (f g : Filter) → i < j → filter_at (changed c fs ws) i ≡ Some f → (p : FilterBefore i f) (q : FilterBefore j g) → named_at f a ≡ Some k → named_at q.filter 8 ≡ Some k
         → f.lent ≡ Some a
     handed_before i j a k f g less fi p q fa older = elim (cases_le j (top_of c)) [
       | inr high ↦ absurd (no_some k (sym (incoming j q.filter q.is (not_called c j high)) ∙ older))

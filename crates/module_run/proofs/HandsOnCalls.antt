@@ -16,7 +16,7 @@ use Rattle.module_run.specs.declared.conn.Conn.{Conn}
 use Rattle.module_run.specs.Conns.{filter_at, call_name, waiting, top_of}
 use Rattle.ring_calls.specs.Slots.{slot_at, marked}
 use Rattle.module_run.specs.Stacked.{AreCalled, is_waiting, named_at, names_up}
-use Rattle.module_run.proofs.HandsOn.{HandsOn, Before, before, changed, same_some, no_some, cases_le, not_waiting, top_rises, called_there, called_before, named_top, named_in}
+use Rattle.module_run.proofs.HandsOn.{HandsOn, FilterBefore, before, changed, same_some, no_some, cases_le, not_waiting, top_rises, called_there, called_before, named_top, named_in}
 use Rattle.module_run.proofs.Stacking.{names_same, names_more}
 
 twice_marked : (s : Slot) → marked Passed s ≡ marked Passed (marked Passed s)
@@ -102,7 +102,7 @@ module _ (chain : List Program) (c : Conn) (fs : Vec Filter) (ws : Vec ℕ) (nex
         ∙ ap (names_up (changed c fs ws) c.first) (let r = top_rises c fs ws next b m x e y z h in omega (arith, r))))));
     quiet = λ q. absurd (false≢true (sym q ∙ h.busy));
   } where
-    old : (j : ℕ) (f : Filter) → filter_at (changed c fs ws) j ≡ Some f → Before c fs ws next b m x e y z h j f
+    old : (j : ℕ) (f : Filter) → filter_at (changed c fs ws) j ≡ Some f → FilterBefore c fs ws next b m x e y z h j f
     old = before c fs ws next b m x e y z h
 
     as_was : (j : ℕ) (f : Filter) → filter_at (changed c fs ws) j ≡ Some f → j ≢ top_of c → j ≢ top_of c + 1 → filter_at c j ≡ Some f

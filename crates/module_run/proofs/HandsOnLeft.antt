@@ -30,7 +30,7 @@ use Rattle.ring_calls.specs.declared.machine.Slot.{Slot}
 use Rattle.ring_calls.specs.declared.machine.Slot.TheVariants as slot
 use Rattle.module_run.specs.declared.conn.Filter.{Filter}
 use Rattle.module_run.specs.declared.conn.Conn.{Conn}
-use Rattle.ring_calls.specs.Around.{Around}
+use Rattle.ring_calls.specs.ContextViews.{ContextView}
 use Rattle.module_run.specs.Conns.{filter_at, top_of, shown_call}
 use Rattle.ring_passes.specs.Delivery.{IfElse, ReadsGiven}
 use Rattle.ring_passes.specs.Handed.{lent}
@@ -147,8 +147,8 @@ module _ {R : Type 0} {g : Ghosts R Stored} (chain : List Program) (b l : ℕ) (
       referred = λ file. ap (λ (f : ℕ → ℕ). f file) more.references ∙ old_left.house.referred file;
     }
 
-    module _ (lends : (around : Around) (call : Call) → lent b (seen new around y.instance call) ≡ do_pass b (seen new around x.instance call))
-        (takes : (around : Around) (call : Call)
+    module _ (lends : (around : ContextView) (call : Call) → lent b (seen new around y.instance call) ≡ do_pass b (seen new around x.instance call))
+        (takes : (around : ContextView) (call : Call)
         → seen new around z.instance call ≡ set_brigade 8 (shown_slot (calls_in around call) (lists new) (slot.Made m None Usable)) (seen new around e.instance call))
         (live : is_some (lists old m) ≡ true)
         (begun : (waits : List ℕ) → shown_call (is_running z.call.name waits) (lists new) z.call ≡ fresh_call (next_name old))

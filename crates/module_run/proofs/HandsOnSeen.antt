@@ -26,7 +26,7 @@ use Rattle.ring_calls.specs.declared.machine.Slot.{Slot}
 use Rattle.ring_calls.specs.declared.machine.Slot.TheVariants as slot
 use Rattle.module_run.specs.declared.conn.Filter.{Filter}
 use Rattle.module_run.specs.declared.conn.Conn.{Conn}
-use Rattle.ring_calls.specs.Around.{Around}
+use Rattle.ring_calls.specs.ContextViews.{ContextView}
 use Rattle.module_run.specs.Conns.{conn_of, IsSeenAs, filter_at, call_name, waiting, top_of, runs_of, counting, stack_up, stack_of, shown_frame, shown_filter, shown_instance, shown_call, lent_by}
 use Rattle.ring_passes.specs.Handed.{lent}
 use Rattle.ring_calls.specs.Seen.{seen_over, calls_in, is_running, shown_as, shown_slot}
@@ -64,8 +64,8 @@ in_shown runs m pool mark (Some xs) there = refl
 
 module _ (L M : ℕ → Option Items) (k l : ℕ) (c : Conn) (fs : Vec Filter) (ws : Vec ℕ) (b m : ℕ) (x e y z : Filter) (h : HandsOn c fs ws k b m x e y z) (names : AreNamed c k)
     (kept : (n : ℕ) → n < k → M n ≡ L n) (older : AreOlder L k) (there : is_some (L m) ≡ true) (free : x.lent ≡ None) (idle : e.lent ≡ None)
-    (lends : (around : Around) (call : Call) → lent b (seen_over M l around y.instance call) ≡ do_pass b (seen_over M l around x.instance call))
-    (takes : (around : Around) (call : Call)
+    (lends : (around : ContextView) (call : Call) → lent b (seen_over M l around y.instance call) ≡ do_pass b (seen_over M l around x.instance call))
+    (takes : (around : ContextView) (call : Call)
     → seen_over M l around z.instance call ≡ set_brigade 8 (shown_slot (calls_in around call) M (slot.Made m None Usable)) (seen_over M l around e.instance call)) where
   runs_after : runs_of (changed c fs ws) ≡ is_running z.call.name ws.items
   runs_after = ap (λ (o : Option Filter). is_running (call_name o) ws.items) (ap (filter_at (changed c fs ws)) (top_rises c fs ws k b m x e y z h) ∙ h.behind_after)

@@ -167,7 +167,7 @@ module _ {R : Type 0} {g : Ghosts R Stored} (chain : List Program) (tree : PoolT
         )
 
   -- What came in to a filter came in to the first one, or it is a brigade of the module's own of a filter.
-  pub record IsOwn (n : ℕ) : Type 0 where
+  pub record IsOwnBrigade (n : ℕ) : Type 0 where
     pub at : ℕ
     pub filter : Filter
     pub slot : ℕ
@@ -184,7 +184,7 @@ module _ {R : Type 0} {g : Ghosts R Stored} (chain : List Program) (tree : PoolT
     go true e = e
     go false e = absurd (no_some (named_at f 8) n (stands.left.stacked.called.incoming k f is e) named)
 
-  came_from : (w n : ℕ) (f : Filter) → filter_at c (c.first + w) ≡ Some f → c.first + w ≤ top_of c → named_at f 8 ≡ Some n → IsBrought n ⊎ IsOwn n
+  came_from : (w n : ℕ) (f : Filter) → filter_at c (c.first + w) ≡ Some f → c.first + w ≤ top_of c → named_at f 8 ≡ Some n → IsBrought n ⊎ IsOwnBrigade n
   came_from zero n f is low named = inl (f, (ap (filter_at c) (let e : c.first ≡ c.first + 0 = omega arith in e) ∙ is, named))
   came_from (suc w) n f is low named =
       let stacked = stands.left.stacked in
@@ -202,7 +202,7 @@ module _ {R : Type 0} {g : Ghosts R Stored} (chain : List Program) (tree : PoolT
         some_lent None e = absurd (cc)
         some_lent (Some b) e = (b, refl)
 
-  pub came_in : (k n : ℕ) (f : Filter) → filter_at c k ≡ Some f → named_at f 8 ≡ Some n → IsBrought n ⊎ IsOwn n
+  pub came_in : (k n : ℕ) (f : Filter) → filter_at c k ≡ Some f → named_at f 8 ≡ Some n → IsBrought n ⊎ IsOwnBrigade n
   came_in k n f is named = elim (cases_le k (top_of c)) [
     | inr high ↦ absurd (no_some (named_at f 8) n (stands.left.stacked.called.incoming k f is (not_called c k high)) named)
     | inl low ↦ elim (cases_le c.first k) [
@@ -230,7 +230,7 @@ module _ {R : Type 0} {g : Ghosts R Stored} (chain : List Program) (tree : PoolT
     none_cleared = out 0 ∙ ap (cleared_ring (is_under (map_of tree) c.conn) (is_in 0 []) (pool_of old 0)) stands.left.none
 
     -- brigades of the modules' own are gone
-    own_gone : (n : ℕ) → IsOwn n → lists mid n ≡ None
+    own_gone : (n : ℕ) → IsOwnBrigade n → lists mid n ≡ None
     own_gone n o = go (lists old n) refl where
       go : (l : Option Items) → lists old n ≡ l → lists mid n ≡ None
       go None e = out n ∙ ap (cleared_ring (is_under (map_of tree) c.conn) (is_in n []) (pool_of old n)) e

@@ -7,7 +7,7 @@ use Rattle.module_code.specs.Program.{Program}
 use Rattle.run_model.specs.Chains.{module_at}
 use Rattle.module_run.specs.declared.conn.Conn.{Conn}
 use Rattle.module_run.specs.declared.conn.Filter.{Filter}
-use Rattle.module_run.specs.CalledFirst.{Starts}
+use Rattle.module_run.specs.CalledFirst.{CallStarts}
 use Rattle.module_run.specs.CalledMain.{StartsWith}
 use Rattle.run_model.specs.Pieces.{has_range}
 use Rattle.module_run.specs.declared.conn.OpenFile.{OpenFile}
@@ -35,7 +35,7 @@ set_later [] x k ne = refl
 set_later (y ∷ ys) x zero ne = absurd (ne refl)
 set_later (y ∷ ys) x (suc k) ne = refl
 
-pub starts_as : (name pc at : ℕ) (g f e : Filter) → pc ≡ at → g ≡ f → Starts name pc g e → Starts name at f e
+pub starts_as : (name pc at : ℕ) (g f e : Filter) → pc ≡ at → g ≡ f → CallStarts name pc g e → CallStarts name at f e
 starts_as name pc at g f e same is s = record {
   instance = s.instance ∙ ap (λ (x : Filter). x.instance) is;
   lent = s.lent ∙ ap (λ (x : Filter). x.lent) is;

@@ -28,7 +28,7 @@ use Rattle.ring_calls.specs.declared.machine.Call.{Call}
 use Rattle.ring_calls.specs.declared.machine.Slot.{Slot}
 use Rattle.ring_calls.specs.declared.machine.Slot.TheVariants as slot
 use Rattle.module_run.specs.declared.conn.Filter.{Filter}
-use Rattle.ring_calls.specs.Around.{Around}
+use Rattle.ring_calls.specs.ContextViews.{ContextView}
 use Rattle.ring_passes.specs.Begun.{begun_as}
 use Rattle.module_run.specs.Conns.{shown_instance, shown_call, shown_filter, shown_frame, lent_by}
 use Rattle.ring_calls.specs.Seen.{seen_over, calls_in, home_in, item_in, shown, shown_as, shown_slot}
@@ -114,7 +114,7 @@ module _ (old new : ℕ → Bool) (k : ℕ) (runs : (n : ℕ) → n ≢ k → ne
       with_call call = record { of = j; call = call; pc = f.call.pc }
 
 -- surroundings with nothing but these calls that wait
-abbrev pub amid : List ℕ → Around
+abbrev pub amid : List ℕ → ContextView
 amid waits = record {
   pools = record { path = λ n. []; payloads = λ n. []; next = 0 };
   conn = 0;
@@ -125,7 +125,7 @@ amid waits = record {
   waits = waits;
 }
 
-module _ (L M : ℕ → Option Items) (k l : ℕ) (around : Around) (i : Instance) (call begun : Call) (pc : ℕ) (is : seen_over M l around i begun ≡ begun_as pc (seen_over L k around i call)) where
+module _ (L M : ℕ → Option Items) (k l : ℕ) (around : ContextView) (i : Instance) (call begun : Call) (pc : ℕ) (is : seen_over M l around i begun ≡ begun_as pc (seen_over L k around i call)) where
   pub begun_call : shown_call (calls_in around begun) M begun ≡ fresh_call k
   unfolding seen_over
   begun_call = ap (λ (r : Configuration). r.call) is

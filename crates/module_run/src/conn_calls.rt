@@ -1,7 +1,7 @@
 //! The handlers `open` and `init` of all filters.
 
 ghost use Rattle.std.specs.Prelude.{◌≡◌, ◌<◌, length};
-ghost use Rattle.module_run.specs.CalledFirst.{CalledFirst, Starts};
+ghost use Rattle.module_run.specs.CalledFirst.{CalledFirst, CallStarts};
 
 use crate::conn::{Conn, Filter};
 use brigade_ops::BrigadeId;
@@ -10,7 +10,7 @@ use run_model::Module;
 impl Filter {
     /// A call of this name begins, at this instruction.
     pub(crate) fn start(&mut self, name: BrigadeId, pc: usize)
-        ensures { Starts name pc self.old self.new }
+        ensures { CallStarts name pc self.old self.new }
     {
         self.call.start(name, pc);
     }

@@ -2,7 +2,7 @@
 
 ghost use Rattle.std.specs.Prelude.{◌≡◌, ◌==◌, ◌<◌, ◌+◌, ◌-◌, ◌^◌, ℕ, List, None, Some, [], true, false, is_some, is_ok, if◌then◌else◌, OnOk, OnErr};
 ghost use Rattle.module_run.specs.Prelude.{Device, NoneRevived, upd, Pools, Frame, Linked, is_last, fresh_call, do_pass, PoolTree, Payload, lists, brigade_of, pool_of, references, next_name, Call};
-ghost use Rattle.module_run.specs.Prelude.{Around, shown_call, top_of, lent, CanPass, IsHeld, EndsLoose, LeavesOthers, IsReady, RefinesStep, LeftAs, seen, is_running, live_in, marked, name_in};
+ghost use Rattle.module_run.specs.Prelude.{ContextView, shown_call, top_of, lent, CanPass, IsHeld, EndsLoose, LeavesOthers, IsReady, RefinesStep, LeftAs, seen, is_running, live_in, marked, name_in};
 ghost use Rattle.module_run.specs.Prelude.{slot_at};
 
 use crate::conn::{Conn, Filter};
@@ -51,7 +51,7 @@ impl Filter {
         requires live { is_some (live_in (lists store.now) (slot_at self.old.instance b)) ≡ true }
         ensures name { name_in (slot_at self.old.instance b) ≡ Some result }
         ensures there { is_some (lists store.now result) ≡ true }
-        ensures seen { (around : Around) (call : Call) → lent b (seen store.now around self.new.instance call) ≡ do_pass b (seen store.now around self.old.instance call) }
+        ensures seen { (around : ContextView) (call : Call) → lent b (seen store.now around self.new.instance call) ≡ do_pass b (seen store.now around self.old.instance call) }
         ensures held { (call : Call) → IsHeld store.now self.old.instance call → IsHeld store.now self.new.instance call }
         ensures slots { (a : ℕ) → slot_at self.new.instance a ≡ (if a == b then marked Mark.Passed (slot_at self.old.instance b) else slot_at self.old.instance a) }
         ensures call { self.new.call ≡ self.old.call }

@@ -5,7 +5,7 @@ use Rattle.std.specs.Io.KnownBytes.{Appends, Consumes, IsAtEnd}
 use Rattle.module_code.specs.Program.{Program}
 use Rattle.life_check.specs.Seen.{seen_cert}
 use Rattle.life_check.specs.declared.cert.Cert.{Cert}
-use Rattle.life_cert.specs.Reading.{IsCertText, IsTold}
+use Rattle.life_cert.specs.Reading.{IsCertText, IsReported}
 use Rattle.life_cert.specs.declared.refusal.CertRefusal.{CertRefusal}
 use Rattle.module_tools.specs.declared.answer.CommandOutput.{CommandOutput}
 use Rattle.module_tools.specs.declared.ended.Ended.{Ended}
@@ -74,7 +74,7 @@ of_any P None all = tt
 of_any P (Some xs) all = all xs
 
 -- The fault of a certificate text is what is answered of it and any module.
-pub tells_cert_fault : {E : Type 0} (q : Result CommandOutput E) (text : List ℕ) (p : Program) (r : CertRefusal) → IsTold text r → IfOk q (λ a. TellsCertFault r a.text.items a.ended)
+pub tells_cert_fault : {E : Type 0} (q : Result CommandOutput E) (text : List ℕ) (p : Program) (r : CertRefusal) → IsReported text r → IfOk q (λ a. TellsCertFault r a.text.items a.ended)
     → IfOk q (λ a. IsCheckOf text p a.text.items a.ended)
 tells_cert_fault (Ok a) text p r told tells = inr (r, told, tells)
 tells_cert_fault (Err e) text p r told tells = tt

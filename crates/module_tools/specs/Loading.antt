@@ -3,7 +3,7 @@ use Rattle.std.specs.Prelude.{◌≡◌, List, ℕ, Some, Result, Ok, Err}
 use Rattle.module_code.specs.Program.{Program}
 use Rattle.module_lang.specs.FirstFault.{IsReadAs}
 use Rattle.module_lang.specs.declared.refusal.AsmRefusal.{AsmRefusal}
-use Rattle.life_cert.specs.Reading.{IsCertText, IsTold}
+use Rattle.life_cert.specs.Reading.{IsCertText, IsReported}
 use Rattle.life_cert.specs.declared.refusal.CertRefusal.{CertRefusal}
 use Rattle.life_check.specs.Seen.{seen_cert}
 use Rattle.life_check.specs.declared.cert.Cert.{Cert}
@@ -16,7 +16,7 @@ use Rattle.module_tools.specs.TextAnswers.{TellsAsmFault, TellsCertFault}
 abbrev pub IsLoadedWith : List ℕ → Program → Loaded → Type 0
 IsLoadedWith certificate p (loaded.Part x) =
     (c : Cert) × IsCertText certificate c.slim (seen_cert c) × (seen_part x ≡ record { code = p; cert = Some c })
-IsLoadedWith certificate p (loaded.Told a) = (r : CertRefusal) × IsTold certificate r × TellsCertFault r a.text.items a.ended
+IsLoadedWith certificate p (loaded.Told a) = (r : CertRefusal) × IsReported certificate r × TellsCertFault r a.text.items a.ended
 
 abbrev pub IsLoadedOf : List ℕ → Result Program AsmRefusal → Loaded → Type 0
 IsLoadedOf certificate (Ok p) l = IsLoadedWith certificate p l

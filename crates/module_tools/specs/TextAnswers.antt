@@ -15,7 +15,7 @@ use Rattle.life_check.specs.Typed.{IsTyped, first_refusal}
 use Rattle.life_cert.specs.CertText.{cert_text}
 use Rattle.life_cert.specs.Rounds.{made}
 use Rattle.life_cert.specs.Codes.{code_number as cert_code}
-use Rattle.life_cert.specs.Reading.{IsCertText, IsTold}
+use Rattle.life_cert.specs.Reading.{IsCertText, IsReported}
 use Rattle.life_cert.specs.declared.refusal.CertRefusal.{CertRefusal}
 use Rattle.life_cert.specs.declared.refusal.CertRefusal.TheVariants as cert
 use Rattle.module_tools.specs.declared.ended.Ended.{Ended}
@@ -87,7 +87,7 @@ TellsCertFault cert.NoMemory out e = ⊥
 abbrev pub IsCheckOf : List ℕ → Program → OutputSpec
 IsCheckOf text p out e =
     ((c : Cert) × IsCertText text c.slim (seen_cert c) × IsVerdict p c out e)
-    ⊎ ((r : CertRefusal) × IsTold text r × TellsCertFault r out e)
+    ⊎ ((r : CertRefusal) × IsReported text r × TellsCertFault r out e)
 
 -- what `check` answers to a module text and a certificate text
 abbrev pub IsCheckOutput : List ℕ → List ℕ → OutputSpec

@@ -13,14 +13,14 @@ use byte_streams::{CountedSource, Source};
 use life_cert::read_cert;
 use module_code::Module;
 use module_lang::assemble;
-use script_text::Part;
+use script_text::ScriptModule;
 use std::alloc::{AllocError, Global};
 
 /// What two texts are: a module with its certificate, or not.
 #[derive(Drop)]
 pub enum Loaded {
     /// A module and its certificate, not checked.
-    Part(Part),
+    Part(ScriptModule),
     /// A text that is none, and the line that tells it.
     Told(CommandOutput),
 }
@@ -30,7 +30,7 @@ fn with_cert(alloc: Global, code: Module, text: &[u8]) -> Result<Loaded, AllocEr
     ensures { IfOk result (λ l. IsLoadedWith text.now code l) }
 {
     match read_cert(alloc, text) {
-        Ok(cert) => Ok(Loaded::Part(Part {
+        Ok(cert) => Ok(Loaded::Part(ScriptModule {
             code,
             cert: Some(cert),
         })),

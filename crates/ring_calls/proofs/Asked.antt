@@ -21,7 +21,7 @@ use Rattle.ring_calls.specs.declared.machine.Instance.{Instance}
 use Rattle.ring_calls.specs.declared.machine.Call.{Call}
 use Rattle.ring_calls.specs.declared.machine.Slot.{Slot}
 use Rattle.ring_calls.specs.declared.machine.Slot.TheVariants as slot
-use Rattle.ring_calls.specs.Around.{Around}
+use Rattle.ring_calls.specs.ContextViews.{ContextView}
 use Rattle.ring_calls.specs.Slots.{slot_at, live_in}
 use Rattle.ring_calls.specs.Seen.{seen_over, calls_in, shown, shown_as, shown_slot}
 use Rattle.ring_calls.proofs.Changes.{items_of_slot, live_is}
@@ -53,7 +53,7 @@ null_shown runs L (slot.Made n pool mark) = go (L n) where
   go None = refl
   go (Some xs) = refl
 
-module _ (L : ℕ → Option Items) (k : ℕ) (around : Around) (i : Instance) (call : Call) where
+module _ (L : ℕ → Option Items) (k : ℕ) (around : ContextView) (i : Instance) (call : Call) where
   pub null_brigade : (b : ℕ) (s : Slot) → slot_at i b ≡ s → is_unmade s ≡ is_null_brigade ((seen_over L k around i call).instance.brigades b)
   unfolding seen_over
   null_brigade b s is = ap is_unmade (sym is) ∙ null_shown (calls_in around call) L (slot_at i b)

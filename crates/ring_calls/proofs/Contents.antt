@@ -17,7 +17,7 @@ use Rattle.ring_calls.specs.declared.machine.Instance.{Instance}
 use Rattle.ring_calls.specs.declared.machine.Call.{Call}
 use Rattle.ring_calls.specs.declared.machine.Slot.{Slot}
 use Rattle.ring_calls.specs.declared.machine.Slot.TheVariants as slot
-use Rattle.ring_calls.specs.Around.{Around}
+use Rattle.ring_calls.specs.ContextViews.{ContextView}
 use Rattle.ring_calls.specs.Contents.{contents}
 use Rattle.ring_calls.specs.Tests.{late_data}
 use Rattle.ring_calls.proofs.LateData.{late_data_is}
@@ -37,7 +37,7 @@ unfolding bucket_across
 none_across zero = refl
 none_across (suc p) = refl
 
-module _ (L : ℕ → Option Items) (k : ℕ) (around : Around) (i : Instance) (call : Call) (b : ℕ) where
+module _ (L : ℕ → Option Items) (k : ℕ) (around : ContextView) (i : Instance) (call : Call) (b : ℕ) where
   pub homes_told : homes_fault (contents (calls_in around call) L (live_in L (slot_at i b))) ≡ homes_fault (items_of ((seen_over L k around i call).instance.brigades b))
   unfolding seen_over
   homes_told = ap homes_fault (items_told (calls_in around call) L (slot_at i b))

@@ -8,7 +8,7 @@ use Rattle.ring_calls.specs.declared.machine.Instance.{Instance}
 use Rattle.ring_calls.specs.declared.machine.Call.{Call}
 use Rattle.ring_calls.specs.declared.machine.Slot.{Slot}
 use Rattle.ring_calls.specs.declared.machine.Slot.TheVariants as slot
-use Rattle.ring_calls.specs.Around.{Around}
+use Rattle.ring_calls.specs.ContextViews.{ContextView}
 use Rattle.ring_calls.specs.Slots.{slot_at, live_in}
 use Rattle.ring_calls.specs.Seen.{seen_over, calls_in, shown, shown_as, shown_slot}
 use Rattle.ring_calls.proofs.Changes.{live_is, items_of_slot}
@@ -16,7 +16,7 @@ use Rattle.ring_calls.proofs.Changes.{live_is, items_of_slot}
 pub live_there : (L : ℕ → Option Items) (s : Slot) (n : ℕ) → live_in L s ≡ Some n → is_some (L n) ≡ true
 live_there L s n is = (live_is L s n is).1.1.1
 
-module _ (L : ℕ → Option Items) (k : ℕ) (around : Around) (i : Instance) (call : Call) (b : ℕ) where
+module _ (L : ℕ → Option Items) (k : ℕ) (around : ContextView) (i : Instance) (call : Call) (b : ℕ) where
   pub items_live : (n : ℕ) → live_in L (slot_at i b) ≡ Some n → items_of ((seen_over L k around i call).instance.brigades b) ≡ shown (calls_in around call) (list_at L n)
   items_live n is = let t = live_is L (slot_at i b) n is in items_of_slot L k around i call b n t.0 t.1.0 t.1.1.0
 

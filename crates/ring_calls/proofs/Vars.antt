@@ -20,7 +20,7 @@ use Rattle.ring_calls.specs.declared.machine.Instance.{Instance}
 use Rattle.ring_calls.specs.declared.machine.Call.{Call}
 use Rattle.ring_calls.specs.declared.machine.Slot.{Slot}
 use Rattle.ring_calls.specs.declared.machine.Slot.TheVariants as slot
-use Rattle.ring_calls.specs.Around.{Around}
+use Rattle.ring_calls.specs.ContextViews.{ContextView}
 use Rattle.ring_calls.specs.Held.{HeldOver}
 use Rattle.ring_calls.specs.Slots.{slot_at, name_in, live_in, marked, SameButSlots}
 use Rattle.ring_calls.specs.Seen.{seen_over, calls_in, shown_as, shown_slot}
@@ -29,7 +29,7 @@ use Rattle.ring_calls.proofs.Changes.{ApartIn, ring_here, live_is, seen_same, se
 abbrev instance_as : (ℕ → PoolVar) → (ℕ → BrigadeVar) → (ℕ → ℕ) → Bool → Configuration → Configuration
 instance_as pools brigades numbers sent r = record r { instance = record { pools = pools; brigades = brigades; numbers = numbers; sent = sent } }
 
-pub seen_var : (L : ℕ → Option Items) (k : ℕ) (around : Around) (i new : Instance) (call : Call) (b : ℕ) (s : Slot) → SameButSlots i new
+pub seen_var : (L : ℕ → Option Items) (k : ℕ) (around : ContextView) (i new : Instance) (call : Call) (b : ℕ) (s : Slot) → SameButSlots i new
     → ((a : ℕ) → slot_at new a ≡ (if a == b then s else slot_at i a))
     → seen_over L k around new call ≡ set_brigade b (shown_slot (calls_in around call) L s) (seen_over L k around i call)
 unfolding seen_over set_brigade upd
@@ -65,7 +65,7 @@ clean_shown : (runs : ℕ → Bool) (n : ℕ) (pool : Option ℕ) (mark : Mark) 
 clean_shown runs n pool mark None there = absurd (cc)
 clean_shown runs n pool mark (Some xs) there = refl
 
-module _ (L M : ℕ → Option Items) (k l : ℕ) (around : Around) (i new : Instance) (call : Call) (b : ℕ) where
+module _ (L M : ℕ → Option Items) (k l : ℕ) (around : ContextView) (i new : Instance) (call : Call) (b : ℕ) where
   pub cleaned_step : (n : ℕ) → ApartIn i call → live_in L (slot_at i b) ≡ Some n → SameButSlots i new → ((a : ℕ) → slot_at new a ≡ (if a == b then marked Usable (slot_at i b) else slot_at i a))
       → l ≡ k → ((j : ℕ) → M j ≡ on n (λ xs. []) L j)
       → seen_over M l around new call ≡ do_clean b (seen_over L k around i call)

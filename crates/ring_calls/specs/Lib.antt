@@ -1,4 +1,4 @@
-pub mod Around
+pub mod ContextViews
 pub mod Slots
 pub mod Held
 pub mod Seen

@@ -20,7 +20,7 @@ pub use Rattle.bucket_ring.specs.declared.names.BucketId.{BucketId}
 pub use Rattle.stored_rings.specs.Items.{Items, named_item}
 pub use Rattle.stored_rings.specs.Views.{content_of}
 pub use Rattle.brigade_ops.specs.Store.{brigade_of, bucket_at, lists, next_name}
-pub use Rattle.ring_calls.specs.Around.{Around}
+pub use Rattle.ring_calls.specs.ContextViews.{ContextView}
 pub use Rattle.ring_calls.specs.Asked.{is_answered}
 pub use Rattle.ring_calls.specs.Context.{in_context}
 pub use Rattle.ring_calls.specs.EffectNeeds.{HasNoFault, IsAskable, asks_store, instr_by, is_told}

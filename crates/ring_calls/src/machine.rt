@@ -1,7 +1,7 @@
 //! What a step sees: an instance of a module, and a call of one of its handlers.
 
 ghost use Rattle.std.specs.Prelude.{◌⊎◌, ◌≡◌, ◌<◌, ◌==◌, ◌||◌, ◌+◌, ℕ, Option, [], None, Some, true, false, is_some, if◌then◌else◌, slice_index_or, OnOk};
-ghost use Rattle.ring_calls.specs.Prelude.{Items, set_cursor, Around, seen_over, shown_cursor};
+ghost use Rattle.ring_calls.specs.Prelude.{Items, set_cursor, ContextView, seen_over, shown_cursor};
 
 use brigade_ops::{BrigadeId, BucketId};
 use pool_tree::PoolId;
@@ -186,7 +186,7 @@ impl Call {
     #[tactic(auto, unfolding(crate::specs::Seen::seen_over, crate::specs::Slots::cursor_at, run_model::specs::State::set_cursor, run_model::specs::Indexed::upd))]
     pub fn set_cursor(&mut self, c: u8, cursor_value: CursorValue)
         requires { c < 9 }
-        ensures seen { (rings : ℕ → Option Items) (next : ℕ) (around : Around) (i : Instance)
+        ensures seen { (rings : ℕ → Option Items) (next : ℕ) (around : ContextView) (i : Instance)
             → seen_over rings next around i self.new ≡ set_cursor c (shown_cursor cursor_value) (seen_over rings next around i self.old) }
         ensures cursors { (d : ℕ) → cursor_at self.new d ≡ (if d == c then cursor_value else cursor_at self.old d) }
         ensures name { self.new.name ≡ self.old.name }

@@ -1,7 +1,7 @@
 //! Pool variables, and the pools that operands name.
 
 ghost use Rattle.std.specs.Prelude.{◌≡◌, ℕ, Option, slice_index_or};
-ghost use Rattle.ring_calls.specs.Prelude.{name_in, is_named, pool_named, Items, Payload, Pools, Around, in_context, seen_over};
+ghost use Rattle.ring_calls.specs.Prelude.{name_in, is_named, pool_named, Items, Payload, Pools, ContextView, in_context, seen_over};
 ghost use Rattle.ring_calls.specs.declared.machine.Call.{Call};
 
 use crate::context::Context;
@@ -42,7 +42,7 @@ pub fn is_named(held: Option<PoolId>, name: PoolId) -> bool
 /// The pool that an operand or a declaration names.
 #[tactic(auto, unfolding(crate::specs::Seen::seen_over, run_model::specs::State::named_at))]
 pub fn pool_named(instance: &Instance, context: &Context<'_>, pool: PoolRef) -> Option<PoolId>
-    ensures { (pools : Pools Payload) (rings : ℕ → Option Items) (next : ℕ) (around : Around) (call : Call)
+    ensures { (pools : Pools Payload) (rings : ℕ → Option Items) (next : ℕ) (around : ContextView) (call : Call)
         → result ≡ pool_named (seen_over rings next (in_context context.now pools around) instance.now call) pool }
 {
     match pool {

@@ -27,7 +27,7 @@ use Rattle.ring_calls.specs.declared.machine.Call.{Call}
 use Rattle.ring_calls.specs.declared.machine.Slot.{Slot}
 use Rattle.ring_calls.specs.declared.machine.Slot.TheVariants as slot
 use Rattle.ring_calls.specs.declared.machine.CursorValue.TheVariants as cursor_value
-use Rattle.ring_calls.specs.Around.{Around}
+use Rattle.ring_calls.specs.ContextViews.{ContextView}
 use Rattle.ring_passes.specs.Begun.{begun_as}
 use Rattle.ring_calls.specs.Held.{IsHeld}
 use Rattle.ring_calls.specs.Slots.{slot_at, cursor_at, name_in}
@@ -88,7 +88,7 @@ module _ {R : Type 0} {g : Ghosts R Stored} (old new : Brigades R g) (i : Instan
         go slot.Null e = refl
         go (slot.Made n pool mark) e = ap (shown_as (is_running (next_name old) waits) n pool mark) (as_was n (held.named b n (ap name_in e))) ∙ there n pool mark (lists old n) refl
 
-  pub seen_begun : (pc : ℕ) (around : Around) → next_name new ≡ next_name old + 1 → begun.buffer ≡ [] → begun.pc ≡ pc
+  pub seen_begun : (pc : ℕ) (around : ContextView) → next_name new ≡ next_name old + 1 → begun.buffer ≡ [] → begun.pc ≡ pc
       → seen_over (lists new) (next_name new) around i begun ≡ begun_as pc (seen_over (lists old) (next_name old) around i call)
   unfolding seen_over
   seen_begun pc around next empty at =

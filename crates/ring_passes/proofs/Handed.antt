@@ -17,7 +17,7 @@ use Rattle.ring_calls.specs.declared.machine.Instance.{Instance}
 use Rattle.ring_calls.specs.declared.machine.Call.{Call}
 use Rattle.ring_calls.specs.declared.machine.Slot.{Slot}
 use Rattle.ring_calls.specs.declared.machine.Slot.TheVariants as slot
-use Rattle.ring_calls.specs.Around.{Around}
+use Rattle.ring_calls.specs.ContextViews.{ContextView}
 use Rattle.ring_calls.specs.Contents.{contents}
 use Rattle.ring_passes.specs.Handed.{lent}
 use Rattle.ring_calls.specs.Held.{HeldOver}
@@ -41,7 +41,7 @@ lent_set b v r = ap (λ (w : BrigadeVar). set_brigade b (handed_over w) (set_bri
 abbrev with_sent : Bool → Configuration → Configuration
 with_sent t r = record r { instance = record r.instance { sent = t } }
 
-module _ (L : ℕ → Option Items) (k : ℕ) (around : Around) (i noted new : Instance) (call : Call) (b : ℕ)
+module _ (L : ℕ → Option Items) (k : ℕ) (around : ContextView) (i noted new : Instance) (call : Call) (b : ℕ)
     (same : (a : ℕ) → slot_at noted a ≡ slot_at i a) (pools : noted.pools ≡ i.pools) (numbers : noted.numbers ≡ i.numbers) where
   seen_noted : seen_over L k around noted call ≡ with_sent noted.sent (seen_over L k around i call)
   unfolding seen_over

@@ -11,7 +11,7 @@ use Rattle.ring_calls.specs.declared.machine.Instance.{Instance}
 use Rattle.ring_calls.specs.declared.machine.Call.{Call}
 use Rattle.ring_calls.specs.declared.machine.Slot.{Slot}
 use Rattle.ring_calls.specs.declared.machine.Slot.TheVariants as slot
-use Rattle.ring_calls.specs.Around.{Around}
+use Rattle.ring_calls.specs.ContextViews.{ContextView}
 use Rattle.ring_passes.specs.Handed.{lent}
 use Rattle.ring_calls.specs.Slots.{slot_at, live_in, marked}
 use Rattle.ring_calls.specs.Seen.{seen_over, calls_in, shown_as, shown_slot}
@@ -25,7 +25,7 @@ empty_shown : (runs : ℕ → Bool) (n : ℕ) (pool : Option ℕ) (o : Option It
 empty_shown runs n pool None = refl
 empty_shown runs n pool (Some xs) = refl
 
-module _ (L : ℕ → Option Items) (k : ℕ) (around : Around) (i : Instance) (call : Call) (b : ℕ) where
+module _ (L : ℕ → Option Items) (k : ℕ) (around : ContextView) (i : Instance) (call : Call) (b : ℕ) where
   pub lent_cleaned : (M : ℕ → Option Items) (l n : ℕ) (old : Slot) → ApartIn i call → slot_at i b ≡ marked Passed old → live_in L (slot_at i b) ≡ Some n → l ≡ k → ((j : ℕ) → M j ≡ on n (λ xs. []) L j)
       → seen_over M l around i call ≡ lent b (seen_over L k around i call)
   unfolding seen_over

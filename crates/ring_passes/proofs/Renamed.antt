@@ -9,7 +9,7 @@ use Rattle.stored_rings.specs.Items.{Items}
 use Rattle.brigade_ops.specs.Store.{lists, brigade_of, pool_of, next_name}
 use Rattle.ring_calls.specs.declared.machine.Instance.{Instance}
 use Rattle.ring_calls.specs.declared.machine.Call.{Call}
-use Rattle.ring_calls.specs.Around.{Around}
+use Rattle.ring_calls.specs.ContextViews.{ContextView}
 use Rattle.ring_calls.specs.Held.{HeldOver, IsHeld}
 use Rattle.ring_passes.specs.NamedBelow.{AreNamedBelow}
 use Rattle.ring_calls.specs.Seen.{seen_over}
@@ -43,7 +43,7 @@ module _ (at : BucketId → Option ℕ) (rings : ℕ → Option Items) (pools : 
   named_below held = record { given = λ c id e. (held.given c id e).young; named = held.named; called = held.called }
 
 -- the configuration has another next name, and is else as it was
-pub seen_renamed : (rings : ℕ → Option Items) (next now : ℕ) (around : Around) (i : Instance) (call : Call)
+pub seen_renamed : (rings : ℕ → Option Items) (next now : ℕ) (around : ContextView) (i : Instance) (call : Call)
     → seen_over rings now around i call ≡ (let r = seen_over rings next around i call in record r { shared = record r.shared { next = now } })
 unfolding seen_over
 seen_renamed rings next now around i call = refl

@@ -23,7 +23,7 @@ use Rattle.ring_calls.specs.declared.machine.Instance.{Instance}
 use Rattle.ring_calls.specs.declared.machine.Call.{Call}
 use Rattle.ring_calls.specs.declared.machine.Slot.TheVariants as slot
 use Rattle.ring_calls.specs.declared.machine.CursorValue.TheVariants as cursor_value
-use Rattle.ring_calls.specs.Around.{Around}
+use Rattle.ring_calls.specs.ContextViews.{ContextView}
 use Rattle.ring_calls.specs.Held.{HeldOver}
 use Rattle.ring_calls.specs.Slots.{slot_at, cursor_at, name_in, SameButSlots}
 use Rattle.ring_calls.specs.Seen.{seen_over, calls_in, is_running, shown, shown_slot, shown_cursor}
@@ -87,7 +87,8 @@ module _ (L M : ℕ → Option Items) (i new : Instance) (call ended : Call)
     incoming = λ n pool mark is. absurd ((was 8 n pool mark is).0 refl);
   }
 
-  pub seen_returned : (k l : ℕ) (around : Around) → l ≡ k → SameButSlots i new → L 0 ≡ None → 0 < call.name → ended.name ≡ 0 → ((c : ℕ) → cursor_at ended c ≡ cursor_value.Unset) → ended.buffer ≡ []
+  pub seen_returned : (k l : ℕ) (around : ContextView) → l ≡ k → SameButSlots i new → L 0 ≡ None → 0 < call.name → ended.name ≡ 0 → ((c : ℕ) → cursor_at ended c ≡ cursor_value.Unset)
+      → ended.buffer ≡ []
       → ended.pc ≡ call.pc
       → list_any (λ w. call.name == w) around.waits ≡ false → seen_over M l around new ended ≡ do_return (seen_over L k around i call)
   unfolding seen_over

@@ -115,11 +115,11 @@ module _ (d : Device) (file start len : ℕ) where
   -- So far `out` stands behind what was there before. A span more was asked for.
   module _ (now e : Device) (count n : ℕ) (before out new : List ℕ) (front : HasFront before out) (went : SomeWentWell d now)
       (s : RangeSoFar d now file start len count (drop (length before) out)) where
-    abbrev Asked : Fetched → Type 0
-    Asked f = SpanAdded now e file (start + count) n f out new
+    abbrev SpanAsked : Fetched → Type 0
+    SpanAsked f = SpanAdded now e file (start + count) n f out new
 
     -- all of it was given
-    pub span_all : (limit : ℕ) (f : Fetched) → SpanOf now limit → count < len → n ≡ min limit (len - count) → Asked f → f ≡ fetched.All
+    pub span_all : (limit : ℕ) (f : Fetched) → SpanOf now limit → count < len → n ≡ min limit (len - count) → SpanAsked f → f ≡ fetched.All
         → HasFront before new × SomeWentWell d e × RangeSoFar d e file start len (count + n) (drop (length before) new) × SpanOf e limit
     span_all limit fetched.Ended span below is a never = absurd (cc never)
     span_all limit fetched.Failed span below is a never = absurd (cc never)
@@ -134,7 +134,7 @@ module _ (d : Device) (file start len : ℕ) where
         )
 
     -- The file ends within it, and it was more than one read.
-    pub span_ended : (limit : ℕ) (f : Fetched) → SpanOf now limit → 8000 < n → n ≡ min limit (len - count) → Asked f → f ≡ fetched.Ended → HasFront before new × SomeWentWell d e
+    pub span_ended : (limit : ℕ) (f : Fetched) → SpanOf now limit → 8000 < n → n ≡ min limit (len - count) → SpanAsked f → f ≡ fetched.Ended → HasFront before new × SomeWentWell d e
         × RangeSoFar d e file start len count (drop (length before) new)
     span_ended limit fetched.All span more is a never = absurd (cc never)
     span_ended limit fetched.Failed span more is a never = absurd (cc never)
@@ -156,7 +156,7 @@ module _ (d : Device) (file start len : ℕ) where
         record { added = drop (length before) out; grown = alike ∙ both_parts before out front; taken_so = range_failed d file start len now e count m (drop (length before) out) s below is why }
 
     -- It is one read, and was not given; or the device failed.
-    pub span_lacks : (f : Fetched) → count < len → Asked f → f ≢ fetched.All → (f ≡ fetched.Ended → n ≡ min (len - count) 8000) → ContentAdded d e (content.Range file start len) false before new
+    pub span_lacks : (f : Fetched) → count < len → SpanAsked f → f ≢ fetched.All → (f ≡ fetched.Ended → n ≡ min (len - count) 8000) → ContentAdded d e (content.Range file start len) false before new
     span_lacks fetched.All below a never one = absurd (never refl)
     span_lacks fetched.Ended below a _ one = lacks n (a.grown ∙ append-nil out) below (one refl) (inr (a.fetched_so.1, a.fetched_so.0))
     span_lacks fetched.Failed below a _ one = lacks (min (len - count) 8000) (a.grown ∙ append-nil out) below refl (inl a.fetched_so)

@@ -13,12 +13,12 @@ pub use Rattle.bucket_kinds.specs.Reading.{IsOpenFor}
 pub use Rattle.stored_rings.specs.Items.{named}
 pub use Rattle.stored_rings.specs.Views.{content_of}
 pub use Rattle.brigade_ops.specs.Store.{brigade_of, bucket_at, lists, next_name, pool_of, references}
-pub use Rattle.ring_calls.specs.Around.{Around}
+pub use Rattle.ring_calls.specs.ContextViews.{ContextView}
 pub use Rattle.ring_calls.specs.Contents.{contents}
 pub use Rattle.ring_calls.specs.Ends.{EndInFiles}
 pub use Rattle.ring_calls.specs.Given.{RangeIsOpen}
 pub use Rattle.ring_calls.specs.Held.{IsHeld}
-pub use Rattle.ring_calls.specs.LeftAlone.{LeavesOthers}
+pub use Rattle.ring_calls.specs.LeftAlone.{LeavesForeign}
 pub use Rattle.ring_calls.specs.Seen.{calls_in, seen, shown, shown_slot}
 pub use Rattle.ring_calls.specs.Slots.{SameButSlots, cursor_at, live_in, marked, name_in, slot_at}
 pub use Rattle.ring_calls.specs.declared.machine.Call.{Call}

@@ -2,7 +2,7 @@
 
 ghost use Rattle.std.specs.Prelude.{◌≡◌, ◌<◌, ℕ, Some, is_some, true};
 ghost use Rattle.ring_run.specs.Prelude.{NoneRevived, found, list_at, on, without, do_before, do_delete, do_unlink, put_into, spot, InBrigade, OnBucket, OnLoose, put_at, Bucket, lists, brigade_of};
-ghost use Rattle.ring_run.specs.Prelude.{pool_of, references, next_name, put_item, Around, IsHeld, LeavesOthers, StandsAs, seen, live_in, slot_at};
+ghost use Rattle.ring_run.specs.Prelude.{pool_of, references, next_name, put_item, ContextView, IsHeld, LeavesForeign, StandsAs, seen, live_in, slot_at};
 
 use brigade_ops::{BrigadeId, Brigades, BucketId, Rings, Stored};
 use ring_calls::machine::{Call, Instance};
@@ -19,9 +19,9 @@ pub(crate) fn unlink<R: Rings<Stored> + Drop>(
     requires held { IsHeld store.old instance.now call.now }
     requires runs { 0 < call.now.name }
     requires stands { StandsAs store.old instance.now call.now c InBrigade }
-    ensures new { (around : Around) → let r = seen store.old around instance.now call.now in seen store.new around instance.now call.now ≡ do_unlink (spot r c) r }
+    ensures new { (around : ContextView) → let r = seen store.old around instance.now call.now in seen store.new around instance.now call.now ≡ do_unlink (spot r c) r }
     ensures held { IsHeld store.new instance.now call.now }
-    ensures left { LeavesOthers store.old store.new instance.now call.now }
+    ensures left { LeavesForeign store.old store.new instance.now call.now }
 {
     store.move_tail(call.name, call.bucket(c));
 }
@@ -36,9 +36,9 @@ pub(crate) fn delete<R: Rings<Stored> + Drop>(
     requires cursor { c < 9 }
     requires held { IsHeld store.old instance.now call.now }
     requires stands { StandsAs store.old instance.now call.now c OnBucket }
-    ensures new { (around : Around) → let r = seen store.old around instance.now call.now in seen store.new around instance.now call.now ≡ do_delete (spot r c) r }
+    ensures new { (around : ContextView) → let r = seen store.old around instance.now call.now in seen store.new around instance.now call.now ≡ do_delete (spot r c) r }
     ensures held { IsHeld store.new instance.now call.now }
-    ensures left { LeavesOthers store.old store.new instance.now call.now }
+    ensures left { LeavesForeign store.old store.new instance.now call.now }
 {
     store.drop_bucket(call.bucket(c));
 }
@@ -75,9 +75,9 @@ pub(crate) fn insert<R: Rings<Stored> + Drop>(
     requires held { IsHeld store.old instance.now call.now }
     requires live { is_some (live_in (lists store.old) (slot_at instance.now b)) ≡ true }
     requires stands { StandsAs store.old instance.now call.now c OnLoose }
-    ensures new { (around : Around) → let r = seen store.old around instance.now call.now in seen store.new around instance.now call.now ≡ put_into (put_at side) b (spot r c) r }
+    ensures new { (around : ContextView) → let r = seen store.old around instance.now call.now in seen store.new around instance.now call.now ≡ put_into (put_at side) b (spot r c) r }
     ensures held { IsHeld store.new instance.now call.now }
-    ensures left { LeavesOthers store.old store.new instance.now call.now }
+    ensures left { LeavesForeign store.old store.new instance.now call.now }
 {
     move_to(store, side, instance.brigade(b), call.bucket(c));
 }
@@ -95,9 +95,9 @@ pub(crate) fn before<R: Rings<Stored> + Drop>(
     requires held { IsHeld store.old instance.now call.now }
     requires loose { StandsAs store.old instance.now call.now c OnLoose }
     requires within { StandsAs store.old instance.now call.now d InBrigade }
-    ensures new { (around : Around) → let r = seen store.old around instance.now call.now in seen store.new around instance.now call.now ≡ do_before (spot r c) (spot r d) r }
+    ensures new { (around : ContextView) → let r = seen store.old around instance.now call.now in seen store.new around instance.now call.now ≡ do_before (spot r c) (spot r d) r }
     ensures held { IsHeld store.new instance.now call.now }
-    ensures left { LeavesOthers store.old store.new instance.now call.now }
+    ensures left { LeavesForeign store.old store.new instance.now call.now }
 {
     store.move_before(call.bucket(d), call.bucket(c));
 }

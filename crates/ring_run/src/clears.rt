@@ -1,8 +1,8 @@
 //! Pools are cleared and destroyed (apr_pool_clear, apr_pool_destroy).
 
 ghost use Rattle.std.specs.Prelude.{◌≡◌, ◌≢◌, ◌∷◌, [], ℕ, Some, IsTrue, OnOk, OnErr};
-ghost use Rattle.ring_run.specs.Prelude.{Program, NoneRevived, is_live, is_under, map_of, IsHouse, AreOpen, brigade_of, pool_of, references, next_name, Around, IsHeld, LeavesRest, LeavesUncleared};
-ghost use Rattle.ring_run.specs.Prelude.{seen, WasDone, during, with_files, LooksAt, pool_to_clear};
+ghost use Rattle.ring_run.specs.Prelude.{Program, NoneRevived, is_live, is_under, map_of, IsHouse, AreOpen, brigade_of, pool_of, references, next_name, ContextView, IsHeld, LeavesRest};
+ghost use Rattle.ring_run.specs.Prelude.{LeavesUncleared, seen, WasDone, during, with_files, LooksAt, pool_to_clear};
 ghost use Rattle.run_model.specs.declared.effect.Effect.TheVariants as effect;
 
 use crate::labels::add_labels;
@@ -34,11 +34,11 @@ pub(crate) fn clear_pool<R: Rings<Stored> + Drop, F: Files>(
     requires below { (pool : ℕ) → pool_to_clear instance.now (effect.EmptyPool kind q) ≡ Some pool → (map_of tree.old).path pool ≢ pool ∷ [] }
     requires looks { (pool : ℕ) → pool_to_clear instance.now (effect.EmptyPool kind q) ≡ Some pool
         → LooksAt context.now.rings.now (is_under (map_of tree.old) pool) (pool_of store.old) instance.now call.now }
-    ensures ok { OnOk result ((code : Program) (around : Around)
+    ensures ok { OnOk result ((code : Program) (around : ContextView)
         → WasDone (F.device files.old) (F.device files.new) code (effect.EmptyPool kind q) (seen store.old (during context.now
         (map_of tree.old) handed.old.items around) instance.now call.now) (λ fs. seen store.new (with_files fs (during context.now
         (map_of tree.new) handed.new.items around)) instance.now call.now)) }
-    ensures err { OnErr result ((around : Around)
+    ensures err { OnErr result ((around : ContextView)
         → seen store.new (during context.now (map_of tree.new) handed.new.items around) instance.now call.now
         ≡ seen store.old (during context.now (map_of tree.old) handed.old.items around) instance.now call.now) }
     ensures kept { OnErr result (map_of tree.new ≡ map_of tree.old) }

@@ -1,7 +1,7 @@
 //! What makes a brigade (apr_brigade_create).
 
 ghost use Rattle.std.specs.Prelude.{◌≡◌, ◌<◌, Some, IsTrue, OnOk, OnErr};
-ghost use Rattle.ring_run.specs.Prelude.{Program, pool_of_brigade, is_live, pool_named, do_create, map_of, IsHouse, next_name, references, Call, Around, KeepNames, IsHeld, LeavesRest, seen};
+ghost use Rattle.ring_run.specs.Prelude.{Program, pool_of_brigade, is_live, pool_named, do_create, map_of, IsHouse, next_name, references, Call, ContextView, KeepNames, IsHeld, LeavesRest, seen};
 
 use brigade_ops::{Brigades, PoolId, PoolTree, Rings, Stored};
 use ring_calls::machine::{Instance, Slot};
@@ -19,10 +19,10 @@ pub(crate) fn create<R: Rings<Stored> + Drop>(
 ) -> Result<(), AllocError>
     requires slot { o < 8 }
     requires live { IsTrue (is_live (map_of tree.old) pool) }
-    ensures ok { OnOk result ((code : Program) (around : Around) (call : Call) → IsHeld store.old instance.old call
+    ensures ok { OnOk result ((code : Program) (around : ContextView) (call : Call) → IsHeld store.old instance.old call
         → let r = seen store.old (record around { pools = map_of tree.old }) instance.old call in pool_named r (pool_of_brigade code o) ≡ Some pool
         → seen store.new (record around { pools = map_of tree.new }) instance.new call ≡ do_create code o r) }
-    ensures err { OnErr result ((around : Around) (call : Call)
+    ensures err { OnErr result ((around : ContextView) (call : Call)
         → seen store.new (record around { pools = map_of tree.new }) instance.new call ≡ seen store.old (record around { pools = map_of tree.old }) instance.old call) }
     ensures held { (call : Call) → IsHeld store.old instance.old call → IsHeld store.new instance.new call }
     ensures house { IsHouse store.old (map_of tree.old) → IsHouse store.new (map_of tree.new) }

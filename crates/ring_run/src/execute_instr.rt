@@ -1,8 +1,8 @@
 //! One instruction is carried out: what it does, and where it leads.
 
 ghost use Rattle.std.specs.Prelude.{◌≡◌, ◌≢◌, ◌∷◌, ◌≤◌, ◌<◌, ℕ, [], None, Some, true, false, length, IsOk, IfOk, OnOk, OnErr};
-ghost use Rattle.ring_run.specs.Prelude.{fits, NoneRevived, fault, is_under, grows, map_of, IsHouse, AreOpen, brigade_of, pool_of, references, next_name, clears_pool, is_carried, Around, KeepNames};
-ghost use Rattle.ring_run.specs.Prelude.{WasCarriedOut, during, with_files, LooksAt, EndInFiles, FitKinds, RangesOpen, IsHeld, LeavesRest, LeavesUncleared, cleared_in, seen, in_context};
+ghost use Rattle.ring_run.specs.Prelude.{fits, NoneRevived, fault, is_under, grows, map_of, IsHouse, AreOpen, brigade_of, pool_of, references, next_name, clears_pool, is_carried, ContextView};
+ghost use Rattle.ring_run.specs.Prelude.{KeepNames, WasCarriedOut, during, with_files, LooksAt, EndInFiles, FitKinds, RangesOpen, IsHeld, LeavesRest, LeavesUncleared, cleared_in, seen, in_context};
 
 use crate::clears::clear_pool;
 use crate::execute_without_files::execute_without_files;
@@ -39,21 +39,21 @@ pub fn execute_instr<R: Rings<Stored> + Drop, F: Files>(
     requires open { AreOpen (references store.old) (F.device files.old) }
     requires fits { FitKinds store.old instance.old }
     requires ends { EndInFiles store.old instance.old }
-    requires ranges { (around : Around) → RangesOpen (F.device files.old) (seen store.old (in_context context.now (map_of tree.old) around) instance.old call.old) }
-    requires faultless { (around : Around) → fault code.now (seen store.old (in_context context.now (map_of tree.old) around) instance.old call.old) instr ≡ None }
+    requires ranges { (around : ContextView) → RangesOpen (F.device files.old) (seen store.old (in_context context.now (map_of tree.old) around) instance.old call.old) }
+    requires faultless { (around : ContextView) → fault code.now (seen store.old (in_context context.now (map_of tree.old) around) instance.old call.old) instr ≡ None }
     requires below { (pool : ℕ) → cleared_in instance.old instr ≡ Some pool → (map_of tree.old).path pool ≢ pool ∷ [] }
     requires looks { (pool : ℕ) → cleared_in instance.old instr ≡ Some pool → LooksAt context.now.rings.now (is_under (map_of tree.old) pool) (pool_of store.old) instance.old call.old }
-    ensures ok { IfOk result (λ exit. (around : Around)
+    ensures ok { IfOk result (λ exit. (around : ContextView)
         → WasCarriedOut (F.device files.old) (F.device files.new) code.now instr (seen store.old (during context.now
         (map_of tree.old) handed.old.items around) instance.old call.old) exit (λ fs. seen store.new (with_files fs (during context.now
         (map_of tree.new) handed.new.items around)) instance.new call.new)) }
-    ensures err { OnErr result ((around : Around)
+    ensures err { OnErr result ((around : ContextView)
         → seen store.new (during context.now (map_of tree.new) handed.new.items around) instance.new call.new
         ≡ seen store.old (during context.now (map_of tree.old) handed.old.items around) instance.old call.old) }
     ensures kept { OnErr result (map_of tree.new ≡ map_of tree.old) }
     ensures unread { OnErr result (F.device files.new ≡ F.device files.old) }
     ensures unmoved { OnErr result (LeavesRest store.old store.new instance.old call.old) }
-    ensures sure { (around : Around) → let r = seen store.old (in_context context.now (map_of tree.old) around) instance.old call.old in grows r instr ≡ false → IsOk result }
+    ensures sure { (around : ContextView) → let r = seen store.old (in_context context.now (map_of tree.old) around) instance.old call.old in grows r instr ≡ false → IsOk result }
     ensures held { IsHeld store.new instance.new call.new }
     ensures house { IsHouse store.new (map_of tree.new) }
     ensures open { AreOpen (references store.new) (F.device files.new) }

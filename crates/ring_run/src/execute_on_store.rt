@@ -1,8 +1,8 @@
 //! What an effect does that changes no pools and no files.
 
 ghost use Rattle.std.specs.Prelude.{◌≡◌, ◌<◌, ◌≤◌, ℕ, None, true, false, length, IsOk, OnOk, OnErr};
-ghost use Rattle.ring_run.specs.Prelude.{fits, got, Choice, do_effect, number_of, changes_pools_by, keeps_files_by, HasNoFault, instr_with, grows_by, Around, EndInFiles, FitKinds, IsHeld};
-ghost use Rattle.ring_run.specs.Prelude.{LeavesOthers, map_of, in_context, seen, name_in, slot_at};
+ghost use Rattle.ring_run.specs.Prelude.{fits, got, Choice, do_effect, number_of, changes_pools_by, keeps_files_by, HasNoFault, instr_with, grows_by, ContextView, EndInFiles, FitKinds, IsHeld};
+ghost use Rattle.ring_run.specs.Prelude.{LeavesForeign, map_of, in_context, seen, name_in, slot_at};
 ghost use Rattle.run_model.specs.declared.effect.Effect.TheVariants as effect;
 
 use crate::execute_in_store::move_buckets;
@@ -27,8 +27,8 @@ fn change_number<R: Rings<Stored> + Drop>(
 )
     requires fit { fits code.now (instr_with (effect.Number n number)) ≡ true }
     requires held { IsHeld store.now instance.old call.now }
-    requires faultless { (around : Around) × HasNoFault code.now store.now around instance.old call.now (effect.Number n number) }
-    ensures new { (around : Around) → let r = seen store.now around instance.old call.now in seen store.now around instance.new call.now ≡ got n (number_of r n number) r }
+    requires faultless { (around : ContextView) × HasNoFault code.now store.now around instance.old call.now (effect.Number n number) }
+    ensures new { (around : ContextView) → let r = seen store.now around instance.old call.now in seen store.now around instance.new call.now ≡ got n (number_of r n number) r }
     ensures held { IsHeld store.now instance.new call.now }
     ensures slots { (b : ℕ) → slot_at instance.new b ≡ slot_at instance.old b }
 {
@@ -62,15 +62,15 @@ pub(crate) fn execute_on_store<R: Rings<Stored> + Drop>(
     requires runs { 0 < call.old.name }
     requires fits { FitKinds store.old instance.old }
     requires ends { EndInFiles store.old instance.old }
-    requires faultless { (around : Around) → HasNoFault code.now store.old (in_context context.now (map_of tree.now) around) instance.old call.old effect }
-    ensures ok { OnOk result ((around : Around) (choice : Choice) → let r = seen store.old (in_context context.now (map_of tree.now) around) instance.old call.old in
+    requires faultless { (around : ContextView) → HasNoFault code.now store.old (in_context context.now (map_of tree.now) around) instance.old call.old effect }
+    ensures ok { OnOk result ((around : ContextView) (choice : Choice) → let r = seen store.old (in_context context.now (map_of tree.now) around) instance.old call.old in
         seen store.new (in_context context.now (map_of tree.now) around) instance.new call.new ≡ do_effect code.now choice effect r) }
-    ensures err { OnErr result ((around : Around) → seen store.new around instance.new call.new ≡ seen store.old around instance.old call.old) }
-    ensures sure { (around : Around) → let r = seen store.old (in_context context.now (map_of tree.now) around) instance.old call.old in grows_by r effect ≡ false → IsOk result }
+    ensures err { OnErr result ((around : ContextView) → seen store.new around instance.new call.new ≡ seen store.old around instance.old call.old) }
+    ensures sure { (around : ContextView) → let r = seen store.old (in_context context.now (map_of tree.now) around) instance.old call.old in grows_by r effect ≡ false → IsOk result }
     ensures held { IsHeld store.new instance.new call.new }
     ensures name { call.new.name ≡ call.old.name }
     ensures slots { (b : ℕ) → name_in (slot_at instance.new b) ≡ name_in (slot_at instance.old b) }
-    ensures left { LeavesOthers store.old store.new instance.old call.old }
+    ensures left { LeavesForeign store.old store.new instance.old call.old }
 {
     match effect {
         Effect::Nothing => Ok(()),

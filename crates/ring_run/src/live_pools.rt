@@ -1,7 +1,7 @@
 //! The pools that operands and declarations name, where there is no fault.
 
 ghost use Rattle.std.specs.Prelude.{◌≡◌, ℕ, Option, None, Some, IsTrue};
-ghost use Rattle.ring_run.specs.Prelude.{WPool, fault_want, is_live, pool_named, map_of, Items, Call, Around, seen_over, in_context};
+ghost use Rattle.ring_run.specs.Prelude.{WPool, fault_want, is_live, pool_named, map_of, Items, Call, ContextView, seen_over, in_context};
 
 use brigade_ops::{PoolId, PoolTree};
 use ring_calls::context::Context;
@@ -17,8 +17,8 @@ pub(crate) fn live_pool(
     pool: PoolRef,
 ) -> PoolId
     requires there { (rings : ℕ → Option Items)
-        × ((next : ℕ) × ((around : Around) × ((call : Call) × (fault_want (seen_over rings next (in_context context.now (map_of tree.now) around) instance.now call) (WPool pool) ≡ None)))) }
-    ensures named { (rings : ℕ → Option Items) (next : ℕ) (around : Around) (call : Call)
+        × ((next : ℕ) × ((around : ContextView) × ((call : Call) × (fault_want (seen_over rings next (in_context context.now (map_of tree.now) around) instance.now call) (WPool pool) ≡ None)))) }
+    ensures named { (rings : ℕ → Option Items) (next : ℕ) (around : ContextView) (call : Call)
         → pool_named (seen_over rings next (in_context context.now (map_of tree.now) around) instance.now call) pool ≡ Some result }
     ensures live { IsTrue (is_live (map_of tree.now) result) }
 {

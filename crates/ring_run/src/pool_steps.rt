@@ -1,8 +1,8 @@
 //! What instructions do to pools that stay: they are made, and labels are registered with them and taken out.
 
 ghost use Rattle.std.specs.Prelude.{◌≡◌, ◌<◌, ℕ, Option, Some, length, IsTrue, OnOk, OnErr};
-ghost use Rattle.ring_run.specs.Prelude.{Program, pool_of_pool, is_live, pool_named, do_pcreate, label_killed, label_registered, on_pool, text_of, map_of, AreHoused, Items, Call, Instance, Around};
-ghost use Rattle.ring_run.specs.Prelude.{seen_over, slot_at};
+ghost use Rattle.ring_run.specs.Prelude.{Program, pool_of_pool, is_live, pool_named, do_pcreate, label_killed, label_registered, on_pool, text_of, map_of, AreHoused, Items, Call, Instance};
+ghost use Rattle.ring_run.specs.Prelude.{ContextView, seen_over, slot_at};
 
 use crate::labels::newest_label;
 use crate::makers::text;
@@ -21,10 +21,10 @@ pub(crate) fn create_pool(
 ) -> Result<(), AllocError>
     requires slot { q < 8 }
     requires live { IsTrue (is_live (map_of tree.old) parent) }
-    ensures ok { OnOk result ((code : Program) (rings : ℕ → Option Items) (next : ℕ) (around : Around) (call : Call)
+    ensures ok { OnOk result ((code : Program) (rings : ℕ → Option Items) (next : ℕ) (around : ContextView) (call : Call)
         → let r = seen_over rings next (record around { pools = map_of tree.old }) instance.old call in pool_named r (pool_of_pool code q) ≡ Some parent
         → seen_over rings next (record around { pools = map_of tree.new }) instance.new call ≡ do_pcreate code q r) }
-    ensures err { OnErr result ((rings : ℕ → Option Items) (next : ℕ) (around : Around) (call : Call)
+    ensures err { OnErr result ((rings : ℕ → Option Items) (next : ℕ) (around : ContextView) (call : Call)
         → seen_over rings next (record around { pools = map_of tree.new }) instance.new call ≡ seen_over rings next (record around { pools = map_of tree.old }) instance.old call) }
     ensures slots { (b : ℕ) → slot_at instance.new b ≡ slot_at instance.old b }
     ensures house { (rings : ℕ → Option Items) (pools : ℕ → Option ℕ) (references : ℕ → ℕ) → AreHoused rings pools references (map_of tree.old) → AreHoused rings pools references (map_of tree.new) }
@@ -48,10 +48,10 @@ pub(crate) fn label(
 ) -> Result<(), AllocError>
     requires declared { t < length code.now.texts }
     requires live { IsTrue (is_live (map_of tree.old) pool) }
-    ensures ok { OnOk result ((rings : ℕ → Option Items) (next : ℕ) (around : Around) (i : Instance) (call : Call)
+    ensures ok { OnOk result ((rings : ℕ → Option Items) (next : ℕ) (around : ContextView) (i : Instance) (call : Call)
         → seen_over rings next (record around { pools = map_of tree.new }) i call
         ≡ on_pool (label_registered (text_of code.now t)) (Some pool) (seen_over rings next (record around { pools = map_of tree.old }) i call)) }
-    ensures err { OnErr result ((rings : ℕ → Option Items) (next : ℕ) (around : Around) (i : Instance) (call : Call)
+    ensures err { OnErr result ((rings : ℕ → Option Items) (next : ℕ) (around : ContextView) (i : Instance) (call : Call)
         → seen_over rings next (record around { pools = map_of tree.new }) i call ≡ seen_over rings next (record around { pools = map_of tree.old }) i call) }
     ensures house { (rings : ℕ → Option Items) (pools : ℕ → Option ℕ) (references : ℕ → ℕ) → AreHoused rings pools references (map_of tree.old) → AreHoused rings pools references (map_of tree.new) }
     ensures tree_unasked { tree.new.asked ≡ tree.old.asked }
@@ -67,7 +67,7 @@ pub(crate) fn label(
 pub(crate) fn unlabel(code: &Module, tree: &mut PoolTree<Payload>, pool: PoolId, t: u8)
     requires declared { t < length code.now.texts }
     requires live { IsTrue (is_live (map_of tree.old) pool) }
-    ensures new { (rings : ℕ → Option Items) (next : ℕ) (around : Around) (i : Instance) (call : Call)
+    ensures new { (rings : ℕ → Option Items) (next : ℕ) (around : ContextView) (i : Instance) (call : Call)
         → seen_over rings next (record around { pools = map_of tree.new }) i call
         ≡ on_pool (label_killed (text_of code.now t)) (Some pool) (seen_over rings next (record around { pools = map_of tree.old }) i call) }
     ensures house { (rings : ℕ → Option Items) (pools : ℕ → Option ℕ) (references : ℕ → ℕ) → AreHoused rings pools references (map_of tree.old) → AreHoused rings pools references (map_of tree.new) }

@@ -1,7 +1,7 @@
 //! The buckets of a brigade are set aside into the pool of another (ap_save_brigade).
 
 ghost use Rattle.std.specs.Prelude.{◌≡◌, ◌≢◌, ◌<◌, ℕ, All, Some, true, false, is_some, IsTrue, IsOk, OnOk, OnErr};
-ghost use Rattle.ring_run.specs.Prelude.{Device, is_live, items_of, items_at, do_save, made_on, takes_reference, map_of, AreOpen, IsHouse, lists, pool_of, references, Call, Around, RangeIsOpen};
+ghost use Rattle.ring_run.specs.Prelude.{Device, is_live, items_of, items_at, do_save, made_on, takes_reference, map_of, AreOpen, IsHouse, lists, pool_of, references, Call, ContextView, RangeIsOpen};
 ghost use Rattle.ring_run.specs.Prelude.{VariablesApart, AreOn, IsHeld, LeavesRest, live_in, slot_at, seen};
 
 use brigade_ops::{Brigades, PoolTree, Rings, Stored};
@@ -27,16 +27,16 @@ pub(crate) fn save<R: Rings<Stored> + Drop>(
     requires held { VariablesApart instance.now }
     requires on { AreOn (lists store.old) (pool_of store.old) instance.now }
     requires live { (n p : ℕ) → live_in (lists store.old) (slot_at instance.now o) ≡ Some n → pool_of store.old n ≡ Some p → IsTrue (is_live (map_of tree.old) p) }
-    ensures ok { OnOk result ((around : Around) (call : Call) → IsHeld store.old instance.now call
+    ensures ok { OnOk result ((around : ContextView) (call : Call) → IsHeld store.old instance.now call
         → seen store.new (record around { pools = map_of tree.new }) instance.now call ≡ do_save o b (seen store.old (record around { pools = map_of tree.old }) instance.now call)) }
-    ensures sure { (around : Around) (call : Call) → let r = seen store.old (record around { pools = map_of tree.old }) instance.now call in
+    ensures sure { (around : ContextView) (call : Call) → let r = seen store.old (record around { pools = map_of tree.old }) instance.now call in
         takes_reference (map_of tree.old) (made_on (r.instance.brigades o)) (items_at r b) ≡ false → IsOk result }
-    ensures err { OnErr result ((around : Around) (call : Call)
+    ensures err { OnErr result ((around : ContextView) (call : Call)
         → seen store.new (record around { pools = map_of tree.new }) instance.now call ≡ seen store.old (record around { pools = map_of tree.old }) instance.now call) }
     ensures held { (call : Call) → IsHeld store.old instance.now call → IsHeld store.new instance.now call }
     ensures house { IsHouse store.old (map_of tree.old) → IsHouse store.new (map_of tree.new) }
     ensures left { (call : Call) → LeavesRest store.old store.new instance.now call }
-    ensures open { (d : Device) (around : Around) (call : Call) → All (RangeIsOpen d) (items_of ((seen store.old around instance.now call).instance.brigades b))
+    ensures open { (d : Device) (around : ContextView) (call : Call) → All (RangeIsOpen d) (items_of ((seen store.old around instance.now call).instance.brigades b))
         → AreOpen (references store.old) d → AreOpen (references store.new) d }
     ensures tree_unasked { tree.new.asked ≡ tree.old.asked }
 {

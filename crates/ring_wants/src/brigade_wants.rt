@@ -2,7 +2,7 @@
 //! the call.
 
 ghost use Rattle.std.specs.Prelude.{◌≡◌, ◌<◌, true, is_some, IfSome};
-ghost use Rattle.ring_wants.specs.Prelude.{Payload, Pools, WHomes, WHomeAcross, WSend, WReturn, fault_want, homes_fault, send_fault, keeps_stray, lists, Call, Around, contents, OnlyAsked};
+ghost use Rattle.ring_wants.specs.Prelude.{Payload, Pools, WHomes, WHomeAcross, WSend, WReturn, fault_want, homes_fault, send_fault, keeps_stray, lists, Call, ContextView, contents, OnlyAsked};
 ghost use Rattle.ring_wants.specs.Prelude.{in_context, seen, is_running, live_in};
 
 use crate::home_walks::{has_late_data, has_unfit};
@@ -37,7 +37,7 @@ pub(crate) fn want_homes<R: Rings<Stored> + Drop>(
     b: u8,
 ) -> Option<FaultKind>
     requires { b < 9 }
-    ensures value { (pools : Pools Payload) (around : Around) → result ≡ fault_want (seen store.old (in_context context.now pools around) instance.now call.now) (WHomes b) }
+    ensures value { (pools : Pools Payload) (around : ContextView) → result ≡ fault_want (seen store.old (in_context context.now pools around) instance.now call.now) (WHomes b) }
     ensures asked { OnlyAsked store.old store.new }
 {
     let Some(name) = live(store, instance.slot(b)) else {
@@ -58,7 +58,7 @@ pub(crate) fn want_home_across<R: Rings<Stored> + Drop>(
     point: Value,
 ) -> Option<FaultKind>
     requires { b < 9 }
-    ensures value { (pools : Pools Payload) (around : Around) → result ≡ fault_want (seen store.old (in_context context.now pools around) instance.now call.now) (WHomeAcross b point) }
+    ensures value { (pools : Pools Payload) (around : ContextView) → result ≡ fault_want (seen store.old (in_context context.now pools around) instance.now call.now) (WHomeAcross b point) }
     ensures asked { OnlyAsked store.old store.new }
 {
     let Some(name) = live(store, instance.slot(b)) else {
@@ -76,7 +76,7 @@ pub(crate) fn want_send<R: Rings<Stored> + Drop>(
     b: u8,
 ) -> Option<FaultKind>
     requires { b < 9 }
-    ensures value { (around : Around) (call : Call) → result ≡ fault_want (seen store.old around instance.now call) (WSend b) }
+    ensures value { (around : ContextView) (call : Call) → result ≡ fault_want (seen store.old around instance.now call) (WSend b) }
     ensures asked { OnlyAsked store.old store.new }
 {
     let Some(name) = live(store, instance.slot(b)) else {
@@ -95,7 +95,8 @@ fn keeps_stray<R: Rings<Stored> + Drop>(
     b: u8,
 ) -> bool
     requires { b < 9 }
-    ensures value { (pools : Pools Payload) (around : Around) → let r = seen store.old (in_context context.now pools around) instance.now call.now in result ≡ keeps_stray r (r.instance.brigades b) }
+    ensures value { (pools : Pools Payload) (around : ContextView)
+        → let r = seen store.old (in_context context.now pools around) instance.now call.now in result ≡ keeps_stray r (r.instance.brigades b) }
     ensures asked { OnlyAsked store.old store.new }
 {
     let Slot::Made(name, _, mark) = instance.slot(b) else {
@@ -115,7 +116,7 @@ pub(crate) fn want_return<R: Rings<Stored> + Drop>(
     context: &Context<'_>,
     store: &mut Brigades<R>,
 ) -> Option<FaultKind>
-    ensures value { (pools : Pools Payload) (around : Around) → result ≡ fault_want (seen store.old (in_context context.now pools around) instance.now call.now) WReturn }
+    ensures value { (pools : Pools Payload) (around : ContextView) → result ≡ fault_want (seen store.old (in_context context.now pools around) instance.now call.now) WReturn }
     ensures asked { OnlyAsked store.old store.new }
 {
     for b in 0..8u8 {

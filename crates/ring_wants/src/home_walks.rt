@@ -3,7 +3,7 @@
 ghost use Rattle.std.specs.Prelude.{◌≡◌, ◌&&◌, ◌||◌, ℕ, Bool, Option, true, is_some, if◌then◌else◌};
 ghost use Rattle.std.specs.List.{list_any};
 ghost use Rattle.ring_wants.specs.Prelude.{list_at, is_data_kind, is_eos_kind, lists, shown, late_data, Items};
-ghost use Rattle.ring_wants.specs.Prelude.{Around, Payload, Pools, calls_in, home_in, in_context, is_ended, is_stray, seen_over};
+ghost use Rattle.ring_wants.specs.Prelude.{ContextView, Payload, Pools, calls_in, home_in, in_context, is_ended, is_stray, seen_over};
 
 use crate::home_wants::{home_in, is_ended};
 use crate::pool_wants::is_stray;
@@ -51,7 +51,7 @@ struct FirstUnfit<'a> {
 }
 
 impl Visitor for FirstUnfit<'_> {
-    ghost visits = { λ s id x stop t. (t ≡ s) × ((rings : ℕ → Option Items) (next : ℕ) (pools : Pools Payload) (around : Around)
+    ghost visits = { λ s id x stop t. (t ≡ s) × ((rings : ℕ → Option Items) (next : ℕ) (pools : Pools Payload) (around : ContextView)
         → let over = in_context s.context.now pools around in let home = home_in (calls_in over s.call.now) id.birth x.home in
         stop ≡ (if s.strays then is_stray (seen_over rings next over s.instance.now s.call.now) home else is_ended home)) };
 
@@ -76,7 +76,7 @@ pub(crate) fn has_unfit<R: Rings<Stored> + Drop>(
     strays: bool,
 ) -> bool
     requires { is_some (lists store.now b) ≡ true }
-    ensures { (rings : ℕ → Option Items) (next : ℕ) (pools : Pools Payload) (around : Around) → let over = in_context context.now pools around in
+    ensures { (rings : ℕ → Option Items) (next : ℕ) (pools : Pools Payload) (around : ContextView) → let over = in_context context.now pools around in
         result ≡ list_any (λ x. if strays then is_stray (seen_over rings next over instance.now call.now) x.bucket.home else is_ended x.bucket.home)
         (shown (calls_in over call.now) (list_at (lists store.now) b)) }
 {

@@ -1,7 +1,7 @@
 //! What instructions want of the place of a cursor.
 
 ghost use Rattle.std.specs.Prelude.{◌≡◌, ◌<◌};
-ghost use Rattle.ring_wants.specs.Prelude.{WCursor, fault_want, need_of, brigade_of, Call, Around, place_fault, IsHeld, OnlyAsked, by_birth, IsInBrigade, seen};
+ghost use Rattle.ring_wants.specs.Prelude.{WCursor, fault_want, need_of, brigade_of, Call, ContextView, place_fault, IsHeld, OnlyAsked, by_birth, IsInBrigade, seen};
 
 use crate::faults::{mark_of, or_else, passed_fault};
 use crate::places::place_of;
@@ -20,7 +20,7 @@ fn place_fault_at<R: Rings<Stored> + Drop>(
     spot: Place,
 ) -> Option<FaultKind>
     requires { IsInBrigade (brigade_of store.old) instance.now call.now spot }
-    ensures value { (around : Around) → result ≡ place_fault (seen store.old around instance.now call.now) (need_of need) (by_birth spot) }
+    ensures value { (around : ContextView) → result ≡ place_fault (seen store.old around instance.now call.now) (need_of need) (by_birth spot) }
     ensures asked { OnlyAsked store.old store.new }
 {
     match spot {
@@ -45,7 +45,7 @@ pub(crate) fn want_cursor<R: Rings<Stored> + Drop>(
 ) -> Option<FaultKind>
     requires cursor { c < 9 }
     requires held { IsHeld store.old instance.now call.now }
-    ensures value { (around : Around) → result ≡ fault_want (seen store.old around instance.now call.now) (WCursor c (need_of need)) }
+    ensures value { (around : ContextView) → result ≡ fault_want (seen store.old around instance.now call.now) (WCursor c (need_of need)) }
     ensures asked { OnlyAsked store.old store.new }
 {
     let spot = place_of(instance, call, store, c);

@@ -1,7 +1,7 @@
 //! The faults where a pool is not there, or is there already.
 
 ghost use Rattle.std.specs.Prelude.{◌≡◌, ℕ, Option, slice_index_or};
-ghost use Rattle.ring_wants.specs.Prelude.{has_pool, is_live_named, is_stray, any_below, is_named, is_own, Payload, Pools, map_of, Items, Call, Around, TreeOnlyAsked, in_context, seen_over};
+ghost use Rattle.ring_wants.specs.Prelude.{has_pool, is_live_named, is_stray, any_below, is_named, is_own, Payload, Pools, map_of, Items, Call, ContextView, TreeOnlyAsked, in_context, seen_over};
 ghost use Rattle.run_model.specs.State.{name_in};
 
 use brigade_ops::{PoolId, PoolTree};
@@ -41,7 +41,7 @@ pub(crate) fn has_pool(
     tree: &mut PoolTree<Payload>,
     pool: PoolRef,
 ) -> bool
-    ensures value { (rings : ℕ → Option Items) (next : ℕ) (around : Around) (call : Call)
+    ensures value { (rings : ℕ → Option Items) (next : ℕ) (around : ContextView) (call : Call)
         → result ≡ has_pool (seen_over rings next (in_context context.now (map_of tree.old) around) instance.now call) pool }
     ensures asked { TreeOnlyAsked tree.old tree.new }
 {
@@ -51,7 +51,7 @@ pub(crate) fn has_pool(
 /// Whether a pool is one that a pool variable names, the connection's or the open request's.
 #[tactic(auto, unfolding(ring_calls::specs::Seen::seen_over, run_model::specs::State::is_own_at))]
 fn is_own(instance: &Instance, context: &Context<'_>, name: PoolId) -> bool
-    ensures { (rings : ℕ → Option Items) (next : ℕ) (pools : Pools Payload) (around : Around) (call : Call)
+    ensures { (rings : ℕ → Option Items) (next : ℕ) (pools : Pools Payload) (around : ContextView) (call : Call)
         → result ≡ is_own (seen_over rings next (in_context context.now pools around) instance.now call) name }
 {
     any_names(instance, name) || name == context.conn || is_named(context.req, name)
@@ -60,7 +60,7 @@ fn is_own(instance: &Instance, context: &Context<'_>, name: PoolId) -> bool
 /// Whether a home does not outlast the call, or lies in a pool of another filter.
 #[tactic(auto, unfolding(run_model::specs::Faults::is_stray, run_model::specs::State::is_own_at, ring_calls::specs::Seen::seen_over))]
 pub(crate) fn is_stray(instance: &Instance, context: &Context<'_>, home: Home) -> bool
-    ensures { (rings : ℕ → Option Items) (next : ℕ) (pools : Pools Payload) (around : Around) (call : Call)
+    ensures { (rings : ℕ → Option Items) (next : ℕ) (pools : Pools Payload) (around : ContextView) (call : Call)
         → result ≡ is_stray (seen_over rings next (in_context context.now pools around) instance.now call) home }
 {
     match home {

@@ -1,7 +1,7 @@
 //! The faults of an instruction.
 
 ghost use Rattle.std.specs.Prelude.{◌≡◌, ◌≤◌, true, length};
-ghost use Rattle.ring_wants.specs.Prelude.{fits, fault, fault_want, IsInRange, want_of, map_of, Around, IsHeld, OnlyAsked, TreeOnlyAsked, seen, in_context};
+ghost use Rattle.ring_wants.specs.Prelude.{fits, fault, fault_want, IsInRange, want_of, map_of, ContextView, IsHeld, OnlyAsked, TreeOnlyAsked, seen, in_context};
 
 use crate::brigade_wants::{want_home_across, want_homes, want_return, want_send};
 use crate::faults::{brigade_fault, mark_of, new_fault, usable_fault};
@@ -25,7 +25,7 @@ fn fault_of<R: Rings<Stored> + Drop>(
 ) -> Option<FaultKind>
     requires range { IsInRange want }
     requires held { IsHeld store.old instance.now call.now }
-    ensures value { (around : Around) → result ≡ fault_want (seen store.old (in_context context.now (map_of tree.old) around) instance.now call.now) (want_of want) }
+    ensures value { (around : ContextView) → result ≡ fault_want (seen store.old (in_context context.now (map_of tree.old) around) instance.now call.now) (want_of want) }
     ensures tree_asked { TreeOnlyAsked tree.old tree.new }
     ensures asked { OnlyAsked store.old store.new }
 {
@@ -60,7 +60,7 @@ pub fn fault<R: Rings<Stored> + Drop>(
     requires fit { fits code.now instr ≡ true }
     requires few { length code.now.brigades ≤ 8 }
     requires held { IsHeld store.old instance.now call.now }
-    ensures value { (around : Around) → result ≡ fault code.now (seen store.old (in_context context.now (map_of tree.old) around) instance.now call.now) instr }
+    ensures value { (around : ContextView) → result ≡ fault code.now (seen store.old (in_context context.now (map_of tree.old) around) instance.now call.now) instr }
     ensures tree_asked { TreeOnlyAsked tree.old tree.new }
     ensures asked { OnlyAsked store.old store.new }
 {

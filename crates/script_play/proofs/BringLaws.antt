@@ -13,15 +13,15 @@ use Rattle.filter_chain.specs.HostViews.{HostView, Answers, host_view}
 use Rattle.script_text.specs.declared.command.Command.TheVariants as command
 use Rattle.script_text.specs.declared.pieces.ScriptPiece.{ScriptPiece}
 use Rattle.script_text.specs.declared.pieces.ScriptPiece.TheVariants as script_piece
-use Rattle.script_text.specs.declared.reply.Reply.{Reply}
-use Rattle.script_text.specs.declared.reply.Reply.TheVariants as reply
+use Rattle.script_text.specs.declared.reply.CommandReply.{CommandReply}
+use Rattle.script_text.specs.declared.reply.CommandReply.TheVariants as reply
 use Rattle.script_play.specs.Plays.{BringsPieces, AnswersCommand, RepliesTo, reply_of}
 use Rattle.script_play.specs.Serving.{IsReadied, MakesReady}
 use Rattle.script_play.specs.Sessions.{IsMemHostAlive, IsServed, device}
 
 module _ (budget : ℕ) (chain : List Program) (number : ℕ) (ready : List Piece) where
   -- A piece that was made ready goes before the others.
-  brings_on : (x : ScriptPiece) (xs : List ScriptPiece) (y : Piece) (s m t : HostView) (r : Reply) → IsReadied budget chain number x s (Ok y) m
+  brings_on : (x : ScriptPiece) (xs : List ScriptPiece) (y : Piece) (s m t : HostView) (r : CommandReply) → IsReadied budget chain number x s (Ok y) m
       → BringsPieces budget chain number (ready ++ y ∷ []) xs m r t → BringsPieces budget chain number ready (x ∷ xs) s r t
   unfolding BringsPieces
   brings_on (script_piece.Ready z) xs y s m t r (is, same) rest =
@@ -47,7 +47,7 @@ pub record BringsFrom {R : Type 0} {g : Ghosts R Stored} (old now : Host MemFile
     (w : World) : Type 0 where
   pub to : World
   pub hosts : IsHosting (device now) now to
-  pub rest : (r : Reply) (new : HostView) → BringsPieces (budget_of old) (chain_of old) number ready left (host_view to (device now)) r new
+  pub rest : (r : CommandReply) (new : HostView) → BringsPieces (budget_of old) (chain_of old) number ready left (host_view to (device now)) r new
       → BringsPieces (budget_of old) (chain_of old) number [] pieces (host_view w (device old)) r new
 
 pub record IsBringing {R : Type 0} {g : Ghosts R Stored} (old now : Host MemFiles R g) (number : ℕ) (pieces : List ScriptPiece) (ready : List Piece) (left : List ScriptPiece) : Type 0 where
@@ -100,7 +100,7 @@ module _ {R : Type 0} {g : Ghosts R Stored} (old now : Host MemFiles R g) (numbe
           }
 
     -- No piece is left, and those that are ready are brought.
-    pub bring_ends : (answer : Answer) (r : Reply) → all ≡ [] → r ≡ reply_of answer
+    pub bring_ends : (answer : Answer) (r : CommandReply) → all ≡ [] → r ≡ reply_of answer
         → ((w : World) → IsHosting (device now) now w → Happens (device now) (device new) now new number (event.Bring ready) answer w) → (w : World) → IsHosting (device old) old w
         → IsServed old new (command.Bring number pieces) r w
     unfolding AnswersCommand BringsPieces

@@ -23,12 +23,12 @@ use Rattle.script_text.specs.declared.command.Command.{Command}
 use Rattle.script_text.specs.declared.command.Command.TheVariants as command
 use Rattle.script_text.specs.declared.pieces.ScriptPiece.{ScriptPiece}
 use Rattle.script_text.specs.declared.pieces.ScriptPiece.TheVariants as script_piece
-use Rattle.script_text.specs.declared.reply.Reply.{Reply}
-use Rattle.script_text.specs.declared.reply.Reply.TheVariants as reply
+use Rattle.script_text.specs.declared.reply.CommandReply.{CommandReply}
+use Rattle.script_text.specs.declared.reply.CommandReply.TheVariants as reply
 use Rattle.script_play.specs.declared.session.Session.{Session as CodeSession}
 use Rattle.script_play.specs.Faithful.{IsFaithful}
 use Rattle.script_play.specs.Plays.{BringsPieces, IfOpened, MakesSteps, RunsTo, AnswersCommand, RepliesTo, file_bytes, reply_of, steps_reply}
-use Rattle.script_play.specs.Sessions.{IsHosted, device}
+use Rattle.script_play.specs.Sessions.{IsSession, device}
 use Rattle.script_play.specs.Written.{Session}
 
 -- What files in memory hold is told.
@@ -41,7 +41,7 @@ holds_then : (o : Option (List ℕ)) (bytes : List ℕ) → MayHold (held_of o) 
 holds_then None bytes may = absurd may
 holds_then (Some held) bytes may = ap Holds may
 
-module _ {R : Type 0} {g : Ghosts R Stored} (s : CodeSession R g) (v : Session) (hosted : IsHosted s v) where
+module _ {R : Type 0} {g : Ghosts R Stored} (s : CodeSession R g) (v : Session) (hosted : IsSession s v) where
   abbrev d : Device
   d = device s.host
 
@@ -83,17 +83,17 @@ refused_steps n (Err q) r is = (let same : q ≡ r = cc in ap Refused same)
 -- No command answers that a device failed that may not, and none changes that.
 module _ (budget : ℕ) (chain : List Program) where
   -- A reply and what it leaves.
-  record IsSound (r : Reply) (new : HostView) : Type 0 where
+  record IsSound (r : CommandReply) (new : HostView) : Type 0 where
     unfailing : r ≢ reply.Refused refusal.FileFailed
     sound : new.device.plan ≡ Sound
 
-  tells_sound : (number : ℕ) (what : Event) (old new : HostView) (r : Reply) → old.device.plan ≡ Sound → RepliesTo budget chain number what old r new → IsSound r new
+  tells_sound : (number : ℕ) (what : Event) (old new : HostView) (r : CommandReply) → old.device.plan ≡ Sound → RepliesTo budget chain number what old r new → IsSound r new
   tells_sound number what old new r sound tells = record {
     unfailing = λ is. acts_unfailing budget chain number old new sound what tells.answer tells.acts (refused_answer tells.answer refusal.FileFailed (sym tells.told ∙ is));
     sound = acts_kind budget chain number what old new tells.answer tells.acts sound;
   }
 
-  steps_sound : (number n : ℕ) (old new : HostView) (r : Reply) → old.device.plan ≡ Sound → MakesSteps budget chain number n old r new → IsSound r new
+  steps_sound : (number n : ℕ) (old new : HostView) (r : CommandReply) → old.device.plan ≡ Sound → MakesSteps budget chain number n old r new → IsSound r new
   steps_sound number n old new r sound makes =
       let steps = makes.steps in
       let before : steps.before.device.plan ≡ Sound = goes_kind budget chain number steps.count old steps.before steps.goes sound in
@@ -103,7 +103,7 @@ module _ (budget : ℕ) (chain : List Program) where
         sound = acts_kind budget chain number event.Step steps.before new (step_answer makes.answer) steps.last before;
       }
 
-  runs_sound : (number : ℕ) (old new : HostView) (r : Reply) → old.device.plan ≡ Sound → RunsTo budget chain number old r new → IsSound r new
+  runs_sound : (number : ℕ) (old new : HostView) (r : CommandReply) → old.device.plan ≡ Sound → RunsTo budget chain number old r new → IsSound r new
   runs_sound number old new r sound to =
       let runs = to.runs in
       let before : runs.before.device.plan ≡ Sound = goes_kind budget chain number runs.count old runs.before runs.goes sound in
@@ -113,10 +113,11 @@ module _ (budget : ℕ) (chain : List Program) where
         sound = acts_kind budget chain number event.Step runs.before new (step_answer to.answer) runs.last before;
       }
 
-  opening_refused : (why : Refusal) (r : Reply) → r ≡ reply.Refused why → r ≡ reply.Refused refusal.FileFailed → Refused why ≡ Refused refusal.FileFailed
+  opening_refused : (why : Refusal) (r : CommandReply) → r ≡ reply.Refused why → r ≡ reply.Refused refusal.FileFailed → Refused why ≡ Refused refusal.FileFailed
   opening_refused why r told is = (let same : why ≡ refusal.FileFailed = cc in ap Refused same)
 
-  brings_sound : (number : ℕ) (ready : List Piece) (pieces : List ScriptPiece) (old new : HostView) (r : Reply) → old.device.plan ≡ Sound → BringsPieces budget chain number ready pieces old r new
+  brings_sound : (number : ℕ) (ready : List Piece) (pieces : List ScriptPiece) (old new : HostView) (r : CommandReply) → old.device.plan ≡ Sound
+      → BringsPieces budget chain number ready pieces old r new
       → IsSound r new
   unfolding BringsPieces
   brings_sound number ready [] old new r sound brings = tells_sound number (event.Bring ready) old new r sound brings
@@ -134,7 +135,7 @@ module _ (budget : ℕ) (chain : List Program) where
         }
         by_answer (Ok f) other still next more = next f.0 still more
 
-  all_sound : (c : Command) (old new : HostView) (r : Reply) → old.device.plan ≡ Sound → AnswersCommand budget chain c old r new → IsSound r new
+  all_sound : (c : Command) (old new : HostView) (r : CommandReply) → old.device.plan ≡ Sound → AnswersCommand budget chain c old r new → IsSound r new
   unfolding AnswersCommand
   all_sound command.Open old new r sound serves = tells_sound 0 event.Open old new r sound serves
   all_sound (command.File f) old new r sound (told, acts) = record {
@@ -151,8 +152,8 @@ module _ (budget : ℕ) (chain : List Program) where
   all_sound (command.Close k) old new r sound serves = tells_sound k event.Close old new r sound serves
   all_sound command.Pools old new r sound serves = tells_sound 0 event.TellPools old new r sound serves
 
-  pub serves_unfailing : (c : Command) (old new : HostView) (r : Reply) → old.device.plan ≡ Sound → AnswersCommand budget chain c old r new → r ≢ reply.Refused refusal.FileFailed
+  pub serves_unfailing : (c : Command) (old new : HostView) (r : CommandReply) → old.device.plan ≡ Sound → AnswersCommand budget chain c old r new → r ≢ reply.Refused refusal.FileFailed
   serves_unfailing c old new r sound serves = (all_sound c old new r sound serves).unfailing
 
-  pub serves_sound : (c : Command) (old new : HostView) (r : Reply) → old.device.plan ≡ Sound → AnswersCommand budget chain c old r new → new.device.plan ≡ Sound
+  pub serves_sound : (c : Command) (old new : HostView) (r : CommandReply) → old.device.plan ≡ Sound → AnswersCommand budget chain c old r new → new.device.plan ≡ Sound
   serves_sound c old new r sound serves = (all_sound c old new r sound serves).sound

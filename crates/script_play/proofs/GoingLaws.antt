@@ -73,18 +73,18 @@ read_more from to next whole held bytes first second = subst (Consumes from next
 
 -- What is written of a script of which these bytes were read next, and these are left.
 module _ {R : Type 0} {i : Ghosts R Stored} (from to before mid : Option (List ℕ)) (p : Player R i) (held bytes unread : List ℕ) (bound : ℕ) (g : Going from to before mid p held bound) where
-  abbrev Script : List ℕ
-  Script = g.whole ++ (held ++ bytes) ++ unread
+  abbrev WholeScript : List ℕ
+  WholeScript = g.whole ++ (held ++ bytes) ++ unread
 
-  splits : Script ≡ g.whole ++ (held ++ (bytes ++ unread))
+  splits : WholeScript ≡ g.whole ++ (held ++ (bytes ++ unread))
   splits = append_assoc g.whole (held ++ bytes) unread ∙ ap (λ l. g.whole ++ l) (append_assoc held bytes unread)
 
   number : p.lines + 1 ≡ 1 + length (lines_of g.whole)
   number = let c = g.lines in omega (arith, c)
 
-  written_behind : (ls : List RawLine) (text : List ℕ) (e : Ended) → lines_of (held ++ (bytes ++ unread)) ≡ ls → IsEndFrom (p.lines + 1) ls g.stage text e → IsWrittenFor Script (g.told ++ text) e
+  written_behind : (ls : List RawLine) (text : List ℕ) (e : Ended) → lines_of (held ++ (bytes ++ unread)) ≡ ls → IsEndFrom (p.lines + 1) ls g.stage text e → IsWrittenFor WholeScript (g.told ++ text) e
   written_behind ls text e lines k =
-      let all : lines_of Script ≡ lines_of g.whole ++ ls = ap lines_of splits ∙ lines_append g.whole (held ++ (bytes ++ unread)) g.is_whole ∙ ap (λ l. lines_of g.whole ++ l) lines in
+      let all : lines_of WholeScript ≡ lines_of g.whole ++ ls = ap lines_of splits ∙ lines_append g.whole (held ++ (bytes ++ unread)) g.is_whole ∙ ap (λ l. lines_of g.whole ++ l) lines in
       let takes = taken_append 1 (lines_of g.whole) ls (Reading no_head) g.stage k.stage g.told k.answers g.takes (subst (λ n. TakesAll n ls g.stage k.answers k.stage) number k.takes) in
       record {
         stage = k.stage;
@@ -95,7 +95,7 @@ module _ {R : Type 0} {i : Ghosts R Stored} (from to before mid : Option (List �
         written = ap (λ l. g.told ++ l) k.written ∙ sym (append_assoc g.told k.answers k.last);
       }
 
-  abbrev last_bytes : (next : Option (List ℕ)) → length bytes ≤ 8192 → next ≡ Some unread → LastRead Script next
+  abbrev last_bytes : (next : Option (List ℕ)) → length bytes ≤ 8192 → next ≡ Some unread → LastRead WholeScript next
   last_bytes next few leaves = record {
     whole = g.whole;
     held = held;
@@ -113,10 +113,10 @@ module _ {R : Type 0} {i : Ghosts R Stored} (from to before mid : Option (List �
   }
 
   -- these bytes are whole lines, or all that there are
-  abbrev Parts : List ℕ → List ℕ → Type 0
-  Parts seen rest = (held ++ bytes ≡ seen ++ rest) × (IsWhole seen ⊎ ((bytes ≡ []) × (rest ≡ [])))
+  abbrev LineParts : List ℕ → List ℕ → Type 0
+  LineParts seen rest = (held ++ bytes ≡ seen ++ rest) × (IsWhole seen ⊎ ((bytes ≡ []) × (rest ≡ [])))
 
-  module _ (next : Option (List ℕ)) (few : length bytes ≤ 8192) (leaves : next ≡ Some unread) (seen rest : List ℕ) (parts : Parts seen rest) (text : List ℕ) where
+  module _ (next : Option (List ℕ)) (few : length bytes ≤ 8192) (leaves : next ≡ Some unread) (seen rest : List ℕ) (parts : LineParts seen rest) (text : List ℕ) where
     some_behind : (more : List ℕ) → IsSomeOf (p.lines + 1) (lines_of seen) g.stage more → TellsSome (last_bytes next few leaves) more
     some_behind more k =
         record {
@@ -127,14 +127,14 @@ module _ {R : Type 0} {i : Ghosts R Stored} (from to before mid : Option (List �
           tells = record { count = k.count; stage = k.stage; takes = subst (λ n. TakesAll n (take k.count (lines_of seen)) g.stage more k.stage) number k.takes };
         }
 
-    front_behind : IsSomeOf (p.lines + 1) (lines_of seen) g.stage text → IsFrontOf Script (g.told ++ text) next
+    front_behind : IsSomeOf (p.lines + 1) (lines_of seen) g.stage text → IsFrontOf WholeScript (g.told ++ text) next
     front_behind k = record { read = last_bytes next few leaves; more = text; tells = some_behind text k; written = refl }
 
-    cut_behind : IsCutOfSome (p.lines + 1) (lines_of seen) g.stage text → IsCutOf Script (g.told ++ text) next
+    cut_behind : IsCutOfSome (p.lines + 1) (lines_of seen) g.stage text → IsCutOf WholeScript (g.told ++ text) next
     cut_behind (tail, some, k) =
         record { read = last_bytes next few leaves; part = text; rest = tail; some = some; written = refl; next = inl (some_behind (text ++ tail) k) }
 
-    cut_end_behind : lines_of (held ++ (bytes ++ unread)) ≡ lines_of seen → IsCutOfEnd (p.lines + 1) (lines_of seen) g.stage text → IsCutOf Script (g.told ++ text) next
+    cut_end_behind : lines_of (held ++ (bytes ++ unread)) ≡ lines_of seen → IsCutOfEnd (p.lines + 1) (lines_of seen) g.stage text → IsCutOf WholeScript (g.told ++ text) next
     cut_end_behind lines (tail, some, inl k) = cut_behind (tail, some, k)
     cut_end_behind lines (tail, some, inr (e, k)) =
         record {
@@ -143,7 +143,7 @@ module _ {R : Type 0} {i : Ghosts R Stored} (from to before mid : Option (List �
           rest = tail;
           some = some;
           written = refl;
-          next = inr (e, subst (λ t. IsWrittenFor Script t e) (sym (append_assoc g.told text tail)) (written_behind (lines_of seen) (text ++ tail) e lines k));
+          next = inr (e, subst (λ t. IsWrittenFor WholeScript t e) (sym (append_assoc g.told text tail)) (written_behind (lines_of seen) (text ++ tail) e lines k));
         }
 
 -- Where no memory was left or the writer failed.
@@ -210,8 +210,8 @@ going_last from to next before mid p held last bound g (kept, end) is =
 
 module _ {R : Type 0} {i : Ghosts R Stored} (from next before mid after : Option (List ℕ)) (p : Player R i) (last : List ℕ) where
   -- the play ends so, at whatever stage the player is
-  abbrev Ends : Result Ended PlayFault → Type 0
-  Ends r = (s : Stage) → IsAt p s → PlaysEnd (p.lines + 1) mid after (lines_of last) s r
+  abbrev PlayEnds : Result Ended PlayFault → Type 0
+  PlayEnds r = (s : Stage) → IsAt p s → PlaysEnd (p.lines + 1) mid after (lines_of last) s r
 
   -- what is true of what was read, and of nothing behind it, is true of what the reader had
   of_end : (k : Last from next before mid p last) (P : List ℕ → Type 0)
@@ -222,7 +222,7 @@ module _ {R : Type 0} {i : Ghosts R Stored} (from next before mid after : Option
       let none : unread ≡ [] = subst IsAtEnd leaves k.end in
       all unread leaves (ap (λ l. lines_of (last ++ l)) none ∙ ap lines_of (append-nil last)))
 
-  pub last_ok : (r : Result Ended PlayFault) → Last from next before mid p last → Ends r → IfOk r (λ e. Writes from before after (λ script text. IsWrittenFor script text e))
+  pub last_ok : (r : Result Ended PlayFault) → Last from next before mid p last → PlayEnds r → IfOk r (λ e. Writes from before after (λ script text. IsWrittenFor script text e))
   last_ok (Err f) k ends = tt
   last_ok (Ok e) k ends =
       let x = ends k.going.stage k.going.at in
@@ -234,10 +234,10 @@ module _ {R : Type 0} {i : Ghosts R Stored} (from next before mid after : Option
       ))
 
   -- it ends by this fault
-  ends_by : (r : Result Ended PlayFault) (f : PlayFault) (k : Last from next before mid p last) → Ends r → r ≡ Err f → PlaysEnd (p.lines + 1) mid after (lines_of last) k.going.stage (Err f)
+  ends_by : (r : Result Ended PlayFault) (f : PlayFault) (k : Last from next before mid p last) → PlayEnds r → r ≡ Err f → PlaysEnd (p.lines + 1) mid after (lines_of last) k.going.stage (Err f)
   ends_by r f k ends is = subst (λ x. PlaysEnd (p.lines + 1) mid after (lines_of last) k.going.stage x) is (ends k.going.stage k.going.at)
 
-  pub last_read : (r : Result Ended PlayFault) → Last from next before mid p last → Ends r → r ≡ Err fault.Read → (P : List ℕ → List ℕ → Type 0) → Writes from before after P
+  pub last_read : (r : Result Ended PlayFault) → Last from next before mid p last → PlayEnds r → r ≡ Err fault.Read → (P : List ℕ → List ℕ → Type 0) → Writes from before after P
   last_read r k ends is P = absurd (ends_by r fault.Read k ends is)
 
   memory_by : (k : Last from next before mid p last) → PlaysEnd (p.lines + 1) mid after (lines_of last) k.going.stage (Err fault.NoMemory)
@@ -250,7 +250,7 @@ module _ {R : Type 0} {i : Ghosts R Stored} (from next before mid after : Option
         Appends-trans before mid after k.going.told text k.going.wrote added,
       ))
 
-  pub last_memory : (r : Result Ended PlayFault) → Last from next before mid p last → Ends r → r ≡ Err fault.NoMemory → Writes from before after (λ script text. IsFrontOf script text next)
+  pub last_memory : (r : Result Ended PlayFault) → Last from next before mid p last → PlayEnds r → r ≡ Err fault.NoMemory → Writes from before after (λ script text. IsFrontOf script text next)
   last_memory r k ends is = memory_by k (ends_by r fault.NoMemory k ends is)
 
   write_by : (k : Last from next before mid p last) → PlaysEnd (p.lines + 1) mid after (lines_of last) k.going.stage (Err fault.Write)
@@ -264,7 +264,7 @@ module _ {R : Type 0} {i : Ghosts R Stored} (from next before mid after : Option
         Appends-trans before mid after k.going.told text k.going.wrote added,
       ))
 
-  pub last_write : (r : Result Ended PlayFault) → Last from next before mid p last → Ends r → r ≡ Err fault.Write → Writes from before after (λ script text. IsCutOf script text next)
+  pub last_write : (r : Result Ended PlayFault) → Last from next before mid p last → PlayEnds r → r ≡ Err fault.Write → Writes from before after (λ script text. IsCutOf script text next)
   last_write r k ends is = write_by k (ends_by r fault.Write k ends is)
 
 -- the fault that a `?` hands on

@@ -164,7 +164,7 @@ bytes_failed old new w v held bytes whole left n s fault.Write some within lf is
     (whole, drop n bytes, subst IsWhole (sym is) (whole_front held bytes n some within lf), front_is held bytes n ∙ ap (λ l. l ++ drop n bytes) (sym is), k)
 
 -- The whole lines were played, and this is held back, before the rest.
-pub record Joined {R : Type 0} {g : Ghosts R Stored} (old new : Player R g) (w v : Option (List ℕ)) (all held rest : List ℕ) (s : Stage) : Type 0 where
+pub record JoinedLines {R : Type 0} {g : Ghosts R Stored} (old new : Player R g) (w v : Option (List ℕ)) (all held rest : List ℕ) (s : Stage) : Type 0 where
   pub whole : List ℕ
   pub is_whole : IsWhole whole
   pub split : all ≡ whole ++ (held ++ rest)
@@ -179,7 +179,7 @@ no_lf bytes n none = λ k d less.
     subst (λ b. b ≢ 10) (sym here) (none (n + k) (omega arith) (omega (arith, less, long)))
 
 pub joined_none : {R : Type 0} {g : Ghosts R Stored} (p new : Player R g) (w v : Option (List ℕ)) (held bytes kept : List ℕ) (n : ℕ) (s : Stage) → HasNoLf held
-    → ((k : ℕ) → n ≤ k → k < length bytes → get_or bytes k 0 ≢ 10) → n ≤ 0 → IsAt p s → new ≡ p → v ≡ w → kept ≡ held → Joined p new w v (held ++ bytes) kept (drop n bytes) s
+    → ((k : ℕ) → n ≤ k → k < length bytes → get_or bytes k 0 ≢ 10) → n ≤ 0 → IsAt p s → new ≡ p → v ≡ w → kept ≡ held → JoinedLines p new w v (held ++ bytes) kept (drop n bytes) s
 joined_none p new w v held bytes kept n s unended lacks none at same wrote is =
     let zero : n ≡ 0 = omega (arith, none) in
     let P : Player _ _ → Option (List ℕ) → Type 0 = λ q o. PlaysOn p q w o (lines_of []) s in
@@ -194,7 +194,7 @@ joined_none p new w v held bytes kept n s unended lacks none at same wrote is =
 pub joined_some : {R : Type 0} {g : Ghosts R Stored} (old new now : Player R g) (w v u : Option (List ℕ)) (held bytes whole kept : List ℕ) (n : ℕ) (s : Stage)
     → ((k : ℕ) → n ≤ k → k < length bytes → get_or bytes k 0 ≢ 10) → 0 < n
     → n ≤ length bytes → get_or bytes (n - 1) 0 ≡ 10 → whole ≡ held ++ take n bytes → PlaysOn old now w u (lines_of whole) s → new ≡ now → v ≡ u → kept ≡ []
-    → Joined old new w v (held ++ bytes) kept (drop n bytes) s
+    → JoinedLines old new w v (held ++ bytes) kept (drop n bytes) s
 joined_some old new now w v u held bytes whole kept n s lacks some within lf is k same wrote none =
     let P : Player _ _ → Option (List ℕ) → Type 0 = λ q o. PlaysOn old q w o (lines_of whole) s in
     record {
@@ -206,12 +206,12 @@ joined_some old new now w v u held bytes whole kept n s lacks some within lf is 
     }
 
 -- what is left was held back
-pub joined_held : {R : Type 0} {g : Ghosts R Stored} (old new : Player R g) (w v : Option (List ℕ)) (all held rest left : List ℕ) (s : Stage) (u : Unit {0}) → Joined old new w v all held rest s
+pub joined_held : {R : Type 0} {g : Ghosts R Stored} (old new : Player R g) (w v : Option (List ℕ)) (all held rest left : List ℕ) (s : Stage) (u : Unit {0}) → JoinedLines old new w v all held rest s
     → left ≡ held ++ rest → PlaysBytes old new w v all left s (Ok u)
 joined_held old new w v all held rest left s u j is = (j.whole, j.is_whole, j.split ∙ ap (λ l. j.whole ++ l) (sym is), j.plays, subst HasNoLf (sym is) j.unended)
 
 -- there was no memory for what is left
-pub joined_lost : {R : Type 0} {g : Ghosts R Stored} (old new : Player R g) (w v : Option (List ℕ)) (all held rest left : List ℕ) (s : Stage) → Joined old new w v all held rest s
+pub joined_lost : {R : Type 0} {g : Ghosts R Stored} (old new : Player R g) (w v : Option (List ℕ)) (all held rest left : List ℕ) (s : Stage) → JoinedLines old new w v all held rest s
     → PlaysBytes old new w v all left s (Err fault.NoMemory)
 joined_lost old new w v all held rest left s j =
     let k = j.plays in

@@ -19,14 +19,14 @@ use Rattle.filter_chain.specs.HostViews.{HostView, Answers, TellsEvent, host_vie
 use Rattle.script_text.specs.declared.command.Command.{Command}
 use Rattle.script_text.specs.declared.command.Command.TheVariants as command
 use Rattle.script_text.specs.declared.file_line.FileLine.{FileLine}
-use Rattle.script_text.specs.declared.reply.Reply.{Reply}
-use Rattle.script_text.specs.declared.reply.Reply.TheVariants as reply
+use Rattle.script_text.specs.declared.reply.CommandReply.{CommandReply}
+use Rattle.script_text.specs.declared.reply.CommandReply.TheVariants as reply
 use Rattle.script_play.specs.Plays.{AnswersCommand, RepliesTo, file_bytes, is_fault, reply_of, steps_reply}
 use Rattle.script_play.specs.Sessions.{IsServed, device}
 
 -- Commands that are one event.
 
-module _ {R : Type 0} {g : Ghosts R Stored} (old new : Host MemFiles R g) (w : World) (answer : Answer) (r : Reply) (told : r ≡ reply_of answer) where
+module _ {R : Type 0} {g : Ghosts R Stored} (old new : Host MemFiles R g) (w : World) (answer : Answer) (r : CommandReply) (told : r ≡ reply_of answer) where
   by_event : (c : Command) (number : ℕ) (what : Event) → ((s t : HostView) → RepliesTo (budget_of old) (chain_of old) number what s r t → AnswersCommand (budget_of old) (chain_of old) c s r t)
       → Happens (device old) (device new) old new number what answer w → IsServed old new c r w
   by_event c number what serves h =
@@ -104,13 +104,13 @@ step_well (Ok (stepped.CallEnded s)) well = refl
 step_well (Ok (stepped.Fault k m pc)) well = absurd well
 step_well (Err r) well = refl
 
-pub steps_served : {R : Type 0} {g : Ghosts R Stored} (old new : Host MemFiles R g) (number n : ℕ) (answer : Result Stepped Refusal) (r : Reply) (w : World) → r ≡ steps_reply n answer
+pub steps_served : {R : Type 0} {g : Ghosts R Stored} (old new : Host MemFiles R g) (number n : ℕ) (answer : Result Stepped Refusal) (r : CommandReply) (w : World) → r ≡ steps_reply n answer
     → RefinesFrom mem_device old new (λ b c s t. StepsOn b c number (n - 1) s answer t) w → IsServed old new (command.Step number n) r w
 unfolding AnswersCommand
 steps_served old new number n answer r w told h =
     record { to = h.to; serves = record { answer = answer; steps = h.did; told = told }; hosts = h.hosts; chain = h.chain; budget = h.budget }
 
-pub run_served : {R : Type 0} {g : Ghosts R Stored} (old new : Host MemFiles R g) (number : ℕ) (answer : Result Stepped Refusal) (r : Reply) (w : World) → r ≡ reply_of (step_answer answer)
+pub run_served : {R : Type 0} {g : Ghosts R Stored} (old new : Host MemFiles R g) (number : ℕ) (answer : Result Stepped Refusal) (r : CommandReply) (w : World) → r ≡ reply_of (step_answer answer)
     → RefinesFrom mem_device old new (λ b c s t. StepsToEnd b c number s answer t) w → IsServed old new (command.Run number) r w
 unfolding AnswersCommand
 run_served old new number answer r w told h =

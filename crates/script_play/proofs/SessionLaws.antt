@@ -8,16 +8,16 @@ use Rattle.filter_chain.specs.Hosting.{Ghosts, Stored, budget_of, chain_of}
 use Rattle.filter_chain.specs.Safe.{IsSafe}
 use Rattle.filter_chain.specs.HostViews.{HostView, host_view}
 use Rattle.script_text.specs.declared.command.Command.{Command}
-use Rattle.script_text.specs.declared.reply.Reply.{Reply}
+use Rattle.script_text.specs.declared.reply.CommandReply.{CommandReply}
 use Rattle.script_play.specs.declared.session.Session.{Session as CodeSession}
 use Rattle.script_play.specs.Plays.{AnswersCommand, due_at, is_fault}
 use Rattle.script_text.specs.Replies.{reply_line, script_line}
-use Rattle.script_play.specs.Sessions.{IsHosted, IsServed, TakesOne, device}
+use Rattle.script_play.specs.Sessions.{IsSession, IsServed, TakesOne, device}
 use Rattle.script_play.specs.Written.{Session, Serving, Over, Replies}
 use Rattle.script_play.proofs.FaithfulFiles.{faithful_of, serves_sound, serves_unfailing}
 
 -- A command was answered.
-module _ {R : Type 0} {g : Ghosts R Stored} (new old : CodeSession R g) (c : Command) (r : Reply) (v : Session) (hosted : IsHosted old v)
+module _ {R : Type 0} {g : Ghosts R Stored} (new old : CodeSession R g) (c : Command) (r : CommandReply) (v : Session) (hosted : IsSession old v)
     (served : IsServed old.host new.host c r v.host_view.world) where
   abbrev pub then : Session
   then = record v { host_view = host_view served.to (device new.host) }
@@ -29,7 +29,7 @@ module _ {R : Type 0} {g : Ghosts R Stored} (new old : CodeSession R g) (c : Com
       subst (λ (d : Device). AnswersCommand (budget_of old.host) (chain_of old.host) c (host_view v.host_view.world d) r after) hosted.device served.serves in
       subst (λ (b : ℕ). AnswersCommand b v.chain c v.host_view r after) hosted.budget (subst (λ (x : List Program). AnswersCommand (budget_of old.host) x c v.host_view r after) hosted.chain at)
 
-  still_hosted : IsHosted new then
+  still_hosted : IsSession new then
   still_hosted = record {
     chain = served.chain ∙ hosted.chain;
     budget = served.budget ∙ hosted.budget;

@@ -4,7 +4,7 @@ use Rattle.std.proofs.lemmas.List.{append_assoc, append-nil, length-append, leng
 use Rattle.byte_text.specs.TextLines.{RawLine, lines_of, first_line, width}
 use Rattle.filter_chain.specs.Hosting.{Ghosts, Stored}
 use Rattle.script_play.specs.declared.player.Player.{Player}
-use Rattle.script_play.specs.Players.{Leaves}
+use Rattle.script_play.specs.Players.{TakesOneLine}
 use Rattle.script_play.specs.Sessions.{IsAt, TakesOn}
 use Rattle.script_play.specs.Written.{Stage, Reading, Serving, Over, is_over, PlaysLine, TakesAll}
 use Rattle.script_play.proofs.TakenLaws.{taken_append, taken_none, taken_one, taken_over}
@@ -36,7 +36,7 @@ taking_first p text all s at =
     }
 
 -- the first line of the rest, as code finds it
-pub record IsFirst (rest text : List ℕ) (ended : Bool) (wide : ℕ) : Type 0 where
+pub record IsFirstLine (rest text : List ℕ) (ended : Bool) (wide : ℕ) : Type 0 where
   pub text_is : text ≡ (first_line rest).text
   pub ended_is : ended ≡ (first_line rest).ended
   pub lines : lines_of rest ≡ first_line rest ∷ lines_of (drop (width (first_line rest)) rest)
@@ -44,14 +44,15 @@ pub record IsFirst (rest text : List ℕ) (ended : Bool) (wide : ℕ) : Type 0 w
   pub within : wide ≤ length rest
   pub moves : 0 < wide
 
-line_is : (rest text : List ℕ) (ended : Bool) (wide : ℕ) → IsFirst rest text ended wide → (let l : RawLine = record { text = text; ended = ended } in l) ≡ first_line rest
+line_is : (rest text : List ℕ) (ended : Bool) (wide : ℕ) → IsFirstLine rest text ended wide → (let l : RawLine = record { text = text; ended = ended } in l) ≡ first_line rest
 line_is rest text ended wide f =
     let of : List ℕ → Bool → RawLine = λ t e. record { text = t; ended = e } in
     ap (λ t. of t ended) f.text_is ∙ ap (of (first_line rest).text) f.ended_is
 
 taking_line : {R : Type 0} {g : Ghosts R Stored} (old now new : Player R g) (before mid after all rest text : List ℕ) (ended : Bool) (wide : ℕ) (s : Stage) → (k : Taking old now before mid all rest s)
-    → IsFirst rest text ended wide
-    → Leaves new mid after (λ told t. PlaysLine (now.lines + 1) (record { text = text; ended = ended }) k.stage told t) → new.lines ≡ now.lines + 1 → Taking old new before after all (drop wide rest) s
+    → IsFirstLine rest text ended wide
+    → TakesOneLine new mid after (λ told t. PlaysLine (now.lines + 1) (record { text = text; ended = ended }) k.stage told t) → new.lines ≡ now.lines + 1 → Taking old new before after all
+    (drop wide rest) s
 taking_line old now new before mid after all rest text ended wide s k f l more =
     let line : RawLine = record { text = text; ended = ended } in
     let number : now.lines + 1 ≡ old.lines + 1 + length k.done = let c = k.count in omega (arith, c) in
@@ -72,8 +73,8 @@ taking_line old now new before mid after all rest text ended wide s k f l more =
 
 -- One line more is taken.
 pub taking_more : {R : Type 0} {g : Ghosts R Stored} (old now new : Player R g) (before mid after all rest text : List ℕ) (ended : Bool) (wide : ℕ) (s : Stage)
-    → (k : Taking old now before mid all rest s) → IsFirst rest text ended wide
-    → Leaves new mid after (λ told t. PlaysLine (now.lines + 1) (record { text = text; ended = ended }) k.stage told t) → new.lines ≡ now.lines + 1
+    → (k : Taking old now before mid all rest s) → IsFirstLine rest text ended wide
+    → TakesOneLine new mid after (λ told t. PlaysLine (now.lines + 1) (record { text = text; ended = ended }) k.stage told t) → new.lines ≡ now.lines + 1
     → Taking old new before after all (take (length rest - wide) (drop wide rest)) s
 taking_more old now new before mid after all rest text ended wide s k f l more =
     subst (λ r. Taking old new before after all r s) (sym (take_rest rest wide)) (taking_line old now new before mid after all rest text ended wide s k f l more)

@@ -5,10 +5,10 @@ use Rattle.script_play.specs.declared.player.Player.{Player}
 use Rattle.script_play.specs.declared.player.Stage.{Stage as CodeStage}
 use Rattle.script_text.specs.Heads.{ScriptHead}
 use Rattle.script_play.specs.Written.{Stage, Reading, Serving, Over}
-use Rattle.script_play.specs.Sessions.{IsStage, IsAt}
+use Rattle.script_play.specs.Sessions.{IsStageOf, IsAt}
 
 -- A line is taken so, and what is told of it is added.
-pub record Leaves {R : Type 0} {g : Ghosts R Stored} (new : Player R g) (before after : List ℕ) (P : List ℕ → Stage → Type 0) : Type 0 where
+pub record TakesOneLine {R : Type 0} {g : Ghosts R Stored} (new : Player R g) (before after : List ℕ) (P : List ℕ → Stage → Type 0) : Type 0 where
   pub told : List ℕ
   pub stage : Stage
   pub holds : P told stage
@@ -17,7 +17,7 @@ pub record Leaves {R : Type 0} {g : Ghosts R Stored} (new : Player R g) (before 
 
 -- The commands may begin behind what was read.
 pub record MayBeginCommands {R : Type 0} {g : Ghosts R Stored} (c : CodeStage R g) (h : ScriptHead) : Type 0 where
-  pub stage : IsStage c (Reading h)
+  pub stage : IsStageOf c (Reading h)
   pub some : 0 < length h.parts
   pub few : length h.parts ≤ 16
 

@@ -21,12 +21,12 @@ use Rattle.script_text.specs.declared.command.Command.TheVariants as command
 use Rattle.script_text.specs.declared.file_line.FileLine.{FileLine}
 use Rattle.script_text.specs.declared.pieces.ScriptPiece.{ScriptPiece}
 use Rattle.script_text.specs.declared.pieces.ScriptPiece.TheVariants as script_piece
-use Rattle.script_text.specs.declared.reply.Reply.{Reply}
-use Rattle.script_text.specs.declared.reply.Reply.TheVariants as reply
+use Rattle.script_text.specs.declared.reply.CommandReply.{CommandReply}
+use Rattle.script_text.specs.declared.reply.CommandReply.TheVariants as reply
 use Rattle.script_text.specs.Scripts.{command_at}
 
 -- how an answer of the host is told; the root of its pools is 1
-abbrev pub reply_of : Answer → Reply
+abbrev pub reply_of : Answer → CommandReply
 reply_of Done = reply.Done
 reply_of (Refused r) = reply.Refused r
 reply_of (Connected n) = reply.Connected n
@@ -37,7 +37,7 @@ reply_of (Labels labels) = reply.Labels labels
 reply_of (Tree root pools) = reply.Pools (printed payload_text pools 0 root)
 
 -- how steps are told of which so many were asked for
-abbrev pub steps_reply : ℕ → Result Stepped Refusal → Reply
+abbrev pub steps_reply : ℕ → Result Stepped Refusal → CommandReply
 steps_reply n (Ok stepped.Went) = reply.Went n
 steps_reply n (Ok (stepped.CallEnded s)) = reply.Stepped (stepped.CallEnded s)
 steps_reply n (Ok (stepped.Fault k m pc)) = reply.Stepped (stepped.Fault k m pc)
@@ -53,26 +53,26 @@ IfOpened (Ok f) refused opened = opened f.0
 
 module _ (budget : ℕ) (chain : List Program) where
   -- An event of the connection of this number is told so, and leads from one scene to another.
-  pub record RepliesTo (number : ℕ) (what : Event) (old : HostView) (r : Reply) (new : HostView) : Type 0 where
+  pub record RepliesTo (number : ℕ) (what : Event) (old : HostView) (r : CommandReply) (new : HostView) : Type 0 where
     pub answer : Answer
     pub acts : Answers budget chain number what old answer new
     pub told : r ≡ reply_of answer
 
   -- Steps are made until one answers something else than that it went, or until they are n. One at least is made.
-  pub record MakesSteps (number n : ℕ) (old : HostView) (r : Reply) (new : HostView) : Type 0 where
+  pub record MakesSteps (number n : ℕ) (old : HostView) (r : CommandReply) (new : HostView) : Type 0 where
     pub answer : Result Stepped Refusal
     pub steps : StepsOn budget chain number (n - 1) old answer new
     pub told : r ≡ steps_reply n answer
 
   -- Steps are made until one answers something else than that it went.
-  pub record RunsTo (number : ℕ) (old : HostView) (r : Reply) (new : HostView) : Type 0 where
+  pub record RunsTo (number : ℕ) (old : HostView) (r : CommandReply) (new : HostView) : Type 0 where
     pub answer : Result Stepped Refusal
     pub runs : StepsToEnd budget chain number old answer new
     pub told : r ≡ reply_of (step_answer answer)
 
   -- The files of ranges are opened, from left to right, and then the brigade of all pieces is brought. The first refusal is the answer; files that
   -- were opened before it stay open. ready: the pieces before these.
-  unfoldable pub BringsPieces : ℕ → List Piece → List ScriptPiece → HostView → Reply → HostView → Type 0
+  unfoldable pub BringsPieces : ℕ → List Piece → List ScriptPiece → HostView → CommandReply → HostView → Type 0
   BringsPieces number ready [] old r new = RepliesTo number (event.Bring ready) old r new
   BringsPieces number ready (script_piece.Ready x ∷ xs) old r new = BringsPieces number (ready ++ x ∷ []) xs old r new
   BringsPieces number ready (script_piece.Range name start len ∷ xs) old r new =
@@ -80,7 +80,7 @@ module _ (budget : ℕ) (chain : List Program) where
       × IfOpened answer (λ why. (r ≡ reply.Refused why) × (new ≡ mid)) (λ file. BringsPieces number (ready ++ piece.File file start len ∷ []) xs mid r new)
 
   -- A command may answer so, and lead from one scene to another. (Want of memory for a file that is added ends the play.)
-  unfoldable pub AnswersCommand : Command → HostView → Reply → HostView → Type 0
+  unfoldable pub AnswersCommand : Command → HostView → CommandReply → HostView → Type 0
   AnswersCommand command.Open old r new = RepliesTo 0 event.Open old r new
   AnswersCommand (command.File f) old r new = (r ≡ reply.Done) × Answers budget chain 0 (event.AddFile f.name (file_bytes f)) old Done new
   AnswersCommand (command.Begin k) old r new = RepliesTo k event.Begin old r new
@@ -116,7 +116,7 @@ abbrev pub due_at : Device → RawLine → Option Command
 due_at d l = if_due d (command_at l)
 
 -- whether an answer is a fault
-abbrev pub is_fault : Reply → Bool
+abbrev pub is_fault : CommandReply → Bool
 is_fault (reply.Connected n) = false
 is_fault reply.Done = false
 is_fault (reply.Refused r) = false

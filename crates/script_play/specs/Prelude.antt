@@ -10,10 +10,10 @@ pub use Rattle.bucket_kinds.specs.Device.{is_there}
 pub use Rattle.module_run.specs.Happened.{refusal_of}
 pub use Rattle.filter_chain.specs.Hosting.{IsHosting, done_answer, step_answer}
 pub use Rattle.filter_chain.specs.Safe.{GoesWell, IsSafe}
-pub use Rattle.script_play.specs.Players.{HasBegun, Leaves, MayBeginCommands}
+pub use Rattle.script_play.specs.Players.{HasBegun, TakesOneLine, MayBeginCommands}
 pub use Rattle.script_play.specs.Playing.{EndsLines, PlaysBytes, PlaysEnd, PlaysLines}
 pub use Rattle.script_play.specs.Plays.{is_due, is_fault, reply_of}
 pub use Rattle.script_play.specs.Serving.{MakesReady}
-pub use Rattle.script_play.specs.Sessions.{EndsOn, IsAt, IsHosted, IsMemHostAlive, IsServed, TakesOn, TakesOne, device}
-pub use Rattle.script_play.specs.Written.{AnswersLinesRead, Begins, HasNoLf, IsCutOf, IsFrontOf, IsWrittenFor, PlaysLine, Reading, Stage}
+pub use Rattle.script_play.specs.Sessions.{EndsOn, IsAt, IsSession, IsMemHostAlive, IsServed, TakesOn, TakesOne, device}
+pub use Rattle.script_play.specs.Written.{AnswersLinesRead, ScriptBegins, HasNoLf, IsCutOf, IsFrontOf, IsWrittenFor, PlaysLine, Reading, Stage}
 pub use Rattle.script_play.specs.Written.{TakesAll, TakesAt, first_view, is_over}

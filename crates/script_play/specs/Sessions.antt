@@ -13,10 +13,10 @@ use Rattle.script_text.specs.declared.command.Command.{Command}
 use Rattle.script_play.specs.declared.player.Stage.{Stage as CodeStage}
 use Rattle.script_play.specs.declared.player.Stage.TheVariants as code
 use Rattle.script_play.specs.declared.player.Player.{Player}
-use Rattle.script_text.specs.declared.reply.Reply.{Reply}
+use Rattle.script_text.specs.declared.reply.CommandReply.{CommandReply}
 use Rattle.module_tools.specs.declared.ended.Ended.{Ended}
 use Rattle.script_play.specs.declared.session.Session.{Session as CodeSession}
-use Rattle.script_text.specs.Bounds.{IsBounded}
+use Rattle.script_text.specs.Bounds.{IsScriptBounded}
 use Rattle.script_text.specs.Heads.{head_of}
 use Rattle.script_play.specs.Plays.{AnswersCommand}
 use Rattle.script_play.specs.Written.{Session, Stage, Reading, Serving, Over, is_over, TakesCommand, TakesAll, EndsAt}
@@ -30,7 +30,7 @@ abbrev pub IsMemHostAlive : {R : Type 0} {g : Ghosts R Stored} → Host MemFiles
 IsMemHostAlive host = (w : World) × IsHosting (device host) host w
 
 -- A command was answered, and the host stands for what it leaves, on the same chain, with the same budget.
-pub record IsServed {R : Type 0} {g : Ghosts R Stored} (old new : Host MemFiles R g) (c : Command) (r : Reply) (w : World) : Type 0 where
+pub record IsServed {R : Type 0} {g : Ghosts R Stored} (old new : Host MemFiles R g) (c : Command) (r : CommandReply) (w : World) : Type 0 where
   pub to : World
   pub serves : AnswersCommand (budget_of old) (chain_of old) c (host_view w (device old)) r (host_view to (device new))
   pub hosts : IsHosting (device new) new to
@@ -38,7 +38,7 @@ pub record IsServed {R : Type 0} {g : Ghosts R Stored} (old new : Host MemFiles 
   pub budget : budget_of new ≡ budget_of old
 
 -- A session of the code stands for one of the model.
-pub record IsHosted {R : Type 0} {g : Ghosts R Stored} (s : CodeSession R g) (v : Session) : Type 0 where
+pub record IsSession {R : Type 0} {g : Ghosts R Stored} (s : CodeSession R g) (v : Session) : Type 0 where
   pub chain : chain_of s.host ≡ v.chain
   pub budget : budget_of s.host ≡ v.budget
   pub hosts : IsHosting (device s.host) s.host v.host_view.world
@@ -48,23 +48,23 @@ pub record IsHosted {R : Type 0} {g : Ghosts R Stored} (s : CodeSession R g) (v 
 
 -- A line was taken of a session, and what is told of it is added. was: whether it was a command.
 abbrev pub TakesOne : {R : Type 0} {g : Ghosts R Stored} → CodeSession R g → List ℕ → List ℕ → ℕ → RawLine → Session → Bool → Type 0
-TakesOne new before after number l v true = (told : List ℕ) × (then : Session) × TakesCommand number l v told (Serving then) × IsHosted new then × (after ≡ before ++ told)
+TakesOne new before after number l v true = (told : List ℕ) × (then : Session) × TakesCommand number l v told (Serving then) × IsSession new then × (after ≡ before ++ told)
 TakesOne new before after number l v false = (told : List ℕ) × TakesCommand number l v told Over × (after ≡ before ++ told)
 
-abbrev pub IsStage : {R : Type 0} {g : Ghosts R Stored} → CodeStage R g → Stage → Type 0
-IsStage (code.Texts t) (Reading h) = h ≡ head_of t
-IsStage (code.Session s) (Serving v) = IsHosted s v
-IsStage code.Over Over = Unit {0}
-IsStage c s = ⊥
+abbrev pub IsStageOf : {R : Type 0} {g : Ghosts R Stored} → CodeStage R g → Stage → Type 0
+IsStageOf (code.Texts t) (Reading h) = h ≡ head_of t
+IsStageOf (code.Session s) (Serving v) = IsSession s v
+IsStageOf code.Over Over = Unit {0}
+IsStageOf c s = ⊥
 
 abbrev pub Bounded : ℕ → Stage → Type 0
-Bounded lines (Reading h) = IsBounded lines h
+Bounded lines (Reading h) = IsScriptBounded lines h
 Bounded lines (Serving v) = Unit {0}
 Bounded lines Over = Unit {0}
 
 -- A player is at this stage of its script.
 pub record IsAt {R : Type 0} {g : Ghosts R Stored} (p : Player R g) (s : Stage) : Type 0 where
-  pub stage : IsStage p.stage s
+  pub stage : IsStageOf p.stage s
   pub bounded : Bounded p.lines s
 
 -- These lines are taken, and what is told of them is added. They are counted up to a fault.

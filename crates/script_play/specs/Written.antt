@@ -11,8 +11,8 @@ use Rattle.filter_chain.specs.HostViews.{HostView, host_view}
 use Rattle.script_text.specs.declared.command.Command.{Command}
 use Rattle.module_tools.specs.declared.ended.Ended.{Ended}
 use Rattle.module_tools.specs.declared.ended.Ended.TheVariants as ended
-use Rattle.script_text.specs.declared.reply.Reply.{Reply}
-use Rattle.script_text.specs.declared.reply.Reply.TheVariants as answer
+use Rattle.script_text.specs.declared.reply.CommandReply.{CommandReply}
+use Rattle.script_text.specs.declared.reply.CommandReply.TheVariants as answer
 use Rattle.script_text.specs.declared.texts.LineTaken.{LineTaken}
 use Rattle.script_text.specs.declared.texts.LineTaken.TheVariants as taken
 use Rattle.script_play.specs.Faithful.{IsFaithful}
@@ -57,14 +57,14 @@ abbrev pub BeginsUnless : Option (ℕ × CheckRefusal) → Bool → ScriptHead �
 BeginsUnless None checked h text s = (text ≡ []) × (s ≡ Serving (session_of checked h))
 BeginsUnless (Some (k, r)) checked h text s = (text ≡ refused_module_line k r.pc r.rule) × (s ≡ Over)
 
-abbrev pub Begins : Bool → ScriptHead → List ℕ → Stage → Type 0
-Begins checked h text s = BeginsUnless (if checked then refused_in h.parts else None) checked h text s
+abbrev pub ScriptBegins : Bool → ScriptHead → List ℕ → Stage → Type 0
+ScriptBegins checked h text s = BeginsUnless (if checked then refused_in h.parts else None) checked h text s
 
 -- A line is taken.
 
 -- A command answers so, over files that give what they hold: none is told to have failed. On a chain that was checked no answer is a fault.
 pub record Replies (c : Command) (s : Session) (text : List ℕ) (t : Stage) : Type 0 where
-  pub reply : Reply
+  pub reply : CommandReply
   pub after : HostView
   pub serves : AnswersCommand s.budget s.chain c s.host_view reply after
   pub faithful : IsFaithful s.host_view
@@ -87,8 +87,8 @@ TakesAt number l Over text t = (text ≡ []) × (t ≡ Over)
 abbrev pub FollowsLine : LineTaken → ℕ → RawLine → ScriptHead → List ℕ → List ℕ → Stage → Type 0
 FollowsLine taken.More number l h told text t = (text ≡ told) × (t ≡ Reading h)
 FollowsLine taken.Over number l h told text t = (text ≡ told) × (t ≡ Over)
-FollowsLine taken.Checked number l h told text t = Begins true h text t
-FollowsLine taken.Command number l h told text t = (s : Stage) × Begins false h [] s × TakesAt number l s text t
+FollowsLine taken.Checked number l h told text t = ScriptBegins true h text t
+FollowsLine taken.Command number l h told text t = (s : Stage) × ScriptBegins false h [] s × TakesAt number l s text t
 
 pub record TakesFirst (number : ℕ) (l : RawLine) (h : ScriptHead) (text : List ℕ) (t : Stage) : Type 0 where
   pub taken : LineTaken

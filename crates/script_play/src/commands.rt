@@ -6,28 +6,28 @@ ghost use Rattle.script_play.specs.Prelude.{device};
 
 use crate::labels::labels_of;
 use filter_chain::{AddRefusal, Host, MemFiles, Piece, Refusal, Rings, Seq, Stepped, Stored};
-use script_text::{Command, FileLine, Reply, ScriptPiece};
+use script_text::{Command, CommandReply, FileLine, ScriptPiece};
 use std::alloc::{AllocError, Global};
 
 /// What a command answers by its refusal, if there is one.
-fn done(outcome: Result<(), Refusal>) -> Reply
+fn done(outcome: Result<(), Refusal>) -> CommandReply
     ensures told { result ≡ reply_of (done_answer (refusal_of outcome)) }
     ensures faultless { is_fault result ≡ false }
 {
     match outcome {
-        Ok(()) => Reply::Done,
-        Err(refusal) => Reply::Refused(refusal),
+        Ok(()) => CommandReply::Done,
+        Err(refusal) => CommandReply::Refused(refusal),
     }
 }
 
-fn open<R: Rings<Stored> + Drop>(host: &mut Host<MemFiles, R>) -> Reply
+fn open<R: Rings<Stored> + Drop>(host: &mut Host<MemFiles, R>) -> CommandReply
     requires { IsMemHostAlive host.old }
     ensures served { (w : World) → IsHosting (device host.old) host.old w → IsServed host.old host.new Command.Open result w }
     ensures faultless { is_fault result ≡ false }
 {
     match host.open_conn() {
-        Ok(number) => Reply::Connected(number),
-        Err(refusal) => Reply::Refused(refusal),
+        Ok(number) => CommandReply::Connected(number),
+        Err(refusal) => CommandReply::Refused(refusal),
     }
 }
 
@@ -37,7 +37,7 @@ fn file<R: Rings<Stored> + Drop>(
     alloc: Global,
     host: &mut Host<MemFiles, R>,
     file: &FileLine,
-) -> Result<Reply, AllocError>
+) -> Result<CommandReply, AllocError>
     requires alive { IsMemHostAlive host.old }
     requires free { is_there ((device host.old).named file.now.name) ≡ false }
     ensures served { IfOk result (λ r. (w : World) → IsHosting (device host.old) host.old w → IsServed host.old host.new (Command.File file.now) r w) }
@@ -45,7 +45,7 @@ fn file<R: Rings<Stored> + Drop>(
 {
     let bytes = file.bytes(alloc)?;
     match host.add_file(file.name.as_slice(), bytes) {
-        Ok(()) => Ok(Reply::Done),
+        Ok(()) => Ok(CommandReply::Done),
         Err(AddRefusal::NoMemory) => Err(AllocError),
         Err(AddRefusal::Taken) => unreachable!(),
     }
@@ -79,7 +79,7 @@ fn bring<R: Rings<Stored> + Drop>(
     host: &mut Host<MemFiles, R>,
     number: u64,
     pieces: Seq<ScriptPiece>,
-) -> Result<Reply, AllocError>
+) -> Result<CommandReply, AllocError>
     requires { IsMemHostAlive host.old }
     ensures served { IfOk result (λ r. (w : World) → IsHosting (device host.old) host.old w → IsServed host.old host.new (Command.Bring number pieces) r w) }
     ensures faultless { IfOk result (λ r. is_fault r ≡ false) }
@@ -88,7 +88,7 @@ fn bring<R: Rings<Stored> + Drop>(
     for piece in pieces.into_vec() {
         match made_ready(host, number, piece) {
             Ok(piece) => ready.push(piece)?,
-            Err(refusal) => return Ok(Reply::Refused(refusal)),
+            Err(refusal) => return Ok(CommandReply::Refused(refusal)),
         }
     }
     Ok(done(host.bring(number, ready)))
@@ -101,30 +101,34 @@ fn went(answer: &Result<Stepped, Refusal>) -> bool
 }
 
 /// What the last of some steps answers.
-fn stepped(answer: Result<Stepped, Refusal>) -> Reply
+fn stepped(answer: Result<Stepped, Refusal>) -> CommandReply
     ensures { result ≡ reply_of (step_answer answer) }
 {
     match answer {
-        Ok(stepped) => Reply::Stepped(stepped),
-        Err(refusal) => Reply::Refused(refusal),
+        Ok(stepped) => CommandReply::Stepped(stepped),
+        Err(refusal) => CommandReply::Refused(refusal),
     }
 }
 
 /// Makes so many steps, or fewer where a call has ended or more is refused.
-fn step<R: Rings<Stored> + Drop>(host: &mut Host<MemFiles, R>, number: u64, count: u64) -> Reply
+fn step<R: Rings<Stored> + Drop>(
+    host: &mut Host<MemFiles, R>,
+    number: u64,
+    count: u64,
+) -> CommandReply
     requires { IsMemHostAlive host.old }
     ensures served { (w : World) → IsHosting (device host.old) host.old w → IsServed host.old host.new (Command.Step number count) result w }
     ensures safe { IsSafe host.old → is_fault result ≡ false }
 {
     let answer = host.step_up_to(number, count);
     if went(&answer) {
-        return Reply::Went(count);
+        return CommandReply::Went(count);
     }
     stepped(answer)
 }
 
 /// Makes steps until a call has ended or more is refused.
-fn run<R: Rings<Stored> + Drop>(host: &mut Host<MemFiles, R>, number: u64) -> Reply
+fn run<R: Rings<Stored> + Drop>(host: &mut Host<MemFiles, R>, number: u64) -> CommandReply
     requires { IsMemHostAlive host.old }
     ensures served { (w : World) → IsHosting (device host.old) host.old w → IsServed host.old host.new (Command.Run number) result w }
     ensures safe { IsSafe host.old → is_fault result ≡ false }
@@ -132,14 +136,14 @@ fn run<R: Rings<Stored> + Drop>(host: &mut Host<MemFiles, R>, number: u64) -> Re
     stepped(host.run(number))
 }
 
-fn output<R: Rings<Stored> + Drop>(host: &mut Host<MemFiles, R>, number: u64) -> Reply
+fn output<R: Rings<Stored> + Drop>(host: &mut Host<MemFiles, R>, number: u64) -> CommandReply
     requires { IsMemHostAlive host.old }
     ensures served { (w : World) → IsHosting (device host.old) host.old w → IsServed host.old host.new (Command.Output number) result w }
     ensures faultless { is_fault result ≡ false }
 {
     match host.take_output(number) {
-        Ok(bytes) => Reply::Output(bytes),
-        Err(refusal) => Reply::Refused(refusal),
+        Ok(bytes) => CommandReply::Output(bytes),
+        Err(refusal) => CommandReply::Refused(refusal),
     }
 }
 
@@ -149,13 +153,13 @@ fn labels<R: Rings<Stored> + Drop>(
     alloc: Global,
     host: &Host<MemFiles, R>,
     number: u64,
-) -> Result<Reply, AllocError>
+) -> Result<CommandReply, AllocError>
     ensures served { IfOk result (λ r. (w : World) → IsHosting (device host.now) host.now w → IsServed host.now host.now (Command.Labels number) r w) }
     ensures faultless { IfOk result (λ r. is_fault r ≡ false) }
 {
     match host.labels_run(number) {
-        Ok(runs) => Ok(Reply::Labels(labels_of(alloc, runs)?)),
-        Err(refusal) => Ok(Reply::Refused(refusal)),
+        Ok(runs) => Ok(CommandReply::Labels(labels_of(alloc, runs)?)),
+        Err(refusal) => Ok(CommandReply::Refused(refusal)),
     }
 }
 
@@ -165,14 +169,14 @@ fn close<R: Rings<Stored> + Drop>(
     alloc: Global,
     host: &mut Host<MemFiles, R>,
     number: u64,
-) -> Result<Reply, AllocError>
+) -> Result<CommandReply, AllocError>
     requires { IsMemHostAlive host.old }
     ensures served { IfOk result (λ r. (w : World) → IsHosting (device host.old) host.old w → IsServed host.old host.new (Command.Close number) r w) }
     ensures faultless { IfOk result (λ r. is_fault r ≡ false) }
 {
     match host.close(number) {
-        Ok(runs) => Ok(Reply::Labels(labels_of(alloc, runs.as_slice())?)),
-        Err(refusal) => Ok(Reply::Refused(refusal)),
+        Ok(runs) => Ok(CommandReply::Labels(labels_of(alloc, runs.as_slice())?)),
+        Err(refusal) => Ok(CommandReply::Refused(refusal)),
     }
 }
 
@@ -181,7 +185,7 @@ fn close<R: Rings<Stored> + Drop>(
 fn pools<R: Rings<Stored> + Drop>(
     alloc: Global,
     host: &Host<MemFiles, R>,
-) -> Result<Reply, AllocError>
+) -> Result<CommandReply, AllocError>
     requires { IsMemHostAlive host.now }
     ensures served { IfOk result (λ r. (w : World) → IsHosting (device host.now) host.now w → IsServed host.now host.now Command.Pools r w) }
     ensures faultless { IfOk result (λ r. is_fault r ≡ false) }
@@ -192,7 +196,7 @@ fn pools<R: Rings<Stored> + Drop>(
     };
     let mut text = Seq::new(alloc);
     text.extend(lines.as_slice())?;
-    Ok(Reply::Pools(text))
+    Ok(CommandReply::Pools(text))
 }
 
 /// Does a command, and answers it. An error is want of memory for the answer, for a list of pieces, or for a file that is added.
@@ -200,7 +204,7 @@ pub fn serve<R: Rings<Stored> + Drop>(
     alloc: Global,
     host: &mut Host<MemFiles, R>,
     command: Command,
-) -> Result<Reply, AllocError>
+) -> Result<CommandReply, AllocError>
     requires alive { IsMemHostAlive host.old }
     requires due { is_due (device host.old) command ≡ true }
     ensures served { IfOk result (λ r. (w : World) → IsHosting (device host.old) host.old w → IsServed host.old host.new command r w) }

@@ -1,7 +1,8 @@
 //! A script, played line by line.
 
 ghost use Rattle.std.specs.Prelude.{◌≡◌, ◌<◌, ◌+◌, ◌^◌, ◌++◌, ℕ, true, List, length, take, IfOk, OnErr, OnOk};
-ghost use Rattle.script_play.specs.Prelude.{lines_of, ScriptHead, no_head, Leaves, MayBeginCommands, HasBegun, IsAt, TakesOn, EndsOn, Reading, Begins, TakesAt, PlaysLine, TakesAll, is_over};
+ghost use Rattle.script_play.specs.Prelude.{lines_of, ScriptHead, no_head, TakesOneLine, MayBeginCommands, HasBegun, IsAt, TakesOn, EndsOn, Reading, ScriptBegins, TakesAt};
+ghost use Rattle.script_play.specs.Prelude.{PlaysLine, TakesAll, is_over};
 ghost use Rattle.script_play.specs.Written.{Stage as ModelStage};
 
 use crate::session::Session;
@@ -55,7 +56,7 @@ impl<R: Rings<Stored> + Drop> Player<R> {
     /// The texts were read, and commands follow.
     fn begin(&mut self, is_checked: bool, out: &mut Vec<u8>) -> Result<(), AllocError>
         requires ready { (h : ScriptHead) × MayBeginCommands self.old.stage h }
-        ensures ok { (h : ScriptHead) → MayBeginCommands self.old.stage h → OnOk result (Leaves self.new out.old.items out.new.items (λ told s. Begins is_checked h told s)) }
+        ensures ok { (h : ScriptHead) → MayBeginCommands self.old.stage h → OnOk result (TakesOneLine self.new out.old.items out.new.items (λ told s. ScriptBegins is_checked h told s)) }
         ensures err { OnErr result (out.new.items ≡ out.old.items) }
         ensures lines { self.new.lines ≡ self.old.lines }
     {
@@ -108,7 +109,7 @@ impl<R: Rings<Stored> + Drop> Player<R> {
     ) -> Result<(), AllocError>
         requires begun { (s : ModelStage) × IsAt self.old s × HasBegun s }
         ensures ok { (s : ModelStage) → IsAt self.old s → HasBegun s
-            → OnOk result (Leaves self.new out.old.items out.new.items (λ told t. TakesAt self.old.lines (record { text = text.now; ended = ended }) s told t)) }
+            → OnOk result (TakesOneLine self.new out.old.items out.new.items (λ told t. TakesAt self.old.lines (record { text = text.now; ended = ended }) s told t)) }
         ensures err { OnErr result (out.new.items ≡ out.old.items) }
         ensures lines { self.new.lines ≡ self.old.lines }
     {
@@ -126,7 +127,7 @@ impl<R: Rings<Stored> + Drop> Player<R> {
         requires at { (s : ModelStage) × IsAt self.old s }
         requires few { self.old.lines < 2 ^ 62 }
         ensures ok { (s : ModelStage) → IsAt self.old s
-            → OnOk result (Leaves self.new out.old.items out.new.items (λ told t. PlaysLine (self.old.lines + 1) (record { text = text.now; ended = ended }) s told t)) }
+            → OnOk result (TakesOneLine self.new out.old.items out.new.items (λ told t. PlaysLine (self.old.lines + 1) (record { text = text.now; ended = ended }) s told t)) }
         ensures err { OnErr result (out.new.items ≡ out.old.items) }
         ensures lines { self.new.lines ≡ self.old.lines + 1 }
     {

@@ -1,21 +1,23 @@
 //! The commands of a script, on a chain of filters.
 
 ghost use Rattle.std.specs.Prelude.{◌≡◌, ◌<◌, ◌≤◌, None, Some, false, true, length, map, IfErr, IfOk, OnErr};
-ghost use Rattle.script_play.specs.Prelude.{seen_part, IsHosted, TakesOne, codes_of, refused_in, first_view};
+ghost use Rattle.script_play.specs.Prelude.{seen_part, IsSession, TakesOne, codes_of, refused_in, first_view};
 ghost use Rattle.script_play.specs.Written.{Session as ModelSession};
 
 use crate::commands::serve;
 use crate::due::due_command;
 use filter_chain::{Host, Limits, MemFiles, Rings, Stored};
-use script_text::{Part, Refused, Reply, accept_parts, modules_of, put_reply, put_script_fault};
+use script_text::{
+    CommandReply, Refused, ScriptModule, accept_parts, modules_of, put_reply, put_script_fault,
+};
 use std::alloc::{AllocError, Global};
 
 /// Gives the block of an output that was told back to the host, for the next one.
-fn give_back<R: Rings<Stored> + Drop>(host: &mut Host<MemFiles, R>, reply: Reply)
+fn give_back<R: Rings<Stored> + Drop>(host: &mut Host<MemFiles, R>, reply: CommandReply)
     ensures { host.new ≡ host.old }
 {
     match reply {
-        Reply::Output(block) => host.give_back_output(block),
+        CommandReply::Output(block) => host.give_back_output(block),
         _other => {}
     }
 }
@@ -28,9 +30,9 @@ pub struct Session<R: Rings<Stored>> {
 
 impl<R: Rings<Stored> + Drop> Session<R> {
     /// No connection yet, on a chain of these modules.
-    pub fn watched(alloc: Global, parts: Vec<Part>, budget: u64) -> Result<Self, AllocError>
+    pub fn watched(alloc: Global, parts: Vec<ScriptModule>, budget: u64) -> Result<Self, AllocError>
         requires some { 0 < length parts.items }
-        ensures { IfOk result (λ s. IsHosted s (record { chain = codes_of (map seen_part parts.items); budget = budget; is_checked = false; host_view = first_view })) }
+        ensures { IfOk result (λ s. IsSession s (record { chain = codes_of (map seen_part parts.items); budget = budget; is_checked = false; host_view = first_view })) }
     {
         let modules = modules_of(alloc, parts)?;
         let host = Host::watched(alloc, MemFiles::new(alloc), modules, Limits { budget })?;
@@ -41,13 +43,13 @@ impl<R: Rings<Stored> + Drop> Session<R> {
     /// is checked.
     pub fn checked(
         alloc: Global,
-        parts: Vec<Part>,
+        parts: Vec<ScriptModule>,
         budget: u64,
     ) -> Result<Result<Self, Refused>, AllocError>
         requires some { 0 < length parts.items }
         requires few { length parts.items ≤ 16 }
         ensures accepted { IfOk result (λ r. IfOk r (λ s. (refused_in (map seen_part parts.items) ≡ None)
-            × IsHosted s (record { chain = codes_of (map seen_part parts.items); budget = budget; is_checked = true; host_view = first_view }))) }
+            × IsSession s (record { chain = codes_of (map seen_part parts.items); budget = budget; is_checked = true; host_view = first_view }))) }
         ensures refused { IfOk result (λ r. IfErr r (λ at. refused_in (map seen_part parts.items) ≡ Some (at.index, at.refusal))) }
     {
         match accept_parts(alloc, parts)? {
@@ -69,8 +71,8 @@ impl<R: Rings<Stored> + Drop> Session<R> {
         ended: bool,
         out: &mut Vec<u8>,
     ) -> Result<bool, AllocError>
-        requires { (v : ModelSession) × IsHosted self.old v }
-        ensures ok { (v : ModelSession) → IsHosted self.old v → IfOk result (λ was. TakesOne self.new out.old.items out.new.items number (record { text = text.now; ended = ended }) v was) }
+        requires { (v : ModelSession) × IsSession self.old v }
+        ensures ok { (v : ModelSession) → IsSession self.old v → IfOk result (λ was. TakesOne self.new out.old.items out.new.items number (record { text = text.now; ended = ended }) v was) }
         ensures err { OnErr result (out.new.items ≡ out.old.items) }
     {
         let Some(command) = due_command(alloc, text, ended, self.host.files())? else {

@@ -14,7 +14,7 @@ use Rattle.life_check.specs.Slim.{cert_refusal}
 use Rattle.life_check.proofs.Meant.{none_accepts, whole_refusal}
 use Rattle.life_check.proofs.TypedLaws.{none_typed}
 use Rattle.life_cert.specs.Rounds.{made}
-use Rattle.script_text.specs.declared.part.Part.{Part}
+use Rattle.script_text.specs.declared.part.ScriptModule.{ScriptModule}
 use Rattle.script_text.specs.Heads.{ScriptPart, seen_part}
 use Rattle.script_text.specs.Certified.{AreCertified, refusal_with}
 use Rattle.script_text.specs.Parts.{codes_of, first_from, refusal_of, refused_in, unless_first, unmade}
@@ -47,14 +47,15 @@ none_left k = refl
 
 -- One part more is taken from those that are left.
 
-pub maps_on : {X Y : Type 0} (f : X → Y) (g : ScriptPart → Y) (xs new : List X) (left rest all : List Part) (p : Part) (x : X) → map f xs ++ map g (map seen_part left) ≡ map g (map seen_part all)
+pub maps_on : {X Y : Type 0} (f : X → Y) (g : ScriptPart → Y) (xs new : List X) (left rest all : List ScriptModule) (p : ScriptModule) (x : X)
+    → map f xs ++ map g (map seen_part left) ≡ map g (map seen_part all)
     → left ≡ p ∷ rest → new ≡ xs ++ x ∷ [] → f x ≡ g (seen_part p)
     → map f new ++ map g (map seen_part rest) ≡ map g (map seen_part all)
 maps_on f g xs new left rest all p x so_far steps pushed same =
     ap (λ l. l ++ map g (map seen_part rest)) (ap (map f) pushed ∙ map-append f xs (x ∷ [])) ∙ append_assoc (map f xs) (f x ∷ []) (map g (map seen_part rest))
     ∙ ap (λ y. map f xs ++ (y ∷ map g (map seen_part rest))) same ∙ ap (λ l. map f xs ++ map g (map seen_part l)) (sym steps) ∙ so_far
 
-pub codes_on : (mods new : List Program) (left rest all : List Part) (p : Part) (m : Program) → mods ++ codes_of (map seen_part left) ≡ codes_of (map seen_part all) → left ≡ p ∷ rest
+pub codes_on : (mods new : List Program) (left rest all : List ScriptModule) (p : ScriptModule) (m : Program) → mods ++ codes_of (map seen_part left) ≡ codes_of (map seen_part all) → left ≡ p ∷ rest
     → new ≡ mods ++ m ∷ [] → m ≡ p.code
     → new ++ codes_of (map seen_part rest) ≡ codes_of (map seen_part all)
 codes_on mods new left rest all p m so_far steps pushed same =
@@ -65,7 +66,7 @@ pub all_on : {X : Type 0} (P : X → Type 0) (xs new : List X) (x : X) → All P
 all_on P xs new x all pushed here = subst (All P) (sym pushed) (All-push P xs x all here)
 
 -- A certificate was made or given: the others decide.
-pub unmade_on : (pairs new : List Pair) (left rest all : List Part) (p : Part) (x : Pair)
+pub unmade_on : (pairs new : List Pair) (left rest all : List ScriptModule) (p : ScriptModule) (x : Pair)
     → first_from (length pairs) (map unmade (map seen_part left)) ≡ first_from 0 (map unmade (map seen_part all)) → left ≡ p ∷ rest → new ≡ pairs ++ x ∷ []
     → unmade (seen_part p) ≡ None → first_from (length new) (map unmade (map seen_part rest)) ≡ first_from 0 (map unmade (map seen_part all))
 unmade_on pairs new left rest all p x so_far steps pushed none =
@@ -73,7 +74,7 @@ unmade_on pairs new left rest all p x so_far steps pushed none =
     ap (λ n. first_from n (map unmade (map seen_part rest))) longer ∙ sym (goes_on (length pairs) (unmade (seen_part p)) (map unmade (map seen_part rest)) none)
     ∙ ap (λ l. first_from (length pairs) (map unmade (map seen_part l))) (sym steps) ∙ so_far
 
-pub unmade_at : (pairs : List Pair) (left rest all : List Part) (p : Part) (index : ℕ) (r : CheckRefusal)
+pub unmade_at : (pairs : List Pair) (left rest all : List ScriptModule) (p : ScriptModule) (index : ℕ) (r : CheckRefusal)
     → first_from (length pairs) (map unmade (map seen_part left)) ≡ first_from 0 (map unmade (map seen_part all)) → left ≡ p ∷ rest → unmade (seen_part p) ≡ Some r
     → index ≡ length pairs → first_from 0 (map unmade (map seen_part all)) ≡ Some (index, r)
 unmade_at pairs left rest all p index r so_far steps refused is =
@@ -82,15 +83,15 @@ unmade_at pairs left rest all p index r so_far steps refused is =
 
 -- None is left.
 
-pub nothing_left : (left : List Part) (n : ℕ) → n ≡ length left → n ≡ 0 → left ≡ []
+pub nothing_left : (left : List ScriptModule) (n : ℕ) → n ≡ length left → n ≡ 0 → left ≡ []
 nothing_left [] n is none = refl
 nothing_left (p ∷ ps) n is none = absurd (omega arith)
 
-whole : {X Y : Type 0} (f : X → Y) (g : ScriptPart → Y) (xs : List X) (left all : List Part) → left ≡ [] → map f xs ++ map g (map seen_part left) ≡ map g (map seen_part all)
+whole : {X Y : Type 0} (f : X → Y) (g : ScriptPart → Y) (xs : List X) (left all : List ScriptModule) → left ≡ [] → map f xs ++ map g (map seen_part left) ≡ map g (map seen_part all)
     → map f xs ≡ map g (map seen_part all)
 whole f g xs left all none so_far = sym (append-nil (map f xs)) ∙ ap (λ l. map f xs ++ map g (map seen_part l)) (sym none) ∙ so_far
 
-pub all_certified : (pairs : List Pair) (left all : List Part) → left ≡ [] → modules_of pairs ++ codes_of (map seen_part left) ≡ codes_of (map seen_part all)
+pub all_certified : (pairs : List Pair) (left all : List ScriptModule) → left ≡ [] → modules_of pairs ++ codes_of (map seen_part left) ≡ codes_of (map seen_part all)
     → map refusal_with pairs ++ map refusal_of (map seen_part left) ≡ map refusal_of (map seen_part all)
     → first_from (length pairs) (map unmade (map seen_part left)) ≡ first_from 0 (map unmade (map seen_part all))
     → AreCertified pairs (map seen_part all)

@@ -14,7 +14,7 @@ has_module place.BehindSkipped = true
 has_module place.BehindBudget = true
 
 -- how many modules and lines were read before the commands; a module text is read only where there is room for its module
-pub record IsBounded (lines : ℕ) (h : ScriptHead) : Type 0 where
+pub record IsScriptBounded (lines : ℕ) (h : ScriptHead) : Type 0 where
   pub few : length h.parts ≤ 16
   pub room : has_module h.place ≡ false → length h.parts < 16
   pub before : h.before ≤ lines

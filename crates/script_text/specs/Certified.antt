@@ -13,9 +13,9 @@ abbrev pub refusal_with : CertifiedModule → Option CheckRefusal
 refusal_with x = cert_refusal x.0 x.1
 
 -- This is its certificate; or this is why none can be made.
-abbrev pub IsCertified : ScriptPart → Certified → Type 0
-IsCertified x (certified.With c) = (unmade x ≡ None) × (cert_refusal x.code c ≡ refusal_of x)
-IsCertified x (certified.Refused r) = unmade x ≡ Some r
+abbrev pub HasCertificate : ScriptPart → Certified → Type 0
+HasCertificate x (certified.With c) = (unmade x ≡ None) × (cert_refusal x.code c ≡ refusal_of x)
+HasCertificate x (certified.Refused r) = unmade x ≡ Some r
 
 -- Each module has its certificate.
 pub record AreCertified (pairs : List CertifiedModule) (parts : List ScriptPart) : Type 0 where

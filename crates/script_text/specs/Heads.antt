@@ -10,10 +10,10 @@ use Rattle.byte_text.specs.TextLines.{RawLine}
 use Rattle.module_lang.specs.declared.refusal.AsmRefusal.{AsmRefusal}
 use Rattle.module_lang.specs.declared.refusal.AsmRefusal.TheVariants as asm
 use Rattle.life_cert.specs.Codes.{code_number as cert_code_number}
-use Rattle.life_cert.specs.Reading.{IsCertText, IsTold}
+use Rattle.life_cert.specs.Reading.{IsCertText, IsReported}
 use Rattle.life_cert.specs.declared.refusal.CertRefusal.{CertRefusal}
 use Rattle.life_cert.specs.declared.refusal.CertRefusal.TheVariants as cert
-use Rattle.script_text.specs.declared.part.Part.{Part}
+use Rattle.script_text.specs.declared.part.ScriptModule.{ScriptModule}
 use Rattle.script_text.specs.declared.texts.HeadPlace.{HeadPlace}
 use Rattle.script_text.specs.declared.texts.HeadPlace.TheVariants as place
 use Rattle.script_text.specs.declared.texts.LineTaken.{LineTaken}
@@ -40,7 +40,7 @@ pub record ScriptHead : Type 0 where
   pub text : List ℕ
   pub before : ℕ
 
-abbrev pub seen_part : Part → ScriptPart
+abbrev pub seen_part : ScriptModule → ScriptPart
 seen_part p = record { code = p.code; cert = p.cert }
 
 abbrev pub head_of : Texts → ScriptHead
@@ -81,7 +81,7 @@ with_cert c (x ∷ (y ∷ ys)) = x ∷ with_cert c (y ∷ ys)
 
 abbrev pub ReadsCertText : List ℕ → Result Cert CertRefusal → Type 0
 ReadsCertText text (Ok c) = IsCertText text c.slim (seen_cert c)
-ReadsCertText text (Err r) = IsTold text r
+ReadsCertText text (Err r) = IsReported text r
 
 abbrev pub IsCertRead : Result Cert CertRefusal → ScriptHead → LineMoves
 IsCertRead (Ok c) h t out new = more (record h { parts = with_cert c h.parts; text = []; place = place.BehindCert }) t out new

@@ -9,8 +9,8 @@ use Rattle.run_model.specs.declared.event.Stepped.{Stepped}
 use Rattle.run_model.specs.declared.event.Stepped.TheVariants as stepped
 use Rattle.byte_text.specs.Quoted.{spelling}
 use Rattle.script_text.specs.Names.{fault_name}
-use Rattle.script_text.specs.declared.reply.Reply.{Reply}
-use Rattle.script_text.specs.declared.reply.Reply.TheVariants as reply
+use Rattle.script_text.specs.declared.reply.CommandReply.{CommandReply}
+use Rattle.script_text.specs.declared.reply.CommandReply.TheVariants as reply
 
 -- a text and the LF that ends it
 abbrev pub line : List ℕ → List ℕ
@@ -61,7 +61,7 @@ abbrev pub labels_line : List (List ℕ) → List ℕ
 labels_line labels = line (codes "labels" ++ flat_map (λ label. 32 ∷ spelling label) labels)
 
 -- the line of a reply; of the pools, their lines and then one more
-abbrev pub reply_line : Reply → List ℕ
+abbrev pub reply_line : CommandReply → List ℕ
 reply_line (reply.Connected n) = connected_line n
 reply_line reply.Done = line (codes "ok")
 reply_line (reply.Refused r) = refused_line r

@@ -18,10 +18,10 @@ pub use file_line::{FileLine, file_line_of};
 pub use lines::{begins_cert, is_end};
 pub use names::{fault_name, fault_named, rule_name};
 pub use operands::{CommandOperands, operands_of};
-pub use part::{Part, Refused, accept_parts, modules_of};
+pub use part::{Refused, ScriptModule, accept_parts, modules_of};
 pub use pieces::{MemoryKind, PieceRead, ScriptPiece, pieces_of};
 pub use reply::{
-    Reply, put_asm_fault, put_cert_fault, put_refused_at, put_refused_module, put_reply,
+    CommandReply, put_asm_fault, put_cert_fault, put_refused_at, put_refused_module, put_reply,
     put_script_fault,
 };
 pub use script::{DEFAULT_BUDGET, LINE_BYTES, budget_at, command_at, is_checked};

@@ -1,7 +1,7 @@
 //! The modules of a script, each with its certificate.
 
 ghost use Rattle.std.specs.Prelude.{◌≡◌, ◌<◌, ◌≤◌, None, Some, All, length, map, IfErr, IfOk};
-ghost use Rattle.script_text.specs.Prelude.{IsModule, ChainNeverFaults, seen_part, AreCertified, IsCertified, codes_of, first_from, refused_in, unmade};
+ghost use Rattle.script_text.specs.Prelude.{IsModule, ChainNeverFaults, seen_part, AreCertified, HasCertificate, codes_of, first_from, refused_in, unmade};
 
 use life_cert::{MakeRefusal, make};
 use life_check::{Cert, ChainRefusal, CheckRefusal, CheckedChain, accept_chain};
@@ -10,7 +10,7 @@ use std::alloc::{AllocError, Global};
 
 /// A module of a script, and the certificate that stands behind it.
 #[derive(Drop)]
-pub struct Part {
+pub struct ScriptModule {
     /// The module.
     pub code: Module,
     /// Its certificate, where the script has one.
@@ -35,7 +35,7 @@ pub struct Refused {
 
 /// The certificate that is given, or else one that is made.
 fn certificate_of(alloc: Global, code: &Module, cert: Option<Cert>) -> Result<Certified, AllocError>
-    ensures { IfOk result (IsCertified (record { code = code.now; cert = cert })) }
+    ensures { IfOk result (HasCertificate (record { code = code.now; cert = cert })) }
 {
     if let Some(cert) = cert {
         return Ok(Certified::With(cert));
@@ -50,7 +50,7 @@ fn certificate_of(alloc: Global, code: &Module, cert: Option<Cert>) -> Result<Ce
 /// The modules, each with its certificate; or the first for which one is missing and none can be made.
 fn certify_all(
     alloc: Global,
-    parts: Vec<Part>,
+    parts: Vec<ScriptModule>,
 ) -> Result<Result<Vec<(Module, Cert)>, Refused>, AllocError>
     ensures certified { IfOk result (λ r. IfOk r (λ v. AreCertified v.items (map seen_part parts.items))) }
     ensures count { IfOk result (λ r. IfOk r (λ v. length v.items ≡ length parts.items)) }
@@ -58,7 +58,7 @@ fn certify_all(
 {
     let mut pairs = Vec::new(alloc);
     for part in parts {
-        let Part { code, cert } = part;
+        let ScriptModule { code, cert } = part;
         match certificate_of(alloc, &code, cert)? {
             Certified::With(cert) => pairs.push((code, cert))?,
             Certified::Refused(refusal) => {
@@ -74,7 +74,7 @@ fn certify_all(
 /// module is checked. `AllocError`: there was no memory for a certificate, for the list of modules, or for the check.
 pub fn accept_parts(
     alloc: Global,
-    parts: Vec<Part>,
+    parts: Vec<ScriptModule>,
 ) -> Result<Result<CheckedChain, Refused>, AllocError>
     requires some { 0 < length parts.items }
     requires few { length parts.items ≤ 16 }
@@ -93,18 +93,18 @@ pub fn accept_parts(
 }
 
 /// The module alone.
-fn module_of(part: Part) -> Module
+fn module_of(part: ScriptModule) -> Module
     ensures value { result ≡ part.code }
     ensures sound { IsModule result }
 {
-    let Part { code, cert: _ } = part;
+    let ScriptModule { code, cert: _ } = part;
     // What is known of each module is told by its calls.
     let _ = code.len();
     code
 }
 
 /// The modules alone. `AllocError`: there was no memory for their list.
-pub fn modules_of(alloc: Global, parts: Vec<Part>) -> Result<Vec<Module>, AllocError>
+pub fn modules_of(alloc: Global, parts: Vec<ScriptModule>) -> Result<Vec<Module>, AllocError>
     ensures value { IfOk result (λ v. v.items ≡ codes_of (map seen_part parts.items)) }
     ensures sound { IfOk result (λ v. All IsModule v.items) }
 {

@@ -14,7 +14,7 @@ use std::alloc::{AllocError, Global};
 
 /// What a command answers.
 #[derive(Drop)]
-pub enum Reply {
+pub enum CommandReply {
     /// A connection was opened, of this number.
     Connected(u64),
     /// It was done.
@@ -194,7 +194,7 @@ fn put_labels(out: &mut Vec<u8>, labels: &[Seq<u8>]) -> Result<(), AllocError>
 }
 
 fn extend_pools(out: &mut Vec<u8>, text: &[u8]) -> Result<(), AllocError>
-    ensures ok { OnOk result (out.new.items ≡ out.old.items ++ reply_line (Reply.Pools text.now)) }
+    ensures ok { OnOk result (out.new.items ≡ out.old.items ++ reply_line (CommandReply.Pools text.now)) }
     ensures front { take (length out.old.items) out.new.items ≡ out.old.items }
 {
     out.extend_from_slice(text)?;
@@ -203,7 +203,7 @@ fn extend_pools(out: &mut Vec<u8>, text: &[u8]) -> Result<(), AllocError>
 
 #[inline(never)]
 fn put_pools(out: &mut Vec<u8>, text: &[u8]) -> Result<(), AllocError>
-    ensures ok { OnOk result (out.new.items ≡ out.old.items ++ reply_line (Reply.Pools text.now)) }
+    ensures ok { OnOk result (out.new.items ≡ out.old.items ++ reply_line (CommandReply.Pools text.now)) }
     ensures err { OnErr result (out.new.items ≡ out.old.items) }
 {
     let len = out.len();
@@ -212,19 +212,19 @@ fn put_pools(out: &mut Vec<u8>, text: &[u8]) -> Result<(), AllocError>
 }
 
 /// Adds the line of a reply to the text, and of the pools their lines before it. Without memory nothing is changed.
-pub fn put_reply(alloc: Global, out: &mut Vec<u8>, reply: &Reply) -> Result<(), AllocError>
+pub fn put_reply(alloc: Global, out: &mut Vec<u8>, reply: &CommandReply) -> Result<(), AllocError>
     ensures ok { OnOk result (out.new.items ≡ out.old.items ++ reply_line reply.now) }
     ensures err { OnErr result (out.new.items ≡ out.old.items) }
 {
     match reply {
-        Reply::Connected(number) => put_connected(alloc, out, *number),
-        Reply::Done => put(out, "ok\n"),
-        Reply::Refused(refusal) => put_refused(alloc, out, *refusal),
-        Reply::Stepped(stepped) => put_stepped(alloc, out, *stepped),
-        Reply::Went(count) => put_went(alloc, out, *count),
-        Reply::Output(bytes) => put_output(out, bytes.as_slice()),
-        Reply::Labels(labels) => put_labels(out, labels.as_slice()),
-        Reply::Pools(text) => put_pools(out, text.as_slice()),
+        CommandReply::Connected(number) => put_connected(alloc, out, *number),
+        CommandReply::Done => put(out, "ok\n"),
+        CommandReply::Refused(refusal) => put_refused(alloc, out, *refusal),
+        CommandReply::Stepped(stepped) => put_stepped(alloc, out, *stepped),
+        CommandReply::Went(count) => put_went(alloc, out, *count),
+        CommandReply::Output(bytes) => put_output(out, bytes.as_slice()),
+        CommandReply::Labels(labels) => put_labels(out, labels.as_slice()),
+        CommandReply::Pools(text) => put_pools(out, text.as_slice()),
     }
 }
 

@@ -5,7 +5,7 @@ ghost use Rattle.script_text.specs.Prelude.{budget_at, seen_part, with_cert, hea
 ghost use Rattle.script_text.specs.Prelude.{TakesBehindModule, TakesBehindSkipped, TakesHeading, TakesChecked, taken_as, TakesLine, EndsHead, TellsMore, at_line};
 
 use crate::lines::{begins_cert, is_end};
-use crate::part::Part;
+use crate::part::ScriptModule;
 use crate::reply::{put_asm_fault_behind, put_cert_fault, put_script_fault};
 use crate::script::{DEFAULT_BUDGET, budget_at, is_checked};
 use byte_text::{is_text, token, unindented};
@@ -51,7 +51,7 @@ pub enum LineTaken {
 #[derive(Drop)]
 pub struct Texts {
     /// The modules that were read, with their certificates.
-    pub parts: Vec<Part>,
+    pub parts: Vec<ScriptModule>,
     /// How many instructions a call may take.
     pub budget: u64,
     place: HeadPlace,
@@ -77,15 +77,15 @@ pub fn begins_module(text: &[u8], ended: bool) -> bool
 
 /// The last module has this certificate.
 #[tactic(auto, using(crate::proofs::HeadLaws::given_last, crate::proofs::HeadLaws::given_none))]
-fn give_cert(parts: &mut Vec<Part>, cert: Cert) -> Result<(), AllocError>
+fn give_cert(parts: &mut Vec<ScriptModule>, cert: Cert) -> Result<(), AllocError>
     ensures { OnOk result (map seen_part parts.new.items ≡ with_cert cert (map seen_part parts.old.items)) }
 {
     let Some(part) = parts.pop() else {
         return Ok(());
     };
-    let Part { code, cert: _ } = part;
+    let ScriptModule { code, cert: _ } = part;
     let cert = Some(cert);
-    parts.push(Part { code, cert })?;
+    parts.push(ScriptModule { code, cert })?;
     Ok(())
 }
 
@@ -129,7 +129,7 @@ impl Texts {
     {
         match assemble(alloc, self.text.as_slice()) {
             Ok(code) => {
-                self.parts.push(Part { code, cert: None })?;
+                self.parts.push(ScriptModule { code, cert: None })?;
                 self.text.clear();
                 self.place = HeadPlace::BehindModule;
                 Ok(LineTaken::More)

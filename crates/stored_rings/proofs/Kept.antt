@@ -11,7 +11,7 @@ use Rattle.run_model.specs.declared.bucket.Content.{Content}
 use Rattle.run_model.specs.declared.bucket.Content.TheVariants as content
 use Rattle.bucket_kinds.specs.declared.stored.Kept.{Kept}
 use Rattle.bucket_kinds.specs.declared.stored.Kept.TheVariants as kept
-use Rattle.bucket_kinds.specs.declared.stored.Place.{Place}
+use Rattle.bucket_kinds.specs.declared.stored.RegionBytes.{RegionBytes}
 use Rattle.bucket_kinds.specs.declared.stored.Stored.{Stored}
 use Rattle.bucket_kinds.specs.Stored.{Look, part, has_part, is_whole, shown, shown_content}
 use Rattle.stored_rings.specs.declared.dependents.Dependents.{Dependents}
@@ -55,7 +55,7 @@ all_both p q (x ∷ xs) a b =
 
 -- Bytes were placed: all that was there is there.
 module _ (old new : Look) (same : (p : ℕ) (s : Span) → is_some (old p s) ≡ true → new p s ≡ old p s) where
-  there : (o : Option (List ℕ)) (p : Place) → has_part o p ≡ true → is_some o ≡ true
+  there : (o : Option (List ℕ)) (p : RegionBytes) → has_part o p ≡ true → is_some o ≡ true
   there None p e = absurd (false≢true e)
   there (Some bs) p e = refl
 

@@ -6,7 +6,7 @@ ghost use Rattle.run_model.specs.Cutting.{heap_of};
 ghost use Rattle.bucket_kinds.specs.Stored.{part, has_part, pool_bucket};
 
 use apr_region::Region;
-use bucket_kinds::{Place, Stored, heap_copy, place_pool, placed_bytes};
+use bucket_kinds::{RegionBytes, Stored, heap_copy, place_pool, placed_bytes};
 use name_table::NameHasher;
 use run_model::{Bucket, Content};
 use std::alloc::{AllocError, Global};
@@ -49,7 +49,7 @@ impl Regions {
     }
 
     /// The bytes at a place.
-    pub fn bytes(&self, place: Place) -> &[u8]
+    pub fn bytes(&self, place: RegionBytes) -> &[u8]
         requires { has_part (look self.now place.pool place.span) place ≡ true }
         ensures { result.now ≡ part (look self.now place.pool place.span) place }
     {
@@ -60,7 +60,7 @@ impl Regions {
     }
 
     /// A HEAP bucket of the bytes at a place.
-    pub fn heap_copy(&self, place: Place) -> Result<Bucket, AllocError>
+    pub fn heap_copy(&self, place: RegionBytes) -> Result<Bucket, AllocError>
         requires { has_part (look self.now place.pool place.span) place ≡ true }
         ensures { IfOk result (λ x. x ≡ heap_of (Content.Bytes (part (look self.now place.pool place.span) place))) }
     {

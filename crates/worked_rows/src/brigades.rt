@@ -2,7 +2,7 @@
 
 use crate::buckets::letters;
 use crate::missing::Missing;
-use crate::rings::{Place, Put};
+use crate::rings::{Put, RingPlace};
 use anyhow::Result;
 use brigade_ops::{BrigadeId, Brigades, BucketId, ContentView, Rings, Stored};
 use bucket_kinds::Bucket;
@@ -14,14 +14,14 @@ const MOST: usize = 9;
 /// Puts a new bucket in.
 fn put<R: Rings<Stored> + Drop>(
     store: &mut Brigades<R>,
-    place: Place,
+    place: RingPlace,
     bucket: Bucket,
 ) -> Result<Put<Bucket>, Missing> {
     match place {
-        Place::Head(brigade) if store.has(brigade) => Ok(store.add_head(brigade, bucket)),
-        Place::Tail(brigade) if store.has(brigade) => Ok(store.add_tail(brigade, bucket)),
-        Place::Before(at) if store.ring_of(at).is_some() => Ok(store.add_before(at, bucket)),
-        Place::After(at) if store.ring_of(at).is_some() => Ok(store.add_after(at, bucket)),
+        RingPlace::Head(brigade) if store.has(brigade) => Ok(store.add_head(brigade, bucket)),
+        RingPlace::Tail(brigade) if store.has(brigade) => Ok(store.add_tail(brigade, bucket)),
+        RingPlace::Before(at) if store.ring_of(at).is_some() => Ok(store.add_before(at, bucket)),
+        RingPlace::After(at) if store.ring_of(at).is_some() => Ok(store.add_after(at, bucket)),
         _ => Err(Missing),
     }
 }
@@ -30,7 +30,7 @@ fn put<R: Rings<Stored> + Drop>(
 fn add<R: Rings<Stored> + Drop>(
     alloc: Global,
     store: &mut Brigades<R>,
-    place: Place,
+    place: RingPlace,
     text: &[u8],
 ) -> Result<BucketId> {
     match put(store, place, letters(alloc, text)?)? {
@@ -82,10 +82,10 @@ pub(crate) fn show_rows<R: Rings<Stored> + Drop>(rt: &HostRuntime) -> Result<()>
     println!(rt; "a at the tail, b at the head, c before a, d after a, and e and f at the tail")?;
     let mut store = Brigades::<R>::new(rt.alloc(), 1);
     let brigade = store.loose()?;
-    let a = add(rt.alloc(), &mut store, Place::Tail(brigade), b"a")?;
-    add(rt.alloc(), &mut store, Place::Head(brigade), b"b")?;
-    add(rt.alloc(), &mut store, Place::Before(a), b"c")?;
-    add(rt.alloc(), &mut store, Place::After(a), b"d")?;
+    let a = add(rt.alloc(), &mut store, RingPlace::Tail(brigade), b"a")?;
+    add(rt.alloc(), &mut store, RingPlace::Head(brigade), b"b")?;
+    add(rt.alloc(), &mut store, RingPlace::Before(a), b"c")?;
+    add(rt.alloc(), &mut store, RingPlace::After(a), b"d")?;
     add_two(rt.alloc(), &mut store, brigade)?;
     show_letters(rt, &mut store, brigade)
 }

@@ -12,7 +12,7 @@ use std::{fmt, io};
 
 /// A bucket that a row makes.
 #[derive(Clone, Copy)]
-enum Made {
+enum MadeBucket {
     /// Bytes of a kind, with their home.
     Bytes(Kind, Home, &'static [u8]),
     /// Ten bytes of the file 7, from byte 5 on. Their home is the pool 2.
@@ -22,7 +22,7 @@ enum Made {
 
 /// A call on one bucket.
 #[derive(Clone, Copy)]
-enum Call {
+enum BucketCall {
     /// It is split at a place.
     Split(u64),
     /// A copy takes its place, of the same kind, bytes and home.
@@ -31,40 +31,44 @@ enum Call {
     Aside(bool),
 }
 
-const AB: Made = Made::Bytes(Kind::Heap, Home::Free, b"ab");
+const AB: MadeBucket = MadeBucket::Bytes(Kind::Heap, Home::Free, b"ab");
 
-const POOLED: Made = Made::Bytes(Kind::Pool(2), Home::Free, b"ab");
+const POOLED: MadeBucket = MadeBucket::Bytes(Kind::Pool(2), Home::Free, b"ab");
 
-const LENT: Made = Made::Bytes(Kind::Transient, Home::Call(3), b"a");
+const LENT: MadeBucket = MadeBucket::Bytes(Kind::Transient, Home::Call(3), b"a");
 
 /// Each row has what is told before it, where anything is, a bucket, and a call on it.
-static ROWS: &[(Option<&str>, Made, Call)] = &[
-    (Some("buckets are split"), AB, Call::Split(0)),
-    (None, AB, Call::Split(1)),
-    (None, AB, Call::Split(2)),
-    (None, AB, Call::Split(3)),
-    (None, Made::Eos, Call::Split(0)),
-    (None, Made::Eos, Call::Split(1)),
-    (None, Made::Range, Call::Split(4)),
-    (Some("buckets are copied"), POOLED, Call::Copy),
-    (None, Made::Eos, Call::Copy),
+static ROWS: &[(Option<&str>, MadeBucket, BucketCall)] = &[
+    (Some("buckets are split"), AB, BucketCall::Split(0)),
+    (None, AB, BucketCall::Split(1)),
+    (None, AB, BucketCall::Split(2)),
+    (None, AB, BucketCall::Split(3)),
+    (None, MadeBucket::Eos, BucketCall::Split(0)),
+    (None, MadeBucket::Eos, BucketCall::Split(1)),
+    (None, MadeBucket::Range, BucketCall::Split(4)),
+    (Some("buckets are copied"), POOLED, BucketCall::Copy),
+    (None, MadeBucket::Eos, BucketCall::Copy),
     (
         Some("buckets are set aside into pool 9"),
         LENT,
-        Call::Aside(false),
+        BucketCall::Aside(false),
     ),
-    (Some("its home is above:"), Made::Range, Call::Aside(true)),
+    (
+        Some("its home is above:"),
+        MadeBucket::Range,
+        BucketCall::Aside(true),
+    ),
     (
         Some("its home is not above:"),
-        Made::Range,
-        Call::Aside(false),
+        MadeBucket::Range,
+        BucketCall::Aside(false),
     ),
-    (None, AB, Call::Aside(false)),
+    (None, AB, BucketCall::Aside(false)),
 ];
 
 /// A bucket: its kind, its content, and its home where it has one.
 #[derive(Clone, Copy)]
-struct Seen<'a>(&'a Bucket);
+struct ShownBucket<'a>(&'a Bucket);
 
 fn put_kind<W: fmt::Write>(f: &mut fmt::Formatter<W>, kind: Kind) -> fmt::Result {
     let word = match kind {
@@ -90,7 +94,7 @@ fn put_content<W: fmt::Write>(f: &mut fmt::Formatter<W>, content: &Content) -> f
     }
 }
 
-impl fmt::Display for Seen<'_> {
+impl fmt::Display for ShownBucket<'_> {
     fn fmt<W: fmt::Write>(&self, f: &mut fmt::Formatter<W>) -> fmt::Result {
         put_kind(f, self.0.kind)?;
         put_content(f, &self.0.content)?;
@@ -124,12 +128,12 @@ pub(crate) fn letters(alloc: Global, text: &[u8]) -> Result<Bucket, AllocError>
     bucket_of(alloc, Kind::Heap, Home::Free, text)
 }
 
-fn make(alloc: Global, made: Made) -> Result<Bucket, AllocError>
+fn make(alloc: Global, made: MadeBucket) -> Result<Bucket, AllocError>
     ensures { IfOk result (λ b. EndsInFile b.content) }
 {
     match made {
-        Made::Bytes(kind, home, text) => bucket_of(alloc, kind, home, text),
-        Made::Range => Ok(Bucket {
+        MadeBucket::Bytes(kind, home, text) => bucket_of(alloc, kind, home, text),
+        MadeBucket::Range => Ok(Bucket {
             kind: Kind::File,
             content: Content::Range {
                 file: 7,
@@ -138,7 +142,7 @@ fn make(alloc: Global, made: Made) -> Result<Bucket, AllocError>
             },
             home: Home::Pool(2),
         }),
-        Made::Eos => Ok(Bucket {
+        MadeBucket::Eos => Ok(Bucket {
             kind: Kind::Eos,
             content: Content::Nothing,
             home: Home::Free,
@@ -147,23 +151,27 @@ fn make(alloc: Global, made: Made) -> Result<Bucket, AllocError>
 }
 
 /// The place of a split; of other calls nothing.
-impl fmt::Display for Call {
+impl fmt::Display for BucketCall {
     fn fmt<W: fmt::Write>(&self, f: &mut fmt::Formatter<W>) -> fmt::Result {
         match self {
-            Call::Split(at) => write!(f, " at {at}"),
-            Call::Copy | Call::Aside(_) => Ok(()),
+            BucketCall::Split(at) => write!(f, " at {at}"),
+            BucketCall::Copy | BucketCall::Aside(_) => Ok(()),
         }
     }
 }
 
 /// Makes a call, and gives what was split off.
-fn make_call(alloc: Global, bucket: &mut Bucket, call: Call) -> Result<Option<Bucket>, SplitError>
+fn make_call(
+    alloc: Global,
+    bucket: &mut Bucket,
+    call: BucketCall,
+) -> Result<Option<Bucket>, SplitError>
     requires { EndsInFile bucket.old.content }
 {
     match call {
-        Call::Split(at) => return Ok(Some(split_bucket(alloc, bucket, at)?)),
-        Call::Copy => *bucket = copy_bucket(alloc, bucket)?,
-        Call::Aside(is_ancestor) => aside_bucket(bucket, 9, is_ancestor),
+        BucketCall::Split(at) => return Ok(Some(split_bucket(alloc, bucket, at)?)),
+        BucketCall::Copy => *bucket = copy_bucket(alloc, bucket)?,
+        BucketCall::Aside(is_ancestor) => aside_bucket(bucket, 9, is_ancestor),
     }
     Ok(None)
 }
@@ -175,16 +183,16 @@ pub(crate) fn show_answer<E: fmt::Display>(
     answer: &Result<Option<Bucket>, E>,
 ) -> io::Result<()> {
     match answer {
-        Ok(Some(rest)) => println!(rt; "{} | {}", Seen(bucket), Seen(rest)),
-        Ok(None) => println!(rt; "{}", Seen(bucket)),
-        Err(why) => println!(rt; "{why}, and it is {}", Seen(bucket)),
+        Ok(Some(rest)) => println!(rt; "{} | {}", ShownBucket(bucket), ShownBucket(rest)),
+        Ok(None) => println!(rt; "{}", ShownBucket(bucket)),
+        Err(why) => println!(rt; "{why}, and it is {}", ShownBucket(bucket)),
     }
 }
 
 /// Tells a bucket, and what a call makes of it.
-fn show_call(rt: &HostRuntime, made: Made, call: Call) -> Result<()> {
+fn show_call(rt: &HostRuntime, made: MadeBucket, call: BucketCall) -> Result<()> {
     let mut bucket = make(rt.alloc(), made)?;
-    print!(rt; "{}{call}: ", Seen(&bucket))?;
+    print!(rt; "{}{call}: ", ShownBucket(&bucket))?;
     let answer = make_call(rt.alloc(), &mut bucket, call);
     Ok(show_answer(rt, &bucket, &answer)?)
 }

@@ -12,7 +12,7 @@ use crate::modules::{
 use anyhow::Result;
 use byte_streams::{CountedSource, READS};
 use module_tools::{Loaded, load_part, run_assemble, run_certify, run_check};
-use script_text::{MODULES, Part, accept_parts, rule_name};
+use script_text::{MODULES, ScriptModule, accept_parts, rule_name};
 use std::alloc::Global;
 use std::io::{self, Write};
 
@@ -168,7 +168,7 @@ fn tell(alloc: Global, row: Row, out: &mut Vec<u8>) -> Result<()> {
 }
 
 /// A module with its certificate.
-fn part_of(alloc: Global, with: WithCert) -> Result<Part> {
+fn part_of(alloc: Global, with: WithCert) -> Result<ScriptModule> {
     let cert = cert_of(alloc, with)?;
     let mut cert = source(cert.as_bytes());
     match load_part(alloc, &mut source(with.0), &mut cert)? {

@@ -6,14 +6,14 @@
 //! A place behind the last bucket stands for the last. A command that wants a bucket, and finds its ring empty, is left out.
 
 use crate::missing::Missing;
-use crate::rings::{Call, Place, list, make_call, put};
+use crate::rings::{RingCall, RingPlace, list, make_call, put};
 use anyhow::Result;
 use bucket_ring::{BucketId, RingId, Rings};
 use std::alloc::{AllocError, Global};
 
 /// A command: which one, two of the four rings, the places of two buckets, and a letter.
 #[derive(Clone, Copy)]
-struct Command {
+struct RingCommand {
     which: u64,
     r: usize,
     s: usize,
@@ -23,8 +23,8 @@ struct Command {
 }
 
 /// The digits of a command.
-fn command_of(digits: u64) -> Command {
-    Command {
+fn command_of(digits: u64) -> RingCommand {
+    RingCommand {
         which: digits % 32,
         r: (digits / 32 % 4) as usize,
         s: (digits / 128 % 4) as usize,
@@ -38,9 +38,9 @@ fn command_of(digits: u64) -> Command {
 #[derive(Clone, Copy)]
 enum Action {
     /// Puts a new bucket in.
-    Put(Place),
+    Put(RingPlace),
     /// Moves buckets.
-    Call(Call),
+    Call(RingCall),
     /// Drops a bucket.
     Drop(BucketId),
     /// Gives a bucket another letter.
@@ -59,17 +59,23 @@ enum Action {
 }
 
 /// The table of the commands. The first ring is `r`, and a bucket of it `i`; the other is `s`, and a bucket of it `j`.
-fn action_of(c: Command, r: RingId, s: RingId, i: Option<BucketId>, j: Option<BucketId>) -> Action {
+fn action_of(
+    c: RingCommand,
+    r: RingId,
+    s: RingId,
+    i: Option<BucketId>,
+    j: Option<BucketId>,
+) -> Action {
     match (c.which, i, j) {
-        (0..=2, _, _) => Action::Put(Place::Tail(r)),
-        (3..=5, _, _) => Action::Put(Place::Head(r)),
-        (6..=8, Some(at), _) => Action::Put(Place::Before(at)),
-        (9..=11, Some(at), _) => Action::Put(Place::After(at)),
-        (12..=13, Some(id), _) => Action::Call(Call::Move(id, Place::Tail(s))),
-        (14..=15, Some(id), _) => Action::Call(Call::Move(id, Place::Head(s))),
-        (16..=17, Some(id), Some(at)) => Action::Call(Call::Move(id, Place::Before(at))),
-        (18..=19, _, _) => Action::Call(Call::All(s, r)),
-        (20..=21, Some(id), _) => Action::Call(Call::WithRest(id, s)),
+        (0..=2, _, _) => Action::Put(RingPlace::Tail(r)),
+        (3..=5, _, _) => Action::Put(RingPlace::Head(r)),
+        (6..=8, Some(at), _) => Action::Put(RingPlace::Before(at)),
+        (9..=11, Some(at), _) => Action::Put(RingPlace::After(at)),
+        (12..=13, Some(id), _) => Action::Call(RingCall::Move(id, RingPlace::Tail(s))),
+        (14..=15, Some(id), _) => Action::Call(RingCall::Move(id, RingPlace::Head(s))),
+        (16..=17, Some(id), Some(at)) => Action::Call(RingCall::Move(id, RingPlace::Before(at))),
+        (18..=19, _, _) => Action::Call(RingCall::All(s, r)),
+        (20..=21, Some(id), _) => Action::Call(RingCall::WithRest(id, s)),
         (22..=24, Some(id), _) => Action::Drop(id),
         (25, Some(id), _) => Action::Set(id),
         (26..=27, _, _) => Action::AddTwo,
@@ -88,7 +94,7 @@ fn bucket_at(buckets: &[(BucketId, u8)], place: usize) -> Option<BucketId> {
 }
 
 /// Puts a new bucket in.
-fn add<R: Rings<u8>>(rings: &mut R, place: Place, letter: u8) -> Result<()> {
+fn add<R: Rings<u8>>(rings: &mut R, place: RingPlace, letter: u8) -> Result<()> {
     match put(rings, place, letter)? {
         Ok(_) => Ok(()),
         Err((why, _)) => Err(why.into()),
@@ -144,7 +150,7 @@ fn skip<R: Rings<u8>>(rings: &mut R, count: usize) -> Result<()> {
 }
 
 /// The names and letters of buckets.
-type Told = Vec<(BucketId, u8)>;
+type NamedLetters = Vec<(BucketId, u8)>;
 
 /// Rings of one kind, and the names of four of them.
 #[derive(Drop)]
@@ -155,7 +161,7 @@ struct Four<R> {
 
 impl<R: Rings<u8> + Drop> Four<R> {
     /// The names and letters of all four rings, each behind its own name.
-    fn told(&self, alloc: Global) -> Result<Told, AllocError> {
+    fn told(&self, alloc: Global) -> Result<NamedLetters, AllocError> {
         let mut told = Vec::new(alloc);
         for name in &self.names {
             let head = BucketId {
@@ -169,7 +175,7 @@ impl<R: Rings<u8> + Drop> Four<R> {
     }
 
     /// What a command does with what the rings hold.
-    fn action(&self, alloc: Global, c: Command) -> Result<Action, AllocError> {
+    fn action(&self, alloc: Global, c: RingCommand) -> Result<Action, AllocError> {
         let (r, s) = (self.names[c.r % 4], self.names[c.s % 4]);
         let (mut first, mut second) = (Vec::new(alloc), Vec::new(alloc));
         list(&self.rings, r, &mut first)?;
@@ -180,7 +186,7 @@ impl<R: Rings<u8> + Drop> Four<R> {
     }
 
     /// Plays a command.
-    fn play(&mut self, alloc: Global, c: Command) -> Result<()> {
+    fn play(&mut self, alloc: Global, c: RingCommand) -> Result<()> {
         let ring = self.names[c.r % 4];
         match self.action(alloc, c)? {
             Action::Put(place) => add(&mut self.rings, place, c.letter),
@@ -193,14 +199,14 @@ impl<R: Rings<u8> + Drop> Four<R> {
     }
 
     /// Ends a ring, which makes way for a new one.
-    fn renew(&mut self, c: Command) -> Result<()> {
+    fn renew(&mut self, c: RingCommand) -> Result<()> {
         end(&mut self.rings, self.names[c.r % 4]);
         self.names[c.r % 4] = self.rings.new_ring()?;
         Ok(())
     }
 
     /// Ends two rings, which make way for a pair.
-    fn renew_both(&mut self, c: Command, two: Vec<u8>) -> Result<()> {
+    fn renew_both(&mut self, c: RingCommand, two: Vec<u8>) -> Result<()> {
         end(&mut self.rings, self.names[c.r % 4]);
         end(&mut self.rings, self.names[c.s % 4]);
         let (first, second) = self.rings.new_pair(two)?;
@@ -211,7 +217,7 @@ impl<R: Rings<u8> + Drop> Four<R> {
 }
 
 /// Plays the commands on four rings, and gives what they hold after each.
-fn play_all<R: Rings<u8> + Drop>(alloc: Global, four: &mut Four<R>) -> Result<Vec<Told>> {
+fn play_all<R: Rings<u8> + Drop>(alloc: Global, four: &mut Four<R>) -> Result<Vec<NamedLetters>> {
     let mut history = Vec::new(alloc);
     let mut number = 1u64;
     for _ in 0..10_000 {
@@ -224,7 +230,7 @@ fn play_all<R: Rings<u8> + Drop>(alloc: Global, four: &mut Four<R>) -> Result<Ve
 }
 
 /// Plays the commands on rings of a kind.
-fn history<R: Rings<u8> + Drop>(alloc: Global) -> Result<Vec<Told>> {
+fn history<R: Rings<u8> + Drop>(alloc: Global) -> Result<Vec<NamedLetters>> {
     let mut four = Four {
         rings: R::new(alloc, 1),
         names: [0; 4],
@@ -256,7 +262,7 @@ fn sum_of(told: &[(BucketId, u8)], before: u64) -> u64 {
 }
 
 /// After how many commands rings of two kinds were equal, and the sum over all that was told of the second.
-fn tally(plain: &[Told], raw: &[Told]) -> (u64, u64) {
+fn tally(plain: &[NamedLetters], raw: &[NamedLetters]) -> (u64, u64) {
     let (mut alike, mut sum) = (0u64, 0);
     for (first, second) in plain.iter().zip(raw) {
         sum = sum_of(second.as_slice(), sum);

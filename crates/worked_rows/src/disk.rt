@@ -13,7 +13,7 @@ use std::path::Path;
 
 /// What is written to a file after it was opened; whether it is read from 2^63 on, where the system reads none; and names that are opened then.
 #[derive(Clone, Copy)]
-struct Changed {
+struct ChangedFile {
     text: &'static [u8],
     is_far: bool,
     names: &'static [&'static [u8]],
@@ -28,18 +28,18 @@ const TOO_LONG: &[u8] = b"\
 
 /// A file is read that has other bytes than when it was opened, one that was cut short, and one where the system reads none from so far on.
 /// What is not there, and a folder, are no failures of the disk. No file system takes a name of 300 bytes.
-static ROWS: &[Changed] = &[
-    Changed {
+static ROWS: &[ChangedFile] = &[
+    ChangedFile {
         text: b"jihgfedcba",
         is_far: false,
         names: &[],
     },
-    Changed {
+    ChangedFile {
         text: b"jih",
         is_far: false,
         names: &[],
     },
-    Changed {
+    ChangedFile {
         text: b"abcdefghij",
         is_far: true,
         names: &[TOO_LONG, b"/no such file", b"/"],
@@ -103,7 +103,7 @@ fn show_changed<F: Files>(
     rt: &HostRuntime,
     files: &mut F,
     path: &Path<'_>,
-    changed: Changed,
+    changed: ChangedFile,
 ) -> Result<()> {
     fs::write(rt, *path, b"abcdefghij")?;
     let (file, _) = files.open_file(path.as_str().as_bytes())?;

@@ -14,7 +14,7 @@ use std::alloc::Global;
 
 /// A call that reads a text and writes an answer.
 #[derive(Clone, Copy, Debug)]
-enum Call {
+enum StreamCall {
     /// Requests are served.
     Serve,
     /// A script is played.
@@ -37,52 +37,52 @@ type Text = &'static [u8];
 
 /// A call, how what it reads is called, a text, what comes after it, and what comes after both, again and again, where there is no end.
 /// `CheckWith` reads the certificate of `IDENTITY` in place of the text.
-type Row = (Call, &'static str, Text, Text, Text);
+type Row = (StreamCall, &'static str, Text, Text, Text);
 
 /// How many reads give nothing before each byte of a reader without an end: so it gives 50,000 bytes in all.
 const PAUSES: u32 = 19;
 
 const ROWS: &[Row] = &[
-    (Call::Serve, "two requests", GET, GET, GET),
+    (StreamCall::Serve, "two requests", GET, GET, GET),
     (
-        Call::Serve,
+        StreamCall::Serve,
         "refusals, a HEAD and a GET",
         b"POST /a HTTP/1.1\r\nHost: h\r\n\r\nGET /b HTTP/1.1\r\nHost: h\r\n\r\nHEAD /a HTTP/1.1\r\nHost: h\r\n\r\n",
         GET,
         GET,
     ),
     (
-        Call::Serve,
+        StreamCall::Serve,
         "a head that is none",
         b"GET /a HTTP/1.1\r\n\r\n",
         b"",
         GET,
     ),
     (
-        Call::Play,
+        StreamCall::Play,
         "a script",
         IDENTITY,
         b"open\nrun 1\nbegin 1\nrun 1\nbring 1 heap \"ab\" eos\nrun 1\noutput 1\n",
         b"labels 1\n",
     ),
     (
-        Call::Play,
+        StreamCall::Play,
         "a script with a line that is none",
         IDENTITY,
         b"open\nrun\n",
         b"labels 1\n",
     ),
-    (Call::Assemble, "a module", IDENTITY, b"", IDENTITY),
-    (Call::Certify, "a module", IDENTITY, b"", IDENTITY),
-    (Call::Slim, "a module", IDENTITY, b"", IDENTITY),
-    (Call::Check, "a module", IDENTITY, b"", IDENTITY),
-    (Call::CheckWith, "a certificate", b"", b"", IDENTITY),
-    (Call::New, "nothing", b"", b"", IDENTITY),
+    (StreamCall::Assemble, "a module", IDENTITY, b"", IDENTITY),
+    (StreamCall::Certify, "a module", IDENTITY, b"", IDENTITY),
+    (StreamCall::Slim, "a module", IDENTITY, b"", IDENTITY),
+    (StreamCall::Check, "a module", IDENTITY, b"", IDENTITY),
+    (StreamCall::CheckWith, "a certificate", b"", b"", IDENTITY),
+    (StreamCall::New, "nothing", b"", b"", IDENTITY),
 ];
 
 /// How a call ends.
 #[derive(Clone, Copy, Debug, PartialEq, Eq)]
-enum End {
+enum StreamEnd {
     Done,
     Refused,
     Read,
@@ -92,13 +92,13 @@ enum End {
     Other,
 }
 
-fn end_of(ended: Result<Ended, PlayFault>) -> End {
+fn end_of(ended: Result<Ended, PlayFault>) -> StreamEnd {
     match ended {
-        Ok(Ended::Done) => End::Done,
-        Ok(Ended::Refused) => End::Refused,
-        Err(PlayFault::Read) => End::Read,
-        Err(PlayFault::Write) => End::Write,
-        Err(PlayFault::NoMemory) => End::Other,
+        Ok(Ended::Done) => StreamEnd::Done,
+        Ok(Ended::Refused) => StreamEnd::Refused,
+        Err(PlayFault::Read) => StreamEnd::Read,
+        Err(PlayFault::Write) => StreamEnd::Write,
+        Err(PlayFault::NoMemory) => StreamEnd::Other,
     }
 }
 
@@ -106,15 +106,15 @@ fn end_of_serve<B: Rings<Stored> + Drop, R: Source, W: Sink>(
     alloc: Global,
     reader: &mut CountedSource<R>,
     writer: &mut W,
-) -> Result<End> {
+) -> Result<StreamEnd> {
     match serve_all::<B, R, W>(alloc, PLAIN, reader, writer)? {
-        Ok(_) => Ok(End::Done),
-        Err(fault) if fault.left.is_some() => Ok(End::Other),
+        Ok(_) => Ok(StreamEnd::Done),
+        Err(fault) if fault.left.is_some() => Ok(StreamEnd::Other),
         Err(fault) => Ok(match fault.kind {
-            FrontKind::Read => End::Read,
-            FrontKind::Write => End::Write,
-            FrontKind::TooManyReads => End::TooManyReads,
-            FrontKind::NoMemory | FrontKind::NamesSpent => End::Other,
+            FrontKind::Read => StreamEnd::Read,
+            FrontKind::Write => StreamEnd::Write,
+            FrontKind::TooManyReads => StreamEnd::TooManyReads,
+            FrontKind::NoMemory | FrontKind::NamesSpent => StreamEnd::Other,
         }),
     }
 }
@@ -122,29 +122,29 @@ fn end_of_serve<B: Rings<Stored> + Drop, R: Source, W: Sink>(
 /// Makes a call, and says how it ended.
 fn ask<B: Rings<Stored> + Drop, R: Source + Drop, W: Sink>(
     alloc: Global,
-    call: Call,
+    call: StreamCall,
     source: R,
     writer: &mut W,
-) -> Result<End> {
+) -> Result<StreamEnd> {
     let mut reader = CountedSource::new(source, READS);
     let mut module = CountedSource::new(IDENTITY, READS);
     let mut cert = CountedSource::new(IDENTITY_CERT.as_bytes(), READS);
     Ok(match call {
-        Call::Serve => end_of_serve::<B, _, _>(alloc, &mut reader, writer)?,
-        Call::Play => end_of(run_play(alloc, &mut reader, writer)),
-        Call::Assemble => end_of(run_assemble(alloc, &mut reader, writer)),
-        Call::Certify => end_of(run_certify(alloc, &mut reader, writer, false)),
-        Call::Slim => end_of(run_certify(alloc, &mut reader, writer, true)),
-        Call::Check => end_of(run_check(alloc, &mut reader, &mut cert, writer)),
-        Call::CheckWith => end_of(run_check(alloc, &mut module, &mut reader, writer)),
-        Call::New => end_of(run_new(writer)),
+        StreamCall::Serve => end_of_serve::<B, _, _>(alloc, &mut reader, writer)?,
+        StreamCall::Play => end_of(run_play(alloc, &mut reader, writer)),
+        StreamCall::Assemble => end_of(run_assemble(alloc, &mut reader, writer)),
+        StreamCall::Certify => end_of(run_certify(alloc, &mut reader, writer, false)),
+        StreamCall::Slim => end_of(run_certify(alloc, &mut reader, writer, true)),
+        StreamCall::Check => end_of(run_check(alloc, &mut reader, &mut cert, writer)),
+        StreamCall::CheckWith => end_of(run_check(alloc, &mut module, &mut reader, writer)),
+        StreamCall::New => end_of(run_new(writer)),
     })
 }
 
 /// A reader that gives a byte a read, and one that pauses before each byte and never ends: how the call ended, and what it wrote.
 fn show_slow<B: Rings<Stored> + Drop>(
     rt: &HostRuntime,
-    call: Call,
+    call: StreamCall,
     feed: Feed<'_>,
     taker: Taker<'_>,
 ) -> Result<()> {
@@ -167,7 +167,7 @@ fn show_slow<B: Rings<Stored> + Drop>(
 /// The readers that fail after each number of bytes: how many calls reported it, wrote nothing, and wrote a front of the answer.
 fn show_readers<B: Rings<Stored> + Drop>(
     rt: &HostRuntime,
-    call: Call,
+    call: StreamCall,
     feed: Feed<'_>,
     taker: Taker<'_>,
 ) -> Result<()> {
@@ -179,7 +179,7 @@ fn show_readers<B: Rings<Stored> + Drop>(
             ..feed
         };
         let end = ask::<B, _, _>(rt.alloc(), call, cut, &mut writer)?;
-        reported = reported.saturating_add((end == End::Read) as u32);
+        reported = reported.saturating_add((end == StreamEnd::Read) as u32);
         silent = silent.saturating_add((writer.room == taker.room) as u32);
         fronts = fronts.saturating_add(writer.is_front as u32);
     }
@@ -193,7 +193,7 @@ fn show_readers<B: Rings<Stored> + Drop>(
 /// The writers that take each number of bytes below those of the answer: how many calls reported it, and wrote just so many bytes of the answer.
 fn show_writers<B: Rings<Stored> + Drop>(
     rt: &HostRuntime,
-    call: Call,
+    call: StreamCall,
     feed: Feed<'_>,
     taker: Taker<'_>,
 ) -> Result<()> {
@@ -201,7 +201,7 @@ fn show_writers<B: Rings<Stored> + Drop>(
     for room in 0..taker.due.len() {
         let mut writer = Taker { room, ..taker };
         let end = ask::<B, _, _>(rt.alloc(), call, feed, &mut writer)?;
-        reported = reported.saturating_add((end == End::Write) as u32);
+        reported = reported.saturating_add((end == StreamEnd::Write) as u32);
         fronts = fronts.saturating_add((writer.is_front && writer.room == 0) as u32);
     }
     println!(rt;
@@ -246,7 +246,7 @@ fn show_text<B: Rings<Stored> + Drop>(
 fn show_row<B: Rings<Stored> + Drop>(rt: &HostRuntime, row: Row) -> Result<()> {
     let (call, _, before, then, _) = row;
     let begun = match call {
-        Call::CheckWith => IDENTITY_CERT.as_bytes(),
+        StreamCall::CheckWith => IDENTITY_CERT.as_bytes(),
         _ => before,
     };
     let mut text = begun.to_vec(rt.alloc())?;

@@ -9,7 +9,7 @@ pub(crate) type Put<T> = Result<BucketId, (RingRefusal, T)>;
 
 /// Where a bucket is put: at an end of a ring of this name, or beside another bucket.
 #[derive(Clone, Copy)]
-pub(crate) enum Place {
+pub(crate) enum RingPlace {
     Head(u64),
     Tail(u64),
     Before(BucketId),
@@ -18,9 +18,9 @@ pub(crate) enum Place {
 
 /// A call that moves buckets.
 #[derive(Clone, Copy)]
-pub(crate) enum Call {
+pub(crate) enum RingCall {
     /// Moves one bucket.
-    Move(BucketId, Place),
+    Move(BucketId, RingPlace),
     /// Moves a bucket and those behind it to the tail of this one.
     WithRest(BucketId, u64),
     /// Moves all buckets of the second to the tail of the first.
@@ -56,40 +56,40 @@ pub(crate) fn list<R: Rings<u8>>(
 /// Puts a new bucket in.
 pub(crate) fn put<R: Rings<u8>>(
     rings: &mut R,
-    place: Place,
+    place: RingPlace,
     letter: u8,
 ) -> Result<Put<u8>, Missing> {
     match place {
-        Place::Head(ring) if rings.has_ring(ring) => Ok(rings.add_head(ring, letter)),
-        Place::Tail(ring) if rings.has_ring(ring) => Ok(rings.add_tail(ring, letter)),
-        Place::Before(at) if rings.ring_of(at).is_some() => Ok(rings.add_before(at, letter)),
-        Place::After(at) if rings.ring_of(at).is_some() => Ok(rings.add_after(at, letter)),
+        RingPlace::Head(ring) if rings.has_ring(ring) => Ok(rings.add_head(ring, letter)),
+        RingPlace::Tail(ring) if rings.has_ring(ring) => Ok(rings.add_tail(ring, letter)),
+        RingPlace::Before(at) if rings.ring_of(at).is_some() => Ok(rings.add_before(at, letter)),
+        RingPlace::After(at) if rings.ring_of(at).is_some() => Ok(rings.add_after(at, letter)),
         _ => Err(Missing),
     }
 }
 
 /// Moves a bucket.
-fn shift<R: Rings<u8>>(rings: &mut R, id: BucketId, place: Place) -> Result<(), Missing> {
+fn shift<R: Rings<u8>>(rings: &mut R, id: BucketId, place: RingPlace) -> Result<(), Missing> {
     if rings.ring_of(id).is_none() {
         return Err(Missing);
     }
     match place {
-        Place::Head(ring) if rings.has_ring(ring) => rings.move_head(ring, id),
-        Place::Tail(ring) if rings.has_ring(ring) => rings.move_tail(ring, id),
-        Place::Before(at) if rings.ring_of(at).is_some() => rings.move_before(at, id),
+        RingPlace::Head(ring) if rings.has_ring(ring) => rings.move_head(ring, id),
+        RingPlace::Tail(ring) if rings.has_ring(ring) => rings.move_tail(ring, id),
+        RingPlace::Before(at) if rings.ring_of(at).is_some() => rings.move_before(at, id),
         _ => return Err(Missing),
     }
     Ok(())
 }
 
 /// Makes a call that moves buckets.
-pub(crate) fn make_call<R: Rings<u8>>(rings: &mut R, call: Call) -> Result<(), Missing> {
+pub(crate) fn make_call<R: Rings<u8>>(rings: &mut R, call: RingCall) -> Result<(), Missing> {
     match call {
-        Call::Move(id, place) => return shift(rings, id, place),
-        Call::WithRest(id, ring) if rings.ring_of(id).is_some() && rings.has_ring(ring) => {
+        RingCall::Move(id, place) => return shift(rings, id, place),
+        RingCall::WithRest(id, ring) if rings.ring_of(id).is_some() && rings.has_ring(ring) => {
             rings.splice_from(id, ring)
         }
-        Call::All(ring, from) if rings.has_ring(ring) && rings.has_ring(from) => {
+        RingCall::All(ring, from) if rings.has_ring(ring) && rings.has_ring(from) => {
             rings.splice_tail(ring, from)
         }
         _ => return Err(Missing),

@@ -24,7 +24,7 @@ use Rattle.run_model.specs.State.{Configuration, Shared, Out, pool_view, pool_na
 use Rattle.run_model.specs.Steps.{current}
 use Rattle.model_laws.specs.AsDeclared.{AsDeclared}
 use Rattle.model_laws.specs.OpenRuns.{Phase, Due, Rests, Runs, Waits, Broken, Lasting, Standing, lasts, MayEnd, Becomes, changed_var, gone_on, LeaveShared, gone_elsewhere, answered, IsLeftAlone, GoOn}
-use Rattle.model_laws.specs.OpenRuns.{GoOnElsewhere, Answers, StandsSound}
+use Rattle.model_laws.specs.OpenRuns.{GoOnElsewhere, AnswersCall, StandsSound}
 use Rattle.model_laws.proofs.alone.Beside as model
 use Rattle.model_laws.proofs.chains.Places.{SameHandler, stays_in_handler, after_leads}
 use Rattle.life_state.specs.States.{Homes, State}
@@ -33,7 +33,7 @@ use Rattle.life_check.specs.ChainMeaning.{before}
 use Rattle.life_check.specs.Meaning.{Covers, CoversPool, ByConnection, ByMember, ByDead, ByCall, NoneLives, Between, class_has, Fits}
 use Rattle.life_check.specs.Soundness.{FitsSome}
 use Rattle.life_check.specs.Typed.{flows}
-use Rattle.life_check.proofs.alone.Means.{Lives, InCall, IsPlaced, RunFits, WaitFits, PhaseFits, Stands, in_phase}
+use Rattle.life_check.proofs.alone.Means.{Lives, InCall, IsCallPlaced, RunFits, WaitFits, PhaseFits, Stands, in_phase}
 use Rattle.life_check.proofs.Lists.{IsSorted}
 use Rattle.life_check.proofs.Orders.{greater_fits}
 use Rattle.life_check.proofs.Pools.{same_live, pool_kept}
@@ -138,7 +138,7 @@ lives_kept p l r d home.Ended e = refl
 module _ (p : Program) (m : Certificate) (proper : IsModule p) (bounded : AllBounded m) where
   waits_on : (s new : Standing) (t : GoOn s new) → StandsSound p s → WaitFits p m s.lasting s.now → WaitFits p m s.lasting (gone_on t.change t.shared t.out s.now)
   waits_on s new t k h = record {
-    placed = subst (λ (req : Option ℕ). IsPlaced p req s.now.pc) (sym t.left.req) h.placed;
+    placed = subst (λ (req : Option ℕ). IsCallPlaced p req s.now.pc) (sym t.left.req) h.placed;
     named = h.named;
     passes = h.passes;
     to = h.to;
@@ -201,7 +201,7 @@ module _ (p : Program) (m : Certificate) (proper : IsModule p) (bounded : AllBou
   abbrev by_pass : Status → List NamedBucket → Configuration → Instr → Configuration
   by_pass t items r i = record r { instance = given_back (passed_by i) items r.instance; pc = after_pass t i r.pc }
 
-  pub answers_stand : (t : Status) (items : List NamedBucket) (s new : Standing) → Stands p m s → Answers p t items s new → StandsSound p new → Stands p m new
+  pub answers_stand : (t : Status) (items : List NamedBucket) (s new : Standing) → Stands p m s → AnswersCall p t items s new → StandsSound p new → Stands p m new
   answers_stand t items s new stands a k = subst (Stands p m) (sym a.is) (record { placed = placed; named = h.named; fits = fits }) where
     h : WaitFits p m s.lasting s.now
     h = in_phase p m s Waits a.phase stands
@@ -212,7 +212,7 @@ module _ (p : Program) (m : Certificate) (proper : IsModule p) (bounded : AllBou
     place : SameHandler p s.now.pc (after_pass t (current p s.now.pc) s.now.pc)
     place = stays_in_handler p s.now.pc _ proper h.placed.at (λ P leads. after_leads P t (current p s.now.pc) h.passes h.to s.now.pc h.at leads)
 
-    placed : IsPlaced p s.now.shared.req (after_pass t (current p s.now.pc) s.now.pc)
+    placed : IsCallPlaced p s.now.shared.req (after_pass t (current p s.now.pc) s.now.pc)
     placed = record { at = place.inside; opening = λ lt. h.placed.opening (place.opening lt); serving = λ le. h.placed.serving (place.serving le) }
 
     given : FitsSome (InCall p s.lasting (by_pass t items s.now (instr.Pass h.passes h.to))) (Some h.state) (by_pass t items s.now (instr.Pass h.passes h.to))

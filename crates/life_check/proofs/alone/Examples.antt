@@ -37,7 +37,7 @@ use Rattle.run_model.proofs.PoolMap.{created_lives}
 use Rattle.run_model.proofs.Sums.{all_none}
 use Rattle.run_model.proofs.Updates.{upd_either}
 use Rattle.model_laws.specs.Examples.{never_creates}
-use Rattle.model_laws.specs.OpenRuns.{Due, Rests, Runs, Broken, Attempts, Calls, Returns, none_lasts, Standing, Move, Start, Execute, Begin, Main, Told, Done, Faults, executed, IsOthers, called}
+use Rattle.model_laws.specs.OpenRuns.{Due, Rests, Runs, Broken, Attempts, Calls, Returns, none_lasts, Standing, Move, Start, Execute, Begin, Main, ToldOfMove, Done, Faults, executed, IsOthers, called}
 use Rattle.model_laws.specs.OpenRuns.{may_come, request_begun, IsMove, IsOpenRun, IsOpened, AreHarmless, InstancesAreSafe}
 use Rattle.life_check.specs.Examples.{given, whole, keeps_a_file, BesideRows}
 use Rattle.life_state.specs.Examples.{identity, resting}
@@ -47,7 +47,7 @@ use Rattle.life_check.proofs.TypedLaws.{typed_of}
 
 -- One instruction more, or a fault.
 
-goes : (p : Program) (i : Instr) (s new : Standing) (moves : List Move) (told : List Told) → s.phase ≡ Runs → current p s.now.pc ≡ i → fault p s.now i ≡ None → lacks_names s.now i ≡ false
+goes : (p : Program) (i : Instr) (s new : Standing) (moves : List Move) (told : List ToldOfMove) → s.phase ≡ Runs → current p s.now.pc ≡ i → fault p s.now i ≡ None → lacks_names s.now i ≡ false
     → IsOpenRun p (executed p None i s).1 moves told new → IsOpenRun p s (Execute None ∷ moves) ((executed p None i s).0 ∷ told) new
 unfolding IsOpenRun IsMove
 goes p i s new moves told runs is none last rest = (

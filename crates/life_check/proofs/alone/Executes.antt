@@ -18,8 +18,8 @@ use Rattle.run_model.specs.Steps.{Choice, Outcome, step, current}
 use Rattle.run_model.proofs.Updates.{upd_at}
 use Rattle.run_model.specs.EffectOf.{effect_of}
 use Rattle.model_laws.specs.Laws.{ChangesOnly, is_return}
-use Rattle.model_laws.specs.OpenRuns.{Phase, Rests, Runs, none_lasts, Standing, Told, IsHarmless, executed, Attempts, Executes, StandsSound}
-use Rattle.model_laws.proofs.Handlers.{Leads}
+use Rattle.model_laws.specs.OpenRuns.{Phase, Rests, Runs, none_lasts, Standing, ToldOfMove, IsHarmless, executed, Attempts, Executes, StandsSound}
+use Rattle.model_laws.proofs.Handlers.{LeadsWhere}
 use Rattle.model_laws.proofs.Unchanged.{step_changes_only}
 use Rattle.model_laws.proofs.chains.Places.{led, SameHandler, stays_in_handler}
 use Rattle.life_state.specs.Rules.{edges, after_pass, at_return}
@@ -29,7 +29,7 @@ use Rattle.life_check.specs.Certificates.{Certificate, AllBounded, IsBoundedSome
 use Rattle.life_check.specs.Meaning.{Covers, NoneLives, Between}
 use Rattle.life_check.specs.Soundness.{FitsSome, Lands, MeetsNeeds}
 use Rattle.life_check.specs.Typed.{IsTyped, flows, is_below, exits, leads_on}
-use Rattle.life_check.proofs.alone.Means.{Lives, InCall, IsPlaced, RunFits, WaitFits, PhaseFits, Stands, in_phase, Met, met_in, ready_in}
+use Rattle.life_check.proofs.alone.Means.{Lives, InCall, IsCallPlaced, RunFits, WaitFits, PhaseFits, Stands, in_phase, Met, met_in, ready_in}
 use Rattle.life_check.proofs.Instructions.{step_lands}
 use Rattle.life_check.proofs.Onward.{IsOnward, goes_onward, left_rests}
 use Rattle.life_check.proofs.Orders.{greater_fits}
@@ -70,10 +70,10 @@ module _ (p : Program) (m : Certificate) (proper : IsModule p) (bounded : AllBou
 
     module _ (on : is_return i ≡ false) where
       place : SameHandler p s.now.pc (led_to (step p chosen i s.now).exit i s.now.pc)
-      place = stays_in_handler p s.now.pc _ proper runs.placed.at (λ P at. led P p chosen i s.now s.now.pc on (subst (Leads P s.now.pc) is at))
+      place = stays_in_handler p s.now.pc _ proper runs.placed.at (λ P at. led P p chosen i s.now s.now.pc on (subst (LeadsWhere P s.now.pc) is at))
 
-      placed : IsPlaced p (step p chosen i s.now).state.shared.req (led_to (step p chosen i s.now).exit i s.now.pc)
-      placed = subst (λ (req : Option ℕ). IsPlaced p req (led_to (step p chosen i s.now).exit i s.now.pc)) (sym changes.req)
+      placed : IsCallPlaced p (step p chosen i s.now).state.shared.req (led_to (step p chosen i s.now).exit i s.now.pc)
+      placed = subst (λ (req : Option ℕ). IsCallPlaced p req (led_to (step p chosen i s.now).exit i s.now.pc)) (sym changes.req)
           (record { at = place.inside; opening = λ lt. runs.placed.opening (place.opening lt); serving = λ le. runs.placed.serving (place.serving le) })
 
       -- what an edge says is there
@@ -134,12 +134,12 @@ module _ (p : Program) (m : Certificate) (proper : IsModule p) (bounded : AllBou
 
   -- Any instruction without a fault.
 
-  abbrev Lasts : Told × Standing → Type 0
-  Lasts x = IsHarmless x.0 × Stands p m x.1
+  abbrev KeepsLasting : ToldOfMove × Standing → Type 0
+  KeepsLasting x = IsHarmless x.0 × Stands p m x.1
 
   executed_stand : s.phase ≡ Runs → (i : Instr) → current p s.now.pc ≡ i → (a : State) → MeetsNeeds (Lives s.lasting s.now.shared.req) p i s.now a → leads_on m s.now.pc i (edges p i a) ≡ true
       → exits p m s.now.pc i a ≡ true
-      → StandsSound p (executed p given i s).1 → Lasts (executed p given i s)
+      → StandsSound p (executed p given i s).1 → KeepsLasting (executed p given i s)
   unfolding executed
   executed_stand phase (instr.Pass b l) is a ready leads leaves k = (tt, passes_stand b l is a ready leads)
   executed_stand phase (instr.Ret t) is a ready leads leaves k = (tt, returns_stand t a ready leaves k)
@@ -150,15 +150,16 @@ module _ (p : Program) (m : Certificate) (proper : IsModule p) (bounded : AllBou
   )
 
 module _ (p : Program) (m : Certificate) (proper : IsModule p) (bounded : AllBounded m) (typed : IsTyped p m) where
-  attempt_stands : (given : Option (List ℕ)) (s new : Standing) (told : Told) → s.phase ≡ Runs → RunFits p m s.lasting s.now → StandsSound p s → StandsSound p new
+  attempt_stands : (given : Option (List ℕ)) (s new : Standing) (told : ToldOfMove) → s.phase ≡ Runs → RunFits p m s.lasting s.now → StandsSound p s → StandsSound p new
       → (f : Option FaultKind) → fault p s.now (current p s.now.pc) ≡ f → Attempts f p given s told new → IsHarmless told × Stands p m new
   attempt_stands given s new told phase runs was k None none a =
       let met : Met p m s.lasting s.now = met_in p m s proper typed was runs in
-      subst (λ (x : Told × Standing). IsHarmless x.0 × Stands p m x.1) a.1
+      subst (λ (x : ToldOfMove × Standing). IsHarmless x.0 × Stands p m x.1) a.1
       (executed_stand p m proper bounded given s runs phase (current p s.now.pc) refl met.state (ready_in p m s proper was a.0 met) met.leads met.exits
-      (subst (λ (x : Told × Standing). StandsSound p x.1) (sym a.1) k))
+      (subst (λ (x : ToldOfMove × Standing). StandsSound p x.1) (sym a.1) k))
   attempt_stands given s new told phase runs was k (Some kind) is a =
       absurd (let none : fault p s.now (current p s.now.pc) ≡ None = (met_in p m s proper typed was runs).faultless in let both : Some kind ≡ None = sym is ∙ none in cc)
 
-  pub executes_stand : (given : Option (List ℕ)) (s new : Standing) (told : Told) → Stands p m s → Executes p given s told new → StandsSound p s → StandsSound p new → IsHarmless told × Stands p m new
+  pub executes_stand : (given : Option (List ℕ)) (s new : Standing) (told : ToldOfMove) → Stands p m s → Executes p given s told new → StandsSound p s → StandsSound p new
+      → IsHarmless told × Stands p m new
   executes_stand given s new told h e was k = attempt_stands given s new told e.0 (in_phase p m s Runs e.0 h) was k (fault p s.now (current p s.now.pc)) refl e.1

@@ -42,19 +42,19 @@ abbrev pub InCall : Program → Lasting → Configuration → Homes → Home →
 InCall p l r = Covers p (pool_view r) (Lives l r.shared.req)
 
 -- A call is at one of its instructions; no request is open in `open`, and one is in `init` and `main`.
-pub record IsPlaced (p : Program) (req : Option ℕ) (pc : ℕ) : Type 0 where
+pub record IsCallPlaced (p : Program) (req : Option ℕ) (pc : ℕ) : Type 0 where
   pub at : pc < length p.code
   pub opening : pc < p.init → req ≡ None
   pub serving : p.init ≤ pc → is_some req ≡ true
 
 pub record RunFits (p : Program) (m : Certificate) (l : Lasting) (r : Configuration) : Type 0 where
-  pub placed : IsPlaced p r.shared.req r.pc
+  pub placed : IsCallPlaced p r.shared.req r.pc
   pub named : is_in r.call.name l.calls ≡ true
   pub fits : FitsSome (InCall p l r) (m.at r.pc) r
 
 -- A call that waits stands at its pass, whose brigade is passed. What is known of it flows to both places where it may go on.
 pub record WaitFits (p : Program) (m : Certificate) (l : Lasting) (r : Configuration) : Type 0 where
-  pub placed : IsPlaced p r.shared.req r.pc
+  pub placed : IsCallPlaced p r.shared.req r.pc
   pub named : is_in r.call.name l.calls ≡ true
   pub passes : ℕ
   pub to : ℕ
@@ -120,7 +120,7 @@ given p m l r h = by_line (m.at r.pc) refl h where
   by_line (Some a) is h = record { state = a; at = is; fits = h }
 
 -- its instruction wants the request's pool only where there is one
-requested : (p : Program) → IsModule p → (req : Option ℕ) (pc : ℕ) → IsPlaced p req pc → wants_request (wants p (current p pc)) ≡ true → is_some req ≡ true
+requested : (p : Program) → IsModule p → (req : Option ℕ) (pc : ℕ) → IsCallPlaced p req pc → wants_request (wants p (current p pc)) ≡ true → is_some req ≡ true
 requested p proper req pc placed wanted = elim (cases_lt pc p.init) [
   | inl lt ↦ absurd (no_request p (current p pc) (proper.opening.inside pc (current p pc) (omega arith) lt (current_at p pc placed.at)).allowed wanted)
   | inr le ↦ placed.serving le

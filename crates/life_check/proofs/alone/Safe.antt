@@ -1,7 +1,7 @@
 -- The instances of a typed module are safe.
 use Rattle.std.proofs.Common.{◌≡◌, List, [], ◌∷◌, sym, subst}
 use Rattle.module_code.specs.Program.{Program, IsModule}
-use Rattle.model_laws.specs.OpenRuns.{Standing, Move, Start, Execute, Answer, Others, Elsewhere, Begin, Main, End, Told, Done, IsMove, IsOpenRun, IsHarmless, AreHarmless, StandsSound}
+use Rattle.model_laws.specs.OpenRuns.{Standing, Move, Start, Execute, Answer, Others, Elsewhere, Begin, Main, End, ToldOfMove, Done, IsMove, IsOpenRun, IsHarmless, AreHarmless, StandsSound}
 use Rattle.model_laws.specs.OpenRuns.{InstancesAreSafe}
 use Rattle.model_laws.proofs.alone.Kept.{move_kept, opened_kept}
 use Rattle.life_check.specs.Certificates.{Certificate, AllBounded}
@@ -11,11 +11,11 @@ use Rattle.life_check.proofs.alone.Executes.{executes_stand}
 use Rattle.life_check.proofs.alone.Means.{Stands}
 use Rattle.life_check.proofs.alone.Starts.{opened_stands, starts_stand, calls_stand, begins_stand, ends_stand}
 
-done : (told : Told) → told ≡ Done → IsHarmless told
+done : (told : ToldOfMove) → told ≡ Done → IsHarmless told
 done told is = subst IsHarmless (sym is) tt
 
 module _ (p : Program) (m : Certificate) (proper : IsModule p) (bounded : AllBounded m) (typed : IsTyped p m) where
-  move_stands : (s new : Standing) (move : Move) (told : Told) → Stands p m s → StandsSound p s → StandsSound p new → IsMove p s move told new → IsHarmless told × Stands p m new
+  move_stands : (s new : Standing) (move : Move) (told : ToldOfMove) → Stands p m s → StandsSound p s → StandsSound p new → IsMove p s move told new → IsHarmless told × Stands p m new
   unfolding IsMove
   move_stands s new Start told h was k t = (done told t.0, starts_stand p m proper bounded typed s new h t.1 k)
   move_stands s new (Execute given) told h was k t = executes_stand p m proper bounded typed given s new told h t was k
@@ -26,7 +26,7 @@ module _ (p : Program) (m : Certificate) (proper : IsModule p) (bounded : AllBou
   move_stands s new (Main items) told h was k t = (done told t.0, calls_stand p m proper bounded typed items s new h t.1 was k)
   move_stands s new End told h was k t = (done told t.0, ends_stand p m proper bounded typed s new h t.1 was k)
 
-  run_harmless : (s new : Standing) (moves : List Move) (told : List Told) → Stands p m s → StandsSound p s → IsOpenRun p s moves told new → AreHarmless told
+  run_harmless : (s new : Standing) (moves : List Move) (told : List ToldOfMove) → Stands p m s → StandsSound p s → IsOpenRun p s moves told new → AreHarmless told
   unfolding IsOpenRun AreHarmless
   run_harmless s new [] [] h k run = tt
   run_harmless s new [] (t ∷ told) h k run = absurd run

@@ -27,7 +27,7 @@ use Rattle.life_check.specs.ChainMeaning.{before}
 use Rattle.life_check.specs.Meaning.{ByConnection, ByCall, NoneLives, Between, FitsBrigade}
 use Rattle.life_check.specs.Soundness.{FitsSome}
 use Rattle.life_check.specs.Typed.{IsTyped, fits_between, fits_lines, main_from, request_end}
-use Rattle.life_check.proofs.alone.Means.{Lives, InCall, IsPlaced, Stands, in_phase}
+use Rattle.life_check.proofs.alone.Means.{Lives, InCall, IsCallPlaced, Stands, in_phase}
 use Rattle.life_check.proofs.Lists.{each_of_all}
 use Rattle.life_check.proofs.Orders.{greater_fits}
 use Rattle.life_check.proofs.Standards.{resting, fits_flow, unset_differ, covers_begun}
@@ -59,7 +59,7 @@ module _ (p : Program) (m : Certificate) (proper : IsModule p) (bounded : AllBou
 
   -- `open` or `init` begins.
 
-  handler_placed : (req : Option ℕ) → IsPlaced p req (handler_at req p)
+  handler_placed : (req : Option ℕ) → IsCallPlaced p req (handler_at req p)
   handler_placed None = record { at = proper.opens; opening = λ h. refl; serving = λ le. absurd (let some : 0 < p.init = proper.opening.some in omega arith) }
   handler_placed (Some n) = record { at = proper.inits; opening = λ h. absurd (omega arith); serving = λ le. refl }
 

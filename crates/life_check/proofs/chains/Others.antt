@@ -28,7 +28,7 @@ use Rattle.life_check.specs.Meaning.{CoversPool, ByConnection, ByMember, ByDead,
 use Rattle.life_check.proofs.Pools.{same_live, same_names, pool_kept}
 use Rattle.life_check.proofs.chains.Kept.{calls_kept}
 use Rattle.life_check.proofs.chains.Outside.{WaitBelow, nested_below, spared_in}
-use Rattle.life_check.proofs.chains.Spared.{mapped, Spares, spared_fits}
+use Rattle.life_check.proofs.chains.Spared.{mapped, SparesHomes, spared_fits}
 use Rattle.life_check.proofs.chains.Touches.{Touches}
 
 -- The instruction i of the call f leaves s; the call goes on as `to`, and the output is `out`.
@@ -135,7 +135,7 @@ module _ (chain : List Program) (certs : ℕ → Certificate) (g : Common) (c : 
         subst (λ (pools : ℕ → PoolVar). FitsPool new_seen.shared.pools k (pools q)) (sym (other_pools w.of ne))
         (pool_kept old_seen.shared.pools new_seen.shared.pools k ((c.instances w.of).pools q) (λ n at. live_left n ((h.sound w).own q n at).1 (misses w ne (pool.Own q) n (ap name_in at))) e)
 
-    spares_all : Spares (Covers (module_at chain w.of) (pool_view old_seen) lives) (Covers (module_at chain w.of) (pool_view new_seen) new) bucket old_seen new_seen
+    spares_all : SparesHomes (Covers (module_at chain w.of) (pool_view old_seen) lives) (Covers (module_at chain w.of) (pool_view new_seen) new) bucket old_seen new_seen
     unfolding configuration
     spares_all = record {
       names = t.names;

@@ -35,7 +35,7 @@ mapped_none var.Null = refl
 mapped_none var.Gone = refl
 mapped_none (var.Live v) = ap (λ (xs : List NamedBucket). var.Live (record v { items = xs })) (sym (map-id v.items))
 
-pub record Spares (C D : Homes → Home → Type 0) (f : NamedBucket → NamedBucket) (r new : Configuration) : Type 0 where
+pub record SparesHomes (C D : Homes → Home → Type 0) (f : NamedBucket → NamedBucket) (r new : Configuration) : Type 0 where
   pub names : (x : NamedBucket) → (f x).name ≡ x.name
   pub sorted : IsSorted f
   pub classed : (t : Classes) (x : NamedBucket) → class_has t (f x).bucket.kind ≡ class_has t x.bucket.kind
@@ -46,7 +46,7 @@ pub record Spares (C D : Homes → Home → Type 0) (f : NamedBucket → NamedBu
   pub cursors : new.call.cursors ≡ r.call.cursors
   pub sent : new.instance.sent ≡ r.instance.sent
 
-module _ (C D : Homes → Home → Type 0) (f : NamedBucket → NamedBucket) (r new : Configuration) (s : Spares C D f r new) where
+module _ (C D : Homes → Home → Type 0) (f : NamedBucket → NamedBucket) (r new : Configuration) (s : SparesHomes C D f r new) where
   mark_spared : (k : BrigadeKnown) (m : Mark) (xs : List NamedBucket) → FitsMark C k m xs → FitsMark D k m (map f xs)
   mark_spared k Usable xs g = (g.0, holds_map k.content f s.sorted xs g.1, each_map (λ x. C k.homes x.bucket.home) (λ x. D k.homes x.bucket.home) f (λ x c. s.covers k.homes x c) xs g.2)
   mark_spared k Passed xs g = g

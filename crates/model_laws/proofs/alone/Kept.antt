@@ -19,8 +19,8 @@ use Rattle.run_model.proofs.Names.{count_none, fewer_same}
 use Rattle.run_model.proofs.Sums.{all_none}
 use Rattle.model_laws.specs.AsDeclared.{AsDeclared}
 use Rattle.model_laws.specs.Laws.{MayExecute}
-use Rattle.model_laws.specs.OpenRuns.{Phase, Due, none_lasts, Standing, Move, Start, Execute, Answer, Others, Elsewhere, Begin, Main, End, Told, executed, Attempts, IsOthers, IsMove, IsOpenRun}
-use Rattle.model_laws.specs.OpenRuns.{IsOpened, StandsSound, OpenRunsStaySound, Starts, Begins, Calls, Answers, GoOn, GoOnElsewhere, Ends}
+use Rattle.model_laws.specs.OpenRuns.{Phase, Due, none_lasts, Standing, Move, Start, Execute, Answer, Others, Elsewhere, Begin, Main, End, ToldOfMove, executed, Attempts, IsOthers, IsMove, IsOpenRun}
+use Rattle.model_laws.specs.OpenRuns.{IsOpened, StandsSound, OpenRunsStaySound, Starts, Begins, Calls, AnswersCall, GoOn, GoOnElsewhere, Ends}
 use Rattle.model_laws.proofs.AsDeclared.{kept, same_vars, step_declared}
 use Rattle.model_laws.proofs.EventsKeep.{may_execute}
 use Rattle.model_laws.proofs.NamesStay.{names_stay, keeps_slots}
@@ -82,8 +82,8 @@ module _ (p : Program) (given : Option (List ℕ)) (s : Standing) (k : StandsSou
   }
   executed_kept i may = stepped_kept s.phase i (led_to (step p chosen i s.now).exit i s.now.pc) may
 
-  attempt_kept : IsModule p → (told : Told) (new : Standing) (f : Option FaultKind) → fault p s.now (current p s.now.pc) ≡ f → Attempts f p given s told new → StandsSound p new
-  attempt_kept proper told new None none a = subst (λ (x : Told × Standing). StandsSound p x.1) a.1 (executed_kept (current p s.now.pc) (may_execute p s.now proper none a.0))
+  attempt_kept : IsModule p → (told : ToldOfMove) (new : Standing) (f : Option FaultKind) → fault p s.now (current p s.now.pc) ≡ f → Attempts f p given s told new → StandsSound p new
+  attempt_kept proper told new None none a = subst (λ (x : ToldOfMove × Standing). StandsSound p x.1) a.1 (executed_kept (current p s.now.pc) (may_execute p s.now proper none a.0))
   attempt_kept proper told new (Some kind) is a = subst (StandsSound p) (sym a.1) (record { sound = k.sound; declared = k.declared; others = k.others })
 
 -- Names that last.
@@ -136,14 +136,14 @@ module _ (p : Program) (s new : Standing) (k : StandsSound p s) where
     others = λ n lasts. absurd (nothing_in n lasts);
   })
 
-  answers_kept : (t : Status) (items : List NamedBucket) → Answers p t items s new → StandsSound p new
+  answers_kept : (t : Status) (items : List NamedBucket) → AnswersCall p t items s new → StandsSound p new
   answers_kept t items m = subst (StandsSound p) (sym m.is) (record {
     sound = given_sound s.now _ _ items m.come k.sound;
     declared = given_declared p s.now _ _ items k.declared;
     others = λ n lasts. (let o = k.others n lasts in record { live = o.live; above = o.above; under = o.under });
   })
 
-  pub move_kept : IsModule p → (m : Move) (told : Told) → IsMove p s m told new → StandsSound p new
+  pub move_kept : IsModule p → (m : Move) (told : ToldOfMove) → IsMove p s m told new → StandsSound p new
   unfolding IsMove
   move_kept proper Start told is = starts_kept is.1
   move_kept proper (Execute given) told is = attempt_kept p given s k proper told new (fault p s.now (current p s.now.pc)) refl is.1
@@ -201,7 +201,7 @@ opened_kept p r o = record {
 
 -- Runs.
 
-run_kept : (p : Program) → IsModule p → (s new : Standing) (moves : List Move) (told : List Told) → StandsSound p s → IsOpenRun p s moves told new → StandsSound p new
+run_kept : (p : Program) → IsModule p → (s new : Standing) (moves : List Move) (told : List ToldOfMove) → StandsSound p s → IsOpenRun p s moves told new → StandsSound p new
 unfolding IsOpenRun
 run_kept p proper s new [] [] k run = subst (StandsSound p) (sym run) k
 run_kept p proper s new (m ∷ moves) (t ∷ told) k (mid, is, rest) = run_kept p proper mid new moves told (move_kept p s mid k proper m t is) rest

@@ -11,7 +11,7 @@ use Rattle.run_model.specs.Buckets.{has_data, data_after_eos, is_dead}
 use Rattle.run_model.specs.Faults.{usable_fault, homes_fault, send_fault, fault}
 use Rattle.run_model.specs.State.{items_of}
 use Rattle.run_model.specs.Steps.{current}
-use Rattle.model_laws.specs.OpenRuns.{Standing, Told, Passes, executed, Attempts, IsMove, PassedMayBeBrought}
+use Rattle.model_laws.specs.OpenRuns.{Standing, ToldOfMove, Passes, executed, Attempts, IsMove, PassedMayBeBrought}
 use Rattle.model_laws.proofs.Marks.{first_none, second_none}
 use Rattle.model_laws.proofs.StepFiles.{no_dead}
 
@@ -38,8 +38,8 @@ by_instruction : (p : Program) (given : Option (List ℕ)) (i : Instr) (s new : 
     → MayBeBrought s items
 unfolding executed
 by_instruction p given (instr.Pass b l) s new items none is =
-    subst (MayBeBrought s) (passed_is (items_of (s.now.instance.brigades b)) items (ap (λ (x : Told × Standing). x.0) is)) (pass_may p s b l none)
-by_instruction p given i s new items none is = absurd (let told = ap (λ (x : Told × Standing). x.0) is in cc)
+    subst (MayBeBrought s) (passed_is (items_of (s.now.instance.brigades b)) items (ap (λ (x : ToldOfMove × Standing). x.0) is)) (pass_may p s b l none)
+by_instruction p given i s new items none is = absurd (let told = ap (λ (x : ToldOfMove × Standing). x.0) is in cc)
 
 by_fault : (p : Program) (given : Option (List ℕ)) (s new : Standing) (items : List NamedBucket) (f : Option FaultKind) → fault p s.now (current p s.now.pc) ≡ f
     → Attempts f p given s (Passes items) new → MayBeBrought s items

@@ -30,7 +30,7 @@ use Rattle.run_model.specs.declared.effect.ClearKind.TheVariants.{Clear, Destroy
 use Rattle.model_laws.proofs.PoolsGone.{on_emptied}
 use Rattle.model_laws.proofs.NamedPools.{conn_given, live_pool, made_is, made_under_named, not_both, on_named}
 use Rattle.model_laws.proofs.Unchanged.{step_changes_only}
-use Rattle.model_laws.proofs.chains.EventTurns.{Turn, Stood, Went, Begun, Brought, FileTaken, Ended}
+use Rattle.model_laws.proofs.chains.EventTurns.{EventTurn, Stood, Went, Begun, Brought, FileTaken, Ended}
 use Rattle.model_laws.proofs.chains.Paths.{named_newer}
 use Rattle.model_laws.proofs.chains.Proceeds.{proceeds_so}
 use Rattle.model_laws.proofs.chains.PutBack.{looking}
@@ -111,7 +111,8 @@ module _ (root : ℕ) where
       proceeds_so (λ ps files next req. IsBare ps) chain reads i f rest g c
       (λ choice. step_bare (module_at chain f.of) (configuration g c f) (s.pools.sound f) (s.pools.declared f) newer choice i bare) bare
 
-  pub turn_bare : (chain : List Program) (g : Common) (c : Connection) (v : Linked) → Turn chain AnyLength g c v → ChainSound chain g c → root < c.conn → c.payloads root ≡ [] → v.1.payloads root ≡ []
+  pub turn_bare : (chain : List Program) (g : Common) (c : Connection) (v : Linked) → EventTurn chain AnyLength g c v → ChainSound chain g c → root < c.conn → c.payloads root ≡ []
+      → v.1.payloads root ≡ []
   unfolding begun all_called configuration run_down with_pools
   turn_bare chain g c v (Stood out broken) s newer bare = bare
   turn_bare chain g c v (Went reads f rest whole may) s newer bare = went_bare chain reads f rest g c s newer bare

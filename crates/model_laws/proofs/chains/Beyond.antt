@@ -29,7 +29,7 @@ use Rattle.model_laws.proofs.CursorNames.{found_there}
 use Rattle.model_laws.specs.ChainFiles.{OfEachBucket}
 use Rattle.model_laws.specs.ChainSound.{count_at, count_loose, count_in, ChainNames, ChainSound, IsFramePlaced}
 use Rattle.model_laws.proofs.chains.EachBucket.{LooseOf, no_calls, one_call}
-use Rattle.model_laws.proofs.chains.EventTurns.{Turn, Stood, Went, Begun, Brought, FileTaken, Ended}
+use Rattle.model_laws.proofs.chains.EventTurns.{EventTurn, Stood, Went, Begun, Brought, FileTaken, Ended}
 use Rattle.model_laws.proofs.chains.Modules.{next_in_chain}
 use Rattle.model_laws.proofs.chains.Names.{left_either}
 use Rattle.model_laws.proofs.chains.WorldKept.{AnyLength}
@@ -163,7 +163,8 @@ module _ (chain : List Program) (g : Common) (c : Connection) (f : Frame) (beyon
   proceeds_beyond reads (instr.Ret s) (w ∷ rest) waits = returned_beyond (module_at chain w.of) s w rest (waits w rest refl)
   proceeds_beyond reads i rest waits = stepped_beyond (module_at chain f.of) (record { answer = answer_to true; given = reads 0 }) i rest
 
-pub turn_beyond : (chain : List Program) (g : Common) (c : Connection) (v : Linked) → 0 < length chain → Turn chain AnyLength g c v → ChainSound chain g c → NoneBeyond chain c → NoneBeyond chain v.1
+pub turn_beyond : (chain : List Program) (g : Common) (c : Connection) (v : Linked) → 0 < length chain → EventTurn chain AnyLength g c v → ChainSound chain g c → NoneBeyond chain c
+    → NoneBeyond chain v.1
 unfolding begun all_called
 turn_beyond chain g c v some (Stood out broken) s h = h
 turn_beyond chain g c v some (Went reads f rest whole may) s h = proceeds_beyond chain g c f h (placed.of) reads _ rest (λ w more e. (waits w more e).of) where

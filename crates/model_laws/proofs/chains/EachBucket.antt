@@ -134,10 +134,10 @@ module _ (T U : Pools Payload → NamedBucket → Type 0) (chain : List Program)
   abbrev Left : Linked → Type 0
   Left v = OfEachBucket (U (pools_of v.0 v.1)) v.1
 
-  abbrev Before : Type 0
-  Before = OfEachBucket (T (pools_of g c)) c
+  abbrev BucketBefore : Type 0
+  BucketBefore = OfEachBucket (T (pools_of g c)) c
 
-  stepped_each : (choice : Choice) (i : Instr) (rest : List Frame) → c.stack ≡ f ∷ rest → Steps i → Before → Left (stepped_in (module_at chain f.of) choice i f rest (g, c))
+  stepped_each : (choice : Choice) (i : Instr) (rest : List Frame) → c.stack ≡ f ∷ rest → Steps i → BucketBefore → Left (stepped_in (module_at chain f.of) choice i f rest (g, c))
   unfolding stepped_in put_back configuration
   stepped_each choice i rest is steps old =
       let o = step (module_at chain f.of) choice i (configuration g c f) in
@@ -145,20 +145,20 @@ module _ (T U : Pools Payload → NamedBucket → Type 0) (chain : List Program)
       put_back_each (T (pools_of g c)) (U o.state.shared.pools) i f o.state (record f { call = o.state.call; pc = led_to o.exit i f.pc } ∷ []) rest g c is (steps.touched choice) here
       (one_call (U o.state.shared.pools) _ [] here.loose (no_calls (U o.state.shared.pools))) old
 
-  delivered_each : (reads : Reads) (b : ℕ) (i : Instr) (rest : List Frame) → c.stack ≡ f ∷ rest → Steps i → Before → Left (delivered_by (module_at chain f.of) reads b i f rest (g, c))
+  delivered_each : (reads : Reads) (b : ℕ) (i : Instr) (rest : List Frame) → c.stack ≡ f ∷ rest → Steps i → BucketBefore → Left (delivered_by (module_at chain f.of) reads b i f rest (g, c))
   unfolding delivered_by
   delivered_each reads b i rest is steps old =
       let left = stepped_each (record { answer = answer_to (delivered c.out (items_of ((c.instances f.of).brigades b)) reads).1; given = None }) i rest is steps old in
       record { brigades = left.brigades; loose = left.loose }
 
   -- what a return leaves
-  back_each : (s : Status) (rest : List Frame) → c.stack ≡ f ∷ rest → Steps (instr.Ret s) → Before → Left (put_back (instr.Ret s) f (do_return (configuration g c f)) [] rest (g, c))
+  back_each : (s : Status) (rest : List Frame) → c.stack ≡ f ∷ rest → Steps (instr.Ret s) → BucketBefore → Left (put_back (instr.Ret s) f (do_return (configuration g c f)) [] rest (g, c))
   unfolding put_back configuration
   back_each s rest is steps old =
       let choice : Choice = record { answer = answer_to true; given = None } in
       put_back_each (T (pools_of g c)) (U (pools_of g c)) (instr.Ret s) f (do_return (configuration g c f)) [] rest g c is (steps.touched choice) (steps.held choice) (no_calls (U (pools_of g c))) old
 
-  returned_to_each : (caller : Program) (s : Status) (w : Frame) (rest : List Frame) → c.stack ≡ f ∷ (w ∷ rest) → Steps (instr.Ret s) → Before → Left (returned_to caller s f w rest (g, c))
+  returned_to_each : (caller : Program) (s : Status) (w : Frame) (rest : List Frame) → c.stack ≡ f ∷ (w ∷ rest) → Steps (instr.Ret s) → BucketBefore → Left (returned_to caller s f w rest (g, c))
   unfolding returned_to put_back configuration
   returned_to_each caller s w rest is steps old =
       let choice : Choice = record { answer = answer_to true; given = None } in
@@ -172,7 +172,7 @@ module _ (T U : Pools Payload → NamedBucket → Type 0) (chain : List Program)
             (All-tail (λ v. All V v.call.loose) _ _ left.loose);
       }
 
-  pub proceeds_each : (reads : Reads) (i : Instr) (rest : List Frame) → c.stack ≡ f ∷ rest → Steps i → Before → Left (proceeds chain reads i f rest (g, c)).1
+  pub proceeds_each : (reads : Reads) (i : Instr) (rest : List Frame) → c.stack ≡ f ∷ rest → Steps i → BucketBefore → Left (proceeds chain reads i f rest (g, c)).1
   unfolding proceeds returned_from passed_to configuration set_brigade
   proceeds_each reads (instr.Pass b l) rest is steps old = by_last (is_last chain f.of) where
     by_last : (t : Bool) → Left (cond t (delivered_by (module_at chain f.of) reads b (instr.Pass b l) f rest (g, c)) (passed_to (module_at chain (f.of + 1)) b f rest (g, c)))

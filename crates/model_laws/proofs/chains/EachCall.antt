@@ -15,7 +15,7 @@ use Rattle.run_model.specs.Passing.{Reads, delivered, delivered_by, passed_to, r
 use Rattle.run_model.specs.Turns.{all_called, opened, begun}
 use Rattle.model_laws.specs.ChainSound.{ChainSound}
 use Rattle.model_laws.proofs.Unchanged.{step_changes_only}
-use Rattle.model_laws.proofs.chains.EventTurns.{Turn, Stood, Went, Begun, Brought, FileTaken, Ended}
+use Rattle.model_laws.proofs.chains.EventTurns.{EventTurn, Stood, Went, Begun, Brought, FileTaken, Ended}
 use Rattle.model_laws.proofs.chains.Views.{sound_top}
 use Rattle.model_laws.proofs.chains.WorldKept.{TurnsKeep, AnyLength}
 use Rattle.model_laws.proofs.chains.TopSteps.{may_step}
@@ -104,7 +104,7 @@ module _ (T : ℕ → Call → Type 0) (keeps : KeepsCall MayGo T) where
   abbrev pub EachCall : Common → Connection → Type 0
   EachCall g c = All (λ f. T g.next f.call) c.stack
 
-  turn_calls : (chain : List Program) (g : Common) (c : Connection) (v : Linked) → Turn chain AnyLength g c v → ChainSound chain g c → EachCall g c → EachCall v.0 v.1
+  turn_calls : (chain : List Program) (g : Common) (c : Connection) (v : Linked) → EventTurn chain AnyLength g c v → ChainSound chain g c → EachCall g c → EachCall v.0 v.1
   turn_calls chain g c v (Stood out broken) s h = h
   turn_calls chain g c v (Went reads f rest whole may) s h =
       proceeds_on MayGo T keeps chain reads (current (module_at chain f.of) f.pc) f rest g c

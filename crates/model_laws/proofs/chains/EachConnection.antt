@@ -9,7 +9,7 @@ use Rattle.run_model.specs.Turns.{Opening, opened, opens_file}
 use Rattle.run_model.specs.Worlds.{World, Told, put_conn, happens}
 use Rattle.run_model.proofs.Updates.{upd_either}
 use Rattle.model_laws.proofs.chains.EventCases.{Made, turn_made, stays_there, event_cases}
-use Rattle.model_laws.proofs.chains.EventTurns.{Turn, OpensAs, opens_file_turn}
+use Rattle.model_laws.proofs.chains.EventTurns.{EventTurn, OpensAs, opens_file_turn}
 use Rattle.model_laws.proofs.chains.WorldKept.{AnyLength}
 
 -- any file may be opened
@@ -17,12 +17,12 @@ pub any_opens : (a : Result (ℕ × ℕ) Refusal) → OpensAs AnyLength a
 any_opens (Ok f) = tt
 any_opens (Err r) = tt
 
-pub opening_turn : (chain : List Program) (g : Common) (c : Connection) (memory : Bool) (opening : Opening) → Turn chain AnyLength g c (opens_file memory opening (g, c)).1
+pub opening_turn : (chain : List Program) (g : Common) (c : Connection) (memory : Bool) (opening : Opening) → EventTurn chain AnyLength g c (opens_file memory opening (g, c)).1
 opening_turn chain g c memory opening = opens_file_turn chain AnyLength g c memory opening (any_opens _)
 
 -- each event makes a turn of its connection
 pub made_turn : (memory : Bool) (budget : ℕ) (chain : List Program) (told : Told) (g : Common) (c : Connection) (e : Event) (v : Linked) → IsChain chain → Made memory budget chain told g c e v
-    → Turn chain AnyLength g c v
+    → EventTurn chain AnyLength g c v
 made_turn memory budget chain told g c e v chained made = turn_made AnyLength memory budget chain told g c e v chained (λ name is. any_opens _) made
 
 abbrev pub EachOf : (Common → Connection → Type 0) → World → Type 0

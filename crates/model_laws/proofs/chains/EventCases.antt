@@ -16,7 +16,7 @@ use Rattle.run_model.specs.Worlds.{World, Told, Answer, put_conn, answered, file
 use Rattle.run_model.proofs.Updates.{upd_either}
 use Rattle.model_laws.proofs.StepFiles.{neither}
 use Rattle.model_laws.proofs.EventAnswers.{none_if}
-use Rattle.model_laws.proofs.chains.EventTurns.{Turn, OpensAs, Drained, begins_turn, brings_turn, opens_file_turn, ends_turn, steps_turn}
+use Rattle.model_laws.proofs.chains.EventTurns.{EventTurn, OpensAs, Drained, begins_turn, brings_turn, opens_file_turn, ends_turn, steps_turn}
 
 -- what an event makes of its connection
 pub data Made (memory : Bool) (budget : ℕ) (chain : List Program) (told : Told) (g : Common) (c : Connection) : Event → Linked → Type 0 where
@@ -29,7 +29,7 @@ pub data Made (memory : Bool) (budget : ℕ) (chain : List Program) (told : Told
 
 -- each is a turn, where a file that is opened has one of these lengths
 pub turn_made : (Lengths : ℕ → Type 0) (memory : Bool) (budget : ℕ) (chain : List Program) (told : Told) (g : Common) (c : Connection) (e : Event) (v : Linked) → IsChain chain
-    → ((name : List ℕ) → e ≡ event.OpenFile name → OpensAs Lengths (opens_file memory told.opening (g, c)).0) → Made memory budget chain told g c e v → Turn chain Lengths g c v
+    → ((name : List ℕ) → e ≡ event.OpenFile name → OpensAs Lengths (opens_file memory told.opening (g, c)).0) → Made memory budget chain told g c e v → EventTurn chain Lengths g c v
 turn_made Lengths memory budget chain told g c e v chained opens (OnOpening name) = opens_file_turn chain Lengths g c memory told.opening (opens name refl)
 turn_made Lengths memory budget chain told g c e v chained opens OnBegin = begins_turn chain Lengths g c memory
 turn_made Lengths memory budget chain told g c e v chained opens (OnBring pieces) = brings_turn chain Lengths g c memory pieces

@@ -27,7 +27,7 @@ use Rattle.model_laws.proofs.chains.EventCases.{stays_there, event_cases, run_ea
 use Rattle.model_laws.proofs.chains.EachConnection.{made_turn}
 use Rattle.model_laws.proofs.NamedPools.{on_named}
 use Rattle.model_laws.proofs.Unchanged.{step_changes_only}
-use Rattle.model_laws.proofs.chains.EventTurns.{Turn, Stood, Went, Begun, Brought, FileTaken, Ended}
+use Rattle.model_laws.proofs.chains.EventTurns.{EventTurn, Stood, Went, Begun, Brought, FileTaken, Ended}
 use Rattle.model_laws.proofs.chains.Proceeds.{proceeds_so}
 use Rattle.model_laws.proofs.chains.WorldKept.{AnyLength}
 
@@ -37,8 +37,8 @@ use Rattle.model_laws.proofs.chains.WorldKept.{AnyLength}
 abbrev OpensNone : (ℕ → Option (List ℕ)) → ℕ → (ℕ → Option (List ℕ)) → ℕ → Type 0
 OpensNone old n files next = ((file : ℕ) → is_some (files file) ≡ true → is_some (old file) ≡ true) × (next ≡ n)
 
-abbrev Leaves : Configuration → Configuration → Type 0
-Leaves r s = OpensNone r.shared.files.opened r.shared.files.next s.shared.files.opened s.shared.files.next
+abbrev FilesLeft : Configuration → Configuration → Type 0
+FilesLeft r s = OpensNone r.shared.files.opened r.shared.files.next s.shared.files.opened s.shared.files.next
 
 closes_some : (handed : List (ℕ × Payload)) (left : Pools Payload) (fs : Files) → OpensNone fs.opened fs.next (let_go handed left fs).opened (let_go handed left fs).next
 closes_some handed left fs = (λ file is_open. by_test (list_any (λ x. is_file_ref file x.1) handed && not (is_referred left file)) (fs.opened file) is_open, refl) where
@@ -46,12 +46,12 @@ closes_some handed left fs = (λ file is_open. by_test (list_any (λ x. is_file_
   by_test true o is_open = absurd (cc)
   by_test false o is_open = is_open
 
-step_opens : (p : Program) (choice : Choice) (i : Instr) (r : Configuration) → Leaves r (step p choice i r).state
+step_opens : (p : Program) (choice : Choice) (i : Instr) (r : Configuration) → FilesLeft r (step p choice i r).state
 unfolding with_pools run_down
 step_opens p choice (instr.PClear q) r =
-    on_named (Leaves r) pool_cleared (pool_named r (pool.Own q)) r (λ file is_open. is_open, refl) (λ n e. closes_some (run_order r.shared.pools n) (cleared n r.shared.pools) r.shared.files)
+    on_named (FilesLeft r) pool_cleared (pool_named r (pool.Own q)) r (λ file is_open. is_open, refl) (λ n e. closes_some (run_order r.shared.pools n) (cleared n r.shared.pools) r.shared.files)
 step_opens p choice (instr.PDestroy q) r =
-    on_named (Leaves r) pool_destroyed (pool_named r (pool.Own q)) r (λ file is_open. is_open, refl) (λ n e. closes_some (run_order r.shared.pools n) (destroyed n r.shared.pools) r.shared.files)
+    on_named (FilesLeft r) pool_destroyed (pool_named r (pool.Own q)) r (λ file is_open. is_open, refl) (λ n e. closes_some (run_order r.shared.pools n) (destroyed n r.shared.pools) r.shared.files)
 step_opens p choice i r =
     let same = (step_changes_only p choice i r).files refl in
     (λ file is_open. subst (λ (fs : Files). is_some (fs.opened file) ≡ true) same is_open, ap (λ (fs : Files). fs.next) same)
@@ -82,7 +82,7 @@ taken_opens req new bytes g c newer v last files = record {
   ];
 }
 
-pub turn_opens : (chain : List Program) (g : Common) (c : Connection) (v : Linked) → Turn chain AnyLength g c v → OpensNew g c v
+pub turn_opens : (chain : List Program) (g : Common) (c : Connection) (v : Linked) → EventTurn chain AnyLength g c v → OpensNew g c v
 unfolding begun all_called configuration run_down with_pools
 turn_opens chain g c v (Stood out broken) = none_new g c v (λ file is_open. is_open, refl)
 turn_opens chain g c v (Went reads f rest whole may) = (let left = went_opens chain reads f rest g c in record { rises = left.rises; from = left.from })

@@ -45,24 +45,24 @@ use Rattle.model_laws.proofs.chains.Views.{sound_top}
 use Rattle.model_laws.proofs.chains.TopSteps.{may_step}
 use Rattle.model_laws.proofs.chains.EachBucket.{seen_each, each_bucket_so, proceeds_each}
 use Rattle.model_laws.proofs.chains.EachEvent.{opened_each, begun_each, brought_in_each, request_over_each}
-use Rattle.model_laws.proofs.chains.EventTurns.{Turn, Stood, Went, Begun, Brought, FileTaken, Ended}
+use Rattle.model_laws.proofs.chains.EventTurns.{EventTurn, Stood, Went, Begun, Brought, FileTaken, Ended}
 use Rattle.model_laws.proofs.chains.Proceeds.{proceeds_files, proceeds_so}
 use Rattle.model_laws.proofs.chains.WorldKept.{TurnsKeep, AnyLength, turns_in_runs}
 
 -- What an instruction leaves of the references in pools.
 
-abbrev Grows : Pools Payload → Pools Payload → Type 0
-Grows ps new = (p file : ℕ) → refers ps p file ≡ true → refers new p file ≡ true
+abbrev PoolsGrow : Pools Payload → Pools Payload → Type 0
+PoolsGrow ps new = (p file : ℕ) → refers ps p file ≡ true → refers new p file ≡ true
 
-held_so : (ps new : Pools Payload) → Grows ps new → (x : NamedBucket) → HasReference ps x → HasReference new x
+held_so : (ps new : Pools Payload) → PoolsGrow ps new → (x : NamedBucket) → HasReference ps x → HasReference new x
 held_so ps new grow x h = λ file start len p c at. grow p file (h file start len p c at)
 
-aside_grows : (s : Place) (target : ℕ) (r : Configuration) → Grows r.shared.pools (aside_into s target r).shared.pools
+aside_grows : (s : Place) (target : ℕ) (r : Configuration) → PoolsGrow r.shared.pools (aside_into s target r).shared.pools
 aside_grows s target r p file h = (let left = aside_pools s target r in subst (λ (ps : Pools Payload). refers ps p file ≡ true) (sym left.1) (all_grow target left.0 r.shared.pools p file h))
 
 -- a bucket that the call does not see is held as it was
-abbrev Leaves : Configuration → NamedBucket → Configuration → Type 0
-Leaves r x s = HasReference s.shared.pools x
+abbrev LeavesUnseen : Configuration → NamedBucket → Configuration → Type 0
+LeavesUnseen r x s = HasReference s.shared.pools x
 
 gone_held : (gone : ℕ → Configuration → Configuration) (o : Option ℕ) (r : Configuration) → ((n : ℕ) → Emptied n r.shared.pools (gone n r).shared.pools)
     → (x : NamedBucket) → HasReference r.shared.pools x → HasReference (on_pool gone o r).shared.pools (cleared_bucket (is_under_named r.shared.pools o) x)
@@ -76,32 +76,32 @@ touched_held p choice (instr.PClear q) r formed x h = gone_held pool_cleared (po
 touched_held p choice (instr.PDestroy q) r formed x h = gone_held pool_destroyed (pool_named r (pool.Own q)) r (λ n. destroyed_emptied n r.shared.pools) x h
 touched_held p choice (instr.Ret s) r formed x h = returned_held r.call.name r.shared.pools x h
 touched_held p choice (instr.PCreate q) r formed x h =
-    made_under_named (Leaves r x) p q r h (λ parent e. held_so r.shared.pools (created parent r.shared.pools) (λ m file there. created_refers parent r.shared.pools m file formed there) x h)
+    made_under_named (LeavesUnseen r x) p q r h (λ parent e. held_so r.shared.pools (created parent r.shared.pools) (λ m file there. created_refers parent r.shared.pools m file formed there) x h)
 touched_held p choice (instr.Label q t) r formed x h =
-    on_named (Leaves r x) (label_registered (text_of p t)) (pool_named r q) r h
+    on_named (LeavesUnseen r x) (label_registered (text_of p t)) (pool_named r q) r h
     (λ n e. held_so r.shared.pools (registered n (Label (text_of p t)) r.shared.pools) (λ m file there. registered_refers n (Label (text_of p t)) r.shared.pools m file there) x h)
 touched_held p choice (instr.Unlabel q t) r formed x h =
-    on_named (Leaves r x) (label_killed (text_of p t)) (pool_named r q) r h
+    on_named (LeavesUnseen r x) (label_killed (text_of p t)) (pool_named r q) r h
     (λ n e. held_so r.shared.pools (killed n (is_label (text_of p t)) r.shared.pools) (λ m file there. killed_refers n (text_of p t) r.shared.pools m file ∙ there) x h)
 touched_held p choice (instr.BCreate o) r formed x h = held_so r.shared.pools (with_brigade (pool_named r (pool_of_brigade p o)) r.shared.next r.shared.pools)
     (λ m file there. brigade_refers (pool_named r (pool_of_brigade p o)) r.shared.next r.shared.pools m file there) x h
-touched_held p choice (instr.BSave o b) r formed x h = on_named (Leaves r x) (saved_into o b) (made_on (r.instance.brigades o)) r h (λ target e.
+touched_held p choice (instr.BSave o b) r formed x h = on_named (LeavesUnseen r x) (saved_into o b) (made_on (r.instance.brigades o)) r h (λ target e.
     held_so r.shared.pools (all_referred target (filter_map (new_ref r.shared.pools target) (items_of (r.instance.brigades b))) r.shared.pools)
     (λ m file there. all_grow target (filter_map (new_ref r.shared.pools target) (items_of (r.instance.brigades b))) r.shared.pools m file there) x h)
 touched_held p choice (instr.Aside c q) r formed x h =
-    on_named (Leaves r x) (aside_into (spot r c)) (pool_named r q) r h (λ target e. held_so r.shared.pools (aside_into (spot r c) target r).shared.pools (aside_grows (spot r c) target r) x h)
+    on_named (LeavesUnseen r x) (aside_into (spot r c)) (pool_named r q) r h (λ target e. held_so r.shared.pools (aside_into (spot r c) target r).shared.pools (aside_grows (spot r c) target r) x h)
 touched_held p choice i r formed x h = subst (λ (ps : Pools Payload). HasReference ps x) (sym ((step_changes_only p choice i r).tree refl)) h
 
 -- Connections.
 
 -- the same but for what follows from it
-record Kept (g : Common) (c : Connection) : Type 0 where
+record KeptConnection (g : Common) (c : Connection) : Type 0 where
   lasts : (p file : ℕ) → refers (pools_of g c) p file ≡ true → is_some (c.opened file) ≡ true
   held : OfEachBucket (HasReference (pools_of g c)) c
   request : (file end req : ℕ) → has_range c.files file end ≡ true → c.req ≡ Some req → refers (pools_of g c) req file ≡ true
   between : c.req ≡ None → c.files ≡ []
 
-with_open : (g : Common) (c : Connection) → Kept g c → ChainFiles g c
+with_open : (g : Common) (c : Connection) → KeptConnection g c → ChainFiles g c
 with_open g c h = record {
   lasts = h.lasts;
   held = h.held;
@@ -111,19 +111,19 @@ with_open g c h = record {
 }
 
 -- what a call sees of it
-seen_files : (g : Common) (c : Connection) (f : Frame) (rest : List Frame) → c.stack ≡ f ∷ rest → Kept g c → SoundFiles c.files (configuration g c f)
+seen_files : (g : Common) (c : Connection) (f : Frame) (rest : List Frame) → c.stack ≡ f ∷ rest → KeptConnection g c → SoundFiles c.files (configuration g c f)
 unfolding configuration
 seen_files g c f rest is h = (let seen = seen_each (HasReference (pools_of g c)) g c f rest is h.held in record { lasts = h.lasts; brigades = seen.brigades; loose = seen.loose; request = h.request })
 
 -- what an instruction leaves but for the buckets
-abbrev Others : Connection → Pools Payload → (ℕ → Option (List ℕ)) → ℕ → Option ℕ → Type 0
-Others c ps files next req =
+abbrev AllButBuckets : Connection → Pools Payload → (ℕ → Option (List ℕ)) → ℕ → Option ℕ → Type 0
+AllButBuckets c ps files next req =
     ((p file : ℕ) → refers ps p file ≡ true → is_some (files file) ≡ true)
     × ((file end q : ℕ) → has_range c.files file end ≡ true → req ≡ Some q → refers ps q file ≡ true)
     × (req ≡ c.req)
 
-went_files : (chain : List Program) (reads : Reads) (f : Frame) (rest : List Frame) (g : Common) (c : Connection) → MayProceed chain g c f rest → ChainSound chain g c → Kept g c
-    → Kept (after_top chain reads g c f rest).0 (after_top chain reads g c f rest).1
+went_files : (chain : List Program) (reads : Reads) (f : Frame) (rest : List Frame) (g : Common) (c : Connection) → MayProceed chain g c f rest → ChainSound chain g c → KeptConnection g c
+    → KeptConnection (after_top chain reads g c f rest).0 (after_top chain reads g c f rest).1
 unfolding configuration
 went_files chain reads f rest g c may s h = record {
   lasts = others.0;
@@ -147,13 +147,13 @@ went_files chain reads f rest g c may s h = record {
   stepped choice = step_files (module_at chain f.of) choice i c.files (configuration g c f) (may_step chain g c f rest may s) (sound_top chain g c f rest may.on_top s)
       (seen_files g c f rest may.on_top h)
 
-  others : Others c (pools_of left.0 left.1) left.1.opened left.0.file left.1.req
-  others = proceeds_so (Others c) chain reads i f rest g c
+  others : AllButBuckets c (pools_of left.0 left.1) left.1.opened left.0.file left.1.req
+  others = proceeds_so (AllButBuckets c) chain reads i f rest g c
       (λ choice. (let there = stepped choice in (there.lasts, there.request, (step_changes_only (module_at chain f.of) choice i (configuration g c f)).req))) (h.lasts, h.request, refl)
 
 -- Events.
 
-opened_files : (chain : List Program) (g : Common) → Kept (opened chain g).0 (opened chain g).1
+opened_files : (chain : List Program) (g : Common) → KeptConnection (opened chain g).0 (opened chain g).1
 unfolding opened all_called planted
 opened_files chain g = record {
   lasts = λ p file h. absurd (let none : false ≡ true = created_back g.root (pools_of g (fresh_connection g)) p file h in cc);
@@ -162,12 +162,12 @@ opened_files chain g = record {
   between = λ none. refl;
 }
 
-begun_files : (chain : List Program) (g : Common) (c : Connection) → IsPoolMap (pools_of g c) → c.req ≡ None → Kept g c → Kept (begun chain (g, c)).0 (begun chain (g, c)).1
+begun_files : (chain : List Program) (g : Common) (c : Connection) → IsPoolMap (pools_of g c) → c.req ≡ None → KeptConnection g c → KeptConnection (begun chain (g, c)).0 (begun chain (g, c)).1
 unfolding begun all_called
 begun_files chain g c formed none h =
     let ps : Pools Payload = pools_of g c in
     let new : Pools Payload = created c.conn ps in
-    let grow : Grows ps new = λ p file there. created_refers c.conn ps p file formed there in
+    let grow : PoolsGrow ps new = λ p file there. created_refers c.conn ps p file formed there in
     let is_none : c.files ≡ [] = h.between none in
     record {
       lasts = λ p file there. h.lasts p file (created_back c.conn ps p file there);
@@ -183,12 +183,13 @@ stays_open files next file bytes which = elim (upd_either files next file (Some 
   | inr q ↦ ap is_some q.1 ∙ (elim which [ inl old ↦ old | inr same ↦ absurd (q.0 (sym same)) ])
 ]
 
-taken_files : (req new_file : ℕ) (bytes : List ℕ) (g : Common) (c : Connection) → c.req ≡ Some req → Kept g c → Kept (file_taken req new_file bytes (g, c)).0 (file_taken req new_file bytes (g, c)).1
+taken_files : (req new_file : ℕ) (bytes : List ℕ) (g : Common) (c : Connection) → c.req ≡ Some req → KeptConnection g c
+    → KeptConnection (file_taken req new_file bytes (g, c)).0 (file_taken req new_file bytes (g, c)).1
 unfolding registered
 taken_files req new_file bytes g c is h =
     let ps : Pools Payload = pools_of g c in
     let new : Pools Payload = registered req (FileRef new_file) ps in
-    let grow : Grows ps new = λ p file there. registered_refers req (FileRef new_file) ps p file there in
+    let grow : PoolsGrow ps new = λ p file there. registered_refers req (FileRef new_file) ps p file there in
     let all = each_bucket_so (HasReference ps) (HasReference new) (held_so ps new grow) c h.held in
     record {
       lasts = λ p file there. stays_open c.opened new_file file bytes
@@ -207,7 +208,8 @@ taken_files req new_file bytes g c is h =
       first_of true b e = refl
       first_of false b e = absurd (cc)
 
-over_files : (chain : List Program) (req : ℕ) (g : Common) (c : Connection) → c.stack ≡ [] → ChainSound chain g c → Kept g c → Kept (request_over req (g, c)).0 (request_over req (g, c)).1
+over_files : (chain : List Program) (req : ℕ) (g : Common) (c : Connection) → c.stack ≡ [] → ChainSound chain g c → KeptConnection g c
+    → KeptConnection (request_over req (g, c)).0 (request_over req (g, c)).1
 unfolding configuration run_down with_pools
 over_files chain req g c idle s h =
     let ps : Pools Payload = pools_of g c in
@@ -222,7 +224,7 @@ over_files chain req g c idle s h =
       between = λ none. refl;
     }
 
-turn_files : (chain : List Program) (g : Common) (c : Connection) (v : Linked) → Turn chain AnyLength g c v → ChainSound chain g c → Kept g c → Kept v.0 v.1
+turn_files : (chain : List Program) (g : Common) (c : Connection) (v : Linked) → EventTurn chain AnyLength g c v → ChainSound chain g c → KeptConnection g c → KeptConnection v.0 v.1
 unfolding configuration
 turn_files chain g c v (Stood out broken) s h = record { lasts = h.lasts; held = record { brigades = h.held.brigades; loose = h.held.loose }; request = h.request; between = h.between }
 turn_files chain g c v (Went reads f rest whole may) s h =
@@ -239,7 +241,7 @@ turn_files chain g c v (Brought pieces req whole idle is there next) s h = recor
 turn_files chain g c v (FileTaken req file bytes whole idle is short newer last) s h = taken_files req file bytes g c is h
 turn_files chain g c v (Ended req whole idle is) s h = over_files chain req g c idle s h
 
-kept_of : (g : Common) (c : Connection) → ChainFiles g c → Kept g c
+kept_of : (g : Common) (c : Connection) → ChainFiles g c → KeptConnection g c
 kept_of g c h = record { lasts = h.lasts; held = h.held; request = h.request; between = h.between }
 
 -- others take names

@@ -15,7 +15,7 @@ use Rattle.run_model.specs.Turns.{all_called, opened, begun}
 use Rattle.model_laws.specs.ChainSound.{WaitsAtPass}
 use Rattle.model_laws.specs.Handlers.{StandsIn, CallsBegin, CallsAfter, Stay, GoesOn, Passes, Returns, Follows, Ends, StepStaysInHandler, RunPlacesCalls}
 use Rattle.model_laws.proofs.Unchanged.{step_changes_only}
-use Rattle.model_laws.proofs.Handlers.{Leads, code_leads}
+use Rattle.model_laws.proofs.Handlers.{LeadsWhere, code_leads}
 use Rattle.model_laws.proofs.chains.Modules.{module_at_proper}
 use Rattle.model_laws.proofs.chains.Places.{led, after_leads}
 use Rattle.model_laws.proofs.chains.StepCases.{counted_top, steps_so}
@@ -38,7 +38,7 @@ module _ (chain : List Program) (proper : (k : ℕ) → IsModule (module_at chai
         name = (step_changes_only (module_at chain f.of) choice i (configuration g c f)).call_name on;
         stays = λ from to code stands.
             led (StandsIn from to) (module_at chain f.of) choice i (configuration g c f) f.pc on
-            (subst (Leads (StandsIn from to) f.pc) (sym is) (code_leads (module_at chain f.of) (proper f.of) from to f.pc code stands));
+            (subst (LeadsWhere (StandsIn from to) f.pc) (sym is) (code_leads (module_at chain f.of) (proper f.of) from to f.pc code stands));
       })
 
   passed_after : (rest : List Frame) (reads : Reads) (b l : ℕ) (last : Bool) → is_last chain f.of ≡ last → instr.Pass b l ≡ current (module_at chain f.of) f.pc

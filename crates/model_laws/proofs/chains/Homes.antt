@@ -34,7 +34,7 @@ use Rattle.model_laws.proofs.Origins.{HoldsNamed}
 use Rattle.model_laws.proofs.EachItem.{none, each_so}
 use Rattle.model_laws.proofs.chains.EachBucket.{Steps, seen_each, each_bucket_so, proceeds_each}
 use Rattle.model_laws.proofs.chains.EachEvent.{opened_each, begun_each, brought_in_each, request_over_each}
-use Rattle.model_laws.proofs.chains.EventTurns.{Turn, Stood, Went, Begun, Brought, FileTaken, Ended}
+use Rattle.model_laws.proofs.chains.EventTurns.{EventTurn, Stood, Went, Begun, Brought, FileTaken, Ended}
 use Rattle.model_laws.proofs.chains.StepHomes.{AliveHome, AliveAs, home_so, cleared_home, touched_alive, step_alive, returned_alive, return_alive}
 use Rattle.model_laws.proofs.chains.WorldKept.{TurnsKeep, AnyLength, turns_in_runs}
 
@@ -47,29 +47,29 @@ map_called change (f ∷ fs) n (inl here) = inl here
 map_called change (f ∷ fs) n (inr there) = inr (map_called change fs n there)
 
 -- which calls there are after an instruction of the call f, which is no longer there where it returns
-Stays : Instr → Frame → List Frame → List Frame → Type 0
-Stays i f fs new = (n : ℕ) → IsCalled (f ∷ fs) n → (is_return i ≡ true → n ≢ f.call.name) → IsCalled new n
+CallsStay : Instr → Frame → List Frame → List Frame → Type 0
+CallsStay i f fs new = (n : ℕ) → IsCalled (f ∷ fs) n → (is_return i ≡ true → n ≢ f.call.name) → IsCalled new n
 
 stepped_calls : (chain : List Program) (choice : Choice) (i : Instr) (f : Frame) (rest : List Frame) (g : Common) (c : Connection) → is_return i ≡ false
-    → Stays i f rest (stepped_in (module_at chain f.of) choice i f rest (g, c)).1.stack
-unfolding Stays IsCalled stepped_in put_back configuration
+    → CallsStay i f rest (stepped_in (module_at chain f.of) choice i f rest (g, c)).1.stack
+unfolding CallsStay IsCalled stepped_in put_back configuration
 stepped_calls chain choice i f rest g c on n (inl here) others = inl ((step_changes_only (module_at chain f.of) choice i (configuration g c f)).call_name on ∙ here)
 stepped_calls chain choice i f rest g c on n (inr there) others = inr (map_called _ rest n there)
 
 passed_calls : (chain : List Program) (reads : Reads) (b l : ℕ) (f : Frame) (rest : List Frame) (g : Common) (c : Connection) (t : Bool)
-    → Stays (instr.Pass b l) f rest (cond t (delivered_by (module_at chain f.of) reads b (instr.Pass b l) f rest (g, c)) (passed_to (module_at chain (f.of + 1)) b f rest (g, c))).1.stack
-unfolding Stays IsCalled delivered_by passed_to
+    → CallsStay (instr.Pass b l) f rest (cond t (delivered_by (module_at chain f.of) reads b (instr.Pass b l) f rest (g, c)) (passed_to (module_at chain (f.of + 1)) b f rest (g, c))).1.stack
+unfolding CallsStay IsCalled delivered_by passed_to
 passed_calls chain reads b l f rest g c true n h others =
     stepped_calls chain (record { answer = answer_to (delivered c.out (items_of ((c.instances f.of).brigades b)) reads).1; given = None }) (instr.Pass b l) f rest g c refl n h others
 passed_calls chain reads b l f rest g c false n h others = inr h
 
-gone : (i : Instr) (f : Frame) (new : List Frame) → is_return i ≡ true → Stays i f [] new
-unfolding Stays IsCalled
+gone : (i : Instr) (f : Frame) (new : List Frame) → is_return i ≡ true → CallsStay i f [] new
+unfolding CallsStay IsCalled
 gone i f new on n (inl here) others = absurd (others on (sym here))
 gone i f new on n (inr there) others = absurd there
 
-proceeds_calls : (chain : List Program) (reads : Reads) (i : Instr) (f : Frame) (rest : List Frame) (g : Common) (c : Connection) → Stays i f rest (proceeds chain reads i f rest (g, c)).1.1.stack
-unfolding Stays IsCalled proceeds returned_to returned_from put_back
+proceeds_calls : (chain : List Program) (reads : Reads) (i : Instr) (f : Frame) (rest : List Frame) (g : Common) (c : Connection) → CallsStay i f rest (proceeds chain reads i f rest (g, c)).1.1.stack
+unfolding CallsStay IsCalled proceeds returned_to returned_from put_back
 proceeds_calls chain reads (instr.Pass b l) f rest g c n h others = passed_calls chain reads b l f rest g c (is_last chain f.of) n h others
 proceeds_calls chain reads (instr.Ret s) f [] g c n h others = gone (instr.Ret s) f _ refl n h others
 proceeds_calls chain reads (instr.Ret s) f (w ∷ rest) g c n (inl here) others = absurd (others refl (sym here))
@@ -121,7 +121,7 @@ module _ (chain : List Program) (g : Common) (c : Connection) (f : Frame) (rest 
 
 went_homes : (chain : List Program) (reads : Reads) (f : Frame) (rest : List Frame) (g : Common) (c : Connection) → MayProceed chain g c f rest → ChainSound chain g c → ChainHomes g c
     → ChainHomes (after_top chain reads g c f rest).0 (after_top chain reads g c f rest).1
-unfolding Stays configuration
+unfolding CallsStay configuration
 went_homes chain reads f rest g c may s h =
     let i : Instr = current (module_at chain f.of) f.pc in
     let left : Linked = (proceeds chain reads i f rest (g, c)).1 in
@@ -170,7 +170,7 @@ over_homes req g c idle h =
     (λ x a. cleared_home (IsCalled c.stack) (pools_of g c) (destroyed req (pools_of g c)) (is_under (pools_of g c) req)
     (apart_lives req (pools_of g c) (destroyed req (pools_of g c)) (destroyed_so req (pools_of g c))) x.bucket.home a) h
 
-turn_homes : (chain : List Program) (g : Common) (c : Connection) (v : Linked) → Turn chain AnyLength g c v → ChainSound chain g c → ChainHomes g c → ChainHomes v.0 v.1
+turn_homes : (chain : List Program) (g : Common) (c : Connection) (v : Linked) → EventTurn chain AnyLength g c v → ChainSound chain g c → ChainHomes g c → ChainHomes v.0 v.1
 unfolding configuration is_live registered
 turn_homes chain g c v (Stood out broken) s h = record { brigades = h.brigades; loose = h.loose }
 turn_homes chain g c v (Went reads f rest whole may) s h = (let left = went_homes chain reads f rest g c may s h in record { brigades = left.brigades; loose = left.loose })

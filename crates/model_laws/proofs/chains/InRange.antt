@@ -79,7 +79,8 @@ put_back_range i f s top rest g c is left loose old = record {
     | inr p ↦ subst (λ (x : Instance). x.numbers n ≤ 4294967295) (sym p.1) (old.numbers k n)
   ];
   held =
-      put_back_each OfNamed OfNamed i f s top rest g c is (touched_so OfNamed (configuration g c f) i (λ reached x e. e) (λ on x e. e)) (record { brigades = left.brigades; loose = left.loose }) loose old.held;
+      put_back_each OfNamed OfNamed i f s top rest g c is (touched_so OfNamed (configuration g c f) i (λ reached x e. e) (λ on x e. e))
+      (record { brigades = left.brigades; loose = left.loose }) loose old.held;
   opened = left.files.opened;
 }
 

@@ -25,7 +25,7 @@ use Rattle.model_laws.specs.SharedPools.{LiesOver, over, seen_in}
 use Rattle.model_laws.specs.SharedTree.{BeginsLeaveTheTree, BringsLeaveTheTree, EndsLeaveTheTree, OpenFilesLeaveTheTree, StepsLeaveTheTree}
 use Rattle.run_model.specs.RunOrder.{IsPoolMap}
 use Rattle.run_model.proofs.Updates.{upd_at, upd_either, upd_off}
-use Rattle.model_laws.proofs.chains.EventTurns.{Turn, Stood, Went, Begun, Brought, FileTaken, Ended, OpensAs, begins_turn, brings_turn, ends_turn, opens_file_turn, steps_turn}
+use Rattle.model_laws.proofs.chains.EventTurns.{EventTurn, Stood, Went, Begun, Brought, FileTaken, Ended, OpensAs, begins_turn, brings_turn, ends_turn, opens_file_turn, steps_turn}
 use Rattle.model_laws.proofs.chains.OverTree.{reached_lies_over}
 use Rattle.model_laws.proofs.chains.PoolsApart.{run_keeps_pools_apart}
 use Rattle.model_laws.proofs.chains.Proceeds.{proceeds_conn, proceeds_so}
@@ -62,7 +62,7 @@ module _ (chain : List Program) (ps : Pools Payload) (g : Common) (c : Connectio
   unturned : (v : Linked) → v.0.pools ≡ g.pools → v.1.path ≡ ps.path → v.1.payloads ≡ ps.payloads → StaysWithin c.conn whole (pools_of v.0 v.1)
   unturned v next paths payloads = same_within c.conn whole (pools_of v.0 v.1) has next paths payloads
 
-  pub turn_within : (v : Linked) → Turn chain AnyLength g all v → StaysWithin c.conn whole (pools_of v.0 v.1)
+  pub turn_within : (v : Linked) → EventTurn chain AnyLength g all v → StaysWithin c.conn whole (pools_of v.0 v.1)
   unfolding begun all_called configuration run_down with_pools registered
   turn_within v (Stood out broken) = unturned v refl refl refl
   turn_within v (Went reads f rest sane may) =
@@ -75,7 +75,7 @@ module _ (chain : List Program) (ps : Pools Payload) (g : Common) (c : Connectio
   turn_within v (FileTaken req file bytes sane idle is short newer last) = changes_within (Registered (FileRef file)) c.conn req whole has (request req is)
   turn_within v (Ended req sane idle is) = changes_within Destroyed c.conn req whole has (request req is)
 
-  turn_conn : (v : Linked) → Turn chain AnyLength g all v → v.1.conn ≡ c.conn
+  turn_conn : (v : Linked) → EventTurn chain AnyLength g all v → v.1.conn ≡ c.conn
   unfolding begun all_called configuration run_down with_pools
   turn_conn v (Stood out broken) = refl
   turn_conn v (Went reads f rest sane may) = proceeds_conn chain reads (current (module_at chain f.of) f.pc) f rest g all
@@ -86,10 +86,10 @@ module _ (chain : List Program) (ps : Pools Payload) (g : Common) (c : Connectio
 
   -- The parts of others stay.
   module _ (d : ℕ) (other : HasPart whole d) (ne : c.conn ≢ d) where
-    abbrev Spares : Linked → Type 0
-    Spares v = part d (pools_of v.0 v.1) ≡ record (part d whole) { next = v.0.pools }
+    abbrev SparesTree : Linked → Type 0
+    SparesTree v = part d (pools_of v.0 v.1) ≡ record (part d whole) { next = v.0.pools }
 
-    turn_spares : (v : Linked) → Turn chain AnyLength g all v → Spares v
+    turn_spares : (v : Linked) → EventTurn chain AnyLength g all v → SparesTree v
     unfolding begun all_called configuration run_down with_pools registered
     turn_spares v (Stood out broken) = same_next d whole whole refl
     turn_spares v (Went reads f rest sane may) = top_spares d chain reads (current (module_at chain f.of) f.pc) f rest g all (l.lies f) other ne may.faultless
@@ -101,7 +101,7 @@ module _ (chain : List Program) (ps : Pools Payload) (g : Common) (c : Connectio
 -- The world that it leaves.
 
 -- What is known of a world and its tree, at the connection k.
-pub record Stands (chain : List Program) (w : World) (ps : Pools Payload) (k : ℕ) (c : Connection) : Type 0 where
+pub record TreeStands (chain : List Program) (w : World) (ps : Pools Payload) (k : ℕ) (c : Connection) : Type 0 where
   pub chained : IsChain chain
   pub names : HasNames w.common
   pub sound : ChainSound chain w.common c
@@ -113,7 +113,7 @@ pub record Stands (chain : List Program) (w : World) (ps : Pools Payload) (k : �
   pub lies : LiesOver ps w.common c
 
 -- a pool that stood under another connection's goes on doing so, whatever comes of this one
-pub stands_on : (chain : List Program) (w : World) (ps : Pools Payload) (k : ℕ) (c : Connection) → Stands chain w ps k c
+pub stands_on : (chain : List Program) (w : World) (ps : Pools Payload) (k : ℕ) (c : Connection) → TreeStands chain w ps k c
     → (x : Option Connection) (left : World) → left.conns ≡ upd w.conns k x → left.last ≡ w.last
     → (now : Pools Payload) (n : ℕ) → is_under ps c.conn n ≡ false → now.path n ≡ ps.path n → StandsWith w ps n → StandsWith left now n
 unfolding is_under
@@ -127,7 +127,7 @@ stands_on chain w ps k c s x left conns last now n apart same o = record {
   other : suc o.number ≢ k
   other is = both_ways (is_in c.conn (ps.path n)) apart (ap (λ (y : Connection). is_in y.conn (ps.path n)) (same_Some c o.conn (sym s.here ∙ ap w.conns (sym is) ∙ o.there)) ∙ o.under)
 
-module _ (chain : List Program) (w : World) (ps : Pools Payload) (k : ℕ) (c : Connection) (s : Stands chain w ps k c) (v : Linked) (t : Turn chain AnyLength w.common (over ps c) v) where
+module _ (chain : List Program) (w : World) (ps : Pools Payload) (k : ℕ) (c : Connection) (s : TreeStands chain w ps k c) (v : Linked) (t : EventTurn chain AnyLength w.common (over ps c) v) where
   abbrev left : World
   left = put_conn k (linked_in_part c.conn v) w
 
@@ -223,7 +223,7 @@ module _ (budget : ℕ) (chain : List Program) (w : World) (k : ℕ) (c : Connec
   apart : WorldPoolsApart w
   apart = pools_apart budget chain w chained r
 
-  pub reached_stands : Stands chain w (tree_of w) k c
+  pub reached_stands : TreeStands chain w (tree_of w) k c
   reached_stands = record {
     chained = chained;
     names = known.sound.names;
@@ -238,7 +238,7 @@ module _ (budget : ℕ) (chain : List Program) (w : World) (k : ℕ) (c : Connec
 
   -- the event, seen in the part
   leaves : {A : Type 0} (event : Linked → A × Linked) → event (w.common, c) ≡ seen_in c.conn (event (w.common, over (tree_of w) c))
-      → Turn chain AnyLength w.common (over (tree_of w) c) (event (w.common, over (tree_of w) c)).1
+      → EventTurn chain AnyLength w.common (over (tree_of w) c) (event (w.common, over (tree_of w) c)).1
       → (let v = (event (w.common, over (tree_of w) c)).1 in tree_of (put_conn k (event (w.common, c)).1 w) ≡ pools_of v.0 v.1)
   leaves {A = A} event seen turn = ap (λ (a : A × Linked). tree_of (put_conn k a.1 w)) seen ∙ left_tree chain w (tree_of w) k c reached_stands (event (w.common, over (tree_of w) c)).1 turn
 

@@ -18,7 +18,7 @@ use Rattle.run_model.proofs.PoolMap.{created_at, created_kept, destroyed_apart, 
 use Rattle.run_model.proofs.References.{or_left}
 use Rattle.run_model.proofs.Updates.{upd_at, upd_either, upd_off}
 use Rattle.model_laws.proofs.chains.BareRoot.{created_bare}
-use Rattle.model_laws.proofs.chains.LeftTree.{Stands, stands_on, laws, pools_apart, reached_stands}
+use Rattle.model_laws.proofs.chains.LeftTree.{TreeStands, stands_on, laws, pools_apart, reached_stands}
 use Rattle.model_laws.proofs.chains.TreeParts.{reached_tree, top_in}
 use Rattle.model_laws.proofs.parts.Joined.{parts_whole}
 use Rattle.model_laws.proofs.parts.Order.{new_planted}
@@ -26,7 +26,7 @@ use Rattle.model_laws.proofs.parts.Others.{new_spares, others_stay}
 use Rattle.model_laws.proofs.parts.Paths.{part_under, top_apart}
 
 -- A connection is closed.
-module _ (chain : List Program) (w : World) (ps : Pools Payload) (k : ℕ) (c : Connection) (s : Stands chain w ps k c) where
+module _ (chain : List Program) (w : World) (ps : Pools Payload) (k : ℕ) (c : Connection) (s : TreeStands chain w ps k c) where
   abbrev closed : World
   closed = record w { conns = upd w.conns k None }
 

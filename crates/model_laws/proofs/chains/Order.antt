@@ -23,7 +23,7 @@ use Rattle.model_laws.proofs.chains.EachConnection.{opening_turn}
 use Rattle.model_laws.proofs.StepFiles.{neither}
 use Rattle.run_model.proofs.Updates.{upd_off}
 use Rattle.model_laws.proofs.chains.Names.{left_either}
-use Rattle.model_laws.proofs.chains.EventTurns.{Turn, Stood, Went, Begun, Brought, FileTaken, Ended, begins_turn, brings_turn, ends_turn, steps_turn}
+use Rattle.model_laws.proofs.chains.EventTurns.{EventTurn, Stood, Went, Begun, Brought, FileTaken, Ended, begins_turn, brings_turn, ends_turn, steps_turn}
 use Rattle.model_laws.proofs.chains.Proceeds.{proceeds_count}
 use Rattle.model_laws.proofs.chains.StepCases.{steps_so}
 use Rattle.model_laws.proofs.chains.ConnectionKept.{EventsKeep, event_so, run_so}
@@ -122,7 +122,7 @@ idle_vacant : (c : Connection) → c.stack ≡ [] → Vacant c → (k : ℕ) →
 unfolding has_call
 idle_vacant c idle h k = h k (subst (λ (fs : List Frame). has_call fs k ≡ false) (sym idle) refl)
 
-turn_vacant : (chain : List Program) (g : Common) (c : Connection) (v : Linked) → Turn chain AnyLength g c v → Vacant c → Vacant v.1
+turn_vacant : (chain : List Program) (g : Common) (c : Connection) (v : Linked) → EventTurn chain AnyLength g c v → Vacant c → Vacant v.1
 unfolding begun all_called
 turn_vacant chain g c v (Stood out broken) h = h
 turn_vacant chain g c v (Went reads f rest whole may) h = proceeds_vacant chain reads (current (module_at chain f.of) f.pc) f rest g c may.on_top h

@@ -29,14 +29,14 @@ use Rattle.model_laws.proofs.chains.PoolsApart.{run_keeps_pools_apart}
 use Rattle.model_laws.proofs.chains.PutBack.{looking}
 use Rattle.model_laws.proofs.chains.Reached.{reached_holds}
 use Rattle.model_laws.proofs.chains.TreeParts.{in_all, its_part, own_conn, same_conn, through_own, top_in, tree}
-use Rattle.model_laws.proofs.chains.Trees.{Grown, StandsBelow}
+use Rattle.model_laws.proofs.chains.Trees.{TreeGrown, StandsBelow}
 
 module _ (chain : List Program) (w : World) (sound : WorldSound chain w) (numbers : WorldNumbers w) (paths : WorldPaths w) (h : WorldPoolsApart w) (files : WorldFiles w) (apart : WorldFilesApart w)
     (k : ℕ) (c : Connection) (at : w.conns k ≡ Some c) where
   abbrev whole : Pools Payload
   whole = pools_of w.common (over (tree_of w) c)
 
-  grown_whole : Grown chain w sound paths h w.last
+  grown_whole : TreeGrown chain w sound paths h w.last
   grown_whole = tree chain w sound numbers paths h
 
   has : HasPart whole c.conn

@@ -17,7 +17,7 @@ use Rattle.run_model.specs.Turns.{all_called, begun}
 use Rattle.run_model.proofs.Updates.{upd_either}
 use Rattle.model_laws.proofs.NamedPools.{made_under_named}
 use Rattle.model_laws.proofs.Unchanged.{step_changes_only}
-use Rattle.model_laws.proofs.chains.EventTurns.{Turn, Stood, Went, Begun, Brought, FileTaken, Ended}
+use Rattle.model_laws.proofs.chains.EventTurns.{EventTurn, Stood, Went, Begun, Brought, FileTaken, Ended}
 use Rattle.model_laws.proofs.chains.WorldKept.{AnyLength}
 
 -- what an instance names then it named before, or it is new
@@ -110,7 +110,7 @@ top_names chain reads (instr.Ret s) f (w ∷ rest) g c = returned_names chain f 
 top_names chain reads i f rest g c = stepped_names chain f rest g c (module_at chain f.of) (record { answer = answer_to true; given = reads 0 }) i
 
 -- After an event a variable names what it named, or a new pool.
-pub turn_names : (chain : List Program) (g : Common) (c : Connection) (v : Linked) → Turn chain AnyLength g c v → NamesFrom g c v
+pub turn_names : (chain : List Program) (g : Common) (c : Connection) (v : Linked) → EventTurn chain AnyLength g c v → NamesFrom g c v
 unfolding begun all_called
 turn_names chain g c v (Stood out broken) = same_names g c v (λ k. refl)
 turn_names chain g c v (Went reads f rest whole may) = top_names chain reads (current (module_at chain f.of) f.pc) f rest g c

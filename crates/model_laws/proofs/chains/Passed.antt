@@ -68,8 +68,8 @@ module _ (chain : List Program) (g : Common) (c : Connection) (f : Frame) (rest 
   abbrev r : Configuration
   r = configuration g c f
 
-  abbrev Stays : Linked → Type 0
-  Stays v = StaysPassed ((c.instances j).brigades b) ((v.1.instances j).brigades b)
+  abbrev PassedStays : Linked → Type 0
+  PassedStays v = StaysPassed ((c.instances j).brigades b) ((v.1.instances j).brigades b)
 
   -- what a step leaves of it where it is the instance of the call
   stepped_here : (choice : Choice) (i : Instr) → fault (module_at chain f.of) r i ≡ None → ((f.of == j) && lets_go i b) ≡ false → j ≡ f.of
@@ -81,7 +81,8 @@ module _ (chain : List Program) (g : Common) (c : Connection) (f : Frame) (rest 
       subst (λ (v : BrigadeVar). StaysPassed v ((step (module_at chain f.of) choice i r).state.instance.brigades b)) at
       (step_keeps_passed (module_at chain f.of) choice i b r none kept (subst HoldsPassed (sym at) h))
 
-  put_stays : (i : Instr) (s : Configuration) (above below : List Frame) → (j ≡ f.of → StaysPassed ((c.instances j).brigades b) (s.instance.brigades b)) → Stays (put_back i f s above below (g, c))
+  put_stays : (i : Instr) (s : Configuration) (above below : List Frame) → (j ≡ f.of → StaysPassed ((c.instances j).brigades b) (s.instance.brigades b))
+      → PassedStays (put_back i f s above below (g, c))
   unfolding put_back
   put_stays i s above below here = elim (left_either f.of s.instance (touched_instance (touched_var r i)) c.instances j) [
     | inl p ↦ subst (λ (x : Instance). StaysPassed ((c.instances j).brigades b) (x.brigades b)) (sym p.1) (here p.0)
@@ -89,23 +90,23 @@ module _ (chain : List Program) (g : Common) (c : Connection) (f : Frame) (rest 
   ]
 
   module _ (i : Instr) (none : fault (module_at chain f.of) r i ≡ None) (other : ((f.of == j) && lets_go i b) ≡ false) where
-    stepped_stays : (choice : Choice) → Stays (stepped_in (module_at chain f.of) choice i f rest (g, c))
+    stepped_stays : (choice : Choice) → PassedStays (stepped_in (module_at chain f.of) choice i f rest (g, c))
     unfolding stepped_in
     stepped_stays choice = put_stays i (step (module_at chain f.of) choice i r).state _ rest (stepped_here choice i none other)
 
-    delivered_stays : (reads : Reads) (a : ℕ) → Stays (delivered_by (module_at chain f.of) reads a i f rest (g, c))
+    delivered_stays : (reads : Reads) (a : ℕ) → PassedStays (delivered_by (module_at chain f.of) reads a i f rest (g, c))
     unfolding delivered_by
     delivered_stays reads a = stepped_stays (record { answer = answer_to (delivered c.out (items_of ((c.instances f.of).brigades a)) reads).1; given = None })
 
     -- what a return leaves, before what is left of `in` is given back
-    back_stays : (s : Status) (below : List Frame) → i ≡ instr.Ret s → Stays (put_back (instr.Ret s) f (do_return r) [] below (g, c))
+    back_stays : (s : Status) (below : List Frame) → i ≡ instr.Ret s → PassedStays (put_back (instr.Ret s) f (do_return r) [] below (g, c))
     back_stays s below is =
         put_stays (instr.Ret s) (do_return r) [] below
         (λ at. stepped_here (record { answer = answer_to true; given = None }) (instr.Ret s) (subst (λ (x : Instr). fault (module_at chain f.of) r x ≡ None) is none)
         (subst (λ (x : Instr). ((f.of == j) && lets_go x b) ≡ false) is other) at)
 
   -- a pass to the next filter
-  passed_stays : (callee : Program) (a l : ℕ) → fault (module_at chain f.of) r (instr.Pass a l) ≡ None → (c.instances (f.of + 1)).brigades 8 ≡ var.Null → Stays (passed_to callee a f rest (g, c))
+  passed_stays : (callee : Program) (a l : ℕ) → fault (module_at chain f.of) r (instr.Pass a l) ≡ None → (c.instances (f.of + 1)).brigades 8 ≡ var.Null → PassedStays (passed_to callee a f rest (g, c))
   unfolding passed_to
   passed_stays callee a l none free = elim (upd_either here (f.of + 1) j (set_in (handed_in (r.instance.brigades a)) (here (f.of + 1)))) [
     | inl p ↦ subst (λ (x : Instance). StaysPassed ((c.instances j).brigades b) (x.brigades b)) (sym p.1) (incoming p.0)
@@ -167,22 +168,22 @@ proceeds_stays chain reads i f rest g c j b h none other free = stepped_stays ch
 
 module _ (budget : ℕ) (chain : List Program) (chained : IsChain chain) (g : Common) (c : Connection) (nested : IsNestedStack c.stack) (order : ChainOrder budget c) (j b : ℕ)
     (h : HoldsPassed ((c.instances j).brigades b)) where
-  abbrev Kept : Linked → Type 0
-  Kept v = StaysPassed ((c.instances j).brigades b) ((v.1.instances j).brigades b)
+  abbrev PassedKept : Linked → Type 0
+  PassedKept v = StaysPassed ((c.instances j).brigades b) ((v.1.instances j).brigades b)
 
   unchanged : StaysPassed ((c.instances j).brigades b) ((c.instances j).brigades b)
   unchanged = still ((c.instances j).brigades b) h
 
-  begins_stays : (memory : Bool) → Kept (begins memory chain (g, c)).1
+  begins_stays : (memory : Bool) → PassedKept (begins memory chain (g, c)).1
   unfolding begins begun all_called
-  begins_stays memory = unless_so Kept _ (g, c) (begun chain (g, c)) unchanged (λ none. unchanged)
+  begins_stays memory = unless_so PassedKept _ (g, c) (begun chain (g, c)) unchanged (λ none. unchanged)
 
-  brings_stays : (memory : Bool) (pieces : List Piece) → Kept (brings memory chain pieces (g, c)).1
+  brings_stays : (memory : Bool) (pieces : List Piece) → PassedKept (brings memory chain pieces (g, c)).1
   unfolding brings has_call
-  brings_stays memory pieces = unless_so Kept _ (g, c) (brought chain pieces c.req (g, c)) unchanged (λ none.
+  brings_stays memory pieces = unless_so PassedKept _ (g, c) (brought chain pieces c.req (g, c)) unchanged (λ none.
       let idle = none_if (is_busy c.stack) refusal.Busy _ (none_first (if_broken c.broken) _ none) in
       by_request c.req (order.nothing_brought 0 (subst (λ (fs : List Frame). has_call fs 0 ≡ false) (sym (not_busy c.stack idle.0)) refl))) where
-        written : (v : BrigadeVar) → (c.instances 0).brigades 8 ≡ var.Null → Kept (g, record c { instances = upd c.instances 0 (set_in v (c.instances 0)) })
+        written : (v : BrigadeVar) → (c.instances 0).brigades 8 ≡ var.Null → PassedKept (g, record c { instances = upd c.instances 0 (set_in v (c.instances 0)) })
         written v free = elim (upd_either c.instances 0 j (set_in v (c.instances 0))) [
           | inl p ↦ subst (λ (x : Instance). StaysPassed ((c.instances j).brigades b) (x.brigades b)) (sym p.1) (elim (upd_either (c.instances 0).brigades 8 b v) [
             | inl q ↦ absurd (subst HoldsPassed (ap (λ (k : ℕ). (c.instances k).brigades b) p.0 ∙ ap (λ (d : ℕ). (c.instances 0).brigades d) q.0 ∙ free) h)
@@ -191,24 +192,24 @@ module _ (budget : ℕ) (chain : List Program) (chained : IsChain chain) (g : Co
           | inr p ↦ subst (λ (x : Instance). StaysPassed ((c.instances j).brigades b) (x.brigades b)) (sym p.1) unchanged
         ]
 
-        by_request : (req : Option ℕ) → (c.instances 0).brigades 8 ≡ var.Null → Kept (brought chain pieces req (g, c))
+        by_request : (req : Option ℕ) → (c.instances 0).brigades 8 ≡ var.Null → PassedKept (brought chain pieces req (g, c))
         by_request None free = unchanged
         by_request (Some req) free = written _ free
 
-  opens_file_stays : (memory : Bool) (opening : Opening) → Kept (opens_file memory opening (g, c)).1
+  opens_file_stays : (memory : Bool) (opening : Opening) → PassedKept (opens_file memory opening (g, c)).1
   unfolding opens_file
-  opens_file_stays memory opening = answer_so Kept _ c.req opening (g, c) unchanged (λ n skipped bytes is. unchanged)
+  opens_file_stays memory opening = answer_so PassedKept _ c.req opening (g, c) unchanged (λ n skipped bytes is. unchanged)
 
-  ends_stays : (memory : Bool) → Kept (ends memory (g, c)).1
+  ends_stays : (memory : Bool) → PassedKept (ends memory (g, c)).1
   unfolding ends
-  ends_stays memory = unless_so Kept _ (g, c) (ended c.req (g, c)) unchanged (λ none. by_request c.req) where
-    by_request : (req : Option ℕ) → Kept (ended req (g, c))
+  ends_stays memory = unless_so PassedKept _ (g, c) (ended c.req (g, c)) unchanged (λ none. by_request c.req) where
+    by_request : (req : Option ℕ) → PassedKept (ended req (g, c))
     by_request None = unchanged
     by_request (Some req) = cleared_stays (is_under (pools_of g c) req) ((c.instances j).brigades b) h
 
-  steps_stay : (memory : Bool) (reads : Reads) → top_lets_go chain c.stack j b ≡ false → Kept (steps memory budget chain reads (g, c)).1
+  steps_stay : (memory : Bool) (reads : Reads) → top_lets_go chain c.stack j b ≡ false → PassedKept (steps memory budget chain reads (g, c)).1
   unfolding IsNestedStack
-  steps_stay memory reads other = steps_so Kept memory budget chain reads g c unchanged (λ k. unchanged) (λ f rest few ready.
+  steps_stay memory reads other = steps_so PassedKept memory budget chain reads g c unchanged (λ k. unchanged) (λ f rest few ready.
       proceeds_stays chain reads (current (module_at chain f.of) f.pc) f rest g c j b h ready.faultless (subst (λ (fs : List Frame). top_lets_go chain fs j b ≡ false) ready.on_top other)
       (order.nothing_brought (f.of + 1)
       (subst (λ (fs : List Frame). has_call fs (f.of + 1) ≡ false) (sym ready.on_top) (later_free f rest (f.of + 1) (subst IsNestedStack ready.on_top nested) (omega arith)))))

@@ -32,7 +32,7 @@ use Rattle.model_laws.proofs.StepPools.{aside_path, wanted_pool, named_lives, re
 use Rattle.model_laws.proofs.Unchanged.{step_changes_only}
 use Rattle.model_laws.proofs.chains.PutBack.{looking}
 use Rattle.model_laws.proofs.chains.TopSteps.{may_step}
-use Rattle.model_laws.proofs.chains.EventTurns.{Turn, Stood, Went, Begun, Brought, FileTaken, Ended}
+use Rattle.model_laws.proofs.chains.EventTurns.{EventTurn, Stood, Went, Begun, Brought, FileTaken, Ended}
 use Rattle.model_laws.proofs.chains.Proceeds.{proceeds_conn, proceeds_so}
 use Rattle.model_laws.proofs.chains.WorldKept.{TurnsKeep, AnyLength, turns_in_runs}
 use Rattle.model_laws.proofs.chains.Raised.{top_raises_names}
@@ -68,28 +68,29 @@ named_newer r pool.Req m s e = (let there = (s.req m e).1 in omega arith)
 named_newer r (pool.Own q) m s e = (let there = (s.own q m (own_named q m r e)).0 in omega arith)
 
 -- what the instruction leaves of the pools
-abbrev Stays : ℕ → Configuration → Configuration → Type 0
-Stays root r s = LieUnder root r.shared.conn s.shared.pools
+abbrev PathsStay : ℕ → Configuration → Configuration → Type 0
+PathsStay root r s = LieUnder root r.shared.conn s.shared.pools
 
 pub step_under : (root : ℕ) (p : Program) (choice : Choice) (i : Instr) (r : Configuration) → MayExecute p r i → SoundPools r → root < r.shared.conn → LieUnder root r.shared.conn r.shared.pools
-    → Stays root r (step p choice i r).state
+    → PathsStay root r (step p choice i r).state
 unfolding with_pools set_pool run_down registered killed set_brigade
-step_under root p choice (instr.PCreate q) r may s newer h = made_under_named (Stays root r) p q r h (λ parent e.
+step_under root p choice (instr.PCreate q) r may s newer h = made_under_named (PathsStay root r) p q r h (λ parent e.
     let older = named_newer r (pool_of_pool p q) parent s e in
     let live = named_lives r (pool_of_pool p q) parent (wanted_pool r (pool_of_pool p q) _ may.faultless) e in
     created_under root r.shared.conn parent r.shared.pools (elim (h parent live) [ inl one ↦ absurd (omega (arith, one)) | inr under ↦ under ]) h)
 step_under root p choice (instr.PClear q) r may s newer h =
-    on_named (Stays root r) pool_cleared (pool_named r (pool.Own q)) r h (λ n e. kept_under root r.shared.conn r.shared.pools _ (cleared_path n r.shared.pools) h)
+    on_named (PathsStay root r) pool_cleared (pool_named r (pool.Own q)) r h (λ n e. kept_under root r.shared.conn r.shared.pools _ (cleared_path n r.shared.pools) h)
 step_under root p choice (instr.PDestroy q) r may s newer h =
-    on_named (Stays root r) pool_destroyed (pool_named r (pool.Own q)) r h (λ n e. kept_under root r.shared.conn r.shared.pools _ (destroyed_path n r.shared.pools) h)
+    on_named (PathsStay root r) pool_destroyed (pool_named r (pool.Own q)) r h (λ n e. kept_under root r.shared.conn r.shared.pools _ (destroyed_path n r.shared.pools) h)
 step_under root p choice (instr.Label q t) r may s newer h =
-    on_named (Stays root r) (label_registered (text_of p t)) (pool_named r q) r h (λ n e. same_under root r.shared.conn r.shared.pools _ refl h)
-step_under root p choice (instr.Unlabel q t) r may s newer h = on_named (Stays root r) (label_killed (text_of p t)) (pool_named r q) r h (λ n e. same_under root r.shared.conn r.shared.pools _ refl h)
+    on_named (PathsStay root r) (label_registered (text_of p t)) (pool_named r q) r h (λ n e. same_under root r.shared.conn r.shared.pools _ refl h)
+step_under root p choice (instr.Unlabel q t) r may s newer h = on_named (PathsStay root r) (label_killed (text_of p t)) (pool_named r q) r h
+    (λ n e. same_under root r.shared.conn r.shared.pools _ refl h)
 step_under root p choice (instr.BCreate o) r may s newer h = same_under root r.shared.conn r.shared.pools _ (brigade_path (pool_named r (pool_of_brigade p o)) r.shared.next r.shared.pools) h
-step_under root p choice (instr.BSave o b) r may s newer h = on_named (Stays root r) (saved_into o b) (made_on (r.instance.brigades o)) r h (λ target e.
+step_under root p choice (instr.BSave o b) r may s newer h = on_named (PathsStay root r) (saved_into o b) (made_on (r.instance.brigades o)) r h (λ target e.
     same_under root r.shared.conn r.shared.pools _ (referred_path target (filter_map (new_ref r.shared.pools target) (items_of (r.instance.brigades b))) r.shared.pools) h)
 step_under root p choice (instr.Aside c q) r may s newer h =
-    on_named (Stays root r) (aside_into (spot r c)) (pool_named r q) r h (λ target e. same_under root r.shared.conn r.shared.pools _ (aside_path (spot r c) target r) h)
+    on_named (PathsStay root r) (aside_into (spot r c)) (pool_named r q) r h (λ target e. same_under root r.shared.conn r.shared.pools _ (aside_path (spot r c) target r) h)
 step_under root p choice i r may s newer h = same_under root r.shared.conn r.shared.pools _ (ap (λ (ps : Pools Payload). ps.path) ((step_changes_only p choice i r).tree refl)) h
 
 -- Connections.
@@ -149,7 +150,7 @@ went_under chain reads f rest g c may s h =
       pools = subst (λ (m : ℕ). LieUnder m left.1.conn (pools_of left.0 left.1)) (sym same) (subst (λ (k : ℕ). LieUnder g.root k (pools_of left.0 left.1)) (sym conn) pools);
     }
 
-turn_under : (chain : List Program) (g : Common) (c : Connection) (v : Linked) → Turn chain AnyLength g c v → ChainSound chain g c → Under g c → Under v.0 v.1
+turn_under : (chain : List Program) (g : Common) (c : Connection) (v : Linked) → EventTurn chain AnyLength g c v → ChainSound chain g c → Under g c → Under v.0 v.1
 unfolding is_live is_under registered
 turn_under chain g c v (Stood out broken) s h = record { newer = h.newer; pools = h.pools }
 turn_under chain g c v (Went reads f rest whole may) s h = (let left = went_under chain reads f rest g c may s h in record { newer = left.newer; pools = left.pools })

@@ -15,14 +15,14 @@ use Rattle.model_laws.specs.Laws.{is_return}
 use Rattle.model_laws.specs.Handlers.{StandsIn}
 use Rattle.run_model.specs.Chains.{led_to}
 use Rattle.run_model.specs.Passing.{after_pass}
-use Rattle.model_laws.proofs.Handlers.{Leads, current_at, code_leads, side}
+use Rattle.model_laws.proofs.Handlers.{LeadsWhere, current_at, code_leads, side}
 
 -- where an instruction leads that does not return
 branch : (P : ℕ → Type 0) (i : Instr) (l pc : ℕ) (b : Bool) → P l → P (pc + 1) → unwrap_or (target i) 0 ≡ l → P (led_to (jumps_if b) i pc)
 branch P i l pc true jump next is = subst P (sym is) jump
 branch P i l pc false jump next is = next
 
-pub led : (P : ℕ → Type 0) (p : Program) (choice : Choice) (i : Instr) (r : Configuration) (pc : ℕ) → is_return i ≡ false → Leads P pc i → P (led_to (step p choice i r).exit i pc)
+pub led : (P : ℕ → Type 0) (p : Program) (choice : Choice) (i : Instr) (r : Configuration) (pc : ℕ) → is_return i ≡ false → LeadsWhere P pc i → P (led_to (step p choice i r).exit i pc)
 led P p choice (instr.BPart b x c l) r pc on placed =
     branch P (instr.BPart b x c l) l pc (is_incomplete (partition_answer r.shared.next (value_of r x) (items_at r b))) placed.jump (placed.next refl) refl
 led P p choice (instr.JEmpty b l) r pc on placed = branch P (instr.JEmpty b l) l pc (is_empty (items_of (r.instance.brigades b))) placed.jump (placed.next refl) refl
@@ -49,7 +49,7 @@ pub record SameHandler (p : Program) (pc new : ℕ) : Type 0 where
   pub main : p.main ≤ new → p.main ≤ pc
 
 -- What is true of each number in its handler, where it is true of the numbers where the instruction leads.
-pub stays_in_handler : (p : Program) (pc new : ℕ) → IsModule p → pc < length p.code → ((P : ℕ → Type 0) → Leads P pc (current p pc) → P new) → SameHandler p pc new
+pub stays_in_handler : (p : Program) (pc new : ℕ) → IsModule p → pc < length p.code → ((P : ℕ → Type 0) → LeadsWhere P pc (current p pc) → P new) → SameHandler p pc new
 stays_in_handler p pc new m lt leads = by_side (side p m pc lt) where
   init_low : p.init < p.main
   init_low = m.initial.some
@@ -85,8 +85,8 @@ pass_in_main p pc b l m lt is = by_side (side p m pc lt) where
   by_side (inr (inr stands)) = stands.0
 
 -- where a call goes on that waited at its pass
-pub after_leads : (P : ℕ → Type 0) (s : Status) (i : Instr) (b l pc : ℕ) → i ≡ instr.Pass b l → Leads P pc i → P (after_pass s i pc)
-after_leads P s i b l pc is placed = subst (λ (x : Instr). P (after_pass s x pc)) (sym is) (by_status s (subst (Leads P pc) is placed)) where
-  by_status : (s : Status) → Leads P pc (instr.Pass b l) → P (after_pass s (instr.Pass b l) pc)
+pub after_leads : (P : ℕ → Type 0) (s : Status) (i : Instr) (b l pc : ℕ) → i ≡ instr.Pass b l → LeadsWhere P pc i → P (after_pass s i pc)
+after_leads P s i b l pc is placed = subst (λ (x : Instr). P (after_pass s x pc)) (sym is) (by_status s (subst (LeadsWhere P pc) is placed)) where
+  by_status : (s : Status) → LeadsWhere P pc (instr.Pass b l) → P (after_pass s (instr.Pass b l) pc)
   by_status Success at = at.next refl
   by_status Fail at = at.jump

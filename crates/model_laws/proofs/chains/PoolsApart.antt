@@ -34,7 +34,7 @@ use Rattle.model_laws.proofs.MadeBrigades.{brigade_path}
 use Rattle.model_laws.proofs.StepPools.{aside_path, referred_path}
 use Rattle.model_laws.proofs.Unchanged.{step_changes_only}
 use Rattle.model_laws.proofs.chains.PutBack.{looking}
-use Rattle.model_laws.proofs.chains.EventTurns.{Turn, Stood, Went, Begun, Brought, FileTaken, Ended}
+use Rattle.model_laws.proofs.chains.EventTurns.{EventTurn, Stood, Went, Begun, Brought, FileTaken, Ended}
 use Rattle.model_laws.proofs.chains.TurnsSound.{turn_sound, turn_rises}
 use Rattle.model_laws.proofs.chains.Proceeds.{proceeds_conn, proceeds_so}
 use Rattle.model_laws.proofs.chains.OwnNames.{turn_names}
@@ -63,23 +63,25 @@ created_from parent ps n = elim (upd_either ps.path ps.next n (ps.next ∷ ps.pa
   | inr off ↦ inr (inl off.1)
 ]
 
-abbrev Leaves : Configuration → Configuration → Type 0
-Leaves r s = From r.shared.pools s.shared.pools
+abbrev PoolsLeft : Configuration → Configuration → Type 0
+PoolsLeft r s = From r.shared.pools s.shared.pools
 
-step_from : (p : Program) (choice : Choice) (i : Instr) (r : Configuration) → Leaves r (step p choice i r).state
+step_from : (p : Program) (choice : Choice) (i : Instr) (r : Configuration) → PoolsLeft r (step p choice i r).state
 unfolding with_pools set_pool run_down registered killed set_brigade
-step_from p choice (instr.PCreate q) r = made_under_named (Leaves r) p q r (same_from r.shared.pools r.shared.pools refl) (λ parent e. created_from parent r.shared.pools)
+step_from p choice (instr.PCreate q) r = made_under_named (PoolsLeft r) p q r (same_from r.shared.pools r.shared.pools refl) (λ parent e. created_from parent r.shared.pools)
 step_from p choice (instr.PClear q) r =
-    on_named (Leaves r) pool_cleared (pool_named r (pool.Own q)) r (same_from r.shared.pools r.shared.pools refl) (λ n e. stays_from r.shared.pools _ (cleared_path n r.shared.pools))
+    on_named (PoolsLeft r) pool_cleared (pool_named r (pool.Own q)) r (same_from r.shared.pools r.shared.pools refl) (λ n e. stays_from r.shared.pools _ (cleared_path n r.shared.pools))
 step_from p choice (instr.PDestroy q) r =
-    on_named (Leaves r) pool_destroyed (pool_named r (pool.Own q)) r (same_from r.shared.pools r.shared.pools refl) (λ n e. stays_from r.shared.pools _ (destroyed_path n r.shared.pools))
-step_from p choice (instr.Label q t) r = on_named (Leaves r) (label_registered (text_of p t)) (pool_named r q) r (same_from r.shared.pools r.shared.pools refl) (λ n e. same_from r.shared.pools _ refl)
-step_from p choice (instr.Unlabel q t) r = on_named (Leaves r) (label_killed (text_of p t)) (pool_named r q) r (same_from r.shared.pools r.shared.pools refl) (λ n e. same_from r.shared.pools _ refl)
+    on_named (PoolsLeft r) pool_destroyed (pool_named r (pool.Own q)) r (same_from r.shared.pools r.shared.pools refl) (λ n e. stays_from r.shared.pools _ (destroyed_path n r.shared.pools))
+step_from p choice (instr.Label q t) r = on_named (PoolsLeft r) (label_registered (text_of p t)) (pool_named r q) r (same_from r.shared.pools r.shared.pools refl)
+    (λ n e. same_from r.shared.pools _ refl)
+step_from p choice (instr.Unlabel q t) r = on_named (PoolsLeft r) (label_killed (text_of p t)) (pool_named r q) r (same_from r.shared.pools r.shared.pools refl)
+    (λ n e. same_from r.shared.pools _ refl)
 step_from p choice (instr.BCreate o) r = same_from r.shared.pools _ (brigade_path (pool_named r (pool_of_brigade p o)) r.shared.next r.shared.pools)
-step_from p choice (instr.BSave o b) r = on_named (Leaves r) (saved_into o b) (made_on (r.instance.brigades o)) r (same_from r.shared.pools r.shared.pools refl) (λ target e.
+step_from p choice (instr.BSave o b) r = on_named (PoolsLeft r) (saved_into o b) (made_on (r.instance.brigades o)) r (same_from r.shared.pools r.shared.pools refl) (λ target e.
     same_from r.shared.pools _ (referred_path target (filter_map (new_ref r.shared.pools target) (items_of (r.instance.brigades b))) r.shared.pools))
 step_from p choice (instr.Aside c q) r =
-    on_named (Leaves r) (aside_into (spot r c)) (pool_named r q) r (same_from r.shared.pools r.shared.pools refl) (λ target e. same_from r.shared.pools _ (aside_path (spot r c) target r))
+    on_named (PoolsLeft r) (aside_into (spot r c)) (pool_named r q) r (same_from r.shared.pools r.shared.pools refl) (λ target e. same_from r.shared.pools _ (aside_path (spot r c) target r))
 step_from p choice i r = same_from r.shared.pools _ (ap (λ (ps : Pools Payload). ps.path) ((step_changes_only p choice i r).tree refl))
 
 -- Turns.
@@ -102,7 +104,7 @@ went_from chain reads f rest g c =
           (same_from (pools_of g c) (pools_of g c) refl);
     }
 
-turn_from : (chain : List Program) (g : Common) (c : Connection) (v : Linked) → Turn chain AnyLength g c v → TurnsFrom g c v
+turn_from : (chain : List Program) (g : Common) (c : Connection) (v : Linked) → EventTurn chain AnyLength g c v → TurnsFrom g c v
 unfolding begun all_called configuration run_down with_pools registered
 turn_from chain g c v (Stood out broken) = unturned g c v refl refl
 turn_from chain g c v (Went reads f rest whole may) = (let left = went_from chain reads f rest g c in record { conn = left.conn; from = left.from })
@@ -222,7 +224,7 @@ module _ (chain : List Program) (k : ℕ) (w : World) (v : Linked) (sound : Worl
   }
 
 module _ (chain : List Program) (chained : IsChain chain) (k : ℕ) (c : Connection) (w : World) (here : w.conns k ≡ Some c) (sound : WorldSound chain w) (h : WorldPoolsApart w) where
-  turned_apart : (v : Linked) → Turn chain AnyLength w.common c v → WorldPoolsApart (put_conn k v w)
+  turned_apart : (v : Linked) → EventTurn chain AnyLength w.common c v → WorldPoolsApart (put_conn k v w)
   unfolding From configuration
   turned_apart v t = put_apart chain k w v sound (record {
     root = rises.root;

@@ -47,7 +47,7 @@ use Rattle.model_laws.proofs.chains.TopSteps.{may_step}
 use Rattle.model_laws.proofs.chains.EachBucket.{touched_so, seen_each, each_bucket_so, proceeds_each}
 use Rattle.model_laws.proofs.chains.EachEvent.{opened_each, begun_each, brought_in_each, request_over_each}
 use Rattle.model_laws.proofs.chains.EachConnection.{made_turn, event_each}
-use Rattle.model_laws.proofs.chains.EventTurns.{Turn, Stood, Went, Begun, Brought, FileTaken, Ended}
+use Rattle.model_laws.proofs.chains.EventTurns.{EventTurn, Stood, Went, Begun, Brought, FileTaken, Ended}
 use Rattle.model_laws.proofs.chains.FilesApart.{turn_opens}
 use Rattle.model_laws.proofs.chains.FilesKept.{files_kept, files_in_runs}
 use Rattle.model_laws.proofs.chains.Proceeds.{proceeds_files, proceeds_so}
@@ -88,15 +88,15 @@ let_go_closes handed left fs file bytes is = by_test (list_any (λ x. is_file_re
   by_test true o is = absurd (cc)
   by_test false o is = is
 
-abbrev Leaves : Configuration → Configuration → Type 0
-Leaves r s = Closes r.shared.files.opened s.shared.files.opened
+abbrev RangesLeft : Configuration → Configuration → Type 0
+RangesLeft r s = Closes r.shared.files.opened s.shared.files.opened
 
-step_closes : (p : Program) (choice : Choice) (i : Instr) (r : Configuration) → Leaves r (step p choice i r).state
+step_closes : (p : Program) (choice : Choice) (i : Instr) (r : Configuration) → RangesLeft r (step p choice i r).state
 unfolding with_pools run_down
 step_closes p choice (instr.PClear q) r =
-    on_named (Leaves r) pool_cleared (pool_named r (pool.Own q)) r (λ file bytes is. is) (λ n e. let_go_closes (run_order r.shared.pools n) (cleared n r.shared.pools) r.shared.files)
+    on_named (RangesLeft r) pool_cleared (pool_named r (pool.Own q)) r (λ file bytes is. is) (λ n e. let_go_closes (run_order r.shared.pools n) (cleared n r.shared.pools) r.shared.files)
 step_closes p choice (instr.PDestroy q) r =
-    on_named (Leaves r) pool_destroyed (pool_named r (pool.Own q)) r (λ file bytes is. is) (λ n e. let_go_closes (run_order r.shared.pools n) (destroyed n r.shared.pools) r.shared.files)
+    on_named (RangesLeft r) pool_destroyed (pool_named r (pool.Own q)) r (λ file bytes is. is) (λ n e. let_go_closes (run_order r.shared.pools n) (destroyed n r.shared.pools) r.shared.files)
 step_closes p choice i r = (let same = (step_changes_only p choice i r).files refl in λ file bytes is. subst (λ (fs : Files). fs.opened file ≡ Some bytes) same is)
 
 -- a range lies in what these files held
@@ -226,7 +226,7 @@ opened_ranges chain g = record {
   given = λ p file there. absurd (let none : false ≡ true = created_back g.root (pools_of g (fresh_connection g)) p file there in cc);
 }
 
-turn_ranges : (chain : List Program) (g : Common) (c : Connection) (v : Linked) → Turn chain AnyLength g c v → ChainSound chain g c → ChainFiles g c → ChainFiles v.0 v.1 → ChainRanges g c
+turn_ranges : (chain : List Program) (g : Common) (c : Connection) (v : Linked) → EventTurn chain AnyLength g c v → ChainSound chain g c → ChainFiles g c → ChainFiles v.0 v.1 → ChainRanges g c
     → ChainRanges v.0 v.1
 turn_ranges chain g c v (Stood out broken) s held left h = record { lie = record { brigades = h.lie.brigades; loose = h.lie.loose }; told = h.told; given = h.given }
 turn_ranges chain g c v (Went reads f rest whole may) s held left h =

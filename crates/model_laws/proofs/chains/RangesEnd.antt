@@ -23,7 +23,7 @@ use Rattle.model_laws.proofs.chains.EachEvent.{opened_each, begun_each, brought_
 use Rattle.model_laws.proofs.chains.EventCases.{Made, OnOpening, OnBegin, OnBring, OnStep, OnEnd, OnTake}
 use Rattle.model_laws.proofs.chains.EachConnection.{opening_turn, event_each}
 use Rattle.model_laws.proofs.chains.StepCases.{steps_so}
-use Rattle.model_laws.proofs.chains.EventTurns.{Turn, Drained, Stood, Went, Begun, Brought, FileTaken, Ended, begins_turn, brings_turn, ends_turn}
+use Rattle.model_laws.proofs.chains.EventTurns.{EventTurn, Drained, Stood, Went, Begun, Brought, FileTaken, Ended, begins_turn, brings_turn, ends_turn}
 use Rattle.model_laws.proofs.chains.Proceeds.{proceeds_files}
 use Rattle.model_laws.proofs.chains.WorldKept.{AnyLength, TurnsKeep, event_kept, whole_run_kept}
 
@@ -67,7 +67,7 @@ no_lengths : (chain : List Program) (g : Common) → LengthsEnd (opened chain g)
 unfolding opened all_called
 no_lengths chain g = All-nil (λ f. IsShortLength f.1)
 
-turn_ends : (chain : List Program) (Lengths : ℕ → Type 0) (g : Common) (c : Connection) (v : Linked) → Turn chain Lengths g c v → ChainEnds c → BucketsEnd v.1
+turn_ends : (chain : List Program) (Lengths : ℕ → Type 0) (g : Common) (c : Connection) (v : Linked) → EventTurn chain Lengths g c v → ChainEnds c → BucketsEnd v.1
 turn_ends chain Lengths g c v (Stood out broken) h = record { brigades = h.ends.brigades; loose = h.ends.loose }
 turn_ends chain Lengths g c v (Went reads f rest whole may) h =
     (let left = proceeds_end chain reads f rest (current (module_at chain f.of) f.pc) g c may.on_top h.ends in record { brigades = left.brigades; loose = left.loose })
@@ -76,7 +76,7 @@ turn_ends chain Lengths g c v (Brought pieces req whole idle is there next) h = 
 turn_ends chain Lengths g c v (FileTaken req file bytes whole idle is short newer last) h = record { brigades = h.ends.brigades; loose = h.ends.loose }
 turn_ends chain Lengths g c v (Ended req whole idle is) h = request_over_each (λ x. EndsInFile x.bucket.content) (λ x. EndsInFile x.bucket.content) req g c idle (λ x e. e) h.ends
 
-turn_lengths : (chain : List Program) (g : Common) (c : Connection) (v : Linked) → Turn chain IsShortLength g c v → LengthsEnd c.files → LengthsEnd v.1.files
+turn_lengths : (chain : List Program) (g : Common) (c : Connection) (v : Linked) → EventTurn chain IsShortLength g c v → LengthsEnd c.files → LengthsEnd v.1.files
 unfolding begun all_called
 turn_lengths chain g c v (Stood out broken) h = h
 turn_lengths chain g c v (Went reads f rest whole may) h = subst LengthsEnd (sym (proceeds_files chain reads (current (module_at chain f.of) f.pc) f rest g c)) h

@@ -56,7 +56,7 @@ use Rattle.model_laws.proofs.chains.Beyond.{NoneBeyond, only_here, turn_beyond}
 use Rattle.model_laws.proofs.chains.Cursors.{cursors_keep}
 use Rattle.model_laws.proofs.chains.EachBucket.{Steps, LooseOf, seen_each, each_bucket_so, proceeds_each}
 use Rattle.model_laws.proofs.chains.EachCall.{each_call_kept}
-use Rattle.model_laws.proofs.chains.EventTurns.{Turn, Stood, Went, Begun, Brought, FileTaken, Ended}
+use Rattle.model_laws.proofs.chains.EventTurns.{EventTurn, Stood, Went, Begun, Brought, FileTaken, Ended}
 use Rattle.model_laws.proofs.chains.Homes.{homes_kept}
 use Rattle.model_laws.proofs.chains.ReadSteps.{Lasts, NamedLasts, lasts_more, step_lasts, touched_lasts}
 use Rattle.model_laws.proofs.chains.TopNames.{top_keeps_names}
@@ -272,7 +272,7 @@ module _ (chain : List Program) (reads : Reads) (g : Common) (c : Connection) (f
 -- A read, as a step.
 
 -- the bucket x of the brigade of b was read, and st is what that leaves
-record WasRead (r st : Configuration) (n : ℕ) : Type 0 where
+record HomeWasRead (r st : Configuration) (n : ℕ) : Type 0 where
   b : ℕ
   x : NamedBucket
   bytes : List ℕ
@@ -290,13 +290,13 @@ filled_items b x items var.Gone is = absurd (cc)
 filled_items b x items (var.Live v) is = refl
 
 read_sets : (given : Option (List ℕ)) (s : Place) (r : Configuration) → Stands r s → cursor_fault r InBrigade s ≡ None → home_fault (bucket_at s) ≡ None → (n : ℕ)
-    → (do_read given s r).call.cursors read_cursor ≡ cursor.At n → WasRead r (do_read given s r) n
+    → (do_read given s r).call.cursors read_cursor ≡ cursor.At n → HomeWasRead r (do_read given s r) n
 unfolding cursor_fault set_brigade set_cursor
 read_sets given Nowhere r there none live n e = absurd (cc)
 read_sets given (AtLoose x) r there none live n e = absurd (cc)
 read_sets given (AtEndOf b) r there none live n e = absurd (let last = second_none (passed_fault (r.instance.brigades b)) _ none in cc)
 read_sets given (Within b x) r there none live n e = by_given (read_given given x.bucket.content) e where
-  by_given : (o : Option (List ℕ)) → (read_within b x o r).call.cursors read_cursor ≡ cursor.At n → WasRead r (read_within b x o r) n
+  by_given : (o : Option (List ℕ)) → (read_within b x o r).call.cursors read_cursor ≡ cursor.At n → HomeWasRead r (read_within b x o r) n
   by_given None e = absurd (unset_at n _ (upd_at r.call.cursors read_cursor cursor.Unset) e)
   by_given (Some bytes) e =
       let is : x.name ≡ n = at_is x.name n (sym (upd_at r.call.cursors read_cursor (cursor.At x.name)) ∙ e) in
@@ -316,8 +316,8 @@ read_sets given (Within b x) r there none live n e = by_given (read_given given 
 module _ (chain : List Program) (reads : Reads) (g : Common) (c : Connection) (f : Frame) (rest : List Frame) (top : c.stack ≡ f ∷ rest)
     (placed : f.of < length chain) (named : AreNamed g.next (f ∷ rest)) (given : All (λ w. HoldsGiven g.next w.call) (f ∷ rest)) (homes : ChainHomes g c) (sound : ChainSound chain g c)
     (stack : StackReads c (f ∷ rest)) where
-  abbrev Leaves : Instr → Type 0
-  Leaves i = StackReads (proceeds chain reads i f rest (g, c)).1.1 (proceeds chain reads i f rest (g, c)).1.1.stack
+  abbrev HomesLeft : Instr → Type 0
+  HomesLeft i = StackReads (proceeds chain reads i f rest (g, c)).1.1 (proceeds chain reads i f rest (g, c)).1.1.stack
 
   abbrev Single : Instr → Type 0
   Single i = ChainNames chain (proceeds chain reads i f rest (g, c)).1.0 (proceeds chain reads i f rest (g, c)).1.1
@@ -347,13 +347,13 @@ module _ (chain : List Program) (reads : Reads) (g : Common) (c : Connection) (f
       by_stack (inl here) = inl ((step_changes_only (module_at chain f.of) (record { answer = answer_to true; given = reads 0 }) (instr.Read k l) r).call_name refl ∙ here)
       by_stack (inr there) = inr (called_alike rest waits (alike_touched (touched_bucket r (instr.Read k l)) rest) m there)
 
-    found_in : (n : ℕ) (w : WasRead r st n) → bucket_named n (items_of ((left_by.instances f.of).brigades w.b)) ≡ Some (record w.x { bucket = (read_of w.bytes w.x.bucket).0 })
+    found_in : (n : ℕ) (w : HomeWasRead r st n) → bucket_named n (items_of ((left_by.instances f.of).brigades w.b)) ≡ Some (record w.x { bucket = (read_of w.bytes w.x.bucket).0 })
     unfolding proceeds stepped_in put_back
     found_in n w =
         subst (λ (t : Bool). bucket_named n (items_of ((cond t st.instance (touched_instance (touched_var r (instr.Read k l)) (c.instances f.of))).brigades w.b)) ≡ Some
         (record w.x { bucket = (read_of w.bytes w.x.bucket).0 })) (sym (eq-eqb f.of f.of refl)) w.after
 
-    read_so : (n : ℕ) (w : WasRead r st n) → Lasts (IsCalled (v ∷ waits)) (read_of w.bytes w.x.bucket).0
+    read_so : (n : ℕ) (w : HomeWasRead r st n) → Lasts (IsCalled (v ∷ waits)) (read_of w.bytes w.x.bucket).0
     unfolding configuration
     read_so n w =
         lasts_more (IsCalled c.stack) (IsCalled (v ∷ waits)) still_called (read_of w.bytes w.x.bucket).0
@@ -361,14 +361,14 @@ module _ (chain : List Program) (reads : Reads) (g : Common) (c : Connection) (f
         (of_named (λ y. FitsKind y.bucket) w.x.name w.x (items_at r w.b) w.there (sound.buckets.brigades f.of w.b)) w.live
         (of_named (HomeIsAlive g c) w.x.name w.x (items_at r w.b) w.there (homes.brigades f.of w.b)))
 
-    at_bucket : (n : ℕ) → WasRead r st n → OfEachBucket (NamedLasts n (IsCalled (v ∷ waits))) left_by
+    at_bucket : (n : ℕ) → HomeWasRead r st n → OfEachBucket (NamedLasts n (IsCalled (v ∷ waits))) left_by
     at_bucket n w =
         let z : NamedBucket = record w.x { bucket = (read_of w.bytes w.x.bucket).0 } in
         each_bucket_so (λ y. y.name ≡ n → y ≡ z) (NamedLasts n (IsCalled (v ∷ waits)))
         (λ y only is. subst (λ (q : NamedBucket). Lasts (IsCalled (v ∷ waits)) q.bucket) (sym (only is)) (read_so n w)) left_by
         (only_here chain (proceeds chain reads (instr.Read k l) f rest (g, c)).1.0 left_by new none f.of w.b n z placed (found_in n w))
 
-    read_leaves : Leaves (instr.Read k l)
+    read_leaves : HomesLeft (instr.Read k l)
     unfolding proceeds stepped_in put_back StackReads
     read_leaves = (
       λ n e. at_bucket n (read_sets (reads 0) (spot r k) r (stands r (r.call.cursors k)) (first_none (cursor_fault r InBrigade (spot r k)) _ may.faultless)
@@ -377,7 +377,7 @@ module _ (chain : List Program) (reads : Reads) (g : Common) (c : Connection) (f
     )
 
   -- To the next filter, or to the end of the chain.
-  pass_leaves : (b l : ℕ) → MayExecute (module_at chain f.of) (configuration g c f) (instr.Pass b l) → (t : Bool) → is_last chain f.of ≡ t → Leaves (instr.Pass b l)
+  pass_leaves : (b l : ℕ) → MayExecute (module_at chain f.of) (configuration g c f) (instr.Pass b l) → (t : Bool) → is_last chain f.of ≡ t → HomesLeft (instr.Pass b l)
   unfolding proceeds delivered_by passed_to stepped_in put_back
   pass_leaves b l may true last =
       let choice : Choice = record { answer = answer_to (delivered c.out (items_of ((c.instances f.of).brigades b)) reads).1; given = None } in
@@ -445,7 +445,7 @@ fresh_reads : (d : Connection) (v : Frame) → v.call.cursors read_cursor ≡ cu
 unfolding StackReads
 fresh_reads d v unset = (λ n e. absurd (unset_at n (v.call.cursors read_cursor) unset e), tt)
 
-turn_reads : (chain : List Program) (g : Common) (c : Connection) (v : Linked) → Turn chain AnyLength g c v → ChainSound chain g c → NoneBeyond chain v.1 → ReadsKept chain g c
+turn_reads : (chain : List Program) (g : Common) (c : Connection) (v : Linked) → EventTurn chain AnyLength g c v → ChainSound chain g c → NoneBeyond chain v.1 → ReadsKept chain g c
     → StackReads v.1 v.1.stack
 unfolding begun all_called
 turn_reads chain g c v (Stood out broken) s none h = same_reads c _ refl refl c.stack h.reads

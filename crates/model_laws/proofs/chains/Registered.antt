@@ -40,7 +40,7 @@ use Rattle.model_laws.proofs.Registered.{no_brigade, IsMadeOr, takes_from, touch
 use Rattle.model_laws.proofs.chains.PutBack.{looking}
 use Rattle.model_laws.proofs.chains.Views.{sound_top}
 use Rattle.model_laws.proofs.chains.TopSteps.{may_step}
-use Rattle.model_laws.proofs.chains.EventTurns.{Turn, Stood, Went, Begun, Brought, FileTaken, Ended}
+use Rattle.model_laws.proofs.chains.EventTurns.{EventTurn, Stood, Went, Begun, Brought, FileTaken, Ended}
 use Rattle.model_laws.proofs.chains.WorldKept.{TurnsKeep, AnyLength, turns_in_runs}
 
 -- Instances.
@@ -244,7 +244,7 @@ over_registered req g c h =
       spared_in k name p =
           made_spared (is_under (pools_of g c) req) (c.instances k) ((request_over req (g, c)).1.instances k) (λ b. spared (is_under (pools_of g c) req) ((c.instances k).brigades b)) name p
 
-turn_registered : (chain : List Program) (g : Common) (c : Connection) (v : Linked) → Turn chain AnyLength g c v → ChainSound chain g c → ChainRegistered g c → ChainRegistered v.0 v.1
+turn_registered : (chain : List Program) (g : Common) (c : Connection) (v : Linked) → EventTurn chain AnyLength g c v → ChainSound chain g c → ChainRegistered g c → ChainRegistered v.0 v.1
 turn_registered chain g c v (Stood out broken) s h = record { once = h.once; only = h.only }
 turn_registered chain g c v (Went reads f rest whole may) s h =
     let left = top_registered chain g c f s h (sound_top chain g c f rest may.on_top s) reads (current (module_at chain f.of) f.pc) rest (may_step chain g c f rest may s) in

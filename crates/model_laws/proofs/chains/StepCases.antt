@@ -18,7 +18,7 @@ abbrev pub counted_top : List Program → Reads → Common → Connection → Fr
 counted_top chain reads g c f rest = ((after_top chain reads g c f rest).0, record (after_top chain reads g c f rest).1 { count = (after_top chain reads g c f rest).1.count + 1 })
 
 -- the call on top is at an instruction that has no fault, and the names that it gives out are there
-pub record IsReady (chain : List Program) (g : Common) (c : Connection) (f : Frame) (rest : List Frame) : Type 0 where
+pub record IsTopReady (chain : List Program) (g : Common) (c : Connection) (f : Frame) (rest : List Frame) : Type 0 where
   pub on_top : c.stack ≡ f ∷ rest
   pub faultless : fault (module_at chain f.of) (configuration g c f) (current (module_at chain f.of) f.pc) ≡ None
   pub names_last : lacks_names (configuration g c f) (current (module_at chain f.of) f.pc) ≡ false
@@ -32,14 +32,14 @@ module _ (Q : Linked → Type 0) (memory : Bool) (budget : ℕ) (chain : List Pr
     (faulted : (f : Frame) (rest : List Frame) (k : FaultKind) → c.broken ≡ None → c.stack ≡ f ∷ rest
     → fault (module_at chain f.of) (configuration g c f) (current (module_at chain f.of) f.pc) ≡ Some k
     → Q (g, record c { broken = Some cause.Faulted }))
-    (went : (f : Frame) (rest : List Frame) → c.broken ≡ None → c.count < budget → IsReady chain g c f rest → Q (counted_top chain reads g c f rest)) where
+    (went : (f : Frame) (rest : List Frame) → c.broken ≡ None → c.count < budget → IsTopReady chain g c f rest → Q (counted_top chain reads g c f rest)) where
   executed_so : (f : Frame) (rest : List Frame) → c.broken ≡ None → c.count < budget → c.stack ≡ f ∷ rest
       → fault (module_at chain f.of) (configuration g c f) (current (module_at chain f.of) f.pc) ≡ None
       → Q (executed memory chain reads (current (module_at chain f.of) f.pc) f rest (g, c)).1
   unfolding executed
   executed_so f rest whole few top none =
       by_names (lacks_names (configuration g c f) (current (module_at chain f.of) f.pc) || is_spent g.next (calls_of chain (current (module_at chain f.of) f.pc) f rest c.queue)) refl where
-        by_memory : (b : Bool) → IsReady chain g c f rest → Q (cond b (counted (proceeds chain reads (current (module_at chain f.of) f.pc) f rest (g, c))) (broken_by cause.NoMemory (g, c))).1
+        by_memory : (b : Bool) → IsTopReady chain g c f rest → Q (cond b (counted (proceeds chain reads (current (module_at chain f.of) f.pc) f rest (g, c))) (broken_by cause.NoMemory (g, c))).1
         by_memory true ready = went f rest whole few ready
         by_memory false ready = broke cause.NoMemory (λ e. cc)
 
@@ -77,6 +77,6 @@ module _ (Q : Linked → Type 0) (memory : Bool) (budget : ℕ) (chain : List Pr
 
 -- So it is where all breaks are alike.
 pub steps_so : (Q : Linked → Type 0) (memory : Bool) (budget : ℕ) (chain : List Program) (reads : Reads) (g : Common) (c : Connection) → Q (g, c) → ((k : Cause) → Q (g, record c { broken = Some k }))
-    → ((f : Frame) (rest : List Frame) → c.count < budget → IsReady chain g c f rest → Q (counted_top chain reads g c f rest)) → Q (steps memory budget chain reads (g, c)).1
+    → ((f : Frame) (rest : List Frame) → c.count < budget → IsTopReady chain g c f rest → Q (counted_top chain reads g c f rest)) → Q (steps memory budget chain reads (g, c)).1
 steps_so Q memory budget chain reads g c same broke went =
     step_cases Q memory budget chain reads g c same (λ k other. broke k) (λ f rest k whole top is. broke cause.Faulted) (λ f rest whole few ready. went f rest few ready)

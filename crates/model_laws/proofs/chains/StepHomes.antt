@@ -118,18 +118,18 @@ module _ (C : ℕ → Type 0) where
 
   -- What the call sees.
 
-  abbrev Seen : Configuration → Type 0
-  Seen r = HoldsNamed (AliveAs C r.shared.pools) r
+  abbrev SeenHomes : Configuration → Type 0
+  SeenHomes r = HoldsNamed (AliveAs C r.shared.pools) r
 
   grown : (r s : Configuration) → Lasting r.shared.pools s.shared.pools → ((b : ℕ) → All (AliveAs C r.shared.pools) (items_of (s.instance.brigades b))) → All (AliveAs C r.shared.pools) s.call.loose
-      → Seen s
+      → SeenHomes s
   grown r s pools brigades loose = record {
     brigades = λ b. each_so (AliveAs C r.shared.pools) (AliveAs C s.shared.pools) (stays r.shared.pools s.shared.pools pools) (items_of (s.instance.brigades b)) (brigades b);
     loose = each_so (AliveAs C r.shared.pools) (AliveAs C s.shared.pools) (stays r.shared.pools s.shared.pools pools) s.call.loose loose;
   }
 
   -- a pool goes, or what it holds
-  emptied : (n : ℕ) (left : Pools Payload) (r : Configuration) → Emptying n r.shared.pools left → Seen r → Seen (pool_emptied left n r)
+  emptied : (n : ℕ) (left : Pools Payload) (r : Configuration) → Emptying n r.shared.pools left → SeenHomes r → SeenHomes (pool_emptied left n r)
   unfolding run_down with_pools
   emptied n left r so h =
       let reached : ℕ → Bool = is_under r.shared.pools n in
@@ -155,8 +155,8 @@ module _ (C : ℕ → Type 0) where
       All-cons (AliveAs C ps) (aside_named ps target x) (map (aside_named ps target) xs) (lasting ps _ (aside.there formed live))
       (aside_all target ps formed live xs (All-tail (λ y. FitsKind y.bucket) x xs fits) parts.1)
 
-  save_alive : (o b target : ℕ) (r : Configuration) → Sound r → made_on (r.instance.brigades o) ≡ Some target → list_any is_dead (items_of (r.instance.brigades b)) ≡ false → Seen r
-      → Seen (saved_into o b target r)
+  save_alive : (o b target : ℕ) (r : Configuration) → Sound r → made_on (r.instance.brigades o) ≡ Some target → list_any is_dead (items_of (r.instance.brigades b)) ≡ false → SeenHomes r
+      → SeenHomes (saved_into o b target r)
   unfolding set_brigade with_pools
   save_alive o b target r sound on dead h =
       grown r (saved_into o b target r) (same_path r.shared.pools _ (referred_path target (filter_map (new_ref r.shared.pools target) (items_of (r.instance.brigades b))) r.shared.pools))
@@ -171,7 +171,8 @@ module _ (C : ℕ → Type 0) where
       each_changed (AliveAs C ps) (AliveAs C ps) x.name (aside_named ps target) xs (λ y e. e)
       (λ k d lt. λ same e. subst (λ (y : NamedBucket). AliveAs C ps (aside_named ps target y)) (sym (only_one x.name x xs there once k d lt same)) (lasting ps _ (aside.there formed target_lives))) h
 
-  aside_alive : (t : Place) (target : ℕ) (r : Configuration) → Stands r t → home_fault (bucket_at t) ≡ None → is_live r.shared.pools target ≡ true → Sound r → Seen r → Seen (aside_into t target r)
+  aside_alive : (t : Place) (target : ℕ) (r : Configuration) → Stands r t → home_fault (bucket_at t) ≡ None → is_live r.shared.pools target ≡ true → Sound r → SeenHomes r
+      → SeenHomes (aside_into t target r)
   unfolding set_brigade set_loose with_pools
   aside_alive Nowhere target r there live target_lives sound h = h
   aside_alive (AtLoose x) target r there live target_lives sound h =
@@ -198,15 +199,16 @@ module _ (C : ℕ → Type 0) where
     parts = record { front = λ n b le a. a; rest = λ n b le a. a };
   }
 
-  pub step_alive : (p : Program) (choice : Choice) (i : Instr) (r : Configuration) → is_return i ≡ false → MayExecute p r i → Sound r → C r.call.name → Seen r → Seen (step p choice i r).state
+  pub step_alive : (p : Program) (choice : Choice) (i : Instr) (r : Configuration) → is_return i ≡ false → MayExecute p r i → Sound r → C r.call.name → SeenHomes r
+      → SeenHomes (step p choice i r).state
   unfolding set_brigade with_pools set_pool run_down registered killed
-  step_alive p choice (instr.PCreate q) r on may sound named h = made_under_named Seen p q r h (λ parent e. grown r _ (created_lives parent r.shared.pools) h.brigades h.loose)
-  step_alive p choice (instr.PClear q) r on may sound named h = on_emptied Seen Clear q r h (λ n left e so. emptied n left r so h)
-  step_alive p choice (instr.PDestroy q) r on may sound named h = on_emptied Seen Destroy q r h (λ n left e so. emptied n left r so h)
+  step_alive p choice (instr.PCreate q) r on may sound named h = made_under_named SeenHomes p q r h (λ parent e. grown r _ (created_lives parent r.shared.pools) h.brigades h.loose)
+  step_alive p choice (instr.PClear q) r on may sound named h = on_emptied SeenHomes Clear q r h (λ n left e so. emptied n left r so h)
+  step_alive p choice (instr.PDestroy q) r on may sound named h = on_emptied SeenHomes Destroy q r h (λ n left e so. emptied n left r so h)
   step_alive p choice (instr.Label q t) r on may sound named h =
-      on_named Seen (label_registered (text_of p t)) (pool_named r q) r h (λ n e. grown r _ (same_path r.shared.pools (label_registered (text_of p t) n r).shared.pools refl) h.brigades h.loose)
+      on_named SeenHomes (label_registered (text_of p t)) (pool_named r q) r h (λ n e. grown r _ (same_path r.shared.pools (label_registered (text_of p t) n r).shared.pools refl) h.brigades h.loose)
   step_alive p choice (instr.Unlabel q t) r on may sound named h =
-      on_named Seen (label_killed (text_of p t)) (pool_named r q) r h (λ n e. grown r _ (same_path r.shared.pools (label_killed (text_of p t) n r).shared.pools refl) h.brigades h.loose)
+      on_named SeenHomes (label_killed (text_of p t)) (pool_named r q) r h (λ n e. grown r _ (same_path r.shared.pools (label_killed (text_of p t) n r).shared.pools refl) h.brigades h.loose)
   step_alive p choice (instr.BCreate o) r on may sound named h =
       grown r _ (same_path r.shared.pools _ (brigade_path (pool_named r (pool_of_brigade p o)) r.shared.next r.shared.pools))
       (written_each (AliveAs C r.shared.pools) r.instance.brigades o _ (none (AliveAs C r.shared.pools)) h.brigades) h.loose
@@ -214,13 +216,13 @@ module _ (C : ℕ → Type 0) where
       grown r _ (λ n live. live) (written_each (AliveAs C r.shared.pools) r.instance.brigades b _ (cleaned_each (AliveAs C r.shared.pools) (r.instance.brigades b)) h.brigades) h.loose
   step_alive p choice (instr.BConcat a b) r on may sound named h =
       grown r _ (λ n live. live) (moved_each (AliveAs C r.shared.pools) r.instance.brigades a b (items_of (r.instance.brigades b)) (h.brigades b) h.brigades) h.loose
-  step_alive p choice (instr.BSave o b) r on may sound named h = on_named Seen (saved_into o b) (made_on (r.instance.brigades o)) r h (λ target e.
+  step_alive p choice (instr.BSave o b) r on may sound named h = on_named SeenHomes (saved_into o b) (made_on (r.instance.brigades o)) r h (λ target e.
       save_alive o b target r sound e
       (no_dead (items_of (r.instance.brigades b)) (first_none (homes_fault (items_of (r.instance.brigades b))) None
       (second_none (usable_fault (r.instance.brigades b)) _ (second_none (usable_fault (r.instance.brigades o)) _ may.faultless)))) h)
   step_alive p choice (instr.Pass b l) r on may sound named h =
       grown r _ (λ n live. live) (written_each (AliveAs C r.shared.pools) r.instance.brigades b _ (handed_over_each (AliveAs C r.shared.pools) (r.instance.brigades b)) h.brigades) h.loose
-  step_alive p choice (instr.Aside c q) r on may sound named h = on_named Seen (aside_into (spot r c)) (pool_named r q) r h (λ target e.
+  step_alive p choice (instr.Aside c q) r on may sound named h = on_named SeenHomes (aside_into (spot r c)) (pool_named r q) r h (λ target e.
       aside_alive (spot r c) target r (stands r (r.call.cursors c)) (aside_live r c q may.faultless)
       (named_lives r q target (wanted_pool r q _ (second_none (fault_want r (WCursor c OnBucket)) _ may.faultless)) e) sound h)
   step_alive p choice (instr.Ret s) r on may sound named h = absurd (cc)

@@ -15,7 +15,7 @@ use Rattle.run_model.specs.Passing.{Reads, delivered, delivered_by, passed_to, a
 use Rattle.model_laws.specs.ChainSound.{IsNested, IsNestedStack, AreNamed, IsFramePlaced, WaitsAtPass, IsRising, ChainCalls}
 use Rattle.model_laws.specs.ChainLaws.{TopKeepsCalls}
 use Rattle.model_laws.proofs.Unchanged.{step_changes_only}
-use Rattle.model_laws.proofs.Handlers.{Leads}
+use Rattle.model_laws.proofs.Handlers.{LeadsWhere}
 use Rattle.model_laws.proofs.chains.Modules.{module_at_proper, next_in_chain}
 use Rattle.model_laws.proofs.chains.Places.{led, SameHandler, stays_in_handler, pass_in_main, after_leads}
 use Rattle.model_laws.proofs.chains.Stacks.{nested_alike, nested_touched, named_touched, placed_touched, waiting_touched, named_below, none_next, StandsOnTop, busy_calls, idle_calls, stands_on_top}
@@ -87,7 +87,7 @@ module _ (chain : List Program) (g : Common) (c : Connection) (proper : (k : ℕ
       → SameHandler (module_at chain f.of) f.pc (led_to (step (module_at chain f.of) choice i (configuration g c f)).exit i f.pc)
   stepped_place choice i is on =
       stays_in_handler (module_at chain f.of) f.pc _ (proper f.of) t.top.at
-      (λ P leads. led P (module_at chain f.of) choice i (configuration g c f) f.pc on (subst (Leads P f.pc) (sym is) leads))
+      (λ P leads. led P (module_at chain f.of) choice i (configuration g c f) f.pc on (subst (LeadsWhere P f.pc) (sym is) leads))
 
   stepped_calls : (choice : Choice) (i : Instr) → i ≡ current (module_at chain f.of) f.pc → is_return i ≡ false → LinkedCalls chain (stepped_in (module_at chain f.of) choice i f rest (g, c))
   unfolding stepped_in put_back configuration AreNamed

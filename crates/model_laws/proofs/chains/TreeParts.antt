@@ -20,27 +20,28 @@ use Rattle.run_model.proofs.PoolMap.{live_path}
 use Rattle.model_laws.proofs.parts.Paths.{apart_under, part_off, part_path, part_payloads, top_path}
 use Rattle.model_laws.proofs.chains.PoolsApart.{run_keeps_pools_apart}
 use Rattle.model_laws.proofs.chains.Reached.{reached_holds}
-use Rattle.model_laws.proofs.chains.Trees.{Grown, StandsBelow, grown, joined_either, joined_there, joins_next, part_formed}
+use Rattle.model_laws.proofs.chains.Trees.{TreeGrown, StandsBelow, grown, joined_either, joined_there, joins_next, part_formed}
 
 pub same_conn : (a b : Connection) → Some a ≡ Some b → a ≡ b
 same_conn a b e = cc
 
 module _ (chain : List Program) (w : World) (sound : WorldSound chain w) (numbers : WorldNumbers w) (paths : WorldPaths w) (h : WorldPoolsApart w) where
   -- Up to its number and on, a connection's pools are there.
-  pub record IsAt (k n : ℕ) (c : Connection) : Type 0 where
+  pub record PoolsFrom (k n : ℕ) (c : Connection) : Type 0 where
     pub path : (tree_up_to k w).path n ≡ c.path n
     pub payloads : (tree_up_to k w).payloads n ≡ c.payloads n
 
   own_there : (n : ℕ) (c : Connection) → is_own c n ≡ true → c.path n ≢ []
   own_there n c own none = (let e : is_in c.conn [] ≡ true = ap (is_in c.conn) (sym none) ∙ own in cc)
 
-  joined_at : (k n : ℕ) (c : Connection) (o : Option Connection) → w.conns (suc k) ≡ o → tree_up_to (suc k) w ≡ with_part o (tree_up_to k w) → is_own c n ≡ true → IsAt k n c → IsAt (suc k) n c
+  joined_at : (k n : ℕ) (c : Connection) (o : Option Connection) → w.conns (suc k) ≡ o → tree_up_to (suc k) w ≡ with_part o (tree_up_to k w) → is_own c n ≡ true → PoolsFrom k n c
+      → PoolsFrom (suc k) n c
   joined_at k n c None at is own old = record { path = ap (λ (ps : Pools Payload). ps.path n) is ∙ old.path; payloads = ap (λ (ps : Pools Payload). ps.payloads n) is ∙ old.payloads }
   joined_at k n c (Some d) at is own old =
       let stays = joined_there w.common.root d (tree_up_to k w) (joins_next chain w sound paths h k d (grown chain w sound paths h k) at) n (λ none. own_there n c own (sym old.path ∙ none)) in
       record { path = ap (λ (ps : Pools Payload). ps.path n) is ∙ stays.0 ∙ old.path; payloads = ap (λ (ps : Pools Payload). ps.payloads n) is ∙ stays.1 ∙ old.payloads }
 
-  comes_at : (k n : ℕ) (c : Connection) → w.conns (suc k) ≡ Some c → is_own c n ≡ true → IsAt (suc k) n c
+  comes_at : (k n : ℕ) (c : Connection) → w.conns (suc k) ≡ Some c → is_own c n ≡ true → PoolsFrom (suc k) n c
   unfolding tree_below
   comes_at k n c at own = elim (joined_either w.common.root c (tree_up_to k w) (joins_next chain w sound paths h k c (grown chain w sound paths h k) at) n) [
     | inl here ↦ record {
@@ -50,11 +51,11 @@ module _ (chain : List Program) (w : World) (sound : WorldSound chain w) (number
     | inr off ↦ absurd (both_ways (is_own c n) off.0 own)
   ]
 
-  at_each : (k j n : ℕ) (c : Connection) → w.conns (suc j) ≡ Some c → j < k → is_own c n ≡ true → IsAt k n c
+  at_each : (k j n : ℕ) (c : Connection) → w.conns (suc j) ≡ Some c → j < k → is_own c n ≡ true → PoolsFrom k n c
   unfolding tree_below
   at_each zero j n c at lt own = absurd (omega arith)
   at_each (suc k) j n c at lt own = elim (eqb_tells j k) [
-    | inl same ↦ subst (λ (m : ℕ). IsAt (suc m) n c) same.1 (comes_at j n c at own)
+    | inl same ↦ subst (λ (m : ℕ). PoolsFrom (suc m) n c) same.1 (comes_at j n c at own)
     | inr other ↦ joined_at k n c (w.conns (suc k)) refl refl own (at_each k j n c at (below j k lt other.1) own)
   ] where
     below : (j k : ℕ) → j < suc k → j ≢ k → j < k
@@ -65,7 +66,7 @@ module _ (chain : List Program) (w : World) (sound : WorldSound chain w) (number
   abbrev all : Pools Payload
   all = tree_of w
 
-  pub tree : Grown chain w sound paths h w.last
+  pub tree : TreeGrown chain w sound paths h w.last
   tree = grown chain w sound paths h w.last
 
   -- a number that was given
@@ -76,7 +77,7 @@ module _ (chain : List Program) (w : World) (sound : WorldSound chain w) (number
     | inr past ↦ absurd (none-some c (sym (numbers.later (suc j) (let le : w.last ≤ j = ltb-false j w.last past in omega arith)) ∙ at))
   ]
 
-  pub in_all : (k n : ℕ) (c : Connection) → w.conns k ≡ Some c → is_own c n ≡ true → IsAt w.last n c
+  pub in_all : (k n : ℕ) (c : Connection) → w.conns k ≡ Some c → is_own c n ≡ true → PoolsFrom w.last n c
   in_all k n c at own = (let is = numbered k c at in at_each w.last is.0 n c (ap w.conns (sym is.1) ∙ at) is.2 own)
 
   pub own_conn : (k : ℕ) (c : Connection) → w.conns k ≡ Some c → is_own c c.conn ≡ true

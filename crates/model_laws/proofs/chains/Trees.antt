@@ -121,7 +121,7 @@ module _ (chain : List Program) (w : World) (sound : WorldSound chain w) (paths 
     pub path : (tree_up_to k w).path n ≡ conn.path n
 
   -- Each pool but the root is one of a connection, and nothing is registered on the root.
-  pub record Grown (k : ℕ) : Type 0 where
+  pub record TreeGrown (k : ℕ) : Type 0 where
     pub formed : IsPoolMap (tree_up_to k w)
     pub root : (tree_up_to k w).path w.common.root ≡ w.common.root ∷ []
     pub bare : (tree_up_to k w).payloads w.common.root ≡ []
@@ -149,7 +149,7 @@ module _ (chain : List Program) (w : World) (sound : WorldSound chain w) (paths 
   ]
 
   -- The next connection's part is joined.
-  pub joins_next : (k : ℕ) (c : Connection) → Grown k → w.conns (suc k) ≡ Some c → MayJoin w.common.root c (tree_up_to k w)
+  pub joins_next : (k : ℕ) (c : Connection) → TreeGrown k → w.conns (suc k) ≡ Some c → MayJoin w.common.root c (tree_up_to k w)
   unfolding is_child
   joins_next k c g at = record {
     formed = g.formed;
@@ -181,7 +181,7 @@ module _ (chain : List Program) (w : World) (sound : WorldSound chain w) (paths 
               let rises : s.conn.conn < c.conn = h.rising s.number (suc k) s.conn c s.there at (omega (arith, s.below)) in omega (arith, same, rises))
         ]
 
-  start_grown : Grown 0
+  start_grown : TreeGrown 0
   unfolding tree_below planted is_live
   start_grown = record { formed = at_first; root = root; bare = refl; next = refl; from = λ n there. elim (either n) [ inl one ↦ inl one.0 | inr none ↦ absurd (there none.1) ] } where
     first : Pools Payload
@@ -216,7 +216,7 @@ module _ (chain : List Program) (w : World) (sound : WorldSound chain w) (paths 
   raised : (k n : ℕ) → StandsBelow k n → (tree_up_to (suc k) w).path n ≡ (tree_up_to k w).path n → StandsBelow (suc k) n
   raised k n s same = record { number = s.number; conn = s.conn; below = (let le = s.below in omega arith); there = s.there; own = s.own; path = same ∙ s.path }
 
-  grows : (k : ℕ) (o : Option Connection) → w.conns (suc k) ≡ o → tree_up_to (suc k) w ≡ with_part o (tree_up_to k w) → Grown k → Grown (suc k)
+  grows : (k : ℕ) (o : Option Connection) → w.conns (suc k) ≡ o → tree_up_to (suc k) w ≡ with_part o (tree_up_to k w) → TreeGrown k → TreeGrown (suc k)
   grows k None at is g = record {
     formed = subst IsPoolMap (sym is) g.formed;
     root = ap (λ (ps : Pools Payload). ps.path w.common.root) is ∙ g.root;
@@ -237,7 +237,7 @@ module _ (chain : List Program) (w : World) (sound : WorldSound chain w) (paths 
         ]);
   }
 
-  pub grown : (k : ℕ) → Grown k
+  pub grown : (k : ℕ) → TreeGrown k
   unfolding tree_below
   grown zero = start_grown
   grown (suc k) = grows k (w.conns (suc k)) refl refl (grown k)

@@ -18,7 +18,7 @@ use Rattle.model_laws.proofs.chains.EventBuckets.{opened_buckets, begun_buckets,
 use Rattle.model_laws.proofs.chains.EventBuckets.{file_taken_raises, request_over_raises}
 use Rattle.model_laws.proofs.chains.EventPools.{rising_pools, opened_pools, begun_pools, brought_in_pools, file_taken_pools, request_over_pools}
 use Rattle.model_laws.proofs.chains.EventCalls.{rising_calls, opened_calls, begun_calls, brought_in_calls, file_taken_calls, request_over_calls}
-use Rattle.model_laws.proofs.chains.EventTurns.{Turn, Stood, Went, Begun, Brought, FileTaken, Ended}
+use Rattle.model_laws.proofs.chains.EventTurns.{EventTurn, Stood, Went, Begun, Brought, FileTaken, Ended}
 
 pub rising_sound : RisingKeepsSound
 rising_sound chain g new c rises s = record {
@@ -50,7 +50,7 @@ opened_sound chain g chained has next pools = record {
 pub same_rises : (g : Common) → HasNames g → Rises g g
 same_rises g has = record { next = omega arith; next_limit = has.next; pools = omega arith; pools_limit = has.pools.1; root = refl }
 
-pub turn_sound : (chain : List Program) (Lengths : ℕ → Type 0) (g : Common) (c : Connection) (v : Linked) → IsChain chain → HasNames g → Turn chain Lengths g c v → ChainSound chain g c
+pub turn_sound : (chain : List Program) (Lengths : ℕ → Type 0) (g : Common) (c : Connection) (v : Linked) → IsChain chain → HasNames g → EventTurn chain Lengths g c v → ChainSound chain g c
     → ChainSound chain v.0 v.1
 turn_sound chain Lengths g c v chained has (Stood out broken) s = marked_sound chain g c _ refl refl refl refl refl refl s
 turn_sound chain Lengths g c v chained has (Went reads f rest whole may) s =
@@ -86,7 +86,7 @@ turn_sound chain Lengths g c v chained has (Ended req whole idle is) s = record 
   calls = request_over_calls chain req g c idle s.calls;
 }
 
-pub turn_rises : (chain : List Program) (Lengths : ℕ → Type 0) (g : Common) (c : Connection) (v : Linked) → HasNames g → Turn chain Lengths g c v → ChainSound chain g c → Rises g v.0
+pub turn_rises : (chain : List Program) (Lengths : ℕ → Type 0) (g : Common) (c : Connection) (v : Linked) → HasNames g → EventTurn chain Lengths g c v → ChainSound chain g c → Rises g v.0
 turn_rises chain Lengths g c v has (Stood out broken) s = same_rises g has
 turn_rises chain Lengths g c v has (Went reads f rest whole may) s = top_raises_names chain reads g c f rest may s
 turn_rises chain Lengths g c v has (Begun whole idle none pools next) s = begun_raises chain g c next pools

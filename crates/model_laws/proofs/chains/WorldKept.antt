@@ -18,14 +18,14 @@ use Rattle.model_laws.proofs.chains.EventCases.{run_each, turn_made, stays_there
 use Rattle.run_model.proofs.Updates.{upd_either}
 use Rattle.model_laws.proofs.StepNames.{not_spent}
 use Rattle.model_laws.proofs.chains.EventBuckets.{opened_raises}
-use Rattle.model_laws.proofs.chains.EventTurns.{Turn, OpensAs}
+use Rattle.model_laws.proofs.chains.EventTurns.{EventTurn, OpensAs}
 use Rattle.model_laws.proofs.chains.TurnsSound.{rising_sound, opened_sound, turn_sound, turn_rises}
 
 -- A property of connections that others' names leave, that an opening makes and each turn keeps, where opened files have these lengths.
 pub record TurnsKeep (chain : List Program) (Lengths : ℕ → Type 0) (P : Common → Connection → Type 0) : Type 0 where
   pub rising : (g new : Common) (c : Connection) → Rises g new → ChainSound chain g c → P g c → P new c
   pub opening : (g : Common) → HasNames g → ChainSound chain (opened chain g).0 (opened chain g).1 → P (opened chain g).0 (opened chain g).1
-  pub turns : (g : Common) (c : Connection) (v : Linked) → HasNames g → Turn chain Lengths g c v → ChainSound chain g c → ChainSound chain v.0 v.1 → P g c → P v.0 v.1
+  pub turns : (g : Common) (c : Connection) (v : Linked) → HasNames g → EventTurn chain Lengths g c v → ChainSound chain g c → ChainSound chain v.0 v.1 → P g c → P v.0 v.1
 
 -- it is true of each connection, which is sound
 pub record KeptWorld (chain : List Program) (P : Common → Connection → Type 0) (w : World) : Type 0 where
@@ -52,7 +52,7 @@ module _ (chain : List Program) (chained : IsChain chain) (Lengths : ℕ → Typ
       | inr off ↦ elsewhere c (sym off.1 ∙ e)
     ]
 
-  turned : (k : ℕ) (c : Connection) (w : World) (v : Linked) → w.conns k ≡ Some c → Turn chain Lengths w.common c v → KeptWorld chain P w → KeptWorld chain P (put_conn k v w)
+  turned : (k : ℕ) (c : Connection) (w : World) (v : Linked) → w.conns k ≡ Some c → EventTurn chain Lengths w.common c v → KeptWorld chain P w → KeptWorld chain P (put_conn k v w)
   turned k c w v at t h =
       let sound = turn_sound chain Lengths w.common c v chained h.sound.names t (h.sound.conns k c at) in
       put_kept k v w (turn_rises chain Lengths w.common c v h.sound.names t (h.sound.conns k c at)) sound (keeps.turns w.common c v h.sound.names t (h.sound.conns k c at) sound (h.kept k c at)) h

@@ -12,7 +12,7 @@ use Rattle.model_laws.proofs.parts.Paths.{under_belongs, part_path, part_payload
 use Rattle.model_laws.proofs.parts.Own.{same_pools}
 
 -- two maps have the same at n
-record IsAt (n : ℕ) (ps new : Pools Payload) : Type 0 where
+record SameAt (n : ℕ) (ps new : Pools Payload) : Type 0 where
   path : new.path n ≡ ps.path n
   payloads : new.payloads n ≡ ps.payloads n
 
@@ -36,9 +36,9 @@ module _ (ps : Pools Payload) (c : Connection) (h : HasItsPart ps c) where
       (its_path n ∙ part_path ps c.conn n here, its_payloads n ∙ part_payloads ps c.conn n here)
 
   -- what was joined stays so
-  still : (old : Pools Payload) (n : ℕ) → IsAt n ps old → IsAt n ps (with_part (Some c) old)
+  still : (old : Pools Payload) (n : ℕ) → SameAt n ps old → SameAt n ps (with_part (Some c) old)
   still old n at = by_test (is_in c.conn (c.path n)) refl where
-    by_test : (t : Bool) → is_in c.conn (c.path n) ≡ t → IsAt n ps (with_part (Some c) old)
+    by_test : (t : Bool) → is_in c.conn (c.path n) ≡ t → SameAt n ps (with_part (Some c) old)
     by_test true is = record {
       path = ap (λ (b : Bool). cond b (c.path n) (old.path n)) is ∙ (there n is).0;
       payloads = ap (λ (b : Bool). cond b (c.payloads n) (old.payloads n)) is ∙ (there n is).1;
@@ -49,7 +49,7 @@ module _ (ps : Pools Payload) (c : Connection) (h : HasItsPart ps c) where
     }
 
   -- and its own pools are joined
-  joins : (old : Pools Payload) (n : ℕ) → is_under ps c.conn n ≡ true → IsAt n ps (with_part (Some c) old)
+  joins : (old : Pools Payload) (n : ℕ) → is_under ps c.conn n ≡ true → SameAt n ps (with_part (Some c) old)
   unfolding is_under
   joins old n under =
       let here = under_belongs ps c.conn n under in
@@ -61,33 +61,33 @@ module _ (ps : Pools Payload) (c : Connection) (h : HasItsPart ps c) where
 
 pub joined_stays : JoinedPartStays
 joined_stays c ps h = same_pools (with_part (Some c) ps) ps (λ n. (at n).path) (λ n. (at n).payloads) refl where
-  at : (n : ℕ) → IsAt n ps (with_part (Some c) ps)
+  at : (n : ℕ) → SameAt n ps (with_part (Some c) ps)
   at n = still ps c h ps n (record { path = refl; payloads = refl })
 
 module _ (conns : ℕ → Option Connection) (ps root : Pools Payload) (parts : (k : ℕ) (c : Connection) → conns k ≡ Some c → HasItsPart ps c) where
   -- one more connection
-  with_next : (old : Pools Payload) (n : ℕ) (o : Option Connection) → ((c : Connection) → o ≡ Some c → HasItsPart ps c) → IsAt n ps old → IsAt n ps (with_part o old)
+  with_next : (old : Pools Payload) (n : ℕ) (o : Option Connection) → ((c : Connection) → o ≡ Some c → HasItsPart ps c) → SameAt n ps old → SameAt n ps (with_part o old)
   with_next old n None each at = at
   with_next old n (Some c) each at = still ps c (each c refl) old n at
 
-  more : (d m n : ℕ) → IsAt n ps (tree_below m conns root) → IsAt n ps (tree_below (d + m) conns root)
+  more : (d m n : ℕ) → SameAt n ps (tree_below m conns root) → SameAt n ps (tree_below (d + m) conns root)
   unfolding tree_below
-  more zero m n at = subst (λ (k : ℕ). IsAt n ps (tree_below k conns root)) (omega arith) at
+  more zero m n at = subst (λ (k : ℕ). SameAt n ps (tree_below k conns root)) (omega arith) at
   more (suc d) m n at =
-      subst (λ (k : ℕ). IsAt n ps (tree_below k conns root)) (sum d m) (with_next (tree_below (d + m) conns root) n (conns (suc (d + m))) (λ c is. parts (suc (d + m)) c is) (more d m n at)) where
+      subst (λ (k : ℕ). SameAt n ps (tree_below k conns root)) (sum d m) (with_next (tree_below (d + m) conns root) n (conns (suc (d + m))) (λ c is. parts (suc (d + m)) c is) (more d m n at)) where
         sum : (d m : ℕ) → suc (d + m) ≡ suc d + m
         sum d m = omega arith
 
-  up_to : (m last n : ℕ) → m ≤ last → IsAt n ps (tree_below m conns root) → IsAt n ps (tree_below last conns root)
-  up_to m last n le at = (let sum : (d : ℕ) × (d + m ≡ last) = le_difference m last le in subst (λ (k : ℕ). IsAt n ps (tree_below k conns root)) sum.1 (more sum.0 m n at)) where
+  up_to : (m last n : ℕ) → m ≤ last → SameAt n ps (tree_below m conns root) → SameAt n ps (tree_below last conns root)
+  up_to m last n le at = (let sum : (d : ℕ) × (d + m ≡ last) = le_difference m last le in subst (λ (k : ℕ). SameAt n ps (tree_below k conns root)) sum.1 (more sum.0 m n at)) where
     le_difference : (m last : ℕ) → m ≤ last → (d : ℕ) × (d + m ≡ last)
     le_difference m last le = (last - m, omega arith)
 
-  joined : (k : ℕ) (c : Connection) (n : ℕ) → conns (suc k) ≡ Some c → is_under ps c.conn n ≡ true → IsAt n ps (tree_below (suc k) conns root)
+  joined : (k : ℕ) (c : Connection) (n : ℕ) → conns (suc k) ≡ Some c → is_under ps c.conn n ≡ true → SameAt n ps (tree_below (suc k) conns root)
   unfolding tree_below
-  joined k c n is under = subst (λ (o : Option Connection). IsAt n ps (with_part o (tree_below k conns root))) (sym is) (joins ps c (parts (suc k) c is) (tree_below k conns root) n under)
+  joined k c n is under = subst (λ (o : Option Connection). SameAt n ps (with_part o (tree_below k conns root))) (sym is) (joins ps c (parts (suc k) c is) (tree_below k conns root) n under)
 
-  start : (n : ℕ) → IsAt n ps root → IsAt n ps (tree_below zero conns root)
+  start : (n : ℕ) → SameAt n ps root → SameAt n ps (tree_below zero conns root)
   unfolding tree_below
   start n at = at
 
@@ -107,18 +107,18 @@ no_path ps n dead = by_path (ps.path n) dead where
   by_path (m ∷ xs) dead = absurd (cc)
 
 module _ (w : World) (ps : Pools Payload) (h : ArePoolsOf w ps) where
-  at_root : IsAt w.common.root ps (record (planted w.common.root) { next = w.common.pools })
+  at_root : SameAt w.common.root ps (record (planted w.common.root) { next = w.common.pools })
   unfolding planted
   at_root = record { path = upd_at (λ (k : ℕ). []) w.common.root (w.common.root ∷ []) ∙ sym h.root; payloads = sym h.bare }
 
-  at_dead : (n : ℕ) → n ≢ w.common.root → is_live ps n ≡ false → IsAt n ps (record (planted w.common.root) { next = w.common.pools })
+  at_dead : (n : ℕ) → n ≢ w.common.root → is_live ps n ≡ false → SameAt n ps (record (planted w.common.root) { next = w.common.pools })
   unfolding planted
   at_dead n ne dead = record { path = upd_off (λ (k : ℕ). []) w.common.root n (w.common.root ∷ []) ne ∙ sym (no_path ps n dead); payloads = sym (h.formed.bare n (no_path ps n dead)) }
 
-  joined_at : (n : ℕ) → IsAt n ps (tree_of w)
+  joined_at : (n : ℕ) → SameAt n ps (tree_of w)
   joined_at n = elim (cases_eq n w.common.root) [
     | inl same ↦ up_to w.conns ps _ h.parts 0 w.last n (omega arith)
-        (start w.conns ps _ h.parts n (subst (λ (k : ℕ). IsAt k ps (record (planted w.common.root) { next = w.common.pools })) (sym same) at_root))
+        (start w.conns ps _ h.parts n (subst (λ (k : ℕ). SameAt k ps (record (planted w.common.root) { next = w.common.pools })) (sym same) at_root))
     | inr ne ↦ (elim (cases_Bool (is_live ps n)) [
       | inl live ↦ (let s = h.covered n live ne in up_to w.conns ps _ h.parts (suc s.number) w.last n (omega (arith, s.given)) (joined w.conns ps _ h.parts s.number s.conn n s.there s.under))
       | inr dead ↦ up_to w.conns ps _ h.parts 0 w.last n (omega arith) (start w.conns ps _ h.parts n (at_dead n ne dead))

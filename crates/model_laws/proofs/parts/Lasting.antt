@@ -77,11 +77,11 @@ old_last change d p n ps lt lies live = elim (old_path change p n ps lt) [
 -- Files.
 
 -- What refers to a file afterwards did so before, in a pool that kept its path.
-record Kept (ps new : Pools Payload) (q file : ℕ) : Type 0 where
+record KeptPools (ps new : Pools Payload) (q file : ℕ) : Type 0 where
   path : new.path q ≡ ps.path q
   refers : refers ps q file ≡ true
 
-all_kept : (d : ℕ) (ps new : Pools Payload) → ((q file : ℕ) → refers new q file ≡ true → Kept ps new q file) → OwnFiles d ps → OwnFiles d new
+all_kept : (d : ℕ) (ps new : Pools Payload) → ((q file : ℕ) → refers new q file ≡ true → KeptPools ps new q file) → OwnFiles d ps → OwnFiles d new
 all_kept d ps new kept own = record {
   apart = λ p q file under at_p at_q.
       let from_p = kept p file at_p in
@@ -152,10 +152,10 @@ module _ (c d p : ℕ) (x : Payload) (ps : Pools Payload) (hc : HasPart ps c) (h
     same : (n : ℕ) → (registered p x ps).path n ≡ ps.path n
     same n = ap (λ (f : ℕ → List ℕ). f n) (registered_path p x ps)
 
-emptied_kept : (p : ℕ) (ps new : Pools Payload) → Emptying p ps new → (q file : ℕ) → refers new q file ≡ true → Kept ps new q file
+emptied_kept : (p : ℕ) (ps new : Pools Payload) → Emptying p ps new → (q file : ℕ) → refers new q file ≡ true → KeptPools ps new q file
 emptied_kept p ps new so q file h = (let was = emptied_back p ps new so.payloads q file h in record { path = so.apart q was.0; refers = was.1 })
 
-made_kept : (p : ℕ) (ps : Pools Payload) (c : ℕ) → HasPart ps c → (q file : ℕ) → refers (created p ps) q file ≡ true → Kept ps (created p ps) q file
+made_kept : (p : ℕ) (ps : Pools Payload) (c : ℕ) → HasPart ps c → (q file : ℕ) → refers (created p ps) q file ≡ true → KeptPools ps (created p ps) q file
 made_kept p ps c hc q file h = (let was = created_back p ps q file h in record { path = created_kept p ps q (refers_given ps q file hc.formed was); refers = was })
 
 pub own_last : OwnFilesLast

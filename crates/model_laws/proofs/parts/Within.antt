@@ -97,18 +97,18 @@ referred_off target (file ∷ files) ps n ne = referred_off target files (regist
 
 -- Steps.
 
-abbrev Stays : ℕ → Configuration → Configuration → Type 0
-Stays c r s = StaysWithin c r.shared.pools s.shared.pools
+abbrev WithinStays : ℕ → Configuration → Configuration → Type 0
+WithinStays c r s = StaysWithin c r.shared.pools s.shared.pools
 
 module _ (c : ℕ) (p : Program) (r : Configuration) (s : LiesIn c r) where
-  itself : Stays c r r
+  itself : WithinStays c r r
   itself = same_within c r.shared.pools r.shared.pools s.has refl refl refl
 
   refers : (target : ℕ) (files : List ℕ) → is_under r.shared.pools c target ≡ true → StaysWithin c r.shared.pools (all_referred target files r.shared.pools)
   refers target files under = refilled c target r.shared.pools (all_referred target files r.shared.pools) s.has.formed under (referred_next target files r.shared.pools)
       (referred_path target files r.shared.pools) (referred_off target files r.shared.pools)
 
-  aside_within : (at : Place) (target : ℕ) → is_under r.shared.pools c target ≡ true → Stays c r (aside_into at target r)
+  aside_within : (at : Place) (target : ℕ) → is_under r.shared.pools c target ≡ true → WithinStays c r (aside_into at target r)
   unfolding set_brigade set_loose with_pools
   aside_within (Within b x) target under = refers target (filter_map (new_ref r.shared.pools target) (x ∷ [])) under
   aside_within (AtLoose x) target under = refers target (filter_map (new_ref r.shared.pools target) (x ∷ [])) under
@@ -120,26 +120,26 @@ module _ (c : ℕ) (p : Program) (r : Configuration) (s : LiesIn c r) where
   with_brigade_within None name under = itself
   with_brigade_within (Some n) name under = changes_within (Registered (payload.Brigade name)) c n r.shared.pools s.has (under n refl)
 
-  pub step_within : (choice : Choice) (i : Instr) → fault p r i ≡ None → Stays c r (step p choice i r).state
+  pub step_within : (choice : Choice) (i : Instr) → fault p r i ≡ None → WithinStays c r (step p choice i r).state
   unfolding set_brigade set_pool with_pools run_down
-  step_within choice (instr.PCreate q) none = made_under_named (Stays c r) p q r itself
+  step_within choice (instr.PCreate q) none = made_under_named (WithinStays c r) p q r itself
       (λ parent is. changes_within Made c parent r.shared.pools s.has (wanted_under c p r s (pool_of_pool p q) (wanted_pool r (pool_of_pool p q) _ none) parent is))
   step_within choice (instr.PClear q) none =
-      on_named (Stays c r) pool_cleared (pool_named r (pool.Own q)) r itself
+      on_named (WithinStays c r) pool_cleared (pool_named r (pool.Own q)) r itself
       (λ n is. changes_within Cleared c n r.shared.pools s.has (wanted_under c p r s (pool.Own q) (wanted_pool r (pool.Own q) None none) n is))
   step_within choice (instr.PDestroy q) none =
-      on_named (Stays c r) pool_destroyed (pool_named r (pool.Own q)) r itself
+      on_named (WithinStays c r) pool_destroyed (pool_named r (pool.Own q)) r itself
       (λ n is. changes_within Destroyed c n r.shared.pools s.has (wanted_under c p r s (pool.Own q) (wanted_pool r (pool.Own q) None none) n is))
   step_within choice (instr.Label q t) none =
-      on_named (Stays c r) (label_registered (text_of p t)) (pool_named r q) r itself
+      on_named (WithinStays c r) (label_registered (text_of p t)) (pool_named r q) r itself
       (λ n is. changes_within (Registered (Label (text_of p t))) c n r.shared.pools s.has (wanted_under c p r s q (wanted_pool r q None none) n is))
   step_within choice (instr.Unlabel q t) none =
-      on_named (Stays c r) (label_killed (text_of p t)) (pool_named r q) r itself
+      on_named (WithinStays c r) (label_killed (text_of p t)) (pool_named r q) r itself
       (λ n is. changes_within (Killed (is_label (text_of p t))) c n r.shared.pools s.has (wanted_under c p r s q (wanted_pool r q None none) n is))
   step_within choice (instr.BCreate o) none =
       with_brigade_within (pool_named r (pool_of_brigade p o)) r.shared.next (λ n is. wanted_under c p r s (pool_of_brigade p o) (wanted_pool r (pool_of_brigade p o) _ none) n is)
-  step_within choice (instr.BSave o b) none = on_named (Stays c r) (saved_into o b) (made_on (r.instance.brigades o)) r itself (λ n is.
+  step_within choice (instr.BSave o b) none = on_named (WithinStays c r) (saved_into o b) (made_on (r.instance.brigades o)) r itself (λ n is.
       refers n (filter_map (new_ref r.shared.pools n) (items_of (r.instance.brigades b))) (s.brigades o n (sym (made_is (r.instance.brigades o)) ∙ is)))
   step_within choice (instr.Aside at q) none =
-      on_named (Stays c r) (aside_into (spot r at)) (pool_named r q) r itself (λ n is. aside_within (spot r at) n (wanted_under c p r s q (wanted_pool r q _ (second_want _ _ none)) n is))
+      on_named (WithinStays c r) (aside_into (spot r at)) (pool_named r q) r itself (λ n is. aside_within (spot r at) n (wanted_under c p r s q (wanted_pool r q _ (second_want _ _ none)) n is))
   step_within choice i none = subst (λ (new : Pools Payload). StaysWithin c r.shared.pools new) (sym ((step_changes_only p choice i r).tree refl)) itself

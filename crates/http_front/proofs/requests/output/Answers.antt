@@ -1,6 +1,5 @@
 use Rattle.std.proofs.Common.{refl}
 use Rattle.http_front.proofs.FewLaws.{few_event}
-use Rattle.http_front.proofs.Beside.{beside_event}
 use Rattle.http_front.proofs.RequestLaws.{output_taken, output_refused}
 use Rattle.http_front.proofs.requests.output.Goals as goal
 
@@ -9,12 +8,6 @@ returns-in-Ok-clause-leads g c = output_taken g.F.Files.device c.args.number c.a
 
 pub returns-in-Err-clause-leads : goal.returns-in-Err-clause-leads
 returns-in-Err-clause-leads g c = output_refused g.F.Files.device c.args.number c.args.host.now c.take_output.new.self c.bare.result c.in-Err.refusal c.bare.ensures c.in-Err.ensures.event
-
-pub returns-in-Ok-clause-beside : goal.returns-in-Ok-clause-beside
-returns-in-Ok-clause-beside g c from so = beside_event g.F.Files.device c.args.number from c.args.host.now c.take_output.new.self so _ _ tt c.in-Ok.ensures.event
-
-pub returns-in-Err-clause-beside : goal.returns-in-Err-clause-beside
-returns-in-Err-clause-beside g c from so = beside_event g.F.Files.device c.args.number from c.args.host.now c.take_output.new.self so _ _ tt c.in-Err.ensures.event
 
 pub returns-in-Ok-clause-few : goal.returns-in-Ok-clause-few
 returns-in-Ok-clause-few g c from n so = few_event g.F.Files.device c.args.number from c.args.host.now n so c.take_output.new.self _ _ tt refl c.in-Ok.ensures.event

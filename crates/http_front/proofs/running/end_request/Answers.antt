@@ -2,14 +2,8 @@ use Rattle.std.proofs.Common.{◌≡◌, None, Some, refl}
 use Rattle.std.proofs.lemmas.Result.{IfErr-weaker, on_ok_weaker}
 use Rattle.http_front.specs.Requests.{lack_of}
 use Rattle.http_front.proofs.FewLaws.{few_event}
-use Rattle.http_front.proofs.Beside.{beside_event, beside_lacks}
+use Rattle.http_front.proofs.Beside.{beside_lacks}
 use Rattle.http_front.proofs.running.end_request.Goals as goal
-
-pub returns-in-Ok-clause-beside : goal.returns-in-Ok-clause-beside
-returns-in-Ok-clause-beside g c from so = beside_event g.F.Files.device c.args.number from c.args.host.now c.end_request.new.self so _ _ tt c.in-Ok.ensures.event
-
-pub returns-in-Err-clause-beside : goal.returns-in-Err-clause-beside
-returns-in-Err-clause-beside g c from so = beside_event g.F.Files.device c.args.number from c.args.host.now c.end_request.new.self so _ _ tt c.in-Err.ensures.event
 
 pub returns-in-Err-clause-lacks : goal.returns-in-Err-clause-lacks
 returns-in-Err-clause-lacks g c from so =

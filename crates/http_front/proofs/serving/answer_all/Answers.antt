@@ -1,7 +1,7 @@
 use Rattle.std.proofs.Common.{Bool, sym, subst, ◌∙◌, arith}
 use Rattle.std.proofs.lemmas.Result.{err_from_is_err_and}
 use Rattle.http_message.specs.Inboxes.{unread}
-use Rattle.http_front.specs.Serving.{Standing}
+use Rattle.http_front.specs.Serving.{ServeStanding}
 use Rattle.http_front.proofs.NextLaws.{next_step}
 use Rattle.http_front.proofs.ServedLaws.{fails_as}
 use Rattle.http_front.proofs.serving.answer_all.Goals as goal
@@ -20,7 +20,7 @@ loop-conn-preserved g c =
       wants = λ is. let w = e.wants is in (c.answer_next.ensures.whole ∙ w.0, w.1);
       sound = e.blames ∙ inv.sound;
       goes = λ old before r q w ends so.
-          e.goes old before r q w (λ is. ends (sym inv.whole ∙ is)) (subst (λ (b : Bool). Standing c.args.site.now (λ h. g.H.Handler.handles h c.args.number) g.K.Clock.tells old before r q w
+          e.goes old before r q w (λ is. ends (sym inv.whole ∙ is)) (subst (λ (b : Bool). ServeStanding c.args.site.now (λ h. g.H.Handler.handles h c.args.number) g.K.Clock.tells old before r q w
           (g.W.Sink.contents c.loop-conn.sink) b (unread c.loop-conn.conn.inbox) c.loop-conn.conn.requests c.loop-conn.handler c.loop-conn.clock) at.0 (inv.goes old before r q w ends so));
     }
 
@@ -33,5 +33,5 @@ returns-in_err-answer_next-in_default-clause-goes g c old before r q w ends so =
     (g.W.Sink.contents c.answer_next.new.sink) c.answer_next.new.conn.over (unread c.answer_next.new.conn.inbox) c.answer_next.new.conn.requests
     c.answer_next.new.handler c.answer_next.new.clock c.from_residual.result p.0 c.in_err-answer_next-in_default.field-0.0 p.1 p.2
     (c.in_err-answer_next-in_default.ensures.goes old before r q w (λ is. ends (sym inv.whole ∙ is))
-    (subst (λ (b : Bool). Standing c.args.site.now (λ h. g.H.Handler.handles h c.args.number) g.K.Clock.tells old before r q w
+    (subst (λ (b : Bool). ServeStanding c.args.site.now (λ h. g.H.Handler.handles h c.args.number) g.K.Clock.tells old before r q w
     (g.W.Sink.contents c.loop-conn.sink) b (unread c.loop-conn.conn.inbox) c.loop-conn.conn.requests c.loop-conn.handler c.loop-conn.clock) at.0 (inv.goes old before r q w ends so)))

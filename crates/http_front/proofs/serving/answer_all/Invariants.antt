@@ -1,7 +1,7 @@
 use Rattle.std.proofs.Common.{◌≡◌, ℕ, List, [], Option, ◌+◌, ◌≤◌, length, true, false}
 use Rattle.std.specs.Io.KnownBytes.{IsAtEnd}
 use Rattle.http_message.specs.Inboxes.{unread}
-use Rattle.http_front.specs.Serving.{SoFar, Standing}
+use Rattle.http_front.specs.Serving.{ServedSoFar, ServeStanding}
 use Rattle.http_front.specs.Talking.{pending, to_do}
 use Rattle.http_front.specs.Turns.{WantsMore}
 use Rattle.http_front.proofs.serving.answer_all.Given as goal
@@ -17,8 +17,8 @@ invariant-loop-conn g l = record {
   wants : l.conn.wants ≡ true → (l.conn.whole ≡ false) × WantsMore (unread l.conn.inbox);
   sound : g.W.Sink.failed l.sink ≡ g.W.Sink.failed l.fn.sink;
   goes : (old : g.row.H.Denot) (before : g.row.K.Denot) (r q w : Option (List ℕ)) → (l.fn.conn.whole ≡ true → IsAtEnd q)
-      → SoFar l.site (λ h. g.H.Handler.handles h l.fn.number) g.K.Clock.tells old before r q w (g.W.Sink.contents l.fn.sink) (unread l.fn.conn.inbox) l.fn.conn.requests l.fn.handler l.fn.clock
-      → Standing l.site (λ h. g.H.Handler.handles h l.fn.number) g.K.Clock.tells old before r q w (g.W.Sink.contents l.sink) l.conn.over (unread l.conn.inbox) l.conn.requests l.handler l.clock;
+      → ServedSoFar l.site (λ h. g.H.Handler.handles h l.fn.number) g.K.Clock.tells old before r q w (g.W.Sink.contents l.fn.sink) (unread l.fn.conn.inbox) l.fn.conn.requests l.fn.handler l.fn.clock
+      → ServeStanding l.site (λ h. g.H.Handler.handles h l.fn.number) g.K.Clock.tells old before r q w (g.W.Sink.contents l.sink) l.conn.over (unread l.conn.inbox) l.conn.requests l.handler l.clock;
 }
 
 abbrev pub decreases-loop-conn : goal.decreases-loop-conn

@@ -1,9 +1,9 @@
 use Rattle.std.proofs.Common.{sym, subst}
 use Rattle.std.proofs.lemmas.Result.{err_from_is_err_and}
 use Rattle.http_message.specs.Inboxes.{unread}
-use Rattle.http_front.specs.Serving.{Goes}
+use Rattle.http_front.specs.Serving.{ServeGoes}
 use Rattle.http_front.specs.Stepping.{DoesStep}
-use Rattle.http_front.specs.Talking.{Follows, pending}
+use Rattle.http_front.specs.Talking.{StepFollows, pending}
 use Rattle.http_front.specs.declared.steps.ServeStep.{ServeStep}
 use Rattle.http_front.proofs.NextLaws.{few_put, goes_put, less_put, slice_lacks, slice_step, stays_some, step_few, step_less, wants_more, wants_put}
 use Rattle.http_front.proofs.ServedLaws.{fails_as}
@@ -14,7 +14,7 @@ use Rattle.http_front.proofs.serving.answer_next.Goals as goal
 -- what the slice did is a step, since no request is ever under way
 made : (g : Over) (c : goal.After-put_all g)
     → (s : ServeStep) × DoesStep c.args.site.now (λ h. g.H.Handler.handles h c.args.number) g.K.Clock.tells c.args.handler.now c.args.clock.now (unread c.args.conn.now.inbox)
-    c.args.conn.now.whole s (pending c.step.new.self) c.step.new.handler c.step.new.clock × Follows s c.args.conn.now c.step.new.self
+    c.args.conn.now.whole s (pending c.step.new.self) c.step.new.handler c.step.new.clock × StepFollows s c.args.conn.now c.step.new.self
 made g c =
     let did = c.in_ok-step.ensures.did in
     slice_step c.args.site.now (λ h. g.H.Handler.handles h c.args.number) (λ h k o z. ⊥) g.K.Clock.tells
@@ -24,7 +24,7 @@ made g c =
 pub returns-clause-goes : goal.returns-clause-goes
 returns-clause-goes g c old before r q w ends so =
     let x = made g c in
-    subst (λ h. Goes c.args.site.now (λ k. g.H.Handler.handles k c.args.number) g.K.Clock.tells (λ k. g.H.Handler.lacks k c.args.number) old before r q w
+    subst (λ h. ServeGoes c.args.site.now (λ k. g.H.Handler.handles k c.args.number) g.K.Clock.tells (λ k. g.H.Handler.lacks k c.args.number) old before r q w
     (g.W.Sink.contents c.put_all.new.sink) c.put_all.new.self.over (unread c.put_all.new.self.inbox) c.put_all.new.self.requests h c.step.new.clock c.put_all.result) (sym c.put_all.ensures.still)
     (goes_put c.args.site.now (λ h. g.H.Handler.handles h c.args.number) g.K.Clock.tells c.args.conn.now c.step.new.self c.args.handler.now c.step.new.handler
     c.args.clock.now c.step.new.clock (pending c.step.new.self) old before r q w (g.W.Sink.contents c.args.sink.now) (g.W.Sink.contents c.put_all.new.sink) so ends

@@ -2,7 +2,7 @@ use Rattle.std.proofs.Common.{◌≡◌, ℕ, Bool, true, false, length, Ok, Err
 use Rattle.byte_streams.specs.Counted.{source_of}
 use Rattle.std.proofs.lemmas.Result.{err_from_is_err_and}
 use Rattle.http_message.specs.Inboxes.{unread}
-use Rattle.http_front.specs.Serving.{EndsWell, Standing}
+use Rattle.http_front.specs.Serving.{EndsWell, ServeStanding}
 use Rattle.http_front.proofs.ServingLaws.{far_start}
 use Rattle.http_front.proofs.Stepped.{none_wants}
 use Rattle.http_front.specs.declared.fault.Served.{Served}
@@ -72,7 +72,7 @@ returns-then-branch-clause-ok g c =
     let over : c.answer_all.new.conn.over ≡ true = e.over ∙ c.if-branch.true in
     subst (λ (n : ℕ). EndsWell c.args.site.now (λ h. g.H.Handler.handles h c.args.number) g.K.Clock.tells c.args.handler.now c.args.clock.now
     (r (source_of c.args.reader.now)) (w c.args.sink.now) (w c.answer_all.new.sink) n c.answer_all.new.handler c.answer_all.new.clock) (sym c.requests.ensures)
-    (subst (λ (b : Bool). Standing c.args.site.now (λ h. g.H.Handler.handles h c.args.number) g.K.Clock.tells c.args.handler.now c.args.clock.now
+    (subst (λ (b : Bool). ServeStanding c.args.site.now (λ h. g.H.Handler.handles h c.args.number) g.K.Clock.tells c.args.handler.now c.args.clock.now
     (r (source_of c.args.reader.now)) (r (source_of c.take_counted.new.reader)) (w c.args.sink.now) (w c.answer_all.new.sink) b
     (unread c.answer_all.new.conn.inbox) c.answer_all.new.conn.requests c.answer_all.new.handler c.answer_all.new.clock) over
     (e.goes c.args.handler.now c.args.clock.now (r (source_of c.args.reader.now)) (r (source_of c.take_counted.new.reader)) (w c.args.sink.now) adds.end
@@ -105,7 +105,7 @@ loop-conn-preserved g c =
       written = c.answer_all.ensures.written;
       more = wants.0;
       far =
-          subst (λ (b : Bool). Standing c.args.site.now (λ h. g.H.Handler.handles h c.args.number) g.K.Clock.tells c.args.handler.now c.args.clock.now
+          subst (λ (b : Bool). ServeStanding c.args.site.now (λ h. g.H.Handler.handles h c.args.number) g.K.Clock.tells c.args.handler.now c.args.clock.now
           (r (source_of c.args.reader.now)) (r (source_of c.take_counted.new.reader)) (w c.args.sink.now) (w c.answer_all.new.sink) b
           (unread c.answer_all.new.conn.inbox) c.answer_all.new.conn.requests c.answer_all.new.handler c.answer_all.new.clock) going
           (e.goes c.args.handler.now c.args.clock.now (r (source_of c.args.reader.now)) (r (source_of c.take_counted.new.reader)) (w c.args.sink.now) adds.end

@@ -1,7 +1,7 @@
 use Rattle.std.proofs.Common.{◌≡◌, ◌+◌, ◌*◌, ◌≤◌, ◌<◌, length, [], false}
 use Rattle.byte_streams.specs.Counted.{reads_left, source_of}
 use Rattle.http_message.specs.Inboxes.{unread}
-use Rattle.http_front.specs.Serving.{SoFar}
+use Rattle.http_front.specs.Serving.{ServedSoFar}
 use Rattle.http_front.specs.Talking.{pending}
 use Rattle.http_front.specs.Turns.{WantsMore}
 use Rattle.http_front.proofs.serving.serve_open.Given as goal
@@ -17,7 +17,7 @@ invariant-loop-conn g l = record {
   going : l.conn.over ≡ false;
   written : pending l.conn ≡ [];
   more : l.conn.whole ≡ false;
-  far : SoFar l.site (λ h. g.H.Handler.handles h l.number) g.K.Clock.tells l.fn.handler l.fn.clock (g.R.Source.remaining (source_of l.fn.reader))
+  far : ServedSoFar l.site (λ h. g.H.Handler.handles h l.number) g.K.Clock.tells l.fn.handler l.fn.clock (g.R.Source.remaining (source_of l.fn.reader))
       (g.R.Source.remaining (source_of l.reader)) (g.W.Sink.contents l.fn.sink) (g.W.Sink.contents l.sink) (unread l.conn.inbox) l.conn.requests l.handler l.clock;
   wants : WantsMore (unread l.conn.inbox);
   read_well : g.R.Source.failed (source_of l.reader) ≡ g.R.Source.failed (source_of l.fn.reader);

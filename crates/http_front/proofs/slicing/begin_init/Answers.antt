@@ -15,15 +15,6 @@ returns-in_ok-unless_lack-in-Err-clause-leads g c =
     not_begun g.F.Files.device c.args.number c.args.host.now c.begin.new.self c.args.method c.args.name.now c.in-Err.refusal c.bare.result
     c.in_ok-unless_lack-in-Err.ensures.ok c.bare.ensures c.in-Err.ensures.event
 
-pub returns-in-Ok-clause-beside : goal.returns-in-Ok-clause-beside
-returns-in-Ok-clause-beside g c from so = c.init_slice.ensures.beside from (beside_event g.F.Files.device c.args.number from c.args.host.now c.begin.new.self so _ _ tt c.in-Ok.ensures.event)
-
-pub returns-in_err-unless_lack-in-Err-clause-beside : goal.returns-in_err-unless_lack-in-Err-clause-beside
-returns-in_err-unless_lack-in-Err-clause-beside g c from so = beside_event g.F.Files.device c.args.number from c.args.host.now c.begin.new.self so _ _ tt c.in-Err.ensures.event
-
-pub returns-in_ok-unless_lack-in-Err-clause-beside : goal.returns-in_ok-unless_lack-in-Err-clause-beside
-returns-in_ok-unless_lack-in-Err-clause-beside g c from so = beside_event g.F.Files.device c.args.number from c.args.host.now c.begin.new.self so _ _ tt c.in-Err.ensures.event
-
 pub returns-in_err-unless_lack-in-Err-clause-lacks : goal.returns-in_err-unless_lack-in-Err-clause-lacks
 returns-in_err-unless_lack-in-Err-clause-lacks g c from so =
     let p = err_from_is_err_and c.from_residual.result c.from_residual.ensures.1 in

@@ -2,6 +2,7 @@ use Rattle.std.proofs.Common.{◌+◌, arith}
 use Rattle.std.proofs.lemmas.Result.{err_from_is_err_and}
 use Rattle.http_front.specs.Nearing.{slice_steps}
 use Rattle.http_front.proofs.FewLaws.{few_more}
+use Rattle.http_front.proofs.Beside.{beside_made}
 use Rattle.http_front.specs.Among.{ComesIn}
 use Rattle.http_front.specs.declared.handler.Slice.TheVariants as slice
 use Rattle.http_front.proofs.SliceLaws.{alive_after, goes_on, part_lacked, slice_is}
@@ -35,3 +36,7 @@ pub go_on_request-requires : goal.go_on_request-requires
 go_on_request-requires g c =
     alive_after g.F.Files.device c.args.number c.args.host.now c.begin_init.new.host (λ way b h. ComesIn way b h c.args.number c.args.method c.args.name.now)
     c.begin_init.result c.requires c.begin_init.ensures.leads
+
+pub returns-in-Works-clause-lacks : goal.returns-in-Works-clause-lacks
+returns-in-Works-clause-lacks g c from so =
+    c.go_on_request.ensures.lacks from (beside_made g.F.Files.device c.args.number from c.args.host.now c.begin_init.new.host so _ c.begin_init.ensures.few)

@@ -16,16 +16,6 @@ returns-in_ok-unless_lack-in-Err-clause-leads g c =
     not_brought g.F.Files.device c.args.number c.args.host.now c.bring.new.self c.finish.new.host c.finish.result c.in_ok-pieces.pieces
     (brigades_left (Some c.args.rest)) (brigades_left c.in_ok-pieces.left) c.in-Err.refusal c.in_ok-pieces.ensures c.in_ok-unless_lack-in-Err.ensures.ok c.in-Err.ensures.event c.finish.ensures.leads
 
-pub returns-in-Ok-clause-beside : goal.returns-in-Ok-clause-beside
-returns-in-Ok-clause-beside g c from so = beside_event g.F.Files.device c.args.number from c.args.host.now c.bring.new.self so _ _ tt c.in-Ok.ensures.event
-
-pub returns-in_err-unless_lack-in-Err-clause-beside : goal.returns-in_err-unless_lack-in-Err-clause-beside
-returns-in_err-unless_lack-in-Err-clause-beside g c from so = beside_event g.F.Files.device c.args.number from c.args.host.now c.bring.new.self so _ _ tt c.in-Err.ensures.event
-
-pub returns-in_ok-unless_lack-in-Err-clause-beside : goal.returns-in_ok-unless_lack-in-Err-clause-beside
-returns-in_ok-unless_lack-in-Err-clause-beside g c from so =
-    c.finish.ensures.beside from (beside_event g.F.Files.device c.args.number from c.args.host.now c.bring.new.self so _ _ tt c.in-Err.ensures.event)
-
 pub returns-in_err-unless_lack-in-Err-clause-lacks : goal.returns-in_err-unless_lack-in-Err-clause-lacks
 returns-in_err-unless_lack-in-Err-clause-lacks g c from so =
     let p = err_from_is_err_and c.from_residual-in_err-unless_lack-in-Err.result c.from_residual-in_err-unless_lack-in-Err.ensures.1 in

@@ -1,4 +1,5 @@
 use Rattle.std.proofs.Common.{Some}
+use Rattle.http_front.proofs.Beside.{beside_made}
 use Rattle.http_front.proofs.SliceLaws.{alive_stepped, call_on, ends_then}
 use Rattle.http_front.proofs.slicing.go_on_request.Goals as goal
 
@@ -11,3 +12,7 @@ returns-in-Some-clause-leads g c =
 
 pub end_call-requires : goal.end_call-requires
 end_call-requires g c = alive_stepped g.F.Files.device c.args.number c.args.host.now c.step_slice.new.host (Some c.in-Some.how) c.requires c.in-Some.ensures.leads
+
+pub returns-in-Some-clause-lacks : goal.returns-in-Some-clause-lacks
+returns-in-Some-clause-lacks g c from so =
+    c.end_call.ensures.lacks from (beside_made g.F.Files.device c.args.number from c.args.host.now c.step_slice.new.host so _ c.step_slice.ensures.few)

@@ -3,7 +3,7 @@ use Rattle.std.proofs.lemmas.Result.{err_from_is_err_and}
 use Rattle.http_front.specs.Among.{ComesIn, calls_after, calls_left}
 use Rattle.http_front.specs.Requests.{RunsCall}
 use Rattle.filter_chain.proofs.Driving.{alive_then}
-use Rattle.http_front.proofs.Beside.{err_by}
+use Rattle.http_front.proofs.Beside.{beside_made, err_by}
 use Rattle.http_front.proofs.SliceLaws.{alive_after, goes_on, handled, not_handled, runs_on}
 use Rattle.http_front.proofs.slicing.handle_request.Goals as goal
 
@@ -13,7 +13,7 @@ loop-slice-init g c = record {
       alive_after g.F.Files.device c.args.number c.args.host.now c.begin_init.new.host (λ way b h. ComesIn way b h c.args.number c.args.method c.args.name.now)
       c.begin_init.result c.requires c.begin_init.ensures.leads;
   made = c.in_ok-slice.ensures.leads;
-  beside = c.begin_init.ensures.beside;
+  beside = λ from so. beside_made g.F.Files.device c.args.number from c.args.host.now c.begin_init.new.host so _ c.begin_init.ensures.few;
 }
 
 pub loop-slice-preserved : goal.loop-slice-preserved
@@ -28,7 +28,8 @@ loop-slice-preserved g c =
           alive_after g.F.Files.device c.args.number c.args.host.now c.end_call.new.host (λ way b h. ComesIn way b h c.args.number c.args.method c.args.name.now)
           (Ok c.in_ok-slice-in-Works.slice) c.requires made;
       made = made;
-      beside = λ from so. c.end_call.ensures.beside from (c.run_call-how.ensures.beside from (inv.beside from so));
+      beside = λ from so.
+          beside_made g.F.Files.device c.args.number from c.run_call-how.new.host c.end_call.new.host (c.run_call-how.ensures.beside from (inv.beside from so)) _ c.end_call.ensures.few;
     }
 
 pub loop-slice-smaller : goal.loop-slice-smaller
@@ -55,7 +56,9 @@ returns-in_err-slice-in-Works-clause-leads g c =
     (λ way b h. ComesIn way b h c.args.number c.args.method c.args.name.now) c.in-Works.is c.loop-slice.invariant.made went)
 
 pub returns-in_err-slice-in-Works-clause-beside : goal.returns-in_err-slice-in-Works-clause-beside
-returns-in_err-slice-in-Works-clause-beside g c from so = c.end_call.ensures.beside from (c.run_call-how.ensures.beside from (c.loop-slice.invariant.beside from so))
+returns-in_err-slice-in-Works-clause-beside g c from so =
+    beside_made g.F.Files.device c.args.number from c.run_call-how.new.host c.end_call.new.host (c.run_call-how.ensures.beside from (c.loop-slice.invariant.beside from so)) _
+    c.end_call.ensures.few
 
 pub returns-in_err-slice-in-Works-clause-lacks : goal.returns-in_err-slice-in-Works-clause-lacks
 returns-in_err-slice-in-Works-clause-lacks g c from so =
@@ -66,3 +69,6 @@ returns-in_err-slice-in-Works-clause-lacks g c from so =
 pub end_call-requires : goal.end_call-requires
 end_call-requires g c =
     alive_then g.F.Files.device c.loop-slice.host c.run_call-how.new.host (λ b h s t. RunsCall b h c.args.number s c.run_call-how.result t) c.loop-slice.invariant.alive c.run_call-how.ensures.leads
+
+pub returns-in_err-slice-clause-beside : goal.returns-in_err-slice-clause-beside
+returns-in_err-slice-clause-beside g c from so = beside_made g.F.Files.device c.args.number from c.args.host.now c.begin_init.new.host so _ c.begin_init.ensures.few

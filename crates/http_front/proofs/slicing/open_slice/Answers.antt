@@ -15,16 +15,6 @@ returns-in_ok-unless_lack-in-Err-clause-leads g c =
     not_opened g.F.Files.device c.args.number c.args.host.now c.open_file.new.self c.finish_bare.new.host c.finish_bare.result c.args.init c.args.method
     c.args.name.now c.in-Err.refusal c.unopened.result c.unopened.ensures c.in_ok-unless_lack-in-Err.ensures.ok c.in-Err.ensures.event c.finish_bare.ensures.leads
 
-pub returns-in-Ok-clause-beside : goal.returns-in-Ok-clause-beside
-returns-in-Ok-clause-beside g c from so = c.carry_on.ensures.beside from (beside_event g.F.Files.device c.args.number from c.args.host.now c.open_file.new.self so _ _ tt c.in-Ok.ensures.event)
-
-pub returns-in_err-unless_lack-in-Err-clause-beside : goal.returns-in_err-unless_lack-in-Err-clause-beside
-returns-in_err-unless_lack-in-Err-clause-beside g c from so = beside_event g.F.Files.device c.args.number from c.args.host.now c.open_file.new.self so _ _ tt c.in-Err.ensures.event
-
-pub returns-in_ok-unless_lack-in-Err-clause-beside : goal.returns-in_ok-unless_lack-in-Err-clause-beside
-returns-in_ok-unless_lack-in-Err-clause-beside g c from so =
-    c.finish_bare.ensures.beside from (beside_event g.F.Files.device c.args.number from c.args.host.now c.open_file.new.self so _ _ tt c.in-Err.ensures.event)
-
 pub returns-in_err-unless_lack-in-Err-clause-lacks : goal.returns-in_err-unless_lack-in-Err-clause-lacks
 returns-in_err-unless_lack-in-Err-clause-lacks g c from so =
     let p = err_from_is_err_and c.from_residual.result c.from_residual.ensures.1 in

@@ -1,7 +1,6 @@
 use Rattle.std.proofs.Common.{◌≡◌, true, false, sym, ◌∙◌, arith}
 use Rattle.http_front.specs.Nearing.{slice_steps}
 use Rattle.http_front.proofs.FewLaws.{few_steps}
-use Rattle.http_front.proofs.Beside.{beside_steps}
 use Rattle.http_front.proofs.SliceSteps.{sliced_ends, sliced_on}
 use Rattle.http_front.proofs.slicing.step_slice.Goals as goal
 
@@ -13,13 +12,6 @@ pub returns-clause-leads : goal.returns-clause-leads
 returns-clause-leads g c way =
     sliced_ends g.F.Files.device c.args.number way c.args.host.now c.step_up_to-answer.new.self _ c.step_up_to-answer.result c.step_up_to-answer.ensures.steps c.how_ended.result
     (λ h. absurd (let clash : true ≡ false = sym (c.went.ensures.1 h) ∙ c.if-went.false in cc)) c.how_ended.ensures
-
-pub returns-then-went-clause-beside : goal.returns-then-went-clause-beside
-returns-then-went-clause-beside g c from so =
-    beside_steps g.F.Files.device c.args.number from c.args.host.now c.step_up_to-answer.new.self so _ c.step_up_to-answer.result c.step_up_to-answer.ensures.steps
-
-pub returns-clause-beside : goal.returns-clause-beside
-returns-clause-beside g c from so = beside_steps g.F.Files.device c.args.number from c.args.host.now c.step_up_to-answer.new.self so _ c.step_up_to-answer.result c.step_up_to-answer.ensures.steps
 
 pub returns-then-went-clause-few : goal.returns-then-went-clause-few
 returns-then-went-clause-few g c from n so =

@@ -4,7 +4,7 @@ use Rattle.std.proofs.lemmas.Bool.Decides.{nat_tests}
 use Rattle.byte_text.specs.TextLines.{lines_of, first_line, width}
 use Rattle.http_message.specs.Sites.{route_of}
 use Rattle.http_message.specs.SiteFiles.{no_routes, AddsLine, AddsNothing, SiteFailsAt}
-use Rattle.http_message.proofs.SiteLaws.{SoFar, added_first, nothing_first, so_far_adds, so_far_fails, so_far_end}
+use Rattle.http_message.proofs.SiteLaws.{RoutesSoFar, added_first, nothing_first, so_far_adds, so_far_fails, so_far_end}
 use Rattle.http_message.proofs.site_file.add_lines.Goals as goal
 
 pub returns-then-not-branch-clause-line : goal.returns-then-not-branch-clause-line
@@ -35,6 +35,6 @@ loop-rest-preserved c =
     let within = line.ensures.within in
     let few = c.loop-rest.invariant.1 in
     let long = ap length c.behind-rest.ensures ∙ length-drop line.result.width c.loop-rest.rest.now in (
-      subst (λ l. SoFar c.args.text.now l (c.loop-rest.number + 1) (route_of c.add_line.new.site)) (sym rest) next,
+      subst (λ l. RoutesSoFar c.args.text.now l (c.loop-rest.number + 1) (route_of c.add_line.new.site)) (sym rest) next,
       omega (arith, moves, within, few, long),
     )

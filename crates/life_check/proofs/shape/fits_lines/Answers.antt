@@ -10,19 +10,19 @@ use Rattle.life_check.specs.Typed.{fits_line}
 use Rattle.life_state.proofs.Below.{all_below_holds, all_below_fails}
 use Rattle.life_check.proofs.shape.fits_lines.Goals as goal
 
-abbrev IsSound : Option State → Type 0
-IsSound o = IfSome o IsFormed
+abbrev IsStateSound : Option State → Type 0
+IsStateSound o = IfSome o IsFormed
 
 -- no state is given past the last line
-past_sound : (c : Cert) (pc : ℕ) → length c.at.items ≤ pc → IsSound ((seen_cert c).at pc)
-past_sound c pc le = subst (λ o. IsSound (seen_line o)) (sym (slice_get_past c.at.items pc le)) tt
+past_sound : (c : Cert) (pc : ℕ) → length c.at.items ≤ pc → IsStateSound ((seen_cert c).at pc)
+past_sound c pc le = subst (λ o. IsStateSound (seen_line o)) (sym (slice_get_past c.at.items pc le)) tt
 
 pub loop-pc-preserved : goal.loop-pc-preserved
 loop-pc-preserved c =
-    let line : ℕ → Type 0 = λ k. (fits_line c.args.code.now k ((seen_cert c.args.cert.now).at k) ≡ true) × IsSound ((seen_cert c.args.cert.now).at k) in
+    let line : ℕ → Type 0 = λ k. (fits_line c.args.code.now k ((seen_cert c.args.cert.now).at k) ≡ true) × IsStateSound ((seen_cert c.args.cert.now).at k) in
     let here : line c.loop-pc.pc = (
       sym (ap (fits_line c.args.code.now c.loop-pc.pc) c.state.ensures) ∙ (sym c.fits_line-fits.ensures.value ∙ c.if-not-fits.false),
-      subst (λ (o : Option State). IsSound o) c.state.ensures (c.fits_line-fits.ensures.formed c.if-not-fits.false),
+      subst (λ (o : Option State). IsStateSound o) c.state.ensures (c.fits_line-fits.ensures.formed c.if-not-fits.false),
     ) in
     λ k below. ⊎_elim (λ (lt : k < c.loop-pc.pc). c.loop-pc.invariant k lt) (λ (le : c.loop-pc.pc ≤ k). subst line (let same : c.loop-pc.pc ≡ k = omega arith in same) here) (cases_lt k c.loop-pc.pc)
 

@@ -3,7 +3,7 @@ use Rattle.std.proofs.Common.{◌≡◌, ap, ◌∙◌}
 use Rattle.run_model.specs.Steps.{is_spent, names_for, names_of, pool_names_for}
 use Rattle.pool_tree.specs.Tree.{map_of}
 use Rattle.brigade_ops.specs.Store.{lists, next_name}
-use Rattle.ring_calls.specs.Around.{Around}
+use Rattle.ring_calls.specs.ContextViews.{ContextView}
 use Rattle.ring_calls.specs.Context.{in_context}
 use Rattle.ring_calls.specs.Seen.{seen_over}
 use Rattle.ring_calls.proofs.Asked.{store_spent, pools_spent}
@@ -11,7 +11,7 @@ use Rattle.ring_calls.proofs.Needed.{faultless_by, fits_by}
 use Rattle.ring_calls.proofs.asks.lacks_names.Goals as goal
 use Rattle.ring_calls.proofs.asks.lacks_names.Goals.{After-is_spent}
 
-of_store : (g : _) (c : After-is_spent g) (around : Around)
+of_store : (g : _) (c : After-is_spent g) (around : ContextView)
     → c.is_spent.result ≡ is_spent (next_name c.args.store.now)
     (names_of (seen_over (lists c.args.store.now) (next_name c.args.store.now) (in_context c.args.context.now (map_of c.args.tree.now) around) c.args.instance.now c.args.call.now) c.args.instr)
 of_store g c around =

@@ -13,7 +13,7 @@ use Rattle.stored_rings.specs.Items.{Items}
 use Rattle.ring_calls.specs.declared.machine.Instance.{Instance}
 use Rattle.ring_calls.specs.declared.machine.Call.{Call}
 use Rattle.ring_calls.specs.declared.context.Context.{Context}
-use Rattle.ring_calls.specs.Around.{Around}
+use Rattle.ring_calls.specs.ContextViews.{ContextView}
 use Rattle.ring_calls.specs.LeftAlone.{LeavesUncleared}
 use Rattle.ring_calls.proofs.LeftAlone.{rest_none, rest_same}
 use Rattle.ring_calls.proofs.Names.{no_less}
@@ -31,7 +31,7 @@ some_is a b e = cc
 
 -- what is the same is seen as the same
 same_during : (L M : ℕ → Option Items) (k l : ℕ) (s : Context) (ps qs : Pools Payload) (hs later : List LabelsRun) (i : Instance) (call : Call) → l ≡ k → qs ≡ ps → ((n : ℕ) → M n ≡ L n)
-    → later ≡ hs → (around : Around) → seen_over M l (during s qs later around) i call ≡ seen_over L k (during s ps hs around) i call
+    → later ≡ hs → (around : ContextView) → seen_over M l (during s qs later around) i call ≡ seen_over L k (during s ps hs around) i call
 same_during L M k l s ps qs hs later i call next same out e around =
     seen_kept L M k l ps qs (during s ps later around) i call next same out ∙ ap (λ (ls : List LabelsRun). seen_over L k (during s ps ls around) i call) e
 

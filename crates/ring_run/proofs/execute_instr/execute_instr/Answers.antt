@@ -24,7 +24,7 @@ use Rattle.run_model.specs.declared.effect.Effect.TheVariants as effect
 use Rattle.run_model.specs.EffectOf.{effect_of, instr_with}
 use Rattle.ring_calls.specs.declared.machine.Instance.{Instance}
 use Rattle.ring_run.specs.Operands.{cleared_in, pool_to_clear}
-use Rattle.ring_calls.specs.Around.{Around}
+use Rattle.ring_calls.specs.ContextViews.{ContextView}
 use Rattle.ring_calls.specs.Seen.{seen_over}
 use Rattle.ring_calls.specs.Context.{in_context}
 use Rattle.ring_run.proofs.Carried.{read_within}
@@ -49,7 +49,7 @@ no_pool n e = cc
 nothing_over : (n : ℕ) → nat_lt 0 n ≡ false → n ≡ 0
 nothing_over n h = grind (arith, nat_tests)
 
-each_during : (P : Around → Type 0) → ((around : Around) → P around) → (s : Context) (ps : Pools Payload) (hs : List LabelsRun) → (around : Around) → P (during s ps hs around)
+each_during : (P : ContextView → Type 0) → ((around : ContextView) → P around) → (s : Context) (ps : Pools Payload) (hs : List LabelsRun) → (around : ContextView) → P (during s ps hs around)
 each_during P all s ps hs around = all (during s ps hs around)
 
 pub returns-in_err-clear_pool-in-EmptyPool : goal.returns-in_err-clear_pool-in-EmptyPool

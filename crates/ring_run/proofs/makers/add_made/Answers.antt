@@ -9,7 +9,7 @@ use Rattle.stored_rings.specs.Items.{Items}
 use Rattle.brigade_ops.specs.Store.{next_name}
 use Rattle.ring_calls.specs.declared.machine.Instance.{Instance}
 use Rattle.ring_calls.specs.declared.machine.Call.{Call}
-use Rattle.ring_calls.specs.Around.{Around}
+use Rattle.ring_calls.specs.ContextViews.{ContextView}
 use Rattle.ring_calls.specs.Context.{in_context}
 use Rattle.ring_calls.specs.Seen.{seen, seen_over, calls_in, bucket_in}
 use Rattle.ring_calls.proofs.Faultless.{nowhere}
@@ -19,7 +19,7 @@ use Rattle.ring_calls.proofs.Needed.{met, stands}
 use Rattle.ring_run.proofs.Makes.{alive_at, home_now}
 use Rattle.ring_run.proofs.makers.add_made.Goals as goal
 
-call_seen : (L : ℕ → Option Items) (k : ℕ) (around : Around) (i : Instance) (call : Call)
+call_seen : (L : ℕ → Option Items) (k : ℕ) (around : ContextView) (i : Instance) (call : Call)
     → ((seen_over L k around i call).call.name ≡ call.name) × ((seen_over L k around i call).call.buffer ≡ call.buffer)
 unfolding seen_over
 call_seen L k around i call = (refl, refl)
@@ -29,7 +29,8 @@ live_pool-requires g c = record { there = (_, (_, (nowhere, (_, met (c.requires.
 
 pub returns-clause-ok : goal.returns-clause-ok
 returns-clause-ok g c =
-    let made : (around : Around) → made_of c.args.code.now (seen c.args.store.now (in_context c.args.context.now (map_of c.args.tree.now) around) c.args.instance.now c.args.call.now) c.args.source
+    let made : (around : ContextView) → made_of c.args.code.now (seen c.args.store.now (in_context c.args.context.now
+    (map_of c.args.tree.now) around) c.args.instance.now c.args.call.now) c.args.source
     ≡ Some (bucket_in (calls_in (in_context c.args.context.now (map_of c.args.tree.now) around) c.args.call.now) (next_name c.args.store.now) c.match-source.bucket) =
     λ around. grind (arith, home_now, call_seen) in
     grind (arith, common_steps)
@@ -45,7 +46,7 @@ pub returns-in-CopyAt-clause-ok : goal.returns-in-CopyAt-clause-ok
 returns-in-CopyAt-clause-ok g c =
     let is = ap (effect.Make c.requires.faultless.0) c.in-CopyAt.is in
     let s = bucket_here _ _ _ _ c.requires.held (stands (c.requires.faultless.1 nowhere) is 0 c.in-CopyAt.d OnBucket refl) _ c.bucket.ensures in
-    let made = λ (around : Around).
+    let made = λ (around : ContextView).
     let over = in_context c.args.context.now (map_of c.args.tree.now) around in
     let alive = alive_at (s.at over) (met (c.requires.faultless.1 around) is 1 (WHome c.in-CopyAt.d) refl) in
     rw (sym (home_later _ _ (next_name c.args.store.now) s.bucket.home alive (omega (arith, (c.requires.held.given _ _ c.bucket.ensures).young)))) at (s.at over) in

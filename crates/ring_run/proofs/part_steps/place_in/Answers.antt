@@ -13,7 +13,7 @@ use Rattle.run_model.specs.Cursors.{spot}
 use Rattle.run_model.specs.declared.bucket.NamedBucket.{NamedBucket}
 use Rattle.ring_calls.specs.declared.machine.Instance.{Instance}
 use Rattle.ring_calls.specs.declared.machine.Call.{Call}
-use Rattle.ring_calls.specs.Around.{Around}
+use Rattle.ring_calls.specs.ContextViews.{ContextView}
 use Rattle.brigade_ops.specs.Store.{lists, brigade_of, next_name}
 use Rattle.brigade_ops.proofs.Stores.{kept}
 use Rattle.ring_calls.specs.Seen.{seen_over, calls_in, shown}
@@ -26,16 +26,16 @@ use Rattle.ring_run.proofs.part_steps.place_in.Goals as goal
 use Rattle.ring_run.proofs.part_steps.place_in.Goals.{In-At, In-End}
 
 -- The cursor c stands at a bucket of the brigade that is in the variable b.
-record IsAt {R : Type 0} {g : Ghosts R Stored} (store : Brigades R g) (i : Instance) (call : Call) (c b name : ℕ) (id : BucketId) : Type 0 where
+record CursorAt {R : Type 0} {g : Ghosts R Stored} (store : Brigades R g) (i : Instance) (call : Call) (c b name : ℕ) (id : BucketId) : Type 0 where
   given : IsGiven id (list_at (lists store) name)
-  place : (around : Around) → place_at (spot (seen_over (lists store) (next_name store) around i call) c) ≡ Some id.birth
+  place : (around : ContextView) → place_at (spot (seen_over (lists store) (next_name store) around i call) c) ≡ Some id.birth
 
 pub returns-in-At-clause-inside : goal.returns-in-At-clause-inside
 returns-in-At-clause-inside g c =
     (this_at c.args.store.now c.args.instance.now c.args.call.now c.args.c c.requires.held c.args.b c.args.name c.requires.named c.requires.stands c.in-At.id (sym c.cursor.ensures ∙ c.in-At.is)).0
 
 -- The cursor stands at a bucket of the brigade.
-at : (g : _) (c : In-At g) → IsAt c.args.store.now c.args.instance.now c.args.call.now c.args.c c.args.b c.args.name c.in-At.id
+at : (g : _) (c : In-At g) → CursorAt c.args.store.now c.args.instance.now c.args.call.now c.args.c c.args.b c.args.name c.in-At.id
 at g c =
     let s = c.args.store.now in
     let t = this_at s c.args.instance.now c.args.call.now c.args.c c.requires.held c.args.b c.args.name c.requires.named c.requires.stands c.in-At.id (sym c.cursor.ensures ∙ c.in-At.is) in
@@ -45,7 +45,7 @@ at g c =
     }
 
 -- A cut of the list at this bucket is one of the variable.
-cut : (g : _) (c : In-At g) (around : Around) (model : Option ℕ → List NamedBucket → List NamedBucket) (h : Items → Items)
+cut : (g : _) (c : In-At g) (around : ContextView) (model : Option ℕ → List NamedBucket → List NamedBucket) (h : Items → Items)
     → ((runs : ℕ → Bool) (xs : Items) → IsGiven c.in-At.id xs → model (Some c.in-At.id.birth) (shown runs xs) ≡ shown runs (h xs))
     → let r = seen_over (lists c.args.store.now) (next_name c.args.store.now) around c.args.instance.now c.args.call.now in
     shown (calls_in around c.args.call.now) (h (list_at (lists c.args.store.now) c.args.name)) ≡ model (place_at (spot r c.args.c)) (items_at r c.args.b)
@@ -63,7 +63,7 @@ pub returns-in-At-clause-moves : goal.returns-in-At-clause-moves
 returns-in-At-clause-moves g c around = cut g (goal.at.returns-in-At-clause-moves g c).In-At around moves (rest c.in-At.id) (λ runs xs. from_shown runs c.in-At.id xs)
 
 -- It stands at the end of the brigade.
-end : (g : _) (c : In-End g) (around : Around) → place_at (spot (seen_over (lists c.args.store.now) (next_name c.args.store.now) around c.args.instance.now c.args.call.now) c.args.c) ≡ None
+end : (g : _) (c : In-End g) (around : ContextView) → place_at (spot (seen_over (lists c.args.store.now) (next_name c.args.store.now) around c.args.instance.now c.args.call.now) c.args.c) ≡ None
 end g c around =
     ap place_at (spot_end (seen_over (lists c.args.store.now) (next_name c.args.store.now) around c.args.instance.now c.args.call.now) c.args.c c.args.b
     (this_end c.args.store.now c.args.instance.now c.args.call.now c.args.c c.requires.held c.args.b c.in-End.field-0 c.requires.stands (sym c.cursor.ensures ∙ c.in-End.is) around))

@@ -5,7 +5,7 @@ use Rattle.run_model.specs.Faults.{keeps_stray}
 use Rattle.stored_rings.specs.Items.{Items}
 use Rattle.run_model.specs.Pools.{Pools}
 use Rattle.run_model.specs.declared.payload.Payload.{Payload}
-use Rattle.ring_calls.specs.Around.{Around}
+use Rattle.ring_calls.specs.ContextViews.{ContextView}
 use Rattle.ring_calls.specs.Context.{in_context}
 use Rattle.ring_calls.specs.Seen.{seen, seen_over}
 use Rattle.pool_tree.proofs.Below.{any_below_some, any_below_none}
@@ -14,7 +14,7 @@ use Rattle.ring_wants.proofs.brigade_wants.want_return.Goals as goal
 use Rattle.ring_wants.proofs.brigade_wants.want_return.Goals.{After-keeps_stray}
 
 -- what was told of this variable is so of it in the store as it was
-told : (g : _) (c : After-keeps_stray g) (pools : Pools Payload) (around : Around)
+told : (g : _) (c : After-keeps_stray g) (pools : Pools Payload) (around : ContextView)
     → (let r = seen c.args.store.now (in_context c.args.context.now pools around) c.args.instance.now c.args.call.now in keeps_stray r (r.instance.brigades c.loop-b.b)) ≡ c.keeps_stray.result
 told g c pools around =
     let over = in_context c.args.context.now pools around in

@@ -3,7 +3,7 @@ use Rattle.std.proofs.Common.{◌≡◌, ℕ, ◌<◌, false}
 use Rattle.run_model.specs.Faults.{keeps_stray}
 use Rattle.run_model.specs.Pools.{Pools}
 use Rattle.run_model.specs.declared.payload.Payload.{Payload}
-use Rattle.ring_calls.specs.Around.{Around}
+use Rattle.ring_calls.specs.ContextViews.{ContextView}
 use Rattle.ring_wants.specs.OnlyAsked.{OnlyAsked}
 use Rattle.ring_calls.specs.Context.{in_context}
 use Rattle.ring_calls.specs.Seen.{seen}
@@ -11,7 +11,7 @@ use Rattle.ring_wants.proofs.brigade_wants.want_return.Given as goal
 
 abbrev pub invariant-loop-b : goal.invariant-loop-b
 invariant-loop-b g l = record {
-  none : (pools : Pools Payload) (around : Around) (k : ℕ) → k < l.b
+  none : (pools : Pools Payload) (around : ContextView) (k : ℕ) → k < l.b
       → keeps_stray (seen l.fn.store (in_context l.context pools around) l.instance l.call) ((seen l.fn.store (in_context l.context pools around) l.instance l.call).instance.brigades k) ≡ false;
   asked : OnlyAsked l.fn.store l.store;
 }

@@ -6,7 +6,7 @@ use Rattle.run_model.specs.Faults.{fault, fault_want, first_fault}
 use Rattle.run_model.specs.Pools.{Pools}
 use Rattle.run_model.specs.Wants.{and_then, want_of}
 use Rattle.pool_tree.specs.Tree.{map_of}
-use Rattle.ring_calls.specs.Around.{Around}
+use Rattle.ring_calls.specs.ContextViews.{ContextView}
 use Rattle.ring_calls.specs.Seen.{seen}
 use Rattle.ring_calls.specs.Context.{in_context}
 use Rattle.ring_wants.proofs.FirstFault.{after, ends, goes_on, met, stops}
@@ -23,7 +23,7 @@ fault_of-requires-in-Some-third-clause-held g c =
     held_same c.args.store.now c.fault_of-2.new.store c.args.instance.now c.args.call.now asked c.requires.held
 
 -- the first want is met, and those behind it tell
-past_first : (g : _) (c : In-Some-second g) (around : Around) (m : Option FaultKind)
+past_first : (g : _) (c : In-Some-second g) (around : ContextView) (m : Option FaultKind)
     → m ≡ first_fault (seen c.args.store.now (in_context c.args.context.now (map_of c.args.tree.now) around) c.args.instance.now c.args.call.now)
     (and_then c.wants-wanted.result.second (and_then c.wants-wanted.result.third []))
     → m ≡ fault c.args.code.now (seen c.args.store.now (in_context c.args.context.now (map_of c.args.tree.now) around) c.args.instance.now c.args.call.now) c.args.instr
@@ -34,7 +34,7 @@ past_first g c around m more =
     ∙ ap (first_fault r) c.wants-wanted.ensures.listed
 
 -- the second is asked of what the first left
-second_told : (g : _) (c : After-fault_of-2 g) (around : Around)
+second_told : (g : _) (c : After-fault_of-2 g) (around : ContextView)
     → c.fault_of-2.result ≡ fault_want (seen c.args.store.now (in_context c.args.context.now (map_of c.args.tree.now) around) c.args.instance.now c.args.call.now) (want_of c.in-Some-second.second)
 second_told g c around =
     after c.args.store.now c.fault_of.new.store c.args.tree.now c.fault_of.new.tree c.fault_of.ensures.asked c.fault_of.ensures.tree_asked

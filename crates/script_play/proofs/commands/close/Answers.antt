@@ -1,7 +1,7 @@
 use Rattle.std.proofs.Common.{refl, ap, ◌∙◌}
 use Rattle.module_run.specs.Conns.{labels_handed}
 use Rattle.run_model.specs.Worlds.{Labels, Refused}
-use Rattle.script_text.specs.declared.reply.Reply.TheVariants as reply
+use Rattle.script_text.specs.declared.reply.CommandReply.TheVariants as reply
 use Rattle.script_play.proofs.Served.{close_served}
 use Rattle.script_play.proofs.commands.close.Goals as goal
 

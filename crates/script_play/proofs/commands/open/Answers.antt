@@ -1,6 +1,6 @@
 use Rattle.std.proofs.Common.{refl}
 use Rattle.run_model.specs.Worlds.{Connected, Refused}
-use Rattle.script_text.specs.declared.reply.Reply.TheVariants as reply
+use Rattle.script_text.specs.declared.reply.CommandReply.TheVariants as reply
 use Rattle.script_play.proofs.Served.{open_served}
 use Rattle.script_play.proofs.commands.open.Goals as goal
 

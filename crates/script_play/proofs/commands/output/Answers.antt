@@ -1,6 +1,6 @@
 use Rattle.std.proofs.Common.{refl}
 use Rattle.run_model.specs.Worlds.{Output, Refused}
-use Rattle.script_text.specs.declared.reply.Reply.TheVariants as reply
+use Rattle.script_text.specs.declared.reply.CommandReply.TheVariants as reply
 use Rattle.script_play.proofs.Served.{output_served}
 use Rattle.script_play.proofs.commands.output.Goals as goal
 

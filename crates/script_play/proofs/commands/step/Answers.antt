@@ -6,7 +6,7 @@ use Rattle.run_model.specs.declared.event.Stepped.TheVariants as stepped
 use Rattle.bucket_kinds.specs.MemDevice.{mem_device}
 use Rattle.filter_chain.specs.Led.{RefinesFrom}
 use Rattle.filter_chain.specs.Running.{StepsOn}
-use Rattle.script_text.specs.declared.reply.Reply.TheVariants as reply
+use Rattle.script_text.specs.declared.reply.CommandReply.TheVariants as reply
 use Rattle.script_play.specs.Plays.{is_fault}
 use Rattle.script_play.proofs.Served.{answer_told, step_well, steps_served}
 use Rattle.script_play.proofs.commands.step.Goals as goal

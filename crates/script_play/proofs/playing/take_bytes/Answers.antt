@@ -1,7 +1,7 @@
 use Rattle.std.proofs.Common.{◌++◌, drop, ap, ◌∙◌}
 use Rattle.std.proofs.lemmas.List.{take_rest}
 use Rattle.std.proofs.lemmas.Result.{err_from_is_err_and}
-use Rattle.script_play.proofs.PlayingLaws.{bytes_unheld, bytes_failed, Joined, joined_none, joined_some, joined_held, joined_lost}
+use Rattle.script_play.proofs.PlayingLaws.{bytes_unheld, bytes_failed, JoinedLines, joined_none, joined_some, joined_held, joined_lost}
 use Rattle.script_play.proofs.playing.take_bytes.Goals as goal
 use Rattle.script_play.proofs.playing.take_bytes.Goals.{then-whole-gt0+in_ok-extend_from_slice+in_ok-play_lines, else-whole-gt0}
 
@@ -22,7 +22,7 @@ pub returns-in_err-extend_from_slice-2-clause-plays : goal.returns-in_err-extend
 returns-in_err-extend_from_slice-2-clause-plays g c = λ s at.
     let p = err_from_is_err_and c.from_residual-in_err-extend_from_slice-2.result c.from_residual-in_err-extend_from_slice-2.ensures.1 in
     let n = c.whole_lines-whole in
-    let j : Joined c.args.player.now c.if-whole-gt0.player (g.W.Sink.contents c.args.writer.now) (g.W.Sink.contents c.if-whole-gt0.writer)
+    let j : JoinedLines c.args.player.now c.if-whole-gt0.player (g.W.Sink.contents c.args.writer.now) (g.W.Sink.contents c.if-whole-gt0.writer)
     (c.args.held.now.items ++ c.args.bytes.now) c.if-whole-gt0.held.items (drop n.result c.args.bytes.now) s =
     elim c.if-whole-gt0.branch [
       | then-whole-gt0+in_ok-extend_from_slice+in_ok-play_lines w ↦
@@ -38,7 +38,7 @@ returns-in_err-extend_from_slice-2-clause-plays g c = λ s at.
 pub returns-clause-plays : goal.returns-clause-plays
 returns-clause-plays g c = λ s at.
     let n = c.whole_lines-whole in
-    let j : Joined c.args.player.now c.if-whole-gt0.player (g.W.Sink.contents c.args.writer.now) (g.W.Sink.contents c.if-whole-gt0.writer)
+    let j : JoinedLines c.args.player.now c.if-whole-gt0.player (g.W.Sink.contents c.args.writer.now) (g.W.Sink.contents c.if-whole-gt0.writer)
     (c.args.held.now.items ++ c.args.bytes.now) c.if-whole-gt0.held.items (drop n.result c.args.bytes.now) s =
     elim c.if-whole-gt0.branch [
       | then-whole-gt0+in_ok-extend_from_slice+in_ok-play_lines w ↦

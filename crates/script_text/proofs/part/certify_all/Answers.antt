@@ -2,7 +2,7 @@ use Rattle.std.proofs.Common.{◌≡◌, ◌∷◌, [], length, ap, subst, ◌�
 use Rattle.std.proofs.lemmas.List.{length-append}
 use Rattle.std.specs.Vec.Iter.{into_iter_items}
 use Rattle.life_check.specs.Accepted.{CertifiedModule as Pair}
-use Rattle.script_text.specs.Certified.{IsCertified, refusal_with}
+use Rattle.script_text.specs.Certified.{HasCertificate, refusal_with}
 use Rattle.script_text.specs.Heads.{ScriptPart, seen_part}
 use Rattle.script_text.specs.Parts.{refusal_of}
 use Rattle.script_text.proofs.PartLaws.{all_certified, maps_on, nothing_left, unmade_at, unmade_on}
@@ -17,7 +17,7 @@ loop-part-preserved c =
     let all = c.args.parts.items in
     let steps : left ≡ part ∷ rest = c.in-Some.ensures.steps.0 in
     let pushed = c.in_ok-push-in-With.ensures.items in
-    let is = subst (IsCertified (seen_part part)) c.in-With.is c.in_ok-cert.ensures in
+    let is = subst (HasCertificate (seen_part part)) c.in-With.is c.in_ok-cert.ensures in
     record {
       codes = maps_on (λ (x : Pair). x.0) (λ (x : ScriptPart). x.code) at.pairs.items c.push.new.self.items left rest all part _ at.invariant.codes steps pushed (search rules);
       refusals = maps_on refusal_with refusal_of at.pairs.items c.push.new.self.items left rest all part _ at.invariant.refusals steps pushed is.1;
@@ -33,7 +33,7 @@ returns-in-Refused-clause-refused c =
     let index : c.len-index.result ≡ length at.pairs.items = search rules in
     unmade_at at.pairs.items (into_iter_items at.part-iterator)
     (into_iter_items c.next.new.self) c.args.parts.items part c.len-index.result c.in-Refused.refusal at.invariant.unmade c.in-Some.ensures.steps.0
-    (subst (IsCertified (seen_part part)) c.in-Refused.is c.in_ok-cert.ensures) index
+    (subst (HasCertificate (seen_part part)) c.in-Refused.is c.in_ok-cert.ensures) index
 
 pub returns-clause-certified : goal.returns-clause-certified
 returns-clause-certified c =

@@ -1,5 +1,5 @@
 use Rattle.http_front.specs.Apart.{none_made}
-use Rattle.http_front.proofs.Beside.{beside_same, err_both}
+use Rattle.http_front.proofs.Beside.{beside_made, beside_same, err_both}
 use Rattle.http_front.specs.Among.{ComesIn}
 use Rattle.http_front.proofs.SliceLaws.{alive_after, begun_host}
 use Rattle.http_front.proofs.requests.HostHandler.begin.Goals as goal
@@ -17,3 +17,6 @@ pub returns-clause-open : goal.returns-clause-open
 returns-clause-open g c =
     alive_after g.F.Files.device c.args.number c.args.self.now c.begin_request.new.host (λ way b h. ComesIn way b h c.args.number c.args.method c.args.file.now)
     c.begin_request.result c.requires c.begin_request.ensures.leads
+
+pub returns-clause-beside : goal.returns-clause-beside
+returns-clause-beside g c from so = beside_made g.F.Files.device c.args.number from c.args.self.now c.begin_request.new.host so _ c.begin_request.ensures.few

@@ -30,7 +30,7 @@ use Rattle.ring_passes.specs.Delivery.{WasDelivered, out_of}
 use Rattle.ring_calls.specs.Ends.{EndInFiles}
 use Rattle.ring_calls.specs.Given.{RangeIsOpen}
 use Rattle.ring_calls.specs.Held.{IsHeld}
-use Rattle.ring_calls.specs.LeftAlone.{LeavesOthers}
+use Rattle.ring_calls.specs.LeftAlone.{LeavesForeign}
 use Rattle.module_run.specs.Proceeding.{CanProceed, LeftAs}
 use Rattle.ring_calls.specs.Seen.{seen, seen_over}
 use Rattle.ring_calls.specs.Slots.{live_in, marked, slot_at}
@@ -170,8 +170,8 @@ module _ (g : Over) (c : goal.After-self-2-1 g)
   call_name : top_is.call.name ≡ top_was.filter.call.name
   call_name = ap (λ (k : Call). k.name) c.go_on.ensures ∙ ap (λ (q : Filter). q.call.name) top_read
 
-  leaves : (call : Call) → LeavesOthers c.args.store.now c.pass_out.new.store top_was.filter.instance call
-  leaves call = subst (λ (q : Filter). LeavesOthers c.args.store.now c.pass_out.new.store q.instance call) top_read (c.in_ok-well.ensures.left call)
+  leaves : (call : Call) → LeavesForeign c.args.store.now c.pass_out.new.store top_was.filter.instance call
+  leaves call = subst (λ (q : Filter). LeavesForeign c.args.store.now c.pass_out.new.store q.instance call) top_read (c.in_ok-well.ensures.left call)
 
 pub returns-clause-ok : goal.returns-clause-ok
 returns-clause-ok g c chain tree v f rest last ready =

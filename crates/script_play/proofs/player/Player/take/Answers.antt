@@ -2,7 +2,7 @@ use Rattle.std.proofs.Common.{◌≡◌, ◌<◌, inl, inr, true, length, sym, �
 use Rattle.std.proofs.lemmas.Bool.Decides.{nat_tests}
 use Rattle.script_play.specs.Written.{is_over}
 use Rattle.script_play.proofs.PlayerLaws.{on_err_any}
-use Rattle.script_play.proofs.TakingLaws.{IsFirst, taking_first, taking_more, taking_some, taking_end}
+use Rattle.script_play.proofs.TakingLaws.{IsFirstLine, taking_first, taking_more, taking_some, taking_end}
 use Rattle.script_play.proofs.player.Player.take.Goals as goal
 
 pub loop-self-init : goal.loop-self-init
@@ -13,7 +13,7 @@ loop-self-preserved g c = λ s at.
     let k = c.loop-self.invariant s at in
     let some : 0 < length c.loop-self.rest.now = grind arith in
     let line = c.first_line-line in
-    let f : IsFirst c.loop-self.rest.now line.result.text.now line.result.ended line.result.width = record {
+    let f : IsFirstLine c.loop-self.rest.now line.result.text.now line.result.ended line.result.width = record {
       text_is = line.ensures.text;
       ended_is = line.ensures.ended;
       lines = line.ensures.lines some;
