@@ -12,7 +12,7 @@ use Rattle.bucket_kinds.specs.Reading.{GivesFor}
 use Rattle.bucket_ring.specs.declared.names.BucketId.{BucketId}
 use Rattle.bucket_ring.specs.Lists.{list_at, found}
 use Rattle.stored_rings.specs.Items.{Items, range_in, replaced}
-use Rattle.brigade_ops.specs.Reads.{IsRead}
+use Rattle.brigade_ops.specs.Reads.{IsBucketRead}
 use Rattle.stored_rings.proofs.Lists.{on_same, put_back}
 
 -- what a read leaves does not depend on the bytes
@@ -41,7 +41,7 @@ plain x none = go x.kind x.home x.content none where
   go k h content.Nothing none = (refl, refl, λ d. tt)
 
 pub unread_is : (id : BucketId) (at : Option ℕ) (d : Device) (old : ℕ → Option Items) (n : ℕ) (x : Bucket) → range_in x ≡ None
-    → ((b : ℕ) → at ≡ Some b → found id (list_at old b) ≡ Some x) → IsRead id x at d d old old n n (Ok None)
+    → ((b : ℕ) → at ≡ Some b → found id (list_at old b) ≡ Some x) → IsBucketRead id x at d d old old n n (Ok None)
 unread_is id at d old n x none here =
     let same = plain x none in
     record {

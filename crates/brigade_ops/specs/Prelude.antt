@@ -32,5 +32,5 @@ pub use Rattle.stored_rings.specs.Views.{bucket_of, content_of}
 pub use Rattle.brigade_ops.specs.Due.{is_reached}
 pub use Rattle.brigade_ops.specs.Files.{SameButOpen, count_at, is_let_go, refs_in, times_in}
 pub use Rattle.brigade_ops.specs.House.{AreOpen, IsHouse, cleared_items, cleared_ring, pool_left}
-pub use Rattle.brigade_ops.specs.Reads.{IsAskedFor, IsRead}
+pub use Rattle.brigade_ops.specs.Reads.{IsAskedFor, IsBucketRead}
 pub use Rattle.brigade_ops.specs.Visits.{AreVisited}

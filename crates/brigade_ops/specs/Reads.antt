@@ -19,7 +19,7 @@ pub record IsAskedFor {A : Type 0} (x : Content) (d e : Device) (result : Result
   pub open_files : e.numbered ≡ d.numbered
 
 -- The bucket x of the name id was read. What a read leaves of a longer range stands behind it under a name of its own.
-pub record IsRead (id : BucketId) (x : Bucket) (at : Option ℕ) (d e : Device) (old new : ℕ → Option Items) (next after : ℕ) (result : Result (Option BucketId) ReadRefusal) : Type 0 where
+pub record IsBucketRead (id : BucketId) (x : Bucket) (at : Option ℕ) (d e : Device) (old new : ℕ → Option Items) (next after : ℕ) (result : Result (Option BucketId) ReadRefusal) : Type 0 where
   pub ok : IfOk result (λ rest. (b : ℕ) → at ≡ Some b → (bytes : List ℕ) × GivesFor d x.content bytes
       × ((m : ℕ) → new m ≡ on b (replaced id (read_of bytes x).0 (rest_item rest (read_of bytes x).1)) old m))
   pub rest : IfOk result (λ rest. is_some rest ≡ is_some (read_of [] x).1)

@@ -147,22 +147,19 @@ impl<R: Rings<Stored> + Drop> Brigades<R> {
         self.held.drop_all(b);
     }
 
-    /// Moves all buckets of `b` to the tail of `a` (`APR_BRIGADE_CONCAT`). It takes no memory, and is never refused.
-    pub fn concat(&mut self, a: BrigadeId, b: BrigadeId) -> Result<(), AllocError>
+    /// Moves all buckets of `b` to the tail of `a` (`APR_BRIGADE_CONCAT`). It takes no memory.
+    pub fn concat(&mut self, a: BrigadeId, b: BrigadeId)
         requires onto { is_some (lists self.old a) ≡ true }
         requires from { is_some (lists self.old b) ≡ true }
         requires apart { a ≢ b }
-        ensures ok { OnOk result ((n : ℕ) → lists self.new n ≡ on a (λ xs. xs ++ list_at (lists self.old) b) (on b (λ xs. []) (lists self.old)) n) }
-        ensures sure { IsOk result }
+        ensures out { (n : ℕ) → lists self.new n ≡ on a (λ xs. xs ++ list_at (lists self.old) b) (on b (λ xs. []) (lists self.old)) n }
         ensures next { next_name self.new ≡ next_name self.old }
         ensures names { NoneRevived (brigade_of self.old) (brigade_of self.new) (next_name self.old) }
         ensures pools { pool_of self.new ≡ pool_of self.old }
         ensures references { references self.new ≡ references self.old }
-        ensures err { OnErr result ((n : ℕ) → lists self.new n ≡ lists self.old n) }
         ensures unasked { self.new.asked ≡ self.old.asked }
     {
         self.held.splice_tail(a, b);
-        Ok(())
     }
 
     /// Sets the name that the next brigade or bucket gets to this or a later one: those between were given by others.

@@ -2,7 +2,7 @@
 
 ghost use Rattle.std.specs.Prelude.{◌≡◌, ◌≢◌, ◌⊎◌, ◌&&◌, ℕ, ◌+◌, ◌<◌, List, [], ◌∷◌, length, Ok, Some, None, Err, true, is_some, is_ok, if◌then◌else◌, IfOk, IfSome, OnOk, OnErr};
 ghost use Rattle.brigade_ops.specs.Prelude.{on, with_payload, NoneRevived, EndsInFile, wanted, read_of, Kept, WentWell, HasFailed, WasAsked, IsOpenFor, GivesFor, EndsWithin, replaced, rest_item};
-ghost use Rattle.brigade_ops.specs.Prelude.{range_in, IsAskedFor, IsRead, lies_right};
+ghost use Rattle.brigade_ops.specs.Prelude.{range_in, IsAskedFor, IsBucketRead, lies_right};
 
 use crate::store::Brigades;
 use bucket_kinds::{Files, ReadFault, Stored, keep_own, read_into, rest_of_read, room_to_read};
@@ -153,7 +153,7 @@ impl<R: Rings<Stored> + Drop> Brigades<R> {
         requires ends { (x : Bucket) → bucket_at self.old id ≡ Some x → EndsInFile x.content }
         requires open { (x : Bucket) → bucket_at self.old id ≡ Some x → IsOpenFor (F.device files.old) x.content }
         ensures read { (x : Bucket) → bucket_at self.old id ≡ Some x
-            → IsRead id x (brigade_of self.old id) (F.device files.old) (F.device files.new) (lists self.old) (lists self.new) (next_name self.old) (next_name self.new) result }
+            → IsBucketRead id x (brigade_of self.old id) (F.device files.old) (F.device files.new) (lists self.old) (lists self.new) (next_name self.old) (next_name self.new) result }
         ensures names { NoneRevived (brigade_of self.old) (brigade_of self.new) (next_name self.old) }
         ensures name { IfOk result (λ rest. IfSome rest (λ new. new.birth ≡ next_name self.old)) }
         ensures pools { pool_of self.new ≡ pool_of self.old }

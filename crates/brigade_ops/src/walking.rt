@@ -1,7 +1,7 @@
 //! A brigade is walked along: measured, split and parted.
 
 ghost use Rattle.std.specs.Prelude.{◌≡◌, ◌≢◌, ◌==◌, ◌&&◌, ◌||◌, ℕ, ◌+◌, ◌-◌, ◌<◌, ◌^◌, nat_lt, min};
-ghost use Rattle.std.specs.Prelude.{[], ◌∷◌, drop, length, Some, None, Ok, Err, true, false, is_some, is_ok, if◌then◌else◌, IsOk, IfOk, IfSome, OnOk, OnErr};
+ghost use Rattle.std.specs.Prelude.{[], ◌∷◌, drop, length, Some, None, Ok, Err, true, false, is_some, is_ok, if◌then◌else◌, IfOk, IfSome, OnErr};
 ghost use Rattle.brigade_ops.specs.Prelude.{on, list_at, rest, first_of, NoneRevived, length_in, EndsInFile, form_of, form_of_kind, length_of, split_at, named, replaced, before_place, from_place};
 ghost use Rattle.brigade_ops.specs.Prelude.{point_in, is_inside, cut_at};
 
@@ -10,7 +10,6 @@ use crate::visits::Visitor;
 use bucket_kinds::Stored;
 use bucket_ring::{BucketId, RingRefusal, Rings};
 use run_model::Bucket;
-use std::alloc::AllocError;
 use stored_rings::{Cut, Point, SplitRefusal, View};
 
 /// What goes along a brigade up to a point.
@@ -134,33 +133,24 @@ impl<R: Rings<Stored> + Drop> Brigades<R> {
     }
 
     /// Splits a brigade at a place (`apr_brigade_split_ex`): `a` is cleaned, and what stands from the place on moves into it; at the end,
-    /// which is no bucket, nothing moves. It takes no memory, and is never refused.
-    pub fn split_at(
-        &mut self,
-        b: BrigadeId,
-        place: Option<BucketId>,
-        a: BrigadeId,
-    ) -> Result<(), AllocError>
+    /// which is no bucket, nothing moves. It takes no memory.
+    pub fn split_at(&mut self, b: BrigadeId, place: Option<BucketId>, a: BrigadeId)
         requires from { is_some (lists self.old b) ≡ true }
         requires into { is_some (lists self.old a) ≡ true }
         requires apart { a ≢ b }
         requires inside { IfSome place (λ id. brigade_of self.old id ≡ Some b) }
-        ensures ok { OnOk result ((n : ℕ) → lists self.new n ≡ on a (λ xs. from_place place (list_at (lists self.old) b)) (on b (before_place place) (lists self.old)) n) }
-        ensures sure { IsOk result }
+        ensures out { (n : ℕ) → lists self.new n ≡ on a (λ xs. from_place place (list_at (lists self.old) b)) (on b (before_place place) (lists self.old)) n }
         ensures next { next_name self.new ≡ next_name self.old }
         ensures names { NoneRevived (brigade_of self.old) (brigade_of self.new) (next_name self.old) }
         ensures pools { pool_of self.new ≡ pool_of self.old }
         ensures references { references self.new ≡ references self.old }
-        ensures err { OnErr result ((n : ℕ) → lists self.new n ≡ lists self.old n) }
         ensures unasked { self.new.asked ≡ self.old.asked }
     {
         let Some(id) = place else {
-            self.held.drop_all(a);
-            return Ok(());
+            return self.held.drop_all(a);
         };
         self.held.splice_from(id, a);
         self.held.drop_before(a, id);
-        Ok(())
     }
 
     /// How many bytes the buckets of a brigade stand for (`apr_brigade_length`).

@@ -129,11 +129,11 @@ module _ {T : Type 0} where
   picked_found id x (b ∷ bs) h = one_found (same b.0 id) b id x bs (rest id bs) refl (picked_found id x bs) h
 
   -- a list around a bucket that is found
-  pub around : (id : BucketId) (x : T) (bs : List (BucketId × T)) → found id bs ≡ Some x → rest id bs ≡ (id, x) ∷ drop 1 (rest id bs)
-  around id x bs h = sym (take-append-drop 1 (rest id bs)) ∙ ap (λ (cs : List (BucketId × T)). cs ++ drop 1 (rest id bs)) (picked_found id x bs h)
+  pub view : (id : BucketId) (x : T) (bs : List (BucketId × T)) → found id bs ≡ Some x → rest id bs ≡ (id, x) ∷ drop 1 (rest id bs)
+  view id x bs h = sym (take-append-drop 1 (rest id bs)) ∙ ap (λ (cs : List (BucketId × T)). cs ++ drop 1 (rest id bs)) (picked_found id x bs h)
 
   pub without_shorter : (id : BucketId) (x : T) (bs : List (BucketId × T)) → found id bs ≡ Some x → length (without id bs) + 1 ≡ length bs
-  without_shorter id x bs h = omega (arith, length-append (front id bs) (drop 1 (rest id bs)), length-append (front id bs) (rest id bs), ap length (parts id bs), ap length (around id x bs h))
+  without_shorter id x bs h = omega (arith, length-append (front id bs) (drop 1 (rest id bs)), length-append (front id bs) (rest id bs), ap length (parts id bs), ap length (view id x bs h))
 
   -- a list that was made shorter
   pub on_shorter : (q : ℕ) (id : BucketId) (lists new : ℕ → Option (List (BucketId × T))) → ((n : ℕ) → new n ≡ on q (without id) lists n) → (r : ℕ) → length (list_at new r) ≤ length (list_at lists r)

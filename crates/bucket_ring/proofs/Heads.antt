@@ -17,7 +17,7 @@ use Rattle.bucket_ring.proofs.Counted.{upd_on, upd_off}
 use Rattle.bucket_ring.proofs.Walks.{count_append, count_here}
 use Rattle.bucket_ring.proofs.Linked.{own_ring, other_ring}
 use Rattle.bucket_ring.proofs.Shown.{listed_append, listed_same}
-use Rattle.bucket_ring.proofs.Read.{nothing_there, around_of, head_of_bucket}
+use Rattle.bucket_ring.proofs.Read.{nothing_there, view_of, head_of_bucket}
 
 -- no ring at all
 pub none_linked : (f b : ℕ → ℕ) (mark at : ℕ → Option ℕ) (heads : ℕ → Option RingHead) → ((k : ℕ) → f k ≡ k) → ((k : ℕ) → b k ≡ k) → ((k : ℕ) → at k ≡ None) → ((r : ℕ) → heads r ≡ None)
@@ -142,7 +142,7 @@ module _ {T N : Type 0} {g : Ghosts N T} where
 
     one : (h : RingHead) → head_of s r ≡ Some h → listed (bucket_of t) (slots (behind_of s) (Some h)) ≡ with_payload id x (listed (bucket_of s) (slots (behind_of s) (Some h)))
     one h e =
-        let w = around_of s linked id r h e in_r in
+        let w = view_of s linked id r h e in_r in
         let all : count id.slot w.1 + count id.slot (id.slot ∷ w.2) ≡ 1 =
         sym (count_append id.slot w.1 (id.slot ∷ w.2)) ∙ ap (count id.slot) (sym w.6) ∙ own_ring (behind_of s) (before_of s) (mark_of s) (at_of s) (head_of s) linked id.slot r h e w.5 in
         let none : count id.slot w.2 ≡ 0 = omega (arith, all, count_here id.slot w.2) in
@@ -160,7 +160,7 @@ module _ {T N : Type 0} {g : Ghosts N T} where
     other n ne None e = refl
     other n ne (Some h) e =
         let g = head_of_bucket s linked id r in_r in
-        let w = around_of s linked id r g.0 g.1 in_r in
+        let w = view_of s linked id r g.0 g.1 in_r in
         ap Some (listed_same (bucket_of s) (bucket_of t) id.slot (slots (behind_of s) (Some h)) off
         (other_ring (behind_of s) (before_of s) (mark_of s) (at_of s) (head_of s) linked id.slot r n h e w.5 ne))
 

@@ -58,17 +58,17 @@ module _ {T N : Type 0} {g : Ghosts N T} where
     pub head_of_bucket : (id : BucketId) (r : ℕ) → ring_at s id ≡ Some r → (h : RingHead) × (head_of s r ≡ Some h)
     head_of_bucket id r e = head_is (head_of s r) (head_there (behind_of s) (before_of s) (mark_of s) (at_of s) (head_of s) linked id.slot r (place_of id r e).3)
 
-    pub around_of : (id : BucketId) (r : ℕ) (h : RingHead) → head_of s r ≡ Some h → ring_at s id ≡ Some r
+    pub view_of : (id : BucketId) (r : ℕ) (h : RingHead) → head_of s r ≡ Some h → ring_at s id ≡ Some r
         → (c : BucketId × T) × (xs : List ℕ) × (ys : List ℕ) × (bucket_of s id.slot ≡ Some c) × (same c.0 id ≡ true) × (at_of s id.slot ≡ Some r)
         × (slots (behind_of s) (Some h) ≡ xs ++ id.slot ∷ ys) × (count id.slot xs ≡ 0)
         × (front id (listed (bucket_of s) (slots (behind_of s) (Some h))) ≡ listed (bucket_of s) xs) × (rest id (listed (bucket_of s) (slots (behind_of s) (Some h))) ≡ c ∷ listed (bucket_of s) ys)
     unfolding ring_at
-    around_of id r h e in_r = stands_in (bucket_of s) (mark_of s) (at_of s) (shown_of s) (behind_of s) (before_of s) (head_of s) linked id r h e in_r
+    view_of id r h e in_r = stands_in (bucket_of s) (mark_of s) (at_of s) (shown_of s) (behind_of s) (before_of s) (head_of s) linked id r h e in_r
 
     pub next_is : (id : BucketId) (r : ℕ) → ring_at s id ≡ Some r → first_of (drop 1 (rest id (list_at (lists_of s) r))) ≡ option_map (λ (b : BucketId × T). b.0) (bucket_of s (behind_of s id.slot))
     next_is id r in_r =
         let h = head_of_bucket id r in_r in
-        let w = around_of id r h.0 h.1 in_r in
+        let w = view_of id r h.0 h.1 in_r in
         let walk : Walk (behind_of s) (behind_of s h.0.sentinel) (w.1 ++ id.slot ∷ w.2) h.0.sentinel =
         subst (λ (ks : List ℕ). Walk (behind_of s) (behind_of s h.0.sentinel) ks h.0.sentinel) w.6 (ring_walk (behind_of s) (before_of s) (mark_of s) (at_of s) (head_of s) linked r h.0 h.1) in
         ap (λ (bs : List (BucketId × T)). first_of (drop 1 (rest id bs))) (read_ring r h.0 h.1) ∙ ap (λ (bs : List (BucketId × T)). first_of (drop 1 bs)) w.9
@@ -79,7 +79,7 @@ module _ {T N : Type 0} {g : Ghosts N T} where
     pub payload_is : (id : BucketId) (r : ℕ) → ring_at s id ≡ Some r → found id (list_at (lists_of s) r) ≡ option_map (λ (b : BucketId × T). b.1) (bucket_of s id.slot)
     payload_is id r in_r =
         let h = head_of_bucket id r in_r in
-        let w = around_of id r h.0 h.1 in_r in
+        let w = view_of id r h.0 h.1 in_r in
         ap (found id) (read_ring r h.0 h.1) ∙ ap payload_of w.9 ∙ sym (ap (option_map (λ (b : BucketId × T). b.1)) w.3)
 
     -- the slot at a spot is there

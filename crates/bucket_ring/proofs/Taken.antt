@@ -27,40 +27,40 @@ module _ {T N : Type 0} {g : Ghosts N T} where
     abbrev out : RingHead
     out = record { sentinel = h.sentinel; count = m }
 
-    around : (c : BucketId × T) × (xs : List ℕ) × (ys : List ℕ) × (bucket_of s id.slot ≡ Some c) × (same c.0 id ≡ true) × (at_of s id.slot ≡ Some ring)
+    view : (c : BucketId × T) × (xs : List ℕ) × (ys : List ℕ) × (bucket_of s id.slot ≡ Some c) × (same c.0 id ≡ true) × (at_of s id.slot ≡ Some ring)
         × (slots (behind_of s) (Some h) ≡ xs ++ id.slot ∷ ys) × (count id.slot xs ≡ 0)
         × (front id (listed (bucket_of s) (slots (behind_of s) (Some h))) ≡ listed (bucket_of s) xs) × (rest id (listed (bucket_of s) (slots (behind_of s) (Some h))) ≡ c ∷ listed (bucket_of s) ys)
     unfolding ring_at
-    around = stands_in (bucket_of s) (mark_of s) (at_of s) (shown_of s) (behind_of s) (before_of s) (head_of s) linked id ring h head in_ring
+    view = stands_in (bucket_of s) (mark_of s) (at_of s) (shown_of s) (behind_of s) (before_of s) (head_of s) linked id ring h head in_ring
 
     one : OneRing (behind_of s) (behind_of t) (before_of s) (before_of t) (mark_of s) (mark_of t) (at_of s) (at_of t) (head_of s) (head_of t) id.slot ring id.slot (behind_of s id.slot) None h out
-        (around.1 ++ around.2)
+        (view.1 ++ view.2)
     one = one_taken (behind_of s) (behind_of t) (before_of s) (before_of t) (mark_of s) (mark_of t) (at_of s) (at_of t) (head_of s)
-        (head_of t) id.slot ring id.slot h out linked head change.heads refl change.mark change.behind change.before refl around.5 less change.at around.1 around.2 around.6
+        (head_of t) id.slot ring id.slot h out linked head change.heads refl change.mark change.behind change.before refl view.5 less change.at view.1 view.2 view.6
 
-    none_behind : count id.slot around.2 ≡ 0
+    none_behind : count id.slot view.2 ≡ 0
     none_behind =
-        let all : count id.slot around.1 + count id.slot (id.slot ∷ around.2) ≡ 1 = sym (count_append id.slot around.1 (id.slot ∷ around.2)) ∙ ap (count id.slot) (sym around.6)
-        ∙ own_ring (behind_of s) (before_of s) (mark_of s) (at_of s) (head_of s) linked id.slot ring h head around.5 in
-        omega (arith, all, count_here id.slot around.2)
+        let all : count id.slot view.1 + count id.slot (id.slot ∷ view.2) ≡ 1 = sym (count_append id.slot view.1 (id.slot ∷ view.2)) ∙ ap (count id.slot) (sym view.6)
+        ∙ own_ring (behind_of s) (before_of s) (mark_of s) (at_of s) (head_of s) linked id.slot ring h head view.5 in
+        omega (arith, all, count_here id.slot view.2)
 
     other_buckets : (j : ℕ) → j ≢ id.slot → bucket_of t j ≡ bucket_of s j
     other_buckets j ne = change.bucket_new j ∙ upd_off (bucket_of s) id.slot None j ne
 
     pub taken_linked : AreLinked t
     taken_linked = still_linked (behind_of s) (behind_of t) (before_of s) (before_of t) (mark_of s) (mark_of t) (at_of s) (at_of t) (head_of s) (head_of t) id.slot ring id.slot
-        (behind_of s id.slot) None h out (around.1 ++ around.2) one
+        (behind_of s id.slot) None h out (view.1 ++ view.2) one
 
     pub taken_lists : (n : ℕ) → lists_of t n ≡ on ring (without id) (lists_of s) n
     unfolding lists_of
     taken_lists =
         one_list (behind_of s) (behind_of t) (before_of s) (before_of t) (mark_of s) (mark_of t) (at_of s) (at_of t) (head_of s) (head_of t) id.slot ring id.slot (behind_of s id.slot) None h out
-        (around.1 ++ around.2) one (bucket_of s) (bucket_of t) other_buckets (without id)
-        (listed_append (bucket_of t) around.1 around.2
-        ∙ ap (λ (bs : List (BucketId × T)). bs ++ listed (bucket_of t) around.2) (listed_same (bucket_of s) (bucket_of t) id.slot around.1 other_buckets around.7)
-        ∙ ap (λ (bs : List (BucketId × T)). listed (bucket_of s) around.1 ++ bs) (listed_same (bucket_of s) (bucket_of t) id.slot around.2 other_buckets none_behind)
-        ∙ sym (ap (λ (bs : List (BucketId × T)). bs ++ drop 1 (rest id (listed (bucket_of s) (slots (behind_of s) (Some h))))) around.8
-        ∙ ap (λ (bs : List (BucketId × T)). listed (bucket_of s) around.1 ++ drop 1 bs) around.9))
+        (view.1 ++ view.2) one (bucket_of s) (bucket_of t) other_buckets (without id)
+        (listed_append (bucket_of t) view.1 view.2
+        ∙ ap (λ (bs : List (BucketId × T)). bs ++ listed (bucket_of t) view.2) (listed_same (bucket_of s) (bucket_of t) id.slot view.1 other_buckets view.7)
+        ∙ ap (λ (bs : List (BucketId × T)). listed (bucket_of s) view.1 ++ bs) (listed_same (bucket_of s) (bucket_of t) id.slot view.2 other_buckets none_behind)
+        ∙ sym (ap (λ (bs : List (BucketId × T)). bs ++ drop 1 (rest id (listed (bucket_of s) (slots (behind_of s) (Some h))))) view.8
+        ∙ ap (λ (bs : List (BucketId × T)). listed (bucket_of s) view.1 ++ drop 1 bs) view.9))
 
     pub taken_places : (j : BucketId) → ring_at t j ≡ (if same id j then None else ring_at s j)
     unfolding ring_at
@@ -71,18 +71,18 @@ module _ {T N : Type 0} {g : Ghosts N T} where
           ∙ go (same id j) refl where
             go : (b : Bool) → same id j ≡ b → None ≡ (if b then None else ring_named (bucket_of s) (at_of s) j)
             go true is = refl
-            go false is = sym (ap (λ (o : Option (BucketId × T)). if is_named j o then at_of s j.slot else None) (ap (bucket_of s) e ∙ around.3)
-                ∙ ap (λ (b : Bool). if b then at_of s j.slot else None) (ap (λ (i : BucketId). same i j) (same_name around.0.0 id around.4) ∙ is))
+            go false is = sym (ap (λ (o : Option (BucketId × T)). if is_named j o then at_of s j.slot else None) (ap (bucket_of s) e ∙ view.3)
+                ∙ ap (λ (b : Bool). if b then at_of s j.slot else None) (ap (λ (i : BucketId). same i j) (same_name view.0.0 id view.4) ∙ is))
 
     pub taken_loose : IsLooseSlot t id.slot
     taken_loose = record {
-      there = change.room.there id.slot ∙ there_at s id.slot ring around.5;
+      there = change.room.there id.slot ∙ there_at s id.slot ring view.5;
       itself = change.behind id.slot ∙ turned_here (behind_of s) (before_of s) linked.back linked.forth id.slot id.slot;
       nowhere = change.at id.slot ∙ upd_on (at_of s) id.slot None;
       apart = by_ring (behind_of s) (behind_of t) (before_of s) (before_of t) (mark_of s) (mark_of t) (at_of s) (at_of t) (head_of s) (head_of t) id.slot ring id.slot
-          (behind_of s id.slot) None h out (around.1 ++ around.2) one
+          (behind_of s id.slot) None h out (view.1 ++ view.2) one
           (λ n g. g.sentinel ≢ id.slot) (sentinel_off (behind_of s) (behind_of t) (before_of s) (before_of t) (mark_of s) (mark_of t) (at_of s) (at_of t) (head_of s)
-          (head_of t) id.slot ring id.slot (behind_of s id.slot) None h out (around.1 ++ around.2) one)
+          (head_of t) id.slot ring id.slot (behind_of s id.slot) None h out (view.1 ++ view.2) one)
           (λ n g e ne. one.bucket n g e);
     }
 
@@ -92,14 +92,14 @@ module _ {T N : Type 0} {g : Ghosts N T} where
     whole = list_here (bucket_of s) (mark_of s) (at_of s) (shown_of s) (behind_of s) (before_of s) (head_of s) linked ring
         ∙ ap (λ (o : Option RingHead). listed (bucket_of s) (slots (behind_of s) o)) head
 
-    is_it : (id_of id.slot birth, x) ≡ around.0
-    is_it = same_Some (id_of id.slot birth, x) around.0 (sym had ∙ around.3)
+    is_it : (id_of id.slot birth, x) ≡ view.0
+    is_it = same_Some (id_of id.slot birth, x) view.0 (sym had ∙ view.3)
 
     pub taken_payload : found id (list_at (lists_of s) ring) ≡ Some x
-    taken_payload = ap (found id) whole ∙ ap payload_of around.9 ∙ ap (λ (c : BucketId × T). Some c.1) (sym is_it)
+    taken_payload = ap (found id) whole ∙ ap payload_of view.9 ∙ ap (λ (c : BucketId × T). Some c.1) (sym is_it)
 
     pub taken_birth : birth ≡ id.birth
-    taken_birth = ap (λ (c : BucketId × T). c.0.birth) is_it ∙ same_birth around.0.0 id around.4
+    taken_birth = ap (λ (c : BucketId × T). c.0.birth) is_it ∙ same_birth view.0.0 id view.4
 
   -- a bucket is put in
   module _ (s t : Links T N g) (slot ring : ℕ) (position : Position) (birth : ℕ) (x : T) (h : RingHead) (linked : AreLinked s) (loose : IsLooseSlot s slot) (is : IsSpot (ring_at s) ring position)

@@ -20,7 +20,7 @@ use Rattle.filter_chain.specs.HostViews.{Answers}
 use Rattle.filter_chain.specs.Led.{IsAlive, Refines}
 use Rattle.filter_chain.specs.Running.{HostGoesOn, StepsOn}
 use Rattle.filter_chain.specs.Safe.{GoesWell, IsSafe}
-use Rattle.filter_chain.proofs.Driving.{Happened, by_event, leads_as, leads_on}
+use Rattle.filter_chain.proofs.Driving.{HappenedInAny, by_event, leads_as, leads_on}
 use Rattle.filter_chain.proofs.Faultless.{can_step, is_faultless}
 use Rattle.filter_chain.proofs.Going.{IsGoing, going_on, safe_still}
 use Rattle.filter_chain.proofs.HostEvents.{lent, none_found, served}
@@ -46,7 +46,7 @@ pub one_step : {F R : Type 0} {g : Ghosts R Stored} (device : F → Device) (hos
     → {modules : List Program}
     → modules ≡ chain_of host
     → (b : ViewIn host) (answer : Result Stepped Refusal) → StepAnswers device (budget_of host) modules host.chain.bare (conn_view conn0 host.tree host.store host.files) answer b
-    → Happened device host (host_with host table b) number event.Step (step_answer answer)
+    → HappenedInAny device host (host_with host table b) number event.Step (step_answer answer)
 one_step device host number here {modules} same b answer x w hosts =
     served device host number here w hosts event.Step (step_answer answer) b x.leaves
     (λ c s so given. steps_serves same s given (x.step _ (record { stands = lent same so; faultless = is_faultless (device host.files) host number w hosts modules same c s })))
@@ -71,7 +71,7 @@ module _ {F R : Type 0} {g : Ghosts R Stored} (device : F → Device) (host : Ho
   ViewsGoOn = ConnGoesOn device (budget_of host) (chain_of host) host.chain.bare
 
   next_step : (a b : GoingView) (answer : Result Stepped Refusal) → StepAnswers device (budget_of host) (chain_of host) host.chain.bare a answer b
-      → Happened device (with_view a) (with_view b) number event.Step (step_answer answer)
+      → HappenedInAny device (with_view a) (with_view b) number event.Step (step_answer answer)
   unfolding chain_of budget_of
   next_step a b answer = one_step device (with_view a) number (lent_still a.conn) refl b answer
 
@@ -115,7 +115,7 @@ module _ {F R : Type 0} {g : Ghosts R Stored} (device : F → Device) (host : Ho
         goes : ViewsGoOn end.count begun end.before
         goes = subst (λ (m : List Program). ConnGoesOn device (budget_of host) m host.chain.bare end.count begun end.before) same end.goes
 
-        last : Happened device (with_view end.before) (with_view b) number event.Step (step_answer answer)
+        last : HappenedInAny device (with_view end.before) (with_view b) number event.Step (step_answer answer)
         last = next_step end.before b answer (subst (λ (m : List Program). StepAnswers device (budget_of host) m host.chain.bare end.before answer b) same end.last)
 
         pub ends : Refines device host (with_view b) (λ b c s t. StepsOn b c number more s answer t) × (IsSafe host → GoesWell answer)

@@ -9,12 +9,12 @@ use Rattle.filter_chain.specs.HostViews.{HostView, Answers}
 use Rattle.filter_chain.specs.Led.{Transition, IsAlive, Refines}
 
 -- an event, of a host that stands for any world
-abbrev pub Happened : {F R : Type 0} {g : Ghosts R Stored} → (F → Device) → Host F R g → Host F R g → ℕ → Event → Answer → Type 0
-Happened device old new number what answer =
+abbrev pub HappenedInAny : {F R : Type 0} {g : Ghosts R Stored} → (F → Device) → Host F R g → Host F R g → ℕ → Event → Answer → Type 0
+HappenedInAny device old new number what answer =
     (w : World) → IsHosting (device (files_of old)) old w → Happens (device (files_of old)) (device (files_of new)) old new number what answer w
 
 module _ {F R : Type 0} {g : Ghosts R Stored} (device : F → Device) where
-  pub by_event : (old new : Host F R g) (number : ℕ) (what : Event) (answer : Answer) → Happened device old new number what answer
+  pub by_event : (old new : Host F R g) (number : ℕ) (what : Event) (answer : Answer) → HappenedInAny device old new number what answer
       → Refines device old new (λ b c s t. Answers b c number what s answer t)
   by_event old new number what answer h w hosts =
       let x = h w hosts in

@@ -16,7 +16,7 @@ use Rattle.run_model.specs.declared.event.Stepped.TheVariants as stepped
 use Rattle.run_model.specs.BucketSteps.{content_at}
 use Rattle.run_model.specs.Buckets.{is_eos}
 use Rattle.run_model.specs.Chains.{Frame, Connection, Linked, is_last, configuration, module_at}
-use Rattle.run_model.specs.Cursors.{spot}
+use Rattle.run_model.specs.Cursors.{at_cursor}
 use Rattle.run_model.specs.Cutting.{read_limit, wanted}
 use Rattle.run_model.specs.Files.{parts_of}
 use Rattle.run_model.specs.Passing.{Reads}
@@ -102,7 +102,7 @@ module _ (d e : Device) where
   beside v told = (let next = told.1 in record { rises = omega (arith, next); folder = told.0.0; sound = λ sound. told.0.1 ∙ sound; others = λ file old none. told.3 file none })
 
   tells_reads : (chain : List Program) (i : Instr) (f : Frame) (v : Linked) (reads : Reads) → TellsReads d e chain i f v reads → Spares d e v.1
-  tells_reads chain (instr.Read c l) f v reads told = reads_spare v.1 (gives e d (content_at (spot (configuration v.0 v.1 f) c)) (reads 0) told)
+  tells_reads chain (instr.Read c l) f v reads told = reads_spare v.1 (gives e d (content_at (at_cursor (configuration v.0 v.1 f) c)) (reads 0) told)
   tells_reads chain (instr.Pass b l) f v reads told =
       reads_spare v.1 (unless e d (is_last chain f.of) (IfElse v.1.out.ended (e ≡ d) (ReadsGiven d e (items_of ((v.1.instances f.of).brigades b)) reads 0)) (e ≡ d)
       (unless e d v.1.out.ended (e ≡ d) (ReadsGiven d e (items_of ((v.1.instances f.of).brigades b)) reads 0) (same e d) (all_reads e (items_of ((v.1.instances f.of).brigades b)) d reads 0))

@@ -12,7 +12,7 @@ use Rattle.filter_chain.specs.Led.{IsAlive, Refines}
 use Rattle.filter_chain.specs.Running.{HostGoesOn, StepsToEnd, StepsOn}
 use Rattle.filter_chain.specs.Safe.{IsSafe}
 use Rattle.filter_chain.specs.HostViews.{HostView, Answers, host_view}
-use Rattle.filter_chain.proofs.Driving.{Happened, by_event, alive_then, leads_on}
+use Rattle.filter_chain.proofs.Driving.{HappenedInAny, by_event, alive_then, leads_on}
 use Rattle.filter_chain.proofs.StepCounts.{goes_few, goes_more}
 
 -- So many steps went on.
@@ -26,7 +26,7 @@ safe_still old now chain safe = subst ChainNeverFaults (sym chain) safe
 
 module _ {F R : Type 0} {g : Ghosts R Stored} (device : F → Device) (number : ℕ) where
   module _ (old now new : Host F R g) (made : ℕ) (so : IsGoing device old now number made) (answer : Result Stepped Refusal)
-      (step : Happened device now new number event.Step (step_answer answer)) where
+      (step : HappenedInAny device now new number event.Step (step_answer answer)) where
     pub going_on : answer ≡ Ok stepped.Went → IsGoing device old new number (suc made)
     going_on went =
         let one = by_event device now new number event.Step (step_answer answer) step in

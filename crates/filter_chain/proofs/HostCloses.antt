@@ -20,7 +20,7 @@ use Rattle.model_laws.specs.Parts.{part, HasPart, Destroyed}
 use Rattle.model_laws.specs.PartSteps.{OwnFiles}
 use Rattle.model_laws.specs.Reached.{IsReached}
 use Rattle.model_laws.specs.SharedPools.{over}
-use Rattle.model_laws.proofs.chains.EventTurns.{Same}
+use Rattle.model_laws.proofs.chains.EventTurns.{SameTurn}
 use Rattle.model_laws.proofs.chains.LeftTree.{TreeStands}
 use Rattle.model_laws.proofs.chains.OpenedTree.{closing_takes}
 use Rattle.model_laws.proofs.chains.PutBack.{looking}
@@ -68,7 +68,7 @@ close_serves {w = w} {tree = tree} {number = number} {c = c} s given left spared
   tells = (ap (λ (x : Device). x.named) same, ap (λ (x : Device). x.plan) same);
   closes = same;
   short = tt;
-  turn = Same;
+  turn = SameTurn;
   left = left;
   files = (let le = spared.rises in omega (arith, given, le));
   spared = spared;

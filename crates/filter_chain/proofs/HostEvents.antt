@@ -38,12 +38,12 @@ use Rattle.module_run.specs.OpenedFile.{IsAfterOpening}
 use Rattle.module_run.proofs.OpeningsTold.{may_tell_unasked, unasked}
 use Rattle.filter_chain.proofs.Hosts.{found, known, missing, stands_for}
 use Rattle.filter_chain.specs.Led.{IsAlive}
-use Rattle.filter_chain.proofs.Driving.{Happened}
+use Rattle.filter_chain.proofs.Driving.{HappenedInAny}
 use Rattle.filter_chain.proofs.HostsLeft.{holds_put, same_conns}
 use Rattle.filter_chain.proofs.Lent.{IsLent, ViewIn, host_with}
 
-abbrev pub AnyLength : ℕ → Type 0
-AnyLength n = Unit {0}
+abbrev pub OfAnyLength : ℕ → Type 0
+OfAnyLength n = Unit {0}
 
 -- Only reads tell something. (What is told of an opening counts for an opening alone.)
 abbrev pub told_reads : Reads → Told
@@ -156,7 +156,7 @@ pub record Serves {R : Type 0} {g : Ghosts R Stored} (budget : ℕ) (chain : Lis
   pub tells : TellsEvent chain number what (host_view w d) answer told e
   pub closes : ClosesFiles d e chain what answer w.common (Some c) all.0 (Some (linked_in_part c.conn all).1)
   pub short : TellsLengths IsShortLength answer
-  pub turn : EventTurn chain AnyLength w.common (over (map_of tree) c) all
+  pub turn : EventTurn chain OfAnyLength w.common (over (map_of tree) c) all
   pub left : LeftAs chain newer new e conn all
   pub files : all.0.file ≤ e.next
   pub spared : Spares d e c
@@ -203,7 +203,7 @@ module _ {F R : Type 0} {g : Ghosts R Stored} (device : F → Device) (host : Ho
 
 -- None is found.
 pub none_found : {F R : Type 0} {g : Ghosts R Stored} (device : F → Device) (host : Host F R g) (number : ℕ) (after : Conns) → after.by_number ≡ host.conns.by_number → conn_at host.conns number ≡ None
-    → (what : Event) → IsOfConnection what → Happened device host (record host { conns = after }) number what (Refused refusal.NoSuchConn)
+    → (what : Event) → IsOfConnection what → HappenedInAny device host (record host { conns = after }) number what (Refused refusal.NoSuchConn)
 unfolding chain_of budget_of IsHosting
 none_found device host number after same at what of w hosts =
     none_served (device host.files) host (record host { conns = after }) number w hosts refl refl

@@ -27,7 +27,7 @@ use Rattle.module_run.specs.declared.conn.Conn.{Conn}
 use Rattle.module_run.proofs.FileOpens.{keeps_files}
 use Rattle.filter_chain.specs.Hosting.{file_answer}
 use Rattle.filter_chain.specs.HostViews.{TellsEvent, refusal_in}
-use Rattle.filter_chain.proofs.HostEvents.{AnyLength, Serves}
+use Rattle.filter_chain.proofs.HostEvents.{OfAnyLength, Serves}
 use Rattle.filter_chain.proofs.KnownEvents.{put_same}
 
 -- What an opening answers, it answers of the world; what is refused changes nothing.
@@ -40,7 +40,7 @@ opening_told k w c here None (Some req) Missing = ap (λ (x : World). (Refused r
 opening_told k w c here None (Some req) Failing = ap (λ (x : World). (Refused refusal.FileFailed, x)) (sym (put_same k w c here))
 opening_told k w c here None (Some req) (Found skipped bytes) = refl
 
-any_length : (answer : Result (ℕ × ℕ) Refusal) → OpensAs AnyLength answer
+any_length : (answer : Result (ℕ × ℕ) Refusal) → OpensAs OfAnyLength answer
 any_length (Ok file) = tt
 any_length (Err r) = tt
 
@@ -70,7 +70,7 @@ opens_serves {chain = chain} {d = d} {e = e} {w = w} {tree = tree} {number = num
       tells = (st.told, after_answer name answer d e st.after);
       closes = tt;
       short = short_file answer st.short;
-      turn = opens_file_turn chain AnyLength w.common (over (map_of tree) c) (lasted answer) st.opening (any_length all.0);
+      turn = opens_file_turn chain OfAnyLength w.common (over (map_of tree) c) (lasted answer) st.opening (any_length all.0);
       left = st.happened.left;
       files = st.numbers;
       spared = record { rises = kept.rises; folder = kept.folder; sound = kept.sound; others = λ file old none. kept.others file old };

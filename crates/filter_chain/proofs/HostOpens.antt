@@ -24,7 +24,7 @@ use Rattle.run_model.specs.Pools.{Pools, created, is_under}
 use Rattle.model_laws.proofs.chains.OpenedTree.{opening_plants}
 use Rattle.model_laws.proofs.chains.TreeParts.{reached_tree}
 use Rattle.module_run.specs.declared.conn.Conn.{Conn}
-use Rattle.module_run.specs.Neighbours.{ComesBeside, Holds, IsForeign, LeavesOthers}
+use Rattle.module_run.specs.Neighbours.{ComesBeside, HoldsName, IsForeign, LeavesOthers}
 use Rattle.module_run.specs.Opening as opening
 use Rattle.module_run.specs.Opening.{IsUnchanged}
 use Rattle.module_run.specs.Proceeding.{LeftAs}
@@ -188,7 +188,7 @@ opened_on d old new w hosts chain budget last conn conns modules same lasts open
           → LeftAs m new.tree new.store d conn (opening.over (map_of new.tree) (opened m g))) same opens
           d w.common hosts.open_files (sym (pools_next d old w hosts)) hosts.names
 
-      away : (k : ℕ) (x : Conn) → k ≢ w.last + 1 → conn_at old.conns k ≡ Some x → (n : ℕ) → 0 < n → Holds x n → IsForeign no_pools old.store conn n
+      away : (k : ℕ) (x : Conn) → k ≢ w.last + 1 → conn_at old.conns k ≡ Some x → (n : ℕ) → 0 < n → HoldsName x n → IsForeign no_pools old.store conn n
       away k x other there n pos held =
           let given = held_given hosts x (found hosts k x there).2.stacked n held in
           record { real = pos; given = given; unheld = λ too. (let fresh = beside.holds n pos too in omega (arith, given, fresh)); off = λ p on. refl }

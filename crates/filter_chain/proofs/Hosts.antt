@@ -40,7 +40,7 @@ use Rattle.ring_calls.specs.Slots.{name_in, slot_at}
 use Rattle.module_run.specs.declared.conn.Conn.{Conn}
 use Rattle.module_run.specs.declared.conn.Filter.{Filter}
 use Rattle.module_run.specs.Conns.{conn_of, filter_at, lent_by, runs_of, shown_filter, shown_instance}
-use Rattle.module_run.specs.Neighbours.{Holds, IsForeign}
+use Rattle.module_run.specs.Neighbours.{HoldsName, IsForeign}
 use Rattle.module_run.specs.Proceeding.{IsLawful, StandsFor}
 use Rattle.module_run.specs.Stacked.{IsStacked, named_at}
 use Rattle.filter_chain.specs.Hosted.{IsHosted}
@@ -70,10 +70,10 @@ name_held runs rings f b n is = by_lent f.lent is where
     | inr p ↦ name_shown runs rings (slot_at f.instance b) n (sym (ap brigade_name p.1) ∙ is)
   ]
 
-holds_made : (ps : Pools Payload) (rings : ℕ → Option Items) (conn : Conn) (c : Connection) → over ps c ≡ conn_of ps rings c.opened conn → (n p : ℕ) → IsMadeInOne c.instances n p → Holds conn n
+holds_made : (ps : Pools Payload) (rings : ℕ → Option Items) (conn : Conn) (c : Connection) → over ps c ≡ conn_of ps rings c.opened conn → (n p : ℕ) → IsMadeInOne c.instances n p → HoldsName conn n
 unfolding conn_of
 holds_made ps rings conn c seen n p made = by_filter (filter_at conn made.0) refl (ap (λ (x : Connection). brigade_name ((x.instances made.0).brigades made.1.0)) (sym seen) ∙ made.1.1) where
-  by_filter : (o : Option Filter) → filter_at conn made.0 ≡ o → brigade_name ((shown_filter (runs_of conn) rings o).brigades made.1.0) ≡ Some n → Holds conn n
+  by_filter : (o : Option Filter) → filter_at conn made.0 ≡ o → brigade_name ((shown_filter (runs_of conn) rings o).brigades made.1.0) ≡ Some n → HoldsName conn n
   by_filter None is named = absurd (cc)
   by_filter (Some f) is named = record { at = made.0; filter = f; is = is; by = inr (made.1.0, name_held (runs_of conn) rings f made.1.0 n named) }
 
@@ -157,14 +157,14 @@ module _ {R : Type 0} {g : Ghosts R Stored} {budget : ℕ} {chain : List Program
         absurd (subst (λ (o : Option Connection). IsHostedIf chain tree store d None o) here (subst (λ (o : Option Conn). IsHostedIf chain tree store d o (w.conns k)) at (h.conns k)))
 
   -- What a connection holds was given out.
-  pub held_given : (conn : Conn) → IsStacked chain store conn → (n : ℕ) → Holds conn n → n < next_name store
+  pub held_given : (conn : Conn) → IsStacked chain store conn → (n : ℕ) → HoldsName conn n → n < next_name store
   held_given conn stacked n held = elim held.by [
     | inl name ↦ (let lt = (stacked.held held.at held.filter held.is).called in omega (arith, lt, name))
     | inr b ↦ (stacked.held held.at held.filter held.is).named b.0 n b.1
   ]
 
   -- What another connection holds is foreign to this one.
-  pub foreign : (number : ℕ) (conn : Conn) → conns number ≡ Some conn → (k : ℕ) (x : Conn) → k ≢ number → conns k ≡ Some x → (n : ℕ) → 0 < n → Holds x n → IsForeign (map_of tree) store conn n
+  pub foreign : (number : ℕ) (conn : Conn) → conns number ≡ Some conn → (k : ℕ) (x : Conn) → k ≢ number → conns k ≡ Some x → (n : ℕ) → 0 < n → HoldsName x n → IsForeign (map_of tree) store conn n
   unfolding conn_of
   foreign number conn at k x other there n pos held =
       let f = found number conn at in
@@ -186,7 +186,7 @@ module _ {R : Type 0} {g : Ghosts R Stored} {budget : ℕ} {chain : List Program
             (ap (λ (y : ℕ → List Payload). y p) (known number c here).lies.part.payloads ∙ part_payloads (map_of tree) c.conn p (under_belongs (map_of tree) c.conn p under)) in
             omega (arith, times, one, same)
 
-        mine : (c : Connection) → w.conns number ≡ Some c → IsHosted chain tree store d conn c → (p : ℕ) → pool_of store n ≡ Some p → is_under (map_of tree) conn.conn p ≡ true → Holds conn n
+        mine : (c : Connection) → w.conns number ≡ Some c → IsHosted chain tree store d conn c → (p : ℕ) → pool_of store n ≡ Some p → is_under (map_of tree) conn.conn p ≡ true → HoldsName conn n
         mine c here hosted p on under =
             holds_made (map_of tree) (lists store) conn c hosted.seen n p
             ((laws.registered number c here).only n p (once c here p on (subst (λ (m : ℕ). is_under (map_of tree) m p ≡ true) (sym (same_pool c hosted)) under)))

@@ -28,7 +28,7 @@ use Rattle.stored_rings.specs.Items.{Items}
 use Rattle.brigade_ops.specs.Store.{lists, pool_of}
 use Rattle.module_run.specs.declared.conn.Conn.{Conn}
 use Rattle.module_run.specs.Conns.{conn_of}
-use Rattle.module_run.specs.Neighbours.{Holds, IsForeign, LeavesOthers}
+use Rattle.module_run.specs.Neighbours.{HoldsName, IsForeign, LeavesOthers}
 use Rattle.module_run.specs.Proceeding.{HasOpen, LeftAs, MayHold}
 use Rattle.module_run.proofs.Neighbours.{shows_same, stacked_same}
 use Rattle.filter_chain.specs.declared.conns.Conns.{Conns}
@@ -68,7 +68,7 @@ module _ {R : Type 0} {g : Ghosts R Stored} {budget : ℕ} {chain : List Program
         subst (λ (held : Held). MayHold held bytes) (sym (spared.others file old (not_open k file b other there some))) (opens file bytes is)
 
   -- The connection conn0 became conn, over another tree and store, and left the others, which hold what is foreign to it.
-  module _ (number : ℕ) (conn0 conn : Conn) (ps : Pools Payload) (away : (k : ℕ) (x : Conn) → k ≢ number → conns k ≡ Some x → (n : ℕ) → 0 < n → Holds x n → IsForeign ps store conn0 n)
+  module _ (number : ℕ) (conn0 conn : Conn) (ps : Pools Payload) (away : (k : ℕ) (x : Conn) → k ≢ number → conns k ≡ Some x → (n : ℕ) → 0 < n → HoldsName x n → IsForeign ps store conn0 n)
       (newer : PoolTree Payload) (new : Brigades R g) (left : LeavesOthers ps store new conn0 conn) (house : IsHouse new (map_of newer)) (none : lists new 0 ≡ None) (e : Device)
       (opens : (k : ℕ) (b : Connection) → k ≢ number → w.conns k ≡ Some b → HasOpen d b → HasOpen e b) where
     hosted_still : (k : ℕ) (x : Conn) (b : Connection) → k ≢ number → conns k ≡ Some x → w.conns k ≡ Some b → IsHosted chain tree store d x b → IsHosted chain newer new e x b
@@ -86,21 +86,21 @@ module _ {R : Type 0} {g : Ghosts R Stored} {budget : ℕ} {chain : List Program
     others_still k other = hosted_if (conns k) (w.conns k) (λ x c at there is. hosted_still k x c other at there is) (h.conns k)
 
     -- No brigade is held by two.
-    new_apart : (k n : ℕ) (x : Conn) → k ≢ number → conns k ≡ Some x → 0 < n → Holds x n → Holds conn n → ⊥
+    new_apart : (k n : ℕ) (x : Conn) → k ≢ number → conns k ≡ Some x → 0 < n → HoldsName x n → HoldsName conn n → ⊥
     new_apart k n x other there pos theirs mine = elim (left.holds n pos mine) [
       | inl before ↦ (away k x other there n pos theirs).unheld before
       | inr fresh ↦ (let given = held_given h x (found h k x there).2.stacked n theirs in omega (arith, given, fresh))
     ]
 
-    pub apart_then : (after : ℕ → Option Conn) → ((k : ℕ) → after k ≡ upd conns number (Some conn) k) → (j k n : ℕ) (a b : Conn) → after j ≡ Some a → after k ≡ Some b → j ≢ k → 0 < n → Holds a n
-        → Holds b n → ⊥
+    pub apart_then : (after : ℕ → Option Conn) → ((k : ℕ) → after k ≡ upd conns number (Some conn) k) → (j k n : ℕ) (a b : Conn) → after j ≡ Some a → after k ≡ Some b → j ≢ k → 0 < n → HoldsName a n
+        → HoldsName b n → ⊥
     apart_then after is j k n a b at_j at_k differ pos held_a held_b = elim (upd_either conns number j (Some conn)) [
       | inl here ↦ (elim (upd_either conns number k (Some conn)) [
         | inl too ↦ differ (here.0 ∙ sym too.0)
-        | inr off ↦ new_apart k n b off.0 (sym off.1 ∙ sym (is k) ∙ at_k) pos held_b (subst (λ (x : Conn). Holds x n) (same a (sym here.1 ∙ sym (is j) ∙ at_j)) held_a)
+        | inr off ↦ new_apart k n b off.0 (sym off.1 ∙ sym (is k) ∙ at_k) pos held_b (subst (λ (x : Conn). HoldsName x n) (same a (sym here.1 ∙ sym (is j) ∙ at_j)) held_a)
       ])
       | inr away ↦ (elim (upd_either conns number k (Some conn)) [
-        | inl too ↦ new_apart j n a away.0 (sym away.1 ∙ sym (is j) ∙ at_j) pos held_a (subst (λ (x : Conn). Holds x n) (same b (sym too.1 ∙ sym (is k) ∙ at_k)) held_b)
+        | inl too ↦ new_apart j n a away.0 (sym away.1 ∙ sym (is j) ∙ at_j) pos held_a (subst (λ (x : Conn). HoldsName x n) (same b (sym too.1 ∙ sym (is k) ∙ at_k)) held_b)
         | inr off ↦ h.apart j k n a b (sym away.1 ∙ sym (is j) ∙ at_j) (sym off.1 ∙ sym (is k) ∙ at_k) differ pos held_a held_b
       ])
     ] where

@@ -45,7 +45,7 @@ use Rattle.filter_chain.specs.HostViews.{ClosesFiles, TellsEvent, StepTellsReads
 use Rattle.filter_chain.specs.Spared.{Spares}
 use Rattle.filter_chain.proofs.FileNumbers.{begins_file, brings_file, ends_file, steps_file}
 use Rattle.filter_chain.proofs.FilesSpared.{step_spares}
-use Rattle.filter_chain.proofs.HostEvents.{AnyLength, Serves, nothing_told, told_reads}
+use Rattle.filter_chain.proofs.HostEvents.{OfAnyLength, Serves, nothing_told, told_reads}
 use Rattle.filter_chain.proofs.StepsSeen.{closed_in_part, closes_alike, tells_alike}
 
 -- A connection that is put back as it was changes nothing.
@@ -104,7 +104,7 @@ step_closes chain d e g h c x (Err r) closed = tt
 done_serves : {R : Type 0} {g : Ghosts R Stored} (budget : ℕ) (chain : List Program) (d e : Device) (w : World) (tree : PoolTree Payload) (number : ℕ) (c : Connection) → w.conns number ≡ Some c
     → (what : Event) (memory : Bool) (answer o : Option Refusal) (new : Linked) (all : Option Refusal × Linked)
     → happens_on memory budget chain nothing_told what number (Some c) w ≡ answered number w (unless_refused o (w.common, c) new) → unless_refused o (w.common, c) new ≡ seen_in c.conn all
-    → EventTurn chain AnyLength w.common (over (map_of tree) c) all.1
+    → EventTurn chain OfAnyLength w.common (over (map_of tree) c) all.1
     → TellsEvent chain number what (host_view w d) (done_answer answer) nothing_told e
     → ClosesFiles d e chain what (done_answer answer) w.common (Some c) all.1.0 (Some (linked_in_part c.conn all.1).1) → (newer : PoolTree Payload) (store : Brigades R g) (conn : Conn)
     → Happened chain newer store e conn answer all → all.1.0.file ≤ e.next → Spares d e c → Serves budget chain d e w tree number c what (done_answer answer) newer store conn
@@ -139,7 +139,7 @@ module _ {R : Type 0} {g : Ghosts R Stored} {budget : ℕ} {chain modules : List
       let file = begins_file memory chain w.common (over (map_of tree) c) in
       done_serves budget chain d d w tree number c s.here event.Begin memory answer _ (begun chain (w.common, c)) (begins memory chain (all w tree c)) refl
       (begins_in_part memory chain (map_of tree) w.common c s.lies)
-      (begins_turn chain AnyLength w.common (over (map_of tree) c) memory) refl tt newer store conn h (omega (arith, file, given)) (spares_all d c)
+      (begins_turn chain OfAnyLength w.common (over (map_of tree) c) memory) refl tt newer store conn h (omega (arith, file, given)) (spares_all d c)
 
   pub brings_serves : (memory : Bool) {pieces : List Piece} {answer : Option Refusal} → Happened modules newer store d conn answer (brings memory modules pieces (all w tree c))
       → Serves budget chain d d w tree number c (event.Bring pieces) (done_answer answer) newer store conn
@@ -149,7 +149,7 @@ module _ {R : Type 0} {g : Ghosts R Stored} {budget : ℕ} {chain modules : List
       let file = brings_file memory chain w.common (over (map_of tree) c) pieces in
       done_serves budget chain d d w tree number c s.here (event.Bring pieces) memory answer _ (brought chain pieces c.req (w.common, c)) (brings memory chain pieces (all w tree c)) refl
       (brings_in_part memory chain pieces (map_of tree) w.common c s.lies)
-      (brings_turn chain AnyLength w.common (over (map_of tree) c) memory pieces) refl tt newer store conn h (omega (arith, file, given)) (spares_all d c)
+      (brings_turn chain OfAnyLength w.common (over (map_of tree) c) memory pieces) refl tt newer store conn h (omega (arith, file, given)) (spares_all d c)
 
   pub steps_serves : {e : Device} {answer : Result Stepped Refusal} → IsStep modules budget d e (all w tree c) newer store conn answer
       → Serves budget chain d e w tree number c event.Step (step_answer answer) newer store conn
@@ -171,7 +171,7 @@ module _ {R : Type 0} {g : Ghosts R Stored} {budget : ℕ} {chain modules : List
         closes = step_closes chain d e w.common after.1.0 c (linked_in_part c.conn after.1).1 answer
             (closes_alike budget chain d e w (map_of tree) number c s st.memory st.reads (formed_then chain newer store e conn after.1 st.left) answer st.answers st.closed);
         short = short_step answer;
-        turn = steps_turn chain AnyLength w.common (over (map_of tree) c) s.chained st.memory budget st.reads;
+        turn = steps_turn chain OfAnyLength w.common (over (map_of tree) c) s.chained st.memory budget st.reads;
         left = st.left;
         files = (let le = spared.rises in omega (arith, le, file, given));
         spared = spared;
@@ -200,7 +200,7 @@ end_closes chain d e w ps number c s newer new conn (Ok x) happened closed unrea
     let left = happened.left in
     let same : pools_of v.0 v.1 ≡ map_of newer = pools_are (map_of newer) (lists new) (next_name new) conn v left.seen in
     let whole : pools_of w.common (over ps c) ≡ ps = whole_pools ps w.common c s.lies in
-    closed_in_part ps w.common c s.lies d e c.req v (turn_within chain ps w.common c s.lies v (ends_turn chain AnyLength w.common (over ps c) true))
+    closed_in_part ps w.common c s.lies d e c.req v (turn_within chain ps w.common c s.lies v (ends_turn chain OfAnyLength w.common (over ps c) true))
     (formed_then chain newer new e conn v left) s.lies.request
     (subst (λ (qs : Pools Payload). ClosedWith d e c.req qs (pools_of v.0 v.1)) (sym whole) (subst (λ (qs : Pools Payload). ClosedWith d e c.req ps qs) (sym same) closed))
 end_closes chain d e w ps number c s newer new conn (Err r) happened closed unread = unread
@@ -216,7 +216,7 @@ module _ {R : Type 0} {g : Ghosts R Stored} (budget : ℕ) (chain : List Program
       let file = ends_file (lasted r) chain w.common (over (map_of tree) c) in
       done_serves budget chain d e w tree number c s.here event.End (lasted r) (refusal_of r) _ (ended c.req (w.common, c)) (ends (lasted r) (w.common, over (map_of tree) c)) refl
       (ends_in_part (lasted r) (map_of tree) w.common c s.lies)
-      (ends_turn chain AnyLength w.common (over (map_of tree) c) (lasted r)) unasked (end_closes chain d e w (map_of tree) number c s newer store conn r h closed unread) newer store conn h
+      (ends_turn chain OfAnyLength w.common (over (map_of tree) c) (lasted r)) unasked (end_closes chain d e w (map_of tree) number c s newer store conn r h closed unread) newer store conn h
       (let le = spared.rises in omega (arith, file, given, le)) spared
 
 -- The same by what the calls promise of its files.

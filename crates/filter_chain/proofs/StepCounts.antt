@@ -65,7 +65,7 @@ module _ (memory : Bool) (chain : List Program) (reads : Reads) where
     went_on went = by_cause c.broken went
 
 -- A step of a connection that goes on is counted.
-pub record IsCounted (budget number : ℕ) (old new : World) : Type 0 where
+pub record IsStepCounted (budget number : ℕ) (old new : World) : Type 0 where
   pub before : Connection
   pub after : Connection
   pub is : old.conns number ≡ Some before
@@ -75,7 +75,7 @@ pub record IsCounted (budget number : ℕ) (old new : World) : Type 0 where
 
 module _ (memory : Bool) (budget : ℕ) (chain : List Program) (told : Told) (number : ℕ) (old new : World) where
   by_answer : (c : Connection) → old.conns number ≡ Some c → (x : Result Stepped Refusal × Linked) → steps memory budget chain told.reads (old.common, c) ≡ x
-      → step_answered number old x ≡ (Step stepped.Went, new) → IsCounted budget number old new
+      → step_answered number old x ≡ (Step stepped.Went, new) → IsStepCounted budget number old new
   by_answer c at (Err r, v) is h = absurd (let e = ap (λ (z : Answer × World). z.0) h in cc)
   by_answer c at (Ok s, v) is h =
       let told_so : Step s ≡ Step stepped.Went = ap (λ (z : Answer × World). z.0) h in
@@ -90,18 +90,18 @@ module _ (memory : Bool) (budget : ℕ) (chain : List Program) (told : Told) (nu
         more = ap (λ (z : Result Stepped Refusal × Linked). z.1.1.count) (sym is) ∙ one.more;
       }
 
-  by_conn : (o : Option Connection) → old.conns number ≡ o → happens_on memory budget chain told event.Step number o old ≡ (Step stepped.Went, new) → IsCounted budget number old new
+  by_conn : (o : Option Connection) → old.conns number ≡ o → happens_on memory budget chain told event.Step number o old ≡ (Step stepped.Went, new) → IsStepCounted budget number old new
   unfolding happens_on
   by_conn None at h = absurd (let e = ap (λ (z : Answer × World). z.0) h in cc)
   by_conn (Some c) at h = by_answer c at (steps memory budget chain told.reads (old.common, c)) refl h
 
-  world_counts : happens memory budget chain told number event.Step old ≡ (Step stepped.Went, new) → IsCounted budget number old new
+  world_counts : happens memory budget chain told number event.Step old ≡ (Step stepped.Went, new) → IsStepCounted budget number old new
   world_counts h = by_conn (old.conns number) refl h
 
 -- Many steps.
 
 module _ (budget : ℕ) (chain : List Program) (number : ℕ) where
-  pub acts_count : (old new : HostView) → Answers budget chain number event.Step old (Step stepped.Went) new → IsCounted budget number old.world new.world
+  pub acts_count : (old new : HostView) → Answers budget chain number event.Step old (Step stepped.Went) new → IsStepCounted budget number old.world new.world
   acts_count old new a = world_counts a.memory budget chain a.told number old.world new.world a.is
 
   -- one more at the end

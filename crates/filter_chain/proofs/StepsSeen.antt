@@ -12,7 +12,7 @@ use Rattle.run_model.specs.declared.event.Refusal.TheVariants as refusal
 use Rattle.run_model.specs.declared.event.Stepped.{Stepped}
 use Rattle.run_model.specs.declared.event.Stepped.TheVariants as stepped
 use Rattle.run_model.specs.declared.payload.Payload.{Payload}
-use Rattle.run_model.specs.Cursors.{spot_of, holder_of, variable_of}
+use Rattle.run_model.specs.Cursors.{place_of_cursor, holder_of, variable_of}
 use Rattle.run_model.specs.Faults.{fault}
 use Rattle.run_model.specs.Pools.{Pools, is_under}
 use Rattle.run_model.specs.RunOrder.{IsPoolMap, run_order}
@@ -43,7 +43,7 @@ use Rattle.filter_chain.proofs.StepCounts.{went_on}
 
 reads_alike : (d e : Device) (chain : List Program) (i : Instr) (f : Frame) (g : Common) (c : Connection) (ps : Pools Payload) (reads : Reads) → TellsReads d e chain i f (g, over ps c) reads
     → TellsReads d e chain i f (g, c) reads
-unfolding configuration spot_of holder_of variable_of
+unfolding configuration place_of_cursor holder_of variable_of
 reads_alike d e chain (instr.Read x l) f g c ps reads told = told
 reads_alike d e chain (instr.Pass b l) f g c ps reads told = told
 reads_alike d e chain (instr.PClear q) f g c ps reads told = told

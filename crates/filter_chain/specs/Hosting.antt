@@ -23,7 +23,7 @@ use Rattle.brigade_ops.specs.House.{AreOpen, IsHouse}
 use Rattle.brigade_ops.specs.Store.{lists, next_name, references}
 use Rattle.module_run.specs.declared.conn.Conn.{Conn}
 use Rattle.module_run.specs.Conns.{labels_handed}
-use Rattle.module_run.specs.Neighbours.{Holds}
+use Rattle.module_run.specs.Neighbours.{HoldsName}
 pub use Rattle.filter_chain.specs.declared.host.Host.{Host}
 use Rattle.filter_chain.specs.HostViews.{Answers, host_view}
 use Rattle.filter_chain.specs.Hosted.{conn_at, IsHosted}
@@ -83,7 +83,7 @@ pub record HoldsWorld {R : Type 0} {g : Ghosts R Stored} (budget : ℕ) (chain :
   pub open_files : AreOpen (references store) d
   pub none : lists store 0 ≡ None
   pub conns : (k : ℕ) → IsHostedIf chain tree store d (at k) (w.conns k)
-  pub apart : (j k n : ℕ) (a b : Conn) → at j ≡ Some a → at k ≡ Some b → j ≢ k → 0 < n → Holds a n → Holds b n → ⊥
+  pub apart : (j k n : ℕ) (a b : Conn) → at j ≡ Some a → at k ≡ Some b → j ≢ k → 0 < n → HoldsName a n → HoldsName b n → ⊥
 
 -- the chain and the budget of a host, and its files
 

@@ -18,7 +18,7 @@ use Rattle.http_front.specs.Driven.{Refines, GoesBy, IsOfConn, Lacks, LacksFor, 
 use Rattle.http_front.specs.Requests.{IsOfRequest, lack_of}
 use Rattle.http_front.specs.declared.fault.FrontKind.{FrontKind}
 use Rattle.http_front.specs.declared.fault.FrontKind.TheVariants as kind
-use Rattle.filter_chain.proofs.Driving.{Happened, by_event, leads_as, leads_on, leads_still}
+use Rattle.filter_chain.proofs.Driving.{HappenedInAny, by_event, leads_as, leads_on, leads_still}
 
 -- some events
 abbrev Some-events : ℕ → List Program → ℕ → HostView → HostView → Type 0
@@ -49,7 +49,7 @@ module _ {F R : Type 0} {g : Ghosts R Stored} (device : F → Device) (number : 
   beside_same host = leads_still device host (λ b c s t. Some-events b c number s t) (λ b c s. ([], refl))
 
   module _ (from old new : Host F R g) (so : OnlyEventsOf device from number old) where
-    pub beside_event : (what : Event) (answer : Answer) → IsOfConn what → Happened device old new number what answer → OnlyEventsOf device from number new
+    pub beside_event : (what : Event) (answer : Answer) → IsOfConn what → HappenedInAny device old new number what answer → OnlyEventsOf device from number new
     unfolding OnlyEventsOf
     beside_event what answer own h =
         leads_on device from old new (λ b c s t. Some-events b c number s t) (λ b c s t. Answers b c number what s answer t) (λ b c s t. Some-events b c number s t)
@@ -73,7 +73,8 @@ module _ {F R : Type 0} {g : Ghosts R Stored} (device : F → Device) (number : 
     beside_made most made = beside_few (most 0) (made old 0 (none_made device number old 0))
 
     -- the last event of them was refused
-    pub beside_lacks : (what : Event) (why : Refusal) (e : FrontKind) → IsOfRequest what → lack_of why ≡ Some e → Happened device old new number what (Refused why) → LacksFor device from number e new
+    pub beside_lacks : (what : Event) (why : Refusal) (e : FrontKind) → IsOfRequest what → lack_of why ≡ Some e → HappenedInAny device old new number what (Refused why)
+        → LacksFor device from number e new
     unfolding OnlyEventsOf LacksFor
     beside_lacks what why e asked lacks h =
         leads_on device from old new (λ b c s t. Some-events b c number s t) (λ b c s t. Answers b c number what s (Refused why) t) (λ b c s t. Lacks b c number e s t)

@@ -13,7 +13,7 @@ use Rattle.filter_chain.specs.Hosting.{Ghosts, Stored}
 use Rattle.filter_chain.specs.HostViews.{Answers}
 use Rattle.http_front.specs.Connecting.{ClosesTurns}
 use Rattle.http_front.specs.Driven.{Refines}
-use Rattle.filter_chain.proofs.Driving.{Happened, by_event, leads_as}
+use Rattle.filter_chain.proofs.Driving.{HappenedInAny, by_event, leads_as}
 
 module _ (k : ℕ) (w v : World) where
   closed_none : (memory : Bool) (c : Connection) (labels : List (List ℕ)) → closes memory k c w ≡ (Labels labels, v) → v.conns k ≡ None
@@ -41,20 +41,20 @@ module _ (k : ℕ) (w v : World) where
         (sym same, sym (ap (λ (p : Answer × World). p.1.conns k) is) ∙ at)
 
 module _ {F R : Type 0} {g : Ghosts R Stored} (device : F → Device) (number : ℕ) (old new : Host F R g) (result : Bool) where
-  pub turns_closed : (labels : List (List ℕ)) → result ≡ true → Happened device old new number event.Close (Labels labels) → Refines device old new (λ b c s t. ClosesTurns b c number result s t)
+  pub turns_closed : (labels : List (List ℕ)) → result ≡ true → HappenedInAny device old new number event.Close (Labels labels) → Refines device old new (λ b c s t. ClosesTurns b c number result s t)
   turns_closed labels is h =
       subst (λ (r : Bool). Refines device old new (λ b c s t. ClosesTurns b c number r s t)) (sym is)
       (leads_as device old new (λ b c s t. Answers b c number event.Close s (Labels labels) t) (λ b c s t. ClosesTurns b c number true s t)
       (λ b c s t a. (inl (labels, a), labels_none number s.world t.world a.memory b c a.told (s.world.conns number) labels a.is)) (by_event device old new number event.Close (Labels labels) h))
 
-  pub turns_kept : (why : Refusal) → result ≡ false → why ≡ refusal.NoMemory → Happened device old new number event.Close (Refused why)
+  pub turns_kept : (why : Refusal) → result ≡ false → why ≡ refusal.NoMemory → HappenedInAny device old new number event.Close (Refused why)
       → Refines device old new (λ b c s t. ClosesTurns b c number result s t)
   turns_kept why is lacks h =
       subst (λ (r : Bool). Refines device old new (λ b c s t. ClosesTurns b c number r s t)) (sym is)
       (leads_as device old new (λ b c s t. Answers b c number event.Close s (Refused why) t) (λ b c s t. ClosesTurns b c number false s t)
       (λ b c s t a. subst (λ (r : Refusal). Answers b c number event.Close s (Refused r) t) lacks a) (by_event device old new number event.Close (Refused why) h))
 
-  pub turns_gone : (why : Refusal) → result ≡ true → ¬ (why ≡ refusal.NoMemory) → Happened device old new number event.Close (Refused why)
+  pub turns_gone : (why : Refusal) → result ≡ true → ¬ (why ≡ refusal.NoMemory) → HappenedInAny device old new number event.Close (Refused why)
       → Refines device old new (λ b c s t. ClosesTurns b c number result s t)
   turns_gone why is not h =
       subst (λ (r : Bool). Refines device old new (λ b c s t. ClosesTurns b c number r s t)) (sym is)
@@ -65,6 +65,6 @@ module _ {F R : Type 0} {g : Ghosts R Stored} (device : F → Device) (number : 
 
   -- by whether memory was lacking
   pub turns_refused : (why : Refusal) (lacks : Bool) → result ≡ not lacks → ((lacks ≡ true → why ≡ refusal.NoMemory) × (why ≡ refusal.NoMemory → lacks ≡ true))
-      → Happened device old new number event.Close (Refused why) → Refines device old new (λ b c s t. ClosesTurns b c number result s t)
+      → HappenedInAny device old new number event.Close (Refused why) → Refines device old new (λ b c s t. ClosesTurns b c number result s t)
   turns_refused why true is by h = turns_kept why is (by.0 refl) h
   turns_refused why false is by h = turns_gone why is (λ lacks. let clash : false ≡ true = by.1 lacks in absurd (cc)) h

@@ -24,27 +24,28 @@ use Rattle.http_front.specs.Turns.{MemoryLacked, Responses}
 use Rattle.http_front.specs.declared.fault.FrontFault.{FrontFault}
 use Rattle.http_front.specs.declared.fault.Served.{Served}
 use Rattle.http_front.specs.declared.running.CallEnd.{CallEnd}
-use Rattle.filter_chain.proofs.Driving.{Happened, by_event, leads_as, leads_on}
+use Rattle.filter_chain.proofs.Driving.{HappenedInAny, by_event, leads_as, leads_on}
 use Rattle.http_front.proofs.Stays.{close_refused, goes_there, open_there}
 
 module _ {F R : Type 0} {g : Ghosts R Stored} (device : F → Device) (number : ℕ) (old new : Host F R g) where
-  pub closed : (left : Option ℕ) (labels : List (List ℕ)) → left ≡ None → Happened device old new number event.Close (Labels labels) → Refines device old new (λ b c s t. IsClosed b c number left s t)
+  pub closed : (left : Option ℕ) (labels : List (List ℕ)) → left ≡ None → HappenedInAny device old new number event.Close (Labels labels)
+      → Refines device old new (λ b c s t. IsClosed b c number left s t)
   closed left labels is h =
       subst (λ (x : Option ℕ). Refines device old new (λ b c s t. IsClosed b c number x s t)) (sym is)
       (leads_as device old new (λ b c s t. Answers b c number event.Close s (Labels labels) t) (λ b c s t. IsClosed b c number None s t) (λ b c s t a. (labels, a))
       (by_event device old new number event.Close (Labels labels) h))
 
-  lacks_memory : (why : Refusal) → HasConn device old number → Happened device old new number event.Close (Refused why) → why ≡ refusal.NoMemory
+  lacks_memory : (why : Refusal) → HasConn device old number → HappenedInAny device old new number event.Close (Refused why) → why ≡ refusal.NoMemory
   lacks_memory why has h = close_refused _ _ number why _ _ (h has.0 has.1).acts (has.2, has.3)
 
-  pub kept : (left : Option ℕ) (why : Refusal) → left ≡ Some number → HasConn device old number → Happened device old new number event.Close (Refused why)
+  pub kept : (left : Option ℕ) (why : Refusal) → left ≡ Some number → HasConn device old number → HappenedInAny device old new number event.Close (Refused why)
       → Refines device old new (λ b c s t. IsClosed b c number left s t)
   kept left why is has h =
       subst (λ (x : Option ℕ). Refines device old new (λ b c s t. IsClosed b c number x s t)) (sym is)
       (leads_as device old new (λ b c s t. Answers b c number event.Close s (Refused why) t) (λ b c s t. IsClosed b c number (Some number) s t)
       (λ b c s t a. (refl, subst (λ (r : Refusal). Answers b c number event.Close s (Refused r) t) (lacks_memory why has h) a)) (by_event device old new number event.Close (Refused why) h))
 
-  pub opened_conn : (mid : Host F R g) (how : CallEnd) → Happened device old mid 0 event.Open (Connected number)
+  pub opened_conn : (mid : Host F R g) (how : CallEnd) → HappenedInAny device old mid 0 event.Open (Connected number)
       → Refines device mid new (λ b c s t. RunsCall b c number s how t) → Refines device old new (λ b c s t. IsConnOpened b c number s t)
   opened_conn mid how h = leads_on device old mid new (λ b c s t. Answers b c 0 event.Open s (Connected number) t) (λ b c s t. RunsCall b c number s how t) (λ b c s t. IsConnOpened b c number s t)
       (λ b c s m t a r. record { mid = m; how = how; acts = a; runs = r }) (by_event device old mid 0 event.Open (Connected number) h)
@@ -72,7 +73,7 @@ module _ {H K : Type 0} (site : Site) (handles : H → Method → List ℕ → R
 
 module _ {F K R : Type 0} {g : Ghosts R Stored} (device : F → Device) (tells : K → Said → K → Type 0) (site : Site) (old : Host F R g) (before : K) (unread was is : Option (List ℕ)) where
   pub none_opened : (new : Host F R g) (e : FrontFault) (why : Refusal) (read : Option (List ℕ)) → unread ≡ read → is ≡ was → e.kind ≡ kind_of why → e.left ≡ None
-      → Happened device old new 0 event.Open (Refused why)
+      → HappenedInAny device old new 0 event.Open (Refused why)
       → IfSome read (λ stream. ServingFails device tells site old before stream e unread was is new before)
   none_opened new e why None keeps same kind left h = tt
   none_opened new e why (Some stream) keeps same kind left h = inl record {
@@ -155,7 +156,7 @@ module _ {F K R : Type 0} {g : Ghosts R Stored} (device : F → Device) (tells :
 
 -- Of any reader.
 module _ {F K R : Type 0} {g : Ghosts R Stored} (device : F → Device) (tells : K → Said → K → Type 0) (site : Site) (old : Host F R g) where
-  pub not_visited : (new : Host F R g) (e : FrontFault) (why : Refusal) → Happened device old new 0 event.Open (Refused why) → Visits device tells site old (Err e) new
+  pub not_visited : (new : Host F R g) (e : FrontFault) (why : Refusal) → HappenedInAny device old new 0 event.Open (Refused why) → Visits device tells site old (Err e) new
   not_visited new e why h = inl (why, by_event device old new 0 event.Open (Refused why) h)
 
   module _ (number : ℕ) (opened served new : Host F R g) (opens : Refines device old opened (λ b c s t. IsConnOpened b c number s t)) (alive : IsAlive device served)
@@ -172,7 +173,7 @@ module _ {F K R : Type 0} {g : Ghosts R Stored} (device : F → Device) (tells :
 
 -- A connection that is opened is there, and stays there by its own events.
 module _ {F R : Type 0} {g : Ghosts R Stored} (device : F → Device) (number : ℕ) where
-  pub has_opened : (old mid : Host F R g) → IsAlive device old → Happened device old mid 0 event.Open (Connected number) → HasConn device mid number
+  pub has_opened : (old mid : Host F R g) → IsAlive device old → HappenedInAny device old mid 0 event.Open (Connected number) → HasConn device mid number
   has_opened old mid alive h =
       let x = h alive.0 alive.1 in
       let there = open_there _ _ number _ _ x.acts in

@@ -13,7 +13,7 @@ use Rattle.filter_chain.specs.Hosting.{Ghosts, Stored, step_answer}
 use Rattle.filter_chain.specs.Running as steps
 use Rattle.filter_chain.specs.HostViews.{HostView, Answers}
 use Rattle.http_front.specs.Driven.{GoesBy, IsOfConn, Refines, StepsAtMost, is_step, steps_in}
-use Rattle.filter_chain.proofs.Driving.{Happened, by_event, leads_as, leads_on}
+use Rattle.filter_chain.proofs.Driving.{HappenedInAny, by_event, leads_as, leads_on}
 
 module _ (b : ℕ) (c : List Program) (number : ℕ) where
   abbrev pub FewSteps : ℕ → HostView → HostView → Type 0
@@ -37,7 +37,7 @@ module _ (b : ℕ) (c : List Program) (number : ℕ) where
 
 module _ {F R : Type 0} {g : Ghosts R Stored} (device : F → Device) (number : ℕ) (from old : Host F R g) (n : ℕ) (so : StepsAtMost device from number n old) where
   -- an event that is no step
-  pub few_event : (new : Host F R g) (what : Event) (answer : Answer) → IsOfConn what → is_step what ≡ 0 → Happened device old new number what answer → StepsAtMost device from number n new
+  pub few_event : (new : Host F R g) (what : Event) (answer : Answer) → IsOfConn what → is_step what ≡ 0 → HappenedInAny device old new number what answer → StepsAtMost device from number n new
   unfolding StepsAtMost
   few_event new what answer own none h =
       leads_on device from old new (λ b c s t. FewSteps b c number n s t) (λ b c s t. Answers b c number what s answer t) (λ b c s t. FewSteps b c number n s t)

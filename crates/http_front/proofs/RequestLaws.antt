@@ -25,7 +25,7 @@ use Rattle.http_front.specs.declared.handler.Slice.{Slice}
 use Rattle.http_front.specs.declared.handler.Slice.TheVariants as slice
 use Rattle.http_front.specs.declared.running.CallEnd.{CallEnd}
 use Rattle.http_front.specs.declared.task.RequestTask.{RequestTask}
-use Rattle.filter_chain.proofs.Driving.{Happened, by_event, leads_any, leads_as, leads_on}
+use Rattle.filter_chain.proofs.Driving.{HappenedInAny, by_event, leads_any, leads_as, leads_on}
 
 -- A call runs, and it is told how it ended.
 pub runs_told : {F R : Type 0} {g : Ghosts R Stored} (device : F → Device) (number : ℕ) (old new : Host F R g) (answer : Result Stepped Refusal) (how : CallEnd) → how ≡ ended_of answer
@@ -50,13 +50,13 @@ module _ (way : Way) (b : ℕ) (c : List Program) (number : ℕ) where
 
 module _ {F R : Type 0} {g : Ghosts R Stored} (device : F → Device) (number : ℕ) where
   module _ (old new : Host F R g) where
-    pub output_taken : (o : RequestOutcome) (bytes : List ℕ) → o.status ≡ Success → o.body ≡ bytes → o.failure ≡ None → Happened device old new number event.TakeOutput (Output bytes)
+    pub output_taken : (o : RequestOutcome) (bytes : List ℕ) → o.status ≡ Success → o.body ≡ bytes → o.failure ≡ None → HappenedInAny device old new number event.TakeOutput (Output bytes)
         → Refines device old new (λ b c s t. TakesOutput b c number s o t)
     output_taken o bytes status body well h =
         leads_as device old new (λ b c s t. Answers b c number event.TakeOutput s (Output bytes) t) (λ b c s t. TakesOutput b c number s o t)
         (λ b c s t a. record { answer = Ok bytes; acts = a; gives = (status, body, well) }) (by_event device old new number event.TakeOutput (Output bytes) h)
 
-    pub output_refused : (o : RequestOutcome) (why : Refusal) → IsUnserved (Some (failure.Refused why)) o → Happened device old new number event.TakeOutput (Refused why)
+    pub output_refused : (o : RequestOutcome) (why : Refusal) → IsUnserved (Some (failure.Refused why)) o → HappenedInAny device old new number event.TakeOutput (Refused why)
         → Refines device old new (λ b c s t. TakesOutput b c number s o t)
     output_refused o why bare h =
         leads_as device old new (λ b c s t. Answers b c number event.TakeOutput s (Refused why) t) (λ b c s t. TakesOutput b c number s o t)

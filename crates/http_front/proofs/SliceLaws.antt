@@ -30,7 +30,7 @@ use Rattle.http_front.specs.declared.running.CallEnd.TheVariants as ended
 use Rattle.http_front.specs.declared.task.FileRest.{FileRest}
 use Rattle.http_front.specs.declared.task.RequestTask.{RequestTask}
 use Rattle.http_front.specs.declared.task.RequestTask.TheVariants as task
-use Rattle.filter_chain.proofs.Driving.{Happened, alive_then, by_event, leads_any, leads_as, leads_ok, leads_on}
+use Rattle.filter_chain.proofs.Driving.{HappenedInAny, alive_then, by_event, leads_any, leads_as, leads_ok, leads_on}
 use Rattle.http_front.proofs.RequestLaws.{lacked, now_acts}
 use Rattle.http_front.proofs.SliceSteps.{runs_now}
 
@@ -187,12 +187,14 @@ module _ {F R : Type 0} {g : Ghosts R Stored} (device : F → Device) (number : 
 
     module _ (method : Method) (name : List ℕ) where
       -- `init` did not break the connection
-      pub opened_unless : (is : CallEnd) → how ≡ is
-          → (MakesSlice device number (λ way b c. OpensIn way b c number is method name) old r new → MakesSlice device number (λ way b c. OpensUnlessIn way b c number is method name) old r new)
-          → MakesSlice device number (λ way b c. OpensIn way b c number how method name) old r new → MakesSlice device number (λ way b c. OpensUnlessIn way b c number how method name) old r new
-      opened_unless is same on h =
-          subst (λ (e : CallEnd). MakesSlice device number (λ way b c. OpensUnlessIn way b c number e method name) old r new) (sym same)
-          (on (subst (λ (e : CallEnd). MakesSlice device number (λ way b c. OpensIn way b c number e method name) old r new) same h))
+      pub opened_unless : ((why : Failure) → ¬ (how ≡ ended.Broke why)) → MakesSlice device number (λ way b c. OpensIn way b c number how method name) old r new
+          → MakesSlice device number (λ way b c. OpensUnlessIn way b c number how method name) old r new
+      opened_unless = by how where
+        by : (is : CallEnd) → ((why : Failure) → ¬ (is ≡ ended.Broke why)) → MakesSlice device number (λ way b c. OpensIn way b c number is method name) old r new
+            → MakesSlice device number (λ way b c. OpensUnlessIn way b c number is method name) old r new
+        by ended.Succeeded not h = h
+        by (ended.Failed why) not h = h
+        by (ended.Broke why) not h = absurd (not why refl)
 
     pub ended_as : (k j : RequestTask) → k ≡ j → MakesSlice device number (λ way b c. RestsBehind way b c number j how) old r new
         → MakesSlice device number (λ way b c. RestsBehind way b c number k how) old r new
@@ -206,7 +208,7 @@ module _ {F R : Type 0} {g : Ghosts R Stored} (device : F → Device) (number : 
 
   module _ (old mid : Host F R g) where
     pub brought : (pieces : List Piece) (all : List (List Piece)) (left : Option FileRest) → all ≡ pieces ∷ brigades_left left
-        → Happened device old mid number (event.Bring pieces) Done
+        → HappenedInAny device old mid number (event.Bring pieces) Done
         → MakesSlice device number (λ way b c. CarriesIn way b c number ended.Succeeded all) old (Ok (slice.Works (task.Brings left))) mid
     brought pieces all left is h way =
         leads_as device old mid (λ b c s t. Answers b c number (event.Bring pieces) s Done t)
@@ -215,7 +217,7 @@ module _ {F R : Type 0} {g : Ghosts R Stored} (device : F → Device) (number : 
 
     module _ (new : Host F R g) (r : Result (Slice RequestTask) FrontKind) where
       pub not_brought : (pieces : List Piece) (all left : List (List Piece)) (why : Refusal) → all ≡ pieces ∷ left → lack_of why ≡ None
-          → Happened device old mid number (event.Bring pieces) (Refused why)
+          → HappenedInAny device old mid number (event.Bring pieces) (Refused why)
           → MakesSlice device number (λ way b c. FinishesIn way b c number (ended.Failed (failure.Refused why))) mid r new
           → MakesSlice device number (λ way b c. CarriesIn way b c number ended.Succeeded all) old r new
       not_brought pieces all left why is well h =
@@ -224,7 +226,7 @@ module _ {F R : Type 0} {g : Ghosts R Stored} (device : F → Device) (number : 
           (λ way b c s m a o t x. carries_refused way b c number pieces all left why s m is well a o t x) (λ way. by_event device old mid number (event.Bring pieces) (Refused why) h)
 
       pub opened_so : (init : CallEnd) (method : Method) (name : List ℕ) (file : ℕ × ℕ) (left : Option FileRest) → brigades_left left ≡ brigades_for method file
-          → Happened device old mid number (event.OpenFile name) (Opened file.0 file.1)
+          → HappenedInAny device old mid number (event.OpenFile name) (Opened file.0 file.1)
           → MakesSlice device number (λ way b c. CarriesIn way b c number init (brigades_left left)) mid r new
           → MakesSlice device number (λ way b c. OpensIn way b c number init method name) old r new
       opened_so init method name file left is h =
@@ -234,7 +236,7 @@ module _ {F R : Type 0} {g : Ghosts R Stored} (device : F → Device) (number : 
           (λ way. by_event device old mid number (event.OpenFile name) (Opened file.0 file.1) h)
 
       pub not_opened : (init : CallEnd) (method : Method) (name : List ℕ) (why : Refusal) (status : Option Failure) → status ≡ unopened why → lack_of why ≡ None
-          → Happened device old mid number (event.OpenFile name) (Refused why)
+          → HappenedInAny device old mid number (event.OpenFile name) (Refused why)
           → MakesSlice device number (λ way b c. EndsBareIn way b c number status) mid r new
           → MakesSlice device number (λ way b c. OpensIn way b c number init method name) old r new
       not_opened init method name why status is well h =
@@ -249,7 +251,7 @@ module _ {F R : Type 0} {g : Ghosts R Stored} (device : F → Device) (number : 
           slices_then r old mid new (λ way b c s t. RunsSlice way b c number (Some init) s t) (λ way b c. OpensUnlessIn way b c number init method name) (λ way b c. InitsIn way b c number method name)
           (λ way b c s m d o t x. record { init = init; mid = m; runs = d; opens = x })
 
-      pub begun : (method : Method) (name : List ℕ) → Happened device old mid number event.Begin Done
+      pub begun : (method : Method) (name : List ℕ) → HappenedInAny device old mid number event.Begin Done
           → MakesSlice device number (λ way b c. InitsIn way b c number method name) mid r new
           → MakesSlice device number (λ way b c. ComesIn way b c number method name) old r new
       begun method name h =
@@ -284,6 +286,13 @@ module _ {F R : Type 0} {g : Ghosts R Stored} (device : F → Device) (number : 
         leads_as device old mid (λ b c s t. RunsSlice way b c number None s t) (λ b c s t. Slices way b c number (InitsIn way b c number method name) s (slice.Works k) t)
         (λ b c s t more. λ o z x. inits_on way b c number method name k s t is more o z x) (h way)
 
+    -- it is under way, and memory lacked
+    pub init_lacked : (method : Method) (name : List ℕ) (r : Result (Slice RequestTask) FrontKind) (e : FrontKind) → r ≡ Err e
+        → ((way : Way) → Refines device old mid (λ b c s t. RunsSlice way b c number None s t))
+        → MakesSlice device number (λ way b c. InitsIn way b c number method name) old r mid
+    init_lacked method name r e is h =
+        lacked device number old mid (λ way b c. InitsIn way b c number method name) (λ b c s t. RunsSlice among b c number None s t) r e is (h among)
+
     pub call_on : (k : RequestTask) → ((way : Way) → Refines device old mid (λ b c s t. RunsSlice way b c number None s t))
         → MakesSlice device number (λ way b c. Rests way b c number k) old (Ok (slice.Works k)) mid
     call_on k h way =
@@ -291,7 +300,7 @@ module _ {F R : Type 0} {g : Ghosts R Stored} (device : F → Device) (number : 
         (λ b c s t more. λ o z x. rests_on way b c number k s t more o z x) (h way)
 
     pub not_begun : (method : Method) (name : List ℕ) (why : Refusal) (o : RequestOutcome) → lack_of why ≡ None → IsUnserved (Some (failure.Refused why)) o
-        → Happened device old mid number event.Begin (Refused why)
+        → HappenedInAny device old mid number event.Begin (Refused why)
         → MakesSlice device number (λ way b c. ComesIn way b c number method name) old (Ok (slice.Done o)) mid
     not_begun method name why o well bare h way =
         leads_as device old mid (λ b c s t. Answers b c number event.Begin s (Refused why) t) (λ b c s t. ComesIn way b c number method name s o t)

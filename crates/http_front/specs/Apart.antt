@@ -8,7 +8,7 @@ use Rattle.filter_chain.specs.declared.host.Host.{Host}
 use Rattle.filter_chain.specs.Hosting.{Ghosts, Stored}
 use Rattle.filter_chain.specs.HostViews.{HostView, Answers}
 use Rattle.http_front.specs.Driven.{GoesBy, GoesByOthers, NoEventsOf, OnlyEventsOf, StepsAtMost, steps_in}
-use Rattle.filter_chain.proofs.Driving.{Happened, by_event, leads_on, leads_still}
+use Rattle.filter_chain.proofs.Driving.{HappenedInAny, by_event, leads_on, leads_still}
 
 abbrev OthersApart : ℕ → List Program → ℕ → HostView → HostView → Type 0
 OthersApart b c number s t = (events : List (ℕ × Event × Answer)) × GoesByOthers b c number events s t
@@ -47,7 +47,7 @@ module _ {F R : Type 0} {g : Ghosts R Stored} (device : F → Device) (number : 
 
   -- one event of another connection, it may be an opening
   pub apart_event : (other : ℕ) (from old new : Host F R g) → other ≢ number → NoEventsOf device from other old → (what : Event) (answer : Answer)
-      → Happened device old new number what answer → NoEventsOf device from other new
+      → HappenedInAny device old new number what answer → NoEventsOf device from other new
   unfolding NoEventsOf GoesByOthers
   apart_event other from old new apart so what answer h =
       leads_on device from old new (λ b c s t. OthersApart b c other s t) (λ b c s t. Answers b c number what s answer t) (λ b c s t. OthersApart b c other s t)

@@ -1,6 +1,7 @@
 -- How far serving a connection is, and what it wrote where it is known what the reader had left and what the writer holds.
 use Rattle.std.specs.Prelude.{◌≡◌, ℕ, ◌≤◌, Bool, true, false, List, [], ◌++◌, length, Option, IfSome, Result, Ok, Err, ◌⊎◌}
 use Rattle.std.specs.Io.KnownBytes.{Consumes, Appends, IsAtEnd}
+pub use Rattle.byte_streams.specs.Texts.{Writes}
 use Rattle.http_message.specs.Clocks.{Said}
 use Rattle.http_message.specs.declared.reply.Method.{Method}
 use Rattle.http_message.specs.declared.site.Site.{Site}
@@ -23,10 +24,6 @@ abbrev pub BlamesSource : {T : Type 0} → Result T FrontKind → Bool → Bool 
 BlamesSource (Err kind.Read) was is left = is ≡ true
 BlamesSource (Err kind.TooManyReads) was is left = (left ≡ 0) × (is ≡ was)
 BlamesSource r was is left = is ≡ was
-
--- Where the bytes that were left are known, a text of them was written.
-abbrev pub Writes : Option (List ℕ) → Option (List ℕ) → Option (List ℕ) → (List ℕ → List ℕ → Type 0) → Type 0
-Writes input w v P = IfSome input (λ stream. (text : List ℕ) × P stream text × Appends w v text)
 
 -- What a read adds to the bytes at hand: at most so many. whole: no bytes follow.
 pub record AddsBytes (r q : Option (List ℕ)) (old new : List ℕ) (limit : ℕ) (whole : Bool) : Type 0 where

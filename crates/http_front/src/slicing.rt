@@ -1,8 +1,8 @@
 //! A request for a file on the host of chains, in slices. Between two of them others may be served.
 
 ghost use Rattle.std.specs.Prelude.{◌≡◌, ◌↔◌, ◌+◌, ◌<◌, ◌≤◌, ◌^◌, ℕ, List, length, Ok, Some, IfOk, IfErr, IsTrue};
-ghost use Rattle.http_front.specs.Prelude.{Program, HostView, IsLack, slice_steps, IsAlive, LacksFor, OnlyEventsOf, Refines, StepsAtMost, ComesOf, CarriesIn, ComesIn, InitsIn, OpensNext};
-ghost use Rattle.http_front.specs.Prelude.{MakesSlice, OpensIn, OpensUnlessIn, Rests, RestsBehind, RunsSlice, Way, brigades_left, calls_after, calls_left};
+ghost use Rattle.http_front.specs.Prelude.{Program, HostView, IsLack, slice_steps, IsAlive, LacksFor, OnlyEventsOf, Refines, StepsAtMost, ComesOf, CarriesIn, ComesIn, OpensNext};
+ghost use Rattle.http_front.specs.Prelude.{MakesSlice, OpensUnlessIn, Rests, RestsBehind, RunsSlice, Way, brigades_left, calls_after, calls_left};
 
 use crate::fault::FrontKind;
 use crate::feeding::{next_brigade, wanted};
@@ -39,32 +39,7 @@ fn step_slice<F: Files + Drop, R: Rings<Stored> + Drop>(
     Some(how_ended(answer))
 }
 
-/// Brings the next brigade, whose call is then under way. Where it is refused, the request finishes.
-fn bring_next<F: Files + Drop, R: Rings<Stored> + Drop>(
-    alloc: Global,
-    host: &mut Host<F, R>,
-    number: u64,
-    rest: FileRest,
-) -> Result<Slice<RequestTask>, FrontKind>
-    requires { IsAlive F.device host.old }
-    ensures leads { MakesSlice F.device number (λ (way : Way) (b : ℕ) (c : List Program). CarriesIn way b c number CallEnd.Succeeded (brigades_left (Some rest))) host.old result host.new }
-    ensures err { IfErr result IsLack }
-    ensures lacks { (from : Host F R R.Rings) → OnlyEventsOf F.device from number host.old → IfErr result (λ e. LacksFor F.device from number e host.new) }
-    ensures few { (from : Host F R R.Rings) (n : ℕ) → StepsAtMost F.device from number n host.old → StepsAtMost F.device from number n host.new }
-    ensures calls { IfOk result (λ r. calls_after r ≤ length (brigades_left (Some rest))) }
-{
-    let (pieces, left) = next_brigade(alloc, rest)?;
-    match host.bring(number, pieces) {
-        Ok(()) => Ok(Slice::Works(RequestTask::Brings(left))),
-        Err(refusal) => {
-            unless_lack(refusal)?;
-            let failed = CallEnd::Failed(Failure::Refused(refusal));
-            finish(alloc, host, number, failed)
-        }
-    }
-}
-
-/// Goes on after a call that ended so.
+/// Goes on after a call that ended so: with the next brigade, whose call is then under way, or to the outcome.
 fn carry_on<F: Files + Drop, R: Rings<Stored> + Drop>(
     alloc: Global,
     host: &mut Host<F, R>,
@@ -79,42 +54,25 @@ fn carry_on<F: Files + Drop, R: Rings<Stored> + Drop>(
     ensures few { (from : Host F R R.Rings) (n : ℕ) → StepsAtMost F.device from number n host.old → StepsAtMost F.device from number n host.new }
     ensures calls { IfOk result (λ r. calls_after r ≤ length (brigades_left rest)) }
 {
+    let Some(rest) = rest else {
+        return finish(alloc, host, number, how);
+    };
     if !succeeded(how) {
         return finish(alloc, host, number, how);
     }
-    match rest {
-        Some(rest) => bring_next(alloc, host, number, rest),
-        None => finish(alloc, host, number, how),
-    }
-}
-
-/// Opens the file, and goes on with it.
-fn open_slice<F: Files + Drop, R: Rings<Stored> + Drop>(
-    alloc: Global,
-    host: &mut Host<F, R>,
-    number: u64,
-    init: CallEnd,
-    method: Method,
-    name: &[u8],
-) -> Result<Slice<RequestTask>, FrontKind>
-    requires { IsAlive F.device host.old }
-    ensures leads { MakesSlice F.device number (λ (way : Way) (b : ℕ) (c : List Program). OpensIn way b c number init method name.now) host.old result host.new }
-    ensures err { IfErr result IsLack }
-    ensures lacks { (from : Host F R R.Rings) → OnlyEventsOf F.device from number host.old → IfErr result (λ e. LacksFor F.device from number e host.new) }
-    ensures few { (from : Host F R R.Rings) (n : ℕ) → StepsAtMost F.device from number n host.old → StepsAtMost F.device from number n host.new }
-    ensures calls { IfOk result (λ r. calls_after r ≤ 2 ^ 48) }
-{
-    match host.open_file(number, name) {
-        Ok(file) => carry_on(alloc, host, number, init, wanted(method, file)),
+    let (pieces, left) = next_brigade(alloc, rest)?;
+    match host.bring(number, pieces) {
+        Ok(()) => Ok(Slice::Works(RequestTask::Brings(left))),
         Err(refusal) => {
             unless_lack(refusal)?;
-            finish_bare(alloc, host, number, unopened(refusal))
+            let failed = CallEnd::Failed(Failure::Refused(refusal));
+            finish(alloc, host, number, failed)
         }
     }
 }
 
-/// Goes on with a request whose `init` ended so.
-fn open_unless<F: Files + Drop, R: Rings<Stored> + Drop>(
+/// Goes on with a request whose `init` ended so: opens the file, unless the connection broke.
+fn open_slice<F: Files + Drop, R: Rings<Stored> + Drop>(
     alloc: Global,
     host: &mut Host<F, R>,
     number: u64,
@@ -129,10 +87,15 @@ fn open_unless<F: Files + Drop, R: Rings<Stored> + Drop>(
     ensures few { (from : Host F R R.Rings) (n : ℕ) → StepsAtMost F.device from number n host.old → StepsAtMost F.device from number n host.new }
     ensures calls { IfOk result (λ r. calls_after r ≤ 2 ^ 48) }
 {
-    match init {
-        CallEnd::Broke(why) => Ok(Slice::Done(bare(alloc, Some(why)))),
-        CallEnd::Succeeded => open_slice(alloc, host, number, init, method, name),
-        CallEnd::Failed(_) => open_slice(alloc, host, number, init, method, name),
+    if let CallEnd::Broke(why) = init {
+        return Ok(Slice::Done(bare(alloc, Some(why))));
+    }
+    match host.open_file(number, name) {
+        Ok(file) => carry_on(alloc, host, number, init, wanted(method, file)),
+        Err(refusal) => {
+            unless_lack(refusal)?;
+            finish_bare(alloc, host, number, unopened(refusal))
+        }
     }
 }
 
@@ -145,27 +108,7 @@ fn opens_later(alloc: Global, method: Method, name: &[u8]) -> Result<RequestTask
     Ok(RequestTask::Opens { method, name: copy })
 }
 
-/// Makes a slice of `init`, and goes on where that ended.
-fn init_slice<F: Files + Drop, R: Rings<Stored> + Drop>(
-    alloc: Global,
-    host: &mut Host<F, R>,
-    number: u64,
-    method: Method,
-    name: &[u8],
-) -> Result<Slice<RequestTask>, FrontKind>
-    requires { IsAlive F.device host.old }
-    ensures leads { MakesSlice F.device number (λ (way : Way) (b : ℕ) (c : List Program). InitsIn way b c number method name.now) host.old result host.new }
-    ensures err { IfErr result IsLack }
-    ensures lacks { (from : Host F R R.Rings) → OnlyEventsOf F.device from number host.old → IfErr result (λ e. LacksFor F.device from number e host.new) }
-    ensures few { (from : Host F R R.Rings) (n : ℕ) → StepsAtMost F.device from number n host.old → StepsAtMost F.device from number (n + slice_steps) host.new }
-{
-    match step_slice(host, number) {
-        Some(init) => open_unless(alloc, host, number, init, method, name),
-        None => Ok(Slice::Works(opens_later(alloc, method, name)?)),
-    }
-}
-
-/// Begins a request, and makes a slice of its `init`.
+/// Begins a request, makes a slice of its `init`, and goes on where that ended.
 fn begin_init<F: Files + Drop, R: Rings<Stored> + Drop>(
     alloc: Global,
     host: &mut Host<F, R>,
@@ -179,12 +122,13 @@ fn begin_init<F: Files + Drop, R: Rings<Stored> + Drop>(
     ensures lacks { (from : Host F R R.Rings) → OnlyEventsOf F.device from number host.old → IfErr result (λ e. LacksFor F.device from number e host.new) }
     ensures few { (from : Host F R R.Rings) (n : ℕ) → StepsAtMost F.device from number n host.old → StepsAtMost F.device from number (n + slice_steps) host.new }
 {
-    match host.begin(number) {
-        Ok(()) => init_slice(alloc, host, number, method, name),
-        Err(refusal) => {
-            unless_lack(refusal)?;
-            Ok(Slice::Done(bare(alloc, Some(Failure::Refused(refusal)))))
-        }
+    if let Err(refusal) = host.begin(number) {
+        unless_lack(refusal)?;
+        return Ok(Slice::Done(bare(alloc, Some(Failure::Refused(refusal)))));
+    }
+    match step_slice(host, number) {
+        Some(init) => open_slice(alloc, host, number, init, method, name),
+        None => Ok(Slice::Works(opens_later(alloc, method, name)?)),
     }
 }
 
@@ -205,7 +149,7 @@ fn end_call<F: Files + Drop, R: Rings<Stored> + Drop>(
 {
     match task {
         RequestTask::Opens { method, name } => {
-            open_unless(alloc, host, number, how, method, name.as_slice())
+            open_slice(alloc, host, number, how, method, name.as_slice())
         }
         RequestTask::Brings(rest) => carry_on(alloc, host, number, how, rest),
     }

@@ -15,17 +15,17 @@ use Rattle.life_cert.specs.declared.growth.StatePlace.{StatePlace}
 use Rattle.life_cert.specs.declared.growth.StatePlace.TheVariants as place
 use Rattle.life_cert.specs.Rounds.{Arrival, state_at, arriving, left_place, returned, edges_arriving, handed_by_rule, handed_by_line, handed_by, handed_on}
 use Rattle.life_cert.specs.Fitting.{is_inside, IsDeclared, IsFit}
-use Rattle.life_check.proofs.EdgeLaws.{AreAlike, SomeAlike, edges_alike, goes_on_next, rule_edges}
+use Rattle.life_check.proofs.EdgeLaws.{OfSameVariables, SomeAlike, edges_alike, goes_on_next, rule_edges}
 
 -- a state that arrives, if there is one, fits
 some_fits : (p : Program) (w : StatePlace) (o : Option State) → ((s : State) → o ≡ Some s → IsFit p (record { place = w; state = s })) → All (IsFit p) (arriving w o)
 some_fits p w None h = All-nil (IsFit p)
 some_fits p w (Some s) h = All-cons (IsFit p) (record { place = w; state = s }) [] (h s refl) (All-nil (IsFit p))
 
-declared_on : (p : Program) (s t : State) → IsDeclared p s → AreAlike s t → IsDeclared p t
+declared_on : (p : Program) (s t : State) → IsDeclared p s → OfSameVariables s t → IsDeclared p t
 declared_on p s t h a = record { pools = a.pools ∙ h.pools; brigades = a.brigades ∙ h.brigades }
 
-alike_at : (s t : State) (o : Option State) → SomeAlike s o → o ≡ Some t → AreAlike s t
+alike_at : (s t : State) (o : Option State) → SomeAlike s o → o ≡ Some t → OfSameVariables s t
 alike_at s t o h e = subst (SomeAlike s) e h
 
 target_inside : (p : Program) (pc : ℕ) (o : Option ℕ) → pc < length p.code → IfSome o (λ t. t < length p.code) → unwrap_or o 0 < length p.code

@@ -18,7 +18,7 @@ use Rattle.run_model.specs.Buckets.{is_data_kind, is_eos_kind}
 use Rattle.run_model.specs.BrigadeLists.{bucket_named}
 use Rattle.run_model.specs.BucketSteps.{changed_at, ref_taken, items_at, aside_into, do_aside}
 use Rattle.run_model.specs.Cutting.{FitsKind, LivesAs, IsFree, IsOfPool, set_aside, set_aside_as}
-use Rattle.run_model.specs.Cursors.{Place, Within, AtLoose, spot}
+use Rattle.run_model.specs.Cursors.{Place, Within, AtLoose, at_cursor}
 use Rattle.run_model.specs.Faults.{WPool, WHome, WCursor, OnBucket, or_else, fault_want, has_pool, has_pool_at, is_live_named, usable_fault}
 use Rattle.run_model.specs.declared.fault.FaultKind.TheVariants.{F5}
 use Rattle.run_model.specs.declared.bucket.PoolVar.TheVariants as poolvar
@@ -32,7 +32,7 @@ use Rattle.run_model.specs.Effects.{is_above, aside_named, all_referred, new_ref
 use Rattle.run_model.specs.Pools.{Pools, is_live, is_under}
 use Rattle.run_model.specs.Sound.{Sound, SoundNames}
 use Rattle.run_model.proofs.EachBucket.{each_changed, of_named}
-use Rattle.run_model.proofs.Spots.{named_is}
+use Rattle.run_model.proofs.CursorPlaces.{named_is}
 use Rattle.model_laws.proofs.StepPools.{referred_path, wanted_pool, named_lives}
 use Rattle.run_model.specs.State.{Configuration, pool_view, pool_named, named_at, with_pools, set_brigade, set_loose}
 use Rattle.life_state.specs.declared.parts.Classes.{Classes}
@@ -46,7 +46,7 @@ use Rattle.life_check.specs.Soundness.{LivesOutside, LawOf}
 use Rattle.run_model.proofs.RunOrderLaws.{under_itself}
 use Rattle.model_laws.proofs.chains.Apart.{some_is}
 use Rattle.life_check.proofs.Filled.{covers_first, covers_second, IsFull, full_of, rearranged_stays, rearranged_brigades, finds_kept, bucket_moved}
-use Rattle.life_check.proofs.Standing.{CursorStays, Finds, finds_same, loose_stays, in_stays, end_stays, usable_below, spot_in, spot_loose}
+use Rattle.life_check.proofs.Standing.{CursorStays, Finds, finds_same, loose_stays, in_stays, end_stays, usable_below, cursor_in, cursor_loose}
 use Rattle.life_check.proofs.Lists.{IsSorted, named_map, map_found, holds_map, each_of_all, all_of_each}
 use Rattle.life_check.proofs.Pools.{covers_moves, same_names, same_live, pool_kept, brigade_more, fits_beside}
 use Rattle.life_check.proofs.Tree.{under_declared}
@@ -337,11 +337,11 @@ law_aside {lives} c q p choice r s ready = by_pool (pool_named r q) refl where
 
   -- by what is known of the cursor
   by_known : (target : ℕ) → pool_named r q ≡ Some target → (k : CursorKnown) → s.cursors c ≡ k → cursor_need OnBucket k ≡ None → homes_need (homes_at s k) ≡ None
-      → Fits (Covers p (pool_view (do_aside (spot r c) (Some target) r)) lives) (after_aside c q k s) (do_aside (spot r c) (Some target) r)
+      → Fits (Covers p (pool_view (do_aside (at_cursor r c) (Some target) r)) lives) (after_aside c q k s) (do_aside (at_cursor r c) (Some target) r)
   by_known target named (In b t) is met home =
       let i : IsAtBucketOf r (r.call.cursors c) b t = subst (λ (k : CursorKnown). FitsCursor C r k (r.call.cursors c)) is (ready.fits.cursors c) in
       subst (λ (at : Place). Fits (Covers p (pool_view (do_aside at (Some target) r)) lives) (after_aside c q (In b t) s) (do_aside at (Some target) r))
-      (sym (spot_in r (r.call.cursors c) b t ready.sound.names i))
+      (sym (cursor_in r (r.call.cursors c) b t ready.sound.names i))
       (subst (λ (few : Bool). Fits (Covers p (pool_view (aside_into (Within b i.bucket) target r)) lives) (cond few (set_brigade_known b (with_homes (both_homes (home_in q)) (s.brigades b)) s) s)
       (aside_into (Within b i.bucket) target r))
       (sym (let lt : b < 9 = usable_below r b ready.sound.names i.usable in is_below b 9 lt))
@@ -350,12 +350,12 @@ law_aside {lives} c q p choice r s ready = by_pool (pool_named r q) refl where
   by_known target named (Loose t h) is met home =
       let i : IsAtLoose C r (r.call.cursors c) t h = subst (λ (k : CursorKnown). FitsCursor C r k (r.call.cursors c)) is (ready.fits.cursors c) in
       subst (λ (at : Place). Fits (Covers p (pool_view (do_aside at (Some target) r)) lives) (after_aside c q (Loose t h) s) (do_aside at (Some target) r))
-      (sym (spot_loose C r (r.call.cursors c) t h ready.sound.names i))
+      (sym (cursor_loose C r (r.call.cursors c) t h ready.sound.names i))
       (loose_fits p r s c q target i.bucket ready.may.proper ready.sound ready.declared ready.outside named (named_lives r q target there named)
       (clearable p r q target ready.declared named) ready.fits t h i.at i.there i.classed i.covered (unless_some h.dead F5 home))
   by_known target named k is met home = absurd (cc)
 
-  by_pool : (o : Option ℕ) → pool_named r q ≡ o → Fits (Covers p (pool_view (do_aside (spot r c) o r)) lives) (after_aside c q (s.cursors c) s) (do_aside (spot r c) o r)
+  by_pool : (o : Option ℕ) → pool_named r q ≡ o → Fits (Covers p (pool_view (do_aside (at_cursor r c) o r)) lives) (after_aside c q (s.cursors c) s) (do_aside (at_cursor r c) o r)
   by_pool None is = absurd (none_named is)
   by_pool (Some target) is =
       by_known target is (s.cursors c) refl (first_none (cursor_need OnBucket (s.cursors c)) (or_else (pool_need s q) (or_else (homes_need (homes_at s (s.cursors c))) None)) ready.met) home_met

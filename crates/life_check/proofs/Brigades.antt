@@ -26,7 +26,7 @@ use Rattle.life_state.specs.declared.parts.Contents.TheVariants.{Empty}
 use Rattle.life_state.specs.Facts.{known, moved}
 use Rattle.life_state.specs.States.{Homes, no_homes, both_homes, holds, BrigadeKnown, CursorKnown, Unset, Loose, In, End, InOrEnd, State}
 use Rattle.life_state.specs.Rules.{joined_content, emptied, carried, after_join}
-use Rattle.life_check.specs.Meaning.{Covers, Each, FitsPool, FitsBrigade, Differ, IsAtBucketOf, IsEndOf, FitsCursor, Fits}
+use Rattle.life_check.specs.Meaning.{Covers, HoldsOfEach, FitsPool, FitsBrigade, Differ, IsAtBucketOf, IsEndOf, FitsCursor, Fits}
 use Rattle.life_check.specs.Soundness.{LawOf}
 use Rattle.life_check.proofs.Filled.{covers_first, covers_second, IsFull, full_of, full_fits, filled_items, filled_name, filled_usable}
 use Rattle.life_check.proofs.Lists.{each_append, each_more, each_none, holds_joined, named_front, named_behind}
@@ -41,7 +41,7 @@ new_unused var.Gone none usable = cc
 new_unused (var.Live v) none usable = cc
 
 pub law_bcreate : {lives : Home → Type 0} (o : ℕ) → LawOf lives (instr.BCreate o)
-unfolding set_variable Each
+unfolding set_variable HoldsOfEach
 law_bcreate {lives} o p choice r s ready =
     fits_beside C D more r (do_create p o r) refl same s s.pools (upd s.brigades o (holds Empty no_homes)) refl refl
     (λ k. pool_kept r.shared.pools (do_create p o r).shared.pools (s.pools k) (r.instance.pools k) (λ n e. brigade_lives on r.shared.next r.shared.pools n) (ready.fits.pools k))
@@ -88,7 +88,7 @@ cleaned_usable var.Gone usable = usable
 cleaned_usable (var.Live v) usable = refl
 
 cleaned_fits : (C : Homes → Home → Type 0) (v : BrigadeVar) → brigade_fault v ≡ None → FitsBrigade C (holds Empty no_homes) (cleaned v)
-unfolding Each
+unfolding HoldsOfEach
 cleaned_fits C var.Null live = absurd (cc)
 cleaned_fits C var.Gone live = absurd (cc)
 cleaned_fits C (var.Live v) live = (refl, (refl, refl, tt))

@@ -11,7 +11,7 @@ use Rattle.run_model.specs.declared.effect.Condition.TheVariants as condition
 use Rattle.run_model.specs.declared.fault.FaultKind.{FaultKind}
 use Rattle.run_model.specs.BrigadeLists.{SplitRefusal, split_refusal, bucket_split}
 use Rattle.run_model.specs.BucketSteps.{items_at, set_items, bucket_read, read_given, read_within, has_rest, names_if, names_given, do_read, is_unread, is_unsplit, split_there}
-use Rattle.run_model.specs.Cursors.{Place, Within, spot}
+use Rattle.run_model.specs.Cursors.{Place, Within, at_cursor}
 use Rattle.run_model.specs.Faults.{InBrigade, or_else}
 use Rattle.run_model.specs.Sound.{Sound, SoundNames}
 use Rattle.run_model.specs.State.{Configuration, set_brigade, set_cursor, pool_view}
@@ -26,7 +26,7 @@ use Rattle.life_state.specs.States.{Homes, CursorKnown, Unset, Loose, In, End, I
 use Rattle.life_check.specs.Meaning.{Covers, Differ, IsAtBucketOf, FitsCursor, Fits}
 use Rattle.life_check.specs.Soundness.{Lands, LawOf}
 use Rattle.life_check.proofs.FinerFits.{finer_fits}
-use Rattle.life_check.proofs.Standing.{known_differ, spot_in}
+use Rattle.life_check.proofs.Standing.{known_differ, cursor_in}
 use Rattle.life_check.proofs.SetFits.{set_fits}
 use Rattle.life_check.proofs.FinerSteps.{split_finer, read_finer}
 
@@ -72,7 +72,7 @@ SplitLands lives p r s n g refused = Lands lives p (both_with s) s (jumps_if ref
 module _ {lives : Home → Type 0} where
   pub law_split : (c l : ℕ) (x : Value) → LawOf lives (instr.Split c x l)
   unfolding set_brigade
-  law_split c l x p choice r s ready = by_spot (spot_in r (r.call.cursors c) known.brigade known.classes ready.sound.names stands) where
+  law_split c l x p choice r s ready = by_cursor (cursor_in r (r.call.cursors c) known.brigade known.classes ready.sound.names stands) where
     C : Homes → Home → Type 0
     C = Covers p (pool_view r) lives
 
@@ -89,8 +89,8 @@ module _ {lives : Home → Type 0} where
         finer_fits C r known.brigade 1 (bucket_split r.shared.next stands.bucket.name (value_of r x) (items_at r known.brigade)) ready.sound.names
         (split_finer C (λ h. tt) r.shared.next stands.bucket.name (value_of r x) stands.bucket (items_at r known.brigade) stands.there is) s ready.fits
 
-    by_spot : spot r c ≡ Within known.brigade stands.bucket → SplitLands lives p r s (value_of r x) (spot r c) (is_unsplit (value_of r x) (spot r c))
-    by_spot is = subst (λ g. SplitLands lives p r s (value_of r x) g (is_unsplit (value_of r x) g)) (sym is) (by_refusal (split_refusal (value_of r x) stands.bucket) refl)
+    by_cursor : at_cursor r c ≡ Within known.brigade stands.bucket → SplitLands lives p r s (value_of r x) (at_cursor r c) (is_unsplit (value_of r x) (at_cursor r c))
+    by_cursor is = subst (λ g. SplitLands lives p r s (value_of r x) g (is_unsplit (value_of r x) g)) (sym is) (by_refusal (split_refusal (value_of r x) stands.bucket) refl)
 
   -- a read of the bucket at c, which is x in the brigade of b
   read_lands : (p : Program) (r : Configuration) (s : State) (c b : ℕ) (t : Classes) (given : Option (List ℕ)) (o : Option (List ℕ)) (at : IsAtBucketOf r (r.call.cursors c) b t)
@@ -134,5 +134,5 @@ module _ {lives : Home → Type 0} where
         stands : IsAtBucketOf r (r.call.cursors c) known_in.brigade known_in.classes
         stands = subst (λ k. FitsCursor (Covers p (pool_view r) lives) r k (r.call.cursors c)) known_in.is (ready.fits.cursors c)
 
-        is_there : spot r c ≡ Within known_in.brigade stands.bucket
-        is_there = spot_in r (r.call.cursors c) known_in.brigade known_in.classes ready.sound.names stands
+        is_there : at_cursor r c ≡ Within known_in.brigade stands.bucket
+        is_there = cursor_in r (r.call.cursors c) known_in.brigade known_in.classes ready.sound.names stands

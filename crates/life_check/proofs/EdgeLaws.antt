@@ -23,36 +23,36 @@ use Rattle.life_state.specs.Rules.{Edges, some_if, cleared_under, after_next, if
 use Rattle.life_state.specs.Rules.{with_classes, classes_of, told, told_classes, pool_not_null, brigade_not_null, edges_jnull, after, on_condition, led, edges, first_need, need_or, rule}
 
 -- of the same variables
-pub record AreAlike (s t : State) : Type 0 where
+pub record OfSameVariables (s t : State) : Type 0 where
   pub pools : t.pool_count ≡ s.pool_count
   pub brigades : t.brigade_count ≡ s.brigade_count
 
 abbrev pub SomeAlike : State → Option State → Type 0
 SomeAlike s None = Unit {0}
-SomeAlike s (Some t) = AreAlike s t
+SomeAlike s (Some t) = OfSameVariables s t
 
 pub record EdgesAlike (s : State) (e : Edges) : Type 0 where
   pub next : SomeAlike s e.next
   pub jump : SomeAlike s e.jump
 
-some_if_alike : (b : Bool) (s t : State) → AreAlike s t → SomeAlike s (some_if b t)
+some_if_alike : (b : Bool) (s t : State) → OfSameVariables s t → SomeAlike s (some_if b t)
 some_if_alike true s t h = h
 some_if_alike false s t h = tt
 
-next_alike : (d c : ℕ) (v : CursorKnown) (s : State) → AreAlike s (after_next d c v s)
+next_alike : (d c : ℕ) (v : CursorKnown) (s : State) → OfSameVariables s (after_next d c v s)
 unfolding set_cursor
 next_alike d c (In b t) s = record { pools = refl; brigades = refl }
 next_alike d c _ s = record { pools = refl; brigades = refl }
 
-if_alike : (b n : ℕ) (t s : State) → AreAlike s t → AreAlike s (if_brigade b t s)
-if_alike b n t s h = elim (nat_lt b 9) as (λ x. AreAlike s (if x then t else s)) [ true ↦ h | false ↦ record { pools = refl; brigades = refl } ]
+if_alike : (b n : ℕ) (t s : State) → OfSameVariables s t → OfSameVariables s (if_brigade b t s)
+if_alike b n t s h = elim (nat_lt b 9) as (λ x. OfSameVariables s (if x then t else s)) [ true ↦ h | false ↦ record { pools = refl; brigades = refl } ]
 
-before_alike : (c : ℕ) (v : CursorKnown) (s : State) → AreAlike s (after_before c v s)
+before_alike : (c : ℕ) (v : CursorKnown) (s : State) → OfSameVariables s (after_before c v s)
 unfolding moved
 before_alike c (In b t) s = if_alike b 9 (put_in before_content b c s) s (record { pools = refl; brigades = refl })
 before_alike c _ s = record { pools = refl; brigades = refl }
 
-aside_alike : (c : ℕ) (q : PoolRef) (v : CursorKnown) (s : State) → AreAlike s (after_aside c q v s)
+aside_alike : (c : ℕ) (q : PoolRef) (v : CursorKnown) (s : State) → OfSameVariables s (after_aside c q v s)
 unfolding moved
 aside_alike c q (Loose t h) s = record { pools = refl; brigades = refl }
 aside_alike c q (In b t) s = if_alike b 9 (set_brigade b (with_homes (both_homes (home_in q)) (s.brigades b)) s) s (record { pools = refl; brigades = refl })
@@ -79,7 +79,7 @@ unfolding moved
 told_alike c t s = some_if_alike (some_class t) s (told c (with_classes t (s.cursors c)) s) (record { pools = refl; brigades = refl })
 
 -- what an effect makes of a state is of the same variables
-after_alike : (p : Program) (e : Effect) (s : State) → AreAlike s (after p e s)
+after_alike : (p : Program) (e : Effect) (s : State) → OfSameVariables s (after p e s)
 unfolding moved set_cursor cleared_under
 after_alike p (effect.Next d c) s = next_alike d c (s.cursors c) s
 after_alike p (effect.Before c d) s = before_alike c (s.cursors d) s
@@ -88,7 +88,7 @@ after_alike p (effect.Aside c q) s = aside_alike c q (s.cursors c) s
 after_alike p e s = record { pools = refl; brigades = refl }
 
 -- t is of the variables of s
-module _ (s t : State) (h : AreAlike s t) where
+module _ (s t : State) (h : OfSameVariables s t) where
   some_past : (o : Option State) → SomeAlike t o → SomeAlike s o
   some_past None g = tt
   some_past (Some x) g = record { pools = g.pools ∙ h.pools; brigades = g.brigades ∙ h.brigades }

@@ -22,7 +22,7 @@ use Rattle.run_model.proofs.Updates.{upd_at}
 use Rattle.life_state.specs.States.{Homes, both_homes, BrigadeKnown, CursorKnown, State}
 use Rattle.life_state.specs.Facts.{known, moved, forgotten, move_bucket}
 use Rattle.life_state.proofs.Tests.{or_left, or_right}
-use Rattle.life_check.specs.Meaning.{CoversPool, ByConnection, ByMember, ByDead, ByCall, Covers, Each, HoldsContents, FitsMark, FitsBrigade, FitsCursor, Differ, Fits}
+use Rattle.life_check.specs.Meaning.{CoversPool, ByConnection, ByMember, ByDead, ByCall, Covers, HoldsOfEach, HoldsContents, FitsMark, FitsBrigade, FitsCursor, Differ, Fits}
 use Rattle.life_check.proofs.Standing.{upd_both, upd_first, upd_second, moved_facts, Finds, finds_same, CursorStays, cursor_stays, forgotten_fits}
 
 -- Homes of which there are more.
@@ -60,7 +60,7 @@ module _ (C : Homes → Home → Type 0) where
     pub live : k.live ≡ true
     pub usable : k.usable ≡ true
     pub holds : HoldsContents k.content xs
-    pub homes : Each (λ x. C k.homes x.bucket.home) xs
+    pub homes : HoldsOfEach (λ x. C k.homes x.bucket.home) xs
 
   pub full_of : (k : BrigadeKnown) (v : BrigadeVar) → usable_fault v ≡ None → FitsBrigade C k v → IsFull k (items_of v)
   full_of k var.Null usable f = absurd (cc)

@@ -9,7 +9,7 @@ use Rattle.life_state.specs.declared.parts.Contents.{Contents}
 use Rattle.life_state.specs.declared.parts.Contents.TheVariants.{Empty, Flushes, NoEos, NoLateData, Any}
 use Rattle.life_state.specs.declared.parts.Classes.{Classes}
 use Rattle.life_state.specs.States.{Homes}
-use Rattle.life_check.specs.Meaning.{class_has, Each, HoldsContents}
+use Rattle.life_check.specs.Meaning.{class_has, HoldsOfEach, HoldsContents}
 
 -- Looking for a bucket by its name.
 here : (n : ℕ) (y : NamedBucket) (ys : List NamedBucket) → (y.name == n) ≡ true → bucket_named n (y ∷ ys) ≡ Some y
@@ -107,13 +107,13 @@ module _ (C : Homes → Home → Type 0) where
   finer_holds new ys xs NoLateData f h = finer_late new ys xs f ∙ h
   finer_holds new ys xs Any f h = h
 
-  pub finer_covered : (new : ℕ) (ys xs : List NamedBucket) (h : Homes) → Finer new ys xs → Each (λ x. C h x.bucket.home) xs → Each (λ x. C h x.bucket.home) ys
-  unfolding Each Finer
-  finer_covered new ys [] h f e = subst (λ zs. Each (λ x. C h x.bucket.home) zs) (sym f) e
+  pub finer_covered : (new : ℕ) (ys xs : List NamedBucket) (h : Homes) → Finer new ys xs → HoldsOfEach (λ x. C h x.bucket.home) xs → HoldsOfEach (λ x. C h x.bucket.home) ys
+  unfolding HoldsOfEach Finer
+  finer_covered new ys [] h f e = subst (λ zs. HoldsOfEach (λ x. C h x.bucket.home) zs) (sym f) e
   finer_covered new [] (x ∷ xs) h f e = absurd f
   finer_covered new (y ∷ ys) (x ∷ xs) h f e = elim f [
     | inl t ↦ (t.1.covered h e.0, finer_covered new ys xs h t.2 e.1)
-    | inr t ↦ (t.3.first.covered h e.0, subst (λ zs. Each (λ x. C h x.bucket.home) zs) (sym t.2) (t.3.rest.covered h e.0, finer_covered new t.1 xs h t.4 e.1))
+    | inr t ↦ (t.3.first.covered h e.0, subst (λ zs. HoldsOfEach (λ x. C h x.bucket.home) zs) (sym t.2) (t.3.rest.covered h e.0, finer_covered new t.1 xs h t.4 e.1))
   ]
 
   -- A bucket is found under its name as before.

@@ -14,68 +14,68 @@ use Rattle.run_model.specs.BucketSteps.{changed_at}
 use Rattle.run_model.specs.Sound.{count_named}
 use Rattle.model_laws.proofs.BrigadeLists.{before_and_from}
 use Rattle.run_model.proofs.EachBucket as buckets
-use Rattle.run_model.proofs.Spots.{named_is}
+use Rattle.run_model.proofs.CursorPlaces.{named_is}
 use Rattle.model_laws.proofs.CursorNames.{found_there}
 use Rattle.life_state.specs.declared.parts.Contents.{Contents}
 use Rattle.life_state.specs.declared.parts.Contents.TheVariants.{Empty, Flushes, NoEos, NoLateData, Any}
 use Rattle.life_state.specs.declared.parts.Classes.{Classes}
 use Rattle.life_state.specs.Order.{content_le, greater}
 use Rattle.life_state.specs.Rules.{joined_content, content_of, tail_content, head_content, before_eos, before_data, before_content}
-use Rattle.life_check.specs.Meaning.{class_has, Each, HoldsContents}
+use Rattle.life_check.specs.Meaning.{class_has, HoldsOfEach, HoldsContents}
 
 -- What is true of each bucket.
 
-pub each_of_all : (P : NamedBucket → Type 0) (xs : List NamedBucket) → All P xs → Each P xs
-unfolding Each
+pub each_of_all : (P : NamedBucket → Type 0) (xs : List NamedBucket) → All P xs → HoldsOfEach P xs
+unfolding HoldsOfEach
 each_of_all P [] h = tt
 each_of_all P (x ∷ xs) h = (All-head P x xs h, each_of_all P xs (All-tail P x xs h))
 
-pub all_of_each : (P : NamedBucket → Type 0) (xs : List NamedBucket) → Each P xs → All P xs
-unfolding Each
+pub all_of_each : (P : NamedBucket → Type 0) (xs : List NamedBucket) → HoldsOfEach P xs → All P xs
+unfolding HoldsOfEach
 all_of_each P [] h = All-nil P
 all_of_each P (x ∷ xs) h = All-cons P x xs (h.0) (all_of_each P xs (h.1))
 
-pub each_none : (P : NamedBucket → Type 0) → Each P []
-unfolding Each
+pub each_none : (P : NamedBucket → Type 0) → HoldsOfEach P []
+unfolding HoldsOfEach
 each_none P = tt
 
-pub each_cons : (P : NamedBucket → Type 0) (x : NamedBucket) (xs : List NamedBucket) → P x → Each P xs → Each P (x ∷ xs)
-unfolding Each
+pub each_cons : (P : NamedBucket → Type 0) (x : NamedBucket) (xs : List NamedBucket) → P x → HoldsOfEach P xs → HoldsOfEach P (x ∷ xs)
+unfolding HoldsOfEach
 each_cons P x xs here rest = (here, rest)
 
-pub each_append : (P : NamedBucket → Type 0) (xs ys : List NamedBucket) → Each P xs → Each P ys → Each P (xs ++ ys)
-unfolding Each
+pub each_append : (P : NamedBucket → Type 0) (xs ys : List NamedBucket) → HoldsOfEach P xs → HoldsOfEach P ys → HoldsOfEach P (xs ++ ys)
+unfolding HoldsOfEach
 each_append P [] ys h k = k
 each_append P (x ∷ xs) ys h k = (h.0, each_append P xs ys (h.1) k)
 
-pub each_more : (P Q : NamedBucket → Type 0) → ((x : NamedBucket) → P x → Q x) → (xs : List NamedBucket) → Each P xs → Each Q xs
-unfolding Each
+pub each_more : (P Q : NamedBucket → Type 0) → ((x : NamedBucket) → P x → Q x) → (xs : List NamedBucket) → HoldsOfEach P xs → HoldsOfEach Q xs
+unfolding HoldsOfEach
 each_more P Q more [] h = tt
 each_more P Q more (x ∷ xs) h = (more x (h.0), each_more P Q more xs (h.1))
 
-pub each_map : (P Q : NamedBucket → Type 0) (f : NamedBucket → NamedBucket) → ((x : NamedBucket) → P x → Q (f x)) → (xs : List NamedBucket) → Each P xs → Each Q (map f xs)
-unfolding Each
+pub each_map : (P Q : NamedBucket → Type 0) (f : NamedBucket → NamedBucket) → ((x : NamedBucket) → P x → Q (f x)) → (xs : List NamedBucket) → HoldsOfEach P xs → HoldsOfEach Q (map f xs)
+unfolding HoldsOfEach
 each_map P Q f more [] h = tt
 each_map P Q f more (x ∷ xs) h = (more x (h.0), each_map P Q f more xs (h.1))
 
 module _ (P : NamedBucket → Type 0) (n : ℕ) (xs : List NamedBucket) where
-  pub each_before : Each P xs → Each P (buckets_before n xs)
+  pub each_before : HoldsOfEach P xs → HoldsOfEach P (buckets_before n xs)
   each_before h = each_of_all P (buckets_before n xs) (buckets.each_before P n xs (all_of_each P xs h))
 
-  pub each_from : Each P xs → Each P (buckets_from n xs)
+  pub each_from : HoldsOfEach P xs → HoldsOfEach P (buckets_from n xs)
   each_from h = each_of_all P (buckets_from n xs) (buckets.each_from P n xs (all_of_each P xs h))
 
-  pub each_taken_out : Each P xs → Each P (taken_out n xs)
+  pub each_taken_out : HoldsOfEach P xs → HoldsOfEach P (taken_out n xs)
   each_taken_out h = each_of_all P (taken_out n xs) (buckets.each_taken_out P n xs (all_of_each P xs h))
 
-  pub each_put_before : (x : NamedBucket) → P x → Each P xs → Each P (put_before n x xs)
+  pub each_put_before : (x : NamedBucket) → P x → HoldsOfEach P xs → HoldsOfEach P (put_before n x xs)
   each_put_before x here h = each_of_all P (put_before n x xs) (buckets.each_put_before P n x xs here (all_of_each P xs h))
 
   -- the bucket that is found is one of them
-  pub each_named : (x : NamedBucket) → bucket_named n xs ≡ Some x → Each P xs → P x
+  pub each_named : (x : NamedBucket) → bucket_named n xs ≡ Some x → HoldsOfEach P xs → P x
   each_named x is h = buckets.of_named P n x xs is (all_of_each P xs h)
 
-pub each_put_tail : (P : NamedBucket → Type 0) (x : NamedBucket) (xs : List NamedBucket) → P x → Each P xs → Each P (put_tail x xs)
+pub each_put_tail : (P : NamedBucket → Type 0) (x : NamedBucket) (xs : List NamedBucket) → P x → HoldsOfEach P xs → HoldsOfEach P (put_tail x xs)
 each_put_tail P x xs here h = each_append P xs (x ∷ []) h (each_cons P x [] here (each_none P))
 
 -- Which bucket is found by its name.

@@ -16,7 +16,7 @@ use Rattle.run_model.specs.declared.bucket.NamedBucket.{NamedBucket}
 use Rattle.run_model.specs.declared.fault.FaultKind.TheVariants.{F1}
 use Rattle.run_model.specs.BrigadeLists.{put_tail}
 use Rattle.run_model.specs.BucketSteps.{items_at, new_loose, copied_bucket, do_make, pooled_bucket}
-use Rattle.run_model.specs.Cursors.{bucket_at, spot_of}
+use Rattle.run_model.specs.Cursors.{bucket_at, place_of_cursor}
 use Rattle.run_model.specs.Faults.{OnBucket, fault, has_pool_at, has_pool, is_live_named, wants}
 use Rattle.run_model.specs.Sound.{SoundNames, count}
 use Rattle.run_model.specs.State.{Configuration, pool_view, pool_named, set_cursor, set_loose}
@@ -83,9 +83,9 @@ module _ (lives : Home → Type 0) (p : Program) (r : Configuration) (s : State)
   pooled q None is met = absurd (unnamed_fault r q is met)
   pooled q (Some n) is met = (refl, tt)
 
-  copied : (k : CursorKnown) (v : Cursor) → FitsCursor C r k v → cursor_need OnBucket k ≡ None → IsMadeOf C (classes_of k) (homes_at s k) (copied_bucket (bucket_at (spot_of r v)))
-  copied (In b t) v i met = of_known C t (s.brigades b).homes (bucket_at (spot_of r v)) (in_known C r s v names f b t i)
-  copied (Loose t h) v i met = of_known C t h (bucket_at (spot_of r v)) (loose_known C r s v names f t h i)
+  copied : (k : CursorKnown) (v : Cursor) → FitsCursor C r k v → cursor_need OnBucket k ≡ None → IsMadeOf C (classes_of k) (homes_at s k) (copied_bucket (bucket_at (place_of_cursor r v)))
+  copied (In b t) v i met = of_known C t (s.brigades b).homes (bucket_at (place_of_cursor r v)) (in_known C r s v names f b t i)
+  copied (Loose t h) v i met = of_known C t h (bucket_at (place_of_cursor r v)) (loose_known C r s v names f t h i)
   copied k v i met = absurd (cc)
 
   source_known : (from : MadeFrom) → fault p r (instr_with (effect.Make c from)) ≡ None → first_need s (wants p (instr_with (effect.Make c from))) ≡ None

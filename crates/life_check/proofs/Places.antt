@@ -13,14 +13,14 @@ use Rattle.run_model.specs.declared.bucket.NamedBucket.{NamedBucket}
 use Rattle.run_model.specs.Buckets.{is_data_kind, is_eos_kind, is_data, is_eos, has_data, has_eos}
 use Rattle.run_model.specs.BrigadeLists.{buckets_before, buckets_from, bucket_named, first_place, next_place, taken_out}
 use Rattle.run_model.specs.BucketSteps.{items_at, end_called, cursor_at, do_next}
-use Rattle.run_model.specs.Cursors.{Place, spot}
+use Rattle.run_model.specs.Cursors.{Place, at_cursor}
 use Rattle.run_model.specs.Faults.{InBrigade, usable_fault}
 use Rattle.run_model.specs.Sound.{SoundNames, brigade_name, count_named}
 use Rattle.run_model.specs.State.{Configuration, pool_view, set_cursor}
 use Rattle.model_laws.proofs.CursorNames.{first_there, next_there}
 use Rattle.model_laws.proofs.Marks.{first_none}
 use Rattle.model_laws.proofs.BrigadeLists.{moves_keep_names}
-use Rattle.run_model.proofs.Spots.{named_is}
+use Rattle.run_model.proofs.CursorPlaces.{named_is}
 use Rattle.run_model.proofs.Names.{count_none, count_append, count_cons}
 use Rattle.life_state.specs.declared.parts.Classes.{Classes}
 use Rattle.life_state.specs.declared.parts.Contents.{Contents}
@@ -28,10 +28,10 @@ use Rattle.life_state.specs.declared.parts.Contents.TheVariants.{Empty, Flushes,
 use Rattle.life_state.specs.States.{Homes, CursorKnown, In, State}
 use Rattle.life_state.specs.Facts.{is_set, set_cursor as known_set}
 use Rattle.life_state.specs.Rules.{cursor_need, bucket_or_end, after_next, no_other}
-use Rattle.life_check.specs.Meaning.{class_has, Covers, Each, HoldsContents, IsAtBucketOf, IsEndOf, FitsCursor, Differ, Fits}
+use Rattle.life_check.specs.Meaning.{class_has, Covers, HoldsOfEach, HoldsContents, IsAtBucketOf, IsEndOf, FitsCursor, Differ, Fits}
 use Rattle.life_check.specs.Soundness.{LawOf}
 use Rattle.life_check.proofs.Lists.{named_first, named_later, each_named}
-use Rattle.life_check.proofs.Standing.{spot_in, once_in, CursorStays, cursor_stays}
+use Rattle.life_check.proofs.Standing.{cursor_in, once_in, CursorStays, cursor_stays}
 use Rattle.life_check.proofs.Filled.{full_of, finds_kept}
 use Rattle.life_check.proofs.Sets.{with_cursor, cursor_set}
 
@@ -41,13 +41,13 @@ use Rattle.life_check.proofs.Sets.{with_cursor, cursor_set}
 abbrev all_classes : Classes
 all_classes = record { bytes = true; flush = true; eos = true }
 
-each_no_data : (xs : List NamedBucket) → has_data xs ≡ false → Each (λ x. is_data x ≡ false) xs
-unfolding Each
+each_no_data : (xs : List NamedBucket) → has_data xs ≡ false → HoldsOfEach (λ x. is_data x ≡ false) xs
+unfolding HoldsOfEach
 each_no_data [] none = tt
 each_no_data (x ∷ xs) none = (let parts = or_parts (is_data x) (has_data xs) none in (parts.0, each_no_data xs (parts.1)))
 
-each_no_eos : (xs : List NamedBucket) → has_eos xs ≡ false → Each (λ x. is_eos x ≡ false) xs
-unfolding Each
+each_no_eos : (xs : List NamedBucket) → has_eos xs ≡ false → HoldsOfEach (λ x. is_eos x ≡ false) xs
+unfolding HoldsOfEach
 each_no_eos [] none = tt
 each_no_eos (x ∷ xs) none = (let parts = or_parts (is_eos x) (has_eos xs) none in (parts.0, each_no_eos xs (parts.1)))
 
@@ -166,12 +166,12 @@ next_away r b c k n t names i same at too =
 pub law_next : {lives : Home → Type 0} (d c : ℕ) → LawOf lives (instr.Next d c)
 unfolding set_cursor
 law_next {lives = lives} d c p choice r s ready = by_known (s.cursors c) refl (first_none (cursor_need InBrigade (s.cursors c)) None ready.met) where
-  by_known : (k : CursorKnown) → s.cursors c ≡ k → cursor_need InBrigade k ≡ None → Fits (Covers p (pool_view (do_next d (spot r c) r)) lives) (after_next d c k s) (do_next d (spot r c) r)
+  by_known : (k : CursorKnown) → s.cursors c ≡ k → cursor_need InBrigade k ≡ None → Fits (Covers p (pool_view (do_next d (at_cursor r c) r)) lives) (after_next d c k s) (do_next d (at_cursor r c) r)
   by_known (In b t) is met =
       let C : Homes → Home → Type 0 = Covers p (pool_view r) lives in
       let i : IsAtBucketOf r (r.call.cursors c) b t = subst (λ (k : CursorKnown). FitsCursor C r k (r.call.cursors c)) is (ready.fits.cursors c) in
       let place : Option ℕ = next_place i.bucket.name (items_at r b) in
-      subst (λ (at : Place). Fits (Covers p (pool_view (do_next d at r)) lives) (after_next d c (In b t) s) (do_next d at r)) (sym (spot_in r (r.call.cursors c) b t ready.sound.names i))
+      subst (λ (at : Place). Fits (Covers p (pool_view (do_next d at r)) lives) (after_next d c (In b t) s) (do_next d at r)) (sym (cursor_in r (r.call.cursors c) b t ready.sound.names i))
       (placed_fits C r s ready.sound.names ready.fits d b place (λ k. k == c) i.usable (λ n at. next_there i.bucket.name n (items_at r b) at)
       (λ k differ set same n at too. next_away r b c k n t ready.sound.names i same at too))
   by_known k is met = absurd (cc)

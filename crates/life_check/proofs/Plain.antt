@@ -19,7 +19,7 @@ use Rattle.run_model.specs.declared.bucket.PoolVar.TheVariants as poolvar
 use Rattle.run_model.specs.declared.fault.FaultKind.TheVariants.{F7}
 use Rattle.run_model.specs.Indexed.{upd}
 use Rattle.run_model.specs.BucketSteps.{is_of_kind, kind_is}
-use Rattle.run_model.specs.Cursors.{spot, is_end, bucket_at}
+use Rattle.run_model.specs.Cursors.{at_cursor, is_end, bucket_at}
 use Rattle.run_model.specs.Faults.{Anywhere, OnBucket, usable_fault}
 use Rattle.run_model.specs.Pools.{is_live, is_empty}
 use Rattle.run_model.specs.Sound.{SoundNames, Sound}
@@ -36,7 +36,7 @@ use Rattle.life_state.proofs.Tests.{or_left, or_right}
 use Rattle.life_state.specs.States.{Homes, no_homes, only_null, BrigadeKnown, never_made, holds, CursorKnown, Unset, Loose, In, End, InOrEnd, State, set_pool, set_brigade}
 use Rattle.life_check.proofs.Orders.{never}
 use Rattle.life_check.proofs.Lists.{each_none}
-use Rattle.life_check.proofs.Standing.{upd_first, moved_facts, spot_loose, spot_in, spot_end}
+use Rattle.life_check.proofs.Standing.{upd_first, moved_facts, cursor_loose, cursor_in, cursor_at_end}
 use Rattle.life_check.proofs.Wants.{both_none, usable_items}
 use Rattle.life_check.specs.Meaning.{class_has, Covers, HoldsContents, FitsPool, FitsMark, FitsBrigade, FitsCursor, Fits}
 use Rattle.life_check.specs.Soundness.{FitsSome, Lands, LawOf}
@@ -156,19 +156,19 @@ told_fits C r s c k names f e = record {
 }
 
 end_lands : (lives : Home → Type 0) (p : Program) (r : Configuration) (s : State) (c : ℕ) (k : CursorKnown) → Sound r → Fits (Covers p (pool_view r) lives) s r → cursor_need Anywhere k ≡ None
-    → FitsCursor (Covers p (pool_view r) lives) r k (r.call.cursors c) → Lands lives p (edges_jend c k s) s (jumps_if (is_end (spot r c))) r
+    → FitsCursor (Covers p (pool_view r) lives) r k (r.call.cursors c) → Lands lives p (edges_jend c k s) s (jumps_if (is_end (at_cursor r c))) r
 end_lands lives p r s c Unset sound f h e = cc
 end_lands lives p r s c (Loose t homes) sound f h e =
-    subst (λ at. Lands lives p (goes_on_with s) s (jumps_if (is_end at)) r) (sym (spot_loose (Covers p (pool_view r) lives) r (r.call.cursors c) t homes sound.names e)) f
+    subst (λ at. Lands lives p (goes_on_with s) s (jumps_if (is_end at)) r) (sym (cursor_loose (Covers p (pool_view r) lives) r (r.call.cursors c) t homes sound.names e)) f
 end_lands lives p r s c (In b t) sound f h e =
-    subst (λ at. Lands lives p (goes_on_with s) s (jumps_if (is_end at)) r) (sym (spot_in r (r.call.cursors c) b t sound.names e)) f
+    subst (λ at. Lands lives p (goes_on_with s) s (jumps_if (is_end at)) r) (sym (cursor_in r (r.call.cursors c) b t sound.names e)) f
 end_lands lives p r s c (End b) sound f h e =
-    subst (λ at. Lands lives p (edges_jend c (End b) s) s (jumps_if (is_end at)) r) (sym (spot_end r (r.call.cursors c) b sound.names e)) f
+    subst (λ at. Lands lives p (edges_jend c (End b) s) s (jumps_if (is_end at)) r) (sym (cursor_at_end r (r.call.cursors c) b sound.names e)) f
 end_lands lives p r s c (InOrEnd b t) sound f h (inl e) =
-    subst (λ at. Lands lives p (edges_jend c (InOrEnd b t) s) s (jumps_if (is_end at)) r) (sym (spot_in r (r.call.cursors c) b t sound.names e))
+    subst (λ at. Lands lives p (edges_jend c (InOrEnd b t) s) s (jumps_if (is_end at)) r) (sym (cursor_in r (r.call.cursors c) b t sound.names e))
     (told_fits (Covers p (pool_view r) lives) r s c (In b t) sound.names f e)
 end_lands lives p r s c (InOrEnd b t) sound f h (inr e) =
-    subst (λ at. Lands lives p (edges_jend c (InOrEnd b t) s) s (jumps_if (is_end at)) r) (sym (spot_end r (r.call.cursors c) b sound.names e))
+    subst (λ at. Lands lives p (edges_jend c (InOrEnd b t) s) s (jumps_if (is_end at)) r) (sym (cursor_at_end r (r.call.cursors c) b sound.names e))
     (told_fits (Covers p (pool_view r) lives) r s c (End b) sound.names f e)
 
 pub law_jend : {lives : Home → Type 0} (c l : ℕ) → LawOf lives (instr.JEnd c l)
@@ -230,13 +230,13 @@ kind_lands lives p r s c k x known names f h fitting = by_test (is_of_kind k x) 
 
 known_lands : (lives : Home → Type 0) (p : Program) (r : Configuration) (s : State) (c : ℕ) (k : KindTest) (known : CursorKnown)
     → SoundNames r → Fits (Covers p (pool_view r) lives) s r → cursor_need OnBucket known ≡ None → FitsCursor (Covers p (pool_view r) lives) r known (r.call.cursors c)
-    → Lands lives p (kind_edges c k known s) s (jumps_if (kind_is k (bucket_at (spot r c)))) r
+    → Lands lives p (kind_edges c k known s) s (jumps_if (kind_is k (bucket_at (at_cursor r c)))) r
 known_lands lives p r s c k Unset names f h e = cc
 known_lands lives p r s c k (Loose t homes) names f h e =
-    subst (λ at. Lands lives p (kind_edges c k (Loose t homes) s) s (jumps_if (kind_is k (bucket_at at))) r) (sym (spot_loose (Covers p (pool_view r) lives) r (r.call.cursors c) t homes names e))
+    subst (λ at. Lands lives p (kind_edges c k (Loose t homes) s) s (jumps_if (kind_is k (bucket_at at))) r) (sym (cursor_loose (Covers p (pool_view r) lives) r (r.call.cursors c) t homes names e))
     (kind_lands lives p r s c k e.bucket.bucket.kind (Loose t homes) names f e.classed (λ u has. record { bucket = e.bucket; at = e.at; there = e.there; classed = has; covered = e.covered }))
 known_lands lives p r s c k (In b t) names f h e =
-    subst (λ at. Lands lives p (kind_edges c k (In b t) s) s (jumps_if (kind_is k (bucket_at at))) r) (sym (spot_in r (r.call.cursors c) b t names e))
+    subst (λ at. Lands lives p (kind_edges c k (In b t) s) s (jumps_if (kind_is k (bucket_at at))) r) (sym (cursor_in r (r.call.cursors c) b t names e))
     (kind_lands lives p r s c k e.bucket.bucket.kind (In b t) names f e.classed (λ u has. record { bucket = e.bucket; at = e.at; there = e.there; classed = has; usable = e.usable }))
 known_lands lives p r s c k (End b) names f h e = cc
 known_lands lives p r s c k (InOrEnd b t) names f h e = cc

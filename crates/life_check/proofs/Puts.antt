@@ -8,7 +8,7 @@ use Rattle.run_model.specs.declared.bucket.NamedBucket.{NamedBucket}
 use Rattle.run_model.specs.Indexed.{upd}
 use Rattle.run_model.specs.BrigadeLists.{bucket_named, taken_out, put_head, put_tail, put_before}
 use Rattle.run_model.specs.BucketSteps.{items_at, put_into, do_before}
-use Rattle.run_model.specs.Cursors.{Place, AtLoose, spot}
+use Rattle.run_model.specs.Cursors.{Place, AtLoose, at_cursor}
 use Rattle.run_model.specs.Effects.{with_items}
 use Rattle.run_model.specs.Faults.{InBrigade, OnLoose, usable_fault}
 use Rattle.run_model.specs.Sound.{SoundNames, count_named}
@@ -19,18 +19,18 @@ use Rattle.life_state.specs.declared.parts.Contents.{Contents}
 use Rattle.life_state.specs.States.{Homes, both_homes, holds, BrigadeKnown, CursorKnown, Loose, In, State, set_brigade as with_brigade}
 use Rattle.life_state.specs.Facts.{move_bucket}
 use Rattle.life_state.specs.Rules.{cursor_need, usable_need, classes_of, homes_at, tail_content, head_content, before_content, put_in, after_before}
-use Rattle.life_check.specs.Meaning.{class_has, Covers, Each, HoldsContents, IsAtBucketOf, IsAtLoose, FitsCursor, Fits}
+use Rattle.life_check.specs.Meaning.{class_has, Covers, HoldsOfEach, HoldsContents, IsAtBucketOf, IsAtLoose, FitsCursor, Fits}
 use Rattle.life_check.specs.Soundness.{LawOf}
 use Rattle.life_check.proofs.Lists.{each_more, each_cons, each_put_tail, each_put_before, named_first, named_later, named_taken_out, named_put_tail, named_put_before, new_put_tail, new_put_before}
 use Rattle.life_check.proofs.Lists.{holds_tail, holds_head, holds_before}
-use Rattle.life_check.proofs.Standing.{usable_below, spot_in, spot_loose, once_loose}
+use Rattle.life_check.proofs.Standing.{usable_below, cursor_in, cursor_loose, once_loose}
 use Rattle.life_check.proofs.Filled.{covers_first, covers_second, IsFull, full_of, finds_kept, rearranged_items, rearranged_usable, rearranged_stays, rearranged_brigades, bucket_moved}
 
 -- What it is to put a bucket x of the classes t into the list xs, in which none has its name.
 record Inserts (P : NamedBucket → Type 0) (content : Contents → Classes → Contents) (insert : NamedBucket → List NamedBucket → List NamedBucket) (t : Classes) (x : NamedBucket)
     (xs : List NamedBucket) : Type 0 where
   holds : (k : Contents) → class_has t x.bucket.kind ≡ true → HoldsContents k xs → HoldsContents (content k t) (insert x xs)
-  each : P x → Each P xs → Each P (insert x xs)
+  each : P x → HoldsOfEach P xs → HoldsOfEach P (insert x xs)
   kept : (m : ℕ) (y : NamedBucket) → m ≢ x.name → bucket_named m xs ≡ Some y → bucket_named m (insert x xs) ≡ Some y
   new : count_named x.name xs ≡ 0 → bucket_named x.name (insert x xs) ≡ Some x
 
@@ -104,25 +104,25 @@ module _ (p : Program) (lives : Home → Type 0) (r : Configuration) (s : State)
   end_fits : (content : Contents → Classes → Contents) (insert : NamedBucket → List NamedBucket → List NamedBucket) (b c : ℕ) → usable_fault (r.instance.brigades b) ≡ None
       → ((P : NamedBucket → Type 0) (t : Classes) (x : NamedBucket) (xs : List NamedBucket) → Inserts P content insert t x xs)
       → (k : CursorKnown) → s.cursors c ≡ k → cursor_need OnLoose k ≡ None
-      → Fits (Covers p (pool_view (put_into insert b (spot r c) r)) lives) (put_known content b c k s) (put_into insert b (spot r c) r)
+      → Fits (Covers p (pool_view (put_into insert b (at_cursor r c) r)) lives) (put_known content b c k s) (put_into insert b (at_cursor r c) r)
   unfolding set_brigade set_loose
   end_fits content insert b c usable ins (Loose t h) is met =
       let i : IsAtLoose (Covers p (pool_view r) lives) r (r.call.cursors c) t h = subst (λ (k : CursorKnown). FitsCursor (Covers p (pool_view r) lives) r k (r.call.cursors c)) is (f.cursors c) in
       subst (λ (at : Place). Fits (Covers p (pool_view (put_into insert b at r)) lives) (put_known content b c (Loose t h) s) (put_into insert b at r))
-      (sym (spot_loose (Covers p (pool_view r) lives) r (r.call.cursors c) t h names i))
+      (sym (cursor_loose (Covers p (pool_view r) lives) r (r.call.cursors c) t h names i))
       (put_fits p lives r s names f content insert c b t h i usable (ins (λ y. Covers p (pool_view r) lives (both_homes (s.brigades b).homes h) y.bucket.home) t i.bucket (items_at r b)))
   end_fits content insert b c usable ins k is met = absurd (cc)
 
   -- before a bucket of the brigade of b
   beside_fits : (c d b : ℕ) (t : Classes) → IsAtBucketOf r (r.call.cursors d) b t → (k : CursorKnown) → s.cursors c ≡ k → cursor_need OnLoose k ≡ None
-      → Fits (Covers p (pool_view (do_before (spot r c) (spot r d) r)) lives) (put_known before_content b c k s) (do_before (spot r c) (spot r d) r)
+      → Fits (Covers p (pool_view (do_before (at_cursor r c) (at_cursor r d) r)) lives) (put_known before_content b c k s) (do_before (at_cursor r c) (at_cursor r d) r)
   unfolding set_brigade set_loose
   beside_fits c d b t j (Loose u h) is met =
       let i : IsAtLoose (Covers p (pool_view r) lives) r (r.call.cursors c) u h = subst (λ (k : CursorKnown). FitsCursor (Covers p (pool_view r) lives) r k (r.call.cursors c)) is (f.cursors c) in
-      subst (λ (at : Place). Fits (Covers p (pool_view (do_before (spot r c) at r)) lives) (put_known before_content b c (Loose u h) s) (do_before (spot r c) at r))
-      (sym (spot_in r (r.call.cursors d) b t names j))
+      subst (λ (at : Place). Fits (Covers p (pool_view (do_before (at_cursor r c) at r)) lives) (put_known before_content b c (Loose u h) s) (do_before (at_cursor r c) at r))
+      (sym (cursor_in r (r.call.cursors d) b t names j))
       (subst (λ (at : Place). Fits (Covers p (pool_view (put_into (put_before j.bucket.name) b at r)) lives) (put_known before_content b c (Loose u h) s)
-      (put_into (put_before j.bucket.name) b at r)) (sym (spot_loose (Covers p (pool_view r) lives) r (r.call.cursors c) u h names i))
+      (put_into (put_before j.bucket.name) b at r)) (sym (cursor_loose (Covers p (pool_view r) lives) r (r.call.cursors c) u h names i))
       (put_fits p lives r s names f before_content (put_before j.bucket.name) c b u h i j.usable
       (before_inserts (λ y. Covers p (pool_view r) lives (both_homes (s.brigades b).homes h) y.bucket.home) j.bucket.name u i.bucket (items_at r b))))
   beside_fits c d b t j k is met = absurd (cc)
@@ -144,10 +144,11 @@ pub law_before : {lives : Home → Type 0} (c d : ℕ) → LawOf lives (instr.Be
 law_before {lives = lives} c d p choice r s ready =
     by_known (s.cursors d) refl (first_none (cursor_need InBrigade (s.cursors d)) None (second_none (cursor_need OnLoose (s.cursors c)) _ ready.met)) where
       by_known : (k : CursorKnown) → s.cursors d ≡ k → cursor_need InBrigade k ≡ None
-          → Fits (Covers p (pool_view (do_before (spot r c) (spot r d) r)) lives) (after_before c k s) (do_before (spot r c) (spot r d) r)
+          → Fits (Covers p (pool_view (do_before (at_cursor r c) (at_cursor r d) r)) lives) (after_before c k s) (do_before (at_cursor r c) (at_cursor r d) r)
       by_known (In b t) is met =
           let j : IsAtBucketOf r (r.call.cursors d) b t = subst (λ (k : CursorKnown). FitsCursor (Covers p (pool_view r) lives) r k (r.call.cursors d)) is (ready.fits.cursors d) in
-          subst (λ (below : Bool). Fits (Covers p (pool_view (do_before (spot r c) (spot r d) r)) lives) (cond below (put_in before_content b c s) s) (do_before (spot r c) (spot r d) r))
+          subst (λ (below : Bool). Fits (Covers p (pool_view (do_before (at_cursor r c) (at_cursor r d) r)) lives) (cond below (put_in before_content b c s) s)
+          (do_before (at_cursor r c) (at_cursor r d) r))
           (sym (is_below b 9 (usable_below r b ready.sound.names j.usable)))
           (beside_fits p lives r s ready.sound.names ready.fits c d b t j (s.cursors c) refl (first_none (cursor_need OnLoose (s.cursors c)) _ ready.met))
       by_known k is met = absurd (cc)

@@ -31,7 +31,7 @@ use Rattle.life_state.specs.PoolOrder.{is_clearable}
 use Rattle.life_state.specs.Rules.{homes_need, usable_need, first_need, joined_content, after_bsave}
 use Rattle.life_state.specs.States.{Homes, both_homes, home_in, holds, State}
 use Rattle.life_state.proofs.Tests.{split3}
-use Rattle.life_check.specs.Meaning.{Covers, class_has, Each, Fits}
+use Rattle.life_check.specs.Meaning.{Covers, class_has, HoldsOfEach, Fits}
 use Rattle.life_check.specs.Soundness.{MeetsNeeds, LawOf}
 use Rattle.life_check.proofs.Asides.{aside_covered}
 use Rattle.life_check.proofs.Brigades.{Joins, joined_fits}
@@ -75,8 +75,8 @@ not_dead h none = by_test h.dead none where
 
 -- A brigade is saved into another.
 
-each_both : (P Q : NamedBucket → Type 0) (xs : List NamedBucket) → Each P xs → Each Q xs → Each (λ x. P x × Q x) xs
-unfolding Each
+each_both : (P Q : NamedBucket → Type 0) (xs : List NamedBucket) → HoldsOfEach P xs → HoldsOfEach Q xs → HoldsOfEach (λ x. P x × Q x) xs
+unfolding HoldsOfEach
 each_both P Q [] f g = tt
 each_both P Q (x ∷ xs) f g = ((f.0, g.0), each_both P Q xs f.1 g.1)
 
@@ -160,7 +160,7 @@ module _ (p : Program) (lives : Home → Type 0) (o b target : ℕ) (r : Configu
   was_b : IsFull C (s.brigades b) items
   was_b = full_of C (s.brigades b) (r.instance.brigades b) second (ready.fits.brigades b)
 
-  saved_covered : pool_named r place ≡ Some target → is_live r.shared.pools target ≡ true → Each (λ x. D homes x.bucket.home) (map aside items)
+  saved_covered : pool_named r place ≡ Some target → is_live r.shared.pools target ≡ true → HoldsOfEach (λ x. D homes x.bucket.home) (map aside items)
   saved_covered is live = each_map (λ x. FitsKind x.bucket × C (s.brigades b).homes x.bucket.home) (λ x. D homes x.bucket.home) aside
       (λ x c. more homes (aside x).bucket.home (covers_second p (pool_view r) lives (s.brigades o).homes (home_in place) (aside x).bucket.home
       (aside_covered p r place target ready.may.proper ready.sound ready.declared ready.outside is live (own_place p r ready.declared place target is) (s.brigades b).homes x alive c.0 c.1))) items

@@ -12,7 +12,7 @@ use Rattle.run_model.specs.declared.fault.FaultKind.TheVariants.{F9}
 use Rattle.run_model.specs.Indexed.{upd}
 use Rattle.run_model.specs.BrigadeLists.{bucket_named, buckets_from, first_bucket, stays, moves}
 use Rattle.run_model.specs.BucketSteps.{items_at, set_items, do_bsplit}
-use Rattle.run_model.specs.Cursors.{Place, spot}
+use Rattle.run_model.specs.Cursors.{Place, at_cursor}
 use Rattle.run_model.specs.Effects.{with_items}
 use Rattle.run_model.specs.Faults.{InThis, within_fault, end_fault, cursor_fault, usable_fault}
 use Rattle.run_model.specs.Sound.{SoundNames, brigade_name}
@@ -25,10 +25,10 @@ use Rattle.life_state.specs.Facts.{is_end, known, moved}
 use Rattle.life_state.specs.Rules.{cursor_need, usable_need, emptied, carried, split_off, split_part, after_bsplit}
 use Rattle.life_state.specs.declared.parts.Contents.TheVariants.{Empty}
 use Rattle.life_state.proofs.Tests.{split2, not_true}
-use Rattle.life_check.specs.Meaning.{Covers, Each, IsAtBucketOf, IsEndOf, FitsBrigade, FitsCursor, Fits}
+use Rattle.life_check.specs.Meaning.{Covers, HoldsOfEach, IsAtBucketOf, IsEndOf, FitsBrigade, FitsCursor, Fits}
 use Rattle.life_check.specs.Soundness.{LawOf}
 use Rattle.life_check.proofs.Lists.{each_none, each_before, each_from, Thins, thins_none, thins_same, thins_before, thins_from, holds_thinner}
-use Rattle.life_check.proofs.Standing.{upd_both, upd_second, moved_facts, spot_in, spot_end, finds_same, loose_stays, in_stays, end_stays}
+use Rattle.life_check.proofs.Standing.{upd_both, upd_second, moved_facts, cursor_in, cursor_at_end, finds_same, loose_stays, in_stays, end_stays}
 use Rattle.life_check.proofs.Filled.{IsFull, full_of, full_fits, filled_items, filled_name, filled_usable, finds_kept}
 
 -- What stays before a place, and what moves.
@@ -41,11 +41,11 @@ thins_moves : (place : Option ℕ) (xs : List NamedBucket) → Thins xs (moves p
 thins_moves None xs = thins_none xs
 thins_moves (Some n) xs = thins_from n xs
 
-each_stays : (P : NamedBucket → Type 0) (place : Option ℕ) (xs : List NamedBucket) → Each P xs → Each P (stays place xs)
+each_stays : (P : NamedBucket → Type 0) (place : Option ℕ) (xs : List NamedBucket) → HoldsOfEach P xs → HoldsOfEach P (stays place xs)
 each_stays P None xs h = h
 each_stays P (Some n) xs h = each_before P n xs h
 
-each_moves : (P : NamedBucket → Type 0) (place : Option ℕ) (xs : List NamedBucket) → Each P xs → Each P (moves place xs)
+each_moves : (P : NamedBucket → Type 0) (place : Option ℕ) (xs : List NamedBucket) → HoldsOfEach P xs → HoldsOfEach P (moves place xs)
 each_moves P None xs h = each_none P
 each_moves P (Some n) xs h = each_from P n xs h
 
@@ -223,26 +223,26 @@ module _ (p : Program) (lives : Home → Type 0) (r : Configuration) (s : State)
 
   -- c is at the bucket of i
   split_within : (t : Classes) → is_end (s.cursors c) ≡ false → (i : IsAtBucketOf r (r.call.cursors c) b t)
-      → FitsCursor C (split_there b (Some i.bucket.name) a r) (carried a b (s.cursors c)) (r.call.cursors c) → IsPlaceSplit (spot r c)
+      → FitsCursor C (split_there b (Some i.bucket.name) a r) (carried a b (s.cursors c)) (r.call.cursors c) → IsPlaceSplit (at_cursor r c)
   unfolding set_brigade
   split_within t bucket i here =
-      subst IsPlaceSplit (sym (spot_in r (r.call.cursors c) b t names i))
+      subst IsPlaceSplit (sym (cursor_in r (r.call.cursors c) b t names i))
       (split_fits C r b a (Some i.bucket.name) differ usable_b usable_a s c (split_part (s.cursors c) (s.brigades b)) names f
       (subst (λ (e : Bool). IsFull C (cond e (holds Empty no_homes) (holds (s.brigades b).content (s.brigades b).homes)) (moves (Some i.bucket.name) (items_at r b))) (sym bucket)
       (moved_full C (s.brigades b) (Some i.bucket.name) (items_at r b) old_full)) here)
 
   -- c is at the end, and nothing moves
-  split_end : IsEndOf r (r.call.cursors c) b → FitsCursor C (split_there b None a r) (carried a b (s.cursors c)) (r.call.cursors c) → IsPlaceSplit (spot r c)
+  split_end : IsEndOf r (r.call.cursors c) b → FitsCursor C (split_there b None a r) (carried a b (s.cursors c)) (r.call.cursors c) → IsPlaceSplit (at_cursor r c)
   unfolding set_brigade
   split_end i here =
-      subst IsPlaceSplit (sym (spot_end r (r.call.cursors c) b names i))
+      subst IsPlaceSplit (sym (cursor_at_end r (r.call.cursors c) b names i))
       (split_fits C r b a None differ usable_b usable_a s c (split_part (s.cursors c) (s.brigades b)) names f (by_end (is_end (s.cursors c))) here) where
         by_end : (e : Bool) → IsFull C (cond e (holds Empty no_homes) (holds (s.brigades b).content (s.brigades b).homes)) []
         by_end true = nothing_moves C
         by_end false = moved_full C (s.brigades b) None (items_at r b) old_full
 
   -- by what is known of c
-  split_in : (t : Classes) → s.cursors c ≡ In b t → IsPlaceSplit (spot r c)
+  split_in : (t : Classes) → s.cursors c ≡ In b t → IsPlaceSplit (at_cursor r c)
   unfolding set_brigade
   split_in t is =
       let i : IsAtBucketOf r (r.call.cursors c) b t = subst (λ (k : CursorKnown). FitsCursor C r k (r.call.cursors c)) is (f.cursors c) in
@@ -251,7 +251,7 @@ module _ (p : Program) (lives : Home → Type 0) (r : Configuration) (s : State)
       (subst (λ (e : Bool). FitsCursor C (split_there b (Some i.bucket.name) a r) (cond e (In a t) (In b t)) (r.call.cursors c)) (sym (eq-eqb b b refl))
       (moves_along C r b a t (r.call.cursors c) differ usable_b usable_a i)))
 
-  split_at_end : s.cursors c ≡ End b → IsPlaceSplit (spot r c)
+  split_at_end : s.cursors c ≡ End b → IsPlaceSplit (at_cursor r c)
   unfolding set_brigade
   split_at_end is =
       let i : IsEndOf r (r.call.cursors c) b = subst (λ (k : CursorKnown). FitsCursor C r k (r.call.cursors c)) is (f.cursors c) in
@@ -259,18 +259,18 @@ module _ (p : Program) (lives : Home → Type 0) (r : Configuration) (s : State)
       (subst (λ (k : CursorKnown). FitsCursor C (split_there b None a r) (carried a b k) (r.call.cursors c)) (sym is)
       (end_stays C C r (split_there b None a r) (r.call.cursors c) b (split_names C r b a None differ usable_b usable_a b) (split_usable C r b a None differ usable_b usable_a b ∙ usable_b) i))
 
-  split_either : (t : Classes) → s.cursors c ≡ InOrEnd b t → IsPlaceSplit (spot r c)
+  split_either : (t : Classes) → s.cursors c ≡ InOrEnd b t → IsPlaceSplit (at_cursor r c)
   split_either t is = by_place (subst (λ (k : CursorKnown). FitsCursor C r k (r.call.cursors c)) is (f.cursors c)) where
     unset : (place : Option ℕ) → FitsCursor C (split_there b place a r) (carried a b (s.cursors c)) (r.call.cursors c)
     unset place =
         subst (λ (k : CursorKnown). FitsCursor C (split_there b place a r) (carried a b k) (r.call.cursors c)) (sym is)
         (subst (λ (e : Bool). FitsCursor C (split_there b place a r) (cond e Unset (InOrEnd b t)) (r.call.cursors c)) (sym (eq-eqb b b refl)) tt)
 
-    by_place : IsAtBucketOf r (r.call.cursors c) b t ⊎ IsEndOf r (r.call.cursors c) b → IsPlaceSplit (spot r c)
+    by_place : IsAtBucketOf r (r.call.cursors c) b t ⊎ IsEndOf r (r.call.cursors c) b → IsPlaceSplit (at_cursor r c)
     by_place (inl i) = split_within t (ap is_end is) i (unset (Some i.bucket.name))
     by_place (inr i) = split_end i (unset None)
 
-  split_known : (k : CursorKnown) → s.cursors c ≡ k → cursor_need (InThis b) k ≡ None → IsPlaceSplit (spot r c)
+  split_known : (k : CursorKnown) → s.cursors c ≡ k → cursor_need (InThis b) k ≡ None → IsPlaceSplit (at_cursor r c)
   split_known (In v t) is met = split_in t (is ∙ ap (λ (j : ℕ). In j t) (in_this v b met))
   split_known (End v) is met = split_at_end (is ∙ ap End (in_this v b met))
   split_known (InOrEnd v t) is met = split_either t (is ∙ ap (λ (j : ℕ). InOrEnd j t) (in_this v b (second_none (end_fault (InThis b) v) (within_fault (InThis b) v) met)))
@@ -282,5 +282,5 @@ unfolding set_brigade
 law_bsplit {lives = lives} b c a p choice r s ready =
     split_known p lives r s b c a ready.sound.names ready.fits (splits_apart p b c a ready.may.fit)
     (first_none (usable_fault (r.instance.brigades b)) _ ready.may.faultless)
-    (first_none (usable_fault (r.instance.brigades a)) None (second_none (cursor_fault r (InThis b) (spot r c)) _ (second_none (usable_fault (r.instance.brigades b)) _ ready.may.faultless)))
+    (first_none (usable_fault (r.instance.brigades a)) None (second_none (cursor_fault r (InThis b) (at_cursor r c)) _ (second_none (usable_fault (r.instance.brigades b)) _ ready.may.faultless)))
     (s.cursors c) refl (first_none (cursor_need (InThis b) (s.cursors c)) _ (second_none (usable_need (s.brigades b)) _ ready.met))

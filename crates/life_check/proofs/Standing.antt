@@ -9,16 +9,16 @@ use Rattle.run_model.specs.declared.bucket.Cursor.TheVariants as cursor
 use Rattle.run_model.specs.Indexed.{upd}
 use Rattle.run_model.specs.BrigadeLists.{bucket_named}
 use Rattle.run_model.specs.BucketSteps.{items_at}
-use Rattle.run_model.specs.Cursors.{Place, Nowhere, AtLoose, Within, AtEndOf, spot_of}
+use Rattle.run_model.specs.Cursors.{Place, Nowhere, AtLoose, Within, AtEndOf, place_of_cursor}
 use Rattle.model_laws.specs.CursorLaws.{LooseOnce, WithinOnce, BucketOnce}
 use Rattle.run_model.specs.Faults.{usable_fault}
 use Rattle.run_model.specs.Sound.{SoundNames, brigade_name, count_named, count}
 use Rattle.run_model.specs.State.{Configuration}
 use Rattle.run_model.proofs.Updates.{upd_at, upd_off}
-use Rattle.run_model.proofs.Spots.{named_is}
+use Rattle.run_model.proofs.CursorPlaces.{named_is}
 use Rattle.model_laws.proofs.CursorSteps.{stands_behind}
 use Rattle.model_laws.proofs.CursorNames.{in_brigade, found_there}
-use Rattle.model_laws.proofs.CursorSpots.{cursors_stand_once}
+use Rattle.model_laws.proofs.CursorPlaceLaws.{cursors_stand_once}
 use Rattle.life_state.specs.declared.parts.Classes.{Classes}
 use Rattle.life_state.specs.States.{Homes, CursorKnown, Unset, Loose, In, End, InOrEnd, State}
 use Rattle.life_state.specs.Facts.{is_set, is_end, place_of, is_apart, known, facts_of, known_but, forgotten}
@@ -62,41 +62,41 @@ there n x xs is = subst (λ (k : ℕ). 1 ≤ count_named k xs) (named_is n xs x 
 some_is : (x y : NamedBucket) → Some x ≡ Some y → x ≡ y
 some_is x y e = cc
 
-pub within_at : (r : Configuration) (n b : ℕ) (x : NamedBucket) → SoundNames r → bucket_named n (items_at r b) ≡ Some x → spot_of r (cursor.At n) ≡ Within b x
-within_at r n b x s is = of_spot (spot_of r (cursor.At n)) (cursors_stand_once r (cursor.At n) s) where
+pub within_at : (r : Configuration) (n b : ℕ) (x : NamedBucket) → SoundNames r → bucket_named n (items_at r b) ≡ Some x → place_of_cursor r (cursor.At n) ≡ Within b x
+within_at r n b x s is = of_place (place_of_cursor r (cursor.At n)) (cursors_stand_once r (cursor.At n) s) where
   one : 1 ≤ count_named n (items_at r b)
   one = there n x (items_at r b) is
 
   same : (k : ℕ) → (b ≢ k → count_named n (items_at r b) ≡ 0) → k ≡ b
   same k others = elim (cases_eq b k) [ inl e ↦ sym e | inr ne ↦ absurd (omega (arith, others ne, one)) ]
 
-  of_spot : (at : Place) → BucketOnce r n at → at ≡ Within b x
-  of_spot Nowhere none = absurd (omega (arith, none, in_brigade b n r s, one))
-  of_spot (AtLoose y) once = absurd (omega (arith, once.brigades b, one))
-  of_spot (Within k y) once =
+  of_place : (at : Place) → BucketOnce r n at → at ≡ Within b x
+  of_place Nowhere none = absurd (omega (arith, none, in_brigade b n r s, one))
+  of_place (AtLoose y) once = absurd (omega (arith, once.brigades b, one))
+  of_place (Within k y) once =
       let place : k ≡ b = same k (once.others b) in
       ap (λ (j : ℕ). Within j y) place ∙ ap (Within b) (some_is y x (sym once.there ∙ (ap (λ (j : ℕ). bucket_named n (items_at r j)) place ∙ is)))
-  of_spot (AtEndOf k) once = absurd once
+  of_place (AtEndOf k) once = absurd once
 
-pub loose_at : (r : Configuration) (n : ℕ) (x : NamedBucket) → SoundNames r → bucket_named n r.call.loose ≡ Some x → spot_of r (cursor.At n) ≡ AtLoose x
-loose_at r n x s is = of_spot (spot_of r (cursor.At n)) (cursors_stand_once r (cursor.At n) s) where
+pub loose_at : (r : Configuration) (n : ℕ) (x : NamedBucket) → SoundNames r → bucket_named n r.call.loose ≡ Some x → place_of_cursor r (cursor.At n) ≡ AtLoose x
+loose_at r n x s is = of_place (place_of_cursor r (cursor.At n)) (cursors_stand_once r (cursor.At n) s) where
   one : 1 ≤ count_named n r.call.loose
   one = there n x r.call.loose is
 
-  of_spot : (at : Place) → BucketOnce r n at → at ≡ AtLoose x
-  of_spot Nowhere none = absurd (omega (arith, none, one))
-  of_spot (AtLoose y) once = ap AtLoose (some_is y x (sym once.there ∙ is))
-  of_spot (Within k y) once = absurd (omega (arith, once.loose, one))
-  of_spot (AtEndOf k) once = absurd once
+  of_place : (at : Place) → BucketOnce r n at → at ≡ AtLoose x
+  of_place Nowhere none = absurd (omega (arith, none, one))
+  of_place (AtLoose y) once = ap AtLoose (some_is y x (sym once.there ∙ is))
+  of_place (Within k y) once = absurd (omega (arith, once.loose, one))
+  of_place (AtEndOf k) once = absurd once
 
-pub spot_loose : (C : Homes → Home → Type 0) (r : Configuration) (v : Cursor) (t : Classes) (h : Homes) → SoundNames r → (i : IsAtLoose C r v t h) → spot_of r v ≡ AtLoose i.bucket
-spot_loose C r v t h s i = ap (spot_of r) i.at ∙ loose_at r i.bucket.name i.bucket s i.there
+pub cursor_loose : (C : Homes → Home → Type 0) (r : Configuration) (v : Cursor) (t : Classes) (h : Homes) → SoundNames r → (i : IsAtLoose C r v t h) → place_of_cursor r v ≡ AtLoose i.bucket
+cursor_loose C r v t h s i = ap (place_of_cursor r) i.at ∙ loose_at r i.bucket.name i.bucket s i.there
 
-pub spot_in : (r : Configuration) (v : Cursor) (b : ℕ) (t : Classes) → SoundNames r → (i : IsAtBucketOf r v b t) → spot_of r v ≡ Within b i.bucket
-spot_in r v b t s i = ap (spot_of r) i.at ∙ within_at r i.bucket.name b i.bucket s i.there
+pub cursor_in : (r : Configuration) (v : Cursor) (b : ℕ) (t : Classes) → SoundNames r → (i : IsAtBucketOf r v b t) → place_of_cursor r v ≡ Within b i.bucket
+cursor_in r v b t s i = ap (place_of_cursor r) i.at ∙ within_at r i.bucket.name b i.bucket s i.there
 
-pub spot_end : (r : Configuration) (v : Cursor) (b : ℕ) → SoundNames r → IsEndOf r v b → spot_of r v ≡ AtEndOf b
-spot_end r v b s i = ap (spot_of r) i.at ∙ stands_behind b i.called r s i.there
+pub cursor_at_end : (r : Configuration) (v : Cursor) (b : ℕ) → SoundNames r → IsEndOf r v b → place_of_cursor r v ≡ AtEndOf b
+cursor_at_end r v b s i = ap (place_of_cursor r) i.at ∙ stands_behind b i.called r s i.there
 
 -- it is in that list alone
 pub once_in : (r : Configuration) (v : Cursor) (b : ℕ) (t : Classes) → SoundNames r → (i : IsAtBucketOf r v b t) → WithinOnce r i.bucket.name b i.bucket

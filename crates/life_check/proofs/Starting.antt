@@ -12,7 +12,7 @@ use Rattle.life_state.specs.States.{Homes, only_call, CursorKnown, Unset, State}
 use Rattle.life_state.specs.InForm.{is_formed}
 use Rattle.life_state.proofs.Tests.{split2, split3}
 use Rattle.life_check.specs.Certificates.{IsBoundedSome}
-use Rattle.life_check.specs.Meaning.{ByCall, Each, FitsCursor, Differ, Fits, InCall}
+use Rattle.life_check.specs.Meaning.{ByCall, HoldsOfEach, FitsCursor, Differ, Fits, InCall}
 use Rattle.life_check.specs.Typed.{declares, has_in, has_no_cursor, fits_between}
 use Rattle.life_check.proofs.Standards.{no_cursors}
 use Rattle.life_check.proofs.Pools.{pool_kept, brigade_more}
@@ -52,7 +52,7 @@ piece_covered p r req is live piece.Flush = tt
 piece_covered p r req is live piece.Eos = tt
 
 pub pieces_covered : (p : Program) (r : Configuration) (req n : ℕ) (xs : List Piece) → r.shared.req ≡ Some req → is_live r.shared.pools req ≡ true
-    → Each (λ x. InCall p r only_call x.bucket.home) (named_from (bucket_of r.call.name req) n xs)
-unfolding Each
+    → HoldsOfEach (λ x. InCall p r only_call x.bucket.home) (named_from (bucket_of r.call.name req) n xs)
+unfolding HoldsOfEach
 pieces_covered p r req n [] is live = tt
 pieces_covered p r req n (x ∷ xs) is live = (piece_covered p r req is live x, pieces_covered p r req (n + 1) xs is live)

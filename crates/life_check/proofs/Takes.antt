@@ -5,7 +5,7 @@ use Rattle.run_model.specs.declared.bucket.Home.{Home}
 use Rattle.run_model.specs.Indexed.{upd}
 use Rattle.run_model.specs.BrigadeLists.{taken_out, put_tail}
 use Rattle.run_model.specs.BucketSteps.{items_at, do_unlink, do_delete}
-use Rattle.run_model.specs.Cursors.{Place, Within, AtLoose, spot}
+use Rattle.run_model.specs.Cursors.{Place, Within, AtLoose, at_cursor}
 use Rattle.run_model.specs.Effects.{with_items}
 use Rattle.run_model.specs.Faults.{InBrigade, OnBucket, usable_fault}
 use Rattle.run_model.specs.Sound.{SoundNames}
@@ -18,7 +18,7 @@ use Rattle.life_state.specs.Rules.{cursor_need, classes_of, homes_at}
 use Rattle.life_check.specs.Meaning.{Covers, IsAtBucketOf, IsAtLoose, FitsBrigade, FitsCursor, Fits}
 use Rattle.life_check.specs.Soundness.{LawOf}
 use Rattle.life_check.proofs.Lists.{each_taken_out, each_named, named_taken_out, named_put_tail, new_put_tail, thins_taken_out, holds_thinner}
-use Rattle.life_check.proofs.Standing.{upd_second, once_in, spot_in, spot_loose}
+use Rattle.life_check.proofs.Standing.{upd_second, once_in, cursor_in, cursor_loose}
 use Rattle.life_check.proofs.Filled.{IsFull, full_of, full_fits, finds_kept, rearranged_stays, bucket_moved}
 
 module _ (C : Homes → Home → Type 0) (r : Configuration) (s : State) (names : SoundNames r) (f : Fits C s r) where
@@ -85,26 +85,26 @@ pub law_unlink : {lives : Home → Type 0} (c : ℕ) → LawOf lives (instr.Unli
 unfolding set_brigade set_loose
 law_unlink {lives = lives} c p choice r s ready = by_known (s.cursors c) refl (first_none (cursor_need InBrigade (s.cursors c)) None ready.met) where
   by_known : (k : CursorKnown) → s.cursors c ≡ k → cursor_need InBrigade k ≡ None
-      → Fits (Covers p (pool_view (do_unlink (spot r c) r)) lives) (move_bucket c (Loose (classes_of k) (homes_at s k)) s) (do_unlink (spot r c) r)
+      → Fits (Covers p (pool_view (do_unlink (at_cursor r c) r)) lives) (move_bucket c (Loose (classes_of k) (homes_at s k)) s) (do_unlink (at_cursor r c) r)
   by_known (In b t) is met =
       let i : IsAtBucketOf r (r.call.cursors c) b t = subst (λ (k : CursorKnown). FitsCursor (Covers p (pool_view r) lives) r k (r.call.cursors c)) is (ready.fits.cursors c) in
       subst (λ (at : Place). Fits (Covers p (pool_view (do_unlink at r)) lives) (move_bucket c (Loose t (s.brigades b).homes) s) (do_unlink at r))
-      (sym (spot_in r (r.call.cursors c) b t ready.sound.names i))
+      (sym (cursor_in r (r.call.cursors c) b t ready.sound.names i))
       (unlinked (Covers p (pool_view r) lives) r s ready.sound.names ready.fits c b t i)
   by_known k is met = absurd (cc)
 
 pub law_bdelete : {lives : Home → Type 0} (c : ℕ) → LawOf lives (instr.BDelete c)
 unfolding set_brigade set_loose
 law_bdelete {lives = lives} c p choice r s ready = by_known (s.cursors c) refl (first_none (cursor_need OnBucket (s.cursors c)) None ready.met) where
-  by_known : (k : CursorKnown) → s.cursors c ≡ k → cursor_need OnBucket k ≡ None → Fits (Covers p (pool_view (do_delete (spot r c) r)) lives) (move_bucket c Unset s) (do_delete (spot r c) r)
+  by_known : (k : CursorKnown) → s.cursors c ≡ k → cursor_need OnBucket k ≡ None → Fits (Covers p (pool_view (do_delete (at_cursor r c) r)) lives) (move_bucket c Unset s) (do_delete (at_cursor r c) r)
   by_known (In b t) is met =
       let i : IsAtBucketOf r (r.call.cursors c) b t = subst (λ (k : CursorKnown). FitsCursor (Covers p (pool_view r) lives) r k (r.call.cursors c)) is (ready.fits.cursors c) in
-      subst (λ (at : Place). Fits (Covers p (pool_view (do_delete at r)) lives) (move_bucket c Unset s) (do_delete at r)) (sym (spot_in r (r.call.cursors c) b t ready.sound.names i))
+      subst (λ (at : Place). Fits (Covers p (pool_view (do_delete at r)) lives) (move_bucket c Unset s) (do_delete at r)) (sym (cursor_in r (r.call.cursors c) b t ready.sound.names i))
       (deleted_in (Covers p (pool_view r) lives) r s ready.sound.names ready.fits c b t i)
   by_known (Loose t h) is met =
       let i : IsAtLoose (Covers p (pool_view r) lives) r (r.call.cursors c) t h =
       subst (λ (k : CursorKnown). FitsCursor (Covers p (pool_view r) lives) r k (r.call.cursors c)) is (ready.fits.cursors c) in
       subst (λ (at : Place). Fits (Covers p (pool_view (do_delete at r)) lives) (move_bucket c Unset s) (do_delete at r))
-      (sym (spot_loose (Covers p (pool_view r) lives) r (r.call.cursors c) t h ready.sound.names i))
+      (sym (cursor_loose (Covers p (pool_view r) lives) r (r.call.cursors c) t h ready.sound.names i))
       (deleted_loose (Covers p (pool_view r) lives) r s ready.sound.names ready.fits c t h i)
   by_known k is met = absurd (cc)

@@ -25,7 +25,7 @@ use Rattle.run_model.specs.Indexed.{any_below}
 use Rattle.run_model.specs.Buckets.{has_data, data_after_eos, is_dead, is_ended}
 use Rattle.run_model.specs.BrigadeLists.{bucket_across}
 use Rattle.run_model.specs.BucketSteps.{items_at}
-use Rattle.run_model.specs.Cursors.{spot_of, bucket_at}
+use Rattle.run_model.specs.Cursors.{place_of_cursor, bucket_at}
 use Rattle.run_model.specs.Cutting.{length_of}
 use Rattle.run_model.specs.Effects.{value_of}
 use Rattle.run_model.specs.Faults.{Want, WPool, WBrigade, WUsable, WNew, WNewPool, WCursor, WHomes, WHome, WHomeAcross, WSend, WReturn, wants, is_live_named, has_pool_at, brigade_fault, usable_fault}
@@ -44,12 +44,12 @@ use Rattle.life_state.specs.Rules.{cursor_need, pool_need, brigade_need, usable_
 use Rattle.life_state.specs.States.{Homes, is_live_alone, BrigadeKnown, is_live_brigade, is_usable_alone, CursorKnown, Unset, Loose, In, End, InOrEnd, State}
 use Rattle.life_state.proofs.PartsOrder.{content_trans}
 use Rattle.life_state.proofs.Tests.{split2, split3, and2, not_true, or_either, or_left, or_right}
-use Rattle.life_check.specs.Meaning.{CoversPool, ByConnection, ByMember, ByDead, ByCall, Covers, Each, HoldsContents, FitsPool, FitsMark, FitsBrigade, FitsCursor, IsAtBucketOf, IsEndOf, Fits}
+use Rattle.life_check.specs.Meaning.{CoversPool, ByConnection, ByMember, ByDead, ByCall, Covers, HoldsOfEach, HoldsContents, FitsPool, FitsMark, FitsBrigade, FitsCursor, IsAtBucketOf, IsEndOf, Fits}
 use Rattle.life_check.specs.Soundness.{wants_request, MetIsFaultless}
 use Rattle.life_check.proofs.Orders.{never}
 use Rattle.life_check.proofs.Known.{IsKnown, in_known, loose_known}
 use Rattle.life_check.proofs.Lists.{no_late_data, holds_more}
-use Rattle.life_check.proofs.Standing.{spot_loose, spot_in, spot_end}
+use Rattle.life_check.proofs.Standing.{cursor_loose, cursor_in, cursor_at_end}
 
 -- What is not told is not so.
 
@@ -138,11 +138,11 @@ new_met C v (var.Live x) e h = absurd (never (e.0) h)
 
 -- what is known of the buckets of a brigade that may be used
 pub usable_items : (C : Homes → Home → Type 0) (v : BrigadeKnown) (x : BrigadeVar) → FitsBrigade C v x → usable_fault x ≡ None
-    → HoldsContents v.content (items_of x) × Each (λ y. C v.homes y.bucket.home) (items_of x)
+    → HoldsContents v.content (items_of x) × HoldsOfEach (λ y. C v.homes y.bucket.home) (items_of x)
 usable_items C v var.Null e h = cc
 usable_items C v var.Gone e h = cc
 usable_items C v (var.Live x) e h = by_mark x.mark (e.1) h where
-  by_mark : (m : Mark) → FitsMark C v m x.items → cond (is_passed m) (Some F7) None ≡ None → HoldsContents v.content x.items × Each (λ y. C v.homes y.bucket.home) x.items
+  by_mark : (m : Mark) → FitsMark C v m x.items → cond (is_passed m) (Some F7) None ≡ None → HoldsContents v.content x.items × HoldsOfEach (λ y. C v.homes y.bucket.home) x.items
   by_mark Usable e h = (e.1, e.2)
   by_mark Passed e h = cc
 
@@ -157,13 +157,14 @@ home_met C h (home.Call n) ended live c = refl
 home_met C h (home.Pool n) ended live c = refl
 home_met C h home.Ended ended live c = absurd (never (ended h c) live)
 
-none_dead : (C : Homes → Home → Type 0) (h : Homes) (xs : List NamedBucket) → EndedIsDead C → h.dead ≡ false → Each (λ y. C h y.bucket.home) xs → list_any is_dead xs ≡ false
-unfolding Each
+none_dead : (C : Homes → Home → Type 0) (h : Homes) (xs : List NamedBucket) → EndedIsDead C → h.dead ≡ false → HoldsOfEach (λ y. C h y.bucket.home) xs → list_any is_dead xs ≡ false
+unfolding HoldsOfEach
 none_dead C h [] ended live e = refl
 none_dead C h (x ∷ xs) ended live e = ap (λ b. b || list_any is_dead xs) (home_met C h x.bucket.home ended live (e.0)) ∙ none_dead C h xs ended live (e.1)
 
-across_alive : (C : Homes → Home → Type 0) (h : Homes) (n : ℕ) (xs : List NamedBucket) → EndedIsDead C → h.dead ≡ false → Each (λ y. C h y.bucket.home) xs → home_fault (bucket_across n xs) ≡ None
-unfolding bucket_across Each
+across_alive : (C : Homes → Home → Type 0) (h : Homes) (n : ℕ) (xs : List NamedBucket) → EndedIsDead C → h.dead ≡ false → HoldsOfEach (λ y. C h y.bucket.home) xs
+    → home_fault (bucket_across n xs) ≡ None
+unfolding bucket_across HoldsOfEach
 across_alive C h zero xs ended live e = refl
 across_alive C h (suc n) [] ended live e = refl
 across_alive C h (suc n) (x ∷ xs) ended live e = by_length (nat_le (length_of x.bucket.content) (suc n)) (across_alive C h (suc n - length_of x.bucket.content) xs ended live (e.1)) where
@@ -192,9 +193,9 @@ send_met v xs false false told h e = ap (λ b. cond b (Some F8) None) (sent_met 
 abbrev CallTells : (Homes → Home → Type 0) → Configuration → Type 0
 CallTells C r = (h : Homes) (x : Home) → C h x → h.call ≡ false → is_stray r x ≡ false
 
-none_stray : (C : Homes → Home → Type 0) (r : Configuration) (h : Homes) (xs : List NamedBucket) → CallTells C r → h.call ≡ false → Each (λ y. C h y.bucket.home) xs
+none_stray : (C : Homes → Home → Type 0) (r : Configuration) (h : Homes) (xs : List NamedBucket) → CallTells C r → h.call ≡ false → HoldsOfEach (λ y. C h y.bucket.home) xs
     → list_any (λ y. is_stray r y.bucket.home) xs ≡ false
-unfolding Each
+unfolding HoldsOfEach
 none_stray C r h [] tells own e = refl
 none_stray C r h (x ∷ xs) tells own e = ap (λ b. b || list_any (λ y. is_stray r y.bucket.home) xs) (tells h x.bucket.home (e.0) own) ∙ none_stray C r h xs tells own (e.1)
 
@@ -269,19 +270,19 @@ not_passed (var.Live v) h = h
 both_met : (a b : Option FaultKind) → a ≡ None → b ≡ None → or_else a b ≡ None
 both_met a b h e = ap (λ o. or_else o b) h ∙ e
 
-within_met : (r : Configuration) (f : Need) (v : Cursor) (b : ℕ) (t : Classes) → SoundNames r → IsAtBucketOf r v b t → within_fault f b ≡ None → cursor_fault r f (spot_of r v) ≡ None
+within_met : (r : Configuration) (f : Need) (v : Cursor) (b : ℕ) (t : Classes) → SoundNames r → IsAtBucketOf r v b t → within_fault f b ≡ None → cursor_fault r f (place_of_cursor r v) ≡ None
 unfolding cursor_fault
-within_met r f v b t names i h = ap (cursor_fault r f) (spot_in r v b t names i) ∙ both_met (passed_fault (r.instance.brigades b)) (within_fault f b) (not_passed (r.instance.brigades b) i.usable) h
+within_met r f v b t names i h = ap (cursor_fault r f) (cursor_in r v b t names i) ∙ both_met (passed_fault (r.instance.brigades b)) (within_fault f b) (not_passed (r.instance.brigades b) i.usable) h
 
-end_met : (r : Configuration) (f : Need) (v : Cursor) (b : ℕ) → SoundNames r → IsEndOf r v b → end_fault f b ≡ None → cursor_fault r f (spot_of r v) ≡ None
+end_met : (r : Configuration) (f : Need) (v : Cursor) (b : ℕ) → SoundNames r → IsEndOf r v b → end_fault f b ≡ None → cursor_fault r f (place_of_cursor r v) ≡ None
 unfolding cursor_fault
-end_met r f v b names i h = ap (cursor_fault r f) (spot_end r v b names i) ∙ both_met (passed_fault (r.instance.brigades b)) (end_fault f b) (not_passed (r.instance.brigades b) i.usable) h
+end_met r f v b names i h = ap (cursor_fault r f) (cursor_at_end r v b names i) ∙ both_met (passed_fault (r.instance.brigades b)) (end_fault f b) (not_passed (r.instance.brigades b) i.usable) h
 
 cursor_met : (C : Homes → Home → Type 0) (r : Configuration) (f : Need) (k : CursorKnown) (v : Cursor) → SoundNames r → FitsCursor C r k v → cursor_need f k ≡ None
-    → cursor_fault r f (spot_of r v) ≡ None
+    → cursor_fault r f (place_of_cursor r v) ≡ None
 unfolding cursor_fault
 cursor_met C r f Unset v names e h = cc
-cursor_met C r f (Loose t homes) v names e h = ap (cursor_fault r f) (spot_loose C r v t homes names e) ∙ h
+cursor_met C r f (Loose t homes) v names e h = ap (cursor_fault r f) (cursor_loose C r v t homes names e) ∙ h
 cursor_met C r f (In b t) v names e h = within_met r f v b t names e h
 cursor_met C r f (End b) v names e h = end_met r f v b names e h
 cursor_met C r f (InOrEnd b t) v names (inl e) h = within_met r f v b t names e ((both_none (end_fault f b) (within_fault f b) h).1)
@@ -296,16 +297,16 @@ known_alive C t h None ended live is = absurd is
 known_alive C t h (Some x) ended live is = found_alive C h x ended live is.1
 
 within_alive : (C : Homes → Home → Type 0) (r : Configuration) (s : State) (v : Cursor) (b : ℕ) (t : Classes) → EndedIsDead C → SoundNames r → Fits C s r → IsAtBucketOf r v b t
-    → homes_need (s.brigades b).homes ≡ None → home_fault (bucket_at (spot_of r v)) ≡ None
-within_alive C r s v b t ended names f i h = known_alive C t (s.brigades b).homes (bucket_at (spot_of r v)) ended h (in_known C r s v names f b t i)
+    → homes_need (s.brigades b).homes ≡ None → home_fault (bucket_at (place_of_cursor r v)) ≡ None
+within_alive C r s v b t ended names f i h = known_alive C t (s.brigades b).homes (bucket_at (place_of_cursor r v)) ended h (in_known C r s v names f b t i)
 
-end_alive : (r : Configuration) (v : Cursor) (b : ℕ) → SoundNames r → IsEndOf r v b → home_fault (bucket_at (spot_of r v)) ≡ None
-end_alive r v b names i = ap (λ at. home_fault (bucket_at at)) (spot_end r v b names i)
+end_alive : (r : Configuration) (v : Cursor) (b : ℕ) → SoundNames r → IsEndOf r v b → home_fault (bucket_at (place_of_cursor r v)) ≡ None
+end_alive r v b names i = ap (λ at. home_fault (bucket_at at)) (cursor_at_end r v b names i)
 
 home_at_met : (C : Homes → Home → Type 0) (r : Configuration) (s : State) (k : CursorKnown) (v : Cursor) → EndedIsDead C → SoundNames r → Fits C s r → FitsCursor C r k v → is_set k ≡ true
-    → homes_need (homes_at s k) ≡ None → home_fault (bucket_at (spot_of r v)) ≡ None
+    → homes_need (homes_at s k) ≡ None → home_fault (bucket_at (place_of_cursor r v)) ≡ None
 home_at_met C r s Unset v ended names f e set h = cc
-home_at_met C r s (Loose t homes) v ended names f e set h = known_alive C t homes (bucket_at (spot_of r v)) ended h (loose_known C r s v names f t homes e)
+home_at_met C r s (Loose t homes) v ended names f e set h = known_alive C t homes (bucket_at (place_of_cursor r v)) ended h (loose_known C r s v names f t homes e)
 home_at_met C r s (In b t) v ended names f e set h = within_alive C r s v b t ended names f e h
 home_at_met C r s (End b) v ended names f e set h = end_alive r v b names e
 home_at_met C r s (InOrEnd b t) v ended names f (inl e) set h = within_alive C r s v b t ended names f e h
@@ -381,7 +382,7 @@ standing_met s c (w ∷ ws) met h =
     (or_either (is_standing c w) (list_any (is_standing c) ws) h)
 
 module _ (C : Homes → Home → Type 0) (r : Configuration) (s : State) (ended : EndedIsDead C) (tells : CallTells C r) (sound : Sound r) (f : Fits C s r) where
-  items_met : (b : ℕ) → usable_need (s.brigades b) ≡ None → HoldsContents (s.brigades b).content (items_at r b) × Each (λ y. C (s.brigades b).homes y.bucket.home) (items_at r b)
+  items_met : (b : ℕ) → usable_need (s.brigades b) ≡ None → HoldsContents (s.brigades b).content (items_at r b) × HoldsOfEach (λ y. C (s.brigades b).homes y.bucket.home) (items_at r b)
   items_met b h = usable_items C (s.brigades b) (r.instance.brigades b) (f.brigades b) (usable_met C (s.brigades b) (r.instance.brigades b) (f.brigades b) h)
 
   want_met : (before : List Want) (w : Want) → AllMet s before → is_led before w ≡ true → (wants_request (w ∷ []) ≡ true → is_some r.shared.req ≡ true) → need s w ≡ None → fault_want r w ≡ None

@@ -73,9 +73,9 @@ class_has t kind.Flush = t.flush
 class_has t kind.Eos = t.eos
 
 -- P holds of each bucket
-unfoldable pub Each : (NamedBucket → Type 0) → List NamedBucket → Type 0
-Each P [] = Unit {0}
-Each P (x ∷ xs) = P x × Each P xs
+unfoldable pub HoldsOfEach : (NamedBucket → Type 0) → List NamedBucket → Type 0
+HoldsOfEach P [] = Unit {0}
+HoldsOfEach P (x ∷ xs) = P x × HoldsOfEach P xs
 
 -- what may stand in a brigade of these contents
 abbrev pub HoldsContents : Contents → List NamedBucket → Type 0
@@ -92,7 +92,7 @@ FitsPool ps s poolvar.Null = s.null ≡ true
 FitsPool ps s (poolvar.Made n) = (if is_live ps n then s.live else s.gone) ≡ true
 
 abbrev pub FitsMark : (Homes → Home → Type 0) → BrigadeKnown → Mark → List NamedBucket → Type 0
-FitsMark C s Usable xs = (s.usable ≡ true) × HoldsContents s.content xs × Each (λ x. C s.homes x.bucket.home) xs
+FitsMark C s Usable xs = (s.usable ≡ true) × HoldsContents s.content xs × HoldsOfEach (λ x. C s.homes x.bucket.home) xs
 FitsMark C s Passed xs = s.passed ≡ true
 
 abbrev pub FitsBrigade : (Homes → Home → Type 0) → BrigadeKnown → BrigadeVar → Type 0

@@ -1,6 +1,6 @@
 //! What a certificate says against its module.
 
-use crate::flow::{Ways, add_ways_of, state_at};
+use crate::flow::{FlowEdges, add_edges_of, state_at};
 use crate::told::{handler_name, put_at};
 use life_cert::StatePlace;
 use life_check::{Cert, CheckRefusal, Rule};
@@ -99,13 +99,13 @@ fn put_not_below(
 }
 
 fn put_from(told: &mut Page, source: &ModuleText, code: &Module, cert: &Cert, place: StatePlace) {
-    let mut ways = Ways::new(told.alloc);
+    let mut edges = FlowEdges::new(told.alloc);
     if let Some(state) = state_at(cert, place) {
-        add_ways_of(code, place, &state, false, &mut ways);
+        add_edges_of(code, place, &state, false, &mut edges);
     }
-    told.full |= ways.full;
-    for way in &ways.all {
-        if put_not_below(told, source, cert, way.to, &way.state) {
+    told.full |= edges.full;
+    for edge in &edges.all {
+        if put_not_below(told, source, cert, edge.to, &edge.state) {
             break;
         }
     }

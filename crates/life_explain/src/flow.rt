@@ -1,4 +1,4 @@
-//! The states of a module, and the ways by which they come.
+//! The states of a module, and the edges by which they come.
 
 ghost use Rattle.std.specs.Prelude.{◌≡◌, true, IfSome};
 ghost use Rattle.module_code.specs.Program.{fits};
@@ -12,7 +12,7 @@ use module_code::{Instr, Module, PoolRef};
 use run_model::FaultKind;
 use std::alloc::{AllocError, Global};
 
-/// A way from one place to another, and the state that comes by it.
+/// An edge from one place to another, and the state that comes by it.
 #[derive(Clone, Copy)]
 pub struct FlowEdge {
     pub from: StatePlace,
@@ -30,9 +30,9 @@ pub struct FlowRefusal {
     pub doubt: Doubt,
 }
 
-/// Ways, and whether memory was refused for one.
+/// Edges, and whether memory was refused for one.
 #[derive(Drop)]
-pub struct Ways {
+pub struct FlowEdges {
     pub all: Vec<FlowEdge>,
     pub full: bool,
 }
@@ -160,10 +160,10 @@ fn meet(code: &Module, pc: usize, state: &mut State) -> usize {
     usize::from(TESTS)
 }
 
-impl Ways {
+impl FlowEdges {
     /// None yet.
-    pub fn new(alloc: Global) -> Ways {
-        Ways {
+    pub fn new(alloc: Global) -> FlowEdges {
+        FlowEdges {
             all: Vec::new(alloc),
             full: false,
         }
@@ -171,18 +171,24 @@ impl Ways {
 
     fn add(&mut self, from: StatePlace, to: StatePlace, jumps: bool, state: Option<State>) {
         if let Some(state) = state {
-            let way = FlowEdge {
+            let edge = FlowEdge {
                 from,
                 to,
                 jumps,
                 state,
             };
-            self.full |= self.all.push(way).is_err();
+            self.full |= self.all.push(edge).is_err();
         }
     }
 }
 
-fn add_ways_of_line(code: &Module, pc: usize, state: &State, goes_on: bool, ways: &mut Ways) {
+fn add_edges_of_line(
+    code: &Module,
+    pc: usize,
+    state: &State,
+    goes_on: bool,
+    edges: &mut FlowEdges,
+) {
     let mut met = *state;
     if goes_on {
         meet(code, pc, &mut met);
@@ -192,100 +198,100 @@ fn add_ways_of_line(code: &Module, pc: usize, state: &State, goes_on: bool, ways
     };
     let from = StatePlace::At(pc);
     let next = StatePlace::At(pc.saturating_add(1));
-    ways.add(from, next, false, led.next);
-    ways.add(from, StatePlace::At(instr.target()), true, led.jump);
+    edges.add(from, next, false, led.next);
+    edges.add(from, StatePlace::At(instr.target()), true, led.jump);
     if let Instr::Ret(_) = instr {
         let left = if pc < code.init() {
             StatePlace::Idle
         } else {
             StatePlace::Ready
         };
-        ways.add(from, left, false, Some(at_return(state)));
+        edges.add(from, left, false, Some(at_return(state)));
     }
 }
 
-/// Adds the ways that lead from a place with this state. An instruction that may have a fault leads nowhere, or, where this goes on,
+/// Adds the edges that lead from a place with this state. An instruction that may have a fault leads nowhere, or, where this goes on,
 /// where it would if its rule were met.
-pub fn add_ways_of(
+pub fn add_edges_of(
     code: &Module,
     place: StatePlace,
     state: &State,
     goes_on: bool,
-    ways: &mut Ways,
+    edges: &mut FlowEdges,
 ) {
     match place {
-        StatePlace::At(pc) => add_ways_of_line(code, pc, state, goes_on, ways),
-        StatePlace::Idle => ways.add(place, StatePlace::At(code.init()), false, Some(*state)),
+        StatePlace::At(pc) => add_edges_of_line(code, pc, state, goes_on, edges),
+        StatePlace::Idle => edges.add(place, StatePlace::At(code.init()), false, Some(*state)),
         StatePlace::Ready => {
             let main = StatePlace::At(code.main());
-            ways.add(place, main, false, Some(at_main(state)));
+            edges.add(place, main, false, Some(at_main(state)));
             if state.pool_count() == code.pool_count()
                 && state.brigade_count() == code.brigade_count()
             {
                 let ended = at_end_of_request(code, state);
-                ways.add(place, StatePlace::Idle, false, Some(ended));
+                edges.add(place, StatePlace::Idle, false, Some(ended));
             }
         }
     }
 }
 
-fn add_ways(code: &Module, states: &Cert, place: StatePlace, ways: &mut Ways) {
+fn add_edges(code: &Module, states: &Cert, place: StatePlace, edges: &mut FlowEdges) {
     if let Some(state) = state_at(states, place) {
-        add_ways_of(code, place, &state, true, ways);
+        add_edges_of(code, place, &state, true, edges);
     }
 }
 
-/// All ways, where these are the states. One that may have a fault leads where it would if its rule were met, since it led there
+/// All edges, where these are the states. One that may have a fault leads where it would if its rule were met, since it led there
 /// before its state grew.
-pub fn all_ways(alloc: Global, code: &Module, states: &Cert) -> Ways {
-    let mut ways = Ways::new(alloc);
+pub fn all_edges(alloc: Global, code: &Module, states: &Cert) -> FlowEdges {
+    let mut edges = FlowEdges::new(alloc);
     for pc in 0..code.len() {
-        add_ways(code, states, StatePlace::At(pc), &mut ways);
+        add_edges(code, states, StatePlace::At(pc), &mut edges);
     }
-    add_ways(code, states, StatePlace::Idle, &mut ways);
-    add_ways(code, states, StatePlace::Ready, &mut ways);
-    ways
+    add_edges(code, states, StatePlace::Idle, &mut edges);
+    add_edges(code, states, StatePlace::Ready, &mut edges);
+    edges
 }
 
-// Lets a state come by a way, where it fits. The page is full where memory was refused for it.
-fn arrive(told: &mut Page, growth: &mut Growth, way: &FlowEdge) {
-    let is_inside = match way.to {
+// Lets a state come by an edge, where it fits. The page is full where memory was refused for it.
+fn arrive(told: &mut Page, growth: &mut Growth, edge: &FlowEdge) {
+    let is_inside = match edge.to {
         StatePlace::At(pc) => pc < growth.cert.at.len(),
         StatePlace::Idle | StatePlace::Ready => true,
     };
-    let fits = match growth.state(way.to) {
+    let fits = match growth.state(edge.to) {
         Some(there) => {
-            there.pool_count() == way.state.pool_count()
-                && there.brigade_count() == way.state.brigade_count()
+            there.pool_count() == edge.state.pool_count()
+                && there.brigade_count() == edge.state.brigade_count()
         }
         None => true,
     };
     let arrival = Arrival {
-        place: way.to,
-        state: way.state,
+        place: edge.to,
+        state: edge.state,
     };
     if is_inside && fits {
         told.full |= growth.arrive(&arrival).is_err();
     }
 }
 
-// The ways from where the states grew.
-fn grown_ways(alloc: Global, code: &Module, growth: &Growth) -> Ways {
-    let mut ways = Ways::new(alloc);
+// The edges from where the states grew.
+fn grown_edges(alloc: Global, code: &Module, growth: &Growth) -> FlowEdges {
+    let mut edges = FlowEdges::new(alloc);
     for place in &growth.grown {
-        add_ways(code, &growth.cert, *place, &mut ways);
+        add_edges(code, &growth.cert, *place, &mut edges);
     }
-    ways
+    edges
 }
 
 // A round of the maker, in which an instruction that may have a fault hands on what it would if its rule were met. The page is full
 // where memory was refused.
 fn round(told: &mut Page, code: &Module, growth: &mut Growth) {
-    let ways = grown_ways(told.alloc, code, growth);
-    told.full |= ways.full;
+    let edges = grown_edges(told.alloc, code, growth);
+    told.full |= edges.full;
     growth.grown.clear();
-    for way in &ways.all {
-        arrive(told, growth, way);
+    for edge in &edges.all {
+        arrive(told, growth, edge);
     }
 }
 

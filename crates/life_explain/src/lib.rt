@@ -1,6 +1,7 @@
 //! Help for the author of a module that is refused: what stands in the way, where it comes from, and what to write instead.
 #![tactic(auto)]
 
+mod capitals;
 mod certificate;
 mod flow;
 mod help;

@@ -1,5 +1,6 @@
 //! A refusal with what is known around it, and the remedies that the rules have for it.
 
+use crate::capitals::{A, B, C, D, L, M, N, O, P, Q, S, T, V, X, Y, Z};
 use crate::flow::{FlowRefusal, home_of, instr_at, parent_of};
 use crate::rules::{Fresh, HelpRule, Per, Test, When, names_of, rule_tables};
 use crate::trail::Trail;
@@ -14,39 +15,6 @@ use line_help::{
 use module_code::parts::parts;
 use module_code::{Args, Instr, Module, Op, PoolRef, Status};
 use std::alloc::Global;
-
-// The places of the capitals.
-const A: usize = 0;
-
-const B: usize = 1;
-
-const C: usize = 2;
-
-const D: usize = 3;
-
-const L: usize = 11;
-
-const M: usize = 12;
-
-const N: usize = 13;
-
-const O: usize = 14;
-
-const P: usize = 15;
-
-const Q: usize = 16;
-
-const S: usize = 18;
-
-const T: usize = 19;
-
-const V: usize = 21;
-
-const X: usize = 23;
-
-const Y: usize = 24;
-
-const Z: usize = 25;
 
 /// A remedy: its pattern, and where its edits begin.
 #[derive(Clone, Copy)]

@@ -1,6 +1,6 @@
 //! All refusals of a module that do not follow from one another, with lines that were tried.
 
-use crate::flow::{FlowRefusal, Judged, all_ways, judged_of, refusal_of};
+use crate::flow::{FlowRefusal, Judged, all_edges, judged_of, refusal_of};
 use crate::remedy::Case;
 use crate::told::{put_advice, put_at, put_remedy, put_trail};
 use crate::trail::{Known, trail_to};
@@ -230,15 +230,15 @@ fn tell_cause(
 ) {
     let (code, states) = module;
     let alloc = told.alloc;
-    let ways = all_ways(alloc, code, states);
+    let edges = all_edges(alloc, code, states);
     let known = Known {
         alloc,
         code,
         states,
-        ways: ways.all.as_slice(),
+        edges: edges.all.as_slice(),
     };
     let trail = trail_to(&known, refusal.pc, refusal.doubt);
-    told.full |= ways.full || trail.full;
+    told.full |= edges.full || trail.full;
     put_trail(told, source, code, &trail, refusal.doubt);
     let mut case = Case::new(alloc, source, module, &trail, refusal);
     tell_remedy(told, &mut case, now, mended);

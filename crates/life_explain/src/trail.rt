@@ -1,19 +1,19 @@
 //! Where what may be so at an instruction comes from.
 
-use crate::flow::{FlowEdge, Ways, add_ways_of, is_same, state_at};
+use crate::flow::{FlowEdge, FlowEdges, add_edges_of, is_same, state_at};
 use life_cert::StatePlace;
 use life_check::Cert;
 use line_help::{Doubt, Sort};
 use module_code::Module;
 use std::alloc::Global;
 
-/// A module with its states and the ways between them.
+/// A module with its states and the edges between them.
 #[derive(Clone, Copy)]
 pub struct Known<'a> {
     pub alloc: Global,
     pub code: &'a Module,
     pub states: &'a Cert,
-    pub ways: &'a [FlowEdge],
+    pub edges: &'a [FlowEdge],
 }
 
 /// A part of the way to an instruction.
@@ -62,10 +62,10 @@ struct TrailNode {
     next: usize,
 }
 
-// Whether one of these ways is the same as another, and comes with what may be so.
-fn leads_so(led: &[FlowEdge], way: &FlowEdge, doubt: Doubt) -> bool {
+// Whether one of these edges is the same as another, and comes with what may be so.
+fn leads_so(led: &[FlowEdge], edge: &FlowEdge, doubt: Doubt) -> bool {
     for other in led {
-        if is_same(other.to, way.to) && other.jumps == way.jumps && doubt.holds(&other.state) {
+        if is_same(other.to, edge.to) && other.jumps == edge.jumps && doubt.holds(&other.state) {
             return true;
         }
     }
@@ -81,7 +81,7 @@ fn is_seen(nodes: &[TrailNode], place: StatePlace) -> bool {
     false
 }
 
-// How it comes to a place: by a way that makes it so, from this place; by ways that do not; or by none.
+// How it comes to a place: by an edge that makes it so, from this place; by edges that do not; or by none.
 #[derive(Clone, Copy)]
 enum Coming {
     Made(StatePlace),
@@ -95,30 +95,30 @@ impl Trail {
         self.full |= self.nodes.push(node).is_err();
     }
 
-    // Whether it would come by this way also if it were not so before.
-    fn makes(&mut self, known: &Known<'_>, way: &FlowEdge, doubt: Doubt) -> bool {
-        let Some(mut state) = state_at(known.states, way.from) else {
+    // Whether it would come by this edge also if it were not so before.
+    fn makes(&mut self, known: &Known<'_>, edge: &FlowEdge, doubt: Doubt) -> bool {
+        let Some(mut state) = state_at(known.states, edge.from) else {
             return false;
         };
         doubt.mend(&mut state);
-        let mut led = Ways::new(known.alloc);
+        let mut led = FlowEdges::new(known.alloc);
         let goes_on = !matches!(doubt.sort, Sort::LivePool | Sort::LiveBrigade);
-        add_ways_of(known.code, way.from, &state, goes_on, &mut led);
+        add_edges_of(known.code, edge.from, &state, goes_on, &mut led);
         self.full |= led.full;
-        leads_so(led.all.as_slice(), way, doubt)
+        leads_so(led.all.as_slice(), edge, doubt)
     }
 
     // Finds how it comes to the place of this number. Adds the places from which it comes; one that makes it so is the last.
     fn look(&mut self, known: &Known<'_>, next: usize, place: StatePlace, doubt: Doubt) -> Coming {
         let mut coming = Coming::Begun;
-        for way in known.ways {
-            let from = way.from;
+        for edge in known.edges {
+            let from = edge.from;
             let ends = doubt.is_of_cursor() && !matches!(from, StatePlace::At(_));
-            if is_same(way.to, place) && !ends && doubt.holds(&way.state) {
+            if is_same(edge.to, place) && !ends && doubt.holds(&edge.state) {
                 coming = Coming::Led;
-                let makes = self.makes(known, way, doubt);
+                let makes = self.makes(known, edge, doubt);
                 if makes || !is_seen(self.nodes.as_slice(), from) {
-                    self.add(from, way.jumps, next);
+                    self.add(from, edge.jumps, next);
                 }
                 if makes {
                     return Coming::Made(from);

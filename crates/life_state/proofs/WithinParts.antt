@@ -83,26 +83,26 @@ content_joined a b c d p q =
     (and2 (content_le a c) (content_le b d) p q)
 
 -- what a bucket makes of contents
-abbrev pub Rises : (Contents → Classes → Contents) → Type 0
-Rises put = (a b : Contents) (s t : Classes) → content_le a b ≡ true → classes_le s t ≡ true → content_le (put a s) (put b t) ≡ true
+abbrev pub RisesWith : (Contents → Classes → Contents) → Type 0
+RisesWith put = (a b : Contents) (s t : Classes) → content_le a b ≡ true → classes_le s t ≡ true → content_le (put a s) (put b t) ≡ true
 
 abbrev Puts : (Contents → Classes → Contents) → Contents → Contents → Classes → Classes → Bool
 Puts put a b s t = implies (content_le a b && classes_le s t) (content_le (put a s) (put b t))
 
-rises : (put : Contents → Classes → Contents) → all_contents (λ a. all_contents (λ b. all_classes (λ s. all_classes (λ t. Puts put a b s t)))) ≡ true → Rises put
+rises : (put : Contents → Classes → Contents) → all_contents (λ a. all_contents (λ b. all_classes (λ s. all_classes (λ t. Puts put a b s t)))) ≡ true → RisesWith put
 rises put all a b s t p q =
     implies_says (content_le a b && classes_le s t) (content_le (put a s) (put b t))
     (class_of_all (λ t. Puts put a b s t) (class_of_all (λ s. all_classes (λ t. Puts put a b s t)) (content_of_all (λ b. all_classes (λ s. all_classes (λ t. Puts put a b s t)))
     (content_of_all (λ a. all_contents (λ b. all_classes (λ s. all_classes (λ t. Puts put a b s t)))) all a) b) s) t)
     (and2 (content_le a b) (classes_le s t) p q)
 
-pub tail_rises : Rises tail_content
+pub tail_rises : RisesWith tail_content
 tail_rises = rises tail_content refl
 
-pub head_rises : Rises head_content
+pub head_rises : RisesWith head_content
 head_rises = rises head_content refl
 
-pub before_rises : Rises before_content
+pub before_rises : RisesWith before_content
 before_rises = rises before_content refl
 
 -- a test of contents that holds of more of them

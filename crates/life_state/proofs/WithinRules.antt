@@ -39,7 +39,7 @@ use Rattle.life_state.proofs.Tests.{split2, and2, split3, or_either, or_left, or
 use Rattle.life_state.proofs.PartsOrder.{pool_same, brigade_same, homes_same, cursor_same}
 use Rattle.life_state.proofs.JoinLeast.{BrigadeParts, parts}
 use Rattle.life_state.proofs.Within.{Within, within, below, known_within, moved_within, set_within, told_within, told_over, move_within, pool_within, brigade_within, sent_within}
-use Rattle.life_state.proofs.WithinParts.{content_joined, Rises, tail_rises, head_rises, before_rises, may_end_rises, not_empty_rises, of_kind_rises, not_of_kind_rises, some_rises, homes_joined}
+use Rattle.life_state.proofs.WithinParts.{content_joined, RisesWith, tail_rises, head_rises, before_rises, may_end_rises, not_empty_rises, of_kind_rises, not_of_kind_rises, some_rises, homes_joined}
 use Rattle.life_state.proofs.WithinParts.{homes_ended, pool_ended, not_null_within, holds_within, ended_within, homes_changed, brigade_not_null_within, emptied_within, left_within, carried_within}
 use Rattle.life_state.proofs.WithinParts.{cleared_within, first_within, split_within, classes_within, with_classes_within, homes_at_within}
 use Rattle.life_state.proofs.WithinNeeds.{Met, met, met_all, needs_with, Homed, there, needs_within}
@@ -221,7 +221,7 @@ module _ (p : Program) (s t : State) (w : Within s t) where
       let k = homes_at t (t.cursors c) in
       move_within s t c (Loose u h) (Loose v k) w (and2 (classes_le u v) (homes_le h k) (classes_there c set) (homes_there c set))
 
-  put_both : (content : Contents → Classes → Contents) → Rises content → (b c : ℕ) → is_set (t.cursors c) ≡ true → Within (put_in content b c s) (put_in content b c t)
+  put_both : (content : Contents → Classes → Contents) → RisesWith content → (b c : ℕ) → is_set (t.cursors c) ≡ true → Within (put_in content b c s) (put_in content b c t)
   put_both content rise b c set =
       let u = classes_of (s.cursors c) in
       let v = classes_of (t.cursors c) in
@@ -307,7 +307,7 @@ module _ (p : Program) (s t : State) (w : Within s t) where
   leads (instr.JKind c k l) h = h.0
   leads i h = tt
 
-  inserts : (side : Side) → Rises (side_content side)
+  inserts : (side : Side) → RisesWith (side_content side)
   inserts AtTail = tail_rises
   inserts AtHead = head_rises
 

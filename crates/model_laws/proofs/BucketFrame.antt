@@ -13,7 +13,7 @@ use Rattle.run_model.specs.State.{Configuration, set_loose, set_cursor, set_numb
 use Rattle.run_model.specs.Faults.{has_pool_at, has_pool, is_live_named, cursor_fault, OnBucket}
 use Rattle.run_model.specs.BrigadeLists.{put_before}
 use Rattle.run_model.specs.Effects.{all_referred, value_of}
-use Rattle.run_model.specs.Cursors.{Place, AtLoose, Within, spot, read_cursor}
+use Rattle.run_model.specs.Cursors.{Place, AtLoose, Within, at_cursor, read_cursor}
 use Rattle.run_model.specs.BucketSteps.{set_items, do_next, do_unlink, do_delete, put_into, do_before, names_given, new_loose, do_make, is_unsplit, split_there, do_split, aside_into, read_given}
 use Rattle.run_model.specs.BucketSteps.{read_within, do_read, got}
 use Rattle.run_model.specs.declared.effect.Effect.{Effect}
@@ -54,7 +54,7 @@ SetsAsideAlive r e = (c : ℕ) (q : PoolRef) (n : ℕ) → e ≡ effect.Aside c 
 
 aside_lives : (p : Program) (c : ℕ) (q : PoolRef) (n : ℕ) (r : Configuration) → MayExecute p r (instr.Aside c q) → pool_named r q ≡ Some n → is_live r.shared.pools n ≡ true
 unfolding has_pool_at
-aside_lives p c q n r may named = sym (ap (is_live_named r.shared.pools) named) ∙ by_test (has_pool r q) (first_none _ _ (second_none (cursor_fault r OnBucket (spot r c)) _ may.faultless)) where
+aside_lives p c q n r may named = sym (ap (is_live_named r.shared.pools) named) ∙ by_test (has_pool r q) (first_none _ _ (second_none (cursor_fault r OnBucket (at_cursor r c)) _ may.faultless)) where
   by_test : (b : Bool) → cond b None (Some F1) ≡ None → b ≡ true
   by_test true is = refl
   by_test false is = absurd (cc)
@@ -103,12 +103,12 @@ module _ (P : Configuration → Type 0) (f : IsFrame P) where
   pub framed : (p : Program) (choice : Choice) (e : Effect) (r : Configuration) → changes_frame e ≡ false → sets_cursor e ≡ false → SetsAsideAlive r e → P r → P (do_effect p choice e r)
   framed p choice effect.Nothing r plain unset alive h = h
   framed p choice (effect.SplitBrigade b c a) r plain unset alive h = f.items a _ _ (f.items b _ r h)
-  framed p choice (effect.Unlink c) r plain unset alive h = unlink_framed (spot r c) r h
-  framed p choice (effect.Delete c) r plain unset alive h = delete_framed (spot r c) r h
-  framed p choice (effect.Insert side b c) r plain unset alive h = put_framed (put_at side) b (spot r c) r h
-  framed p choice (effect.Before c d) r plain unset alive h = before_framed (spot r c) (spot r d) r h
-  framed p choice (effect.Split c x) r plain unset alive h = split_framed (value_of r x) (spot r c) r h
-  framed p choice (effect.Aside c q) r plain unset alive h = on_named P (aside_into (spot r c)) (pool_named r q) r h (λ n is. aside_framed (spot r c) n r (alive c q n refl is) h)
+  framed p choice (effect.Unlink c) r plain unset alive h = unlink_framed (at_cursor r c) r h
+  framed p choice (effect.Delete c) r plain unset alive h = delete_framed (at_cursor r c) r h
+  framed p choice (effect.Insert side b c) r plain unset alive h = put_framed (put_at side) b (at_cursor r c) r h
+  framed p choice (effect.Before c d) r plain unset alive h = before_framed (at_cursor r c) (at_cursor r d) r h
+  framed p choice (effect.Split c x) r plain unset alive h = split_framed (value_of r x) (at_cursor r c) r h
+  framed p choice (effect.Aside c q) r plain unset alive h = on_named P (aside_into (at_cursor r c)) (pool_named r q) r h (λ n is. aside_framed (at_cursor r c) n r (alive c q n refl is) h)
   framed p choice (effect.Number n number) r plain unset alive h = got_framed n (number_of r n number) r h
   framed p choice (effect.Put x) r plain unset alive h = put_keeps P x r h (λ bytes. f.buffer bytes r h)
   framed p choice effect.ClearBuffer r plain unset alive h = f.buffer [] r h
@@ -137,9 +137,9 @@ module _ (P : Configuration → Type 0) (f : IsFrame P) (set : (c : ℕ) (v : Cu
   placed : (p : Program) (choice : Choice) (e : Effect) (r : Configuration) → changes_frame e ≡ false → SetsAsideAlive r e → P r → P (do_effect p choice e r)
   placed p choice (effect.PartBrigade b x c) r plain alive h = set c _ _ (f.items b _ _ (f.names _ r h))
   placed p choice (effect.First c b) r plain alive h = set c _ r h
-  placed p choice (effect.Next d c) r plain alive h = next_placed d (spot r c) r h
+  placed p choice (effect.Next d c) r plain alive h = next_placed d (at_cursor r c) r h
   placed p choice (effect.Make c source) r plain alive h = make_placed c (made_of p r source) r h
-  placed p choice (effect.Read c) r plain alive h = read_placed choice.given (spot r c) r h
+  placed p choice (effect.Read c) r plain alive h = read_placed choice.given (at_cursor r c) r h
   placed p choice e r plain alive h = framed P f p choice e r plain refl alive h
 
   pub placed_step : (p : Program) (choice : Choice) (i : Instr) (r : Configuration) → changes_frame (effect_of i) ≡ false → MayExecute p r i → P r → P (step p choice i r).state

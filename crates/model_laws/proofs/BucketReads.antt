@@ -22,7 +22,7 @@ use Rattle.model_laws.specs.BucketReads.{taken_by, ReadKeepsBytes, ReadsOn, Step
 use Rattle.run_model.proofs.Updates.{upd_at}
 use Rattle.model_laws.proofs.BrigadeLists.{before_and_from, bytes_append}
 use Rattle.model_laws.proofs.Kept.{reads_drop_nothing}
-use Rattle.run_model.proofs.Spots.{Stands, stands}
+use Rattle.run_model.proofs.CursorPlaces.{StandsThere, stands}
 
 -- Bytes.
 
@@ -86,7 +86,7 @@ filled_with (var.Live v) x items is = refl
 abbrev read_outcome : Option (List ℕ) → Place → Configuration → Outcome
 read_outcome given s r = record { exit = jumps_if (is_unread given s); state = do_read given s r }
 
-read_within_on : (given : Option (List ℕ)) (file : ℕ → List ℕ) (b : ℕ) (x : NamedBucket) (r : Configuration) → Stands r (Within b x)
+read_within_on : (given : Option (List ℕ)) (file : ℕ → List ℕ) (b : ℕ) (x : NamedBucket) (r : Configuration) → StandsThere r (Within b x)
     → read_given given x.bucket.content ≡ Some (taken_by file x.bucket.content) → ReadsOn file b r (read_outcome given (Within b x) r)
 unfolding set_brigade set_cursor
 read_within_on given file b x r there told =
@@ -103,5 +103,5 @@ read_within_on given file b x r there told =
 
 pub step_read_gives_the_file : StepReadGivesTheFile
 step_read_gives_the_file p choice file c l b x r is told =
-    let there : Stands r (Within b x) = subst (Stands r) is (stands r (r.call.cursors c)) in
+    let there : StandsThere r (Within b x) = subst (StandsThere r) is (stands r (r.call.cursors c)) in
     subst (λ (t : Place). ReadsOn file b r (read_outcome choice.given t r)) (sym is) (read_within_on choice.given file b x r there (content_given choice.given file x.bucket.content told))

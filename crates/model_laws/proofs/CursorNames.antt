@@ -13,7 +13,7 @@ use Rattle.run_model.specs.Clearing.{run_down}
 use Rattle.run_model.specs.State.{Configuration, items_of, set_brigade, set_loose, set_cursor, set_number, set_pool, with_pools, pool_named}
 use Rattle.run_model.specs.BrigadeLists.{buckets_from, bucket_named, taken_out, first_place, next_place, stays, partition_answer, partitioned, place_of, place_before, front_to, back_from, is_short}
 use Rattle.run_model.specs.BrigadeLists.{Incomplete}
-use Rattle.run_model.specs.Cursors.{Place, Within, spot, read_cursor}
+use Rattle.run_model.specs.Cursors.{Place, Within, at_cursor, read_cursor}
 use Rattle.run_model.specs.BucketSteps.{items_at, cursor_at, set_place, set_items, do_first, do_next, names_given, new_loose, do_make, read_given, read_within, do_read, names_to_part, do_bpart}
 use Rattle.run_model.specs.declared.effect.Effect.{Effect}
 use Rattle.run_model.specs.declared.effect.Effect.TheVariants as effect
@@ -28,8 +28,8 @@ use Rattle.run_model.proofs.Updates.{upd_either}
 use Rattle.run_model.proofs.Sums.{term_below}
 use Rattle.run_model.proofs.Names.{count_none, count_append, count_cons}
 use Rattle.model_laws.proofs.BrigadeLists.{brigade_splits_in_order, moves_keep_names}
-use Rattle.run_model.proofs.Spots.{Stands, stands}
-use Rattle.model_laws.proofs.SlotNames.{Rises, slot_carried, part_rises}
+use Rattle.run_model.proofs.CursorPlaces.{StandsThere, stands}
+use Rattle.model_laws.proofs.SlotNames.{CountRises, slot_carried, part_rises}
 use Rattle.model_laws.proofs.NamedPools.{on_named, made_under_named}
 use Rattle.model_laws.proofs.BucketFrame.{IsFrame, SetsAsideAlive, alive_aside, framed}
 
@@ -122,7 +122,7 @@ make_held : (c : ℕ) (o : Option Bucket) (r : Configuration) → SoundCursors r
 make_held c None r s = s
 make_held c (Some b) r s = new_held c b r s
 
-read_held : (given : Option (List ℕ)) (at : Place) (r : Configuration) → Stands r at → SoundNames r → SoundCursors r → SoundCursors (do_read given at r)
+read_held : (given : Option (List ℕ)) (at : Place) (r : Configuration) → StandsThere r at → SoundNames r → SoundCursors r → SoundCursors (do_read given at r)
 unfolding set_brigade
 read_held given (Within b x) r there names s = by_given (read_given given x.bucket.content) where
   lt : x.name < r.shared.next
@@ -145,7 +145,7 @@ bpart_held b point c r names s =
       found : (k : ℕ) → place_of (partition_answer r.shared.next point (items_at r b)) ≡ Some k → k < r.shared.next + names_to_part point (items_at r b)
       found k is = elim (cases_lt k (r.shared.next + names_to_part point (items_at r b))) [
         | inl lt ↦ lt
-        | inr le ↦ absurd (let rises : Rises r.shared.next (r.shared.next + names_to_part point (items_at r b)) k (count_named k (items_at r b))
+        | inr le ↦ absurd (let rises : CountRises r.shared.next (r.shared.next + names_to_part point (items_at r b)) k (count_named k (items_at r b))
             (count_named k (partitioned r.shared.next point (items_at r b))) = part_rises r.shared.next point k (items_at r b) in
             let none : count r k ≡ 0 = names.fresh k (omega arith) in
             omega (arith, none, in_brigade b k r names, rises.later le, part_there r.shared.next point k (items_at r b) is))
@@ -171,10 +171,10 @@ effect_cursors p choice (effect.Save o b) r alive names s =
 effect_cursors p choice (effect.Pass b) r alive names s = stay_held r (do_pass b r) refl (omega arith) s
 effect_cursors p choice effect.Return r alive names s = record { given = λ c n is. absurd (cc) }
 effect_cursors p choice (effect.First c b) r alive names s = first_held c b r names s
-effect_cursors p choice (effect.Next d c) r alive names s = next_held d (spot r c) r names s
+effect_cursors p choice (effect.Next d c) r alive names s = next_held d (at_cursor r c) r names s
 effect_cursors p choice (effect.PartBrigade b x c) r alive names s = bpart_held b (value_of r x) c r names s
 effect_cursors p choice (effect.Make c source) r alive names s = make_held c (made_of p r source) r s
-effect_cursors p choice (effect.Read c) r alive names s = read_held choice.given (spot r c) r (stands r (r.call.cursors c)) names s
+effect_cursors p choice (effect.Read c) r alive names s = read_held choice.given (at_cursor r c) r (stands r (r.call.cursors c)) names s
 effect_cursors p choice e r alive names s = framed SoundCursors held_frame p choice e r refl refl alive s
 
 pub step_cursors : StepKeepsCursors

@@ -17,7 +17,7 @@ use Rattle.run_model.specs.BrigadeLists.{bucket_split, length_in, all_bytes, Cut
 use Rattle.model_laws.specs.BrigadeLaws.{may_split, SameBytes, PartedAt, SplitsThere}
 use Rattle.run_model.specs.Cutting.{length_of}
 use Rattle.run_model.specs.Effects.{with_items}
-use Rattle.run_model.specs.Cursors.{Place, Nowhere, AtLoose, Within, AtEndOf, found_below, holder_of, loose_spot, bucket_spot, spot_of, spot}
+use Rattle.run_model.specs.Cursors.{Place, Nowhere, AtLoose, Within, AtEndOf, found_below, holder_of, place_of_loose, place_of_bucket, place_of_cursor, at_cursor}
 use Rattle.run_model.specs.BucketSteps.{items_at, cursor_at, end_called, set_items, name_given, names_given, new_loose, do_make, is_unsplit, split_there, do_split, place_at, is_incomplete, names_if}
 use Rattle.run_model.specs.BucketSteps.{names_to_part, do_bsplit, do_bpart}
 use Rattle.run_model.specs.declared.effect.Effect.{Effect}
@@ -31,10 +31,10 @@ use Rattle.model_laws.proofs.Operands.{split_brigades}
 use Rattle.run_model.proofs.Names.{count_cons}
 use Rattle.model_laws.proofs.BrigadeLists.{at_seam, brigade_splits_in_order, bucket_splits_in_order, split_keeps_bytes, parts_at_point, partition_keeps_bytes, place_is_behind_front}
 use Rattle.model_laws.proofs.BrigadeLists.{short_is_incomplete}
-use Rattle.run_model.proofs.Spots.{Stands, stands}
+use Rattle.run_model.proofs.CursorPlaces.{StandsThere, stands}
 use Rattle.model_laws.proofs.StepNames.{step_names}
 use Rattle.model_laws.proofs.CursorNames.{in_brigade, part_there}
-use Rattle.model_laws.proofs.CursorSpots.{cursors_stand_once}
+use Rattle.model_laws.proofs.CursorPlaceLaws.{cursors_stand_once}
 
 -- Buckets that are made.
 
@@ -51,12 +51,12 @@ not_there n (b ∷ bs) none = or_from (b.name == n) (is_there n bs) (other (b.na
   other false is = refl
 
 makes_loose : (c : ℕ) (b : Bucket) (r : Configuration) → SoundNames r → MakesLoose c b r (new_loose c b r)
-unfolding set_loose set_cursor spot_of holder_of
+unfolding set_loose set_cursor place_of_cursor holder_of
 makes_loose c b r s = record {
   unused = unused;
   loose = refl;
   brigades = refl;
-  cursor = ap (spot_of (new_loose c b r)) (upd_at r.call.cursors c (cursor.At r.shared.next)) ∙ (ap (bucket_spot (new_loose c b r) r.shared.next) holder ∙ ap loose_spot found);
+  cursor = ap (place_of_cursor (new_loose c b r)) (upd_at r.call.cursors c (cursor.At r.shared.next)) ∙ (ap (place_of_bucket (new_loose c b r) r.shared.next) holder ∙ ap place_of_loose found);
 } where
   unused : count r r.shared.next ≡ 0
   unused = s.fresh r.shared.next (omega arith)
@@ -108,7 +108,7 @@ split_shape new n x bs is = of_first (buckets_from x.name bs) is where
 abbrev splitting : ℕ → Place → Configuration → Outcome
 splitting n s r = record { exit = jumps_if (is_unsplit n s); state = do_split n s r }
 
-splits_bucket : (n b : ℕ) (x : NamedBucket) (r : Configuration) → SoundNames r → Stands r (Within b x) → split_refusal n x ≡ None → SplitsBucket n b x r (splitting n (Within b x) r)
+splits_bucket : (n b : ℕ) (x : NamedBucket) (r : Configuration) → SoundNames r → StandsThere r (Within b x) → split_refusal n x ≡ None → SplitsBucket n b x r (splitting n (Within b x) r)
 unfolding set_brigade
 splits_bucket n b x r s at may = by_refusal (split_refusal n x) may where
   there : IsThere (r.instance.brigades b)
@@ -132,7 +132,8 @@ splits_bucket n b x r s at may = by_refusal (split_refusal n x) may where
 
 pub splits_in_order : SplitsInOrder
 splits_in_order p choice c n l b x r s is may =
-    subst (λ (at : Place). SplitsBucket (value_of r n) b x r (splitting (value_of r n) at r)) (sym is) (splits_bucket (value_of r n) b x r s (subst (Stands r) is (stands r (r.call.cursors c))) may)
+    subst (λ (at : Place). SplitsBucket (value_of r n) b x r (splitting (value_of r n) at r)) (sym is)
+    (splits_bucket (value_of r n) b x r s (subst (StandsThere r) is (stands r (r.call.cursors c))) may)
 
 pub refused_split_jumps : RefusedSplitJumps
 refused_split_jumps p choice c n l b x k r is refused =
@@ -156,13 +157,14 @@ cut_brigade b a place r ne first second =
 pub brigades_split_in_order : BrigadesSplitInOrder
 brigades_split_in_order p choice b c a r may =
     let first = first_none (usable_fault (r.instance.brigades b)) _ may.faultless in
-    let second = first_none (usable_fault (r.instance.brigades a)) None (second_none (cursor_fault r (InThis b) (spot r c)) _ (second_none (usable_fault (r.instance.brigades b)) _ may.faultless)) in
-    let cut = cut_brigade b a (spot r c) r (split_brigades p may.proper b c a may.fit).differ (usable_there (r.instance.brigades b) first) (usable_there (r.instance.brigades a) second) in
+    let second = first_none (usable_fault (r.instance.brigades a)) None
+    (second_none (cursor_fault r (InThis b) (at_cursor r c)) _ (second_none (usable_fault (r.instance.brigades b)) _ may.faultless)) in
+    let cut = cut_brigade b a (at_cursor r c) r (split_brigades p may.proper b c a may.fit).differ (usable_there (r.instance.brigades b) first) (usable_there (r.instance.brigades a) second) in
     record {
       stay = cut.0;
       move = cut.1;
-      whole = ap (λ (xs : List NamedBucket). xs ++ items_at (do_bsplit b (spot r c) a r) a) cut.0
-          ∙ (ap (λ (ys : List NamedBucket). stays (place_at (spot r c)) (items_at r b) ++ ys) cut.1 ∙ brigade_splits_in_order (place_at (spot r c)) (items_at r b));
+      whole = ap (λ (xs : List NamedBucket). xs ++ items_at (do_bsplit b (at_cursor r c) a r) a) cut.0
+          ∙ (ap (λ (ys : List NamedBucket). stays (place_at (at_cursor r c)) (items_at r b) ++ ys) cut.1 ∙ brigade_splits_in_order (place_at (at_cursor r c)) (items_at r b));
     }
 
 -- Partitions.
@@ -173,41 +175,41 @@ record IsPlacedIn (b : ℕ) (place : Option ℕ) (at : Place) : Type 0 where
   inside : IsPlaceIn b at
 
 -- so does a cursor at a bucket of it
-stands_in : (b n : ℕ) (r : Configuration) → SoundNames r → 1 ≤ count_named n (items_at r b) → IsPlacedIn b (Some n) (spot_of r (cursor.At n))
-stands_in b n r s there = of_spot (spot_of r (cursor.At n)) (cursors_stand_once r (cursor.At n) s) where
+stands_in : (b n : ℕ) (r : Configuration) → SoundNames r → 1 ≤ count_named n (items_at r b) → IsPlacedIn b (Some n) (place_of_cursor r (cursor.At n))
+stands_in b n r s there = of_place (place_of_cursor r (cursor.At n)) (cursors_stand_once r (cursor.At n) s) where
   same : (k : ℕ) → (b ≢ k → count_named n (items_at r b) ≡ 0) → k ≡ b
   same k others = elim (cases_eq b k) [ inl e ↦ sym e | inr ne ↦ absurd (omega (arith, others ne, there)) ]
 
-  of_spot : (at : Place) → BucketOnce r n at → IsPlacedIn b (Some n) at
-  of_spot Nowhere none = absurd (omega (arith, none, in_brigade b n r s, there))
-  of_spot (AtLoose x) once = absurd (omega (arith, once.brigades b, there))
-  of_spot (Within k x) once = record { there = ap (λ (m : ℕ). Some m) once.name; inside = same k (once.others b) }
-  of_spot (AtEndOf k) once = absurd once
+  of_place : (at : Place) → BucketOnce r n at → IsPlacedIn b (Some n) at
+  of_place Nowhere none = absurd (omega (arith, none, in_brigade b n r s, there))
+  of_place (AtLoose x) once = absurd (omega (arith, once.brigades b, there))
+  of_place (Within k x) once = record { there = ap (λ (m : ℕ). Some m) once.name; inside = same k (once.others b) }
+  of_place (AtEndOf k) once = absurd once
 
 -- and one at its end stands at that
-pub stands_behind : (b n : ℕ) (r : Configuration) → SoundNames r → brigade_name (r.instance.brigades b) ≡ Some n → spot_of r (cursor.End n) ≡ AtEndOf b
-stands_behind b n r s named = of_spot (spot_of r (cursor.End n)) (cursors_stand_once r (cursor.End n) s) where
-  of_spot : (at : Place) → BrigadeOnce r n at → at ≡ AtEndOf b
-  of_spot Nowhere none = absurd (none b named)
-  of_spot (AtLoose x) once = absurd once
-  of_spot (Within k x) once = absurd once
-  of_spot (AtEndOf k) once = ap AtEndOf (sym (once.others b named))
+pub stands_behind : (b n : ℕ) (r : Configuration) → SoundNames r → brigade_name (r.instance.brigades b) ≡ Some n → place_of_cursor r (cursor.End n) ≡ AtEndOf b
+stands_behind b n r s named = of_place (place_of_cursor r (cursor.End n)) (cursors_stand_once r (cursor.End n) s) where
+  of_place : (at : Place) → BrigadeOnce r n at → at ≡ AtEndOf b
+  of_place Nowhere none = absurd (none b named)
+  of_place (AtLoose x) once = absurd once
+  of_place (Within k x) once = absurd once
+  of_place (AtEndOf k) once = ap AtEndOf (sym (once.others b named))
 
 -- a cursor at the end of a brigade that is there
-ends : (b : ℕ) (r : Configuration) → SoundNames r → IsThere (r.instance.brigades b) → spot_of r (end_called (brigade_name (r.instance.brigades b))) ≡ AtEndOf b
+ends : (b : ℕ) (r : Configuration) → SoundNames r → IsThere (r.instance.brigades b) → place_of_cursor r (end_called (brigade_name (r.instance.brigades b))) ≡ AtEndOf b
 ends b r s is = of_name (brigade_name (r.instance.brigades b)) refl where
   named : (v : BrigadeVar) → IsThere v → brigade_name v ≡ None → ⊥
   named var.Null is none = absurd (cc)
   named var.Gone is none = absurd (cc)
   named (var.Live v) is none = absurd (cc)
 
-  of_name : (o : Option ℕ) → brigade_name (r.instance.brigades b) ≡ o → spot_of r (end_called o) ≡ AtEndOf b
+  of_name : (o : Option ℕ) → brigade_name (r.instance.brigades b) ≡ o → place_of_cursor r (end_called o) ≡ AtEndOf b
   of_name None none = absurd (named (r.instance.brigades b) is none)
   of_name (Some n) name = stands_behind b n r s name
 
 -- a cursor that is set to a place in a brigade stands there
 stands_at : (b : ℕ) (place : Option ℕ) (r : Configuration) → SoundNames r → ((k : ℕ) → place ≡ Some k → 1 ≤ count_named k (items_at r b)) → IsThere (r.instance.brigades b)
-    → IsPlacedIn b place (spot_of r (cursor_at (r.instance.brigades b) place))
+    → IsPlacedIn b place (place_of_cursor r (cursor_at (r.instance.brigades b) place))
 stands_at b (Some k) r s there is = stands_in b k r s (there k refl)
 stands_at b None r s there is = subst (IsPlacedIn b None) (sym (ends b r s is)) (record { there = refl; inside = refl })
 
@@ -254,11 +256,13 @@ module _ (b point c : ℕ) (r : Configuration) (names : SoundNames r) (after : S
       ap brigade_fault (upd_at r.instance.brigades b (with_items (partitioned r.shared.next point (items_at r b)) (r.instance.brigades b)))
       ∙ still_there (partitioned r.shared.next point (items_at r b)) (r.instance.brigades b) is
 
-  cursor_set : spot (do_bpart b point c r) c ≡ spot_of (do_bpart b point c r) (cursor_at ((do_bpart b point c r).instance.brigades b) (place_of (partition_answer r.shared.next point (items_at r b))))
+  cursor_set : at_cursor (do_bpart b point c r) c ≡ place_of_cursor (do_bpart b point c r)
+      (cursor_at ((do_bpart b point c r).instance.brigades b) (place_of (partition_answer r.shared.next point (items_at r b))))
   unfolding set_cursor set_brigade
-  cursor_set = ap (spot_of (do_bpart b point c r)) (upd_at r.call.cursors c (cursor_at ((do_bpart b point c r).instance.brigades b) (place_of (partition_answer r.shared.next point (items_at r b)))))
+  cursor_set = ap (place_of_cursor (do_bpart b point c r)) (upd_at r.call.cursors c
+      (cursor_at ((do_bpart b point c r).instance.brigades b) (place_of (partition_answer r.shared.next point (items_at r b)))))
 
-  placed : IsPlacedIn b (place_of (partition_answer r.shared.next point (items_at r b))) (spot (do_bpart b point c r) c)
+  placed : IsPlacedIn b (place_of (partition_answer r.shared.next point (items_at r b))) (at_cursor (do_bpart b point c r) c)
   placed =
       subst (IsPlacedIn b (place_of (partition_answer r.shared.next point (items_at r b)))) (sym cursor_set)
       (stands_at b (place_of (partition_answer r.shared.next point (items_at r b))) (do_bpart b point c r) after
@@ -276,7 +280,7 @@ module _ (b point c : ℕ) (r : Configuration) (names : SoundNames r) (after : S
       let at : PartedAt r.shared.next point (items_at r b) = parts_at_point r.shared.next point (items_at r b) le in
       let split : SplitsThere r.shared.next point (items_at r b) = place_is_behind_front r.shared.next point (items_at r b) le once fresh in
       let same : SameBytes r.shared.next (items_at r b) (partitioned r.shared.next point (items_at r b)) = partition_keeps_bytes r.shared.next point (items_at r b) in
-      let front : stays (place_at (spot (do_bpart b point c r) c)) (items_at (do_bpart b point c r) b) ≡ front_to point (items_at r b)
+      let front : stays (place_at (at_cursor (do_bpart b point c r) c)) (items_at (do_bpart b point c r) b) ≡ front_to point (items_at r b)
       = ap (λ (o : Option ℕ). stays o (items_at (do_bpart b point c r) b)) placed.there ∙ (ap (stays (place_of (partition_answer r.shared.next point (items_at r b)))) parted ∙ split.front) in
       record {
         exit = ap (λ (x : Cut). jumps_if (is_incomplete x)) at.answer ∙ ap jumps_if (found_place r.shared.next point (items_at r b));
@@ -293,7 +297,7 @@ module _ (b point c : ℕ) (r : Configuration) (names : SoundNames r) (after : S
       let told : partition_answer r.shared.next point (items_at r b) ≡ Incomplete = short.told lt in
       record {
         exit = ap (λ (x : Cut). jumps_if (is_incomplete x)) told;
-        cursor = cursor_set ∙ (ap (λ (x : Cut). spot_of (do_bpart b point c r) (cursor_at ((do_bpart b point c r).instance.brigades b) (place_of x))) told
+        cursor = cursor_set ∙ (ap (λ (x : Cut). place_of_cursor (do_bpart b point c r) (cursor_at ((do_bpart b point c r).instance.brigades b) (place_of x))) told
             ∙ ends b (do_bpart b point c r) after left_there);
         brigades = ap (λ (v : BrigadeVar). upd r.instance.brigades b v)
             (ap (λ (xs : List NamedBucket). with_items xs (r.instance.brigades b)) (short.unchanged told) ∙ refilled (r.instance.brigades b)) ∙ upd_same r.instance.brigades b;

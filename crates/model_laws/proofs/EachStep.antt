@@ -9,7 +9,7 @@ use Rattle.run_model.specs.declared.bucket.NamedBucket.{NamedBucket}
 use Rattle.run_model.specs.declared.payload.Payload.{Payload}
 use Rattle.run_model.specs.Buckets.{cleared_bucket, returned_bucket}
 use Rattle.run_model.specs.Clearing.{run_down}
-use Rattle.run_model.specs.Cursors.{Place, Nowhere, AtLoose, Within, AtEndOf, spot}
+use Rattle.run_model.specs.Cursors.{Place, Nowhere, AtLoose, Within, AtEndOf, at_cursor}
 use Rattle.run_model.specs.BucketSteps.{items_at, changed_at, aside_into, heap_bucket, read_given}
 use Rattle.run_model.specs.EffectOf.{effect_of}
 use Rattle.run_model.specs.Pools.{Pools, is_under}
@@ -75,6 +75,6 @@ module _ (T : NamedBucket → Type 0) (r : Configuration) (h : HoldsNamed T r) w
     loose = h.loose;
   })
   each_step p choice (instr.Pass b l) stays = record { brigades = written_each T r.instance.brigades b _ (handed_over_each T (r.instance.brigades b)) h.brigades; loose = h.loose }
-  each_step p choice (instr.Aside c q) stays = on_named (HoldsNamed T) (aside_into (spot r c)) (pool_named r q) r h (λ target e. aside_holds stays.aside target (spot r c))
+  each_step p choice (instr.Aside c q) stays = on_named (HoldsNamed T) (aside_into (at_cursor r c)) (pool_named r q) r h (λ target e. aside_holds stays.aside target (at_cursor r c))
   each_step p choice (instr.Ret s) stays = record { brigades = left_each T T r.call.name (stays.returned refl) r.instance.brigades h.brigades; loose = none T }
   each_step p choice i stays = leaves T p choice r stays.descends stays.made stays.reads h (effect_of i) refl

@@ -1,4 +1,4 @@
--- What buckets and files hold stays bytes where 46 instructions step.
+-- What buckets and files hold stays bytes where an instruction steps.
 use Rattle.std.proofs.Common.{◌≡◌, ℕ, ◌+◌, ◌<◌, ◌≤◌, Bool, true, false, cond, ◌==◌, List, [], ◌∷◌, length, drop, get_or, Some, All, inl, inr, sym, subst, arith}
 use Rattle.std.proofs.lemmas.Bool.{cases_lt}
 use Rattle.std.proofs.lemmas.List.{get_or_past}
@@ -13,13 +13,13 @@ use Rattle.run_model.specs.declared.event.Piece.{Piece}
 use Rattle.run_model.specs.declared.event.Piece.TheVariants as piece
 use Rattle.run_model.specs.Cutting.{front_of, rest_of}
 use Rattle.run_model.specs.State.{Configuration}
-use Rattle.run_model.specs.Cursors.{Place, Nowhere, AtEndOf, spot}
+use Rattle.run_model.specs.Cursors.{Place, Nowhere, AtEndOf, at_cursor}
 use Rattle.run_model.specs.BucketSteps.{content_at, first_of, byte_of, read_given}
 use Rattle.run_model.specs.Steps.{Choice, step, text_of}
 use Rattle.run_model.specs.Pieces.{bucket_of, named_from}
 use Rattle.model_laws.specs.Ranges.{AreBytes, HoldsBytes, GivesBytes, IsOfBytes}
-use Rattle.run_model.proofs.Spots.{Stands, stands}
-use Rattle.model_laws.proofs.Origins.{Each, PassesParts, Holds, IsNewContent, OfText, OfBuffer, OfNone, held_at}
+use Rattle.run_model.proofs.CursorPlaces.{StandsThere, stands}
+use Rattle.model_laws.proofs.Origins.{EachBucketIs, PassesParts, Holds, IsNewContent, OfText, OfBuffer, OfNone, held_at}
 use Rattle.model_laws.proofs.Contents.{step_contents}
 
 -- The bytes that a bucket holds are bytes.
@@ -29,7 +29,7 @@ OfBytes b = HoldsBytes b.content
 abbrev OfNamed : NamedBucket → Type 0
 OfNamed x = OfBytes x.bucket
 
-none : Each OfBytes []
+none : EachBucketIs OfBytes []
 none = All-nil OfNamed
 
 -- Parts of a bucket, and buckets that are made.
@@ -74,10 +74,10 @@ step_holds p choice i r m gives buffer h = step_contents HoldsBytes p choice i r
 
 -- Bytes that are asked for.
 
-spot_bytes : (r : Configuration) (s : Place) → Stands r s → Holds OfBytes r → HoldsBytes (content_at s)
-spot_bytes r Nowhere there h = tt
-spot_bytes r (AtEndOf b) there h = tt
-spot_bytes r s there h = held_at OfNamed r h s there
+place_bytes : (r : Configuration) (s : Place) → StandsThere r s → Holds OfBytes r → HoldsBytes (content_at s)
+place_bytes r Nowhere there h = tt
+place_bytes r (AtEndOf b) there h = tt
+place_bytes r s there h = held_at OfNamed r h s there
 
 first_byte : (xs : List ℕ) (v : ℕ) → AreBytes xs → first_of xs ≡ Some v → v ≤ 255
 first_byte [] v all is = absurd (cc)
@@ -89,8 +89,8 @@ byte_small k v (content.Range file start len) all is = absurd (cc)
 byte_small k v content.Nothing all is = absurd (cc)
 
 -- the byte of a bucket at which a cursor stands
-pub byte_there : (r : Configuration) (c k v : ℕ) → Holds OfBytes r → byte_of k (content_at (spot r c)) ≡ Some v → v ≤ 255
-byte_there r c k v h is = byte_small k v (content_at (spot r c)) (spot_bytes r (spot r c) (stands r (r.call.cursors c)) h) is
+pub byte_there : (r : Configuration) (c k v : ℕ) → Holds OfBytes r → byte_of k (content_at (at_cursor r c)) ≡ Some v → v ≤ 255
+byte_there r c k v h is = byte_small k v (content_at (at_cursor r c)) (place_bytes r (at_cursor r c) (stands r (r.call.cursors c)) h) is
 
 -- Buckets that are brought.
 
@@ -98,7 +98,7 @@ piece_bytes : (call req : ℕ) (x : Piece) → IsOfBytes x → OfBytes (bucket_o
 piece_bytes call req (piece.File file start len) h = tt
 piece_bytes call req x h = h
 
-pub named_bytes : (call req n : ℕ) (xs : List Piece) → All IsOfBytes xs → Each OfBytes (named_from (bucket_of call req) n xs)
+pub named_bytes : (call req n : ℕ) (xs : List Piece) → All IsOfBytes xs → EachBucketIs OfBytes (named_from (bucket_of call req) n xs)
 named_bytes call req n [] all = none
 named_bytes call req n (x ∷ xs) all =
     All-cons OfNamed _ (named_from (bucket_of call req) (n + 1) xs) (piece_bytes call req x (All-head IsOfBytes x xs all)) (named_bytes call req (n + 1) xs (All-tail IsOfBytes x xs all))

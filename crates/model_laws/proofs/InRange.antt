@@ -17,7 +17,7 @@ use Rattle.run_model.specs.Payloads.{is_file_ref}
 use Rattle.run_model.specs.declared.payload.Payload.{Payload}
 use Rattle.run_model.specs.Files.{Files, is_referred, let_go}
 use Rattle.run_model.specs.State.{Configuration, with_pools, set_number}
-use Rattle.run_model.specs.Cursors.{spot, read_cursor}
+use Rattle.run_model.specs.Cursors.{at_cursor, read_cursor}
 use Rattle.run_model.specs.BucketSteps.{byte_of, content_at, got}
 use Rattle.run_model.specs.declared.effect.Effect.{Effect}
 use Rattle.run_model.specs.declared.effect.Effect.TheVariants as effect
@@ -93,7 +93,7 @@ effect_numbers : (p : Program) (choice : Choice) (e : Effect) (r : Configuration
     → (do_effect p choice e r).instance.numbers k ≤ 4294967295
 effect_numbers p choice (effect.Number n (LengthAt c)) r other held s = number_set n _ r (least _) s
 effect_numbers p choice (effect.Number n (ByteRead x)) r other held s =
-    got_range n (byte_of (value_of r x) (content_at (spot r read_cursor))) r (λ v is. byte_there r read_cursor (value_of r x) v held is) s
+    got_range n (byte_of (value_of r x) (content_at (at_cursor r read_cursor))) r (λ v is. byte_there r read_cursor (value_of r x) v held is) s
 effect_numbers p choice (effect.Number n (Plus x)) r other held s = number_set n _ r (least (r.instance.numbers n + value_of r x)) s
 effect_numbers p choice (effect.Number n (Minus x)) r other held s = number_set n _ r (let le : r.instance.numbers n ≤ 4294967295 = s n in omega arith) s
 effect_numbers p choice (effect.Number n (ValueGiven x)) r other held s = absurd (cc)

@@ -41,7 +41,7 @@ pub mod BrigadeLists
 pub mod SlotNames
 pub mod BucketFrame
 pub mod CursorNames
-pub mod CursorSpots
+pub mod CursorPlaceLaws
 pub mod CursorSteps
 pub mod chains
 pub mod ChainExamples

@@ -8,12 +8,12 @@ use Rattle.run_model.specs.declared.bucket.NamedBucket.{NamedBucket}
 use Rattle.run_model.specs.BrigadeLists.{buckets_from, bucket_named}
 use Rattle.run_model.specs.Sound.{brigade_name}
 use Rattle.run_model.specs.State.{Configuration, items_of, set_brigade}
-use Rattle.run_model.specs.Cursors.{Place, Nowhere, AtLoose, Within, AtEndOf, spot}
+use Rattle.run_model.specs.Cursors.{Place, Nowhere, AtLoose, Within, AtEndOf, at_cursor}
 use Rattle.run_model.specs.Faults.{Want, WUsable, WCursor, Need, wants, brigade_fault, usable_fault, passed_fault, cursor_fault, fault_want, first_fault, or_else}
 use Rattle.run_model.specs.Steps.{do_pass, cleaned, handed_over}
 use Rattle.model_laws.specs.Marks.{is_at, wants_use, UseAfterPassFaults, CleanedIsUsable}
 use Rattle.run_model.proofs.Updates.{upd_at}
-use Rattle.run_model.proofs.Spots.{Stands, stands}
+use Rattle.run_model.proofs.CursorPlaces.{StandsThere, stands}
 
 pub first_none : (a b : Option FaultKind) → or_else a b ≡ None → a ≡ None
 first_none None b e = refl
@@ -47,7 +47,7 @@ called n var.Gone h = absurd (cc)
 called n (var.Live v) h = tt
 
 -- what a cursor stands at, or at the end of, is a brigade
-at_brigade : (r : Configuration) (k : ℕ) (s : Place) → Stands r s → is_at s k ≡ true → IsThere (r.instance.brigades k)
+at_brigade : (r : Configuration) (k : ℕ) (s : Place) → StandsThere r s → is_at s k ≡ true → IsThere (r.instance.brigades k)
 at_brigade r k Nowhere there h = absurd (cc)
 at_brigade r k (AtLoose x) there h = absurd (cc)
 at_brigade r k (Within b x) there h = subst (λ (j : ℕ). IsThere (r.instance.brigades j)) (sym (eqb-true k b h)) (filled x.name x (r.instance.brigades b) there.1)
@@ -71,7 +71,7 @@ cursor_unmet r f k (AtEndOf b) there no_use h none =
 
 use_unmet : (r : Configuration) (k : ℕ) (w : Want) → (usable_fault (r.instance.brigades k) ≡ None → ⊥) → wants_use r k w ≡ true → fault_want r w ≡ None → ⊥
 use_unmet r k (WUsable b) no_use h none = no_use (ap (λ (j : ℕ). usable_fault (r.instance.brigades j)) (eqb-true k b h) ∙ none)
-use_unmet r k (WCursor c f) no_use h none = cursor_unmet r f k (spot r c) (at_brigade r k (spot r c) (stands r (r.call.cursors c)) h) no_use h none
+use_unmet r k (WCursor c f) no_use h none = cursor_unmet r f k (at_cursor r c) (at_brigade r k (at_cursor r c) (stands r (r.call.cursors c)) h) no_use h none
 use_unmet r k w no_use h none = absurd (cc)
 
 -- an instruction that uses it has a fault

@@ -19,7 +19,7 @@ use Rattle.run_model.specs.Cutting.{FitsKind, EndsInFile, length_of, front_of, r
 use Rattle.run_model.specs.BrigadeLists.{buckets_before, buckets_from, first_bucket, taken_out, put_head, put_tail, put_before, stays, moves, TooLong, Metadata, split_refusal, first_bytes, rest_as}
 use Rattle.run_model.specs.BrigadeLists.{first_split, front_to, back_from, is_short, partitioned}
 use Rattle.run_model.specs.State.{Configuration, items_of, set_brigade, set_number, set_cursor, set_loose}
-use Rattle.run_model.specs.Cursors.{bucket_at, Place, AtLoose, Within, spot, read_cursor}
+use Rattle.run_model.specs.Cursors.{bucket_at, Place, AtLoose, Within, at_cursor, read_cursor}
 use Rattle.run_model.specs.BucketSteps.{items_at, set_items, do_next, do_unlink, do_delete, put_into, do_before, name_given, names_given, names_to_part, new_loose, heap_bucket}
 use Rattle.run_model.specs.BucketSteps.{do_make, split_there, do_split, rest_named, first_read, read_given, read_within, do_read}
 use Rattle.run_model.specs.BucketSteps.{place_at, do_bsplit, do_bpart, got}
@@ -33,11 +33,11 @@ use Rattle.run_model.specs.Changes.{extent, has_pools, is_wide}
 use Rattle.run_model.specs.Steps.{do_effect, made_of, number_of, put_at, Choice, step, with_items, text_of, value_of}
 use Rattle.model_laws.proofs.NamedPools.{with_buffer, put_keeps}
 use Rattle.run_model.proofs.Updates.{upd_either}
-use Rattle.run_model.proofs.Spots.{Stands, stands}
+use Rattle.run_model.proofs.CursorPlaces.{StandsThere, stands}
 use Rattle.run_model.proofs.EachBucket.{each_before, each_from, of_named, each_taken_out, each_put_head, each_put_tail, each_put_before}
 
-abbrev pub Each : (Bucket → Type 0) → List NamedBucket → Type 0
-Each T xs = All (λ x. T x.bucket) xs
+abbrev pub EachBucketIs : (Bucket → Type 0) → List NamedBucket → Type 0
+EachBucketIs T xs = All (λ x. T x.bucket) xs
 
 -- What is true of what comes of a bucket of which it is true: its parts, and one like it under `new`, the next name.
 pub record Descends (new : ℕ) (T : NamedBucket → Type 0) : Type 0 where
@@ -128,7 +128,7 @@ module _ (T : NamedBucket → Type 0) where
   buffer_holds buffer r h = record { brigades = h.brigades; loose = h.loose }
 
 -- the bucket at which a cursor stands
-pub held_at : (T : NamedBucket → Type 0) (r : Configuration) → HoldsNamed T r → (s : Place) → Stands r s → IfSome (bucket_at s) T
+pub held_at : (T : NamedBucket → Type 0) (r : Configuration) → HoldsNamed T r → (s : Place) → StandsThere r s → IfSome (bucket_at s) T
 held_at T r h (Within b x) there = of_named T x.name x (items_at r b) there.1 (h.brigades b)
 held_at T r h (AtLoose x) there = of_named T x.name x r.call.loose there h.loose
 held_at T r h s there = tt
@@ -153,7 +153,7 @@ module _ (T : NamedBucket → Type 0) (r : Configuration) (on : Descends r.share
   taken_loose_holds : (x : NamedBucket) → HoldsNamed T (set_loose (taken_out x.name r.call.loose) r)
   taken_loose_holds x = loose_hold T _ r (each_taken_out T x.name r.call.loose h.loose) h
 
-  unlink_holds : (s : Place) → Stands r s → HoldsNamed T (do_unlink s r)
+  unlink_holds : (s : Place) → StandsThere r s → HoldsNamed T (do_unlink s r)
   unlink_holds (Within b x) there = loose_hold T _ _ (each_put_tail T x r.call.loose (held_at T r h (Within b x) there) h.loose) (taken_holds b x)
   unlink_holds s there = h
 
@@ -163,11 +163,11 @@ module _ (T : NamedBucket → Type 0) (r : Configuration) (on : Descends r.share
   delete_holds s = h
 
   put_holds : (insert : NamedBucket → List NamedBucket → List NamedBucket) → ((x : NamedBucket) (bs : List NamedBucket) → T x → All T bs → All T (insert x bs))
-      → (b : ℕ) (s : Place) → Stands r s → HoldsNamed T (put_into insert b s r)
+      → (b : ℕ) (s : Place) → StandsThere r s → HoldsNamed T (put_into insert b s r)
   put_holds insert inserted b (AtLoose x) there = items_hold T b _ _ (inserted x (items_at r b) (held_at T r h (AtLoose x) there) (h.brigades b)) (taken_loose_holds x)
   put_holds insert inserted b s there = h
 
-  before_holds : (s t : Place) → Stands r s → HoldsNamed T (do_before s t r)
+  before_holds : (s t : Place) → StandsThere r s → HoldsNamed T (do_before s t r)
   before_holds s (Within b y) there = put_holds (put_before y.name) (λ x bs new old. each_put_before T y.name x bs new old) b s there
   before_holds s t there = h
 
@@ -200,12 +200,12 @@ module _ (T : NamedBucket → Type 0) (r : Configuration) (on : Descends r.share
     by_tests true true is may = absurd (cc)
     by_tests false t is may = absurd (cc)
 
-  split_in : (n b : ℕ) (x : NamedBucket) → Stands r (Within b x) → n ≤ length_of x.bucket.content → HoldsNamed T (split_there n (Within b x) r)
+  split_in : (n b : ℕ) (x : NamedBucket) → StandsThere r (Within b x) → n ≤ length_of x.bucket.content → HoldsNamed T (split_there n (Within b x) r)
   split_in n b x there le =
       items_hold T b _ _ (All-append T (buckets_before x.name (items_at r b)) (first_split r.shared.next n (buckets_from x.name (items_at r b))) (each_before T x.name (items_at r b) (h.brigades b))
       (split_first n x (buckets_from x.name (items_at r b)) there.1 le (each_from T x.name (items_at r b) (h.brigades b)))) (names_hold T 1 r h)
 
-  split_holds : (n : ℕ) (s : Place) → Stands r s → HoldsNamed T (do_split n s r)
+  split_holds : (n : ℕ) (s : Place) → StandsThere r s → HoldsNamed T (do_split n s r)
   split_holds n (Within b x) there = by_refusal (is_some (split_refusal n x)) refl where
     by_refusal : (t : Bool) → is_some (split_refusal n x) ≡ t → HoldsNamed T (cond t r (split_there n (Within b x) r))
     by_refusal true is = h
@@ -304,23 +304,23 @@ module _ (T : NamedBucket → Type 0) (p : Program) (choice : Choice) (r : Confi
   made_holds : (source : MadeFrom) → IfSome (made_of p r source) New
   made_holds source = grind (arith, made, on.named, held_at T r h, stands r, OfText, OfBuffer, OfNone)
 
-  insert_holds : (side : Side) (b c : ℕ) → HoldsNamed T (put_into (put_at side) b (spot r c) r)
-  insert_holds AtTail b c = put_holds T r on h put_tail (each_put_tail T) b (spot r c) (stands r (r.call.cursors c))
-  insert_holds AtHead b c = put_holds T r on h put_head (each_put_head T) b (spot r c) (stands r (r.call.cursors c))
+  insert_holds : (side : Side) (b c : ℕ) → HoldsNamed T (put_into (put_at side) b (at_cursor r c) r)
+  insert_holds AtTail b c = put_holds T r on h put_tail (each_put_tail T) b (at_cursor r c) (stands r (r.call.cursors c))
+  insert_holds AtHead b c = put_holds T r on h put_head (each_put_head T) b (at_cursor r c) (stands r (r.call.cursors c))
 
   pub leaves : (e : Effect) → is_quiet e ≡ true → HoldsNamed T (do_effect p choice e r)
   leaves effect.Nothing quiet = h
-  leaves (effect.SplitBrigade b c a) quiet = bsplit_holds T r on h b (spot r c) a
+  leaves (effect.SplitBrigade b c a) quiet = bsplit_holds T r on h b (at_cursor r c) a
   leaves (effect.PartBrigade b x c) quiet = part_holds T r on h b (value_of r x) c
   leaves (effect.First c b) quiet = cursor_holds T c _ r h
-  leaves (effect.Next d c) quiet = next_holds T r on h d (spot r c)
-  leaves (effect.Unlink c) quiet = unlink_holds T r on h (spot r c) (stands r (r.call.cursors c))
-  leaves (effect.Delete c) quiet = delete_holds T r on h (spot r c)
+  leaves (effect.Next d c) quiet = next_holds T r on h d (at_cursor r c)
+  leaves (effect.Unlink c) quiet = unlink_holds T r on h (at_cursor r c) (stands r (r.call.cursors c))
+  leaves (effect.Delete c) quiet = delete_holds T r on h (at_cursor r c)
   leaves (effect.Insert side b c) quiet = insert_holds side b c
-  leaves (effect.Before c d) quiet = before_holds T r on h (spot r c) (spot r d) (stands r (r.call.cursors c))
+  leaves (effect.Before c d) quiet = before_holds T r on h (at_cursor r c) (at_cursor r d) (stands r (r.call.cursors c))
   leaves (effect.Make c source) quiet = make_holds T r on h c (made_of p r source) (made_holds source)
-  leaves (effect.Split c x) quiet = split_holds T r on h (value_of r x) (spot r c) (stands r (r.call.cursors c))
-  leaves (effect.Read c) quiet = read_holds T r on h choice.given (spot r c) reads
+  leaves (effect.Split c x) quiet = split_holds T r on h (value_of r x) (at_cursor r c) (stands r (r.call.cursors c))
+  leaves (effect.Read c) quiet = read_holds T r on h choice.given (at_cursor r c) reads
   leaves (effect.Number n number) quiet = got_holds T r on h n (number_of r n number)
   leaves (effect.Put x) quiet = put_keeps (HoldsNamed T) x r h (λ buffer. buffer_holds T buffer r h)
   leaves effect.ClearBuffer quiet = buffer_holds T [] r h

@@ -15,7 +15,7 @@ use Rattle.run_model.specs.Pools.{is_under}
 use Rattle.run_model.specs.Buckets.{cleared_bucket}
 use Rattle.run_model.specs.Clearing.{is_reached, cleared_var, run_down}
 use Rattle.run_model.specs.State.{Configuration, is_passed, set_brigade, with_pools, pool_named}
-use Rattle.run_model.specs.Cursors.{Place, Nowhere, AtLoose, Within, AtEndOf, spot}
+use Rattle.run_model.specs.Cursors.{Place, Nowhere, AtLoose, Within, AtEndOf, at_cursor}
 use Rattle.run_model.specs.Faults.{Need, Anywhere, OnBucket, OnLoose, InBrigade, InThis, Want, WPool, WUsable, WCursor, wants, usable_fault, passed_fault, loose_fault, within_fault, end_fault}
 use Rattle.run_model.specs.Faults.{cursor_fault, new_fault, fault_want, first_fault, fault, or_else}
 use Rattle.run_model.specs.EffectOf.{effect_of}
@@ -68,7 +68,7 @@ cursor_told r f k (AtEndOf b) h used =
 
 use_told : (r : Configuration) (k : ℕ) (w : Want) → HoldsPassed (r.instance.brigades k) → wants_use r k w ≡ true → fault_want r w ≡ Some F7
 use_told r k (WUsable b) h used = ap (λ (j : ℕ). usable_fault (r.instance.brigades j)) (sym (eqb-true k b used)) ∙ passed_told (r.instance.brigades k) h
-use_told r k (WCursor c f) h used = cursor_told r f k (spot r c) h used
+use_told r k (WCursor c f) h used = cursor_told r f k (at_cursor r c) h used
 use_told r k w h used = absurd (cc)
 
 -- The faults of operands that may be told before.
@@ -131,16 +131,16 @@ end_told OnLoose b = inr refl
 end_told InBrigade b = inr refl
 end_told (InThis a) b = same_told (b == a)
 
-spot_told : (r : Configuration) (f : Need) (s : Place) → MayComeFirst (cursor_fault r f s)
+place_told : (r : Configuration) (f : Need) (s : Place) → MayComeFirst (cursor_fault r f s)
 unfolding cursor_fault
-spot_told r f Nowhere = inr refl
-spot_told r f (AtLoose x) = loose_told f
-spot_told r f (Within b x) = either_told _ _ (mark_told (r.instance.brigades b)) (within_told f b)
-spot_told r f (AtEndOf b) = either_told _ _ (mark_told (r.instance.brigades b)) (end_told f b)
+place_told r f Nowhere = inr refl
+place_told r f (AtLoose x) = loose_told f
+place_told r f (Within b x) = either_told _ _ (mark_told (r.instance.brigades b)) (within_told f b)
+place_told r f (AtEndOf b) = either_told _ _ (mark_told (r.instance.brigades b)) (end_told f b)
 
 operand_told : (r : Configuration) (w : Want) → is_operand w ≡ true → MayComeFirst (fault_want r w)
 operand_told r (WUsable b) h = usable_told (r.instance.brigades b)
-operand_told r (WCursor c f) h = spot_told r f (spot r c)
+operand_told r (WCursor c f) h = place_told r f (at_cursor r c)
 operand_told r w h = absurd (cc)
 
 -- Brigades and cursors are asked for before all else that stands with them.
@@ -276,7 +276,7 @@ both false false c h = absurd (cc)
 -- what an instruction changes, but for those of pools, for a new brigade and a clean, and for a return, it uses
 changed_used : (p : Program) (r : Configuration) (i : Instr) (k : ℕ) → is_remade i ≡ false → may_change r (effect_of i) k ≡ true → uses p r i k ≡ true
 changed_used p r (instr.BConcat a b) k plain h = both (k == a) (k == b) false h
-changed_used p r (instr.BSplit b c a) k plain h = split_used (k == b) (k == a) (is_at (spot r c) k) h where
+changed_used p r (instr.BSplit b c a) k plain h = split_used (k == b) (k == a) (is_at (at_cursor r c) k) h where
   split_used : (x y z : Bool) → (x || y) ≡ true → (x || (z || (y || false))) ≡ true
   split_used true y z h = refl
   split_used false true true h = refl
@@ -285,14 +285,14 @@ changed_used p r (instr.BSplit b c a) k plain h = split_used (k == b) (k == a) (
 changed_used p r (instr.BPart b x c l) k plain h = first (k == b) _ h
 changed_used p r (instr.BSave o b) k plain h = both (k == o) (k == b) false h
 changed_used p r (instr.Pass b l) k plain h = first (k == b) _ h
-changed_used p r (instr.Unlink c) k plain h = first (is_at (spot r c) k) _ (within_at (spot r c) k h)
-changed_used p r (instr.BDelete c) k plain h = first (is_at (spot r c) k) _ (within_at (spot r c) k h)
+changed_used p r (instr.Unlink c) k plain h = first (is_at (at_cursor r c) k) _ (within_at (at_cursor r c) k h)
+changed_used p r (instr.BDelete c) k plain h = first (is_at (at_cursor r c) k) _ (within_at (at_cursor r c) k h)
 changed_used p r (instr.Tail b c) k plain h = first (k == b) _ h
 changed_used p r (instr.Head b c) k plain h = first (k == b) _ h
-changed_used p r (instr.Before c d) k plain h = or_right (is_at (spot r c) k) _ (first (is_at (spot r d) k) _ (within_at (spot r d) k h))
-changed_used p r (instr.Split c x l) k plain h = first (is_at (spot r c) k) _ (within_at (spot r c) k h)
-changed_used p r (instr.Aside c q) k plain h = first (is_at (spot r c) k) _ (within_at (spot r c) k h)
-changed_used p r (instr.Read c l) k plain h = first (is_at (spot r c) k) _ (within_at (spot r c) k h)
+changed_used p r (instr.Before c d) k plain h = or_right (is_at (at_cursor r c) k) _ (first (is_at (at_cursor r d) k) _ (within_at (at_cursor r d) k h))
+changed_used p r (instr.Split c x l) k plain h = first (is_at (at_cursor r c) k) _ (within_at (at_cursor r c) k h)
+changed_used p r (instr.Aside c q) k plain h = first (is_at (at_cursor r c) k) _ (within_at (at_cursor r c) k h)
+changed_used p r (instr.Read c l) k plain h = first (is_at (at_cursor r c) k) _ (within_at (at_cursor r c) k h)
 changed_used p r i k plain h = absurd (cc)
 
 -- so a step without a fault leaves a passed brigade as it is

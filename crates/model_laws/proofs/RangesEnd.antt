@@ -14,7 +14,7 @@ use Rattle.run_model.specs.Pieces.{bucket_of, named_from, has_range, lacks_file}
 use Rattle.model_laws.specs.RangesEnd.{RangesEnd, StepKeepsEnds, PieceEnds, LengthsEnd}
 use Rattle.model_laws.proofs.StepFiles.{neither}
 use Rattle.run_model.proofs.References.{one_of}
-use Rattle.model_laws.proofs.Origins.{Each, PassesParts, Holds}
+use Rattle.model_laws.proofs.Origins.{EachBucketIs, PassesParts, Holds}
 use Rattle.model_laws.proofs.Contents.{step_contents}
 
 -- Parts of a bucket.
@@ -49,7 +49,7 @@ piece_ends : (call req : ℕ) (x : Piece) → PieceEnds x → Ends (bucket_of ca
 piece_ends call req (piece.File file start len) h = h
 piece_ends call req x h = tt
 
-pub pieces_end : (call req n : ℕ) (xs : List Piece) → All PieceEnds xs → Each Ends (named_from (bucket_of call req) n xs)
+pub pieces_end : (call req n : ℕ) (xs : List Piece) → All PieceEnds xs → EachBucketIs Ends (named_from (bucket_of call req) n xs)
 pieces_end call req n [] all = All-nil (λ x. Ends x.bucket)
 pieces_end call req n (x ∷ xs) all =
     All-cons (λ x. Ends x.bucket) _ (named_from (bucket_of call req) (n + 1) xs) (piece_ends call req x (All-head PieceEnds x xs all)) (pieces_end call req (n + 1) xs (All-tail PieceEnds x xs all))

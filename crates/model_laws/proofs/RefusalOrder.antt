@@ -84,7 +84,7 @@ abbrev NoneBelow : Tests → ℕ → Type 0
 NoneBelow t n = (s : Refusal) → place s < n → TestHolds t s → ⊥
 
 -- what is told is due, and where nothing is told no test holds
-record Tells (t : Tests) (o : Option Refusal) : Type 0 where
+record TellsFirstRefusal (t : Tests) (o : Option Refusal) : Type 0 where
   sound : (r : Refusal) → o ≡ Some r → IsFirstRefusal t r
   none : o ≡ None → NoneBelow t 11
 
@@ -94,7 +94,7 @@ one_more t q ne below fails = λ s lt h. elim (cases_eq (place s) (place q)) [
   | inr apart ↦ below s (omega (arith, apart)) h
 ]
 
-due : (t : Tests) (q : Refusal) → IsFirstRefusal t q → Tells t (Some q)
+due : (t : Tests) (q : Refusal) → IsFirstRefusal t q → TellsFirstRefusal t (Some q)
 due t q first = record { sound = λ r e. (let same : q ≡ r = cc in subst (IsFirstRefusal t) same first); none = λ e. absurd (cc) }
 
 -- the first of two that is there
@@ -111,15 +111,15 @@ first_is [] = refl
 first_is (None ∷ ts) = first_is ts
 first_is (Some r ∷ ts) = refl
 
-row : (t : Tests) (q : Refusal) (b : Bool) (o : Option Refusal) → place q ≢ 1 → (b ≡ true → TestHolds t q) → (TestHolds t q → b ≡ true) → (NoneBelow t (place q + 1) → Tells t o)
-    → NoneBelow t (place q) → Tells t (first_of (refused_if b q) o)
+row : (t : Tests) (q : Refusal) (b : Bool) (o : Option Refusal) → place q ≢ 1 → (b ≡ true → TestHolds t q) → (TestHolds t q → b ≡ true) → (NoneBelow t (place q + 1) → TellsFirstRefusal t o)
+    → NoneBelow t (place q) → TellsFirstRefusal t (first_of (refused_if b q) o)
 row t q true o ne means only rest below = due t q (record { holds = means refl; first = below })
 row t q false o ne means only rest below = rest (one_more t q ne below (λ h. (let no : false ≡ true = only h in cc)))
 
-no_conn_row : (t : Tests) (o : Option Refusal) → (NoneBelow t 1 → Tells t o) → Tells t (first_of (refused_if t.no_such_conn refusal.NoSuchConn) o)
+no_conn_row : (t : Tests) (o : Option Refusal) → (NoneBelow t 1 → TellsFirstRefusal t o) → TellsFirstRefusal t (first_of (refused_if t.no_such_conn refusal.NoSuchConn) o)
 no_conn_row t o rest = row t refusal.NoSuchConn t.no_such_conn o (omega arith) (λ h. h) (λ h. h) rest (λ s lt h. absurd (omega arith))
 
-broken_row : (t : Tests) (b : Option Cause) (o : Option Refusal) → t.broken ≡ b → (NoneBelow t 2 → Tells t o) → NoneBelow t 1 → Tells t (first_of (if_broken b) o)
+broken_row : (t : Tests) (b : Option Cause) (o : Option Refusal) → t.broken ≡ b → (NoneBelow t 2 → TellsFirstRefusal t o) → NoneBelow t 1 → TellsFirstRefusal t (first_of (if_broken b) o)
 broken_row t None o is rest below = rest (λ s lt h. none s lt h) where
   none : (s : Refusal) → place s < 2 → TestHolds t s → ⊥
   none refusal.NoSuchConn lt h = below refusal.NoSuchConn (omega arith) h
@@ -128,7 +128,7 @@ broken_row t None o is rest below = rest (λ s lt h. none s lt h) where
 broken_row t (Some k) o is rest below = due t (refusal.Broken k) (record { holds = is; first = below })
 
 walk : (t : Tests)
-    → Tells t (firsts (refused_if t.no_such_conn refusal.NoSuchConn ∷ if_broken t.broken ∷ refused_if t.busy refusal.Busy ∷ refused_if t.idle refusal.Idle ∷ refused_if t.in_request
+    → TellsFirstRefusal t (firsts (refused_if t.no_such_conn refusal.NoSuchConn ∷ if_broken t.broken ∷ refused_if t.busy refusal.Busy ∷ refused_if t.idle refusal.Idle ∷ refused_if t.in_request
     refusal.InRequest ∷ refused_if t.not_in_request refusal.NotInRequest
     ∷ refused_if t.data_after_eos refusal.DataAfterEos ∷ refused_if t.no_file refusal.NoFile ∷ refused_if t.file_failed refusal.FileFailed ∷ refused_if t.names_spent refusal.NamesSpent ∷ refused_if
     t.no_memory refusal.NoMemory ∷ []))
@@ -147,8 +147,8 @@ walk t =
     (λ below. record { sound = λ r e. absurd (cc); none = λ e. below })))))))))))
 
 -- the tests of an event are told in their order
-in_order : (t : Tests) (ts : List (Option Refusal)) → Tells t (firsts ts) → Tells t (first_refusal ts)
-in_order t ts tells = subst (Tells t) (first_is ts) tells
+in_order : (t : Tests) (ts : List (Option Refusal)) → TellsFirstRefusal t (firsts ts) → TellsFirstRefusal t (first_refusal ts)
+in_order t ts tells = subst (TellsFirstRefusal t) (first_is ts) tells
 
 -- Answers.
 
@@ -168,7 +168,7 @@ first_is_one t q r here there = elim (cases_lt (place q) (place r)) [
 abbrev Exact : Tests → Answer → Refusal → Type 0
 Exact t a r = (a ≡ Refused r → IsFirstRefusal t r) × (IsFirstRefusal t r → a ≡ Refused r)
 
-exact : (t : Tests) (a : Answer) (o : Option Refusal) → Tells t o → ((r : Refusal) → o ≡ Some r → a ≡ Refused r) → (o ≡ None → is_refused a ≡ false) → (r : Refusal) → Exact t a r
+exact : (t : Tests) (a : Answer) (o : Option Refusal) → TellsFirstRefusal t o → ((r : Refusal) → o ≡ Some r → a ≡ Refused r) → (o ≡ None → is_refused a ≡ false) → (r : Refusal) → Exact t a r
 exact t a None tells told done r =
     (λ e. absurd (let no : is_refused a ≡ false = done refl in let yes : is_refused a ≡ true = ap is_refused e in cc), λ first. absurd (tells.none refl r (below_eleven r) first.holds))
 exact t a (Some q) tells told done r =
@@ -177,12 +177,12 @@ exact t a (Some q) tells told done r =
     (λ e. (let same : q ≡ r = cc in subst (IsFirstRefusal t) same first), λ other. is ∙ ap Refused (first_is_one t q r first other))
 
 -- an event that is refused or happens
-refused_or_done : (t : Tests) (o : Option Refusal) (k : ℕ) (w : World) (old new : Linked) → Tells t o → (r : Refusal) → Exact t (answered k w (unless_refused o old new)).0 r
+refused_or_done : (t : Tests) (o : Option Refusal) (k : ℕ) (w : World) (old new : Linked) → TellsFirstRefusal t o → (r : Refusal) → Exact t (answered k w (unless_refused o old new)).0 r
 refused_or_done t o k w old new tells r =
     exact t _ o tells (λ q e. ap (λ (x : Option Refusal). (answered k w (unless_refused x old new)).0) e) (λ e. ap (λ (x : Option Refusal). is_refused (answered k w (unless_refused x old new)).0) e) r
 
 -- a file is opened where it is there, the device does not fail, and a request is open
-file_or_refused : (t : Tests) (o : Option Refusal) (req : Option ℕ) (opening : Opening) (k : ℕ) (w : World) (v : Linked) → Tells t o
+file_or_refused : (t : Tests) (o : Option Refusal) (req : Option ℕ) (opening : Opening) (k : ℕ) (w : World) (v : Linked) → TellsFirstRefusal t o
     → (o ≡ None → (is_some req ≡ true) × (is_missing opening ≡ false) × (is_failing opening ≡ false)) → (r : Refusal) → Exact t (file_answered k w (file_answer o req opening v)).0 r
 file_or_refused t o req opening k w v tells there r =
     exact t _ o tells (λ q e. ap (λ (x : Option Refusal). (file_answered k w (file_answer x req opening v)).0) e)
@@ -202,13 +202,13 @@ from_not : (b : Bool) → (not b ≡ true → ⊥) → b ≡ true
 from_not true h = refl
 from_not false h = absurd (h refl)
 
-never_refused : (t : Tests) (a : Answer) → Tells t None → is_refused a ≡ false → (r : Refusal) → Exact t a r
+never_refused : (t : Tests) (a : Answer) → TellsFirstRefusal t None → is_refused a ≡ false → (r : Refusal) → Exact t a r
 never_refused t a tells done r = exact t a None tells (λ q e. absurd (cc)) (λ e. done) r
 
-no_memory_told : (t : Tests) (r : Refusal) → Tells t (Some refusal.NoMemory) → Exact t (Refused refusal.NoMemory) r
+no_memory_told : (t : Tests) (r : Refusal) → TellsFirstRefusal t (Some refusal.NoMemory) → Exact t (Refused refusal.NoMemory) r
 no_memory_told t r tells = exact t (Refused refusal.NoMemory) (Some refusal.NoMemory) tells (λ q e. (let same : refusal.NoMemory ≡ q = cc in ap Refused same)) (λ e. absurd (cc)) r
 
-no_conn_told : (t : Tests) (r : Refusal) → Tells t (Some refusal.NoSuchConn) → Exact t (Refused refusal.NoSuchConn) r
+no_conn_told : (t : Tests) (r : Refusal) → TellsFirstRefusal t (Some refusal.NoSuchConn) → Exact t (Refused refusal.NoSuchConn) r
 no_conn_told t r tells = exact t (Refused refusal.NoSuchConn) (Some refusal.NoSuchConn) tells (λ q e. (let same : refusal.NoSuchConn ≡ q = cc in ap Refused same)) (λ e. absurd (cc)) r
 
 module _ (told : Told) (w : World) (r : Refusal) where
@@ -330,7 +330,7 @@ only_memory_refuses_close memory budget chain told k c w r at e = by_memory memo
 
 -- Steps.
 
-first_told : (t : Tests) (o : Option Refusal) (r : Refusal) → Tells t o → IsFirstRefusal t r → o ≡ Some r
+first_told : (t : Tests) (o : Option Refusal) (r : Refusal) → TellsFirstRefusal t o → IsFirstRefusal t r → o ≡ Some r
 first_told t None r tells first = absurd (tells.none refl r (below_eleven r) first.holds)
 first_told t (Some q) r tells first = ap (λ (x : Refusal). Some x) (first_is_one t q r (tells.sound q refl) first)
 

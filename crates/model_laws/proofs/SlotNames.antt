@@ -27,23 +27,23 @@ use Rattle.run_model.specs.Sound.{NamesStep, sum_below, count_named, count}
 use Rattle.run_model.proofs.Sums.{sum_below_upd}
 use Rattle.run_model.proofs.Names.{count_none, count_append, count_cons, count_map, Carried, carried_same, filled_carried, filled_items, at_each}
 use Rattle.model_laws.proofs.BrigadeLists.{brigade_splits_in_order, moves_keep_names, split_keeps_bytes, partition_keeps_bytes, unsplit_is_unchanged}
-use Rattle.run_model.proofs.Spots.{Stands}
+use Rattle.run_model.proofs.CursorPlaces.{StandsThere}
 
 -- How many buckets a name may have, where `old` had it and the names from `from` to `to` are given out.
-pub record Rises (from to n old new : ℕ) : Type 0 where
+pub record CountRises (from to n old new : ℕ) : Type 0 where
   pub kept : n < from → new ≤ old
   pub given : new ≤ old + 1
   pub later : to ≤ n → new ≤ old
 
-pub no_more : (from to n old new : ℕ) → new ≤ old → Rises from to n old new
+pub no_more : (from to n old new : ℕ) → new ≤ old → CountRises from to n old new
 no_more from to n old new le = record { kept = λ lt. le; given = omega arith; later = λ above. le }
 
-pub one_more : (from to n old new : ℕ) → from ≤ n → n < to → new ≤ old + 1 → Rises from to n old new
+pub one_more : (from to n old new : ℕ) → from ≤ n → n < to → new ≤ old + 1 → CountRises from to n old new
 one_more from to n old new low high le = record { kept = λ lt. absurd (omega arith); given = le; later = λ above. absurd (omega arith) }
 
 -- Where brigades keep their names, and of each name there are so many buckets.
 pub rising_names : (r new : Configuration) → ((b : ℕ) → Carried (r.instance.brigades b) (new.instance.brigades b)) → r.shared.next ≤ new.shared.next → new.shared.next < 2 ^ 64
-    → ((n : ℕ) → Rises r.shared.next new.shared.next n (count r n) (count new n)) → NamesStep r new
+    → ((n : ℕ) → CountRises r.shared.next new.shared.next n (count r n) (count new n)) → NamesStep r new
 rising_names r new carried rises limit counts = record {
   rises = rises;
   limit = limit;
@@ -96,25 +96,25 @@ before_counts : (at : ℕ) → AddsOne (put_before at)
 before_counts at x bs n = moves_keep_names.before at x bs n ∙ count_cons n x bs
 
 -- a bucket is taken out of its brigade
-slot_taken : (n b : ℕ) (x : NamedBucket) (r : Configuration) → Stands r (Within b x) → count (set_items b (taken_out x.name (items_at r b)) r) n + cond (x.name == n) 1 0 ≤ count r n
+slot_taken : (n b : ℕ) (x : NamedBucket) (r : Configuration) → StandsThere r (Within b x) → count (set_items b (taken_out x.name (items_at r b)) r) n + cond (x.name == n) 1 0 ≤ count r n
 slot_taken n b x r at =
     let slot : count (set_items b (taken_out x.name (items_at r b)) r) n + count_named n (items_at r b) ≤ count r n + count_named n
     (taken_out x.name (items_at r b)) = slot_counts b (taken_out x.name (items_at r b)) r n at.0 in
     omega (arith, slot, taken_counts n x (items_at r b) at.1)
 
-pub unlink_names : (s : Place) (r : Configuration) → Stands r s → r.shared.next < 2 ^ 64 → NamesStep r (do_unlink s r)
+pub unlink_names : (s : Place) (r : Configuration) → StandsThere r s → r.shared.next < 2 ^ 64 → NamesStep r (do_unlink s r)
 unfolding set_brigade set_loose
 unlink_names (Within b x) r at limit =
     rising_names r _ (slot_carried b (taken_out x.name (items_at r b)) r) (omega arith) limit (λ n. no_more _ _ n _ _ (omega (arith, slot_taken n b x r at, tail_counts x r.call.loose n)))
 unlink_names s r at limit = rising_names r r (all_carried r) (omega arith) limit (λ n. no_more _ _ n _ _ (omega arith))
 
-pub delete_names : (s : Place) (r : Configuration) → Stands r s → r.shared.next < 2 ^ 64 → NamesStep r (do_delete s r)
+pub delete_names : (s : Place) (r : Configuration) → StandsThere r s → r.shared.next < 2 ^ 64 → NamesStep r (do_delete s r)
 unfolding set_brigade set_loose
 delete_names (Within b x) r at limit = rising_names r _ (slot_carried b (taken_out x.name (items_at r b)) r) (omega arith) limit (λ n. no_more _ _ n _ _ (omega (arith, slot_taken n b x r at)))
 delete_names (AtLoose x) r at limit = rising_names r _ (all_carried r) (omega arith) limit (λ n. no_more _ _ n _ _ (omega (arith, taken_counts n x r.call.loose at)))
 delete_names s r at limit = rising_names r r (all_carried r) (omega arith) limit (λ n. no_more _ _ n _ _ (omega arith))
 
-put_names : (insert : NamedBucket → List NamedBucket → List NamedBucket) (b : ℕ) (s : Place) (r : Configuration) → AddsOne insert → b < 9 → Stands r s → r.shared.next < 2 ^ 64
+put_names : (insert : NamedBucket → List NamedBucket → List NamedBucket) (b : ℕ) (s : Place) (r : Configuration) → AddsOne insert → b < 9 → StandsThere r s → r.shared.next < 2 ^ 64
     → NamesStep r (put_into insert b s r)
 unfolding set_brigade set_loose
 put_names insert b (AtLoose x) r adds lt at limit =
@@ -127,11 +127,11 @@ put_names insert b (AtLoose x) r adds lt at limit =
           omega (arith, slot, taken_counts n x r.call.loose at, adds x (items_at r b) n)
 put_names insert b s r adds lt at limit = rising_names r r (all_carried r) (omega arith) limit (λ n. no_more _ _ n _ _ (omega arith))
 
-pub insert_names : (side : Side) (b : ℕ) (s : Place) (r : Configuration) → b < 9 → Stands r s → r.shared.next < 2 ^ 64 → NamesStep r (put_into (put_at side) b s r)
+pub insert_names : (side : Side) (b : ℕ) (s : Place) (r : Configuration) → b < 9 → StandsThere r s → r.shared.next < 2 ^ 64 → NamesStep r (put_into (put_at side) b s r)
 insert_names AtTail b s r lt at limit = put_names put_tail b s r tail_counts lt at limit
 insert_names AtHead b s r lt at limit = put_names put_head b s r head_counts lt at limit
 
-pub before_names : (s t : Place) (r : Configuration) → Stands r s → Stands r t → r.shared.next < 2 ^ 64 → NamesStep r (do_before s t r)
+pub before_names : (s t : Place) (r : Configuration) → StandsThere r s → StandsThere r t → r.shared.next < 2 ^ 64 → NamesStep r (do_before s t r)
 before_names s (Within b y) r at there limit = put_names (put_before y.name) b s r (before_counts y.name) there.0 at limit
 before_names s t r at there limit = rising_names r r (all_carried r) (omega arith) limit (λ n. no_more _ _ n _ _ (omega arith))
 
@@ -163,28 +163,28 @@ bsplit_names b place a r lt below limit = rising_names r _ carried (omega arith)
 
 -- the buckets of b become these, of which the new name is one's at most
 remade_names : (b names : ℕ) (items : List NamedBucket) (r : Configuration) → b < 9 → r.shared.next + names < 2 ^ 64
-    → ((n : ℕ) → Rises r.shared.next (r.shared.next + names) n (count_named n (items_at r b)) (count_named n items)) → NamesStep r (set_items b items (names_given names r))
+    → ((n : ℕ) → CountRises r.shared.next (r.shared.next + names) n (count_named n (items_at r b)) (count_named n items)) → NamesStep r (set_items b items (names_given names r))
 unfolding set_brigade
 remade_names b names items r lt limit same =
     rising_names r (set_items b items (names_given names r)) (slot_carried b items r) (omega arith) limit (λ n. remade n (same n) (slot_counts b items r n lt)) where
-      remade : (n : ℕ) → Rises r.shared.next (r.shared.next + names) n (count_named n (items_at r b)) (count_named n items)
+      remade : (n : ℕ) → CountRises r.shared.next (r.shared.next + names) n (count_named n (items_at r b)) (count_named n items)
           → count (set_items b items r) n + count_named n (items_at r b) ≤ count r n + count_named n items
-          → Rises r.shared.next (r.shared.next + names) n (count r n) (count (set_items b items r) n)
+          → CountRises r.shared.next (r.shared.next + names) n (count r n) (count (set_items b items r) n)
       remade n h slot = record {
         kept = λ lt. (let less : count_named n items ≤ count_named n (items_at r b) = h.kept lt in omega arith);
         given = (let less : count_named n items ≤ count_named n (items_at r b) + 1 = h.given in omega arith);
         later = λ le. (let less : count_named n items ≤ count_named n (items_at r b) = h.later le in omega arith);
       }
 
-same_rises : (new n : ℕ) (old left : List NamedBucket) → SameBytes new old left → Rises new (new + 1) n (count_named n old) (count_named n left)
+same_rises : (new n : ℕ) (old left : List NamedBucket) → SameBytes new old left → CountRises new (new + 1) n (count_named n old) (count_named n left)
 same_rises new n old left s = elim (eqb_tells n new) [
   | inl p ↦ one_more _ _ n _ _ (omega (arith, p.1)) (omega (arith, p.1)) (subst (λ (k : ℕ). count_named k left ≤ count_named k old + 1) (sym p.1) s.one)
   | inr p ↦ no_more _ _ n _ _ (omega (arith, s.others n p.1))
 ]
 
-pub part_rises : (new point n : ℕ) (bs : List NamedBucket) → Rises new (new + names_to_part point bs) n (count_named n bs) (count_named n (partitioned new point bs))
+pub part_rises : (new point n : ℕ) (bs : List NamedBucket) → CountRises new (new + names_to_part point bs) n (count_named n bs) (count_named n (partitioned new point bs))
 part_rises new point n bs = by_across (bucket_across point bs) refl where
-  by_across : (o : Option NamedBucket) → bucket_across point bs ≡ o → Rises new (new + names_if (is_some o)) n (count_named n bs) (count_named n (partitioned new point bs))
+  by_across : (o : Option NamedBucket) → bucket_across point bs ≡ o → CountRises new (new + names_if (is_some o)) n (count_named n bs) (count_named n (partitioned new point bs))
   by_across None is = no_more _ _ n _ _ (omega (arith, ap (count_named n) (unsplit_is_unchanged new point bs is)))
   by_across (Some b) is = same_rises new n bs (partitioned new point bs) (partition_keeps_bytes new point bs)
 
@@ -194,7 +194,7 @@ bpart_names b point c r lt limit =
 
 -- Buckets that are split, read, set aside and made.
 
-pub split_names : (n : ℕ) (s : Place) (r : Configuration) → Stands r s → r.shared.next + names_to_split n s < 2 ^ 64 → NamesStep r (do_split n s r)
+pub split_names : (n : ℕ) (s : Place) (r : Configuration) → StandsThere r s → r.shared.next + names_to_split n s < 2 ^ 64 → NamesStep r (do_split n s r)
 unfolding set_brigade
 split_names n (Within b x) r at limit = by_refusal (split_refusal n x) refl limit where
   by_refusal : (o : Option SplitRefusal) → split_refusal n x ≡ o → r.shared.next + cond (is_some o) 0 1 < 2 ^ 64 → NamesStep r (cond (is_some o) r (split_there n (Within b x) r))
@@ -208,12 +208,12 @@ at_most true = omega arith
 at_most false = omega arith
 
 -- the rest of a read has the new name, where there is one
-rest_rises : (new n : ℕ) (bytes : List ℕ) (b : Bucket) → Rises new (new + names_if (has_rest b.content)) n 0 (count_named n (rest_named new (read_of bytes b).1))
+rest_rises : (new n : ℕ) (bytes : List ℕ) (b : Bucket) → CountRises new (new + names_if (has_rest b.content)) n 0 (count_named n (rest_named new (read_of bytes b).1))
 rest_rises new n bytes b = of_content b.content where
-  none : (to : ℕ) → Rises new to n 0 (count_named n [])
+  none : (to : ℕ) → CountRises new to n 0 (count_named n [])
   none to = no_more _ _ n _ _ (omega (arith, count_none n))
 
-  one : (rest : Bucket) → Rises new (new + 1) n 0 (count_named n (record { name = new; bucket = rest } ∷ []))
+  one : (rest : Bucket) → CountRises new (new + 1) n 0 (count_named n (record { name = new; bucket = rest } ∷ []))
   one rest = elim (eqb_tells n new) [
     | inl p ↦ one_more _ _ n _ _ (omega (arith, p.1)) (omega (arith, p.1)) (omega (arith, at_most (new == n), count_cons n (record { name = new; bucket = rest }) [], count_none n))
     | inr p ↦ no_more _ _ n _ _ (let other : ◌≡◌ {A = ℕ} (cond (new == n) 1 0) 0 = ap (λ (c : Bool). cond c 1 0) (ne_eqb new n (λ e. p.1 (sym e))) in
@@ -223,11 +223,11 @@ rest_rises new n bytes b = of_content b.content where
   longer : (len limit : ℕ) → nat_le len limit ≡ false → nat_lt limit len ≡ true
   longer len limit is = grind (arith, nat_tests)
 
-  of_length : (len : ℕ) (rest : Bucket) (c : Bool) → nat_le len read_limit ≡ c → Rises new (new + names_if (nat_lt read_limit len)) n 0 (count_named n (rest_named new (cond c None (Some rest))))
+  of_length : (len : ℕ) (rest : Bucket) (c : Bool) → nat_le len read_limit ≡ c → CountRises new (new + names_if (nat_lt read_limit len)) n 0 (count_named n (rest_named new (cond c None (Some rest))))
   of_length len rest true is = none _
-  of_length len rest false is = subst (λ (t : Bool). Rises new (new + names_if t) n 0 (count_named n (record { name = new; bucket = rest } ∷ []))) (sym (longer len read_limit is)) (one rest)
+  of_length len rest false is = subst (λ (t : Bool). CountRises new (new + names_if t) n 0 (count_named n (record { name = new; bucket = rest } ∷ []))) (sym (longer len read_limit is)) (one rest)
 
-  of_content : (c : Content) → Rises new (new + names_if (has_rest c)) n 0 (count_named n (rest_named new (read_as bytes b c).1))
+  of_content : (c : Content) → CountRises new (new + names_if (has_rest c)) n 0 (count_named n (rest_named new (read_as bytes b c).1))
   of_content (content.Bytes bs) = none _
   of_content (content.Range file start len) = of_length len _ (nat_le len read_limit) refl
   of_content content.Nothing = none _
@@ -256,12 +256,12 @@ read_counts new n bytes x bs is = omega (
         count_cons n y ys,
       )
 
-pub read_names : (given : Option (List ℕ)) (s : Place) (r : Configuration) → Stands r s → r.shared.next + names_to_read s < 2 ^ 64 → NamesStep r (do_read given s r)
+pub read_names : (given : Option (List ℕ)) (s : Place) (r : Configuration) → StandsThere r s → r.shared.next + names_to_read s < 2 ^ 64 → NamesStep r (do_read given s r)
 read_names given (Within b x) r at limit = by_given (read_given given x.bucket.content) where
   rises : (bytes : List ℕ) (n : ℕ)
-      → Rises r.shared.next (r.shared.next + names_if (has_rest x.bucket.content)) n (count_named n (items_at r b)) (count_named n (bucket_read r.shared.next x.name bytes (items_at r b)))
+      → CountRises r.shared.next (r.shared.next + names_if (has_rest x.bucket.content)) n (count_named n (items_at r b)) (count_named n (bucket_read r.shared.next x.name bytes (items_at r b)))
   rises bytes n =
-      let h : Rises r.shared.next (r.shared.next + names_if (has_rest x.bucket.content)) n 0 (count_named n (rest_named r.shared.next (read_of bytes x.bucket).1)) =
+      let h : CountRises r.shared.next (r.shared.next + names_if (has_rest x.bucket.content)) n 0 (count_named n (rest_named r.shared.next (read_of bytes x.bucket).1)) =
       rest_rises r.shared.next n bytes x.bucket in
       let all : count_named n (bucket_read r.shared.next x.name bytes (items_at r b)) ≡ count_named n (items_at r b) + count_named n (rest_named r.shared.next (read_of bytes x.bucket).1) =
       read_counts r.shared.next n bytes x (items_at r b) at.1 in
@@ -282,7 +282,7 @@ pub new_names : (c : ℕ) (b : Bucket) (r : Configuration) → r.shared.next + 1
 unfolding set_loose
 new_names c b r limit = cursor_names c (cursor.At r.shared.next) r _
     (rising_names r (set_loose (put_tail (record { name = r.shared.next; bucket = b }) r.call.loose) (name_given r)) (all_carried r) (omega arith) limit rises) where
-      rises : (n : ℕ) → Rises r.shared.next (r.shared.next + 1) n (count r n) (count (set_loose (put_tail (record { name = r.shared.next; bucket = b }) r.call.loose) (name_given r)) n)
+      rises : (n : ℕ) → CountRises r.shared.next (r.shared.next + 1) n (count r n) (count (set_loose (put_tail (record { name = r.shared.next; bucket = b }) r.call.loose) (name_given r)) n)
       rises n =
           let all : count_named n (put_tail (record { name = r.shared.next; bucket = b }) r.call.loose) ≡ cond (r.shared.next == n) 1 0 + count_named n r.call.loose =
           tail_counts (record { name = r.shared.next; bucket = b }) r.call.loose n in
@@ -304,7 +304,7 @@ changed_counts at n change same bs = count_map n (λ b. cond (b.name == at) (cha
   by_name b true = same b
   by_name b false = refl
 
-pub aside_names : (s : Place) (target : ℕ) (r : Configuration) → Stands r s → r.shared.next < 2 ^ 64 → NamesStep r (aside_into s target r)
+pub aside_names : (s : Place) (target : ℕ) (r : Configuration) → StandsThere r s → r.shared.next < 2 ^ 64 → NamesStep r (aside_into s target r)
 unfolding set_brigade set_loose with_pools
 aside_names (Within b x) target r at limit =
     rising_names r _ (slot_carried b (changed_at x.name (aside_named r.shared.pools target) (items_at r b)) r) (omega arith) limit (λ n. no_more _ _ n _ _ (fewer n)) where

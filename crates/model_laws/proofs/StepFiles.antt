@@ -36,7 +36,7 @@ use Rattle.run_model.specs.Steps.{label_killed, text_of, is_above, aside_named, 
 use Rattle.run_model.specs.Pieces.{has_range}
 use Rattle.run_model.specs.Sound.{SoundPools, SoundBuckets, Sound, count_named}
 use Rattle.run_model.specs.BrigadeLists.{bucket_named}
-use Rattle.run_model.specs.Cursors.{Place, Nowhere, AtLoose, Within, AtEndOf, bucket_at, spot}
+use Rattle.run_model.specs.Cursors.{Place, Nowhere, AtLoose, Within, AtEndOf, bucket_at, at_cursor}
 use Rattle.run_model.specs.BucketSteps.{items_at, changed_at, aside_into}
 use Rattle.model_laws.specs.Laws.{changes_pools, is_clear, ChangesOnly, HasReference, SoundFiles, StepKeepsFiles}
 use Rattle.run_model.specs.Holding.{refers}
@@ -45,7 +45,7 @@ use Rattle.run_model.specs.declared.effect.ClearKind.TheVariants.{Clear, Destroy
 use Rattle.run_model.specs.Effects.{after_clear}
 use Rattle.model_laws.proofs.PoolsGone.{on_emptied}
 use Rattle.model_laws.proofs.NamedPools.{on_named, made_under_named, own_named}
-use Rattle.run_model.proofs.Spots.{Stands, stands}
+use Rattle.run_model.proofs.CursorPlaces.{StandsThere, stands}
 use Rattle.run_model.proofs.EachBucket.{of_named, each_changed, only_one, loose_once, brigade_once}
 use Rattle.model_laws.proofs.Origins.{PassesOn, Holds, front_back, rest_back, made_apart, quiet_leaves}
 use Rattle.model_laws.proofs.Unchanged.{step_changes_only}
@@ -353,7 +353,7 @@ aside_refs ps target x Q each fit live held p file h = elim (all_back target (fi
       (All-cons (HasReference ps) x [] held (none (HasReference ps))) asked
 ]
 
-aside_files : (files : List (ℕ × ℕ)) (s : Place) (target : ℕ) (r : Configuration) → Stands r s → home_fault (bucket_at s) ≡ None → Sound r → SoundFiles files r
+aside_files : (files : List (ℕ × ℕ)) (s : Place) (target : ℕ) (r : Configuration) → StandsThere r s → home_fault (bucket_at s) ≡ None → Sound r → SoundFiles files r
     → SoundFiles files (aside_into s target r)
 unfolding set_brigade set_loose with_pools
 aside_files files Nowhere target r there live sound held = held
@@ -380,9 +380,10 @@ aside_files files (Within b x) target r there live sound held =
 aside_files files (AtEndOf b) target r there live sound held = held
 
 -- what the wants of an instruction that sets aside leave
-pub aside_live : (r : Configuration) (c : ℕ) (q : PoolRef) → or_else (fault_want r (WCursor c OnBucket)) (or_else (fault_want r (WPool q)) (or_else (home_fault (bucket_at (spot r c))) None)) ≡ None
-    → home_fault (bucket_at (spot r c)) ≡ None
-aside_live r c q h = first_none (home_fault (bucket_at (spot r c))) None (second_none (fault_want r (WPool q)) _ (second_none (fault_want r (WCursor c OnBucket)) _ h))
+pub aside_live : (r : Configuration) (c : ℕ) (q : PoolRef)
+    → or_else (fault_want r (WCursor c OnBucket)) (or_else (fault_want r (WPool q)) (or_else (home_fault (bucket_at (at_cursor r c))) None)) ≡ None
+    → home_fault (bucket_at (at_cursor r c)) ≡ None
+aside_live r c q h = first_none (home_fault (bucket_at (at_cursor r c))) None (second_none (fault_want r (WPool q)) _ (second_none (fault_want r (WCursor c OnBucket)) _ h))
 
 -- Parts of ranges are held, and no bucket that is made is a range.
 
@@ -416,8 +417,8 @@ step_files p choice (instr.BSave o b) files r may s held = on_named (SoundFiles 
     (no_dead (items_of (r.instance.brigades b)) (first_none (homes_fault (items_of (r.instance.brigades b))) None
     (second_none (usable_fault (r.instance.brigades b)) _ (second_none (usable_fault (r.instance.brigades o)) _ may.faultless)))) held)
 step_files p choice (instr.Pass b l) files r may s held = pass_files files b r held
-step_files p choice (instr.Aside c q) files r may s held = on_named (SoundFiles files) (aside_into (spot r c)) (pool_named r q) r held
-    (λ target e. aside_files files (spot r c) target r (stands r (r.call.cursors c)) (aside_live r c q may.faultless) s held)
+step_files p choice (instr.Aside c q) files r may s held = on_named (SoundFiles files) (aside_into (at_cursor r c)) (pool_named r q) r held
+    (λ target e. aside_files files (at_cursor r c) target r (stands r (r.call.cursors c)) (aside_live r c q may.faultless) s held)
 step_files p choice (instr.Ret st) files r may s held = return_files files r held
 step_files p choice i files r may s held =
     quiet_files files i r _ refl refl (step_changes_only p choice i r)

@@ -14,7 +14,7 @@ use Rattle.run_model.specs.declared.payload.Payload.{Payload}
 use Rattle.run_model.specs.Pools.{Pools, is_under, created}
 use Rattle.run_model.specs.State.{Configuration, items_of, set_pool, with_pools, set_brigade, set_number, pool_named}
 use Rattle.run_model.specs.Clearing.{run_down}
-use Rattle.run_model.specs.Cursors.{Place, Within, spot}
+use Rattle.run_model.specs.Cursors.{Place, Within, at_cursor}
 use Rattle.run_model.specs.BucketSteps.{do_next, aside_into, got}
 use Rattle.run_model.specs.declared.effect.Effect.{Effect}
 use Rattle.run_model.specs.declared.effect.Effect.TheVariants as effect
@@ -31,7 +31,7 @@ use Rattle.model_laws.proofs.Operands.{created_below, TwoBrigades, two_brigades,
 use Rattle.model_laws.proofs.NamesStay.{names_stay, keeps_names, keeps_slots, went_names, placed_names}
 use Rattle.run_model.proofs.Names.{count_none, count_append, count_map, Carried, Fewer, carried_same, fewer_same, fewer_none, cleaned_fewer, handed_fewer, returned_fewer, filled_carried, filled_items}
 use Rattle.run_model.proofs.Names.{at_each, at_two}
-use Rattle.run_model.proofs.Spots.{stands}
+use Rattle.run_model.proofs.CursorPlaces.{stands}
 use Rattle.model_laws.proofs.SlotNames.{cursor_names, unlink_names, delete_names, insert_names, before_names, bsplit_names, bpart_names, split_names, read_names, make_names, aside_names}
 use Rattle.model_laws.proofs.NamedPools.{on_named, made_under_named, put_keeps}
 
@@ -161,16 +161,16 @@ gives p choice (effect.Kill q t) r other last =
 gives p choice (effect.Clean b) r other last = clean_names b r (start r.shared.next 0 last)
 gives p choice (effect.Pass b) r other last = pass_names b r (start r.shared.next 0 last)
 gives p choice (effect.First c b) r other last = cursor_names c _ r r (same_slots r r refl refl refl (start r.shared.next 0 last))
-gives p choice (effect.Next d c) r other last = next_names d (spot r c) r (start r.shared.next 0 last)
-gives p choice (effect.Unlink c) r other last = unlink_names (spot r c) r (stands r (r.call.cursors c)) (start r.shared.next 0 last)
-gives p choice (effect.Delete c) r other last = delete_names (spot r c) r (stands r (r.call.cursors c)) (start r.shared.next 0 last)
-gives p choice (effect.Before c d) r other last = before_names (spot r c) (spot r d) r (stands r (r.call.cursors c)) (stands r (r.call.cursors d)) (start r.shared.next 0 last)
+gives p choice (effect.Next d c) r other last = next_names d (at_cursor r c) r (start r.shared.next 0 last)
+gives p choice (effect.Unlink c) r other last = unlink_names (at_cursor r c) r (stands r (r.call.cursors c)) (start r.shared.next 0 last)
+gives p choice (effect.Delete c) r other last = delete_names (at_cursor r c) r (stands r (r.call.cursors c)) (start r.shared.next 0 last)
+gives p choice (effect.Before c d) r other last = before_names (at_cursor r c) (at_cursor r d) r (stands r (r.call.cursors c)) (stands r (r.call.cursors d)) (start r.shared.next 0 last)
 gives p choice (effect.Make c source) r other last = make_names c (made_of p r source) r last
-gives p choice (effect.Split c x) r other last = split_names (value_of r x) (spot r c) r (stands r (r.call.cursors c)) last
+gives p choice (effect.Split c x) r other last = split_names (value_of r x) (at_cursor r c) r (stands r (r.call.cursors c)) last
 gives p choice (effect.Aside c q) r other last =
     let limit = start r.shared.next 0 last in
-    on_named (NamesStep r) (aside_into (spot r c)) (pool_named r q) r (same_slots r r refl refl refl limit) (λ n is. aside_names (spot r c) n r (stands r (r.call.cursors c)) limit)
-gives p choice (effect.Read c) r other last = read_names choice.given (spot r c) r (stands r (r.call.cursors c)) last
+    on_named (NamesStep r) (aside_into (at_cursor r c)) (pool_named r q) r (same_slots r r refl refl refl limit) (λ n is. aside_names (at_cursor r c) n r (stands r (r.call.cursors c)) limit)
+gives p choice (effect.Read c) r other last = read_names choice.given (at_cursor r c) r (stands r (r.call.cursors c)) last
 gives p choice (effect.Number n number) r other last = got_names n (number_of r n number) r (start r.shared.next 0 last)
 gives p choice (effect.Put x) r other last = let limit = start r.shared.next 0 last in put_keeps (NamesStep r) x r (same_slots r r refl refl refl limit) (λ buffer. same_slots r _ refl refl refl limit)
 gives p choice effect.ClearBuffer r other last = same_slots r _ refl refl refl (start r.shared.next 0 last)
@@ -185,10 +185,12 @@ step_gives p choice (instr.BSave o b) r may =
     on_named (NamesStep r) (saved_into o b) (made_on (r.instance.brigades o)) r (same_slots r r refl refl refl limit)
     (λ target is. save_names o b target r (saved_brigades p may.proper o b may.fit) limit)
 step_gives p choice (instr.BSplit b c a) r may =
-    (let two = split_brigades p may.proper b c a may.fit in bsplit_names b (spot r c) a r two.first two.second (below_limit r (instr.BSplit b c a) may.names_last))
+    (let two = split_brigades p may.proper b c a may.fit in bsplit_names b (at_cursor r c) a r two.first two.second (below_limit r (instr.BSplit b c a) may.names_last))
 step_gives p choice (instr.BPart b x c l) r may = bpart_names b (value_of r x) c r (parted_below p may.proper b x c l may.fit) (lasting r (instr.BPart b x c l) may.names_last)
-step_gives p choice (instr.Tail b c) r may = insert_names AtTail b (spot r c) r (source_below p may.proper b _ may.fit) (stands r (r.call.cursors c)) (below_limit r (instr.Tail b c) may.names_last)
-step_gives p choice (instr.Head b c) r may = insert_names AtHead b (spot r c) r (source_below p may.proper b _ may.fit) (stands r (r.call.cursors c)) (below_limit r (instr.Head b c) may.names_last)
+step_gives p choice (instr.Tail b c) r may = insert_names AtTail b (at_cursor r c) r (source_below p may.proper b _ may.fit) (stands r (r.call.cursors c))
+    (below_limit r (instr.Tail b c) may.names_last)
+step_gives p choice (instr.Head b c) r may = insert_names AtHead b (at_cursor r c) r (source_below p may.proper b _ may.fit) (stands r (r.call.cursors c))
+    (below_limit r (instr.Head b c) may.names_last)
 step_gives p choice i r may = gives p choice (effect_of i) r refl (lasting r i may.names_last)
 
 pub step_names : StepKeepsNames

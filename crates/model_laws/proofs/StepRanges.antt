@@ -27,7 +27,7 @@ use Rattle.run_model.specs.Steps.{do_create, do_clean, do_concat, do_pass, do_re
 use Rattle.run_model.specs.Pieces.{has_range}
 use Rattle.run_model.specs.Sound.{SoundPools, SoundBuckets, Sound, count_named}
 use Rattle.run_model.specs.BrigadeLists.{bucket_named}
-use Rattle.run_model.specs.Cursors.{Place, Nowhere, AtLoose, Within, AtEndOf, bucket_at, spot}
+use Rattle.run_model.specs.Cursors.{Place, Nowhere, AtLoose, Within, AtEndOf, bucket_at, at_cursor}
 use Rattle.run_model.specs.BucketSteps.{items_at, changed_at, aside_into}
 use Rattle.run_model.specs.Cutting.{FitsKind, LivesAs, length_of, OpenFile, form_of, form_of_kind}
 use Rattle.model_laws.specs.Laws.{changes_pools, is_clear, ChangesOnly, HasReference, KeptAside, SoundFiles}
@@ -36,7 +36,7 @@ use Rattle.model_laws.specs.Ranges.{Reaches, LiesInFile, HasLength, SoundRanges,
 use Rattle.run_model.specs.declared.effect.ClearKind.TheVariants.{Clear, Destroy}
 use Rattle.model_laws.proofs.PoolsGone.{on_emptied}
 use Rattle.model_laws.proofs.NamedPools.{on_named, made_under_named}
-use Rattle.run_model.proofs.Spots.{Stands, stands}
+use Rattle.run_model.proofs.CursorPlaces.{StandsThere, stands}
 use Rattle.run_model.proofs.EachBucket.{of_named, each_changed, only_one, loose_once, brigade_once}
 use Rattle.model_laws.proofs.Origins.{PassesOn, Holds, front_back, rest_back, made_apart, quiet_leaves}
 use Rattle.model_laws.proofs.Unchanged.{step_changes_only}
@@ -215,7 +215,7 @@ aside_lie_in fs ps target x xs there once proper live h =
     each_changed (LiesInFile fs) (LiesInFile fs) x.name (aside_named ps target) xs (λ y e. e)
     (λ k d lt. λ same e. subst (λ (y : NamedBucket). LiesInFile fs (aside_named ps target y)) (sym (only_one x.name x xs there once k d lt same)) lies) h
 
-aside_ranges : (files : List (ℕ × ℕ)) (s : Place) (target : ℕ) (r : Configuration) → Stands r s → home_fault (bucket_at s) ≡ None → Sound r → SoundFiles files r → SoundRanges files r
+aside_ranges : (files : List (ℕ × ℕ)) (s : Place) (target : ℕ) (r : Configuration) → StandsThere r s → home_fault (bucket_at s) ≡ None → Sound r → SoundFiles files r → SoundRanges files r
     → SoundRanges files (aside_into s target r)
 unfolding set_brigade set_loose with_pools
 aside_ranges files Nowhere target r there live sound held s = s
@@ -298,8 +298,8 @@ step_ranges p choice (instr.BSave o b) files r may sound held s = on_named (Soun
     (no_dead (items_of (r.instance.brigades b)) (first_none (homes_fault (items_of (r.instance.brigades b))) None
     (second_none (usable_fault (r.instance.brigades b)) _ (second_none (usable_fault (r.instance.brigades o)) _ may.faultless)))) held s)
 step_ranges p choice (instr.Pass b l) files r may sound held s = pass_ranges files b r s
-step_ranges p choice (instr.Aside c q) files r may sound held s = on_named (SoundRanges files) (aside_into (spot r c)) (pool_named r q) r s (λ target e.
-    aside_ranges files (spot r c) target r (stands r (r.call.cursors c)) (aside_live r c q may.faultless) sound held s)
+step_ranges p choice (instr.Aside c q) files r may sound held s = on_named (SoundRanges files) (aside_into (at_cursor r c)) (pool_named r q) r s (λ target e.
+    aside_ranges files (at_cursor r c) target r (stands r (r.call.cursors c)) (aside_live r c q may.faultless) sound held s)
 step_ranges p choice (instr.Ret st) files r may sound held s = return_ranges files r s
 step_ranges p choice i files r may sound held s =
     quiet_ranges files i r _ refl refl (step_changes_only p choice i r)

@@ -11,7 +11,7 @@ use Rattle.run_model.specs.declared.payload.Payload.{Payload}
 use Rattle.run_model.specs.Pools.{Pools}
 use Rattle.run_model.specs.State.{Configuration, set_pool, with_pools, set_brigade, set_number, set_cursor, set_loose, pool_named}
 use Rattle.run_model.specs.Clearing.{run_down}
-use Rattle.run_model.specs.Cursors.{Place, Nowhere, AtLoose, Within, AtEndOf, spot, read_cursor}
+use Rattle.run_model.specs.Cursors.{Place, Nowhere, AtLoose, Within, AtEndOf, at_cursor, read_cursor}
 use Rattle.run_model.specs.BrigadeLists.{put_before}
 use Rattle.run_model.specs.BucketSteps.{aside_into, do_make, do_before, do_delete, do_next, do_read, do_split, do_unlink, got, has_rest, is_unsplit, items_at, name_given, names_given, names_if}
 use Rattle.run_model.specs.BucketSteps.{names_to_part, names_to_read, names_to_split, new_loose, put_into, read_given, read_within, split_there}
@@ -394,16 +394,17 @@ effect_changes_only p choice (effect.Save o b) r =
     (λ target is. by_brigade e r _ o _ (first_of o b) (by_brigade e r _ b _ (second_of o b) (by_tree e r r _ refl (nothing e r))))
 effect_changes_only p choice (effect.Pass b) r = passed_changes b r
 effect_changes_only p choice (effect.First c b) r = by_cursor (effect.First c b) r r c _ (itself c) (nothing (effect.First c b) r)
-effect_changes_only p choice (effect.Next d c) r = next_changes (effect.Next d c) r d (spot r c) (itself d)
-effect_changes_only p choice (effect.Unlink c) r = unlink_changes (effect.Unlink c) r (spot r c) (λ k h. h) refl
-effect_changes_only p choice (effect.Delete c) r = delete_changes (effect.Delete c) r (spot r c) (λ k h. h) (λ h. h)
-effect_changes_only p choice (effect.Insert side b c) r = put_into_changes (effect.Insert side b c) r (put_at side) b (spot r c) (itself b) refl
-effect_changes_only p choice (effect.Before c d) r = before_changes (effect.Before c d) r (spot r c) (spot r d) (λ k h. h) refl
+effect_changes_only p choice (effect.Next d c) r = next_changes (effect.Next d c) r d (at_cursor r c) (itself d)
+effect_changes_only p choice (effect.Unlink c) r = unlink_changes (effect.Unlink c) r (at_cursor r c) (λ k h. h) refl
+effect_changes_only p choice (effect.Delete c) r = delete_changes (effect.Delete c) r (at_cursor r c) (λ k h. h) (λ h. h)
+effect_changes_only p choice (effect.Insert side b c) r = put_into_changes (effect.Insert side b c) r (put_at side) b (at_cursor r c) (itself b) refl
+effect_changes_only p choice (effect.Before c d) r = before_changes (effect.Before c d) r (at_cursor r c) (at_cursor r d) (λ k h. h) refl
 effect_changes_only p choice (effect.Make c source) r = make_changes (effect.Make c source) r c (made_of p r source) (omega arith) (itself c) refl
-effect_changes_only p choice (effect.Split c x) r = split_changes (effect.Split c x) r (value_of r x) (spot r c) (λ k h. h) (omega arith)
+effect_changes_only p choice (effect.Split c x) r = split_changes (effect.Split c x) r (value_of r x) (at_cursor r c) (λ k h. h) (omega arith)
 effect_changes_only p choice (effect.Aside c q) r =
-    let e = effect.Aside c q in on_named (ChangesOnly e r) (aside_into (spot r c)) (pool_named r q) r (nothing e r) (λ target is. aside_changes e r (spot r c) target (λ k h. h) (λ h. h) refl)
-effect_changes_only p choice (effect.Read c) r = read_changes (effect.Read c) r choice.given (spot r c) (λ k h. h) (omega arith) refl
+    let e = effect.Aside c q in on_named (ChangesOnly e r) (aside_into (at_cursor r c)) (pool_named r q) r (nothing e r)
+    (λ target is. aside_changes e r (at_cursor r c) target (λ k h. h) (λ h. h) refl)
+effect_changes_only p choice (effect.Read c) r = read_changes (effect.Read c) r choice.given (at_cursor r c) (λ k h. h) (omega arith) refl
 effect_changes_only p choice (effect.Number n number) r = got_changes (effect.Number n number) r n (number_of r n number) (itself n)
 effect_changes_only p choice (effect.Put x) r = put_keeps (ChangesOnly (effect.Put x) r) x r (nothing (effect.Put x) r) (λ buffer. by_buffer (effect.Put x) r buffer refl)
 effect_changes_only p choice effect.ClearBuffer r = by_buffer effect.ClearBuffer r _ refl

@@ -8,7 +8,7 @@ use Rattle.run_model.specs.declared.event.Exit.TheVariants.{GoOn}
 use Rattle.run_model.specs.Cutting.{wanted}
 use Rattle.run_model.specs.State.{Configuration}
 use Rattle.run_model.specs.BrigadeLists.{bucket_named, bytes_of, all_bytes}
-use Rattle.run_model.specs.Cursors.{Within, spot}
+use Rattle.run_model.specs.Cursors.{Within, at_cursor}
 use Rattle.run_model.specs.BucketSteps.{items_at, bucket_read}
 use Rattle.run_model.specs.Steps.{Choice, Outcome, step}
 
@@ -29,4 +29,4 @@ pub record ReadsOn (file : ℕ → List ℕ) (b : ℕ) (r : Configuration) (o : 
 -- So does each step of a read, where what it asks of a file, if it asks for any, is given.
 abbrev pub StepReadGivesTheFile : Type 0
 StepReadGivesTheFile = (p : Program) (choice : Choice) (file : ℕ → List ℕ) (c l b : ℕ) (x : NamedBucket) (r : Configuration)
-    → spot r c ≡ Within b x → (0 < wanted x.bucket.content → choice.given ≡ Some (taken_by file x.bucket.content)) → ReadsOn file b r (step p choice (instr.Read c l) r)
+    → at_cursor r c ≡ Within b x → (0 < wanted x.bucket.content → choice.given ≡ Some (taken_by file x.bucket.content)) → ReadsOn file b r (step p choice (instr.Read c l) r)

@@ -7,7 +7,7 @@ use Rattle.run_model.specs.Cutting.{read_limit, wanted}
 use Rattle.run_model.specs.Files.{parts_of}
 use Rattle.run_model.specs.State.{Call, Out, items_of}
 use Rattle.run_model.specs.BrigadeLists.{all_bytes}
-use Rattle.run_model.specs.Cursors.{Within, spot}
+use Rattle.run_model.specs.Cursors.{Within, at_cursor}
 use Rattle.run_model.specs.Steps.{current}
 use Rattle.model_laws.specs.BucketReads.{taken_by}
 use Rattle.run_model.specs.Chains.{Frame, Connection, Common, module_at, configuration}
@@ -40,5 +40,5 @@ pub record ReadsOnTop (file : ℕ → List ℕ) (b : ℕ) (f : Frame) (c new : C
 -- So it is with a read of the call on top, where the read that it makes, if it makes one, gives the bytes of the file.
 abbrev pub TopReadGivesTheFile : Type 0
 TopReadGivesTheFile = (chain : List Program) (reads : Reads) (g : Common) (c : Connection) (f : Frame) (rest : List Frame) (file : ℕ → List ℕ) (cur l b : ℕ) (x : NamedBucket)
-    → current (module_at chain f.of) f.pc ≡ instr.Read cur l → spot (configuration g c f) cur ≡ Within b x → (0 < wanted x.bucket.content → reads 0 ≡ Some (taken_by file x.bucket.content))
+    → current (module_at chain f.of) f.pc ≡ instr.Read cur l → at_cursor (configuration g c f) cur ≡ Within b x → (0 < wanted x.bucket.content → reads 0 ≡ Some (taken_by file x.bucket.content))
     → ReadsOnTop file b f c (after_top chain reads g c f rest).1

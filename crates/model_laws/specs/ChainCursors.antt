@@ -3,7 +3,7 @@ use Rattle.std.specs.Prelude.{◌≡◌, ℕ, ◌<◌, List, ◌∷◌, ◌++◌
 use Rattle.module_code.specs.Program.{Program}
 use Rattle.run_model.specs.declared.bucket.Cursor.{Cursor}
 use Rattle.run_model.specs.declared.event.Event.{Event}
-use Rattle.run_model.specs.Cursors.{spot_of}
+use Rattle.run_model.specs.Cursors.{place_of_cursor}
 use Rattle.run_model.specs.State.{Call, fresh_call}
 use Rattle.model_laws.specs.CursorLaws.{name_held, StandsOnce}
 use Rattle.run_model.specs.Chains.{Frame, Connection, Common, configuration, IsChain}
@@ -25,12 +25,12 @@ WorldCursors = OfConnections CursorsGiven
 -- Of each call, whether it runs or waits: a bucket that a cursor names is in exactly one list of what the call sees, once, in one
 -- brigade or loose, and it is nowhere only where no list has it. The same is true of a brigade at whose end a cursor is.
 abbrev pub CallsStandOnce : Common → Connection → Type 0
-CallsStandOnce g c = (above below : List Frame) (f : Frame) (v : Cursor) → c.stack ≡ above ++ f ∷ below → StandsOnce (configuration g c f) v (spot_of (configuration g c f) v)
+CallsStandOnce g c = (above below : List Frame) (f : Frame) (v : Cursor) → c.stack ≡ above ++ f ∷ below → StandsOnce (configuration g c f) v (place_of_cursor (configuration g c f) v)
 
 -- So it is with what an instance of the chain has where no call is.
 abbrev pub InstancesStandOnce : List Program → Common → Connection → Type 0
 InstancesStandOnce chain g c = (k : ℕ) (v : Cursor) → k < length chain
-    → (let r = configuration g c (record { of = k; call = fresh_call 0; pc = 0 }) in StandsOnce r v (spot_of r v))
+    → (let r = configuration g c (record { of = k; call = fresh_call 0; pc = 0 }) in StandsOnce r v (place_of_cursor r v))
 
 abbrev pub WorldStandsOnce : List Program → World → Type 0
 WorldStandsOnce chain = OfConnections (λ g c. CallsStandOnce g c × InstancesStandOnce chain g c)

@@ -12,7 +12,7 @@ use Rattle.run_model.specs.declared.bucket.NamedBucket.{NamedBucket}
 use Rattle.run_model.specs.BrigadeLists.{bucket_named, buckets_before, buckets_from, put_tail, stays, moves, SplitRefusal, split_refusal, first_bytes, rest_as, length_in, all_bytes}
 use Rattle.model_laws.specs.BrigadeLaws.{SplitBytes}
 use Rattle.run_model.specs.State.{Configuration}
-use Rattle.run_model.specs.Cursors.{Place, Nowhere, AtLoose, Within, AtEndOf, spot, spot_of}
+use Rattle.run_model.specs.Cursors.{Place, Nowhere, AtLoose, Within, AtEndOf, at_cursor, place_of_cursor}
 use Rattle.run_model.specs.BucketSteps.{items_at, place_at}
 use Rattle.run_model.specs.declared.effect.Effect.TheVariants as effect
 use Rattle.run_model.specs.declared.effect.MadeFrom.{MadeFrom}
@@ -76,14 +76,14 @@ StandsOnce r (cursor.End n) s = BrigadeOnce r n s
 
 -- Where names are single, what a cursor names is in one place, where it is there.
 abbrev pub CursorsStandOnce : Type 0
-CursorsStandOnce = (r : Configuration) (v : Cursor) → SoundNames r → StandsOnce r v (spot_of r v)
+CursorsStandOnce = (r : Configuration) (v : Cursor) → SoundNames r → StandsOnce r v (place_of_cursor r v)
 
 -- A bucket that is made has a name that no bucket had. It is loose, and the cursor c stands at it; all others are as before.
 pub record MakesLoose (c : ℕ) (b : Bucket) (r new : Configuration) : Type 0 where
   pub unused : count r r.shared.next ≡ 0
   pub loose : new.call.loose ≡ put_tail (record { name = r.shared.next; bucket = b }) r.call.loose
   pub brigades : new.instance.brigades ≡ r.instance.brigades
-  pub cursor : spot new c ≡ AtLoose (record { name = r.shared.next; bucket = b })
+  pub cursor : at_cursor new c ≡ AtLoose (record { name = r.shared.next; bucket = b })
 
 -- So is each that an instruction makes, also a copy, which is of the same kind, content and home (apr_bucket_copy). What is made from what,
 -- `made_of` says, and BucketExamples shows of each.
@@ -101,20 +101,20 @@ pub record SplitsBucket (n b : ℕ) (x : NamedBucket) (r : Configuration) (went 
   pub bytes : (file : ℕ → List ℕ) → all_bytes file (items_at went.state b) ≡ all_bytes file (items_at r b)
 
 abbrev pub SplitsInOrder : Type 0
-SplitsInOrder = (p : Program) (choice : Choice) (c : ℕ) (n : Value) (l b : ℕ) (x : NamedBucket) (r : Configuration) → SoundNames r → spot r c ≡ Within b x → split_refusal (value_of r n) x ≡ None
+SplitsInOrder = (p : Program) (choice : Choice) (c : ℕ) (n : Value) (l b : ℕ) (x : NamedBucket) (r : Configuration) → SoundNames r → at_cursor r c ≡ Within b x → split_refusal (value_of r n) x ≡ None
     → SplitsBucket (value_of r n) b x r (step p choice (instr.Split c n l) r)
 
 -- One that is refused jumps, and changes nothing.
 abbrev pub RefusedSplitJumps : Type 0
 RefusedSplitJumps = (p : Program) (choice : Choice) (c : ℕ) (n : Value) (l b : ℕ) (x : NamedBucket) (k : SplitRefusal) (r : Configuration)
-    → spot r c ≡ Within b x → split_refusal (value_of r n) x ≡ Some k
+    → at_cursor r c ≡ Within b x → split_refusal (value_of r n) x ≡ Some k
     → step p choice (instr.Split c n l) r ≡ record { exit = Jump; state = r }
 
 -- A split of the brigade of b (apr_brigade_split_ex): what stood before the cursor c stays in b, and what stood from there
 -- on is in a, in order.
 pub record SplitsBrigade (b c a : ℕ) (r new : Configuration) : Type 0 where
-  pub stay : items_at new b ≡ stays (place_at (spot r c)) (items_at r b)
-  pub move : items_at new a ≡ moves (place_at (spot r c)) (items_at r b)
+  pub stay : items_at new b ≡ stays (place_at (at_cursor r c)) (items_at r b)
+  pub move : items_at new a ≡ moves (place_at (at_cursor r c)) (items_at r b)
   pub whole : items_at new b ++ items_at new a ≡ items_at r b
 
 abbrev pub BrigadesSplitInOrder : Type 0
@@ -132,9 +132,10 @@ IsPlaceIn b (AtEndOf k) = k ≡ b
 pub record PartsBrigade (b point c : ℕ) (r : Configuration) (went : Outcome) : Type 0 where
   pub exit : went.exit ≡ GoOn
   pub bytes : (file : ℕ → List ℕ) → all_bytes file (items_at went.state b) ≡ all_bytes file (items_at r b)
-  pub cursor : IsPlaceIn b (spot went.state c)
-  pub adds_up : length_in (stays (place_at (spot went.state c)) (items_at went.state b)) ≡ point
-  pub shortest : (k : ℕ) → k < length (stays (place_at (spot went.state c)) (items_at went.state b)) → length_in (take k (stays (place_at (spot went.state c)) (items_at went.state b))) < point
+  pub cursor : IsPlaceIn b (at_cursor went.state c)
+  pub adds_up : length_in (stays (place_at (at_cursor went.state c)) (items_at went.state b)) ≡ point
+  pub shortest : (k : ℕ) → k < length (stays (place_at (at_cursor went.state c)) (items_at went.state b))
+      → length_in (take k (stays (place_at (at_cursor went.state c)) (items_at went.state b))) < point
 
 abbrev pub PartitionsInOrder : Type 0
 PartitionsInOrder = (p : Program) (choice : Choice) (b : ℕ) (x : Value) (c l : ℕ) (r : Configuration) → MayExecute p r (instr.BPart b x c l) → SoundNames r → value_of r x ≤ length_in (items_at r b)
@@ -144,7 +145,7 @@ PartitionsInOrder = (p : Program) (choice : Choice) (b : ℕ) (x : Value) (c l :
 -- out (APR_INCOMPLETE).
 pub record IsPastEnd (b c : ℕ) (r : Configuration) (went : Outcome) : Type 0 where
   pub exit : went.exit ≡ Jump
-  pub cursor : spot went.state c ≡ AtEndOf b
+  pub cursor : at_cursor went.state c ≡ AtEndOf b
   pub brigades : went.state.instance.brigades ≡ r.instance.brigades
   pub loose : went.state.call.loose ≡ r.call.loose
   pub names : went.state.shared.next ≡ r.shared.next

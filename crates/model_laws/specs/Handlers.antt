@@ -15,8 +15,8 @@ use Rattle.model_laws.specs.ChainSound.{IsFramePlaced, WaitsAtPass}
 abbrev pub IsHandlerCode : Program → ℕ → ℕ → Type 0
 IsHandlerCode p from to = ((from ≡ 0) × (to ≡ p.init)) ⊎ (((from ≡ p.init) × (to ≡ p.main)) ⊎ ((from ≡ p.main) × (to ≡ length p.code)))
 
-abbrev pub StandsIn : ℕ → ℕ → ℕ → Type 0
-StandsIn from to pc = (from ≤ pc) × (pc < to)
+abbrev pub LiesBetween : ℕ → ℕ → ℕ → Type 0
+LiesBetween from to pc = (from ≤ pc) × (pc < to)
 
 -- a new call, of the module k, at this instruction
 abbrev pub new_call : Common → ℕ → ℕ → Frame
@@ -32,7 +32,7 @@ CallsBegin = (chain : List Program) (pieces : List Piece) (req : ℕ) (g : Commo
 pub record GoesOnIn (chain : List Program) (old new : Frame) : Type 0 where
   pub of : new.of ≡ old.of
   pub name : new.call.name ≡ old.call.name
-  pub stays : (from to : ℕ) → IsHandlerCode (module_at chain old.of) from to → StandsIn from to old.pc → StandsIn from to new.pc
+  pub stays : (from to : ℕ) → IsHandlerCode (module_at chain old.of) from to → LiesBetween from to old.pc → LiesBetween from to new.pc
 
 -- What a step makes of the calls of a connection, innermost first. (Of calls that wait loose buckets may change.)
 pub data CallsAfter (chain : List Program) (g : Common) (c : Connection) : List Frame → List Frame → Type 0 where

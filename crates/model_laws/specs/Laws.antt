@@ -14,7 +14,7 @@ use Rattle.run_model.specs.Buckets.{has_eos, data_after_eos, is_dead}
 use Rattle.run_model.specs.Files.{is_referred}
 use Rattle.run_model.specs.Cutting.{FitsKind, wanted, read_of}
 use Rattle.run_model.specs.State.{Configuration, items_of}
-use Rattle.run_model.specs.Cursors.{Place, Nowhere, AtLoose, Within, AtEndOf, spot, read_cursor}
+use Rattle.run_model.specs.Cursors.{Place, Nowhere, AtLoose, Within, AtEndOf, at_cursor, read_cursor}
 use Rattle.run_model.specs.Faults.{fault, send_fault, or_else}
 use Rattle.run_model.specs.declared.effect.Effect.{Effect}
 use Rattle.run_model.specs.declared.effect.Effect.TheVariants as effect
@@ -86,13 +86,13 @@ may_change r (effect.SplitBrigade b c a) k = k == b || k == a
 may_change r (effect.PartBrigade b x c) k = k == b
 may_change r (effect.Save o b) k = k == o || k == b
 may_change r (effect.Pass b) k = k == b
-may_change r (effect.Unlink c) k = is_within (spot r c) k
-may_change r (effect.Delete c) k = is_within (spot r c) k
+may_change r (effect.Unlink c) k = is_within (at_cursor r c) k
+may_change r (effect.Delete c) k = is_within (at_cursor r c) k
 may_change r (effect.Insert side b c) k = k == b
-may_change r (effect.Before c d) k = is_within (spot r d) k
-may_change r (effect.Split c x) k = is_within (spot r c) k
-may_change r (effect.Aside c q) k = is_within (spot r c) k
-may_change r (effect.Read c) k = is_within (spot r c) k
+may_change r (effect.Before c d) k = is_within (at_cursor r d) k
+may_change r (effect.Split c x) k = is_within (at_cursor r c) k
+may_change r (effect.Aside c q) k = is_within (at_cursor r c) k
+may_change r (effect.Read c) k = is_within (at_cursor r c) k
 may_change r effect.Return k = true
 may_change r e k = false
 
@@ -120,11 +120,11 @@ may_change_cursor e k = false
 abbrev pub may_change_loose : Configuration → Effect → Bool
 may_change_loose r (effect.EmptyPool how q) = true
 may_change_loose r (effect.Unlink c) = true
-may_change_loose r (effect.Delete c) = is_loose (spot r c)
+may_change_loose r (effect.Delete c) = is_loose (at_cursor r c)
 may_change_loose r (effect.Insert side b c) = true
 may_change_loose r (effect.Before c d) = true
 may_change_loose r (effect.Make c source) = true
-may_change_loose r (effect.Aside c q) = is_loose (spot r c)
+may_change_loose r (effect.Aside c q) = is_loose (at_cursor r c)
 may_change_loose r effect.Return = true
 may_change_loose r e = false
 

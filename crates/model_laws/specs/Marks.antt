@@ -13,7 +13,7 @@ use Rattle.run_model.specs.declared.fault.FaultKind.TheVariants as fault_kind
 use Rattle.run_model.specs.declared.event.Event.{Event}
 use Rattle.run_model.specs.declared.event.Event.TheVariants as event
 use Rattle.run_model.specs.State.{Configuration, items_of}
-use Rattle.run_model.specs.Cursors.{Place, Nowhere, AtLoose, Within, AtEndOf, spot}
+use Rattle.run_model.specs.Cursors.{Place, Nowhere, AtLoose, Within, AtEndOf, at_cursor}
 use Rattle.run_model.specs.Faults.{Want, WPool, WBrigade, WUsable, WNew, WNewPool, WCursor, WHomes, WHome, WHomeAcross, WSend, WReturn, wants, fault_want, fault}
 use Rattle.run_model.specs.Steps.{Choice, step, current}
 use Rattle.run_model.specs.Sound.{brigade_name}
@@ -38,7 +38,7 @@ wants_use r k (WBrigade b) = false
 wants_use r k (WUsable b) = k == b
 wants_use r k (WNew o) = false
 wants_use r k (WNewPool q) = false
-wants_use r k (WCursor c f) = is_at (spot r c) k
+wants_use r k (WCursor c f) = is_at (at_cursor r c) k
 wants_use r k (WHomes b) = false
 wants_use r k (WHome c) = false
 wants_use r k (WHomeAcross b x) = false

@@ -104,8 +104,8 @@ abbrev pub Attempts : Option FaultKind → Program → Option (List ℕ) → Sta
 Attempts None p given s told new = (lacks_names s.now (current p s.now.pc) ≡ false) × (executed p given (current p s.now.pc) s ≡ (told, new))
 Attempts (Some k) p given s told new = (told ≡ Faults k) × (new ≡ record s { phase = Broken })
 
-abbrev pub Executes : Program → Option (List ℕ) → Standing → ToldOfMove → Standing → Type 0
-Executes p given s told new = (s.phase ≡ Runs) × Attempts (fault p s.now (current p s.now.pc)) p given s told new
+abbrev pub OpenExecutes : Program → Option (List ℕ) → Standing → ToldOfMove → Standing → Type 0
+OpenExecutes p given s told new = (s.phase ≡ Runs) × Attempts (fault p s.now (current p s.now.pc)) p given s told new
 
 -- Its surroundings.
 
@@ -203,14 +203,14 @@ MayTurn r (kind.Pool n) k = (k ≡ kind.Pool n) ⊎ ((is_own r n ≡ false) × (
 MayTurn r j k = k ≡ j
 
 -- a home ends that need not last: its call returned, or its pool was cleared
-abbrev pub MayEnd : Lasting → Configuration → Home → Home → Type 0
-MayEnd l r h k = (k ≡ h) ⊎ ((lasts l r h ≡ false) × (k ≡ home.Ended))
+abbrev pub HomeMayEnd : Lasting → Configuration → Home → Home → Type 0
+HomeMayEnd l r h k = (k ≡ h) ⊎ ((lasts l r h ≡ false) × (k ≡ home.Ended))
 
 pub record Becomes (l : Lasting) (r : Configuration) (x y : NamedBucket) : Type 0 where
   pub name : y.name ≡ x.name
   pub content : y.bucket.content ≡ x.bucket.content
   pub kind : MayTurn r x.bucket.kind y.bucket.kind
-  pub home : MayEnd l r x.bucket.home y.bucket.home
+  pub home : HomeMayEnd l r x.bucket.home y.bucket.home
 
 abbrev pub changed_var : (NamedBucket → NamedBucket) → BrigadeVar → BrigadeVar
 changed_var change var.Null = var.Null
@@ -240,7 +240,7 @@ IsLeftAlone Runs = ⊥
 IsLeftAlone Waits = Unit {0}
 IsLeftAlone Broken = ⊥
 
-pub record GoOn (s new : Standing) : Type 0 where
+pub record OthersGoOn (s new : Standing) : Type 0 where
   pub phase : IsLeftAlone s.phase
   pub change : NamedBucket → NamedBucket
   pub becomes : (x : NamedBucket) → Becomes s.lasting s.now x (change x)
@@ -280,9 +280,9 @@ pub record Ends (s new : Standing) : Type 0 where
 -- this move may tell this, and lead from one to the other
 unfoldable pub IsMove : Program → Standing → Move → ToldOfMove → Standing → Type 0
 IsMove p s Start told new = (told ≡ Done) × Starts p s new
-IsMove p s (Execute given) told new = Executes p given s told new
+IsMove p s (Execute given) told new = OpenExecutes p given s told new
 IsMove p s (Answer t items) told new = (told ≡ Done) × AnswersCall p t items s new
-IsMove p s Others told new = (told ≡ Done) × GoOn s new
+IsMove p s Others told new = (told ≡ Done) × OthersGoOn s new
 IsMove p s Elsewhere told new = (told ≡ Done) × GoOnElsewhere s new
 IsMove p s Begin told new = (told ≡ Done) × Begins s new
 IsMove p s (Main items) told new = (told ≡ Done) × Calls p items s new

@@ -7,7 +7,7 @@ use Rattle.run_model.specs.declared.bucket.Home.TheVariants as home
 use Rattle.run_model.specs.declared.bucket.NamedBucket.{NamedBucket}
 use Rattle.run_model.specs.declared.event.Event.{Event}
 use Rattle.run_model.specs.Chains.{Frame, Connection, Common, configuration, IsChain}
-use Rattle.run_model.specs.Cursors.{spot, bucket_at, read_cursor}
+use Rattle.run_model.specs.Cursors.{at_cursor, bucket_at, read_cursor}
 use Rattle.run_model.specs.Faults.{WHome, fault_want}
 use Rattle.run_model.specs.Worlds.{World, Answer, IsWholeRun}
 use Rattle.model_laws.specs.ChainHomes.{IsCalled}
@@ -23,7 +23,7 @@ IsNoPool calls home.Ended = ⊥
 -- Of each call, whether it runs or waits: so is the home of the bucket at which its read cursor stands, by the call itself and those
 -- that wait for it.
 abbrev pub ReadsLast : Common → Connection → Type 0
-ReadsLast g c = (above below : List Frame) (f : Frame) (x : NamedBucket) → c.stack ≡ above ++ f ∷ below → bucket_at (spot (configuration g c f) read_cursor) ≡ Some x
+ReadsLast g c = (above below : List Frame) (f : Frame) (x : NamedBucket) → c.stack ≡ above ++ f ∷ below → bucket_at (at_cursor (configuration g c f) read_cursor) ≡ Some x
     → IsNoPool (IsCalled (f ∷ below)) x.bucket.home
 
 -- It is so in each world that a run reaches.

@@ -1,8 +1,8 @@
 //! The operands of an instruction, by their kinds.
 
 ghost use Rattle.std.specs.Prelude.{◌≡◌};
-ghost use Rattle.module_code.specs.Args.{arg_aim, arg_index, arg_kind_test, arg_place, arg_status, arg_text, arg_value, arg_variable, first_some, no_arg};
-ghost use Rattle.module_code.specs.Args.{one_arg, names_target, four_args, three_args, two_args};
+ghost use Rattle.module_code.specs.Args.{arg_aim, arg_index, arg_kind_test, arg_place, arg_status, arg_text, arg_value, arg_variable, no_arg};
+ghost use Rattle.module_code.specs.Args.{one_arg, four_args, three_args, two_args};
 
 use crate::instr::{KindTest, PoolRef, Status, Value, VarRef};
 
@@ -81,16 +81,6 @@ impl Args {
             fourth,
         }
     }
-
-    /// The number of the instruction that one of the operands names.
-    pub fn target(self) -> Option<u16>
-        ensures { result ≡ first_some (names_target self.first) (names_target self.second) (names_target self.third) (names_target self.fourth) }
-    {
-        (self.first.target())
-            .or(self.second.target())
-            .or(self.third.target())
-            .or(self.fourth.target())
-    }
 }
 
 impl Arg {
@@ -153,7 +143,10 @@ impl Arg {
     pub fn aim(self) -> u16
         ensures { result ≡ arg_aim self }
     {
-        self.target().unwrap_or(0)
+        match self {
+            Arg::Target(number) => number,
+            _ => 0,
+        }
     }
 
     /// The number of the text that it names, of one that names none 0.
@@ -163,15 +156,6 @@ impl Arg {
         match self {
             Arg::Text(number) => number,
             _ => 0,
-        }
-    }
-
-    fn target(self) -> Option<u16>
-        ensures { result ≡ names_target self }
-    {
-        match self {
-            Arg::Target(number) => Some(number),
-            _ => None,
         }
     }
 }

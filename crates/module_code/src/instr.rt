@@ -184,9 +184,9 @@ pub enum Instr {
 }
 
 impl Instr {
-    /// The number of the instruction that it names as its target; 0 where it names none.
-    pub fn target(self) -> usize
-        ensures { result ≡ unwrap_or (target self) 0 }
+    /// The number of the instruction that it names as its target, if it names one.
+    pub fn named_target(self) -> Option<u16>
+        ensures { result ≡ target self }
     {
         match self {
             Instr::BPart(_, _, _, target)
@@ -202,8 +202,18 @@ impl Instr {
             | Instr::JEq(_, _, target)
             | Instr::JNull(_, target)
             | Instr::JSent(target)
-            | Instr::Jump(target) => usize::from(target),
-            _ => 0,
+            | Instr::Jump(target) => Some(target),
+            _ => None,
+        }
+    }
+
+    /// The number of the instruction that it names as its target; 0 where it names none.
+    pub fn target(self) -> usize
+        ensures { result ≡ unwrap_or (target self) 0 }
+    {
+        match self.named_target() {
+            Some(target) => usize::from(target),
+            None => 0,
         }
     }
 }

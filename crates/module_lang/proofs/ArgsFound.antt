@@ -26,7 +26,7 @@ use Rattle.module_code.specs.declared.word.OperandKind.TheVariants as kind
 use Rattle.module_code.specs.declared.word.Op.{Op}
 use Rattle.module_code.specs.declared.word.Op.TheVariants as op
 use Rattle.module_lang.proofs.ArgLaws.{is_label, is_version, op_formed, picked}
-use Rattle.module_lang.proofs.InverseLaws.{Spells, own_is, read_token, text_behind, text_taken, token_spelled, token_unquoted}
+use Rattle.module_lang.proofs.InverseLaws.{SpellsOperand, own_is, read_token, text_behind, text_taken, token_spelled, token_unquoted}
 use Rattle.module_lang.proofs.OperandLaws.{chain, kinds_read, made, read_kind}
 use Rattle.byte_text.proofs.QuoteFound.{quoted_found}
 use Rattle.module_lang.proofs.QuoteLaws.{quote_behind, unquoted}
@@ -47,7 +47,7 @@ pub record OperandFound (k : OperandKind) (rest : List ℕ) (o : Operand) (x : �
   pub bare : operand_kind_is_text k ≡ false → from_quote rest ≡ from_quote (after_operand k rest)
 
 -- a token that was read spells the operand of the instruction
-token_found : (k : OperandKind) (t : List ℕ) (o : Operand) (x : ℕ) → is_version k ≡ false → of_kind k o ≡ true → Spells o t → (n s : List ℕ) (len : ℕ) → (is_label k ≡ true → n ≡ t)
+token_found : (k : OperandKind) (t : List ℕ) (o : Operand) (x : ℕ) → is_version k ≡ false → of_kind k o ≡ true → SpellsOperand o t → (n s : List ℕ) (len : ℕ) → (is_label k ≡ true → n ≡ t)
     → (arg_texts (arg_in k o x 0) n s ≡ t ∷ []) × (o ≡ operand_of (arg_in k o x 0) (padded n) len)
 token_found kind.One t o x v d h n s len l = absurd (cc v)
 token_found kind.Nothing t operand.Nothing x v d h n s len l = absurd h
@@ -66,7 +66,7 @@ token_found kind.Cursor t (operand.Cursor i) x v d h n s len l = (ap (λ y. y �
 token_found kind.KindTest t (operand.KindTest k) x v d h n s len l = (ap (λ y. y ∷ []) (sym h), refl)
 token_found _ t _ x v d h n s len l = absurd (cc d)
 
-label_named : (k : OperandKind) (t : List ℕ) (o : Operand) → of_kind k o ≡ true → Spells o t → is_label k ≡ true → is_name t ≡ true
+label_named : (k : OperandKind) (t : List ℕ) (o : Operand) → of_kind k o ≡ true → SpellsOperand o t → is_label k ≡ true → is_name t ≡ true
 label_named kind.Label t (operand.Label m) d h l = h.0
 label_named kind.Label t _ d h l = absurd (cc d)
 label_named _ t o d h l = absurd (cc l)

@@ -400,11 +400,11 @@ lower_from k (q ∷ qs) h =
     )
 
 -- each pool is declared, where so many are
-abbrev pub Homes : ℕ → List PoolRef → Type 0
-Homes n [] = Unit {0}
-Homes n (q ∷ qs) = (place_is_declared n q ≡ true) × Homes n qs
+abbrev pub AreDeclaredHomes : ℕ → List PoolRef → Type 0
+AreDeclaredHomes n [] = Unit {0}
+AreDeclaredHomes n (q ∷ qs) = (place_is_declared n q ≡ true) × AreDeclaredHomes n qs
 
-pub homes_from : (n : ℕ) (qs : List PoolRef) → ((j : ℕ) (q : PoolRef) → slice_get qs j ≡ Some q → place_is_declared n q ≡ true) → Homes n qs
+pub homes_from : (n : ℕ) (qs : List PoolRef) → ((j : ℕ) (q : PoolRef) → slice_get qs j ≡ Some q → place_is_declared n q ≡ true) → AreDeclaredHomes n qs
 homes_from n [] h = tt
 homes_from n (q ∷ qs) h = (h 0 q refl, homes_from n qs (λ j x s. h (suc j) x s))
 
@@ -428,7 +428,7 @@ pools_go p (q ∷ qs) done k d ss P at s size small low more =
     (omega (arith, one)) (rw same small) low.1 (λ e x. more e (rw same at x)))
 
 pub brigades_go : (p : Program) (pools qs done : List PoolRef) (k : ℕ) (d : Draft) (ss : List (List ℕ)) (P : Draft → Type 0) → Declares p pools done d → k ≡ length done → length (done ++ qs) ≤ 8
-    → length pools ≤ 8 → Homes (length pools) qs → ((e : Draft) → Declares p pools (done ++ qs) e → Goes e ss P) → Goes d (brigade_texts k qs ++ ss) P
+    → length pools ≤ 8 → AreDeclaredHomes (length pools) qs → ((e : Draft) → Declares p pools (done ++ qs) e → Goes e ss P) → Goes d (brigade_texts k qs ++ ss) P
 unfolding word_kinds word_text judged
 brigades_go p pools [] done k d ss P s size small few low more = more d (rw (append-nil done) s)
 brigades_go p pools (q ∷ qs) done k d ss P s size small few low more =

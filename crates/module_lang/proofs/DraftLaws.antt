@@ -38,7 +38,7 @@ use Rattle.module_code.specs.declared.word.Op.{Op}
 use Rattle.module_code.specs.declared.word.Word.{Word}
 use Rattle.module_code.specs.declared.word.Word.TheVariants as word
 use Rattle.module_lang.proofs.ArgsFound.{AreFound, ops_found, word_unquoted}
-use Rattle.module_lang.proofs.InverseLaws.{Item, TextFound}
+use Rattle.module_lang.proofs.InverseLaws.{WordLine, TextFound}
 use Rattle.module_lang.proofs.LineLaws.{bind_ok, unless_ok}
 use Rattle.byte_text.proofs.ListLaws.{empty_list, range_more}
 use Rattle.module_lang.proofs.OperandLaws.{kinds_read}
@@ -165,7 +165,7 @@ declaring_keeps d p ps bs s zero few_pools few_brigades parents homes none = rec
   main = none_of (IsDraftStep ps bs part.Main) d.main.steps (omega arith);
 }
 
-pool_keeps : (d : Draft) (b : List ℕ) (o : Operands) → IsDraft d → Item d b word.Pool o → IsDraft (record d { pools = d.pools ++ operand_place o.second ∷ [] })
+pool_keeps : (d : Draft) (b : List ℕ) (o : Operands) → IsDraft d → WordLine d b word.Pool o → IsDraft (record d { pools = d.pools ++ operand_place o.second ∷ [] })
 unfolding judged word_kinds
 pool_keeps d b o s h =
     let q = operand_place o.second in
@@ -177,7 +177,7 @@ pool_keeps d b o s h =
     (pushed_item (λ k x. place_is_declared k x ≡ true) d.pools q s.parents say.home) (λ k x e. subst (λ n. place_is_declared n x ≡ true) (sym one) (more_declared n x (s.homes k x e)))
     (early_pools d.part d (d.pools ++ q ∷ []) ∙ s.none)
 
-brigade_keeps : (d : Draft) (b : List ℕ) (o : Operands) → IsDraft d → Item d b word.Brigade o → IsDraft (record d { part = part.Brigades; brigades = d.brigades ++ operand_place o.second ∷ [] })
+brigade_keeps : (d : Draft) (b : List ℕ) (o : Operands) → IsDraft d → WordLine d b word.Brigade o → IsDraft (record d { part = part.Brigades; brigades = d.brigades ++ operand_place o.second ∷ [] })
 unfolding judged word_kinds
 brigade_keeps d b o s h =
     let q = operand_place o.second in
@@ -302,7 +302,7 @@ has_text_of (instr.JNull (variable.Brigade b) l) n k = refl
 has_text_of _ n k = refl
 
 -- an instruction has a text in its line, or none
-pub text_has : (i : Op) (d : Draft) (s : List ℕ) (o : Operands) → Item d s (word.Op i) o → (has_text o ≡ false) ⊎ ((has_text o ≡ true) × TextFound s o.second)
+pub text_has : (i : Op) (d : Draft) (s : List ℕ) (o : Operands) → WordLine d s (word.Op i) o → (has_text o ≡ false) ⊎ ((has_text o ≡ true) × TextFound s o.second)
 unfolding word_kinds word_text
 text_has i d s o h = by_kind (operand_kind_is_text (op_kinds i).second) refl
   where
@@ -334,7 +334,7 @@ with_text d n i o x s e low bytes room =
       numbers = let z : length d.texts ≡ 0 + length d.texts = omega arith in rw (e, one) (ap (λ x. range_with_len 0 (length d.texts) ++ x ∷ []) z ∙ range_more 0 (length d.texts));
     }
 
-op_keeps : (d : Draft) (n : ℕ) (bytes : List ℕ) (i : Op) (o : Operands) → IsDraft d → Item d (unindented bytes) (word.Op i) o → IsDraft (step_entered d n bytes i o)
+op_keeps : (d : Draft) (n : ℕ) (bytes : List ℕ) (i : Op) (o : Operands) → IsDraft d → WordLine d (unindented bytes) (word.Op i) o → IsDraft (step_entered d n bytes i o)
 unfolding judged word_kinds
 op_keeps d n bytes i o s h = texts (text_has i d (unindented bytes) o h)
   where
@@ -365,7 +365,7 @@ op_keeps d n bytes i o s h = texts (text_has i d (unindented bytes) o h)
         let space : ltb (length d.texts) 64 ≡ true = rw e.0 at room.1 in
         added (e.1.text ∷ []) (rw (e.0, at) refl) (with_text d n i o e.1.text s e.0 (ltb-false 255 (length e.1.text) low) e.1.bytes (ltb-true (length d.texts) 64 space))
 
-item_keeps : (d : Draft) (n : ℕ) (bytes : List ℕ) (w : Word) (o : Operands) → IsDraft d → Item d (unindented bytes) w o → IsDraft (item_entered d n bytes w o)
+item_keeps : (d : Draft) (n : ℕ) (bytes : List ℕ) (w : Word) (o : Operands) → IsDraft d → WordLine d (unindented bytes) w o → IsDraft (item_entered d n bytes w o)
 item_keeps d n bytes word.Module o s h =
     turned_keeps d part.Pools d.open.labels d.init.labels d.main.labels d.open.line d.init.line d.main.line (sym (early_first word.Module d.part d refl h.due) ∙ s.none) s
 item_keeps d n bytes word.Pool o s h = pool_keeps d (unindented bytes) o s h

@@ -9,7 +9,7 @@ use Rattle.module_lang.specs.declared.handler.LineFault.{LineFault}
 use Rattle.module_lang.specs.declared.refusal.AsmRefusal.{AsmRefusal}
 use Rattle.module_lang.specs.declared.refusal.AsmRefusal.TheVariants.{Fault, NoMemory}
 use Rattle.module_lang.specs.declared.refusal.Code.{Code}
-use Rattle.module_lang.proofs.FirstOf.{Tells}
+use Rattle.module_lang.proofs.FirstOf.{TellsFirst}
 use Rattle.module_lang.proofs.FoundWhole.{text_found}
 use Rattle.module_lang.proofs.HandlerFaults.{draft_fault, draft_tells, program_is}
 use Rattle.module_lang.proofs.LineFaults.{same_code}
@@ -31,7 +31,7 @@ judged text = subst (λ r. SaysFirst text (r >>= λ d. program_of d)) (sym (read
     lines : Option LineFault
     lines = text_fault (goes_on text) empty_draft 1 (lines_of text)
 
-    module_judged : ((n : ℕ) (c : Code) → HasLineCode text n c → ⊥) → (f : Option LineFault) (p : Program) → Tells f (HasModuleCode text) → SaysFirst text (or_fault f p)
+    module_judged : ((n : ℕ) (c : Code) → HasLineCode text n c → ⊥) → (f : Option LineFault) (p : Program) → TellsFirst f (HasModuleCode text) → SaysFirst text (or_fault f p)
     module_judged none (Some f) p t = inr (none, t)
     module_judged none None p t = first
       where
@@ -39,7 +39,7 @@ judged text = subst (λ r. SaysFirst text (r >>= λ d. program_of d)) (sym (read
         first n c (inl x) = none n c x.holds
         first n c (inr x) = t n c x.1.holds
 
-    by : (f : Option LineFault) → lines ≡ f → Tells f (HasLineCode text) → SaysFirst text (or_fault f (draft_of text) >>= λ d. program_of d)
+    by : (f : Option LineFault) → lines ≡ f → TellsFirst f (HasLineCode text) → SaysFirst text (or_fault f (draft_of text) >>= λ d. program_of d)
     by (Some f) q t = inl t
     by None q t =
         let o = lines_ordered (goes_on text) empty_draft 1 (lines_of text) q blank_ordered in

@@ -10,11 +10,11 @@ use Rattle.module_lang.specs.declared.refusal.Code.{Code}
 use Rattle.module_lang.proofs.LineFaults.{Judges, told, told_judges}
 
 -- what is told is the first line with a code and its lowest, and nothing is told where no line has one
-abbrev pub Tells : Option LineFault → (ℕ → Code → Type 0) → Type 0
-Tells None P = (m : ℕ) (c : Code) → P m c → ⊥
-Tells (Some f) P = IsFirst P f.line f.code
+abbrev pub TellsFirst : Option LineFault → (ℕ → Code → Type 0) → Type 0
+TellsFirst None P = (m : ℕ) (c : Code) → P m c → ⊥
+TellsFirst (Some f) P = IsFirst P f.line f.code
 
-pub tells_same : (o : Option LineFault) (P Q : ℕ → Code → Type 0) → ((m : ℕ) (c : Code) → P m c → Q m c) → ((m : ℕ) (c : Code) → Q m c → P m c) → Tells o P → Tells o Q
+pub tells_same : (o : Option LineFault) (P Q : ℕ → Code → Type 0) → ((m : ℕ) (c : Code) → P m c → Q m c) → ((m : ℕ) (c : Code) → Q m c → P m c) → TellsFirst o P → TellsFirst o Q
 tells_same None P Q f g t = λ m c h. t m c (g m c h)
 tells_same (Some x) P Q f g t = record { holds = f x.line x.code t.holds; line = λ m c h. t.line m c (g m c h); lowest = λ c h. t.lowest c (g x.line c h) }
 
@@ -26,17 +26,17 @@ abbrev pub or_later : ℕ → Result (Unit {0}) Code → Option LineFault → Op
 or_later n (Err c) o = fault n c
 or_later n (Ok u) o = o
 
-pub tells_here : (n : ℕ) (p : Code → Bool) (P : ℕ → Code → Type 0) (o : Option LineFault) → ((m : ℕ) (c : Code) → P m c → n < m) → Tells o P → Tells (or_later n (told p) o) (Here n p P)
+pub tells_here : (n : ℕ) (p : Code → Bool) (P : ℕ → Code → Type 0) (o : Option LineFault) → ((m : ℕ) (c : Code) → P m c → n < m) → TellsFirst o P → TellsFirst (or_later n (told p) o) (Here n p P)
 tells_here n p P o low t = judged (told p) (told_judges p)
   where
-    later : (o : Option LineFault) → ((c : Code) → p c ≡ true → ⊥) → Tells o P → Tells o (Here n p P)
+    later : (o : Option LineFault) → ((c : Code) → p c ≡ true → ⊥) → TellsFirst o P → TellsFirst o (Here n p P)
     later o none = tells_same o P (Here n p P) (λ m c h. inr h) behind
       where
         behind : (m : ℕ) (c : Code) → Here n p P m c → P m c
         behind m c (inl h) = absurd (none c h.1)
         behind m c (inr h) = h
 
-    judged : (r : Result (Unit {0}) Code) → Judges r p → Tells (or_later n r o) (Here n p P)
+    judged : (r : Result (Unit {0}) Code) → Judges r p → TellsFirst (or_later n r o) (Here n p P)
     judged (Ok u) j = later o j t
     judged (Err c) j = record { holds = inl (refl, j.0); line = first; lowest = lowest }
       where
@@ -49,8 +49,8 @@ tells_here n p P o low t = judged (told p) (told_judges p)
         lowest e (inr h) = let x = low n e h in absurd (omega (arith, x))
 
 -- the sooner of two, where at one line the first has the lower code
-pub tells_sooner : (a b : Option LineFault) (P Q : ℕ → Code → Type 0) → ((m : ℕ) (c e : Code) → P m c → Q m e → code_number c ≤ code_number e) → Tells a P → Tells b Q
-    → Tells (sooner a b) (λ m c. P m c ⊎ Q m c)
+pub tells_sooner : (a b : Option LineFault) (P Q : ℕ → Code → Type 0) → ((m : ℕ) (c e : Code) → P m c → Q m e → code_number c ≤ code_number e) → TellsFirst a P → TellsFirst b Q
+    → TellsFirst (sooner a b) (λ m c. P m c ⊎ Q m c)
 tells_sooner None b P Q tie s t = tells_same b Q (λ m c. P m c ⊎ Q m c) (λ m c h. inr h) right t
   where
     right : (m : ℕ) (c : Code) → P m c ⊎ Q m c → Q m c
@@ -85,13 +85,13 @@ tells_sooner (Some x) (Some y) P Q tie s t = by (leb x.line y.line) refl
         lowest c (inl h) = let z = s.line y.line c h in absurd (omega (arith, z, lt))
         lowest c (inr h) = t.lowest c h
 
-    by : (b : Bool) → leb x.line y.line ≡ b → Tells (cond b (Some x) (Some y)) (λ m c. P m c ⊎ Q m c)
+    by : (b : Bool) → leb x.line y.line ≡ b → TellsFirst (cond b (Some x) (Some y)) (λ m c. P m c ⊎ Q m c)
     by true q = first (leb-true x.line y.line q)
     by false q = second (leb-false x.line y.line q)
 
 -- one part of the lines and then another
-pub tells_else : (a b : Option LineFault) (P Q : ℕ → Code → Type 0) (k : ℕ) → ((m : ℕ) (c : Code) → P m c → m < k) → ((m : ℕ) (c : Code) → Q m c → k ≤ m) → Tells a P → Tells b Q
-    → Tells (or_else a b) (λ m c. P m c ⊎ Q m c)
+pub tells_else : (a b : Option LineFault) (P Q : ℕ → Code → Type 0) (k : ℕ) → ((m : ℕ) (c : Code) → P m c → m < k) → ((m : ℕ) (c : Code) → Q m c → k ≤ m) → TellsFirst a P → TellsFirst b Q
+    → TellsFirst (or_else a b) (λ m c. P m c ⊎ Q m c)
 tells_else None b P Q k low high s t = tells_same b Q (λ m c. P m c ⊎ Q m c) (λ m c h. inr h) right t
   where
     right : (m : ℕ) (c : Code) → P m c ⊎ Q m c → Q m c

@@ -15,7 +15,7 @@ use Rattle.module_code.specs.declared.word.Op.{Op}
 use Rattle.module_lang.proofs.ArgLaws.{label_target, target_moved}
 use Rattle.module_lang.proofs.RawLines.{AreBuilt, Raw, marked, did, raw_steps}
 use Rattle.module_lang.proofs.FoundModule.{line_of, unnamed_apart}
-use Rattle.module_lang.proofs.LabelLaws.{AreNamed, Marked, Named, name_stripped, named-append, stripped}
+use Rattle.module_lang.proofs.LabelLaws.{HaveLabelNames, Marked, HaveThoseNames, name_stripped, named-append, stripped}
 use Rattle.module_lang.proofs.SpellingLaws.{padded}
 
 apart_push : (n : List ℕ) (bs : List (List ℕ × ℕ)) (x : List ℕ × ℕ) → IsApart n bs → n ≢ x.0 → IsApart n (bs ++ x ∷ [])
@@ -27,7 +27,8 @@ distinct_push [] x d a = (tt, tt)
 distinct_push (b ∷ bs) x d a = (apart_push b.0 bs x d.0 (λ e. a.0 (sym e)), distinct_push bs x d.1 a.1)
 
 -- labels without a fault differ from those before them, and from one another
-pub labels_distinct : (before ls : List Label) (bs xs : List (List ℕ × ℕ)) (count : ℕ) → Named before bs → Named ls xs → AreDistinct bs → label_fault before count ls ≡ None → AreDistinct (bs ++ xs)
+pub labels_distinct : (before ls : List Label) (bs xs : List (List ℕ × ℕ)) (count : ℕ) → HaveThoseNames before bs → HaveThoseNames ls xs → AreDistinct bs → label_fault before count ls ≡ None
+    → AreDistinct (bs ++ xs)
 labels_distinct before [] bs [] count b n d h = rw (append-nil bs) d
 labels_distinct before [] bs (x ∷ xs) count b n d h = absurd n
 labels_distinct before (l ∷ ls) bs [] count b n d h = absurd n
@@ -49,7 +50,7 @@ labels_distinct before (l ∷ ls) bs (x ∷ xs) count b n d h =
     named false q more e = lost (leb count l.place) (more (new q)) e
 
 -- where a name is found, there is a label of that name
-found_label : (base : ℕ) (name : List ℕ) (k : ℕ) (f : Option ℕ) (ls : List Label) (xs : List (List ℕ × ℕ)) → is_name name ≡ true → Marked base ls xs → AreNamed xs
+found_label : (base : ℕ) (name : List ℕ) (k : ℕ) (f : Option ℕ) (ls : List Label) (xs : List (List ℕ × ℕ)) → is_name name ≡ true → Marked base ls xs → HaveLabelNames xs
     → place_from f (padded name) ls ≡ Some k → (f ≡ Some k) ⊎ IsLabel name (base + k) xs
 found_label base name k f [] [] v m r h = inl h
 found_label base name k f [] (x ∷ xs) v m r h = absurd m
@@ -73,7 +74,7 @@ found_label base name k f (l ∷ ls) (x ∷ xs) v m r h = here (pointwise nat_eq
     here false q more e = later (more f e)
 
 -- a name that is not lost has a label at its target
-label_there : (base : ℕ) (name : List ℕ) (r : Option (List ℕ)) (ls : List Label) (xs : List (List ℕ × ℕ)) → r ≡ Some (padded name) → is_name name ≡ true → Marked base ls xs → AreNamed xs
+label_there : (base : ℕ) (name : List ℕ) (r : Option (List ℕ)) (ls : List Label) (xs : List (List ℕ × ℕ)) → r ≡ Some (padded name) → is_name name ≡ true → Marked base ls xs → HaveLabelNames xs
     → is_missing ls r ≡ false → IsLabel name (base + target_place ls r) xs
 unfolding place_of
 label_there base name None ls xs e v m n h = absurd (cc e)
@@ -89,7 +90,7 @@ label_there base name (Some y) ls xs e v m n h = at (place_from None y ls) refl 
 
 -- an instruction that names no lost label is aimed at a label of that name
 op_aimed : (base : ℕ) (i : Op) (o : Operands) (x k : ℕ) (name : List ℕ) (ls : List Label) (xs : List (List ℕ × ℕ)) → o ≡ operands_of (op_instr i o x 0) (padded name) k → IfSome (target (op_instr i
-    o x 0)) (λ _. is_name name ≡ true) → Marked base ls xs → AreNamed xs → is_lost ls o ≡ false → IfSome (target (op_instr i o x (base + target_place ls (label_of o)))) (λ t. IsLabel name t xs)
+    o x 0)) (λ _. is_name name ≡ true) → Marked base ls xs → HaveLabelNames xs → is_lost ls o ≡ false → IfSome (target (op_instr i o x (base + target_place ls (label_of o)))) (λ t. IsLabel name t xs)
 op_aimed base i o x k name ls xs e v m n h = subst (λ y. IfSome y (λ t. IsLabel name t xs)) (sym (target_moved i o x (base + target_place ls (label_of o))))
     (by_target (target (op_instr i o x 0)) (ap label_of e ∙ label_target (op_instr i o x 0) (padded name) k) v)
   where
@@ -99,7 +100,7 @@ op_aimed base i o x k name ls xs e v m n h = subst (λ y. IfSome y (λ t. IsLabe
     by_target (Some u) q w = label_there base name (label_of o) ls xs q w m n h
 
 -- instructions without a lost label are aimed
-pub lines_aimed : (base n : ℕ) (ls : List Label) (xs : List (List ℕ × ℕ)) (rs : List Raw) → Marked base ls xs → AreNamed xs → AreBuilt n rs → jump_fault ls (raw_steps rs) ≡ None
+pub lines_aimed : (base n : ℕ) (ls : List Label) (xs : List (List ℕ × ℕ)) (rs : List Raw) → Marked base ls xs → HaveLabelNames xs → AreBuilt n rs → jump_fault ls (raw_steps rs) ≡ None
     → IsAimed xs (map (line_of base ls) rs)
 unfolding step_code
 lines_aimed base n ls xs [] m v b h = tt

@@ -30,12 +30,12 @@ use Rattle.module_code.specs.declared.word.Word.{Word}
 use Rattle.module_lang.specs.declared.lines.Line.{Line}
 use Rattle.module_lang.specs.declared.lines.Line.TheVariants as line
 use Rattle.module_code.specs.declared.word.Word.TheVariants as word
-use Rattle.module_lang.proofs.InverseLaws.{Item, Spells, none_spelled, one_taken, two_taken, own_is, Spelled}
+use Rattle.module_lang.proofs.InverseLaws.{WordLine, SpellsOperand, none_spelled, one_taken, two_taken, own_is, Spelled}
 use Rattle.module_lang.proofs.ModuleLaws as modules
 use Rattle.module_lang.proofs.OperandLaws.{kinds_read}
 use Rattle.module_lang.proofs.SpellingLaws.{padded}
 use Rattle.module_lang.proofs.OpsFound.{op_spelled}
-use Rattle.module_lang.proofs.RawLines.{AreTexted, Built, IsTexted, IsWritten, Raw, did, label_built, marked, raw_text, step_built, text_last, texted-did, texted-marked, texted-more}
+use Rattle.module_lang.proofs.RawLines.{AreTexted, Built, IsTexted, HasWrittenOperands, Raw, did, label_built, marked, raw_text, step_built, text_last, texted-did, texted-marked, texted-more}
 
 abbrev pub head_of : Draft → List (List ℕ)
 head_of d = codes "module 1" ∷ pool_texts 0 d.pools
@@ -111,36 +111,36 @@ one_is operand.One h = refl
 one_is _ h = absurd (cc h)
 
 -- the lines of the words that stand alone
-module_line : (d : Draft) (s : List ℕ) (o : Operands) → Item d s word.Module o → s ≡ codes "module 1"
+module_line : (d : Draft) (s : List ℕ) (o : Operands) → WordLine d s word.Module o → s ≡ codes "module 1"
 unfolding word_kinds word_text
 module_line d s o h =
     let k = kinds_read (word_kinds word.Module) h.rest o h.read in
     let x = one_taken kind.One h.rest o refl refl h.read in
-    let t : x.token ≡ codes "1" = subst (λ y. Spells y x.token) (one_is o.first k.first) x.first in
+    let t : x.token ≡ codes "1" = subst (λ y. SpellsOperand y x.token) (one_is o.first k.first) x.first in
     h.spelled ∙ ap (λ r. codes "module" ++ r) (x.whole ∙ ap (λ y. operands_text (y ∷ [])) t)
 
-bare_line : (w : Word) (d : Draft) (s : List ℕ) (o : Operands) → word_kinds w ≡ no_operand → Item d s w o → s ≡ word_text w
+bare_line : (w : Word) (d : Draft) (s : List ℕ) (o : Operands) → word_kinds w ≡ no_operand → WordLine d s w o → s ≡ word_text w
 bare_line w d s o none h =
     let empty : h.rest ≡ [] = none_spelled h.rest o (rw none at h.read) in
     h.spelled ∙ ap (λ r. word_text w ++ r) empty ∙ append-nil (word_text w)
 
 -- a declaration, which is the next one
-next_place : (n : ℕ) (x : Operand) (t : List ℕ) → of_kind kind.Pool x ≡ true → is_next n x ≡ true → Spells x t → t ≡ place_text (pool.Own n)
+next_place : (n : ℕ) (x : Operand) (t : List ℕ) → of_kind kind.Pool x ≡ true → is_next n x ≡ true → SpellsOperand x t → t ≡ place_text (pool.Own n)
 next_place n (operand.Place (pool.Own i)) t k h s = s ∙ ap (λ j. place_text (pool.Own j)) (eqb-true i n h)
 next_place n _ t k h s = absurd (cc k)
 
-next_own : (n : ℕ) (x : Operand) (t : List ℕ) → of_kind kind.Brigade x ≡ true → is_next n x ≡ true → Spells x t → t ≡ own_text n
+next_own : (n : ℕ) (x : Operand) (t : List ℕ) → of_kind kind.Brigade x ≡ true → is_next n x ≡ true → SpellsOperand x t → t ≡ own_text n
 next_own n (operand.Brigade i) t k h s = s ∙ sym (own_is i (ltb-true i 8 k)) ∙ ap own_text (eqb-true i n h)
 next_own n _ t k h s = absurd (cc k)
 
-home_text : (x : Operand) (t : List ℕ) → of_kind kind.Place x ≡ true → Spells x t → t ≡ place_text (operand_place x)
+home_text : (x : Operand) (t : List ℕ) → of_kind kind.Place x ≡ true → SpellsOperand x t → t ≡ place_text (operand_place x)
 home_text (operand.Place p) t k s = s
 home_text _ t k s = absurd (cc k)
 
 -- the line of a declaration, whose first operand is written so
 declared_line : (w : Word) (k : OperandKind) (first : List ℕ) (d : Draft) (s : List ℕ) (o : Operands)
     → word_kinds w ≡ two_operands k kind.Place → operand_kind_is_nothing k ≡ false → operand_kind_is_text k ≡ false
-    → ((t : List ℕ) → of_kind k o.first ≡ true → Spells o.first t → t ≡ first) → Item d s w o
+    → ((t : List ℕ) → of_kind k o.first ≡ true → SpellsOperand o.first t → t ≡ first) → WordLine d s w o
     → s ≡ line_text (word_text w) (first ∷ place_text (operand_place o.second) ∷ [])
 declared_line w k first d s o kinds some plain next h =
     let read = rw kinds at h.read in
@@ -149,13 +149,13 @@ declared_line w k first d s o kinds some plain next h =
     h.spelled ∙ ap (λ r. word_text w ++ r) (x.whole ∙ ap (λ y. operands_text (y ∷ x.two ∷ [])) (next x.one are.first x.first)
     ∙ ap (λ y. operands_text (first ∷ y ∷ [])) (home_text o.second x.two are.second x.second))
 
-pub pool_line : (d : Draft) (s : List ℕ) (o : Operands) → Item d s word.Pool o → s ≡ line_text (codes "pool") (place_text (pool.Own (length d.pools)) ∷ place_text (operand_place o.second) ∷ [])
+pub pool_line : (d : Draft) (s : List ℕ) (o : Operands) → WordLine d s word.Pool o → s ≡ line_text (codes "pool") (place_text (pool.Own (length d.pools)) ∷ place_text (operand_place o.second) ∷ [])
 unfolding word_kinds word_text judged
 pool_line d s o h =
     let n = length d.pools in
     declared_line word.Pool kind.Pool (place_text (pool.Own n)) d s o refl refl refl (λ t k. next_place n o.first t k (declaration n n o h.sound).next) h
 
-pub brigade_line : (d : Draft) (s : List ℕ) (o : Operands) → Item d s word.Brigade o → s ≡ line_text (codes "brigade") (own_text (length d.brigades) ∷ place_text (operand_place o.second) ∷ [])
+pub brigade_line : (d : Draft) (s : List ℕ) (o : Operands) → WordLine d s word.Brigade o → s ≡ line_text (codes "brigade") (own_text (length d.brigades) ∷ place_text (operand_place o.second) ∷ [])
 unfolding word_kinds word_text judged
 brigade_line d s o h =
     let n = length d.brigades in
@@ -174,13 +174,14 @@ kept t first second third same text clear =
     let held = λ (rs : List Raw) (x : AreTexted _ rs). subst (λ ts. AreTexted ts rs) same x in
     telling t.a t.b t.c first second third text clear (held t.a t.texts_a) (held t.b t.texts_b) (held t.c t.texts_c)
 
-tell_module : (d : Draft) (n : ℕ) (ss : List (List ℕ)) (s : List ℕ) (o : Operands) → Item d s word.Module o → PartTold part.Start d ss → PartTold part.Pools (with_part d part.Pools n) (ss ++ s ∷ [])
+tell_module : (d : Draft) (n : ℕ) (ss : List (List ℕ)) (s : List ℕ) (o : Operands) → WordLine d s word.Module o → PartTold part.Start d ss
+    → PartTold part.Pools (with_part d part.Pools n) (ss ++ s ∷ [])
 tell_module d n ss s o h t =
     kept t t.first t.second t.third refl
     (ap (λ x. x ++ s ∷ []) t.text ∙ ap (λ x. x ∷ []) (module_line d s o h) ∙ ap (λ ps. codes "module 1" ∷ pool_texts 0 ps) (sym t.clear.0))
     (t.clear.1, t.clear.2, t.clear.3, t.clear.4)
 
-tell_pool : (d : Draft) (ss : List (List ℕ)) (s : List ℕ) (o : Operands) → Item d s word.Pool o → PartTold part.Pools d ss
+tell_pool : (d : Draft) (ss : List (List ℕ)) (s : List ℕ) (o : Operands) → WordLine d s word.Pool o → PartTold part.Pools d ss
     → PartTold part.Pools (record d { pools = d.pools ++ operand_place o.second ∷ [] }) (ss ++ s ∷ [])
 tell_pool d ss s o h t =
     let q = operand_place o.second in
@@ -195,7 +196,7 @@ all_pools d ss t =
     kept t t.first t.second t.third refl (t.text ∙ sym (append-nil (head_of d)) ∙ ap (λ bs. head_of d ++ brigade_texts 0 bs) (sym t.clear.0))
     (t.clear.1, t.clear.2, t.clear.3)
 
-tell_brigade : (d : Draft) (ss : List (List ℕ)) (s : List ℕ) (o : Operands) → Item d s word.Brigade o → PartTold part.Brigades d ss
+tell_brigade : (d : Draft) (ss : List (List ℕ)) (s : List ℕ) (o : Operands) → WordLine d s word.Brigade o → PartTold part.Brigades d ss
     → PartTold part.Brigades (record d { part = part.Brigades; brigades = d.brigades ++ operand_place o.second ∷ [] }) (ss ++ s ∷ [])
 tell_brigade d ss s o h t =
     let q = operand_place o.second in
@@ -205,28 +206,28 @@ tell_brigade d ss s o h t =
     (brigade_line d s o h ∙ ap (λ k. line_text (codes "brigade") (own_text k ∷ place_text q ∷ [])) (sym z)) ∙ ap (λ x. head_of d ++ x) (sym (brigade_texts-push 0 d.brigades q)))
     t.clear
 
-tell_open : (d : Draft) (n : ℕ) (ss : List (List ℕ)) (s : List ℕ) (o : Operands) → Item d s word.Open o → PartTold part.Brigades d ss → PartTold part.Open (with_part d part.Open n) (ss ++ s ∷ [])
+tell_open : (d : Draft) (n : ℕ) (ss : List (List ℕ)) (s : List ℕ) (o : Operands) → WordLine d s word.Open o → PartTold part.Brigades d ss → PartTold part.Open (with_part d part.Open n) (ss ++ s ∷ [])
 unfolding word_kinds word_text
 tell_open d n ss s o h t =
     kept t (record { labels = t.first.labels; steps = t.first.steps; lines = t.first.lines }) t.second t.third refl
     (ap (λ x. x ++ s ∷ []) t.text ∙ ap (λ x. declared_of d ++ x ∷ []) (bare_line word.Open d s o refl h) ∙ ap (λ r. declared_of d ++ (codes "open" ∷ map raw_text r)) (sym t.clear.0))
     (t.clear.1, t.clear.2)
 
-tell_init : (d : Draft) (n : ℕ) (ss : List (List ℕ)) (s : List ℕ) (o : Operands) → Item d s word.Init o → PartTold part.Open d ss → PartTold part.Init (with_part d part.Init n) (ss ++ s ∷ [])
+tell_init : (d : Draft) (n : ℕ) (ss : List (List ℕ)) (s : List ℕ) (o : Operands) → WordLine d s word.Init o → PartTold part.Open d ss → PartTold part.Init (with_part d part.Init n) (ss ++ s ∷ [])
 unfolding word_kinds word_text
 tell_init d n ss s o h t =
     kept t t.first (record { labels = t.second.labels; steps = t.second.steps; lines = t.second.lines }) t.third refl
     (ap (λ x. x ++ s ∷ []) t.text ∙ ap (λ x. opened d t.a ++ x ∷ []) (bare_line word.Init d s o refl h) ∙ ap (λ r. opened d t.a ++ (codes "init" ∷ map raw_text r)) (sym t.clear.0))
     t.clear.1
 
-tell_main : (d : Draft) (n : ℕ) (ss : List (List ℕ)) (s : List ℕ) (o : Operands) → Item d s word.Main o → PartTold part.Init d ss → PartTold part.Main (with_part d part.Main n) (ss ++ s ∷ [])
+tell_main : (d : Draft) (n : ℕ) (ss : List (List ℕ)) (s : List ℕ) (o : Operands) → WordLine d s word.Main o → PartTold part.Init d ss → PartTold part.Main (with_part d part.Main n) (ss ++ s ∷ [])
 unfolding word_kinds word_text
 tell_main d n ss s o h t =
     kept t t.first t.second (record { labels = t.third.labels; steps = t.third.steps; lines = t.third.lines }) refl
     (ap (λ x. x ++ s ∷ []) t.text ∙ ap (λ x. begun d t.a t.b ++ x ∷ []) (bare_line word.Main d s o refl h) ∙ ap (λ r. begun d t.a t.b ++ (codes "main" ∷ map raw_text r)) (sym t.clear))
     tt
 
-tell_end : (d : Draft) (n : ℕ) (ss : List (List ℕ)) (s : List ℕ) (o : Operands) → Item d s word.End o → PartTold part.Main d ss → PartTold part.End (with_part d part.End n) (ss ++ s ∷ [])
+tell_end : (d : Draft) (n : ℕ) (ss : List (List ℕ)) (s : List ℕ) (o : Operands) → WordLine d s word.End o → PartTold part.Main d ss → PartTold part.End (with_part d part.End n) (ss ++ s ∷ [])
 unfolding word_kinds word_text
 tell_end d n ss s o h t =
     kept t t.first t.second t.third refl (ap (λ x. x ++ s ∷ []) t.text ∙ ap (λ x. served d t.a t.b t.c ++ x ∷ []) (bare_line word.End d s o refl h)) tt
@@ -234,7 +235,7 @@ tell_end d n ss s o h t =
 -- a step that is read into the handler of this part, and a label
 abbrev Did : Part → Type 0
 Did q = (d : Draft) (us : List (List ℕ)) (ss : List (List ℕ)) (s : List ℕ) (st : DraftStep) (name w : List ℕ) → PartTold q d ss → s ≡ raw_text (did st name w)
-    → IsWritten st name
+    → HasWrittenOperands st name
     → IfSome (target (op_instr st.op st.operands st.text 0)) (λ _. is_name name ≡ true) → IsTexted (d.texts ++ us) st w
     → PartTold q (step_added q (record d { texts = d.texts ++ us }) st) (ss ++ s ∷ [])
 
@@ -286,7 +287,7 @@ marked_main d n ss s name t e named =
 
 -- a statement that begins with this word
 abbrev OnWord : Word → Type 0
-OnWord w = (q : Part) (d : Draft) (n : ℕ) (bytes : List ℕ) (ss : List (List ℕ)) (s : List ℕ) (o : Operands) → d.part ≡ q → is_due q w ≡ true → Item d s w o
+OnWord w = (q : Part) (d : Draft) (n : ℕ) (bytes : List ℕ) (ss : List (List ℕ)) (s : List ℕ) (o : Operands) → d.part ≡ q → is_due q w ≡ true → WordLine d s w o
     → PartTold q d ss
     → PartTold (item_entered d n bytes w o).part (item_entered d n bytes w o) (ss ++ s ∷ [])
 
@@ -326,7 +327,7 @@ same_part part.Init d st = refl
 same_part _ d st = refl
 
 op_done : (q : Part) → Did q → (i : Op) (d : Draft) (n : ℕ) (bytes : List ℕ) (ss : List (List ℕ)) (s : List ℕ) (o : Operands) → d.part ≡ q
-    → from_quote bytes ≡ from_quote s → Item d s (word.Op i) o → PartTold q d ss
+    → from_quote bytes ≡ from_quote s → WordLine d s (word.Op i) o → PartTold q d ss
     → PartTold (step_entered d n bytes i o).part (step_entered d n bytes i o) (ss ++ s ∷ [])
 op_done q done i d n bytes ss s o e u h t =
     let x = op_spelled d s i o (length d.texts) h in
@@ -338,14 +339,14 @@ op_done q done i d n bytes ss s o e u h t =
     (sym (same_part q next st ∙ e)) (done d (step_texts o bytes) ss s st x.name x.text t x.spelled (x.len, x.same) x.named one))
 
 on_op : (q : Part) (i : Op) (d : Draft) (n : ℕ) (bytes : List ℕ) (ss : List (List ℕ)) (s : List ℕ) (o : Operands) → d.part ≡ q
-    → is_due q (word.Op i) ≡ true → from_quote bytes ≡ from_quote s → Item d s (word.Op i) o → PartTold q d ss → PartTold (step_entered d n bytes i o).part
+    → is_due q (word.Op i) ≡ true → from_quote bytes ≡ from_quote s → WordLine d s (word.Op i) o → PartTold q d ss → PartTold (step_entered d n bytes i o).part
     (step_entered d n bytes i o) (ss ++ s ∷ [])
 on_op part.Open i d n bytes ss s o e due = op_done part.Open did_open i d n bytes ss s o e
 on_op part.Init i d n bytes ss s o e due = op_done part.Init did_init i d n bytes ss s o e
 on_op part.Main i d n bytes ss s o e due = op_done part.Main did_main i d n bytes ss s o e
 on_op _ i d n bytes ss s o e due = absurd (cc due)
 
-on_item : (d : Draft) (n : ℕ) (bytes : List ℕ) (ss : List (List ℕ)) (s : List ℕ) (w : Word) (o : Operands) → from_quote bytes ≡ from_quote s → Item d s w o → PartTold d.part d ss
+on_item : (d : Draft) (n : ℕ) (bytes : List ℕ) (ss : List (List ℕ)) (s : List ℕ) (w : Word) (o : Operands) → from_quote bytes ≡ from_quote s → WordLine d s w o → PartTold d.part d ss
     → PartTold (item_entered d n bytes w o).part (item_entered d n bytes w o) (ss ++ s ∷ [])
 on_item d n bytes ss s word.Module o u h t = on_module d.part d n bytes ss s o refl h.due h t
 on_item d n bytes ss s word.Pool o u h t = on_pool d.part d n bytes ss s o refl h.due h t

@@ -4,7 +4,7 @@ use Rattle.std.specs.Prelude.{All, IfSome}
 use Rattle.std.specs.Cmp.Lexicographic.{pointwise}
 use Rattle.std.proofs.lemmas.Bool.{both_ways, or_parts}
 use Rattle.module_lang.specs.Handlers.{is_named, label_of, op_instr, step_code, target_place}
-use Rattle.module_lang.specs.Texts.{CodeLine, label, step, code_text, instrs, labels_from, AreLabels, AreSpelled, IsApart}
+use Rattle.module_lang.specs.Texts.{CodeLine, label, step, code_text, instrs, labels_from, HasLabelsBelow, AreSpelled, IsApart}
 use Rattle.byte_text.specs.QuotedTexts.{Spells}
 use Rattle.module_code.specs.Program.{Program, text_at, text_of_instr}
 use Rattle.module_lang.specs.declared.draft.Label.{Label}
@@ -12,7 +12,7 @@ use Rattle.module_code.specs.declared.operand.Operands.{Operands}
 use Rattle.module_code.specs.declared.word.Op.{Op}
 use Rattle.module_code.specs.declared.word.Op.TheVariants as op
 use Rattle.module_lang.proofs.RawLines.{AreBuilt, AreTexted, Raw, marked, did, raw_labels, raw_steps, raw_text}
-use Rattle.module_lang.proofs.LabelLaws.{Marked, Named, same_name}
+use Rattle.module_lang.proofs.LabelLaws.{Marked, HaveThoseNames, same_name}
 use Rattle.byte_text.proofs.ListLaws.{all_tail, some_both}
 use Rattle.module_lang.proofs.SpellingLaws.{padded}
 
@@ -61,13 +61,13 @@ labels_marked base n k ls (did s name w ∷ rs) q h = labels_marked base (n + 1)
 
 -- labels without a fault have names, instructions follow them, and they are distinct
 pub labels_good : (base n k to count : ℕ) (ls all : List Label) (rs : List Raw) → k ≡ base + n → to ≡ base + count → AreBuilt n rs → All (λ l. l.place < count) (raw_labels rs)
-    → AreLabels to (labels_from k (map (line_of base all) rs))
+    → HasLabelsBelow to (labels_from k (map (line_of base all) rs))
 labels_good base n k to count ls all [] q r h a = tt
 labels_good base n k to count ls all (marked l name ∷ rs) q r h a =
     (h.0, (let low = a 0 l (omega arith) in omega (arith, h.2)), labels_good base n k to count ls all rs q r h.3 (all_tail (λ l. l.place < count) l (raw_labels rs) a))
 labels_good base n k to count ls all (did s name w ∷ rs) q r h a = labels_good base (n + 1) (k + 1) to count ls all rs (omega arith) r h.2 a
 
-pub unnamed_apart : (q : List ℕ) (ls : List Label) (xs : List (List ℕ × ℕ)) → Named ls xs → is_named (padded q) ls ≡ false → IsApart q xs
+pub unnamed_apart : (q : List ℕ) (ls : List Label) (xs : List (List ℕ × ℕ)) → HaveThoseNames ls xs → is_named (padded q) ls ≡ false → IsApart q xs
 unnamed_apart q [] [] n h = tt
 unnamed_apart q [] (x ∷ xs) n h = absurd n
 unnamed_apart q (l ∷ ls) [] n h = absurd n

@@ -29,7 +29,7 @@ use Rattle.module_lang.proofs.FoundLaws.{PartTold, served}
 use Rattle.module_lang.proofs.RawLines.{AreTexted, Built, Raw, raw_labels, raw_steps, raw_text}
 use Rattle.module_lang.proofs.FoundModule.{instrs_same, labels_good, labels_marked, line_of, lines_spelled, texts_same}
 use Rattle.module_lang.proofs.FoundText.{cut_lines, fold_told}
-use Rattle.module_lang.proofs.LabelLaws.{Marked, Named, named-append, named_of, names_of}
+use Rattle.module_lang.proofs.LabelLaws.{Marked, HaveThoseNames, named-append, named_of, names_of}
 use Rattle.module_lang.proofs.LineLaws.{bind_ok}
 use Rattle.module_lang.proofs.SaysLaws.{line_says}
 use Rattle.module_lang.proofs.ModuleLaws.{labels_below, module_of, resolved}
@@ -127,11 +127,11 @@ body_of base h rs = map (line_of base h.labels) rs
 record HasLines (m : Program) (bs : List (List ℕ × ℕ)) (h : HandlerLines) (rs : List Raw) (code after : List Instr) : Type 0 where
   whole : after ≡ code ++ instrs (body_of (length code) h rs)
   good : IsCode m (length code) (body_of (length code) h rs)
-  named : Named h.labels (labels_from (length code) (body_of (length code) h rs))
+  named : HaveThoseNames h.labels (labels_from (length code) (body_of (length code) h rs))
   distinct : AreDistinct (bs ++ labels_from (length code) (body_of (length code) h rs))
 
 handler_lines : (m : Program) (before : List Label) (bs : List (List ℕ × ℕ)) (h : HandlerLines) (rs : List Raw) (code after : List Instr) → Built rs h → handler_resolved before h code ≡ Ok after
-    → Named before bs → AreDistinct bs → AreTexted m.texts rs → HasLines m bs h rs code after
+    → HaveThoseNames before bs → AreDistinct bs → AreTexted m.texts rs → HasLines m bs h rs code after
 handler_lines m before bs h rs code after b e n d w =
     let r = resolved before h code after e in
     let base = length code in

@@ -16,8 +16,8 @@ use Rattle.module_lang.specs.declared.handler.LineFault.{LineFault}
 use Rattle.module_code.specs.declared.instr.Instr.{Instr}
 use Rattle.module_lang.specs.declared.refusal.Code.{Code}
 use Rattle.module_lang.specs.declared.refusal.Code.TheVariants as code
-use Rattle.module_lang.proofs.FirstOf.{Tells, or_later, tells_else, tells_here, tells_sooner}
-use Rattle.module_lang.proofs.LineOrder.{HasLines, IsOrdered, Ordered, Rises, rises_le}
+use Rattle.module_lang.proofs.FirstOf.{TellsFirst, or_later, tells_else, tells_here, tells_sooner}
+use Rattle.module_lang.proofs.LineOrder.{HasLines, IsOrdered, Ordered, LinesRise, rises_le}
 use Rattle.module_lang.proofs.TextFaults.{or_fault}
 
 abbrev label_line : Label → ℕ
@@ -26,20 +26,20 @@ label_line l = l.line
 abbrev step_line : DraftStep → ℕ
 step_line s = s.line
 
-labels_within : (before : List Label) (count k n : ℕ) (ls : List Label) (m : ℕ) (c : Code) → Rises label_line k n ls → LabelsHaveCode before count ls m c → (k ≤ m) × (m < n)
+labels_within : (before : List Label) (count k n : ℕ) (ls : List Label) (m : ℕ) (c : Code) → LinesRise label_line k n ls → LabelsHaveCode before count ls m c → (k ≤ m) × (m < n)
 labels_within before count k n [] m c r h = absurd h
 labels_within before count k n (l ∷ ls) m c r (inl h) = let x = h.0 in let y = r.0 in let z = rises_le label_line (l.line + 1) n ls r.1 in (omega (arith, x, y), omega (arith, x, z))
 labels_within before count k n (l ∷ ls) m c r (inr h) = let x = labels_within (before ++ l ∷ []) count (l.line + 1) n ls m c r.1 h in let y = r.0 in let z = x.0 in (omega (arith, y, z), x.1)
 
-steps_within : (labels : List Label) (k n : ℕ) (ss : List DraftStep) (m : ℕ) (c : Code) → Rises step_line k n ss → StepsHaveCode labels ss m c → (k ≤ m) × (m < n)
+steps_within : (labels : List Label) (k n : ℕ) (ss : List DraftStep) (m : ℕ) (c : Code) → LinesRise step_line k n ss → StepsHaveCode labels ss m c → (k ≤ m) × (m < n)
 steps_within labels k n [] m c r h = absurd h
 steps_within labels k n (s ∷ ss) m c r (inl h) = let x = h.0 in let y = r.0 in let z = rises_le step_line (s.line + 1) n ss r.1 in (omega (arith, x, y), omega (arith, x, z))
 steps_within labels k n (s ∷ ss) m c r (inr h) = let x = steps_within labels (s.line + 1) n ss m c r.1 h in let y = r.0 in let z = x.0 in (omega (arith, y, z), x.1)
 
-labels_tell : (before : List Label) (count k n : ℕ) (ls : List Label) → Rises label_line k n ls → Tells (label_fault before count ls) (LabelsHaveCode before count ls)
+labels_tell : (before : List Label) (count k n : ℕ) (ls : List Label) → LinesRise label_line k n ls → TellsFirst (label_fault before count ls) (LabelsHaveCode before count ls)
 labels_tell before count k n [] r = λ m c h. h
 labels_tell before count k n (l ∷ ls) r =
-    subst (λ o. Tells o (LabelsHaveCode before count (l ∷ ls))) (same (is_named l.name before) (leb count l.place) (label_fault (before ++ l ∷ []) count ls))
+    subst (λ o. TellsFirst o (LabelsHaveCode before count (l ∷ ls))) (same (is_named l.name before) (leb count l.place) (label_fault (before ++ l ∷ []) count ls))
     (tells_here l.line (label_has_code before count l) (LabelsHaveCode (before ++ l ∷ []) count ls) (label_fault (before ++ l ∷ []) count ls)
     (λ m c h. let x = (labels_within (before ++ l ∷ []) count (l.line + 1) n ls m c r.1 h).0 in omega (arith, x)) (labels_tell (before ++ l ∷ []) count (l.line + 1) n ls r.1))
   where
@@ -49,10 +49,10 @@ labels_tell before count k n (l ∷ ls) r =
     same false true o = refl
     same false false o = refl
 
-steps_tell : (labels : List Label) (k n : ℕ) (ss : List DraftStep) → Rises step_line k n ss → Tells (jump_fault labels ss) (StepsHaveCode labels ss)
+steps_tell : (labels : List Label) (k n : ℕ) (ss : List DraftStep) → LinesRise step_line k n ss → TellsFirst (jump_fault labels ss) (StepsHaveCode labels ss)
 steps_tell labels k n [] r = λ m c h. h
 steps_tell labels k n (s ∷ ss) r =
-    subst (λ o. Tells o (StepsHaveCode labels (s ∷ ss))) (same (is_lost labels s.operands) (jump_fault labels ss)) (tells_here s.line (step_has_code labels s) (StepsHaveCode labels ss)
+    subst (λ o. TellsFirst o (StepsHaveCode labels (s ∷ ss))) (same (is_lost labels s.operands) (jump_fault labels ss)) (tells_here s.line (step_has_code labels s) (StepsHaveCode labels ss)
     (jump_fault labels ss) (λ m c h. let x = (steps_within labels (s.line + 1) n ss m c r.1 h).0 in omega (arith, x)) (steps_tell labels (s.line + 1) n ss r.1))
   where
     same : (a : Bool) (o : Option LineFault) → or_later s.line (cond a (Err code.LostLabel) (Ok tt)) o ≡ cond a (fault s.line code.LostLabel) o
@@ -94,14 +94,14 @@ module _ (before : List Label) (n : ℕ) (h : HandlerLines) (o : HasLines n h) w
   handler_within m c (inl x) = let e = x.0 in let z = rises_le label_line (h.line + 1) n h.labels o.labels in (omega (arith, e), omega (arith, e, z))
   handler_within m c (inr x) = let y = inner_within m c x in let z = y.0 in (omega (arith, z), y.1)
 
-  inner_tells : Tells (sooner (label_fault before (length h.steps) h.labels) (jump_fault h.labels h.steps)) (λ m c. Labels m c ⊎ FaultSteps m c)
+  inner_tells : TellsFirst (sooner (label_fault before (length h.steps) h.labels) (jump_fault h.labels h.steps)) (λ m c. Labels m c ⊎ FaultSteps m c)
   inner_tells = tells_sooner _ _ Labels FaultSteps (λ m c e x y. let a = label_low before (length h.steps) h.labels m c x in let b = step_high h.labels h.steps m e y in omega (arith, a, b))
       (labels_tell before (length h.steps) (h.line + 1) n h.labels o.labels) (steps_tell h.labels (h.line + 1) n h.steps o.steps)
 
-  handler_tells : Tells (handler_fault before h) (HandlerHasCode before h)
+  handler_tells : TellsFirst (handler_fault before h) (HandlerHasCode before h)
   unfolding handler_fault
   handler_tells =
-      subst (λ x. Tells x (HandlerHasCode before h)) (same (ends_open h.steps) (sooner (label_fault before (length h.steps) h.labels) (jump_fault h.labels h.steps)))
+      subst (λ x. TellsFirst x (HandlerHasCode before h)) (same (ends_open h.steps) (sooner (label_fault before (length h.steps) h.labels) (jump_fault h.labels h.steps)))
       (tells_here h.line (header_has_code h) (λ m c. Labels m c ⊎ FaultSteps m c) (sooner (label_fault before (length h.steps) h.labels) (jump_fault h.labels h.steps))
       (λ m c x. let z = (inner_within m c x).0 in omega (arith, z)) inner_tells)
     where
@@ -114,10 +114,10 @@ abbrev pub draft_fault : Draft → Option LineFault
 draft_fault d =
     or_else (handler_fault [] d.open) (or_else (handler_fault d.open.labels d.init) (handler_fault (d.open.labels ++ d.init.labels) d.main))
 
-pub draft_tells : (k : ℕ) (d : Draft) → is_end d.part ≡ true → IsOrdered k d → Tells (draft_fault d) (DraftHasCode d)
+pub draft_tells : (k : ℕ) (d : Draft) → is_end d.part ≡ true → IsOrdered k d → TellsFirst (draft_fault d) (DraftHasCode d)
 draft_tells k d e o = in_part d.part e o
   where
-    ordered : HasLines d.init.line d.open → HasLines d.main.line d.init → (n : ℕ) → HasLines n d.main → Tells (draft_fault d) (DraftHasCode d)
+    ordered : HasLines d.init.line d.open → HasLines d.main.line d.init → (n : ℕ) → HasLines n d.main → TellsFirst (draft_fault d) (DraftHasCode d)
     ordered a b n c =
         tells_else _ _ (HandlerHasCode [] d.open) (λ m e. HandlerHasCode d.open.labels d.init m e ⊎ HandlerHasCode (d.open.labels ++ d.init.labels) d.main m e) d.init.line
         (λ m e x. (handler_within [] d.init.line d.open a m e x).1) behind (handler_tells [] d.init.line d.open a) (tells_else _ _ (HandlerHasCode d.open.labels d.init)
@@ -129,7 +129,7 @@ draft_tells k d e o = in_part d.part e o
         behind m e (inr x) = let y = (handler_within (d.open.labels ++ d.init.labels) n d.main c m e x).0 in let z = rises_le label_line (d.init.line + 1) d.main.line d.init.labels b.labels in
             omega (arith, y, z)
 
-    in_part : (p : Part) → is_end p ≡ true → Ordered p k d → Tells (draft_fault d) (DraftHasCode d)
+    in_part : (p : Part) → is_end p ≡ true → Ordered p k d → TellsFirst (draft_fault d) (DraftHasCode d)
     in_part part.End q x = ordered x.0 x.1 x.2.0 x.2.1
     in_part _ q x = absurd (cc q)
 

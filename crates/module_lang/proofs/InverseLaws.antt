@@ -59,21 +59,21 @@ unfolding word_at
 word_spelled t w h = sym (same_text (word_text w) t (sym (found_passes (λ x. pointwise nat_eq (word_text x) t) all_words w h)))
 
 -- a token was read as an operand
-pub record Reads (k : OperandKind) (rest : List ℕ) (o : Operand) : Type 0 where
+pub record ReadsOperand (k : OperandKind) (rest : List ℕ) (o : Operand) : Type 0 where
   pub token : List ℕ
   pub read : operand_in k token ≡ Some o
   pub spelled : rest ≡ 32 ∷ (token ++ after_operand k rest)
 
-pub read_token : (k : OperandKind) (rest : List ℕ) (o : Operand) → operand_kind_is_nothing k ≡ false → operand_kind_is_text k ≡ false → operand_at k rest ≡ Ok o → Reads k rest o
+pub read_token : (k : OperandKind) (rest : List ℕ) (o : Operand) → operand_kind_is_nothing k ≡ false → operand_kind_is_text k ≡ false → operand_at k rest ≡ Ok o → ReadsOperand k rest o
 unfolding operand_at after_operand
 read_token k [] o n q h = let z = rw n at h in absurd (cc z)
 read_token k (b ∷ bs) o n q h = space (eqb b 32) refl (rw (n, q) at h)
   where
-    some : (r : Option Operand) → operand_in k (token bs) ≡ r → b ≡ 32 → or_wrong r ≡ Ok o → Reads k (b ∷ bs) o
+    some : (r : Option Operand) → operand_in k (token bs) ≡ r → b ≡ 32 → or_wrong r ≡ Ok o → ReadsOperand k (b ∷ bs) o
     some None e s h = absurd (cc h)
     some (Some x) e s h = record { token = token bs; read = e ∙ (let z : x ≡ o = cc h in ap Some z); spelled = rw (n, q, s) (ap (λ ys. 32 ∷ ys) (tokens bs)) }
 
-    space : (x : Bool) → eqb b 32 ≡ x → cond (not x) (Err code.WrongOperands) (or_wrong (operand_in k (token bs))) ≡ Ok o → Reads k (b ∷ bs) o
+    space : (x : Bool) → eqb b 32 ≡ x → cond (not x) (Err code.WrongOperands) (or_wrong (operand_in k (token bs))) ≡ Ok o → ReadsOperand k (b ∷ bs) o
     space false e h = absurd (cc h)
     space true e h = some (operand_in k (token bs)) refl (eqb-true b 32 e) h
 
@@ -95,50 +95,50 @@ numbered_spelled letter t i h =
     two (x ∷ y ∷ z ∷ zs) n p q = absurd (omega (arith, n))
 
 -- an operand and the tokens that spell it
-abbrev pub Spells : Operand → List ℕ → Type 0
-Spells operand.Nothing t = ⊥
-Spells operand.One t = t ≡ codes "1"
-Spells (operand.Place p) t = t ≡ place_text p
-Spells (operand.Brigade b) t = t ≡ brigade_text b
-Spells (operand.Ending s) t = t ≡ status_text s
-Spells (operand.Label n) t = (is_name t ≡ true) × (n ≡ padded t)
-Spells (operand.Text n) t = ⊥
-Spells (operand.Value v) t = (t ≡ value_text v) × (is_value v ≡ true)
-Spells (operand.Cursor c) t = (t ≡ cursor_text c) × (ltb c 8 ≡ true)
-Spells (operand.KindTest k) t = t ≡ kind_test_text k
+abbrev pub SpellsOperand : Operand → List ℕ → Type 0
+SpellsOperand operand.Nothing t = ⊥
+SpellsOperand operand.One t = t ≡ codes "1"
+SpellsOperand (operand.Place p) t = t ≡ place_text p
+SpellsOperand (operand.Brigade b) t = t ≡ brigade_text b
+SpellsOperand (operand.Ending s) t = t ≡ status_text s
+SpellsOperand (operand.Label n) t = (is_name t ≡ true) × (n ≡ padded t)
+SpellsOperand (operand.Text n) t = ⊥
+SpellsOperand (operand.Value v) t = (t ≡ value_text v) × (is_value v ≡ true)
+SpellsOperand (operand.Cursor c) t = (t ≡ cursor_text c) × (ltb c 8 ≡ true)
+SpellsOperand (operand.KindTest k) t = t ≡ kind_test_text k
 
-to : (o x : Operand) (t : List ℕ) → Some x ≡ Some o → Spells x t → Spells o t
-to o x t e h = let s : x ≡ o = cc e in subst (λ y. Spells y t) s h
+to : (o x : Operand) (t : List ℕ) → Some x ≡ Some o → SpellsOperand x t → SpellsOperand o t
+to o x t e h = let s : x ≡ o = cc e in subst (λ y. SpellsOperand y t) s h
 
 pub own_is : (b : ℕ) → b < 8 → own_text b ≡ brigade_text b
 own_is b h = let e : eqb b 8 ≡ false = ne_eqb b 8 (λ e. omega arith) in rw e refl
 
-number_place : (n : Option ℕ) (t : List ℕ) (o : Operand) → numbered 112 t ≡ n → option_map (λ i. operand.Place (pool.Own i)) n ≡ Some o → Spells o t
+number_place : (n : Option ℕ) (t : List ℕ) (o : Operand) → numbered 112 t ≡ n → option_map (λ i. operand.Place (pool.Own i)) n ≡ Some o → SpellsOperand o t
 number_place None t o q e = absurd (cc e)
 number_place (Some i) t o q e = to o (operand.Place (pool.Own i)) t e (numbered_spelled 112 t i q)
 
-number_brigade : (n : Option ℕ) (t : List ℕ) (o : Operand) → numbered 98 t ≡ n → option_map (λ i. operand.Brigade i) n ≡ Some o → Spells o t
+number_brigade : (n : Option ℕ) (t : List ℕ) (o : Operand) → numbered 98 t ≡ n → option_map (λ i. operand.Brigade i) n ≡ Some o → SpellsOperand o t
 number_brigade None t o q e = absurd (cc e)
 number_brigade (Some i) t o q e = to o (operand.Brigade i) t e (numbered_spelled 98 t i q ∙ own_is i (numbered_below 98 t i q))
 
 place_spelled : (a b : Bool) (t : List ℕ) (o : Operand) → pointwise nat_eq t (codes "conn") ≡ a → pointwise nat_eq t (codes "req") ≡ b
-    → cond a (Some (operand.Place pool.Conn)) (cond b (Some (operand.Place pool.Req)) (option_map (λ i. operand.Place (pool.Own i)) (numbered 112 t))) ≡ Some o → Spells o t
+    → cond a (Some (operand.Place pool.Conn)) (cond b (Some (operand.Place pool.Req)) (option_map (λ i. operand.Place (pool.Own i)) (numbered 112 t))) ≡ Some o → SpellsOperand o t
 place_spelled true b t o p q e = to o (operand.Place pool.Conn) t e (same_text t (codes "conn") (sym p))
 place_spelled false true t o p q e = to o (operand.Place pool.Req) t e (same_text t (codes "req") (sym q))
 place_spelled false false t o p q e = number_place (numbered 112 t) t o refl e
 
 source_spelled : (a : Bool) (t : List ℕ) (o : Operand) → pointwise nat_eq t (codes "in") ≡ a → cond a (Some (operand.Brigade 8)) (option_map (λ i. operand.Brigade i) (numbered 98 t)) ≡ Some o
-    → Spells o t
+    → SpellsOperand o t
 source_spelled true t o p e = to o (operand.Brigade 8) t e (same_text t (codes "in") (sym p))
 source_spelled false t o p e = number_brigade (numbered 98 t) t o refl e
 
 ending_spelled : (a b : Bool) (t : List ℕ) (o : Operand) → pointwise nat_eq t (codes "ok") ≡ a → pointwise nat_eq t (codes "fail") ≡ b
-    → cond a (Some (operand.Ending status.Success)) (cond b (Some (operand.Ending status.Fail)) None) ≡ Some o → Spells o t
+    → cond a (Some (operand.Ending status.Success)) (cond b (Some (operand.Ending status.Fail)) None) ≡ Some o → SpellsOperand o t
 ending_spelled true b t o p q e = to o (operand.Ending status.Success) t e (same_text t (codes "ok") (sym p))
 ending_spelled false true t o p q e = to o (operand.Ending status.Fail) t e (same_text t (codes "fail") (sym q))
 ending_spelled false false t o p q e = absurd (cc e)
 
-one_spelled : (a : Bool) (t : List ℕ) (o : Operand) → pointwise nat_eq t (codes "1") ≡ a → cond a (Some operand.One) None ≡ Some o → Spells o t
+one_spelled : (a : Bool) (t : List ℕ) (o : Operand) → pointwise nat_eq t (codes "1") ≡ a → cond a (Some operand.One) None ≡ Some o → SpellsOperand o t
 one_spelled true t o p e = to o operand.One t e (same_text t (codes "1") (sym p))
 one_spelled false t o p e = absurd (cc e)
 
@@ -146,37 +146,37 @@ pub name_spelled : (t n : List ℕ) → name_of t ≡ Some n → (is_name t ≡ 
 unfolding name_of
 name_spelled t n h = let a = cond_some (is_name t) (padded t) n h in (a.0, sym a.1)
 
-label_spelled : (r : Option (List ℕ)) (t : List ℕ) (o : Operand) → name_of t ≡ r → option_map (λ n. operand.Label n) r ≡ Some o → Spells o t
+label_spelled : (r : Option (List ℕ)) (t : List ℕ) (o : Operand) → name_of t ≡ r → option_map (λ n. operand.Label n) r ≡ Some o → SpellsOperand o t
 label_spelled None t o q e = absurd (cc e)
 label_spelled (Some n) t o q e = to o (operand.Label n) t e (name_spelled t n q)
 
 variable_spelled : (a : Bool) (t : List ℕ) (o : Operand) → cond a (option_map (λ i. operand.Place (pool.Own i)) (numbered 112 t)) (option_map (λ i. operand.Brigade i) (numbered 98 t)) ≡ Some o
-    → Spells o t
+    → SpellsOperand o t
 variable_spelled true t o e = number_place (numbered 112 t) t o refl e
 variable_spelled false t o e = number_brigade (numbered 98 t) t o refl e
 
-number_spelled : (n : Option ℕ) (t : List ℕ) (o : Operand) → numbered 110 t ≡ n → option_map (λ i. operand.Value (value.Number i)) n ≡ Some o → Spells o t
+number_spelled : (n : Option ℕ) (t : List ℕ) (o : Operand) → numbered 110 t ≡ n → option_map (λ i. operand.Value (value.Number i)) n ≡ Some o → SpellsOperand o t
 number_spelled None t o q e = absurd (cc e)
 number_spelled (Some i) t o q e = to o (operand.Value (value.Number i)) t e (numbered_spelled 110 t i q, lt-ltb i 8 (numbered_below 110 t i q))
 
-constant_spelled : (n : Option ℕ) (t : List ℕ) (o : Operand) → constant_of t ≡ n → option_map (λ k. operand.Value (value.Constant k)) n ≡ Some o → Spells o t
+constant_spelled : (n : Option ℕ) (t : List ℕ) (o : Operand) → constant_of t ≡ n → option_map (λ k. operand.Value (value.Constant k)) n ≡ Some o → SpellsOperand o t
 constant_spelled None t o q e = absurd (cc e)
 constant_spelled (Some k) t o q e = let z = constant_found t k q in to o (operand.Value (value.Constant k)) t e (z.0, lt-ltb k (2 ^ 32) z.1)
 
 value_spelled : (a : Bool) (t : List ℕ) (o : Operand)
-    → cond a (option_map (λ i. operand.Value (value.Number i)) (numbered 110 t)) (option_map (λ k. operand.Value (value.Constant k)) (constant_of t)) ≡ Some o → Spells o t
+    → cond a (option_map (λ i. operand.Value (value.Number i)) (numbered 110 t)) (option_map (λ k. operand.Value (value.Constant k)) (constant_of t)) ≡ Some o → SpellsOperand o t
 value_spelled true t o e = number_spelled (numbered 110 t) t o refl e
 value_spelled false t o e = constant_spelled (constant_of t) t o refl e
 
-cursor_spelled : (n : Option ℕ) (t : List ℕ) (o : Operand) → numbered 99 t ≡ n → option_map (λ i. operand.Cursor i) n ≡ Some o → Spells o t
+cursor_spelled : (n : Option ℕ) (t : List ℕ) (o : Operand) → numbered 99 t ≡ n → option_map (λ i. operand.Cursor i) n ≡ Some o → SpellsOperand o t
 cursor_spelled None t o q e = absurd (cc e)
 cursor_spelled (Some i) t o q e = to o (operand.Cursor i) t e (numbered_spelled 99 t i q, lt-ltb i 8 (numbered_below 99 t i q))
 
-kind_test_spelled : (r : Option KindTest) (t : List ℕ) (o : Operand) → kind_test_at t ≡ r → option_map (λ k. operand.KindTest k) r ≡ Some o → Spells o t
+kind_test_spelled : (r : Option KindTest) (t : List ℕ) (o : Operand) → kind_test_at t ≡ r → option_map (λ k. operand.KindTest k) r ≡ Some o → SpellsOperand o t
 kind_test_spelled None t o q e = absurd (cc e)
 kind_test_spelled (Some k) t o q e = to o (operand.KindTest k) t e (sym (same_text (kind_test_text k) t (sym (found_passes (λ x. pointwise nat_eq (kind_test_text x) t) all_kind_tests k q))))
 
-pub token_spelled : (k : OperandKind) (t : List ℕ) (o : Operand) → operand_in k t ≡ Some o → Spells o t
+pub token_spelled : (k : OperandKind) (t : List ℕ) (o : Operand) → operand_in k t ≡ Some o → SpellsOperand o t
 unfolding operand_in
 token_spelled kind.Nothing t o e = absurd (cc e)
 token_spelled kind.One t o e = one_spelled (pointwise nat_eq t (codes "1")) t o refl e
@@ -206,7 +206,7 @@ none_spelled rest o h =
 pub record OneSpelled (k : OperandKind) (rest : List ℕ) (o : Operands) : Type 0 where
   pub token : List ℕ
   pub whole : rest ≡ operands_text (token ∷ [])
-  pub first : Spells o.first token
+  pub first : SpellsOperand o.first token
 
 pub one_taken : (k : OperandKind) (rest : List ℕ) (o : Operands) → operand_kind_is_nothing k ≡ false → operand_kind_is_text k ≡ false → operands_at (one_operand k) rest ≡ Ok o → OneSpelled k rest o
 one_taken k rest o n q h =
@@ -220,8 +220,8 @@ pub record TwoSpelled (k l : OperandKind) (rest : List ℕ) (o : Operands) : Typ
   pub one : List ℕ
   pub two : List ℕ
   pub whole : rest ≡ operands_text (one ∷ two ∷ [])
-  pub first : Spells o.first one
-  pub second : Spells o.second two
+  pub first : SpellsOperand o.first one
+  pub second : SpellsOperand o.second two
 
 pub two_taken : (k l : OperandKind) (rest : List ℕ) (o : Operands) → operand_kind_is_nothing k ≡ false → operand_kind_is_text k ≡ false → operand_kind_is_nothing l ≡ false
     → operand_kind_is_text l ≡ false → operands_at (two_operands k l) rest ≡ Ok o → TwoSpelled k l rest o
@@ -249,7 +249,7 @@ kind_test_unquoted kind_test.Data = refl
 kind_test_unquoted _ = refl
 
 -- no operand but a text has a quote
-pub token_unquoted : (o : Operand) (t : List ℕ) → Spells o t → unquoted t ≡ true
+pub token_unquoted : (o : Operand) (t : List ℕ) → SpellsOperand o t → unquoted t ≡ true
 token_unquoted operand.Nothing t h = absurd h
 token_unquoted operand.One t h = rw h refl
 token_unquoted (operand.Place p) t h = rw h (place_unquoted p)
@@ -307,7 +307,7 @@ unfolding after_operand
 text_behind r q h = rw h refl
 
 -- a line with a word, and what follows the word
-pub record Item (d : Draft) (s : List ℕ) (w : Word) (o : Operands) : Type 0 where
+pub record WordLine (d : Draft) (s : List ℕ) (w : Word) (o : Operands) : Type 0 where
   pub rest : List ℕ
   pub spelled : s ≡ word_text w ++ rest
   pub read : operands_at (word_kinds w) rest ≡ Ok o
@@ -318,7 +318,7 @@ pub record Item (d : Draft) (s : List ℕ) (w : Word) (o : Operands) : Type 0 wh
 abbrev pub Spelled : Draft → List ℕ → Line → Type 0
 Spelled d s line.Skipped = ⊥
 Spelled d s (line.Label n) = (name : List ℕ) × (s ≡ 58 ∷ name) × (is_name name ≡ true) × (n ≡ padded name) × (is_handler d.part ≡ true)
-Spelled d s (line.Item w o) = Item d s w o
+Spelled d s (line.Item w o) = WordLine d s w o
 
 pub known : (t : List ℕ) (r : Option Word) (w : Word) → word_at t ≡ r → or_unknown r ≡ Ok w → t ≡ word_text w
 known t None w q h = absurd (cc h)

@@ -8,7 +8,7 @@ use Rattle.std.proofs.lemmas.Bool.{and_parts, ne_eqb, lt-leb, false_from_ne_true
 use Rattle.std.proofs.lemmas.Cmp.{nat_list_eq_equiv}
 use Rattle.module_lang.specs.Handlers.{has_name, is_named, label_fault, place_from}
 use Rattle.module_code.specs.Names.{is_name, is_name_byte, is_letter, all_name_bytes}
-use Rattle.module_lang.specs.Texts.{CodeLine, label, step, labels_from, AreDistinct, AreLabels, IsApart, IsLabel}
+use Rattle.module_lang.specs.Texts.{CodeLine, label, step, labels_from, AreDistinct, HasLabelsBelow, IsApart, IsLabel}
 use Rattle.module_lang.specs.declared.draft.Label.{Label}
 use Rattle.module_lang.proofs.BodyLaws.{mark, marks_from}
 use Rattle.module_lang.proofs.SpellingLaws.{padded}
@@ -60,43 +60,43 @@ marked_from n m k (label x ∷ code) (l ∷ ls) q h =
 marked_from n m k (step i x s ∷ code) labels q h = marked_from n (m + 1) (k + 1) code labels (omega arith) h
 
 -- names of labels, wherever they stand
-abbrev pub Named : List Label → List (List ℕ × ℕ) → Type 0
-Named [] [] = Unit {0}
-Named [] (x ∷ xs) = ⊥
-Named (l ∷ ls) [] = ⊥
-Named (l ∷ ls) (x ∷ xs) = (l.name ≡ padded x.0) × Named ls xs
+abbrev pub HaveThoseNames : List Label → List (List ℕ × ℕ) → Type 0
+HaveThoseNames [] [] = Unit {0}
+HaveThoseNames [] (x ∷ xs) = ⊥
+HaveThoseNames (l ∷ ls) [] = ⊥
+HaveThoseNames (l ∷ ls) (x ∷ xs) = (l.name ≡ padded x.0) × HaveThoseNames ls xs
 
-pub named_of : (n : ℕ) (ls : List Label) (xs : List (List ℕ × ℕ)) → Marked n ls xs → Named ls xs
+pub named_of : (n : ℕ) (ls : List Label) (xs : List (List ℕ × ℕ)) → Marked n ls xs → HaveThoseNames ls xs
 named_of n [] [] h = tt
 named_of n [] (x ∷ xs) h = absurd h
 named_of n (l ∷ ls) [] h = absurd h
 named_of n (l ∷ ls) (x ∷ xs) h = (h.0, named_of n ls xs h.2)
 
-pub named-append : (ls ms : List Label) (xs ys : List (List ℕ × ℕ)) → Named ls xs → Named ms ys → Named (ls ++ ms) (xs ++ ys)
+pub named-append : (ls ms : List Label) (xs ys : List (List ℕ × ℕ)) → HaveThoseNames ls xs → HaveThoseNames ms ys → HaveThoseNames (ls ++ ms) (xs ++ ys)
 named-append [] ms [] ys h j = j
 named-append [] ms (x ∷ xs) ys h j = absurd h
 named-append (l ∷ ls) ms [] ys h j = absurd h
 named-append (l ∷ ls) ms (x ∷ xs) ys h j = (h.0, named-append ls ms xs ys h.1 j)
 
 -- the labels have names
-abbrev pub AreNamed : List (List ℕ × ℕ) → Type 0
-AreNamed [] = Unit {0}
-AreNamed (x ∷ xs) = (is_name x.0 ≡ true) × AreNamed xs
+abbrev pub HaveLabelNames : List (List ℕ × ℕ) → Type 0
+HaveLabelNames [] = Unit {0}
+HaveLabelNames (x ∷ xs) = (is_name x.0 ≡ true) × HaveLabelNames xs
 
-pub names_of : (to : ℕ) (xs : List (List ℕ × ℕ)) → AreLabels to xs → AreNamed xs
+pub names_of : (to : ℕ) (xs : List (List ℕ × ℕ)) → HasLabelsBelow to xs → HaveLabelNames xs
 names_of to [] h = tt
 names_of to (x ∷ xs) h = (h.0, names_of to xs h.2)
 
-pub AreNamed-append : (xs ys : List (List ℕ × ℕ)) → AreNamed xs → AreNamed ys → AreNamed (xs ++ ys)
-AreNamed-append [] ys h j = j
-AreNamed-append (x ∷ xs) ys h j = (h.0, AreNamed-append xs ys h.1 j)
+pub HaveLabelNames-append : (xs ys : List (List ℕ × ℕ)) → HaveLabelNames xs → HaveLabelNames ys → HaveLabelNames (xs ++ ys)
+HaveLabelNames-append [] ys h j = j
+HaveLabelNames-append (x ∷ xs) ys h j = (h.0, HaveLabelNames-append xs ys h.1 j)
 
 apart_at : (name : List ℕ) (bs : List (List ℕ × ℕ)) (y : List ℕ × ℕ) (rest : List (List ℕ × ℕ)) → IsApart name (bs ++ y ∷ rest) → name ≢ y.0
 apart_at name [] y rest h = h.0
 apart_at name (b ∷ bs) y rest h = apart_at name bs y rest h.1
 
 -- a label that stands nowhere before is not named before
-fresh : (before : List Label) (bs : List (List ℕ × ℕ)) (y : List ℕ × ℕ) (rest : List (List ℕ × ℕ)) → Named before bs → AreNamed bs → is_name y.0 ≡ true → AreDistinct (bs ++ y ∷ rest)
+fresh : (before : List Label) (bs : List (List ℕ × ℕ)) (y : List ℕ × ℕ) (rest : List (List ℕ × ℕ)) → HaveThoseNames before bs → HaveLabelNames bs → is_name y.0 ≡ true → AreDistinct (bs ++ y ∷ rest)
     → is_named (padded y.0) before ≡ false
 fresh [] [] y rest h v name d = refl
 fresh [] (b ∷ bs) y rest h v name d = absurd h
@@ -106,7 +106,8 @@ fresh (l ∷ ls) (b ∷ bs) y rest h v name d =
     rw apart (fresh ls bs y rest h.1 v.1 name d.1)
 
 -- labels with names of their own, which instructions follow, have no fault
-pub labels_right : (before labels : List Label) (bs xs : List (List ℕ × ℕ)) (n count : ℕ) → Named before bs → AreNamed bs → Marked n labels xs → AreLabels (n + count) xs → AreDistinct (bs ++ xs)
+pub labels_right : (before labels : List Label) (bs xs : List (List ℕ × ℕ)) (n count : ℕ) → HaveThoseNames before bs → HaveLabelNames bs → Marked n labels xs → HasLabelsBelow (n + count) xs
+    → AreDistinct (bs ++ xs)
     → label_fault before count labels ≡ None
 labels_right before [] bs xs n count b v m r d = refl
 labels_right before (l ∷ ls) bs [] n count b v m r d = absurd m
@@ -114,10 +115,12 @@ labels_right before (l ∷ ls) bs (x ∷ xs) n count b v m r d =
     let new : is_named l.name before ≡ false = rw m.0 (fresh before bs x xs b v r.0 d) in
     let low : leb count l.place ≡ false = lt-leb count l.place (omega (arith, m.1, r.1)) in
     let whole : (bs ++ x ∷ []) ++ xs ≡ bs ++ x ∷ xs = append_assoc bs (x ∷ []) xs in
-    rw (new, low) (labels_right (before ++ l ∷ []) ls (bs ++ x ∷ []) xs n count (named-append before (l ∷ []) bs (x ∷ []) b (m.0, tt)) (AreNamed-append bs (x ∷ []) v (r.0, tt)) m.2 r.2 (rw whole d))
+    rw (new, low) (labels_right (before ++ l ∷ []) ls (bs ++ x ∷ []) xs n count (named-append before (l ∷ []) bs (x ∷ []) b (m.0, tt)) (HaveLabelNames-append bs (x ∷ []) v (r.0, tt)) m.2 r.2
+    (rw whole d))
 
 -- a name that no label has leaves the place that was found
-kept : (f : Option ℕ) (name : List ℕ) (n : ℕ) (ls : List Label) (xs : List (List ℕ × ℕ)) → is_name name ≡ true → Marked n ls xs → AreNamed xs → IsApart name xs → place_from f (padded name) ls ≡ f
+kept : (f : Option ℕ) (name : List ℕ) (n : ℕ) (ls : List Label) (xs : List (List ℕ × ℕ)) → is_name name ≡ true → Marked n ls xs → HaveLabelNames xs → IsApart name xs
+    → place_from f (padded name) ls ≡ f
 kept f name n [] [] v m r a = refl
 kept f name n [] (x ∷ xs) v m r a = absurd m
 kept f name n (l ∷ ls) [] v m r a = absurd m
@@ -126,7 +129,7 @@ kept f name n (l ∷ ls) (x ∷ xs) v m r a =
     rw apart (kept f name n ls xs v m.2 r.1 a.1)
 
 -- the place of a label that is spelled
-pub place_again : (f : Option ℕ) (name : List ℕ) (t n : ℕ) (ls : List Label) (xs : List (List ℕ × ℕ)) → Marked n ls xs → AreNamed xs → AreDistinct xs → IsLabel name t xs → (k : ℕ) × (t ≡ n + k)
+pub place_again : (f : Option ℕ) (name : List ℕ) (t n : ℕ) (ls : List Label) (xs : List (List ℕ × ℕ)) → Marked n ls xs → HaveLabelNames xs → AreDistinct xs → IsLabel name t xs → (k : ℕ) × (t ≡ n + k)
     × (place_from f (padded name) ls ≡ Some k)
 place_again f name t n [] [] m r d h = absurd h
 place_again f name t n [] (x ∷ xs) m r d h = absurd m

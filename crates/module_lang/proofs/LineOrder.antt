@@ -20,26 +20,26 @@ use Rattle.module_code.specs.declared.word.Word.TheVariants as word
 use Rattle.module_lang.proofs.SaysLaws.{Says, line_says}
 
 -- numbers rise from one number to another
-abbrev pub Rises : {X : Type 0} → (X → ℕ) → ℕ → ℕ → List X → Type 0
-Rises f k n [] = k ≤ n
-Rises f k n (x ∷ xs) = (k ≤ f x) × Rises f (f x + 1) n xs
+abbrev pub LinesRise : {X : Type 0} → (X → ℕ) → ℕ → ℕ → List X → Type 0
+LinesRise f k n [] = k ≤ n
+LinesRise f k n (x ∷ xs) = (k ≤ f x) × LinesRise f (f x + 1) n xs
 
-pub rises_le : {X : Type 0} (f : X → ℕ) (k n : ℕ) (xs : List X) → Rises f k n xs → k ≤ n
+pub rises_le : {X : Type 0} (f : X → ℕ) (k n : ℕ) (xs : List X) → LinesRise f k n xs → k ≤ n
 rises_le f k n [] h = h
 rises_le f k n (x ∷ xs) h = let z = rises_le f (f x + 1) n xs h.1 in let y = h.0 in omega (arith, y, z)
 
-rises_up : {X : Type 0} (f : X → ℕ) (k n : ℕ) (xs : List X) → Rises f k n xs → Rises f k (n + 1) xs
+rises_up : {X : Type 0} (f : X → ℕ) (k n : ℕ) (xs : List X) → LinesRise f k n xs → LinesRise f k (n + 1) xs
 rises_up f k n [] h = omega (arith, h)
 rises_up f k n (x ∷ xs) h = (h.0, rises_up f (f x + 1) n xs h.1)
 
-rises_push : {X : Type 0} (f : X → ℕ) (k n : ℕ) (xs : List X) (y : X) → f y ≡ n → Rises f k n xs → Rises f k (n + 1) (xs ++ y ∷ [])
+rises_push : {X : Type 0} (f : X → ℕ) (k n : ℕ) (xs : List X) (y : X) → f y ≡ n → LinesRise f k n xs → LinesRise f k (n + 1) (xs ++ y ∷ [])
 rises_push f k n [] y e h = (omega (arith, e, h), omega (arith, e))
 rises_push f k n (x ∷ xs) y e h = (h.0, rises_push f (f x + 1) n xs y e h.1)
 
 -- the lines of a handler stand behind its own, and before line n
 pub record HasLines (n : ℕ) (h : HandlerLines) : Type 0 where
-  pub labels : Rises (λ (l : Label). l.line) (h.line + 1) n h.labels
-  pub steps : Rises (λ (s : DraftStep). s.line) (h.line + 1) n h.steps
+  pub labels : LinesRise (λ (l : Label). l.line) (h.line + 1) n h.labels
+  pub steps : LinesRise (λ (s : DraftStep). s.line) (h.line + 1) n h.steps
 
 pub record IsBlank (h : HandlerLines) : Type 0 where
   pub labels : h.labels ≡ []
@@ -50,8 +50,8 @@ more_lines n h x = record { labels = rises_up (λ (l : Label). l.line) (h.line +
 
 first_lines : (n : ℕ) (h : HandlerLines) → IsBlank h → HasLines (n + 1) (record h { line = n })
 first_lines n h b = record {
-  labels = subst (Rises (λ (l : Label). l.line) (n + 1) (n + 1)) (sym b.labels) (omega arith);
-  steps = subst (Rises (λ (s : DraftStep). s.line) (n + 1) (n + 1)) (sym b.steps) (omega arith);
+  labels = subst (LinesRise (λ (l : Label). l.line) (n + 1) (n + 1)) (sym b.labels) (omega arith);
+  steps = subst (LinesRise (λ (s : DraftStep). s.line) (n + 1) (n + 1)) (sym b.steps) (omega arith);
 }
 
 label_lines : (n : ℕ) (h : HandlerLines) (name : List ℕ) → HasLines n h → HasLines (n + 1) (with_line h n name)

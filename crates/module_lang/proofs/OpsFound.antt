@@ -17,7 +17,7 @@ use Rattle.module_code.specs.declared.word.Op.{Op}
 use Rattle.module_code.specs.declared.word.Word.TheVariants as word
 use Rattle.module_lang.proofs.ArgLaws.{args_of_read, parts_in}
 use Rattle.module_lang.proofs.ArgsFound.{ops_found, texted, written_as}
-use Rattle.module_lang.proofs.InverseLaws.{Item}
+use Rattle.module_lang.proofs.InverseLaws.{WordLine}
 use Rattle.module_lang.proofs.SpellingLaws.{padded}
 
 -- an instruction that was read, as it was spelled, where so many texts stand before it
@@ -30,7 +30,7 @@ pub record OpSpelled (i : Op) (o : Operands) (x : ℕ) (s : List ℕ) : Type 0 w
   pub named : IfSome (target (op_instr i o x 0)) (λ _. is_name name ≡ true)
   pub texted : (bytes : List ℕ) → from_quote bytes ≡ from_quote s → IfSome (text_of_instr (op_instr i o x 0)) (λ _. (w : List ℕ) × (step_texts o bytes ≡ w ∷ []) × quotes.Spells text w)
 
-pub op_spelled : (d : Draft) (s : List ℕ) (i : Op) (o : Operands) (x : ℕ) → Item d s (word.Op i) o → OpSpelled i o x s
+pub op_spelled : (d : Draft) (s : List ℕ) (i : Op) (o : Operands) (x : ℕ) → WordLine d s (word.Op i) o → OpSpelled i o x s
 unfolding word_text word_kinds
 op_spelled d s i o x h =
     let f = ops_found i o x h.rest h.read in

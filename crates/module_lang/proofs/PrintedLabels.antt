@@ -10,7 +10,7 @@ use Rattle.std.proofs.lemmas.List.Folds.{list_all-append}
 use Rattle.module_code.specs.Names.{is_name, is_name_byte, all_name_bytes}
 use Rattle.module_lang.specs.Printing.{target_name, aim, is_number, is_target, printed_code, quoted_text}
 use Rattle.module_code.specs.Program.{target, text_of_instr}
-use Rattle.module_lang.specs.Texts.{CodeLine, label, step, instrs, labels_from, AreDistinct, AreLabels, IsAimed, IsApart, IsLabel}
+use Rattle.module_lang.specs.Texts.{CodeLine, label, step, instrs, labels_from, AreDistinct, HasLabelsBelow, IsAimed, IsApart, IsLabel}
 use Rattle.module_code.specs.declared.instr.Instr.{Instr}
 
 pub line_instrs : (b : Bool) (x : List ℕ) (i : Instr) (y s : List ℕ) (ls : List CodeLine) → instrs (cond b (label x ∷ []) [] ++ step i y s ∷ ls) ≡ i ∷ instrs ls
@@ -73,11 +73,11 @@ pub names_apart : (m n : ℕ) → m < n → n < 1024 → target_name m ≢ targe
 names_apart m n low high = λ e. let same : decimal m ≡ decimal n = cc e in absurd (omega (arith, decimal_injective m n (omega arith) (omega arith) same))
 
 -- the labels have names, and an instruction follows each
-mark_named : (b : Bool) (to n : ℕ) (rest : List (List ℕ × ℕ)) → n < to → to ≤ 1024 → AreLabels to rest → AreLabels to (cond b ((target_name n, n) ∷ []) [] ++ rest)
+mark_named : (b : Bool) (to n : ℕ) (rest : List (List ℕ × ℕ)) → n < to → to ≤ 1024 → HasLabelsBelow to rest → HasLabelsBelow to (cond b ((target_name n, n) ∷ []) [] ++ rest)
 mark_named true to n rest low few h = (name_is n (omega arith), low, h)
 mark_named false to n rest low few h = h
 
-pub marks_named : (code : List Instr) (to n : ℕ) (is : List Instr) → n + length is ≤ to → to ≤ 1024 → AreLabels to (marks code n is)
+pub marks_named : (code : List Instr) (to n : ℕ) (is : List Instr) → n + length is ≤ to → to ≤ 1024 → HasLabelsBelow to (marks code n is)
 marks_named code to n [] low few = tt
 marks_named code to n (i ∷ is) low few =
     mark_named (is_target code n) to n (marks code (n + 1) is) (omega arith) few (marks_named code to (n + 1) is (omega arith) few)

@@ -36,14 +36,14 @@ raw_steps (marked l name ∷ rs) = raw_steps rs
 raw_steps (did s name w ∷ rs) = s ∷ raw_steps rs
 
 -- the operands of an instruction, where its target has this name
-abbrev pub IsWritten : DraftStep → List ℕ → Type 0
-IsWritten s name = (k : ℕ) × (s.operands ≡ operands_of (op_instr s.op s.operands s.text 0) (padded name) k)
+abbrev pub HasWrittenOperands : DraftStep → List ℕ → Type 0
+HasWrittenOperands s name = (k : ℕ) × (s.operands ≡ operands_of (op_instr s.op s.operands s.text 0) (padded name) k)
 
 -- what is known of each line, where n instructions stand before
 abbrev pub AreBuilt : ℕ → List Raw → Type 0
 AreBuilt n [] = Unit {0}
 AreBuilt n (marked l name ∷ rs) = (is_name name ≡ true) × (l.name ≡ padded name) × (l.place ≡ n) × AreBuilt n rs
-AreBuilt n (did s name w ∷ rs) = IsWritten s name × IfSome (target (op_instr s.op s.operands s.text 0)) (λ _. is_name name ≡ true) × AreBuilt (n + 1) rs
+AreBuilt n (did s name w ∷ rs) = HasWrittenOperands s name × IfSome (target (op_instr s.op s.operands s.text 0)) (λ _. is_name name ≡ true) × AreBuilt (n + 1) rs
 
 -- a handler has these lines
 pub record Built (rs : List Raw) (h : HandlerLines) : Type 0 where
@@ -77,7 +77,7 @@ built-marked n [] l name h v p q = (v, p, omega (arith, q), tt)
 built-marked n (marked x m ∷ rs) l name h v p q = (h.0, h.1, h.2, built-marked n rs l name h.3 v p q)
 built-marked n (did s m w ∷ rs) l name h v p q = (h.0, h.1, built-marked (n + 1) rs l name h.2 v p (omega (arith, q)))
 
-built-did : (n : ℕ) (rs : List Raw) (s : DraftStep) (name w : List ℕ) → AreBuilt n rs → IsWritten s name → IfSome (target (op_instr s.op s.operands s.text 0)) (λ _. is_name name ≡ true)
+built-did : (n : ℕ) (rs : List Raw) (s : DraftStep) (name w : List ℕ) → AreBuilt n rs → HasWrittenOperands s name → IfSome (target (op_instr s.op s.operands s.text 0)) (λ _. is_name name ≡ true)
     → AreBuilt n (rs ++ did s name w ∷ [])
 built-did n [] s name w h e v = (e, v, tt)
 built-did n (marked x m ∷ rs) s name w h e v = (h.0, h.1, h.2, built-did n rs s name w h.3 e v)
@@ -133,7 +133,7 @@ label_built rs h n name b v =
       lines = built-marked 0 rs l name b.lines v refl (let e = ap length b.steps in omega (arith, e));
     }
 
-pub step_built : (rs : List Raw) (h : HandlerLines) (s : DraftStep) (name w : List ℕ) → Built rs h → IsWritten s name
+pub step_built : (rs : List Raw) (h : HandlerLines) (s : DraftStep) (name w : List ℕ) → Built rs h → HasWrittenOperands s name
     → IfSome (target (op_instr s.op s.operands s.text 0)) (λ _. is_name name ≡ true) → Built (rs ++ did s name w ∷ []) (with_more h s)
 step_built rs h s name w b e v = record {
   labels = b.labels ∙ sym (labels-did rs s name w);

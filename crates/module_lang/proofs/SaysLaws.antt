@@ -8,14 +8,14 @@ use Rattle.module_lang.specs.declared.draft.Draft.{Draft}
 use Rattle.module_lang.specs.declared.lines.Line.{Line}
 use Rattle.module_lang.specs.declared.lines.Line.TheVariants as line
 use Rattle.module_lang.specs.declared.refusal.Code.TheVariants as code
-use Rattle.module_lang.proofs.InverseLaws.{Item, Spelled, item_spelled}
+use Rattle.module_lang.proofs.InverseLaws.{WordLine, Spelled, item_spelled}
 use Rattle.module_lang.proofs.LineLaws.{bind_ok, unless_ok, not_false}
 
 -- what is known of what a statement says
 abbrev pub Says : Draft → List ℕ → Line → Type 0
 Says d s line.Skipped = Unit {0}
 Says d s (line.Label name) = is_handler d.part ≡ true
-Says d s (line.Item w o) = Item d s w o
+Says d s (line.Item w o) = WordLine d s w o
 
 label_says : (d : Draft) (s bytes : List ℕ) (x : Line) → label_read d bytes ≡ Ok x → Says d s x
 label_says d s bytes x h =

@@ -20,7 +20,7 @@ use Rattle.module_code.specs.declared.operand.Operands.{Operands}
 use Rattle.module_code.specs.declared.word.Op.{Op}
 use Rattle.module_lang.proofs.ArgLaws.{instr_again, label_target}
 use Rattle.module_lang.proofs.BodyLaws.{AreRight, Matches, bare, bares, steps-length, written}
-use Rattle.module_lang.proofs.LabelLaws.{AreNamed, Marked, Named, labels_right, marked_from, names_of, place_again}
+use Rattle.module_lang.proofs.LabelLaws.{HaveLabelNames, Marked, HaveThoseNames, labels_right, marked_from, names_of, place_again}
 use Rattle.module_lang.proofs.SliceLaws.{front_item, back_item}
 use Rattle.module_lang.proofs.SpellingLaws.{padded, text_len}
 
@@ -31,7 +31,7 @@ distinct_back (b ∷ bs) xs d = distinct_back bs xs d.1
 -- what is known of the labels of a handler
 record AreHandled (n : ℕ) (labels : List Label) (xs : List (List ℕ × ℕ)) : Type 0 where
   marked : Marked n labels xs
-  named : AreNamed xs
+  named : HaveLabelNames xs
   distinct : AreDistinct xs
 
 lost_none : (n : ℕ) (labels : List Label) (xs : List (List ℕ × ℕ)) (name : List ℕ) (t : ℕ) → AreHandled n labels xs → IsLabel name t xs → is_missing labels (Some (padded name)) ≡ false
@@ -108,7 +108,8 @@ ends_again p body h i m e g =
     bare_op (slice_get h.steps (length h.steps - 1)) (op_of i) b.0.0 b.0.1 at ∙ g
 
 -- a handler that is spelled is resolved as its instructions
-pub resolve_again : (p : Program) (before : List Label) (bs : List (List ℕ × ℕ)) (h : HandlerLines) (code : List Instr) (body : List CodeLine) → Named before bs → AreNamed bs → Matches p body h
+pub resolve_again : (p : Program) (before : List Label) (bs : List (List ℕ × ℕ)) (h : HandlerLines) (code : List Instr) (body : List CodeLine) → HaveThoseNames before bs → HaveLabelNames bs
+    → Matches p body h
     → IsCode p (length code) body → AreDistinct (bs ++ labels_from (length code) body) → ends_open h.steps ≡ false → handler_resolved before h code ≡ Ok (code ++ instrs body)
 unfolding handler_resolved handler_fault
 resolve_again p before bs h code body b v m r d e =
@@ -121,17 +122,18 @@ resolve_again p before bs h code body b v m r d e =
     let steps = steps_right p n h.labels xs handled body h.steps m.steps r.aimed in
     rw (e, labels, steps.0) (ap (λ x. Ok (code ++ x)) steps.1)
 
-named_label : (name : List ℕ) (t : ℕ) (xs : List (List ℕ × ℕ)) → AreNamed xs → IsLabel name t xs → is_name name ≡ true
+named_label : (name : List ℕ) (t : ℕ) (xs : List (List ℕ × ℕ)) → HaveLabelNames xs → IsLabel name t xs → is_name name ≡ true
 named_label name t [] v h = absurd h
 named_label name t (x ∷ xs) v (inl e) = ap is_name (sym e.0) ∙ v.0
 named_label name t (x ∷ xs) v (inr e) = named_label name t xs v.1 e
 
-named_target : (o : Option ℕ) (name : List ℕ) (xs : List (List ℕ × ℕ)) → AreNamed xs → IfSome o (λ t. IsLabel name t xs) → IfSome o (λ _. is_name name ≡ true)
+named_target : (o : Option ℕ) (name : List ℕ) (xs : List (List ℕ × ℕ)) → HaveLabelNames xs → IfSome o (λ t. IsLabel name t xs) → IfSome o (λ _. is_name name ≡ true)
 named_target None name xs v h = tt
 named_target (Some t) name xs v h = named_label name t xs v h
 
-pub right_from : (p : Program) (q : Part) (all : List (List ℕ × ℕ)) → AreNamed all → (n : ℕ) (body : List CodeLine) → ((j : ℕ) (i : Instr) → slice_get (instrs body) j ≡ Some i → (fits p i ≡ true)
-    × (misplaced q p.pools p.brigades (op_of i) (operands_of i [] 0) ≡ false)) → AreNamed (labels_from n body) → IsAimed all body → AreSpelled p body → AreRight p q body
+pub right_from : (p : Program) (q : Part) (all : List (List ℕ × ℕ)) → HaveLabelNames all → (n : ℕ) (body : List CodeLine)
+    → ((j : ℕ) (i : Instr) → slice_get (instrs body) j ≡ Some i → (fits p i ≡ true)
+    × (misplaced q p.pools p.brigades (op_of i) (operands_of i [] 0) ≡ false)) → HaveLabelNames (labels_from n body) → IsAimed all body → AreSpelled p body → AreRight p q body
 right_from p q all v n [] f names a w = tt
 right_from p q all v n (label x ∷ body) f names a w = (names.0, right_from p q all v n body f names.1 a w)
 right_from p q all v n (step i x s ∷ body) f names a w =

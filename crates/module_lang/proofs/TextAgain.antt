@@ -15,7 +15,7 @@ use Rattle.module_code.specs.declared.word.OperandKind.TheVariants as kind
 use Rattle.module_code.specs.declared.word.Word.TheVariants as word
 use Rattle.module_lang.proofs.AssemblingLaws.{done, read_short}
 use Rattle.module_lang.proofs.BodyLaws.{AreRight, Declares, HoldsLines, Matches, body_goes, brigades_go, homes_from, init_stage, lower_from, main_stage, open_stage, pools_go, texts_of}
-use Rattle.module_lang.proofs.LabelLaws.{AreNamed-append, marked_from, named-append, named_of, names_of}
+use Rattle.module_lang.proofs.LabelLaws.{HaveLabelNames-append, marked_from, named-append, named_of, names_of}
 use Rattle.byte_text.proofs.ListLaws.{items_of}
 use Rattle.module_lang.proofs.RunLaws.{Goes, fold_read, goes_item, run}
 use Rattle.module_lang.proofs.SourceLaws.{part_ends, part_right, resolve_again, right_from}
@@ -155,7 +155,7 @@ text_again text m t =
     let init_is : length A ≡ m.init = sym t.inits in
     let two = resolve_again m d.open.labels xs d.init A t.second named_a names_a h.second (rw init_is t.initial) (rw init_is (distinct_front (xs ++ ys) zs t.distinct)) ends_b in
     let three = resolve_again m (d.open.labels ++ d.init.labels) (xs ++ ys) d.main (A ++ B) t.third (named-append d.open.labels d.init.labels xs ys named_a named_b)
-    (AreNamed-append xs ys names_a names_b) h.third (rw front t.serving) (rw front t.distinct) ends_c in
+    (HaveLabelNames-append xs ys names_a names_b) h.third (rw front t.serving) (rw front t.distinct) ends_c in
     let made = done d [] A (A ++ B) ((A ++ B) ++ C) refl one two three in
     rw read (made ∙ ap Ok (same_program (program d.pools d.brigades d.texts ((A ++ B) ++ C) (length A) (length (A ++ B))) m h.at.pools h.at.brigades
     (h.texts ∙ ap (texts_of m) (sym t.code) ∙ all_texts m s) (sym t.code) init_is front))

@@ -11,7 +11,7 @@ use Rattle.module_lang.specs.declared.refusal.AsmRefusal.{AsmRefusal}
 use Rattle.module_lang.specs.declared.refusal.AsmRefusal.TheVariants.{Fault}
 use Rattle.module_lang.specs.declared.refusal.Code.{Code}
 use Rattle.module_lang.specs.declared.refusal.Code.TheVariants as code
-use Rattle.module_lang.proofs.FirstOf.{Here, Tells, or_later, tells_here, tells_same}
+use Rattle.module_lang.proofs.FirstOf.{Here, TellsFirst, or_later, tells_here, tells_same}
 use Rattle.module_lang.proofs.LineFaults.{line_is, told}
 use Rattle.module_lang.proofs.LineOrder.{IsOrdered, line_ordered}
 
@@ -29,7 +29,7 @@ lines_low more d n [] m c h = let x = h.0 in omega (arith, x)
 lines_low more d n (l ∷ ls) m c (inl h) = let x = h.0 in omega (arith, x)
 lines_low more d n (l ∷ ls) m c (inr h) = let x = lines_low more (left d n l) (n + 1) ls m c h in omega (arith, x)
 
-pub lines_tell : (more : Bool) (d : Draft) (n : ℕ) (ls : List (List ℕ)) → Tells (text_fault more d n ls) (LinesHaveCode more d n ls)
+pub lines_tell : (more : Bool) (d : Draft) (n : ℕ) (ls : List (List ℕ)) → TellsFirst (text_fault more d n ls) (LinesHaveCode more d n ls)
 lines_tell more d n [] =
     tells_same (text_fault more d n []) (Here n (end_has_code more d.part) (λ m c. ⊥)) (LinesHaveCode more d n []) here (λ m c h. inl h)
     (tells_here n (end_has_code more d.part) (λ m c. ⊥) None (λ m c h. absurd h) (λ m c h. h))

@@ -129,9 +129,9 @@ AreSpelled p (label name ∷ ls) = AreSpelled p ls
 AreSpelled p (step i name s ∷ ls) = IfSome (text_of_instr i) (λ t. Spells s (text_at p t)) × AreSpelled p ls
 
 -- the labels have names, and an instruction below this number follows each
-abbrev pub AreLabels : ℕ → List (List ℕ × ℕ) → Type 0
-AreLabels to [] = Unit {0}
-AreLabels to (l ∷ ls) = (is_name l.0 ≡ true) × (l.1 < to) × AreLabels to ls
+abbrev pub HasLabelsBelow : ℕ → List (List ℕ × ℕ) → Type 0
+HasLabelsBelow to [] = Unit {0}
+HasLabelsBelow to (l ∷ ls) = (is_name l.0 ≡ true) × (l.1 < to) × HasLabelsBelow to ls
 
 -- no label has this name
 abbrev pub IsApart : List ℕ → List (List ℕ × ℕ) → Type 0
@@ -145,7 +145,7 @@ AreDistinct (l ∷ ls) = IsApart l.0 ls × AreDistinct ls
 
 -- the lines of a handler of a module, whose first instruction has number n
 pub record IsCode (p : Program) (n : ℕ) (code : List CodeLine) : Type 0 where
-  pub labels : AreLabels (n + length (instrs code)) (labels_from n code)
+  pub labels : HasLabelsBelow (n + length (instrs code)) (labels_from n code)
   pub aimed : IsAimed (labels_from n code) code
   pub texts : AreSpelled p code
 

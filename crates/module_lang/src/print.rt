@@ -12,17 +12,10 @@ use module_code::{Arg, Args, Instr, KindTest, Module, PoolRef, Status, Value, Va
 use std::io::Write;
 use std::ops::Range;
 
-/// The number of the instruction that an instruction names as its target.
-fn target(instr: Instr) -> Option<u16>
-    ensures { result ≡ target instr }
-{
-    parts(instr).1.target()
-}
-
 fn aims_at(instr: Instr, number: usize) -> bool
     ensures { result ≡ is_number number (target instr) }
 {
-    match target(instr) {
+    match instr.named_target() {
         Some(l) => usize::from(l) == number,
         None => false,
     }

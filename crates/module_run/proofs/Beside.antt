@@ -2,7 +2,7 @@
 use Rattle.std.proofs.Common.{◌≡◌, ℕ, List, [], ◌∷◌, refl, ap₂}
 use Rattle.module_code.specs.Program.{Program}
 use Rattle.module_code.specs.declared.instr.Instr.{Instr}
-use Rattle.run_model.specs.Cursors.{spot_of, holder_of, variable_of}
+use Rattle.run_model.specs.Cursors.{place_of_cursor, holder_of, variable_of}
 use Rattle.run_model.specs.Faults.{Want, fault, fault_want, first_fault, or_else, wants, has_pool_at, cursor_fault, is_stray, keeps_stray}
 use Rattle.run_model.specs.Files.{Files}
 use Rattle.run_model.specs.State.{Configuration, Out, named_at, is_own_at}
@@ -12,7 +12,7 @@ abbrev pub beside : List (List ℕ) → Files → Out → Configuration → Conf
 beside labels files out r = record r { shared = record r.shared { labels = labels; files = files }; out = out }
 
 want_beside : (labels : List (List ℕ)) (files : Files) (out : Out) (r : Configuration) (w : Want) → fault_want (beside labels files out r) w ≡ fault_want r w
-unfolding has_pool_at named_at cursor_fault spot_of holder_of variable_of keeps_stray is_stray is_own_at
+unfolding has_pool_at named_at cursor_fault place_of_cursor holder_of variable_of keeps_stray is_stray is_own_at
 want_beside labels files out r w = refl
 
 first_beside : (labels : List (List ℕ)) (files : Files) (out : Out) (r : Configuration) (ws : List Want) → first_fault (beside labels files out r) ws ≡ first_fault r ws

@@ -25,7 +25,7 @@ use Rattle.module_run.specs.declared.conn.Conn.{Conn}
 use Rattle.module_run.specs.declared.conn.Filter.{Filter}
 use Rattle.module_run.specs.CalledMain.{CalledMain, StartsWith}
 use Rattle.module_run.specs.Conns.{filter_at, top_of}
-use Rattle.module_run.specs.Neighbours.{EndsLoose, Holds, IsForeign, LeavesOthers}
+use Rattle.module_run.specs.Neighbours.{EndsLoose, HoldsName, IsForeign, LeavesOthers}
 use Rattle.module_run.specs.Stacked.{IsStacked, is_called, named_at}
 use Rattle.module_run.proofs.EndedLast.{EndsLast}
 use Rattle.module_run.proofs.GivenBack.{GivesBack, lent_one, with_calls}
@@ -39,15 +39,15 @@ none_some o x none some = (let e : None ≡ Some x = sym none ∙ some in cc)
 
 -- What a filter has, the connection had before, or it is new.
 abbrev pub Came : Conn → ℕ → Filter → Type 0
-Came c next f = (n : ℕ) → 0 < n → (f.call.name ≡ n) ⊎ ((b : ℕ) × (named_at f b ≡ Some n)) → (Holds c n) ⊎ (next ≤ n)
+Came c next f = (n : ℕ) → 0 < n → (f.call.name ≡ n) ⊎ ((b : ℕ) × (named_at f b ≡ Some n)) → (HoldsName c n) ⊎ (next ≤ n)
 
 pub came_same : (c : Conn) (next k : ℕ) (f : Filter) → filter_at c k ≡ Some f → Came c next f
 came_same c next k f is n pos by = inl (record { at = k; filter = f; is = is; by = by })
 
-pub held_by : (c : Conn) (k b n : ℕ) (f : Filter) → filter_at c k ≡ Some f → named_at f b ≡ Some n → Holds c n
+pub held_by : (c : Conn) (k b n : ℕ) (f : Filter) → filter_at c k ≡ Some f → named_at f b ≡ Some n → HoldsName c n
 held_by c k b n f is named = record { at = k; filter = f; is = is; by = inr (b, named) }
 
-pub held_call : (c : Conn) (k n : ℕ) (f : Filter) → filter_at c k ≡ Some f → f.call.name ≡ n → Holds c n
+pub held_call : (c : Conn) (k n : ℕ) (f : Filter) → filter_at c k ≡ Some f → f.call.name ≡ n → HoldsName c n
 held_call c k n f is name = record { at = k; filter = f; is = is; by = inl name }
 
 -- a variable that was emptied names nothing, and others name what they named
@@ -101,7 +101,7 @@ ends_one old new c d t x y was now others name came = record { calls = calls; br
     | inr ne ↦ absurd (other (ap (λ (h : Filter). h.call.name) (some_is e f (sym there ∙ (others k ne ∙ is)))))
   ]
 
-  brought : (k m : ℕ) (f : Filter) → filter_at c k ≡ Some f → named_at f 8 ≡ Some m → pool_of old m ≡ None → (Holds d m → ⊥) → lists new m ≡ None
+  brought : (k m : ℕ) (f : Filter) → filter_at c k ≡ Some f → named_at f 8 ≡ Some m → pool_of old m ≡ None → (HoldsName d m → ⊥) → lists new m ≡ None
   brought k m f is named free unheld = elim (cases_eq k t) [
     | inl q ↦
         (let a : f ≡ x = some_is f x (sym is ∙ (ap (filter_at c) q ∙ was)) in
@@ -154,7 +154,7 @@ module _ {R : Type 0} {g : Ghosts R Stored} (chain : List Program) (s : Status) 
   }
 
   -- what came in to it is with the caller
-  given_back : (m : ℕ) → named_at x.top 8 ≡ Some m → Holds after m
+  given_back : (m : ℕ) → named_at x.top 8 ≡ Some m → HoldsName after m
   given_back m named =
       let one = lent_one chain s (brigade_of old) (lists old) (lists new) (pool_of old) (next_name old) c filters waits w st x in
       let came_in = st.called.inward low one.0 x.wait x.top x.below (ap (filter_at c) (let e : low + 1 ≡ top = omega arith in e) ∙ x.on_top) one.1 in
@@ -175,7 +175,7 @@ module _ {R : Type 0} {g : Ghosts R Stored} (chain : List Program) (s : Status) 
     ]
   ]
 
-  brought_end : (k m : ℕ) (f : Filter) → filter_at c k ≡ Some f → named_at f 8 ≡ Some m → pool_of old m ≡ None → (Holds after m → ⊥) → lists new m ≡ None
+  brought_end : (k m : ℕ) (f : Filter) → filter_at c k ≡ Some f → named_at f 8 ≡ Some m → pool_of old m ≡ None → (HoldsName after m → ⊥) → lists new m ≡ None
   brought_end k m f is named free unheld = elim (cases_eq k top) [
     | inl q ↦ absurd (unheld (given_back m (ap (λ (h : Filter). named_at h 8) (some_is x.top f (sym x.on_top ∙ (ap (filter_at c) (sym q) ∙ is))) ∙ named)))
     | inr off ↦ elim (cases_eq k low) [
@@ -314,7 +314,7 @@ module _ {R : Type 0} {g : Ghosts R Stored} (chain : List Program) (ps : Pools P
     | inl name ↦ inr (let q = h.name in omega (arith, q, name))
     | inr a ↦ inl (go (a.0 == 8) a.0 (sym (ap name_in (h.slots_behind a.0)) ∙ a.1))
   ] where
-    go : (t : Bool) (a : ℕ) → name_in (if t then slot.Made m None Usable else slot_at e.instance a) ≡ Some n → Holds c n
+    go : (t : Bool) (a : ℕ) → name_in (if t then slot.Made m None Usable else slot_at e.instance a) ≡ Some n → HoldsName c n
     go true a named = held_by c (top_of c) b n x h.top (h.handed ∙ named)
     go false a named = held_by c (top_of c + 1) a n e h.behind named
 
@@ -358,7 +358,7 @@ module _ {R : Type 0} {g : Ghosts R Stored} (chain : List Program) (ps : Pools P
       ]
     ]
 
-    brought : (k n : ℕ) (f : Filter) → filter_at c k ≡ Some f → named_at f 8 ≡ Some n → pool_of old n ≡ None → (Holds handed n → ⊥) → lists new n ≡ None
+    brought : (k n : ℕ) (f : Filter) → filter_at c k ≡ Some f → named_at f 8 ≡ Some n → pool_of old n ≡ None → (HoldsName handed n → ⊥) → lists new n ≡ None
     brought k n f is named free unheld = elim (cases_eq k (top_of c)) [
       | inl q ↦ absurd (unheld (held_by handed (top_of c) 8 n y h.top_after (top_names 8 ∙ (ap (λ (p : Filter). named_at p 8) (some_is x f (sym h.top ∙ (ap (filter_at c) (sym q) ∙ is))) ∙ named))))
       | inr ne ↦ elim (cases_eq k (top_of c + 1)) [
@@ -399,14 +399,15 @@ module _ {R : Type 0} {g : Ghosts R Stored} (chain : List Program) (ps : Pools P
     | inl q ↦ at_first (begins.first before before_is) (ap (filter_at d) (sym q) ∙ is)
     | inr ne ↦ came_same c (next_name old) k f (sym (begins.others k ne) ∙ is) n pos by
   ] where
-    at_first : (e : Filter) × ((filter_at d 0 ≡ Some e) × StartsWith (next_name old) (next_name old + 1) (module_at chain 0).main before e) → filter_at d 0 ≡ Some f → (Holds c n) ⊎ (next_name old ≤ n)
+    at_first : (e : Filter) × ((filter_at d 0 ≡ Some e) × StartsWith (next_name old) (next_name old + 1) (module_at chain 0).main before e) → filter_at d 0 ≡ Some f
+        → (HoldsName c n) ⊎ (next_name old ≤ n)
     at_first e there =
         let same : f ≡ e.0 = some_is f e.0 (sym there ∙ e.1.0) in
         elim by [
           | inl name ↦ inr (let a = e.1.1.named in let b = ap (λ (p : Filter). p.call.name) same in omega (arith, a, b, name))
           | inr a ↦ go (a.0 == 8) a.0 (sym (ap name_in (e.1.1.slots a.0)) ∙ (sym (ap (λ (p : Filter). named_at p a.0) same) ∙ a.1))
         ] where
-          go : (t : Bool) (a : ℕ) → name_in (if t then slot.Made (next_name old + 1) None Usable else slot_at before.instance a) ≡ Some n → (Holds c n) ⊎ (next_name old ≤ n)
+          go : (t : Bool) (a : ℕ) → name_in (if t then slot.Made (next_name old + 1) None Usable else slot_at before.instance a) ≡ Some n → (HoldsName c n) ⊎ (next_name old ≤ n)
           go true a named = inr (let e : next_name old + 1 ≡ n = some_is (next_name old + 1) n named in omega (arith, e))
           go false a named = inl (held_by c 0 a n before before_is named)
 

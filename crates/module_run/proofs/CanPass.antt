@@ -34,9 +34,9 @@ use Rattle.ring_calls.specs.Slots.{slot_at, name_in, live_in}
 use Rattle.module_run.specs.Stacked.{named_at}
 use Rattle.ring_calls.proofs.Changes.{live_is}
 use Rattle.ring_calls.proofs.Faultless.{usable_live}
-use Rattle.module_run.proofs.HandsOn.{AreNamed, cases_le, not_called, not_waiting}
+use Rattle.module_run.proofs.HandsOn.{HasNamesBelow, cases_le, not_called, not_waiting}
 use Rattle.module_run.proofs.TopFilter.{on_top_of}
-use Rattle.module_run.proofs.Tops.{OnTop, around_of, configured, filter_within, instances_are}
+use Rattle.module_run.proofs.Tops.{OnTop, view_of, configured, filter_within, instances_are}
 
 pub none_of : {X : Type 0} (o : Option X) → is_some o ≡ false → o ≡ None
 none_of None e = refl
@@ -70,7 +70,7 @@ module _ {R : Type 0} {g : Ghosts R Stored} (chain : List Program) (b l : ℕ) (
   pub passer_alone : passer.filter.lent ≡ None
   passer_alone = none_of passer.filter.lent (ready.stands.left.stacked.called.lent (top_of c) passer.filter passer.is ∙ not_waiting c (top_of c) (omega arith))
 
-  pub passer_sees : configuration v.0 v.1 f ≡ seen_over (lists store) (next_name store) (around_of (map_of tree) c v) passer.filter.instance passer.filter.call
+  pub passer_sees : configuration v.0 v.1 f ≡ seen_over (lists store) (next_name store) (view_of (map_of tree) c v) passer.filter.instance passer.filter.call
   passer_sees = configured (map_of tree) (lists store) (next_name store) c v ready.stands.left.seen f rest passer passer_alone
 
   pub passer_at : f.of ≡ top_of c
@@ -78,7 +78,7 @@ module _ {R : Type 0} {g : Ghosts R Stored} (chain : List Program) (b l : ℕ) (
 
   -- the brigade that is passed
   pub passed_live : is_some (live_in (lists store) (slot_at passer.filter.instance b)) ≡ true
-  passed_live = usable_live (module_at chain f.of) (lists store) (next_name store) (around_of (map_of tree) c v) passer.filter.instance passer.filter.call (instr.Pass b l) (instr.Pass b l) refl
+  passed_live = usable_live (module_at chain f.of) (lists store) (next_name store) (view_of (map_of tree) c v) passer.filter.instance passer.filter.call (instr.Pass b l) (instr.Pass b l) refl
       (ap (λ (r : Configuration). fault (module_at chain f.of) r (instr.Pass b l)) (sym passer_sees) ∙ ready.faultless) 0 b refl
 
   -- it is an instruction of the module of its filter
@@ -88,7 +88,7 @@ module _ {R : Type 0} {g : Ghosts R Stored} (chain : List Program) (b l : ℕ) (
       ∙ (ap (λ (n : ℕ). current (module_at chain n) f.pc) (sym passer_at) ∙ sym ready.next)
 
   -- names of the filters
-  pub names_known : AreNamed c (next_name store)
+  pub names_known : HasNamesBelow c (next_name store)
   names_known = record {
     below = λ j a n h is named. (ready.stands.left.stacked.held j h is).named a n named;
     calls = λ j h is. (ready.stands.left.stacked.held j h is).called;

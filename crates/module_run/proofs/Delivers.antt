@@ -42,7 +42,7 @@ use Rattle.ring_calls.proofs.HeldAlike.{held_cursors}
 use Rattle.module_run.proofs.Outs.{with_out, seen_out, stacked_out}
 use Rattle.module_run.proofs.Restacked.{changed, ChangesTop, rest_goes_on, restacked}
 use Rattle.module_run.proofs.Resumed.{seen_put_back}
-use Rattle.module_run.proofs.Tops.{OnTop, around_of}
+use Rattle.module_run.proofs.Tops.{OnTop, view_of}
 
 -- where a pass leads
 pub pass_leads : (well : Bool) (b l pc : ℕ) → (if well then pc + 1 else l) ≡ led_to (jumps_if (is_fail (answer_to well))) (instr.Pass b l) pc
@@ -67,12 +67,12 @@ module _ {R : Type 0} {g : Ghosts R Stored} (chain : List Program) (b l : ℕ) (
   abbrev then_conn : Conn
   then_conn = changed c fs c.labels
 
-  abbrev around : ContextView
-  around = around_of (map_of tree) c v
+  abbrev view : ContextView
+  view = view_of (map_of tree) c v
 
   module _ (after : filter_at then_conn (top_of c) ≡ Some passed_on) (others : (k : ℕ) → k ≢ top_of c → filter_at then_conn k ≡ filter_at c k) (many : length fs.items ≡ length c.filters.items)
       (slots : (a : ℕ) → slot_at i a ≡ (if a == b then marked Passed (slot_at x.instance b) else slot_at x.instance a))
-      (passed : (around : ContextView) (call : Call) → IsHeld old x.instance call → seen new around i call ≡ do_pass b (seen old around x.instance call))
+      (passed : (view : ContextView) (call : Call) → IsHeld old x.instance call → seen new view i call ≡ do_pass b (seen old view x.instance call))
       (kept : (call : Call) → IsHeld old x.instance call → IsHeld new i call)
       (left : (call : Call) → LeavesForeign old new x.instance call) where
     abbrev top : OnTop (lists old) c f rest
@@ -108,8 +108,8 @@ module _ {R : Type 0} {g : Ghosts R Stored} (chain : List Program) (b l : ℕ) (
     })
 
     -- what the call on top leaves
-    went : seen new around i x.call ≡ do_pass b (configuration v.0 v.1 f)
-    went = passed around x.call (work.held_top chain (instr.Pass b l) tree old d c v f rest ready x here) ∙ ap (do_pass b) (sym (work.config chain (instr.Pass b l) tree old d c v f rest ready x here))
+    went : seen new view i x.call ≡ do_pass b (configuration v.0 v.1 f)
+    went = passed view x.call (work.held_top chain (instr.Pass b l) tree old d c v f rest ready x here) ∙ ap (do_pass b) (sym (work.config chain (instr.Pass b l) tree old d c v f rest ready x here))
 
     abbrev stepped_as : Linked
     stepped_as = stepped_in (module_at chain f.of) (record { answer = answer_to well; given = None }) (instr.Pass b l) f rest v
@@ -126,15 +126,15 @@ module _ {R : Type 0} {g : Ghosts R Stored} (chain : List Program) (b l : ℕ) (
         (pool_of new) quiet)
         (frame_left chain (brigade_of old) (lists old) (pool_of old) (next_name old) c x was.stacked here top.busy (work.nine chain (instr.Pass b l) tree old d c v f rest ready x here) (lists new)
         (pool_of new) quiet)) where
-          goes : put_as (seen new around i x.call) pc ≡ stepped_as
+          goes : put_as (seen new view i x.call) pc ≡ stepped_as
           goes = ap (λ (s : Configuration). put_as s pc) went
               ∙ ap (put_as (do_pass b (configuration v.0 v.1 f)))
               (ap (λ (n : ℕ). if well then n + 1 else l) (sym (work.pc_top chain (instr.Pass b l) tree old d c v f rest ready x here)) ∙ pass_leads well b l f.pc)
 
-    module _ (reads : Reads) (given : IfElse c.ended (e ≡ d) (ReadsGiven d e (items_of ((seen old around x.instance x.call).instance.brigades b)) reads 0))
-        (told : delivered (out_of c.out c.ended) (items_of ((seen old around x.instance x.call).instance.brigades b)) reads ≡ (out_of out ended, well))
+    module _ (reads : Reads) (given : IfElse c.ended (e ≡ d) (ReadsGiven d e (items_of ((seen old view x.instance x.call).instance.brigades b)) reads 0))
+        (told : delivered (out_of c.out c.ended) (items_of ((seen old view x.instance x.call).instance.brigades b)) reads ≡ (out_of out ended, well))
         (numbered : e.numbered ≡ d.numbered) (last : is_last chain (top_of c) ≡ true) where
-      items_are : items_of ((v.1.instances f.of).brigades b) ≡ items_of ((seen old around x.instance x.call).instance.brigades b)
+      items_are : items_of ((v.1.instances f.of).brigades b) ≡ items_of ((seen old view x.instance x.call).instance.brigades b)
       unfolding configuration
       items_are = ap (λ (r : Configuration). items_of (r.instance.brigades b)) (work.config chain (instr.Pass b l) tree old d c v f rest ready x here)
 

@@ -38,7 +38,7 @@ pub record HandsOn (c : Conn) (fs : Vec Filter) (ws : Vec ℕ) (next b m : ℕ) 
   pub alone : z.lent ≡ None
 
 -- The names that a filter has are below `next`, and each is in one variable of it, of nine.
-pub record AreNamed (c : Conn) (next : ℕ) : Type 0 where
+pub record HasNamesBelow (c : Conn) (next : ℕ) : Type 0 where
   pub below : (j a n : ℕ) (f : Filter) → filter_at c j ≡ Some f → named_at f a ≡ Some n → n < next
   pub calls : (j : ℕ) (f : Filter) → filter_at c j ≡ Some f → f.call.name < next
   pub apart : (j a b n : ℕ) (f : Filter) → filter_at c j ≡ Some f → named_at f a ≡ Some n → named_at f b ≡ Some n → a ≡ b
@@ -139,7 +139,7 @@ module _ (c : Conn) (fs : Vec Filter) (ws : Vec ℕ) (next b m : ℕ) (x e y z :
   ]
 
   -- x.call.name and the names of others stay below `next`, which is the name of the call that began
-  pub apart_after : AreNamed c next → FiltersApart c → ((j : ℕ) (f : Filter) → filter_at c j ≡ Some f → is_called c j ≡ false → named_at f 8 ≡ None) → FiltersApart (changed c fs ws)
+  pub apart_after : HasNamesBelow c next → FiltersApart c → ((j : ℕ) (f : Filter) → filter_at c j ≡ Some f → is_called c j ≡ false → named_at f 8 ≡ None) → FiltersApart (changed c fs ws)
   apart_after names apart incoming = record {
     own = λ i j a n k f g a_low n_low fi gj fa gn.
         (let p = before i f fi in let q = before j g gj in

@@ -41,7 +41,7 @@ use Rattle.ring_calls.specs.Slots.{name_in, live_in}
 use Rattle.module_run.specs.Stacked.{IsStacked, named_at}
 use Rattle.module_run.proofs.CanPass.{passer, passer_alone, passer_at, passes_there, names_known, next_within, next_there, next_alone}
 use Rattle.ring_calls.proofs.Changes.{ring_here, ring_off}
-use Rattle.module_run.proofs.HandsOn.{HandsOn, AreNamed, changed, same_some, top_rises, apart_after, named_top}
+use Rattle.module_run.proofs.HandsOn.{HandsOn, HasNamesBelow, changed, same_some, top_rises, apart_after, named_top}
 use Rattle.module_run.proofs.HandsOnCalls.{called_after}
 use Rattle.module_run.proofs.HandsOnSeen.{seen_after}
 use Rattle.module_run.proofs.MoreCalls.{all_older}
@@ -102,7 +102,7 @@ module _ {R : Type 0} {g : Ghosts R Stored} (chain : List Program) (b l : ℕ) (
     old_left : LeftAs chain tree old d c v
     old_left = ready.stands.left
 
-    names : AreNamed c (next_name old)
+    names : HasNamesBelow c (next_name old)
     names = names_known chain b l tree old d c v f rest ready
 
     next_real : 0 < next_name old
@@ -147,9 +147,9 @@ module _ {R : Type 0} {g : Ghosts R Stored} (chain : List Program) (b l : ℕ) (
       referred = λ file. ap (λ (f : ℕ → ℕ). f file) more.references ∙ old_left.house.referred file;
     }
 
-    module _ (lends : (around : ContextView) (call : Call) → lent b (seen new around y.instance call) ≡ do_pass b (seen new around x.instance call))
-        (takes : (around : ContextView) (call : Call)
-        → seen new around z.instance call ≡ set_brigade 8 (shown_slot (calls_in around call) (lists new) (slot.Made m None Usable)) (seen new around e.instance call))
+    module _ (lends : (view : ContextView) (call : Call) → lent b (seen new view y.instance call) ≡ do_pass b (seen new view x.instance call))
+        (takes : (view : ContextView) (call : Call)
+        → seen new view z.instance call ≡ set_brigade 8 (shown_slot (calls_in view call) (lists new) (slot.Made m None Usable)) (seen new view e.instance call))
         (live : is_some (lists old m) ≡ true)
         (begun : (waits : List ℕ) → shown_call (is_running z.call.name waits) (lists new) z.call ≡ fresh_call (next_name old))
         (at : z.call.pc ≡ (module_at chain (top_of c + 1)).main) where

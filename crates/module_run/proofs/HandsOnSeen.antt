@@ -32,7 +32,7 @@ use Rattle.ring_passes.specs.Handed.{lent}
 use Rattle.ring_calls.specs.Seen.{seen_over, calls_in, is_running, shown_as, shown_slot}
 use Rattle.ring_calls.specs.Slots.{slot_at}
 use Rattle.ring_calls.proofs.Changes.{name_is}
-use Rattle.module_run.proofs.HandsOn.{HandsOn, AreNamed, changed, top_rises}
+use Rattle.module_run.proofs.HandsOn.{HandsOn, HasNamesBelow, changed, top_rises}
 use Rattle.module_run.proofs.MoreCalls.{AreOlder, amid, more_slot, more_instance, more_filter, more_frame}
 use Rattle.module_run.proofs.Stacking.{frames_same}
 use Rattle.module_run.proofs.Tops.{OnTop, frame_at, instances_are}
@@ -62,11 +62,11 @@ in_shown : (runs : ℕ → Bool) (m : ℕ) (pool : Option ℕ) (mark : Mark) (o 
 in_shown runs m pool mark None there = absurd (false≢true there)
 in_shown runs m pool mark (Some xs) there = refl
 
-module _ (L M : ℕ → Option Items) (k l : ℕ) (c : Conn) (fs : Vec Filter) (ws : Vec ℕ) (b m : ℕ) (x e y z : Filter) (h : HandsOn c fs ws k b m x e y z) (names : AreNamed c k)
+module _ (L M : ℕ → Option Items) (k l : ℕ) (c : Conn) (fs : Vec Filter) (ws : Vec ℕ) (b m : ℕ) (x e y z : Filter) (h : HandsOn c fs ws k b m x e y z) (names : HasNamesBelow c k)
     (kept : (n : ℕ) → n < k → M n ≡ L n) (older : AreOlder L k) (there : is_some (L m) ≡ true) (free : x.lent ≡ None) (idle : e.lent ≡ None)
-    (lends : (around : ContextView) (call : Call) → lent b (seen_over M l around y.instance call) ≡ do_pass b (seen_over M l around x.instance call))
-    (takes : (around : ContextView) (call : Call)
-    → seen_over M l around z.instance call ≡ set_brigade 8 (shown_slot (calls_in around call) M (slot.Made m None Usable)) (seen_over M l around e.instance call)) where
+    (lends : (view : ContextView) (call : Call) → lent b (seen_over M l view y.instance call) ≡ do_pass b (seen_over M l view x.instance call))
+    (takes : (view : ContextView) (call : Call)
+    → seen_over M l view z.instance call ≡ set_brigade 8 (shown_slot (calls_in view call) M (slot.Made m None Usable)) (seen_over M l view e.instance call)) where
   runs_after : runs_of (changed c fs ws) ≡ is_running z.call.name ws.items
   runs_after = ap (λ (o : Option Filter). is_running (call_name o) ws.items) (ap (filter_at (changed c fs ws)) (top_rises c fs ws k b m x e y z h) ∙ h.behind_after)
 

@@ -39,7 +39,7 @@ use Rattle.ring_calls.proofs.Changes.{ring_here, ring_off}
 use Rattle.module_run.specs.declared.conn.Conn.{Conn}
 use Rattle.module_run.specs.declared.conn.Filter.{Filter}
 use Rattle.module_run.specs.Conns.{filter_at, lent_by, runs_of, shown_filter, shown_instance, top_of}
-use Rattle.module_run.specs.Neighbours.{Holds, IsForeign, LeavesOthers, SameRing}
+use Rattle.module_run.specs.Neighbours.{HoldsName, IsForeign, LeavesOthers, SameRing}
 use Rattle.module_run.specs.Proceeding.{StandsFor}
 use Rattle.module_run.specs.Stacked.{is_called, is_waiting, named_at}
 use Rattle.module_run.proofs.StepFiles.{made_in}
@@ -241,7 +241,7 @@ module _ {R : Type 0} {g : Ghosts R Stored} (chain : List Program) (tree : PoolT
 
     -- What the connection held is gone, where its calls' loose buckets and what was brought are.
     pub all_gone : (L : ℕ → Option Items) → ((n : ℕ) → lists mid n ≡ None → L n ≡ None) → ((k : ℕ) (f : Filter) → filter_at c k ≡ Some f → L f.call.name ≡ None)
-        → ((n : ℕ) → IsBrought n → L n ≡ None) → (n : ℕ) → Holds c n → L n ≡ None
+        → ((n : ℕ) → IsBrought n → L n ≡ None) → (n : ℕ) → HoldsName c n → L n ≡ None
     all_gone L still calls brought n h = elim h.by [
       | inl name ↦ ap L (sym name) ∙ calls h.at h.filter h.is
       | inr b ↦ elim (cases_eq b.0 8) [
@@ -254,7 +254,7 @@ module _ {R : Type 0} {g : Ghosts R Stored} (chain : List Program) (tree : PoolT
     ]
 
     -- What is left then, where only brigades went that the connection holds.
-    pub leaving : (new : Brigades R g) (d : Conn) → ((k : ℕ) → filter_at d k ≡ filter_at c k) → ((n : ℕ) → (Holds c n → ⊥) → lists new n ≡ lists mid n) → pool_of new ≡ pool_of mid
+    pub leaving : (new : Brigades R g) (d : Conn) → ((k : ℕ) → filter_at d k ≡ filter_at c k) → ((n : ℕ) → (HoldsName c n → ⊥) → lists new n ≡ lists mid n) → pool_of new ≡ pool_of mid
         → next_name new ≡ next_name old → NoneRevived (brigade_of old) (brigade_of new) (next_name old) → LeavesOthers (map_of tree) old new c d
     leaving new d filters rest pools next names = record {
       rises = omega (arith, next);

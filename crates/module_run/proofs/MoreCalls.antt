@@ -42,8 +42,8 @@ pub all_older : {R : Type 0} {g : Ghosts R Stored} (s : Brigades R g) → AreOld
 all_older s n xs e id h = young s id (ap is_some (in_listed s id n (subst (λ (o : Option Items). 0 < times id (option_map_or (λ bs. bs) o [])) (sym e) h)))
 
 -- names that an instance has are below k
-abbrev pub NamesBelow : Instance → ℕ → Type 0
-NamesBelow i k = (b n : ℕ) → name_in (slot_at i b) ≡ Some n → n < k
+abbrev pub InstanceNamesBelow : Instance → ℕ → Type 0
+InstanceNamesBelow i k = (b n : ℕ) → name_in (slot_at i b) ≡ Some n → n < k
 
 module _ (old new : ℕ → Bool) (k : ℕ) (runs : (n : ℕ) → n ≢ k → new n ≡ old n) where
   more_home : (birth : ℕ) → birth < k → (h : Home) → home_in new birth h ≡ home_in old birth h
@@ -95,7 +95,7 @@ module _ (old new : ℕ → Bool) (k : ℕ) (runs : (n : ℕ) → n ≢ k → ne
       go None e = refl
       go (Some xs) e = more_items xs (older n xs e)
 
-    pub more_instance : (i : Instance) → NamesBelow i k → shown_instance new M i ≡ shown_instance old L i
+    pub more_instance : (i : Instance) → InstanceNamesBelow i k → shown_instance new M i ≡ shown_instance old L i
     more_instance i below = ap with_brigades (fun_ext (λ b. more_slot (slot_at i b) (below b))) where
       with_brigades : (ℕ → BrigadeVar) → model.Instance
       with_brigades f = record (shown_instance old L i) { brigades = f }
@@ -105,7 +105,7 @@ module _ (old new : ℕ → Bool) (k : ℕ) (runs : (n : ℕ) → n ≢ k → ne
       with_loose : List NamedBucket → model.Call
       with_loose items = record (shown_call old L call) { loose = items }
 
-    pub more_filter : (f : Filter) → NamesBelow f.instance k → shown_filter new M (Some f) ≡ shown_filter old L (Some f)
+    pub more_filter : (f : Filter) → InstanceNamesBelow f.instance k → shown_filter new M (Some f) ≡ shown_filter old L (Some f)
     more_filter f below = ap (lent_by f.lent) (more_instance f.instance below)
 
     pub more_frame : (j : ℕ) (f : Filter) → f.call.name < k → shown_frame new M j (Some f) ≡ shown_frame old L j (Some f)
@@ -125,8 +125,8 @@ amid waits = record {
   waits = waits;
 }
 
-module _ (L M : ℕ → Option Items) (k l : ℕ) (around : ContextView) (i : Instance) (call begun : Call) (pc : ℕ) (is : seen_over M l around i begun ≡ begun_as pc (seen_over L k around i call)) where
-  pub begun_call : shown_call (calls_in around begun) M begun ≡ fresh_call k
+module _ (L M : ℕ → Option Items) (k l : ℕ) (view : ContextView) (i : Instance) (call begun : Call) (pc : ℕ) (is : seen_over M l view i begun ≡ begun_as pc (seen_over L k view i call)) where
+  pub begun_call : shown_call (calls_in view begun) M begun ≡ fresh_call k
   unfolding seen_over
   begun_call = ap (λ (r : Configuration). r.call) is
 

@@ -22,7 +22,7 @@ use Rattle.ring_calls.specs.Slots.{name_in, slot_at}
 use Rattle.module_run.specs.declared.conn.Conn.{Conn}
 use Rattle.module_run.specs.declared.conn.Filter.{Filter}
 use Rattle.module_run.specs.Conns.{conn_of, filter_at, lent_by, runs_of, shown_filter, shown_frame, shown_instance, stack_of, stack_up}
-use Rattle.module_run.specs.Neighbours.{Holds, IsForeign, LeavesOthers, SameRing}
+use Rattle.module_run.specs.Neighbours.{HoldsName, IsForeign, LeavesOthers, SameRing}
 use Rattle.module_run.specs.Stacked.{IsStacked, named_at}
 use Rattle.module_run.proofs.Untouched.{slot_same}
 
@@ -55,8 +55,8 @@ then_same ps old mid new c d left same next names pools = record {
 
 -- An event of c left d, and e is another connection. 0 is no brigade's name.
 module _ {R : Type 0} {g : Ghosts R Stored} (chain : List Program) (ps : Pools Payload) (old new : Brigades R g) (c d e : Conn) (left : LeavesOthers ps old new c d) (stacked : IsStacked chain old e)
-    (foreign : (n : ℕ) → 0 < n → Holds e n → IsForeign ps old c n) (none : lists old 0 ≡ None) (none_now : lists new 0 ≡ None) (off : pool_of old 0 ≡ None) (off_now : pool_of new 0 ≡ None) where
-  ring_same : (n : ℕ) → Holds e n → SameRing old new n
+    (foreign : (n : ℕ) → 0 < n → HoldsName e n → IsForeign ps old c n) (none : lists old 0 ≡ None) (none_now : lists new 0 ≡ None) (off : pool_of old 0 ≡ None) (off_now : pool_of new 0 ≡ None) where
+  ring_same : (n : ℕ) → HoldsName e n → SameRing old new n
   ring_same zero h = record { list = none_now ∙ sym none; pool = off_now ∙ sym off }
   ring_same (suc n) h = left.others (suc n) (foreign (suc n) (omega arith) h)
 

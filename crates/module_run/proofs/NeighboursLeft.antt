@@ -32,7 +32,7 @@ use Rattle.pool_tree.specs.Tree.{map_of}
 use Rattle.std.specs.Option.{option_map}
 use Rattle.std.proofs.lemmas.Option.{slice_get-map}
 use Rattle.module_run.specs.Destroyed.{WasDestroyed, quieted}
-use Rattle.module_run.specs.Neighbours.{Holds, IsForeign, LeavesOthers, SameRing}
+use Rattle.module_run.specs.Neighbours.{HoldsName, IsForeign, LeavesOthers, SameRing}
 use Rattle.module_run.specs.Stacked.{IsStacked, named_at}
 use Rattle.module_run.proofs.FirstCalls.{Was, was}
 use Rattle.module_run.proofs.Restacked.{WasFilter}
@@ -43,7 +43,7 @@ earlier a b lt e = omega (arith, lt, e)
 -- The call of the first filter begins.
 module _ {R : Type 0} {g : Ghosts R Stored} (chain : List Program) (ps : Pools Payload) (old new : Brigades R g) (c d : Conn) (r : Option ℕ) (stacked : IsStacked chain old c) (idle : c.busy ≡ false)
     (begins : CalledFirst chain (next_name old) (record c { req = r }) d) (over : (n : ℕ) → lists new n ≡ ring.upd (lists old) (next_name old) (Some []) n) where
-  first_holds : (n : ℕ) (h : Holds d n) → Was chain old new c d r stacked idle begins over h.at h.filter → (Holds c n) ⊎ (next_name old ≤ n)
+  first_holds : (n : ℕ) (h : HoldsName d n) → Was chain old new c d r stacked idle begins over h.at h.filter → (HoldsName c n) ⊎ (next_name old ≤ n)
   first_holds n h w = elim h.by [
     | inl name ↦ elim w.call [
       | inl e ↦ inr (let a = e.1 in omega (arith, a, name))
@@ -62,7 +62,7 @@ module _ {R : Type 0} {g : Ghosts R Stored} (chain : List Program) (ps : Pools P
 
 -- A pool under the connection's is cleared or destroyed, and the clear looks at its own brigades alone.
 module _ {R : Type 0} {g : Ghosts R Stored} (ps : Pools Payload) (formed : IsPoolMap ps) (old new : Brigades R g) (c : Conn) (pool : ℕ) (under : is_under ps c.conn pool ≡ true)
-    (looked : List ℕ) (only : (n : ℕ) → is_in n looked ≡ true → Holds c n) (left : LeavesUncleared (is_under ps pool) looked old new) where
+    (looked : List ℕ) (only : (n : ℕ) → is_in n looked ≡ true → HoldsName c n) (left : LeavesUncleared (is_under ps pool) looked old new) where
   not_looked : (n : ℕ) → IsForeign ps old c n → is_in n looked ≡ false
   not_looked n foreign = false_from_ne_true (is_in n looked) (λ there. foreign.unheld (only n there))
 
@@ -94,7 +94,7 @@ module _ {R : Type 0} {g : Ghosts R Stored} (ps : Pools Payload) (old new : Brig
   pub carried_leaves : next_name old ≤ next_name new → NoneRevived (brigade_of old) (brigade_of new) (next_name old) → ((k : ℕ) (f : Filter) → filter_at d k ≡ Some f → WasFilter c (next_name old) k f)
       → ((n : ℕ) → IsForeign ps old c n → SameRing old new n) → LeavesOthers ps old new c d
   carried_leaves rises names was spared = record { rises = rises; names = names; others = spared; holds = λ n pos h. holds n h (was h.at h.filter h.is) } where
-    holds : (n : ℕ) (h : Holds d n) → WasFilter c (next_name old) h.at h.filter → (Holds c n) ⊎ (next_name old ≤ n)
+    holds : (n : ℕ) (h : HoldsName d n) → WasFilter c (next_name old) h.at h.filter → (HoldsName c n) ⊎ (next_name old ≤ n)
     holds n h w = elim h.by [
       | inl name ↦ inl (record { at = h.at; filter = w.old; is = w.is; by = inl (sym w.name ∙ name) })
       | inr b ↦ elim (w.names b.0 n b.1) [
@@ -114,7 +114,7 @@ destroyed_leaves chain tree newer old new d e c after pool under formed gone qui
   others = spared (map_of tree) formed old new c pool under gone.looked gone.only (record { lists = gone.out; pools = gone.off });
   holds = λ n pos h. inl (held n h (slice_get c.filters.items h.at) refl);
 } where
-  held : (n : ℕ) (h : Holds after n) (o : Option Filter) → slice_get c.filters.items h.at ≡ o → Holds c n
+  held : (n : ℕ) (h : HoldsName after n) (o : Option Filter) → slice_get c.filters.items h.at ≡ o → HoldsName c n
   held n h None is = absurd (let none : None ≡ Some h.filter =
       sym (ap (λ (fs : List Filter). slice_get fs h.at) quiet ∙ (slice_get-map quieted c.filters.items h.at ∙ ap (option_map quieted) is)) ∙ h.is in cc)
   held n h (Some f) is =

@@ -35,7 +35,7 @@ use Rattle.module_run.specs.declared.conn.OpenFile.{OpenFile}
 use Rattle.ring_calls.specs.declared.machine.Instance.{Instance}
 use Rattle.module_run.specs.CalledFirst.{CalledFirst}
 use Rattle.module_run.specs.Conns.{conn_of, counting, filter_at, labels_handed, lengths, lent_by, runs_of, shown_filter, shown_instance, stack_of, stack_up, top_of, waiting}
-use Rattle.module_run.specs.Neighbours.{ComesBeside, Holds}
+use Rattle.module_run.specs.Neighbours.{ComesBeside, HoldsName}
 use Rattle.module_run.specs.Opening.{CanOpen, IsNewConn, IsNewFilter, over}
 use Rattle.module_run.specs.Proceeding.{LeftAs}
 use Rattle.ring_calls.specs.Seen.{shown_slot}
@@ -228,7 +228,7 @@ module _ {R : Type 0} {g : Ghosts R Stored} (chain : List Program) (tree : PoolT
     filter_first_new : (f : Filter) × (filter_at c 0 ≡ Some f)
     filter_first_new = filter_within c 0 (omega (arith, some, many))
 
-    at_first : (n : ℕ) → 0 < n → (h : Holds d n) → h.at ≡ 0 → (f : Filter) × (filter_at c 0 ≡ Some f) → next_name old ≤ n
+    at_first : (n : ℕ) → 0 < n → (h : HoldsName d n) → h.at ≡ 0 → (f : Filter) × (filter_at c 0 ≡ Some f) → next_name old ≤ n
     at_first n pos h q f =
         let e = begins.first f.0 f.1 in
         let same : h.filter ≡ e.0 = some_same h.filter e.0 (sym h.is ∙ (ap (filter_at d) q ∙ e.1.0)) in

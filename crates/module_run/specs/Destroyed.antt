@@ -20,7 +20,7 @@ use Rattle.module_run.specs.declared.conn.Conn.{Conn}
 use Rattle.module_run.specs.declared.conn.Filter.{Filter}
 use Rattle.module_run.specs.declared.conn.OpenFile.{OpenFile}
 use Rattle.module_run.specs.Conns.{filter_at}
-use Rattle.module_run.specs.Neighbours.{Holds}
+use Rattle.module_run.specs.Neighbours.{HoldsName}
 use Rattle.module_run.specs.Stacked.{named_at}
 use Rattle.ring_run.specs.declared.labels_run.LabelsRun.{LabelsRun}
 
@@ -38,7 +38,7 @@ module _ {R : Type 0} {g : Ghosts R Stored} where
     pub looked : List ℕ
     pub named : (k b n : ℕ) (f : Filter) → filter_at c k ≡ Some f → named_at f b ≡ Some n → is_in n looked ≡ true
     pub loose : (k : ℕ) (f : Filter) → filter_at c k ≡ Some f → is_in f.call.name looked ≡ true
-    pub only : (n : ℕ) → is_in n looked ≡ true → Holds c n
+    pub only : (n : ℕ) → is_in n looked ≡ true → HoldsName c n
     pub pools : map_of newer ≡ destroyed pool (map_of tree)
     pub out : (n : ℕ) → lists new n ≡ cleared_ring (is_under (map_of tree) pool) (is_in n looked) (pool_of old n) (lists old n)
     pub off : (n : ℕ) → pool_of new n ≡ pool_left (is_under (map_of tree) pool) (pool_of old n)

@@ -13,7 +13,7 @@ use Rattle.module_run.specs.Conns.{filter_at}
 use Rattle.module_run.specs.Stacked.{named_at}
 
 -- It is the loose buckets of a call of the connection, or a variable of a filter names it.
-pub record Holds (c : Conn) (n : ℕ) : Type 0 where
+pub record HoldsName (c : Conn) (n : ℕ) : Type 0 where
   pub at : ℕ
   pub filter : Filter
   pub is : filter_at c at ≡ Some filter
@@ -24,7 +24,7 @@ module _ {R : Type 0} {g : Ghosts R Stored} where
   pub record IsForeign (ps : Pools Payload) (store : Brigades R g) (c : Conn) (n : ℕ) : Type 0 where
     pub real : 0 < n
     pub given : n < next_name store
-    pub unheld : Holds c n → ⊥
+    pub unheld : HoldsName c n → ⊥
     pub off : (p : ℕ) → pool_of store n ≡ Some p → is_under ps c.conn p ≡ false
 
   pub record SameRing (old new : Brigades R g) (n : ℕ) : Type 0 where
@@ -36,16 +36,16 @@ module _ {R : Type 0} {g : Ghosts R Stored} where
     pub rises : next_name old ≤ next_name new
     pub names : NoneRevived (brigade_of old) (brigade_of new) (next_name old)
     pub others : (n : ℕ) → IsForeign ps old c n → SameRing old new n
-    pub holds : (n : ℕ) → 0 < n → Holds d n → (Holds c n) ⊎ (next_name old ≤ n)
+    pub holds : (n : ℕ) → 0 < n → HoldsName d n → (HoldsName c n) ⊎ (next_name old ≤ n)
 
   -- A connection came: what was there is as it was, and what it holds is new.
   pub record ComesBeside (old new : Brigades R g) (d : Conn) : Type 0 where
     pub rises : next_name old ≤ next_name new
     pub names : NoneRevived (brigade_of old) (brigade_of new) (next_name old)
     pub others : (n : ℕ) → n < next_name old → SameRing old new n
-    pub holds : (n : ℕ) → 0 < n → Holds d n → next_name old ≤ n
+    pub holds : (n : ℕ) → 0 < n → HoldsName d n → next_name old ≤ n
 
   -- What c had on no pool, and d has no more, is gone. calls: the loose buckets of a call that ended. brought: a brigade that came in.
   pub record EndsLoose (old new : Brigades R g) (c d : Conn) : Type 0 where
     pub calls : (k : ℕ) (f e : Filter) → filter_at c k ≡ Some f → filter_at d k ≡ Some e → e.call.name ≢ f.call.name → lists new f.call.name ≡ None
-    pub brought : (k m : ℕ) (f : Filter) → filter_at c k ≡ Some f → named_at f 8 ≡ Some m → pool_of old m ≡ None → (Holds d m → ⊥) → lists new m ≡ None
+    pub brought : (k m : ℕ) (f : Filter) → filter_at c k ≡ Some f → named_at f 8 ≡ Some m → pool_of old m ≡ None → (HoldsName d m → ⊥) → lists new m ≡ None

@@ -3,7 +3,7 @@
 ghost use Rattle.std.specs.Prelude.{◌≡◌, ◌&&◌, not, false, true, if◌then◌else◌, ℕ, List, None, Some, OnOk, OnErr};
 ghost use Rattle.std.specs.List.{list_any};
 ghost use Rattle.module_run.specs.Prelude.{Missing, NoneRevived, upd, Program, Linked, is_referred, refers, is_file_ref, Pools, destroyed, is_under, run_order, closing_labels, map_of, SameButOpen};
-ghost use Rattle.module_run.specs.Prelude.{AreOpen, IsHouse, lists, brigade_of, pool_of, references, next_name, filter_at, labels_handed, Stands, Holds, LeavesOthers, LeftAs, StandsFor, named_at};
+ghost use Rattle.module_run.specs.Prelude.{AreOpen, IsHouse, lists, brigade_of, pool_of, references, next_name, filter_at, labels_handed, Stands, HoldsName, LeavesOthers, LeftAs, StandsFor, named_at};
 ghost use Rattle.module_run.specs.declared.conn.Filter.{Filter};
 
 use crate::conn::{Conn, Filter};
@@ -44,7 +44,7 @@ impl Conn {
     /// Ends the loose buckets of its calls.
     fn end_calls<R: Rings<Stored> + Drop>(&self, store: &mut Brigades<R>)
         requires free { (k : ℕ) (f : Filter) → filter_at self.now k ≡ Some f → pool_of store.old f.call.name ≡ None }
-        ensures others { (n : ℕ) → (Holds self.now n → ⊥) → lists store.new n ≡ lists store.old n }
+        ensures others { (n : ℕ) → (HoldsName self.now n → ⊥) → lists store.new n ≡ lists store.old n }
         ensures gone { (k : ℕ) (f : Filter) → filter_at self.now k ≡ Some f → lists store.new f.call.name ≡ None }
         ensures none { (n : ℕ) → lists store.old n ≡ None → lists store.new n ≡ None }
         ensures next { next_name store.new ≡ next_name store.old }
@@ -69,7 +69,7 @@ impl Conn {
         ensures labels { OnOk result ((chain : List Program) (v : Linked) → StandsFor chain tree.old store.old (F.device files.old) self.old v
             → labels_handed self.new.labels.items ≡ closing_labels v) }
         ensures pools { OnOk result (map_of tree.new ≡ destroyed self.old.conn (map_of tree.old)) }
-        ensures gone { OnOk result ((n : ℕ) → Holds self.old n → lists store.new n ≡ None) }
+        ensures gone { OnOk result ((n : ℕ) → HoldsName self.old n → lists store.new n ≡ None) }
         ensures next { next_name store.new ≡ next_name store.old }
         ensures closed { OnOk result ((file : ℕ) → (F.device files.new).numbered file
             ≡ (if list_any (λ x. is_file_ref file x.1) (run_order (map_of tree.old) self.old.conn) && not (is_referred (map_of tree.new) file) then Missing else (F.device files.old).numbered file)) }
@@ -108,7 +108,7 @@ impl Conn {
         ensures labels { OnOk result ((chain : List Program) (v : Linked) → StandsFor chain tree.old store.old (F.device files.old) self.old v
             → labels_handed self.new.labels.items ≡ closing_labels v) }
         ensures pools { OnOk result (map_of tree.new ≡ destroyed self.old.conn (map_of tree.old)) }
-        ensures gone { OnOk result ((n : ℕ) → Holds self.old n → lists store.new n ≡ None) }
+        ensures gone { OnOk result ((n : ℕ) → HoldsName self.old n → lists store.new n ≡ None) }
         ensures next { next_name store.new ≡ next_name store.old }
         ensures closed { OnOk result ((file : ℕ) → (F.device files.new).numbered file
             ≡ (if list_any (λ x. is_file_ref file x.1) (run_order (map_of tree.old) self.old.conn) && not (is_referred (map_of tree.new) file) then Missing else (F.device files.old).numbered file)) }

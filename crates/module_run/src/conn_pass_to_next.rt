@@ -51,7 +51,7 @@ impl Filter {
         requires live { is_some (live_in (lists store.now) (slot_at self.old.instance b)) ≡ true }
         ensures name { name_in (slot_at self.old.instance b) ≡ Some result }
         ensures there { is_some (lists store.now result) ≡ true }
-        ensures seen { (around : ContextView) (call : Call) → lent b (seen store.now around self.new.instance call) ≡ do_pass b (seen store.now around self.old.instance call) }
+        ensures seen { (view : ContextView) (call : Call) → lent b (seen store.now view self.new.instance call) ≡ do_pass b (seen store.now view self.old.instance call) }
         ensures held { (call : Call) → IsHeld store.now self.old.instance call → IsHeld store.now self.new.instance call }
         ensures slots { (a : ℕ) → slot_at self.new.instance a ≡ (if a == b then marked Mark.Passed (slot_at self.old.instance b) else slot_at self.old.instance a) }
         ensures call { self.new.call ≡ self.old.call }

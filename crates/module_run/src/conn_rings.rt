@@ -27,14 +27,14 @@ impl Filter {
 
 impl Conn {
     ghost use Rattle.module_run.specs.Conns.{filter_at};
-    ghost use Rattle.module_run.specs.Neighbours.{Holds};
+    ghost use Rattle.module_run.specs.Neighbours.{HoldsName};
     ghost use Rattle.module_run.specs.Stacked.{named_at};
 
     /// The brigades that variables of its filters name, and the loose buckets of all its calls: those at which a clear looks.
     pub(crate) fn rings(&self) -> Result<Vec<BrigadeId>, AllocError>
         ensures named { IfOk result (λ rings. (k b n : ℕ) (f : Filter) → filter_at self.now k ≡ Some f → named_at f b ≡ Some n → is_in n rings.items ≡ true) }
         ensures loose { IfOk result (λ rings. (k : ℕ) (f : Filter) → filter_at self.now k ≡ Some f → is_in f.call.name rings.items ≡ true) }
-        ensures only { IfOk result (λ rings. (n : ℕ) → is_in n rings.items ≡ true → Holds self.now n) }
+        ensures only { IfOk result (λ rings. (n : ℕ) → is_in n rings.items ≡ true → HoldsName self.now n) }
     {
         let mut rings = Vec::new(self.alloc);
         for filter in &self.filters {
@@ -47,7 +47,7 @@ impl Conn {
     pub(crate) fn looked_at(&self, instr: Instr) -> Result<Vec<BrigadeId>, AllocError>
         ensures named { IfOk result (λ rings. clears_pool instr ≡ true → (k b n : ℕ) (f : Filter) → filter_at self.now k ≡ Some f → named_at f b ≡ Some n → is_in n rings.items ≡ true) }
         ensures loose { IfOk result (λ rings. clears_pool instr ≡ true → (k : ℕ) (f : Filter) → filter_at self.now k ≡ Some f → is_in f.call.name rings.items ≡ true) }
-        ensures only { IfOk result (λ rings. (n : ℕ) → is_in n rings.items ≡ true → Holds self.now n) }
+        ensures only { IfOk result (λ rings. (n : ℕ) → is_in n rings.items ≡ true → HoldsName self.now n) }
         ensures sure { clears_pool instr ≡ false → IsOk result }
     {
         match instr {

@@ -1,12 +1,9 @@
 -- What a call writes for what it reads.
 use Rattle.std.specs.Prelude.{ℕ, ◌<◌, List, length, take, Option, IfSome, Result, Ok, Err}
 use Rattle.std.specs.Io.KnownBytes.{Appends, Keeps}
+pub use Rattle.byte_streams.specs.Texts.{Writes}
 use Rattle.module_tools.specs.declared.fault.PlayFault.{PlayFault}
 use Rattle.module_tools.specs.declared.fault.PlayFault.TheVariants as fault
-
--- Where the input of a call is known, what it wrote is such a text of that input.
-abbrev pub Writes : Option (List ℕ) → Option (List ℕ) → Option (List ℕ) → (List ℕ → List ℕ → Type 0) → Type 0
-Writes input old new P = IfSome input (λ script. (text : List ℕ) × P script text × Appends old new text)
 
 -- A text is written. Where the writer fails, a front of it that is not all; where memory is lacking, nothing.
 abbrev pub WritesText : {T : Type 0} → Option (List ℕ) → Option (List ℕ) → List ℕ → Result T PlayFault → Type 0

@@ -62,8 +62,8 @@ module _ (E : El) where
   Br = base_type.the_row (R E)
 
   -- what a `Cells` owns beside its places: a mark of no bytes
-  abbrev pub Mark : RattleType
-  Mark = Struct (shape (cells_type.the_type (R E)))
+  abbrev pub FullMark : RattleType
+  FullMark = Struct (shape (cells_type.the_type (R E)))
 
   abbrev pub size_of : ℕ
   size_of = type_size (R E)

@@ -53,48 +53,48 @@ null_shown runs L (slot.Made n pool mark) = go (L n) where
   go None = refl
   go (Some xs) = refl
 
-module _ (L : ℕ → Option Items) (k : ℕ) (around : ContextView) (i : Instance) (call : Call) where
-  pub null_brigade : (b : ℕ) (s : Slot) → slot_at i b ≡ s → is_unmade s ≡ is_null_brigade ((seen_over L k around i call).instance.brigades b)
+module _ (L : ℕ → Option Items) (k : ℕ) (view : ContextView) (i : Instance) (call : Call) where
+  pub null_brigade : (b : ℕ) (s : Slot) → slot_at i b ≡ s → is_unmade s ≡ is_null_brigade ((seen_over L k view i call).instance.brigades b)
   unfolding seen_over
-  null_brigade b s is = ap is_unmade (sym is) ∙ null_shown (calls_in around call) L (slot_at i b)
+  null_brigade b s is = ap is_unmade (sym is) ∙ null_shown (calls_in view call) L (slot_at i b)
 
-  pub null_pool : (q : ℕ) (v : PoolVar) → slice_index_or i.pools q poolvar.Null ≡ v → is_null_pool v ≡ is_null_pool ((seen_over L k around i call).instance.pools q)
+  pub null_pool : (q : ℕ) (v : PoolVar) → slice_index_or i.pools q poolvar.Null ≡ v → is_null_pool v ≡ is_null_pool ((seen_over L k view i call).instance.pools q)
   unfolding seen_over
   null_pool q v is = ap is_null_pool (sym is)
 
   module _ (b : ℕ) where
-    items_live : (n : ℕ) → live_in L (slot_at i b) ≡ Some n → items_at (seen_over L k around i call) b ≡ shown (calls_in around call) (list_at L n)
-    items_live n is = let s = live_is L (slot_at i b) n is in items_of_slot L k around i call b n s.0 s.1.0 s.1.1.0
+    items_live : (n : ℕ) → live_in L (slot_at i b) ≡ Some n → items_at (seen_over L k view i call) b ≡ shown (calls_in view call) (list_at L n)
+    items_live n is = let s = live_is L (slot_at i b) n is in items_of_slot L k view i call b n s.0 s.1.0 s.1.1.0
 
-    pub short_live : (n p : ℕ) → live_in L (slot_at i b) ≡ Some n → nat_lt (length_in (named (list_at L n))) p ≡ is_short p (items_at (seen_over L k around i call) b)
-    short_live n p is = ap (λ m. nat_lt m p) (sym (ap length_in (items_live n is) ∙ length_shown (calls_in around call) (list_at L n)))
+    pub short_live : (n p : ℕ) → live_in L (slot_at i b) ≡ Some n → nat_lt (length_in (named (list_at L n))) p ≡ is_short p (items_at (seen_over L k view i call) b)
+    short_live n p is = ap (λ m. nat_lt m p) (sym (ap length_in (items_live n is) ∙ length_shown (calls_in view call) (list_at L n)))
 
     pub empty_live : (n : ℕ) (first : Option BucketId) (t : Bool) → live_in L (slot_at i b) ≡ Some n → first ≡ first_of (list_at L n) → is_some first ≡ not t
-        → t ≡ is_empty (items_at (seen_over L k around i call) b)
-    empty_live n first t is at none = none_first (calls_in around call) (list_at L n) t (sym (ap is_some at) ∙ none) ∙ ap is_empty (sym (items_live n is))
+        → t ≡ is_empty (items_at (seen_over L k view i call) b)
+    empty_live n first t is at none = none_first (calls_in view call) (list_at L n) t (sym (ap is_some at) ∙ none) ∙ ap is_empty (sym (items_live n is))
 
-    pub across_live : (n p : ℕ) (o : Option NamedBucket) → live_in L (slot_at i b) ≡ Some n → o ≡ bucket_across p (shown (calls_in around call) (list_at L n))
-        → names_if (is_some o) ≡ names_to_part p (items_at (seen_over L k around i call) b)
+    pub across_live : (n p : ℕ) (o : Option NamedBucket) → live_in L (slot_at i b) ≡ Some n → o ≡ bucket_across p (shown (calls_in view call) (list_at L n))
+        → names_if (is_some o) ≡ names_to_part p (items_at (seen_over L k view i call) b)
     across_live n p o is at = ap (λ (y : Option NamedBucket). names_if (is_some y)) (at ∙ ap (bucket_across p) (sym (items_live n is)))
 
   -- a buffer is full by its length
-  pub full_is : (x : Value) (n m : ℕ) (t : Bool) → t ≡ (nat_lt 255 n || nat_le buffer_limit m) → n ≡ value_of (seen_over L k around i call) x → m ≡ length call.buffer
-      → t ≡ is_full (seen_over L k around i call) x
+  pub full_is : (x : Value) (n m : ℕ) (t : Bool) → t ≡ (nat_lt 255 n || nat_le buffer_limit m) → n ≡ value_of (seen_over L k view i call) x → m ≡ length call.buffer
+      → t ≡ is_full (seen_over L k view i call) x
   unfolding seen_over
   full_is x n m t is number len =
       is
       ∙ (ap (λ (a : ℕ). nat_lt 255 a || nat_le buffer_limit m) number
-      ∙ ap (λ (a : ℕ). nat_lt 255 (value_of (seen_over L k around i call) x) || nat_le buffer_limit a) len)
+      ∙ ap (λ (a : ℕ). nat_lt 255 (value_of (seen_over L k view i call) x) || nat_le buffer_limit a) len)
 
   -- the names of the store are spent, or those of the pools
-  pub store_spent : (instr : Instr) (t : Bool) → t ≡ is_spent k (names_of (seen_over L k around i call) instr) → t ≡ true → t ≡ lacks_names (seen_over L k around i call) instr
+  pub store_spent : (instr : Instr) (t : Bool) → t ≡ is_spent k (names_of (seen_over L k view i call) instr) → t ≡ true → t ≡ lacks_names (seen_over L k view i call) instr
   unfolding seen_over lacks_names
-  store_spent instr t is spent = spent ∙ sym (ap (λ (u : Bool). u || is_spent around.pools.next (pool_names_of instr)) (sym is ∙ spent))
+  store_spent instr t is spent = spent ∙ sym (ap (λ (u : Bool). u || is_spent view.pools.next (pool_names_of instr)) (sym is ∙ spent))
 
-  pub pools_spent : (instr : Instr) (t u : Bool) → t ≡ is_spent k (names_of (seen_over L k around i call) instr) → t ≡ false → u ≡ is_spent around.pools.next (pool_names_of instr)
-      → u ≡ lacks_names (seen_over L k around i call) instr
+  pub pools_spent : (instr : Instr) (t u : Bool) → t ≡ is_spent k (names_of (seen_over L k view i call) instr) → t ≡ false → u ≡ is_spent view.pools.next (pool_names_of instr)
+      → u ≡ lacks_names (seen_over L k view i call) instr
   unfolding seen_over lacks_names
-  pools_spent instr t u is left at = at ∙ sym (ap (λ (v : Bool). v || is_spent around.pools.next (pool_names_of instr)) (sym is ∙ left))
+  pools_spent instr t u is left at = at ∙ sym (ap (λ (v : Bool). v || is_spent view.pools.next (pool_names_of instr)) (sym is ∙ left))
 
 -- a byte that is put
 module _ (x : Value) (r : Configuration) where

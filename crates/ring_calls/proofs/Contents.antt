@@ -37,21 +37,21 @@ unfolding bucket_across
 none_across zero = refl
 none_across (suc p) = refl
 
-module _ (L : ℕ → Option Items) (k : ℕ) (around : ContextView) (i : Instance) (call : Call) (b : ℕ) where
-  pub homes_told : homes_fault (contents (calls_in around call) L (live_in L (slot_at i b))) ≡ homes_fault (items_of ((seen_over L k around i call).instance.brigades b))
+module _ (L : ℕ → Option Items) (k : ℕ) (view : ContextView) (i : Instance) (call : Call) (b : ℕ) where
+  pub homes_told : homes_fault (contents (calls_in view call) L (live_in L (slot_at i b))) ≡ homes_fault (items_of ((seen_over L k view i call).instance.brigades b))
   unfolding seen_over
-  homes_told = ap homes_fault (items_told (calls_in around call) L (slot_at i b))
+  homes_told = ap homes_fault (items_told (calls_in view call) L (slot_at i b))
 
-  pub across_told : (x : Value) → home_fault (bucket_across (value_of (seen_over L k around i call) x) (contents (calls_in around call) L (live_in L (slot_at i b))))
-      ≡ home_fault (bucket_across (value_of (seen_over L k around i call) x) (items_of ((seen_over L k around i call).instance.brigades b)))
+  pub across_told : (x : Value) → home_fault (bucket_across (value_of (seen_over L k view i call) x) (contents (calls_in view call) L (live_in L (slot_at i b))))
+      ≡ home_fault (bucket_across (value_of (seen_over L k view i call) x) (items_of ((seen_over L k view i call).instance.brigades b)))
   unfolding seen_over
-  across_told x = ap (λ items. home_fault (bucket_across (value_of (seen_over L k around i call) x) items)) (items_told (calls_in around call) L (slot_at i b))
+  across_told x = ap (λ items. home_fault (bucket_across (value_of (seen_over L k view i call) x) items)) (items_told (calls_in view call) L (slot_at i b))
 
-  pub send_told : cond (late_data i.sent (contents (calls_in around call) L (live_in L (slot_at i b)))) (Some F8) None
-      ≡ send_fault (seen_over L k around i call).instance.sent (items_of ((seen_over L k around i call).instance.brigades b))
+  pub send_told : cond (late_data i.sent (contents (calls_in view call) L (live_in L (slot_at i b)))) (Some F8) None
+      ≡ send_fault (seen_over L k view i call).instance.sent (items_of ((seen_over L k view i call).instance.brigades b))
   unfolding seen_over
-  send_told = ap (λ t. cond t (Some F8) None) (late_data_is i.sent (contents (calls_in around call) L (live_in L (slot_at i b))))
-      ∙ ap (send_fault i.sent) (items_told (calls_in around call) L (slot_at i b))
+  send_told = ap (λ t. cond t (Some F8) None) (late_data_is i.sent (contents (calls_in view call) L (live_in L (slot_at i b))))
+      ∙ ap (send_fault i.sent) (items_told (calls_in view call) L (slot_at i b))
 
 -- What a return asks of a variable: where a usable brigade is there, where none is, where it was passed.
 pub stray_null : (r : Configuration) (runs : ℕ → Bool) (L : ℕ → Option Items) (s : Slot) → s ≡ slot.Null → false ≡ keeps_stray r (shown_slot runs L s)

@@ -16,17 +16,17 @@ use Rattle.ring_calls.proofs.Changes.{live_is, items_of_slot}
 pub live_there : (L : ℕ → Option Items) (s : Slot) (n : ℕ) → live_in L s ≡ Some n → is_some (L n) ≡ true
 live_there L s n is = (live_is L s n is).1.1.1
 
-module _ (L : ℕ → Option Items) (k : ℕ) (around : ContextView) (i : Instance) (call : Call) (b : ℕ) where
-  pub items_live : (n : ℕ) → live_in L (slot_at i b) ≡ Some n → items_of ((seen_over L k around i call).instance.brigades b) ≡ shown (calls_in around call) (list_at L n)
-  items_live n is = let t = live_is L (slot_at i b) n is in items_of_slot L k around i call b n t.0 t.1.0 t.1.1.0
+module _ (L : ℕ → Option Items) (k : ℕ) (view : ContextView) (i : Instance) (call : Call) (b : ℕ) where
+  pub items_live : (n : ℕ) → live_in L (slot_at i b) ≡ Some n → items_of ((seen_over L k view i call).instance.brigades b) ≡ shown (calls_in view call) (list_at L n)
+  items_live n is = let t = live_is L (slot_at i b) n is in items_of_slot L k view i call b n t.0 t.1.0 t.1.1.0
 
-  pub items_dead : live_in L (slot_at i b) ≡ None → items_of ((seen_over L k around i call).instance.brigades b) ≡ []
+  pub items_dead : live_in L (slot_at i b) ≡ None → items_of ((seen_over L k view i call).instance.brigades b) ≡ []
   unfolding seen_over
   items_dead none = go (slot_at i b) none where
-    made : (n : ℕ) (pool : Option ℕ) (mark : Mark) (o : Option Items) → live_in (λ (m : ℕ). o) (slot.Made n pool mark) ≡ None → items_of (shown_as (calls_in around call) n pool mark o) ≡ []
+    made : (n : ℕ) (pool : Option ℕ) (mark : Mark) (o : Option Items) → live_in (λ (m : ℕ). o) (slot.Made n pool mark) ≡ None → items_of (shown_as (calls_in view call) n pool mark o) ≡ []
     made n pool mark None e = refl
     made n pool mark (Some xs) e = absurd (cc)
 
-    go : (s : Slot) → live_in L s ≡ None → items_of (shown_slot (calls_in around call) L s) ≡ []
+    go : (s : Slot) → live_in L s ≡ None → items_of (shown_slot (calls_in view call) L s) ≡ []
     go slot.Null e = refl
     go (slot.Made n pool mark) e = made n pool mark (L n) e

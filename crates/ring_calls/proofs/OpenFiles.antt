@@ -19,14 +19,14 @@ use Rattle.run_model.specs.declared.bucket.NamedBucket.{NamedBucket}
 use Rattle.run_model.specs.declared.payload.Payload.{Payload}
 use Rattle.run_model.specs.Buckets.{is_dead, is_ended}
 use Rattle.run_model.specs.BucketSteps.{content_at}
-use Rattle.run_model.specs.Cursors.{Place, Nowhere, AtLoose, Within, AtEndOf, spot, bucket_at}
+use Rattle.run_model.specs.Cursors.{Place, Nowhere, AtLoose, Within, AtEndOf, at_cursor, bucket_at}
 use Rattle.run_model.specs.Effects.{file_of, is_above, new_ref}
 use Rattle.run_model.specs.Faults.{home_fault, homes_fault}
 use Rattle.run_model.specs.Pools.{Pools}
 use Rattle.run_model.specs.State.{Configuration, items_of}
 use Rattle.run_model.specs.declared.fault.FaultKind.TheVariants.{F5}
 use Rattle.run_model.proofs.EachBucket.{of_named}
-use Rattle.run_model.proofs.Spots.{Stands, stands}
+use Rattle.run_model.proofs.CursorPlaces.{StandsThere, stands}
 use Rattle.brigade_ops.specs.Files.{times_in}
 use Rattle.brigade_ops.specs.House as house
 use Rattle.stored_rings.specs.Items.{Items, named, file_for, count_for}
@@ -42,9 +42,9 @@ alive_open : (d : Device) (x : NamedBucket) → HasOpenAlive d x → is_dead x �
 alive_open d x opens live = opens (not_ended x.bucket.home live)
 
 -- the bucket at a cursor
-pub open_spot : (d : Device) (r : Configuration) (c : ℕ) → RangesOpen d r → home_fault (bucket_at (spot r c)) ≡ None → IsOpenFor d (content_at (spot r c))
-open_spot d r c opens = go (spot r c) (stands r (r.call.cursors c)) where
-  go : (s : Place) → Stands r s → home_fault (bucket_at s) ≡ None → IsOpenFor d (content_at s)
+pub open_at_cursor : (d : Device) (r : Configuration) (c : ℕ) → RangesOpen d r → home_fault (bucket_at (at_cursor r c)) ≡ None → IsOpenFor d (content_at (at_cursor r c))
+open_at_cursor d r c opens = go (at_cursor r c) (stands r (r.call.cursors c)) where
+  go : (s : Place) → StandsThere r s → home_fault (bucket_at s) ≡ None → IsOpenFor d (content_at s)
   go Nowhere at e = tt
   go (AtLoose x) at e = alive_open d x (of_named (HasOpenAlive d) x.name x r.call.loose at opens.loose) (not_dead x e)
   go (Within b x) at e = alive_open d x (of_named (HasOpenAlive d) x.name x (items_of (r.instance.brigades b)) at.1 (opens.brigades b)) (not_dead x e)

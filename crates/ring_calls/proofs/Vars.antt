@@ -29,13 +29,13 @@ use Rattle.ring_calls.proofs.Changes.{ApartIn, ring_here, live_is, seen_same, se
 abbrev instance_as : (ℕ → PoolVar) → (ℕ → BrigadeVar) → (ℕ → ℕ) → Bool → Configuration → Configuration
 instance_as pools brigades numbers sent r = record r { instance = record { pools = pools; brigades = brigades; numbers = numbers; sent = sent } }
 
-pub seen_var : (L : ℕ → Option Items) (k : ℕ) (around : ContextView) (i new : Instance) (call : Call) (b : ℕ) (s : Slot) → SameButSlots i new
+pub seen_var : (L : ℕ → Option Items) (k : ℕ) (view : ContextView) (i new : Instance) (call : Call) (b : ℕ) (s : Slot) → SameButSlots i new
     → ((a : ℕ) → slot_at new a ≡ (if a == b then s else slot_at i a))
-    → seen_over L k around new call ≡ set_brigade b (shown_slot (calls_in around call) L s) (seen_over L k around i call)
+    → seen_over L k view new call ≡ set_brigade b (shown_slot (calls_in view call) L s) (seen_over L k view i call)
 unfolding seen_over set_brigade upd
-seen_var L k around i new call b s same sets =
-    let r = seen_over L k around i call in
-    let runs = calls_in around call in
+seen_var L k view i new call b s same sets =
+    let r = seen_over L k view i call in
+    let runs = calls_in view call in
     ap (λ (f : ℕ → BrigadeVar).
     record r { instance = record { pools = λ p. slice_index_or new.pools p poolvar.Null; brigades = f; numbers = λ n. slice_index_or new.numbers n 0; sent = new.sent } }) (fun_ext by_slot)
     ∙ (ap (λ (ps : List PoolVar). record r {
@@ -50,9 +50,9 @@ seen_var L k around i new call b s same sets =
     record r { instance = record { pools = r.instance.pools; brigades = upd r.instance.brigades b (shown_slot runs L s); numbers = λ n. slice_index_or ns n 0; sent = new.sent } }) same.numbers
     ∙ ap (λ (t : Bool). record r { instance = record { pools = r.instance.pools; brigades = upd r.instance.brigades b (shown_slot runs L s); numbers = r.instance.numbers; sent = t } }) same.sent))
   where
-    by_slot : (a : ℕ) → shown_slot (calls_in around call) L (slot_at new a) ≡ upd (λ c. shown_slot (calls_in around call) L (slot_at i c)) b (shown_slot (calls_in around call) L s) a
-    by_slot a = ap (shown_slot (calls_in around call) L) (sets a) ∙ go (a == b) where
-      go : (t : Bool) → shown_slot (calls_in around call) L (if t then s else slot_at i a) ≡ (if t then shown_slot (calls_in around call) L s else shown_slot (calls_in around call) L (slot_at i a))
+    by_slot : (a : ℕ) → shown_slot (calls_in view call) L (slot_at new a) ≡ upd (λ c. shown_slot (calls_in view call) L (slot_at i c)) b (shown_slot (calls_in view call) L s) a
+    by_slot a = ap (shown_slot (calls_in view call) L) (sets a) ∙ go (a == b) where
+      go : (t : Bool) → shown_slot (calls_in view call) L (if t then s else slot_at i a) ≡ (if t then shown_slot (calls_in view call) L s else shown_slot (calls_in view call) L (slot_at i a))
       go true = refl
       go false = refl
 
@@ -65,23 +65,23 @@ clean_shown : (runs : ℕ → Bool) (n : ℕ) (pool : Option ℕ) (mark : Mark) 
 clean_shown runs n pool mark None there = absurd (cc)
 clean_shown runs n pool mark (Some xs) there = refl
 
-module _ (L M : ℕ → Option Items) (k l : ℕ) (around : ContextView) (i new : Instance) (call : Call) (b : ℕ) where
+module _ (L M : ℕ → Option Items) (k l : ℕ) (view : ContextView) (i new : Instance) (call : Call) (b : ℕ) where
   pub cleaned_step : (n : ℕ) → ApartIn i call → live_in L (slot_at i b) ≡ Some n → SameButSlots i new → ((a : ℕ) → slot_at new a ≡ (if a == b then marked Usable (slot_at i b) else slot_at i a))
       → l ≡ k → ((j : ℕ) → M j ≡ on n (λ xs. []) L j)
-      → seen_over M l around new call ≡ do_clean b (seen_over L k around i call)
+      → seen_over M l view new call ≡ do_clean b (seen_over L k view i call)
   unfolding seen_over
   cleaned_step n held is rest sets same out =
       let t = live_is L (slot_at i b) n is in
       let N : ℕ → Option Items = on n (λ xs. []) L in
-      let runs = calls_in around call in
-      let r = seen_over L k around i call in
+      let runs = calls_in view call in
+      let r = seen_over L k view i call in
       let mark : marked Usable (slot_at i b) ≡ slot.Made n t.0 Usable = ap (marked Usable) t.1.1.0 in
       let v : shown_slot runs N (marked Usable (slot_at i b)) ≡ cleaned (r.instance.brigades b) =
       ap (shown_slot runs N) mark ∙ (ap (shown_as runs n t.0 Usable) (ring_here L n (option_map (λ xs. []) (L n)))
       ∙ (clean_shown runs n t.0 t.1.0 (L n) t.1.1.1 ∙ ap (λ (s : Slot). cleaned (shown_slot runs L s)) (sym t.1.1.0))) in
-      seen_same N k around new call M l same out
-      ∙ (seen_var N k around i new call b (marked Usable (slot_at i b)) rest sets
-      ∙ (ap (λ (y : Configuration). set_brigade b (shown_slot runs N (marked Usable (slot_at i b))) y) (seen_slot L k around i call b n t.0 t.1.0 (λ xs. []) [] held t.1.1.0 refl)
+      seen_same N k view new call M l same out
+      ∙ (seen_var N k view i new call b (marked Usable (slot_at i b)) rest sets
+      ∙ (ap (λ (y : Configuration). set_brigade b (shown_slot runs N (marked Usable (slot_at i b))) y) (seen_slot L k view i call b n t.0 t.1.0 (λ xs. []) [] held t.1.1.0 refl)
       ∙ (set_twice b (with_items [] (r.instance.brigades b)) (shown_slot runs N (marked Usable (slot_at i b))) r ∙ ap (λ (w : BrigadeVar). set_brigade b w r) v)))
 
 pub named_marked : (mark : Mark) (s : Slot) → name_in (marked mark s) ≡ name_in s

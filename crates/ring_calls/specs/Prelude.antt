@@ -2,7 +2,7 @@
 pub use Rattle.module_code.specs.Program.{fits, is_variable}
 pub use Rattle.run_model.specs.BrigadeLists.{bucket_across, is_short, split_refusal}
 pub use Rattle.run_model.specs.BucketSteps.{byte_of, content_at, got, has_rest, is_of_kind, is_unsplit, items_at, kind_is, names_if}
-pub use Rattle.run_model.specs.Cursors.{is_end, read_cursor, spot}
+pub use Rattle.run_model.specs.Cursors.{is_end, read_cursor, at_cursor}
 pub use Rattle.run_model.specs.Cutting.{length_of}
 pub use Rattle.run_model.specs.EffectOf.{instr_with}
 pub use Rattle.run_model.specs.Faults.{Anywhere, InBrigade, OnBucket, fault}

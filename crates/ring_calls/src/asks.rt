@@ -1,7 +1,7 @@
 //! What is asked of the state before an instruction runs: the tests that decide where it leads, and whether there are names enough.
 
 ghost use Rattle.std.specs.Prelude.{◌≡◌, ◌<◌, ◌≤◌, ℕ, None, Some, true, is_some, length};
-ghost use Rattle.ring_calls.specs.Prelude.{fits, is_variable, is_short, split_refusal, has_rest, is_of_kind, is_unsplit, items_at, kind_is, names_if, is_end, spot};
+ghost use Rattle.ring_calls.specs.Prelude.{fits, is_variable, is_short, split_refusal, has_rest, is_of_kind, is_unsplit, items_at, kind_is, names_if, is_end, at_cursor};
 ghost use Rattle.ring_calls.specs.Prelude.{Anywhere, InBrigade, OnBucket, fault, is_empty, items_of, is_null, is_spent, lacks_names, names_for, pool_names_for, value_of, NamedBucket, map_of, lists};
 ghost use Rattle.ring_calls.specs.Prelude.{next_name, content_of, ContextView, IsHeld, HasNoFault, instr_with, StandsAs, in_context, seen, live_in, slot_at};
 ghost use Rattle.run_model.specs.Cursors.{bucket_at as model_bucket_at};
@@ -28,7 +28,7 @@ pub(crate) fn is_end<R: Rings<Stored> + Drop>(
     requires cursor { c < 9 }
     requires held { IsHeld store.now instance.now call.now }
     requires stands { StandsAs store.now instance.now call.now c Anywhere }
-    ensures { (around : ContextView) → result ≡ is_end (spot (seen store.now around instance.now call.now) c) }
+    ensures { (view : ContextView) → result ≡ is_end (at_cursor (seen store.now view instance.now call.now) c) }
 {
     match call.cursor(c) {
         CursorValue::End(_) => true,
@@ -47,8 +47,8 @@ pub(crate) fn view_at<'a, R: Rings<Stored> + Drop>(
     requires cursor { c < 9 }
     requires held { IsHeld store.now instance.now call.now }
     requires stands { StandsAs store.now instance.now call.now c OnBucket }
-    ensures { (around : ContextView) → (y : NamedBucket)
-        × ((model_bucket_at (spot (seen store.now around instance.now call.now) c) ≡ Some y) × (y.bucket.kind ≡ result.kind)
+    ensures { (view : ContextView) → (y : NamedBucket)
+        × ((model_bucket_at (at_cursor (seen store.now view instance.now call.now) c) ≡ Some y) × (y.bucket.kind ≡ result.kind)
         × (y.bucket.content ≡ content_of result.content)) }
 {
     store.payload(call.bucket(c))
@@ -80,7 +80,7 @@ pub(crate) fn kind_is<R: Rings<Stored> + Drop>(
     requires cursor { c < 9 }
     requires held { IsHeld store.now instance.now call.now }
     requires stands { StandsAs store.now instance.now call.now c OnBucket }
-    ensures { (around : ContextView) → result ≡ kind_is test (model_bucket_at (spot (seen store.now around instance.now call.now) c)) }
+    ensures { (view : ContextView) → result ≡ kind_is test (model_bucket_at (at_cursor (seen store.now view instance.now call.now) c)) }
 {
     is_of_kind(test, view_at(instance, call, store, c).kind)
 }
@@ -104,7 +104,7 @@ pub(crate) fn is_unsplit<R: Rings<Stored> + Drop>(
     requires cursor { c < 9 }
     requires held { IsHeld store.now instance.now call.now }
     requires stands { StandsAs store.now instance.now call.now c InBrigade }
-    ensures { (around : ContextView) → let r = seen store.now around instance.now call.now in result ≡ is_unsplit (value_of r x) (spot r c) }
+    ensures { (view : ContextView) → let r = seen store.now view instance.now call.now in result ≡ is_unsplit (value_of r x) (at_cursor r c) }
 {
     is_refused(view_at(instance, call, store, c), value_of(instance, x))
 }
@@ -136,7 +136,7 @@ pub(crate) fn is_incomplete<R: Rings<Stored> + Drop>(
 ) -> bool
     requires slot { b < 9 }
     requires live { is_some (live_in (lists store.now) (slot_at instance.now b)) ≡ true }
-    ensures { (around : ContextView) (call : Call) → let r = seen store.now around instance.now call in result ≡ is_short (value_of r x) (items_at r b) }
+    ensures { (view : ContextView) (call : Call) → let r = seen store.now view instance.now call in result ≡ is_short (value_of r x) (items_at r b) }
 {
     let point = u128::from(value_of(instance, x));
     store.length(instance.brigade(b)) < point
@@ -151,7 +151,7 @@ pub(crate) fn is_empty<R: Rings<Stored> + Drop>(
 ) -> bool
     requires slot { b < 9 }
     requires live { is_some (live_in (lists store.now) (slot_at instance.now b)) ≡ true }
-    ensures { (around : ContextView) (call : Call) → result ≡ is_empty (items_of ((seen store.now around instance.now call).instance.brigades b)) }
+    ensures { (view : ContextView) (call : Call) → result ≡ is_empty (items_of ((seen store.now view instance.now call).instance.brigades b)) }
 {
     store.start(instance.brigade(b)).is_none()
 }
@@ -165,7 +165,7 @@ pub fn is_null<R: Rings<Stored> + Drop>(
 ) -> bool
     requires fit { is_variable code.now var ≡ true }
     requires few { length code.now.brigades ≤ 8 }
-    ensures { (around : ContextView) (call : Call) → result ≡ is_null (seen store.now around instance.now call) var }
+    ensures { (view : ContextView) (call : Call) → result ≡ is_null (seen store.now view instance.now call) var }
 {
     match var {
         VarRef::Pool(q) => matches!(pool_names::variable(instance, q), PoolVar::Null),
@@ -186,8 +186,8 @@ fn names<R: Rings<Stored> + Drop>(
     requires fit { fits code.now (instr_with effect) ≡ true }
     requires few { length code.now.brigades ≤ 8 }
     requires held { IsHeld store.now instance.now call.now }
-    requires faultless { (around : ContextView) × HasNoFault code.now store.now around instance.now call.now effect }
-    ensures { (around : ContextView) → result ≡ names_for (seen store.now around instance.now call.now) effect }
+    requires faultless { (view : ContextView) × HasNoFault code.now store.now view instance.now call.now effect }
+    ensures { (view : ContextView) → result ≡ names_for (seen store.now view instance.now call.now) effect }
 {
     match effect {
         Effect::MakeBrigade(_) | Effect::Make(_, _) => 1,
@@ -234,8 +234,8 @@ pub fn lacks_names<R: Rings<Stored> + Drop>(
     requires fit { fits code.now instr ≡ true }
     requires few { length code.now.brigades ≤ 8 }
     requires held { IsHeld store.now instance.now call.now }
-    requires faultless { (around : ContextView) × (fault code.now (seen store.now around instance.now call.now) instr ≡ None) }
-    ensures { (around : ContextView) → result ≡ lacks_names (seen store.now (in_context context.now (map_of tree.now) around) instance.now call.now) instr }
+    requires faultless { (view : ContextView) × (fault code.now (seen store.now view instance.now call.now) instr ≡ None) }
+    ensures { (view : ContextView) → result ≡ lacks_names (seen store.now (in_context context.now (map_of tree.now) view) instance.now call.now) instr }
 {
     let effect = effect_of(instr);
     let names = names(code, instance, call, store, effect);

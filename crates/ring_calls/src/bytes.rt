@@ -1,7 +1,7 @@
 //! What instructions do with the bytes of buckets and of a call's buffer.
 
 ghost use Rattle.std.specs.Prelude.{◌≡◌, ◌<◌, ◌||◌, ℕ, Option, nat_lt, nat_le, true, IsOk, OnOk, OnErr};
-ghost use Rattle.ring_calls.specs.Prelude.{BucketId, byte_of, content_at, got, LengthAt, spot, read_cursor, length_of, OnBucket, buffer_limit, do_put, is_full, number_of, value_of, Items};
+ghost use Rattle.ring_calls.specs.Prelude.{BucketId, byte_of, content_at, got, LengthAt, at_cursor, read_cursor, length_of, OnBucket, buffer_limit, do_put, is_full, number_of, value_of, Items};
 ghost use Rattle.ring_calls.specs.Prelude.{content_of, ContextView, HeldOver, IsHeld, StandsAs, seen, seen_over, cursor_at, slot_at};
 ghost use Rattle.ring_calls.specs.declared.machine.Instance.{Instance};
 
@@ -27,17 +27,17 @@ fn has_no_room(number: u32, len: usize) -> bool
 
 /// Whether a number is no byte, or the buffer is full.
 pub fn is_full(instance: &Instance, call: &Call, x: Value) -> bool
-    ensures { (rings : ℕ → Option Items) (next : ℕ) (around : ContextView) → result ≡ is_full (seen_over rings next around instance.now call.now) x }
+    ensures { (rings : ℕ → Option Items) (next : ℕ) (view : ContextView) → result ≡ is_full (seen_over rings next view instance.now call.now) x }
 {
     has_no_room(value_of(instance, x), call.buffer.len())
 }
 
 /// Appends a byte to the buffer, where it is one and fits: only then it takes memory. Without it nothing is changed.
 pub fn put(instance: &Instance, call: &mut Call, x: Value) -> Result<(), AllocError>
-    ensures ok { OnOk result ((rings : ℕ → Option Items) (next : ℕ) (around : ContextView)
-        → seen_over rings next around instance.now call.new ≡ do_put x (seen_over rings next around instance.now call.old)) }
-    ensures sure { (rings : ℕ → Option Items) (next : ℕ) (around : ContextView) → is_full (seen_over rings next around instance.now call.old) x ≡ true → IsOk result }
-    ensures err { OnErr result ((rings : ℕ → Option Items) (next : ℕ) (around : ContextView) → seen_over rings next around instance.now call.new ≡ seen_over rings next around instance.now call.old) }
+    ensures ok { OnOk result ((rings : ℕ → Option Items) (next : ℕ) (view : ContextView)
+        → seen_over rings next view instance.now call.new ≡ do_put x (seen_over rings next view instance.now call.old)) }
+    ensures sure { (rings : ℕ → Option Items) (next : ℕ) (view : ContextView) → is_full (seen_over rings next view instance.now call.old) x ≡ true → IsOk result }
+    ensures err { OnErr result ((rings : ℕ → Option Items) (next : ℕ) (view : ContextView) → seen_over rings next view instance.now call.new ≡ seen_over rings next view instance.now call.old) }
     ensures cursors { (c : ℕ) → cursor_at call.new c ≡ cursor_at call.old c }
     ensures same { OnErr result (call.new ≡ call.old) }
     ensures pc { call.new.pc ≡ call.old.pc }
@@ -62,7 +62,7 @@ fn length_at<R: Rings<Stored> + Drop>(
     requires cursor { c < 9 }
     requires held { IsHeld store.now instance.now call.now }
     requires stands { StandsAs store.now instance.now call.now c OnBucket }
-    ensures { (around : ContextView) → result ≡ length_of (content_at (spot (seen store.now around instance.now call.now) c)) }
+    ensures { (view : ContextView) → result ≡ length_of (content_at (at_cursor (seen store.now view instance.now call.now) c)) }
 {
     view_at(instance, call, store, c).content.len()
 }
@@ -79,7 +79,7 @@ pub fn len<R: Rings<Stored> + Drop>(
     requires cursor { c < 9 }
     requires held { IsHeld store.now instance.old call.now }
     requires stands { StandsAs store.now instance.old call.now c OnBucket }
-    ensures new { (around : ContextView) → let r = seen store.now around instance.old call.now in seen store.now around instance.new call.now ≡ got n (number_of r n (LengthAt c)) r }
+    ensures new { (view : ContextView) → let r = seen store.now view instance.old call.now in seen store.now view instance.new call.now ≡ got n (number_of r n (LengthAt c)) r }
     ensures slots { (b : ℕ) → slot_at instance.new b ≡ slot_at instance.old b }
     ensures held { IsHeld store.now instance.new call.now }
 {
@@ -106,7 +106,7 @@ pub(crate) fn byte_read<R: Rings<Stored> + Drop>(
 ) -> Option<u8>
     requires held { IsHeld store.now instance.now call.now }
     requires stands { StandsAs store.now instance.now call.now read_cursor OnBucket }
-    ensures { (around : ContextView) → let r = seen store.now around instance.now call.now in result ≡ byte_of (value_of r x) (content_at (spot r read_cursor)) }
+    ensures { (view : ContextView) → let r = seen store.now view instance.now call.now in result ≡ byte_of (value_of r x) (content_at (at_cursor r read_cursor)) }
 {
     byte_of(
         view_at(instance, call, store, RD).content,
@@ -125,8 +125,8 @@ pub fn get<R: Rings<Stored> + Drop>(
     requires number { n < 8 }
     requires held { IsHeld store.now instance.old call.now }
     requires stands { StandsAs store.now instance.old call.now read_cursor OnBucket }
-    ensures new { (around : ContextView) → let r = seen store.now around instance.old call.now in
-        seen store.now around instance.new call.now ≡ got n (byte_of (value_of r x) (content_at (spot r read_cursor))) r }
+    ensures new { (view : ContextView) → let r = seen store.now view instance.old call.now in
+        seen store.now view instance.new call.now ≡ got n (byte_of (value_of r x) (content_at (at_cursor r read_cursor))) r }
     ensures slots { (b : ℕ) → slot_at instance.new b ≡ slot_at instance.old b }
     ensures held { IsHeld store.now instance.new call.now }
 {

@@ -186,8 +186,8 @@ impl Call {
     #[tactic(auto, unfolding(crate::specs::Seen::seen_over, crate::specs::Slots::cursor_at, run_model::specs::State::set_cursor, run_model::specs::Indexed::upd))]
     pub fn set_cursor(&mut self, c: u8, cursor_value: CursorValue)
         requires { c < 9 }
-        ensures seen { (rings : ℕ → Option Items) (next : ℕ) (around : ContextView) (i : Instance)
-            → seen_over rings next around i self.new ≡ set_cursor c (shown_cursor cursor_value) (seen_over rings next around i self.old) }
+        ensures seen { (rings : ℕ → Option Items) (next : ℕ) (view : ContextView) (i : Instance)
+            → seen_over rings next view i self.new ≡ set_cursor c (shown_cursor cursor_value) (seen_over rings next view i self.old) }
         ensures cursors { (d : ℕ) → cursor_at self.new d ≡ (if d == c then cursor_value else cursor_at self.old d) }
         ensures name { self.new.name ≡ self.old.name }
     {

@@ -42,8 +42,8 @@ pub fn is_named(held: Option<PoolId>, name: PoolId) -> bool
 /// The pool that an operand or a declaration names.
 #[tactic(auto, unfolding(crate::specs::Seen::seen_over, run_model::specs::State::named_at))]
 pub fn pool_named(instance: &Instance, context: &Context<'_>, pool: PoolRef) -> Option<PoolId>
-    ensures { (pools : Pools Payload) (rings : ℕ → Option Items) (next : ℕ) (around : ContextView) (call : Call)
-        → result ≡ pool_named (seen_over rings next (in_context context.now pools around) instance.now call) pool }
+    ensures { (pools : Pools Payload) (rings : ℕ → Option Items) (next : ℕ) (view : ContextView) (call : Call)
+        → result ≡ pool_named (seen_over rings next (in_context context.now pools view) instance.now call) pool }
 {
     match pool {
         PoolRef::Conn => Some(context.conn),

@@ -88,25 +88,25 @@ module _ {R : Type 0} {g : Ghosts R Stored} (old new : Brigades R g) (i : Instan
         go slot.Null e = refl
         go (slot.Made n pool mark) e = ap (shown_as (is_running (next_name old) waits) n pool mark) (as_was n (held.named b n (ap name_in e))) ∙ there n pool mark (lists old n) refl
 
-  pub seen_begun : (pc : ℕ) (around : ContextView) → next_name new ≡ next_name old + 1 → begun.buffer ≡ [] → begun.pc ≡ pc
-      → seen_over (lists new) (next_name new) around i begun ≡ begun_as pc (seen_over (lists old) (next_name old) around i call)
+  pub seen_begun : (pc : ℕ) (view : ContextView) → next_name new ≡ next_name old + 1 → begun.buffer ≡ [] → begun.pc ≡ pc
+      → seen_over (lists new) (next_name new) view i begun ≡ begun_as pc (seen_over (lists old) (next_name old) view i call)
   unfolding seen_over
-  seen_begun pc around next empty at =
-      let r = seen_over (lists old) (next_name old) around i call in
+  seen_begun pc view next empty at =
+      let r = seen_over (lists old) (next_name old) view i call in
       let made : (ℕ → BrigadeVar) → ℕ → (ℕ → Cursor) → List ℕ → List NamedBucket → ℕ → ℕ → Configuration =
       λ bs name cursors buffer items next pc. record r
       { instance = record r.instance { brigades = bs }; call = record { name = name; cursors = cursors; buffer = buffer; loose = items }; shared = record r.shared { next = next }; pc = pc } in
-      ap (λ bs. made bs begun.name (λ c. shown_cursor (cursor_at begun c)) begun.buffer (shown (calls_in around begun) (list_at (lists new) begun.name)) (next_name new) begun.pc)
-      (fun_ext (by_slot around.waits))
-      ∙ (ap (λ cs. made r.instance.brigades begun.name cs begun.buffer (shown (calls_in around begun) (list_at (lists new) begun.name)) (next_name new) begun.pc)
+      ap (λ bs. made bs begun.name (λ c. shown_cursor (cursor_at begun c)) begun.buffer (shown (calls_in view begun) (list_at (lists new) begun.name)) (next_name new) begun.pc)
+      (fun_ext (by_slot view.waits))
+      ∙ (ap (λ cs. made r.instance.brigades begun.name cs begun.buffer (shown (calls_in view begun) (list_at (lists new) begun.name)) (next_name new) begun.pc)
       (fun_ext (λ c. ap shown_cursor (unset c)))
-      ∙ (ap (λ bytes. made r.instance.brigades begun.name (λ c. cursor.Unset) bytes (shown (calls_in around begun) (list_at (lists new) begun.name)) (next_name new) begun.pc) empty
+      ∙ (ap (λ bytes. made r.instance.brigades begun.name (λ c. cursor.Unset) bytes (shown (calls_in view begun) (list_at (lists new) begun.name)) (next_name new) begun.pc) empty
       ∙ (ap (λ items. made r.instance.brigades begun.name (λ c. cursor.Unset) [] items (next_name new) begun.pc) no_loose
       ∙ (ap (λ n. made r.instance.brigades n (λ c. cursor.Unset) [] [] (next_name new) begun.pc) name
       ∙ (ap (λ n. made r.instance.brigades (next_name old) (λ c. cursor.Unset) [] [] n begun.pc) next
       ∙ ap (λ n. made r.instance.brigades (next_name old) (λ c. cursor.Unset) [] [] (next_name old + 1) n) at))))) where
-        no_loose : shown (calls_in around begun) (list_at (lists new) begun.name) ≡ []
-        no_loose = ap (λ (o : Option Items). shown (calls_in around begun) (option_map_or (λ bs. bs) o []))
+        no_loose : shown (calls_in view begun) (list_at (lists new) begun.name) ≡ []
+        no_loose = ap (λ (o : Option Items). shown (calls_in view begun) (option_map_or (λ bs. bs) o []))
             (ap (lists new) name ∙ (over (next_name old) ∙ ring_here (lists old) (next_name old) (Some [])))
 
   pub held_begun : next_name new ≡ next_name old + 1 → NoneRevived (brigade_of old) (brigade_of new) (next_name old) → pool_of new ≡ pool_of old → pool_of old (next_name old) ≡ None

@@ -41,12 +41,12 @@ lent_set b v r = ap (λ (w : BrigadeVar). set_brigade b (handed_over w) (set_bri
 abbrev with_sent : Bool → Configuration → Configuration
 with_sent t r = record r { instance = record r.instance { sent = t } }
 
-module _ (L : ℕ → Option Items) (k : ℕ) (around : ContextView) (i noted new : Instance) (call : Call) (b : ℕ)
+module _ (L : ℕ → Option Items) (k : ℕ) (view : ContextView) (i noted new : Instance) (call : Call) (b : ℕ)
     (same : (a : ℕ) → slot_at noted a ≡ slot_at i a) (pools : noted.pools ≡ i.pools) (numbers : noted.numbers ≡ i.numbers) where
-  seen_noted : seen_over L k around noted call ≡ with_sent noted.sent (seen_over L k around i call)
+  seen_noted : seen_over L k view noted call ≡ with_sent noted.sent (seen_over L k view i call)
   unfolding seen_over
   seen_noted =
-      let r = seen_over L k around i call in
+      let r = seen_over L k view i call in
       ap (λ (f : ℕ → BrigadeVar). record r {
         instance = record {
           pools = λ p. slice_index_or noted.pools p poolvar.Null;
@@ -54,21 +54,21 @@ module _ (L : ℕ → Option Items) (k : ℕ) (around : ContextView) (i noted ne
           numbers = λ n. slice_index_or noted.numbers n 0;
           sent = noted.sent;
         };
-      }) (fun_ext (λ a. ap (shown_slot (calls_in around call) L) (same a)))
+      }) (fun_ext (λ a. ap (shown_slot (calls_in view call) L) (same a)))
       ∙ (ap (λ (ps : List PoolVar). record r { instance = record r.instance { pools = λ p. slice_index_or ps p poolvar.Null; numbers = λ n. slice_index_or noted.numbers n 0; sent = noted.sent } })
       pools
       ∙ ap (λ (ns : List ℕ). record r { instance = record r.instance { numbers = λ n. slice_index_or ns n 0; sent = noted.sent } }) numbers)
 
-  pub seen_lent : noted.sent ≡ (i.sent || has_eos (contents (calls_in around call) L (live_in L (slot_at i b)))) → SameButSlots noted new
+  pub seen_lent : noted.sent ≡ (i.sent || has_eos (contents (calls_in view call) L (live_in L (slot_at i b)))) → SameButSlots noted new
       → ((a : ℕ) → slot_at new a ≡ (if a == b then marked Passed (slot_at noted b) else slot_at noted a))
-      → lent b (seen_over L k around new call) ≡ do_pass b (seen_over L k around i call)
+      → lent b (seen_over L k view new call) ≡ do_pass b (seen_over L k view i call)
   unfolding seen_over
   seen_lent sent rest sets =
-      let runs = calls_in around call in
-      let r = seen_over L k around i call in
-      ap (lent b) (seen_var L k around noted new call b (marked Passed (slot_at noted b)) rest sets)
-      ∙ (lent_set b (shown_slot runs L (marked Passed (slot_at noted b))) (seen_over L k around noted call)
-      ∙ (ap (λ (w : BrigadeVar). set_brigade b w (seen_over L k around noted call)) (handed_marked runs L (slot_at noted b) ∙ ap (λ s. handed_over (shown_slot runs L s)) (same b))
+      let runs = calls_in view call in
+      let r = seen_over L k view i call in
+      ap (lent b) (seen_var L k view noted new call b (marked Passed (slot_at noted b)) rest sets)
+      ∙ (lent_set b (shown_slot runs L (marked Passed (slot_at noted b))) (seen_over L k view noted call)
+      ∙ (ap (λ (w : BrigadeVar). set_brigade b w (seen_over L k view noted call)) (handed_marked runs L (slot_at noted b) ∙ ap (λ s. handed_over (shown_slot runs L s)) (same b))
       ∙ (ap (λ x. set_brigade b (handed_over (r.instance.brigades b)) x) seen_noted
       ∙ ap (λ t. set_brigade b (handed_over (r.instance.brigades b)) (with_sent t r)) (sent ∙ ap (λ items. i.sent || has_eos items) (items_told runs L (slot_at i b))))))
 

@@ -25,16 +25,16 @@ empty_shown : (runs : ℕ → Bool) (n : ℕ) (pool : Option ℕ) (o : Option It
 empty_shown runs n pool None = refl
 empty_shown runs n pool (Some xs) = refl
 
-module _ (L : ℕ → Option Items) (k : ℕ) (around : ContextView) (i : Instance) (call : Call) (b : ℕ) where
+module _ (L : ℕ → Option Items) (k : ℕ) (view : ContextView) (i : Instance) (call : Call) (b : ℕ) where
   pub lent_cleaned : (M : ℕ → Option Items) (l n : ℕ) (old : Slot) → ApartIn i call → slot_at i b ≡ marked Passed old → live_in L (slot_at i b) ≡ Some n → l ≡ k → ((j : ℕ) → M j ≡ on n (λ xs. []) L j)
-      → seen_over M l around i call ≡ lent b (seen_over L k around i call)
+      → seen_over M l view i call ≡ lent b (seen_over L k view i call)
   unfolding seen_over
   lent_cleaned M l n old held set is same out =
-      let runs = calls_in around call in
-      let r = seen_over L k around i call in
+      let runs = calls_in view call in
+      let r = seen_over L k view i call in
       let t = live_is L (slot_at i b) n is in
       let passed : slot_at i b ≡ slot.Made n t.0 Passed = t.1.1.0 ∙ ap (λ (m : Mark). slot.Made n t.0 m) (mark_is old n t.0 t.1.0 (sym set ∙ t.1.1.0)) in
-      seen_same (on n (λ xs. []) L) k around i call M l same out
-      ∙ (seen_slot L k around i call b n t.0 Passed (λ xs. []) [] held passed refl
+      seen_same (on n (λ xs. []) L) k view i call M l same out
+      ∙ (seen_slot L k view i call b n t.0 Passed (λ xs. []) [] held passed refl
       ∙ ap (λ (v : BrigadeVar). set_brigade b v r)
       (ap (λ (s : Slot). with_items [] (shown_slot runs L s)) passed ∙ (empty_shown runs n t.0 (L n) ∙ ap (λ (s : Slot). handed_over (shown_slot runs L s)) (sym passed))))

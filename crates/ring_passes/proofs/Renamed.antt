@@ -43,10 +43,10 @@ module _ (at : BucketId → Option ℕ) (rings : ℕ → Option Items) (pools : 
   named_below held = record { given = λ c id e. (held.given c id e).young; named = held.named; called = held.called }
 
 -- the configuration has another next name, and is else as it was
-pub seen_renamed : (rings : ℕ → Option Items) (next now : ℕ) (around : ContextView) (i : Instance) (call : Call)
-    → seen_over rings now around i call ≡ (let r = seen_over rings next around i call in record r { shared = record r.shared { next = now } })
+pub seen_renamed : (rings : ℕ → Option Items) (next now : ℕ) (view : ContextView) (i : Instance) (call : Call)
+    → seen_over rings now view i call ≡ (let r = seen_over rings next view i call in record r { shared = record r.shared { next = now } })
 unfolding seen_over
-seen_renamed rings next now around i call = refl
+seen_renamed rings next now view i call = refl
 
 -- The same of a store of which only the next name was set.
 module _ {R : Type 0} {g : Ghosts R Stored} (old new : Brigades R g) (same : (b : ℕ) → lists new b ≡ lists old b) (places : (id : BucketId) → brigade_of new id ≡ brigade_of old id)

@@ -87,13 +87,13 @@ module _ (L M : ℕ → Option Items) (i new : Instance) (call ended : Call)
     incoming = λ n pool mark is. absurd ((was 8 n pool mark is).0 refl);
   }
 
-  pub seen_returned : (k l : ℕ) (around : ContextView) → l ≡ k → SameButSlots i new → L 0 ≡ None → 0 < call.name → ended.name ≡ 0 → ((c : ℕ) → cursor_at ended c ≡ cursor_value.Unset)
+  pub seen_returned : (k l : ℕ) (view : ContextView) → l ≡ k → SameButSlots i new → L 0 ≡ None → 0 < call.name → ended.name ≡ 0 → ((c : ℕ) → cursor_at ended c ≡ cursor_value.Unset)
       → ended.buffer ≡ []
       → ended.pc ≡ call.pc
-      → list_any (λ w. call.name == w) around.waits ≡ false → seen_over M l around new ended ≡ do_return (seen_over L k around i call)
+      → list_any (λ w. call.name == w) view.waits ≡ false → seen_over M l view new ended ≡ do_return (seen_over L k view i call)
   unfolding seen_over
-  seen_returned k l around next same none pos name unset empty at other =
-      let r = seen_over L k around i call in
+  seen_returned k l view next same none pos name unset empty at other =
+      let r = seen_over L k view i call in
       let brigades : ℕ → BrigadeVar = λ b. if b == 8 then var.Null else returned_var call.name (r.instance.brigades b) in
       let made : List PoolVar → (ℕ → BrigadeVar) → List ℕ → Bool → ℕ → (ℕ → Cursor) → List ℕ → List NamedBucket → ℕ → ℕ → Configuration =
       λ ps bs ns sent name cursors buffer items next pc. record r {
@@ -102,28 +102,28 @@ module _ (L M : ℕ → Option Items) (i new : Instance) (call ended : Call)
         shared = record r.shared { next = next };
         pc = pc;
       } in
-      ap (λ bs. made new.pools bs new.numbers new.sent ended.name (λ c. shown_cursor (cursor_at ended c)) ended.buffer (shown (calls_in around ended) (list_at M ended.name)) l ended.pc)
+      ap (λ bs. made new.pools bs new.numbers new.sent ended.name (λ c. shown_cursor (cursor_at ended c)) ended.buffer (shown (calls_in view ended) (list_at M ended.name)) l ended.pc)
       (fun_ext by_slot)
-      ∙ (ap (λ ps. made ps brigades new.numbers new.sent ended.name (λ c. shown_cursor (cursor_at ended c)) ended.buffer (shown (calls_in around ended) (list_at M ended.name)) l ended.pc) same.pools
-      ∙ (ap (λ ns. made i.pools brigades ns new.sent ended.name (λ c. shown_cursor (cursor_at ended c)) ended.buffer (shown (calls_in around ended) (list_at M ended.name)) l ended.pc) same.numbers
-      ∙ (ap (λ t. made i.pools brigades i.numbers t ended.name (λ c. shown_cursor (cursor_at ended c)) ended.buffer (shown (calls_in around ended) (list_at M ended.name)) l ended.pc) same.sent
-      ∙ (ap (λ cs. made i.pools brigades i.numbers i.sent ended.name cs ended.buffer (shown (calls_in around ended) (list_at M ended.name)) l ended.pc) (fun_ext (λ c. ap shown_cursor (unset c)))
-      ∙ (ap (λ bytes. made i.pools brigades i.numbers i.sent ended.name (λ c. cursor.Unset) bytes (shown (calls_in around ended) (list_at M ended.name)) l ended.pc) empty
+      ∙ (ap (λ ps. made ps brigades new.numbers new.sent ended.name (λ c. shown_cursor (cursor_at ended c)) ended.buffer (shown (calls_in view ended) (list_at M ended.name)) l ended.pc) same.pools
+      ∙ (ap (λ ns. made i.pools brigades ns new.sent ended.name (λ c. shown_cursor (cursor_at ended c)) ended.buffer (shown (calls_in view ended) (list_at M ended.name)) l ended.pc) same.numbers
+      ∙ (ap (λ t. made i.pools brigades i.numbers t ended.name (λ c. shown_cursor (cursor_at ended c)) ended.buffer (shown (calls_in view ended) (list_at M ended.name)) l ended.pc) same.sent
+      ∙ (ap (λ cs. made i.pools brigades i.numbers i.sent ended.name cs ended.buffer (shown (calls_in view ended) (list_at M ended.name)) l ended.pc) (fun_ext (λ c. ap shown_cursor (unset c)))
+      ∙ (ap (λ bytes. made i.pools brigades i.numbers i.sent ended.name (λ c. cursor.Unset) bytes (shown (calls_in view ended) (list_at M ended.name)) l ended.pc) empty
       ∙ (ap (λ items. made i.pools brigades i.numbers i.sent ended.name (λ c. cursor.Unset) [] items l ended.pc) no_loose
       ∙ (ap (λ n. made i.pools brigades i.numbers i.sent n (λ c. cursor.Unset) [] [] l ended.pc) name
       ∙ (ap (λ n. made i.pools brigades i.numbers i.sent 0 (λ c. cursor.Unset) [] [] n ended.pc) next
       ∙ ap (λ n. made i.pools brigades i.numbers i.sent 0 (λ c. cursor.Unset) [] [] k n) at)))))))) where
-        without : RunsWithout (calls_in around call) (calls_in around ended) call.name
-        without n = ap (λ j. is_running j around.waits n) name ∙ runs_without call.name around.waits other n
+        without : RunsWithout (calls_in view call) (calls_in view ended) call.name
+        without n = ap (λ j. is_running j view.waits n) name ∙ runs_without call.name view.waits other n
 
-        by_slot : (b : ℕ) → shown_slot (calls_in around ended) M (slot_at new b) ≡ (if b == 8 then var.Null else returned_var call.name (shown_slot (calls_in around call) L (slot_at i b)))
+        by_slot : (b : ℕ) → shown_slot (calls_in view ended) M (slot_at new b) ≡ (if b == 8 then var.Null else returned_var call.name (shown_slot (calls_in view call) L (slot_at i b)))
         by_slot b = elim (cases_eq b 8) [
-          | inl e ↦ ap (shown_slot (calls_in around ended) M) (in_null b e)
-              ∙ sym (ap (λ (t : Bool). if t then var.Null else returned_var call.name (shown_slot (calls_in around call) L (slot_at i b))) (eq-eqb b 8 e))
-          | inr ne ↦ ap (shown_slot (calls_in around ended) M) (as_was b ne) ∙ (returned_slot (calls_in around call) (calls_in around ended) call.name without L M (slot_at i b) (stays b)
-              ∙ sym (ap (λ (t : Bool). if t then var.Null else returned_var call.name (shown_slot (calls_in around call) L (slot_at i b))) (ne_eqb b 8 ne)))
+          | inl e ↦ ap (shown_slot (calls_in view ended) M) (in_null b e)
+              ∙ sym (ap (λ (t : Bool). if t then var.Null else returned_var call.name (shown_slot (calls_in view call) L (slot_at i b))) (eq-eqb b 8 e))
+          | inr ne ↦ ap (shown_slot (calls_in view ended) M) (as_was b ne) ∙ (returned_slot (calls_in view call) (calls_in view ended) call.name without L M (slot_at i b) (stays b)
+              ∙ sym (ap (λ (t : Bool). if t then var.Null else returned_var call.name (shown_slot (calls_in view call) L (slot_at i b))) (ne_eqb b 8 ne)))
         ]
 
-        no_loose : shown (calls_in around ended) (list_at M ended.name) ≡ []
-        no_loose = ap (λ (o : Option Items). shown (calls_in around ended) (option_map_or (λ bs. bs) o []))
+        no_loose : shown (calls_in view ended) (list_at M ended.name) ≡ []
+        no_loose = ap (λ (o : Option Items). shown (calls_in view ended) (option_map_or (λ bs. bs) o []))
             (ap M name ∙ (over 0 ∙ (ring_off L call.name 0 None (λ e. (let p = pos in omega (arith, p, e))) ∙ none)))

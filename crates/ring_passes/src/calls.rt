@@ -18,7 +18,7 @@ pub fn begin_call<R: Rings<Stored> + Drop>(
     requires held { IsHeld store.old instance.now call.old }
     requires idle { call.old.name ≡ 0 }
     requires free { pool_of store.old (next_name store.old) ≡ None }
-    ensures seen { OnOk result ((around : ContextView) → seen store.new around instance.now call.new ≡ begun_as pc (seen store.old around instance.now call.old)) }
+    ensures seen { OnOk result ((view : ContextView) → seen store.new view instance.now call.new ≡ begun_as pc (seen store.old view instance.now call.old)) }
     ensures out { OnOk result ((n : ℕ) → lists store.new n ≡ upd (lists store.old) (next_name store.old) (Some []) n) }
     ensures name { OnOk result (call.new.name ≡ next_name store.old) }
     ensures next { next_name store.new ≡ (if is_ok result then next_name store.old + 1 else next_name store.old) }
@@ -47,8 +47,8 @@ pub fn end_call<R: Rings<Stored> + Drop>(
     requires runs { 0 < call.old.name }
     requires none { lists store.old 0 ≡ None }
     requires free { pool_of store.old 0 ≡ None }
-    ensures seen { (around : ContextView) → list_any (λ w. call.old.name == w) around.waits ≡ false
-        → seen store.new around instance.new call.new ≡ do_return (seen store.old around instance.old call.old) }
+    ensures seen { (view : ContextView) → list_any (λ w. call.old.name == w) view.waits ≡ false
+        → seen store.new view instance.new call.new ≡ do_return (seen store.old view instance.old call.old) }
     ensures out { (n : ℕ) → lists store.new n ≡ upd (lists store.old) call.old.name None n }
     ensures next { next_name store.new ≡ next_name store.old }
     ensures names { NoneRevived (brigade_of store.old) (brigade_of store.new) (next_name store.old) }

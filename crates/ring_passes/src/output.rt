@@ -222,7 +222,7 @@ fn empty_passed<R: Rings<Stored> + Drop>(
     requires slot { b < 9 }
     requires live { is_some (live_in (lists store.old) (slot_at instance.old b)) ≡ true }
     requires eos { (runs : ℕ → Bool) → eos ≡ has_eos (contents runs (lists store.old) (live_in (lists store.old) (slot_at instance.old b))) }
-    ensures seen { (around : ContextView) (call : Call) → IsHeld store.old instance.old call → seen store.new around instance.new call ≡ do_pass b (seen store.old around instance.old call) }
+    ensures seen { (view : ContextView) (call : Call) → IsHeld store.old instance.old call → seen store.new view instance.new call ≡ do_pass b (seen store.old view instance.old call) }
     ensures held { (call : Call) → IsHeld store.old instance.old call → IsHeld store.new instance.new call }
     ensures left { (call : Call) → LeavesForeign store.old store.new instance.old call }
     ensures slots { (a : ℕ) → slot_at instance.new a ≡ (if a == b then marked Mark.Passed (slot_at instance.old b) else slot_at instance.old a) }
@@ -247,19 +247,19 @@ pub fn pass_out<R: Rings<Stored> + Drop, F: Files>(
     requires slot { b < 9 }
     requires live { is_some (live_in (lists store.old) (slot_at instance.old b)) ≡ true }
     requires ends { EndInFiles store.old instance.old }
-    requires open { (around : ContextView) × (call : Call) × All (RangeIsOpen (F.device files.old)) (items_of ((seen store.old around instance.old call).instance.brigades b)) }
-    ensures delivered { IfOk result (λ well. (around : ContextView) (call : Call)
+    requires open { (view : ContextView) × (call : Call) × All (RangeIsOpen (F.device files.old)) (items_of ((seen store.old view instance.old call).instance.brigades b)) }
+    ensures delivered { IfOk result (λ well. (view : ContextView) (call : Call)
         → WasDelivered (F.device files.old) (F.device files.new) (out_of out.old ended.old) (items_of
-        ((seen store.old around instance.old call).instance.brigades b)) (out_of out.new ended.new) well) }
-    ensures passed { OnOk result ((around : ContextView) (call : Call) → IsHeld store.old instance.old call
-        → seen store.new around instance.new call ≡ do_pass b (seen store.old around instance.old call)) }
+        ((seen store.old view instance.old call).instance.brigades b)) (out_of out.new ended.new) well) }
+    ensures passed { OnOk result ((view : ContextView) (call : Call) → IsHeld store.old instance.old call
+        → seen store.new view instance.new call ≡ do_pass b (seen store.old view instance.old call)) }
     ensures held { (call : Call) → IsHeld store.old instance.old call → IsHeld store.new instance.new call }
     ensures left { OnOk result ((call : Call) → LeavesForeign store.old store.new instance.old call) }
-    ensures err { OnErr result ((around : ContextView) (call : Call) → seen store.new around instance.new call ≡ seen store.old around instance.old call) }
+    ensures err { OnErr result ((view : ContextView) (call : Call) → seen store.new view instance.new call ≡ seen store.old view instance.old call) }
     ensures slots { OnOk result ((a : ℕ) → slot_at instance.new a ≡ (if a == b then marked Mark.Passed (slot_at instance.old b) else slot_at instance.old a)) }
     ensures same { OnErr result ((instance.new ≡ instance.old) × (store.new ≡ store.old)) }
     ensures kept { OnErr result (out_of out.new ended.new ≡ out_of out.old ended.old) }
-    ensures sure { (around : ContextView) (call : Call) → (not ended.old && has_bytes (items_of ((seen store.old around instance.old call).instance.brigades b))) ≡ false → IsOk result }
+    ensures sure { (view : ContextView) (call : Call) → (not ended.old && has_bytes (items_of ((seen store.old view instance.old call).instance.brigades b))) ≡ false → IsOk result }
     ensures read { OnErr result (SomeWentWell (F.device files.old) (F.device files.new)) }
     ensures open_files { (F.device files.new).numbered ≡ (F.device files.old).numbered }
     ensures unasked { store.new.asked ≡ store.old.asked }

@@ -50,7 +50,7 @@ fn holds_eos<R: Rings<Stored> + Drop>(instance: &Instance, store: &Brigades<R>, 
 pub fn hand_over<R: Rings<Stored> + Drop>(instance: &mut Instance, store: &Brigades<R>, b: u8)
     requires slot { b < 9 }
     requires live { is_some (live_in (lists store.now) (slot_at instance.old b)) ≡ true }
-    ensures seen { (around : ContextView) (call : Call) → lent b (seen store.now around instance.new call) ≡ do_pass b (seen store.now around instance.old call) }
+    ensures seen { (view : ContextView) (call : Call) → lent b (seen store.now view instance.new call) ≡ do_pass b (seen store.now view instance.old call) }
     ensures held { (call : Call) → IsHeld store.now instance.old call → IsHeld store.now instance.new call }
     ensures slots { (a : ℕ) → slot_at instance.new a ≡ (if a == b then marked Mark.Passed (slot_at instance.old b) else slot_at instance.old a) }
 {
@@ -68,7 +68,7 @@ pub(crate) fn hand_over_with<R: Rings<Stored> + Drop>(
     requires slot { b < 9 }
     requires live { is_some (live_in (lists store.now) (slot_at instance.old b)) ≡ true }
     requires eos { (runs : ℕ → Bool) → eos ≡ has_eos (contents runs (lists store.now) (live_in (lists store.now) (slot_at instance.old b))) }
-    ensures seen { (around : ContextView) (call : Call) → lent b (seen store.now around instance.new call) ≡ do_pass b (seen store.now around instance.old call) }
+    ensures seen { (view : ContextView) (call : Call) → lent b (seen store.now view instance.new call) ≡ do_pass b (seen store.now view instance.old call) }
     ensures held { (call : Call) → IsHeld store.now instance.old call → IsHeld store.now instance.new call }
     ensures slots { (a : ℕ) → slot_at instance.new a ≡ (if a == b then marked Mark.Passed (slot_at instance.old b) else slot_at instance.old a) }
 {
@@ -83,9 +83,9 @@ pub fn take_in<R: Rings<Stored> + Drop>(
     name: BrigadeId,
 )
     requires { is_some (lists store.now name) ≡ true }
-    ensures seen { (around : ContextView) (call : Call)
-        → seen store.now around instance.new call
-        ≡ set_brigade 8 (shown_slot (calls_in around call) (lists store.now) (Slot.Made name None Mark.Usable)) (seen store.now around instance.old call) }
+    ensures seen { (view : ContextView) (call : Call)
+        → seen store.now view instance.new call
+        ≡ set_brigade 8 (shown_slot (calls_in view call) (lists store.now) (Slot.Made name None Mark.Usable)) (seen store.now view instance.old call) }
     ensures slots { (a : ℕ) → slot_at instance.new a ≡ (if a == 8 then Slot.Made name None Mark.Usable else slot_at instance.old a) }
     ensures held { (call : Call) → ((a : ℕ) → name_in (slot_at instance.old a) ≢ Some name) → name ≢ call.name → 0 < name → IsHeld store.now instance.old call → IsHeld store.now instance.new call }
 {

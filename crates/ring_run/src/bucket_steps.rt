@@ -1,7 +1,8 @@
 //! What instructions do to buckets: they are taken out, put in and destroyed (apr_buckets.h).
 
 ghost use Rattle.std.specs.Prelude.{◌≡◌, ◌<◌, ℕ, Some, is_some, true};
-ghost use Rattle.ring_run.specs.Prelude.{NoneRevived, found, list_at, on, without, do_before, do_delete, do_unlink, put_into, spot, InBrigade, OnBucket, OnLoose, put_at, Bucket, lists, brigade_of};
+ghost use Rattle.ring_run.specs.Prelude.{NoneRevived, found, list_at, on, without, do_before, do_delete, do_unlink};
+ghost use Rattle.ring_run.specs.Prelude.{put_into, at_cursor, InBrigade, OnBucket, OnLoose, put_at, Bucket, lists, brigade_of};
 ghost use Rattle.ring_run.specs.Prelude.{pool_of, references, next_name, put_item, ContextView, IsHeld, LeavesForeign, StandsAs, seen, live_in, slot_at};
 
 use brigade_ops::{BrigadeId, Brigades, BucketId, Rings, Stored};
@@ -19,7 +20,7 @@ pub(crate) fn unlink<R: Rings<Stored> + Drop>(
     requires held { IsHeld store.old instance.now call.now }
     requires runs { 0 < call.now.name }
     requires stands { StandsAs store.old instance.now call.now c InBrigade }
-    ensures new { (around : ContextView) → let r = seen store.old around instance.now call.now in seen store.new around instance.now call.now ≡ do_unlink (spot r c) r }
+    ensures new { (view : ContextView) → let r = seen store.old view instance.now call.now in seen store.new view instance.now call.now ≡ do_unlink (at_cursor r c) r }
     ensures held { IsHeld store.new instance.now call.now }
     ensures left { LeavesForeign store.old store.new instance.now call.now }
 {
@@ -36,7 +37,7 @@ pub(crate) fn delete<R: Rings<Stored> + Drop>(
     requires cursor { c < 9 }
     requires held { IsHeld store.old instance.now call.now }
     requires stands { StandsAs store.old instance.now call.now c OnBucket }
-    ensures new { (around : ContextView) → let r = seen store.old around instance.now call.now in seen store.new around instance.now call.now ≡ do_delete (spot r c) r }
+    ensures new { (view : ContextView) → let r = seen store.old view instance.now call.now in seen store.new view instance.now call.now ≡ do_delete (at_cursor r c) r }
     ensures held { IsHeld store.new instance.now call.now }
     ensures left { LeavesForeign store.old store.new instance.now call.now }
 {
@@ -75,7 +76,7 @@ pub(crate) fn insert<R: Rings<Stored> + Drop>(
     requires held { IsHeld store.old instance.now call.now }
     requires live { is_some (live_in (lists store.old) (slot_at instance.now b)) ≡ true }
     requires stands { StandsAs store.old instance.now call.now c OnLoose }
-    ensures new { (around : ContextView) → let r = seen store.old around instance.now call.now in seen store.new around instance.now call.now ≡ put_into (put_at side) b (spot r c) r }
+    ensures new { (view : ContextView) → let r = seen store.old view instance.now call.now in seen store.new view instance.now call.now ≡ put_into (put_at side) b (at_cursor r c) r }
     ensures held { IsHeld store.new instance.now call.now }
     ensures left { LeavesForeign store.old store.new instance.now call.now }
 {
@@ -95,7 +96,7 @@ pub(crate) fn before<R: Rings<Stored> + Drop>(
     requires held { IsHeld store.old instance.now call.now }
     requires loose { StandsAs store.old instance.now call.now c OnLoose }
     requires within { StandsAs store.old instance.now call.now d InBrigade }
-    ensures new { (around : ContextView) → let r = seen store.old around instance.now call.now in seen store.new around instance.now call.now ≡ do_before (spot r c) (spot r d) r }
+    ensures new { (view : ContextView) → let r = seen store.old view instance.now call.now in seen store.new view instance.now call.now ≡ do_before (at_cursor r c) (at_cursor r d) r }
     ensures held { IsHeld store.new instance.now call.now }
     ensures left { LeavesForeign store.old store.new instance.now call.now }
 {

@@ -34,13 +34,13 @@ pub(crate) fn clear_pool<R: Rings<Stored> + Drop, F: Files>(
     requires below { (pool : ℕ) → pool_to_clear instance.now (effect.EmptyPool kind q) ≡ Some pool → (map_of tree.old).path pool ≢ pool ∷ [] }
     requires looks { (pool : ℕ) → pool_to_clear instance.now (effect.EmptyPool kind q) ≡ Some pool
         → LooksAt context.now.rings.now (is_under (map_of tree.old) pool) (pool_of store.old) instance.now call.now }
-    ensures ok { OnOk result ((code : Program) (around : ContextView)
+    ensures ok { OnOk result ((code : Program) (view : ContextView)
         → WasDone (F.device files.old) (F.device files.new) code (effect.EmptyPool kind q) (seen store.old (during context.now
-        (map_of tree.old) handed.old.items around) instance.now call.now) (λ fs. seen store.new (with_files fs (during context.now
-        (map_of tree.new) handed.new.items around)) instance.now call.now)) }
-    ensures err { OnErr result ((around : ContextView)
-        → seen store.new (during context.now (map_of tree.new) handed.new.items around) instance.now call.now
-        ≡ seen store.old (during context.now (map_of tree.old) handed.old.items around) instance.now call.now) }
+        (map_of tree.old) handed.old.items view) instance.now call.now) (λ fs. seen store.new (with_files fs (during context.now
+        (map_of tree.new) handed.new.items view)) instance.now call.now)) }
+    ensures err { OnErr result ((view : ContextView)
+        → seen store.new (during context.now (map_of tree.new) handed.new.items view) instance.now call.now
+        ≡ seen store.old (during context.now (map_of tree.old) handed.old.items view) instance.now call.now) }
     ensures kept { OnErr result (map_of tree.new ≡ map_of tree.old) }
     ensures unread { OnErr result (F.device files.new ≡ F.device files.old) }
     ensures unmoved { OnErr result (LeavesRest store.old store.new instance.now call.now) }

@@ -19,11 +19,11 @@ pub(crate) fn create<R: Rings<Stored> + Drop>(
 ) -> Result<(), AllocError>
     requires slot { o < 8 }
     requires live { IsTrue (is_live (map_of tree.old) pool) }
-    ensures ok { OnOk result ((code : Program) (around : ContextView) (call : Call) → IsHeld store.old instance.old call
-        → let r = seen store.old (record around { pools = map_of tree.old }) instance.old call in pool_named r (pool_of_brigade code o) ≡ Some pool
-        → seen store.new (record around { pools = map_of tree.new }) instance.new call ≡ do_create code o r) }
-    ensures err { OnErr result ((around : ContextView) (call : Call)
-        → seen store.new (record around { pools = map_of tree.new }) instance.new call ≡ seen store.old (record around { pools = map_of tree.old }) instance.old call) }
+    ensures ok { OnOk result ((code : Program) (view : ContextView) (call : Call) → IsHeld store.old instance.old call
+        → let r = seen store.old (record view { pools = map_of tree.old }) instance.old call in pool_named r (pool_of_brigade code o) ≡ Some pool
+        → seen store.new (record view { pools = map_of tree.new }) instance.new call ≡ do_create code o r) }
+    ensures err { OnErr result ((view : ContextView) (call : Call)
+        → seen store.new (record view { pools = map_of tree.new }) instance.new call ≡ seen store.old (record view { pools = map_of tree.old }) instance.old call) }
     ensures held { (call : Call) → IsHeld store.old instance.old call → IsHeld store.new instance.new call }
     ensures house { IsHouse store.old (map_of tree.old) → IsHouse store.new (map_of tree.new) }
     ensures left { (call : Call) → LeavesRest store.old store.new instance.old call }

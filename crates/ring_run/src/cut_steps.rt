@@ -1,7 +1,8 @@
 //! What instructions do to brigades that are walked (apr_buckets.h).
 
 ghost use Rattle.std.specs.Prelude.{◌≡◌, ◌<◌, ℕ, true, is_some, Some};
-ghost use Rattle.ring_run.specs.Prelude.{BucketId, list_at, first_place, next_place, cursor_at, do_first, do_next, items_at, spot, InBrigade, lists, brigade_of, Call, ContextView, IsHeld, WasGiven};
+ghost use Rattle.ring_run.specs.Prelude.{BucketId, list_at, first_place, next_place, cursor_at, do_first, do_next, items_at};
+ghost use Rattle.ring_run.specs.Prelude.{at_cursor, InBrigade, lists, brigade_of, Call, ContextView, IsHeld, WasGiven};
 ghost use Rattle.ring_run.specs.Prelude.{StandsAs, live_in, name_in, slot_at, seen, seen_over, shown_cursor};
 
 use brigade_ops::{Brigades, BucketId, Rings, Stored};
@@ -16,7 +17,7 @@ fn first_cursor_value<R: Rings<Stored> + Drop>(
 ) -> CursorValue
     requires slot { b < 9 }
     requires live { is_some (live_in (lists store.now) (slot_at instance.now b)) ≡ true }
-    ensures place { (around : ContextView) (call : Call) → let r = seen store.now around instance.now call in shown_cursor result ≡ cursor_at (r.instance.brigades b) (first_place (items_at r b)) }
+    ensures place { (view : ContextView) (call : Call) → let r = seen store.now view instance.now call in shown_cursor result ≡ cursor_at (r.instance.brigades b) (first_place (items_at r b)) }
     ensures given { (id : BucketId) → result ≡ CursorValue.At id → WasGiven store.now id }
 {
     let name = instance.brigade(b);
@@ -38,7 +39,7 @@ pub(crate) fn first<R: Rings<Stored> + Drop>(
     requires slot { b < 9 }
     requires live { is_some (live_in (lists store.now) (slot_at instance.now b)) ≡ true }
     requires held { IsHeld store.now instance.now call.old }
-    ensures new { (around : ContextView) → seen store.now around instance.now call.new ≡ do_first c b (seen store.now around instance.now call.old) }
+    ensures new { (view : ContextView) → seen store.now view instance.now call.new ≡ do_first c b (seen store.now view instance.now call.old) }
     ensures held { IsHeld store.now instance.now call.new }
     ensures name { call.new.name ≡ call.old.name }
 {
@@ -49,8 +50,8 @@ pub(crate) fn first<R: Rings<Stored> + Drop>(
 /// The place behind a bucket: the next bucket, or the end of its brigade.
 fn cursor_value_after<R: Rings<Stored> + Drop>(store: &Brigades<R>, id: BucketId) -> CursorValue
     requires { is_some (brigade_of store.now id) ≡ true }
-    ensures place { (around : ContextView) (i : Instance) (call : Call) (b n : ℕ) → name_in (slot_at i b) ≡ Some n → brigade_of store.now id ≡ Some n
-        → let r = seen store.now around i call in shown_cursor result ≡ cursor_at (r.instance.brigades b) (next_place id.birth (items_at r b)) }
+    ensures place { (view : ContextView) (i : Instance) (call : Call) (b n : ℕ) → name_in (slot_at i b) ≡ Some n → brigade_of store.now id ≡ Some n
+        → let r = seen store.now view i call in shown_cursor result ≡ cursor_at (r.instance.brigades b) (next_place id.birth (items_at r b)) }
     ensures given { (j : BucketId) → result ≡ CursorValue.At j → WasGiven store.now j }
 {
     match store.next(id) {
@@ -71,7 +72,7 @@ pub(crate) fn next<R: Rings<Stored> + Drop>(
     requires cursor { c < 9 }
     requires held { IsHeld store.now instance.now call.old }
     requires stands { StandsAs store.now instance.now call.old c InBrigade }
-    ensures new { (around : ContextView) → let r = seen store.now around instance.now call.old in seen store.now around instance.now call.new ≡ do_next d (spot r c) r }
+    ensures new { (view : ContextView) → let r = seen store.now view instance.now call.old in seen store.now view instance.now call.new ≡ do_next d (at_cursor r c) r }
     ensures held { IsHeld store.now instance.now call.new }
     ensures name { call.new.name ≡ call.old.name }
 {

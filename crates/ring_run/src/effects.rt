@@ -1,12 +1,11 @@
 //! What instructions do to whole brigades.
 
-ghost use Rattle.std.specs.Prelude.{◌≡◌, ◌≢◌, ◌<◌, ℕ, true, is_some, IsOk, OnOk, OnErr};
+ghost use Rattle.std.specs.Prelude.{◌≡◌, ◌≢◌, ◌<◌, ℕ, true, is_some};
 ghost use Rattle.ring_run.specs.Prelude.{do_clean, do_concat, lists, Call, ContextView, VariablesApart, IsHeld, LeavesForeign, live_in, name_in, slot_at, seen};
 
 use brigade_ops::{Brigades, Rings, Stored};
 use ring_calls::machine::Instance;
 use run_model::Mark;
-use std::alloc::AllocError;
 
 /// Moves the buckets of a brigade to the tail of another. It takes no memory.
 #[tactic(auto, using(ring_calls::proofs::Slots::made_in))]
@@ -15,23 +14,21 @@ pub(crate) fn concat<R: Rings<Stored> + Drop>(
     store: &mut Brigades<R>,
     a: u8,
     b: u8,
-) -> Result<(), AllocError>
+)
     requires first { a < 9 }
     requires second { b < 9 }
     requires apart { a ≢ b }
     requires live_first { is_some (live_in (lists store.old) (slot_at instance.now a)) ≡ true }
     requires live_second { is_some (live_in (lists store.old) (slot_at instance.now b)) ≡ true }
     requires held { VariablesApart instance.now }
-    ensures ok { OnOk result ((around : ContextView) (call : Call) → IsHeld store.old instance.now call
-        → seen store.new around instance.now call ≡ do_concat a b (seen store.old around instance.now call)) }
-    ensures sure { IsOk result }
-    ensures err { OnErr result ((around : ContextView) (call : Call) → seen store.new around instance.now call ≡ seen store.old around instance.now call) }
+    ensures new { (view : ContextView) (call : Call) → IsHeld store.old instance.now call
+        → seen store.new view instance.now call ≡ do_concat a b (seen store.old view instance.now call) }
     ensures held { (call : Call) → IsHeld store.old instance.now call → IsHeld store.new instance.now call }
     ensures left { (call : Call) → LeavesForeign store.old store.new instance.now call }
 {
     let from = instance.brigade(b);
     let to = instance.brigade(a);
-    store.concat(to, from)
+    store.concat(to, from);
 }
 
 /// Destroys the buckets of a brigade, which is usable then.
@@ -43,7 +40,7 @@ pub(crate) fn clean<R: Rings<Stored> + Drop>(
 )
     requires slot { b < 9 }
     requires live { is_some (live_in (lists store.old) (slot_at instance.old b)) ≡ true }
-    ensures new { (around : ContextView) (call : Call) → IsHeld store.old instance.old call → seen store.new around instance.new call ≡ do_clean b (seen store.old around instance.old call) }
+    ensures new { (view : ContextView) (call : Call) → IsHeld store.old instance.old call → seen store.new view instance.new call ≡ do_clean b (seen store.old view instance.old call) }
     ensures held { (call : Call) → IsHeld store.old instance.old call → IsHeld store.new instance.new call }
     ensures left { (call : Call) → LeavesForeign store.old store.new instance.old call }
     ensures slots { (a : ℕ) → name_in (slot_at instance.new a) ≡ name_in (slot_at instance.old a) }

@@ -39,21 +39,21 @@ pub fn execute_instr<R: Rings<Stored> + Drop, F: Files>(
     requires open { AreOpen (references store.old) (F.device files.old) }
     requires fits { FitKinds store.old instance.old }
     requires ends { EndInFiles store.old instance.old }
-    requires ranges { (around : ContextView) → RangesOpen (F.device files.old) (seen store.old (in_context context.now (map_of tree.old) around) instance.old call.old) }
-    requires faultless { (around : ContextView) → fault code.now (seen store.old (in_context context.now (map_of tree.old) around) instance.old call.old) instr ≡ None }
+    requires ranges { (view : ContextView) → RangesOpen (F.device files.old) (seen store.old (in_context context.now (map_of tree.old) view) instance.old call.old) }
+    requires faultless { (view : ContextView) → fault code.now (seen store.old (in_context context.now (map_of tree.old) view) instance.old call.old) instr ≡ None }
     requires below { (pool : ℕ) → cleared_in instance.old instr ≡ Some pool → (map_of tree.old).path pool ≢ pool ∷ [] }
     requires looks { (pool : ℕ) → cleared_in instance.old instr ≡ Some pool → LooksAt context.now.rings.now (is_under (map_of tree.old) pool) (pool_of store.old) instance.old call.old }
-    ensures ok { IfOk result (λ exit. (around : ContextView)
+    ensures ok { IfOk result (λ exit. (view : ContextView)
         → WasCarriedOut (F.device files.old) (F.device files.new) code.now instr (seen store.old (during context.now
-        (map_of tree.old) handed.old.items around) instance.old call.old) exit (λ fs. seen store.new (with_files fs (during context.now
-        (map_of tree.new) handed.new.items around)) instance.new call.new)) }
-    ensures err { OnErr result ((around : ContextView)
-        → seen store.new (during context.now (map_of tree.new) handed.new.items around) instance.new call.new
-        ≡ seen store.old (during context.now (map_of tree.old) handed.old.items around) instance.old call.old) }
+        (map_of tree.old) handed.old.items view) instance.old call.old) exit (λ fs. seen store.new (with_files fs (during context.now
+        (map_of tree.new) handed.new.items view)) instance.new call.new)) }
+    ensures err { OnErr result ((view : ContextView)
+        → seen store.new (during context.now (map_of tree.new) handed.new.items view) instance.new call.new
+        ≡ seen store.old (during context.now (map_of tree.old) handed.old.items view) instance.old call.old) }
     ensures kept { OnErr result (map_of tree.new ≡ map_of tree.old) }
     ensures unread { OnErr result (F.device files.new ≡ F.device files.old) }
     ensures unmoved { OnErr result (LeavesRest store.old store.new instance.old call.old) }
-    ensures sure { (around : ContextView) → let r = seen store.old (in_context context.now (map_of tree.old) around) instance.old call.old in grows r instr ≡ false → IsOk result }
+    ensures sure { (view : ContextView) → let r = seen store.old (in_context context.now (map_of tree.old) view) instance.old call.old in grows r instr ≡ false → IsOk result }
     ensures held { IsHeld store.new instance.new call.new }
     ensures house { IsHouse store.new (map_of tree.new) }
     ensures open { AreOpen (references store.new) (F.device files.new) }

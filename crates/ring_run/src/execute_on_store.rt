@@ -27,8 +27,8 @@ fn change_number<R: Rings<Stored> + Drop>(
 )
     requires fit { fits code.now (instr_with (effect.Number n number)) ≡ true }
     requires held { IsHeld store.now instance.old call.now }
-    requires faultless { (around : ContextView) × HasNoFault code.now store.now around instance.old call.now (effect.Number n number) }
-    ensures new { (around : ContextView) → let r = seen store.now around instance.old call.now in seen store.now around instance.new call.now ≡ got n (number_of r n number) r }
+    requires faultless { (view : ContextView) × HasNoFault code.now store.now view instance.old call.now (effect.Number n number) }
+    ensures new { (view : ContextView) → let r = seen store.now view instance.old call.now in seen store.now view instance.new call.now ≡ got n (number_of r n number) r }
     ensures held { IsHeld store.now instance.new call.now }
     ensures slots { (b : ℕ) → slot_at instance.new b ≡ slot_at instance.old b }
 {
@@ -62,11 +62,11 @@ pub(crate) fn execute_on_store<R: Rings<Stored> + Drop>(
     requires runs { 0 < call.old.name }
     requires fits { FitKinds store.old instance.old }
     requires ends { EndInFiles store.old instance.old }
-    requires faultless { (around : ContextView) → HasNoFault code.now store.old (in_context context.now (map_of tree.now) around) instance.old call.old effect }
-    ensures ok { OnOk result ((around : ContextView) (choice : Choice) → let r = seen store.old (in_context context.now (map_of tree.now) around) instance.old call.old in
-        seen store.new (in_context context.now (map_of tree.now) around) instance.new call.new ≡ do_effect code.now choice effect r) }
-    ensures err { OnErr result ((around : ContextView) → seen store.new around instance.new call.new ≡ seen store.old around instance.old call.old) }
-    ensures sure { (around : ContextView) → let r = seen store.old (in_context context.now (map_of tree.now) around) instance.old call.old in grows_by r effect ≡ false → IsOk result }
+    requires faultless { (view : ContextView) → HasNoFault code.now store.old (in_context context.now (map_of tree.now) view) instance.old call.old effect }
+    ensures ok { OnOk result ((view : ContextView) (choice : Choice) → let r = seen store.old (in_context context.now (map_of tree.now) view) instance.old call.old in
+        seen store.new (in_context context.now (map_of tree.now) view) instance.new call.new ≡ do_effect code.now choice effect r) }
+    ensures err { OnErr result ((view : ContextView) → seen store.new view instance.new call.new ≡ seen store.old view instance.old call.old) }
+    ensures sure { (view : ContextView) → let r = seen store.old (in_context context.now (map_of tree.now) view) instance.old call.old in grows_by r effect ≡ false → IsOk result }
     ensures held { IsHeld store.new instance.new call.new }
     ensures name { call.new.name ≡ call.old.name }
     ensures slots { (b : ℕ) → name_in (slot_at instance.new b) ≡ name_in (slot_at instance.old b) }
@@ -84,8 +84,8 @@ pub(crate) fn execute_on_store<R: Rings<Stored> + Drop>(
             let n = u64::from(value_of(instance, x));
             split_steps::split(instance, call, store, c, n)
         }
-        Effect::Concat(a, b) => effects::concat(instance, store, a, b),
-        Effect::SplitBrigade(b, c, a) => part_steps::bsplit(instance, call, store, b, c, a),
+        Effect::Concat(a, b) => Ok(effects::concat(instance, store, a, b)),
+        Effect::SplitBrigade(b, c, a) => Ok(part_steps::bsplit(instance, call, store, b, c, a)),
         Effect::PartBrigade(b, x, c) => {
             let point = u64::from(value_of(instance, x));
             part_steps::bpart(instance, call, store, b, point, c)

@@ -38,16 +38,16 @@ pub(crate) fn execute_without_files<R: Rings<Stored> + Drop>(
     requires house { IsHouse store.old (map_of tree.old) }
     requires fits { FitKinds store.old instance.old }
     requires ends { EndInFiles store.old instance.old }
-    requires faultless { (around : ContextView) → HasNoFault code.now store.old (in_context context.now (map_of tree.old) around) instance.old call.old effect }
-    ensures ok { OnOk result ((around : ContextView) (choice : Choice) → let r = seen store.old (in_context context.now (map_of tree.old) around) instance.old call.old in
-        seen store.new (in_context context.now (map_of tree.new) around) instance.new call.new ≡ do_effect code.now choice effect r) }
-    ensures err { OnErr result ((around : ContextView)
-        → seen store.new (record around { pools = map_of tree.new }) instance.new call.new
-        ≡ seen store.old (record around { pools = map_of tree.old }) instance.old call.old) }
-    ensures sure { (around : ContextView) → let r = seen store.old (in_context context.now (map_of tree.old) around) instance.old call.old in grows_by r effect ≡ false → IsOk result }
+    requires faultless { (view : ContextView) → HasNoFault code.now store.old (in_context context.now (map_of tree.old) view) instance.old call.old effect }
+    ensures ok { OnOk result ((view : ContextView) (choice : Choice) → let r = seen store.old (in_context context.now (map_of tree.old) view) instance.old call.old in
+        seen store.new (in_context context.now (map_of tree.new) view) instance.new call.new ≡ do_effect code.now choice effect r) }
+    ensures err { OnErr result ((view : ContextView)
+        → seen store.new (record view { pools = map_of tree.new }) instance.new call.new
+        ≡ seen store.old (record view { pools = map_of tree.old }) instance.old call.old) }
+    ensures sure { (view : ContextView) → let r = seen store.old (in_context context.now (map_of tree.old) view) instance.old call.old in grows_by r effect ≡ false → IsOk result }
     ensures held { IsHeld store.new instance.new call.new }
     ensures house { IsHouse store.new (map_of tree.new) }
-    ensures open { (d : Device) → ((around : ContextView) → RangesOpen d (seen store.old (in_context context.now (map_of tree.old) around) instance.old call.old))
+    ensures open { (d : Device) → ((view : ContextView) → RangesOpen d (seen store.old (in_context context.now (map_of tree.old) view) instance.old call.old))
         → AreOpen (references store.old) d → AreOpen (references store.new) d }
     ensures name { call.new.name ≡ call.old.name }
     ensures slots { KeepNames (next_name store.old) (next_name store.new) instance.old instance.new }

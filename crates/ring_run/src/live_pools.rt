@@ -17,9 +17,9 @@ pub(crate) fn live_pool(
     pool: PoolRef,
 ) -> PoolId
     requires there { (rings : ℕ → Option Items)
-        × ((next : ℕ) × ((around : ContextView) × ((call : Call) × (fault_want (seen_over rings next (in_context context.now (map_of tree.now) around) instance.now call) (WPool pool) ≡ None)))) }
-    ensures named { (rings : ℕ → Option Items) (next : ℕ) (around : ContextView) (call : Call)
-        → pool_named (seen_over rings next (in_context context.now (map_of tree.now) around) instance.now call) pool ≡ Some result }
+        × ((next : ℕ) × ((view : ContextView) × ((call : Call) × (fault_want (seen_over rings next (in_context context.now (map_of tree.now) view) instance.now call) (WPool pool) ≡ None)))) }
+    ensures named { (rings : ℕ → Option Items) (next : ℕ) (view : ContextView) (call : Call)
+        → pool_named (seen_over rings next (in_context context.now (map_of tree.now) view) instance.now call) pool ≡ Some result }
     ensures live { IsTrue (is_live (map_of tree.now) result) }
 {
     match pool_named(instance, context, pool) {

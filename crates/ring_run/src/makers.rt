@@ -59,9 +59,9 @@ fn add_made<R: Rings<Stored> + Drop>(
     requires fit { (c : ℕ) × (fits code.now (instr_with (effect.Make c source)) ≡ true) }
     requires runs { 0 < call.now.name }
     requires held { IsHeld store.old instance.now call.now }
-    requires faultless { (c : ℕ) × ((around : ContextView) → HasNoFault code.now store.old (in_context context.now (map_of tree.now) around) instance.now call.now (effect.Make c source)) }
+    requires faultless { (c : ℕ) × ((view : ContextView) → HasNoFault code.now store.old (in_context context.now (map_of tree.now) view) instance.now call.now (effect.Make c source)) }
     ensures ok { IfOk result (λ id. (x : Bucket) × (WasAdded store.old store.new call.now.name id x
-        × ((around : ContextView) → let over = in_context context.now (map_of tree.now) around in
+        × ((view : ContextView) → let over = in_context context.now (map_of tree.now) view in
         made_of code.now (seen store.old over instance.now call.now) source ≡ Some (bucket_in (calls_in over call.now) (next_name store.old) x)))) }
     ensures err { OnErr result ((n : ℕ) → lists store.new n ≡ lists store.old n) }
     ensures next { OnErr result (next_name store.new ≡ next_name store.old) }
@@ -108,10 +108,10 @@ pub(crate) fn make_bucket<R: Rings<Stored> + Drop>(
     requires cursor { c < 9 }
     requires runs { 0 < call.old.name }
     requires held { IsHeld store.old instance.now call.old }
-    requires faultless { (around : ContextView) → HasNoFault code.now store.old (in_context context.now (map_of tree.now) around) instance.now call.old (effect.Make c source) }
-    ensures ok { OnOk result ((around : ContextView) (choice : Choice) → let over = in_context context.now (map_of tree.now) around in
+    requires faultless { (view : ContextView) → HasNoFault code.now store.old (in_context context.now (map_of tree.now) view) instance.now call.old (effect.Make c source) }
+    ensures ok { OnOk result ((view : ContextView) (choice : Choice) → let over = in_context context.now (map_of tree.now) view in
         seen store.new over instance.now call.new ≡ do_effect code.now choice (effect.Make c source) (seen store.old over instance.now call.old)) }
-    ensures err { OnErr result ((around : ContextView) → seen store.new around instance.now call.new ≡ seen store.old around instance.now call.old) }
+    ensures err { OnErr result ((view : ContextView) → seen store.new view instance.now call.new ≡ seen store.old view instance.now call.old) }
     ensures held { IsHeld store.new instance.now call.new }
     ensures name { call.new.name ≡ call.old.name }
     ensures left { LeavesForeign store.old store.new instance.now call.old }

@@ -1,7 +1,7 @@
 //! What instructions do to brigades that are cut (apr_buckets.h, apr_brigade_split_ex).
 
 ghost use Rattle.std.specs.Prelude.{◌≡◌, ◌≢◌, ◌<◌, ℕ, None, Some, true, is_some, IsOk, IfSome, OnOk, OnErr};
-ghost use Rattle.ring_run.specs.Prelude.{list_at, bucket_across, moves, stays, do_bpart, do_bsplit, items_at, names_to_part, place_at, spot, InThis, home_fault, before_place, from_place, lists};
+ghost use Rattle.ring_run.specs.Prelude.{list_at, bucket_across, moves, stays, do_bpart, do_bsplit, items_at, names_to_part, place_at, at_cursor, InThis, home_fault, before_place, from_place, lists};
 ghost use Rattle.ring_run.specs.Prelude.{brigade_of, ContextView, EndInFiles, FitKinds, IsHeld, LeavesForeign, StandsAs, cursor_value_of, live_in, name_in, slot_at, seen, shown, calls_in};
 
 use brigade_ops::{BrigadeId, Brigades, BucketId, Cut, Rings, Stored};
@@ -22,10 +22,10 @@ fn place_in<R: Rings<Stored> + Drop>(
     requires named { name_in (slot_at instance.now b) ≡ Some name }
     requires stands { StandsAs store.now instance.now call.now c (InThis b) }
     ensures inside { IfSome result (λ id. brigade_of store.now id ≡ Some name) }
-    ensures stays { (around : ContextView) → let r = seen store.now around instance.now call.now in
-        shown (calls_in around call.now) (before_place result (list_at (lists store.now) name)) ≡ stays (place_at (spot r c)) (items_at r b) }
-    ensures moves { (around : ContextView) → let r = seen store.now around instance.now call.now in
-        shown (calls_in around call.now) (from_place result (list_at (lists store.now) name)) ≡ moves (place_at (spot r c)) (items_at r b) }
+    ensures stays { (view : ContextView) → let r = seen store.now view instance.now call.now in
+        shown (calls_in view call.now) (before_place result (list_at (lists store.now) name)) ≡ stays (place_at (at_cursor r c)) (items_at r b) }
+    ensures moves { (view : ContextView) → let r = seen store.now view instance.now call.now in
+        shown (calls_in view call.now) (from_place result (list_at (lists store.now) name)) ≡ moves (place_at (at_cursor r c)) (items_at r b) }
 {
     match call.cursor(c) {
         CursorValue::At(id) => Some(id),
@@ -43,7 +43,7 @@ pub(crate) fn bsplit<R: Rings<Stored> + Drop>(
     b: u8,
     c: u8,
     a: u8,
-) -> Result<(), AllocError>
+)
     requires from { b < 9 }
     requires cursor { c < 9 }
     requires into { a < 9 }
@@ -52,16 +52,14 @@ pub(crate) fn bsplit<R: Rings<Stored> + Drop>(
     requires live_into { is_some (live_in (lists store.old) (slot_at instance.now a)) ≡ true }
     requires held { IsHeld store.old instance.now call.now }
     requires stands { StandsAs store.old instance.now call.now c (InThis b) }
-    ensures ok { OnOk result ((around : ContextView) → let r = seen store.old around instance.now call.now in seen store.new around instance.now call.now ≡ do_bsplit b (spot r c) a r) }
-    ensures sure { IsOk result }
-    ensures err { OnErr result ((around : ContextView) → seen store.new around instance.now call.now ≡ seen store.old around instance.now call.now) }
+    ensures new { (view : ContextView) → let r = seen store.old view instance.now call.now in seen store.new view instance.now call.now ≡ do_bsplit b (at_cursor r c) a r }
     ensures held { IsHeld store.new instance.now call.now }
     ensures left { LeavesForeign store.old store.new instance.now call.now }
 {
     let from = instance.brigade(b);
     let to = instance.brigade(a);
     let place = place_in(instance, call, store, b, from, c);
-    store.split_at(from, place, to)
+    store.split_at(from, place, to);
 }
 
 /// Where a cursor is set by what a partition answers.
@@ -92,10 +90,10 @@ pub(crate) fn bpart<R: Rings<Stored> + Drop>(
     requires fits { FitKinds store.old instance.now }
     requires ends { EndInFiles store.old instance.now }
     requires held { IsHeld store.old instance.now call.old }
-    ensures ok { OnOk result ((around : ContextView) → let r = seen store.old around instance.now call.old in
-        home_fault (bucket_across point (items_at r b)) ≡ None → seen store.new around instance.now call.new ≡ do_bpart b point c r) }
-    ensures sure { (around : ContextView) → let r = seen store.old around instance.now call.old in names_to_part point (items_at r b) ≡ 0 → IsOk result }
-    ensures err { OnErr result ((around : ContextView) → seen store.new around instance.now call.new ≡ seen store.old around instance.now call.old) }
+    ensures ok { OnOk result ((view : ContextView) → let r = seen store.old view instance.now call.old in
+        home_fault (bucket_across point (items_at r b)) ≡ None → seen store.new view instance.now call.new ≡ do_bpart b point c r) }
+    ensures sure { (view : ContextView) → let r = seen store.old view instance.now call.old in names_to_part point (items_at r b) ≡ 0 → IsOk result }
+    ensures err { OnErr result ((view : ContextView) → seen store.new view instance.now call.new ≡ seen store.old view instance.now call.old) }
     ensures held { IsHeld store.new instance.now call.new }
     ensures name { call.new.name ≡ call.old.name }
     ensures left { LeavesForeign store.old store.new instance.now call.old }

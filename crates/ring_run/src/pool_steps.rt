@@ -21,11 +21,11 @@ pub(crate) fn create_pool(
 ) -> Result<(), AllocError>
     requires slot { q < 8 }
     requires live { IsTrue (is_live (map_of tree.old) parent) }
-    ensures ok { OnOk result ((code : Program) (rings : ℕ → Option Items) (next : ℕ) (around : ContextView) (call : Call)
-        → let r = seen_over rings next (record around { pools = map_of tree.old }) instance.old call in pool_named r (pool_of_pool code q) ≡ Some parent
-        → seen_over rings next (record around { pools = map_of tree.new }) instance.new call ≡ do_pcreate code q r) }
-    ensures err { OnErr result ((rings : ℕ → Option Items) (next : ℕ) (around : ContextView) (call : Call)
-        → seen_over rings next (record around { pools = map_of tree.new }) instance.new call ≡ seen_over rings next (record around { pools = map_of tree.old }) instance.old call) }
+    ensures ok { OnOk result ((code : Program) (rings : ℕ → Option Items) (next : ℕ) (view : ContextView) (call : Call)
+        → let r = seen_over rings next (record view { pools = map_of tree.old }) instance.old call in pool_named r (pool_of_pool code q) ≡ Some parent
+        → seen_over rings next (record view { pools = map_of tree.new }) instance.new call ≡ do_pcreate code q r) }
+    ensures err { OnErr result ((rings : ℕ → Option Items) (next : ℕ) (view : ContextView) (call : Call)
+        → seen_over rings next (record view { pools = map_of tree.new }) instance.new call ≡ seen_over rings next (record view { pools = map_of tree.old }) instance.old call) }
     ensures slots { (b : ℕ) → slot_at instance.new b ≡ slot_at instance.old b }
     ensures house { (rings : ℕ → Option Items) (pools : ℕ → Option ℕ) (references : ℕ → ℕ) → AreHoused rings pools references (map_of tree.old) → AreHoused rings pools references (map_of tree.new) }
     ensures tree_unasked { tree.new.asked ≡ tree.old.asked }
@@ -48,11 +48,11 @@ pub(crate) fn label(
 ) -> Result<(), AllocError>
     requires declared { t < length code.now.texts }
     requires live { IsTrue (is_live (map_of tree.old) pool) }
-    ensures ok { OnOk result ((rings : ℕ → Option Items) (next : ℕ) (around : ContextView) (i : Instance) (call : Call)
-        → seen_over rings next (record around { pools = map_of tree.new }) i call
-        ≡ on_pool (label_registered (text_of code.now t)) (Some pool) (seen_over rings next (record around { pools = map_of tree.old }) i call)) }
-    ensures err { OnErr result ((rings : ℕ → Option Items) (next : ℕ) (around : ContextView) (i : Instance) (call : Call)
-        → seen_over rings next (record around { pools = map_of tree.new }) i call ≡ seen_over rings next (record around { pools = map_of tree.old }) i call) }
+    ensures ok { OnOk result ((rings : ℕ → Option Items) (next : ℕ) (view : ContextView) (i : Instance) (call : Call)
+        → seen_over rings next (record view { pools = map_of tree.new }) i call
+        ≡ on_pool (label_registered (text_of code.now t)) (Some pool) (seen_over rings next (record view { pools = map_of tree.old }) i call)) }
+    ensures err { OnErr result ((rings : ℕ → Option Items) (next : ℕ) (view : ContextView) (i : Instance) (call : Call)
+        → seen_over rings next (record view { pools = map_of tree.new }) i call ≡ seen_over rings next (record view { pools = map_of tree.old }) i call) }
     ensures house { (rings : ℕ → Option Items) (pools : ℕ → Option ℕ) (references : ℕ → ℕ) → AreHoused rings pools references (map_of tree.old) → AreHoused rings pools references (map_of tree.new) }
     ensures tree_unasked { tree.new.asked ≡ tree.old.asked }
 {
@@ -67,9 +67,9 @@ pub(crate) fn label(
 pub(crate) fn unlabel(code: &Module, tree: &mut PoolTree<Payload>, pool: PoolId, t: u8)
     requires declared { t < length code.now.texts }
     requires live { IsTrue (is_live (map_of tree.old) pool) }
-    ensures new { (rings : ℕ → Option Items) (next : ℕ) (around : ContextView) (i : Instance) (call : Call)
-        → seen_over rings next (record around { pools = map_of tree.new }) i call
-        ≡ on_pool (label_killed (text_of code.now t)) (Some pool) (seen_over rings next (record around { pools = map_of tree.old }) i call) }
+    ensures new { (rings : ℕ → Option Items) (next : ℕ) (view : ContextView) (i : Instance) (call : Call)
+        → seen_over rings next (record view { pools = map_of tree.new }) i call
+        ≡ on_pool (label_killed (text_of code.now t)) (Some pool) (seen_over rings next (record view { pools = map_of tree.old }) i call) }
     ensures house { (rings : ℕ → Option Items) (pools : ℕ → Option ℕ) (references : ℕ → ℕ) → AreHoused rings pools references (map_of tree.old) → AreHoused rings pools references (map_of tree.new) }
     ensures tree_unasked { tree.new.asked ≡ tree.old.asked }
 {

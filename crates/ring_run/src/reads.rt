@@ -1,7 +1,7 @@
 //! What the instruction that reads does (apr_buckets.h, apr_bucket_read).
 
 ghost use Rattle.std.specs.Prelude.{◌≡◌, ◌<◌, ℕ, None, Some, IsOk, IfOk, OnErr};
-ghost use Rattle.ring_run.specs.Prelude.{IsOpenFor, content_at, Within, spot, wanted, InBrigade, home_fault, NamedBucket, ContextView, EndInFiles, WasRead, IsHeld, LeavesForeign, StandsAs, seen};
+ghost use Rattle.ring_run.specs.Prelude.{IsOpenFor, content_at, Within, at_cursor, wanted, InBrigade, home_fault, NamedBucket, ContextView, EndInFiles, WasRead, IsHeld, LeavesForeign, StandsAs, seen};
 
 use brigade_ops::{Brigades, Files, ReadRefusal, Rings, Stored};
 use ring_calls::machine::{Call, CursorValue, Instance};
@@ -24,12 +24,12 @@ pub(crate) fn read<R: Rings<Stored> + Drop, F: Files>(
     requires held { IsHeld store.old instance.now call.old }
     requires stands { StandsAs store.old instance.now call.old c InBrigade }
     requires ends { EndInFiles store.old instance.now }
-    requires open { (around : ContextView) × IsOpenFor (F.device files.old) (content_at (spot (seen store.old around instance.now call.old) c)) }
-    ensures ok { IfOk result (λ well. (around : ContextView) (b : ℕ) (x : NamedBucket) → let r = seen store.old around instance.now call.old in spot r c ≡ Within b x → home_fault (Some x) ≡ None
-        → WasRead (F.device files.old) (F.device files.new) (spot r c) r (seen store.new around instance.now call.new) well) }
+    requires open { (view : ContextView) × IsOpenFor (F.device files.old) (content_at (at_cursor (seen store.old view instance.now call.old) c)) }
+    ensures ok { IfOk result (λ well. (view : ContextView) (b : ℕ) (x : NamedBucket) → let r = seen store.old view instance.now call.old in at_cursor r c ≡ Within b x → home_fault (Some x) ≡ None
+        → WasRead (F.device files.old) (F.device files.new) (at_cursor r c) r (seen store.new view instance.now call.new) well) }
     ensures left { LeavesForeign store.old store.new instance.now call.old }
-    ensures sure { (around : ContextView) → wanted (content_at (spot (seen store.old around instance.now call.old) c)) ≡ 0 → IsOk result }
-    ensures err { OnErr result ((around : ContextView) → seen store.new around instance.now call.new ≡ seen store.old around instance.now call.old) }
+    ensures sure { (view : ContextView) → wanted (content_at (at_cursor (seen store.old view instance.now call.old) c)) ≡ 0 → IsOk result }
+    ensures err { OnErr result ((view : ContextView) → seen store.new view instance.now call.new ≡ seen store.old view instance.now call.old) }
     ensures unread { OnErr result (F.device files.new ≡ F.device files.old) }
     ensures open_files { (F.device files.new).numbered ≡ (F.device files.old).numbered }
     ensures held { IsHeld store.new instance.now call.new }

@@ -27,16 +27,16 @@ pub(crate) fn save<R: Rings<Stored> + Drop>(
     requires held { VariablesApart instance.now }
     requires on { AreOn (lists store.old) (pool_of store.old) instance.now }
     requires live { (n p : ℕ) → live_in (lists store.old) (slot_at instance.now o) ≡ Some n → pool_of store.old n ≡ Some p → IsTrue (is_live (map_of tree.old) p) }
-    ensures ok { OnOk result ((around : ContextView) (call : Call) → IsHeld store.old instance.now call
-        → seen store.new (record around { pools = map_of tree.new }) instance.now call ≡ do_save o b (seen store.old (record around { pools = map_of tree.old }) instance.now call)) }
-    ensures sure { (around : ContextView) (call : Call) → let r = seen store.old (record around { pools = map_of tree.old }) instance.now call in
+    ensures ok { OnOk result ((view : ContextView) (call : Call) → IsHeld store.old instance.now call
+        → seen store.new (record view { pools = map_of tree.new }) instance.now call ≡ do_save o b (seen store.old (record view { pools = map_of tree.old }) instance.now call)) }
+    ensures sure { (view : ContextView) (call : Call) → let r = seen store.old (record view { pools = map_of tree.old }) instance.now call in
         takes_reference (map_of tree.old) (made_on (r.instance.brigades o)) (items_at r b) ≡ false → IsOk result }
-    ensures err { OnErr result ((around : ContextView) (call : Call)
-        → seen store.new (record around { pools = map_of tree.new }) instance.now call ≡ seen store.old (record around { pools = map_of tree.old }) instance.now call) }
+    ensures err { OnErr result ((view : ContextView) (call : Call)
+        → seen store.new (record view { pools = map_of tree.new }) instance.now call ≡ seen store.old (record view { pools = map_of tree.old }) instance.now call) }
     ensures held { (call : Call) → IsHeld store.old instance.now call → IsHeld store.new instance.now call }
     ensures house { IsHouse store.old (map_of tree.old) → IsHouse store.new (map_of tree.new) }
     ensures left { (call : Call) → LeavesRest store.old store.new instance.now call }
-    ensures open { (d : Device) (around : ContextView) (call : Call) → All (RangeIsOpen d) (items_of ((seen store.old around instance.now call).instance.brigades b))
+    ensures open { (d : Device) (view : ContextView) (call : Call) → All (RangeIsOpen d) (items_of ((seen store.old view instance.now call).instance.brigades b))
         → AreOpen (references store.old) d → AreOpen (references store.new) d }
     ensures tree_unasked { tree.new.asked ≡ tree.old.asked }
 {

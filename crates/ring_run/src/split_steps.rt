@@ -1,7 +1,7 @@
 //! A bucket is split (apr_buckets.h, apr_bucket_split).
 
 ghost use Rattle.std.specs.Prelude.{◌≡◌, ◌⊎◌, ◌<◌, None, IsOk, OnOk, OnErr};
-ghost use Rattle.ring_run.specs.Prelude.{do_split, names_to_split, bucket_at, spot, InBrigade, home_fault, ContextView, EndInFiles, IsHeld, LeavesForeign, StandsAs, seen};
+ghost use Rattle.ring_run.specs.Prelude.{do_split, names_to_split, bucket_at, at_cursor, InBrigade, home_fault, ContextView, EndInFiles, IsHeld, LeavesForeign, StandsAs, seen};
 
 use brigade_ops::{Brigades, Rings, SplitRefusal, Stored};
 use ring_calls::machine::{Call, Instance};
@@ -31,10 +31,10 @@ pub(crate) fn split<R: Rings<Stored> + Drop>(
     requires held { IsHeld store.old instance.now call.now }
     requires stands { StandsAs store.old instance.now call.now c InBrigade }
     requires ends { EndInFiles store.old instance.now }
-    ensures ok { OnOk result ((around : ContextView) → let r = seen store.old around instance.now call.now in home_fault (bucket_at (spot r c)) ≡ None
-        → seen store.new around instance.now call.now ≡ do_split n (spot r c) r) }
-    ensures sure { (around : ContextView) → let r = seen store.old around instance.now call.now in names_to_split n (spot r c) ≡ 0 → IsOk result }
-    ensures err { OnErr result ((around : ContextView) → seen store.new around instance.now call.now ≡ seen store.old around instance.now call.now) }
+    ensures ok { OnOk result ((view : ContextView) → let r = seen store.old view instance.now call.now in home_fault (bucket_at (at_cursor r c)) ≡ None
+        → seen store.new view instance.now call.now ≡ do_split n (at_cursor r c) r) }
+    ensures sure { (view : ContextView) → let r = seen store.old view instance.now call.now in names_to_split n (at_cursor r c) ≡ 0 → IsOk result }
+    ensures err { OnErr result ((view : ContextView) → seen store.new view instance.now call.now ≡ seen store.old view instance.now call.now) }
     ensures held { IsHeld store.new instance.now call.now }
     ensures left { LeavesForeign store.old store.new instance.now call.now }
 {

@@ -37,7 +37,7 @@ pub(crate) fn want_homes<R: Rings<Stored> + Drop>(
     b: u8,
 ) -> Option<FaultKind>
     requires { b < 9 }
-    ensures value { (pools : Pools Payload) (around : ContextView) → result ≡ fault_want (seen store.old (in_context context.now pools around) instance.now call.now) (WHomes b) }
+    ensures value { (pools : Pools Payload) (view : ContextView) → result ≡ fault_want (seen store.old (in_context context.now pools view) instance.now call.now) (WHomes b) }
     ensures asked { OnlyAsked store.old store.new }
 {
     let Some(name) = live(store, instance.slot(b)) else {
@@ -58,7 +58,7 @@ pub(crate) fn want_home_across<R: Rings<Stored> + Drop>(
     point: Value,
 ) -> Option<FaultKind>
     requires { b < 9 }
-    ensures value { (pools : Pools Payload) (around : ContextView) → result ≡ fault_want (seen store.old (in_context context.now pools around) instance.now call.now) (WHomeAcross b point) }
+    ensures value { (pools : Pools Payload) (view : ContextView) → result ≡ fault_want (seen store.old (in_context context.now pools view) instance.now call.now) (WHomeAcross b point) }
     ensures asked { OnlyAsked store.old store.new }
 {
     let Some(name) = live(store, instance.slot(b)) else {
@@ -76,7 +76,7 @@ pub(crate) fn want_send<R: Rings<Stored> + Drop>(
     b: u8,
 ) -> Option<FaultKind>
     requires { b < 9 }
-    ensures value { (around : ContextView) (call : Call) → result ≡ fault_want (seen store.old around instance.now call) (WSend b) }
+    ensures value { (view : ContextView) (call : Call) → result ≡ fault_want (seen store.old view instance.now call) (WSend b) }
     ensures asked { OnlyAsked store.old store.new }
 {
     let Some(name) = live(store, instance.slot(b)) else {
@@ -95,8 +95,8 @@ fn keeps_stray<R: Rings<Stored> + Drop>(
     b: u8,
 ) -> bool
     requires { b < 9 }
-    ensures value { (pools : Pools Payload) (around : ContextView)
-        → let r = seen store.old (in_context context.now pools around) instance.now call.now in result ≡ keeps_stray r (r.instance.brigades b) }
+    ensures value { (pools : Pools Payload) (view : ContextView)
+        → let r = seen store.old (in_context context.now pools view) instance.now call.now in result ≡ keeps_stray r (r.instance.brigades b) }
     ensures asked { OnlyAsked store.old store.new }
 {
     let Slot::Made(name, _, mark) = instance.slot(b) else {
@@ -116,7 +116,7 @@ pub(crate) fn want_return<R: Rings<Stored> + Drop>(
     context: &Context<'_>,
     store: &mut Brigades<R>,
 ) -> Option<FaultKind>
-    ensures value { (pools : Pools Payload) (around : ContextView) → result ≡ fault_want (seen store.old (in_context context.now pools around) instance.now call.now) WReturn }
+    ensures value { (pools : Pools Payload) (view : ContextView) → result ≡ fault_want (seen store.old (in_context context.now pools view) instance.now call.now) WReturn }
     ensures asked { OnlyAsked store.old store.new }
 {
     for b in 0..8u8 {

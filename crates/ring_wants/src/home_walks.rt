@@ -51,8 +51,8 @@ struct FirstUnfit<'a> {
 }
 
 impl Visitor for FirstUnfit<'_> {
-    ghost visits = { λ s id x stop t. (t ≡ s) × ((rings : ℕ → Option Items) (next : ℕ) (pools : Pools Payload) (around : ContextView)
-        → let over = in_context s.context.now pools around in let home = home_in (calls_in over s.call.now) id.birth x.home in
+    ghost visits = { λ s id x stop t. (t ≡ s) × ((rings : ℕ → Option Items) (next : ℕ) (pools : Pools Payload) (view : ContextView)
+        → let over = in_context s.context.now pools view in let home = home_in (calls_in over s.call.now) id.birth x.home in
         stop ≡ (if s.strays then is_stray (seen_over rings next over s.instance.now s.call.now) home else is_ended home)) };
 
     fn stops_at(&mut self, id: BucketId, bucket: &View<'_>) -> bool {
@@ -76,7 +76,7 @@ pub(crate) fn has_unfit<R: Rings<Stored> + Drop>(
     strays: bool,
 ) -> bool
     requires { is_some (lists store.now b) ≡ true }
-    ensures { (rings : ℕ → Option Items) (next : ℕ) (pools : Pools Payload) (around : ContextView) → let over = in_context context.now pools around in
+    ensures { (rings : ℕ → Option Items) (next : ℕ) (pools : Pools Payload) (view : ContextView) → let over = in_context context.now pools view in
         result ≡ list_any (λ x. if strays then is_stray (seen_over rings next over instance.now call.now) x.bucket.home else is_ended x.bucket.home)
         (shown (calls_in over call.now) (list_at (lists store.now) b)) }
 {

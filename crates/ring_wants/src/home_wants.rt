@@ -2,7 +2,8 @@
 
 ghost use Rattle.std.specs.Prelude.{◌≡◌, ◌==◌, ◌<◌, true, is_some, Some, IfSome};
 ghost use Rattle.std.specs.List.{list_any};
-ghost use Rattle.ring_wants.specs.Prelude.{BucketId, Payload, Pools, Bucket, is_ended, spot, WHome, fault_want, home_fault, brigade_of, bucket_at, ContextView, IsHeld, OnlyAsked, in_context, seen};
+ghost use Rattle.ring_wants.specs.Prelude.{BucketId, Payload, Pools, Bucket, is_ended, at_cursor, WHome, fault_want};
+ghost use Rattle.ring_wants.specs.Prelude.{home_fault, brigade_of, bucket_at, ContextView, IsHeld, OnlyAsked, in_context, seen};
 ghost use Rattle.ring_wants.specs.Prelude.{calls_in, home_in, is_running, shown_at};
 ghost use Rattle.run_model.specs.Cursors.{bucket_at as model_bucket_at};
 
@@ -76,7 +77,7 @@ pub(crate) fn bucket_of<R: Rings<Stored> + Drop>(
 ) -> Option<BucketId>
     requires cursor { c < 9 }
     requires held { IsHeld store.old instance.now call.now }
-    ensures at { (around : ContextView) → shown_at (calls_in around call.now) (bucket_at store.new) result ≡ model_bucket_at (spot (seen store.old around instance.now call.now) c) }
+    ensures at { (view : ContextView) → shown_at (calls_in view call.now) (bucket_at store.new) result ≡ model_bucket_at (at_cursor (seen store.old view instance.now call.now) c) }
     ensures there { IfSome result (λ id. is_some (brigade_of store.new id) ≡ true) }
     ensures asked { OnlyAsked store.old store.new }
 {
@@ -113,7 +114,7 @@ pub(crate) fn want_home<R: Rings<Stored> + Drop>(
 ) -> Option<FaultKind>
     requires cursor { c < 9 }
     requires held { IsHeld store.old instance.now call.now }
-    ensures value { (pools : Pools Payload) (around : ContextView) → result ≡ fault_want (seen store.old (in_context context.now pools around) instance.now call.now) (WHome c) }
+    ensures value { (pools : Pools Payload) (view : ContextView) → result ≡ fault_want (seen store.old (in_context context.now pools view) instance.now call.now) (WHome c) }
     ensures asked { OnlyAsked store.old store.new }
 {
     let bucket = bucket_of(instance, call, store, c);

@@ -17,13 +17,13 @@ fn place_fault_at<R: Rings<Stored> + Drop>(
     call: &Call,
     store: &mut Brigades<R>,
     need: Need,
-    spot: Place,
+    at_cursor: Place,
 ) -> Option<FaultKind>
-    requires { IsInBrigade (brigade_of store.old) instance.now call.now spot }
-    ensures value { (around : ContextView) → result ≡ place_fault (seen store.old around instance.now call.now) (need_of need) (by_birth spot) }
+    requires { IsInBrigade (brigade_of store.old) instance.now call.now at_cursor }
+    ensures value { (view : ContextView) → result ≡ place_fault (seen store.old view instance.now call.now) (need_of need) (by_birth at_cursor) }
     ensures asked { OnlyAsked store.old store.new }
 {
-    match spot {
+    match at_cursor {
         Place::Nowhere => Some(FaultKind::F3),
         Place::Loose(_) => need.loose_fault(),
         Place::Within(b, _) => or_else(
@@ -45,9 +45,9 @@ pub(crate) fn want_cursor<R: Rings<Stored> + Drop>(
 ) -> Option<FaultKind>
     requires cursor { c < 9 }
     requires held { IsHeld store.old instance.now call.now }
-    ensures value { (around : ContextView) → result ≡ fault_want (seen store.old around instance.now call.now) (WCursor c (need_of need)) }
+    ensures value { (view : ContextView) → result ≡ fault_want (seen store.old view instance.now call.now) (WCursor c (need_of need)) }
     ensures asked { OnlyAsked store.old store.new }
 {
-    let spot = place_of(instance, call, store, c);
-    place_fault_at(instance, call, store, need, spot)
+    let at_cursor = place_of(instance, call, store, c);
+    place_fault_at(instance, call, store, need, at_cursor)
 }

@@ -1,7 +1,8 @@
 //! Where cursors stand (apr_buckets.h: a bucket, or the sentinel of a brigade, is the end of its ring).
 
 ghost use Rattle.std.specs.Prelude.{◌≡◌, ◌<◌, IfSome, ℕ};
-ghost use Rattle.ring_wants.specs.Prelude.{found_below, holder_of, bucket_spot, variable_of, spot, is_named, lists, brigade_of, ContextView, slot_at, name_in, IsHeld, WasGiven, OnlyAsked, seen_over};
+ghost use Rattle.ring_wants.specs.Prelude.{found_below, holder_of, place_of_bucket, variable_of, at_cursor, is_named, lists};
+ghost use Rattle.ring_wants.specs.Prelude.{brigade_of, ContextView, slot_at, name_in, IsHeld, WasGiven, OnlyAsked, seen_over};
 ghost use Rattle.ring_wants.specs.Prelude.{by_birth, place_of, IsInBrigade};
 
 use brigade_ops::{BrigadeId, Brigades, BucketId, Rings, Stored};
@@ -39,8 +40,8 @@ fn bucket_place<R: Rings<Stored> + Drop>(
 ) -> Place
     requires held { IsHeld store.old instance.now call.now }
     requires given { WasGiven store.old id }
-    ensures at { (next : ℕ) (around : ContextView)
-        → let r = seen_over (lists store.old) next around instance.now call.now in by_birth result ≡ place_of (bucket_spot r id.birth (holder_of r id.birth)) }
+    ensures at { (next : ℕ) (view : ContextView)
+        → let r = seen_over (lists store.old) next view instance.now call.now in by_birth result ≡ place_of (place_of_bucket r id.birth (holder_of r id.birth)) }
     ensures inside { IsInBrigade (brigade_of store.new) instance.now call.now result }
     ensures asked { OnlyAsked store.old store.new }
 {
@@ -63,7 +64,7 @@ fn end_place<R: Rings<Stored> + Drop>(
     store: &mut Brigades<R>,
     b: BrigadeId,
 ) -> Option<u8>
-    ensures at { (next : ℕ) (around : ContextView) (call : Call) → result ≡ variable_of (seen_over (lists store.old) next around instance.now call) b }
+    ensures at { (next : ℕ) (view : ContextView) (call : Call) → result ≡ variable_of (seen_over (lists store.old) next view instance.now call) b }
     ensures slot { IfSome result (λ b. b < 9) }
     ensures asked { OnlyAsked store.old store.new }
 {
@@ -84,7 +85,7 @@ pub(crate) fn place_of<R: Rings<Stored> + Drop>(
 ) -> Place
     requires cursor { c < 9 }
     requires held { IsHeld store.old instance.now call.now }
-    ensures at { (next : ℕ) (around : ContextView) → by_birth result ≡ place_of (spot (seen_over (lists store.old) next around instance.now call.now) c) }
+    ensures at { (next : ℕ) (view : ContextView) → by_birth result ≡ place_of (at_cursor (seen_over (lists store.old) next view instance.now call.now) c) }
     ensures inside { IsInBrigade (brigade_of store.new) instance.now call.now result }
     ensures asked { OnlyAsked store.old store.new }
 {

@@ -41,8 +41,8 @@ pub(crate) fn has_pool(
     tree: &mut PoolTree<Payload>,
     pool: PoolRef,
 ) -> bool
-    ensures value { (rings : ℕ → Option Items) (next : ℕ) (around : ContextView) (call : Call)
-        → result ≡ has_pool (seen_over rings next (in_context context.now (map_of tree.old) around) instance.now call) pool }
+    ensures value { (rings : ℕ → Option Items) (next : ℕ) (view : ContextView) (call : Call)
+        → result ≡ has_pool (seen_over rings next (in_context context.now (map_of tree.old) view) instance.now call) pool }
     ensures asked { TreeOnlyAsked tree.old tree.new }
 {
     is_there(tree, pool_named(instance, context, pool))
@@ -51,8 +51,8 @@ pub(crate) fn has_pool(
 /// Whether a pool is one that a pool variable names, the connection's or the open request's.
 #[tactic(auto, unfolding(ring_calls::specs::Seen::seen_over, run_model::specs::State::is_own_at))]
 fn is_own(instance: &Instance, context: &Context<'_>, name: PoolId) -> bool
-    ensures { (rings : ℕ → Option Items) (next : ℕ) (pools : Pools Payload) (around : ContextView) (call : Call)
-        → result ≡ is_own (seen_over rings next (in_context context.now pools around) instance.now call) name }
+    ensures { (rings : ℕ → Option Items) (next : ℕ) (pools : Pools Payload) (view : ContextView) (call : Call)
+        → result ≡ is_own (seen_over rings next (in_context context.now pools view) instance.now call) name }
 {
     any_names(instance, name) || name == context.conn || is_named(context.req, name)
 }
@@ -60,8 +60,8 @@ fn is_own(instance: &Instance, context: &Context<'_>, name: PoolId) -> bool
 /// Whether a home does not outlast the call, or lies in a pool of another filter.
 #[tactic(auto, unfolding(run_model::specs::Faults::is_stray, run_model::specs::State::is_own_at, ring_calls::specs::Seen::seen_over))]
 pub(crate) fn is_stray(instance: &Instance, context: &Context<'_>, home: Home) -> bool
-    ensures { (rings : ℕ → Option Items) (next : ℕ) (pools : Pools Payload) (around : ContextView) (call : Call)
-        → result ≡ is_stray (seen_over rings next (in_context context.now pools around) instance.now call) home }
+    ensures { (rings : ℕ → Option Items) (next : ℕ) (pools : Pools Payload) (view : ContextView) (call : Call)
+        → result ≡ is_stray (seen_over rings next (in_context context.now pools view) instance.now call) home }
 {
     match home {
         Home::Call(_) => true,

@@ -25,7 +25,7 @@ fn fault_of<R: Rings<Stored> + Drop>(
 ) -> Option<FaultKind>
     requires range { IsInRange want }
     requires held { IsHeld store.old instance.now call.now }
-    ensures value { (around : ContextView) → result ≡ fault_want (seen store.old (in_context context.now (map_of tree.old) around) instance.now call.now) (want_of want) }
+    ensures value { (view : ContextView) → result ≡ fault_want (seen store.old (in_context context.now (map_of tree.old) view) instance.now call.now) (want_of want) }
     ensures tree_asked { TreeOnlyAsked tree.old tree.new }
     ensures asked { OnlyAsked store.old store.new }
 {
@@ -60,7 +60,7 @@ pub fn fault<R: Rings<Stored> + Drop>(
     requires fit { fits code.now instr ≡ true }
     requires few { length code.now.brigades ≤ 8 }
     requires held { IsHeld store.old instance.now call.now }
-    ensures value { (around : ContextView) → result ≡ fault code.now (seen store.old (in_context context.now (map_of tree.old) around) instance.now call.now) instr }
+    ensures value { (view : ContextView) → result ≡ fault code.now (seen store.old (in_context context.now (map_of tree.old) view) instance.now call.now) instr }
     ensures tree_asked { TreeOnlyAsked tree.old tree.new }
     ensures asked { OnlyAsked store.old store.new }
 {

@@ -6,5 +6,5 @@ pub mod PoolMap
 pub mod Names
 pub mod Formed
 pub mod References
-pub mod Spots
+pub mod CursorPlaces
 pub mod WithEffects

@@ -23,7 +23,8 @@ use Rattle.run_model.specs.Sound.{Sound}
 use Rattle.run_model.specs.State.{Configuration, Shared, Out, pool_view, pool_named, named_at, name_in, is_own}
 use Rattle.run_model.specs.Steps.{current}
 use Rattle.model_laws.specs.AsDeclared.{AsDeclared}
-use Rattle.model_laws.specs.OpenRuns.{Phase, Due, Rests, Runs, Waits, Broken, Lasting, Standing, lasts, MayEnd, Becomes, changed_var, gone_on, LeaveShared, gone_elsewhere, answered, IsLeftAlone, GoOn}
+use Rattle.model_laws.specs.OpenRuns.{Phase, Due, Rests, Runs, Waits, Broken, Lasting, Standing, lasts}
+use Rattle.model_laws.specs.OpenRuns.{HomeMayEnd, Becomes, changed_var, gone_on, LeaveShared, gone_elsewhere, answered, IsLeftAlone, OthersGoOn}
 use Rattle.model_laws.specs.OpenRuns.{GoOnElsewhere, AnswersCall, StandsSound}
 use Rattle.model_laws.proofs.alone.Beside as model
 use Rattle.model_laws.proofs.chains.Places.{SameHandler, stays_in_handler, after_leads}
@@ -33,7 +34,7 @@ use Rattle.life_check.specs.ChainMeaning.{before}
 use Rattle.life_check.specs.Meaning.{Covers, CoversPool, ByConnection, ByMember, ByDead, ByCall, NoneLives, Between, class_has, Fits}
 use Rattle.life_check.specs.Soundness.{FitsSome}
 use Rattle.life_check.specs.Typed.{flows}
-use Rattle.life_check.proofs.alone.Means.{Lives, InCall, IsCallPlaced, RunFits, WaitFits, PhaseFits, Stands, in_phase}
+use Rattle.life_check.proofs.alone.Means.{Lives, InCall, IsCallPlaced, RunFits, WaitFits, PhaseFits, StandsAlone, in_phase}
 use Rattle.life_check.proofs.Lists.{IsSorted}
 use Rattle.life_check.proofs.Orders.{greater_fits}
 use Rattle.life_check.proofs.Pools.{same_live, pool_kept}
@@ -49,7 +50,7 @@ mapped_is change var.Null = refl
 mapped_is change var.Gone = refl
 mapped_is change (var.Live v) = refl
 
-stays_home : (l : Lasting) (r : Configuration) (h x : Home) → lasts l r h ≡ true → MayEnd l r h x → x ≡ h
+stays_home : (l : Lasting) (r : Configuration) (h x : Home) → lasts l r h ≡ true → HomeMayEnd l r h x → x ≡ h
 stays_home l r h x kept (inl same) = same
 stays_home l r h x kept (inr ended) = absurd (let both : true ≡ false = sym kept ∙ ended.0 in cc)
 
@@ -136,7 +137,7 @@ lives_kept p l r d (home.Pool n) (inr other) = or_right (is_own r n) (is_in n l.
 lives_kept p l r d home.Ended e = refl
 
 module _ (p : Program) (m : Certificate) (proper : IsModule p) (bounded : AllBounded m) where
-  waits_on : (s new : Standing) (t : GoOn s new) → StandsSound p s → WaitFits p m s.lasting s.now → WaitFits p m s.lasting (gone_on t.change t.shared t.out s.now)
+  waits_on : (s new : Standing) (t : OthersGoOn s new) → StandsSound p s → WaitFits p m s.lasting s.now → WaitFits p m s.lasting (gone_on t.change t.shared t.out s.now)
   waits_on s new t k h = record {
     placed = subst (λ (req : Option ℕ). IsCallPlaced p req s.now.pc) (sym t.left.req) h.placed;
     named = h.named;
@@ -152,22 +153,23 @@ module _ (p : Program) (m : Certificate) (proper : IsModule p) (bounded : AllBou
     fails = h.fails;
   }
 
-  left_on : (s new : Standing) (t : GoOn s new) → StandsSound p s → (known : Option ℕ → Option State) → FitsSome (Between p s.now) (known s.now.shared.req) s.now
+  left_on : (s new : Standing) (t : OthersGoOn s new) → StandsSound p s → (known : Option ℕ → Option State) → FitsSome (Between p s.now) (known s.now.shared.req) s.now
       → (let after = gone_on t.change t.shared t.out s.now in FitsSome (Between p after) (known after.shared.req) after)
   left_on s new t k known h =
       let after : Configuration = gone_on t.change t.shared t.out s.now in
       subst (λ (req : Option ℕ). FitsSome (Between p after) (known req) after) (sym t.left.req)
       (gone_on_some p s.lasting s.now t.change t.becomes t.shared t.left t.out k.sound k.declared NoneLives (none_kept s.lasting s.now) (known s.now.shared.req) h)
 
-  by_phase : (s new : Standing) (t : GoOn s new) → StandsSound p s → (f : Phase) → IsLeftAlone f → PhaseFits p m f s.lasting s.now → PhaseFits p m f s.lasting (gone_on t.change t.shared t.out s.now)
+  by_phase : (s new : Standing) (t : OthersGoOn s new) → StandsSound p s → (f : Phase) → IsLeftAlone f → PhaseFits p m f s.lasting s.now
+      → PhaseFits p m f s.lasting (gone_on t.change t.shared t.out s.now)
   by_phase s new t k Due alone h = left_on s new t k (before p m) h
   by_phase s new t k Rests alone h = left_on s new t k (resting m) h
   by_phase s new t k Runs alone h = absurd alone
   by_phase s new t k Waits alone h = waits_on s new t k h
   by_phase s new t k Broken alone h = absurd alone
 
-  pub goes_on_stand : (s new : Standing) → Stands p m s → GoOn s new → StandsSound p s → Stands p m new
-  goes_on_stand s new h t k = subst (Stands p m) (sym t.is) (by_phase s new t k s.phase t.phase h)
+  pub goes_on_stand : (s new : Standing) → StandsAlone p m s → OthersGoOn s new → StandsSound p s → StandsAlone p m new
+  goes_on_stand s new h t k = subst (StandsAlone p m) (sym t.is) (by_phase s new t k s.phase t.phase h)
 
   -- Other connections go on.
 
@@ -184,12 +186,12 @@ module _ (p : Program) (m : Certificate) (proper : IsModule p) (bounded : AllBou
         by_ref pool.Req n e = e
         by_ref (pool.Own q) n e = e
 
-  pub elsewhere_stand : (s new : Standing) → Stands p m s → GoOnElsewhere s new → Stands p m new
+  pub elsewhere_stand : (s new : Standing) → StandsAlone p m s → GoOnElsewhere s new → StandsAlone p m new
   elsewhere_stand s new h t =
       let runs : RunFits p m s.lasting s.now = in_phase p m s Runs t.phase h in
       let after : Configuration = gone_elsewhere t.next t.pools t.files t.out s.now in
       let there : RunFits p m s.lasting after = record { placed = runs.placed; named = runs.named; fits = elsewhere_some s.lasting s.now t.next t.pools t.files t.out (m.at s.now.pc) runs.fits } in
-      subst (Stands p m) (sym t.is) (subst (λ (f : Phase). PhaseFits p m f s.lasting after) (sym t.phase) there)
+      subst (StandsAlone p m) (sym t.is) (subst (λ (f : Phase). PhaseFits p m f s.lasting after) (sym t.phase) there)
 
   -- A pass is answered.
 
@@ -201,8 +203,8 @@ module _ (p : Program) (m : Certificate) (proper : IsModule p) (bounded : AllBou
   abbrev by_pass : Status → List NamedBucket → Configuration → Instr → Configuration
   by_pass t items r i = record r { instance = given_back (passed_by i) items r.instance; pc = after_pass t i r.pc }
 
-  pub answers_stand : (t : Status) (items : List NamedBucket) (s new : Standing) → Stands p m s → AnswersCall p t items s new → StandsSound p new → Stands p m new
-  answers_stand t items s new stands a k = subst (Stands p m) (sym a.is) (record { placed = placed; named = h.named; fits = fits }) where
+  pub answers_stand : (t : Status) (items : List NamedBucket) (s new : Standing) → StandsAlone p m s → AnswersCall p t items s new → StandsSound p new → StandsAlone p m new
+  answers_stand t items s new stands a k = subst (StandsAlone p m) (sym a.is) (record { placed = placed; named = h.named; fits = fits }) where
     h : WaitFits p m s.lasting s.now
     h = in_phase p m s Waits a.phase stands
 

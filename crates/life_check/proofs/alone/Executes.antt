@@ -18,7 +18,7 @@ use Rattle.run_model.specs.Steps.{Choice, Outcome, step, current}
 use Rattle.run_model.proofs.Updates.{upd_at}
 use Rattle.run_model.specs.EffectOf.{effect_of}
 use Rattle.model_laws.specs.Laws.{ChangesOnly, is_return}
-use Rattle.model_laws.specs.OpenRuns.{Phase, Rests, Runs, none_lasts, Standing, ToldOfMove, IsHarmless, executed, Attempts, Executes, StandsSound}
+use Rattle.model_laws.specs.OpenRuns.{Phase, Rests, Runs, none_lasts, Standing, ToldOfMove, IsHarmless, executed, Attempts, OpenExecutes, StandsSound}
 use Rattle.model_laws.proofs.Handlers.{LeadsWhere}
 use Rattle.model_laws.proofs.Unchanged.{step_changes_only}
 use Rattle.model_laws.proofs.chains.Places.{led, SameHandler, stays_in_handler}
@@ -29,7 +29,7 @@ use Rattle.life_check.specs.Certificates.{Certificate, AllBounded, IsBoundedSome
 use Rattle.life_check.specs.Meaning.{Covers, NoneLives, Between}
 use Rattle.life_check.specs.Soundness.{FitsSome, Lands, MeetsNeeds}
 use Rattle.life_check.specs.Typed.{IsTyped, flows, is_below, exits, leads_on}
-use Rattle.life_check.proofs.alone.Means.{Lives, InCall, IsCallPlaced, RunFits, WaitFits, PhaseFits, Stands, in_phase, Met, met_in, ready_in}
+use Rattle.life_check.proofs.alone.Means.{Lives, InCall, IsCallPlaced, RunFits, WaitFits, PhaseFits, StandsAlone, in_phase, MetAlone, met_in, ready_in}
 use Rattle.life_check.proofs.Instructions.{step_lands}
 use Rattle.life_check.proofs.Onward.{IsOnward, goes_onward, left_rests}
 use Rattle.life_check.proofs.Orders.{greater_fits}
@@ -135,7 +135,7 @@ module _ (p : Program) (m : Certificate) (proper : IsModule p) (bounded : AllBou
   -- Any instruction without a fault.
 
   abbrev KeepsLasting : ToldOfMove × Standing → Type 0
-  KeepsLasting x = IsHarmless x.0 × Stands p m x.1
+  KeepsLasting x = IsHarmless x.0 × StandsAlone p m x.1
 
   executed_stand : s.phase ≡ Runs → (i : Instr) → current p s.now.pc ≡ i → (a : State) → MeetsNeeds (Lives s.lasting s.now.shared.req) p i s.now a → leads_on m s.now.pc i (edges p i a) ≡ true
       → exits p m s.now.pc i a ≡ true
@@ -151,15 +151,15 @@ module _ (p : Program) (m : Certificate) (proper : IsModule p) (bounded : AllBou
 
 module _ (p : Program) (m : Certificate) (proper : IsModule p) (bounded : AllBounded m) (typed : IsTyped p m) where
   attempt_stands : (given : Option (List ℕ)) (s new : Standing) (told : ToldOfMove) → s.phase ≡ Runs → RunFits p m s.lasting s.now → StandsSound p s → StandsSound p new
-      → (f : Option FaultKind) → fault p s.now (current p s.now.pc) ≡ f → Attempts f p given s told new → IsHarmless told × Stands p m new
+      → (f : Option FaultKind) → fault p s.now (current p s.now.pc) ≡ f → Attempts f p given s told new → IsHarmless told × StandsAlone p m new
   attempt_stands given s new told phase runs was k None none a =
-      let met : Met p m s.lasting s.now = met_in p m s proper typed was runs in
-      subst (λ (x : ToldOfMove × Standing). IsHarmless x.0 × Stands p m x.1) a.1
+      let met : MetAlone p m s.lasting s.now = met_in p m s proper typed was runs in
+      subst (λ (x : ToldOfMove × Standing). IsHarmless x.0 × StandsAlone p m x.1) a.1
       (executed_stand p m proper bounded given s runs phase (current p s.now.pc) refl met.state (ready_in p m s proper was a.0 met) met.leads met.exits
       (subst (λ (x : ToldOfMove × Standing). StandsSound p x.1) (sym a.1) k))
   attempt_stands given s new told phase runs was k (Some kind) is a =
       absurd (let none : fault p s.now (current p s.now.pc) ≡ None = (met_in p m s proper typed was runs).faultless in let both : Some kind ≡ None = sym is ∙ none in cc)
 
-  pub executes_stand : (given : Option (List ℕ)) (s new : Standing) (told : ToldOfMove) → Stands p m s → Executes p given s told new → StandsSound p s → StandsSound p new
-      → IsHarmless told × Stands p m new
+  pub executes_stand : (given : Option (List ℕ)) (s new : Standing) (told : ToldOfMove) → StandsAlone p m s → OpenExecutes p given s told new → StandsSound p s → StandsSound p new
+      → IsHarmless told × StandsAlone p m new
   executes_stand given s new told h e was k = attempt_stands given s new told e.0 (in_phase p m s Runs e.0 h) was k (fault p s.now (current p s.now.pc)) refl e.1

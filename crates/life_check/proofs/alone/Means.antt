@@ -73,11 +73,11 @@ PhaseFits p m Runs l r = RunFits p m l r
 PhaseFits p m Waits l r = WaitFits p m l r
 PhaseFits p m Broken l r = ⊥
 
-abbrev pub Stands : Program → Certificate → Standing → Type 0
-Stands p m s = PhaseFits p m s.phase s.lasting s.now
+abbrev pub StandsAlone : Program → Certificate → Standing → Type 0
+StandsAlone p m s = PhaseFits p m s.phase s.lasting s.now
 
 -- what is known in the phase that the instance is in
-pub in_phase : (p : Program) (m : Certificate) (s : Standing) (f : Phase) → s.phase ≡ f → Stands p m s → PhaseFits p m f s.lasting s.now
+pub in_phase : (p : Program) (m : Certificate) (s : Standing) (f : Phase) → s.phase ≡ f → StandsAlone p m s → PhaseFits p m f s.lasting s.now
 in_phase p m s f is h = subst (λ (x : Phase). PhaseFits p m x s.lasting s.now) is h
 
 -- What lives through a call is outside the instance.
@@ -99,7 +99,7 @@ outside p s k named = record {
   over d target m at under (inr lasts) = absurd (let both : true ≡ false = sym under ∙ (k.others m lasts).above d target at in cc)
 
 -- The state that describes a call that runs, with what its certificate says of the next instruction.
-pub record Met (p : Program) (m : Certificate) (l : Lasting) (r : Configuration) : Type 0 where
+pub record MetAlone (p : Program) (m : Certificate) (l : Lasting) (r : Configuration) : Type 0 where
   pub state : State
   pub fits : Fits (InCall p l r) state r
   pub outside : LivesOutside r (Lives l r.shared.req)
@@ -126,7 +126,7 @@ requested p proper req pc placed wanted = elim (cases_lt pc p.init) [
   | inr le ↦ placed.serving le
 ]
 
-pub met_in : (p : Program) (m : Certificate) (s : Standing) → IsModule p → IsTyped p m → StandsSound p s → RunFits p m s.lasting s.now → Met p m s.lasting s.now
+pub met_in : (p : Program) (m : Certificate) (s : Standing) → IsModule p → IsTyped p m → StandsSound p s → RunFits p m s.lasting s.now → MetAlone p m s.lasting s.now
 met_in p m s proper typed k runs =
     let r : Configuration = s.now in
     let i : Instr = current p r.pc in
@@ -145,7 +145,7 @@ met_in p m s proper typed k runs =
     }
 
 -- what the laws of steps ask of it
-pub ready_in : (p : Program) (m : Certificate) (s : Standing) → IsModule p → StandsSound p s → lacks_names s.now (current p s.now.pc) ≡ false → (met : Met p m s.lasting s.now)
+pub ready_in : (p : Program) (m : Certificate) (s : Standing) → IsModule p → StandsSound p s → lacks_names s.now (current p s.now.pc) ≡ false → (met : MetAlone p m s.lasting s.now)
     → MeetsNeeds (Lives s.lasting s.now.shared.req) p (current p s.now.pc) s.now met.state
 ready_in p m s proper k last met = record {
   outside = met.outside;

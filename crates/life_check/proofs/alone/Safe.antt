@@ -8,14 +8,14 @@ use Rattle.life_check.specs.Certificates.{Certificate, AllBounded}
 use Rattle.life_check.specs.Typed.{IsTyped}
 use Rattle.life_check.proofs.alone.Beside.{goes_on_stand, elsewhere_stand, answers_stand}
 use Rattle.life_check.proofs.alone.Executes.{executes_stand}
-use Rattle.life_check.proofs.alone.Means.{Stands}
+use Rattle.life_check.proofs.alone.Means.{StandsAlone}
 use Rattle.life_check.proofs.alone.Starts.{opened_stands, starts_stand, calls_stand, begins_stand, ends_stand}
 
 done : (told : ToldOfMove) → told ≡ Done → IsHarmless told
 done told is = subst IsHarmless (sym is) tt
 
 module _ (p : Program) (m : Certificate) (proper : IsModule p) (bounded : AllBounded m) (typed : IsTyped p m) where
-  move_stands : (s new : Standing) (move : Move) (told : ToldOfMove) → Stands p m s → StandsSound p s → StandsSound p new → IsMove p s move told new → IsHarmless told × Stands p m new
+  move_stands : (s new : Standing) (move : Move) (told : ToldOfMove) → StandsAlone p m s → StandsSound p s → StandsSound p new → IsMove p s move told new → IsHarmless told × StandsAlone p m new
   unfolding IsMove
   move_stands s new Start told h was k t = (done told t.0, starts_stand p m proper bounded typed s new h t.1 k)
   move_stands s new (Execute given) told h was k t = executes_stand p m proper bounded typed given s new told h t was k
@@ -26,7 +26,7 @@ module _ (p : Program) (m : Certificate) (proper : IsModule p) (bounded : AllBou
   move_stands s new (Main items) told h was k t = (done told t.0, calls_stand p m proper bounded typed items s new h t.1 was k)
   move_stands s new End told h was k t = (done told t.0, ends_stand p m proper bounded typed s new h t.1 was k)
 
-  run_harmless : (s new : Standing) (moves : List Move) (told : List ToldOfMove) → Stands p m s → StandsSound p s → IsOpenRun p s moves told new → AreHarmless told
+  run_harmless : (s new : Standing) (moves : List Move) (told : List ToldOfMove) → StandsAlone p m s → StandsSound p s → IsOpenRun p s moves told new → AreHarmless told
   unfolding IsOpenRun AreHarmless
   run_harmless s new [] [] h k run = tt
   run_harmless s new [] (t ∷ told) h k run = absurd run

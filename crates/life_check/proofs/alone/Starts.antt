@@ -27,7 +27,7 @@ use Rattle.life_check.specs.ChainMeaning.{before}
 use Rattle.life_check.specs.Meaning.{ByConnection, ByCall, NoneLives, Between, FitsBrigade}
 use Rattle.life_check.specs.Soundness.{FitsSome}
 use Rattle.life_check.specs.Typed.{IsTyped, fits_between, fits_lines, main_from, request_end}
-use Rattle.life_check.proofs.alone.Means.{Lives, InCall, IsCallPlaced, Stands, in_phase}
+use Rattle.life_check.proofs.alone.Means.{Lives, InCall, IsCallPlaced, StandsAlone, in_phase}
 use Rattle.life_check.proofs.Lists.{each_of_all}
 use Rattle.life_check.proofs.Orders.{greater_fits}
 use Rattle.life_check.proofs.Standards.{resting, fits_flow, unset_differ, covers_begun}
@@ -52,7 +52,7 @@ module _ (p : Program) (m : Certificate) (proper : IsModule p) (bounded : AllBou
   fresh_fits : (r : Configuration) → FitsSome (Between p (fresh_in r)) (before p m None) (fresh_in r)
   fresh_fits r = record { sent = λ e. e; pools = λ q. refl; brigades = λ b. refl; cursors = λ c. tt; facts = λ i j e. unset_differ }
 
-  pub opened_stands : (r : Configuration) → IsOpened r → Stands p m (record { phase = Due; lasting = none_lasts; now = r })
+  pub opened_stands : (r : Configuration) → IsOpened r → StandsAlone p m (record { phase = Due; lasting = none_lasts; now = r })
   opened_stands r o =
       subst (λ (req : Option ℕ). FitsSome (Between p r) (before p m req) r) (sym o.req)
       (subst (λ (x : Configuration). FitsSome (Between p x) (before p m None) x) (opened_is r o) (fresh_fits r))
@@ -71,8 +71,8 @@ module _ (p : Program) (m : Certificate) (proper : IsModule p) (bounded : AllBou
       calm_fits (Between p r) (InCall p l new) s r (fresh_call name) new.shared pc r.out (unset s refl) (λ i j e. unset_differ)
       (covers_begun p (pool_view r) (pool_view new) (Lives l r.shared.req) refl (λ n live. live) (λ k n e. e)) (λ q n made. refl) h
 
-  pub starts_stand : (s new : Standing) → Stands p m s → (t : Starts p s new) → StandsSound p new → Stands p m new
-  starts_stand s new h t k = subst (Stands p m) (sym t.is) (record {
+  pub starts_stand : (s new : Standing) → StandsAlone p m s → (t : Starts p s new) → StandsSound p new → StandsAlone p m new
+  starts_stand s new h t k = subst (StandsAlone p m) (sym t.is) (record {
     placed = handler_placed s.now.shared.req;
     named = named_first t.name [];
     fits = fits_flow p (Lives l s.now.shared.req) (greater_fits {lives = Lives l s.now.shared.req}) after (before p m s.now.shared.req)
@@ -124,8 +124,8 @@ module _ (p : Program) (m : Certificate) (proper : IsModule p) (bounded : AllBou
   main_fits l r name next made (Some s) bound shape handed h =
       main_begins p (Lives l r.shared.req) (var.Live made) s r name next p.main (between_unset p (Some s) s bound shape refl) handed h
 
-  pub calls_stand : (items : List NamedBucket) (s new : Standing) → Stands p m s → (t : Calls p items s new) → StandsSound p s → StandsSound p new → Stands p m new
-  calls_stand items s new h t was k = subst (Stands p m) (sym t.is) (record {
+  pub calls_stand : (items : List NamedBucket) (s new : Standing) → StandsAlone p m s → (t : Calls p items s new) → StandsSound p s → StandsSound p new → StandsAlone p m new
+  calls_stand items s new h t was k = subst (StandsAlone p m) (sym t.is) (record {
     placed = record { at = proper.mains; opening = λ e. absurd (let low : p.init < p.main = proper.initial.some in omega arith); serving = λ le. t.request };
     named = named_first t.name t.waiting;
     fits = fits_flow p (Lives l s.now.shared.req) (greater_fits {lives = Lives l s.now.shared.req}) after (main_from m.ready) (m.at p.main) there.sound there.declared (bounded.at p.main) typed.serves
@@ -176,17 +176,17 @@ module _ (p : Program) (m : Certificate) (proper : IsModule p) (bounded : AllBou
       (covers_more p (pool_view r) (pool_view new) NoneLives NoneLives refl (λ n live. created_lives r.shared.conn r.shared.pools n live) (begun_named r none) (λ x l. l))
       (λ q n made. live_kept r n (given q n made)) h
 
-  pub begins_stand : (s new : Standing) → Stands p m s → Begins s new → StandsSound p s → Stands p m new
+  pub begins_stand : (s new : Standing) → StandsAlone p m s → Begins s new → StandsSound p s → StandsAlone p m new
   begins_stand s new h t k =
-      subst (Stands p m) (sym t.is)
+      subst (StandsAlone p m) (sym t.is)
       (begun_fits s.now t.none (λ q n made. (k.sound.pools.own q n made).1) m.idle
       (subst (λ (req : Option ℕ). FitsSome (Between p s.now) (resting m req) s.now) t.none (in_phase p m s Rests t.phase h)))
 
   -- A request ends.
-  pub ends_stand : (s new : Standing) → Stands p m s → Ends s new → StandsSound p s → StandsSound p new → Stands p m new
+  pub ends_stand : (s new : Standing) → StandsAlone p m s → Ends s new → StandsSound p s → StandsSound p new → StandsAlone p m new
   ends_stand s new h t was k =
       let ready : FitsSome (Between p s.now) m.ready s.now = subst (λ (req : Option ℕ). FitsSome (Between p s.now) (resting m req) s.now) t.opened (in_phase p m s Rests t.phase h) in
       let there : StandsSound p (record { phase = Rests; lasting = none_lasts; now = request_ended t.req s.now }) = subst (StandsSound p) t.is k in
-      subst (Stands p m) (sym t.is)
+      subst (StandsAlone p m) (sym t.is)
       (fits_flow p NoneLives (greater_fits {lives = NoneLives}) (request_ended t.req s.now) (request_end p m.ready) m.idle there.sound there.declared bounded.idle typed.requests
       (ended_fits p t.req s.now m.ready proper was.sound was.declared t.opened ready))

@@ -33,8 +33,8 @@ use Rattle.life_check.proofs.chains.Turning.{TopLands, StandsUnbroken, Answered,
 abbrev pub WorldStands : List Program → (ℕ → Certificate) → World → Type 0
 WorldStands chain certs w = (k : ℕ) (c : Connection) → w.conns k ≡ Some c → StandsUnbroken chain certs (w.common, c)
 
-abbrev pub Told : List Program → (ℕ → Certificate) → Answer × World → Type 0
-Told chain certs a = IsNoFault a.0 × WorldStands chain certs a.1
+abbrev pub ToldNoFault : List Program → (ℕ → Certificate) → Answer × World → Type 0
+ToldNoFault chain certs a = IsNoFault a.0 × WorldStands chain certs a.1
 
 -- What begins, comes and ends between calls. Each leaves a sound connection.
 pub record EventsLand (chain : List Program) (certs : ℕ → Certificate) : Type 0 where
@@ -79,18 +79,18 @@ module _ (chain : List Program) (certs : ℕ → Certificate) where
   -- Answers.
 
   unless_told : (k : ℕ) (w : World) (o : Option Refusal) (old new : Linked) → WorldStands chain certs w → WorldSound chain (answered k w (unless_refused o old new)).1
-      → (o ≡ None → ChainSound chain new.0 new.1 → StandsUnbroken chain certs new) → Told chain certs (answered k w (unless_refused o old new))
+      → (o ≡ None → ChainSound chain new.0 new.1 → StandsUnbroken chain certs new) → ToldNoFault chain certs (answered k w (unless_refused o old new))
   unless_told k w None old new stands sound now = (tt, put_stands k new w stands (now refl (put_sound k new w sound)))
   unless_told k w (Some r) old new stands sound now = (tt, stands)
 
-  step_told : (k : ℕ) (w : World) (a : Result Stepped Refusal × Linked) → WorldStands chain certs w → Answered chain certs a → Told chain certs (step_answered k w a)
+  step_told : (k : ℕ) (w : World) (a : Result Stepped Refusal × Linked) → WorldStands chain certs w → Answered chain certs a → ToldNoFault chain certs (step_answered k w a)
   step_told k w (Ok stepped.Went, v) stands now = (tt, put_stands k v w stands now.1)
   step_told k w (Ok (stepped.CallEnded s), v) stands now = (tt, put_stands k v w stands now.1)
   step_told k w (Ok (stepped.Fault f m pc), v) stands now = absurd now.0
   step_told k w (Err r, v) stands now = (tt, put_stands k v w stands now.1)
 
   file_told : (k : ℕ) (w : World) (c : Connection) (o : Option Refusal) (req : Option ℕ) (opening : Opening) → WorldStands chain certs w → StandsUnbroken chain certs (w.common, c)
-      → Told chain certs (file_answered k w (file_answer o req opening (w.common, c)))
+      → ToldNoFault chain certs (file_answered k w (file_answer o req opening (w.common, c)))
   file_told k w c (Some r) req opening stands here = (tt, stands)
   file_told k w c None None opening stands here = (tt, stands)
   file_told k w c None (Some req) Missing stands here = (tt, stands)
@@ -104,23 +104,23 @@ module _ (chain : List Program) (certs : ℕ → Certificate) where
             (here none)),
       )
 
-  added_told : (memory : Bool) (w : World) → WorldStands chain certs w → Told chain certs (adds_file memory w)
+  added_told : (memory : Bool) (w : World) → WorldStands chain certs w → ToldNoFault chain certs (adds_file memory w)
   added_told true w stands = (tt, stands)
   added_told false w stands = (tt, stands)
 
-  closed_told : (memory : Bool) (k : ℕ) (c : Connection) (w : World) → WorldStands chain certs w → Told chain certs (closes memory k c w)
+  closed_told : (memory : Bool) (k : ℕ) (c : Connection) (w : World) → WorldStands chain certs w → ToldNoFault chain certs (closes memory k c w)
   closed_told true k c w stands = (tt, gone_stands k w stands)
   closed_told false k c w stands = (tt, stands)
 
   module _ (proper : IsChain chain) (top : TopLands chain certs) (events : EventsLand chain certs) (memory : Bool) (budget : ℕ) (told : worlds.Told) where
-    opened_told : (o : Option Refusal) (w : World) → WorldStands chain certs w → WorldSound chain (opens_if o chain w).1 → Told chain certs (opens_if o chain w)
+    opened_told : (o : Option Refusal) (w : World) → WorldStands chain certs w → WorldSound chain (opens_if o chain w).1 → ToldNoFault chain certs (opens_if o chain w)
     opened_told (Some r) w stands sound = (tt, stands)
     opened_told None w stands sound =
         let old : World = record w { last = w.last + 1 } in
         (tt, put_stands (w.last + 1) (opened chain w.common) old stands (λ none. events.opened w.common (put_sound (w.last + 1) (opened chain w.common) old sound)))
 
     begins_told : (k : ℕ) (c : Connection) (w : World) → ChainSound chain w.common c → StandsUnbroken chain certs (w.common, c) → WorldStands chain certs w
-        → WorldSound chain (answered k w (begins memory chain (w.common, c))).1 → Told chain certs (answered k w (begins memory chain (w.common, c)))
+        → WorldSound chain (answered k w (begins memory chain (w.common, c))).1 → ToldNoFault chain certs (answered k w (begins memory chain (w.common, c)))
     unfolding begins
     begins_told k c w was here stands sound = unless_told k w _ (w.common, c) (begun chain (w.common, c)) stands sound (λ none new whole.
         let a = none_first (if_broken c.broken) _ none in
@@ -134,7 +134,7 @@ module _ (chain : List Program) (certs : ℕ → Certificate) where
     brought_stands pieces (Some req) g c is idle late was here new = events.brought pieces req g c idle is late was here new
 
     brings_told : (pieces : List Piece) (k : ℕ) (c : Connection) (w : World) → ChainSound chain w.common c → StandsUnbroken chain certs (w.common, c) → WorldStands chain certs w
-        → WorldSound chain (answered k w (brings memory chain pieces (w.common, c))).1 → Told chain certs (answered k w (brings memory chain pieces (w.common, c)))
+        → WorldSound chain (answered k w (brings memory chain pieces (w.common, c))).1 → ToldNoFault chain certs (answered k w (brings memory chain pieces (w.common, c)))
     unfolding brings
     brings_told pieces k c w was here stands sound = unless_told k w _ (w.common, c) (brought chain pieces c.req (w.common, c)) stands sound (λ none new whole.
         let a = none_first (if_broken c.broken) _ none in
@@ -149,24 +149,24 @@ module _ (chain : List Program) (certs : ℕ → Certificate) where
     over_stands (Some req) g c is idle was here new = events.over req g c idle is was here new
 
     ends_told : (k : ℕ) (c : Connection) (w : World) → ChainSound chain w.common c → StandsUnbroken chain certs (w.common, c) → WorldStands chain certs w
-        → WorldSound chain (answered k w (ends memory (w.common, c))).1 → Told chain certs (answered k w (ends memory (w.common, c)))
+        → WorldSound chain (answered k w (ends memory (w.common, c))).1 → ToldNoFault chain certs (answered k w (ends memory (w.common, c)))
     unfolding ends
     ends_told k c w was here stands sound = unless_told k w _ (w.common, c) (ended c.req (w.common, c)) stands sound (λ none new whole.
         let b = none_if (is_busy c.stack) refusal.Busy _ (none_first (if_broken c.broken) _ none) in
         over_stands c.req w.common c refl (not_busy c.stack b.0) was (here (not_broken c.broken _ none)) new)
 
     opens_file_told : (k : ℕ) (c : Connection) (w : World) → StandsUnbroken chain certs (w.common, c) → WorldStands chain certs w
-        → Told chain certs (file_answered k w (opens_file memory told.opening (w.common, c)))
+        → ToldNoFault chain certs (file_answered k w (opens_file memory told.opening (w.common, c)))
     unfolding opens_file
     opens_file_told k c w here stands = file_told k w c _ c.req told.opening stands here
 
-    opens_told : (w : World) → WorldStands chain certs w → WorldSound chain (opens memory chain w).1 → Told chain certs (opens memory chain w)
+    opens_told : (w : World) → WorldStands chain certs w → WorldSound chain (opens memory chain w).1 → ToldNoFault chain certs (opens memory chain w)
     unfolding opens
     opens_told w stands sound = opened_told _ w stands sound
 
     -- an event of a connection that is there
     there_told : (e : Event) (k : ℕ) (c : Connection) (w : World) → w.conns k ≡ Some c → WorldSound chain w → WorldStands chain certs w
-        → WorldSound chain (happens_on memory budget chain told e k (Some c) w).1 → Told chain certs (happens_on memory budget chain told e k (Some c) w)
+        → WorldSound chain (happens_on memory budget chain told e k (Some c) w).1 → ToldNoFault chain certs (happens_on memory budget chain told e k (Some c) w)
     unfolding happens_on
     there_told event.Open k c w at was stands sound = opens_told w stands sound
     there_told (event.AddFile name bytes) k c w at was stands sound = added_told memory w stands
@@ -187,7 +187,7 @@ module _ (chain : List Program) (certs : ℕ → Certificate) where
 
     -- one of a connection that is not
     nowhere_told : (e : Event) (k : ℕ) (w : World) → WorldStands chain certs w → WorldSound chain (happens_on memory budget chain told e k None w).1
-        → Told chain certs (happens_on memory budget chain told e k None w)
+        → ToldNoFault chain certs (happens_on memory budget chain told e k None w)
     unfolding happens_on
     nowhere_told event.Open k w stands sound = opens_told w stands sound
     nowhere_told (event.AddFile name bytes) k w stands sound = added_told memory w stands
@@ -195,8 +195,8 @@ module _ (chain : List Program) (certs : ℕ → Certificate) where
     nowhere_told e k w stands sound = (tt, stands)
 
     pub happens_told : (e : Event) (k : ℕ) (w : World) → WorldSound chain w → WorldStands chain certs w → WorldSound chain (happens memory budget chain told k e w).1
-        → Told chain certs (happens memory budget chain told k e w)
+        → ToldNoFault chain certs (happens memory budget chain told k e w)
     happens_told e k w was stands sound = by_conn (w.conns k) refl sound where
-      by_conn : (o : Option Connection) → w.conns k ≡ o → WorldSound chain (happens_on memory budget chain told e k o w).1 → Told chain certs (happens_on memory budget chain told e k o w)
+      by_conn : (o : Option Connection) → w.conns k ≡ o → WorldSound chain (happens_on memory budget chain told e k o w).1 → ToldNoFault chain certs (happens_on memory budget chain told e k o w)
       by_conn None at new = nowhere_told e k w stands new
       by_conn (Some c) at new = there_told e k c w at was stands new

@@ -32,7 +32,7 @@ use Rattle.life_check.proofs.Pools.{brigade_more, fits_beside}
 use Rattle.life_check.proofs.Standards.{fits_flow, aside_from, fits_aside}
 use Rattle.life_check.proofs.chains.Others.{lives_left, waits_left, rests_left}
 use Rattle.life_check.proofs.chains.Outside.{nested_below}
-use Rattle.life_check.proofs.chains.Top.{Met, next_of, placed_top, nested_top, waits_top, top_met, top_ready}
+use Rattle.life_check.proofs.chains.Top.{MetOnTop, next_of, placed_top, nested_top, waits_top, top_met, top_ready}
 use Rattle.life_check.proofs.chains.Touches.{Touches, touches_of}
 
 -- Where more lives.
@@ -96,7 +96,7 @@ module _ (chain : List Program) (certs : ℕ → Certificate) (g : Common) (c : 
   proper : (k : ℕ) → IsModule (module_at chain k)
   proper = module_at_proper chain chained
 
-  met : Met chain certs g c f rest
+  met : MetOnTop chain certs g c f rest
   met = top_met chain certs g c f rest proper typed sound (sound_top chain g c f rest on_top sound) stands on_top
 
   ready : MeetsNeeds (Lives c f rest) (module_at chain f.of) (next_of chain f) (configuration g c f) met.state

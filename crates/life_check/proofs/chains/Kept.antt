@@ -38,13 +38,13 @@ pub returned_mild : (call : ℕ) → IsMild (returned_bucket call)
 returned_mild call = record { names = λ x. refl; sorted = record { bytes = λ x. refl; eos = λ x. refl }; classed = λ t x. refl }
 
 -- what is covered stays so
-abbrev pub Keeps : (NamedBucket → NamedBucket) → (Home → Type 0) → Type 0
-Keeps f lives = (p : Program) (v : PoolView) (h : Homes) (x : NamedBucket) → Covers p v lives h x.bucket.home → Covers p v lives h (f x).bucket.home
+abbrev pub KeepsCovered : (NamedBucket → NamedBucket) → (Home → Type 0) → Type 0
+KeepsCovered f lives = (p : Program) (v : PoolView) (h : Homes) (x : NamedBucket) → Covers p v lives h x.bucket.home → Covers p v lives h (f x).bucket.home
 
-pub none_keeps : (lives : Home → Type 0) → Keeps (λ x. x) lives
+pub none_keeps : (lives : Home → Type 0) → KeepsCovered (λ x. x) lives
 none_keeps lives p v h x c = c
 
-pub returned_keeps : (call : ℕ) (lives : Home → Type 0) → (lives (home.Call call) → ⊥) → Keeps (returned_bucket call) lives
+pub returned_keeps : (call : ℕ) (lives : Home → Type 0) → (lives (home.Call call) → ⊥) → KeepsCovered (returned_bucket call) lives
 returned_keeps call lives not p v h x c = covers_returned p v lives call not h x.bucket.home c
 
 -- what these instances hold differs by f alone
@@ -132,7 +132,7 @@ module _ (chain : List Program) (certs : ℕ → Certificate) (g : Common) (c : 
   lives_kept w to rest (home.Pool n) (inr named) = inr (named_kept c after.1 own f rest n named)
   lives_kept w to rest home.Ended l = absurd l
 
-  pub seen_kept : (p : Program) (k : ℕ) (call : Call) (pc to : ℕ) (old new : Home → Type 0) (s : State) → IsBeside f (c.instances k) (instances k) → Keeps f old → ((x : Home) → old x → new x)
+  pub seen_kept : (p : Program) (k : ℕ) (call : Call) (pc to : ℕ) (old new : Home → Type 0) (s : State) → IsBeside f (c.instances k) (instances k) → KeepsCovered f old → ((x : Home) → old x → new x)
       → Fits (Covers p (pool_view (configuration g c (record { of = k; call = call; pc = pc }))) old) s (configuration g c (record { of = k; call = call; pc = pc }))
       → (let r = configuration after.0 after.1 (record { of = k; call = record call { loose = map f call.loose }; pc = to }) in Fits (Covers p (pool_view r) new) s r)
   unfolding configuration
@@ -151,13 +151,13 @@ module _ (chain : List Program) (certs : ℕ → Certificate) (g : Common) (c : 
         sent = beside.sent;
       }) s fits
 
-  pub frame_kept : (w : Frame) (to : ℕ) (rest : List Frame) (s : State) → IsBeside f (c.instances w.of) (instances w.of) → Keeps f (Lives c w rest)
+  pub frame_kept : (w : Frame) (to : ℕ) (rest : List Frame) (s : State) → IsBeside f (c.instances w.of) (instances w.of) → KeepsCovered f (Lives c w rest)
       → FitsFrame chain g c s w rest → FitsFrame chain after.0 after.1 s (record (touched_frame f w) { pc = to }) (map (touched_frame f) rest)
   frame_kept w to rest s beside keeps fits =
       seen_kept (module_at chain w.of) w.of w.call w.pc to (Lives c w rest) (Lives after.1 (record (touched_frame f w) { pc = to }) (map (touched_frame f) rest)) s beside keeps
       (lives_kept w to rest) fits
 
-  wait_kept : (w : Frame) (rest : List Frame) → IsBeside f (c.instances w.of) (instances w.of) → Keeps f (Lives c w rest)
+  wait_kept : (w : Frame) (rest : List Frame) → IsBeside f (c.instances w.of) (instances w.of) → KeepsCovered f (Lives c w rest)
       → WaitingFits chain certs g c w rest → WaitingFits chain certs after.0 after.1 (touched_frame f w) (map (touched_frame f) rest)
   wait_kept w rest beside keeps h = record {
     passes = h.passes;
@@ -172,12 +172,13 @@ module _ (chain : List Program) (certs : ℕ → Certificate) (g : Common) (c : 
   }
 
   -- an instance that rests
-  pub rests_kept : (k : ℕ) (o : Option State) → IsBeside f (c.instances k) (instances k) → Keeps f NoneLives → RestsIn chain g c k o → RestsIn chain after.0 after.1 k o
+  pub rests_kept : (k : ℕ) (o : Option State) → IsBeside f (c.instances k) (instances k) → KeepsCovered f NoneLives → RestsIn chain g c k o → RestsIn chain after.0 after.1 k o
   rests_kept k None beside keeps h = absurd h
   rests_kept k (Some s) beside keeps h = seen_kept (module_at chain k) k (fresh_call 0) 0 0 NoneLives NoneLives s beside keeps (λ x l. l) h
 
   -- The calls that wait, of modules below one. Away: what they ask of f.
-  module _ (Away : List Frame → Type 0) (tail : (w : Frame) (rest : List Frame) → Away (w ∷ rest) → Away rest) (keeps : (w : Frame) (rest : List Frame) → Away (w ∷ rest) → Keeps f (Lives c w rest))
+  module _ (Away : List Frame → Type 0) (tail : (w : Frame) (rest : List Frame) → Away (w ∷ rest) → Away rest) (keeps : (w : Frame) (rest : List Frame) → Away (w ∷ rest)
+      → KeepsCovered f (Lives c w rest))
       (low : ℕ) (beside : (k : ℕ) → k < low → IsBeside f (c.instances k) (instances k)) where
     pub waits_kept : (top : Frame) (rest : List Frame) → top.of ≤ low → IsNested top rest → Away rest → AllWait chain certs g c rest → AllWait chain certs after.0 after.1 (map (touched_frame f) rest)
     unfolding AllWait IsNested

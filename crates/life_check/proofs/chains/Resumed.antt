@@ -27,7 +27,7 @@ use Rattle.life_check.proofs.Orders.{greater_fits}
 use Rattle.life_check.proofs.Standards.{fits_flow}
 use Rattle.life_check.proofs.chains.Begun.{runs_of, upd_pools, off_parts, off_from}
 use Rattle.life_check.proofs.chains.Given.{given_fits}
-use Rattle.life_check.proofs.chains.Kept.{Keeps, returned_mild, returned_keeps, turned, lives_kept, seen_kept, waits_kept}
+use Rattle.life_check.proofs.chains.Kept.{KeepsCovered, returned_mild, returned_keeps, turned, lives_kept, seen_kept, waits_kept}
 use Rattle.life_check.proofs.chains.Returned.{not_rising, returned, returned_here, returned_there, returned_own, returned_beside, all_rest}
 use Rattle.life_check.proofs.chains.Spared.{mapped}
 
@@ -71,7 +71,7 @@ module _ (chain : List Program) (certs : ℕ → Certificate) (g : Common) (c : 
     unfolding IsNested
     above = nested.0
 
-    keeps : (v : Frame) (more : List Frame) → (IsCallIn (v ∷ more) f.call.name → ⊥) → Keeps ends (Lives c v more)
+    keeps : (v : Frame) (more : List Frame) → (IsCallIn (v ∷ more) f.call.name → ⊥) → KeepsCovered ends (Lives c v more)
     keeps v more away = returned_keeps f.call.name (Lives c v more) away
 
     -- Who waited.

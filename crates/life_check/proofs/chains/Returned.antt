@@ -24,7 +24,7 @@ use Rattle.life_check.proofs.Onward.{left_rests}
 use Rattle.life_check.proofs.Orders.{greater_fits}
 use Rattle.life_check.proofs.Passes.{law_ret}
 use Rattle.life_check.proofs.Standards.{resting, fits_under}
-use Rattle.life_check.proofs.chains.Kept.{IsBeside, Keeps, returned_mild, returned_keeps, returned_mapped, refits, turned, rests_kept}
+use Rattle.life_check.proofs.chains.Kept.{IsBeside, KeepsCovered, returned_mild, returned_keeps, returned_mapped, refits, turned, rests_kept}
 
 -- what comes later in the queue is not this one
 pub not_rising : (k j : ℕ) (queue : List ℕ) → IsRising k queue → j ≤ k → is_in j queue ≡ false
@@ -71,7 +71,7 @@ module _ (chain : List Program) (certs : ℕ → Certificate) (g : Common) (c : 
   }
 
   -- nothing lives between calls, and so nothing ends with one
-  none_returned : Keeps (returned_bucket f.call.name) NoneLives
+  none_returned : KeepsCovered (returned_bucket f.call.name) NoneLives
   none_returned = returned_keeps f.call.name NoneLives (λ l. l)
 
   -- What rests, whatever the others do.

@@ -30,7 +30,7 @@ abbrev pub next_of : List Program → Frame → Instr
 next_of chain f = current (module_at chain f.of) f.pc
 
 -- The state that describes the call, with what its certificate says of the instruction.
-pub record Met (chain : List Program) (certs : ℕ → Certificate) (g : Common) (c : Connection) (f : Frame) (rest : List Frame) : Type 0 where
+pub record MetOnTop (chain : List Program) (certs : ℕ → Certificate) (g : Common) (c : Connection) (f : Frame) (rest : List Frame) : Type 0 where
   pub state : State
   pub given : (certs f.of).at f.pc ≡ Some state
   pub fits : FitsFrame chain g c state f rest
@@ -65,7 +65,7 @@ module _ (chain : List Program) (certs : ℕ → Certificate) (g : Common) (c : 
 
   -- sounds: what the call sees is sound
   pub top_met : ((k : ℕ) → IsModule (module_at chain k)) → AllTyped chain certs → ChainSound chain g c → Sound (configuration g c f) → ChainStands chain certs g c → c.stack ≡ f ∷ rest
-      → Met chain certs g c f rest
+      → MetOnTop chain certs g c f rest
   unfolding configuration
   top_met proper typed sound sounds stands top =
       let p = module_at chain f.of in
@@ -94,7 +94,7 @@ module _ (chain : List Program) (certs : ℕ → Certificate) (g : Common) (c : 
 
   -- what the laws of steps ask of it
   pub top_ready : ((k : ℕ) → IsModule (module_at chain k)) → ChainSound chain g c → Sound (configuration g c f) → lacks_names (configuration g c f) (next_of chain f) ≡ false
-      → (m : Met chain certs g c f rest) → MeetsNeeds (Lives c f rest) (module_at chain f.of) (next_of chain f) (configuration g c f) m.state
+      → (m : MetOnTop chain certs g c f rest) → MeetsNeeds (Lives c f rest) (module_at chain f.of) (next_of chain f) (configuration g c f) m.state
   unfolding configuration
   top_ready proper sound sounds last m = record {
     outside = m.outside;

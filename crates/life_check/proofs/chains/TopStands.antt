@@ -28,7 +28,7 @@ use Rattle.life_check.specs.Typed.{flows, exits, leads_on}
 use Rattle.life_check.proofs.chains.Ended.{ended_stands, called_stands}
 use Rattle.life_check.proofs.chains.Handed.{handed_stands}
 use Rattle.life_check.proofs.chains.Resumed.{resumed_stands}
-use Rattle.life_check.proofs.chains.Top.{next_of, Met, placed_top, nested_top, waits_top, top_met, top_ready}
+use Rattle.life_check.proofs.chains.Top.{next_of, MetOnTop, placed_top, nested_top, waits_top, top_met, top_ready}
 use Rattle.life_check.proofs.chains.TopStays.{is_in_place, top_stays}
 
 -- a connection that stands where it is sound
@@ -44,7 +44,7 @@ module _ (chain : List Program) (reads : Reads) (certs : ℕ → Certificate) (g
   placed : IsFramePlaced chain c.req f
   placed = placed_top chain certs g c f rest sound may.on_top
 
-  met : Met chain certs g c f rest
+  met : MetOnTop chain certs g c f rest
   met = top_met chain certs g c f rest proper typed sound (sound_top chain g c f rest may.on_top sound) stands may.on_top
 
   ready : (i : Instr) → next_of chain f ≡ i → MeetsNeeds (Lives c f rest) (module_at chain f.of) i (configuration g c f) met.state

@@ -24,7 +24,7 @@ use Rattle.run_model.specs.Sound.{brigade_pool, Sound}
 use Rattle.run_model.specs.State.{Configuration, Shared, Out, named_at, name_in, is_named, is_own_at, is_own, pool_named, items_of}
 use Rattle.run_model.proofs.Names.{count_map, Fewer, fewer_same}
 use Rattle.model_laws.specs.AsDeclared.{AsDeclared}
-use Rattle.model_laws.specs.OpenRuns.{Lasting, lasts, MayTurn, MayEnd, Becomes, changed_var, gone_on, LeaveShared, gone_elsewhere, IsOthers}
+use Rattle.model_laws.specs.OpenRuns.{Lasting, lasts, MayTurn, HomeMayEnd, Becomes, changed_var, gone_on, LeaveShared, gone_elsewhere, IsOthers}
 use Rattle.model_laws.proofs.AsDeclared.{same_live, named_same, kept, same_vars}
 use Rattle.model_laws.proofs.NamesStay.{names_stay, keeps_slots}
 use Rattle.model_laws.proofs.StepBuckets.{IsProper, ProperList, none_proper, keeps_buckets, same_buckets}
@@ -69,7 +69,7 @@ ends_too k h x is ne e = absurd e
 free_lasts : (l : Lasting) (r : Configuration) (h : Home) → lasts l r h ≡ false → h ≡ home.Free → ⊥
 free_lasts l r h off is = (let both : true ≡ false = sym (ap (lasts l r) is) ∙ off in cc)
 
-home_becomes : (l : Lasting) (r : Configuration) (k : Kind) (h x : Home) → MayEnd l r h x → LivesAs k h → LivesAs k x
+home_becomes : (l : Lasting) (r : Configuration) (k : Kind) (h x : Home) → HomeMayEnd l r h x → LivesAs k h → LivesAs k x
 home_becomes l r k h x (inl same) e = subst (LivesAs k) (sym same) e
 home_becomes l r k h x (inr ended) e = ends_too k h x ended.1 (free_lasts l r h ended.0) e
 

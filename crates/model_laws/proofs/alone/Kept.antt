@@ -20,7 +20,7 @@ use Rattle.run_model.proofs.Sums.{all_none}
 use Rattle.model_laws.specs.AsDeclared.{AsDeclared}
 use Rattle.model_laws.specs.Laws.{MayExecute}
 use Rattle.model_laws.specs.OpenRuns.{Phase, Due, none_lasts, Standing, Move, Start, Execute, Answer, Others, Elsewhere, Begin, Main, End, ToldOfMove, executed, Attempts, IsOthers, IsMove, IsOpenRun}
-use Rattle.model_laws.specs.OpenRuns.{IsOpened, StandsSound, OpenRunsStaySound, Starts, Begins, Calls, AnswersCall, GoOn, GoOnElsewhere, Ends}
+use Rattle.model_laws.specs.OpenRuns.{IsOpened, StandsSound, OpenRunsStaySound, Starts, Begins, Calls, AnswersCall, OthersGoOn, GoOnElsewhere, Ends}
 use Rattle.model_laws.proofs.AsDeclared.{kept, same_vars, step_declared}
 use Rattle.model_laws.proofs.EventsKeep.{may_execute}
 use Rattle.model_laws.proofs.NamesStay.{names_stay, keeps_slots}
@@ -115,7 +115,7 @@ module _ (p : Program) (s new : Standing) (k : StandsSound p s) where
     others = λ n lasts. (let o = m.others n lasts in record { live = o.live; above = o.above; under = o.under });
   })
 
-  goes_on_kept : GoOn s new → StandsSound p new
+  goes_on_kept : OthersGoOn s new → StandsSound p new
   goes_on_kept m = subst (StandsSound p) (sym m.is) (record {
     sound = gone_on_sound p s.lasting s.now m.change m.becomes m.shared m.left m.out k.sound k.declared;
     declared = gone_on_declared p s.lasting s.now m.change m.becomes m.shared m.left m.out k.sound k.declared;

@@ -10,7 +10,7 @@ use Rattle.run_model.specs.declared.payload.Payload.TheVariants.{FileRef}
 use Rattle.run_model.specs.Pools.{Pools, is_under, created, destroyed, registered}
 use Rattle.run_model.specs.RunOrder.{killed}
 use Rattle.run_model.specs.Clearing.{run_down}
-use Rattle.run_model.specs.Cursors.{Place, spot}
+use Rattle.run_model.specs.Cursors.{Place, at_cursor}
 use Rattle.run_model.specs.Effects.{all_referred, label_killed, label_registered, made_on, new_ref, saved_into, text_of, with_brigade}
 use Rattle.run_model.specs.BucketSteps.{aside_into}
 use Rattle.run_model.specs.Sound.{SoundPools}
@@ -98,7 +98,7 @@ module _ (root : ℕ) where
     step_bare choice (instr.BCreate o) bare = with_brigade_bare (pool_named r (pool_of_brigade p o)) r.shared.next r.shared.pools (λ n is. named_after (pool_of_brigade p o) n is) bare
     step_bare choice (instr.BSave o b) bare = on_named Bares (saved_into o b) (made_on (r.instance.brigades o)) r bare (λ n is.
         referred_bare n (filter_map (new_ref r.shared.pools n) (items_of (r.instance.brigades b))) r.shared.pools (let le = brigade_newer p r s d o n is in omega arith) bare)
-    step_bare choice (instr.Aside c q) bare = on_named Bares (aside_into (spot r c)) (pool_named r q) r bare (λ n is. aside_bare (spot r c) n r (named_after q n is) bare)
+    step_bare choice (instr.Aside c q) bare = on_named Bares (aside_into (at_cursor r c)) (pool_named r q) r bare (λ n is. aside_bare (at_cursor r c) n r (named_after q n is) bare)
     step_bare choice i bare = ap (λ (ps : Pools Payload). ps.payloads root) ((step_changes_only p choice i r).tree refl) ∙ bare
 
   -- Events.

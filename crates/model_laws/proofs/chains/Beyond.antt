@@ -22,7 +22,7 @@ use Rattle.run_model.specs.Steps.{Choice, answer_to}
 use Rattle.run_model.specs.Turns.{begun, all_called}
 use Rattle.run_model.proofs.EachBucket.{only_one}
 use Rattle.run_model.proofs.Names.{count_none, count_cons}
-use Rattle.run_model.proofs.Spots.{named_is}
+use Rattle.run_model.proofs.CursorPlaces.{named_is}
 use Rattle.run_model.proofs.Sums.{term_below, two_below}
 use Rattle.run_model.proofs.Updates.{upd_off}
 use Rattle.model_laws.proofs.CursorNames.{found_there}

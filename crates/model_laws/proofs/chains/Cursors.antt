@@ -5,7 +5,7 @@ use Rattle.model_laws.specs.ChainCursors.{HoldsGiven, CursorsGiven, WorldCursors
 use Rattle.model_laws.specs.KeptInRuns.{KeptInRuns}
 use Rattle.run_model.specs.Chains.{configuration}
 use Rattle.model_laws.proofs.CursorNames.{step_cursors}
-use Rattle.model_laws.proofs.CursorSpots.{cursors_stand_once}
+use Rattle.model_laws.proofs.CursorPlaceLaws.{cursors_stand_once}
 use Rattle.model_laws.proofs.chains.Views.{sound_of, sound_resting}
 use Rattle.model_laws.proofs.chains.EachCall.{MayGo, KeepsCall, each_call_kept}
 use Rattle.model_laws.proofs.chains.WorldKept.{run_keeps_world, turns_in_runs}

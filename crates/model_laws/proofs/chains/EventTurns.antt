@@ -44,8 +44,8 @@ pub data EventTurn (chain : List Program) (Lengths : ℕ → Type 0) (g : Common
   -- a request ends
   Ended : (req : ℕ) → c.broken ≡ None → c.stack ≡ [] → c.req ≡ Some req → EventTurn chain Lengths g c (request_over req (g, c))
 
-pub Same : {chain : List Program} {Lengths : ℕ → Type 0} {g : Common} {c : Connection} → EventTurn chain Lengths g c (g, c)
-Same {c = c} = Stood c.out c.broken
+pub SameTurn : {chain : List Program} {Lengths : ℕ → Type 0} {g : Common} {c : Connection} → EventTurn chain Lengths g c (g, c)
+SameTurn {c = c} = Stood c.out c.broken
 
 -- the output is taken
 pub Drained : {chain : List Program} {Lengths : ℕ → Type 0} {g : Common} {c : Connection} → EventTurn chain Lengths g c (g, record c { out = record c.out { bytes = [] } })
@@ -65,7 +65,7 @@ no_request (Some n) h = absurd (cc)
 
 module _ (chain : List Program) (Lengths : ℕ → Type 0) (g : Common) (c : Connection) where
   unless : (o : Option Refusal) (new : Linked) → (o ≡ None → EventTurn chain Lengths g c new) → EventTurn chain Lengths g c (unless_refused o (g, c) new).1
-  unless o new made = unless_so (EventTurn chain Lengths g c) o (g, c) new Same made
+  unless o new made = unless_so (EventTurn chain Lengths g c) o (g, c) new SameTurn made
 
   pub begins_turn : (memory : Bool) → EventTurn chain Lengths g c (begins memory chain (g, c)).1
   unfolding begins
@@ -79,7 +79,7 @@ module _ (chain : List Program) (Lengths : ℕ → Type 0) (g : Common) (c : Con
 
   brought_turn : (pieces : List Piece) (req : Option ℕ) → c.req ≡ req → c.broken ≡ None → c.stack ≡ [] → list_any (lacks_file c.files) pieces ≡ false → g.next + (2 + length pieces) < 2 ^ 64
       → EventTurn chain Lengths g c (brought chain pieces req (g, c))
-  brought_turn pieces None is whole idle there last = Same
+  brought_turn pieces None is whole idle there last = SameTurn
   brought_turn pieces (Some req) is whole idle there last = Brought pieces req whole idle is there last
 
   pub brings_turn : (memory : Bool) (pieces : List Piece) → EventTurn chain Lengths g c (brings memory chain pieces (g, c)).1
@@ -96,10 +96,10 @@ module _ (chain : List Program) (Lengths : ℕ → Type 0) (g : Common) (c : Con
   file_turn : (o : Option Refusal) (req : Option ℕ) (opening : Opening) → c.req ≡ req → OpensAs Lengths (file_answer o req opening (g, c)).0
       → (o ≡ None → (c.broken ≡ None) × (c.stack ≡ []) × (is_spent (number_given g opening) 1 ≡ false))
       → EventTurn chain Lengths g c (file_answer o req opening (g, c)).1
-  file_turn (Some r) req opening is told known = Same
-  file_turn None None opening is told known = Same
-  file_turn None (Some req) Missing is told known = Same
-  file_turn None (Some req) Failing is told known = Same
+  file_turn (Some r) req opening is told known = SameTurn
+  file_turn None None opening is told known = SameTurn
+  file_turn None (Some req) Missing is told known = SameTurn
+  file_turn None (Some req) Failing is told known = SameTurn
   file_turn None (Some req) (Found skipped bytes) is told known = (let k = known refl in FileTaken req (g.file + skipped) bytes k.0 k.1 is told (omega arith) k.2)
 
   pub opens_file_turn : (memory : Bool) (opening : Opening) → OpensAs Lengths (opens_file memory opening (g, c)).0 → EventTurn chain Lengths g c (opens_file memory opening (g, c)).1
@@ -114,7 +114,7 @@ module _ (chain : List Program) (Lengths : ℕ → Type 0) (g : Common) (c : Con
       (not_broken c.broken _ none, not_busy c.stack b.0, i.0))
 
   ended_turn : (req : Option ℕ) → c.req ≡ req → c.broken ≡ None → c.stack ≡ [] → EventTurn chain Lengths g c (ended req (g, c))
-  ended_turn None is whole idle = Same
+  ended_turn None is whole idle = SameTurn
   ended_turn (Some req) is whole idle = Ended req whole idle is
 
   pub ends_turn : (memory : Bool) → EventTurn chain Lengths g c (ends memory (g, c)).1
@@ -126,6 +126,6 @@ module _ (chain : List Program) (Lengths : ℕ → Type 0) (g : Common) (c : Con
 
   pub steps_turn : IsChain chain → (memory : Bool) (budget : ℕ) (reads : Reads) → EventTurn chain Lengths g c (steps memory budget chain reads (g, c)).1
   steps_turn chained memory budget reads =
-      step_cases (EventTurn chain Lengths g c) memory budget chain reads g c Same (λ k other. Stood c.out (Some k)) (λ f rest k whole top is. Stood c.out (Some cause.Faulted))
+      step_cases (EventTurn chain Lengths g c) memory budget chain reads g c SameTurn (λ k other. Stood c.out (Some k)) (λ f rest k whole top is. Stood c.out (Some cause.Faulted))
       (λ f rest whole few ready. Went reads f rest whole
       (record { chained = chained; on_top = ready.on_top; faultless = ready.faultless; names_last = ready.names_last; calls_last = ready.calls_last }))

@@ -17,7 +17,7 @@ use Rattle.run_model.specs.Payloads.{is_label}
 use Rattle.run_model.specs.Buckets.{cleared_bucket}
 use Rattle.run_model.specs.Clearing.{run_down}
 use Rattle.run_model.specs.State.{Configuration, items_of, pool_named, set_pool, with_pools, set_brigade}
-use Rattle.run_model.specs.Cursors.{Place, spot}
+use Rattle.run_model.specs.Cursors.{Place, at_cursor}
 use Rattle.run_model.specs.BucketSteps.{aside_into}
 use Rattle.run_model.specs.Steps.{Choice, with_brigade, all_referred, step, current, on_pool, label_registered, label_killed, text_of, saved_into, made_on, new_ref, pool_cleared, pool_destroyed}
 use Rattle.run_model.specs.Pieces.{has_range}
@@ -89,7 +89,8 @@ touched_held p choice (instr.BSave o b) r formed x h = on_named (LeavesUnseen r 
     held_so r.shared.pools (all_referred target (filter_map (new_ref r.shared.pools target) (items_of (r.instance.brigades b))) r.shared.pools)
     (λ m file there. all_grow target (filter_map (new_ref r.shared.pools target) (items_of (r.instance.brigades b))) r.shared.pools m file there) x h)
 touched_held p choice (instr.Aside c q) r formed x h =
-    on_named (LeavesUnseen r x) (aside_into (spot r c)) (pool_named r q) r h (λ target e. held_so r.shared.pools (aside_into (spot r c) target r).shared.pools (aside_grows (spot r c) target r) x h)
+    on_named (LeavesUnseen r x) (aside_into (at_cursor r c)) (pool_named r q) r h
+    (λ target e. held_so r.shared.pools (aside_into (at_cursor r c) target r).shared.pools (aside_grows (at_cursor r c) target r) x h)
 touched_held p choice i r formed x h = subst (λ (ps : Pools Payload). HasReference ps x) (sym ((step_changes_only p choice i r).tree refl)) h
 
 -- Connections.

@@ -13,7 +13,7 @@ use Rattle.run_model.specs.Chains.{Frame, Connection, Common, module_at, is_last
 use Rattle.run_model.specs.Passing.{Reads, delivered, delivered_by, passed_to, returned_to, next_called, returned_from, proceeds}
 use Rattle.run_model.specs.Turns.{all_called, opened, begun}
 use Rattle.model_laws.specs.ChainSound.{WaitsAtPass}
-use Rattle.model_laws.specs.Handlers.{StandsIn, CallsBegin, CallsAfter, Stay, GoesOn, Passes, Returns, Follows, Ends, StepStaysInHandler, RunPlacesCalls}
+use Rattle.model_laws.specs.Handlers.{LiesBetween, CallsBegin, CallsAfter, Stay, GoesOn, Passes, Returns, Follows, Ends, StepStaysInHandler, RunPlacesCalls}
 use Rattle.model_laws.proofs.Unchanged.{step_changes_only}
 use Rattle.model_laws.proofs.Handlers.{LeadsWhere, code_leads}
 use Rattle.model_laws.proofs.chains.Modules.{module_at_proper}
@@ -37,8 +37,8 @@ module _ (chain : List Program) (proper : (k : ℕ) → IsModule (module_at chai
         of = refl;
         name = (step_changes_only (module_at chain f.of) choice i (configuration g c f)).call_name on;
         stays = λ from to code stands.
-            led (StandsIn from to) (module_at chain f.of) choice i (configuration g c f) f.pc on
-            (subst (LeadsWhere (StandsIn from to) f.pc) (sym is) (code_leads (module_at chain f.of) (proper f.of) from to f.pc code stands));
+            led (LiesBetween from to) (module_at chain f.of) choice i (configuration g c f) f.pc on
+            (subst (LeadsWhere (LiesBetween from to) f.pc) (sym is) (code_leads (module_at chain f.of) (proper f.of) from to f.pc code stands));
       })
 
   passed_after : (rest : List Frame) (reads : Reads) (b l : ℕ) (last : Bool) → is_last chain f.of ≡ last → instr.Pass b l ≡ current (module_at chain f.of) f.pc
@@ -59,7 +59,7 @@ module _ (chain : List Program) (proper : (k : ℕ) → IsModule (module_at chai
     of = refl;
     name = refl;
     stays = λ from to code stands.
-        after_leads (StandsIn from to) s (current (module_at chain w.of) w.pc) at.0 at.1 w.pc at.2 (code_leads (module_at chain w.of) (proper w.of) from to w.pc code stands);
+        after_leads (LiesBetween from to) s (current (module_at chain w.of) w.pc) at.0 at.1 w.pc at.2 (code_leads (module_at chain w.of) (proper w.of) from to w.pc code stands);
   })
 
   proceeds_after : (rest : List Frame) (reads : Reads) (i : Instr) → i ≡ current (module_at chain f.of) f.pc → All (WaitsAtPass chain) rest

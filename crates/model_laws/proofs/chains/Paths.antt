@@ -10,7 +10,7 @@ use Rattle.run_model.specs.Pools.{Pools, is_live, is_under, is_in, is_empty, pla
 use Rattle.run_model.specs.RunOrder.{killed}
 use Rattle.run_model.specs.Clearing.{run_down}
 use Rattle.run_model.specs.State.{Configuration, items_of, named_at, pool_named, set_pool, with_pools, set_brigade}
-use Rattle.run_model.specs.Cursors.{spot}
+use Rattle.run_model.specs.Cursors.{at_cursor}
 use Rattle.run_model.specs.BucketSteps.{aside_into}
 use Rattle.run_model.specs.Steps.{Choice, step, current, label_registered, label_killed, text_of, saved_into, made_on, new_ref, pool_cleared, pool_destroyed}
 use Rattle.run_model.specs.Sound.{SoundPools}
@@ -90,7 +90,7 @@ step_under root p choice (instr.BCreate o) r may s newer h = same_under root r.s
 step_under root p choice (instr.BSave o b) r may s newer h = on_named (PathsStay root r) (saved_into o b) (made_on (r.instance.brigades o)) r h (λ target e.
     same_under root r.shared.conn r.shared.pools _ (referred_path target (filter_map (new_ref r.shared.pools target) (items_of (r.instance.brigades b))) r.shared.pools) h)
 step_under root p choice (instr.Aside c q) r may s newer h =
-    on_named (PathsStay root r) (aside_into (spot r c)) (pool_named r q) r h (λ target e. same_under root r.shared.conn r.shared.pools _ (aside_path (spot r c) target r) h)
+    on_named (PathsStay root r) (aside_into (at_cursor r c)) (pool_named r q) r h (λ target e. same_under root r.shared.conn r.shared.pools _ (aside_path (at_cursor r c) target r) h)
 step_under root p choice i r may s newer h = same_under root r.shared.conn r.shared.pools _ (ap (λ (ps : Pools Payload). ps.path) ((step_changes_only p choice i r).tree refl)) h
 
 -- Connections.

@@ -8,11 +8,11 @@ use Rattle.module_code.specs.Program.{Program, IsModule, target}
 use Rattle.run_model.specs.Pools.{is_empty}
 use Rattle.run_model.specs.State.{Configuration, items_of}
 use Rattle.run_model.specs.BrigadeLists.{partition_answer}
-use Rattle.run_model.specs.Cursors.{spot, bucket_at, is_end, read_cursor}
+use Rattle.run_model.specs.Cursors.{at_cursor, bucket_at, is_end, read_cursor}
 use Rattle.run_model.specs.BucketSteps.{byte_of, content_at, is_incomplete, is_unread, is_unsplit, items_at, kind_is}
 use Rattle.run_model.specs.Steps.{Choice, step, jumps_if, is_null, is_fail, value_of, is_full, current}
 use Rattle.model_laws.specs.Laws.{is_return}
-use Rattle.model_laws.specs.Handlers.{StandsIn}
+use Rattle.model_laws.specs.Handlers.{LiesBetween}
 use Rattle.run_model.specs.Chains.{led_to}
 use Rattle.run_model.specs.Passing.{after_pass}
 use Rattle.model_laws.proofs.Handlers.{LeadsWhere, current_at, code_leads, side}
@@ -27,11 +27,11 @@ led P p choice (instr.BPart b x c l) r pc on placed =
     branch P (instr.BPart b x c l) l pc (is_incomplete (partition_answer r.shared.next (value_of r x) (items_at r b))) placed.jump (placed.next refl) refl
 led P p choice (instr.JEmpty b l) r pc on placed = branch P (instr.JEmpty b l) l pc (is_empty (items_of (r.instance.brigades b))) placed.jump (placed.next refl) refl
 led P p choice (instr.Pass b l) r pc on placed = branch P (instr.Pass b l) l pc (is_fail choice.answer) placed.jump (placed.next refl) refl
-led P p choice (instr.JEnd c l) r pc on placed = branch P (instr.JEnd c l) l pc (is_end (spot r c)) placed.jump (placed.next refl) refl
-led P p choice (instr.JKind c k l) r pc on placed = branch P (instr.JKind c k l) l pc (kind_is k (bucket_at (spot r c))) placed.jump (placed.next refl) refl
-led P p choice (instr.Split c x l) r pc on placed = branch P (instr.Split c x l) l pc (is_unsplit (value_of r x) (spot r c)) placed.jump (placed.next refl) refl
-led P p choice (instr.Read c l) r pc on placed = branch P (instr.Read c l) l pc (is_unread choice.given (spot r c)) placed.jump (placed.next refl) refl
-led P p choice (instr.Get n x l) r pc on placed = branch P (instr.Get n x l) l pc (is_none (byte_of (value_of r x) (content_at (spot r read_cursor)))) placed.jump (placed.next refl) refl
+led P p choice (instr.JEnd c l) r pc on placed = branch P (instr.JEnd c l) l pc (is_end (at_cursor r c)) placed.jump (placed.next refl) refl
+led P p choice (instr.JKind c k l) r pc on placed = branch P (instr.JKind c k l) l pc (kind_is k (bucket_at (at_cursor r c))) placed.jump (placed.next refl) refl
+led P p choice (instr.Split c x l) r pc on placed = branch P (instr.Split c x l) l pc (is_unsplit (value_of r x) (at_cursor r c)) placed.jump (placed.next refl) refl
+led P p choice (instr.Read c l) r pc on placed = branch P (instr.Read c l) l pc (is_unread choice.given (at_cursor r c)) placed.jump (placed.next refl) refl
+led P p choice (instr.Get n x l) r pc on placed = branch P (instr.Get n x l) l pc (is_none (byte_of (value_of r x) (content_at (at_cursor r read_cursor)))) placed.jump (placed.next refl) refl
 led P p choice (instr.Put x l) r pc on placed = branch P (instr.Put x l) l pc (is_full r x) placed.jump (placed.next refl) refl
 led P p choice (instr.JLt n x l) r pc on placed = branch P (instr.JLt n x l) l pc (nat_lt (r.instance.numbers n) (value_of r x)) placed.jump (placed.next refl) refl
 led P p choice (instr.JEq n x l) r pc on placed = branch P (instr.JEq n x l) l pc (r.instance.numbers n == value_of r x) placed.jump (placed.next refl) refl
@@ -57,18 +57,18 @@ stays_in_handler p pc new m lt leads = by_side (side p m pc lt) where
   main_low : p.main < length p.code
   main_low = m.serving.some
 
-  by_side : StandsIn 0 p.init pc ⊎ (StandsIn p.init p.main pc ⊎ StandsIn p.main (length p.code) pc) → SameHandler p pc new
+  by_side : LiesBetween 0 p.init pc ⊎ (LiesBetween p.init p.main pc ⊎ LiesBetween p.main (length p.code) pc) → SameHandler p pc new
   by_side (inl at) =
-      let there : StandsIn 0 p.init new = leads (StandsIn 0 p.init) (code_leads p m 0 p.init pc (inl (refl, refl)) at) in
+      let there : LiesBetween 0 p.init new = leads (LiesBetween 0 p.init) (code_leads p m 0 p.init pc (inl (refl, refl)) at) in
       let below : new < p.init = there.1 in
       record { inside = omega (arith, init_low, main_low); opening = λ h. at.1; serving = λ le. absurd (omega arith); main = λ le. absurd (omega (arith, init_low)) }
   by_side (inr (inl at)) =
-      let there : StandsIn p.init p.main new = leads (StandsIn p.init p.main) (code_leads p m p.init p.main pc (inr (inl (refl, refl))) at) in
+      let there : LiesBetween p.init p.main new = leads (LiesBetween p.init p.main) (code_leads p m p.init p.main pc (inr (inl (refl, refl))) at) in
       let low : p.init ≤ new = there.0 in
       let below : new < p.main = there.1 in
       record { inside = omega (arith, main_low); opening = λ h. absurd (omega arith); serving = λ le. at.0; main = λ le. absurd (omega arith) }
   by_side (inr (inr at)) =
-      let there : StandsIn p.main (length p.code) new = leads (StandsIn p.main (length p.code)) (code_leads p m p.main (length p.code) pc (inr (inr (refl, refl))) at) in
+      let there : LiesBetween p.main (length p.code) new = leads (LiesBetween p.main (length p.code)) (code_leads p m p.main (length p.code) pc (inr (inr (refl, refl))) at) in
       let low : p.main ≤ new = there.0 in
       let from : p.main ≤ pc = at.0 in
       record { inside = there.1; opening = λ h. absurd (omega (arith, init_low)); serving = λ le. omega (arith, init_low); main = λ le. from }
@@ -79,7 +79,7 @@ pass_in_main p pc b l m lt is = by_side (side p m pc lt) where
   at : slice_get p.code pc ≡ Some (instr.Pass b l)
   at = current_at p pc lt ∙ ap (λ (i : Instr). Some i) is
 
-  by_side : StandsIn 0 p.init pc ⊎ (StandsIn p.init p.main pc ⊎ StandsIn p.main (length p.code) pc) → p.main ≤ pc
+  by_side : LiesBetween 0 p.init pc ⊎ (LiesBetween p.init p.main pc ⊎ LiesBetween p.main (length p.code) pc) → p.main ≤ pc
   by_side (inl stands) = absurd (let no : true ≡ false = (m.opening.inside pc (instr.Pass b l) stands.0 stands.1 at).allowed in cc)
   by_side (inr (inl stands)) = absurd (let no : true ≡ false = (m.initial.inside pc (instr.Pass b l) stands.0 stands.1 at).allowed in cc)
   by_side (inr (inr stands)) = stands.0

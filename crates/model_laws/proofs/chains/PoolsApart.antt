@@ -12,7 +12,7 @@ use Rattle.run_model.specs.Pools.{Pools, is_empty, is_in, is_live, planted, crea
 use Rattle.run_model.specs.RunOrder.{killed}
 use Rattle.run_model.specs.Clearing.{run_down}
 use Rattle.run_model.specs.State.{Configuration, items_of, pool_named, set_pool, with_pools, set_brigade}
-use Rattle.run_model.specs.Cursors.{spot}
+use Rattle.run_model.specs.Cursors.{at_cursor}
 use Rattle.run_model.specs.BucketSteps.{aside_into}
 use Rattle.run_model.specs.Steps.{Choice, step, current, label_registered, label_killed, text_of, saved_into, made_on, new_ref, pool_cleared, pool_destroyed}
 use Rattle.run_model.specs.Sound.{SoundPools}
@@ -81,7 +81,7 @@ step_from p choice (instr.BCreate o) r = same_from r.shared.pools _ (brigade_pat
 step_from p choice (instr.BSave o b) r = on_named (PoolsLeft r) (saved_into o b) (made_on (r.instance.brigades o)) r (same_from r.shared.pools r.shared.pools refl) (λ target e.
     same_from r.shared.pools _ (referred_path target (filter_map (new_ref r.shared.pools target) (items_of (r.instance.brigades b))) r.shared.pools))
 step_from p choice (instr.Aside c q) r =
-    on_named (PoolsLeft r) (aside_into (spot r c)) (pool_named r q) r (same_from r.shared.pools r.shared.pools refl) (λ target e. same_from r.shared.pools _ (aside_path (spot r c) target r))
+    on_named (PoolsLeft r) (aside_into (at_cursor r c)) (pool_named r q) r (same_from r.shared.pools r.shared.pools refl) (λ target e. same_from r.shared.pools _ (aside_path (at_cursor r c) target r))
 step_from p choice i r = same_from r.shared.pools _ (ap (λ (ps : Pools Payload). ps.path) ((step_changes_only p choice i r).tree refl))
 
 -- Turns.

@@ -26,7 +26,8 @@ use Rattle.run_model.specs.BucketSteps.{items_at, bucket_read, first_read, rest_
 use Rattle.run_model.specs.Buckets.{is_dead, is_ended}
 use Rattle.run_model.specs.Chains.{Frame, Connection, Common, Linked, module_at, is_last, configuration, touched_bucket, touched_frame, put_back, stepped_in, led_to, IsChain, touched_var}
 use Rattle.run_model.specs.Chains.{touched_instance, pools_of}
-use Rattle.run_model.specs.Cursors.{Place, Nowhere, AtLoose, Within, AtEndOf, spot, bucket_at, read_cursor, loose_spot, brigade_spot, bucket_spot, end_spot, spot_of, holder_of, variable_of}
+use Rattle.run_model.specs.Cursors.{Place, Nowhere, AtLoose, Within, AtEndOf, at_cursor, bucket_at}
+use Rattle.run_model.specs.Cursors.{read_cursor, place_of_loose, place_in_brigade, place_of_bucket, place_of_end, place_of_cursor, holder_of, variable_of}
 use Rattle.run_model.specs.Cutting.{FitsKind, LivesAs, form_of, form_of_kind, read_as, read_of}
 use Rattle.run_model.specs.Effects.{do_return}
 use Rattle.run_model.specs.Faults.{InBrigade, cursor_fault, home_fault, passed_fault}
@@ -38,7 +39,7 @@ use Rattle.run_model.specs.EffectOf.{effect_of}
 use Rattle.run_model.specs.Steps.{Choice, answer_to, current, step, with_items}
 use Rattle.run_model.specs.Turns.{opened, begun, all_called}
 use Rattle.run_model.proofs.EachBucket.{of_named}
-use Rattle.run_model.proofs.Spots.{Stands, stands, named_is}
+use Rattle.run_model.proofs.CursorPlaces.{StandsThere, stands, named_is}
 use Rattle.run_model.proofs.Updates.{upd_at}
 use Rattle.model_laws.specs.ChainCursors.{HoldsGiven, CursorsGiven}
 use Rattle.model_laws.specs.ChainFiles.{OfEachBucket}
@@ -289,7 +290,7 @@ filled_items b x items var.Null is = absurd (cc)
 filled_items b x items var.Gone is = absurd (cc)
 filled_items b x items (var.Live v) is = refl
 
-read_sets : (given : Option (List ℕ)) (s : Place) (r : Configuration) → Stands r s → cursor_fault r InBrigade s ≡ None → home_fault (bucket_at s) ≡ None → (n : ℕ)
+read_sets : (given : Option (List ℕ)) (s : Place) (r : Configuration) → StandsThere r s → cursor_fault r InBrigade s ≡ None → home_fault (bucket_at s) ≡ None → (n : ℕ)
     → (do_read given s r).call.cursors read_cursor ≡ cursor.At n → HomeWasRead r (do_read given s r) n
 unfolding cursor_fault set_brigade set_cursor
 read_sets given Nowhere r there none live n e = absurd (cc)
@@ -329,7 +330,7 @@ module _ (chain : List Program) (reads : Reads) (g : Common) (c : Connection) (f
     r = configuration g c f
 
     abbrev st : Configuration
-    st = do_read (reads 0) (spot (configuration g c f) k) (configuration g c f)
+    st = do_read (reads 0) (at_cursor (configuration g c f) k) (configuration g c f)
 
     abbrev left_by : Connection
     left_by = (proceeds chain reads (instr.Read k l) f rest (g, c)).1.1
@@ -371,8 +372,8 @@ module _ (chain : List Program) (reads : Reads) (g : Common) (c : Connection) (f
     read_leaves : HomesLeft (instr.Read k l)
     unfolding proceeds stepped_in put_back StackReads
     read_leaves = (
-      λ n e. at_bucket n (read_sets (reads 0) (spot r k) r (stands r (r.call.cursors k)) (first_none (cursor_fault r InBrigade (spot r k)) _ may.faultless)
-          (first_none (home_fault (bucket_at (spot r k))) None (second_none (cursor_fault r InBrigade (spot r k)) _ may.faultless)) n e),
+      λ n e. at_bucket n (read_sets (reads 0) (at_cursor r k) r (stands r (r.call.cursors k)) (first_none (cursor_fault r InBrigade (at_cursor r k)) _ may.faultless)
+          (first_none (home_fault (bucket_at (at_cursor r k))) None (second_none (cursor_fault r InBrigade (at_cursor r k)) _ may.faultless)) n e),
       rest_stays chain reads g c f rest (instr.Read k l) may top placed named given homes stack waits (alike_touched (touched_bucket r (instr.Read k l)) rest),
     )
 
@@ -489,34 +490,34 @@ module _ (r : Configuration) (C : ℕ → Type 0) (n : ℕ) (brigades : (b : ℕ
   in_list : (xs : List NamedBucket) → All (NamedLasts n C) xs → bucket_named n xs ≡ Some x → IsNoPool C x.bucket.home
   in_list xs all is = (of_named (NamedLasts n C) n x xs is all (named_is n xs x is)).home
 
-  in_loose : (o : Option NamedBucket) → bucket_named n r.call.loose ≡ o → bucket_at (loose_spot o) ≡ Some x → IsNoPool C x.bucket.home
+  in_loose : (o : Option NamedBucket) → bucket_named n r.call.loose ≡ o → bucket_at (place_of_loose o) ≡ Some x → IsNoPool C x.bucket.home
   in_loose None is e = absurd (none_is x e)
   in_loose (Some y) is e = in_list r.call.loose loose (is ∙ e)
 
-  in_brigade : (b : ℕ) (o : Option NamedBucket) → bucket_named n (items_of (r.instance.brigades b)) ≡ o → bucket_at (brigade_spot b o) ≡ Some x → IsNoPool C x.bucket.home
+  in_brigade : (b : ℕ) (o : Option NamedBucket) → bucket_named n (items_of (r.instance.brigades b)) ≡ o → bucket_at (place_in_brigade b o) ≡ Some x → IsNoPool C x.bucket.home
   in_brigade b None is e = absurd (none_is x e)
   in_brigade b (Some y) is e = in_list (items_of (r.instance.brigades b)) (brigades b) (is ∙ e)
 
-  at_name : (o : Option ℕ) → bucket_at (bucket_spot r n o) ≡ Some x → IsNoPool C x.bucket.home
+  at_name : (o : Option ℕ) → bucket_at (place_of_bucket r n o) ≡ Some x → IsNoPool C x.bucket.home
   at_name None e = in_loose (bucket_named n r.call.loose) refl e
   at_name (Some b) e = in_brigade b (bucket_named n (items_of (r.instance.brigades b))) refl e
 
-end_at : (o : Option ℕ) (x : NamedBucket) → bucket_at (end_spot o) ≡ Some x → ⊥
+end_at : (o : Option ℕ) (x : NamedBucket) → bucket_at (place_of_end o) ≡ Some x → ⊥
 end_at None x e = none_is x e
 end_at (Some b) x e = none_is x e
 
-spot_lasts : (r : Configuration) (C : ℕ → Type 0) (v : Cursor) (x : NamedBucket)
+place_lasts : (r : Configuration) (C : ℕ → Type 0) (v : Cursor) (x : NamedBucket)
     → ((n : ℕ) → v ≡ cursor.At n → ((b : ℕ) → All (NamedLasts n C) (items_of (r.instance.brigades b))) × All (NamedLasts n C) r.call.loose)
-    → bucket_at (spot_of r v) ≡ Some x → IsNoPool C x.bucket.home
-unfolding spot_of
-spot_lasts r C cursor.Unset x all e = absurd (none_is x e)
-spot_lasts r C (cursor.At n) x all e = (let here = all n refl in at_name r C n here.0 here.1 x (holder_of r n) e)
-spot_lasts r C (cursor.End n) x all e = absurd (end_at (variable_of r n) x e)
+    → bucket_at (place_of_cursor r v) ≡ Some x → IsNoPool C x.bucket.home
+unfolding place_of_cursor
+place_lasts r C cursor.Unset x all e = absurd (none_is x e)
+place_lasts r C (cursor.At n) x all e = (let here = all n refl in at_name r C n here.0 here.1 x (holder_of r n) e)
+place_lasts r C (cursor.End n) x all e = absurd (end_at (variable_of r n) x e)
 
 reads_last : (chain : List Program) (g : Common) (c : Connection) → ReadsKept chain g c → ReadsLast g c
 unfolding configuration
 reads_last chain g c h above below f x is at =
-    spot_lasts (configuration g c f) (IsCalled (f ∷ below)) (f.call.cursors read_cursor) x
+    place_lasts (configuration g c f) (IsCalled (f ∷ below)) (f.call.cursors read_cursor) x
     (λ n e. let all = below_of c above f below (subst (StackReads c) is h.reads) n e in
     (λ b. all.brigades f.of b, all_within (λ w. All (NamedLasts n (IsCalled (f ∷ below))) w.call.loose) above f below (subst (LooseOf (NamedLasts n (IsCalled (f ∷ below)))) is all.loose))) at
 
@@ -537,4 +538,4 @@ passes_test C (Some x) all = by_home x.bucket.home (all x refl) where
 
 pub reads_pass_the_test : ReadsPassTheTest
 reads_pass_the_test budget chain es answers w chained run k c at above below f is =
-    passes_test (IsCalled (f ∷ below)) (bucket_at (spot (configuration w.common c f) read_cursor)) (λ x e. run_keeps_reads budget chain es answers w chained run k c at above below f x is e)
+    passes_test (IsCalled (f ∷ below)) (bucket_at (at_cursor (configuration w.common c f) read_cursor)) (λ x e. run_keeps_reads budget chain es answers w chained run k c at above below f x is e)

@@ -19,7 +19,7 @@ use Rattle.run_model.specs.Cutting.{FitsKind}
 use Rattle.run_model.specs.State.{Configuration, items_of, pool_named, set_pool, with_pools, set_brigade, set_loose}
 use Rattle.run_model.specs.Faults.{WCursor, OnBucket, usable_fault, homes_fault, home_fault, fault_want}
 use Rattle.run_model.specs.BrigadeLists.{bucket_named}
-use Rattle.run_model.specs.Cursors.{Place, Nowhere, AtLoose, Within, AtEndOf, bucket_at, spot}
+use Rattle.run_model.specs.Cursors.{Place, Nowhere, AtLoose, Within, AtEndOf, bucket_at, at_cursor}
 use Rattle.run_model.specs.BucketSteps.{items_at, changed_at, aside_into}
 use Rattle.run_model.specs.Steps.{Choice, step, on_pool, with_brigade, all_referred, do_return, made_on, new_ref, aside_named, saved_into, pool_cleared, pool_destroyed, label_registered, label_killed}
 use Rattle.run_model.specs.Steps.{text_of}
@@ -33,7 +33,7 @@ use Rattle.model_laws.proofs.Marks.{first_none, second_none}
 use Rattle.model_laws.proofs.MadeBrigades.{brigade_path}
 use Rattle.model_laws.proofs.NamedPools.{made_is, on_named, made_under_named}
 use Rattle.model_laws.proofs.StepPools.{aside_path, referred_path, wanted_pool, named_lives}
-use Rattle.run_model.proofs.Spots.{Stands, stands}
+use Rattle.run_model.proofs.CursorPlaces.{StandsThere, stands}
 use Rattle.run_model.proofs.EachBucket.{of_named, each_changed, only_one, loose_once, brigade_once}
 use Rattle.model_laws.proofs.Origins.{HoldsNamed, PassesOn, quiet_leaves}
 use Rattle.model_laws.proofs.Unchanged.{step_changes_only}
@@ -112,8 +112,8 @@ module _ (C : ℕ → Type 0) where
   touched_alive p choice (instr.BSave o b) r on x a = on_named (Left x) (saved_into o b) (made_on (r.instance.brigades o)) r a (λ target e.
       let refs : List ℕ = filter_map (new_ref r.shared.pools target) (items_of (r.instance.brigades b)) in
       stays r.shared.pools (all_referred target refs r.shared.pools) (same_path r.shared.pools _ (referred_path target refs r.shared.pools)) x a)
-  touched_alive p choice (instr.Aside c q) r on x a = on_named (Left x) (aside_into (spot r c)) (pool_named r q) r a
-      (λ target e. stays r.shared.pools (aside_into (spot r c) target r).shared.pools (same_path r.shared.pools _ (aside_path (spot r c) target r)) x a)
+  touched_alive p choice (instr.Aside c q) r on x a = on_named (Left x) (aside_into (at_cursor r c)) (pool_named r q) r a
+      (λ target e. stays r.shared.pools (aside_into (at_cursor r c) target r).shared.pools (same_path r.shared.pools _ (aside_path (at_cursor r c) target r)) x a)
   touched_alive p choice i r on x a = subst (λ (ps : Pools Payload). AliveAs C ps x) (sym ((step_changes_only p choice i r).tree refl)) a
 
   -- What the call sees.
@@ -171,7 +171,7 @@ module _ (C : ℕ → Type 0) where
       each_changed (AliveAs C ps) (AliveAs C ps) x.name (aside_named ps target) xs (λ y e. e)
       (λ k d lt. λ same e. subst (λ (y : NamedBucket). AliveAs C ps (aside_named ps target y)) (sym (only_one x.name x xs there once k d lt same)) (lasting ps _ (aside.there formed target_lives))) h
 
-  aside_alive : (t : Place) (target : ℕ) (r : Configuration) → Stands r t → home_fault (bucket_at t) ≡ None → is_live r.shared.pools target ≡ true → Sound r → SeenHomes r
+  aside_alive : (t : Place) (target : ℕ) (r : Configuration) → StandsThere r t → home_fault (bucket_at t) ≡ None → is_live r.shared.pools target ≡ true → Sound r → SeenHomes r
       → SeenHomes (aside_into t target r)
   unfolding set_brigade set_loose with_pools
   aside_alive Nowhere target r there live target_lives sound h = h
@@ -222,8 +222,8 @@ module _ (C : ℕ → Type 0) where
       (second_none (usable_fault (r.instance.brigades b)) _ (second_none (usable_fault (r.instance.brigades o)) _ may.faultless)))) h)
   step_alive p choice (instr.Pass b l) r on may sound named h =
       grown r _ (λ n live. live) (written_each (AliveAs C r.shared.pools) r.instance.brigades b _ (handed_over_each (AliveAs C r.shared.pools) (r.instance.brigades b)) h.brigades) h.loose
-  step_alive p choice (instr.Aside c q) r on may sound named h = on_named SeenHomes (aside_into (spot r c)) (pool_named r q) r h (λ target e.
-      aside_alive (spot r c) target r (stands r (r.call.cursors c)) (aside_live r c q may.faultless)
+  step_alive p choice (instr.Aside c q) r on may sound named h = on_named SeenHomes (aside_into (at_cursor r c)) (pool_named r q) r h (λ target e.
+      aside_alive (at_cursor r c) target r (stands r (r.call.cursors c)) (aside_live r c q may.faultless)
       (named_lives r q target (wanted_pool r q _ (second_none (fault_want r (WCursor c OnBucket)) _ may.faultless)) e) sound h)
   step_alive p choice (instr.Ret s) r on may sound named h = absurd (cc)
   step_alive p choice i r on may sound named h =

@@ -13,7 +13,7 @@ use Rattle.run_model.specs.declared.payload.Payload.{Payload}
 use Rattle.run_model.specs.Pools.{Pools, is_empty, is_live, is_under}
 use Rattle.run_model.specs.State.{Configuration, named_at, pool_named, is_own_at}
 use Rattle.run_model.specs.BucketSteps.{items_at}
-use Rattle.run_model.specs.Cursors.{spot, bucket_at, spot_of, holder_of, variable_of}
+use Rattle.run_model.specs.Cursors.{at_cursor, bucket_at, place_of_cursor, holder_of, variable_of}
 use Rattle.run_model.specs.Faults.{fault, Want, WPool, WNewPool, is_live_named, has_pool, has_pool_at, cursor_fault, is_stray, keeps_stray, fault_want, first_fault, or_else, wants}
 use Rattle.run_model.specs.Steps.{grows, made_on, names_of, pool_names_of, is_spent, lacks_names, takes_reference, takes_room}
 use Rattle.model_laws.specs.Parts.{belongs, part}
@@ -44,7 +44,7 @@ unfolding has_pool_at named_at
 has_alike c r s o = named_alike c r.shared.pools (pool_named r o) (named_under c r s o)
 
 want_alike : (c : ℕ) (r : Configuration) → LiesIn c r → (w : Want) → fault_want (in_part c r) w ≡ fault_want r w
-unfolding cursor_fault spot_of holder_of variable_of keeps_stray is_stray is_own_at
+unfolding cursor_fault place_of_cursor holder_of variable_of keeps_stray is_stray is_own_at
 want_alike c r s (WPool o) = ap (λ (t : Bool). cond t None (Some F1)) (has_alike c r s o)
 want_alike c r s (WNewPool q) = ap (λ (t : Bool). cond t (Some F10) None) (has_alike c r s (pool.Own q))
 want_alike c r s w = refl
@@ -59,7 +59,7 @@ faults_alike c p i r s = first_alike c r s (wants p i)
 -- Names.
 
 names_of_alike : (c : ℕ) (i : Instr) (r : Configuration) → names_of (in_part c r) i ≡ names_of r i
-unfolding spot_of holder_of variable_of
+unfolding place_of_cursor holder_of variable_of
 names_of_alike c (instr.PCreate q) r = refl
 names_of_alike c i r = refl
 
@@ -75,11 +75,11 @@ reference_alike c ps None items under = refl
 reference_alike c ps (Some n) items under = ap (λ (ref : NamedBucket → Option ℕ). list_any (λ x. is_some (ref x)) items) (ref_part c n ps (under n refl))
 
 room_alike : (c : ℕ) (p : Program) (i : Instr) (r : Configuration) → LiesIn c r → fault p r i ≡ None → takes_room (in_part c r) i ≡ takes_room r i
-unfolding part spot_of holder_of variable_of named_at
+unfolding part place_of_cursor holder_of variable_of named_at
 room_alike c p (instr.BSave o b) r s none =
     reference_alike c r.shared.pools (made_on (r.instance.brigades o)) (items_at r b) (λ n is. s.brigades o n (sym (made_is (r.instance.brigades o)) ∙ is))
 room_alike c p (instr.Aside at q) r s none =
-    reference_alike c r.shared.pools (pool_named r q) (option_to_list (bucket_at (spot r at))) (λ n is. wanted_under c p r s q (wanted_pool r q _ (second_want _ _ none)) n is)
+    reference_alike c r.shared.pools (pool_named r q) (option_to_list (bucket_at (at_cursor r at))) (λ n is. wanted_under c p r s q (wanted_pool r q _ (second_want _ _ none)) n is)
 room_alike c p i r s none = refl
 
 pub grows_alike : (c : ℕ) (p : Program) (i : Instr) (r : Configuration) → LiesIn c r → fault p r i ≡ None → grows (in_part c r) i ≡ grows r i

@@ -21,7 +21,7 @@ use Rattle.run_model.specs.Pools.{Pools, is_under, registered}
 use Rattle.run_model.specs.Cutting.{LivesAs, FitsKind}
 use Rattle.run_model.specs.Buckets.{is_ended, is_dead}
 use Rattle.run_model.specs.State.{Configuration, items_of, pool_named, set_brigade, set_loose, set_pool, with_pools}
-use Rattle.run_model.specs.Cursors.{Place, Nowhere, AtLoose, Within, AtEndOf, spot, bucket_at}
+use Rattle.run_model.specs.Cursors.{Place, Nowhere, AtLoose, Within, AtEndOf, at_cursor, bucket_at}
 use Rattle.run_model.specs.Effects.{is_above, file_of, new_ref, all_referred, with_brigade, saved_into, made_on, pool_cleared, pool_destroyed, label_registered, label_killed, text_of, do_pcreate}
 use Rattle.run_model.specs.BucketSteps.{aside_into, items_at}
 use Rattle.run_model.specs.declared.fault.FaultKind.{FaultKind}
@@ -31,7 +31,7 @@ use Rattle.model_laws.specs.Parts.{HasPart, Change, Made, Registered, Killed, Cl
 use Rattle.model_laws.specs.PartSteps.{OwnFiles, LiesIn}
 use Rattle.model_laws.specs.PartsLast.{IsNotDestroyed, IsOwnChange, IsHeldUnder, KeepsIn, PartKept, StepsKeepParts}
 use Rattle.run_model.proofs.EachBucket.{of_named}
-use Rattle.run_model.proofs.Spots.{Stands, stands}
+use Rattle.run_model.proofs.CursorPlaces.{StandsThere, stands}
 use Rattle.model_laws.proofs.NamedPools.{made_is, on_named, made_under_named, own_named}
 use Rattle.model_laws.proofs.StepPools.{wanted_pool, referred_path}
 use Rattle.model_laws.proofs.StepFiles.{no_dead, not_dead, one_dead, neither, aside_live}
@@ -145,7 +145,7 @@ module _ (c d : ℕ) (p : Program) (r : Configuration) (s : LiesIn c r) (k : Kee
   kept : (change : Change) (n : ℕ) → is_under r.shared.pools c n ≡ true → IsNotDestroyed change d n → IsOwnChange change c r.shared.pools → PartKept d r.shared.pools (changed change n r.shared.pools)
   kept change n under spared own = changed_kept c d r.shared.pools s.has other change n under spared own
 
-  aside_keeps : (at : Place) (target : ℕ) → Stands r at → home_fault (bucket_at at) ≡ None → is_under r.shared.pools c target ≡ true → Keeps d r.shared.pools (aside_into at target r)
+  aside_keeps : (at : Place) (target : ℕ) → StandsThere r at → home_fault (bucket_at at) ≡ None → is_under r.shared.pools c target ≡ true → Keeps d r.shared.pools (aside_into at target r)
   unfolding set_brigade set_loose with_pools
   aside_keeps (Within b x) target there live under = referred_kept c d r.shared.pools s.has other target _ under
       (refs_own c target r.shared.pools s.files (x ∷ [])
@@ -217,7 +217,7 @@ steps_keep c d p choice (instr.BSave o b) r s k other none =
     (λ n is. saved_keeps c d p r s k other o b n (no_dead (items_of (r.instance.brigades b)) (alone (homes_fault (items_of (r.instance.brigades b)))
     (second_want (usable_fault (r.instance.brigades b)) _ (second_want (usable_fault (r.instance.brigades o)) _ none)))) (s.brigades o n (sym (made_is (r.instance.brigades o)) ∙ is)))
 steps_keep c d p choice (instr.Aside at q) r s k other none =
-    on_named (Keeps d r.shared.pools) (aside_into (spot r at)) (pool_named r q) r (itself d r.shared.pools other)
-    (λ n is. aside_keeps c d p r s k other (spot r at) n (stands r (r.call.cursors at)) (aside_live r at q none) (wanted_under c p r s q (wanted_pool r q _ (second_want _ _ none)) n is))
+    on_named (Keeps d r.shared.pools) (aside_into (at_cursor r at)) (pool_named r q) r (itself d r.shared.pools other)
+    (λ n is. aside_keeps c d p r s k other (at_cursor r at) n (stands r (r.call.cursors at)) (aside_live r at q none) (wanted_under c p r s q (wanted_pool r q _ (second_want _ _ none)) n is))
 steps_keep c d p choice i r s k other none =
     subst (PartKept d r.shared.pools) (sym (quiet_pools p choice i r (quiet_alike (λ (old : Pools Payload). r.shared.pools) p choice i r refl))) (itself d r.shared.pools other)

@@ -10,7 +10,7 @@ use Rattle.run_model.specs.declared.event.Exit.{Exit}
 use Rattle.run_model.specs.declared.payload.Payload.{Payload}
 use Rattle.run_model.specs.Pools.{Pools}
 use Rattle.run_model.specs.State.{Configuration, named_at, set_brigade, set_loose, set_number, set_cursor}
-use Rattle.run_model.specs.Cursors.{Place, AtLoose, Within, spot, spot_of, holder_of, variable_of}
+use Rattle.run_model.specs.Cursors.{Place, AtLoose, Within, at_cursor, place_of_cursor, holder_of, variable_of}
 use Rattle.run_model.specs.BucketSteps.{do_next, do_unlink, do_delete, put_into, do_before, do_make, do_split, split_there, is_unsplit, do_read, read_within, read_given, got}
 use Rattle.run_model.specs.BrigadeLists.{put_before}
 use Rattle.model_laws.specs.Laws.{may_change_tree}
@@ -92,20 +92,20 @@ module _ (change : Pools Payload → Pools Payload) where
     by_test false = refl
 
   made_alike : (p : Program) (source : MadeFrom) (r : Configuration) → made_of p (amended change r) source ≡ made_of p r source
-  unfolding spot_of holder_of variable_of named_at
+  unfolding place_of_cursor holder_of variable_of named_at
   made_alike p source r = refl
 
   number_alike : (n : ℕ) (number : NewNumber) (r : Configuration) → number_of (amended change r) n number ≡ number_of r n number
-  unfolding spot_of holder_of variable_of
+  unfolding place_of_cursor holder_of variable_of
   number_alike n number r = refl
 
   exit_alike : (choice : Choice) (i : Instr) (r : Configuration) → exit_of choice i (amended change r) ≡ exit_of choice i r
-  unfolding spot_of holder_of variable_of
+  unfolding place_of_cursor holder_of variable_of
   exit_alike choice (instr.Jump l) r = refl
   exit_alike choice i r = refl
 
   run_alike : (p : Program) (choice : Choice) (e : Effect) (r : Configuration) → may_change_tree e ≡ false → do_effect p choice e (amended change r) ≡ amended change (do_effect p choice e r)
-  unfolding set_brigade set_loose set_number set_cursor spot_of holder_of variable_of named_at
+  unfolding set_brigade set_loose set_number set_cursor place_of_cursor holder_of variable_of named_at
   run_alike p choice effect.Nothing r quiet = refl
   run_alike p choice (effect.Clean b) r quiet = refl
   run_alike p choice (effect.Concat a b) r quiet = refl
@@ -113,14 +113,14 @@ module _ (change : Pools Payload → Pools Payload) where
   run_alike p choice (effect.PartBrigade b x c) r quiet = refl
   run_alike p choice (effect.Pass b) r quiet = refl
   run_alike p choice (effect.First c b) r quiet = refl
-  run_alike p choice (effect.Next d c) r quiet = next_alike d (spot r c) r
-  run_alike p choice (effect.Unlink c) r quiet = unlink_alike (spot r c) r
-  run_alike p choice (effect.Delete c) r quiet = delete_alike (spot r c) r
-  run_alike p choice (effect.Insert side b c) r quiet = put_alike (put_at side) b (spot r c) r
-  run_alike p choice (effect.Before c d) r quiet = before_alike (spot r c) (spot r d) r
+  run_alike p choice (effect.Next d c) r quiet = next_alike d (at_cursor r c) r
+  run_alike p choice (effect.Unlink c) r quiet = unlink_alike (at_cursor r c) r
+  run_alike p choice (effect.Delete c) r quiet = delete_alike (at_cursor r c) r
+  run_alike p choice (effect.Insert side b c) r quiet = put_alike (put_at side) b (at_cursor r c) r
+  run_alike p choice (effect.Before c d) r quiet = before_alike (at_cursor r c) (at_cursor r d) r
   run_alike p choice (effect.Make c source) r quiet = ap (λ (o : Option Bucket). do_make c o (amended change r)) (made_alike p source r) ∙ make_alike c (made_of p r source) r
-  run_alike p choice (effect.Split c x) r quiet = split_alike (value_of r x) (spot r c) r
-  run_alike p choice (effect.Read c) r quiet = read_alike choice.given (spot r c) r
+  run_alike p choice (effect.Split c x) r quiet = split_alike (value_of r x) (at_cursor r c) r
+  run_alike p choice (effect.Read c) r quiet = read_alike choice.given (at_cursor r c) r
   run_alike p choice (effect.Number n number) r quiet = ap (λ (o : Option ℕ). got n o (amended change r)) (number_alike n number r) ∙ got_alike n (number_of r n number) r
   run_alike p choice (effect.Put x) r quiet = into_alike x r
   run_alike p choice effect.ClearBuffer r quiet = refl

@@ -10,7 +10,7 @@ use Rattle.run_model.specs.declared.payload.Payload.TheVariants as payload
 use Rattle.run_model.specs.Payloads.{is_label}
 use Rattle.run_model.specs.Pools.{Pools, is_under, registered}
 use Rattle.run_model.specs.State.{Configuration, items_of, pool_named, set_brigade, set_loose, set_pool, with_pools}
-use Rattle.run_model.specs.Cursors.{Place, Nowhere, AtLoose, Within, AtEndOf, spot}
+use Rattle.run_model.specs.Cursors.{Place, Nowhere, AtLoose, Within, AtEndOf, at_cursor}
 use Rattle.run_model.specs.Effects.{new_ref, all_referred, with_brigade, saved_into, made_on, pool_cleared, pool_destroyed, label_registered, label_killed, text_of, do_pcreate}
 use Rattle.run_model.specs.BucketSteps.{aside_into}
 use Rattle.run_model.specs.Steps.{Choice, Outcome, step}
@@ -114,6 +114,6 @@ steps_spare c d p choice (instr.BSave o b) r s other ne none =
     on_named (SparesPart d r.shared.pools) (saved_into o b) (made_on (r.instance.brigades o)) r (itself d r)
     (λ n is. saved_spares c d p r s other ne o b n (s.brigades o n (sym (made_is (r.instance.brigades o)) ∙ is)))
 steps_spare c d p choice (instr.Aside at q) r s other ne none =
-    on_named (SparesPart d r.shared.pools) (aside_into (spot r at)) (pool_named r q) r (itself d r)
-    (λ n is. aside_spares c d p r s other ne (spot r at) n (wanted_under c p r s q (wanted_pool r q _ (second_want _ _ none)) n is))
+    on_named (SparesPart d r.shared.pools) (aside_into (at_cursor r at)) (pool_named r q) r (itself d r)
+    (λ n is. aside_spares c d p r s other ne (at_cursor r at) n (wanted_under c p r s q (wanted_pool r q _ (second_want _ _ none)) n is))
 steps_spare c d p choice i r s other ne none = stays d p choice i r (quiet_pools p choice i r (quiet_alike (λ (old : Pools Payload). r.shared.pools) p choice i r refl))

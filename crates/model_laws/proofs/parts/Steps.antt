@@ -24,7 +24,7 @@ use Rattle.run_model.specs.Clearing.{cleared_var, run_down}
 use Rattle.run_model.specs.Cutting.{set_aside}
 use Rattle.run_model.specs.Files.{Files, let_go}
 use Rattle.run_model.specs.State.{Configuration, items_of, named_at, pool_named, set_brigade, set_loose, set_pool, with_pools}
-use Rattle.run_model.specs.Cursors.{Place, Nowhere, AtLoose, Within, AtEndOf, spot, spot_of, holder_of, variable_of}
+use Rattle.run_model.specs.Cursors.{Place, Nowhere, AtLoose, Within, AtEndOf, at_cursor, place_of_cursor, holder_of, variable_of}
 use Rattle.run_model.specs.Effects.{on_pool, is_above, file_of, new_ref, all_referred, aside_named, with_items, with_brigade, saved_into, made_on, pool_cleared, pool_destroyed, label_registered}
 use Rattle.run_model.specs.Effects.{label_killed, text_of, do_pcreate, do_create}
 use Rattle.run_model.specs.BucketSteps.{items_at, set_items, changed_at, aside_into}
@@ -205,7 +205,7 @@ second_want None b h = h
 second_want (Some k) b h = absurd (cc)
 
 pub steps_alike : StepsStayInPart
-unfolding named_at spot_of holder_of variable_of
+unfolding named_at place_of_cursor holder_of variable_of
 steps_alike c p choice (instr.PCreate q) r s none = ap (went GoOn) (pcreate_alike c p r s q (wanted_pool r (pool_of_pool p q) _ none))
 steps_alike c p choice (instr.PClear q) r s none =
     ap (went GoOn) (on_alike c r pool_cleared (pool_named r (pool.Own q)) (λ n is. cleared_alike c n r s (wanted_under c p r s (pool.Own q) (wanted_pool r (pool.Own q) None none) n is)))
@@ -219,5 +219,5 @@ steps_alike c p choice (instr.BCreate o) r s none = ap (went GoOn) (create_alike
 steps_alike c p choice (instr.BSave o b) r s none =
     ap (went GoOn) (on_alike c r (saved_into o b) (made_on (r.instance.brigades o)) (λ n is. saved_alike c n r s (s.brigades o n (sym (made_is (r.instance.brigades o)) ∙ is)) o b))
 steps_alike c p choice (instr.Aside at q) r s none =
-    ap (went GoOn) (on_alike c r (aside_into (spot r at)) (pool_named r q) (λ n is. aside_alike c n r s (wanted_under c p r s q (wanted_pool r q _ (second_want _ _ none)) n is) (spot r at)))
+    ap (went GoOn) (on_alike c r (aside_into (at_cursor r at)) (pool_named r q) (λ n is. aside_alike c n r s (wanted_under c p r s q (wanted_pool r q _ (second_want _ _ none)) n is) (at_cursor r at)))
 steps_alike c p choice i r s none = quiet_alike (part c) p choice i r refl

@@ -14,7 +14,7 @@ use Rattle.run_model.specs.RunOrder.{killed}
 use Rattle.run_model.specs.Buckets.{cleared_bucket}
 use Rattle.run_model.specs.Clearing.{is_reached, cleared_var}
 use Rattle.run_model.specs.State.{Configuration, items_of, pool_named, set_brigade, set_pool, with_pools}
-use Rattle.run_model.specs.Cursors.{Place, spot}
+use Rattle.run_model.specs.Cursors.{Place, at_cursor}
 use Rattle.run_model.specs.Effects.{on_pool, new_ref, with_brigade, saved_into, made_on, returned_var, pool_cleared, pool_destroyed, label_registered, label_killed, text_of}
 use Rattle.run_model.specs.BucketSteps.{aside_into}
 use Rattle.run_model.specs.Steps.{step}
@@ -111,7 +111,7 @@ touched_lies c p choice (instr.BCreate o) r v s none lies =
 touched_lies c p choice (instr.BSave o b) r v s none lies =
     on_named (λ x. LiesUnder c x.shared.pools v) (saved_into o b) (made_on (r.instance.brigades o)) r lies (λ n is. saved_lies c r s v lies o b n)
 touched_lies c p choice (instr.Aside at q) r v s none lies =
-    on_named (λ x. LiesUnder c x.shared.pools v) (aside_into (spot r at)) (pool_named r q) r lies (λ n is. aside_lies c r s v lies (spot r at) n)
+    on_named (λ x. LiesUnder c x.shared.pools v) (aside_into (at_cursor r at)) (pool_named r q) r lies (λ n is. aside_lies c r s v lies (at_cursor r at) n)
 touched_lies c p choice (instr.Ret status) r v s none lies = λ m is. lies m (pool_kept v (returned_var r.call.name v) (returned_on r.call.name v) m is)
 touched_lies c p choice i r v s none lies =
     subst (λ (ps : Pools Payload). LiesUnder c ps v) (sym (quiet_pools p choice i r (quiet_alike (λ (old : Pools Payload). r.shared.pools) p choice i r refl))) lies

@@ -13,7 +13,7 @@ use Rattle.run_model.specs.Pools.{Pools, is_empty, is_in, is_live, is_under, cle
 use Rattle.run_model.specs.RunOrder.{IsPoolMap, killed}
 use Rattle.run_model.specs.Clearing.{run_down}
 use Rattle.run_model.specs.State.{Configuration, items_of, pool_named, set_brigade, set_loose, set_pool, with_pools}
-use Rattle.run_model.specs.Cursors.{Place, Nowhere, AtLoose, Within, AtEndOf, spot}
+use Rattle.run_model.specs.Cursors.{Place, Nowhere, AtLoose, Within, AtEndOf, at_cursor}
 use Rattle.run_model.specs.Effects.{all_referred, label_killed, label_registered, made_on, new_ref, pool_cleared, pool_destroyed, saved_into, text_of, with_brigade}
 use Rattle.run_model.specs.BucketSteps.{aside_into}
 use Rattle.run_model.specs.Steps.{Choice, step}
@@ -141,5 +141,6 @@ module _ (c : ℕ) (p : Program) (r : Configuration) (s : LiesIn c r) where
   step_within choice (instr.BSave o b) none = on_named (WithinStays c r) (saved_into o b) (made_on (r.instance.brigades o)) r itself (λ n is.
       refers n (filter_map (new_ref r.shared.pools n) (items_of (r.instance.brigades b))) (s.brigades o n (sym (made_is (r.instance.brigades o)) ∙ is)))
   step_within choice (instr.Aside at q) none =
-      on_named (WithinStays c r) (aside_into (spot r at)) (pool_named r q) r itself (λ n is. aside_within (spot r at) n (wanted_under c p r s q (wanted_pool r q _ (second_want _ _ none)) n is))
+      on_named (WithinStays c r) (aside_into (at_cursor r at)) (pool_named r q) r itself
+      (λ n is. aside_within (at_cursor r at) n (wanted_under c p r s q (wanted_pool r q _ (second_want _ _ none)) n is))
   step_within choice i none = subst (λ (new : Pools Payload). StaysWithin c r.shared.pools new) (sym ((step_changes_only p choice i r).tree refl)) itself

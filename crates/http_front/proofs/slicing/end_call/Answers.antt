@@ -4,8 +4,8 @@ use Rattle.http_front.proofs.slicing.end_call.Goals as goal
 
 pub returns-in-Opens-clause-leads : goal.returns-in-Opens-clause-leads
 returns-in-Opens-clause-leads g c =
-    ended_opens g.F.Files.device c.args.number c.args.host.now c.open_unless.new.host c.open_unless.result c.args.how c.args.task c.in-Opens.method c.in-Opens.name
-    c.as_slice.result.now c.in-Opens.is c.as_slice.ensures.value c.open_unless.ensures.leads
+    ended_opens g.F.Files.device c.args.number c.args.host.now c.open_slice.new.host c.open_slice.result c.args.how c.args.task c.in-Opens.method c.in-Opens.name
+    c.as_slice.result.now c.in-Opens.is c.as_slice.ensures.value c.open_slice.ensures.leads
 
 pub returns-in-Brings-clause-leads : goal.returns-in-Brings-clause-leads
 returns-in-Brings-clause-leads g c =

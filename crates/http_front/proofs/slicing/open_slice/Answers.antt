@@ -2,18 +2,20 @@ use Rattle.std.proofs.Common.{refl}
 use Rattle.std.proofs.lemmas.Result.{err_from_is_err_and}
 use Rattle.http_front.proofs.FewLaws.{few_event}
 use Rattle.http_front.proofs.Beside.{beside_event, beside_lacks, err_by}
-use Rattle.http_front.proofs.SliceLaws.{not_opened, opened_so}
+use Rattle.http_front.proofs.SliceLaws.{not_opened, opened_so, opened_unless}
 use Rattle.http_front.proofs.slicing.open_slice.Goals as goal
 
 pub returns-in-Ok-clause-leads : goal.returns-in-Ok-clause-leads
 returns-in-Ok-clause-leads g c =
-    opened_so g.F.Files.device c.args.number c.args.host.now c.open_file.new.self c.carry_on.new.host c.carry_on.result c.args.init c.args.method c.args.name.now
-    c.in-Ok.file c.wanted.result c.wanted.ensures.all c.in-Ok.ensures.event c.carry_on.ensures.leads
+    opened_unless g.F.Files.device c.args.number c.args.host.now c.carry_on.new.host c.carry_on.result c.args.init c.args.method c.args.name.now c.in_default.not-Broke
+    (opened_so g.F.Files.device c.args.number c.args.host.now c.open_file.new.self c.carry_on.new.host c.carry_on.result c.args.init c.args.method c.args.name.now
+    c.in-Ok.file c.wanted.result c.wanted.ensures.all c.in-Ok.ensures.event c.carry_on.ensures.leads)
 
 pub returns-in_ok-unless_lack-in-Err-clause-leads : goal.returns-in_ok-unless_lack-in-Err-clause-leads
 returns-in_ok-unless_lack-in-Err-clause-leads g c =
-    not_opened g.F.Files.device c.args.number c.args.host.now c.open_file.new.self c.finish_bare.new.host c.finish_bare.result c.args.init c.args.method
-    c.args.name.now c.in-Err.refusal c.unopened.result c.unopened.ensures c.in_ok-unless_lack-in-Err.ensures.ok c.in-Err.ensures.event c.finish_bare.ensures.leads
+    opened_unless g.F.Files.device c.args.number c.args.host.now c.finish_bare.new.host c.finish_bare.result c.args.init c.args.method c.args.name.now c.in_default.not-Broke
+    (not_opened g.F.Files.device c.args.number c.args.host.now c.open_file.new.self c.finish_bare.new.host c.finish_bare.result c.args.init c.args.method
+    c.args.name.now c.in-Err.refusal c.unopened.result c.unopened.ensures c.in_ok-unless_lack-in-Err.ensures.ok c.in-Err.ensures.event c.finish_bare.ensures.leads)
 
 pub returns-in_err-unless_lack-in-Err-clause-lacks : goal.returns-in_err-unless_lack-in-Err-clause-lacks
 returns-in_err-unless_lack-in-Err-clause-lacks g c from so =

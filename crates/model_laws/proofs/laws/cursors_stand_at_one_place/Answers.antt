@@ -1,5 +1,5 @@
 use Rattle.model_laws.proofs.CursorNames.{step_cursors}
-use Rattle.model_laws.proofs.CursorSpots.{cursors_stand_once}
+use Rattle.model_laws.proofs.CursorPlaceLaws.{cursors_stand_once}
 use Rattle.model_laws.proofs.laws.cursors_stand_at_one_place.Goals as goal
 
 pub returns-clause-step : goal.returns-clause-step

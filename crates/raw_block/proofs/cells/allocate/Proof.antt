@@ -4,7 +4,7 @@ use Rattle.raw_block.proofs.Steps.{vint, vstruct, vcons, vnil, fact, tables, ◌
 use Rattle.raw_block.proofs.Steps.{flt_i, suffices, frame, done, whole, agg, stop, fld, lit, of_opd, bin, size_word, align_word, and_then, no_more, first, exec, returns, enter, alloc_all, pass_all}
 use Rattle.raw_block.proofs.Steps.{free_all, look_at, get, get_in, sets, sets_last, is, env, usize, RefOf, yes, layout, uint_vals, uint_Tells, RattleType, Ptr, block_ptr, ptr_val, ShrRef, shr_vals}
 use Rattle.raw_block.proofs.Steps.{shr_Tells, pure_i, plain, nothing, heard, says, Stays, stay_dropped, walk_of, ends_at, Goes-dropped, Good, word, word-Good, as_written, after, El, R, elτ, uncapped}
-use Rattle.raw_block.proofs.Steps.{Cr, Br, Rr, Mark, size_of, mark}
+use Rattle.raw_block.proofs.Steps.{Cr, Br, Rr, FullMark, size_of, mark}
 use prog.Memory.{align, capped}
 use prog.Capped.{capped_fits}
 use denote.Triple.Call.{calls_at}
@@ -82,10 +82,11 @@ allocate_spec 𝓤 𝓛 𝓜 𝓡 wired X W LX LW g₀ di dd met md =
     sets_last ! (agg ! (and_then ! (lit ! tt) (and_then ! (get ! refl) (no_more !)))) refl ok $
     exec ! 𝓣.C 𝓣.Λ En (after 3 fn.body) (at_ret _ (V.post y)) $ sets ! (of_opd ! (get ! refl)) refl ok $
     -- [the bytes; the right to free; the tokens]
-    move ! (1 ∷ []) $ pure_i ! ((Mark E).own_val (tt, tt) (mark ∷ [])) (λ vss. (tt, ((λ uss. (tt, tt)), tt))) ((vstruct vnil ∷ [], tt), (refl, ((tt, (refl, tt)), tt))) $ fjoin ! $ move ! (1 ∷ []) $
+    move ! (1 ∷ []) $ pure_i ! ((FullMark E).own_val (tt, tt) (mark ∷ [])) (λ vss. (tt, ((λ uss. (tt, tt)), tt))) ((vstruct vnil ∷ [], tt), (refl, ((tt, (refl, tt)), tt))) $ fjoin ! $ move !
+    (1 ∷ []) $
     as_written ! (ty_array (elτ E) n) b o $ use1 𝓛 (‵ (run_owned (R E) b o cells.places)) (of_room E 𝓛 b n o) $
     flt_i ! (length cells.places * s) (2 ^ 63) (subst (λ (m : ℕ). m * s < 2 ^ 63) (sym (length-replicate n None)) small) $ fjoin ! $
-    pure_i ! ((Mark E).own_val (tt, tt) (mark ∷ [])) (λ vss. (tt, ((λ uss. (tt, tt)), tt))) ((vstruct vnil ∷ [], tt), (refl, ((tt, (refl, tt)), tt))) $ fjoin ! $
+    pure_i ! ((FullMark E).own_val (tt, tt) (mark ∷ [])) (λ vss. (tt, ((λ uss. (tt, tt)), tt))) ((vstruct vnil ∷ [], tt), (refl, ((tt, (refl, tt)), tt))) $ fjoin ! $
     pure_i ! ((Br E).own_val base (word p ∷ [])) (λ vss. (tt, (tt, tt))) ((ptr_val p ∷ [], tt), (refl, (refl, tt))) $
     use3 𝓛 (‵ (Three.own_val (base, cells, right) (made ∷ []))) (three_made 𝓛 (Br E) (Cr E) (Rr E Z) base cells right (word p) mark mark) $
     use1 𝓛 (‵ ((Outcome.the_row Three Refused.the_row).own_val (Ok (base, cells, right)) (live 0 (vcons made vnil) ∷ []))) (ok_of 𝓛 Three Refused.the_row (base, cells, right) made) $

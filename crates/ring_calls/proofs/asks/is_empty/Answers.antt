@@ -5,5 +5,5 @@ use Rattle.ring_calls.proofs.asks.is_empty.Goals as goal
 
 pub returns : goal.returns
 returns g c =
-    λ around call. empty_live (lists c.args.store.now) (next_name c.args.store.now) around c.args.instance.now call c.args.b c.brigade.result c.start.result c.is_none.result
+    λ view call. empty_live (lists c.args.store.now) (next_name c.args.store.now) view c.args.instance.now call c.args.b c.brigade.result c.start.result c.is_none.result
     (c.brigade.ensures.live (lists c.args.store.now) c.requires.live) c.start.ensures.first c.is_none.ensures

@@ -10,25 +10,25 @@ use Rattle.ring_calls.proofs.asks.is_null.Goals as goal
 
 pub returns-in-Null : goal.returns-in-Null
 returns-in-Null g c =
-    λ around call.
-    null_pool (lists c.args.store.now) (next_name c.args.store.now) around c.args.instance.now call c.in-Pool.q poolvar.Null (sym c.variable.ensures ∙ c.in-Null.is)
-    ∙ ap (is_null (seen_over (lists c.args.store.now) (next_name c.args.store.now) around c.args.instance.now call)) (sym c.in-Pool.is)
+    λ view call.
+    null_pool (lists c.args.store.now) (next_name c.args.store.now) view c.args.instance.now call c.in-Pool.q poolvar.Null (sym c.variable.ensures ∙ c.in-Null.is)
+    ∙ ap (is_null (seen_over (lists c.args.store.now) (next_name c.args.store.now) view c.args.instance.now call)) (sym c.in-Pool.is)
 
 pub returns-in_default : goal.returns-in_default
 returns-in_default g c =
-    λ around call.
-    null_pool (lists c.args.store.now) (next_name c.args.store.now) around c.args.instance.now call c.in-Pool.q (poolvar.Made c.in_default.field-0) (sym c.variable.ensures ∙ c.in_default.is)
-    ∙ ap (is_null (seen_over (lists c.args.store.now) (next_name c.args.store.now) around c.args.instance.now call)) (sym c.in-Pool.is)
+    λ view call.
+    null_pool (lists c.args.store.now) (next_name c.args.store.now) view c.args.instance.now call c.in-Pool.q (poolvar.Made c.in_default.field-0) (sym c.variable.ensures ∙ c.in_default.is)
+    ∙ ap (is_null (seen_over (lists c.args.store.now) (next_name c.args.store.now) view c.args.instance.now call)) (sym c.in-Pool.is)
 
 pub returns-in-Null-matches : goal.returns-in-Null-matches
 returns-in-Null-matches g c =
-    λ around call.
-    null_brigade (lists c.args.store.now) (next_name c.args.store.now) around c.args.instance.now call c.in-Brigade.b slot.Null (sym c.slot.ensures ∙ c.in-Null-matches.is)
-    ∙ ap (is_null (seen_over (lists c.args.store.now) (next_name c.args.store.now) around c.args.instance.now call)) (sym c.in-Brigade.is)
+    λ view call.
+    null_brigade (lists c.args.store.now) (next_name c.args.store.now) view c.args.instance.now call c.in-Brigade.b slot.Null (sym c.slot.ensures ∙ c.in-Null-matches.is)
+    ∙ ap (is_null (seen_over (lists c.args.store.now) (next_name c.args.store.now) view c.args.instance.now call)) (sym c.in-Brigade.is)
 
 pub returns-in_default-matches : goal.returns-in_default-matches
 returns-in_default-matches g c =
-    λ around call.
-    null_brigade (lists c.args.store.now) (next_name c.args.store.now) around c.args.instance.now call c.in-Brigade.b
+    λ view call.
+    null_brigade (lists c.args.store.now) (next_name c.args.store.now) view c.args.instance.now call c.in-Brigade.b
     (slot.Made c.in_default-matches.field-0 c.in_default-matches.field-1 c.in_default-matches.field-2) (sym c.slot.ensures ∙ c.in_default-matches.is)
-    ∙ ap (is_null (seen_over (lists c.args.store.now) (next_name c.args.store.now) around c.args.instance.now call)) (sym c.in-Brigade.is)
+    ∙ ap (is_null (seen_over (lists c.args.store.now) (next_name c.args.store.now) view c.args.instance.now call)) (sym c.in-Brigade.is)

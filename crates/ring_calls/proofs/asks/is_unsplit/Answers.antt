@@ -11,10 +11,10 @@ use Rattle.ring_calls.proofs.asks.is_unsplit.Goals as goal
 
 pub returns : goal.returns
 returns g c =
-    λ around.
-    let r = seen_over (lists c.args.store.now) (next_name c.args.store.now) around c.args.instance.now c.args.call.now in
-    let v = c.view_at.ensures around in
-    let w = within_seen c.args.store.now c.args.instance.now c.args.call.now c.args.c c.requires.held c.requires.stands around v.0 v.1.0 in
+    λ view.
+    let r = seen_over (lists c.args.store.now) (next_name c.args.store.now) view c.args.instance.now c.args.call.now in
+    let v = c.view_at.ensures view in
+    let w = within_seen c.args.store.now c.args.instance.now c.args.call.now c.args.c c.requires.held c.requires.stands view v.0 v.1.0 in
     c.is_refused.ensures v.0 v.1.1 v.1.2
-    ∙ (ap (λ (n : ℕ). is_some (split_refusal n v.0)) (c.value_of.ensures (lists c.args.store.now) (next_name c.args.store.now) around c.args.call.now)
+    ∙ (ap (λ (n : ℕ). is_some (split_refusal n v.0)) (c.value_of.ensures (lists c.args.store.now) (next_name c.args.store.now) view c.args.call.now)
     ∙ ap (λ (s : Place). is_unsplit (value_of r c.args.x) s) (sym w.1))

@@ -7,6 +7,6 @@ use Rattle.ring_calls.proofs.asks.kind_is.Goals as goal
 
 pub returns : goal.returns
 returns g c =
-    λ around.
-    let v = c.view_at.ensures around in
+    λ view.
+    let v = c.view_at.ensures view in
     c.is_of_kind.ensures ∙ (ap (λ (k : Kind). is_of_kind c.args.test k) (sym v.1.1) ∙ ap (λ (o : Option NamedBucket). kind_is c.args.test o) (sym v.1.0))

@@ -14,8 +14,8 @@ payload-requires g c = bucket_live c.args.store.now c.args.instance.now c.args.c
 
 pub returns : goal.returns
 returns g c =
-    λ around.
+    λ view.
     let x = bucket_of c.payload.result in (
-      named_item (item_in (calls_in around c.args.call.now) (c.bucket.result, x)),
-      (bucket_seen c.args.store.now c.args.instance.now c.args.call.now c.args.c c.requires.held c.requires.stands c.bucket.result c.bucket.ensures x c.payload.ensures around, refl, refl),
+      named_item (item_in (calls_in view c.args.call.now) (c.bucket.result, x)),
+      (bucket_seen c.args.store.now c.args.instance.now c.args.call.now c.args.c c.requires.held c.requires.stands c.bucket.result c.bucket.ensures x c.payload.ensures view, refl, refl),
     )

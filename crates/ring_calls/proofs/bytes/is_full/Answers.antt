@@ -3,5 +3,5 @@ use Rattle.ring_calls.proofs.Asked.{full_is}
 use Rattle.ring_calls.proofs.bytes.is_full.Goals as goal
 
 pub returns : goal.returns
-returns c = λ rings next around. full_is rings next around c.args.instance.now c.args.call.now c.args.x c.value_of.result c.len.result c.has_no_room.result c.has_no_room.ensures
-    (c.value_of.ensures rings next around c.args.call.now) c.len.ensures
+returns c = λ rings next view. full_is rings next view c.args.instance.now c.args.call.now c.args.x c.value_of.result c.len.result c.has_no_room.result c.has_no_room.ensures
+    (c.value_of.ensures rings next view c.args.call.now) c.len.ensures

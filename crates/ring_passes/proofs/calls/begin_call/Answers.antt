@@ -6,10 +6,10 @@ use Rattle.ring_passes.proofs.Begins.{held_begun, seen_begun}
 use Rattle.ring_passes.proofs.calls.begin_call.Goals as goal
 
 pub returns-clause-seen : goal.returns-clause-seen
-returns-clause-seen g c around =
+returns-clause-seen g c view =
     seen_begun c.args.store.now c.loose.new.self c.args.instance.now c.args.call.now c.start.new.self c.requires.held c.requires.idle
     (λ n. c.in_ok-name.ensures.ok n ∙ ap (λ (j : ℕ). upd (lists c.args.store.now) j (Some []) n) c.in_ok-name.ensures.name)
-    (c.start.ensures.name ∙ c.in_ok-name.ensures.name) c.start.ensures.cursors c.args.pc around c.in_ok-name.ensures.next c.start.ensures.buffer c.start.ensures.pc
+    (c.start.ensures.name ∙ c.in_ok-name.ensures.name) c.start.ensures.cursors c.args.pc view c.in_ok-name.ensures.next c.start.ensures.buffer c.start.ensures.pc
 
 pub returns-clause-held : goal.returns-clause-held
 returns-clause-held g c =

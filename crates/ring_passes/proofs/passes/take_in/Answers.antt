@@ -9,8 +9,8 @@ use Rattle.ring_calls.proofs.Vars.{seen_var}
 use Rattle.ring_passes.proofs.passes.take_in.Goals as goal
 
 pub returns-clause-seen : goal.returns-clause-seen
-returns-clause-seen g c around call =
-    seen_var (lists c.args.store.now) (next_name c.args.store.now) around c.args.instance.now c.set_slot.new.self call 8
+returns-clause-seen g c view call =
+    seen_var (lists c.args.store.now) (next_name c.args.store.now) view c.args.instance.now c.set_slot.new.self call 8
     (slot.Made c.args.name None Usable) c.set_slot.ensures.rest c.set_slot.ensures.slots
 
 pub returns-clause-held : goal.returns-clause-held

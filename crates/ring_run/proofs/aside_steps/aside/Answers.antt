@@ -3,7 +3,7 @@ use Rattle.std.proofs.Common.{ℕ, Option, Some, sym, ap, subst, ◌∙◌, inl,
 use Rattle.std.specs.Option.{option_to_list}
 use Rattle.bucket_kinds.specs.Reading.{IsOpenFor}
 use Rattle.bucket_ring.specs.Lists.{list_at, with_payload}
-use Rattle.run_model.specs.Cursors.{spot}
+use Rattle.run_model.specs.Cursors.{at_cursor}
 use Rattle.run_model.specs.declared.bucket.NamedBucket.{NamedBucket}
 use Rattle.run_model.specs.Steps.{takes_reference}
 use Rattle.stored_rings.specs.Items.{named_item}
@@ -39,10 +39,10 @@ returns-clause-ok g c =
           let inside = p.inside.1 in
           let x = found_some id (list_at (lists s) inside.0) (found_in s id inside.0 inside.1.1) in
           let is = found_bucket s id inside.0 x.0 inside.1.1 x.1 in
-          on_both c.aside.result _ _ _ (λ out refs around.
+          on_both c.aside.result _ _ _ (λ out refs view.
           aside_within (brigade_of s) (lists s) (lists c.aside.new.self) (pool_of s) (next_name s) (next_name c.aside.new.self) (kept s) c.aside.ensures.next id x.0 c.args.pool
-          (map_of c.args.tree.now) (map_of c.aside.new.tree) around c.args.instance.now c.args.call.now c.args.c c.requires.held (refs x.0 is)
-          p.variable (p.told (next_name s) (over_pools (map_of c.args.tree.now) around)) inside x.1 (λ m. out inside.0 m x.0 inside.1.1 is))
+          (map_of c.args.tree.now) (map_of c.aside.new.tree) view c.args.instance.now c.args.call.now c.args.c c.requires.held (refs x.0 is)
+          p.variable (p.told (next_name s) (over_pools (map_of c.args.tree.now) view)) inside x.1 (λ m. out inside.0 m x.0 inside.1.1 is))
           c.aside.ensures.ok c.aside.ensures.registered
       | inr p ↦
           let s = c.args.store.now in
@@ -51,10 +51,10 @@ returns-clause-ok g c =
           let name = c.args.call.now.name in
           let x = found_some id (list_at (lists s) name) (found_in s id name inside) in
           let is = found_bucket s id name x.0 inside x.1 in
-          on_both c.aside.result _ _ _ (λ out refs around.
+          on_both c.aside.result _ _ _ (λ out refs view.
           aside_loose (brigade_of s) (lists s) (lists c.aside.new.self) (pool_of s) (next_name s) (next_name c.aside.new.self) (kept s) c.aside.ensures.next id x.0 c.args.pool
-          (map_of c.args.tree.now) (map_of c.aside.new.tree) around c.args.instance.now c.args.call.now c.args.c c.requires.held (refs x.0 is)
-          (p.told (next_name s) (over_pools (map_of c.args.tree.now) around)) inside x.1 (λ m. out name m x.0 inside is))
+          (map_of c.args.tree.now) (map_of c.aside.new.tree) view c.args.instance.now c.args.call.now c.args.c c.requires.held (refs x.0 is)
+          (p.told (next_name s) (over_pools (map_of c.args.tree.now) view)) inside x.1 (λ m. out name m x.0 inside is))
           c.aside.ensures.ok c.aside.ensures.registered
     ]
 
@@ -73,9 +73,9 @@ returns-clause-held g c =
 pub returns-clause-err : goal.returns-clause-err
 returns-clause-err g c =
     let s = c.args.store.now in
-    on_both_err c.aside.result _ _ _ (λ out kept around.
+    on_both_err c.aside.result _ _ _ (λ out kept view.
     seen_kept (lists s) (lists c.aside.new.self) (next_name s) (next_name c.aside.new.self) (map_of c.args.tree.now)
-    (map_of c.aside.new.tree) around c.args.instance.now c.args.call.now c.aside.ensures.next kept out)
+    (map_of c.aside.new.tree) view c.args.instance.now c.args.call.now c.aside.ensures.next kept out)
     c.aside.ensures.err c.aside.ensures.kept
 
 pub returns-clause-left : goal.returns-clause-left
@@ -91,22 +91,22 @@ returns-clause-left g c =
 
 pub returns-clause-open : goal.returns-clause-open
 returns-clause-open g c =
-    λ d around opens.
+    λ d view opens.
     let s = c.args.store.now in
     let p = bucket_here c.args.store.now c.args.instance.now c.args.call.now c.args.c c.requires.held c.requires.stands c.bucket.result c.bucket.ensures in
-    let r = seen_over (lists s) (next_name s) around c.args.instance.now c.args.call.now in
+    let r = seen_over (lists s) (next_name s) view c.args.instance.now c.args.call.now in
     let has : IsOpenFor d p.bucket.content =
-    subst (IsOpenFor d) (content_of_bucket (spot r c.args.c) (named_item (item_in (calls_in around c.args.call.now) (c.bucket.result, p.bucket))) (p.at around)) opens in
+    subst (IsOpenFor d) (content_of_bucket (at_cursor r c.args.c) (named_item (item_in (calls_in view c.args.call.now) (c.bucket.result, p.bucket))) (p.at view)) opens in
     by_result c.aside.result _ _
     (λ counts. refs_one d (map_of c.args.tree.now) c.args.pool p.bucket (references s) (references c.aside.new.self) (λ f. counts p.bucket f p.here) has)
     (λ same. refs_same d (references s) (references c.aside.new.self) same)
     c.aside.ensures.counted c.aside.ensures.uncounted
 
 pub returns-clause-sure : goal.returns-clause-sure
-returns-clause-sure g c around none =
+returns-clause-sure g c view none =
     let p = bucket_here c.args.store.now c.args.instance.now c.args.call.now c.args.c c.requires.held c.requires.stands c.bucket.result c.bucket.ensures in
     let ps = map_of c.args.tree.now in
-    let over = over_pools ps around in
+    let over = over_pools ps view in
     c.aside.ensures.sure p.bucket p.here
     (sym (ref_shown ps c.args.pool (calls_in over c.args.call.now) (c.bucket.result, p.bucket))
     ∙ one_referred _ (sym (ap (λ (o : Option NamedBucket). takes_reference ps (Some c.args.pool) (option_to_list o)) (p.at over)) ∙ none))

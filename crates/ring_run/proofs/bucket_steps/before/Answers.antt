@@ -23,10 +23,10 @@ pub returns-clause-new : goal.returns-clause-new
 returns-clause-new g c =
     let s = loose_at c.args.store.now c.args.instance.now c.args.call.now c.args.c c.requires.held c.requires.loose c.bucket-2.result c.bucket-2.ensures in
     let t = within_at c.args.store.now c.args.instance.now c.args.call.now c.args.d c.requires.held c.requires.within c.bucket.result c.bucket.ensures in
-    λ around.
+    λ view.
     before_step (brigade_of c.args.store.now) (lists c.args.store.now) (lists c.move_before.new.self) (pool_of c.args.store.now) (next_name c.args.store.now) (next_name c.move_before.new.self)
-    (kept c.args.store.now) c.move_before.ensures.next c.bucket-2.result around c.args.instance.now c.args.call.now c.args.c c.requires.held c.args.d t.variable c.bucket.result
-    (s.told (next_name c.args.store.now) around) s.inside (t.told (next_name c.args.store.now) around) t.inside.1 c.move_before.ensures.out
+    (kept c.args.store.now) c.move_before.ensures.next c.bucket-2.result view c.args.instance.now c.args.call.now c.args.c c.requires.held c.args.d t.variable c.bucket.result
+    (s.told (next_name c.args.store.now) view) s.inside (t.told (next_name c.args.store.now) view) t.inside.1 c.move_before.ensures.out
 
 pub returns-clause-held : goal.returns-clause-held
 returns-clause-held g c =

@@ -17,14 +17,14 @@ drop_bucket-requires g c = bucket_live c.args.store.now c.args.instance.now c.ar
 
 pub returns-clause-new : goal.returns-clause-new
 returns-clause-new g c =
-    λ around.
+    λ view.
     elim (bucket_at c.args.store.now c.args.instance.now c.args.call.now c.args.c c.requires.held c.requires.stands c.bucket.result c.bucket.ensures) [
       | inl s ↦ delete_step (brigade_of c.args.store.now) (lists c.args.store.now) (lists c.drop_bucket.new.self) (pool_of c.args.store.now) (next_name c.args.store.now)
-          (next_name c.drop_bucket.new.self) (kept c.args.store.now) c.drop_bucket.ensures.next c.bucket.result around c.args.instance.now c.args.call.now c.args.c c.requires.held s.variable
-          (s.told (next_name c.args.store.now) around) s.inside.1 (λ j m is. c.drop_bucket.ensures.out j m is)
+          (next_name c.drop_bucket.new.self) (kept c.args.store.now) c.drop_bucket.ensures.next c.bucket.result view c.args.instance.now c.args.call.now c.args.c c.requires.held s.variable
+          (s.told (next_name c.args.store.now) view) s.inside.1 (λ j m is. c.drop_bucket.ensures.out j m is)
       | inr s ↦ delete_loose_step (brigade_of c.args.store.now) (lists c.args.store.now) (lists c.drop_bucket.new.self) (pool_of c.args.store.now) (next_name c.args.store.now)
-          (next_name c.drop_bucket.new.self) (kept c.args.store.now) c.drop_bucket.ensures.next c.bucket.result around c.args.instance.now c.args.call.now c.args.c c.requires.held
-          (s.told (next_name c.args.store.now) around) s.inside (λ j m is. c.drop_bucket.ensures.out j m is)
+          (next_name c.drop_bucket.new.self) (kept c.args.store.now) c.drop_bucket.ensures.next c.bucket.result view c.args.instance.now c.args.call.now c.args.c c.requires.held
+          (s.told (next_name c.args.store.now) view) s.inside (λ j m is. c.drop_bucket.ensures.out j m is)
     ]
 
 pub returns-clause-held : goal.returns-clause-held

@@ -20,11 +20,11 @@ move_to-requires-clause-bucket g c = loose_live c.args.store.now c.args.instance
 pub returns-clause-new : goal.returns-clause-new
 returns-clause-new g c =
     let s = loose_at c.args.store.now c.args.instance.now c.args.call.now c.args.c c.requires.held c.requires.stands c.bucket.result c.bucket.ensures in
-    λ around.
+    λ view.
     put_step (brigade_of c.args.store.now) (lists c.args.store.now) (lists c.move_to.new.store) (pool_of c.args.store.now) (next_name c.args.store.now) (next_name c.move_to.new.store)
-    (kept c.args.store.now) c.move_to.ensures.next c.bucket.result around c.args.instance.now c.args.call.now c.args.c c.requires.held
-    (put_at c.args.side) (λ x. put_item c.args.side (c.bucket.result, x)) c.args.b c.brigade.result (s.told (next_name c.args.store.now) around) s.inside c.brigade.ensures.name
-    (λ x. shown_put c.args.side (calls_in around c.args.call.now) (c.bucket.result, x) (list_at (lists c.args.store.now) c.brigade.result)) c.move_to.ensures.out
+    (kept c.args.store.now) c.move_to.ensures.next c.bucket.result view c.args.instance.now c.args.call.now c.args.c c.requires.held
+    (put_at c.args.side) (λ x. put_item c.args.side (c.bucket.result, x)) c.args.b c.brigade.result (s.told (next_name c.args.store.now) view) s.inside c.brigade.ensures.name
+    (λ x. shown_put c.args.side (calls_in view c.args.call.now) (c.bucket.result, x) (list_at (lists c.args.store.now) c.brigade.result)) c.move_to.ensures.out
 
 pub returns-clause-held : goal.returns-clause-held
 returns-clause-held g c =

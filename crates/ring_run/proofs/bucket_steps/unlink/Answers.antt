@@ -19,11 +19,11 @@ move_tail-requires-clause-bucket g c = within_live c.args.store.now c.args.insta
 
 pub returns-clause-new : goal.returns-clause-new
 returns-clause-new g c =
-    λ around.
+    λ view.
     let s = within_at c.args.store.now c.args.instance.now c.args.call.now c.args.c c.requires.held c.requires.stands c.bucket.result c.bucket.ensures in
     unlink_step (brigade_of c.args.store.now) (lists c.args.store.now) (lists c.move_tail.new.self) (pool_of c.args.store.now) (next_name c.args.store.now) (next_name c.move_tail.new.self)
-    (kept c.args.store.now) c.move_tail.ensures.next c.bucket.result around c.args.instance.now c.args.call.now c.args.c c.requires.held s.variable
-    (s.told (next_name c.args.store.now) around) s.inside.1 c.requires.runs c.move_tail.ensures.out
+    (kept c.args.store.now) c.move_tail.ensures.next c.bucket.result view c.args.instance.now c.args.call.now c.args.c c.requires.held s.variable
+    (s.told (next_name c.args.store.now) view) s.inside.1 c.requires.runs c.move_tail.ensures.out
 
 pub returns-clause-held : goal.returns-clause-held
 returns-clause-held g c =

@@ -31,9 +31,9 @@ some_is a b e = cc
 
 -- what is the same is seen as the same
 same_during : (L M : ℕ → Option Items) (k l : ℕ) (s : Context) (ps qs : Pools Payload) (hs later : List LabelsRun) (i : Instance) (call : Call) → l ≡ k → qs ≡ ps → ((n : ℕ) → M n ≡ L n)
-    → later ≡ hs → (around : ContextView) → seen_over M l (during s qs later around) i call ≡ seen_over L k (during s ps hs around) i call
-same_during L M k l s ps qs hs later i call next same out e around =
-    seen_kept L M k l ps qs (during s ps later around) i call next same out ∙ ap (λ (ls : List LabelsRun). seen_over L k (during s ps ls around) i call) e
+    → later ≡ hs → (view : ContextView) → seen_over M l (during s qs later view) i call ≡ seen_over L k (during s ps hs view) i call
+same_during L M k l s ps qs hs later i call next same out e view =
+    seen_kept L M k l ps qs (during s ps later view) i call next same out ∙ ap (λ (ls : List LabelsRun). seen_over L k (during s ps ls view) i call) e
 
 pub returns-in_err-reserve : goal.returns-in_err-reserve
 returns-in_err-reserve g c =
@@ -95,13 +95,13 @@ returns g c =
     let done = c.in_ok-ran.ensures in
     let named = sym (c.in-Some.ensures ∙ ap name_in c.variable.ensures) in
     record {
-      ok = λ code around.
-          let over = during c.args.context.now ps handed around in
+      ok = λ code view.
+          let over = during c.args.context.now ps handed view in
           let r = seen_over (lists old) (next_name old) over i call in
           let labels = c.add_labels.ensures.told ∙ (ap (λ hs. labels_handed hs ++ labels_in c.in_ok-ran.ran.items) c.reserve.ensures.items
           ∙ ap (λ xs. labels_handed handed ++ labels_in xs) done.ran) in
           done_clear (g.F.Files.device c.args.files.now) (g.F.Files.device c.clear.new.files) code c.args.kind c.args.q
-          c.args.context.now ps (map_of c.clear.new.tree) handed c.add_labels.new.handed.items around pool
+          c.args.context.now ps (map_of c.clear.new.tree) handed c.add_labels.new.handed.items view pool
           (lists old) (next_name old) (lists new) (next_name new) i call named labels
           (record { closed = done.closed; others = e.others })
           (seen_cleared old new c.args.context.now.rings.now (is_under ps pool) i call c.requires.held (c.requires.looks pool named) done.out pool ps (map_of c.clear.new.tree) over refl e.next

@@ -31,7 +31,7 @@ returns-in_default g c =
       references = e.references;
       tree_unasked = e.tree_unasked;
       slots = names_same (next_name s) (next_name new) i;
-      err = λ around call. seen_kept (lists s) (lists new) (next_name s) (next_name new) (map_of c.args.tree.now) (map_of c.create.new.tree) around i call e.next e.kept e.err;
+      err = λ view call. seen_kept (lists s) (lists new) (next_name s) (next_name new) (map_of c.args.tree.now) (map_of c.create.new.tree) view i call e.next e.kept e.err;
       held = λ call. held_same s new e.next e.names (fun_ext e.off) e.err i call;
       left = λ call. rest_same s new (no_less _ _ e.next) e.names e.off e.unasked e.err i call;
     }
@@ -41,7 +41,7 @@ returns-clause-house g c = c.in-Ok.ensures.house
 
 pub returns-clause-ok : goal.returns-clause-ok
 returns-clause-ok g c =
-    λ code around call held named.
+    λ code view call held named.
     let k = next_name c.args.store.now in
     let L = lists c.args.store.now in
     let i = c.args.instance.now in
@@ -49,7 +49,7 @@ returns-clause-ok g c =
     created_step L (lists c.create.new.self) k i c.set_slot.new.self c.args.o c.args.pool
     (λ n. c.in-Ok.ensures.ok n ∙ ap (λ (j : ℕ). ring.upd L j (Some []) n) born)
     (λ a. c.set_slot.ensures.slots a ∙ ap (λ (j : ℕ). if a == c.args.o then slot.Made j (Some c.args.pool) Usable else slot_at i a) born)
-    (map_of c.args.tree.now) (map_of c.create.new.tree) around call code (next_name c.create.new.self) held.named held.called c.set_slot.ensures.rest c.in-Ok.ensures.next
+    (map_of c.args.tree.now) (map_of c.create.new.tree) view call code (next_name c.create.new.self) held.named held.called c.set_slot.ensures.rest c.in-Ok.ensures.next
     (c.in-Ok.ensures.registered ∙ ap (λ (j : ℕ). registered c.args.pool (payload.Brigade j) (map_of c.args.tree.now)) born) named
 
 pub returns-clause-held : goal.returns-clause-held

@@ -14,10 +14,10 @@ use Rattle.ring_run.proofs.cut_steps.cursor_value_after.Goals as goal
 
 pub returns-in-Ok-clause-place : goal.returns-in-Ok-clause-place
 returns-in-Ok-clause-place g c =
-    λ around i call b n named is.
+    λ view i call b n named is.
     let first = next_ok n (first_of (drop 1 (rest c.args.id (list_at (lists c.args.store.now) n)))) c.in-Ok.next (sym (c.next.ensures n is) ∙ c.in-Ok.is) in
     ap (λ (o : Option BucketId). shown_cursor (cursor_value_at n o)) (sym first)
-    ∙ next_stands (lists c.args.store.now) (next_name c.args.store.now) around i call b n c.args.id
+    ∙ next_stands (lists c.args.store.now) (next_name c.args.store.now) view i call b n c.args.id
     (given_in (brigade_of c.args.store.now) (lists c.args.store.now) (next_name c.args.store.now) c.args.id (kept c.args.store.now) (name_there (brigade_of c.args.store.now)
     (lists c.args.store.now) (next_name c.args.store.now) n c.args.id (kept c.args.store.now) is) n) named (brigade_there c.args.store.now c.args.id n is)
 
@@ -31,9 +31,9 @@ returns-in-Ok-clause-given g c =
 
 pub returns-in-Err-clause-place : goal.returns-in-Err-clause-place
 returns-in-Err-clause-place g c =
-    λ around i call b n named is.
+    λ view i call b n named is.
     let end = next_err n c.in-Err.name (first_of (drop 1 (rest c.args.id (list_at (lists c.args.store.now) n)))) (sym (c.next.ensures n is) ∙ c.in-Err.is) in
     ap (λ (m : ℕ). cursor.End m) end.1 ∙ (ap (λ (o : Option BucketId). shown_cursor (cursor_value_at n o)) (sym end.0)
-    ∙ next_stands (lists c.args.store.now) (next_name c.args.store.now) around i call b n c.args.id
+    ∙ next_stands (lists c.args.store.now) (next_name c.args.store.now) view i call b n c.args.id
     (given_in (brigade_of c.args.store.now) (lists c.args.store.now) (next_name c.args.store.now) c.args.id (kept c.args.store.now) (name_there (brigade_of c.args.store.now)
     (lists c.args.store.now) (next_name c.args.store.now) n c.args.id (kept c.args.store.now) is) n) named (brigade_there c.args.store.now c.args.id n is))

@@ -13,9 +13,9 @@ use Rattle.ring_run.proofs.cut_steps.first_cursor_value.Goals as goal
 
 pub returns-in-Some-clause-place : goal.returns-in-Some-clause-place
 returns-in-Some-clause-place g c =
-    λ around call.
+    λ view call.
     ap (λ (o : Option BucketId). shown_cursor (cursor_value_at c.brigade-name.result o)) (sym c.in-Some.is ∙ c.first.ensures)
-    ∙ first_stands (lists c.args.store.now) (next_name c.args.store.now) around c.args.instance.now call c.args.b c.brigade-name.result c.brigade-name.ensures.name
+    ∙ first_stands (lists c.args.store.now) (next_name c.args.store.now) view c.args.instance.now call c.args.b c.brigade-name.result c.brigade-name.ensures.name
     (c.brigade-name.ensures.there (lists c.args.store.now) c.requires.live)
 
 pub returns-in-Some-clause-given : goal.returns-in-Some-clause-given
@@ -27,7 +27,7 @@ returns-in-Some-clause-given g c =
 
 pub returns-in-None-clause-place : goal.returns-in-None-clause-place
 returns-in-None-clause-place g c =
-    λ around call.
+    λ view call.
     ap (λ (o : Option BucketId). shown_cursor (cursor_value_at c.brigade-name.result o)) (sym c.in-None.is ∙ c.first.ensures)
-    ∙ first_stands (lists c.args.store.now) (next_name c.args.store.now) around c.args.instance.now call c.args.b c.brigade-name.result c.brigade-name.ensures.name
+    ∙ first_stands (lists c.args.store.now) (next_name c.args.store.now) view c.args.instance.now call c.args.b c.brigade-name.result c.brigade-name.ensures.name
     (c.brigade-name.ensures.there (lists c.args.store.now) c.requires.live)

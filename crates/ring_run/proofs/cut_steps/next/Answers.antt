@@ -8,7 +8,7 @@ use Rattle.run_model.specs.declared.bucket.Cursor.{Cursor}
 use Rattle.brigade_ops.specs.Store.{lists, brigade_of, pool_of, next_name}
 use Rattle.ring_calls.specs.Seen.{seen_over}
 use Rattle.ring_calls.proofs.Standing.{within_set, within_at, within_live}
-use Rattle.ring_calls.proofs.Stands.{spot_within}
+use Rattle.ring_calls.proofs.Stands.{cursor_within}
 use Rattle.ring_calls.proofs.Walks.{held_cursor}
 use Rattle.ring_run.proofs.cut_steps.next.Goals as goal
 
@@ -20,15 +20,15 @@ cursor_value_after-cursor_value-requires g c = within_live c.args.store.now c.ar
 
 pub returns-clause-new : goal.returns-clause-new
 returns-clause-new g c =
-    λ around.
+    λ view.
     let store = c.args.store.now in
     let i = c.args.instance.now in
     let call = c.args.call.now in
     let s = within_at store i call c.args.c c.requires.held c.requires.stands c.bucket.result c.bucket.ensures in
-    let r = seen_over (lists store) (next_name store) around i call in
-    let y = spot_within r c.args.c s.variable c.bucket.result.birth (s.told (next_name store) around) in
-    c.set_cursor.ensures.seen (lists store) (next_name store) around i
-    ∙ (ap (λ (k : Cursor). set_cursor c.args.d k r) (c.cursor_value_after-cursor_value.ensures.place around i call s.variable s.inside.1.0 s.inside.1.1.0 s.inside.1.1.1)
+    let r = seen_over (lists store) (next_name store) view i call in
+    let y = cursor_within r c.args.c s.variable c.bucket.result.birth (s.told (next_name store) view) in
+    c.set_cursor.ensures.seen (lists store) (next_name store) view i
+    ∙ (ap (λ (k : Cursor). set_cursor c.args.d k r) (c.cursor_value_after-cursor_value.ensures.place view i call s.variable s.inside.1.0 s.inside.1.1.0 s.inside.1.1.1)
     ∙ (ap (λ (n : ℕ). set_place c.args.d s.variable (next_place n (items_at r s.variable)) r) (sym y.1.1.0) ∙ ap (λ (p : Place). do_next c.args.d p r) (sym y.1.0)))
 
 pub returns-clause-held : goal.returns-clause-held

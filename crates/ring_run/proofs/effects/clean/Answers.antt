@@ -10,8 +10,8 @@ use Rattle.ring_run.proofs.effects.clean.Goals as goal
 
 pub returns-clause-new : goal.returns-clause-new
 returns-clause-new g c =
-    λ around call held.
-    cleaned_step (lists c.args.store.now) (lists c.clean.new.self) (next_name c.args.store.now) (next_name c.clean.new.self) around c.args.instance.now c.set_mark.new.self call c.args.b
+    λ view call held.
+    cleaned_step (lists c.args.store.now) (lists c.clean.new.self) (next_name c.args.store.now) (next_name c.clean.new.self) view c.args.instance.now c.set_mark.new.self call c.args.b
     c.brigade-name.result (apart_in (brigade_of c.args.store.now) (lists c.args.store.now) (pool_of c.args.store.now) (next_name c.args.store.now) c.args.instance.now call held)
     (c.brigade-name.ensures.live (lists c.args.store.now) c.requires.live) c.set_mark.ensures.rest c.set_mark.ensures.slots c.clean.ensures.next c.clean.ensures.out
 

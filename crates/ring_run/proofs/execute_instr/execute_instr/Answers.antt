@@ -8,7 +8,7 @@ use Rattle.pool_tree.specs.Tree.{map_of}
 use Rattle.brigade_ops.specs.Store.{lists, next_name, references}
 use Rattle.run_model.specs.declared.payload.Payload.{Payload}
 use Rattle.run_model.specs.BucketSteps.{content_at, names_to_read}
-use Rattle.run_model.specs.Cursors.{spot}
+use Rattle.run_model.specs.Cursors.{at_cursor}
 use Rattle.run_model.specs.Cutting.{wanted}
 use Rattle.run_model.specs.Pools.{Pools}
 use Rattle.ring_run.specs.Apart.{clears_pool_by, is_carried_by, keeps_files_by}
@@ -36,7 +36,7 @@ use Rattle.ring_calls.proofs.Faultless.{nowhere}
 use Rattle.ring_run.proofs.Instructions.{clears_live, keeps_rest, pool_cleared, reads_so, unanswered, uncleared}
 use Rattle.ring_calls.proofs.Needed.{faultless_by, fits_by, met, stands}
 use Rattle.ring_calls.proofs.Quiet.{grown_none, told_err}
-use Rattle.ring_calls.proofs.OpenFiles.{open_spot}
+use Rattle.ring_calls.proofs.OpenFiles.{open_at_cursor}
 use Rattle.ring_run.proofs.execute_instr.execute_instr.Goals as goal
 
 emptied : (i : Instance) (x : Instr) (e : Effect) (kind : ClearKind) (q pool : ℕ) → e ≡ effect_of x → e ≡ effect.EmptyPool kind q → pool_to_clear i (effect.EmptyPool kind q) ≡ Some pool
@@ -49,8 +49,8 @@ no_pool n e = cc
 nothing_over : (n : ℕ) → nat_lt 0 n ≡ false → n ≡ 0
 nothing_over n h = grind (arith, nat_tests)
 
-each_during : (P : ContextView → Type 0) → ((around : ContextView) → P around) → (s : Context) (ps : Pools Payload) (hs : List LabelsRun) → (around : ContextView) → P (during s ps hs around)
-each_during P all s ps hs around = all (during s ps hs around)
+each_during : (P : ContextView → Type 0) → ((view : ContextView) → P view) → (s : Context) (ps : Pools Payload) (hs : List LabelsRun) → (view : ContextView) → P (during s ps hs view)
+each_during P all s ps hs view = all (during s ps hs view)
 
 pub returns-in_err-clear_pool-in-EmptyPool : goal.returns-in_err-clear_pool-in-EmptyPool
 returns-in_err-clear_pool-in-EmptyPool g c =
@@ -64,8 +64,8 @@ returns-in_err-clear_pool-in-EmptyPool g c =
       kept = told_err _ _ e.kept;
       unread = told_err _ _ e.unread;
       unmoved = told_err _ _ e.unmoved;
-      sure = λ around none. absurd (false≢true (sym none ∙ clears.wants_memory (seen_over (lists s) (next_name s)
-          (in_context c.args.context.now (map_of c.args.tree.now) around) c.args.instance.now c.args.call.now)));
+      sure = λ view none. absurd (false≢true (sym none ∙ clears.wants_memory (seen_over (lists s) (next_name s)
+          (in_context c.args.context.now (map_of c.args.tree.now) view) c.args.instance.now c.args.call.now)));
       held = e.held;
       house = e.house;
       «open» = e.open;
@@ -93,11 +93,11 @@ returns-in_err-well-in-Read g c =
       kept = told_err _ _ refl;
       unread = told_err _ _ e.unread;
       unmoved = told_err _ _ (rest_others s c.read.new.store i call e.left);
-      sure = λ around none. (
-          let over = in_context c.args.context.now ps around in
+      sure = λ view none. (
+          let over = in_context c.args.context.now ps view in
           let r = seen_over (lists s) (next_name s) over i call in
-          let w = wanted (content_at (spot r c.in-Read.c)) in
-          let never = e.sure over (nothing_over w (grown_none (names_to_read (spot r c.in-Read.c)) 0 (nat_lt 0 w) (ap (grows_by r) (sym c.in-Read.is ∙ c.effect_of-effect.ensures) ∙ none)).1) in
+          let w = wanted (content_at (at_cursor r c.in-Read.c)) in
+          let never = e.sure over (nothing_over w (grown_none (names_to_read (at_cursor r c.in-Read.c)) 0 (nat_lt 0 w) (ap (grows_by r) (sym c.in-Read.is ∙ c.effect_of-effect.ensures) ∙ none)).1) in
           absurd (cc));
       held = e.held;
       house = house_left s c.read.new.store i call ps e.left c.requires.house;
@@ -136,7 +136,7 @@ read-requires-clause-open g c =
     let none = faultless_by c.args.code.now c.args.store.now over c.args.instance.now c.args.call.now c.args.instr c.effect_of-effect.result c.effect_of-effect.ensures
     (c.requires.faultless nowhere) in (
       over,
-      open_spot (g.F.Files.device c.args.files.now) r c.in-Read.c (c.requires.ranges nowhere)
+      open_at_cursor (g.F.Files.device c.args.files.now) r c.in-Read.c (c.requires.ranges nowhere)
           (met none c.in-Read.is 1 (WHome c.in-Read.c) refl),
     )
 
@@ -165,9 +165,9 @@ execute_without_files-requires-clause-kind g c =
 
 pub execute_without_files-requires-clause-faultless : goal.execute_without_files-requires-clause-faultless
 execute_without_files-requires-clause-faultless g c =
-    λ around.
-    let over = in_context c.args.context.now (map_of c.args.tree.now) around in
-    faultless_by c.args.code.now c.args.store.now over c.args.instance.now c.args.call.now c.args.instr c.effect_of-effect.result c.effect_of-effect.ensures (c.requires.faultless around)
+    λ view.
+    let over = in_context c.args.context.now (map_of c.args.tree.now) view in
+    faultless_by c.args.code.now c.args.store.now over c.args.instance.now c.args.call.now c.args.instr c.effect_of-effect.result c.effect_of-effect.ensures (c.requires.faultless view)
 
 read_fits : (p : Program) (c : ℕ) → fits p (instr_with (effect.Read c)) ≡ true → c < 9
 read_fits p c fit = search rules
@@ -184,16 +184,16 @@ returns-in_ok-clear_pool-in-EmptyPool g c =
     let e = c.clear_pool.ensures in
     let done = c.in_ok-clear_pool-in-EmptyPool.ensures in
     record {
-      ok = λ around.
-          let r = seen_over (lists s) (next_name s) (during c.args.context.now (map_of c.args.tree.now) c.args.handed.now.items around) c.args.instance.now c.args.call.now in
+      ok = λ view.
+          let r = seen_over (lists s) (next_name s) (during c.args.context.now (map_of c.args.tree.now) c.args.handed.now.items view) c.args.instance.now c.args.call.now in
           carried (g.F.Files.device c.args.files.now) (g.F.Files.device c.clear_pool.new.files) c.args.code.now c.args.instr (effect.EmptyPool c.in-EmptyPool.kind c.in-EmptyPool.q) r _ _ is
-          (λ choice. sym (clears.goes_on c.args.code.now choice r)) (done.ok c.args.code.now around);
+          (λ choice. sym (clears.goes_on c.args.code.now choice r)) (done.ok c.args.code.now view);
       cleared = λ pool named. done.cleared pool (ap (pool_to_clear c.args.instance.now) is ∙ named);
       err = tt;
       kept = tt;
       unread = tt;
       unmoved = tt;
-      sure = λ around none. refl;
+      sure = λ view none. refl;
       held = e.held;
       house = e.house;
       «open» = e.open;
@@ -215,8 +215,8 @@ returns-in_ok-well-in-Read g c =
     let is = sym c.in-Read.is ∙ c.effect_of-effect.ensures in
     let left = c.read.ensures.left in
     record {
-      ok = λ around.
-          let over = during c.args.context.now ps c.args.handed.now.items around in
+      ok = λ view.
+          let over = during c.args.context.now ps c.args.handed.now.items view in
           let r = seen_over (lists s) (next_name s) over i c.args.call.now in
           let none = faultless_by c.args.code.now s over i c.args.call.now c.args.instr c.effect_of-effect.result c.effect_of-effect.ensures (c.requires.faultless over) in
           let at = read_within r c.in-Read.c (met none c.in-Read.is 0 (WCursor c.in-Read.c InBrigade) refl) (met none c.in-Read.is 1 (WHome c.in-Read.c) refl) in
@@ -228,7 +228,7 @@ returns-in_ok-well-in-Read g c =
       kept = tt;
       unread = tt;
       unmoved = tt;
-      sure = λ around none. refl;
+      sure = λ view none. refl;
       held = c.read.ensures.held;
       name = c.read.ensures.name;
       rises = left.rises;
@@ -251,18 +251,18 @@ returns-in_ok-execute_without_files-in_default g c =
     let is = c.effect_of-effect.ensures in
     let keeps = keeps_rest effect (ap is_carried_by is ∙ c.requires.kind) c.in_default.not-EmptyPool c.in_default.not-Read in
     record {
-      ok = λ around.
-          let over = during c.args.context.now (map_of c.args.tree.now) c.args.handed.now.items around in
+      ok = λ view.
+          let over = during c.args.context.now (map_of c.args.tree.now) c.args.handed.now.items view in
           let r = seen_over (lists s) (next_name s) over c.args.instance.now c.args.call.now in
           carried d d c.args.code.now c.args.instr effect r _ _ is (λ choice. c.exit-leads.ensures over choice)
-          (done_inside d c.args.code.now effect keeps (lists new.store) (next_name new.store) (during c.args.context.now (map_of new.tree) c.args.handed.now.items around) new.instance new.call r
+          (done_inside d c.args.code.now effect keeps (lists new.store) (next_name new.store) (during c.args.context.now (map_of new.tree) c.args.handed.now.items view) new.instance new.call r
           (λ choice. c.in_ok-execute_without_files-in_default.ensures.ok over choice));
       cleared = λ pool named. absurd (no_pool pool (sym (uncleared c.args.instance.now effect keeps) ∙ (ap (pool_to_clear c.args.instance.now) is ∙ named)));
       err = tt;
       kept = tt;
       unread = tt;
       unmoved = tt;
-      sure = λ around none. refl;
+      sure = λ view none. refl;
       held = e.held;
       house = e.house;
       name = e.name;
@@ -286,12 +286,12 @@ returns-in_err-execute_without_files-in_default g c =
       ok = tt;
       cleared = tt;
       unread = refl;
-      err = λ around. failed.err (during c.args.context.now ps c.args.handed.now.items around);
+      err = λ view. failed.err (during c.args.context.now ps c.args.handed.now.items view);
       kept = pools_same (lists s) (lists new.store) (next_name s) (next_name new.store) ps (map_of new.tree) nowhere c.args.instance.now new.instance c.args.call.now new.call (failed.err nowhere);
       unmoved = e.left;
-      sure = λ around none.
-          let r = seen_over (lists s) (next_name s) (in_context c.args.context.now ps around) c.args.instance.now c.args.call.now in
-          failed.sure around (ap (grows_by r) c.effect_of-effect.ensures ∙ none);
+      sure = λ view none.
+          let r = seen_over (lists s) (next_name s) (in_context c.args.context.now ps view) c.args.instance.now c.args.call.now in
+          failed.sure view (ap (grows_by r) c.effect_of-effect.ensures ∙ none);
       held = e.held;
       house = e.house;
       name = e.name;

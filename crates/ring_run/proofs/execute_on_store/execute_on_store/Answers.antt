@@ -4,7 +4,7 @@ use Rattle.std.proofs.lemmas.Bool.{false≢true}
 use Rattle.std.proofs.lemmas.Result.{on_err_weaker, on_ok_weaker}
 use Rattle.module_code.specs.Program.{fits}
 use Rattle.run_model.specs.BucketSteps.{items_at, names_to_part, names_to_split}
-use Rattle.run_model.specs.Cursors.{spot}
+use Rattle.run_model.specs.Cursors.{at_cursor}
 use Rattle.run_model.specs.Effects.{is_full}
 use Rattle.run_model.specs.Faults.{InBrigade, InThis, WHome, WHomeAcross}
 use Rattle.run_model.specs.Steps.{value_of}
@@ -29,7 +29,7 @@ pub change_number-requires-clause-faultless : goal.change_number-requires-clause
 change_number-requires-clause-faultless g c = (in_context c.args.context.now (map_of c.args.tree.now) nowhere, faultless_at (c.requires.faultless nowhere) c.in-Number.is)
 
 pub make_bucket-requires-clause-faultless : goal.make_bucket-requires-clause-faultless
-make_bucket-requires-clause-faultless g c = λ around. faultless_at (c.requires.faultless around) c.in-Make.is
+make_bucket-requires-clause-faultless g c = λ view. faultless_at (c.requires.faultless view) c.in-Make.is
 
 pub returns-in-Make-clause-ok : goal.returns-in-Make-clause-ok
 returns-in-Make-clause-ok g c = rw c.in-Make.is c.make_bucket.ensures.ok
@@ -42,10 +42,10 @@ split-requires-clause-stands g c = stands (c.requires.faultless nowhere) c.in-Sp
 
 pub returns-in-Split-clause-ok : goal.returns-in-Split-clause-ok
 returns-in-Split-clause-ok g c =
-    rw c.in-Split.is (on_ok_weaker c.split.result (λ out around choice.
-    let over = in_context c.args.context.now (map_of c.args.tree.now) around in
+    rw c.in-Split.is (on_ok_weaker c.split.result (λ out view choice.
+    let over = in_context c.args.context.now (map_of c.args.tree.now) view in
     rw (c.from-n.ensures ∙ c.value_of.ensures (lists c.args.store.now) (next_name c.args.store.now) over c.args.call.now) at
-    (out over (met (c.requires.faultless around) c.in-Split.is 1 (WHome c.in-Split.c) refl)))
+    (out over (met (c.requires.faultless view) c.in-Split.is 1 (WHome c.in-Split.c) refl)))
     c.split.ensures.ok)
 
 pub concat-requires-clause-live_first : goal.concat-requires-clause-live_first
@@ -68,18 +68,18 @@ bsplit-requires-clause-stands g c = stands (c.requires.faultless nowhere) c.in-S
 
 pub returns-in-PartBrigade-clause-ok : goal.returns-in-PartBrigade-clause-ok
 returns-in-PartBrigade-clause-ok g c =
-    rw c.in-PartBrigade.is (on_ok_weaker c.bpart.result (λ out around choice.
-    let over = in_context c.args.context.now (map_of c.args.tree.now) around in
+    rw c.in-PartBrigade.is (on_ok_weaker c.bpart.result (λ out view choice.
+    let over = in_context c.args.context.now (map_of c.args.tree.now) view in
     let point = c.from-point.ensures ∙ c.value_of-in-PartBrigade.ensures (lists c.args.store.now) (next_name c.args.store.now) over c.args.call.now in
-    rw point at (out over (rw point (met (c.requires.faultless around) c.in-PartBrigade.is 1 (WHomeAcross c.in-PartBrigade.b c.in-PartBrigade.x) refl))))
+    rw point at (out over (rw point (met (c.requires.faultless view) c.in-PartBrigade.is 1 (WHomeAcross c.in-PartBrigade.b c.in-PartBrigade.x) refl))))
     c.bpart.ensures.ok)
 
 pub returns-in-Concat-clause-left : goal.returns-in-Concat-clause-left
 returns-in-Concat-clause-left g c = c.concat.ensures.left c.args.call.now
 
 pub returns-in-PartBrigade-clause-sure : goal.returns-in-PartBrigade-clause-sure
-returns-in-PartBrigade-clause-sure g c around none =
-    let over = in_context c.args.context.now (map_of c.args.tree.now) around in
+returns-in-PartBrigade-clause-sure g c view none =
+    let over = in_context c.args.context.now (map_of c.args.tree.now) view in
     let r = seen_over (lists c.args.store.now) (next_name c.args.store.now) over c.args.instance.now c.args.call.now in
     let at = c.from-point.ensures ∙ c.value_of-in-PartBrigade.ensures (lists c.args.store.now) (next_name c.args.store.now) over c.args.call.now in
     c.bpart.ensures.sure over (ap (λ (n : ℕ). names_to_part n (items_at r c.in-PartBrigade.b)) at
@@ -90,55 +90,50 @@ not_full true e = refl
 not_full false e = absurd (false≢true (sym e))
 
 pub returns-in-Nothing-clause-ok : goal.returns-in-Nothing-clause-ok
-returns-in-Nothing-clause-ok g c = rw c.in-Nothing.is (λ around choice. refl)
+returns-in-Nothing-clause-ok g c = rw c.in-Nothing.is (λ view choice. refl)
 
 pub returns-in-Number-clause-ok : goal.returns-in-Number-clause-ok
-returns-in-Number-clause-ok g c = rw c.in-Number.is (λ around choice. c.change_number.ensures.new (in_context c.args.context.now (map_of c.args.tree.now) around))
+returns-in-Number-clause-ok g c = rw c.in-Number.is (λ view choice. c.change_number.ensures.new (in_context c.args.context.now (map_of c.args.tree.now) view))
 
 pub returns-in-Put-clause-ok : goal.returns-in-Put-clause-ok
 returns-in-Put-clause-ok g c =
-    rw c.in-Put.is (on_ok_weaker c.put.result (λ made around choice.
-    made (lists c.args.store.now) (next_name c.args.store.now) (in_context c.args.context.now (map_of c.args.tree.now) around)) c.put.ensures.ok)
+    rw c.in-Put.is (on_ok_weaker c.put.result (λ made view choice.
+    made (lists c.args.store.now) (next_name c.args.store.now) (in_context c.args.context.now (map_of c.args.tree.now) view)) c.put.ensures.ok)
 
 pub returns-in-Concat-clause-ok : goal.returns-in-Concat-clause-ok
 returns-in-Concat-clause-ok g c =
-    rw c.in-Concat.is (on_ok_weaker c.concat.result (λ made around choice.
-    made (in_context c.args.context.now (map_of c.args.tree.now) around) c.args.call.now c.requires.held) c.concat.ensures.ok)
+    rw c.in-Concat.is (λ view choice. c.concat.ensures.new (in_context c.args.context.now (map_of c.args.tree.now) view) c.args.call.now c.requires.held)
 
 pub returns-in-SplitBrigade-clause-ok : goal.returns-in-SplitBrigade-clause-ok
 returns-in-SplitBrigade-clause-ok g c =
-    rw c.in-SplitBrigade.is (on_ok_weaker c.bsplit.result (λ made around choice.
-    made (in_context c.args.context.now (map_of c.args.tree.now) around)) c.bsplit.ensures.ok)
+    rw c.in-SplitBrigade.is (λ view choice. c.bsplit.ensures.new (in_context c.args.context.now (map_of c.args.tree.now) view))
 
 pub returns-in-Clean-clause-ok : goal.returns-in-Clean-clause-ok
-returns-in-Clean-clause-ok g c around choice = c.move_buckets.ensures.state (in_context c.args.context.now (map_of c.args.tree.now) around) choice
+returns-in-Clean-clause-ok g c view choice = c.move_buckets.ensures.state (in_context c.args.context.now (map_of c.args.tree.now) view) choice
 
 pub returns-in-Put-clause-err : goal.returns-in-Put-clause-err
-returns-in-Put-clause-err g c = on_err_weaker c.put.result (λ same around. same (lists c.args.store.now) (next_name c.args.store.now) around) c.put.ensures.err
-
-pub returns-in-Concat-clause-err : goal.returns-in-Concat-clause-err
-returns-in-Concat-clause-err g c = on_err_weaker c.concat.result (λ same around. same around c.args.call.now) c.concat.ensures.err
+returns-in-Put-clause-err g c = on_err_weaker c.put.result (λ same view. same (lists c.args.store.now) (next_name c.args.store.now) view) c.put.ensures.err
 
 pub returns-in-Put-clause-sure : goal.returns-in-Put-clause-sure
-returns-in-Put-clause-sure g c around none =
-    let over = in_context c.args.context.now (map_of c.args.tree.now) around in
+returns-in-Put-clause-sure g c view none =
+    let over = in_context c.args.context.now (map_of c.args.tree.now) view in
     let r = seen_over (lists c.args.store.now) (next_name c.args.store.now) over c.args.instance.now c.args.call.now in
     c.put.ensures.sure (lists c.args.store.now) (next_name c.args.store.now) over
     (not_full (is_full r c.in-Put.x) (grown_none 0 0 (not (is_full r c.in-Put.x)) (sym (ap (grows_by r) c.in-Put.is) ∙ none)).1)
 
 pub returns-in-Make-clause-sure : goal.returns-in-Make-clause-sure
-returns-in-Make-clause-sure g c around none =
-    let over = in_context c.args.context.now (map_of c.args.tree.now) around in
+returns-in-Make-clause-sure g c view none =
+    let over = in_context c.args.context.now (map_of c.args.tree.now) view in
     let r = seen_over (lists c.args.store.now) (next_name c.args.store.now) over c.args.instance.now c.args.call.now in
     absurd (false≢true (sym none ∙ ap (grows_by r) c.in-Make.is))
 
 pub returns-in-Split-clause-sure : goal.returns-in-Split-clause-sure
-returns-in-Split-clause-sure g c around none =
-    let over = in_context c.args.context.now (map_of c.args.tree.now) around in
+returns-in-Split-clause-sure g c view none =
+    let over = in_context c.args.context.now (map_of c.args.tree.now) view in
     let r = seen_over (lists c.args.store.now) (next_name c.args.store.now) over c.args.instance.now c.args.call.now in
     let at = c.from-n.ensures ∙ c.value_of.ensures (lists c.args.store.now) (next_name c.args.store.now) over c.args.call.now in
-    c.split.ensures.sure over (ap (λ (n : ℕ). names_to_split n (spot r c.in-Split.c)) at
-    ∙ (grown_none (names_to_split (value_of r c.in-Split.x) (spot r c.in-Split.c)) 0 false (sym (ap (grows_by r) c.in-Split.is) ∙ none)).0)
+    c.split.ensures.sure over (ap (λ (n : ℕ). names_to_split n (at_cursor r c.in-Split.c)) at
+    ∙ (grown_none (names_to_split (value_of r c.in-Split.x) (at_cursor r c.in-Split.c)) 0 false (sym (ap (grows_by r) c.in-Split.is) ∙ none)).0)
 
 pub returns-in-Put-clause-held : goal.returns-in-Put-clause-held
 returns-in-Put-clause-held g c = c.put.ensures.held (brigade_of c.args.store.now) (lists c.args.store.now) (pool_of c.args.store.now) (next_name c.args.store.now) c.requires.held

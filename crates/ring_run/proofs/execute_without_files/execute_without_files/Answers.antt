@@ -6,7 +6,7 @@ use Rattle.std.proofs.lemmas.Result.{on_err_weaker, on_ok_weaker}
 use Rattle.module_code.specs.Program.{pool_of_brigade, pool_of_pool}
 use Rattle.module_code.specs.declared.instr.PoolRef.{PoolRef}
 use Rattle.run_model.specs.BucketSteps.{items_at}
-use Rattle.run_model.specs.Cursors.{bucket_at, spot}
+use Rattle.run_model.specs.Cursors.{bucket_at, at_cursor}
 use Rattle.run_model.specs.Effects.{made_on}
 use Rattle.run_model.specs.Faults.{OnBucket, WHome, WHomes, WPool, fault_want}
 use Rattle.run_model.specs.State.{items_of, pool_named}
@@ -22,7 +22,7 @@ use Rattle.ring_calls.proofs.HeldAlike.{held_slots}
 use Rattle.ring_calls.proofs.LeftAlone.{rest_none, rest_others}
 use Rattle.ring_run.proofs.CarriedOut.{names_kept, names_same}
 use Rattle.ring_run.proofs.Trees.{house_left, over_pools}
-use Rattle.ring_calls.proofs.OpenFiles.{open_items, open_spot, refs_same}
+use Rattle.ring_calls.proofs.OpenFiles.{open_items, open_at_cursor, refs_same}
 use Rattle.ring_calls.proofs.Faultless.{nowhere}
 use Rattle.ring_calls.proofs.Quiet.{grown_none}
 use Rattle.ring_run.specs.Grows.{grows_by}
@@ -80,7 +80,7 @@ returns-in_default g c =
     let e = c.execute_on_store.ensures in
     record {
       ok = e.ok;
-      err = on_err_weaker c.execute_on_store.result (λ same around. same (over_pools (map_of c.args.tree.now) around)) e.err;
+      err = on_err_weaker c.execute_on_store.result (λ same view. same (over_pools (map_of c.args.tree.now) view)) e.err;
       sure = e.sure;
       held = e.held;
       name = e.name;
@@ -96,13 +96,13 @@ execute_on_store-requires g c = search rules
 
 pub returns-in-MakePool : goal.returns-in-MakePool
 returns-in-MakePool g c = record {
-  ok = rw c.in-MakePool.is (on_ok_weaker c.create_pool.result (λ made around choice.
-      made c.args.code.now (lists c.args.store.now) (next_name c.args.store.now) (in_context c.args.context.now (map_of c.args.tree.now) around) c.args.call.now
-      (rw c.pool_parent.ensures at (c.live_pool-parent.ensures.named (lists c.args.store.now) (next_name c.args.store.now) around c.args.call.now)))
+  ok = rw c.in-MakePool.is (on_ok_weaker c.create_pool.result (λ made view choice.
+      made c.args.code.now (lists c.args.store.now) (next_name c.args.store.now) (in_context c.args.context.now (map_of c.args.tree.now) view) c.args.call.now
+      (rw c.pool_parent.ensures at (c.live_pool-parent.ensures.named (lists c.args.store.now) (next_name c.args.store.now) view c.args.call.now)))
       c.create_pool.ensures.ok);
-  err = on_err_weaker c.create_pool.result (λ same around. same (lists c.args.store.now) (next_name c.args.store.now) around c.args.call.now) c.create_pool.ensures.err;
-  sure = λ around none.
-      let over = in_context c.args.context.now (map_of c.args.tree.now) around in
+  err = on_err_weaker c.create_pool.result (λ same view. same (lists c.args.store.now) (next_name c.args.store.now) view c.args.call.now) c.create_pool.ensures.err;
+  sure = λ view none.
+      let over = in_context c.args.context.now (map_of c.args.tree.now) view in
       absurd (false≢true (sym none ∙ ap (grows_by (seen_over (lists c.args.store.now) (next_name c.args.store.now) over c.args.instance.now c.args.call.now)) c.in-MakePool.is));
   held = held_slots (brigade_of c.args.store.now) (lists c.args.store.now) (pool_of c.args.store.now) (next_name c.args.store.now) c.args.instance.now c.create_pool.new.instance
       c.args.call.now c.create_pool.ensures.slots c.requires.held;
@@ -116,14 +116,14 @@ returns-in-MakePool g c = record {
 
 pub returns-in-Register : goal.returns-in-Register
 returns-in-Register g c = record {
-  ok = rw c.in-Register.is (on_ok_weaker c.label.result (λ made around choice.
-      rw (c.live_pool-on.ensures.named (lists c.args.store.now) (next_name c.args.store.now) around c.args.call.now)
-      (made (lists c.args.store.now) (next_name c.args.store.now) (in_context c.args.context.now (map_of c.args.tree.now) around) c.args.instance.now c.args.call.now))
+  ok = rw c.in-Register.is (on_ok_weaker c.label.result (λ made view choice.
+      rw (c.live_pool-on.ensures.named (lists c.args.store.now) (next_name c.args.store.now) view c.args.call.now)
+      (made (lists c.args.store.now) (next_name c.args.store.now) (in_context c.args.context.now (map_of c.args.tree.now) view) c.args.instance.now c.args.call.now))
       c.label.ensures.ok);
-  err = on_err_weaker c.label.result (λ same around. same (lists c.args.store.now) (next_name c.args.store.now) around c.args.instance.now c.args.call.now)
+  err = on_err_weaker c.label.result (λ same view. same (lists c.args.store.now) (next_name c.args.store.now) view c.args.instance.now c.args.call.now)
       c.label.ensures.err;
-  sure = λ around none.
-      let over = in_context c.args.context.now (map_of c.args.tree.now) around in
+  sure = λ view none.
+      let over = in_context c.args.context.now (map_of c.args.tree.now) view in
       absurd (false≢true (sym none ∙ ap (grows_by (seen_over (lists c.args.store.now) (next_name c.args.store.now) over c.args.instance.now c.args.call.now)) c.in-Register.is));
   left = rest_none c.args.store.now c.args.instance.now c.args.call.now;
   held = c.requires.held;
@@ -136,12 +136,12 @@ returns-in-Register g c = record {
 
 pub returns-in-Kill : goal.returns-in-Kill
 returns-in-Kill g c = record {
-  ok = rw c.in-Kill.is (λ around choice.
-      rw (c.live_pool-on-in-Kill.ensures.named (lists c.args.store.now) (next_name c.args.store.now) around c.args.call.now)
-      (c.unlabel.ensures.new (lists c.args.store.now) (next_name c.args.store.now) (in_context c.args.context.now (map_of c.args.tree.now) around) c.args.instance.now c.args.call.now));
+  ok = rw c.in-Kill.is (λ view choice.
+      rw (c.live_pool-on-in-Kill.ensures.named (lists c.args.store.now) (next_name c.args.store.now) view c.args.call.now)
+      (c.unlabel.ensures.new (lists c.args.store.now) (next_name c.args.store.now) (in_context c.args.context.now (map_of c.args.tree.now) view) c.args.instance.now c.args.call.now));
   left = rest_none c.args.store.now c.args.instance.now c.args.call.now;
   err = tt;
-  sure = λ around none. refl;
+  sure = λ view none. refl;
   held = c.requires.held;
   house = c.unlabel.ensures.house _ _ _ c.requires.house;
   «open» = λ d ranges all. all;
@@ -152,13 +152,13 @@ returns-in-Kill g c = record {
 
 pub returns-in-MakeBrigade : goal.returns-in-MakeBrigade
 returns-in-MakeBrigade g c = record {
-  ok = rw c.in-MakeBrigade.is (on_ok_weaker c.create.result (λ made around choice.
-      made c.args.code.now (in_context c.args.context.now (map_of c.args.tree.now) around) c.args.call.now c.requires.held
-      (rw c.brigade_pool.ensures at (c.live_pool-on-in-MakeBrigade.ensures.named (lists c.args.store.now) (next_name c.args.store.now) around c.args.call.now)))
+  ok = rw c.in-MakeBrigade.is (on_ok_weaker c.create.result (λ made view choice.
+      made c.args.code.now (in_context c.args.context.now (map_of c.args.tree.now) view) c.args.call.now c.requires.held
+      (rw c.brigade_pool.ensures at (c.live_pool-on-in-MakeBrigade.ensures.named (lists c.args.store.now) (next_name c.args.store.now) view c.args.call.now)))
       c.create.ensures.ok);
-  err = on_err_weaker c.create.result (λ same around. same around c.args.call.now) c.create.ensures.err;
-  sure = λ around none.
-      let over = in_context c.args.context.now (map_of c.args.tree.now) around in
+  err = on_err_weaker c.create.result (λ same view. same view c.args.call.now) c.create.ensures.err;
+  sure = λ view none.
+      let over = in_context c.args.context.now (map_of c.args.tree.now) view in
       absurd (false≢true (sym none ∙ ap (grows_by (seen_over (lists c.args.store.now) (next_name c.args.store.now) over c.args.instance.now c.args.call.now)) c.in-MakeBrigade.is));
   «open» = λ d ranges all. refs_same d (references c.args.store.now) (references c.create.new.store) (λ f. ap (λ (r : ℕ → ℕ). r f) c.create.ensures.references) all;
   held = c.create.ensures.held c.args.call.now c.requires.held;
@@ -172,10 +172,10 @@ returns-in-MakeBrigade g c = record {
 pub returns-in-Save : goal.returns-in-Save
 unfolding map_of seen_over
 returns-in-Save g c = record {
-  ok = rw c.in-Save.is (on_ok_weaker c.save.result (λ made around choice. made (in_context c.args.context.now (map_of c.args.tree.now) around) c.args.call.now c.requires.held) c.save.ensures.ok);
-  err = on_err_weaker c.save.result (λ same around. same around c.args.call.now) c.save.ensures.err;
-  sure = λ around none.
-      let over = in_context c.args.context.now (map_of c.args.tree.now) around in
+  ok = rw c.in-Save.is (on_ok_weaker c.save.result (λ made view choice. made (in_context c.args.context.now (map_of c.args.tree.now) view) c.args.call.now c.requires.held) c.save.ensures.ok);
+  err = on_err_weaker c.save.result (λ same view. same view c.args.call.now) c.save.ensures.err;
+  sure = λ view none.
+      let over = in_context c.args.context.now (map_of c.args.tree.now) view in
       let r = seen_over (lists c.args.store.now) (next_name c.args.store.now) over c.args.instance.now c.args.call.now in
       c.save.ensures.sure over c.args.call.now
       (grown_none 0 0 (takes_reference (map_of c.args.tree.now) (made_on (r.instance.brigades c.in-Save.o)) (items_at r c.in-Save.b)) (sym (ap (grows_by r) c.in-Save.is) ∙ none)).1;
@@ -195,21 +195,21 @@ returns-in-Save g c = record {
 pub returns-in-Aside : goal.returns-in-Aside
 unfolding map_of seen_over
 returns-in-Aside g c = record {
-  ok = rw c.in-Aside.is (on_ok_weaker c.aside.result (λ made around choice.
-      rw (c.live_pool-to.ensures.named (lists c.args.store.now) (next_name c.args.store.now) around c.args.call.now) (made (in_context c.args.context.now (map_of c.args.tree.now) around)))
+  ok = rw c.in-Aside.is (on_ok_weaker c.aside.result (λ made view choice.
+      rw (c.live_pool-to.ensures.named (lists c.args.store.now) (next_name c.args.store.now) view c.args.call.now) (made (in_context c.args.context.now (map_of c.args.tree.now) view)))
       c.aside.ensures.ok);
-  sure = λ around none.
-      let over = in_context c.args.context.now (map_of c.args.tree.now) around in
+  sure = λ view none.
+      let over = in_context c.args.context.now (map_of c.args.tree.now) view in
       let r = seen_over (lists c.args.store.now) (next_name c.args.store.now) over c.args.instance.now c.args.call.now in
-      let bs = option_to_list (bucket_at (spot r c.in-Aside.c)) in
+      let bs = option_to_list (bucket_at (at_cursor r c.in-Aside.c)) in
       let plain = (grown_none 0 0 (takes_reference (map_of c.args.tree.now) (pool_named r c.in-Aside.pool) bs) (sym (ap (grows_by r) c.in-Aside.is) ∙ none)).1 in
       c.aside.ensures.sure over
-      (sym (ap (λ (p : Option ℕ). takes_reference (map_of c.args.tree.now) p bs) (c.live_pool-to.ensures.named (lists c.args.store.now) (next_name c.args.store.now) around c.args.call.now)) ∙ plain);
+      (sym (ap (λ (p : Option ℕ). takes_reference (map_of c.args.tree.now) p bs) (c.live_pool-to.ensures.named (lists c.args.store.now) (next_name c.args.store.now) view c.args.call.now)) ∙ plain);
   «open» = λ d ranges all.
       let over = in_context c.args.context.now (map_of c.args.tree.now) nowhere in
       let r = seen_over (lists c.args.store.now) (next_name c.args.store.now) over c.args.instance.now c.args.call.now in
       let alive = met (c.requires.faultless nowhere) c.in-Aside.is 2 (WHome c.in-Aside.c) refl in
-      c.aside.ensures.open d over (open_spot d r c.in-Aside.c (ranges nowhere) alive) all;
+      c.aside.ensures.open d over (open_at_cursor d r c.in-Aside.c (ranges nowhere) alive) all;
   err = c.aside.ensures.err;
   held = c.aside.ensures.held;
   house = c.aside.ensures.house c.requires.house;

@@ -9,16 +9,16 @@ use Rattle.ring_run.proofs.live_pools.live_pool.Goals as goal
 pub unreachable-requires : goal.unreachable-requires
 unreachable-requires c =
     let there = c.requires.there in
-    let around = there.1.1.0 in
+    let view = there.1.1.0 in
     let call = there.1.1.1.0 in
-    named_some (seen_over there.0 there.1.0 (in_context c.args.context.now (map_of c.args.tree.now) around) c.args.instance.now call) c.args.pool there.1.1.1.1
-    (sym (c.pool_named.ensures (map_of c.args.tree.now) there.0 there.1.0 around call) ∙ c.in-None.is)
+    named_some (seen_over there.0 there.1.0 (in_context c.args.context.now (map_of c.args.tree.now) view) c.args.instance.now call) c.args.pool there.1.1.1.1
+    (sym (c.pool_named.ensures (map_of c.args.tree.now) there.0 there.1.0 view call) ∙ c.in-None.is)
 
 pub returns-clause-live : goal.returns-clause-live
 unfolding seen_over
 returns-clause-live c =
     let there = c.requires.there in
-    let around = there.1.1.0 in
+    let view = there.1.1.0 in
     let call = there.1.1.1.0 in
-    named_live (seen_over there.0 there.1.0 (in_context c.args.context.now (map_of c.args.tree.now) around) c.args.instance.now call) c.args.pool c.in-Some.name there.1.1.1.1
-    (sym (c.pool_named.ensures (map_of c.args.tree.now) there.0 there.1.0 around call) ∙ c.in-Some.is)
+    named_live (seen_over there.0 there.1.0 (in_context c.args.context.now (map_of c.args.tree.now) view) c.args.instance.now call) c.args.pool c.in-Some.name there.1.1.1.1
+    (sym (c.pool_named.ensures (map_of c.args.tree.now) there.0 there.1.0 view call) ∙ c.in-Some.is)

@@ -19,20 +19,20 @@ use Rattle.ring_calls.proofs.Needed.{met, stands}
 use Rattle.ring_run.proofs.Makes.{alive_at, home_now}
 use Rattle.ring_run.proofs.makers.add_made.Goals as goal
 
-call_seen : (L : ℕ → Option Items) (k : ℕ) (around : ContextView) (i : Instance) (call : Call)
-    → ((seen_over L k around i call).call.name ≡ call.name) × ((seen_over L k around i call).call.buffer ≡ call.buffer)
+call_seen : (L : ℕ → Option Items) (k : ℕ) (view : ContextView) (i : Instance) (call : Call)
+    → ((seen_over L k view i call).call.name ≡ call.name) × ((seen_over L k view i call).call.buffer ≡ call.buffer)
 unfolding seen_over
-call_seen L k around i call = (refl, refl)
+call_seen L k view i call = (refl, refl)
 
 pub live_pool-requires : goal.live_pool-requires
 live_pool-requires g c = record { there = (_, (_, (nowhere, (_, met (c.requires.faultless.1 nowhere) (ap (effect.Make c.requires.faultless.0) c.in-PoolBuffer.is) 0 (WPool _) refl)))) }
 
 pub returns-clause-ok : goal.returns-clause-ok
 returns-clause-ok g c =
-    let made : (around : ContextView) → made_of c.args.code.now (seen c.args.store.now (in_context c.args.context.now
-    (map_of c.args.tree.now) around) c.args.instance.now c.args.call.now) c.args.source
-    ≡ Some (bucket_in (calls_in (in_context c.args.context.now (map_of c.args.tree.now) around) c.args.call.now) (next_name c.args.store.now) c.match-source.bucket) =
-    λ around. grind (arith, home_now, call_seen) in
+    let made : (view : ContextView) → made_of c.args.code.now (seen c.args.store.now (in_context c.args.context.now
+    (map_of c.args.tree.now) view) c.args.instance.now c.args.call.now) c.args.source
+    ≡ Some (bucket_in (calls_in (in_context c.args.context.now (map_of c.args.tree.now) view) c.args.call.now) (next_name c.args.store.now) c.match-source.bucket) =
+    λ view. grind (arith, home_now, call_seen) in
     grind (arith, common_steps)
 
 pub bucket-requires-clause-at : goal.bucket-requires-clause-at
@@ -46,8 +46,8 @@ pub returns-in-CopyAt-clause-ok : goal.returns-in-CopyAt-clause-ok
 returns-in-CopyAt-clause-ok g c =
     let is = ap (effect.Make c.requires.faultless.0) c.in-CopyAt.is in
     let s = bucket_here _ _ _ _ c.requires.held (stands (c.requires.faultless.1 nowhere) is 0 c.in-CopyAt.d OnBucket refl) _ c.bucket.ensures in
-    let made = λ (around : ContextView).
-    let over = in_context c.args.context.now (map_of c.args.tree.now) around in
-    let alive = alive_at (s.at over) (met (c.requires.faultless.1 around) is 1 (WHome c.in-CopyAt.d) refl) in
+    let made = λ (view : ContextView).
+    let over = in_context c.args.context.now (map_of c.args.tree.now) view in
+    let alive = alive_at (s.at over) (met (c.requires.faultless.1 view) is 1 (WHome c.in-CopyAt.d) refl) in
     rw (sym (home_later _ _ (next_name c.args.store.now) s.bucket.home alive (omega (arith, (c.requires.held.given _ _ c.bucket.ensures).young)))) at (s.at over) in
     grind (arith, common_steps, made)

@@ -14,16 +14,16 @@ use Rattle.ring_run.proofs.makers.make_bucket.Goals as goal
 
 pub returns-clause-ok : goal.returns-clause-ok
 returns-clause-ok g c =
-    λ around choice.
+    λ view choice.
     let old = c.args.store.now in
-    let over = in_context c.args.context.now (map_of c.args.tree.now) around in
+    let over = in_context c.args.context.now (map_of c.args.tree.now) view in
     let i = c.args.instance.now in
     let new = c.in_ok-id.ensures.ok in
     ap (λ (k : ℕ). seen_over (lists c.add_made.new.store) k over i c.set_cursor.new.self) new.1.0.next
     ∙ (made (lists old) (lists c.add_made.new.store) (next_name old) over i c.args.call.now c.in_ok-id.id new.0 c.set_cursor.new.self c.args.c
     (apart_in (brigade_of old) (lists old) (pool_of old) (next_name old) i c.args.call.now c.requires.held) (c.requires.held.runs c.requires.runs) new.1.0.name new.1.0.out
     (c.set_cursor.ensures.seen (lists c.add_made.new.store) (next_name old + 1) over i)
-    ∙ ap (λ (o : Option Bucket). do_make c.args.c o (seen_over (lists old) (next_name old) over i c.args.call.now)) (sym (new.1.1 around)))
+    ∙ ap (λ (o : Option Bucket). do_make c.args.c o (seen_over (lists old) (next_name old) over i c.args.call.now)) (sym (new.1.1 view)))
 
 pub returns-clause-held : goal.returns-clause-held
 returns-clause-held g c =

@@ -17,13 +17,13 @@ use Rattle.ring_run.proofs.part_steps.bpart.Goals as goal
 
 pub returns-clause-ok : goal.returns-clause-ok
 returns-clause-ok g c =
-    λ around alive.
+    λ view alive.
     let there = c.brigade-name.ensures.there (lists c.args.store.now) c.requires.live in
     let between : WasFound c.args.store.now c.partition.new.self c.brigade-name.result c.args.point c.in-Ok.cut = λ no. let h = c.in-Ok.ensures.between no in (same_ok c.in-Ok.cut _ h.0, h.1) in
-    parted_step c.args.store.now c.partition.new.self c.brigade-name.result c.args.point c.in-Ok.cut between c.in-Ok.ensures.inside c.in-Ok.ensures.next there around c.args.instance.now
+    parted_step c.args.store.now c.partition.new.self c.brigade-name.result c.args.point c.in-Ok.cut between c.in-Ok.ensures.inside c.in-Ok.ensures.next there view c.args.instance.now
     c.args.call.now c.args.b c.requires.held c.brigade-name.ensures.name c.args.c c.set_cursor.new.self alive
-    (c.set_cursor.ensures.seen (lists c.partition.new.self) (next_name c.partition.new.self) around c.args.instance.now
-    ∙ ap (λ s. set_cursor c.args.c (shown_cursor s) (seen c.partition.new.self around c.args.instance.now c.args.call.now)) c.cursor_value_of.ensures)
+    (c.set_cursor.ensures.seen (lists c.partition.new.self) (next_name c.partition.new.self) view c.args.instance.now
+    ∙ ap (λ s. set_cursor c.args.c (shown_cursor s) (seen c.partition.new.self view c.args.instance.now c.args.call.now)) c.cursor_value_of.ensures)
 
 pub returns-clause-held : goal.returns-clause-held
 returns-clause-held g c =
@@ -55,12 +55,12 @@ returns-in_default-clause-left g c =
     c.partition.ensures.pools c.partition.ensures.references c.partition.ensures.unasked c.in_default.ensures.err c.args.instance.now c.args.call.now
 
 pub returns-in_default-clause-sure : goal.returns-in_default-clause-sure
-returns-in_default-clause-sure g c around none =
+returns-in_default-clause-sure g c view none =
     let s = c.args.store.now in
     let name = c.brigade-name.result in
-    let runs = calls_in around c.args.call.now in
-    let items : items_at (seen s around c.args.instance.now c.args.call.now) c.args.b ≡ shown runs (list_at (lists s) name) =
-    items_live (lists s) (next_name s) around c.args.instance.now c.args.call.now c.args.b name (c.brigade-name.ensures.live (lists c.args.store.now) c.requires.live) in
+    let runs = calls_in view c.args.call.now in
+    let items : items_at (seen s view c.args.instance.now c.args.call.now) c.args.b ≡ shown runs (list_at (lists s) name) =
+    items_live (lists s) (next_name s) view c.args.instance.now c.args.call.now c.args.b name (c.brigade-name.ensures.live (lists c.args.store.now) c.requires.live) in
     let across : is_some (bucket_across c.args.point (shown runs (list_at (lists s) name))) ≡ false = names_none _ (sym (ap (names_to_part c.args.point) items) ∙ none) in
     let between : is_inside (point_in c.args.point (list_at (lists s) name)) ≡ false = sym (cut_shown c.args.point runs (list_at (lists s) name)) ∙ across in
     absurd (c.in_default.not-Ok _ (c.partition.ensures.between between).0)

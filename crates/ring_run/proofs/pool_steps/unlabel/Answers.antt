@@ -20,21 +20,21 @@ use Rattle.ring_run.proofs.pool_steps.unlabel.Goals as goal
 pub returns-in-Some-clause-new : goal.returns-in-Some-clause-new
 unfolding seen_over with_pools text_of text_at
 returns-in-Some-clause-new c =
-    λ rings next around i call.
+    λ rings next view i call.
     let ps = map_of c.args.tree.now in
     let test = is_label c.text.result.now in
     let at = subst (λ (xs : List Payload). IsLastAt test xs c.in-Some.index) c.payloads.ensures c.in-Some.ensures in
-    ap (λ (qs : Pools Payload). with_pools qs (seen_over rings next (over_pools ps around) i call))
+    ap (λ (qs : Pools Payload). with_pools qs (seen_over rings next (over_pools ps view) i call))
     (c.take_out.ensures.rest ∙ (killed_at ps c.args.pool test c.in-Some.index c.take_out.result at c.take_out.ensures.taken ∙ ap (λ (t : List ℕ). killed c.args.pool (is_label t) ps) c.text.ensures))
 
 pub returns-in_default-clause-new : goal.returns-in_default-clause-new
 unfolding seen_over with_pools text_of text_at
 returns-in_default-clause-new c =
-    λ rings next around i call.
+    λ rings next view i call.
     let ps = map_of c.args.tree.now in
     let test = is_label c.text.result.now in
     let none = subst (λ (xs : List Payload). list_any test xs ≡ false) c.payloads.ensures c.in_default.ensures in
-    ap (λ (qs : Pools Payload). with_pools qs (seen_over rings next (over_pools ps around) i call))
+    ap (λ (qs : Pools Payload). with_pools qs (seen_over rings next (over_pools ps view) i call))
     (killed_none ps c.args.pool test none ∙ ap (λ (t : List ℕ). killed c.args.pool (is_label t) ps) c.text.ensures)
 
 pub returns-in-Some-clause-house : goal.returns-in-Some-clause-house

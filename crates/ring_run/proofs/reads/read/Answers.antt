@@ -42,30 +42,30 @@ read-requires-clause-ends g c =
 
 pub returns-in-Ok-clause-ok : goal.returns-in-Ok-clause-ok
 returns-in-Ok-clause-ok g c =
-    λ around b z stands home.
+    λ view b z stands home.
     let s = within_here c.args.store.now c.args.instance.now c.args.call.now c.args.c c.requires.held c.requires.stands c.bucket-id.result c.bucket-id.ensures in
-    let r = seen_over (lists c.args.store.now) (next_name c.args.store.now) around c.args.instance.now c.args.call.now in
-    let y : NamedBucket = named_item (item_in (calls_in around c.args.call.now) (c.bucket-id.result, s.bucket)) in
+    let r = seen_over (lists c.args.store.now) (next_name c.args.store.now) view c.args.instance.now c.args.call.now in
+    let y : NamedBucket = named_item (item_in (calls_in view c.args.call.now) (c.bucket-id.result, s.bucket)) in
     let read = c.in-Ok.ensures.read s.bucket s.here in
     let gave = read.ok s.ring s.inside in
     let took = taken_of (g.F.Files.device c.args.files.now) s.bucket.content gave.0 gave.1 in
     let same = took.1.1 s.bucket in
     let wrote = same_read c.args.store.now c.read.new.self c.bucket-id.result c.in-Ok.field-0 s.bucket s.ring gave.0 took.0 same gave.2 in
-    let alive = alive_at (ap bucket_at (s.at around)) (ap (λ (s : Place). home_fault (bucket_at s)) stands ∙ home) in
+    let alive = alive_at (ap bucket_at (s.at view)) (ap (λ (s : Place). home_fault (bucket_at s)) stands ∙ home) in
     let rest = read.rest ∙ rest_same [] took.0 s.bucket in
     let next = next_is [] s.bucket (next_name c.args.store.now) (next_name c.read.new.self) read.names in
     subst (λ (s : Place). WasRead (g.F.Files.device c.args.files.now) (g.F.Files.device c.read.new.files) s r
-    (seen_over (lists c.read.new.self) (next_name c.read.new.self) around c.args.instance.now c.set_cursor.new.self) true) (sym (s.at around))
+    (seen_over (lists c.read.new.self) (next_name c.read.new.self) view c.args.instance.now c.set_cursor.new.self) true) (sym (s.at view))
     (record {
       given = Some gave.0;
       gave = (gave.1, read.asked);
       answer = told_some (Some gave.0) s.variable y took.0 took.1.0;
-      state = done_read (Some gave.0) (Some took.0) s.variable y r (seen_over (lists c.read.new.self) (next_name c.read.new.self) around c.args.instance.now c.set_cursor.new.self) took.1.0
-          (read_into (lists c.args.store.now) (lists c.read.new.self) (next_name c.args.store.now) (next_name c.read.new.self) around c.args.instance.now c.args.call.now c.set_cursor.new.self
+      state = done_read (Some gave.0) (Some took.0) s.variable y r (seen_over (lists c.read.new.self) (next_name c.read.new.self) view c.args.instance.now c.set_cursor.new.self) took.1.0
+          (read_into (lists c.args.store.now) (lists c.read.new.self) (next_name c.args.store.now) (next_name c.read.new.self) view c.args.instance.now c.args.call.now c.set_cursor.new.self
           (apart_in (brigade_of c.args.store.now) (lists c.args.store.now) (pool_of c.args.store.now) (next_name c.args.store.now) c.args.instance.now c.args.call.now c.requires.held)
           c.bucket-id.result c.in-Ok.field-0 s.bucket took.0
           s.variable s.ring s.named s.given s.found alive s.name.young rest c.in-Ok.ensures.name next wrote
-          (c.set_cursor.ensures.seen (lists c.read.new.self) (next_name c.read.new.self) around c.args.instance.now));
+          (c.set_cursor.ensures.seen (lists c.read.new.self) (next_name c.read.new.self) view c.args.instance.now));
     })
 
 pub returns-in-Ok-clause-held : goal.returns-in-Ok-clause-held
@@ -84,10 +84,10 @@ returns-in-Ok-clause-held g c =
 
 pub returns-in-Err-ReadFault-clause-ok : goal.returns-in-Err-ReadFault-clause-ok
 returns-in-Err-ReadFault-clause-ok g c =
-    λ around b z stands home.
+    λ view b z stands home.
     let s = within_here c.args.store.now c.args.instance.now c.args.call.now c.args.c c.requires.held c.requires.stands c.bucket-id.result c.bucket-id.ensures in
-    let r = seen_over (lists c.args.store.now) (next_name c.args.store.now) around c.args.instance.now c.args.call.now in
-    let y : NamedBucket = named_item (item_in (calls_in around c.args.call.now) (c.bucket-id.result, s.bucket)) in
+    let r = seen_over (lists c.args.store.now) (next_name c.args.store.now) view c.args.instance.now c.args.call.now in
+    let y : NamedBucket = named_item (item_in (calls_in view c.args.call.now) (c.bucket-id.result, s.bucket)) in
     let read = c.in-Err-ReadFault.ensures.read s.bucket s.here in
     let no_rest : Option BucketId = None in
     let fault : ◌≡◌ {A = Result (Option BucketId) ReadRefusal} (Err c.in-Err-ReadFault.field-0) (Err refusal.ReadFault) =
@@ -95,14 +95,14 @@ returns-in-Err-ReadFault-clause-ok g c =
     let some = is_wanted (wanted s.bucket.content) (λ zero. err_ok c.in-Err-ReadFault.field-0 no_rest (read.unread zero).0) in
     let none = none_given s.bucket.content some in
     subst (λ (s : Place). WasRead (g.F.Files.device c.args.files.now) (g.F.Files.device c.read.new.files) s r
-    (seen_over (lists c.read.new.self) (next_name c.read.new.self) around c.args.instance.now c.set_cursor-in-Err-ReadFault.new.self) false) (sym (s.at around))
+    (seen_over (lists c.read.new.self) (next_name c.read.new.self) view c.args.instance.now c.set_cursor-in-Err-ReadFault.new.self) false) (sym (s.at view))
     (record {
       given = None;
       gave = (some, read.fault fault);
       answer = told_none None s.variable y none;
-      state = done_read None None s.variable y r (seen_over (lists c.read.new.self) (next_name c.read.new.self) around c.args.instance.now c.set_cursor-in-Err-ReadFault.new.self) none
-          (c.set_cursor-in-Err-ReadFault.ensures.seen (lists c.read.new.self) (next_name c.read.new.self) around c.args.instance.now
-          ∙ ap (set_cursor read_cursor cursor.Unset) (seen_same (lists c.args.store.now) (next_name c.args.store.now) around c.args.instance.now c.args.call.now (lists c.read.new.self)
+      state = done_read None None s.variable y r (seen_over (lists c.read.new.self) (next_name c.read.new.self) view c.args.instance.now c.set_cursor-in-Err-ReadFault.new.self) none
+          (c.set_cursor-in-Err-ReadFault.ensures.seen (lists c.read.new.self) (next_name c.read.new.self) view c.args.instance.now
+          ∙ ap (set_cursor read_cursor cursor.Unset) (seen_same (lists c.args.store.now) (next_name c.args.store.now) view c.args.instance.now c.args.call.now (lists c.read.new.self)
           (next_name c.read.new.self) (next_same (is_some (read_of [] s.bucket).1) (next_name c.args.store.now) (next_name c.read.new.self) read.names) c.in-Err-ReadFault.ensures.err));
     })
 
@@ -125,10 +125,10 @@ returns-in-Err-clause-held g c =
 
 pub returns-in-Err-clause-err : goal.returns-in-Err-clause-err
 returns-in-Err-clause-err g c =
-    λ around.
+    λ view.
     let s = within_here c.args.store.now c.args.instance.now c.args.call.now c.args.c c.requires.held c.requires.stands c.bucket-id.result c.bucket-id.ensures in
     let read = c.in-Err.ensures.read s.bucket s.here in
-    seen_same (lists c.args.store.now) (next_name c.args.store.now) around c.args.instance.now c.args.call.now (lists c.read.new.self) (next_name c.read.new.self)
+    seen_same (lists c.args.store.now) (next_name c.args.store.now) view c.args.instance.now c.args.call.now (lists c.read.new.self) (next_name c.read.new.self)
     (next_same (is_some (read_of [] s.bucket).1) (next_name c.args.store.now) (next_name c.read.new.self) read.names) c.in-Err.ensures.err
 
 pub returns-in-Ok-clause-left : goal.returns-in-Ok-clause-left
@@ -161,13 +161,13 @@ pub read-requires-clause-open : goal.read-requires-clause-open
 read-requires-clause-open g c =
     λ y here.
     let s = within_here c.args.store.now c.args.instance.now c.args.call.now c.args.c c.requires.held c.requires.stands c.bucket-id.result c.bucket-id.ensures in
-    let around = c.requires.open.0 in
+    let view = c.requires.open.0 in
     let same : s.bucket ≡ y = some_same _ s.bucket y s.here here in
     subst (λ (x : Bucket). IsOpenFor (g.F.Files.device c.args.files.now) x.content) same
-    (subst (λ (p : Place). IsOpenFor (g.F.Files.device c.args.files.now) (content_at p)) (s.at around) c.requires.open.1)
+    (subst (λ (p : Place). IsOpenFor (g.F.Files.device c.args.files.now) (content_at p)) (s.at view) c.requires.open.1)
 
 pub returns-in-Err-clause-sure : goal.returns-in-Err-clause-sure
-returns-in-Err-clause-sure g c around none =
+returns-in-Err-clause-sure g c view none =
     let s = within_here c.args.store.now c.args.instance.now c.args.call.now c.args.c c.requires.held c.requires.stands c.bucket-id.result c.bucket-id.ensures in
     let no_rest : Option BucketId = None in
-    absurd (err_ok c.in-Err.field-0 no_rest ((c.in-Err.ensures.read s.bucket s.here).unread (sym (ap (λ (s : Place). wanted (content_at s)) (s.at around)) ∙ none)).0)
+    absurd (err_ok c.in-Err.field-0 no_rest ((c.in-Err.ensures.read s.bucket s.here).unread (sym (ap (λ (s : Place). wanted (content_at s)) (s.at view)) ∙ none)).0)

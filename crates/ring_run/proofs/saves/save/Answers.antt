@@ -47,11 +47,11 @@ some_is (Some p) t e f = (p, refl)
 
 pub returns-then-is_none-clause-ok : goal.returns-then-is_none-clause-ok
 returns-then-is_none-clause-ok g c =
-    λ around call held.
+    λ view call held.
     let L = lists c.args.store.now in
     let k = next_name c.args.store.now in
     let i = c.args.instance.now in
-    let these = over_pools (map_of c.args.tree.now) around in
+    let these = over_pools (map_of c.args.tree.now) view in
     not_saved (seen_over L k these i call) c.args.o c.args.b (made_loose L k these i call c.args.o c.in-Made.to c.in-Made.field-2
     (sym c.in-Made.ensures ∙ ap (λ (p : Option ℕ). slot.Made c.in-Made.to p c.in-Made.field-2) (none_is c.in-Made.on c.is_none.result c.is_none.ensures c.if-is_none.true)))
 
@@ -83,8 +83,8 @@ returns-clause-ok g c =
     let i = c.args.instance.now in
     let ps = map_of c.args.tree.now in
     let on = into g (goal.at.returns-clause-ok g c).Else-is_none in
-    on_both c.save.result _ _ _ (λ out refs around call held.
-    saved (lists s) (lists c.save.new.self) (next_name s) (next_name c.save.new.self) ps (map_of c.save.new.tree) around i call c.args.o c.args.b c.in-Made.to c.brigade-from.result on.pool
+    on_both c.save.result _ _ _ (λ out refs view call held.
+    saved (lists s) (lists c.save.new.self) (next_name s) (next_name c.save.new.self) ps (map_of c.save.new.tree) view i call c.args.o c.args.b c.in-Made.to c.brigade-from.result on.pool
     c.in-Made.field-2 (apart_in (brigade_of s) (lists s) (pool_of s) (next_name s) i call held) c.requires.apart on.is on.there
     (c.brigade-from.ensures.live (lists s) c.requires.live_from) c.save.ensures.next (λ n. out on.pool n on.lies) (refs on.pool on.lies))
     c.save.ensures.ok c.save.ensures.registered
@@ -106,9 +106,9 @@ returns-clause-held g c =
 pub returns-clause-err : goal.returns-clause-err
 returns-clause-err g c =
     let s = c.args.store.now in
-    on_both_err c.save.result _ _ _ (λ out kept around call.
+    on_both_err c.save.result _ _ _ (λ out kept view call.
     seen_kept (lists s) (lists c.save.new.self) (next_name s) (next_name c.save.new.self) (map_of c.args.tree.now)
-    (map_of c.save.new.tree) around c.args.instance.now call c.save.ensures.next kept out)
+    (map_of c.save.new.tree) view c.args.instance.now call c.save.ensures.next kept out)
     c.save.ensures.err c.save.ensures.kept
 
 pub returns-clause-left : goal.returns-clause-left
@@ -128,24 +128,24 @@ returns-clause-left g c =
 
 pub returns-clause-open : goal.returns-clause-open
 returns-clause-open g c =
-    λ d around call opens.
+    λ d view call opens.
     let s = c.args.store.now in
     let i = c.args.instance.now in
     let ps = map_of c.args.tree.now in
     let on = into g (goal.at.returns-clause-open g c).Else-is_none in
     let has = subst (λ (xs : List NamedBucket). All (RangeIsOpen d) xs)
-    (items_live (lists s) (next_name s) around i call c.args.b c.brigade-from.result (c.brigade-from.ensures.live (lists s) c.requires.live_from)) opens in
+    (items_live (lists s) (next_name s) view i call c.args.b c.brigade-from.result (c.brigade-from.ensures.live (lists s) c.requires.live_from)) opens in
     by_result c.save.result _ _
-    (λ counts. refs_all d (calls_in around call) ps on.pool (list_at (lists s) c.brigade-from.result) (references s) (references c.save.new.self) (λ f. counts on.pool f on.lies) has)
+    (λ counts. refs_all d (calls_in view call) ps on.pool (list_at (lists s) c.brigade-from.result) (references s) (references c.save.new.self) (λ f. counts on.pool f on.lies) has)
     (λ same. refs_same d (references s) (references c.save.new.self) same)
     c.save.ensures.counted c.save.ensures.uncounted
 
 pub returns-clause-sure : goal.returns-clause-sure
-returns-clause-sure g c around call none =
+returns-clause-sure g c view call none =
     let s = c.args.store.now in
     let i = c.args.instance.now in
     let ps = map_of c.args.tree.now in
-    let over = over_pools ps around in
+    let over = over_pools ps view in
     let on = into g (goal.at.returns-clause-sure g c).Else-is_none in
     let runs = calls_in over call in
     let r = seen_over (lists s) (next_name s) over i call in

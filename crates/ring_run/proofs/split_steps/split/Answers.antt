@@ -34,19 +34,19 @@ split-requires-clause-ends g c =
 
 pub returns-in-Ok-clause-ok : goal.returns-in-Ok-clause-ok
 returns-in-Ok-clause-ok g c =
-    λ around alive.
+    λ view alive.
     let s = within_here c.args.store.now c.args.instance.now c.args.call.now c.args.c c.requires.held c.requires.stands c.bucket.result c.bucket.ensures in
-    let r = seen_over (lists c.args.store.now) (next_name c.args.store.now) around c.args.instance.now c.args.call.now in
-    let y : NamedBucket = named_item (item_in (calls_in around c.args.call.now) (c.bucket.result, s.bucket)) in
+    let r = seen_over (lists c.args.store.now) (next_name c.args.store.now) view c.args.instance.now c.args.call.now in
+    let y : NamedBucket = named_item (item_in (calls_in view c.args.call.now) (c.bucket.result, s.bucket)) in
     let proper = ok_data c.in-Ok.field-0 refusal.Metadata (is_data_kind s.bucket.kind) (c.in-Ok.ensures.metadata s.bucket s.here) in
     let short = ok_short c.in-Ok.field-0 refusal.TooLong (is_data_kind s.bucket.kind) (length_of s.bucket.content) c.args.n (c.in-Ok.ensures.too_long s.bucket s.here) proper in
-    ap (λ (k : ℕ). seen_over (lists c.split.new.self) k around c.args.instance.now c.args.call.now) c.in-Ok.ensures.next
-    ∙ (done_split c.args.n s.variable y r (seen_over (lists c.split.new.self) (next_name c.args.store.now + 1) around c.args.instance.now c.args.call.now) (not_refused c.args.n y proper short)
-    (split_into (lists c.args.store.now) (lists c.split.new.self) (next_name c.args.store.now) around c.args.instance.now c.args.call.now
+    ap (λ (k : ℕ). seen_over (lists c.split.new.self) k view c.args.instance.now c.args.call.now) c.in-Ok.ensures.next
+    ∙ (done_split c.args.n s.variable y r (seen_over (lists c.split.new.self) (next_name c.args.store.now + 1) view c.args.instance.now c.args.call.now) (not_refused c.args.n y proper short)
+    (split_into (lists c.args.store.now) (lists c.split.new.self) (next_name c.args.store.now) view c.args.instance.now c.args.call.now
     (apart_in (brigade_of c.args.store.now) (lists c.args.store.now) (pool_of c.args.store.now) (next_name c.args.store.now) c.args.instance.now c.args.call.now c.requires.held) c.bucket.result
     c.in-Ok.field-0 c.args.n s.bucket s.variable s.ring s.named s.given s.found
-    (alive_at (ap bucket_at (s.at around)) alive) s.name.young c.in-Ok.ensures.name (λ m. c.in-Ok.ensures.ok s.ring m s.bucket s.inside s.here))
-    ∙ ap (λ (s : Place). do_split c.args.n s r) (sym (s.at around)))
+    (alive_at (ap bucket_at (s.at view)) alive) s.name.young c.in-Ok.ensures.name (λ m. c.in-Ok.ensures.ok s.ring m s.bucket s.inside s.here))
+    ∙ ap (λ (s : Place). do_split c.args.n s r) (sym (s.at view)))
 
 pub returns-in-Ok-clause-held : goal.returns-in-Ok-clause-held
 returns-in-Ok-clause-held g c =
@@ -67,20 +67,20 @@ returns-in-Ok-clause-left g c =
 
 pub returns-in-Err-clause-ok : goal.returns-in-Err-clause-ok
 returns-in-Err-clause-ok g c =
-    on_ok_weaker c.unless_lacking.result (λ why around alive.
+    on_ok_weaker c.unless_lacking.result (λ why view alive.
     let s = within_here c.args.store.now c.args.instance.now c.args.call.now c.args.c c.requires.held c.requires.stands c.bucket.result c.bucket.ensures in
-    let r = seen_over (lists c.args.store.now) (next_name c.args.store.now) around c.args.instance.now c.args.call.now in
-    let y : NamedBucket = named_item (item_in (calls_in around c.args.call.now) (c.bucket.result, s.bucket)) in
-    seen_same (lists c.args.store.now) (next_name c.args.store.now) around c.args.instance.now c.args.call.now (lists c.split.new.self)
+    let r = seen_over (lists c.args.store.now) (next_name c.args.store.now) view c.args.instance.now c.args.call.now in
+    let y : NamedBucket = named_item (item_in (calls_in view c.args.call.now) (c.bucket.result, s.bucket)) in
+    seen_same (lists c.args.store.now) (next_name c.args.store.now) view c.args.instance.now c.args.call.now (lists c.split.new.self)
     (next_name c.split.new.self) c.in-Err.ensures.next c.in-Err.ensures.err
     ∙ (not_split c.args.n s.variable y r (refused_by c.in-Err.refusal c.args.n y (c.in-Err.ensures.metadata s.bucket s.here) (c.in-Err.ensures.too_long s.bucket s.here) why)
-    ∙ ap (λ (s : Place). do_split c.args.n s r) (sym (s.at around))))
+    ∙ ap (λ (s : Place). do_split c.args.n s r) (sym (s.at view))))
     c.unless_lacking.ensures.ok
 
 pub returns-in-Err-clause-err : goal.returns-in-Err-clause-err
 returns-in-Err-clause-err g c =
-    on_err_weaker c.unless_lacking.result (λ why around.
-    seen_same (lists c.args.store.now) (next_name c.args.store.now) around c.args.instance.now c.args.call.now (lists c.split.new.self)
+    on_err_weaker c.unless_lacking.result (λ why view.
+    seen_same (lists c.args.store.now) (next_name c.args.store.now) view c.args.instance.now c.args.call.now (lists c.split.new.self)
     (next_name c.split.new.self) c.in-Err.ensures.next c.in-Err.ensures.err)
     c.unless_lacking.ensures.err
 
@@ -95,9 +95,9 @@ returns-in-Err-clause-left g c =
     c.split.ensures.references c.split.ensures.unasked c.in-Err.ensures.err c.args.instance.now c.args.call.now
 
 pub returns-in-Err-clause-sure : goal.returns-in-Err-clause-sure
-returns-in-Err-clause-sure g c around none =
+returns-in-Err-clause-sure g c view none =
     let s = within_here c.args.store.now c.args.instance.now c.args.call.now c.args.c c.requires.held c.requires.stands c.bucket.result c.bucket.ensures in
-    let y : NamedBucket = named_item (item_in (calls_in around c.args.call.now) (c.bucket.result, s.bucket)) in
-    let refused : is_some (split_refusal c.args.n y) ≡ true = uncut _ (sym (ap (names_to_split c.args.n) (s.at around)) ∙ none) in
+    let y : NamedBucket = named_item (item_in (calls_in view c.args.call.now) (c.bucket.result, s.bucket)) in
+    let refused : is_some (split_refusal c.args.n y) ≡ true = uncut _ (sym (ap (names_to_split c.args.n) (s.at view)) ∙ none) in
     let why = refused_as c.in-Err.refusal c.args.n y (c.in-Err.ensures.metadata s.bucket s.here) (c.in-Err.ensures.too_long s.bucket s.here) refused in
     ok_unless c.unless_lacking.result c.unless_lacking.ensures.err (λ lacks. not_both c.in-Err.refusal why lacks)

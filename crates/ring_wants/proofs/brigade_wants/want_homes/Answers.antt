@@ -12,13 +12,13 @@ use Rattle.ring_wants.proofs.LiveContents.{live_contents, some_where}
 use Rattle.ring_wants.proofs.brigade_wants.want_homes.Goals as goal
 
 pub returns-clause-value : goal.returns-clause-value
-returns-clause-value g c pools around =
-    let over = in_context c.args.context.now pools around in
+returns-clause-value g c pools view =
+    let over = in_context c.args.context.now pools view in
     let call = c.args.call.now in
     let s = c.args.store.now in
     let i = c.args.instance.now in
     c.then_some.ensures
-    ∙ (ap (λ t. then_some t F5) (c.has_unfit-dead.ensures (lists s) (next_name s) pools around)
+    ∙ (ap (λ t. then_some t F5) (c.has_unfit-dead.ensures (lists s) (next_name s) pools view)
     ∙ (some_where _ F5
     ∙ (ap homes_fault (live_contents s c.live.new.store c.live.ensures.asked (calls_in over call)
     (slot_at i c.args.b) c.in-Some.name (sym c.in-Some.is ∙ (c.live.ensures.value ∙ ap (live_in (lists s)) c.slot.ensures)))

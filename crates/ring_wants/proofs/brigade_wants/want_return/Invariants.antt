@@ -11,7 +11,7 @@ use Rattle.ring_wants.proofs.brigade_wants.want_return.Given as goal
 
 abbrev pub invariant-loop-b : goal.invariant-loop-b
 invariant-loop-b g l = record {
-  none : (pools : Pools Payload) (around : ContextView) (k : ℕ) → k < l.b
-      → keeps_stray (seen l.fn.store (in_context l.context pools around) l.instance l.call) ((seen l.fn.store (in_context l.context pools around) l.instance l.call).instance.brigades k) ≡ false;
+  none : (pools : Pools Payload) (view : ContextView) (k : ℕ) → k < l.b
+      → keeps_stray (seen l.fn.store (in_context l.context pools view) l.instance l.call) ((seen l.fn.store (in_context l.context pools view) l.instance l.call).instance.brigades k) ≡ false;
   asked : OnlyAsked l.fn.store l.store;
 }

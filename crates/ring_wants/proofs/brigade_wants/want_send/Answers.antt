@@ -12,13 +12,13 @@ use Rattle.ring_wants.proofs.LiveContents.{live_contents, some_where}
 use Rattle.ring_wants.proofs.brigade_wants.want_send.Goals as goal
 
 pub returns-clause-value : goal.returns-clause-value
-returns-clause-value g c around call =
+returns-clause-value g c view call =
     let s = c.args.store.now in
     let i = c.args.instance.now in
     c.then_some.ensures
-    ∙ (ap (λ t. then_some t F8) (c.has_late_data.ensures (calls_in around call))
+    ∙ (ap (λ t. then_some t F8) (c.has_late_data.ensures (calls_in view call))
     ∙ (some_where _ F8
     ∙ (ap (λ (xs : List NamedBucket). cond (late_data i.sent xs) (Some F8) None)
-    (live_contents s c.live.new.store c.live.ensures.asked (calls_in around call) (slot_at i c.args.b) c.in-Some.name
+    (live_contents s c.live.new.store c.live.ensures.asked (calls_in view call) (slot_at i c.args.b) c.in-Some.name
     (sym c.in-Some.is ∙ (c.live.ensures.value ∙ ap (live_in (lists s)) c.slot.ensures)))
-    ∙ send_told (lists s) (next_name s) around i call c.args.b)))
+    ∙ send_told (lists s) (next_name s) view i call c.args.b)))

@@ -11,8 +11,8 @@ use Rattle.ring_calls.proofs.Walked.{any_visited}
 use Rattle.ring_wants.proofs.home_walks.has_unfit.Goals as goal
 
 pub returns : goal.returns
-returns g c rings next pools around =
-    let over = in_context c.args.context.now pools around in
+returns g c rings next pools view =
+    let over = in_context c.args.context.now pools view in
     c.is_some.ensures
     ∙ any_visited _ (calls_in over c.args.call.now) (λ x. if c.args.strays then is_stray (seen_over rings next over c.args.instance.now c.args.call.now) x.bucket.home else is_ended x.bucket.home) _
-    (λ id x stop t asked. (asked.0, asked.1 rings next pools around)) (list_at (lists c.args.store.now) c.args.b) c.visit.result c.visit.new.visitor c.visit.ensures.all
+    (λ id x stop t asked. (asked.0, asked.1 rings next pools view)) (list_at (lists c.args.store.now) c.args.b) c.visit.result c.visit.new.visitor c.visit.ensures.all

@@ -4,7 +4,7 @@ use Rattle.bucket_ring.specs.declared.names.BucketId.{BucketId}
 use Rattle.bucket_ring.specs.declared.rings.Rings.{Ghosts}
 use Rattle.run_model.specs.declared.bucket.Bucket.{Bucket}
 use Rattle.bucket_ring.specs.Lists.{found, list_at}
-use Rattle.run_model.specs.Cursors.{Place, spot}
+use Rattle.run_model.specs.Cursors.{Place, at_cursor}
 use Rattle.run_model.specs.Cursors as model
 use Rattle.bucket_kinds.specs.declared.stored.Stored.{Stored}
 use Rattle.stored_rings.specs.Items.{named_item}
@@ -42,24 +42,24 @@ found_before old new asked runs id ring inside =
     }
 
 pub returns-in-Within-clause-at : goal.returns-in-Within-clause-at
-returns-in-Within-clause-at g c around =
+returns-in-Within-clause-at g c view =
     let s = c.args.store.now in
     let id = c.in-Within.id in
     let n = c.in-Within.ensures.inside.1 in
-    let x = found_before s c.place_of.new.store c.in-Within.ensures.asked (calls_in around c.args.call.now) id n.0 n.1.1 in
-    x.shown ∙ ap model.bucket_at (sym (stands_within (lists s) (next_name s) around c.args.instance.now c.args.call.now c.args.c id x.bucket c.in-Within.field-0 n.0 x.named
-    (c.in-Within.ensures.at (next_name s) around) n.1.0 x.here))
+    let x = found_before s c.place_of.new.store c.in-Within.ensures.asked (calls_in view c.args.call.now) id n.0 n.1.1 in
+    x.shown ∙ ap model.bucket_at (sym (stands_within (lists s) (next_name s) view c.args.instance.now c.args.call.now c.args.c id x.bucket c.in-Within.field-0 n.0 x.named
+    (c.in-Within.ensures.at (next_name s) view) n.1.0 x.here))
 
 pub returns-in-Within-clause-there : goal.returns-in-Within-clause-there
 returns-in-Within-clause-there g c = ap is_some c.in-Within.ensures.inside.1.1.1
 
 pub returns-in-Loose-clause-at : goal.returns-in-Loose-clause-at
-returns-in-Loose-clause-at g c around =
+returns-in-Loose-clause-at g c view =
     let s = c.args.store.now in
     let id = c.in-Loose.id in
     let call = c.args.call.now in
-    let x = found_before s c.place_of.new.store c.in-Loose.ensures.asked (calls_in around call) id call.name c.in-Loose.ensures.inside in
-    x.shown ∙ ap model.bucket_at (sym (stands_loose (lists s) (next_name s) around c.args.instance.now call c.args.c id x.bucket x.named (c.in-Loose.ensures.at (next_name s) around) x.here))
+    let x = found_before s c.place_of.new.store c.in-Loose.ensures.asked (calls_in view call) id call.name c.in-Loose.ensures.inside in
+    x.shown ∙ ap model.bucket_at (sym (stands_loose (lists s) (next_name s) view c.args.instance.now call c.args.c id x.bucket x.named (c.in-Loose.ensures.at (next_name s) view) x.here))
 
 pub returns-in-Loose-clause-there : goal.returns-in-Loose-clause-there
 returns-in-Loose-clause-there g c = ap is_some c.in-Loose.ensures.inside

@@ -11,22 +11,22 @@ pub returns-in_default-clause-at : goal.returns-in_default-clause-at
 returns-in_default-clause-at g c =
     let s = c.args.store.now in
     let gone : brigade_of s c.args.id ≡ None = search rules in
-    λ next around. placed_gone (brigade_of s) (lists s) (pool_of s) (next_name s) c.args.instance.now c.args.call.now (kept s) c.requires.held c.args.id c.requires.given next around gone
+    λ next view. placed_gone (brigade_of s) (lists s) (pool_of s) (next_name s) c.args.instance.now c.args.call.now (kept s) c.requires.held c.args.id c.requires.given next view gone
 
 pub returns-then-ring-call-clause-at : goal.returns-then-ring-call-clause-at
 returns-then-ring-call-clause-at g c =
     let s = c.args.store.now in
     let same : c.in-Some.ring ≡ c.args.call.now.name = search rules in
     let is : brigade_of s c.args.id ≡ Some c.args.call.now.name = sym c.ring_of.ensures.value ∙ (c.in-Some.is ∙ ap (λ (n : ℕ). Some n) same) in
-    λ next around. placed_loose (brigade_of s) (lists s) (pool_of s) (next_name s) c.args.instance.now c.args.call.now (kept s) c.requires.held c.args.id c.requires.given next around is
+    λ next view. placed_loose (brigade_of s) (lists s) (pool_of s) (next_name s) c.args.instance.now c.args.call.now (kept s) c.requires.held c.args.id c.requires.given next view is
 
 pub returns-in-Some-slot_of-clause-at : goal.returns-in-Some-slot_of-clause-at
 returns-in-Some-slot_of-clause-at g c =
     let s = c.args.store.now in
     let is : brigade_of s c.args.id ≡ Some c.in-Some.ring = sym c.ring_of.ensures.value ∙ c.in-Some.is in
-    λ next around.
+    λ next view.
     placed_within (brigade_of s) (lists s) (pool_of s) (next_name s) c.args.instance.now c.args.call.now
-    (kept s) c.requires.held c.args.id c.requires.given next around c.in-Some.ring c.in-Some-slot_of.b is (sym c.slot_of.ensures.found ∙ c.in-Some-slot_of.is)
+    (kept s) c.requires.held c.args.id c.requires.given next view c.in-Some.ring c.in-Some-slot_of.b is (sym c.slot_of.ensures.found ∙ c.in-Some-slot_of.is)
 
 pub returns-then-ring-call-clause-inside : goal.returns-then-ring-call-clause-inside
 returns-then-ring-call-clause-inside g c =
@@ -45,6 +45,6 @@ returns-in-None-clause-at g c =
     let s = c.args.store.now in
     let is : brigade_of s c.args.id ≡ Some c.in-Some.ring = sym c.ring_of.ensures.value ∙ c.in-Some.is in
     let other : c.in-Some.ring ≢ c.args.call.now.name = search rules in
-    λ next around.
-    placed_nowhere (brigade_of s) (lists s) (pool_of s) (next_name s) c.args.instance.now c.args.call.now (kept s) c.requires.held c.args.id c.requires.given next around c.in-Some.ring is other
+    λ next view.
+    placed_nowhere (brigade_of s) (lists s) (pool_of s) (next_name s) c.args.instance.now c.args.call.now (kept s) c.requires.held c.args.id c.requires.given next view c.in-Some.ring is other
     (sym c.slot_of.ensures.found ∙ c.in-None.is)

@@ -6,12 +6,12 @@ use Rattle.ring_wants.proofs.places.end_place.Goals as goal
 
 pub returns-then-has-clause-at : goal.returns-then-has-clause-at
 returns-then-has-clause-at g c =
-    λ next around call.
+    λ next view call.
     let there : is_some (lists c.args.store.now c.args.b) ≡ true = sym c.has.ensures.value ∙ c.if-has.true in
-    c.slot_of.ensures.found ∙ sym (variable_slot (lists c.args.store.now) next around c.args.instance.now call c.args.b there)
+    c.slot_of.ensures.found ∙ sym (variable_slot (lists c.args.store.now) next view c.args.instance.now call c.args.b there)
 
 pub returns-else-has-clause-at : goal.returns-else-has-clause-at
 returns-else-has-clause-at g c =
-    λ next around call.
+    λ next view call.
     let gone : is_some (lists c.args.store.now c.args.b) ≡ false = sym c.has.ensures.value ∙ c.if-has.false in
-    sym (variable_none (lists c.args.store.now) next around c.args.instance.now call c.args.b gone)
+    sym (variable_none (lists c.args.store.now) next view c.args.instance.now call c.args.b gone)

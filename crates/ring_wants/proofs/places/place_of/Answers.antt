@@ -5,18 +5,18 @@ use Rattle.ring_calls.proofs.Standing.{bucket_told, end_told, unset_told}
 use Rattle.ring_wants.proofs.places.place_of.Goals as goal
 
 pub returns-in-Unset-clause-at : goal.returns-in-Unset-clause-at
-returns-in-Unset-clause-at g c next around = unset_told (lists c.args.store.now) next around c.args.instance.now c.args.call.now c.args.c (sym c.cursor.ensures ∙ c.in-Unset.is)
+returns-in-Unset-clause-at g c next view = unset_told (lists c.args.store.now) next view c.args.instance.now c.args.call.now c.args.c (sym c.cursor.ensures ∙ c.in-Unset.is)
 
 pub returns-in-At-clause-at : goal.returns-in-At-clause-at
-returns-in-At-clause-at g c next around =
-    c.bucket_place.ensures.at next around ∙ bucket_told (lists c.args.store.now) next around c.args.instance.now c.args.call.now c.args.c c.in-At.id (sym c.cursor.ensures ∙ c.in-At.is)
+returns-in-At-clause-at g c next view =
+    c.bucket_place.ensures.at next view ∙ bucket_told (lists c.args.store.now) next view c.args.instance.now c.args.call.now c.args.c c.in-At.id (sym c.cursor.ensures ∙ c.in-At.is)
 
 pub returns-in-Some-clause-at : goal.returns-in-Some-clause-at
-returns-in-Some-clause-at g c next around =
-    end_told (lists c.args.store.now) next around c.args.instance.now c.args.call.now c.args.c c.in-End.name _ (sym c.cursor.ensures ∙ c.in-End.is)
-    (sym (c.end_place.ensures.at next around c.args.call.now) ∙ c.in-Some.is)
+returns-in-Some-clause-at g c next view =
+    end_told (lists c.args.store.now) next view c.args.instance.now c.args.call.now c.args.c c.in-End.name _ (sym c.cursor.ensures ∙ c.in-End.is)
+    (sym (c.end_place.ensures.at next view c.args.call.now) ∙ c.in-Some.is)
 
 pub returns-in-None-clause-at : goal.returns-in-None-clause-at
-returns-in-None-clause-at g c next around =
-    end_told (lists c.args.store.now) next around c.args.instance.now c.args.call.now c.args.c c.in-End.name _ (sym c.cursor.ensures ∙ c.in-End.is)
-    (sym (c.end_place.ensures.at next around c.args.call.now) ∙ c.in-None.is)
+returns-in-None-clause-at g c next view =
+    end_told (lists c.args.store.now) next view c.args.instance.now c.args.call.now c.args.c c.in-End.name _ (sym c.cursor.ensures ∙ c.in-End.is)
+    (sym (c.end_place.ensures.at next view c.args.call.now) ∙ c.in-None.is)

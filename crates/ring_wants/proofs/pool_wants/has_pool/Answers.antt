@@ -7,5 +7,5 @@ use Rattle.ring_wants.proofs.pool_wants.has_pool.Goals as goal
 
 pub returns-clause-value : goal.returns-clause-value
 unfolding has_pool_at seen_over
-returns-clause-value c = λ rings next around call.
-    c.is_there.ensures.value ∙ ap (is_live_named (map_of c.args.tree.now)) (c.pool_named.ensures (map_of c.args.tree.now) rings next around call)
+returns-clause-value c = λ rings next view call.
+    c.is_there.ensures.value ∙ ap (is_live_named (map_of c.args.tree.now)) (c.pool_named.ensures (map_of c.args.tree.now) rings next view call)

@@ -7,6 +7,6 @@ use Rattle.ring_wants.proofs.pool_wants.is_stray.Goals as goal
 
 pub returns-in-Pool : goal.returns-in-Pool
 unfolding is_stray
-returns-in-Pool c = λ rings next pools around call.
-    let r = seen_over rings next (in_context c.args.context.now pools around) c.args.instance.now call in
-    ap not (c.is_own.ensures rings next pools around call) ∙ ap (is_stray r) (sym c.in-Pool.is)
+returns-in-Pool c = λ rings next pools view call.
+    let r = seen_over rings next (in_context c.args.context.now pools view) c.args.instance.now call in
+    ap not (c.is_own.ensures rings next pools view call) ∙ ap (is_stray r) (sym c.in-Pool.is)

@@ -23,58 +23,58 @@ fault_of-requires-in-Some-third-clause-held g c =
     held_same c.args.store.now c.fault_of-2.new.store c.args.instance.now c.args.call.now asked c.requires.held
 
 -- the first want is met, and those behind it tell
-past_first : (g : _) (c : In-Some-second g) (around : ContextView) (m : Option FaultKind)
-    → m ≡ first_fault (seen c.args.store.now (in_context c.args.context.now (map_of c.args.tree.now) around) c.args.instance.now c.args.call.now)
+past_first : (g : _) (c : In-Some-second g) (view : ContextView) (m : Option FaultKind)
+    → m ≡ first_fault (seen c.args.store.now (in_context c.args.context.now (map_of c.args.tree.now) view) c.args.instance.now c.args.call.now)
     (and_then c.wants-wanted.result.second (and_then c.wants-wanted.result.third []))
-    → m ≡ fault c.args.code.now (seen c.args.store.now (in_context c.args.context.now (map_of c.args.tree.now) around) c.args.instance.now c.args.call.now) c.args.instr
-past_first g c around m more =
-    let r = seen c.args.store.now (in_context c.args.context.now (map_of c.args.tree.now) around) c.args.instance.now c.args.call.now in
+    → m ≡ fault c.args.code.now (seen c.args.store.now (in_context c.args.context.now (map_of c.args.tree.now) view) c.args.instance.now c.args.call.now) c.args.instr
+past_first g c view m more =
+    let r = seen c.args.store.now (in_context c.args.context.now (map_of c.args.tree.now) view) c.args.instance.now c.args.call.now in
     let w = c.wants-wanted.result in
-    goes_on r w.first c.in-Some.first c.in-Some.is (and_then w.second (and_then w.third [])) m (sym c.in_default-fault_of.is ∙ c.fault_of.ensures.value around) more
+    goes_on r w.first c.in-Some.first c.in-Some.is (and_then w.second (and_then w.third [])) m (sym c.in_default-fault_of.is ∙ c.fault_of.ensures.value view) more
     ∙ ap (first_fault r) c.wants-wanted.ensures.listed
 
 -- the second is asked of what the first left
-second_told : (g : _) (c : After-fault_of-2 g) (around : ContextView)
-    → c.fault_of-2.result ≡ fault_want (seen c.args.store.now (in_context c.args.context.now (map_of c.args.tree.now) around) c.args.instance.now c.args.call.now) (want_of c.in-Some-second.second)
-second_told g c around =
+second_told : (g : _) (c : After-fault_of-2 g) (view : ContextView)
+    → c.fault_of-2.result ≡ fault_want (seen c.args.store.now (in_context c.args.context.now (map_of c.args.tree.now) view) c.args.instance.now c.args.call.now) (want_of c.in-Some-second.second)
+second_told g c view =
     after c.args.store.now c.fault_of.new.store c.args.tree.now c.fault_of.new.tree c.fault_of.ensures.asked c.fault_of.ensures.tree_asked
-    (λ (pools : Pools Payload). in_context c.args.context.now pools around)
-    c.args.instance.now c.args.call.now (want_of c.in-Some-second.second) c.fault_of-2.result (c.fault_of-2.ensures.value around)
+    (λ (pools : Pools Payload). in_context c.args.context.now pools view)
+    c.args.instance.now c.args.call.now (want_of c.in-Some-second.second) c.fault_of-2.result (c.fault_of-2.ensures.value view)
 
 pub returns-in-Some-fault_of-2-clause-value : goal.returns-in-Some-fault_of-2-clause-value
-returns-in-Some-fault_of-2-clause-value g c around =
+returns-in-Some-fault_of-2-clause-value g c view =
     let at = goal.at.returns-in-Some-fault_of-2-clause-value g c in
-    let r = seen c.args.store.now (in_context c.args.context.now (map_of c.args.tree.now) around) c.args.instance.now c.args.call.now in
+    let r = seen c.args.store.now (in_context c.args.context.now (map_of c.args.tree.now) view) c.args.instance.now c.args.call.now in
     let kind = c.in-Some-fault_of-2.kind in
-    past_first g at.In-Some-second around (Some kind)
+    past_first g at.In-Some-second view (Some kind)
     (stops r c.wants-wanted.result.second c.in-Some-second.second c.in-Some-second.is (and_then c.wants-wanted.result.third []) kind
-    (sym c.in-Some-fault_of-2.is ∙ second_told g at.After-fault_of-2 around))
+    (sym c.in-Some-fault_of-2.is ∙ second_told g at.After-fault_of-2 view))
 
 pub returns-in-Some-third-clause-value : goal.returns-in-Some-third-clause-value
-returns-in-Some-third-clause-value g c around =
+returns-in-Some-third-clause-value g c view =
     let at = goal.at.returns-in-Some-third-clause-value g c in
     let s = c.args.store.now in
     let i = c.args.instance.now in
     let call = c.args.call.now in
     let tree = c.args.tree.now in
-    let over = λ (pools : Pools Payload). in_context c.args.context.now pools around in
+    let over = λ (pools : Pools Payload). in_context c.args.context.now pools view in
     let r = seen s (over (map_of tree)) i call in
     let w = c.wants-wanted.result in
     let o = c.fault_of-in-Some-third.result in
     let asked = asked_again s c.fault_of.new.store c.fault_of-2.new.store c.fault_of.ensures.asked c.fault_of-2.ensures.asked in
     let tree_asked = tree_asked_again tree c.fault_of.new.tree c.fault_of-2.new.tree c.fault_of.ensures.tree_asked c.fault_of-2.ensures.tree_asked in
-    let here = after s c.fault_of-2.new.store tree c.fault_of-2.new.tree asked tree_asked over i call (want_of c.in-Some-third.third) o (c.fault_of-in-Some-third.ensures.value around) in
-    past_first g at.In-Some-second around o
-    (goes_on r w.second c.in-Some-second.second c.in-Some-second.is (and_then w.third []) o (sym c.in_default-fault_of-2.is ∙ second_told g at.After-fault_of-2 around)
+    let here = after s c.fault_of-2.new.store tree c.fault_of-2.new.tree asked tree_asked over i call (want_of c.in-Some-third.third) o (c.fault_of-in-Some-third.ensures.value view) in
+    past_first g at.In-Some-second view o
+    (goes_on r w.second c.in-Some-second.second c.in-Some-second.is (and_then w.third []) o (sym c.in_default-fault_of-2.is ∙ second_told g at.After-fault_of-2 view)
     (ends r w.third c.in-Some-third.third c.in-Some-third.is o here))
 
 pub returns-in-None-clause-value : goal.returns-in-None-clause-value
-returns-in-None-clause-value g c around =
+returns-in-None-clause-value g c view =
     let at = goal.at.returns-in-None-clause-value g c in
-    let r = seen c.args.store.now (in_context c.args.context.now (map_of c.args.tree.now) around) c.args.instance.now c.args.call.now in
+    let r = seen c.args.store.now (in_context c.args.context.now (map_of c.args.tree.now) view) c.args.instance.now c.args.call.now in
     let w = c.wants-wanted.result in
-    past_first g at.In-Some-second around None
-    (goes_on r w.second c.in-Some-second.second c.in-Some-second.is (and_then w.third []) None (sym c.in_default-fault_of-2.is ∙ second_told g at.After-fault_of-2 around)
+    past_first g at.In-Some-second view None
+    (goes_on r w.second c.in-Some-second.second c.in-Some-second.is (and_then w.third []) None (sym c.in_default-fault_of-2.is ∙ second_told g at.After-fault_of-2 view)
     (met r w.third [] c.in-None.is))
 
 pub returns-in-Some-fault_of : goal.returns-in-Some-fault_of

@@ -11,9 +11,9 @@ pub splice_tail-requires-clause-from : goal.splice_tail-requires-clause-from
 unfolding lists
 splice_tail-requires-clause-from g c = c.requires.from
 
-pub returns-clause-ok : goal.returns-clause-ok
+pub returns-clause-out : goal.returns-clause-out
 unfolding lists
-returns-clause-ok g c = c.splice_tail.ensures.out
+returns-clause-out g c = c.splice_tail.ensures.out
 
 pub returns-clause-next : goal.returns-clause-next
 unfolding next_name

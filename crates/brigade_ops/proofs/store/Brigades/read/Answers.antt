@@ -2,7 +2,7 @@ use Rattle.std.proofs.Common.{◌≡◌, sym, subst, ◌∙◌}
 use Rattle.std.proofs.lemmas.Option.{same_Some}
 use Rattle.run_model.specs.declared.bucket.Bucket.{Bucket}
 use Rattle.bucket_ring.specs.Lists.{list_at, found}
-use Rattle.brigade_ops.specs.Reads.{IsRead}
+use Rattle.brigade_ops.specs.Reads.{IsBucketRead}
 use Rattle.brigade_ops.specs.Store.{lists, brigade_of, bucket_at, next_name}
 use Rattle.stored_rings.proofs.Lists.{and_then_told}
 use Rattle.brigade_ops.proofs.Unread.{unread_is}
@@ -18,9 +18,9 @@ read_range-requires-clause-open g c = c.requires.open c.in-Some.bucket c.in-Some
 pub returns-in-Some-clause-read : goal.returns-in-Some-clause-read
 returns-in-Some-clause-read g c x is =
     let same : c.in-Some.bucket ≡ x = same_Some c.in-Some.bucket x (sym c.in-Some.ensures.here ∙ is) in
-    let told : IsRead c.args.id c.in-Some.bucket (brigade_of c.args.self.now c.args.id) (g.F.Files.device c.args.files.now) (g.F.Files.device c.read_range.new.files) (lists c.args.self.now)
+    let told : IsBucketRead c.args.id c.in-Some.bucket (brigade_of c.args.self.now c.args.id) (g.F.Files.device c.args.files.now) (g.F.Files.device c.read_range.new.files) (lists c.args.self.now)
     (lists c.read_range.new.self) (next_name c.args.self.now) (next_name c.read_range.new.self) c.read_range.result = search c.read_range.ensures in
-    subst (λ (y : Bucket). IsRead c.args.id y (brigade_of c.args.self.now c.args.id) (g.F.Files.device c.args.files.now) (g.F.Files.device c.read_range.new.files) (lists c.args.self.now)
+    subst (λ (y : Bucket). IsBucketRead c.args.id y (brigade_of c.args.self.now c.args.id) (g.F.Files.device c.args.files.now) (g.F.Files.device c.read_range.new.files) (lists c.args.self.now)
     (lists c.read_range.new.self) (next_name c.args.self.now) (next_name c.read_range.new.self) c.read_range.result) same told
 
 pub returns-in-None-clause-read : goal.returns-in-None-clause-read

@@ -12,9 +12,9 @@ use Rattle.stored_rings.proofs.Shelves.{counted, found_in, in_found}
 use Rattle.brigade_ops.proofs.store.Brigades.split_at.Goals as goal
 use Rattle.brigade_ops.proofs.store.Brigades.split_at.Goals.{After-splice_from}
 
-pub returns-in_default-clause-ok : goal.returns-in_default-clause-ok
+pub returns-in_default-clause-out : goal.returns-in_default-clause-out
 unfolding lists
-returns-in_default-clause-ok g c n =
+returns-in_default-clause-out g c n =
     c.drop_all.ensures.out n
     ∙ none_place c.args.a c.args.b n (seen c.args.self.now.held) before_place from_place c.args.place c.in_default.not-Some (λ xs. refl) (λ xs. refl)
 
@@ -51,10 +51,10 @@ drop_before-requires g c =
     (ap is_some (there_off a b (front id) L c.requires.apart) ∙ c.requires.into) in
     in_found new id a (ap (λ ys. is_some (payload_of ys)) (ap (rest id) list ∙ moved g d) ∙ found_in s id b (inside g d))
 
-pub returns-clause-ok : goal.returns-clause-ok
+pub returns-clause-out : goal.returns-clause-out
 unfolding lists brigade_of
-returns-clause-ok g c n =
-    let d = (goal.at.returns-clause-ok g c).After-splice_from in
+returns-clause-out g c n =
+    let d = (goal.at.returns-clause-out g c).After-splice_from in
     let id = c.in-Some.id in
     let a = c.args.a in
     let b = c.args.b in

@@ -4,7 +4,7 @@ use Rattle.module_code.specs.Program.{fits}
 use Rattle.pool_tree.specs.Tree.{map_of}
 use Rattle.module_run.specs.declared.conn.Filter.{Filter}
 use Rattle.module_run.proofs.Looking.{fault_read, looked, read_at}
-use Rattle.module_run.proofs.Tops.{around_of}
+use Rattle.module_run.proofs.Tops.{view_of}
 use Rattle.module_run.proofs.conn.Conn.fault_of.Goals as goal
 
 pub fault-requires-clause-fit : goal.fault-requires-clause-fit
@@ -28,4 +28,4 @@ returns-clause-value g c d v f rest is looks =
     (looked c.args.modules.now c.args.tree.now c.args.store.now d c.args.self.now v f rest is c.top-of.result c.in-Some-Some.filter.now c.in-Some-Some.code.now c.top-of.ensures
     (subst (λ (xs : List Filter). slice_get xs c.top-of.result ≡ Some c.in-Some-Some.filter.now) c.deref.ensures.value (read_at c.deref.result.now c.top-of.result c.in-Some-Some.filter.now
     c.in-Some-Some.ensures.lookup.3.0 c.in-Some-Some.ensures.lookup.1)) (read_at c.args.modules.now c.top-of.result c.in-Some-Some.code.now c.in-Some-Some.ensures'.lookup.3.0
-    c.in-Some-Some.ensures'.lookup.1)) looks (c.fault.ensures.value (around_of (map_of c.args.tree.now) c.args.self.now v))
+    c.in-Some-Some.ensures'.lookup.1)) looks (c.fault.ensures.value (view_of (map_of c.args.tree.now) c.args.self.now v))

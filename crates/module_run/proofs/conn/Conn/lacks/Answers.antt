@@ -5,7 +5,7 @@ use Rattle.run_model.specs.Steps.{is_spent}
 use Rattle.pool_tree.specs.Tree.{map_of}
 use Rattle.brigade_ops.specs.Store.{next_name}
 use Rattle.module_run.specs.declared.conn.Filter.{Filter}
-use Rattle.module_run.proofs.Tops.{around_of}
+use Rattle.module_run.proofs.Tops.{view_of}
 use Rattle.module_run.proofs.Looking.{looked, read_at, lacks_as, seen_faultless}
 use Rattle.module_run.proofs.conn.Conn.lacks.Goals as goal
 
@@ -20,7 +20,7 @@ lacks_names-requires-clause-fit g c = ap (fits c.in-Some-Some.code.now) c.requir
 pub lacks_names-requires-clause-faultless : goal.lacks_names-requires-clause-faultless
 lacks_names-requires-clause-faultless g c =
     let p = c.requires.on_top in (
-      around_of (map_of c.args.tree.now) c.args.self.now p.1.0,
+      view_of (map_of c.args.tree.now) c.args.self.now p.1.0,
       seen_faultless c.args.modules.now c.args.tree.now c.args.store.now c.args.self.now p.1.0 p.1.1.0 c.args.next p.1.1.1.1.1 p.1.1.1.1.2 c.in-Some-Some.filter.now c.in-Some-Some.code.now
           (looked c.args.modules.now c.args.tree.now c.args.store.now c.requires.on_top.0 c.args.self.now c.requires.on_top.1.0 c.requires.on_top.1.1.0 c.requires.on_top.1.1.1.0
           c.requires.on_top.1.1.1.1.0 c.top-of.result c.in-Some-Some.filter.now c.in-Some-Some.code.now c.top-of.ensures (subst
@@ -45,7 +45,7 @@ returns-then-lacks_names g c d v f rest is looks =
     (subst (λ (xs : List Filter). slice_get xs c.top-of.result ≡ Some c.in-Some-Some.filter.now) c.deref.ensures.value (read_at c.deref.result.now c.top-of.result c.in-Some-Some.filter.now
     c.in-Some-Some.ensures.lookup.3.0 c.in-Some-Some.ensures.lookup.1)) (read_at c.args.modules.now c.top-of.result c.in-Some-Some.code.now c.in-Some-Some.ensures'.lookup.3.0
     c.in-Some-Some.ensures'.lookup.1)) c.as_slice.result.now c.as_slice.ensures.value c.lacks_names.result (is_spent (next_name c.args.store.now)
-    (calls_at (length c.args.modules.now) c.args.self.now c.args.next.instr)) (c.lacks_names.ensures (around_of (map_of c.args.tree.now) c.args.self.now v)) refl in
+    (calls_at (length c.args.modules.now) c.args.self.now c.args.next.instr)) (c.lacks_names.ensures (view_of (map_of c.args.tree.now) c.args.self.now v)) refl in
     c.if-lacks_names.true ∙ (sym (ap (λ (t : Bool). t || is_spent (next_name c.args.store.now) (calls_at (length c.args.modules.now) c.args.self.now c.args.next.instr)) c.if-lacks_names.true) ∙ whole)
 
 -- src/look.rt:80:5
@@ -56,6 +56,6 @@ returns-else-lacks_names g c d v f rest is looks =
     (subst (λ (xs : List Filter). slice_get xs c.top-of.result ≡ Some c.in-Some-Some.filter.now) c.deref.ensures.value (read_at c.deref.result.now c.top-of.result c.in-Some-Some.filter.now
     c.in-Some-Some.ensures.lookup.3.0 c.in-Some-Some.ensures.lookup.1)) (read_at c.args.modules.now c.top-of.result c.in-Some-Some.code.now c.in-Some-Some.ensures'.lookup.3.0
     c.in-Some-Some.ensures'.lookup.1)) c.as_slice.result.now c.as_slice.ensures.value c.lacks_names.result c.is_spent.result
-    (c.lacks_names.ensures (around_of (map_of c.args.tree.now) c.args.self.now v)) (c.is_spent.ensures
+    (c.lacks_names.ensures (view_of (map_of c.args.tree.now) c.args.self.now v)) (c.is_spent.ensures
     ∙ (ap (is_spent c.next_name.result) c.calls.ensures ∙ ap (λ (n : ℕ). is_spent n (calls_at (length c.args.modules.now) c.args.self.now c.args.next.instr)) c.next_name.ensures)) in
     sym (ap (λ (t : Bool). t || c.is_spent.result) c.if-lacks_names.false) ∙ whole

@@ -247,9 +247,9 @@ returns-clause-ok g c tree d l v f rest ready =
     (λ q. omega (arith, q, name, below)) (held.real b m (handed g c p)) begins in
     hands_on chain b l tree old new d self v f rest ready c.requires.last more (filters_are g c p) c.push.new.self m y z (hands g c p)
     (c.lend-name.ensures.held y.call stays) enters
-    (λ around call. subst (λ (q : Filter). lent b (seen new around y.instance call) ≡ do_pass b (seen new around q.instance call)) (here g c p) (c.lend-name.ensures.seen around call))
-    (λ around call. subst (λ (i : Instance). seen new around z.instance call ≡ set_brigade 8 (shown_slot (calls_in around call) (lists new) (slot.Made m None Usable)) (seen new around i call))
-    (entered g c p) (c.take_in.ensures.seen around call))
+    (λ view call. subst (λ (q : Filter). lent b (seen new view y.instance call) ≡ do_pass b (seen new view q.instance call)) (here g c p) (c.lend-name.ensures.seen view call))
+    (λ view call. subst (λ (i : Instance). seen new view z.instance call ≡ set_brigade 8 (shown_slot (calls_in view call) (lists new) (slot.Made m None Usable)) (seen new view i call))
+    (entered g c p) (c.take_in.ensures.seen view call))
     (ap is_some (sym (lists_kept old new more m below)) ∙ c.lend-name.ensures.there)
     (subst (λ (k : Call). (waits : List ℕ) → shown_call (is_running k.name waits) (lists new) k ≡ fresh_call (next_name old))
     (ap (λ (q : Filter). q.call) (sym (there g c p))) c.in_ok-begin_in.ensures.call)

@@ -47,7 +47,7 @@ use Rattle.module_run.proofs.HandsOnBuilt.{on_err, reads_here, same_back, writes
 use Rattle.ring_calls.proofs.OpenFiles.{open_items}
 use Rattle.module_run.proofs.Outs.{with_out}
 use Rattle.module_run.proofs.Spared.{left_spared}
-use Rattle.module_run.proofs.Tops.{OnTop, around_of}
+use Rattle.module_run.proofs.Tops.{OnTop, view_of}
 use Rattle.module_run.proofs.conn.Conn.pass_to_output.Given.{Over}
 use Rattle.module_run.proofs.conn.Conn.pass_to_output.Goals as goal
 
@@ -92,14 +92,14 @@ pass_out-requires-clause-open g c =
     let p = c.requires.ready.2 in
     let i = instr.Pass c.args.b c.args.target in
     let t = passes g c in
-    let around = around_of (map_of tree) self p.v in
-    let opens = work.open_in chain i tree store d self p.v p.top p.rest p.ready t.filter t.is around.labels around.files around.out around.waits refl in
-    let homes = met_at (seen store around t.filter.instance t.filter.call) (wants (module_at chain (top_of self)) i) 1 (WHomes c.args.b)
-    (work.faultless_in chain i tree store d self p.v p.top p.rest p.ready t.filter t.is around.labels around.files around.out around.waits refl) refl in (
-      around,
+    let view = view_of (map_of tree) self p.v in
+    let opens = work.open_in chain i tree store d self p.v p.top p.rest p.ready t.filter t.is view.labels view.files view.out view.waits refl in
+    let homes = met_at (seen store view t.filter.instance t.filter.call) (wants (module_at chain (top_of self)) i) 1 (WHomes c.args.b)
+    (work.faultless_in chain i tree store d self p.v p.top p.rest p.ready t.filter t.is view.labels view.files view.out view.waits refl) refl in (
+      view,
       t.filter.call,
-      subst (λ (f : Filter). All (RangeIsOpen d) (items_of ((seen store around f.instance t.filter.call).instance.brigades c.args.b))) (sym (passes_read g c))
-          (open_items d (items_of ((seen store around t.filter.instance t.filter.call).instance.brigades c.args.b)) (opens.brigades c.args.b) homes),
+      subst (λ (f : Filter). All (RangeIsOpen d) (items_of ((seen store view f.instance t.filter.call).instance.brigades c.args.b))) (sym (passes_read g c))
+          (open_items d (items_of ((seen store view t.filter.instance t.filter.call).instance.brigades c.args.b)) (opens.brigades c.args.b) homes),
     )
 
 pub go_on-requires : goal.go_on-requires
@@ -191,13 +191,13 @@ returns-clause-ok g c chain tree v f rest last ready =
     let is : w ≡ passed_on chain b l tree old new d e self v f rest ready i well (with_item self.filters c.top-top.result w) c.pass_out.new.out c.pass_out.new.ended =
     ap (λ (k : Call). record w { call = k }) c.go_on.ensures
     ∙ ap (λ (q : Filter). record q { instance = i; call = record q.call { pc = if well then q.call.pc + 1 else l } }) at in
-    let around = around_of (map_of tree) self v in
-    let given : WasDelivered d e (out_of self.out self.ended) (items_of ((seen old around x.instance x.call).instance.brigades b)) (out_of c.pass_out.new.out c.pass_out.new.ended) well =
-    subst (λ (q : Filter). WasDelivered d e (out_of self.out self.ended) (items_of ((seen old around q.instance x.call).instance.brigades b)) (out_of c.pass_out.new.out c.pass_out.new.ended) well)
-    at (c.in_ok-well.ensures.delivered around x.call) in
+    let view = view_of (map_of tree) self v in
+    let given : WasDelivered d e (out_of self.out self.ended) (items_of ((seen old view x.instance x.call).instance.brigades b)) (out_of c.pass_out.new.out c.pass_out.new.ended) well =
+    subst (λ (q : Filter). WasDelivered d e (out_of self.out self.ended) (items_of ((seen old view q.instance x.call).instance.brigades b)) (out_of c.pass_out.new.out c.pass_out.new.ended) well)
+    at (c.in_ok-well.ensures.delivered view x.call) in
     delivers chain b l tree old new d e self v f rest ready i well (with_item self.filters c.top-top.result w) c.pass_out.new.out c.pass_out.new.ended
     (top_after g c p ∙ ap (λ (q : Filter). Some q) is) (others g c p) (length-set self.filters.items c.top-top.result w) (slots g c p)
-    (λ around call. subst (λ (q : Filter). IsHeld old q.instance call → seen new around i call ≡ do_pass b (seen old around q.instance call)) at (c.in_ok-well.ensures.passed around call))
+    (λ view call. subst (λ (q : Filter). IsHeld old q.instance call → seen new view i call ≡ do_pass b (seen old view q.instance call)) at (c.in_ok-well.ensures.passed view call))
     (λ call. subst (λ (q : Filter). IsHeld old q.instance call → IsHeld new i call) at (c.pass_out.ensures.held call))
     (leaves g c p) given.reads given.given given.told c.pass_out.ensures.open_files last
 
@@ -238,10 +238,10 @@ returns-in_err-well-clause-sure g c chain tree v f rest ready quiet =
     let i = instr.Pass b c.args.target in
     let t = passer chain b c.args.target tree store d self v f rest ready in
     let at = reads_here self c.top-top.result c.top-top.ensures t.filter c.index_mut-filter.result.now t.is c.index_mut-filter.ensures.value in
-    let around = around_of (map_of tree) self v in
+    let view = view_of (map_of tree) self v in
     let same = work.config chain i tree store d self v f rest ready t.filter t.is in
-    let none : (not self.ended && has_bytes (items_of ((seen store around t.filter.instance t.filter.call).instance.brigades b))) ≡ false
+    let none : (not self.ended && has_bytes (items_of ((seen store view t.filter.instance t.filter.call).instance.brigades b))) ≡ false
     = (grown_none 0 0 _ (sym (ap (λ (r : Configuration). grows r i) same) ∙ quiet)).1 in
-    let sure = c.in_err-well.ensures.sure around t.filter.call
-    (subst (λ (q : Filter). (not self.ended && has_bytes (items_of ((seen store around q.instance t.filter.call).instance.brigades b))) ≡ false) (sym at) none) in
+    let sure = c.in_err-well.ensures.sure view t.filter.call
+    (subst (λ (q : Filter). (not self.ended && has_bytes (items_of ((seen store view q.instance t.filter.call).instance.brigades b))) ≡ false) (sym at) none) in
     absurd (cc sure)

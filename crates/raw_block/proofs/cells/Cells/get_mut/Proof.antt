@@ -4,7 +4,8 @@ use Rattle.raw_block.proofs.Steps.{sep, id⊢, GName, Fml, ftrue, fat, flft, fse
 use Rattle.raw_block.proofs.Steps.{qed, move, keep, use1, use2, split, join, group, pick, await, rewrite, fsplit, fsplit3, fjoin, fjoin3, fpack, flt_l, flt_i, suffices, frame, done, whole, sub, stop}
 use Rattle.raw_block.proofs.Steps.{fld, of_opd, addr, bin, size_word, first, blocks, exec, returns, enter, alloc_all, pass_all, free_all, look_at, take_at, give_at, get, get_in, through, sets}
 use Rattle.raw_block.proofs.Steps.{sets_last, is, env, usize, yes, no, cell_at, mem, layout, uint_vals, uint_Tells, Ptr, block_ptr, in_a_block, MutBor, MutRef, mut_vals, mut_Tells, plain, mut_ref_to}
-use Rattle.raw_block.proofs.Steps.{nothing, opens, heard, says, Stays, stay_dropped, walk_of, ends_at, Goes-dropped, Goes-spent_ref, word, word-Good, after, El, R, args, el_x, uncapped, Cr, Br, Mark}
+use Rattle.raw_block.proofs.Steps.{nothing, opens, heard, says, Stays, stay_dropped, walk_of, ends_at, Goes-dropped, Goes-spent_ref}
+use Rattle.raw_block.proofs.Steps.{word, word-Good, after, El, R, args, el_x, uncapped, Cr, Br, FullMark}
 use Rattle.raw_block.proofs.Steps.{size_of, base_vals, base_tells, mark, begins_below, small_as}
 use denote.Memory.{part_of}
 use denote.Follow.{follows, Part, lends_Part}
@@ -22,7 +23,7 @@ stayed E = (stay_dropped (mut_ref_to (0 ∷ []) tt (plain (λ _. Cr E))) no, (st
 module _ (E : El) {M : Type 1} {𝓤 : Ura M} (𝓛 : Logic 𝓤) (vs : List Val) (rb ro b o : ℕ) (d : (Cr E).Denot) (k : ℕ) where
   -- the places but for the one that is lent
   abbrev Rest : Fml
-  Rest = fsep (gap_owned (R E) b o d.places k) (fsep ((Mark E).own_val (tt, tt) vs) (cell_at full_share (Cr E).mir vs rb ro))
+  Rest = fsep (gap_owned (R E) b o d.places k) (fsep ((FullMark E).own_val (tt, tt) vs) (cell_at full_share (Cr E).mir vs rb ro))
 
   -- the last value goes back into its place
   goes_back : d.start ≡ block_ptr b o → k < length d.places → length d.places * size_of E < 2 ^ 63

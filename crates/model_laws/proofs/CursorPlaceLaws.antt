@@ -7,12 +7,12 @@ use Rattle.run_model.specs.declared.bucket.BrigadeVar.TheVariants as var
 use Rattle.run_model.specs.declared.bucket.Cursor.TheVariants as cursor
 use Rattle.run_model.specs.BrigadeLists.{buckets_from, first_bucket, bucket_named, is_there}
 use Rattle.run_model.specs.State.{Configuration, items_of, is_named}
-use Rattle.run_model.specs.Cursors.{found_below, holder_of, variable_of, loose_spot, brigade_spot, bucket_spot, end_spot, spot_of}
+use Rattle.run_model.specs.Cursors.{found_below, holder_of, variable_of, place_of_loose, place_in_brigade, place_of_bucket, place_of_end, place_of_cursor}
 use Rattle.run_model.specs.BucketSteps.{items_at}
 use Rattle.run_model.specs.Sound.{SoundNames, brigade_name, sum_below, count_named, count}
 use Rattle.model_laws.specs.CursorLaws.{LooseOnce, WithinOnce, BucketOnce, BrigadeOnce, CursorsStandOnce}
 use Rattle.run_model.proofs.Names.{count_none, count_cons}
-use Rattle.run_model.proofs.Spots.{found_tells, named_is, named_in}
+use Rattle.run_model.proofs.CursorPlaces.{found_tells, named_is, named_in}
 use Rattle.run_model.proofs.Sums.{term_below, two_below, all_none}
 use Rattle.model_laws.proofs.CursorNames.{found_there}
 
@@ -95,27 +95,27 @@ not_named var.Gone n is e = absurd (cc)
 not_named (var.Live v) n is e = (let same : v.name ≡ n = cc in let yes : (n == v.name) ≡ true = eq-eqb n v.name (sym same) in absurd (cc))
 
 pub cursors_stand_once : CursorsStandOnce
-unfolding spot_of holder_of variable_of
+unfolding place_of_cursor holder_of variable_of
 cursors_stand_once r cursor.Unset s = refl
 cursors_stand_once r (cursor.At n) s = of_holder (holder_of r n) refl where
-  of_loose : (o : Option NamedBucket) → ((k : ℕ) → k < 9 → is_there n (items_at r k) ≡ false) → bucket_named n r.call.loose ≡ o → BucketOnce r n (loose_spot o)
+  of_loose : (o : Option NamedBucket) → ((k : ℕ) → k < 9 → is_there n (items_at r k) ≡ false) → bucket_named n r.call.loose ≡ o → BucketOnce r n (place_of_loose o)
   of_loose None nowhere is =
       let brigades : sum_below 9 (λ k. count_named n (items_at r k)) ≡ 0 = all_none 9 (λ k. count_named n (items_at r k)) (λ k lt. absent n (items_at r k) (nowhere k lt)) in
       omega (arith, brigades, unnamed n r.call.loose is)
   of_loose (Some x) nowhere is = loose_once r n x s is
 
-  of_items : (b : ℕ) (o : Option NamedBucket) → b < 9 → is_there n (items_at r b) ≡ true → bucket_named n (items_at r b) ≡ o → BucketOnce r n (brigade_spot b o)
+  of_items : (b : ℕ) (o : Option NamedBucket) → b < 9 → is_there n (items_at r b) ≡ true → bucket_named n (items_at r b) ≡ o → BucketOnce r n (place_in_brigade b o)
   of_items b None lt there is = absurd (there_named n (items_at r b) there is)
   of_items b (Some x) lt there is = within_once r n b x s lt is
 
-  of_holder : (o : Option ℕ) → holder_of r n ≡ o → BucketOnce r n (bucket_spot r n o)
+  of_holder : (o : Option ℕ) → holder_of r n ≡ o → BucketOnce r n (place_of_bucket r n o)
   of_holder None is = of_loose (bucket_named n r.call.loose) (none_found 9 (λ k. is_there n (items_at r k)) is) refl
   of_holder (Some b) is = (let found = found_tells 9 (λ k. is_there n (items_at r k)) b is in of_items b (bucket_named n (items_at r b)) found.0 found.1 refl)
 cursors_stand_once r (cursor.End n) s = of_variable (variable_of r n) refl where
   beyond : (k : ℕ) → 9 ≤ k → brigade_name (r.instance.brigades k) ≢ Some n
   beyond k le e = (let none : None ≡ Some n = sym (ap brigade_name (s.slots k le)) ∙ e in absurd (cc))
 
-  of_variable : (o : Option ℕ) → variable_of r n ≡ o → BrigadeOnce r n (end_spot o)
+  of_variable : (o : Option ℕ) → variable_of r n ≡ o → BrigadeOnce r n (place_of_end o)
   of_variable None is = λ k e. elim (cases_lt k 9) [
     | inl lt ↦ not_named (r.instance.brigades k) n (none_found 9 (λ j. is_named (brigade_name (r.instance.brigades j)) n) is k lt) e
     | inr le ↦ beyond k le e

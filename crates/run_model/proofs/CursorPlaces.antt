@@ -8,7 +8,7 @@ use Rattle.run_model.specs.declared.bucket.BrigadeVar.TheVariants as var
 use Rattle.run_model.specs.BrigadeLists.{buckets_from, first_bucket, bucket_named, is_there}
 use Rattle.run_model.specs.Sound.{brigade_name}
 use Rattle.run_model.specs.State.{Configuration, is_named}
-use Rattle.run_model.specs.Cursors.{Place, Nowhere, AtLoose, Within, AtEndOf, found_below, holder_of, variable_of, loose_spot, brigade_spot, bucket_spot, end_spot, spot_of}
+use Rattle.run_model.specs.Cursors.{Place, Nowhere, AtLoose, Within, AtEndOf, found_below, holder_of, variable_of, place_of_loose, place_in_brigade, place_of_bucket, place_of_end, place_of_cursor}
 use Rattle.run_model.specs.BucketSteps.{items_at}
 
 -- What is found below a number is below it, and passes the test.
@@ -30,11 +30,11 @@ named_is n (b ∷ bs) x is = by_name (b.name == n) refl (named_is n bs x) is whe
   by_name false tells rest is = rest is
 
 -- What a spot says of the state.
-abbrev pub Stands : Configuration → Place → Type 0
-Stands r Nowhere = Unit {0}
-Stands r (AtLoose x) = bucket_named x.name r.call.loose ≡ Some x
-Stands r (Within b x) = (b < 9) × (bucket_named x.name (items_at r b) ≡ Some x)
-Stands r (AtEndOf b) = (b < 9) × ((n : ℕ) × (brigade_name (r.instance.brigades b) ≡ Some n))
+abbrev pub StandsThere : Configuration → Place → Type 0
+StandsThere r Nowhere = Unit {0}
+StandsThere r (AtLoose x) = bucket_named x.name r.call.loose ≡ Some x
+StandsThere r (Within b x) = (b < 9) × (bucket_named x.name (items_at r b) ≡ Some x)
+StandsThere r (AtEndOf b) = (b < 9) × ((n : ℕ) × (brigade_name (r.instance.brigades b) ≡ Some n))
 
 again : (n : ℕ) (bs : List NamedBucket) (x : NamedBucket) → bucket_named n bs ≡ Some x → bucket_named x.name bs ≡ Some x
 again n bs x is = ap (λ (k : ℕ). bucket_named k bs) (named_is n bs x is) ∙ is
@@ -44,22 +44,22 @@ named_in var.Null n is = absurd (cc)
 named_in var.Gone n is = absurd (cc)
 named_in (var.Live v) n is = ap (λ (k : ℕ). Some k) (sym (eqb-true n v.name is))
 
-pub stands : (r : Configuration) (c : Cursor) → Stands r (spot_of r c)
-unfolding spot_of holder_of variable_of
+pub stands : (r : Configuration) (c : Cursor) → StandsThere r (place_of_cursor r c)
+unfolding place_of_cursor holder_of variable_of
 stands r cursor.Unset = tt
 stands r (cursor.At n) = of_holder (holder_of r n) refl where
-  of_loose : (o : Option NamedBucket) → bucket_named n r.call.loose ≡ o → Stands r (loose_spot o)
+  of_loose : (o : Option NamedBucket) → bucket_named n r.call.loose ≡ o → StandsThere r (place_of_loose o)
   of_loose None is = tt
   of_loose (Some x) is = again n r.call.loose x is
 
-  of_items : (b : ℕ) (o : Option NamedBucket) → b < 9 → bucket_named n (items_at r b) ≡ o → Stands r (brigade_spot b o)
+  of_items : (b : ℕ) (o : Option NamedBucket) → b < 9 → bucket_named n (items_at r b) ≡ o → StandsThere r (place_in_brigade b o)
   of_items b None lt is = tt
   of_items b (Some x) lt is = (lt, again n (items_at r b) x is)
 
-  of_holder : (o : Option ℕ) → holder_of r n ≡ o → Stands r (bucket_spot r n o)
+  of_holder : (o : Option ℕ) → holder_of r n ≡ o → StandsThere r (place_of_bucket r n o)
   of_holder None is = of_loose (bucket_named n r.call.loose) refl
   of_holder (Some b) is = of_items b (bucket_named n (items_at r b)) (found_tells 9 (λ k. is_there n (items_at r k)) b is).0 refl
 stands r (cursor.End n) = of_variable (variable_of r n) refl where
-  of_variable : (o : Option ℕ) → variable_of r n ≡ o → Stands r (end_spot o)
+  of_variable : (o : Option ℕ) → variable_of r n ≡ o → StandsThere r (place_of_end o)
   of_variable None is = tt
   of_variable (Some b) is = (let found = found_tells 9 (λ k. is_named (brigade_name (r.instance.brigades k)) n) b is in (found.0, (n, named_in (r.instance.brigades b) n found.1)))
