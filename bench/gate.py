@@ -7,7 +7,9 @@ begin with, the wrong bodies, and the compilers of programs.
 The last line is a ratio within one run: all processor time beside that of the first proof of `module_code`. Machines differ by
 two to four times, and so does one from hour to hour; the ratio differs less.
 
-What runs is looked at each second in /proc. So each check may lack its last second, and `all` is what the system counted.
+What runs is looked at each second in /proc, so each check may lack its last second, and a process that is shorter may be missed. `other`
+is what is neither a proof nor written in Python: mostly the compilers. The processor time of the line before the last is what the system
+counted, of all processes.
 """
 import os
 import resource
