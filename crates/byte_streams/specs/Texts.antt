@@ -1,4 +1,4 @@
--- A text in parts, and how much of a text was put into a sink. before and after: what is known of its bytes. was and is: whether it had failed, and has.
+-- A text in parts, how much of a text was put into a sink, and what a call writes for what it reads. before and after: what is known of its bytes. was and is: whether it had failed, and has.
 use Rattle.std.specs.Prelude.{◌≡◌, ℕ, ◌<◌, Bool, true, List, ◌++◌, length, take, Option, IfSome, Result, Ok, Err}
 use Rattle.std.specs.Io.KnownBytes.{Appends}
 use Rattle.byte_streams.specs.declared.parts.Parts.{Parts}

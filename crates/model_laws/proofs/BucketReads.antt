@@ -82,7 +82,7 @@ filled_with var.Null x items is = absurd (cc)
 filled_with var.Gone x items is = absurd (cc)
 filled_with (var.Live v) x items is = refl
 
--- what the step makes of the spot at which its cursor stands
+-- what the step makes of the place at which its cursor stands
 abbrev read_outcome : Option (List ℕ) → Place → Configuration → Outcome
 read_outcome given s r = record { exit = jumps_if (is_unread given s); state = do_read given s r }
 

@@ -104,8 +104,9 @@ abbrev pub Attempts : Option FaultKind → Program → Option (List ℕ) → Sta
 Attempts None p given s told new = (lacks_names s.now (current p s.now.pc) ≡ false) × (executed p given (current p s.now.pc) s ≡ (told, new))
 Attempts (Some k) p given s told new = (told ≡ Faults k) × (new ≡ record s { phase = Broken })
 
-abbrev pub OpenExecutes : Program → Option (List ℕ) → Standing → ToldOfMove → Standing → Type 0
-OpenExecutes p given s told new = (s.phase ≡ Runs) × Attempts (fault p s.now (current p s.now.pc)) p given s told new
+-- The next instruction is executed.
+abbrev pub ExecutesOne : Program → Option (List ℕ) → Standing → ToldOfMove → Standing → Type 0
+ExecutesOne p given s told new = (s.phase ≡ Runs) × Attempts (fault p s.now (current p s.now.pc)) p given s told new
 
 -- Its surroundings.
 
@@ -280,7 +281,7 @@ pub record Ends (s new : Standing) : Type 0 where
 -- this move may tell this, and lead from one to the other
 unfoldable pub IsMove : Program → Standing → Move → ToldOfMove → Standing → Type 0
 IsMove p s Start told new = (told ≡ Done) × Starts p s new
-IsMove p s (Execute given) told new = OpenExecutes p given s told new
+IsMove p s (Execute given) told new = ExecutesOne p given s told new
 IsMove p s (Answer t items) told new = (told ≡ Done) × AnswersCall p t items s new
 IsMove p s Others told new = (told ≡ Done) × OthersGoOn s new
 IsMove p s Elsewhere told new = (told ≡ Done) × GoOnElsewhere s new

@@ -1,5 +1,5 @@
--- What a call writes for what it reads.
-use Rattle.std.specs.Prelude.{ℕ, ◌<◌, List, length, take, Option, IfSome, Result, Ok, Err}
+-- What a call answers where a text was written, or not all of it.
+use Rattle.std.specs.Prelude.{ℕ, ◌<◌, List, length, take, Option, Result, Ok, Err}
 use Rattle.std.specs.Io.KnownBytes.{Appends, Keeps}
 pub use Rattle.byte_streams.specs.Texts.{Writes}
 use Rattle.module_tools.specs.declared.fault.PlayFault.{PlayFault}

@@ -29,7 +29,7 @@ named_is n (b ∷ bs) x is = by_name (b.name == n) refl (named_is n bs x) is whe
   by_name true tells rest is = (let same : b ≡ x = cc in ap (λ (y : NamedBucket). y.name) (sym same) ∙ eqb-true b.name n tells)
   by_name false tells rest is = rest is
 
--- What a spot says of the state.
+-- What a place says of the state.
 abbrev pub StandsThere : Configuration → Place → Type 0
 StandsThere r Nowhere = Unit {0}
 StandsThere r (AtLoose x) = bucket_named x.name r.call.loose ≡ Some x

@@ -18,7 +18,7 @@ use Rattle.run_model.specs.Steps.{Choice, Outcome, step, current}
 use Rattle.run_model.proofs.Updates.{upd_at}
 use Rattle.run_model.specs.EffectOf.{effect_of}
 use Rattle.model_laws.specs.Laws.{ChangesOnly, is_return}
-use Rattle.model_laws.specs.OpenRuns.{Phase, Rests, Runs, none_lasts, Standing, ToldOfMove, IsHarmless, executed, Attempts, OpenExecutes, StandsSound}
+use Rattle.model_laws.specs.OpenRuns.{Phase, Rests, Runs, none_lasts, Standing, ToldOfMove, IsHarmless, executed, Attempts, ExecutesOne, StandsSound}
 use Rattle.model_laws.proofs.Handlers.{LeadsWhere}
 use Rattle.model_laws.proofs.Unchanged.{step_changes_only}
 use Rattle.model_laws.proofs.chains.Places.{led, SameHandler, stays_in_handler}
@@ -160,6 +160,6 @@ module _ (p : Program) (m : Certificate) (proper : IsModule p) (bounded : AllBou
   attempt_stands given s new told phase runs was k (Some kind) is a =
       absurd (let none : fault p s.now (current p s.now.pc) ≡ None = (met_in p m s proper typed was runs).faultless in let both : Some kind ≡ None = sym is ∙ none in cc)
 
-  pub executes_stand : (given : Option (List ℕ)) (s new : Standing) (told : ToldOfMove) → StandsAlone p m s → OpenExecutes p given s told new → StandsSound p s → StandsSound p new
+  pub executes_stand : (given : Option (List ℕ)) (s new : Standing) (told : ToldOfMove) → StandsAlone p m s → ExecutesOne p given s told new → StandsSound p s → StandsSound p new
       → IsHarmless told × StandsAlone p m new
   executes_stand given s new told h e was k = attempt_stands given s new told e.0 (in_phase p m s Runs e.0 h) was k (fault p s.now (current p s.now.pc)) refl e.1
