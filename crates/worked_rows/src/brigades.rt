@@ -77,15 +77,24 @@ fn show_letters<R: Rings<Stored> + Drop>(
     Ok(println!(rt; "")?)
 }
 
-/// Puts buckets into a brigade, and tells their letters.
+/// Puts buckets into a brigade, each at a place of its own.
+fn add_all<R: Rings<Stored> + Drop>(
+    alloc: Global,
+    store: &mut Brigades<R>,
+    brigade: BrigadeId,
+) -> Result<()> {
+    let a = add(alloc, store, RingPlace::Tail(brigade), b"a")?;
+    add(alloc, store, RingPlace::Head(brigade), b"b")?;
+    add(alloc, store, RingPlace::Before(a), b"c")?;
+    add(alloc, store, RingPlace::After(a), b"d")?;
+    add_two(alloc, store, brigade)
+}
+
+/// Tells the letters of a brigade into which buckets are put.
 pub(crate) fn show_rows<R: Rings<Stored> + Drop>(rt: &HostRuntime) -> Result<()> {
     println!(rt; "a at the tail, b at the head, c before a, d after a, and e and f at the tail")?;
     let mut store = Brigades::<R>::new(rt.alloc(), 1);
     let brigade = store.loose()?;
-    let a = add(rt.alloc(), &mut store, RingPlace::Tail(brigade), b"a")?;
-    add(rt.alloc(), &mut store, RingPlace::Head(brigade), b"b")?;
-    add(rt.alloc(), &mut store, RingPlace::Before(a), b"c")?;
-    add(rt.alloc(), &mut store, RingPlace::After(a), b"d")?;
-    add_two(rt.alloc(), &mut store, brigade)?;
+    add_all(rt.alloc(), &mut store, brigade)?;
     show_letters(rt, &mut store, brigade)
 }

@@ -9,10 +9,8 @@ fn show(rt: &HostRuntime, what: &str, bytes: &[u8]) -> Result<()> {
     Ok(())
 }
 
-/// Three pieces are placed, and one more after a reset.
-pub(crate) fn region_spans(rt: &HostRuntime) -> Result<()> {
-    println!(rt; "bytes of a region")?;
-    let mut region = Region::new(rt.alloc());
+/// Places three pieces, and one more after a reset.
+fn place_pieces(rt: &HostRuntime, region: &mut Region) -> Result<()> {
     let ab = region.place(b"ab")?;
     let none = region.place(b"")?;
     let c = region.place(b"c")?;
@@ -22,4 +20,10 @@ pub(crate) fn region_spans(rt: &HostRuntime) -> Result<()> {
     region.reset();
     let d = region.place(b"d")?;
     show(rt, "after a reset", region.bytes(d))
+}
+
+/// Tells what pieces of a region hold.
+pub(crate) fn region_spans(rt: &HostRuntime) -> Result<()> {
+    println!(rt; "bytes of a region")?;
+    place_pieces(rt, &mut Region::new(rt.alloc()))
 }

@@ -118,11 +118,11 @@ fn take<R: Rings<Stored> + Drop>(
 /// Does the commands of a script, and gives the scripts behind it.
 fn take_all<'a, R: Rings<Stored> + Drop>(
     alloc: Global,
-    mut host: Host<MemFiles, R>,
+    host: &mut Host<MemFiles, R>,
     script: &'a [u8],
     told: &mut Vec<u8>,
 ) -> Result<&'a [u8]>
-    requires { IsMemHostAlive host }
+    requires { IsMemHostAlive host.old }
 {
     let mut rest = script;
     while !rest.is_empty() {
@@ -130,7 +130,7 @@ fn take_all<'a, R: Rings<Stored> + Drop>(
         if operand_of(line.text, b"first").is_some() {
             break;
         }
-        take(alloc, &mut host, line.text, told)?;
+        take(alloc, host, line.text, told)?;
         rest = &rest[line.width..];
     }
     Ok(rest)
@@ -148,8 +148,8 @@ fn play<'a, R: Rings<Stored> + Drop>(
     };
     let mut texts = Texts::new(alloc);
     let (checked, rest) = read_texts(alloc, &mut texts, &scripts[line.width..], told)?;
-    let host = host_of::<R>(alloc, texts, checked, first)?;
-    take_all(alloc, host, rest, told)
+    let mut host = host_of::<R>(alloc, texts, checked, first)?;
+    take_all(alloc, &mut host, rest, told)
 }
 
 /// Plays scripts on hosts over these rings, and adds their answers to the text. What was answered before an error stands there.

@@ -1,4 +1,4 @@
-use Rattle.std.proofs.Common.{take, sym, append-nil, arith, []}
+use Rattle.std.proofs.Common.{take, sym, append-nil, arith, [], rules}
 use Rattle.std.proofs.KnownBytes.{Consumes-kept, Consumes-nil}
 use Rattle.http_front.proofs.Stepped.{so_not}
 use Rattle.http_front.proofs.TurnLaws.{read_short, read_some}
@@ -25,3 +25,6 @@ returns-in-Err-Failed-clause-err g c = Consumes-kept _ _ _ [] (Consumes-nil _) (
 
 pub returns-in-Err-TooManyReads-clause-err : goal.returns-in-Err-TooManyReads-clause-err
 returns-in-Err-TooManyReads-clause-err g c = Consumes-kept _ _ _ [] (Consumes-nil _) (rw c.in-Err-TooManyReads.field-0-is at c.in-Err-TooManyReads.ensures).2
+
+pub returns-in-Err-TooManyReads-clause-blames : goal.returns-in-Err-TooManyReads-clause-blames
+returns-in-Err-TooManyReads-clause-blames g c = search rules

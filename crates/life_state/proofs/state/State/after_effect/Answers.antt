@@ -1,5 +1,5 @@
 -- The homes of both.
-use Rattle.std.proofs.Common.{ap, sym, ◌∙◌}
+use Rattle.std.proofs.Common.{ap, sym, ◌∙◌, rules}
 use Rattle.run_model.specs.declared.effect.Effect.{Effect}
 use Rattle.life_state.specs.States.{Homes, both_homes}
 use Rattle.life_state.specs.Rules.{after_join, after}
@@ -15,3 +15,6 @@ returns-in-Concat c =
     (c.both.ensures ∙ (ap (λ (h : Homes). both_homes h (seen_homes c.homes-in-Concat.result)) c.homes.ensures
     ∙ ap (both_homes (s.brigades a).homes) c.homes-in-Concat.ensures))
     ∙ sym (ap (λ (e : Effect). after c.args.code.now e s) c.in-Concat.is))
+
+pub returns-in-Delete : goal.returns-in-Delete
+returns-in-Delete c = search rules

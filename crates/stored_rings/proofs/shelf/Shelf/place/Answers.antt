@@ -1,3 +1,4 @@
+use Rattle.std.proofs.Common.{rules}
 use Rattle.stored_rings.specs.Regions.{look}
 use Rattle.stored_rings.specs.Shelf.{seen}
 use Rattle.stored_rings.proofs.Kept.{placed_seen, placed_whole}
@@ -17,3 +18,6 @@ pub returns-in_ok-placed-in-Pool-Bytes-clause-same : goal.returns-in_ok-placed-i
 unfolding seen
 returns-in_ok-placed-in-Pool-Bytes-clause-same g c =
     placed_seen (look c.args.self.now.regions) (look c.place.new.self) c.place.ensures.kept (g.R.Rings.lists c.args.self.now.rings.rings) c.args.self.now.whole
+
+pub returns-in_default-clause-none : goal.returns-in_default-clause-none
+returns-in_default-clause-none g c = search rules
