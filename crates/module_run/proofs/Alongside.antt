@@ -1,5 +1,5 @@
 -- A connection in which other things than its filters and calls were changed.
-use Rattle.std.proofs.Common.{◌≡◌, ℕ, Bool, List, Option, refl, sym, ap, ◌∙◌}
+use Rattle.std.proofs.Common.{◌≡◌, ℕ, Bool, List, Option, sym, ap, ◌∙◌}
 use Rattle.std.specs.Global.{Vec}
 use Rattle.bucket_ring.specs.declared.names.BucketId.{BucketId}
 use Rattle.bucket_kinds.specs.Device.{Device}
@@ -17,9 +17,8 @@ use Rattle.run_model.specs.declared.payload.Payload.{Payload}
 use Rattle.stored_rings.specs.Items.{Items}
 use Rattle.module_run.specs.declared.conn.Conn.{Conn}
 use Rattle.module_run.specs.declared.conn.OpenFile.{OpenFile}
-use Rattle.module_run.specs.Conns.{conn_of, filter_at, labels_handed, waiting}
+use Rattle.module_run.specs.Conns.{conn_of, filter_at, labels_handed}
 use Rattle.module_run.specs.Stacked.{StackedOver}
-use Rattle.module_run.proofs.Stacking.{names_same}
 use Rattle.ring_run.specs.declared.labels_run.LabelsRun.{LabelsRun}
 
 -- with these labels, pools, files, output, count and cause
@@ -44,8 +43,10 @@ stacked_beside chain at rings pools next c labels conn req files out ended count
     passed = stacked.called.passed;
     inward = stacked.called.inward;
     incoming = stacked.called.incoming;
-    waits = stacked.called.waits ∙ sym (names_same c (beside c labels conn req files out ended count broken) c.first (waiting c) (λ j low high. refl));
+    waits = stacked.called.waits;
     quiet = stacked.called.quiet;
+    rises = stacked.called.rises;
+    bottom = stacked.called.bottom;
   };
   brought = stacked.brought;
 }

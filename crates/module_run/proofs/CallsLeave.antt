@@ -1,8 +1,8 @@
 -- What the begin and the end of calls leave to other connections, and what goes with a call.
-use Rattle.std.proofs.Common.{◌≡◌, ◌≢◌, ◌⊎◌, ◌==◌, ◌&&◌, ℕ, suc, ◌+◌, ◌<◌, ◌≤◌, nat_le, Bool, true, false, List, [], Option, Some, None, refl, sym, ap, subst, ◌∙◌, inl, inr, arith}
+use Rattle.std.proofs.Common.{◌≡◌, ◌≢◌, ◌⊎◌, ◌==◌, ℕ, ◌+◌, ◌<◌, ◌≤◌, Bool, true, false, List, [], Option, Some, None, refl, sym, ap, subst, ◌∙◌, inl, inr, arith, length}
 use Rattle.std.specs.Prelude.{if◌then◌else◌}
 use Rattle.std.specs.Global.{Vec}
-use Rattle.std.proofs.lemmas.Bool.{cases_eq, le-leb, lt-leb, ne_eqb}
+use Rattle.std.proofs.lemmas.Bool.{cases_eq, ne_eqb, cases_Bool}
 use Rattle.bucket_ring.specs.declared.rings.Rings.{Ghosts}
 use Rattle.bucket_ring.specs.Kept.{NoneRevived}
 use Rattle.module_code.specs.Program.{Program}
@@ -28,8 +28,9 @@ use Rattle.module_run.specs.Conns.{filter_at, top_of}
 use Rattle.module_run.specs.Neighbours.{EndsLoose, HoldsName, IsForeign, LeavesOthers}
 use Rattle.module_run.specs.Stacked.{IsStacked, is_called, named_at}
 use Rattle.module_run.proofs.EndedLast.{EndsLast}
-use Rattle.module_run.proofs.GivenBack.{GivesBack, lent_one, with_calls}
-use Rattle.module_run.proofs.HandsOn.{HandsOn, cases_le, changed, name_marked, not_called}
+use Rattle.module_run.proofs.GivenBack.{GivesBack, lent_one, with_calls, w_at, top_next}
+use Rattle.module_run.proofs.HandsOn.{HandsOn, changed, name_marked}
+use Rattle.module_run.proofs.Callers.{alone_called, called_top, first_alone, not_called}
 use Rattle.module_run.proofs.HandsOnLeft.{OneMore}
 use Rattle.module_run.proofs.Known.{some_is}
 use Rattle.module_run.proofs.NextTurn.{Turns}
@@ -110,16 +111,16 @@ ends_one old new c d t x y was now others name came = record { calls = calls; br
   ]
 
 -- A call returned to the one that waits for it.
-module _ {R : Type 0} {g : Ghosts R Stored} (chain : List Program) (s : Status) (ps : Pools Payload) (old new : Brigades R g) (c : Conn) (filters : Vec Filter) (waits : Vec ℕ) (w : ℕ)
-    (st : IsStacked chain old c) (x : GivesBack chain s (lists old) (lists new) c (with_calls c filters waits) w) where
+module _ {R : Type 0} {g : Ghosts R Stored} (chain : List Program) (s : Status) (ps : Pools Payload) (old new : Brigades R g) (c : Conn) (filters : Vec Filter) (callers waits : Vec ℕ) (w : ℕ)
+    (st : IsStacked chain old c) (x : GivesBack chain s (lists old) (lists new) c (with_calls c filters callers waits w) w) where
   abbrev after : Conn
-  after = with_calls c filters waits
+  after = with_calls c filters callers waits w
 
   abbrev top : ℕ
-  top = c.first + suc w
+  top = top_of c
 
   abbrev low : ℕ
-  low = c.first + w
+  low = w
 
   ended_came : Came c (next_name old) x.ended
   ended_came n pos by = elim by [
@@ -156,8 +157,8 @@ module _ {R : Type 0} {g : Ghosts R Stored} (chain : List Program) (s : Status) 
   -- what came in to it is with the caller
   given_back : (m : ℕ) → named_at x.top 8 ≡ Some m → HoldsName after m
   given_back m named =
-      let one = lent_one chain s (brigade_of old) (lists old) (lists new) (pool_of old) (next_name old) c filters waits w st x in
-      let came_in = st.called.inward low one.0 x.wait x.top x.below (ap (filter_at c) (let e : low + 1 ≡ top = omega arith in e) ∙ x.on_top) one.1 in
+      let one = lent_one chain s (brigade_of old) (lists old) (lists new) (pool_of old) (next_name old) c filters callers waits w st x in
+      let came_in = st.called.inward (length x.left) low top one.0 x.wait x.top (w_at chain s (brigade_of old) (lists old) (lists new) (pool_of old) (next_name old) c filters callers waits w st x) (top_next chain s (brigade_of old) (lists old) (lists new) (pool_of old) (next_name old) c filters callers waits w st x) x.below x.on_top one.1 in
       let same : came_in.0 ≡ m = some_is came_in.0 m (sym came_in.1.1 ∙ named) in
       held_by after low one.0 m x.resumed x.below_after (ap (λ (i : Instance). name_in (slot_at i one.0)) x.instance ∙ (came_in.1.0 ∙ ap (λ (k : ℕ). Some k) same))
 
@@ -209,14 +210,13 @@ module _ {R : Type 0} {g : Ghosts R Stored} (chain : List Program) (ps : Pools P
       x.rings 0 (let a = held.called in omega (arith, a)) (λ e. absurd (let runs = st.called.runs c.first x.top x.on_top first_runs in omega (arith, runs, e)))
       (λ e. let real = held.real 8 0 e in omega (arith, real)) ∙ none where
         first_runs : is_called c c.first ≡ true
-        first_runs = ap (λ (b : Bool). b && (nat_le c.first c.first && nat_le c.first (top_of c))) x.busy
-            ∙ (ap (λ (b : Bool). b && nat_le c.first (top_of c)) (le-leb c.first c.first (omega arith)) ∙ le-leb c.first (top_of c) (omega arith))
+        first_runs = ap (is_called c) (sym (first_alone chain c st.called x.none)) ∙ called_top c x.busy
 
   -- no call runs in another filter, and nothing came in to it
   others_idle : (k : ℕ) → k ≢ c.first → is_called c k ≡ false
-  others_idle k ne = elim (cases_le k (top_of c)) [
-    | inl low ↦ ap (λ (b : Bool). b && (nat_le c.first k && nat_le k (top_of c))) x.busy ∙ ap (λ (b : Bool). b && nat_le k (top_of c)) (lt-leb c.first k (let n = x.none in omega (arith, low, ne, n)))
-    | inr high ↦ not_called c k high
+  others_idle k ne = elim (cases_Bool (is_called c k)) [
+    | inr no_ ↦ no_
+    | inl yes_ ↦ absurd (ne (alone_called c x.none k yes_ ∙ first_alone chain c st.called x.none))
   ]
 
   brought_last : ((m : ℕ) → named_at x.top 8 ≡ Some m → lists new m ≡ None) → (k m : ℕ) (f : Filter) → filter_at c k ≡ Some f → named_at f 8 ≡ Some m → lists new m ≡ None
@@ -294,11 +294,11 @@ module _ {R : Type 0} {g : Ghosts R Stored} (chain : List Program) (ps : Pools P
     }
 
 -- A brigade was handed to the next filter, whose call began.
-module _ {R : Type 0} {g : Ghosts R Stored} (chain : List Program) (ps : Pools Payload) (old new : Brigades R g) (c : Conn) (fs : Vec Filter) (ws : Vec ℕ) (b m : ℕ) (x e y z : Filter)
+module _ {R : Type 0} {g : Ghosts R Stored} (chain : List Program) (ps : Pools Payload) (old new : Brigades R g) (c : Conn) (fs : Vec Filter) (cs ws : Vec ℕ) (to : ℕ) (b m : ℕ) (x e y z : Filter)
     (st : IsStacked chain old c)
-    (h : HandsOn c fs ws (next_name old) b m x e y z) (more : OneMore old new) (none : lists old 0 ≡ None) where
+    (h : HandsOn c fs cs ws to (next_name old) b m x e y z) (more : OneMore old new) (none : lists old 0 ≡ None) where
   abbrev handed : Conn
-  handed = changed c fs ws
+  handed = changed c fs cs ws to
 
   top_names : (a : ℕ) → named_at y a ≡ named_at x a
   top_names = marked_name x.instance y.instance b h.slots
@@ -316,12 +316,12 @@ module _ {R : Type 0} {g : Ghosts R Stored} (chain : List Program) (ps : Pools P
   ] where
     go : (t : Bool) (a : ℕ) → name_in (if t then slot.Made m None Usable else slot_at e.instance a) ≡ Some n → HoldsName c n
     go true a named = held_by c (top_of c) b n x h.top (h.handed ∙ named)
-    go false a named = held_by c (top_of c + 1) a n e h.behind named
+    go false a named = held_by c (to) a n e h.behind named
 
   came_handed : (k : ℕ) (f : Filter) → filter_at handed k ≡ Some f → Came c (next_name old) f
   came_handed k f is = elim (cases_eq k (top_of c)) [
     | inl q ↦ subst (Came c (next_name old)) (some_is y f (sym h.top_after ∙ (ap (filter_at handed) (sym q) ∙ is))) top_came
-    | inr ne ↦ elim (cases_eq k (top_of c + 1)) [
+    | inr ne ↦ elim (cases_eq k (to)) [
       | inl q ↦ subst (Came c (next_name old)) (some_is z f (sym h.behind_after ∙ (ap (filter_at handed) (sym q) ∙ is))) behind_came
       | inr off ↦ came_same c (next_name old) k f (sym (h.others k ne off) ∙ is)
     ]
@@ -338,8 +338,8 @@ module _ {R : Type 0} {g : Ghosts R Stored} (chain : List Program) (ps : Pools P
     holds = λ n pos held. came_handed held.at held.filter held.is n pos held.by;
   }
 
-  behind_idle : is_called c (top_of c + 1) ≡ false
-  behind_idle = not_called c (top_of c + 1) (omega arith)
+  behind_idle : is_called c (to) ≡ false
+  behind_idle = not_called chain c st.called (to) (omega arith)
 
   pub handed_ends : EndsLoose old new c handed
   handed_ends = record { calls = calls; brought = brought } where
@@ -352,8 +352,8 @@ module _ {R : Type 0} {g : Ghosts R Stored} (chain : List Program) (ps : Pools P
           (let was : x ≡ f = some_is x f (sym h.top ∙ (ap (filter_at c) (sym q) ∙ is)) in
           let now_is : y ≡ u = some_is y u (sym h.top_after ∙ (ap (filter_at handed) (sym q) ∙ now)) in
           absurd (other (ap (λ (p : Filter). p.call.name) (sym now_is) ∙ (ap (λ (k : Call). k.name) h.call ∙ ap (λ (p : Filter). p.call.name) was))))
-      | inr ne ↦ elim (cases_eq k (top_of c + 1)) [
-        | inl q ↦ ap (lists new) (st.called.idle (top_of c + 1) f (ap (filter_at c) (sym q) ∙ is) behind_idle) ∙ none_now
+      | inr ne ↦ elim (cases_eq k (to)) [
+        | inl q ↦ ap (lists new) (st.called.idle (to) f (ap (filter_at c) (sym q) ∙ is) behind_idle) ∙ none_now
         | inr off ↦ absurd (other (ap (λ (p : Filter). p.call.name) (some_is u f (sym now ∙ (h.others k ne off ∙ is)))))
       ]
     ]
@@ -361,8 +361,8 @@ module _ {R : Type 0} {g : Ghosts R Stored} (chain : List Program) (ps : Pools P
     brought : (k n : ℕ) (f : Filter) → filter_at c k ≡ Some f → named_at f 8 ≡ Some n → pool_of old n ≡ None → (HoldsName handed n → ⊥) → lists new n ≡ None
     brought k n f is named free unheld = elim (cases_eq k (top_of c)) [
       | inl q ↦ absurd (unheld (held_by handed (top_of c) 8 n y h.top_after (top_names 8 ∙ (ap (λ (p : Filter). named_at p 8) (some_is x f (sym h.top ∙ (ap (filter_at c) (sym q) ∙ is))) ∙ named))))
-      | inr ne ↦ elim (cases_eq k (top_of c + 1)) [
-        | inl q ↦ absurd (none_some (named_at f 8) n (st.called.incoming (top_of c + 1) f (ap (filter_at c) (sym q) ∙ is) behind_idle) named)
+      | inr ne ↦ elim (cases_eq k (to)) [
+        | inl q ↦ absurd (none_some (named_at f 8) n (st.called.incoming (to) f (ap (filter_at c) (sym q) ∙ is) behind_idle) named)
         | inr off ↦ absurd (unheld (held_by handed k 8 n f (h.others k ne off ∙ is) named))
       ]
     ]

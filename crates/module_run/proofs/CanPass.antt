@@ -34,7 +34,8 @@ use Rattle.ring_calls.specs.Slots.{slot_at, name_in, live_in}
 use Rattle.module_run.specs.Stacked.{named_at}
 use Rattle.ring_calls.proofs.Changes.{live_is}
 use Rattle.ring_calls.proofs.Faultless.{usable_live}
-use Rattle.module_run.proofs.HandsOn.{HasNamesBelow, cases_le, not_called, not_waiting}
+use Rattle.module_run.proofs.HandsOn.{HasNamesBelow, cases_le}
+use Rattle.module_run.proofs.Callers.{not_called, waits_not}
 use Rattle.module_run.proofs.TopFilter.{on_top_of}
 use Rattle.module_run.proofs.Tops.{OnTop, view_of, configured, filter_within, instances_are}
 
@@ -68,7 +69,7 @@ module _ {R : Type 0} {g : Ghosts R Stored} (chain : List Program) (b l : ℕ) (
   passer = on_top_of chain (instr.Pass b l) tree store d c v f rest ready
 
   pub passer_alone : passer.filter.lent ≡ None
-  passer_alone = none_of passer.filter.lent (ready.stands.left.stacked.called.lent (top_of c) passer.filter passer.is ∙ not_waiting c (top_of c) (omega arith))
+  passer_alone = none_of passer.filter.lent (ready.stands.left.stacked.called.lent (top_of c) passer.filter passer.is ∙ waits_not chain c ready.stands.left.stacked.called (top_of c) (omega arith))
 
   pub passer_sees : configuration v.0 v.1 f ≡ seen_over (lists store) (next_name store) (view_of (map_of tree) c v) passer.filter.instance passer.filter.call
   passer_sees = configured (map_of tree) (lists store) (next_name store) c v ready.stands.left.seen f rest passer passer_alone
@@ -137,13 +138,13 @@ module _ {R : Type 0} {g : Ghosts R Stored} (chain : List Program) (b l : ℕ) (
     next_there = filter_within c (top_of c + 1) (let a = ready.stands.left.stacked.many in let w = next_within in omega (arith, a, w))
 
     pub next_idle : next_there.0.call.name ≡ 0
-    next_idle = ready.stands.left.stacked.called.idle (top_of c + 1) next_there.0 next_there.1 (not_called c (top_of c + 1) (omega arith))
+    next_idle = ready.stands.left.stacked.called.idle (top_of c + 1) next_there.0 next_there.1 (not_called chain c ready.stands.left.stacked.called (top_of c + 1) (omega arith))
 
     pub next_empty : named_at next_there.0 8 ≡ None
-    next_empty = ready.stands.left.stacked.called.incoming (top_of c + 1) next_there.0 next_there.1 (not_called c (top_of c + 1) (omega arith))
+    next_empty = ready.stands.left.stacked.called.incoming (top_of c + 1) next_there.0 next_there.1 (not_called chain c ready.stands.left.stacked.called (top_of c + 1) (omega arith))
 
     pub next_alone : next_there.0.lent ≡ None
-    next_alone = none_of next_there.0.lent (ready.stands.left.stacked.called.lent (top_of c + 1) next_there.0 next_there.1 ∙ not_waiting c (top_of c + 1) (omega arith))
+    next_alone = none_of next_there.0.lent (ready.stands.left.stacked.called.lent (top_of c + 1) next_there.0 next_there.1 ∙ waits_not chain c ready.stands.left.stacked.called (top_of c + 1) (omega arith))
 
     -- the brigade of the pass is in no variable of it
     pub next_lacks : (m a : ℕ) → named_at passer.filter b ≡ Some m → named_at next_there.0 a ≢ Some m

@@ -35,6 +35,7 @@ use Rattle.module_run.specs.Proceeding.{IsReady, LeftAs, RefinesStep, MayHold}
 use Rattle.ring_calls.specs.Seen.{seen, seen_over}
 use Rattle.ring_calls.specs.Slots.{slot_at, cursor_at, name_in, marked}
 use Rattle.module_run.proofs.AtWork as work
+use Rattle.module_run.proofs.Callers.{waits_below}
 use Rattle.module_run.proofs.Bystanders.{QuietRest, filter_left, frame_left}
 use Rattle.module_run.proofs.CanPass.{none_of, passer}
 use Rattle.module_run.proofs.HandsOn.{name_marked}
@@ -120,7 +121,7 @@ module _ {R : Type 0} {g : Ghosts R Stored} (chain : List Program) (b l : ℕ) (
     seen_stepped : IsSeenAs (map_of tree) (lists new) (next_name new) then_conn stepped_as
     unfolding put_as stepped_in put_back seen_over cursor_at
     seen_stepped = subst (IsSeenAs (map_of tree) (lists new) (next_name new) then_conn) goes
-        (seen_put_back (map_of tree) (lists old) (lists new) (next_name old) (next_name new) c fs c.labels x passed_on change top.busy (map_of tree) (files_of v.0 v.1) f rest top.frame top.below
+        (seen_put_back (map_of tree) (lists old) (lists new) (next_name old) (next_name new) c fs c.labels x passed_on change top.busy (map_of tree) (files_of v.0 v.1) f rest top.frame top.below (waits_below chain c was.stacked.called)
         (instr.Pass b l) v was.seen.conn
         (filter_left chain (brigade_of old) (lists old) (pool_of old) (next_name old) c x was.stacked here top.busy (work.nine chain (instr.Pass b l) tree old d c v f rest ready x here) (lists new)
         (pool_of new) quiet)

@@ -1,7 +1,8 @@
 -- The only call of a connection ended: its filters and their brigades.
-use Rattle.std.proofs.Common.{◌≡◌, ◌≢◌, ◌==◌, ◌⊎◌, ℕ, ◌<◌, ◌≤◌, ◌&&◌, not, nat_le, nat_lt, Bool, true, false, List, [], Option, Some, None, refl, sym, ap, ◌∙◌, inl, inr, arith}
+use Rattle.module_run.proofs.Callers.{alone_called, first_alone, no_callers, none_in_callers}
+use Rattle.std.proofs.Common.{◌≡◌, ◌≢◌, ◌==◌, ◌⊎◌, ℕ, ◌<◌, ◌≤◌, ◌&&◌, not, nat_lt, Bool, true, false, List, [], Option, Some, None, refl, sym, ap, ◌∙◌, inl, inr, arith}
 use Rattle.std.specs.Prelude.{if◌then◌else◌}
-use Rattle.std.proofs.lemmas.Bool.{cases_eq, eq-eqb, ne_eqb, lt-leb, le-ltb, leb-true, ltb-true, ltb-false}
+use Rattle.std.proofs.lemmas.Bool.{cases_eq, eq-eqb, ne_eqb, ltb-true, ltb-false, cases_Bool}
 use Rattle.bucket_ring.specs.declared.names.BucketId.{BucketId}
 use Rattle.module_code.specs.Program.{Program}
 use Rattle.run_model.specs.declared.bucket.BrigadeVar.TheVariants as var
@@ -16,9 +17,9 @@ use Rattle.ring_calls.specs.declared.machine.Slot.TheVariants as slot
 use Rattle.module_run.specs.Conns.{call_name, filter_at, lent_by, runs_of, shown_filter, shown_instance, top_of, waiting}
 use Rattle.ring_calls.specs.Seen.{is_running}
 use Rattle.ring_calls.specs.Slots.{SameButSlots, name_in, slot_at}
-use Rattle.module_run.specs.Stacked.{StackedOver, is_called, named_at}
+use Rattle.module_run.specs.Stacked.{StackedOver, is_called, named_at, names_of}
 use Rattle.module_run.proofs.EndsFirst.{named_still}
-use Rattle.module_run.proofs.Known.{no_lent, no_names, some_is}
+use Rattle.module_run.proofs.Known.{no_lent, some_is}
 use Rattle.ring_passes.proofs.Returned.{RunsWithout}
 use Rattle.module_run.proofs.ReturnedParts.{AreAsWere, ended_instance, returned_filter}
 use Rattle.ring_passes.proofs.Returns.{runs_without}
@@ -74,29 +75,16 @@ below_or a b = go (nat_lt a b) refl where
   go true e = inl (ltb-true a b e)
   go false e = inr (ltb-false a b e)
 
--- none is both from k on and before it
-pub none_between : (k j : ℕ) → (nat_le k j && nat_lt j k) ≡ false
-none_between k j = go (nat_le k j) refl where
-  go : (b : Bool) → nat_le k j ≡ b → (b && nat_lt j k) ≡ false
-  go true e = le-ltb j k (let a = leb-true k j e in omega (arith, a))
-  go false e = refl
-
-pub only_one : (k j : ℕ) → j ≢ k → (nat_le k j && nat_le j k) ≡ false
-only_one k j ne = go (nat_le k j) refl where
-  go : (b : Bool) → nat_le k j ≡ b → (b && nat_le j k) ≡ false
-  go true e = lt-leb j k (let a = leb-true k j e in omega (arith, a, ne))
-  go false e = refl
-
 module _ (chain : List Program) (at : BucketId → Option ℕ) (L M : ℕ → Option Items) (pools : ℕ → Option ℕ) (next : ℕ) (c d : Conn)
     (st : StackedOver chain at L pools next c) (nine : HasNine c) (x : EndsLast L M next c d) where
   top_first : top_of c ≡ c.first
-  top_first = (let e = x.none in omega (arith, e))
+  top_first = first_alone chain c st.called x.none
 
   pub lone : (k : ℕ) → k ≢ c.first → is_called c k ≡ false
-  lone k ne = ap (λ (b : Bool). b && (nat_le c.first k && nat_le k (top_of c))) x.busy ∙ (ap (λ (n : ℕ). nat_le c.first k && nat_le k n) top_first ∙ only_one c.first k ne)
+  lone k ne = elim (cases_Bool (is_called c k)) [ inr no_ ↦ no_ | inl yes_ ↦ absurd (ne (alone_called c x.none k yes_ ∙ top_first)) ]
 
   pub none_lent : (k : ℕ) (f : Filter) → filter_at c k ≡ Some f → f.lent ≡ None
-  none_lent k f is = no_lent f.lent (st.called.lent k f is ∙ (ap (λ (n : ℕ). nat_le c.first k && nat_lt k n) top_first ∙ none_between c.first k))
+  none_lent k f is = no_lent f.lent (st.called.lent k f is ∙ none_in_callers c x.none k)
 
   pub none_in : (k : ℕ) (f : Filter) → filter_at c k ≡ Some f → k ≢ c.first → named_at f 8 ≡ None
   none_in k f is ne = st.called.incoming k f is (lone k ne)
@@ -105,7 +93,7 @@ module _ (chain : List Program) (at : BucketId → Option ℕ) (L M : ℕ → Op
   idle k f is ne = st.called.idle k f is (lone k ne)
 
   pub waits_none : c.waits.items ≡ []
-  waits_none = no_names c.waits.items x.none
+  waits_none = st.called.waits ∙ ap (names_of c) (no_callers c.callers.items x.none)
 
   -- what came in to the filter on top is in no variable of another one
   not_brought : (k b m : ℕ) (f : Filter) → filter_at c k ≡ Some f → k ≢ c.first → named_at x.top 8 ≡ Some m → named_at f b ≢ Some m

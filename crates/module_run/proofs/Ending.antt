@@ -28,6 +28,7 @@ use Rattle.ring_calls.specs.Seen.{is_running}
 use Rattle.module_run.proofs.EndedLast.{EndsLast, each_left, idle, left_as, stays, waits_none}
 use Rattle.module_run.proofs.Finishing.{led, nine, returned_so, top_first}
 use Rattle.module_run.proofs.HeldStays.{held_stays}
+use Rattle.module_run.proofs.Callers.{first_alone, first_below}
 use Rattle.module_run.proofs.Known.{some_is}
 use Rattle.module_run.proofs.LoneCalls.{HasLone, stacked_lone}
 
@@ -75,6 +76,8 @@ module _ {R : Type 0} {g : Ghosts R Stored} (chain : List Program) (s : Status) 
   lone : ((k : ℕ) → k ≢ c.first → filter_at d k ≡ filter_at c k) → HasLone (next_name store) c.first d
   lone others = record {
     none = none;
+    top = first_alone chain c ready.stands.left.stacked.called none;
+    empty = waits_none chain (brigade_of store) (lists store) (lists new) (pool_of store) (next_name store) c d ready.stands.left.stacked (nine chain s tree store device c v f rest ready none) x;
     named = λ k e is. inl (name_none others k e is);
     runs = λ k e is called. absurd (false≢true called);
     idle = λ k e is over. name_none others k e is;
@@ -103,5 +106,5 @@ module _ {R : Type 0} {g : Ghosts R Stored} (chain : List Program) (s : Status) 
       (record { pools = ready.stands.left.seen.pools; given = ready.stands.left.seen.given ∙ sym next; conn = refl })
       (stacked_lone chain (brigade_of store) (lists store) (lists new) (pool_of store) (next_name store) c d ready.stands.left.stacked
       (nine chain s tree store device c v f rest ready none) x c.first (lone others)
-      (brigade_of new) (pool_of new) (next_name new) (count ∙ ready.stands.left.stacked.many) (let a = ready.stands.left.stacked.within in omega (arith, a)) ready.stands.left.stacked.queue
+      (brigade_of new) (pool_of new) (next_name new) (count ∙ ready.stands.left.stacked.many) (let a = ready.stands.left.stacked.within in let b = first_below chain c ready.stands.left.stacked.called in omega (arith, a, b)) ready.stands.left.stacked.queue
       (held_each next pools names held others))

@@ -1,13 +1,14 @@
 -- Filters by their numbers, and the names of neighbours.
-use Rattle.std.proofs.Common.{◌≡◌, ◌≢◌, ◌==◌, ℕ, zero, suc, ◌+◌, ◌<◌, ◌≤◌, Bool, false, true, ◌||◌, List, [], ◌∷◌, ◌++◌, length, take, set, Some, refl, ap, ◌∙◌, arith}
+use Rattle.std.proofs.Common.{◌≡◌, ◌≢◌, ◌==◌, ℕ, zero, suc, ◌<◌, Bool, false, true, ◌||◌, List, [], ◌∷◌, ◌++◌, length, set, Some, refl, ap, ◌∙◌, arith}
 use Rattle.std.specs.Prelude.{slice_get}
 use Rattle.std.specs.List.{list_any}
-use Rattle.std.proofs.lemmas.Bool.{ne_eqb}
+use Rattle.std.proofs.lemmas.Bool.{eq-eqb, ne_eqb, or_left, or_right}
 use Rattle.std.proofs.lemmas.List.Folds.{list_any-append}
+use Rattle.run_model.specs.Pools.{is_in}
 use Rattle.module_run.specs.declared.conn.Conn.{Conn}
 use Rattle.module_run.specs.Conns.{call_name, filter_at}
 use Rattle.ring_calls.specs.Seen.{is_running}
-use Rattle.module_run.specs.Stacked.{names_up}
+use Rattle.module_run.specs.Stacked.{names_of}
 use Rattle.ring_calls.proofs.Running.{running_waits}
 
 module _ {X : Type 0} where
@@ -23,23 +24,12 @@ module _ {X : Type 0} where
   get_other (x ∷ xs) (suc i) zero w ne = refl
   get_other (x ∷ xs) (suc i) (suc j) w ne = get_other xs i j w (λ e. ne (ap suc e))
 
-pub names_count : (c : Conn) (k n : ℕ) → length (names_up c k n) ≡ n
-unfolding names_up
-names_count c k zero = refl
-names_count c k (suc n) = ap suc (names_count c (suc k) n)
-
-pub take_names : (c : Conn) (k n : ℕ) → take n (names_up c k (suc n)) ≡ names_up c k n
-unfolding names_up
-take_names c k zero = refl
-take_names c k (suc n) = ap (λ (xs : List ℕ). call_name (filter_at c k) ∷ xs) (take_names c (suc k) n)
-
 -- a name that is none of these
-pub names_none : (c : Conn) (name k n : ℕ) → ((j : ℕ) → k ≤ j → j < k + n → name ≢ call_name (filter_at c j)) → list_any (λ w. name == w) (names_up c k n) ≡ false
-unfolding names_up
-names_none c name k zero each = refl
-names_none c name k (suc n) each =
-    ap (λ (t : Bool). t || list_any (λ w. name == w) (names_up c (suc k) n)) (ne_eqb name (call_name (filter_at c k)) (each k (omega arith) (omega arith)))
-    ∙ names_none c name (suc k) n (λ j from below. each j (omega (arith, from)) (omega (arith, below)))
+pub names_none : (c : Conn) (name : ℕ) (ks : List ℕ) → ((k : ℕ) → is_in k ks ≡ true → name ≢ call_name (filter_at c k)) → list_any (λ w. name == w) (names_of c ks) ≡ false
+names_none c name [] each = refl
+names_none c name (k ∷ ks) each =
+    ap (λ (t : Bool). t || list_any (λ w. name == w) (names_of c ks)) (ne_eqb name (call_name (filter_at c k)) (each k (or_left (k == k) (is_in k ks) (eq-eqb k k refl))))
+    ∙ names_none c name ks (λ j there. each j (or_right (k == j) (is_in j ks) there))
 
 or_last : (a b : Bool) → (b || (a || false)) ≡ (a || b)
 or_last true true = refl

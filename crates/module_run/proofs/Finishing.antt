@@ -28,12 +28,13 @@ use Rattle.module_run.specs.declared.conn.Filter.{Filter}
 use Rattle.ring_calls.specs.declared.machine.Instance.{Instance}
 use Rattle.ring_calls.specs.declared.machine.Slot.{Slot}
 use Rattle.ring_calls.specs.declared.machine.Slot.TheVariants as slot
-use Rattle.module_run.specs.Conns.{IsSeenAs, conn_of, filter_at, lent_by, runs_of, shown_filter, shown_frame, shown_instance, stack_up, top_of, waiting}
+use Rattle.module_run.specs.Conns.{IsSeenAs, conn_of, filter_at, lent_by, runs_of, shown_filter, shown_frame, shown_instance, stack_over, top_of, waiting}
 use Rattle.module_run.specs.Proceeding.{IsReady, RefinesStep, LeftAs}
 use Rattle.ring_calls.specs.Seen.{shown_as, shown_slot}
 use Rattle.ring_calls.specs.Slots.{slot_at}
 use Rattle.module_run.specs.Stacked.{IsStacked}
 use Rattle.module_run.proofs.EndedLast.{EndsLast, HasNine}
+use Rattle.module_run.proofs.Callers.{first_alone, no_callers}
 use Rattle.module_run.proofs.TopFilter.{on_top_of, top_frame}
 use Rattle.module_run.proofs.Tops.{frame_at, instances_are}
 
@@ -69,11 +70,11 @@ module _ {R : Type 0} {g : Ghosts R Stored} (chain : List Program) (s : Status) 
       ∙ ready.stands.lawful.sound.names.slots k b past))
 
   pub top_first : top_of c ≡ c.first
-  top_first = omega (arith, none)
+  top_first = first_alone chain c ready.stands.left.stacked.called none
 
   pub rest_none : rest ≡ []
-  unfolding stack_up
-  rest_none = (on_top_of chain (instr.Ret s) tree store device c v f rest ready).below ∙ ap (stack_up (frame_at (lists store) c) c.first) none
+  unfolding stack_over
+  rest_none = (on_top_of chain (instr.Ret s) tree store device c v f rest ready).below ∙ ap (stack_over (frame_at (lists store) c)) (no_callers c.callers.items none)
 
   pub no_reads : Reads
   no_reads n = None

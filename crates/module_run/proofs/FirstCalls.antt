@@ -1,10 +1,9 @@
 -- The call of the first filter begins, where no call runs: what the connection reads as, and what is true of its filters.
-use Rattle.std.proofs.Common.{◌≡◌, ◌≢◌, ℕ, zero, suc, ◌+◌, ◌-◌, ◌&&◌, nat_le, nat_lt, Bool, true, false, List, [], ◌∷◌, ◌++◌, length, Option, Some, None, is_some, refl, sym, ap, ◌∙◌, ◌⊎◌, inl, inr}
+use Rattle.std.proofs.Common.{◌≡◌, ◌≢◌, ℕ, zero, suc, ◌+◌, ◌-◌, ◌&&◌, Bool, true, false, List, [], ◌∷◌, ◌++◌, length, Option, Some, None, is_some, refl, sym, ap, ◌∙◌, ◌⊎◌, inl, inr, ◌==◌, ◌||◌}
 use Rattle.std.proofs.Common.{arith}
 use Rattle.std.specs.Prelude.{if◌then◌else◌}
 use Rattle.std.specs.Option.{option_map_or}
 use Rattle.std.proofs.Math.Path.{fun_ext}
-use Rattle.std.proofs.lemmas.Bool.{le-ltb, leb-true}
 use Rattle.bucket_ring.specs.declared.rings.Rings.{Ghosts}
 use Rattle.bucket_ring.specs.Lists as ring
 use Rattle.bucket_ring.specs.Lists.{list_at}
@@ -28,11 +27,12 @@ use Rattle.module_run.specs.declared.conn.Conn.{Conn}
 use Rattle.module_run.specs.declared.conn.Filter.{Filter}
 use Rattle.ring_calls.specs.declared.machine.Instance.{Instance}
 use Rattle.module_run.specs.CalledFirst.{CalledFirst, CallStarts}
-use Rattle.module_run.specs.Conns.{call_name, conn_of, counting, filter_at, lent_by, runs_of, shown_call, shown_filter, shown_frame, shown_instance, stack_of, stack_up, top_of}
+use Rattle.module_run.specs.Conns.{call_name, conn_of, counting, filter_at, lent_by, runs_of, shown_call, shown_filter, shown_frame, shown_instance, stack_of, stack_over, top_of}
 use Rattle.module_run.specs.Conns.{waiting}
 use Rattle.ring_calls.specs.Seen.{is_running, shown, shown_cursor, shown_slot}
 use Rattle.ring_calls.specs.Slots.{cursor_at, slot_at}
-use Rattle.module_run.specs.Stacked.{IsStacked, is_called, is_waiting, named_at}
+use Rattle.module_run.specs.Stacked.{IsStacked, is_called, is_waiting, named_at, names_of}
+use Rattle.module_run.proofs.Callers.{no_callers, none_in_callers}
 use Rattle.ring_passes.proofs.Begins.{by_slot}
 use Rattle.ring_calls.proofs.Changes.{ring_here}
 use Rattle.module_run.proofs.Looked.{some_same}
@@ -69,25 +69,19 @@ no_lent o b e f = cc
 pub true_false : (t : Bool) → t ≡ true → t ≡ false → ⊥
 true_false t e f = cc
 
-pub none_between : (a k n : ℕ) → n ≡ 0 → (nat_le a k && nat_lt k (a + n)) ≡ false
-none_between a k n e = go (nat_le a k) refl where
-  go : (t : Bool) → nat_le a k ≡ t → (t && nat_lt k (a + n)) ≡ false
-  go false is = refl
-  go true is = (let low = leb-true a k is in le-ltb k (a + n) (omega (arith, low, e)))
-
 -- Where no call runs, none waits and nothing is lent.
 module _ {R : Type 0} {g : Ghosts R Stored} (chain : List Program) (store : Brigades R g) (c : Conn) (stacked : IsStacked chain store c) (idle : c.busy ≡ false) where
   pub none_waits : c.waits.items ≡ []
-  none_waits = none_in c.waits.items (stacked.called.quiet idle)
+  none_waits = stacked.called.waits ∙ ap (names_of c) (no_callers c.callers.items (stacked.called.quiet idle))
 
   pub not_called : (k : ℕ) → is_called c k ≡ false
-  not_called k = ap (λ (b : Bool). b && (nat_le c.first k && nat_le k (top_of c))) idle
+  not_called k = ap (λ (b : Bool). b && (k == top_of c || is_waiting c k)) idle
 
   pub no_call : (k : ℕ) (f : Filter) → filter_at c k ≡ Some f → f.call.name ≡ 0
   no_call k f is = stacked.called.idle k f is (not_called k)
 
   pub not_waiting : (k : ℕ) → is_waiting c k ≡ false
-  not_waiting k = none_between c.first k (waiting c) (stacked.called.quiet idle)
+  not_waiting k = none_in_callers c (stacked.called.quiet idle) k
 
   pub not_lent : (k : ℕ) (f : Filter) → filter_at c k ≡ Some f → f.lent ≡ None
   not_lent k f is = none_lent f.lent (stacked.called.lent k f is ∙ not_waiting k)
@@ -105,13 +99,7 @@ module _ {R : Type 0} {g : Ghosts R Stored} (chain : List Program) (store : Brig
       ∙ (ap (λ (n : ℕ). is_running n c.waits.items) (no_call (top_of c) top.0 top.1) ∙ ap (is_running 0) none_waits)
 
 -- Where none waits, the first filter's call is the only one.
-module _ (d : Conn) (waits : d.waits.items ≡ []) (first : d.first ≡ 0) where
-  pub none_waiting : waiting d ≡ 0
-  none_waiting = ap (λ (xs : List ℕ). length xs) waits
-
-  pub top_is : top_of d ≡ 0
-  top_is = (let b = none_waiting in omega (arith, first, b))
-
+module _ (d : Conn) (waits : d.waits.items ≡ []) (callers : d.callers.items ≡ []) (top_is : top_of d ≡ 0) where
   pub runs_first : (f : Filter) (n : ℕ) → filter_at d 0 ≡ Some f → f.call.name ≡ n → runs_of d ≡ is_running n []
   runs_first f n at named =
       ap (λ (k : ℕ). is_running (call_name (filter_at d k)) d.waits.items) top_is
@@ -119,11 +107,11 @@ module _ (d : Conn) (waits : d.waits.items ≡ []) (first : d.first ≡ 0) where
       ∙ (ap (λ (m : ℕ). is_running m d.waits.items) named ∙ ap (is_running n) waits))
 
   pub stack_first : (L : ℕ → Option Items) (f : Frame) → d.busy ≡ true → shown_frame (runs_of d) L 0 (filter_at d 0) ≡ f → stack_of L d ≡ f ∷ []
-  unfolding stack_up
+  unfolding stack_over
   stack_first L f busy at =
-      ap (λ (b : Bool). if b then stack_up (frame_at L d) d.first (suc (waiting d)) else []) busy
-      ∙ (ap (λ (k : ℕ). stack_up (frame_at L d) k (suc (waiting d))) first
-      ∙ (ap (λ (n : ℕ). stack_up (frame_at L d) 0 (suc n)) none_waiting ∙ ap (λ (x : Frame). x ∷ []) at))
+      ap (λ (b : Bool). if b then frame_at L d (top_of d) ∷ stack_over (frame_at L d) d.callers.items else []) busy
+      ∙ (ap (λ (k : ℕ). frame_at L d k ∷ stack_over (frame_at L d) d.callers.items) top_is
+      ∙ (ap (λ (ks : List ℕ). frame_at L d 0 ∷ stack_over (frame_at L d) ks) callers ∙ ap (λ (x : Frame). x ∷ []) at))
 
 -- The call of the first filter begins, in a request or in none.
 module _ {R : Type 0} {g : Ghosts R Stored} (chain : List Program) (old new : Brigades R g) (c d : Conn) (r : Option ℕ) (stacked : IsStacked chain old c) (idle : c.busy ≡ false)
@@ -157,8 +145,17 @@ module _ {R : Type 0} {g : Ghosts R Stored} (chain : List Program) (old new : Br
   pub first_is : d.first ≡ 0
   first_is = ap (λ (x : Conn). x.first) begins.rest
 
+  pub top_is_first : top_of d ≡ 0
+  top_is_first = ap (λ (x : Conn). x.top) begins.rest
+
+  pub callers_are : d.callers.items ≡ []
+  callers_are = ap (λ (x : Conn). x.callers.items) begins.rest ∙ no_callers c.callers.items (stacked.called.quiet idle)
+
+  pub none_waiting : waiting d ≡ 0
+  none_waiting = ap (λ (ks : List ℕ). length ks) callers_are
+
   pub runs_now : runs_of d ≡ is_running (next_name old) []
-  runs_now = runs_first d waits_are first_is after (next_name old) after_is starts.named
+  runs_now = runs_first d waits_are callers_are top_is_first after (next_name old) after_is starts.named
 
   slot_as : (k : ℕ) (f : Filter) → filter_at c k ≡ Some f → (b : ℕ)
       → shown_slot (is_running (next_name old) []) (lists new) (slot_at f.instance b) ≡ shown_slot (is_running 0 []) (lists old) (slot_at f.instance b)
@@ -215,7 +212,7 @@ module _ {R : Type 0} {g : Ghosts R Stored} (chain : List Program) (old new : Br
         frame x pc = record { of = 0; call = x; pc = pc }
 
   stack_as : stack_of (lists new) d ≡ (record { of = 0; call = fresh_call (next_name old); pc = handler_at r (module_at chain 0) }) ∷ []
-  stack_as = stack_first d waits_are first_is (lists new) _ (ap (λ (x : Conn). x.busy) begins.rest) (frame_as (runs_of d))
+  stack_as = stack_first d waits_are callers_are top_is_first (lists new) _ (ap (λ (x : Conn). x.busy) begins.rest) (frame_as (runs_of d))
 
   queue_as : counting d.queue (length d.filters.items - d.queue) ≡ tail_of (numbers_below (length chain))
   queue_as =

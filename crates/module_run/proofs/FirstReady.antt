@@ -31,13 +31,14 @@ use Rattle.module_run.proofs.EndedLast.{parts}
 use Rattle.module_run.proofs.Filters.{get_here, get_other}
 use Rattle.module_run.proofs.Finishing.{rest_none, top_first}
 use Rattle.module_run.proofs.HeldStays.{held_stays}
+use Rattle.module_run.proofs.Callers.{first_below}
 use Rattle.module_run.proofs.TopFilter.{filter_read, on_top_of, top_runs, top_within}
 
 module _ {R : Type 0} {g : Ghosts R Stored} (chain : List Program) (s : Status) (tree : PoolTree Payload) (store : Brigades R g) (device : Device) (c : Conn) (v : Linked) (f : Frame)
     (rest : List Frame)
     (ready : IsReady chain (instr.Ret s) tree store device c v f rest) (none : waiting c ≡ 0) where
   pub first_within : c.first < length c.filters.items
-  first_within = (let a = top_within chain (instr.Ret s) tree store device c v f rest ready in omega (arith, a))
+  first_within = (let a = top_within chain (instr.Ret s) tree store device c v f rest ready in let b = first_below chain c ready.stands.left.stacked.called in omega (arith, a, b))
 
   free_0 : (o : Option ℕ) → pool_of store 0 ≡ o → o ≡ None
   free_0 None is = refl

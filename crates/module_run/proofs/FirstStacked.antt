@@ -1,6 +1,5 @@
 -- The call of the first filter begins, where no call runs: what is true of the filters and calls.
-use Rattle.std.proofs.Common.{◌≡◌, ◌≢◌, ℕ, zero, suc, ◌+◌, ◌<◌, ◌≤◌, ◌&&◌, nat_le, Bool, true, false, List, [], length, Option, Some, None, is_some, refl, sym, ap, subst, ◌∙◌, inl, inr, arith}
-use Rattle.std.proofs.lemmas.Bool.{le-leb, leb-true}
+use Rattle.std.proofs.Common.{◌≡◌, ◌≢◌, ℕ, zero, suc, ◌+◌, ◌<◌, ◌≤◌, true, false, List, [], length, Option, Some, None, is_some, refl, sym, ap, subst, ◌∙◌, inl, inr, arith}
 use Rattle.bucket_kinds.specs.Device.{Device}
 use Rattle.bucket_ring.specs.declared.rings.Rings.{Ghosts}
 use Rattle.bucket_ring.specs.Kept.{NoneRevived}
@@ -23,22 +22,18 @@ use Rattle.module_run.specs.declared.conn.Filter.{Filter}
 use Rattle.ring_calls.specs.declared.machine.Call.{Call}
 use Rattle.ring_calls.specs.declared.machine.Instance.{Instance}
 use Rattle.module_run.specs.CalledFirst.{CalledFirst, CallStarts}
-use Rattle.module_run.specs.Conns.{conn_of, filter_at, top_of, waiting}
+use Rattle.module_run.specs.Conns.{conn_of, filter_at}
 use Rattle.ring_calls.specs.Held.{IsHeld}
 use Rattle.module_run.specs.Proceeding.{LeftAs}
 use Rattle.ring_calls.specs.Slots.{slot_at, name_in}
-use Rattle.module_run.specs.Stacked.{FiltersApart, AreCalled, IsStacked, is_called, is_waiting, named_at, names_up}
+use Rattle.module_run.specs.Stacked.{FiltersApart, AreCalled, IsStacked, is_called, is_waiting, named_at}
+use Rattle.module_run.proofs.Callers.{alone_bottom, alone_called, alone_names, alone_rises, called_top, none_in_callers}
 use Rattle.ring_passes.proofs.Begins.{held_begun}
 use Rattle.ring_calls.proofs.Changes.{ring_off}
-use Rattle.module_run.proofs.FirstCalls.{Was, was, others_stay, waits_are, first_is, none_waiting, top_is, starts, before, before_is, after, after_is, conn_called, no_call, nothing_in, not_lent}
-use Rattle.module_run.proofs.FirstCalls.{none_between, no_lent, true_false}
+use Rattle.module_run.proofs.FirstCalls.{Was, was, others_stay, waits_are, first_is, none_waiting, starts, before, before_is, after, after_is, conn_called, no_call, nothing_in, not_lent, top_is_first}
+use Rattle.module_run.proofs.FirstCalls.{no_lent, true_false}
 use Rattle.module_run.proofs.HeldStays.{held_stays}
 use Rattle.module_run.proofs.Looked.{some_same}
-
-pub no_names : (c : Conn) (k n : ℕ) → n ≡ 0 → names_up c k n ≡ []
-unfolding names_up
-no_names c k zero e = refl
-no_names c k (suc n) e = absurd (omega (arith, e))
 
 less : (a b : ℕ) → a < b → a ≢ b
 less a b lt e = omega (arith, lt, e)
@@ -103,24 +98,13 @@ module _ {R : Type 0} {g : Ghosts R Stored} (chain : List Program) (old new : Br
     ]
 
   called_there : (k : ℕ) → is_called d k ≡ true → k ≡ 0
-  called_there k e = go (nat_le k (top_of d)) refl where
-    go : (t : Bool) → nat_le k (top_of d) ≡ t → k ≡ 0
-    go true is = (let low = leb-true k (top_of d) is in let top = top_is d (waits_are chain old new c d r stacked idle begins over)
-        (first_is chain old new c d r stacked idle begins over) in omega (arith, low, top))
-    go false is = absurd (true_false (is_called d k) e (both d.busy (nat_le d.first k) (nat_le k (top_of d)) is)) where
-      both : (s t u : Bool) → u ≡ false → (s && (t && u)) ≡ false
-      both s t true q = absurd (cc)
-      both true true false q = refl
-      both true false false q = refl
-      both false t false q = refl
+  called_there k e = alone_called d (none_waiting chain old new c d r stacked idle begins over) k e ∙ top_is_first chain old new c d r stacked idle begins over
 
   first_called : is_called d 0 ≡ true
-  first_called =
-      ap (λ (b : Bool). b && (nat_le d.first 0 && nat_le 0 (top_of d))) (ap (λ (x : Conn). x.busy) begins.rest)
-      ∙ (ap (λ (b : Bool). b && nat_le 0 (top_of d)) (le-leb d.first 0 (let e = first_is chain old new c d r stacked idle begins over in omega (arith, e))) ∙ le-leb 0 (top_of d) (omega arith))
+  first_called = ap (is_called d) (sym (top_is_first chain old new c d r stacked idle begins over)) ∙ called_top d (ap (λ (x : Conn). x.busy) begins.rest)
 
   none_wait : (k : ℕ) → is_waiting d k ≡ false
-  none_wait k = none_between d.first k (waiting d) (none_waiting d (waits_are chain old new c d r stacked idle begins over) (first_is chain old new c d r stacked idle begins over))
+  none_wait k = none_in_callers d (none_waiting chain old new c d r stacked idle begins over) k
 
   calls_called : AreCalled chain d
   calls_called = record {
@@ -129,10 +113,11 @@ module _ {R : Type 0} {g : Ghosts R Stored} (chain : List Program) (old new : Br
     lent = λ k f is. (let w = there k f is in ap is_some w.lent ∙ (ap is_some (not_lent chain old c stacked idle k w.filter w.is) ∙ sym (none_wait k)));
     passes = λ k b f is e. absurd (never_lent k b f is e);
     passed = λ k b f is e. absurd (never_lent k b f is e);
-    inward = λ k b f e is behind lends. absurd (never_lent k b f is lends);
+    inward = λ i k j b f e at next is behind lends. absurd (never_lent k b f is lends);
     incoming = λ k f is e. (let w = there k f is in named_as k 8 f w ∙ nothing_in chain old c stacked idle k w.filter w.is);
-    waits = waits_are chain old new c d r stacked idle begins over ∙ sym (no_names d d.first (waiting d) (none_waiting d (waits_are chain old new c d r stacked idle begins over)
-        (first_is chain old new c d r stacked idle begins over)));
+    waits = alone_names d (none_waiting chain old new c d r stacked idle begins over) (waits_are chain old new c d r stacked idle begins over);
+    rises = alone_rises d (none_waiting chain old new c d r stacked idle begins over);
+    bottom = alone_bottom d (none_waiting chain old new c d r stacked idle begins over) (top_is_first chain old new c d r stacked idle begins over ∙ sym (first_is chain old new c d r stacked idle begins over));
     quiet = λ e. absurd (true_false d.busy (ap (λ (x : Conn). x.busy) begins.rest) e);
   } where
     first_runs : (k : ℕ) (f : Filter) → filter_at d k ≡ Some f → FilterThere k f → k ≡ 0 → 0 < f.call.name
@@ -164,7 +149,7 @@ module _ {R : Type 0} {g : Ghosts R Stored} (chain : List Program) (old new : Br
   pub stacked_called : IsStacked chain new d
   stacked_called = record {
     many = begins.many ∙ stacked.many;
-    within = (let top = top_is d (waits_are chain old new c d r stacked idle begins over) (first_is chain old new c d r stacked idle begins over) in let some = stacked.within in omega
+    within = (let top = top_is_first chain old new c d r stacked idle begins over in let some = stacked.within in omega
         (arith, top, some));
     queue = (let q = ap (λ (x : Conn). x.queue) begins.rest in let some = stacked.within in omega (arith, q, some));
     held = held_called;

@@ -1,9 +1,8 @@
 -- A connection before and after a pass to the next filter: which calls run, and whose brigades are whose.
-use Rattle.std.proofs.Common.{◌≡◌, ◌≢◌, ◌==◌, ℕ, ◌+◌, ◌<◌, ◌≤◌, ◌&&◌, nat_le, Bool, true, false, List, [], ◌∷◌, ◌++◌, length, Some, None, refl, sym, ◌∙◌, ap, ◌⊎◌, inl, inr, arith}
+use Rattle.std.proofs.Common.{◌≡◌, ◌≢◌, ◌==◌, ℕ, ◌+◌, ◌<◌, ◌≤◌, ◌&&◌, ◌||◌, nat_le, Bool, true, false, [], ◌∷◌, ◌++◌, length, Some, None, refl, sym, ◌∙◌, ap, ◌⊎◌, inl, inr, arith}
 use Rattle.std.specs.Prelude.{if◌then◌else◌}
 use Rattle.std.specs.Global.{Vec}
-use Rattle.std.proofs.lemmas.Bool.{cases_eq, eq-eqb, ne_eqb, le-ltb, le-leb, lt-leb, leb-true, leb-false}
-use Rattle.std.proofs.lemmas.List.{length-append}
+use Rattle.std.proofs.lemmas.Bool.{cases_eq, eq-eqb, ne_eqb, leb-true, leb-false}
 use Rattle.run_model.specs.declared.bucket.Mark.TheVariants.{Usable, Passed}
 use Rattle.ring_calls.specs.declared.machine.Call.{Call}
 use Rattle.ring_calls.specs.declared.machine.Slot.{Slot}
@@ -12,21 +11,25 @@ use Rattle.module_run.specs.declared.conn.Filter.{Filter}
 use Rattle.module_run.specs.declared.conn.Conn.{Conn}
 use Rattle.module_run.specs.Conns.{filter_at, top_of}
 use Rattle.ring_calls.specs.Slots.{slot_at, name_in, marked}
-use Rattle.module_run.specs.Stacked.{FiltersApart, is_called, is_waiting, named_at}
+use Rattle.module_run.specs.Stacked.{FiltersApart, is_called, named_at}
+use Rattle.run_model.specs.Pools.{is_in}
+use Rattle.module_run.proofs.Callers.{called_top, in_pushed}
 
--- a connection with other filters and other calls that wait
-abbrev pub changed : Conn → Vec Filter → Vec ℕ → Conn
-changed c fs ws = record c { filters = fs; waits = ws }
+-- a connection with other filters, of which one more waits for a later one, `to`
+abbrev pub changed : Conn → Vec Filter → Vec ℕ → Vec ℕ → ℕ → Conn
+changed c fs cs ws to = record c { filters = fs; callers = cs; waits = ws; top = to }
 
--- The filter on top, x, hands the brigade m of its variable b to the filter e behind it, whose call has the name `next` then. They are y and z after that.
-pub record HandsOn (c : Conn) (fs : Vec Filter) (ws : Vec ℕ) (next b m : ℕ) (x e y z : Filter) : Type 0 where
+-- The filter on top, x, hands the brigade m of its variable b to a later filter e, `to`, whose call has the name `next` then. They are y and z after that.
+pub record HandsOn (c : Conn) (fs : Vec Filter) (cs ws : Vec ℕ) (to : ℕ) (next b m : ℕ) (x e y z : Filter) : Type 0 where
+  pub later : top_of c < to
   pub top : filter_at c (top_of c) ≡ Some x
-  pub behind : filter_at c (top_of c + 1) ≡ Some e
-  pub top_after : filter_at (changed c fs ws) (top_of c) ≡ Some y
-  pub behind_after : filter_at (changed c fs ws) (top_of c + 1) ≡ Some z
-  pub others : (j : ℕ) → j ≢ top_of c → j ≢ top_of c + 1 → filter_at (changed c fs ws) j ≡ filter_at c j
+  pub behind : filter_at c (to) ≡ Some e
+  pub top_after : filter_at (changed c fs cs ws to) (top_of c) ≡ Some y
+  pub behind_after : filter_at (changed c fs cs ws to) (to) ≡ Some z
+  pub others : (j : ℕ) → j ≢ top_of c → j ≢ to → filter_at (changed c fs cs ws to) j ≡ filter_at c j
   pub many : length fs.items ≡ length c.filters.items
   pub waits : ws.items ≡ c.waits.items ++ x.call.name ∷ []
+  pub callers : cs.items ≡ c.callers.items ++ top_of c ∷ []
   pub busy : c.busy ≡ true
   pub variable : b < 9
   pub handed : named_at x b ≡ Some m
@@ -61,31 +64,18 @@ cases_le j k = go (nat_le j k) refl where
   go true e = inl (leb-true j k e)
   go false e = inr (leb-false j k e)
 
-and_not : (s t : Bool) → (s && (t && false)) ≡ false
-and_not true true = refl
-and_not true false = refl
-and_not false t = refl
-
--- filters behind the one on top have no call
-pub not_called : (c : Conn) (j : ℕ) → top_of c < j → is_called c j ≡ false
-not_called c j high = ap (λ t. c.busy && (nat_le c.first j && t)) (lt-leb j (top_of c) high) ∙ and_not c.busy (nat_le c.first j)
-
-pub not_waiting : (c : Conn) (j : ℕ) → top_of c ≤ j → is_waiting c j ≡ false
-not_waiting c j high = ap (λ t. nat_le c.first j && t) (le-ltb j (top_of c) high) ∙ and_not true (nat_le c.first j)
-
-module _ (c : Conn) (fs : Vec Filter) (ws : Vec ℕ) (next b m : ℕ) (x e y z : Filter) (h : HandsOn c fs ws next b m x e y z) where
-  pub top_rises : top_of (changed c fs ws) ≡ top_of c + 1
-  top_rises = (let n = ap (λ (ns : List ℕ). length ns) h.waits ∙ length-append c.waits.items (x.call.name ∷ []) in omega (arith, n))
+module _ (c : Conn) (fs : Vec Filter) (cs ws : Vec ℕ) (to : ℕ) (next b m : ℕ) (x e y z : Filter) (h : HandsOn c fs cs ws to next b m x e y z) where
+  pub top_rises : top_of (changed c fs cs ws to) ≡ to
+  top_rises = refl
 
   -- which calls run and wait
-  pub called_there : (j : ℕ) → c.first ≤ j → j ≤ top_of c + 1 → is_called (changed c fs ws) j ≡ true
-  called_there j low high = rw (h.busy, le-leb c.first j low, le-leb j (top_of (changed c fs ws)) (let r = top_rises in omega (arith, r, high))) refl
+  pub called_there : is_called (changed c fs cs ws to) (to) ≡ true
+  called_there = called_top (changed c fs cs ws to) h.busy
 
-  pub called_before : (j : ℕ) → j ≢ top_of c + 1 → is_called (changed c fs ws) j ≡ is_called c j
-  called_before j other = ap (λ t. c.busy && (nat_le c.first j && t)) (go (cases_le j (top_of c))) where
-    go : (j ≤ top_of c) ⊎ (top_of c < j) → nat_le j (top_of (changed c fs ws)) ≡ nat_le j (top_of c)
-    go (inl low) = le-leb j (top_of (changed c fs ws)) (let r = top_rises in omega (arith, r, low)) ∙ sym (le-leb j (top_of c) low)
-    go (inr high) = lt-leb j (top_of (changed c fs ws)) (let r = top_rises in omega (arith, r, high, other)) ∙ sym (lt-leb j (top_of c) high)
+  pub called_before : (j : ℕ) → j ≢ to → is_called (changed c fs cs ws to) j ≡ is_called c j
+  called_before j other =
+      ap (λ (t : Bool). c.busy && (t || is_in j cs.items)) (ne_eqb j (to) other)
+      ∙ ap (λ (t : Bool). c.busy && t) (ap (is_in j) h.callers ∙ in_pushed j (top_of c) c.callers.items)
 
   -- what a variable names after the pass
   pub named_top : (a : ℕ) → named_at y a ≡ named_at x a
@@ -104,21 +94,21 @@ module _ (c : Conn) (fs : Vec Filter) (ws : Vec ℕ) (next b m : ℕ) (x e y z :
   pub record FilterBefore (j : ℕ) (f : Filter) : Type 0 where
     pub filter : Filter
     pub is : filter_at c j ≡ Some filter
-    pub named : (a n : ℕ) → named_at f a ≡ Some n → (named_at filter a ≡ Some n) ⊎ ((j ≡ top_of c + 1) × (a ≡ 8) × (n ≡ m))
-    pub call : j ≢ top_of c + 1 → f.call ≡ filter.call
-    pub lent : j ≢ top_of c → j ≢ top_of c + 1 → f.lent ≡ filter.lent
+    pub named : (a n : ℕ) → named_at f a ≡ Some n → (named_at filter a ≡ Some n) ⊎ ((j ≡ to) × (a ≡ 8) × (n ≡ m))
+    pub call : j ≢ to → f.call ≡ filter.call
+    pub lent : j ≢ top_of c → j ≢ to → f.lent ≡ filter.lent
 
-  pub before : (j : ℕ) (f : Filter) → filter_at (changed c fs ws) j ≡ Some f → FilterBefore j f
+  pub before : (j : ℕ) (f : Filter) → filter_at (changed c fs cs ws to) j ≡ Some f → FilterBefore j f
   before j f is = elim (cases_eq j (top_of c)) [
-    | inl q ↦ (let same : y ≡ f = same_some y f (sym h.top_after ∙ (ap (filter_at (changed c fs ws)) (sym q) ∙ is)) in record {
+    | inl q ↦ (let same : y ≡ f = same_some y f (sym h.top_after ∙ (ap (filter_at (changed c fs cs ws to)) (sym q) ∙ is)) in record {
       filter = x;
       is = ap (filter_at c) q ∙ h.top;
       named = λ a n e. inl (sym (named_top a) ∙ (ap (λ (g : Filter). named_at g a) same ∙ e));
       call = λ _. ap (λ (g : Filter). g.call) (sym same) ∙ h.call;
       lent = λ ne _. absurd (ne q);
     })
-    | inr ne ↦ elim (cases_eq j (top_of c + 1)) [
-      | inl q ↦ (let same : z ≡ f = same_some z f (sym h.behind_after ∙ (ap (filter_at (changed c fs ws)) (sym q) ∙ is)) in record {
+    | inr ne ↦ elim (cases_eq j (to)) [
+      | inl q ↦ (let same : z ≡ f = same_some z f (sym h.behind_after ∙ (ap (filter_at (changed c fs cs ws to)) (sym q) ∙ is)) in record {
         filter = e;
         is = ap (filter_at c) q ∙ h.behind;
         named = λ a n named. elim (cases_eq a 8) [
@@ -139,8 +129,8 @@ module _ (c : Conn) (fs : Vec Filter) (ws : Vec ℕ) (next b m : ℕ) (x e y z :
   ]
 
   -- x.call.name and the names of others stay below `next`, which is the name of the call that began
-  pub apart_after : HasNamesBelow c next → FiltersApart c → ((j : ℕ) (f : Filter) → filter_at c j ≡ Some f → is_called c j ≡ false → named_at f 8 ≡ None) → FiltersApart (changed c fs ws)
-  apart_after names apart incoming = record {
+  pub apart_after : HasNamesBelow c next → FiltersApart c → ((j : ℕ) → top_of c < j → is_called c j ≡ false) → ((j : ℕ) (f : Filter) → filter_at c j ≡ Some f → is_called c j ≡ false → named_at f 8 ≡ None) → FiltersApart (changed c fs cs ws to)
+  apart_after names apart past incoming = record {
     own = λ i j a n k f g a_low n_low fi gj fa gn.
         (let p = before i f fi in let q = before j g gj in
         elim (p.named a k fa) [
@@ -176,20 +166,20 @@ module _ (c : Conn) (fs : Vec Filter) (ws : Vec ℕ) (next b m : ℕ) (x e y z :
         ]);
     calls = λ i j f g fi gj pos same.
         (let p = before i f fi in let q = before j g gj in
-        elim (cases_eq i (top_of c + 1)) [
-          | inl u ↦ elim (cases_eq j (top_of c + 1)) [
+        elim (cases_eq i (to)) [
+          | inl u ↦ elim (cases_eq j (to)) [
             | inl w ↦ u ∙ sym w
             | inr ne ↦ absurd (let a = named_next i f fi u in let l = names.calls j q.filter q.is in let d = ap (λ (t : Call). t.name) (q.call ne) in omega (arith, a, l, d, same))
           ]
-          | inr off ↦ elim (cases_eq j (top_of c + 1)) [
+          | inr off ↦ elim (cases_eq j (to)) [
             | inl w ↦ absurd (let a = named_next j g gj w in let l = names.calls i p.filter p.is in let d = ap (λ (t : Call). t.name) (p.call off) in omega (arith, a, l, d, same))
             | inr ne ↦ (let d = ap (λ (t : Call). t.name) (p.call off) in let k = ap (λ (t : Call). t.name) (q.call ne) in
                 apart.calls i j p.filter q.filter p.is q.is (omega (arith, d, pos)) (sym d ∙ (same ∙ k)))
           ]
         ]);
   } where
-    named_next : (j : ℕ) (f : Filter) → filter_at (changed c fs ws) j ≡ Some f → j ≡ top_of c + 1 → f.call.name ≡ next
-    named_next j f is at = ap (λ (g : Filter). g.call.name) (same_some f z (sym is ∙ (ap (filter_at (changed c fs ws)) at ∙ h.behind_after))) ∙ h.name
+    named_next : (j : ℕ) (f : Filter) → filter_at (changed c fs cs ws to) j ≡ Some f → j ≡ to → f.call.name ≡ next
+    named_next j f is at = ap (λ (g : Filter). g.call.name) (same_some f z (sym is ∙ (ap (filter_at (changed c fs cs ws to)) at ∙ h.behind_after))) ∙ h.name
 
     -- the brigade that is handed on is no own brigade of a later filter
     handed_not : (j n : ℕ) (g : Filter) → top_of c < j → n < 8 → filter_at c j ≡ Some g → named_at g n ≡ Some m → ⊥
@@ -199,13 +189,19 @@ module _ (c : Conn) (fs : Vec Filter) (ws : Vec ℕ) (next b m : ℕ) (x e y z :
     ]
 
     -- and where an earlier one has it, that one lent it
-    handed_here : (i a : ℕ) (f : Filter) → i < top_of c + 1 → filter_at (changed c fs ws) i ≡ Some f → (p : FilterBefore i f) → named_at p.filter a ≡ Some m → f.lent ≡ Some a
+    handed_here : (i a : ℕ) (f : Filter) → i < to → filter_at (changed c fs cs ws to) i ≡ Some f → (p : FilterBefore i f) → named_at p.filter a ≡ Some m → f.lent ≡ Some a
     handed_here i a f less fi p fa = elim (cases_eq i (top_of c)) [
       | inl q ↦
-          (let same : f ≡ y = same_some f y (sym fi ∙ (ap (filter_at (changed c fs ws)) q ∙ h.top_after)) in
+          (let same : f ≡ y = same_some f y (sym fi ∙ (ap (filter_at (changed c fs cs ws to)) q ∙ h.top_after)) in
           let was : p.filter ≡ x = same_some p.filter x (sym p.is ∙ (ap (filter_at c) q ∙ h.top)) in
           ap (λ (g : Filter). g.lent) same ∙ (h.lent ∙ ap (λ (n : ℕ). Some n) (names.apart (top_of c) b a m x h.top h.handed (ap (λ (g : Filter). named_at g a) (sym was) ∙ fa))))
-      | inr ne ↦ p.lent ne (λ e. (let l = less in omega (arith, e, l))) ∙ earlier (omega (arith, less, ne))
+      | inr ne ↦ elim (cases_le i (top_of c)) [
+        | inl low ↦ p.lent ne (λ e. (let l = less in omega (arith, e, l))) ∙ earlier (omega (arith, low, ne))
+        | inr high ↦ absurd (elim (cases_eq a 8) [
+          | inl at ↦ no_some m (sym (incoming i p.filter p.is (past i high)) ∙ (ap (named_at p.filter) (sym at) ∙ fa))
+          | inr off ↦ (let nine = names.nine i a m p.filter p.is fa in handed_not i a p.filter high (omega (arith, nine, off)) p.is fa)
+        ])
+      ]
     ] where
       earlier : i < top_of c → p.filter.lent ≡ Some a
       earlier low = elim (cases_eq b 8) [
@@ -219,18 +215,18 @@ module _ (c : Conn) (fs : Vec Filter) (ws : Vec ℕ) (next b m : ℕ) (x e y z :
               apart.own i (top_of c) a b m p.filter x (omega (arith, nine, ne)) (omega (arith, v, off)) p.is h.top fa h.handed in omega (arith, same, low))
         ]
 
-    handed_before : (i j a k : ℕ) (f g : Filter) → i < j → filter_at (changed c fs ws) i ≡ Some f → (p : FilterBefore i f) (q : FilterBefore j g) → named_at f a ≡ Some k → named_at q.filter 8 ≡ Some k
+    handed_before : (i j a k : ℕ) (f g : Filter) → i < j → filter_at (changed c fs cs ws to) i ≡ Some f → (p : FilterBefore i f) (q : FilterBefore j g) → named_at f a ≡ Some k → named_at q.filter 8 ≡ Some k
         → f.lent ≡ Some a
     handed_before i j a k f g less fi p q fa older = elim (cases_le j (top_of c)) [
-      | inr high ↦ absurd (no_some k (sym (incoming j q.filter q.is (not_called c j high)) ∙ older))
+      | inr high ↦ absurd (no_some k (sym (incoming j q.filter q.is (past j high)) ∙ older))
       | inl low ↦ elim (p.named a k fa) [
         | inr w ↦ absurd (let at = w.0 in omega (arith, at, low, less))
         | inl old ↦ p.lent (λ e. omega (arith, e, low, less)) (λ e. omega (arith, e, low, less)) ∙ apart.handed i j a k p.filter q.filter less p.is q.is old older
       ]
     ]
 
-    loose_after : (i j n : ℕ) (f g : Filter) → filter_at c i ≡ Some f → filter_at (changed c fs ws) j ≡ Some g → named_at f n ≡ Some g.call.name → ⊥
-    loose_after i j n f g fi gj fn = elim (cases_eq j (top_of c + 1)) [
+    loose_after : (i j n : ℕ) (f g : Filter) → filter_at c i ≡ Some f → filter_at (changed c fs cs ws to) j ≡ Some g → named_at f n ≡ Some g.call.name → ⊥
+    loose_after i j n f g fi gj fn = elim (cases_eq j (to)) [
       | inl q ↦ (let a = named_next j g gj q in let l = names.below i n g.call.name f fi fn in omega (arith, a, l))
       | inr ne ↦ (let r = before j g gj in apart.loose i j n f r.filter fi r.is (fn ∙ ap (λ (t : Call). Some t.name) (r.call ne)))
     ]

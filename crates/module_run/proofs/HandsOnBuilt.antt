@@ -13,7 +13,8 @@ use Rattle.module_run.specs.Conns.{filter_at, top_of}
 use Rattle.ring_calls.specs.Slots.{slot_at, marked}
 use Rattle.module_run.specs.Stacked.{named_at}
 use Rattle.module_run.proofs.Filters.{get_here, get_other}
-use Rattle.module_run.proofs.HandsOn.{HandsOn, changed}
+use Rattle.module_run.proofs.HandsOn.{HandsOn}
+use Rattle.module_run.proofs.Spared.{changed}
 
 -- what was read at a place of a list
 pub read_as : {X : Type 0} (xs : List X) (k : ℕ) (r x : X) → r ≡ slice_index_or xs k r → slice_get xs k ≡ Some x → r ≡ x
@@ -56,13 +57,14 @@ module _ (c : Conn) (t : ℕ) (at : t ≡ top_of c) (was y z : Filter) where
         (get_other (set (set c.filters.items (t + 1) was) t y) (t + 1) t z (λ q. omega (arith, q))
         ∙ get_here (set c.filters.items (t + 1) was) t y (let n = length-set c.filters.items (t + 1) was in omega (arith, at, within, n)))
 
-    module _ (ws : Vec ℕ) (next b m : ℕ) (waits : ws.items ≡ c.waits.items ++ x.call.name ∷ []) (busy : c.busy ≡ true) (variable : b < 9) (handed : named_at x b ≡ Some m)
+    module _ (cs ws : Vec ℕ) (next b m : ℕ) (callers : cs.items ≡ c.callers.items ++ top_of c ∷ []) (waits : ws.items ≡ c.waits.items ++ x.call.name ∷ []) (busy : c.busy ≡ true) (variable : b < 9) (handed : named_at x b ≡ Some m)
         (slots : (a : ℕ) → slot_at y.instance a ≡ (if a == b then marked Passed (slot_at x.instance b) else slot_at x.instance a))
         (slots_behind : (a : ℕ) → slot_at z.instance a ≡ (if a == 8 then slot.Made m None Usable else slot_at e.instance a))
         (call : y.call ≡ x.call) (name : z.call.name ≡ next) (lent : y.lent ≡ Some b) (alone : z.lent ≡ None) where
-      pub built : HandsOn c written ws next b m x e y z
+      pub built : HandsOn c written cs ws (top_of c + 1) next b m x e y z
       unfolding filter_at
       built = record {
+        later = omega arith;
         top = top;
         behind = behind;
         top_after = ap (slice_get written.items) (sym at)
@@ -76,6 +78,7 @@ module _ (c : Conn) (t : ℕ) (at : t ≡ top_of c) (was y z : Filter) where
             ∙ (get_other (set c.filters.items (t + 1) was) t j y (λ q. ne (omega (arith, q, at))) ∙ get_other c.filters.items (t + 1) j was (λ q. off (omega (arith, q, at))));
         many = length-set (set (set c.filters.items (t + 1) was) t y) (t + 1) z ∙ (length-set (set c.filters.items (t + 1) was) t y ∙ length-set c.filters.items (t + 1) was);
         waits = waits;
+        callers = callers;
         busy = busy;
         variable = variable;
         handed = handed;
@@ -89,11 +92,11 @@ module _ (c : Conn) (t : ℕ) (at : t ≡ top_of c) (was y z : Filter) where
 
 -- the filter on top alone is written
 module _ (c : Conn) (t : ℕ) (at : t ≡ top_of c) (w : Filter) (within : top_of c < length c.filters.items) where
-  pub writes_here : filter_at (changed c (with_item c.filters t w) c.waits) (top_of c) ≡ Some w
+  pub writes_here : filter_at (changed c (with_item c.filters t w) c.callers c.waits) (top_of c) ≡ Some w
   unfolding filter_at
   writes_here = ap (slice_get (set c.filters.items t w)) (sym at) ∙ get_here c.filters.items t w (omega (arith, at, within))
 
-  pub writes_off : (k : ℕ) → k ≢ top_of c → filter_at (changed c (with_item c.filters t w) c.waits) k ≡ filter_at c k
+  pub writes_off : (k : ℕ) → k ≢ top_of c → filter_at (changed c (with_item c.filters t w) c.callers c.waits) k ≡ filter_at c k
   unfolding filter_at
   writes_off k ne = get_other c.filters.items t k w (λ q. ne (q ∙ at))
 

@@ -1,5 +1,5 @@
 -- What a pass to the next filter leaves of a connection.
-use Rattle.std.proofs.Common.{◌≡◌, ℕ, ◌+◌, ◌<◌, Bool, true, false, List, [], Option, Some, None, is_some, refl, sym, ◌∙◌, ap, subst, inl, inr, arith}
+use Rattle.std.proofs.Common.{◌≡◌, ℕ, ◌+◌, ◌<◌, ◌≤◌, Bool, true, false, List, [], Option, Some, None, is_some, refl, sym, ◌∙◌, ap, subst, inl, inr, arith}
 use Rattle.std.specs.Prelude.{if◌then◌else◌}
 use Rattle.std.specs.Global.{Vec}
 use Rattle.std.proofs.lemmas.Bool.{cases_eq}
@@ -38,7 +38,9 @@ use Rattle.ring_calls.specs.Held.{IsHeld, WasGiven}
 use Rattle.module_run.specs.Proceeding.{IsReady, LeftAs, RefinesStep}
 use Rattle.ring_calls.specs.Seen.{seen, calls_in, is_running, shown_slot}
 use Rattle.ring_calls.specs.Slots.{name_in, live_in}
-use Rattle.module_run.specs.Stacked.{IsStacked, named_at}
+use Rattle.module_run.specs.Stacked.{IsStacked, called_of, named_at}
+use Rattle.run_model.specs.Pools.{is_in}
+use Rattle.module_run.proofs.Callers.{called_low, first_below, in_get, not_called}
 use Rattle.module_run.proofs.CanPass.{passer, passer_alone, passer_at, passes_there, names_known, next_within, next_there, next_alone}
 use Rattle.ring_calls.proofs.Changes.{ring_here, ring_off}
 use Rattle.module_run.proofs.HandsOn.{HandsOn, HasNamesBelow, changed, same_some, top_rises, apart_after, named_top}
@@ -91,41 +93,44 @@ module _ {R : Type 0} {g : Ghosts R Stored} (old new : Brigades R g) (more : One
 
 module _ {R : Type 0} {g : Ghosts R Stored} (chain : List Program) (b l : ℕ) (tree : PoolTree Payload) (old new : Brigades R g) (d : Device) (c : Conn) (v : Linked) (f : Frame) (rest : List Frame)
     (ready : IsReady chain (instr.Pass b l) tree old d c v f rest) (behind : is_last chain (top_of c) ≡ false) (more : OneMore old new)
-    (fs : Vec Filter) (ws : Vec ℕ) (m : ℕ) (y z : Filter) where
+    (fs : Vec Filter) (cs ws : Vec ℕ) (m : ℕ) (y z : Filter) where
   abbrev x : Filter
   x = (passer chain b l tree old d c v f rest ready).filter
 
   abbrev e : Filter
   e = (next_there chain b l tree old d c v f rest ready behind).0
 
-  module _ (h : HandsOn c fs ws (next_name old) b m x e y z) (here : IsHeld new y.instance y.call) (there : IsHeld new z.instance z.call) where
+  module _ (h : HandsOn c fs cs ws (top_of c + 1) (next_name old) b m x e y z) (here : IsHeld new y.instance y.call) (there : IsHeld new z.instance z.call) where
     old_left : LeftAs chain tree old d c v
     old_left = ready.stands.left
 
     names : HasNamesBelow c (next_name old)
     names = names_known chain b l tree old d c v f rest ready
 
+    called_under : (j : ℕ) → is_in j cs.items ≡ true → j ≤ top_of c
+    called_under j there = (let i = in_get (called_of c) j (ap (is_in j) (sym h.callers) ∙ there) in called_low chain c old_left.stacked.called i.0 j i.1)
+
     next_real : 0 < next_name old
     next_real = (let a = names.calls (top_of c) x h.top in omega (arith, a))
 
-    stacked_after : IsStacked chain new (changed c fs ws)
+    stacked_after : IsStacked chain new (changed c fs cs ws (top_of c + 1))
     stacked_after = record {
       many = h.many ∙ old_left.stacked.many;
-      within = (let a = next_within chain b l tree old d c v f rest ready behind in let r = top_rises c fs ws (next_name old) b m x e y z h in omega (arith, a, r));
+      within = (let a = next_within chain b l tree old d c v f rest ready behind in let r = top_rises c fs cs ws (top_of c + 1) (next_name old) b m x e y z h in omega (arith, a, r));
       queue = old_left.stacked.queue;
       held = held_each;
-      apart = apart_after c fs ws (next_name old) b m x e y z h names old_left.stacked.apart old_left.stacked.called.incoming;
-      called = called_after chain c fs ws (next_name old) b m l x e y z h next_real (passes_there chain b l tree old d c v f rest ready) old_left.stacked.called;
+      apart = apart_after c fs cs ws (top_of c + 1) (next_name old) b m x e y z h names old_left.stacked.apart (not_called chain c old_left.stacked.called) old_left.stacked.called.incoming;
+      called = called_after chain c fs cs ws (top_of c + 1) (next_name old) b m l x e y z h next_real (passes_there chain b l tree old d c v f rest ready) old_left.stacked.called;
       brought = brought_in;
     } where
-      at_top : (j : ℕ) (n : Filter) → filter_at (changed c fs ws) j ≡ Some n → j ≡ top_of c → y ≡ n
-      at_top j n is q = same_some y n (sym h.top_after ∙ (ap (filter_at (changed c fs ws)) (sym q) ∙ is))
+      at_top : (j : ℕ) (n : Filter) → filter_at (changed c fs cs ws (top_of c + 1)) j ≡ Some n → j ≡ top_of c → y ≡ n
+      at_top j n is q = same_some y n (sym h.top_after ∙ (ap (filter_at (changed c fs cs ws (top_of c + 1))) (sym q) ∙ is))
 
-      held_each : (j : ℕ) (n : Filter) → filter_at (changed c fs ws) j ≡ Some n → IsHeld new n.instance n.call
+      held_each : (j : ℕ) (n : Filter) → filter_at (changed c fs cs ws (top_of c + 1)) j ≡ Some n → IsHeld new n.instance n.call
       held_each j n is = elim (cases_eq j (top_of c)) [
         | inl q ↦ subst (λ (t : Filter). IsHeld new t.instance t.call) (at_top j n is q) here
         | inr ne ↦ elim (cases_eq j (top_of c + 1)) [
-          | inl q ↦ subst (λ (t : Filter). IsHeld new t.instance t.call) (same_some z n (sym h.behind_after ∙ (ap (filter_at (changed c fs ws)) (sym q) ∙ is))) there
+          | inl q ↦ subst (λ (t : Filter). IsHeld new t.instance t.call) (same_some z n (sym h.behind_after ∙ (ap (filter_at (changed c fs cs ws (top_of c + 1))) (sym q) ∙ is))) there
           | inr off ↦ held_more old new more n.instance n.call (old_left.stacked.held j n (sym (h.others j ne off) ∙ is))
         ]
       ]
@@ -134,10 +139,10 @@ module _ {R : Type 0} {g : Ghosts R Stored} (chain : List Program) (b l : ℕ) (
       still_brought k n is named = (let was = old_left.stacked.brought k n is named in
           (ap (λ (f : ℕ → Option ℕ). f k) more.pools ∙ was.0, still_there old new more k was.1))
 
-      brought_in : (k : ℕ) (n : Filter) → filter_at (changed c fs ws) c.first ≡ Some n → named_at n 8 ≡ Some k → (pool_of new k ≡ None) × (is_some (lists new k) ≡ true)
+      brought_in : (k : ℕ) (n : Filter) → filter_at (changed c fs cs ws (top_of c + 1)) c.first ≡ Some n → named_at n 8 ≡ Some k → (pool_of new k ≡ None) × (is_some (lists new k) ≡ true)
       brought_in k n is named = elim (cases_eq c.first (top_of c)) [
-        | inl q ↦ still_brought k x (ap (filter_at c) q ∙ h.top) (sym (named_top c fs ws (next_name old) b m x e y z h 8) ∙ (ap (λ (t : Filter). named_at t 8) (at_top c.first n is q) ∙ named))
-        | inr ne ↦ still_brought k n (sym (h.others c.first ne (λ r. omega (arith, r))) ∙ is) named
+        | inl q ↦ still_brought k x (ap (filter_at c) q ∙ h.top) (sym (named_top c fs cs ws (top_of c + 1) (next_name old) b m x e y z h 8) ∙ (ap (λ (t : Filter). named_at t 8) (at_top c.first n is q) ∙ named))
+        | inr ne ↦ still_brought k n (sym (h.others c.first ne (λ r. let low = first_below chain c old_left.stacked.called in omega (arith, r, low))) ∙ is) named
       ]
 
     house_after : IsHouse new (map_of tree)
@@ -153,12 +158,12 @@ module _ {R : Type 0} {g : Ghosts R Stored} (chain : List Program) (b l : ℕ) (
         (live : is_some (lists old m) ≡ true)
         (begun : (waits : List ℕ) → shown_call (is_running z.call.name waits) (lists new) z.call ≡ fresh_call (next_name old))
         (at : z.call.pc ≡ (module_at chain (top_of c + 1)).main) where
-      left_after : LeftAs chain tree new d (changed c fs ws) (passed_to (module_at chain (top_of c + 1)) b f rest v)
+      left_after : LeftAs chain tree new d (changed c fs cs ws (top_of c + 1)) (passed_to (module_at chain (top_of c + 1)) b f rest v)
       unfolding passed_to
       left_after = record {
-        seen = seen_after (lists old) (lists new) (next_name old) (next_name new) c fs ws b m x e y z h names (lists_kept old new more) (all_older old) live
+        seen = seen_after (lists old) (lists new) (next_name old) (next_name new) c fs cs ws (top_of c + 1) b m x e y z h names called_under (lists_kept old new more) (all_older old) live
             (passer_alone chain b l tree old d c v f rest ready) (next_alone chain b l tree old d c v f rest ready behind) lends takes
-            (module_at chain (top_of c + 1)).main f rest (passer chain b l tree old d c v f rest ready) begun at (map_of tree) v (module_at chain (top_of c + 1)) refl more.next old_left.seen;
+            (module_at chain (top_of c + 1)).main f rest (passer chain b l tree old d c v f rest ready) begun at (map_of tree) v (module_at chain (top_of c + 1)) refl more.next refl old_left.seen;
         opens = old_left.opens;
         formed = old_left.formed;
         house = house_after;
@@ -167,14 +172,14 @@ module _ {R : Type 0} {g : Ghosts R Stored} (chain : List Program) (b l : ℕ) (
         stacked = stacked_after;
       }
 
-      pub hands_on : RefinesStep chain (instr.Pass b l) d d v f rest tree new (changed c fs ws) stepped.Went
+      pub hands_on : RefinesStep chain (instr.Pass b l) d d v f rest tree new (changed c fs cs ws (top_of c + 1)) stepped.Went
       unfolding proceeds
       hands_on = record {
         reads = λ n. None;
         told = subst (λ (t : Bool). IfElse t (IfElse v.1.out.ended (d ≡ d) (ReadsGiven d d (items_of ((v.1.instances f.of).brigades b)) (λ n. None) 0)) (d ≡ d)) (sym not_last) refl;
         closed = tt;
         answers = refl;
-        left = subst (λ (w : Linked). LeftAs chain tree new d (changed c fs ws) w) (sym goes) left_after;
+        left = subst (λ (w : Linked). LeftAs chain tree new d (changed c fs cs ws (top_of c + 1)) w) (sym goes) left_after;
       } where
         not_last : is_last chain f.of ≡ false
         not_last = ap (is_last chain) (passer_at chain b l tree old d c v f rest ready) ∙ behind

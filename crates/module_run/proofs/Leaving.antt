@@ -1,7 +1,8 @@
 -- A connection is closed: what is gone, and what is left to others.
-use Rattle.std.proofs.Common.{◌≡◌, ◌≢◌, ◌⊎◌, ◌&&◌, ℕ, zero, suc, ◌+◌, ◌-◌, ◌<◌, ◌≤◌, nat_le, nat_lt, Bool, true, false, List, [], ◌∷◌, Option, Some, None, is_some, refl, sym, ap, subst, ◌∙◌, inl, inr}
+use Rattle.std.specs.Prelude.{slice_get}
+use Rattle.std.proofs.Common.{◌≡◌, ◌≢◌, ◌⊎◌, ◌&&◌, ℕ, zero, suc, Bool, true, false, List, [], ◌∷◌, Option, Some, None, is_some, refl, sym, ap, subst, ◌∙◌, inl, inr}
 use Rattle.std.proofs.Common.{arith}
-use Rattle.std.proofs.lemmas.Bool.{cases_eq, le-leb, lt-leb, lt-ltb}
+use Rattle.std.proofs.lemmas.Bool.{cases_eq}
 use Rattle.module_code.specs.declared.instr.PoolRef.{PoolRef}
 use Rattle.module_code.specs.declared.instr.PoolRef.TheVariants as pool
 use Rattle.module_code.specs.Program.{Program, pool_of_brigade}
@@ -38,12 +39,13 @@ use Rattle.ring_calls.specs.Slots.{name_in, slot_at}
 use Rattle.ring_calls.proofs.Changes.{ring_here, ring_off}
 use Rattle.module_run.specs.declared.conn.Conn.{Conn}
 use Rattle.module_run.specs.declared.conn.Filter.{Filter}
-use Rattle.module_run.specs.Conns.{filter_at, lent_by, runs_of, shown_filter, shown_instance, top_of}
+use Rattle.module_run.specs.Conns.{filter_at, lent_by, runs_of, shown_filter, shown_instance}
 use Rattle.module_run.specs.Neighbours.{HoldsName, IsForeign, LeavesOthers, SameRing}
 use Rattle.module_run.specs.Proceeding.{StandsFor}
-use Rattle.module_run.specs.Stacked.{is_called, is_waiting, named_at}
+use Rattle.module_run.specs.Stacked.{is_called, named_at, called_of}
 use Rattle.module_run.proofs.StepFiles.{made_in}
-use Rattle.module_run.proofs.HandsOn.{cases_le, not_called}
+use Rattle.module_run.proofs.Callers.{at_called, get_before, waits_before, waits_below}
+use Rattle.module_run.proofs.Bystanders.{same_number}
 use Rattle.module_run.proofs.Known.{some_is}
 use Rattle.module_run.proofs.NeighboursLeft.{spared}
 use Rattle.module_run.proofs.RequestBegins.{conn_is, pools_are, req_is, request_under}
@@ -184,18 +186,19 @@ module _ {R : Type 0} {g : Ghosts R Stored} (chain : List Program) (tree : PoolT
     go true e = e
     go false e = absurd (no_some (named_at f 8) n (stands.left.stacked.called.incoming k f is e) named)
 
-  came_from : (w n : ℕ) (f : Filter) → filter_at c (c.first + w) ≡ Some f → c.first + w ≤ top_of c → named_at f 8 ≡ Some n → IsBrought n ⊎ IsOwnBrigade n
-  came_from zero n f is low named = inl (f, (ap (filter_at c) (let e : c.first ≡ c.first + 0 = omega arith in e) ∙ is, named))
-  came_from (suc w) n f is low named =
+  came_from : (i k n : ℕ) (f : Filter) → slice_get (called_of c) i ≡ Some k → filter_at c k ≡ Some f → named_at f 8 ≡ Some n → IsBrought n ⊎ IsOwnBrigade n
+  came_from zero k n f at is named = inl (f, (ap (filter_at c) (same_number c.first k (slice_get (called_of c) 0) stands.left.stacked.called.bottom at) ∙ is, named))
+  came_from (suc i) later n f at is named =
       let stacked = stands.left.stacked in
-      let k = c.first + w in
-      let before = filter_within c k (let a = stacked.within in let b = stacked.many in omega (arith, a, b, low)) in
-      let waits : is_waiting c k ≡ true = ap (λ (t : Bool). t && nat_lt k (top_of c)) (le-leb c.first k (omega arith)) ∙ lt-ltb k (top_of c) (omega (arith, low)) in
+      let place = get_before (called_of c) i later at in
+      let k = place.0 in
+      let waits = waits_before c i k later place.1 at in
+      let before = filter_within c k (let low = waits_below chain c stacked.called k waits in let a = stacked.within in let b = stacked.many in omega (arith, a, b, low)) in
       let lends = some_lent before.0.lent (stacked.called.lent k before.0 before.1 ∙ waits) in
-      let handed = stacked.called.inward k lends.0 before.0 f before.1 (ap (filter_at c) (let e : k + 1 ≡ c.first + suc w = omega arith in e) ∙ is) lends.1 in
+      let handed = stacked.called.inward i k later lends.0 before.0 f place.1 at before.1 is lends.1 in
       let name : named_at before.0 lends.0 ≡ Some n = handed.1.0 ∙ (sym handed.1.1 ∙ named) in
       elim (cases_eq lends.0 8) [
-        | inl e ↦ came_from w n before.0 before.1 (omega (arith, low)) (ap (named_at before.0) (sym e) ∙ name)
+        | inl e ↦ came_from i k n before.0 place.1 before.1 (ap (named_at before.0) (sym e) ∙ name)
         | inr ne ↦ inr (record { at = k; filter = before.0; slot = lends.0; is = before.1; own = ne; named = name })
       ] where
         some_lent : (o : Option ℕ) → is_some o ≡ true → (b : ℕ) × (o ≡ Some b)
@@ -203,15 +206,7 @@ module _ {R : Type 0} {g : Ghosts R Stored} (chain : List Program) (tree : PoolT
         some_lent (Some b) e = (b, refl)
 
   pub came_in : (k n : ℕ) (f : Filter) → filter_at c k ≡ Some f → named_at f 8 ≡ Some n → IsBrought n ⊎ IsOwnBrigade n
-  came_in k n f is named = elim (cases_le k (top_of c)) [
-    | inr high ↦ absurd (no_some (named_at f 8) n (stands.left.stacked.called.incoming k f is (not_called c k high)) named)
-    | inl low ↦ elim (cases_le c.first k) [
-      | inr early ↦ absurd (early_off k n f is named early)
-      | inl from ↦ came_from (k - c.first) n f (ap (filter_at c) (let e : c.first + (k - c.first) ≡ k = omega (arith, from) in e) ∙ is) (omega (arith, from, low)) named
-    ]
-  ] where
-    early_off : (k n : ℕ) (f : Filter) → filter_at c k ≡ Some f → named_at f 8 ≡ Some n → k < c.first → ⊥
-    early_off k n f is named early = never_all c.busy (nat_le c.first k) (nat_le k (top_of c)) (lt-leb c.first k early) (called_in k n f is named)
+  came_in k n f is named = (let i = at_called chain c stands.left.stacked.called k (called_in k n f is named) in came_from i.0 k n f i.1 is named)
 
   -- The connection's pool went, over the tree and the store, and no brigade was looked at.
   module _ (mid : Brigades R g) (out : (n : ℕ) → lists mid n ≡ cleared_ring (is_under (map_of tree) c.conn) (is_in n []) (pool_of old n) (lists old n))

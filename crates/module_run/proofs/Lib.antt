@@ -1,5 +1,5 @@
 pub mod MoreCalls
-pub mod Stacking
+pub mod Callers
 pub mod Looking
 pub mod Executing
 pub mod Tops

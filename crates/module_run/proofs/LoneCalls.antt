@@ -1,5 +1,5 @@
 -- The only call of a connection ended, and no other one runs, or a new one of one filter: what is true of the filters and calls.
-use Rattle.std.proofs.Common.{◌≡◌, ◌≢◌, ◌⊎◌, ℕ, ◌<◌, ◌≤◌, ◌&&◌, nat_le, nat_lt, true, false, List, length, Option, Some, None, is_some, sym, ap, ◌∙◌, inl, inr, arith}
+use Rattle.std.proofs.Common.{◌≡◌, ◌≢◌, ◌⊎◌, ℕ, ◌<◌, ◌≤◌, true, false, List, length, Option, Some, None, is_some, sym, ap, ◌∙◌, inl, inr, arith, []}
 use Rattle.bucket_ring.specs.declared.names.BucketId.{BucketId}
 use Rattle.module_code.specs.Program.{Program}
 use Rattle.stored_rings.specs.Items.{Items}
@@ -7,13 +7,15 @@ use Rattle.module_run.specs.declared.conn.Conn.{Conn}
 use Rattle.module_run.specs.declared.conn.Filter.{Filter}
 use Rattle.module_run.specs.Conns.{filter_at, top_of, waiting}
 use Rattle.ring_calls.specs.Held.{HeldOver}
-use Rattle.module_run.specs.Stacked.{FiltersApart, AreCalled, StackedOver, is_called, named_at, names_up}
-use Rattle.module_run.proofs.EndedLast.{CameLone, EndsLast, HasNine, came, none_between}
-use Rattle.module_run.proofs.Known.{no_names}
+use Rattle.module_run.specs.Stacked.{FiltersApart, AreCalled, StackedOver, is_called, named_at}
+use Rattle.module_run.proofs.EndedLast.{CameLone, EndsLast, HasNine, came}
+use Rattle.module_run.proofs.Callers.{alone_bottom, alone_names, alone_rises, none_in_callers}
 
 -- no call has a name but this filter's, which is a new one
 pub record HasLone (next turn : ℕ) (d : Conn) : Type 0 where
   pub none : waiting d ≡ 0
+  pub top : top_of d ≡ d.first
+  pub empty : d.waits.items ≡ []
   pub named : (k : ℕ) (e : Filter) → filter_at d k ≡ Some e → (e.call.name ≡ 0) ⊎ ((k ≡ turn) × (next ≤ e.call.name))
   pub runs : (k : ℕ) (e : Filter) → filter_at d k ≡ Some e → is_called d k ≡ true → 0 < e.call.name
   pub idle : (k : ℕ) (e : Filter) → filter_at d k ≡ Some e → is_called d k ≡ false → e.call.name ≡ 0
@@ -54,17 +56,17 @@ module _ (chain : List Program) (at : BucketId → Option ℕ) (L M : ℕ → Op
     ]
 
   pub called_lone : AreCalled chain d
-  unfolding names_up
   called_lone = record {
     runs = one.runs;
     idle = one.idle;
-    lent = λ k f is. ap is_some (from k f is).1.lent
-        ∙ sym (ap (λ (n : ℕ). nat_le d.first k && nat_lt k n) (let e = one.none in let q : top_of d ≡ d.first = omega (arith, e) in q) ∙ none_between d.first k);
+    lent = λ k f is. ap is_some (from k f is).1.lent ∙ sym (none_in_callers d one.none k);
     passes = λ k b f is lent. absurd (not_lent k b f is lent);
     passed = λ k b f is lent. absurd (not_lent k b f is lent);
-    inward = λ k b f e is later lent. absurd (not_lent k b f is lent);
+    inward = λ i k j b f e at next is later lent. absurd (not_lent k b f is lent);
     incoming = λ k f is over. (from k f is).1.null;
-    waits = no_names d.waits.items one.none ∙ sym (ap (names_up d d.first) one.none);
+    waits = alone_names d one.none one.empty;
+    rises = alone_rises d one.none;
+    bottom = alone_bottom d one.none one.top;
     quiet = λ quiet. one.none;
   }
 
@@ -72,7 +74,7 @@ module _ (chain : List Program) (at : BucketId → Option ℕ) (L M : ℕ → Op
       → ((k : ℕ) (e : Filter) → filter_at d k ≡ Some e → HeldOver new_at M new_pools new_next e.instance e.call) → StackedOver chain new_at M new_pools new_next d
   stacked_lone new_at new_pools new_next many within queue held = record {
     many = many;
-    within = (let e = one.none in omega (arith, e, within));
+    within = (let e = one.top in omega (arith, e, within));
     queue = queue;
     held = held;
     apart = apart_lone;

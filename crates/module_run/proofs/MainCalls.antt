@@ -35,7 +35,8 @@ use Rattle.module_run.specs.declared.conn.Filter.{Filter}
 use Rattle.ring_calls.specs.declared.machine.Slot.{Slot}
 use Rattle.ring_calls.specs.declared.machine.Slot.TheVariants as slot
 use Rattle.module_run.specs.CalledMain.{CalledMain, StartsWith}
-use Rattle.module_run.specs.Conns.{call_name, conn_of, counting, filter_at, labels_handed, lengths, lent_by, runs_of, shown_call, shown_filter, shown_frame, shown_instance, stack_of, stack_up, top_of}
+use Rattle.module_run.specs.Conns.{call_name, conn_of, counting, filter_at, labels_handed, lengths, lent_by, runs_of, shown_call, shown_filter, shown_frame, shown_instance, stack_of, stack_over, top_of}
+use Rattle.module_run.proofs.Callers.{no_callers}
 use Rattle.module_run.specs.Conns.{waiting}
 use Rattle.ring_calls.specs.Seen.{is_running, shown, shown_as, shown_cursor, shown_slot}
 use Rattle.ring_calls.specs.Slots.{cursor_at, slot_at, name_in}
@@ -84,11 +85,14 @@ module _ {R : Type 0} {g : Ghosts R Stored} (chain : List Program) (old new : Br
   pub first_is : d.first ≡ 0
   first_is = ap (λ (x : Conn). x.first) begins.rest
 
+  pub callers_are : d.callers.items ≡ []
+  callers_are = ap (λ (x : Conn). x.callers.items) begins.rest ∙ no_callers c.callers.items (stacked.called.quiet idle)
+
   pub none_waiting : waiting d ≡ 0
-  none_waiting = ap (λ (xs : List ℕ). length xs) waits_are
+  none_waiting = ap (λ (xs : List ℕ). length xs) callers_are
 
   pub top_is : top_of d ≡ 0
-  top_is = (let a = first_is in let b = none_waiting in omega (arith, a, b))
+  top_is = ap (λ (x : Conn). x.top) begins.rest
 
   runs_now : runs_of d ≡ is_running (next_name old) []
   runs_now =
@@ -200,11 +204,11 @@ module _ {R : Type 0} {g : Ghosts R Stored} (chain : List Program) (old new : Br
         frame x pc = record { of = 0; call = x; pc = pc }
 
   stack_as : stack_of (lists new) d ≡ (record { of = 0; call = fresh_call (next_name old); pc = (module_at chain 0).main }) ∷ []
-  unfolding stack_up
+  unfolding stack_over
   stack_as =
-      ap (λ (b : Bool). if b then stack_up (frame_at (lists new) d) d.first (suc (waiting d)) else []) (ap (λ (x : Conn). x.busy) begins.rest)
-      ∙ (ap (λ (k : ℕ). stack_up (frame_at (lists new) d) k (suc (waiting d))) first_is
-      ∙ (ap (λ (n : ℕ). stack_up (frame_at (lists new) d) 0 (suc n)) none_waiting
+      ap (λ (b : Bool). if b then frame_at (lists new) d (top_of d) ∷ stack_over (frame_at (lists new) d) d.callers.items else []) (ap (λ (x : Conn). x.busy) begins.rest)
+      ∙ (ap (λ (k : ℕ). frame_at (lists new) d k ∷ stack_over (frame_at (lists new) d) d.callers.items) top_is
+      ∙ (ap (λ (ks : List ℕ). frame_at (lists new) d 0 ∷ stack_over (frame_at (lists new) d) ks) callers_are
       ∙ ap (λ (f : Frame). f ∷ []) (frame_as (runs_of d))))
 
   queue_as : counting d.queue (length d.filters.items - d.queue) ≡ counting c.queue (length c.filters.items - c.queue)

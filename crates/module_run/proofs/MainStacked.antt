@@ -1,7 +1,7 @@
 -- A brigade is brought, where no call runs: what is true of the filters and calls.
-use Rattle.std.proofs.Common.{◌≡◌, ◌≢◌, ℕ, zero, suc, ◌+◌, ◌<◌, ◌≤◌, ◌&&◌, nat_le, Bool, true, false, List, [], length, Option, Some, None, is_some, refl, sym, ap, subst, ◌∙◌, ◌⊎◌, inl, inr, arith}
+use Rattle.std.proofs.Common.{◌≡◌, ◌≢◌, ℕ, zero, suc, ◌+◌, ◌<◌, ◌≤◌, Bool, true, false, List, [], length, Option, Some, None, is_some, refl, sym, ap, subst, ◌∙◌, ◌⊎◌, inl, inr, arith}
 use Rattle.std.specs.Prelude.{if◌then◌else◌}
-use Rattle.std.proofs.lemmas.Bool.{cases_eq, ne_eqb, le-leb, leb-true}
+use Rattle.std.proofs.lemmas.Bool.{cases_eq, ne_eqb}
 use Rattle.bucket_kinds.specs.Device.{Device}
 use Rattle.bucket_ring.specs.declared.names.BucketId.{BucketId}
 use Rattle.bucket_ring.specs.declared.rings.Rings.{Ghosts}
@@ -29,22 +29,16 @@ use Rattle.ring_calls.specs.declared.machine.Instance.{Instance}
 use Rattle.ring_calls.specs.declared.machine.Slot.TheVariants as slot
 use Rattle.ring_calls.specs.declared.machine.CursorValue.TheVariants as stand
 use Rattle.module_run.specs.CalledMain.{CalledMain, StartsWith}
-use Rattle.module_run.specs.Conns.{conn_of, filter_at, top_of, waiting}
+use Rattle.module_run.specs.Conns.{conn_of, filter_at}
 use Rattle.ring_calls.specs.Held.{IsHeld, WasGiven}
 use Rattle.module_run.specs.Proceeding.{LeftAs}
 use Rattle.ring_calls.specs.Slots.{slot_at, name_in}
 use Rattle.module_run.specs.Stacked.{FiltersApart, AreCalled, IsStacked, is_called, named_at}
 use Rattle.ring_calls.proofs.Changes.{ring_here, ring_off}
-use Rattle.module_run.proofs.FirstCalls.{no_call, no_lent, none_between, not_lent, nothing_in, true_false}
-use Rattle.module_run.proofs.FirstStacked.{no_names}
+use Rattle.module_run.proofs.FirstCalls.{no_call, no_lent, not_lent, nothing_in, true_false}
+use Rattle.module_run.proofs.Callers.{alone_bottom, alone_called, alone_names, alone_rises, called_top, none_in_callers}
 use Rattle.module_run.proofs.Looked.{some_same}
 use Rattle.module_run.proofs.MainCalls.{HasBrought, after, after_is, before, before_is, conn_brought, first_is, first_name, none_waiting, starts, top_is, waits_are}
-
-last_and : (s t u : Bool) → u ≡ false → (s && (t && u)) ≡ false
-last_and s t true e = absurd (cc)
-last_and true true false e = refl
-last_and true false false e = refl
-last_and false t false e = refl
 
 module _ {R : Type 0} {g : Ghosts R Stored} (chain : List Program) (old new : Brigades R g) (c d : Conn) (req : ℕ) (pieces : List Piece) (stacked : IsStacked chain old c) (idle : c.busy ≡ false)
     (begins : CalledMain chain (next_name old) (next_name old + 1) c d) (made : HasBrought old new req pieces)
@@ -212,30 +206,26 @@ module _ {R : Type 0} {g : Ghosts R Stored} (chain : List Program) (old new : Br
     ]
 
   called_first : (k : ℕ) → is_called d k ≡ true → k ≡ 0
-  called_first k e = go (nat_le k (top_of d)) refl where
-    go : (t : Bool) → nat_le k (top_of d) ≡ t → k ≡ 0
-    go true is = (let low = leb-true k (top_of d) is in let top = top_is chain old new c d req pieces stacked idle begins made in omega (arith, low, top))
-    go false is = absurd (true_false (is_called d k) e (last_and d.busy (nat_le d.first k) (nat_le k (top_of d)) is))
+  called_first k e = alone_called d (none_waiting chain old new c d req pieces stacked idle begins made) k e ∙ top_is chain old new c d req pieces stacked idle begins made
 
   first_is_called : is_called d 0 ≡ true
-  first_is_called =
-      ap (λ (b : Bool). b && (nat_le d.first 0 && nat_le 0 (top_of d))) (ap (λ (x : Conn). x.busy) begins.rest)
-      ∙ (ap (λ (b : Bool). b && nat_le 0 (top_of d)) (le-leb d.first 0 (let e = first_is chain old new c d req pieces stacked idle begins made in omega (arith, e)))
-      ∙ le-leb 0 (top_of d) (omega arith))
+  first_is_called = ap (is_called d) (sym (top_is chain old new c d req pieces stacked idle begins made)) ∙ called_top d (ap (λ (x : Conn). x.busy) begins.rest)
 
   called_then : AreCalled chain d
   called_then = record {
     runs = λ k f is e. runs_first k f is (called_first k e);
     idle = λ k f is e. no_name k f is (λ (z : k ≡ 0). true_false (is_called d k) (ap (is_called d) z ∙ first_is_called) e);
-    lent = λ k f is. ap is_some (lends_none k f is) ∙ sym (none_between d.first k (waiting d) (none_waiting chain old new c d req pieces stacked idle begins made));
+    lent = λ k f is. ap is_some (lends_none k f is) ∙ sym (none_in_callers d (none_waiting chain old new c d req pieces stacked idle begins made) k);
     passes = λ k b f is e. absurd (never_lent k b f is e);
     passed = λ k b f is e. absurd (never_lent k b f is e);
-    inward = λ k b f e is behind lends. absurd (never_lent k b f is lends);
+    inward = λ i k j b f e at next is behind lends. absurd (never_lent k b f is lends);
     incoming = λ k f is e. elim (there k f is) [
       | inl w ↦ absurd (true_false (is_called d k) (ap (is_called d) w.0 ∙ first_is_called) e)
       | inr w ↦ nothing_in chain old c stacked idle k f w.1
     ];
-    waits = waits_are chain old new c d req pieces stacked idle begins made ∙ sym (no_names d d.first (waiting d) (none_waiting chain old new c d req pieces stacked idle begins made));
+    waits = alone_names d (none_waiting chain old new c d req pieces stacked idle begins made) (waits_are chain old new c d req pieces stacked idle begins made);
+    rises = alone_rises d (none_waiting chain old new c d req pieces stacked idle begins made);
+    bottom = alone_bottom d (none_waiting chain old new c d req pieces stacked idle begins made) (top_is chain old new c d req pieces stacked idle begins made ∙ sym (first_is chain old new c d req pieces stacked idle begins made));
     quiet = λ e. absurd (true_false d.busy (ap (λ (x : Conn). x.busy) begins.rest) e);
   } where
     runs_first : (k : ℕ) (f : Filter) → filter_at d k ≡ Some f → k ≡ 0 → 0 < f.call.name

@@ -1,5 +1,5 @@
 -- A connection stays as it was where an event of another leaves what is foreign to that one.
-use Rattle.std.proofs.Common.{◌≡◌, ℕ, zero, suc, ◌<◌, ◌≤◌, Bool, List, [], length, Option, Some, None, is_some, refl, sym, ap, subst, ◌∙◌, inl, inr, arith}
+use Rattle.std.proofs.Common.{◌≡◌, ℕ, zero, suc, ◌<◌, ◌≤◌, Bool, List, [], Option, Some, None, is_some, refl, sym, ap, subst, ◌∙◌, inl, inr, arith, ◌∷◌}
 use Rattle.std.specs.Prelude.{if◌then◌else◌}
 use Rattle.std.proofs.Math.Path.{fun_ext}
 use Rattle.bucket_ring.specs.declared.names.BucketId.{BucketId}
@@ -21,7 +21,7 @@ use Rattle.ring_calls.specs.Seen.{shown}
 use Rattle.ring_calls.specs.Slots.{name_in, slot_at}
 use Rattle.module_run.specs.declared.conn.Conn.{Conn}
 use Rattle.module_run.specs.declared.conn.Filter.{Filter}
-use Rattle.module_run.specs.Conns.{conn_of, filter_at, lent_by, runs_of, shown_filter, shown_frame, shown_instance, stack_of, stack_up}
+use Rattle.module_run.specs.Conns.{conn_of, filter_at, lent_by, runs_of, shown_filter, shown_frame, shown_instance, stack_of, stack_over, top_of}
 use Rattle.module_run.specs.Neighbours.{HoldsName, IsForeign, LeavesOthers, SameRing}
 use Rattle.module_run.specs.Stacked.{IsStacked, named_at}
 use Rattle.module_run.proofs.Untouched.{slot_same}
@@ -88,7 +88,7 @@ module _ {R : Type 0} {g : Ghosts R Stored} (chain : List Program) (ps : Pools P
         with_parts i s = record (conn_of qs (lists old) opened e) { instances = i; stack = s }
 
         stacks : (ℕ → Frame) → List Frame
-        stacks frames = if e.busy then stack_up frames e.first (suc (length e.waits.items)) else []
+        stacks frames = if e.busy then frames (top_of e) ∷ stack_over frames e.callers.items else []
 
   held_same : (k : ℕ) (f : Filter) → filter_at e k ≡ Some f → IsHeld new f.instance f.call
   held_same k f is = (let held = stacked.held k f is in record {

@@ -1,9 +1,9 @@
 -- A call returns that none waits for, and the handler of a further filter is to run.
-use Rattle.std.proofs.Common.{◌≡◌, ◌≢◌, ◌⊎◌, ℕ, suc, ◌+◌, ◌-◌, ◌<◌, ◌≤◌, ◌&&◌, nat_le, Bool, true, false, List, [], ◌∷◌, length, Option, Some, is_some, refl, sym, ap, subst, ◌∙◌, inl, inr, arith}
+use Rattle.std.proofs.Common.{◌≡◌, ◌≢◌, ◌⊎◌, ℕ, suc, ◌+◌, ◌-◌, ◌<◌, ◌≤◌, Bool, true, false, List, [], ◌∷◌, length, Option, Some, is_some, refl, sym, ap, subst, ◌∙◌, inl, inr, arith}
 use Rattle.std.specs.Prelude.{if◌then◌else◌}
 use Rattle.std.specs.Global.{Vec}
 use Rattle.std.proofs.Math.Path.{fun_ext}
-use Rattle.std.proofs.lemmas.Bool.{cases_eq, false≢true, le-leb}
+use Rattle.std.proofs.lemmas.Bool.{cases_eq, false≢true}
 use Rattle.bucket_ring.specs.declared.rings.Rings.{Ghosts}
 use Rattle.bucket_ring.specs.Kept.{NoneRevived}
 use Rattle.bucket_kinds.specs.Device.{Device}
@@ -26,14 +26,15 @@ use Rattle.module_run.specs.declared.conn.Filter.{Filter}
 use Rattle.ring_calls.specs.declared.machine.Instance.{Instance}
 use Rattle.ring_calls.specs.declared.machine.CursorValue.TheVariants as stand
 use Rattle.ring_passes.specs.Begun.{IsBegun}
-use Rattle.module_run.specs.Conns.{call_name, conn_of, counting, filter_at, runs_of, shown_filter, shown_frame, stack_of, stack_up, top_of, waiting}
+use Rattle.module_run.specs.Conns.{call_name, conn_of, counting, filter_at, runs_of, shown_filter, shown_frame, stack_of, stack_over, top_of, waiting}
 use Rattle.ring_calls.specs.Held.{IsHeld}
 use Rattle.module_run.specs.Proceeding.{IsReady, RefinesStep}
 use Rattle.ring_calls.specs.Seen.{is_running}
 use Rattle.module_run.specs.Stacked.{is_called}
-use Rattle.module_run.proofs.EndedLast.{EndsLast, each_left, idle, left_as, only_one, stays, stays_after, waits_none}
+use Rattle.module_run.proofs.EndedLast.{EndsLast, each_left, idle, left_as, stays, stays_after, waits_none}
 use Rattle.module_run.proofs.Finishing.{led, new_free, nine, returned_so}
 use Rattle.module_run.proofs.HeldStays.{held_stays}
+use Rattle.module_run.proofs.Callers.{alone_called, called_top, no_callers}
 use Rattle.module_run.proofs.Known.{some_is}
 use Rattle.module_run.proofs.LoneCalls.{HasLone, stacked_lone}
 use Rattle.module_run.proofs.NextCall.{filter_begun, frame_begun}
@@ -41,7 +42,7 @@ use Rattle.module_run.proofs.Tops.{frame_at}
 
 -- the connection whose next filter has its turn
 abbrev pub turned : Conn → Vec Filter → Conn
-turned c filters = record c { filters = filters; first = c.queue; queue = c.queue + 1 }
+turned c filters = record c { filters = filters; first = c.queue; top = c.queue; queue = c.queue + 1 }
 
 -- The call of the filter that is next began: it was `before`, and is `begun`.
 pub record Turns (chain : List Program) (next : ℕ) (c d : Conn) : Type 0 where
@@ -64,7 +65,7 @@ module _ {R : Type 0} {g : Ghosts R Stored} (chain : List Program) (s : Status) 
   d = turned c filters
 
   turn_top : top_of d ≡ c.queue
-  turn_top = omega (arith, none)
+  turn_top = refl
 
   no_waits : c.waits.items ≡ []
   no_waits = waits_none chain (brigade_of store) (lists store) (lists new) (pool_of store) (next_name store) c d ready.stands.left.stacked (nine chain s tree store device c v f rest ready none) x
@@ -86,11 +87,10 @@ module _ {R : Type 0} {g : Ghosts R Stored} (chain : List Program) (s : Status) 
   next_frame n = record { of = c.queue; call = fresh_call n; pc = handler_at c.req (module_at chain c.queue) }
 
   stack_is : stack_of (lists new) d ≡ next_frame (next_name store) ∷ []
-  unfolding stack_up
-  stack_is = ap (λ (b : Bool). if b then stack_up (frame_at (lists new) d) c.queue (suc (waiting c)) else []) x.busy
-      ∙ (ap (λ (n : ℕ). stack_up (frame_at (lists new) d) c.queue (suc n)) none
-      ∙ ap (λ (h : Frame). h ∷ []) (ap (frame_at (lists new) d) (let e : c.queue + 0 ≡ c.queue = omega arith in e)
-      ∙ (ap (shown_frame (runs_of d) (lists new) c.queue) y.now
+  unfolding stack_over
+  stack_is = ap (λ (b : Bool). if b then frame_at (lists new) d c.queue ∷ stack_over (frame_at (lists new) d) c.callers.items else []) x.busy
+      ∙ (ap (λ (ks : List ℕ). frame_at (lists new) d c.queue ∷ stack_over (frame_at (lists new) d) ks) (no_callers c.callers.items none)
+      ∙ ap (λ (h : Frame). h ∷ []) ((ap (shown_frame (runs_of d) (lists new) c.queue) y.now
       ∙ frame_begun (runs_of d) (lists new) c.queue (next_name store) (handler_at c.req (module_at chain c.queue)) y.begun y.call empty)))
 
   abbrev after : Linked
@@ -124,12 +124,11 @@ module _ {R : Type 0} {g : Ghosts R Stored} (chain : List Program) (s : Status) 
   new_name : (k : ℕ) (e : Filter) → filter_at d k ≡ Some e → k ≡ c.queue → e.call.name ≡ next_name store
   new_name k e is q = ap (λ (h : Filter). h.call.name) (some_is e y.begun (sym is ∙ (ap (filter_at d) q ∙ y.now))) ∙ y.call.named
 
-  called_is : (k : ℕ) → is_called d k ≡ (nat_le c.queue k && nat_le k c.queue)
-  called_is k = ap (λ (b : Bool). b && (nat_le c.queue k && nat_le k (top_of d))) x.busy ∙ ap (λ (n : ℕ). nat_le c.queue k && nat_le k n) turn_top
-
   lone : HasLone (next_name store) c.queue d
   lone = record {
     none = none;
+    top = refl;
+    empty = no_waits;
     named = named;
     runs = runs;
     idle = over;
@@ -143,12 +142,12 @@ module _ {R : Type 0} {g : Ghosts R Stored} (chain : List Program) (s : Status) 
     runs : (k : ℕ) (e : Filter) → filter_at d k ≡ Some e → is_called d k ≡ true → 0 < e.call.name
     runs k e is called = elim (cases_eq k c.queue) [
       | inl q ↦ (let n = new_name k e is q in let p = (ready.stands.left.stacked.held c.first x.top x.on_top).called in omega (arith, n, p))
-      | inr ne ↦ absurd (false≢true (sym (called_is k ∙ only_one c.queue k ne) ∙ called))
+      | inr ne ↦ absurd (ne (alone_called d none k called))
     ]
 
     over : (k : ℕ) (e : Filter) → filter_at d k ≡ Some e → is_called d k ≡ false → e.call.name ≡ 0
     over k e is rests = elim (cases_eq k c.queue) [
-      | inl q ↦ absurd (false≢true (sym rests ∙ (called_is k ∙ (ap (λ (n : ℕ). nat_le c.queue n && nat_le n c.queue) q ∙ (ap (λ (b : Bool). b && b) (le-leb c.queue c.queue (omega arith)))))))
+      | inl q ↦ absurd (false≢true (sym rests ∙ (ap (is_called d) q ∙ called_top d x.busy)))
       | inr ne ↦ idle_name k e is ne
     ]
 

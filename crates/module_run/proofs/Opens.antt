@@ -1,5 +1,5 @@
 -- A connection is opened: what it stands for before its first call, and then.
-use Rattle.std.proofs.Common.{◌≡◌, ℕ, zero, suc, ◌+◌, ◌-◌, ◌<◌, ◌≤◌, ◌&&◌, nat_le, Bool, false, List, [], ◌∷◌, ◌++◌, length, Option, Some, None, is_some, ◌⊎◌, inl, inr, refl, sym, ap, subst, ◌∙◌}
+use Rattle.std.proofs.Common.{◌≡◌, ℕ, zero, suc, ◌+◌, ◌-◌, ◌<◌, ◌≤◌, ◌&&◌, Bool, false, List, [], ◌∷◌, ◌++◌, length, Option, Some, None, is_some, ◌⊎◌, inl, inr, refl, sym, ap, subst, ◌∙◌, ◌==◌, ◌||◌}
 use Rattle.std.proofs.Common.{arith}
 use Rattle.std.specs.Prelude.{if◌then◌else◌, slice_get, slice_index_or}
 use Rattle.std.specs.Global.{Vec}
@@ -34,15 +34,16 @@ use Rattle.module_run.specs.declared.conn.Filter.{Filter}
 use Rattle.module_run.specs.declared.conn.OpenFile.{OpenFile}
 use Rattle.ring_calls.specs.declared.machine.Instance.{Instance}
 use Rattle.module_run.specs.CalledFirst.{CalledFirst}
-use Rattle.module_run.specs.Conns.{conn_of, counting, filter_at, labels_handed, lengths, lent_by, runs_of, shown_filter, shown_instance, stack_of, stack_up, top_of, waiting}
+use Rattle.module_run.specs.Conns.{conn_of, counting, filter_at, labels_handed, lengths, lent_by, runs_of, shown_filter, shown_instance, stack_of, stack_over, top_of, waiting}
 use Rattle.module_run.specs.Neighbours.{ComesBeside, HoldsName}
 use Rattle.module_run.specs.Opening.{CanOpen, IsNewConn, IsNewFilter, over}
 use Rattle.module_run.specs.Proceeding.{LeftAs}
 use Rattle.ring_calls.specs.Seen.{shown_slot}
 use Rattle.ring_calls.specs.Slots.{slot_at, name_in}
-use Rattle.module_run.specs.Stacked.{FiltersApart, AreCalled, IsStacked, is_called, named_at}
-use Rattle.module_run.proofs.FirstCalls.{none_between, no_lent, true_false}
-use Rattle.module_run.proofs.FirstStacked.{left_called, no_names}
+use Rattle.module_run.specs.Stacked.{FiltersApart, AreCalled, IsStacked, is_called, named_at, is_waiting}
+use Rattle.module_run.proofs.FirstCalls.{no_lent, true_false}
+use Rattle.module_run.proofs.FirstStacked.{left_called}
+use Rattle.module_run.proofs.Callers.{alone_bottom, alone_names, alone_rises, none_in_callers}
 use Rattle.module_run.proofs.Looked.{some_same}
 use Rattle.module_run.proofs.Tops.{filter_within, frame_at}
 use Rattle.module_run.proofs.Unchanged.{next_off_pools, off_pools}
@@ -82,7 +83,7 @@ module _ {R : Type 0} {g : Ghosts R Stored} (chain : List Program) (tree : PoolT
   zero_off = off_pools old (map_of tree) new.house 0 (λ there. let e : is_some (lists old 0) ≡ false = ap is_some new.none in cc)
 
   none_waits : waiting c ≡ 0
-  none_waits = ap (λ (xs : List ℕ). length xs) is.waits
+  none_waits = ap (λ (xs : List ℕ). length xs) is.callers
 
   new_apart : FiltersApart c
   new_apart = record {
@@ -95,21 +96,23 @@ module _ {R : Type 0} {g : Ghosts R Stored} (chain : List Program) (tree : PoolT
 
   new_called : AreCalled chain c
   new_called = record {
-    runs = λ k f at e. absurd (true_false (is_called c k) e (ap (λ (b : Bool). b && (nat_le c.first k && nat_le k (top_of c))) is.busy));
+    runs = λ k f at e. absurd (true_false (is_called c k) e (ap (λ (b : Bool). b && (k == top_of c || is_waiting c k)) is.busy));
     idle = λ k f at e. (fresh k f at).idle;
-    lent = λ k f at. ap is_some (fresh k f at).lent ∙ sym (none_between c.first k (waiting c) none_waits);
+    lent = λ k f at. ap is_some (fresh k f at).lent ∙ sym (none_in_callers c none_waits k);
     passes = λ k b f at e. absurd (none_lent_at k b f at e);
     passed = λ k b f at e. absurd (none_lent_at k b f at e);
-    inward = λ k b f e at behind lends. absurd (none_lent_at k b f at lends);
+    inward = λ i k j b f e before next at behind lends. absurd (none_lent_at k b f at lends);
     incoming = λ k f at e. ap name_in ((fresh k f at).slots 8);
-    waits = is.waits ∙ sym (no_names c c.first (waiting c) none_waits);
+    waits = alone_names c none_waits is.waits;
+    rises = alone_rises c none_waits;
+    bottom = alone_bottom c none_waits (is.top ∙ sym is.first);
     quiet = λ e. none_waits;
   }
 
   new_stacked : IsStacked chain old c
   new_stacked = record {
     many = many;
-    within = (let a = is.first in let b = none_waits in omega (arith, a, b, some));
+    within = (let a = is.top in omega (arith, a, some));
     queue = (let a = queue_is in omega (arith, a));
     held = λ k f at. (fresh k f at).held (brigade_of old) (lists old) (pool_of old) (next_name old) new.named zero_off;
     apart = new_apart;
@@ -136,7 +139,7 @@ module _ {R : Type 0} {g : Ghosts R Stored} (chain : List Program) (tree : PoolT
     none_more = (let a = queue_is in omega (arith, a, many))
 
   new_stack : [] ≡ stack_of (lists old) c
-  new_stack = sym (ap (λ (b : Bool). if b then stack_up (frame_at (lists old) c) c.first (suc (waiting c)) else []) is.busy)
+  new_stack = sym (ap (λ (b : Bool). if b then frame_at (lists old) c (top_of c) ∷ stack_over (frame_at (lists old) c) c.callers.items else []) is.busy)
 
   -- a connection before its first call, over these pools
   abbrev pub before : Common → Connection

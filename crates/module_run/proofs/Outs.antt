@@ -1,5 +1,5 @@
 -- The output of a connection alone changes.
-use Rattle.std.proofs.Common.{ℕ, Bool, List, refl, sym, ◌∙◌, ap}
+use Rattle.std.proofs.Common.{ℕ, Bool, List, ap}
 use Rattle.bucket_ring.specs.declared.names.BucketId.{BucketId}
 use Rattle.module_code.specs.Program.{Program}
 use Rattle.run_model.specs.declared.payload.Payload.{Payload}
@@ -8,10 +8,9 @@ use Rattle.run_model.specs.Pools.{Pools}
 use Rattle.stored_rings.specs.Items.{Items}
 use Rattle.std.specs.Prelude.{Option}
 use Rattle.module_run.specs.declared.conn.Conn.{Conn}
-use Rattle.module_run.specs.Conns.{conn_of, filter_at, waiting, IsSeenAs}
+use Rattle.module_run.specs.Conns.{conn_of, filter_at, IsSeenAs}
 use Rattle.ring_passes.specs.Delivery.{out_of}
 use Rattle.module_run.specs.Stacked.{FiltersApart, AreCalled, StackedOver}
-use Rattle.module_run.proofs.Stacking.{names_same}
 
 module _ (c : Conn) (out : List ℕ) (ended : Bool) where
   abbrev pub with_out : Conn
@@ -31,8 +30,10 @@ module _ (c : Conn) (out : List ℕ) (ended : Bool) where
     passed = a.passed;
     inward = a.inward;
     incoming = a.incoming;
-    waits = a.waits ∙ sym (names_same c with_out c.first (waiting c) (λ j low high. refl));
+    waits = a.waits;
     quiet = a.quiet;
+    rises = a.rises;
+    bottom = a.bottom;
   }
 
   pub stacked_out : (chain : List Program) (at : BucketId → Option ℕ) (L : ℕ → Option Items) (P : ℕ → Option ℕ) (next : ℕ) → StackedOver chain at L P next c → StackedOver chain at L P next with_out

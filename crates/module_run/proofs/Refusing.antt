@@ -1,5 +1,5 @@
 -- The tests that refuse an event of a connection, and the last of them, which is memory.
-use Rattle.std.proofs.Common.{◌≡◌, ℕ, suc, ◌+◌, Bool, true, false, not, List, [], ◌∷◌, ◌++◌, Option, Some, None, Err, refl, ap, ◌∙◌}
+use Rattle.std.proofs.Common.{◌≡◌, ℕ, ◌+◌, Bool, true, false, not, List, [], ◌∷◌, ◌++◌, Option, Some, None, Err, refl, ap, ◌∙◌}
 use Rattle.std.specs.Prelude.{if◌then◌else◌}
 use Rattle.module_code.specs.Program.{Program}
 use Rattle.run_model.specs.declared.event.Piece.{Piece}
@@ -13,7 +13,7 @@ use Rattle.run_model.specs.Steps.{is_spent}
 use Rattle.run_model.specs.Turns.{Failing, Found, Missing, Opening, begins, begun, brings, brought, ended, ends, file_answer, is_busy, is_failing, is_missing, number_given, opens_file, unless_refused}
 use Rattle.stored_rings.specs.Items.{Items}
 use Rattle.module_run.specs.declared.conn.Conn.{Conn}
-use Rattle.module_run.specs.Conns.{conn_of, IsSeenAs, lengths, stack_of, stack_up}
+use Rattle.module_run.specs.Conns.{conn_of, IsSeenAs, lengths, stack_of, stack_over}
 use Rattle.module_run.specs.Refused.{begin_tests, bring_tests, request_tests}
 
 -- a test behind others
@@ -48,9 +48,8 @@ opening_tests g opening memory =
 
 -- a connection has calls while it is busy
 pub busy_stack : (rings : ℕ → Option Items) (c : Conn) → is_busy (stack_of rings c) ≡ c.busy
-unfolding stack_up
 busy_stack rings c = go c.busy where
-  go : (busy : Bool) → is_busy (if busy then stack_up (Rattle.module_run.proofs.Tops.frame_at rings c) c.first (suc (Rattle.module_run.specs.Conns.waiting c)) else []) ≡ busy
+  go : (busy : Bool) → is_busy (if busy then Rattle.module_run.proofs.Tops.frame_at rings c c.top ∷ stack_over (Rattle.module_run.proofs.Tops.frame_at rings c) c.callers.items else []) ≡ busy
   go true = refl
   go false = refl
 

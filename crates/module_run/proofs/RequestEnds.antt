@@ -1,5 +1,5 @@
 -- A request ends: what the connection stands for then.
-use Rattle.std.proofs.Common.{◌≡◌, ℕ, suc, ◌-◌, ◌<◌, ◌&&◌, not, nat_le, Bool, true, false, List, [], ◌∷◌, ◌++◌, length, map, Option, Some, None, is_some, refl, sym, ap, subst, ◌∙◌, arith}
+use Rattle.std.proofs.Common.{◌≡◌, ℕ, suc, ◌-◌, ◌<◌, ◌&&◌, not, Bool, true, false, List, [], ◌∷◌, ◌++◌, length, map, Option, Some, None, is_some, refl, sym, ap, subst, ◌∙◌, arith, ◌==◌, ◌||◌}
 use Rattle.std.specs.Prelude.{if◌then◌else◌, slice_get}
 use Rattle.std.specs.Option.{option_map}
 use Rattle.std.specs.List.{list_any}
@@ -31,16 +31,16 @@ use Rattle.module_run.specs.declared.conn.Conn.{Conn}
 use Rattle.module_run.specs.declared.conn.Filter.{Filter}
 use Rattle.module_run.specs.declared.conn.OpenFile.{OpenFile}
 use Rattle.ring_run.specs.Cleared.{LooksAt}
-use Rattle.module_run.specs.Conns.{IsSeenAs, call_name, conn_of, counting, filter_at, labels_handed, lengths, lent_by, runs_of, shown_filter, shown_instance, stack_of, stack_up, top_of, waiting}
+use Rattle.module_run.specs.Conns.{IsSeenAs, call_name, conn_of, counting, filter_at, labels_handed, lengths, lent_by, runs_of, shown_filter, shown_instance, stack_of, stack_over, top_of, waiting}
 use Rattle.module_run.specs.Destroyed.{WasDestroyed, quieted, request_left}
 use Rattle.ring_calls.specs.Held.{IsHeld}
 use Rattle.module_run.specs.Proceeding.{HasOpen, LeftAs, MayHold}
 use Rattle.ring_calls.specs.Seen.{is_running, shown_slot}
 use Rattle.ring_calls.specs.Slots.{slot_at, name_in}
-use Rattle.module_run.specs.Stacked.{IsStacked, is_called, named_at}
+use Rattle.module_run.specs.Stacked.{IsStacked, is_called, named_at, is_waiting}
 use Rattle.ring_run.proofs.Cleared.{by_slot, held_cleared}
-use Rattle.module_run.proofs.FirstCalls.{no_call, no_lent, none_between, not_lent, nothing_in, none_waits, true_false}
-use Rattle.module_run.proofs.FirstStacked.{no_names}
+use Rattle.module_run.proofs.FirstCalls.{no_call, no_lent, not_lent, nothing_in, none_waits, true_false}
+use Rattle.module_run.proofs.Callers.{alone_names, none_in_callers}
 use Rattle.ring_calls.proofs.HeldAlike.{held_slots}
 use Rattle.module_run.proofs.Looked.{some_same}
 use Rattle.module_run.proofs.Tops.{frame_at}
@@ -149,7 +149,7 @@ module _ {R : Type 0} {g : Ghosts R Stored} (chain : List Program) (tree newer :
     never_lent_then k b f is lends = no_lent f.lent b (not_lent_then k f is) lends
 
     no_called_then : (k : ℕ) → is_called after k ≡ false
-    no_called_then k = ap (λ (b : Bool). b && (nat_le c.first k && nat_le k (top_of c))) idle
+    no_called_then k = ap (λ (b : Bool). b && (k == top_of c || is_waiting c k)) idle
 
     stacked_then : IsStacked chain new after
     stacked_then = record {
@@ -169,12 +169,14 @@ module _ {R : Type 0} {g : Ghosts R Stored} (chain : List Program) (tree newer :
       called = record {
         runs = λ k f is called. absurd (true_false (is_called after k) called (no_called_then k));
         idle = λ k f is called. no_call_then k f is;
-        lent = λ k f is. ap is_some (not_lent_then k f is) ∙ sym (none_between c.first k (waiting c) none_waiting_then);
+        lent = λ k f is. ap is_some (not_lent_then k f is) ∙ sym (none_in_callers c none_waiting_then k);
         passes = λ k b f is lends. absurd (never_lent_then k b f is lends);
         passed = λ k b f is lends. absurd (never_lent_then k b f is lends);
-        inward = λ k b f x is behind lends. absurd (never_lent_then k b f is lends);
+        inward = λ i k j b f x at next is behind lends. absurd (never_lent_then k b f is lends);
         incoming = λ k f is called. nothing_in_then k f is;
-        waits = none_waits chain old c stacked idle ∙ sym (no_names after c.first (waiting c) none_waiting_then);
+        waits = alone_names after none_waiting_then (none_waits chain old c stacked idle);
+        rises = stacked.called.rises;
+        bottom = stacked.called.bottom;
         quiet = λ busy. none_waiting_then;
       };
       brought = λ m f is named. absurd (no_lent (named_at f 8) m (nothing_in_then c.first f is) named);
@@ -208,7 +210,7 @@ module _ {R : Type 0} {g : Ghosts R Stored} (chain : List Program) (tree newer :
           go k (Some f) at = filter_gone (runs_of c) k f at
 
     no_stack : (rings : ℕ → Option Items) (d : Conn) → d.busy ≡ false → stack_of rings d ≡ []
-    no_stack rings d quiet_now = ap (λ (b : Bool). if b then stack_up (frame_at rings d) d.first (suc (waiting d)) else []) quiet_now
+    no_stack rings d quiet_now = ap (λ (b : Bool). if b then frame_at rings d (top_of d) ∷ stack_over (frame_at rings d) d.callers.items else []) quiet_now
 
     -- what it stands for
     module _ (v : Linked) (left : LeftAs chain tree old dev c v) (more : labels_handed labels.items ≡ labels_handed c.labels.items ++ labels_in (run_order (map_of tree) pool))

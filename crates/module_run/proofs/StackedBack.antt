@@ -1,8 +1,7 @@
 -- A call returned to the one that waits: what is true of the filters and calls.
-use Rattle.std.proofs.Common.{◌≡◌, ◌≢◌, ℕ, suc, ◌+◌, ◌<◌, ◌&&◌, nat_le, nat_lt, Bool, true, false, List, Option, Some, None, is_some, refl, sym, ap, subst, ◌∙◌, inl, inr, arith}
-use Rattle.std.specs.Prelude.{if◌then◌else◌}
+use Rattle.std.proofs.Common.{◌≡◌, ◌≢◌, ℕ, suc, ◌<◌, ◌&&◌, Bool, true, false, List, Option, Some, None, is_some, refl, sym, ap, subst, ◌∙◌, inl, inr, arith, ◌==◌, ◌||◌, [], ◌∷◌, ◌++◌, eqb-true}
 use Rattle.std.specs.Global.{Vec}
-use Rattle.std.proofs.lemmas.Bool.{cases_eq, eq-eqb, ne_eqb, lt-ltb, le-ltb, le-leb, lt-leb, leb-true, ltb-true, false≢true}
+use Rattle.std.proofs.lemmas.Bool.{cases_eq, eq-eqb, ne_eqb, false≢true, cases_Bool, or_cases, and_parts}
 use Rattle.bucket_ring.specs.declared.names.BucketId.{BucketId}
 use Rattle.bucket_ring.specs.Kept.{NoneRevived}
 use Rattle.module_code.specs.Program.{Program}
@@ -20,45 +19,36 @@ use Rattle.ring_calls.specs.declared.machine.Slot.TheVariants as slot
 use Rattle.module_run.specs.Conns.{call_name, filter_at, top_of}
 use Rattle.ring_calls.specs.Held.{HeldOver}
 use Rattle.ring_calls.specs.Slots.{marked, name_in, slot_at}
-use Rattle.module_run.specs.Stacked.{FiltersApart, AreCalled, StackedOver, is_called, is_waiting, named_at, names_up}
-use Rattle.module_run.proofs.GivenBack.{GivesBack, alone, called_before, stays, loose_stays, top_now, waited, waiting_after, with_calls}
+use Rattle.module_run.specs.Stacked.{FiltersApart, AreCalled, StackedOver, is_called, is_waiting, called_of, named_at, names_of}
+use Rattle.module_run.proofs.GivenBack.{GivesBack, alone, left_below, loose_stays, many_callers, stays, w_below, with_calls}
+use Rattle.run_model.specs.Pools.{is_in}
+use Rattle.std.specs.Prelude.{if◌then◌else◌, slice_get}
+use Rattle.ring_calls.proofs.Pushed.{pushed_only}
+use Rattle.module_run.proofs.Callers.{get_in, get_left, get_split, in_pushed, names_same, off_in, waits_below}
 use Rattle.ring_calls.proofs.HeldAlike.{held_cursors}
 use Rattle.module_run.proofs.HeldStays.{held_stays}
-use Rattle.module_run.proofs.Known.{and_false, some_is}
-use Rattle.module_run.proofs.Stacking.{names_same}
+use Rattle.module_run.proofs.Known.{some_is}
 
 -- Where a filter came from: the one whose call was on top is the last one then, the one before it waited.
 pub record CameFrom (c : Conn) (w k : ℕ) (f e : Filter) : Type 0 where
   pub was : filter_at c k ≡ Some f
   pub names : (b m : ℕ) → named_at e b ≡ Some m → named_at f b ≡ Some m
-  pub null : k ≡ c.first + suc w → named_at e 8 ≡ None
-  pub none : k ≡ c.first + suc w → e.call.name ≡ 0
-  pub instance : k ≢ c.first + suc w → e.instance ≡ f.instance
-  pub name : k ≢ c.first + suc w → e.call.name ≡ f.call.name
-  pub given : k ≡ c.first + w → e.lent ≡ None
-  pub lent : k ≢ c.first + w → e.lent ≡ f.lent
-  pub pc : k ≢ c.first + w → e.call.pc ≡ f.call.pc
-
-le_step : (k t : ℕ) → k ≢ suc t → nat_le k t ≡ nat_le k (suc t)
-le_step k t ne = go (nat_le k t) refl where
-  go : (b : Bool) → nat_le k t ≡ b → b ≡ nat_le k (suc t)
-  go true e = sym (le-leb k (suc t) (let a = leb-true k t e in omega (arith, a)))
-  go false e = sym (lt-leb k (suc t) (let a = Rattle.std.proofs.lemmas.Bool.leb-false k t e in omega (arith, a, ne)))
-
-lt_step : (k t : ℕ) → k ≢ t → nat_lt k t ≡ nat_lt k (suc t)
-lt_step k t ne = go (nat_lt k t) refl where
-  go : (b : Bool) → nat_lt k t ≡ b → b ≡ nat_lt k (suc t)
-  go true e = sym (lt-ltb k (suc t) (let a = ltb-true k t e in omega (arith, a)))
-  go false e = sym (le-ltb k (suc t) (let a = Rattle.std.proofs.lemmas.Bool.ltb-false k t e in omega (arith, a, ne)))
+  pub null : k ≡ top_of c → named_at e 8 ≡ None
+  pub none : k ≡ top_of c → e.call.name ≡ 0
+  pub instance : k ≢ top_of c → e.instance ≡ f.instance
+  pub name : k ≢ top_of c → e.call.name ≡ f.call.name
+  pub given : k ≡ w → e.lent ≡ None
+  pub lent : k ≢ w → e.lent ≡ f.lent
+  pub pc : k ≢ w → e.call.pc ≡ f.call.pc
 
 module _ (chain : List Program) (s : Status) (at new_at : BucketId → Option ℕ) (L M : ℕ → Option Items) (pools new_pools : ℕ → Option ℕ) (next new_next : ℕ) (c : Conn) (filters : Vec Filter)
-    (waits : Vec ℕ) (w : ℕ)
-    (st : StackedOver chain at L pools next c) (x : GivesBack chain s L M c (with_calls c filters waits) w) where
+    (callers waits : Vec ℕ) (w : ℕ)
+    (st : StackedOver chain at L pools next c) (x : GivesBack chain s L M c (with_calls c filters callers waits w) w) where
   abbrev d : Conn
-  d = with_calls c filters waits
+  d = with_calls c filters callers waits w
 
   abbrev t : ℕ
-  t = c.first + suc w
+  t = top_of c
 
   from_top : CameFrom c w t x.top x.ended
   from_top = record {
@@ -68,7 +58,7 @@ module _ (chain : List Program) (s : Status) (at new_at : BucketId → Option �
     none = λ e. x.name;
     instance = λ ne. absurd (ne refl);
     name = λ ne. absurd (ne refl);
-    given = λ e. absurd (omega (arith, e));
+    given = λ e. absurd (let low = w_below chain s at L M pools next c filters callers waits w st x in omega (arith, e, low));
     lent = λ ne. x.lent;
     pc = λ ne. x.pc;
   } where
@@ -78,12 +68,12 @@ module _ (chain : List Program) (s : Status) (at new_at : BucketId → Option �
       | inr ne ↦ sym (ap name_in (x.slots b ∙ ap (λ (r : Bool). if r then slot.Null else slot_at x.top.instance b) (ne_eqb b 8 ne))) ∙ is
     ]
 
-  from_wait : CameFrom c w (c.first + w) x.wait x.resumed
+  from_wait : CameFrom c w w x.wait x.resumed
   from_wait = record {
     was = x.below;
     names = λ b m is. sym (ap (λ (i : Instance). name_in (slot_at i b)) x.instance) ∙ is;
-    null = λ e. absurd (omega (arith, e));
-    none = λ e. absurd (omega (arith, e));
+    null = λ e. absurd (let low = w_below chain s at L M pools next c filters callers waits w st x in omega (arith, e, low));
+    none = λ e. absurd (let low = w_below chain s at L M pools next c filters callers waits w st x in omega (arith, e, low));
     instance = λ ne. x.instance;
     name = λ ne. ap (λ (k : Call). k.name) x.call;
     given = λ e. x.given;
@@ -94,11 +84,11 @@ module _ (chain : List Program) (s : Status) (at new_at : BucketId → Option �
   pub came : (k : ℕ) (e : Filter) → filter_at d k ≡ Some e → (f : Filter) × CameFrom c w k f e
   came k e is = elim (cases_eq k t) [
     | inl q ↦ (x.top, subst (λ (n : ℕ). CameFrom c w n x.top e) (sym q) (subst (CameFrom c w t x.top) (some_is x.ended e (sym x.top_after ∙ (ap (filter_at d) (sym q) ∙ is))) from_top))
-    | inr ne ↦ (elim (cases_eq k (c.first + w)) [
+    | inr ne ↦ (elim (cases_eq k w) [
       | inl q ↦ (
         x.wait,
         subst (λ (n : ℕ). CameFrom c w n x.wait e) (sym q)
-            (subst (CameFrom c w (c.first + w) x.wait) (some_is x.resumed e (sym x.below_after ∙ (ap (filter_at d) (sym q) ∙ is))) from_wait),
+            (subst (CameFrom c w w x.wait) (some_is x.resumed e (sym x.below_after ∙ (ap (filter_at d) (sym q) ∙ is))) from_wait),
       )
       | inr off ↦ (
         e,
@@ -119,37 +109,57 @@ module _ (chain : List Program) (s : Status) (at new_at : BucketId → Option �
 
   -- which run and wait
 
-  called_after : (k : ℕ) → is_called d k ≡ (nat_le c.first k && nat_le k (c.first + w))
-  called_after k = ap (λ (b : Bool). b && (nat_le c.first k && nat_le k (top_of d))) x.busy ∙ ap (λ (n : ℕ). nat_le c.first k && nat_le k n) (top_now chain s at L M pools next c filters waits w st x)
-
   same_called : (k : ℕ) → k ≢ t → is_called d k ≡ is_called c k
-  same_called k ne = called_after k ∙ (ap (λ (b : Bool). nat_le c.first k && b) (le_step k (c.first + w) (λ e. ne (omega (arith, e)))
-      ∙ ap (nat_le k) (let e : suc (c.first + w) ≡ t = omega arith in e)) ∙ sym (called_before chain s at L M pools next c filters waits w st x k))
+  same_called k ne =
+      ap (λ (ks : List ℕ). c.busy && (k == w || is_in k ks)) x.callers_after
+      ∙ (ap (λ (u : Bool). c.busy && u) (sym (in_pushed k w x.left) ∙ ap (is_in k) (sym x.callers))
+      ∙ ap (λ (u : Bool). c.busy && (u || is_waiting c k)) (sym (ne_eqb k t ne)))
+
+  -- the callers that are left, and the one that goes on, are those that waited
+  called_is : called_of d ≡ c.callers.items
+  called_is = ap (λ (ks : List ℕ). ks ++ w ∷ []) x.callers_after ∙ sym x.callers
+
+  placed : (i k : ℕ) → slice_get (called_of d) i ≡ Some k → slice_get c.callers.items i ≡ Some k
+  placed i k at = ap (λ (ks : List ℕ). slice_get ks i) (sym called_is) ∙ at
+
+  placed_before : (i k : ℕ) → slice_get (called_of d) i ≡ Some k → slice_get (called_of c) i ≡ Some k
+  placed_before i k at = get_left c.callers.items (t ∷ []) i k (placed i k at)
+
+  -- between the one that goes on and the one that was on top there is no call
+  between : (k : ℕ) → w < k → k ≢ t → is_called c k ≡ false
+  between k past ne = elim (cases_Bool (is_called c k)) [
+    | inr no_ ↦ no_
+    | inl yes_ ↦ absurd (elim (or_cases (k == t) (is_waiting c k) (and_parts c.busy _ yes_).1) [
+      | inl here ↦ ne (eqb-true k t here)
+      | inr waiting ↦ elim (pushed_only k w x.left (ap (is_in k) (sym x.callers) ∙ waiting)) [
+        | inl there ↦ (let low = left_below chain s at L M pools next c filters callers waits w st x k there in omega (arith, low, past))
+        | inr same ↦ omega (arith, same, past)
+      ]
+    ])
+  ]
 
   top_over : is_called d t ≡ false
-  top_over = called_after t ∙ (ap (λ (b : Bool). nat_le c.first t && b) (lt-leb t (c.first + w) (omega arith)) ∙ and_false (nat_le c.first t))
+  top_over = elim (cases_Bool (is_called d t)) [
+    | inr no_ ↦ no_
+    | inl yes_ ↦ absurd (let low = w_below chain s at L M pools next c filters callers waits w st x in elim (or_cases (t == w) (is_waiting d t) (and_parts c.busy _ yes_).1) [
+      | inl here ↦ (let e = eqb-true t w here in omega (arith, e, low))
+      | inr waiting ↦ (let under = left_below chain s at L M pools next c filters callers waits w st x t (ap (is_in t) (sym x.callers_after) ∙ waiting) in omega (arith, under, low))
+    ])
+  ]
 
-  waiting_now : (k : ℕ) → is_waiting d k ≡ (nat_le c.first k && nat_lt k (c.first + w))
-  waiting_now k = ap (λ (n : ℕ). nat_le c.first k && nat_lt k n) (top_now chain s at L M pools next c filters waits w st x)
+  same_waiting : (k : ℕ) → k ≢ w → is_waiting d k ≡ is_waiting c k
+  same_waiting k ne = ap (is_in k) x.callers_after ∙ sym (ap (is_in k) x.callers ∙ (in_pushed k w x.left ∙ ap (λ (u : Bool). u || is_in k x.left) (ne_eqb k w ne)))
 
-  same_waiting : (k : ℕ) → k ≢ c.first + w → is_waiting d k ≡ is_waiting c k
-  same_waiting k ne = waiting_now k ∙ (ap (λ (b : Bool). nat_le c.first k && b) (lt_step k (c.first + w) ne ∙ ap (nat_lt k) (let e : suc (c.first + w) ≡ t = omega arith in e))
-      ∙ sym (waited chain s at L M pools next c filters waits w st x k))
-
-  wait_over : is_waiting d (c.first + w) ≡ false
-  wait_over = waiting_now (c.first + w) ∙ (ap (λ (b : Bool). nat_le c.first (c.first + w) && b) (le-ltb (c.first + w) (c.first + w) (omega arith)) ∙ and_false (nat_le c.first (c.first + w)))
-
-  -- a filter behind the one that was on top has no call
-  behind : (k : ℕ) → t < k → is_called c k ≡ false
-  behind k past = called_before chain s at L M pools next c filters waits w st x k ∙ (ap (λ (b : Bool). nat_le c.first k && b) (lt-leb k t past) ∙ and_false (nat_le c.first k))
+  wait_over : is_waiting d w ≡ false
+  wait_over = ap (is_in w) x.callers_after ∙ off_in w x.left (λ there. let low = left_below chain s at L M pools next c filters callers waits w st x w there in omega (arith, low))
 
   module _ (k : ℕ) (f e : Filter) (o : CameFrom c w k f e) where
     -- one that has lent a brigade waits still
-    lent_off : (b : ℕ) → e.lent ≡ Some b → (k ≢ c.first + w) × (k ≢ t)
+    lent_off : (b : ℕ) → e.lent ≡ Some b → (k ≢ w) × (k ≢ t)
     lent_off b is = (
       (λ q. let n : None ≡ Some b = sym (o.given q) ∙ is in cc),
-      (λ q. let n : None ≡ Some b = sym (alone chain s at L M pools next c filters waits w st x)
-          ∙ (ap (λ (g : Filter). g.lent) (some_is x.top f (sym x.on_top ∙ (ap (filter_at c) (sym q) ∙ o.was))) ∙ (sym (o.lent (λ z. omega (arith, z, q))) ∙ is)) in cc),
+      (λ q. let n : None ≡ Some b = sym (alone chain s at L M pools next c filters callers waits w st x)
+          ∙ (ap (λ (g : Filter). g.lent) (some_is x.top f (sym x.on_top ∙ (ap (filter_at c) (sym q) ∙ o.was))) ∙ (sym (o.lent (λ z. let low = w_below chain s at L M pools next c filters callers waits w st x in omega (arith, z, q, low))) ∙ is)) in cc),
     )
 
   real_name : (j b : ℕ) (e : Filter) → filter_at c j ≡ Some e → named_at e b ≡ Some 0 → ⊥
@@ -176,8 +186,8 @@ module _ (chain : List Program) (s : Status) (at new_at : BucketId → Option �
       not_t : j ≢ t
       not_t same = (let n : None ≡ Some m = sym (q.1.null same) ∙ n_j in cc)
 
-      off : i ≢ c.first + w
-      off same = (let n : None ≡ Some m = sym (st.called.incoming j q.0 q.1.was (behind j (omega (arith, lt, same, not_t)))) ∙ q.1.names 8 m n_j in cc)
+      off : i ≢ w
+      off same = (let n : None ≡ Some m = sym (st.called.incoming j q.0 q.1.was (between j (omega (arith, lt, same)) not_t)) ∙ q.1.names 8 m n_j in cc)
 
     loose : (i j b : ℕ) (f e : Filter) → filter_at d i ≡ Some f → filter_at d j ≡ Some e → named_at f b ≢ Some e.call.name
     loose i j b f e is_i is_j named = elim (cases_eq j t) [
@@ -204,8 +214,11 @@ module _ (chain : List Program) (s : Status) (at new_at : BucketId → Option �
     passed = passed;
     inward = inward;
     incoming = incoming;
-    waits = x.waits ∙ (sym (names_same c d c.first w (λ j from below. ap call_name (x.others j (λ e. omega (arith, e, below)) (λ e. omega (arith, e, below)))))
-        ∙ ap (names_up d c.first) (sym (waiting_after chain s at L M pools next c filters waits w st x)));
+    waits = x.waits ∙ (sym (names_same c d x.left (λ j there. let low = left_below chain s at L M pools next c filters callers waits w st x j there in let under = w_below chain s at L M pools next c filters callers waits w st x in
+        ap call_name (x.others j (λ e. omega (arith, e, low, under)) (λ e. omega (arith, e, low)))))
+        ∙ ap (names_of d) (sym x.callers_after));
+    rises = λ i j k l lt a b. st.called.rises i j k l lt (placed_before i k a) (placed_before j l b);
+    bottom = ap (λ (ks : List ℕ). slice_get ks 0) called_is ∙ first_there;
     quiet = λ quiet. absurd (false≢true (sym quiet ∙ x.busy));
   } where
     runs : (k : ℕ) (f : Filter) → filter_at d k ≡ Some f → is_called d k ≡ true → 0 < f.call.name
@@ -220,7 +233,7 @@ module _ (chain : List Program) (s : Status) (at new_at : BucketId → Option �
     ]
 
     lent : (k : ℕ) (f : Filter) → filter_at d k ≡ Some f → is_some f.lent ≡ is_waiting d k
-    lent k f is = elim (cases_eq k (c.first + w)) [
+    lent k f is = elim (cases_eq k w) [
       | inl e ↦ ap is_some ((came k f is).1.given e) ∙ sym (ap (is_waiting d) e ∙ wait_over)
       | inr ne ↦ ap is_some ((came k f is).1.lent ne) ∙ (st.called.lent k (came k f is).0 (came k f is).1.was ∙ sym (same_waiting k ne))
     ]
@@ -239,13 +252,21 @@ module _ (chain : List Program) (s : Status) (at new_at : BucketId → Option �
         let same = o.1.instance off.1 in
         ap (λ (i : Instance). slot_at i b) same ∙ (st.called.passed k b o.0 o.1.was (sym (o.1.lent off.0) ∙ one) ∙ ap (λ (i : Instance). marked Passed (slot_at i b)) (sym same))
 
-    inward : (k b : ℕ) (f e : Filter) → filter_at d k ≡ Some f → filter_at d (k + 1) ≡ Some e → f.lent ≡ Some b → (m : ℕ) × ((named_at f b ≡ Some m) × (named_at e 8 ≡ Some m))
-    inward k b f e is later one =
+    first_there : slice_get c.callers.items 0 ≡ Some c.first
+    first_there = elim (get_split c.callers.items t 0 c.first st.called.bottom) [
+      | inl there ↦ there
+      | inr last ↦ absurd (let none = last.0 in let some = many_callers chain s at L M pools next c filters callers waits w st x in omega (arith, none, some))
+    ]
+
+    inward : (i k j b : ℕ) (f e : Filter) → slice_get (called_of d) i ≡ Some k → slice_get (called_of d) (suc i) ≡ Some j → filter_at d k ≡ Some f → filter_at d j ≡ Some e → f.lent ≡ Some b
+        → (m : ℕ) × ((named_at f b ≡ Some m) × (named_at e 8 ≡ Some m))
+    inward i k j b f e here after is later one =
         let o = came k f is in
-        let q = came (k + 1) e later in
+        let q = came j e later in
         let off = lent_off k o.0 f o.1 b one in
-        let n = st.called.inward k b o.0 q.0 o.1.was q.1.was (sym (o.1.lent off.0) ∙ one) in
-        (n.0, (ap (λ (i : Instance). name_in (slot_at i b)) (o.1.instance off.1) ∙ n.1.0, ap (λ (i : Instance). name_in (slot_at i 8)) (q.1.instance (λ z. off.0 (omega (arith, z)))) ∙ n.1.1))
+        let n = st.called.inward i k j b o.0 q.0 (placed_before i k here) (placed_before (suc i) j after) o.1.was q.1.was (sym (o.1.lent off.0) ∙ one) in
+        let under = waits_below chain c st.called j (get_in c.callers.items (suc i) j (placed (suc i) j after)) in
+        (n.0, (ap (λ (i : Instance). name_in (slot_at i b)) (o.1.instance off.1) ∙ n.1.0, ap (λ (i : Instance). name_in (slot_at i 8)) (q.1.instance (λ z. omega (arith, z, under))) ∙ n.1.1))
 
     incoming : (k : ℕ) (f : Filter) → filter_at d k ≡ Some f → is_called d k ≡ false → named_at f 8 ≡ None
     incoming k f is over = elim (cases_eq k t) [
@@ -256,19 +277,19 @@ module _ (chain : List Program) (s : Status) (at new_at : BucketId → Option �
   module _ (nexts : new_next ≡ next) (pool_same : new_pools ≡ pools) (names : NoneRevived at new_at next) (held_top : HeldOver new_at M new_pools new_next x.ended.instance x.ended.call) where
     held_same : (k : ℕ) (f : Filter) → filter_at c k ≡ Some f → k ≢ t → HeldOver new_at M new_pools new_next f.instance f.call
     held_same k f is ne = held_stays at new_at L M pools new_pools next new_next f.instance f.call (omega (arith, nexts)) pool_same names
-        (stays chain s at L M pools next c filters waits w st x k f is) (λ pos. loose_stays chain s at L M pools next c filters waits w st x k f is ne) (st.held k f is)
+        (stays chain s at L M pools next c filters callers waits w st x k f is) (λ pos. loose_stays chain s at L M pools next c filters callers waits w st x k f is ne) (st.held k f is)
 
     held_wait : HeldOver new_at M new_pools new_next x.resumed.instance x.resumed.call
     unfolding Rattle.ring_calls.specs.Slots.cursor_at
     held_wait = subst (λ (i : Instance). HeldOver new_at M new_pools new_next i x.resumed.call) (sym x.instance)
         (held_cursors new_at M new_pools new_next x.wait.instance x.wait.call x.resumed.call (ap (λ (k : Call). k.name) x.call)
         (λ n. ap (λ (k : Call). Rattle.ring_calls.specs.Slots.cursor_at k n) x.call)
-        (held_same (c.first + w) x.wait x.below (λ e. omega (arith, e))))
+        (held_same w x.wait x.below (λ e. let low = w_below chain s at L M pools next c filters callers waits w st x in omega (arith, e, low))))
 
     held_each : (k : ℕ) (f : Filter) → filter_at d k ≡ Some f → HeldOver new_at M new_pools new_next f.instance f.call
     held_each k f is = elim (cases_eq k t) [
       | inl q ↦ subst (λ (g : Filter). HeldOver new_at M new_pools new_next g.instance g.call) (some_is x.ended f (sym x.top_after ∙ (ap (filter_at d) (sym q) ∙ is))) held_top
-      | inr ne ↦ (elim (cases_eq k (c.first + w)) [
+      | inr ne ↦ (elim (cases_eq k w) [
         | inl q ↦ subst (λ (g : Filter). HeldOver new_at M new_pools new_next g.instance g.call) (some_is x.resumed f (sym x.below_after ∙ (ap (filter_at d) (sym q) ∙ is))) held_wait
         | inr off ↦ held_same k f (sym (x.others k ne off) ∙ is) ne
       ])
@@ -277,7 +298,7 @@ module _ (chain : List Program) (s : Status) (at new_at : BucketId → Option �
     pub stacked_back : StackedOver chain new_at M new_pools new_next d
     stacked_back = record {
       many = x.count ∙ st.many;
-      within = (let a = st.within in let b = top_now chain s at L M pools next c filters waits w st x in let e = x.many in omega (arith, a, b, e));
+      within = (let a = st.within in let low = w_below chain s at L M pools next c filters callers waits w st x in omega (arith, a, low));
       queue = st.queue;
       held = held_each;
       apart = apart_after;
@@ -289,4 +310,4 @@ module _ (chain : List Program) (s : Status) (at new_at : BucketId → Option �
           let o = came c.first f is in
           let n = o.1.names 8 m named in
           let b = st.brought m o.0 o.1.was n in
-          (ap (λ (p : ℕ → Option ℕ). p m) pool_same ∙ b.0, ap is_some (stays chain s at L M pools next c filters waits w st x c.first o.0 o.1.was 8 m n) ∙ b.1)
+          (ap (λ (p : ℕ → Option ℕ). p m) pool_same ∙ b.0, ap is_some (stays chain s at L M pools next c filters callers waits w st x c.first o.0 o.1.was 8 m n) ∙ b.1)

@@ -23,4 +23,4 @@ pub record CalledFirst (chain : List Program) (name : ℕ) (c d : Conn) : Type 0
   pub first : (f : Filter) → filter_at c 0 ≡ Some f → (e : Filter) × ((filter_at d 0 ≡ Some e) × CallStarts name (handler_at c.req (module_at chain 0)) f e)
   pub others : (k : ℕ) → k ≢ 0 → filter_at d k ≡ filter_at c k
   pub many : length d.filters.items ≡ length c.filters.items
-  pub rest : d ≡ record c { filters = d.filters; first = 0; queue = 1; busy = true; count = 0 }
+  pub rest : d ≡ record c { filters = d.filters; first = 0; top = 0; queue = 1; busy = true; count = 0 }

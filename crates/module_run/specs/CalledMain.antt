@@ -25,4 +25,4 @@ pub record CalledMain (chain : List Program) (name brigade : ℕ) (c d : Conn) :
   pub first : (f : Filter) → filter_at c 0 ≡ Some f → (e : Filter) × ((filter_at d 0 ≡ Some e) × StartsWith name brigade (module_at chain 0).main f e)
   pub others : (k : ℕ) → k ≢ 0 → filter_at d k ≡ filter_at c k
   pub many : length d.filters.items ≡ length c.filters.items
-  pub rest : d ≡ record c { filters = d.filters; first = 0; busy = true; count = 0 }
+  pub rest : d ≡ record c { filters = d.filters; first = 0; top = 0; busy = true; count = 0 }

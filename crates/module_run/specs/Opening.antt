@@ -35,6 +35,8 @@ pub record IsNewFilter (f : Filter) : Type 0 where
 pub record IsNewConn (filters : Vec Filter) (pool : ℕ) (c : Conn) : Type 0 where
   pub filters_are : c.filters ≡ filters
   pub first : c.first ≡ 0
+  pub top : c.top ≡ 0
+  pub callers : c.callers.items ≡ []
   pub waits : c.waits.items ≡ []
   pub busy : c.busy ≡ false
   pub queue : c.queue ≡ length filters.items

@@ -23,8 +23,8 @@ pub struct OpenFile {
     pub(crate) len: u64,
 }
 
-/// A connection. Its calls are those of the filter `first` and of the filters behind it: each waits for that of the next one, and the last
-/// one runs. `busy` tells whether any call runs. `waits` are the names of those that wait, the outermost first. `queue` is the next filter
+/// A connection. The call of the filter `top` runs. `callers` are the filters whose calls wait, the outermost first, each for that of the next
+/// one, and the last one for that of `top`; `waits` are the names of their calls. `first` is the filter of the outermost call. `busy` tells whether any call runs. `queue` is the next filter
 /// whose `open` or `init` is to run; where none is, it is the number of filters. `conn` is the connection's pool, and `req` that of the
 /// open request. `labels` has a list for each clear that ran labels, the oldest first. `files` are those of the request. `out` is the output that was not
 /// taken yet, and `ended` tells whether an EOS came to it in this request. `count` is the number of instructions that were executed since
@@ -34,6 +34,8 @@ pub struct Conn {
     pub(crate) alloc: Global,
     pub(crate) filters: Vec<Filter>,
     pub(crate) first: usize,
+    pub(crate) top: usize,
+    pub(crate) callers: Vec<usize>,
     pub(crate) waits: Vec<BrigadeId>,
     pub(crate) busy: bool,
     pub(crate) queue: usize,
@@ -48,14 +50,13 @@ pub struct Conn {
 }
 
 impl Conn {
-    ghost use Rattle.std.specs.Prelude.{◌≡◌, ◌<◌, ◌^◌};
+    ghost use Rattle.std.specs.Prelude.{◌≡◌};
     ghost use Rattle.module_run.specs.Conns.{top_of};
 
     /// The filter whose call is on top.
     pub(crate) fn top(&self) -> usize
-        requires { top_of self.now < 2 ^ 64 }
         ensures { result ≡ top_of self.now }
     {
-        self.first + self.waits.len()
+        self.top
     }
 }

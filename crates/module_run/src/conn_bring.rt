@@ -66,6 +66,7 @@ impl Conn {
         let pc = modules[0].main();
         self.filters[0].start_with(name, brigade, pc);
         self.first = 0;
+        self.top = 0;
         self.busy = true;
         self.count = 0;
     }

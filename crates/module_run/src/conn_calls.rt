@@ -31,6 +31,7 @@ impl Conn {
         };
         self.filters[0].start(name, pc);
         self.first = 0;
+        self.top = 0;
         self.queue = 1;
         self.busy = true;
         self.count = 0;

@@ -46,6 +46,8 @@ impl Conn {
         Conn {
             alloc,
             first: 0,
+            top: 0,
+            callers: Vec::new(alloc),
             waits: Vec::new(alloc),
             busy: false,
             queue: filters.len(),

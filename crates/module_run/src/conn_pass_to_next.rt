@@ -85,10 +85,13 @@ impl Conn {
     {
         let top = self.top();
         self.waits.reserve(1)?;
+        self.callers.reserve(1)?;
         self.filters[top + 1].begin_in(store, modules[top + 1].main())?;
         let name = self.filters[top].lend(store, b);
         take_in(&mut self.filters[top + 1].instance, store, name);
         self.waits.push(self.filters[top].call.name).unwrap();
+        self.callers.push(top).unwrap();
+        self.top += 1;
         Ok(())
     }
 }

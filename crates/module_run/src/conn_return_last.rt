@@ -54,6 +54,7 @@ impl Conn {
         self.filters[first].end_first(store);
         self.filters[next].begin(name, pc);
         self.first = next;
+        self.top = next;
         self.queue = next + 1;
         Ok(Stepped::Went)
     }

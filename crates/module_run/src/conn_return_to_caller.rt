@@ -53,7 +53,9 @@ impl Conn {
     {
         let top = self.top();
         self.filters[top].end(store);
-        self.filters[top - 1].go_on(&modules[top - 1], status);
+        let caller = self.callers.pop().unwrap();
+        self.filters[caller].go_on(&modules[caller], status);
         self.waits.pop();
+        self.top = caller;
     }
 }

@@ -80,7 +80,7 @@ impl Conn {
     {
         match instr {
             Instr::Pass(_, _) if self.top() + 1 < modules.len() => 1,
-            Instr::Ret(_) if self.waits.is_empty() && self.queue < self.filters.len() => 1,
+            Instr::Ret(_) if self.callers.is_empty() && self.queue < self.filters.len() => 1,
             _ => 0,
         }
     }

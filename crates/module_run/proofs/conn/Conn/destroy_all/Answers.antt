@@ -1,4 +1,6 @@
 -- By what the end of the pool hands on, and what of its calls is ended.
+use Rattle.module_code.specs.Program.{Program}
+use Rattle.module_run.proofs.Callers.{first_below}
 use Rattle.std.proofs.Common.{◌≡◌, ℕ, ◌<◌, List, length, Option, Some, None, is_some, ◌++◌, refl, sym, ap, subst, ◌∙◌, inr, arith}
 use Rattle.std.proofs.lemmas.Option.{slice_get_read}
 use Rattle.std.proofs.lemmas.Result.{err_from_is_err_and}
@@ -17,7 +19,7 @@ use Rattle.module_run.specs.declared.conn.Conn.{Conn}
 use Rattle.module_run.specs.declared.conn.Filter.{Filter}
 use Rattle.module_run.specs.Conns.{filter_at, labels_handed, top_of}
 use Rattle.module_run.specs.Proceeding.{LeftAs}
-use Rattle.module_run.specs.Stacked.{named_at}
+use Rattle.module_run.specs.Stacked.{named_at, AreCalled}
 use Rattle.module_run.proofs.Alongside.{left_relabelled}
 use Rattle.module_run.proofs.Known.{some_is}
 use Rattle.module_run.proofs.Leaving.{all_gone, conn_below, free_calls, house_ended, leaving, none_cleared, none_kept, off_still}
@@ -29,8 +31,8 @@ use Rattle.module_run.proofs.Unreferred.{same_device, unreferred_stays}
 use Rattle.ring_run.specs.declared.labels_run.LabelsRun.{LabelsRun}
 use Rattle.module_run.proofs.conn.Conn.destroy_all.Goals as goal
 
-first_below : (c : Conn) (many : ℕ) → top_of c < many → length c.filters.items ≡ many → c.first < length c.filters.items
-first_below c many lt same = omega arith
+first_within : (chain : List Program) (c : Conn) (many : ℕ) → AreCalled chain c → top_of c < many → length c.filters.items ≡ many → c.first < length c.filters.items
+first_within chain c many called lt same = (let low = first_below chain c called in omega (arith, low, lt, same))
 
 pub clear-requires-clause-live : goal.clear-requires-clause-live
 clear-requires-clause-live g c = (let s = c.requires.stands in conn_live s.0 c.args.tree.now c.args.store.now (g.F.Files.device c.args.files.now) c.args.self.now s.1.linked s.1.so)
@@ -50,7 +52,7 @@ end_brigade-requires g c =
     let s = c.requires.stands in
     let stacked = s.1.so.left.stacked in
     let self = c.args.self.now in
-    let within : self.first < length self.filters.items = first_below self (length s.0) stacked.within stacked.many in
+    let within : self.first < length self.filters.items = first_within s.0 self (length s.0) stacked.called stacked.within stacked.many in
     let was = stacked.brought c.in-Some.name c.index.result.now (slice_get_read self.filters.items (length self.filters.items) self.first c.index.result.now refl within c.index.ensures)
     (sym c.incoming.ensures ∙ c.in-Some.is) in
     record {
@@ -122,7 +124,7 @@ returns-in-Some g c =
     let l = c.end_calls.ensures in
     let d = c.clear.ensures in
     let next = d.next in
-    let within : self.first < length self.filters.items = first_below self (length s.0) s.1.so.left.stacked.within s.1.so.left.stacked.many in
+    let within : self.first < length self.filters.items = first_within s.0 self (length s.0) s.1.so.left.stacked.called s.1.so.left.stacked.within s.1.so.left.stacked.many in
     let here = slice_get_read self.filters.items (length self.filters.items) self.first c.index.result.now refl within c.index.ensures in
     let e = c.end_brigade.ensures in
     let was = s.1.so.left.stacked.brought c.in-Some.name c.index.result.now here (sym c.incoming.ensures ∙ c.in-Some.is) in
@@ -176,7 +178,7 @@ returns-in_default g c =
     let l = c.end_calls.ensures in
     let d = c.clear.ensures in
     let next = d.next in
-    let within : self.first < length self.filters.items = first_below self (length s.0) s.1.so.left.stacked.within s.1.so.left.stacked.many in
+    let within : self.first < length self.filters.items = first_within s.0 self (length s.0) s.1.so.left.stacked.called s.1.so.left.stacked.within s.1.so.left.stacked.many in
     let here = slice_get_read self.filters.items (length self.filters.items) self.first c.index.result.now refl within c.index.ensures in
     record {
       labels = λ chain v stands. (c.add_labels.ensures.told ∙ (ap (λ (hs : List LabelsRun). labels_handed hs ++ labels_in c.in_ok-ran.ran.items) c.reserve.ensures.items

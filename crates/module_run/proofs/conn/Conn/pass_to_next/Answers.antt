@@ -56,8 +56,14 @@ module _ {R : Type 0} {g : Ghosts R Stored} (chain : List Program) (b : ℕ) (st
 pub returns-in_err-reserve-clause-err : goal.returns-in_err-reserve-clause-err
 returns-in_err-reserve-clause-err g c =
     on_err c.from_residual.result (λ tree d v left.
-    left_spared c.args.self.now c.args.self.now.filters c.reserve.new.self refl c.reserve.ensures.items c.args.modules.now tree c.args.store.now c.args.store.now d v (λ n. refl) refl
+    left_spared c.args.self.now c.args.self.now.filters c.args.self.now.callers c.reserve.new.self refl refl c.reserve.ensures.items c.args.modules.now tree c.args.store.now c.args.store.now d v (λ n. refl) refl
     (λ id is young. is) refl refl left)
+
+pub returns-in_err-reserve-2-clause-err : goal.returns-in_err-reserve-2-clause-err
+returns-in_err-reserve-2-clause-err g c =
+    on_err c.from_residual-in_err-reserve-2.result (λ tree d v left.
+    left_spared c.args.self.now c.args.self.now.filters c.reserve-2.new.self c.reserve.new.self refl c.reserve-2.ensures.items c.reserve.ensures.items c.args.modules.now tree c.args.store.now
+    c.args.store.now d v (λ n. refl) refl (λ id is young. is) refl refl left)
 
 pub index_mut-requires : goal.index_mut-requires
 index_mut-requires g c =
@@ -114,7 +120,7 @@ put_back g c = same_back c.args.self.now.filters (c.top-top.result + 1) c.index_
 pub returns-in_err-begin_in-clause-err : goal.returns-in_err-begin_in-clause-err
 returns-in_err-begin_in-clause-err g c =
     on_err c.from_residual-in_err-begin_in.result (λ tree d v left.
-    left_spared c.args.self.now (with_item c.args.self.now.filters (c.top-top.result + 1) c.begin_in.new.self) c.reserve.new.self (put_back g c) c.reserve.ensures.items
+    left_spared c.args.self.now (with_item c.args.self.now.filters (c.top-top.result + 1) c.begin_in.new.self) c.reserve-2.new.self c.reserve.new.self (put_back g c) c.reserve-2.ensures.items c.reserve.ensures.items
     c.args.modules.now tree c.args.store.now c.begin_in.new.store d v c.in_err-begin_in.ensures.err c.in_err-begin_in.ensures.next c.begin_in.ensures.names c.begin_in.ensures.pools
     c.begin_in.ensures.references left)
 
@@ -143,7 +149,7 @@ lend-name-requires-clause-live g c =
     (passed_live c.args.modules.now c.args.b p.label p.tree c.args.store.now c.requires.ready.0 c.args.self.now p.v p.f p.rest p.ready))
 
 -- The filter on top waits then, and the call of the next one began.
-module _ (g : Over) (c : goal.After-unwrap g) (p : (d : Device) × CanPass c.args.modules.now c.args.b c.args.store.now d c.args.self.now) where
+module _ (g : Over) (c : goal.After-self-4-1 g) (p : (d : Device) × CanPass c.args.modules.now c.args.b c.args.store.now d c.args.self.now) where
   abbrev top_was : OnTop (lists c.args.store.now) c.args.self.now p.1.f p.1.rest
   top_was = passing c.args.modules.now c.args.b c.args.store.now c.args.self.now c.requires.last p
 
@@ -205,7 +211,14 @@ module _ (g : Over) (c : goal.After-unwrap g) (p : (d : Device) × CanPass c.arg
       ∙ (ap (λ (ns : List ℕ). ns ++ c.index.result.now.call.name ∷ []) c.reserve.ensures.items
       ∙ ap (λ (k : ℕ). c.args.self.now.waits.items ++ k ∷ []) (ap (λ (q : Filter). q.call.name) again ∙ ap (λ (q : Call). q.name) called))
 
-  hands : HandsOn c.args.self.now filters_are c.push.new.self (next_name c.args.store.now) c.args.b c.lend-name.result top_was.filter next_was.0 c.lend-name.new.self next_is
+  callers : c.push-2.new.self.items ≡ c.args.self.now.callers.items ++ top_of c.args.self.now ∷ []
+  callers =
+      let ok : is_ok c.push-2.result ≡ true = ap (λ r. is_ok r) c.unwrap-2.ensures in
+      pushed_ok c.push-2.result _ _ ok c.push-2.new.self.items c.push-2.ensures.items
+      ∙ (ap (λ (ns : List ℕ). ns ++ c.top-top.result ∷ []) c.reserve-2.ensures.items
+      ∙ ap (λ (k : ℕ). c.args.self.now.callers.items ++ k ∷ []) c.top-top.ensures)
+
+  hands : HandsOn c.args.self.now filters_are c.push-2.new.self c.push.new.self (top_of c.args.self.now + 1) (next_name c.args.store.now) c.args.b c.lend-name.result top_was.filter next_was.0 c.lend-name.new.self next_is
   hands =
       let b = c.args.b in
       let y = c.lend-name.new.self in
@@ -215,8 +228,8 @@ module _ (g : Over) (c : goal.After-unwrap g) (p : (d : Device) × CanPass c.arg
       let slots_behind : (a : ℕ) → slot_at next_is.instance a ≡ (if a == 8 then slot.Made m None Usable else slot_at next_was.0.instance a) =
       λ a. subst (λ (i : Instance). slot_at next_is.instance a ≡ (if a == 8 then slot.Made m None Usable else slot_at i a)) entered (c.take_in.ensures.slots a) in
       let variable = passed_variable c.args.modules.now b p.1.label p.1.tree c.args.store.now p.0 c.args.self.now p.1.v p.1.f p.1.rest p.1.ready in
-      built c.args.self.now c.top-top.result c.top-top.ensures c.begin_in.new.self y next_is top_was.filter next_was.0 top_was.is next_was.1 within c.push.new.self (next_name c.args.store.now) b m
-      waits top_was.busy variable handed slots slots_behind called named c.lend-name.ensures.lent alone
+      built c.args.self.now c.top-top.result c.top-top.ensures c.begin_in.new.self y next_is top_was.filter next_was.0 top_was.is next_was.1 within c.push-2.new.self c.push.new.self (next_name c.args.store.now) b m
+      callers waits top_was.busy variable handed slots slots_behind called named c.lend-name.ensures.lent alone
 
 pub returns-clause-ok : goal.returns-clause-ok
 returns-clause-ok g c tree d l v f rest ready =
@@ -245,7 +258,7 @@ returns-clause-ok g c tree d l v f rest ready =
     c.take_in.ensures.held z.call
     (λ a is. next_lacks chain b l tree old d self v f rest ready c.requires.last m a (handed g c p) (ap (λ (i : Instance). name_in (slot_at i a)) (sym (entered g c p)) ∙ is))
     (λ q. omega (arith, q, name, below)) (held.real b m (handed g c p)) begins in
-    hands_on chain b l tree old new d self v f rest ready c.requires.last more (filters_are g c p) c.push.new.self m y z (hands g c p)
+    hands_on chain b l tree old new d self v f rest ready c.requires.last more (filters_are g c p) c.push-2.new.self c.push.new.self m y z (hands g c p)
     (c.lend-name.ensures.held y.call stays) enters
     (λ view call. subst (λ (q : Filter). lent b (seen new view y.instance call) ≡ do_pass b (seen new view q.instance call)) (here g c p) (c.lend-name.ensures.seen view call))
     (λ view call. subst (λ (i : Instance). seen new view z.instance call ≡ set_brigade 8 (shown_slot (calls_in view call) (lists new) (slot.Made m None Usable)) (seen new view i call))
@@ -265,6 +278,14 @@ pub returns-in_err-reserve-clause-ended : goal.returns-in_err-reserve-clause-end
 unfolding filter_at
 returns-in_err-reserve-clause-ended g c = ends_unchanged c.args.store.now c.args.store.now c.args.self.now _ (λ k. refl)
 
+pub returns-in_err-reserve-2-clause-leaves : goal.returns-in_err-reserve-2-clause-leaves
+unfolding filter_at
+returns-in_err-reserve-2-clause-leaves g c ps = unmoved ps c.args.store.now c.args.self.now _ (λ k. refl)
+
+pub returns-in_err-reserve-2-clause-ended : goal.returns-in_err-reserve-2-clause-ended
+unfolding filter_at
+returns-in_err-reserve-2-clause-ended g c = ends_unchanged c.args.store.now c.args.store.now c.args.self.now _ (λ k. refl)
+
 pub returns-in_err-begin_in-clause-leaves : goal.returns-in_err-begin_in-clause-leaves
 unfolding filter_at
 returns-in_err-begin_in-clause-leaves g c ps =
@@ -280,12 +301,12 @@ returns-in_err-begin_in-clause-ended g c = ends_unchanged c.args.store.now c.beg
 pub returns-clause-leaves : goal.returns-clause-leaves
 returns-clause-leaves g c ps =
     let p = c.requires.ready in
-    handed_leaves c.args.modules.now ps c.args.store.now c.begin_in.new.store c.args.self.now (filters_are g c p) c.push.new.self c.args.b c.lend-name.result (top_was g c p).filter (next_was g c p).0
+    handed_leaves c.args.modules.now ps c.args.store.now c.begin_in.new.store c.args.self.now (filters_are g c p) c.push-2.new.self c.push.new.self (top_of c.args.self.now + 1) c.args.b c.lend-name.result (top_was g c p).filter (next_was g c p).0
     c.lend-name.new.self (next_is g c p) p.1.ready.stands.left.stacked (hands g c p) (one_more g c p) p.1.ready.stands.left.none
 
 pub returns-clause-ended : goal.returns-clause-ended
 returns-clause-ended g c =
     let p = c.requires.ready in
-    handed_ends c.args.modules.now (map_of p.1.tree) c.args.store.now c.begin_in.new.store c.args.self.now (filters_are g c p) c.push.new.self c.args.b c.lend-name.result (top_was g c p).filter
+    handed_ends c.args.modules.now (map_of p.1.tree) c.args.store.now c.begin_in.new.store c.args.self.now (filters_are g c p) c.push-2.new.self c.push.new.self (top_of c.args.self.now + 1) c.args.b c.lend-name.result (top_was g c p).filter
     (next_was g c p).0
     c.lend-name.new.self (next_is g c p) p.1.ready.stands.left.stacked (hands g c p) (one_more g c p) p.1.ready.stands.left.none

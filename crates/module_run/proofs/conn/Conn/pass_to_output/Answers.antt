@@ -42,11 +42,10 @@ use Rattle.module_run.proofs.CanPass.{passer, passed_live, passed_variable}
 use Rattle.module_run.proofs.Delivers.{delivers, passed_on}
 use Rattle.module_run.proofs.FileOpens.{left_device}
 use Rattle.ring_calls.proofs.Faultless.{met_at}
-use Rattle.module_run.proofs.HandsOn.{changed}
 use Rattle.module_run.proofs.HandsOnBuilt.{on_err, reads_here, same_back, writes_here, writes_off}
 use Rattle.ring_calls.proofs.OpenFiles.{open_items}
 use Rattle.module_run.proofs.Outs.{with_out}
-use Rattle.module_run.proofs.Spared.{left_spared}
+use Rattle.module_run.proofs.Spared.{changed, left_spared}
 use Rattle.module_run.proofs.Tops.{OnTop, view_of}
 use Rattle.module_run.proofs.conn.Conn.pass_to_output.Given.{Over}
 use Rattle.module_run.proofs.conn.Conn.pass_to_output.Goals as goal
@@ -130,11 +129,11 @@ returns-in_err-well-clause-err g c =
     let d = g.F.Files.device c.args.files.now in
     let e = g.F.Files.device c.pass_out.new.files in
     let fs = written_back g c in
-    let spared = left_spared self fs self.waits (as_before g c) refl chain tree store store d v (λ n. refl) refl (λ id is young. is) refl refl left in
-    left_device chain tree c.pass_out.new.store d e (with_out (changed self fs self.waits) c.pass_out.new.out c.pass_out.new.ended) v
+    let spared = left_spared self fs self.callers self.waits (as_before g c) refl refl chain tree store store d v (λ n. refl) refl (λ id is young. is) refl refl left in
+    left_device chain tree c.pass_out.new.store d e (with_out (changed self fs self.callers self.waits) c.pass_out.new.out c.pass_out.new.ended) v
     (λ file. ap (λ (n : ℕ → Held). n file) c.pass_out.ensures.open_files)
-    (subst (λ s. LeftAs chain tree s d (with_out (changed self fs self.waits) c.pass_out.new.out c.pass_out.new.ended) v) (sym c.in_err-well.ensures.same.1)
-    (subst (λ (o : Out). LeftAs chain tree store d (with_out (changed self fs self.waits) o.bytes o.ended) v) (sym c.in_err-well.ensures.kept) spared)))
+    (subst (λ s. LeftAs chain tree s d (with_out (changed self fs self.callers self.waits) c.pass_out.new.out c.pass_out.new.ended) v) (sym c.in_err-well.ensures.same.1)
+    (subst (λ (o : Out). LeftAs chain tree store d (with_out (changed self fs self.callers self.waits) o.bytes o.ended) v) (sym c.in_err-well.ensures.kept) spared)))
 
 -- The filter on top goes on, and what it passed is put out.
 module _ (g : Over) (c : goal.After-self-2-1 g)
@@ -146,7 +145,7 @@ module _ (g : Over) (c : goal.After-self-2-1 g)
   top_is = record { instance = c.pass_out.new.instance; call = c.go_on.new.self; lent = c.index_mut-filter.result.now.lent }
 
   abbrev conn_is : Conn
-  conn_is = changed c.args.self.now (with_item c.args.self.now.filters c.top-top.result top_is) c.args.self.now.waits
+  conn_is = changed c.args.self.now (with_item c.args.self.now.filters c.top-top.result top_is) c.args.self.now.callers c.args.self.now.waits
 
   top_read : c.index_mut-filter.result.now ≡ top_was.filter
   top_read = reads_here c.args.self.now c.top-top.result c.top-top.ensures top_was.filter c.index_mut-filter.result.now top_was.is c.index_mut-filter.ensures.value

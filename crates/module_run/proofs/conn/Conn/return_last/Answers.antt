@@ -132,7 +132,7 @@ returns-then-next-len-clause-ended g c =
     (alone_set g c p).1 c.end_first.ensures.gone c.end_first.ensures.brought
 
 -- The first call of the next filter begins.
-module _ (g : Over) (c : goal.After-self-5-1 g) (p : (tree : PoolTree Payload) × (d : Device) × CanProceed c.args.modules.now (instr.Ret c.args.status) tree c.args.store.now d c.args.self.now) where
+module _ (g : Over) (c : goal.After-self-6-1 g) (p : (tree : PoolTree Payload) × (d : Device) × CanProceed c.args.modules.now (instr.Ret c.args.status) tree c.args.store.now d c.args.self.now) where
   within : c.args.self.now.queue < length c.args.self.now.filters.items
   within = (let a : c.args.self.now.queue ≢ c.len.result = c.if-next-len.false in let b = c.len.ensures in let o = c.args.self.now.filters.ok.0 in let q = p.2.ready.stands.left.stacked.queue in
       let m = p.2.ready.stands.left.stacked.many in omega (arith, a, b, o, q, m))
