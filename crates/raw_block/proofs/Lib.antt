@@ -1,4 +1,5 @@
 pub mod Blocks
+mod Crosses
 pub mod Maps
 pub mod Places
 pub mod Rows

@@ -9,7 +9,7 @@ ghost use Rattle.raw_block.specs.Maps.{read};
 ghost use Rattle.raw_block.specs.Ownership.{row_owned, row_shared, right_owned};
 
 use std::alloc::{AllocError, Allocator};
-use std::marker::{Model, PhantomData};
+use std::marker::{Model, PhantomData, Send};
 use std::mem::{align_of, size_of};
 use std::slice;
 
@@ -18,6 +18,8 @@ use std::slice;
 pub(crate) struct Base<T> {
     ptr: *mut T,
 }
+
+unsafe impl<T> Send for Base<T> {}
 
 /// What is owned of a block's places: the value of each full one, and the bytes of each empty one. It takes no bytes itself.
 pub(crate) struct Cells<T> {
@@ -32,6 +34,8 @@ impl<T> Model for Cells<T> {
     ghost also_shares = { λ c _ κ. row_shared T.row c.start c.places κ };
 }
 
+unsafe impl<T: Send> Send for Cells<T> {}
+
 /// The right to free a block of `len` places. It takes no bytes itself.
 pub(crate) struct Right<T, A: Allocator> {
     mark: PhantomData<*const (T, A)>,
@@ -45,6 +49,8 @@ impl<T, A: Allocator> Model for Right<T, A> {
 
     ghost also_shares = { λ _ _ _. ftrue };
 }
+
+unsafe impl<T, A: Allocator + Send> Send for Right<T, A> {}
 
 /// A block of `len` empty places.
 pub(crate) fn allocate<T, A: Allocator>(
