@@ -14,10 +14,11 @@ IDENTITY = os.path.join(TOP, 'tests', 'certificates', 'identity')
 
 # scripts whose growths are refused one by one
 REFUSED = ('identity', 'bsave_keeps_transient', 'cleanup_order', 'aside_into_the_request_within_it', 'pool_bucket_survives_its_pool',
-           'close_while_a_call_runs')
+           'close_while_a_call_runs', 'pre_cleanups', 'chain_each_filter_leaves', 'leave_keeps_what_it_has', 'close_before_the_hand_over')
 # scripts of one connection that is closed after each of its steps
 CLOSED = ('identity', 'bsave_keeps_transient', 'cleanup_order', 'aside_into_the_request_within_it', 'pool_bucket_survives_its_pool',
-          'poolb_loose_at_a_clear', 'read_in_parts', 'keeper_of_single_buckets', 'read_get_put', 'f7_pass_twice')
+          'poolb_loose_at_a_clear', 'read_in_parts', 'keeper_of_single_buckets', 'read_get_put', 'f7_pass_twice', 'filter_leaves',
+          'chain_each_filter_leaves', 'leave_between_two_passes', 'leave_keeps_what_it_has')
 MOST_STEPS = 200
 
 

@@ -23,6 +23,7 @@ RULES = 'Rules.antt'
 FACT = 'record s { facts = λ c d. true }'
 FORGETS = 'record s { sent = false }'
 NUMBER = 'after p (effect.Number n number) s = s'
+LABEL = 'after p (effect.Register how q t) s = s'
 
 # The instruction, what is wrong in plain words, the old text of the rule and the new one.
 WRONG = [
@@ -33,9 +34,11 @@ WRONG = [
     ('pdestroy', 'the pool itself stays live',
      'set_pool q (ended_pool (s.pools q)) (after_pclear p q s)', 'after_pclear p q s'),
     ('label', 'that an EOS was passed is forgotten',
-     'after p (effect.Register q t) s = s', 'after p (effect.Register q t) s = %s' % FORGETS),
+     LABEL, 'after p (effect.Register how q t) s = %s' % FORGETS),
     ('unlabel', 'all cursors are said to differ',
      'after p (effect.Kill q t) s = s', 'after p (effect.Kill q t) s = %s' % FACT),
+    ('prelabel', 'the first pool is said to be null',
+     LABEL, 'after p (effect.Register how q t) s = set_pool 0 only_null s'),
     ('bcreate', 'the new brigade is said to be null',
      'after_bcreate b s = set_brigade b (holds Empty no_homes) s', 'after_bcreate b s = set_brigade b never_made s'),
     ('bclean', 'cursors at destroyed buckets are kept',
@@ -116,6 +119,8 @@ WRONG = [
      'some_if ((s.pools q).gone || (s.pools q).live)', 'some_if (s.pools q).live'),
     ('jsent', 'where an EOS was passed, that is forgotten',
      'jump = some_if s.sent s', 'jump = some_if s.sent (%s)' % FORGETS),
+    ('leave', 'that an EOS was passed is forgotten',
+     'after p effect.Leave s = s', 'after p effect.Leave s = %s' % FORGETS),
     ('jump', 'that an EOS was passed is forgotten',
      'led JumpAlways s t = record { next = None; jump = Some t }', 'led JumpAlways s t = record { next = None; jump = Some (record t { sent = false }) }'),
     ('ret', 'a usable brigade may keep a bucket of the call: the need is dropped',
@@ -140,10 +145,11 @@ UNIFORM = {
     'sub': ('(n : ℕ) (x : Value)', '(instr.Sub n x)'),
     'jlt': ('(n : ℕ) (x : Value) (l : ℕ)', '(instr.JLt n x l)'),
     'jeq': ('(n : ℕ) (x : Value) (l : ℕ)', '(instr.JEq n x l)'),
+    'leave': ('', 'instr.Leave'),
     'jump': ('(l : ℕ)', '(instr.Jump l)'),
 }
 # Rules that are wrong in a part that other instructions share, and those of one law: others may be refused too.
-ALONE = ('pclear', 'first') + tuple(UNIFORM)
+ALONE = ('pclear', 'first', 'label', 'prelabel') + tuple(UNIFORM)
 GROUPS = 4
 LAW = re.compile(r'^ *pub (law_(\w+)) : (?:\{lives : Home → Type 0\} )?(?:(\(.*?) )?→ LawOf lives (\(instr\.[^)]*\)|instr\.\w+)$', re.M)
 DECLARED = re.compile(r'^ *(?:pub )?([a-z]\w*) : ')

@@ -25,6 +25,8 @@ CASES = """
     refusals_by_state refused_broken_before_no_file budget_2_breaks_at_ret file_added_at_any_time
     f1_pool_destroyed f2_brigade_null f3_of_a_deleted_bucket f4_next_at_the_end f5_of_the_rest_of_a_split_file
     f6_bconcat_of_a_transient f7_pass_twice f8_of_an_eos_of_its_own f9_before_itself f10_bcreate_over_a_live_brigade
+    pre_cleanups pre_cleanups_of_each_pool pre_cleanups_printed unlabel_of_a_pre_cleanup f1_prelabel_on_a_destroyed_pool
+    filter_leaves chain_filter_leaves chain_each_filter_leaves leave_between_two_passes leave_keeps_what_it_has close_before_the_hand_over
 """.split()
 
 

@@ -21,7 +21,7 @@ from accepted import hand_written
 from check import pieces
 from compare import answer_of, generator_of, report, shown
 from driver import Driver
-from filters import MEETING, PAIR
+from filters import LEAVING, MEETING, PAIR
 from growths import Growths
 from modules import FILTERS, random_module
 from odd import quote, some_bytes
@@ -36,6 +36,7 @@ MEETING_EACH_OTHER = .5                  # how often a filter is one of those th
 # How often what fails, one of these in a chain.
 OFTEN_IN_TROUBLE = {'opening': [0, .05, .3], 'read': [0, .05, .3, 1], 'growth': [0, .001, .01, .05]}
 PASSING = .85                            # how often another one passes something
+LEFT = .3                                # how often some filters of a chain leave it
 NEW = .5                                 # how often a chain has a new filter
 OFTEN_CLOSED = .2                        # how often a chain is closed after each step of a call
 NO_SCRIPT = (b'asm line ', b'cert line ', b'script line ', b'refused module ')
@@ -63,6 +64,7 @@ class Filters:
         for lines in FILTERS:
             self.take('\n'.join(lines).encode('latin-1') + b'\n')
         self.meeting = [self.take(text) for text in MEETING]
+        self.leaving = [self.take(text) for text in LEAVING]
 
     def take(self, text):
         """The filter of a text, which is known from now on; None where it may not be in a chain."""
@@ -99,6 +101,9 @@ class Filters:
         elif len(chain) > 1 and rng.random() < .2:
             place = rng.randrange(len(chain) - 1)
             chain[place:place + 2] = [filter for text in PAIR for filter in self.meeting if filter.text == text]
+        if rng.random() < LEFT:
+            for place in rng.sample(range(len(chain)), rng.randint(1, len(chain))):
+                chain[place] = rng.choice(self.leaving)
         return chain
 
 
@@ -107,7 +112,7 @@ class Talk:
 
     def __init__(self, rng, chain, troubled, first=None):
         self.rng = rng
-        budget = rng.choice([40, 400, 3000])
+        budget = rng.choice([40, 400, 3000]) if rng.random() < .9 else rng.choice([2, 3, 5, 8, 20])
         if first is None:
             self.host = Host([filter.module for filter in chain], self.fails)
             self.host.budget = budget
@@ -191,13 +196,13 @@ class Talk:
 
     def turn_of(self, number, connection):
         rng = self.rng
-        if rng.random() < self.chance_of_close:
+        if rng.random() < (self.chance_of_close if connection.hand_over is None else .1):
             self.say('close', number)
         elif connection.broken:
             self.say(rng.choice(['close', 'close', 'close', 'output', 'labels', 'run', 'end']), number)
-        elif connection.stack and rng.random() < .4:
+        elif connection.is_busy() and rng.random() < .4:
             self.say('run', number)
-        elif connection.stack:
+        elif connection.is_busy():
             self.say('step', number, rng.choice([1, 1, 2, 3, 5, 10]))
         elif connection.req_pool is None:
             self.say('begin', number)

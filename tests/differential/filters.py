@@ -221,6 +221,135 @@ ret fail
 end
 """
 
+# Passes what comes, and leaves.
+LEAVES_AT_ONCE = """
+module 1
+open
+ret ok
+init
+ret ok
+main
+jsent drop
+pass in bad
+leave
+ret ok
+:bad
+leave
+ret fail
+:drop
+bclean in
+leave
+ret fail
+end
+"""
+
+# Keeps the first data of a request for the next one, leaves, and passes what it kept before with the rest.
+LEAVES_SOME = """
+module 1
+brigade b0 conn
+brigade b1 req
+open
+bcreate b0
+ret ok
+init
+bcreate b1
+ret ok
+main
+jsent drop
+first c0 in
+:look
+jend c0 send
+jkind c0 data take
+next c0 c0
+jump look
+:take
+leave
+unlink c0
+aside c0 conn
+bconcat b1 b0
+tail b0 c0
+pass b1 bad
+bclean b1
+:send
+pass in bad
+bclean b1
+ret ok
+:bad
+bclean b1
+ret fail
+:drop
+ret ok
+end
+"""
+
+# Leaves before it passes copies, and passes what came where its pool is cleared.
+LEAVES_BETWEEN = """
+module 1
+pool p0 req
+brigade b0 p0
+open
+ret ok
+init
+pcreate p0
+bcreate b0
+ret ok
+main
+jsent drop
+leave
+first c0 in
+jend c0 send
+jkind c0 eos send
+copy c1 c0
+tail b0 c1
+pass b0 bad
+pclear p0
+bcreate b0
+:send
+leave
+pass in bad
+ret ok
+:bad
+bclean b0
+ret fail
+:drop
+ret ok
+end
+"""
+
+# Its pools tell when they go: what is registered first is told last, and before what is told of the pool below.
+TELLS = """
+module 1
+pool p0 conn
+pool p1 p0
+open
+pcreate p0
+pcreate p1
+prelabel p0 "first"
+label p1 "below"
+prelabel p1 "before below"
+label p0 "last"
+prelabel conn "opened"
+ret ok
+init
+prelabel req "begun"
+label req "ended"
+ret ok
+main
+jsent drop
+pass in bad
+:bad
+pclear p0
+pcreate p1
+prelabel p0 "again"
+label p1 "below again"
+unlabel p0 "again"
+ret ok
+:drop
+pdestroy p1
+pcreate p1
+ret ok
+end
+"""
 
 
 def text_of(lines):
@@ -228,6 +357,7 @@ def text_of(lines):
 
 
 MEETING = [text_of(lines) for lines in (
-    CLEARS_BEHIND, KEEPS, LEAVES_COPIES, LEAVES_ITS_OWN, SENDS_FROM_A_POOL, READS, SENDS_TWICE)]
+    CLEARS_BEHIND, KEEPS, LEAVES_COPIES, LEAVES_ITS_OWN, SENDS_FROM_A_POOL, READS, SENDS_TWICE, TELLS)]
+LEAVING = [text_of(lines) for lines in (LEAVES_AT_ONCE, LEAVES_SOME, LEAVES_BETWEEN)]
 # The first clears what the second one has kept.
 PAIR = [text_of(lines) for lines in (SENDS_FROM_A_POOL, KEEPS)]

@@ -4,7 +4,7 @@ A script is written beside the reading: the generator plays each command and eac
 it knows what is live, empty, passed or dead, and rarely writes what is a fault by accident. Each call of a handler has code of
 its own; counters in n6 and n7 lead to it. What a test did can be told from the labels of the connection's pool.
 """
-from odd import NUMBERS, ODD_COMMANDS, change, odd_line, quote, some_bytes
+from odd import LEAVING, NUMBERS, ODD_COMMANDS, change, odd_line, quote, some_bytes, words_in
 from reading.chains import Host
 from reading.counts import uncounted
 from reading.pools import DEAD
@@ -18,7 +18,7 @@ MOST = 2 ** 64 - 1
 FILE_NAMES = ['a', 'b', 'c', 'f1', 'abcdefghij012345']
 COUNTERS = {'init': 6, 'main': 7}
 # How often each instruction is taken; what is not named is taken once.
-OFTEN = {'pcreate': 5, 'pclear': 2, 'label': 2, 'bcreate': 5, 'bclean': 4, 'bconcat': 6, 'bsave': 7, 'pass': 5, 'jempty': 2,
+OFTEN = {'pcreate': 5, 'pclear': 2, 'label': 2, 'bcreate': 5, 'bclean': 4, 'bconcat': 6, 'bsave': 7, 'pass': 5, 'leave': 4, 'jempty': 2,
          'add': 2, 'sub': 2, 'jump': .3, 'ret': 0,
          'first': 6, 'next': 4, 'jkind': 3, 'unlink': 3, 'tail': 5, 'head': 4, 'before': 4, 'heap': 2, 'split': 4, 'copy': 3,
          'aside': 4, 'read': 5, 'len': 3, 'get': 4, 'bpart': 4, 'bsplit': 4, 'eos': .5}
@@ -45,6 +45,7 @@ class Writer:
         self.file_chance = rng.choice([0, .3, .7, .9])
         self.walks = rng.choice([0, .1, .3, .6])                # how often a walk is taken in place of an instruction
         self.is_endless = False
+        self.leaves = rng.random() < LEAVING
         self.keeps = rng.random() < .5                          # brigades are rarely cleaned and passed
         self.keeps_files = rng.random() < .3                    # what comes are files, which are kept past their requests
         if self.keeps_files:
@@ -126,7 +127,7 @@ class Writer:
         """A random instruction of this word, or of any: its line, and as the reading has it; None where an operand is
         wanting."""
         if word is None:
-            words = [word for word in OPERANDS if word != 'pass' or self.handler == 'main']
+            words = words_in(self.handler, self.leaves)
             word = self.rng.choices(words, [OFTEN.get(word, 1) for word in words])[0]
         if 'T' in OPERANDS[word] and self.texts >= MOST_TEXTS - 1:
             return None
@@ -568,7 +569,7 @@ def at_limits(rng):
     if kind == 0:
         code = ['clearbuf'] * rng.choice([1020, 1021, 1022])
     elif kind == 1:
-        code = ['%s conn "%d"' % (rng.choice(['label', 'unlabel']), i % 9) for i in range(rng.choice([63, 64, 65]))]
+        code = ['%s conn "%d"' % (rng.choice(['label', 'unlabel', 'prelabel']), i % 9) for i in range(rng.choice([63, 64, 65]))]
     elif kind == 2:
         code = ['label conn ' + quote(rng, b'a"' * 127 + b'b' * rng.choice([0, 1, 2]))]
     lines = ['module 1', 'open'] + code + ['ret ok', 'init', 'ret ok', 'main', 'pass in x', ':x', 'ret ok', 'end']

@@ -7,7 +7,7 @@ import glob
 import os
 
 from generator import OFTEN, Writer, odd_module
-from odd import NUMBERS, change, quote, some_bytes
+from odd import LEAVING, NUMBERS, change, quote, some_bytes, words_in
 from reading.counts import uncounted
 from reading.rules import May, Rule, at_end_of_request, between_calls, brought, first_state
 from reading.states import join, leq
@@ -40,6 +40,7 @@ class Guided:
         self.wrong = rng.choice([0, 0, 0, .003, .02])        # the chance that what may be at fault is written
         self.length = rng.choice([0, 2, 4, 8, 16, 30])
         self.cursors = rng.choice([2, 3, 4, 8])
+        self.leaves = rng.random() < LEAVING
         self.creates = rng.choice([.5, .95, 1])              # the chance that a variable is created where it is due
 
     def under_request(self, pool):
@@ -107,7 +108,7 @@ class Guided:
 
     def instruction(self):
         """A random instruction: its words, and as the reading has it; None where an operand is wanting."""
-        words = [word for word in OPERANDS if word != 'pass' or self.handler == 'main']
+        words = words_in(self.handler, self.leaves)
         word = self.aimed() or self.rng.choices(words, [MORE.get(word, OFTEN.get(word, 1)) for word in words])[0]
         operands = [self.operand(kind) for kind in OPERANDS[word]]
         if None in operands or are_one_brigade(OPERANDS[word], operands) or 'T' in OPERANDS[word] and self.texts > 50:

@@ -1,8 +1,9 @@
 """Words and lines that are right, nearly right or wrong, and changes of a script's lines."""
-from reading.texts import KINDS, OPERANDS, U32
+from reading.texts import KINDS, ONLY_IN_MAIN, OPERANDS, U32
 
 # Words that begin no line of a module.
 UNKNOWN = ['frob', 'file', 'data', 'metadata', 'insert', 'bhead', 'btail', 'poolb0', 'reads', 'jkin', 'Heap', 'EOS']
+LEAVING = .1                             # how often a module has a `leave`
 NUMBERS = [0, 1, 2, 3, 255, 256, 257, 7999, 8000, 8001, 2 ** 31 - 1, 2 ** 31, U32 - 1, U32]
 
 # Words that are often right where an operand of the kind is due.
@@ -70,6 +71,11 @@ def some_bytes(rng, most=8):
         return b''
     alphabet = b'abcdexyz' if chance < .75 else b'\x00\n\r"\\\x7f\xff\x80 ~\x1fxn:#'
     return bytes(rng.choice(alphabet) for _ in range(rng.randint(1, most)))
+
+
+def words_in(handler, leaves):
+    """The words of instructions that a handler may have; `leave` only where the module leaves."""
+    return [word for word in OPERANDS if (word not in ONLY_IN_MAIN or handler == 'main') and (word != 'leave' or leaves)]
 
 
 def odd_line(rng, label='aa'):

@@ -10,8 +10,8 @@ use Rattle.bucket_ring.specs.Kept.{once_in}
 use Rattle.run_model.specs.Indexed.{upd, any_below}
 use Rattle.run_model.specs.declared.payload.Payload.{Payload}
 use Rattle.run_model.specs.Payloads.{is_file_ref, is_brigade}
-use Rattle.run_model.specs.Pools.{Pools, is_in, is_live, is_under}
-use Rattle.run_model.specs.RunOrder.{IsPoolMap, own_run, run_order}
+use Rattle.run_model.specs.Pools.{Pools, Cleanups, all_held, is_in, is_live, is_under}
+use Rattle.run_model.specs.RunOrder.{IsPoolMap, pre_run, own_run, run_order}
 use Rattle.run_model.specs.Sound.{sum_below}
 use Rattle.run_model.specs.Clearing.{is_reached}
 use Rattle.run_model.specs.Files.{is_referred}
@@ -131,9 +131,24 @@ entries_summed {T} next test (x ∷ xs) below = elim (cases_lt x.0 next) [
   off : (k : ℕ) → k ≢ x.0 → count_by test (filter (is_of k) (x ∷ xs)) ≡ count_by test (filter (is_of k) xs)
   off k ne = ap (λ (b : Bool). count_by test (cond b (x ∷ filter (is_of k) xs) (filter (is_of k) xs))) (ne_eqb x.0 k (λ e. ne (sym e)))
 
-own_counted : {T : Type 0} (test : T → Bool) (ps : Pools T) (p : ℕ) → count_by (λ (x : ℕ × T). test x.1) (own_run ps p) ≡ count_by test (ps.payloads p)
-unfolding own_run
-own_counted {T} test ps p = count_map (λ (x : ℕ × T). test x.1) (λ (x : T). (p, x)) (reverse (ps.payloads p)) ∙ count_reverse test (ps.payloads p)
+-- how many of the payloads of a pool pass a test
+abbrev pub held_count : {T : Type 0} → (T → Bool) → Cleanups T → ℕ
+held_count test c = count_by test (all_held c)
+
+turn_counted : {T : Type 0} (test : T → Bool) (p : ℕ) (xs : List T) → count_by (λ (x : ℕ × T). test x.1) (map (λ (x : T). (p, x)) (reverse xs)) ≡ count_by test xs
+turn_counted {T} test p xs = count_map (λ (x : ℕ × T). test x.1) (λ (x : T). (p, x)) (reverse xs) ∙ count_reverse test xs
+
+own_counted : {T : Type 0} (test : T → Bool) (ps : Pools T) (p : ℕ) → count_by (λ (x : ℕ × T). test x.1) (pre_run ps p ++ own_run ps p) ≡ count_by test (all_held (ps.payloads p))
+unfolding pre_run own_run
+own_counted {T} test ps p =
+    let c = ps.payloads p in
+    let run : count_by (λ (x : ℕ × T). test x.1) (map (λ (x : T). (p, x)) (reverse c.pre) ++ map (λ (x : T). (p, x)) (reverse c.plain))
+    ≡ count_by (λ (x : ℕ × T). test x.1) (map (λ (x : T). (p, x)) (reverse c.pre)) + count_by (λ (x : ℕ × T). test x.1) (map (λ (x : T). (p, x)) (reverse c.plain))
+    = count_append (λ (x : ℕ × T). test x.1) (map (λ (x : T). (p, x)) (reverse c.pre)) (map (λ (x : T). (p, x)) (reverse c.plain)) in
+    let early = turn_counted test p c.pre in
+    let late = turn_counted test p c.plain in
+    let all = count_append test c.pre c.plain in
+    omega (arith, run, early, late, all)
 
 -- a name that was never given out stands under no pool
 pub fresh_apart : {T : Type 0} (ps : Pools T) → IsPoolMap ps → (pool n : ℕ) → ps.next ≤ n → is_under ps pool n ≡ false
@@ -142,31 +157,31 @@ fresh_apart ps formed pool n le = ap (is_in pool) (formed_fresh ps formed n le)
 
 module _ {T : Type 0} (test : T → Bool) (ps : Pools T) (formed : IsPoolMap ps) (pool : ℕ) (live : is_live ps pool ≡ true) where
   -- It is what the pools under the cleared one hold.
-  pub run_counted : count_by (λ (x : ℕ × T). test x.1) (run_order ps pool) ≡ sum_below ps.next (λ p. cond (is_under ps pool p) (count_by test (ps.payloads p)) 0)
+  pub run_counted : count_by (λ (x : ℕ × T). test x.1) (run_order ps pool) ≡ sum_below ps.next (λ p. cond (is_under ps pool p) (count_by test (all_held (ps.payloads p))) 0)
   run_counted =
       entries_summed ps.next (λ (x : ℕ × T). test x.1) (run_order ps pool)
-      (λ n le. run_order_once ps formed n pool live ∙ ap (λ (b : Bool). cond b (own_run ps n) []) (fresh_apart ps formed pool n le))
-      ∙ sum_below_same ps.next (λ p. count_by (λ (x : ℕ × T). test x.1) (filter (is_of p) (run_order ps pool))) (λ p. cond (is_under ps pool p) (count_by test (ps.payloads p)) 0)
+      (λ n le. run_order_once ps formed n pool live ∙ ap (λ (b : Bool). cond b (pre_run ps n ++ own_run ps n) []) (fresh_apart ps formed pool n le))
+      ∙ sum_below_same ps.next (λ p. count_by (λ (x : ℕ × T). test x.1) (filter (is_of p) (run_order ps pool))) (λ p. cond (is_under ps pool p) (count_by test (all_held (ps.payloads p))) 0)
       (λ p lt. ap (count_by (λ (x : ℕ × T). test x.1)) (run_order_once ps formed p pool live) ∙ by_test p (is_under ps pool p)) where
-        by_test : (p : ℕ) (b : Bool) → count_by (λ (x : ℕ × T). test x.1) (cond b (own_run ps p) []) ≡ cond b (count_by test (ps.payloads p)) 0
+        by_test : (p : ℕ) (b : Bool) → count_by (λ (x : ℕ × T). test x.1) (cond b (pre_run ps p ++ own_run ps p) []) ≡ cond b (count_by test (all_held (ps.payloads p))) 0
         by_test p true = own_counted test ps p
         by_test p false = refl
 
 -- What all pools hold is what they hold afterwards and what was handed on.
 pub run_splits : (test : Payload → Bool) (ps new : Pools Payload) → IsPoolMap ps → (pool : ℕ) → is_live ps pool ≡ true → Emptied pool ps new
-    → sum_below ps.next (λ p. count_by test (ps.payloads p)) ≡ sum_below new.next (λ p. count_by test (new.payloads p)) + count_by (λ (x : ℕ × Payload). test x.1) (run_order ps pool)
+    → sum_below ps.next (λ p. count_by test (all_held (ps.payloads p))) ≡ sum_below new.next (λ p. count_by test (all_held (new.payloads p))) + count_by (λ (x : ℕ × Payload). test x.1) (run_order ps pool)
 run_splits test ps new formed pool live gone =
-    let parts : sum_below ps.next (λ p. count_by test (ps.payloads p)) ≡ sum_below ps.next (λ p. count_by test (new.payloads p)) + sum_below ps.next
-    (λ p. cond (is_under ps pool p) (count_by test (ps.payloads p)) 0)
-    = sum_both ps.next (λ p. count_by test (ps.payloads p)) (λ p. count_by test (new.payloads p)) (λ p. cond (is_under ps pool p) (count_by test (ps.payloads p)) 0)
+    let parts : sum_below ps.next (λ p. count_by test (all_held (ps.payloads p))) ≡ sum_below ps.next (λ p. count_by test (all_held (new.payloads p))) + sum_below ps.next
+    (λ p. cond (is_under ps pool p) (count_by test (all_held (ps.payloads p))) 0)
+    = sum_both ps.next (λ p. count_by test (all_held (ps.payloads p))) (λ p. count_by test (all_held (new.payloads p))) (λ p. cond (is_under ps pool p) (count_by test (all_held (ps.payloads p))) 0)
     (λ p lt. by_test p (is_under ps pool p) refl) in
-    let same : sum_below new.next (λ p. count_by test (new.payloads p)) ≡ sum_below ps.next (λ p. count_by test (new.payloads p)) =
-    ap (λ (n : ℕ). sum_below n (λ p. count_by test (new.payloads p))) gone.next in
+    let same : sum_below new.next (λ p. count_by test (all_held (new.payloads p))) ≡ sum_below ps.next (λ p. count_by test (all_held (new.payloads p))) =
+    ap (λ (n : ℕ). sum_below n (λ p. count_by test (all_held (new.payloads p)))) gone.next in
     let run = run_counted test ps formed pool live in
     omega (arith, parts, same, run) where
-      by_test : (p : ℕ) (b : Bool) → is_under ps pool p ≡ b → count_by test (ps.payloads p) ≡ count_by test (new.payloads p) + cond b (count_by test (ps.payloads p)) 0
-      by_test p true is = let none : count_by test (new.payloads p) ≡ 0 = ap (count_by test) (gone.gone p is) in omega arith
-      by_test p false is = let kept : count_by test (new.payloads p) ≡ count_by test (ps.payloads p) = ap (count_by test) (gone.kept p is) in omega arith
+      by_test : (p : ℕ) (b : Bool) → is_under ps pool p ≡ b → count_by test (all_held (ps.payloads p)) ≡ count_by test (all_held (new.payloads p)) + cond b (count_by test (all_held (ps.payloads p))) 0
+      by_test p true is = let none : count_by test (all_held (new.payloads p)) ≡ 0 = ap (held_count test) (gone.gone p is) in omega arith
+      by_test p false is = let kept : count_by test (all_held (new.payloads p)) ≡ count_by test (all_held (ps.payloads p)) = ap (held_count test) (gone.kept p is) in omega arith
 
 pub once_at : (q : ℕ) → once_in q (Some q) ≡ 1
 once_at q = rw (eq-eqb q q refl) refl
@@ -179,16 +194,16 @@ both_none true n none = none
 both_none false n none = refl
 
 -- A brigade is handed on exactly where the pool that it is on is reached.
-pub brigade_handed : (ps : Pools Payload) → IsPoolMap ps → (pool : ℕ) → is_live ps pool ≡ true → (name : ℕ) (on : Option ℕ) → ((p : ℕ) → count_by (is_brigade name) (ps.payloads p) ≡ once_in p on)
+pub brigade_handed : (ps : Pools Payload) → IsPoolMap ps → (pool : ℕ) → is_live ps pool ≡ true → (name : ℕ) (on : Option ℕ) → ((p : ℕ) → count_by (is_brigade name) (all_held (ps.payloads p)) ≡ once_in p on)
     → list_any (λ (x : ℕ × Payload). is_brigade name x.1) (run_order ps pool) ≡ is_reached (is_under ps pool) on
 brigade_handed ps formed pool live name None held = any_none (λ (x : ℕ × Payload). is_brigade name x.1) (run_order ps pool)
     (run_counted (is_brigade name) ps formed pool live
-    ∙ all_none ps.next (λ p. cond (is_under ps pool p) (count_by (is_brigade name) (ps.payloads p)) 0) (λ p lt. both_none (is_under ps pool p) _ (held p)))
+    ∙ all_none ps.next (λ p. cond (is_under ps pool p) (count_by (is_brigade name) (all_held (ps.payloads p))) 0) (λ p lt. both_none (is_under ps pool p) _ (held p)))
 brigade_handed ps formed pool live name (Some q) held = by_test (is_under ps pool q) refl where
   terms : ℕ → ℕ
-  terms = λ p. cond (is_under ps pool p) (count_by (is_brigade name) (ps.payloads p)) 0
+  terms = λ p. cond (is_under ps pool p) (count_by (is_brigade name) (all_held (ps.payloads p))) 0
 
-  all : count_by (λ (x : ℕ × Payload). is_brigade name x.1) (run_order ps pool) ≡ sum_below ps.next (λ p. cond (is_under ps pool p) (count_by (is_brigade name) (ps.payloads p)) 0)
+  all : count_by (λ (x : ℕ × Payload). is_brigade name x.1) (run_order ps pool) ≡ sum_below ps.next (λ p. cond (is_under ps pool p) (count_by (is_brigade name) (all_held (ps.payloads p))) 0)
   all = run_counted (is_brigade name) ps formed pool live
 
   given : is_under ps pool q ≡ true → q < ps.next
@@ -199,22 +214,22 @@ brigade_handed ps formed pool live name (Some q) held = by_test (is_under ps poo
 
   by_test : (b : Bool) → is_under ps pool q ≡ b → list_any (λ (x : ℕ × Payload). is_brigade name x.1) (run_order ps pool) ≡ is_under ps pool q
   by_test true under =
-      let here : cond (is_under ps pool q) (count_by (is_brigade name) (ps.payloads q)) 0 ≡ 1 = ap (λ (b : Bool). cond b (count_by (is_brigade name) (ps.payloads q)) 0) under ∙ (held q ∙ once_at q) in
-      let one = term_below ps.next q (λ p. cond (is_under ps pool p) (count_by (is_brigade name) (ps.payloads p)) 0) (given under) in
+      let here : cond (is_under ps pool q) (count_by (is_brigade name) (all_held (ps.payloads q))) 0 ≡ 1 = ap (λ (b : Bool). cond b (count_by (is_brigade name) (all_held (ps.payloads q))) 0) under ∙ (held q ∙ once_at q) in
+      let one = term_below ps.next q (λ p. cond (is_under ps pool p) (count_by (is_brigade name) (all_held (ps.payloads p))) 0) (given under) in
       any_some (λ (x : ℕ × Payload). is_brigade name x.1) (run_order ps pool) (omega (arith, all, one, here)) ∙ sym under
   by_test false apart =
       any_none (λ (x : ℕ × Payload). is_brigade name x.1) (run_order ps pool)
-      (all ∙ all_none ps.next (λ p. cond (is_under ps pool p) (count_by (is_brigade name) (ps.payloads p)) 0) (λ p lt. elim (cases_eq p q) [
-        | inl same ↦ ap (λ (b : Bool). cond b (count_by (is_brigade name) (ps.payloads p)) 0) (ap (is_under ps pool) same ∙ apart)
+      (all ∙ all_none ps.next (λ p. cond (is_under ps pool p) (count_by (is_brigade name) (all_held (ps.payloads p))) 0) (λ p lt. elim (cases_eq p q) [
+        | inl same ↦ ap (λ (b : Bool). cond b (count_by (is_brigade name) (all_held (ps.payloads p))) 0) (ap (is_under ps pool) same ∙ apart)
         | inr ne ↦ both_none (is_under ps pool p) _ (held p ∙ once_off q p ne)
       ]))
       ∙ sym apart
 
 -- A file is referred to where a pool holds a reference.
 pub referred_none : (ps : Pools Payload) (file : ℕ) → all_refs ps file ≡ 0 → is_referred ps file ≡ false
-referred_none ps file none = any_below_none ps.next (λ p. list_any (is_file_ref file) (ps.payloads p))
-    (λ p lt. any_none (is_file_ref file) (ps.payloads p) (let one = term_below ps.next p (λ q. count_by (is_file_ref file) (ps.payloads q)) lt in omega (arith, one, none)))
+referred_none ps file none = any_below_none ps.next (λ p. list_any (is_file_ref file) (all_held (ps.payloads p)))
+    (λ p lt. any_none (is_file_ref file) (all_held (ps.payloads p)) (let one = term_below ps.next p (λ q. count_by (is_file_ref file) (all_held (ps.payloads q))) lt in omega (arith, one, none)))
 
 pub referred_some : (ps : Pools Payload) (file : ℕ) → 0 < all_refs ps file → is_referred ps file ≡ true
 referred_some ps file some =
-    any_below_one ps.next (λ p. count_by (is_file_ref file) (ps.payloads p)) (λ p. list_any (is_file_ref file) (ps.payloads p)) (λ p here. any_some (is_file_ref file) (ps.payloads p) here) some
+    any_below_one ps.next (λ p. count_by (is_file_ref file) (all_held (ps.payloads p))) (λ p. list_any (is_file_ref file) (all_held (ps.payloads p))) (λ p here. any_some (is_file_ref file) (all_held (ps.payloads p)) here) some

@@ -21,7 +21,7 @@ use Rattle.brigade_ops.specs.Files.{refs_in, is_let_go}
 use Rattle.brigade_ops.specs.House.{all_refs, AreHoused, AreOpen, cleared_items, cleared_ring, pool_left}
 use Rattle.stored_rings.specs.Items.{Items}
 use Rattle.stored_rings.specs.Morphs.{all_morphed}
-use Rattle.brigade_ops.proofs.Counts.{once_off, any_none, any_some, refs_counted, run_splits, brigade_handed, referred_none, referred_some}
+use Rattle.brigade_ops.proofs.Counts.{held_count, once_off, any_none, any_some, refs_counted, run_splits, brigade_handed, referred_none, referred_some}
 
 -- A file is closed where its last reference is handed on.
 last_handed : (count handed left : ℕ) (any referred : Bool) → count ≡ left + handed → (handed ≡ 0 → any ≡ false) → (0 < handed → any ≡ true) → (left ≡ 0 → referred ≡ false)
@@ -131,8 +131,8 @@ module _ {pool : ℕ} {ps new : Pools Payload} {lists : ℕ → Option Items} {p
       → AreHoused lists_now pools_now left new
   house_left lists_now pools_now left named out off sums = record {
     held = λ n p. elim (cases_Bool (is_under ps pool p)) [
-      | inl under ↦ ap (count_by (is_brigade n)) (went.gone.gone p under) ∙ sym (ap (once_in p) (off n) ∙ left_none (is_under ps pool) p (pool_of n) under)
-      | inr apart ↦ ap (count_by (is_brigade n)) (went.gone.kept p apart)
+      | inl under ↦ ap (held_count (is_brigade n)) (went.gone.gone p under) ∙ sym (ap (once_in p) (off n) ∙ left_none (is_under ps pool) p (pool_of n) under)
+      | inr apart ↦ ap (held_count (is_brigade n)) (went.gone.kept p apart)
           ∙ (went.house.held n p ∙ sym (ap (once_in p) (off n) ∙ left_same (is_under ps pool) p (pool_of n) apart))
     ];
     there = λ n p is. ap is_some (out n) ∙ left_there (is_under ps pool) (named n) p (pool_of n) (lists n) (went.house.there n p) (sym (off n) ∙ is);

@@ -13,6 +13,7 @@ use Rattle.run_model.specs.Pools.{Pools, is_empty, is_live}
 use Rattle.run_model.specs.Holding.{times_held}
 use Rattle.run_model.specs.RunOrder.{IsPoolMap}
 use Rattle.bucket_kinds.specs.declared.stored.Stored.{Stored}
+use Rattle.brigade_ops.proofs.Counts.{held_count}
 use Rattle.brigade_ops.specs.declared.store.Brigades.{Brigades}
 use Rattle.brigade_ops.specs.House.{IsHouse, AreOpen}
 use Rattle.stored_rings.specs.Items.{Items}
@@ -39,7 +40,7 @@ module _ {R : Type 0} {g : Ghosts R Stored} where
     one = house.held n p ∙ (ap (once_in p) is ∙ ap (λ (b : Bool). cond b 1 0) (eq-eqb p p refl))
 
     by_path : (path : List ℕ) → ps.path p ≡ path → not (is_empty path) ≡ true
-    by_path [] at = absurd (let none : times_held ps n p ≡ 0 = ap (count_by (is_brigade n)) (formed.bare p at) in omega (arith, one))
+    by_path [] at = absurd (let none : times_held ps n p ≡ 0 = ap (held_count (is_brigade n)) (formed.bare p at) in omega (arith, one))
     by_path (m ∷ above) at = refl
 
   -- Such a call

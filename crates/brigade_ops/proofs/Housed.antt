@@ -10,7 +10,9 @@ use Rattle.bucket_ring.specs.Lists as ring
 use Rattle.run_model.specs.declared.payload.Payload.{Payload}
 use Rattle.run_model.specs.declared.payload.Payload.TheVariants.{Label, FileRef, Brigade}
 use Rattle.run_model.specs.Payloads.{is_label, is_brigade, is_file_ref}
-use Rattle.run_model.specs.Pools.{Pools, is_empty, is_live, planted, created, registered}
+use Rattle.run_model.specs.declared.effect.CleanupKind.{CleanupKind}
+use Rattle.run_model.specs.declared.effect.CleanupKind.TheVariants.{Plain, Pre}
+use Rattle.run_model.specs.Pools.{Pools, Cleanups, no_cleanups, all_held, with_one, with_plain, is_empty, is_live, planted, created, registered, registered_as}
 use Rattle.run_model.specs.RunOrder.{IsPoolMap, killed, without_last}
 use Rattle.run_model.specs.Sound.{sum_below}
 use Rattle.run_model.specs.Steps.{all_referred}
@@ -26,54 +28,67 @@ use Rattle.brigade_ops.specs.Store.{lists, pool_of, references}
 use Rattle.bucket_ring.specs.declared.rings.Rings.{Ghosts}
 use Rattle.run_model.specs.declared.bucket.NamedBucket.{NamedBucket}
 use Rattle.run_model.specs.Buckets.{cleared_bucket}
-use Rattle.brigade_ops.proofs.Counts.{one_if, count_cons, count_last, sum_more, once_at, once_off}
+use Rattle.brigade_ops.proofs.Counts.{one_if, held_count, count_append, count_cons, count_last, sum_more, once_at, once_off}
 
 -- The payloads of pools.
 
 abbrev held_by : (Payload → Bool) → Pools Payload → ℕ → ℕ
-held_by test ps p = count_by test (ps.payloads p)
+held_by test ps p = held_count test (ps.payloads p)
 
-registered_next : (n : ℕ) (x : Payload) (ps : Pools Payload) → (registered n x ps).next ≡ ps.next
-unfolding registered
-registered_next n x ps = refl
+registered_next : (how : CleanupKind) (n : ℕ) (x : Payload) (ps : Pools Payload) → (registered_as how n x ps).next ≡ ps.next
+unfolding registered_as
+registered_next how n x ps = refl
+
+-- one more of a kind
+one_counted : (test : Payload → Bool) (how : CleanupKind) (x : Payload) (c : Cleanups Payload) → held_count test (with_one how x c) ≡ held_count test c + one_if test x
+one_counted test Plain x c =
+    let now = count_append test c.pre (c.plain ++ x ∷ []) in
+    let was = count_append test c.pre c.plain in
+    let last = count_last test c.plain x in
+    omega (arith, now, was, last)
+one_counted test Pre x c =
+    let now = count_append test (c.pre ++ x ∷ []) c.plain in
+    let was = count_append test c.pre c.plain in
+    let last = count_last test c.pre x in
+    omega (arith, now, was, last)
 
 -- a payload is registered
-module _ (test : Payload → Bool) (n : ℕ) (x : Payload) (ps : Pools Payload) where
-  more_there : held_by test (registered n x ps) n ≡ held_by test ps n + one_if test x
-  unfolding registered
-  more_there = ap (count_by test) (upd_at ps.payloads n (ps.payloads n ++ x ∷ [])) ∙ count_last test (ps.payloads n) x
+module _ (test : Payload → Bool) (how : CleanupKind) (n : ℕ) (x : Payload) (ps : Pools Payload) where
+  more_there : held_by test (registered_as how n x ps) n ≡ held_by test ps n + one_if test x
+  unfolding registered_as
+  more_there = ap (held_count test) (upd_at ps.payloads n (with_one how x (ps.payloads n))) ∙ one_counted test how x (ps.payloads n)
 
-  more_off : (p : ℕ) → p ≢ n → held_by test (registered n x ps) p ≡ held_by test ps p
-  unfolding registered
-  more_off p ne = ap (count_by test) (upd_off ps.payloads n p (ps.payloads n ++ x ∷ []) ne)
+  more_off : (p : ℕ) → p ≢ n → held_by test (registered_as how n x ps) p ≡ held_by test ps p
+  unfolding registered_as
+  more_off p ne = ap (held_count test) (upd_off ps.payloads n p (with_one how x (ps.payloads n)) ne)
 
-  more_beside : test x ≡ false → (p : ℕ) → held_by test (registered n x ps) p ≡ held_by test ps p
+  more_beside : test x ≡ false → (p : ℕ) → held_by test (registered_as how n x ps) p ≡ held_by test ps p
   more_beside other p = elim (cases_eq p n) [
-    | inl is ↦ subst (λ (k : ℕ). held_by test (registered n x ps) k ≡ held_by test ps k) (sym is)
+    | inl is ↦ subst (λ (k : ℕ). held_by test (registered_as how n x ps) k ≡ held_by test ps k) (sym is)
         (more_there ∙ (ap (λ (k : ℕ). held_by test ps n + k) (ap (λ (b : Bool). cond b 1 0) other) ∙ (let none : held_by test ps n + 0 ≡ held_by test ps n = omega arith in none)))
     | inr ne ↦ more_off p ne
   ]
 
-  more_all : n < ps.next → sum_below (registered n x ps).next (held_by test (registered n x ps)) ≡ sum_below ps.next (held_by test ps) + one_if test x
+  more_all : n < ps.next → sum_below (registered_as how n x ps).next (held_by test (registered_as how n x ps)) ≡ sum_below ps.next (held_by test ps) + one_if test x
   more_all lt =
-      ap (λ (m : ℕ). sum_below m (held_by test (registered n x ps))) (registered_next n x ps)
-      ∙ sum_more ps.next n (one_if test x) (held_by test ps) (held_by test (registered n x ps)) lt more_there more_off
+      ap (λ (m : ℕ). sum_below m (held_by test (registered_as how n x ps))) (registered_next how n x ps)
+      ∙ sum_more ps.next n (one_if test x) (held_by test ps) (held_by test (registered_as how n x ps)) lt more_there more_off
 
 -- a pool is made
 module _ (test : Payload → Bool) (parent : ℕ) (ps : Pools Payload) (formed : IsPoolMap ps) where
   made_same : (p : ℕ) → held_by test (created parent ps) p ≡ held_by test ps p
   unfolding created
-  made_same p = elim (upd_either ps.payloads ps.next p []) [
-    | inl q ↦ (let bare : ps.payloads p ≡ [] = formed.bare p (formed_fresh ps formed p (omega (arith, q.0))) in ap (count_by test) q.1 ∙ sym (ap (count_by test) bare))
-    | inr q ↦ ap (count_by test) q.1
+  made_same p = elim (upd_either ps.payloads ps.next p no_cleanups) [
+    | inl q ↦ (let bare : ps.payloads p ≡ no_cleanups = formed.bare p (formed_fresh ps formed p (omega (arith, q.0))) in ap (held_count test) q.1 ∙ sym (ap (held_count test) bare))
+    | inr q ↦ ap (held_count test) q.1
   ]
 
   made_all : sum_below (created parent ps).next (held_by test (created parent ps)) ≡ sum_below ps.next (held_by test ps)
   unfolding created sum_below
   made_all =
       let now : ℕ → ℕ = held_by test (created parent ps) in
-      let bare : ps.payloads ps.next ≡ [] = formed.bare ps.next (formed_fresh ps formed ps.next (omega arith)) in
-      let last : now ps.next ≡ 0 = made_same ps.next ∙ ap (count_by test) bare in
+      let bare : ps.payloads ps.next ≡ no_cleanups = formed.bare ps.next (formed_fresh ps formed ps.next (omega arith)) in
+      let last : now ps.next ≡ 0 = made_same ps.next ∙ ap (held_count test) bare in
       let more : ps.next + 1 ≡ suc ps.next = omega arith in
       let rest : sum_below ps.next now ≡ sum_below ps.next (held_by test ps) = sum_below_same ps.next now (held_by test ps) (λ p lt. made_same p) in
       ap (λ (m : ℕ). sum_below m now) more ∙ (ap (λ (k : ℕ). k + sum_below ps.next now) last ∙ (let none : 0 + sum_below ps.next now ≡ sum_below ps.next now = omega arith in none ∙ rest))
@@ -94,27 +109,34 @@ thinned test blind text (x ∷ xs) = by_tests (list_any (is_label text) xs) (is_
   by_tests false true is rest = let front = count_cons test x xs in let none = not_counted x is in omega (arith, front, none)
   by_tests false false is rest = refl
 
+less_counted : (test : Payload → Bool) → ((text : List ℕ) → test (Label text) ≡ false) → (text : List ℕ) (c : Cleanups Payload) → held_count test (with_plain (without_last (is_label text)) c) ≡ held_count test c
+less_counted test blind text c =
+    let now = count_append test c.pre (without_last (is_label text) c.plain) in
+    let was = count_append test c.pre c.plain in
+    let less = thinned test blind text c.plain in
+    omega (arith, now, was, less)
+
 less_same : (test : Payload → Bool) → ((text : List ℕ) → test (Label text) ≡ false) → (n : ℕ) (text : List ℕ) (ps : Pools Payload) (p : ℕ)
     → held_by test (killed n (is_label text) ps) p ≡ held_by test ps p
 unfolding killed
-less_same test blind n text ps p = elim (upd_either ps.payloads n p (without_last (is_label text) (ps.payloads n))) [
-  | inl q ↦ ap (count_by test) q.1 ∙ (thinned test blind text (ps.payloads n) ∙ sym (ap (held_by test ps) q.0))
-  | inr q ↦ ap (count_by test) q.1
+less_same test blind n text ps p = elim (upd_either ps.payloads n p (with_plain (without_last (is_label text)) (ps.payloads n))) [
+  | inl q ↦ ap (held_count test) q.1 ∙ (less_counted test blind text (ps.payloads n) ∙ sym (ap (held_by test ps) q.0))
+  | inr q ↦ ap (held_count test) q.1
 ]
 
 -- references are registered one after another
 referred_held : (name n : ℕ) (files : List ℕ) (ps : Pools Payload) (p : ℕ) → held_by (is_brigade name) (all_referred n files ps) p ≡ held_by (is_brigade name) ps p
 unfolding all_referred
 referred_held name n [] ps p = refl
-referred_held name n (file ∷ files) ps p = referred_held name n files (registered n (FileRef file) ps) p ∙ more_beside (is_brigade name) n (FileRef file) ps refl p
+referred_held name n (file ∷ files) ps p = referred_held name n files (registered n (FileRef file) ps) p ∙ more_beside (is_brigade name) Plain n (FileRef file) ps refl p
 
 referred_all : (f n : ℕ) (files : List ℕ) (ps : Pools Payload) → n < ps.next → all_refs (all_referred n files ps) f ≡ all_refs ps f + times_in f files
 unfolding all_referred times_in
 referred_all f n [] ps lt = omega arith
 referred_all f n (file ∷ files) ps lt =
-    let one : all_refs (registered n (FileRef file) ps) f ≡ all_refs ps f + cond (file == f) 1 0 = more_all (is_file_ref f) n (FileRef file) ps lt in
+    let one : all_refs (registered n (FileRef file) ps) f ≡ all_refs ps f + cond (file == f) 1 0 = more_all (is_file_ref f) Plain n (FileRef file) ps lt in
     let rest : all_refs (all_referred n files (registered n (FileRef file) ps)) f ≡ all_refs (registered n (FileRef file) ps) f + times_in f files
-    = referred_all f n files (registered n (FileRef file) ps) (subst (λ (m : ℕ). n < m) (sym (registered_next n (FileRef file) ps)) lt) in
+    = referred_all f n files (registered n (FileRef file) ps) (subst (λ (m : ℕ). n < m) (sym (registered_next Plain n (FileRef file) ps)) lt) in
     by_test (file == f) (all_refs (registered n (FileRef file) ps) f) one rest where
       by_test : (b : Bool) (now : ℕ) → now ≡ all_refs ps f + cond b 1 0 → all_refs (all_referred n files (registered n (FileRef file) ps)) f ≡ now + times_in f files
           → all_refs (all_referred n files (registered n (FileRef file) ps)) f ≡ all_refs ps f + cond b (suc (times_in f files)) (times_in f files)
@@ -153,7 +175,7 @@ module _ (lists : ℕ → Option Items) (pool_of : ℕ → Option ℕ) (referenc
     held = λ n p. elim (cases_eq n b) [
       | inl is ↦ subst (λ (k : ℕ). held_by (is_brigade k) (registered pool (Brigade b) ps) p ≡ once_in p (pools_now n)) (sym is)
           (here p ∙ sym (ap (once_in p) (on n ∙ ap (λ (s : Bool). cond s (Some pool) (pool_of n)) (eq-eqb n b is))))
-      | inr ne ↦ more_beside (is_brigade n) pool (Brigade b) ps (ne_eqb b n (λ e. ne (sym e))) p
+      | inr ne ↦ more_beside (is_brigade n) Plain pool (Brigade b) ps (ne_eqb b n (λ e. ne (sym e))) p
           ∙ (house.held n p ∙ sym (ap (once_in p) (on n ∙ ap (λ (s : Bool). cond s (Some pool) (pool_of n)) (ne_eqb n b ne))))
     ];
     there = λ n p is. elim (cases_eq n b) [
@@ -161,7 +183,7 @@ module _ (lists : ℕ → Option Items) (pool_of : ℕ → Option ℕ) (referenc
       | inr ne ↦ ap is_some (out n ∙ ap (λ (s : Bool). cond s (Some []) (lists n)) (ne_eqb n b ne))
           ∙ house.there n p (sym (on n ∙ ap (λ (s : Bool). cond s (Some pool) (pool_of n)) (ne_eqb n b ne)) ∙ is)
     ];
-    referred = λ f. counts f ∙ (house.referred f ∙ sym (more_all (is_file_ref f) pool (Brigade b) ps (formed.named pool live) ∙ (let none : all_refs ps f + 0 ≡ all_refs ps f = omega arith in none)));
+    referred = λ f. counts f ∙ (house.referred f ∙ sym (more_all (is_file_ref f) Plain pool (Brigade b) ps (formed.named pool live) ∙ (let none : all_refs ps f + 0 ≡ all_refs ps f = omega arith in none)));
   } where
     nowhere : (p : ℕ) (at : Option ℕ) → pool_of b ≡ at → once_in p at ≡ 0
     nowhere p None is = refl
@@ -173,9 +195,9 @@ module _ (lists : ℕ → Option Items) (pool_of : ℕ → Option ℕ) (referenc
     here : (p : ℕ) → held_by (is_brigade b) (registered pool (Brigade b) ps) p ≡ once_in p (Some pool)
     here p = elim (cases_eq p pool) [
       | inl at ↦ subst (λ (k : ℕ). held_by (is_brigade b) (registered pool (Brigade b) ps) k ≡ once_in k (Some pool)) (sym at)
-          (more_there (is_brigade b) pool (Brigade b) ps
+          (more_there (is_brigade b) Plain pool (Brigade b) ps
           ∙ (ap (λ (k : ℕ). k + one_if (is_brigade b) (Brigade b)) (none_held pool) ∙ (ap (λ (s : Bool). 0 + cond s 1 0) (eq-eqb b b refl) ∙ sym (once_at pool))))
-      | inr ne ↦ more_off (is_brigade b) pool (Brigade b) ps p ne ∙ (none_held p ∙ sym (once_off pool p ne))
+      | inr ne ↦ more_off (is_brigade b) Plain pool (Brigade b) ps p ne ∙ (none_held p ∙ sym (once_off pool p ne))
     ]
 
 module _ (lists : ℕ → Option Items) (pool_of : ℕ → Option ℕ) (references : ℕ → ℕ) (ps : Pools Payload) (house : AreHoused lists pool_of references ps) where
@@ -192,9 +214,9 @@ module _ (lists : ℕ → Option Items) (pool_of : ℕ → Option ℕ) (referenc
   house_created parent formed = over (created parent ps) (λ n. made_same (is_brigade n) parent ps formed) (λ f. made_all (is_file_ref f) parent ps formed)
 
   -- a label is registered
-  pub house_labelled : (pool : ℕ) (text : List ℕ) → IsPoolMap ps → is_live ps pool ≡ true → AreHoused lists pool_of references (registered pool (Label text) ps)
-  house_labelled pool text formed live = over (registered pool (Label text) ps) (λ n. more_beside (is_brigade n) pool (Label text) ps refl)
-      (λ f. more_all (is_file_ref f) pool (Label text) ps (formed.named pool live) ∙ (let none : all_refs ps f + 0 ≡ all_refs ps f = omega arith in none))
+  pub house_labelled : (how : CleanupKind) (pool : ℕ) (text : List ℕ) → IsPoolMap ps → is_live ps pool ≡ true → AreHoused lists pool_of references (registered_as how pool (Label text) ps)
+  house_labelled how pool text formed live = over (registered_as how pool (Label text) ps) (λ n. more_beside (is_brigade n) how pool (Label text) ps refl)
+      (λ f. more_all (is_file_ref f) how pool (Label text) ps (formed.named pool live) ∙ (let none : all_refs ps f + 0 ≡ all_refs ps f = omega arith in none))
 
   -- a label is killed
   pub house_unlabelled : (pool : ℕ) (text : List ℕ) → AreHoused lists pool_of references (killed pool (is_label text) ps)
@@ -246,7 +268,7 @@ unfolding is_live
 house_live lists pool_of references ps house formed n p at = by_path (ps.path p) refl where
   by_path : (path : List ℕ) → ps.path p ≡ path → not (is_empty path) ≡ true
   by_path [] bare =
-      let none : held_by (is_brigade n) ps p ≡ 0 = ap (count_by (is_brigade n)) (formed.bare p bare) in
+      let none : held_by (is_brigade n) ps p ≡ 0 = ap (held_count (is_brigade n)) (formed.bare p bare) in
       let one : held_by (is_brigade n) ps p ≡ 1 = house.held n p ∙ (ap (once_in p) at ∙ once_at p) in
       absurd (omega arith)
   by_path (m ∷ above) is = refl

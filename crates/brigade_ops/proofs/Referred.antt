@@ -9,7 +9,7 @@ use Rattle.run_model.specs.declared.bucket.Home.TheVariants as home
 use Rattle.run_model.specs.declared.payload.Payload.{Payload}
 use Rattle.run_model.specs.declared.payload.Payload.TheVariants.{FileRef}
 use Rattle.run_model.specs.Payloads.{payload_eq}
-use Rattle.run_model.specs.Pools.{Pools, is_under, is_in, registered}
+use Rattle.run_model.specs.Pools.{Pools, is_under, is_in, registered, registered_as}
 use Rattle.run_model.specs.RunOrder.{killed}
 use Rattle.run_model.specs.Steps.{is_above, all_referred}
 use Rattle.run_model.specs.Cutting.{set_aside}
@@ -52,7 +52,7 @@ times_more file f (g ∷ files) = at (g == file) (f == file) (times_more file f 
 
 -- references change payloads alone
 referred_path : (pool : ℕ) (files : List ℕ) (ps : Pools Payload) → (all_referred pool files ps).path ≡ ps.path
-unfolding all_referred registered
+unfolding all_referred registered_as
 referred_path pool [] ps = refl
 referred_path pool (f ∷ files) ps = referred_path pool files (registered pool (FileRef f) ps)
 

@@ -4,9 +4,10 @@ use Rattle.std.specs.Prelude.{count_by}
 use Rattle.std.proofs.lemmas.Bool.{cases_eq, cases_lt}
 use Rattle.run_model.specs.declared.payload.Payload.{Payload}
 use Rattle.run_model.specs.Payloads.{is_file_ref}
-use Rattle.run_model.specs.Pools.{Pools, is_empty, is_live}
+use Rattle.run_model.specs.Pools.{Pools, no_cleanups, is_empty, is_live}
 use Rattle.run_model.specs.RunOrder.{IsPoolMap}
 use Rattle.run_model.specs.Sound.{sum_below}
+use Rattle.brigade_ops.proofs.Counts.{held_count}
 use Rattle.brigade_ops.specs.House.{all_refs, AreHoused}
 use Rattle.stored_rings.specs.Items.{Items}
 
@@ -28,16 +29,16 @@ pathless [] never = refl
 pathless (n ∷ ns) never = absurd (never refl)
 
 module _ (ps : Pools Payload) (formed : IsPoolMap ps) (now : ℕ) (named : (n : ℕ) → is_live ps n ≡ true → n < now) where
-  no_payloads : (bound p : ℕ) → ((n : ℕ) → is_live ps n ≡ true → n < bound) → bound ≤ p → ps.payloads p ≡ []
+  no_payloads : (bound p : ℕ) → ((n : ℕ) → is_live ps n ≡ true → n < bound) → bound ≤ p → ps.payloads p ≡ no_cleanups
   unfolding is_live
   no_payloads bound p below above = formed.bare p (pathless (ps.path p) (λ live. omega (arith, below p live)))
 
-  no_refs : (bound file : ℕ) → ((n : ℕ) → is_live ps n ≡ true → n < bound) → (p : ℕ) → bound ≤ p → count_by (is_file_ref file) (ps.payloads p) ≡ 0
-  no_refs bound file below p above = ap (count_by (is_file_ref file)) (no_payloads bound p below above)
+  no_refs : (bound file : ℕ) → ((n : ℕ) → is_live ps n ≡ true → n < bound) → (p : ℕ) → bound ≤ p → held_count (is_file_ref file) (ps.payloads p) ≡ 0
+  no_refs bound file below p above = ap (held_count (is_file_ref file)) (no_payloads bound p below above)
 
   same_refs : (file : ℕ) → all_refs ps file ≡ all_refs (record ps { next = now }) file
   same_refs file =
-      let refs = λ (p : ℕ). count_by (is_file_ref file) (ps.payloads p) in
+      let refs = λ (p : ℕ). held_count (is_file_ref file) (ps.payloads p) in
       elim (cases_lt now ps.next) [
         | inl less ↦ sum_from refs now ps.next (omega arith) (no_refs now file named)
         | inr more ↦ sym (sum_from refs ps.next now more (no_refs ps.next file formed.named))

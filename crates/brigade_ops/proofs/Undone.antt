@@ -2,7 +2,8 @@
 use Rattle.std.proofs.Common.{◌≡◌, ℕ, Bool, true, false, ◌||◌, cond, List, [], ◌∷◌, ◌++◌, refl, ap, ◌∙◌}
 use Rattle.std.specs.List.{list_any}
 use Rattle.run_model.specs.Indexed.{upd}
-use Rattle.run_model.specs.Pools.{Pools, is_live, registered}
+use Rattle.run_model.specs.declared.effect.CleanupKind.TheVariants.{Plain}
+use Rattle.run_model.specs.Pools.{Pools, Cleanups, with_one, is_live, registered, registered_as}
 use Rattle.run_model.specs.RunOrder.{killed, without_last}
 use Rattle.run_model.proofs.Updates.{upd_at, upd_upd, upd_same}
 
@@ -21,21 +22,23 @@ without_newest test (y ∷ ys) x passes =
     ap (λ b. cond b (y ∷ without_last test (ys ++ x ∷ [])) (cond (test y) (ys ++ x ∷ []) (y ∷ (ys ++ x ∷ [])))) (last_any test ys x passes)
     ∙ ap (λ zs. y ∷ zs) (without_newest test ys x passes)
 
-abbrev with_payloads : {T : Type 0} → Pools T → (ℕ → List T) → Pools T
+abbrev with_payloads : {T : Type 0} → Pools T → (ℕ → Cleanups T) → Pools T
 with_payloads ps f = record ps { payloads = f }
 
 pub killed_again : {T : Type 0} (ps : Pools T) (p : ℕ) (test : T → Bool) (x : T) → test x ≡ true → killed p test (registered p x ps) ≡ ps
-unfolding killed registered
-killed_again ps p test x passes =
-    let more = ps.payloads p ++ x ∷ [] in
+unfolding killed registered_as
+killed_again {T} ps p test x passes =
+    let c = ps.payloads p in
+    let more : Cleanups T = with_one Plain x c in
+    let less : Cleanups T → Cleanups T = λ (d : Cleanups T). record d { plain = without_last test d.plain } in
     ap (with_payloads ps)
-    (upd_upd ps.payloads p more (without_last test (upd ps.payloads p more p))
-    ∙ (ap (λ items. upd ps.payloads p items) (ap (without_last test) (upd_at ps.payloads p more) ∙ without_newest test (ps.payloads p) x passes)
+    (upd_upd ps.payloads p more (less (upd ps.payloads p more p))
+    ∙ (ap (λ (d : Cleanups T). upd ps.payloads p d) (ap less (upd_at ps.payloads p more) ∙ ap (λ (xs : List T). record c { plain = xs }) (without_newest test c.plain x passes))
     ∙ upd_same ps.payloads p))
 
 -- a payload more leaves the pools that there are
 pub live_registered : {T : Type 0} (ps : Pools T) (p n : ℕ) (x : T) → is_live ps n ≡ true → is_live (registered p x ps) n ≡ true
-unfolding registered is_live
+unfolding registered_as is_live
 live_registered ps p n x live = live
 
 -- so does a payload less

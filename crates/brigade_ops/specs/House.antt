@@ -6,7 +6,7 @@ use Rattle.bucket_kinds.specs.declared.stored.Stored.{Stored}
 use Rattle.run_model.specs.declared.payload.Payload.{Payload}
 use Rattle.run_model.specs.Clearing.{is_reached}
 use Rattle.run_model.specs.Payloads.{is_file_ref}
-use Rattle.run_model.specs.Pools.{Pools}
+use Rattle.run_model.specs.Pools.{Pools, all_held}
 use Rattle.run_model.specs.Holding.{times_held}
 use Rattle.run_model.specs.Sound.{sum_below}
 use Rattle.bucket_kinds.specs.Device.{Device, is_there}
@@ -17,7 +17,7 @@ use Rattle.brigade_ops.specs.Store.{lists, pool_of, references}
 
 -- how many references to a file all pools hold
 abbrev pub all_refs : Pools Payload → ℕ → ℕ
-all_refs ps file = sum_below ps.next (λ p. count_by (is_file_ref file) (ps.payloads p))
+all_refs ps file = sum_below ps.next (λ p. count_by (is_file_ref file) (all_held (ps.payloads p)))
 
 -- held: a brigade stands once among the payloads of the pool that it is on, and nowhere else. there: a brigade that is on a pool is there.
 -- referred: references are counted.

@@ -15,7 +15,7 @@ use Rattle.run_model.specs.declared.event.Stepped.{Stepped}
 use Rattle.run_model.specs.declared.event.Stepped.TheVariants as stepped
 use Rattle.run_model.specs.BucketSteps.{content_at}
 use Rattle.run_model.specs.Buckets.{is_eos}
-use Rattle.run_model.specs.Chains.{Frame, Connection, Linked, is_last, configuration, module_at}
+use Rattle.run_model.specs.Chains.{Frame, Connection, Linked, is_last, is_output, configuration, module_at}
 use Rattle.run_model.specs.Cursors.{at_cursor}
 use Rattle.run_model.specs.Cutting.{read_limit, wanted}
 use Rattle.run_model.specs.Files.{parts_of}
@@ -101,12 +101,15 @@ module _ (d e : Device) where
   beside : (v : Linked) → SameBeside d e v.1 → Spares d e v.1
   beside v told = (let next = told.1 in record { rises = omega (arith, next); folder = told.0.0; sound = λ sound. told.0.1 ∙ sound; others = λ file old none. told.3 file none })
 
+  put_out : (last : Bool) (v : Linked) (items : List NamedBucket) (reads : Reads) → IfElse last (IfElse v.1.out.ended (e ≡ d) (ReadsGiven d e items reads 0)) (e ≡ d) → Spares d e v.1
+  put_out last v items reads told =
+      reads_spare v.1 (unless e d last (IfElse v.1.out.ended (e ≡ d) (ReadsGiven d e items reads 0)) (e ≡ d)
+      (unless e d v.1.out.ended (e ≡ d) (ReadsGiven d e items reads 0) (same e d) (all_reads e items d reads 0)) (same e d) told)
+
   tells_reads : (chain : List Program) (i : Instr) (f : Frame) (v : Linked) (reads : Reads) → TellsReads d e chain i f v reads → Spares d e v.1
   tells_reads chain (instr.Read c l) f v reads told = reads_spare v.1 (gives e d (content_at (at_cursor (configuration v.0 v.1 f) c)) (reads 0) told)
-  tells_reads chain (instr.Pass b l) f v reads told =
-      reads_spare v.1 (unless e d (is_last chain f.of) (IfElse v.1.out.ended (e ≡ d) (ReadsGiven d e (items_of ((v.1.instances f.of).brigades b)) reads 0)) (e ≡ d)
-      (unless e d v.1.out.ended (e ≡ d) (ReadsGiven d e (items_of ((v.1.instances f.of).brigades b)) reads 0) (same e d) (all_reads e (items_of ((v.1.instances f.of).brigades b)) d reads 0))
-      (same e d) told)
+  tells_reads chain (instr.Ret s) f v reads told = put_out (is_output chain f.of) v (items_of ((v.1.instances f.of).brigades 8)) reads told
+  tells_reads chain (instr.Pass b l) f v reads told = put_out (is_last chain v.1 f.of) v (items_of ((v.1.instances f.of).brigades b)) reads told
   tells_reads chain (instr.PClear q) f v reads told = beside v told
   tells_reads chain (instr.PDestroy q) f v reads told = beside v told
   tells_reads chain i f v reads told = reads_spare v.1 (same e d told)
@@ -117,11 +120,15 @@ module _ (d e : Device) where
   at_top chain (f ∷ rest) v reads told = tells_reads chain (current (module_at chain f.of) f.pc) f v reads told
 
   -- memory was refused
-  lacked_in : (chain : List Program) (i : Instr) (f : Frame) (c : Connection) → LackedIn d e chain i f → Spares d e c
-  lacked_in chain (instr.Pass b l) f c lacked = reads_spare c (unless e d (is_last chain f.of) (SomeWentWell d e) (e ≡ d) (λ all. some e all.0 d all.1) (same e d) lacked)
+  lacked_out : (last : Bool) (c : Connection) → IfElse last (SomeWentWell d e) (e ≡ d) → Spares d e c
+  lacked_out last c lacked = reads_spare c (unless e d last (SomeWentWell d e) (e ≡ d) (λ all. some e all.0 d all.1) (same e d) lacked)
+
+  lacked_in : (chain : List Program) (i : Instr) (f : Frame) (c : Connection) → LackedIn d e chain i f c → Spares d e c
+  lacked_in chain (instr.Pass b l) f c lacked = lacked_out (is_last chain c f.of) c lacked
+  lacked_in chain (instr.Ret s) f c lacked = lacked_out (is_output chain f.of) c lacked
   lacked_in chain i f c lacked = reads_spare c (same e d lacked)
 
-  lacked_at_top : (chain : List Program) (k : Option Cause) (fs : List Frame) (c : Connection) → LackedAtTop d e chain k fs → Spares d e c
+  lacked_at_top : (chain : List Program) (k : Option Cause) (fs : List Frame) (c : Connection) → LackedAtTop d e chain c k fs → Spares d e c
   unfolding LackedAtTop
   lacked_at_top chain (Some k) fs c lacked = reads_spare c (same e d lacked)
   lacked_at_top chain None [] c lacked = reads_spare c (same e d lacked)

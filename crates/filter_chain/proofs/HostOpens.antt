@@ -2,6 +2,7 @@
 use Rattle.std.proofs.Math.Path.{fun_ext}
 use Rattle.std.proofs.Common.{◌≡◌, ◌≢◌, Option, is_some, ℕ, ◌+◌, ◌<◌, Bool, true, false, ◌||◌, not, List, [], ◌∷◌, Some, inr, refl, sym, ◌∙◌, ap, subst, arith}
 use Rattle.module_code.specs.Program.{Program}
+use Rattle.std.specs.Option.{option_map_or}
 use Rattle.run_model.specs.declared.event.Event.TheVariants as event
 use Rattle.run_model.specs.declared.event.Refusal.TheVariants as refusal
 use Rattle.run_model.specs.Refusals.{first_refusal, refused_if}
@@ -17,10 +18,10 @@ use Rattle.brigade_ops.specs.House.{AreOpen, IsHouse}
 use Rattle.stored_rings.specs.Items.{Items}
 use Rattle.brigade_ops.specs.Store.{lists, brigade_of, next_name, pool_of, references}
 use Rattle.module_run.specs.Conns.{conn_of}
-use Rattle.module_run.specs.Stacked.{IsStacked}
+use Rattle.module_run.specs.Stacked.{AreWhole, IsStacked}
 use Rattle.module_run.proofs.HeldStays.{held_stays}
 use Rattle.run_model.specs.declared.payload.Payload.{Payload}
-use Rattle.run_model.specs.Pools.{Pools, created, is_under}
+use Rattle.run_model.specs.Pools.{Pools, created, is_under, no_cleanups}
 use Rattle.model_laws.proofs.chains.OpenedTree.{opening_plants}
 use Rattle.model_laws.proofs.chains.TreeParts.{reached_tree}
 use Rattle.module_run.specs.declared.conn.Conn.{Conn}
@@ -112,6 +113,7 @@ unchanged_holds d old new w hosts chain budget last conns same =
         apart = stacked.apart;
         called = stacked.called;
         brought = λ m f is named. (let was = stacked.brought m f is named in (ap (λ (p : ℕ → Option ℕ). p m) same.on ∙ was.0, ap is_some (same.lists_are m) ∙ was.1));
+        whole = λ out m f is named. subst (λ (o : Option Items). AreWhole (option_map_or (λ bs. bs) o [])) (sym (same.lists_are m)) (stacked.whole out m f is named);
       }
 
       hosted : (x : Conn) (b : Connection) → IsHosted (chain_of old) old.tree old.store d x b → IsHosted (chain_of old) new.tree new.store d x b
@@ -128,7 +130,7 @@ put_after old room new number conn same put n = put n ∙ ap (λ (f : ℕ → Op
 
 -- These are no pools.
 abbrev no_pools : Pools Payload
-no_pools = record { path = λ n. []; payloads = λ n. []; next = 0 }
+no_pools = record { path = λ n. []; payloads = λ n. no_cleanups; next = 0 }
 
 -- It is opened, with the next number.
 pub opened_on : {F R : Type 0} {g : Ghosts R Stored} (d : Device) (old new : Host F R g) (w : World) → IsHosting d old w → chain_of new ≡ chain_of old → budget_of new ≡ budget_of old

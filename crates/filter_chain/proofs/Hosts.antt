@@ -14,7 +14,7 @@ use Rattle.run_model.specs.Chains.{Connection, configuration, pools_of}
 use Rattle.run_model.specs.Effects.{handed_over}
 use Rattle.run_model.specs.Holding.{refers, times_held}
 use Rattle.run_model.specs.Payloads.{is_brigade, is_file_ref}
-use Rattle.run_model.specs.Pools.{Pools, is_under}
+use Rattle.run_model.specs.Pools.{Cleanups, Pools, all_held, is_under}
 use Rattle.run_model.specs.Sound.{brigade_name}
 use Rattle.run_model.specs.Worlds.{World}
 use Rattle.model_laws.specs.Parts.{HasPart}
@@ -108,7 +108,7 @@ module _ {R : Type 0} {g : Ghosts R Stored} {budget : ℕ} {chain : List Program
     at_first = ((known k c here).lies.lies (looking 0)).has
 
     same_refs : (p file : ℕ) → is_under ps c.conn p ≡ true → refers (pools_of w.common c) p file ≡ refers ps p file
-    same_refs p file under = ap (list_any (is_file_ref file)) (ap (λ (f : ℕ → List Payload). f p) (known k c here).lies.part.payloads ∙ part_payloads ps c.conn p (under_belongs ps c.conn p under))
+    same_refs p file under = ap (λ (held : Cleanups Payload). list_any (is_file_ref file) (all_held held)) (ap (λ (f : ℕ → Cleanups Payload). f p) (known k c here).lies.part.payloads ∙ part_payloads ps c.conn p (under_belongs ps c.conn p under))
 
     -- a file to which a pool of its own refers is open
     pub refers_open : (p file : ℕ) → is_under ps c.conn p ≡ true → refers ps p file ≡ true → is_some (c.opened file) ≡ true
@@ -182,8 +182,8 @@ module _ {R : Type 0} {g : Ghosts R Stored} {budget : ℕ} {chain : List Program
         once c here p on under =
             let times = h.house.held n p in
             let one = stands_once p (pool_of store n) on in
-            let same : times_held (pools_of w.common c) n p ≡ times_held (map_of tree) n p = ap (λ (xs : List Payload). count_by (is_brigade n) xs)
-            (ap (λ (y : ℕ → List Payload). y p) (known number c here).lies.part.payloads ∙ part_payloads (map_of tree) c.conn p (under_belongs (map_of tree) c.conn p under)) in
+            let same : times_held (pools_of w.common c) n p ≡ times_held (map_of tree) n p = ap (λ (held : Cleanups Payload). count_by (is_brigade n) (all_held held))
+            (ap (λ (y : ℕ → Cleanups Payload). y p) (known number c here).lies.part.payloads ∙ part_payloads (map_of tree) c.conn p (under_belongs (map_of tree) c.conn p under)) in
             omega (arith, times, one, same)
 
         mine : (c : Connection) → w.conns number ≡ Some c → IsHosted chain tree store d conn c → (p : ℕ) → pool_of store n ≡ Some p → is_under (map_of tree) conn.conn p ≡ true → HoldsName conn n

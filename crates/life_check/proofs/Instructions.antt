@@ -10,7 +10,7 @@ use Rattle.life_check.proofs.Partitions.{law_bpart}
 use Rattle.life_check.proofs.Passes.{law_pass, law_ret}
 use Rattle.life_check.proofs.Places.{law_first, law_next}
 use Rattle.life_check.proofs.Plain.{law_jempty, law_jend, law_jkind, law_jnull, law_jsent}
-use Rattle.life_check.proofs.Pools.{law_label, law_pcreate, law_unlabel}
+use Rattle.life_check.proofs.Pools.{law_label, law_pcreate, law_prelabel, law_unlabel}
 use Rattle.life_check.proofs.Puts.{law_before, law_head, law_tail}
 use Rattle.life_check.proofs.Saved.{law_bsave}
 use Rattle.life_check.proofs.Splits.{law_bsplit}
@@ -23,6 +23,7 @@ step_lands lives (instr.PCreate q) = law_pcreate {lives = lives} q
 step_lands lives (instr.PClear q) = law_pclear {lives = lives} q
 step_lands lives (instr.PDestroy q) = law_pdestroy {lives = lives} q
 step_lands lives (instr.Label q t) = law_label {lives = lives} q t
+step_lands lives (instr.PreLabel q t) = law_prelabel {lives = lives} q t
 step_lands lives (instr.Unlabel q t) = law_unlabel {lives = lives} q t
 step_lands lives (instr.BCreate o) = law_bcreate {lives = lives} o
 step_lands lives (instr.BClean b) = law_bclean {lives = lives} b

@@ -59,6 +59,7 @@ pub no_request : (p : Program) (i : Instr) → misplaced part.Open p.pools p.bri
 unfolding pool_of_pool pool_of_brigade
 no_request p (instr.PCreate q) apart h = one_pool 7 p.pools (pool_of_pool p q) _ (apart_from_req p (instr.PCreate q) apart).0 refl h
 no_request p (instr.Label q t) apart h = one_pool 8 p.pools q [] (apart_from_req p (instr.Label q t) apart).0 refl h
+no_request p (instr.PreLabel q t) apart h = one_pool 8 p.pools q [] (apart_from_req p (instr.PreLabel q t) apart).0 refl h
 no_request p (instr.Unlabel q t) apart h = one_pool 8 p.pools q [] (apart_from_req p (instr.Unlabel q t) apart).0 refl h
 no_request p (instr.BCreate o) apart h = one_pool 8 p.pools (pool_of_brigade p o) _ (apart_from_req p (instr.BCreate o) apart).0 refl h
 no_request p (instr.PoolB c q) apart h = one_pool 8 p.pools q [] (apart_from_req p (instr.PoolB c q) apart).1 refl h

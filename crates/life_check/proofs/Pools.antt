@@ -15,10 +15,12 @@ use Rattle.run_model.specs.declared.bucket.NamedBucket.{NamedBucket}
 use Rattle.run_model.specs.declared.bucket.PoolVar.{PoolVar}
 use Rattle.run_model.specs.declared.bucket.PoolVar.TheVariants as poolvar
 use Rattle.run_model.specs.declared.payload.Payload.{Payload}
+use Rattle.run_model.specs.declared.effect.CleanupKind.{CleanupKind}
+use Rattle.run_model.specs.declared.effect.CleanupKind.TheVariants.{Plain, Pre}
 use Rattle.run_model.specs.BrigadeLists.{bucket_named}
 use Rattle.run_model.specs.Faults.{usable_fault, has_pool_at, has_pool, is_live_named}
 use Rattle.run_model.specs.Indexed.{upd}
-use Rattle.run_model.specs.Pools.{Pools, is_empty, is_live, created, registered}
+use Rattle.run_model.specs.Pools.{Pools, Cleanups, is_empty, is_live, created, registered_as}
 use Rattle.run_model.specs.RunOrder.{killed}
 use Rattle.run_model.specs.Sound.{brigade_name, Sound}
 use Rattle.run_model.specs.State.{Configuration, PoolView, pool_view, named_at, pool_named, items_of, with_pools, name_in, set_pool as set_variable}
@@ -125,7 +127,7 @@ module _ (C D : Homes → Home → Type 0) (more : (h : Homes) (x : Home) → C 
 -- Labels.
 
 -- other payloads change nothing
-payloads_fit : (p : Program) (lives : Home → Type 0) (payloads : ℕ → List Payload) (s : State) (r : Configuration) → Fits (Covers p (pool_view r) lives) s r
+payloads_fit : (p : Program) (lives : Home → Type 0) (payloads : ℕ → Cleanups Payload) (s : State) (r : Configuration) → Fits (Covers p (pool_view r) lives) s r
     → Fits (Covers p (pool_view (with_pools (record r.shared.pools { payloads = payloads }) r)) lives) s (with_pools (record r.shared.pools { payloads = payloads }) r)
 unfolding with_pools is_live
 payloads_fit p lives payloads s r f =
@@ -143,10 +145,17 @@ on_pool_fits : (p : Program) (lives : Home → Type 0) (change : ℕ → Configu
 on_pool_fits p lives change s r before after None = before
 on_pool_fits p lives change s r before after (Some n) = after n
 
+label_fits : {lives : Home → Type 0} (how : CleanupKind) (p : Program) (q : PoolRef) (t : ℕ) (s : State) (r : Configuration) → Fits (Covers p (pool_view r) lives) s r
+    → Fits (Covers p (pool_view (on_pool (label_registered how (text_of p t)) (pool_named r q) r)) lives) s (on_pool (label_registered how (text_of p t)) (pool_named r q) r)
+unfolding registered_as
+label_fits {lives} how p q t s r f =
+    on_pool_fits p lives (label_registered how (text_of p t)) s r f (λ n. payloads_fit p lives _ s r f) (pool_named r q)
+
 pub law_label : {lives : Home → Type 0} (q : PoolRef) (t : ℕ) → LawOf lives (instr.Label q t)
-unfolding registered
-law_label {lives} q t p choice r s ready =
-    on_pool_fits p lives (label_registered (text_of p t)) s r ready.fits (λ n. payloads_fit p lives _ s r ready.fits) (pool_named r q)
+law_label {lives} q t p choice r s ready = label_fits {lives = lives} Plain p q t s r ready.fits
+
+pub law_prelabel : {lives : Home → Type 0} (q : PoolRef) (t : ℕ) → LawOf lives (instr.PreLabel q t)
+law_prelabel {lives} q t p choice r s ready = label_fits {lives = lives} Pre p q t s r ready.fits
 
 pub law_unlabel : {lives : Home → Type 0} (q : PoolRef) (t : ℕ) → LawOf lives (instr.Unlabel q t)
 unfolding killed

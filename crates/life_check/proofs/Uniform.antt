@@ -21,7 +21,7 @@ use Rattle.run_model.specs.Faults.{fault, usable_fault, wants}
 use Rattle.run_model.specs.Pools.{Pools}
 use Rattle.run_model.specs.Sound.{SoundNames, brigade_name}
 use Rattle.run_model.specs.State.{Configuration, pool_view, set_number, items_of}
-use Rattle.run_model.specs.Steps.{Choice, jumps_if, exit_by, holds, value_of, do_clearbuf, do_effect, is_full, number_of}
+use Rattle.run_model.specs.Steps.{Choice, jumps_if, exit_by, holds, value_of, do_clearbuf, do_leave, do_effect, is_full, number_of}
 use Rattle.life_state.specs.Rules.{after, both_with, first_need, led}
 use Rattle.life_state.proofs.WithinNeeds.{needs_with}
 use Rattle.life_state.specs.States.{Homes, CursorKnown, State}
@@ -66,6 +66,7 @@ Uniform (effect.Make c from) = Unit {0}
 Uniform (effect.Number n number) = Unit {0}
 Uniform (effect.Put x) = Unit {0}
 Uniform effect.ClearBuffer = Unit {0}
+Uniform effect.Leave = Unit {0}
 Uniform e = ⊥
 
 -- one more byte in the buffer
@@ -94,6 +95,8 @@ module _ (lives : Home → Type 0) (p : Program) (choice : Choice) (r : Configur
   uniform_described (effect.Put x) h none met = byte_described x (is_full r x)
   uniform_described effect.ClearBuffer h none met =
       fits_same (Covers p (pool_view r) lives) s r (do_clearbuf r) (record { sent = refl; vars = refl; pools = refl; brigades = refl; loose = refl; cursors = refl }) f
+  uniform_described effect.Leave h none met =
+      fits_same (Covers p (pool_view r) lives) s r (do_leave r) (record { sent = refl; vars = refl; pools = refl; brigades = refl; loose = refl; cursors = refl }) f
   uniform_described e h none met = absurd h
 
 -- Where an instruction leads on.

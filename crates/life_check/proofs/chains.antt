@@ -10,6 +10,7 @@ pub mod InPlace
 pub mod Kept
 pub mod Never
 pub mod Others
+pub mod Output
 pub mod Outside
 pub mod Passing
 pub mod Resumed

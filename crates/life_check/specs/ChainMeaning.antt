@@ -12,7 +12,7 @@ use Rattle.run_model.specs.declared.bucket.Home.TheVariants as home
 use Rattle.run_model.specs.declared.bucket.PoolVar.TheVariants as poolvar
 use Rattle.run_model.specs.Pools.{is_in}
 use Rattle.run_model.specs.State.{pool_view, fresh_call}
-use Rattle.run_model.specs.Chains.{Frame, Connection, Common, module_at, configuration}
+use Rattle.run_model.specs.Chains.{Frame, Connection, Common, module_at, configuration, places}
 use Rattle.life_state.specs.States.{State}
 use Rattle.life_state.specs.Rules.{at_open}
 use Rattle.life_check.specs.Certificates.{Certificate}
@@ -92,4 +92,4 @@ is_on k stack = list_any (λ f. f.of == k) stack
 
 pub record ChainStands (chain : List Program) (certs : ℕ → Certificate) (g : Common) (c : Connection) : Type 0 where
   pub stack : StackStands chain certs g c c.stack
-  pub rests : (k : ℕ) → k < length chain → is_on k c.stack ≡ false → RestsIn chain g c k (known_of chain certs c k)
+  pub rests : (k : ℕ) → k < places chain → is_on k c.stack ≡ false → RestsIn chain g c k (known_of chain certs c k)

@@ -453,7 +453,7 @@ abbrev pub after : Program → Effect → State → State
 after p effect.Nothing s = s
 after p (effect.MakePool q) s = after_pcreate q s
 after p (effect.EmptyPool kind q) s = after_emptied p kind q s
-after p (effect.Register q t) s = s
+after p (effect.Register how q t) s = s
 after p (effect.Kill q t) s = s
 after p (effect.MakeBrigade o) s = after_bcreate o s
 after p (effect.Clean b) s = after_bclean b s
@@ -475,6 +475,7 @@ after p (effect.Read c) s = after_read c s
 after p (effect.Number n number) s = s
 after p (effect.Put x) s = s
 after p effect.ClearBuffer s = s
+after p effect.Leave s = s
 after p effect.Return s = s
 
 -- The two edges, by what decides between them: s is the state before the instruction, t the one that its effect makes of it. Where a

@@ -168,12 +168,13 @@ impl State {
             Effect::Aside(c, pool) => self.aside(c, pool, self.cursor(c)),
             Effect::Read(c) => self.set_cursor(8, self.cursor(c), Others::As(c)),
             Effect::Nothing
-            | Effect::Register(_, _)
+            | Effect::Register(_, _, _)
             | Effect::Kill(_, _)
             | Effect::Split(_, _)
             | Effect::Number(_, _)
             | Effect::Put(_)
             | Effect::ClearBuffer
+            | Effect::Leave
             | Effect::Return => self,
         }
     }

@@ -228,7 +228,7 @@ impl Faulty<'_> {
             Code::DoubledLabel => self.tell_label(told, true),
             Code::LostLabel => self.tell_label(told, false),
             Code::Misplaced => told.push(
-                "  `in`, `pass` and `ret fail` stand in `main` alone, and nothing of the request stands in `open`\n",
+                "  `in`, `pass`, `leave` and `ret fail` stand in `main` alone, and nothing of the request stands in `open`\n",
             ),
             Code::OpenEnd => told.push("  the last instruction of a handler is `ret` or `jump`\n"),
             Code::TooMany => told.push("  a module has 1024 instructions and 64 texts at most\n"),

@@ -1,4 +1,5 @@
 -- Steps keep pools and brigades as the module declares them.
+use Rattle.run_model.specs.declared.effect.CleanupKind.TheVariants.{Plain, Pre}
 use Rattle.std.proofs.Common.{◌≡◌, ◌≢◌, ℕ, ◌+◌, ◌<◌, ◌≤◌, Bool, true, false, ◌||◌, not, ◌==◌, nat_lt, cond, List, [], ◌∷◌, ◌++◌, map, filter_map, length, Option, Some, None, ◌⊎◌, inl, inr, refl, sym}
 use Rattle.std.proofs.Common.{◌∙◌, ap, subst, arith}
 use Rattle.std.proofs.lemmas.Bool.{cases_Bool, cases_eq}
@@ -17,7 +18,7 @@ use Rattle.run_model.specs.declared.bucket.Cursor.{Cursor}
 use Rattle.run_model.specs.declared.fault.FaultKind.TheVariants.{F1, F10}
 use Rattle.run_model.specs.declared.payload.Payload.{Payload}
 use Rattle.run_model.specs.Indexed.{upd}
-use Rattle.run_model.specs.Pools.{Pools, is_empty, is_live, is_in, is_under, created, registered}
+use Rattle.run_model.specs.Pools.{Pools, is_empty, is_live, is_in, is_under, created, registered, registered_as}
 use Rattle.run_model.specs.RunOrder.{IsPoolMap, killed}
 use Rattle.run_model.specs.Buckets.{cleared_bucket}
 use Rattle.run_model.specs.Clearing.{is_reached, cleared_var, run_down}
@@ -307,6 +308,7 @@ declared_frame p = record {
   loose = λ xs r s. kept p r _ refl refl refl refl (same_vars r) s;
   numbers = λ n v r s. kept p r _ refl refl refl refl (same_vars r) s;
   buffer = λ bytes r s. kept p r _ refl refl refl refl (same_vars r) s;
+  left = λ r s. kept p r _ refl refl refl refl (same_vars r) s;
   names = λ n r s. kept p r _ refl refl refl refl (same_vars r) s;
   refs = λ target files r lives s. kept p r _ refl refl refl (referred_path target files r.shared.pools) (same_vars r) s;
 }
@@ -316,14 +318,15 @@ unfolding set_cursor
 declared_placed p c v r s = kept p r _ refl refl refl refl (same_vars r) s
 
 pub step_declared : StepKeepsDeclared
-unfolding set_brigade with_pools registered killed
+unfolding set_brigade with_pools registered_as killed
 step_declared p choice (instr.PCreate q) r may sound s =
     made_under_named (AsDeclared p) p q r s
     (λ parent e. made_declared p parent q r (pool_below p may.proper q may.fit) (no_live_pool r (pool_of_pool p q) q may.faultless) e
     (named_lives r (pool_of_pool p q) parent (wanted_pool r (pool_of_pool p q) _ may.faultless) e) sound.pools s)
 step_declared p choice (instr.PClear q) r may sound s = on_emptied (AsDeclared p) Clear q r s (λ n left e so. emptied_declared p n left r sound.pools.formed so s)
 step_declared p choice (instr.PDestroy q) r may sound s = on_emptied (AsDeclared p) Destroy q r s (λ n left e so. emptied_declared p n left r sound.pools.formed so s)
-step_declared p choice (instr.Label q t) r may sound s = on_named (AsDeclared p) (label_registered (text_of p t)) (pool_named r q) r s (λ n e. kept p r _ refl refl refl refl (same_vars r) s)
+step_declared p choice (instr.Label q t) r may sound s = on_named (AsDeclared p) (label_registered Plain (text_of p t)) (pool_named r q) r s (λ n e. kept p r _ refl refl refl refl (same_vars r) s)
+step_declared p choice (instr.PreLabel q t) r may sound s = on_named (AsDeclared p) (label_registered Pre (text_of p t)) (pool_named r q) r s (λ n e. kept p r _ refl refl refl refl (same_vars r) s)
 step_declared p choice (instr.Unlabel q t) r may sound s = on_named (AsDeclared p) (label_killed (text_of p t)) (pool_named r q) r s (λ n e. kept p r _ refl refl refl refl (same_vars r) s)
 step_declared p choice (instr.BCreate o) r may sound s = created_declared p o r (brigade_not_in p may.proper o may.fit) (wanted_pool r (pool_of_brigade p o) _ may.faultless) s
 step_declared p choice (instr.BClean b) r may sound s = kept p r (do_clean b r) refl refl refl refl (clean_on r.instance.brigades b) s

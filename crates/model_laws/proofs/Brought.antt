@@ -12,7 +12,7 @@ use Rattle.run_model.specs.Buckets.{is_data_kind, is_eos_kind, has_data, data_af
 use Rattle.run_model.specs.State.{Instance, items_of}
 use Rattle.run_model.specs.Refusals.{first_refusal, refused_if, if_broken}
 use Rattle.run_model.specs.Pieces.{bucket_of, named_from, is_data_piece, is_eos_piece, data_behind_eos}
-use Rattle.run_model.specs.Chains.{Connection, Common, Linked}
+use Rattle.run_model.specs.Chains.{Connection, Common, Linked, place_from}
 use Rattle.run_model.specs.Turns.{brought, brings, unless_refused, is_busy}
 use Rattle.model_laws.specs.Laws.{BucketsAsPieces}
 use Rattle.model_laws.specs.Bringing.{LateDataIsRefused, BroughtEndsOnce}
@@ -64,11 +64,11 @@ served None old done new is = (refl, ap (λ (a : Option Refusal × Linked). a.1)
 served (Some r) old done new is = absurd (let no : Some r ≡ None = ap (λ (a : Option Refusal × Linked). a.0) is in cc)
 
 in_brought : (o : Option ℕ) (chain : List Program) (pieces : List Piece) (g : Common) (c : Connection) → not (is_some o) ≡ false → data_behind_eos pieces ≡ false
-    → data_after_eos (items_of (((brought chain pieces o (g, c)).1.instances 0).brigades 8)) ≡ false
+    → data_after_eos (items_of (((brought chain pieces o (g, c)).1.instances (place_from chain c.instances 0)).brigades 8)) ≡ false
 in_brought None chain pieces g c in_request none = absurd (cc)
 in_brought (Some req) chain pieces g c in_request none =
-    ap (λ (i : Instance). data_after_eos (items_of (i.brigades 8))) (upd_at c.instances 0 _)
-    ∙ ap (λ (v : BrigadeVar). data_after_eos (items_of v)) (upd_at (c.instances 0).brigades 8 _) ∙ (buckets_as_pieces g.next req (g.next + 2) pieces ∙ none)
+    ap (λ (i : Instance). data_after_eos (items_of (i.brigades 8))) (upd_at c.instances (place_from chain c.instances 0) _)
+    ∙ ap (λ (v : BrigadeVar). data_after_eos (items_of v)) (upd_at (c.instances (place_from chain c.instances 0)).brigades 8 _) ∙ (buckets_as_pieces g.next req (g.next + 2) pieces ∙ none)
 
 pub brought_ends_once : BroughtEndsOnce
 unfolding brings
@@ -78,4 +78,4 @@ brought_ends_once memory chain pieces (g, c) new is =
     let b = none_if (is_busy c.stack) refusal.Busy _ a in
     let d = none_if (not (is_some c.req)) refusal.NotInRequest _ b.1 in
     let e = none_if (data_behind_eos pieces) refusal.DataAfterEos _ d.1 in
-    ap (λ (x : Linked). data_after_eos (items_of ((x.1.instances 0).brigades 8))) happened.1 ∙ in_brought c.req chain pieces g c d.0 e.0
+    ap (λ (x : Linked). data_after_eos (items_of ((x.1.instances (place_from chain c.instances 0)).brigades 8))) happened.1 ∙ in_brought c.req chain pieces g c d.0 e.0

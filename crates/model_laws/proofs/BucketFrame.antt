@@ -20,18 +20,19 @@ use Rattle.run_model.specs.declared.effect.Effect.{Effect}
 use Rattle.run_model.specs.declared.effect.Effect.TheVariants as effect
 use Rattle.run_model.specs.EffectOf.{effect_of}
 use Rattle.run_model.specs.Changes.{extent, is_wide}
-use Rattle.run_model.specs.Steps.{do_effect, made_of, number_of, put_at, Choice, step}
+use Rattle.run_model.specs.Steps.{do_effect, do_leave, made_of, number_of, put_at, Choice, step}
 use Rattle.model_laws.specs.Laws.{MayExecute}
 use Rattle.model_laws.proofs.NamedPools.{with_buffer, put_keeps, on_named}
 use Rattle.model_laws.proofs.Marks.{first_none, second_none}
 
--- A property of states that stays whatever buckets there are, what numbers and the buffer are, which names are given out,
+-- A property of states that stays whatever buckets there are, what numbers and the buffer are, whether the instance left, which names are given out,
 -- and which files the live pools refer to.
 pub record IsFrame (P : Configuration → Type 0) : Type 0 where
   pub items : (b : ℕ) (xs : List NamedBucket) (r : Configuration) → P r → P (set_items b xs r)
   pub loose : (xs : List NamedBucket) (r : Configuration) → P r → P (set_loose xs r)
   pub numbers : (n v : ℕ) (r : Configuration) → P r → P (set_number n v r)
   pub buffer : (bytes : List ℕ) (r : Configuration) → P r → P (with_buffer bytes r)
+  pub left : (r : Configuration) → P r → P (do_leave r)
   pub names : (n : ℕ) (r : Configuration) → P r → P (names_given n r)
   pub refs : (target : ℕ) (files : List ℕ) (r : Configuration) → is_live r.shared.pools target ≡ true → P r → P (with_pools (all_referred target files r.shared.pools) r)
 
@@ -112,6 +113,7 @@ module _ (P : Configuration → Type 0) (f : IsFrame P) where
   framed p choice (effect.Number n number) r plain unset alive h = got_framed n (number_of r n number) r h
   framed p choice (effect.Put x) r plain unset alive h = put_keeps P x r h (λ bytes. f.buffer bytes r h)
   framed p choice effect.ClearBuffer r plain unset alive h = f.buffer [] r h
+  framed p choice effect.Leave r plain unset alive h = f.left r h
   framed p choice e r plain unset alive h = absurd (cc)
 
 -- Where it also stays wherever cursors stand.

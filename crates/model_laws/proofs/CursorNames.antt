@@ -103,6 +103,7 @@ held_frame = record {
   loose = λ xs r s. record { given = s.given };
   numbers = λ n v r s. record { given = s.given };
   buffer = λ bytes r s. record { given = s.given };
+  left = λ r s. record { given = s.given };
   names = λ k r s. record { given = λ c n e. (let lt : n < r.shared.next = s.given c n e in omega arith) };
   refs = λ target files r lives s. record { given = s.given };
 }
@@ -161,7 +162,7 @@ effect_cursors : (p : Program) (choice : Choice) (e : Effect) (r : Configuration
 unfolding set_brigade set_pool with_pools run_down
 effect_cursors p choice (effect.MakePool q) r alive names s = made_under_named SoundCursors p q r s (λ parent is. stay_held r _ refl (omega arith) s)
 effect_cursors p choice (effect.EmptyPool k q) r alive names s = on_named SoundCursors (after_clear k) (pool_named r (pool.Own q)) r s (λ n is. stay_held r (after_clear k n r) refl (omega arith) s)
-effect_cursors p choice (effect.Register q t) r alive names s = on_named SoundCursors (label_registered (text_of p t)) (pool_named r q) r s (λ n is. stay_held r _ refl (omega arith) s)
+effect_cursors p choice (effect.Register k q t) r alive names s = on_named SoundCursors (label_registered k (text_of p t)) (pool_named r q) r s (λ n is. stay_held r _ refl (omega arith) s)
 effect_cursors p choice (effect.Kill q t) r alive names s = on_named SoundCursors (label_killed (text_of p t)) (pool_named r q) r s (λ n is. stay_held r _ refl (omega arith) s)
 effect_cursors p choice (effect.MakeBrigade o) r alive names s = stay_held r (do_create p o r) refl (omega arith) s
 effect_cursors p choice (effect.Clean b) r alive names s = stay_held r (do_clean b r) refl (omega arith) s

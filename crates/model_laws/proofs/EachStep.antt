@@ -1,4 +1,5 @@
 -- What is true of each bucket that a call sees, under its name and whatever pools there are, through its instruction.
+use Rattle.run_model.specs.declared.effect.CleanupKind.TheVariants.{Plain, Pre}
 use Rattle.std.proofs.Common.{◌≡◌, ℕ, Bool, true, List, Some, All, refl}
 use Rattle.module_code.specs.declared.instr.Instr.{Instr}
 use Rattle.module_code.specs.declared.instr.Instr.TheVariants as instr
@@ -64,7 +65,8 @@ module _ (T : NamedBucket → Type 0) (r : Configuration) (h : HoldsNamed T r) w
   each_step p choice (instr.PCreate q) stays = made_under_named (HoldsNamed T) p q r h (λ parent e. record { brigades = h.brigades; loose = h.loose })
   each_step p choice (instr.PClear q) stays = on_emptied (HoldsNamed T) Clear q r h (λ n left e so. emptied_holds stays.cleared left n)
   each_step p choice (instr.PDestroy q) stays = on_emptied (HoldsNamed T) Destroy q r h (λ n left e so. emptied_holds stays.cleared left n)
-  each_step p choice (instr.Label q t) stays = on_named (HoldsNamed T) (label_registered (text_of p t)) (pool_named r q) r h (λ n e. record { brigades = h.brigades; loose = h.loose })
+  each_step p choice (instr.Label q t) stays = on_named (HoldsNamed T) (label_registered Plain (text_of p t)) (pool_named r q) r h (λ n e. record { brigades = h.brigades; loose = h.loose })
+  each_step p choice (instr.PreLabel q t) stays = on_named (HoldsNamed T) (label_registered Pre (text_of p t)) (pool_named r q) r h (λ n e. record { brigades = h.brigades; loose = h.loose })
   each_step p choice (instr.Unlabel q t) stays = on_named (HoldsNamed T) (label_killed (text_of p t)) (pool_named r q) r h (λ n e. record { brigades = h.brigades; loose = h.loose })
   each_step p choice (instr.BCreate o) stays = record { brigades = written_each T r.instance.brigades o _ (none T) h.brigades; loose = h.loose }
   each_step p choice (instr.BClean b) stays = record { brigades = written_each T r.instance.brigades b _ (cleaned_each T (r.instance.brigades b)) h.brigades; loose = h.loose }

@@ -1,4 +1,5 @@
 -- What a new pool and a killed label leave of the others.
+use Rattle.run_model.specs.declared.effect.CleanupKind.TheVariants.{Plain}
 use Rattle.std.proofs.Common.{◌≡◌, ◌≢◌, ℕ, Bool, true, false, ◌||◌, not, cond, List, [], ◌∷◌, ◌++◌, inl, inr, All, append-nil, refl, sym, ◌∙◌, ap, arith}
 use Rattle.std.proofs.lemmas.Bool.{or_right, false_from_ne_true}
 use Rattle.std.proofs.lemmas.List.Elements.{All-head, All-tail}
@@ -7,7 +8,7 @@ use Rattle.std.specs.Cmp.Lexicographic.{bytes_decides}
 use Rattle.run_model.specs.declared.payload.Payload.{Payload}
 use Rattle.run_model.specs.declared.payload.Payload.TheVariants.{Label, FileRef, Brigade}
 use Rattle.run_model.specs.Indexed.{upd}
-use Rattle.run_model.specs.Pools.{Pools, is_empty, is_live, created, registered}
+use Rattle.run_model.specs.Pools.{Pools, is_empty, is_live, created, registered, registered_as, Cleanups, no_cleanups, with_one}
 use Rattle.run_model.specs.RunOrder.{IsPoolMap, without_last, killed}
 use Rattle.run_model.specs.Payloads.{is_label}
 use Rattle.run_model.specs.State.{with_pools}
@@ -22,13 +23,13 @@ dead_next : {T : Type 0} (ps : Pools T) → IsPoolMap ps → is_live ps ps.next 
 unfolding is_live
 dead_next ps f = ap (λ (path : List ℕ). not (is_empty path)) (formed_fresh ps f ps.next (omega arith))
 
-created_bare : {T : Type 0} (parent : ℕ) (ps : Pools T) → (created parent ps).payloads ps.next ≡ []
+created_bare : {T : Type 0} (parent : ℕ) (ps : Pools T) → (created parent ps).payloads ps.next ≡ no_cleanups
 unfolding created
-created_bare parent ps = upd_at ps.payloads ps.next []
+created_bare parent ps = upd_at ps.payloads ps.next no_cleanups
 
 created_payloads : {T : Type 0} (parent : ℕ) (ps : Pools T) → IsPoolMap ps → (m : ℕ) → is_live ps m ≡ true → (created parent ps).payloads m ≡ ps.payloads m
 unfolding created
-created_payloads parent ps f m live = upd_off ps.payloads ps.next m [] (λ e. absurd (omega (arith, e, f.named m live)))
+created_payloads parent ps f m live = upd_off ps.payloads ps.next m no_cleanups (λ e. absurd (omega (arith, e, f.named m live)))
 
 pub creates_keep_others : CreatesKeepOthers
 creates_keep_others parent ps f = record {
@@ -78,25 +79,29 @@ no_label text (y ∷ ys) apart =
     ∙ no_label text ys (All-tail (λ x. x ≢ Label text) y ys apart)
 
 pub kills_the_newest : KillsTheNewest
-unfolding with_pools registered killed
+unfolding with_pools registered_as killed
 kills_the_newest n m text r =
-    let old : List Payload = r.shared.pools.payloads n in
-    let grown : ℕ → List Payload = upd r.shared.pools.payloads n (old ++ Label text ∷ []) in
-    elim (upd_either grown n m (without_last (is_label text) (grown n))) [
-      | inl p ↦ p.1 ∙ (ap (without_last (is_label text)) (upd_at r.shared.pools.payloads n (old ++ Label text ∷ []))
-          ∙ (newest_goes (is_label text) old [] (Label text) ((bytes_decides text text).1 refl) refl ∙ (append-nil old ∙ ap r.shared.pools.payloads (sym p.0))))
-      | inr p ↦ p.1 ∙ upd_off r.shared.pools.payloads n m (old ++ Label text ∷ []) p.0
+    let old : Cleanups Payload = r.shared.pools.payloads n in
+    let more : Cleanups Payload = with_one Plain (Label text) old in
+    let grown : ℕ → Cleanups Payload = upd r.shared.pools.payloads n more in
+    let thin : Cleanups Payload → Cleanups Payload = λ c. record c { plain = without_last (is_label text) c.plain } in
+    elim (upd_either grown n m (thin (grown n))) [
+      | inl p ↦ p.1 ∙ (ap thin (upd_at r.shared.pools.payloads n more)
+          ∙ (ap (λ (xs : List Payload). record old { plain = xs }) (newest_goes (is_label text) old.plain [] (Label text) ((bytes_decides text text).1 refl) refl ∙ append-nil old.plain)
+          ∙ ap r.shared.pools.payloads (sym p.0)))
+      | inr p ↦ p.1 ∙ upd_off r.shared.pools.payloads n m more p.0
     ]
 
 pub kills_one_label : KillsOneLabel
 unfolding with_pools killed
 kills_one_label n text r =
-    let old : ℕ → List Payload = r.shared.pools.payloads in
-    let left : List Payload = without_last (is_label text) (old n) in
+    let old : ℕ → Cleanups Payload = r.shared.pools.payloads in
+    let left : Cleanups Payload = record (old n) { plain = without_last (is_label text) (old n).plain } in
     record {
-      newest = λ xs ys is apart. upd_at old n left
+      newest = λ xs ys is apart. ap (λ (c : Cleanups Payload). c.plain) (upd_at old n left)
           ∙ (ap (without_last (is_label text)) is ∙ newest_goes (is_label text) xs ys (Label text) ((bytes_decides text text).1 refl) (no_label text ys apart));
-      none = λ apart. upd_at old n left ∙ none_goes (is_label text) (old n) (no_label text (old n) apart);
+      none = λ apart. upd_at old n left ∙ ap (λ (xs : List Payload). record (old n) { plain = xs }) (none_goes (is_label text) (old n).plain (no_label text (old n).plain apart));
+      early = ap (λ (c : Cleanups Payload). c.pre) (upd_at old n left);
       others = λ m ne. upd_off old n m left ne;
       path = refl;
       names = refl;

@@ -2,7 +2,7 @@
 use Rattle.std.proofs.Common.{◌≡◌, ℕ, true, false, not, List, Option, Some, None, ◌⊎◌, inl, inr, refl, ap}
 use Rattle.run_model.specs.declared.payload.Payload.{Payload}
 use Rattle.run_model.specs.declared.payload.Payload.TheVariants.{Brigade}
-use Rattle.run_model.specs.Pools.{Pools, is_empty, is_live, registered}
+use Rattle.run_model.specs.Pools.{Pools, is_empty, is_live, registered, registered_as}
 use Rattle.run_model.specs.RunOrder.{IsPoolMap}
 use Rattle.run_model.specs.Faults.{is_live_named}
 use Rattle.run_model.specs.Steps.{with_brigade}
@@ -11,12 +11,12 @@ use Rattle.run_model.proofs.Formed.{registered_formed}
 use Rattle.run_model.proofs.References.{registered_refers, registered_back}
 
 pub brigade_path : (on : Option ℕ) (name : ℕ) (ps : Pools Payload) → (with_brigade on name ps).path ≡ ps.path
-unfolding with_brigade registered
+unfolding with_brigade registered_as
 brigade_path None name ps = refl
 brigade_path (Some n) name ps = refl
 
 pub brigade_next : (on : Option ℕ) (name : ℕ) (ps : Pools Payload) → (with_brigade on name ps).next ≡ ps.next
-unfolding with_brigade registered
+unfolding with_brigade registered_as
 brigade_next None name ps = refl
 brigade_next (Some n) name ps = refl
 

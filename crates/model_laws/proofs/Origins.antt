@@ -324,6 +324,7 @@ module _ (T : NamedBucket → Type 0) (p : Program) (choice : Choice) (r : Confi
   leaves (effect.Number n number) quiet = got_holds T r on h n (number_of r n number)
   leaves (effect.Put x) quiet = put_keeps (HoldsNamed T) x r h (λ buffer. buffer_holds T buffer r h)
   leaves effect.ClearBuffer quiet = buffer_holds T [] r h
+  leaves effect.Leave quiet = record { brigades = h.brigades; loose = h.loose }
   leaves e quiet = absurd (cc)
 
 -- the parts of a bucket, and one like it

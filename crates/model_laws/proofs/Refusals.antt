@@ -15,9 +15,10 @@ use Rattle.run_model.specs.declared.event.Stepped.{Stepped}
 use Rattle.run_model.specs.declared.event.Stepped.TheVariants as stepped
 use Rattle.run_model.specs.Steps.{lacks_names, grows, current, is_spent}
 use Rattle.run_model.specs.Refusals.{first_refusal, if_broken}
-use Rattle.run_model.specs.Chains.{Frame, Connection, Common, Linked, module_at, configuration}
-use Rattle.run_model.specs.Passing.{Reads, next_called, returned_from, proceeds}
-use Rattle.run_model.specs.Turns.{Opening, unless_refused, begins, begun, brings, brought, ends, ended, opens_file, file_answer, steps, step_unless, step_top, watched, executed, unless_fault, counted}
+use Rattle.run_model.specs.Chains.{Frame, Connection, Common, Linked, module_at, configuration, is_last}
+use Rattle.module_code.specs.declared.instr.Status.TheVariants.{Fail}
+use Rattle.run_model.specs.Passing.{Reads, next_called, returned_from, proceeds, put_out_by, answered_so, returns}
+use Rattle.run_model.specs.Turns.{Opening, unless_refused, begins, begun, brings, brought, ends, ended, opens_file, file_answer, steps, step_unless, step_top, watched, executed, unless_fault, counted, puts_out}
 use Rattle.run_model.specs.Turns.{broken_by, calls_of}
 use Rattle.run_model.specs.Worlds.{World, Told, Answer, Refused, put_conn, answered, file_answered, step_answered, adds_file, closes, opens, opens_if, happens_on}
 use Rattle.model_laws.specs.RefusalOrder.{RefusedChangesNothing, RefusedStepBreaks, FaultBreaks, BrokenStaysBroken, SameWorld, breaks, is_work}
@@ -92,27 +93,42 @@ data StepIs (w : Linked) : StepAnswer → Type 0 where
   Goes : (new : Linked) → StepIs w (Ok stepped.Went, new)
   Ends : (s : Status) (new : Linked) → StepIs w (Ok (stepped.CallEnded s), new)
 
+-- no fault
+abbrev IsAnswer : Stepped → Type 0
+IsAnswer stepped.Went = Unit {0}
+IsAnswer (stepped.CallEnded s) = Unit {0}
+IsAnswer (stepped.Fault k m pc) = ⊥
+
 module _ (memory : Bool) (budget : ℕ) (chain : List Program) (reads : Reads) (g : Common) (c : Connection) where
-  called_is : (s : Status) (queue : List ℕ) (v : Linked) → StepIs (g, c) (counted (next_called chain s queue v))
-  called_is s [] v = Ends s _
-  called_is s (k ∷ ks) v = Goes _
+  called_is : (s : Status) (queue : List ℕ) (v : Linked) → IsAnswer (next_called chain s queue v).0
+  called_is s [] v = tt
+  called_is s (k ∷ ks) v = tt
+
+  returns_is : (s : Status) (f : Frame) (rest : List Frame) → IsAnswer (returns chain s f rest (g, c)).0
+  unfolding returned_from
+  returns_is s f [] = called_is s c.queue _
+  returns_is s f (w ∷ rest) = tt
 
   proceeds_is : (i : Instr) (f : Frame) (rest : List Frame) → StepIs (g, c) (counted (proceeds chain reads i f rest (g, c)))
   unfolding proceeds returned_from
-  proceeds_is (instr.Ret s) f [] = called_is s c.queue _
-  proceeds_is (instr.Ret s) f (w ∷ rest) = Goes _
+  proceeds_is (instr.Ret s) f rest = answered_is (put_out_by chain reads f c).1 (returns chain s f rest (g, c)) (returns_is s f rest) where
+    answered_is : (t : Bool) (a : Stepped × Linked) → IsAnswer a.0 → StepIs (g, c) (counted (answered_so t a.0, (a.1.0, record a.1.1 { out = (put_out_by chain reads f c).0 })))
+    answered_is false a is = Ends Fail _
+    answered_is true (stepped.Went, v) is = Goes _
+    answered_is true (stepped.CallEnded t, v) is = Ends t _
+    answered_is true (stepped.Fault k m pc, v) is = absurd is
   proceeds_is (instr.Pass b l) f rest = Goes _
   proceeds_is i f rest = Goes _
 
   executed_is : (i : Instr) (f : Frame) (rest : List Frame) → StepIs (g, c) (executed memory chain reads i f rest (g, c))
   unfolding executed
-  executed_is i f rest = by_names (lacks_names (configuration g c f) i || is_spent g.next (calls_of chain i f rest c.queue)) where
+  executed_is i f rest = by_names (lacks_names (configuration g c f) i || is_spent g.next (calls_of (is_last chain c f.of) i rest c.queue)) where
     by_memory : (b : Bool) → StepIs (g, c) (cond b (counted (proceeds chain reads i f rest (g, c))) (broken_by cause.NoMemory (g, c)))
     by_memory true = proceeds_is i f rest
     by_memory false = Breaks cause.NoMemory
 
     by_names : (b : Bool) → StepIs (g, c) (cond b (broken_by cause.NamesSpent (g, c))
-        (cond (memory || not (grows (configuration g c f) i || nat_lt 0 (calls_of chain i f rest c.queue))) (counted (proceeds chain reads i f rest (g, c))) (broken_by cause.NoMemory (g, c))))
+        (cond (memory || not (grows (configuration g c f) i || nat_lt 0 (calls_of (is_last chain c f.of) i rest c.queue) || puts_out chain f (g, c))) (counted (proceeds chain reads i f rest (g, c))) (broken_by cause.NoMemory (g, c))))
     by_names true = Breaks cause.NamesSpent
     by_names false = by_memory _
 

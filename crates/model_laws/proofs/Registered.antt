@@ -1,4 +1,6 @@
 -- Each step keeps brigades registered with their pools, those of its instance and of others.
+use Rattle.run_model.specs.declared.effect.CleanupKind.{CleanupKind}
+use Rattle.run_model.specs.declared.effect.CleanupKind.TheVariants.{Plain, Pre}
 use Rattle.std.proofs.Common.{◌≡◌, ◌≢◌, ◌⊎◌, ℕ, ◌+◌, ◌<◌, Bool, true, false, ◌==◌, cond, List, [], ◌∷◌, ◌++◌, map, filter_map, Option, Some, None, inl, inr, refl, sym, ◌∙◌, ap, subst, arith, ne_eqb}
 use Rattle.std.proofs.Common.{eq-eqb}
 use Rattle.std.proofs.lemmas.Option.{same_Some}
@@ -19,14 +21,14 @@ use Rattle.run_model.specs.declared.bucket.Cursor.{Cursor}
 use Rattle.run_model.specs.declared.payload.Payload.{Payload}
 use Rattle.run_model.specs.declared.payload.Payload.TheVariants.{Label, FileRef, Brigade}
 use Rattle.run_model.specs.Payloads.{is_label, is_brigade}
-use Rattle.run_model.specs.Pools.{Pools, is_under, created, registered}
+use Rattle.run_model.specs.Pools.{Pools, is_under, created, registered, registered_as, Cleanups, no_cleanups, all_held, with_one}
 use Rattle.run_model.specs.RunOrder.{IsPoolMap, without_last, killed}
 use Rattle.run_model.specs.Buckets.{cleared_bucket}
 use Rattle.run_model.specs.BucketSteps.{set_items, names_given}
 use Rattle.run_model.specs.Clearing.{is_reached, cleared_var, run_down}
 use Rattle.run_model.specs.State.{Instance, Configuration, items_of, set_pool, with_pools, set_brigade, set_loose, set_cursor, set_number, pool_named}
 use Rattle.run_model.specs.Faults.{WPool, fault_want, new_fault, or_else}
-use Rattle.run_model.specs.Steps.{Choice, step, on_pool, with_brigade, all_referred, do_create, do_pass, do_return, do_clean, do_concat, cleaned, handed_over, with_items, returned_var, made_on}
+use Rattle.run_model.specs.Steps.{do_leave, Choice, step, on_pool, with_brigade, all_referred, do_create, do_pass, do_return, do_clean, do_concat, cleaned, handed_over, with_items, returned_var, made_on}
 use Rattle.run_model.specs.Steps.{new_ref, saved_into, pool_cleared, pool_destroyed, label_registered, label_killed, text_of}
 use Rattle.run_model.specs.Chains.{is_under_named, cleared_by, touched_var, touched_instance}
 use Rattle.run_model.specs.Sound.{brigade_name, brigade_pool, SoundNames, Sound}
@@ -47,27 +49,50 @@ use Rattle.run_model.proofs.References.{Emptied, cleared_emptied, destroyed_empt
 abbrev one_if : ℕ → Payload → ℕ
 one_if name x = cond (is_brigade name x) 1 0
 
-held_more : (n : ℕ) (x : Payload) (ps : Pools Payload) (name : ℕ) → times_held (registered n x ps) name n ≡ times_held ps name n + one_if name x
-unfolding registered
-held_more n x ps name =
-    let all : times_held (registered n x ps) name n ≡ sum_by (one_if name) (ps.payloads n ++ x ∷ []) = ap (count_by (is_brigade name)) (upd_at ps.payloads n (ps.payloads n ++ x ∷ [])) in
-    let parts : sum_by (one_if name) (ps.payloads n ++ x ∷ []) ≡ sum_by (one_if name) (ps.payloads n) + sum_by (one_if name) (x ∷ []) = sum_by-append (one_if name) (ps.payloads n) (x ∷ []) in
+-- one more payload of either kind counts once
+counted_one : (how : CleanupKind) (name : ℕ) (x : Payload) (c : Cleanups Payload) → count_by (is_brigade name) (all_held (with_one how x c)) ≡ count_by (is_brigade name) (all_held c) + one_if name x
+counted_one Plain name x c =
+    let whole : sum_by (one_if name) (c.pre ++ (c.plain ++ x ∷ [])) ≡ sum_by (one_if name) c.pre + sum_by (one_if name) (c.plain ++ x ∷ []) = sum_by-append (one_if name) c.pre (c.plain ++ x ∷ []) in
+    let part : sum_by (one_if name) (c.plain ++ x ∷ []) ≡ sum_by (one_if name) c.plain + sum_by (one_if name) (x ∷ []) = sum_by-append (one_if name) c.plain (x ∷ []) in
+    let old : sum_by (one_if name) (c.pre ++ c.plain) ≡ sum_by (one_if name) c.pre + sum_by (one_if name) c.plain = sum_by-append (one_if name) c.pre c.plain in
     let last : sum_by (one_if name) (x ∷ []) ≡ one_if name x = omega arith in
-    all ∙ parts ∙ ap (λ (k : ℕ). sum_by (one_if name) (ps.payloads n) + k) last
+    let goal : sum_by (one_if name) (c.pre ++ (c.plain ++ x ∷ [])) ≡ sum_by (one_if name) (c.pre ++ c.plain) + one_if name x = omega arith in goal
+counted_one Pre name x c =
+    let whole : sum_by (one_if name) ((c.pre ++ x ∷ []) ++ c.plain) ≡ sum_by (one_if name) (c.pre ++ x ∷ []) + sum_by (one_if name) c.plain = sum_by-append (one_if name) (c.pre ++ x ∷ []) c.plain in
+    let part : sum_by (one_if name) (c.pre ++ x ∷ []) ≡ sum_by (one_if name) c.pre + sum_by (one_if name) (x ∷ []) = sum_by-append (one_if name) c.pre (x ∷ []) in
+    let old : sum_by (one_if name) (c.pre ++ c.plain) ≡ sum_by (one_if name) c.pre + sum_by (one_if name) c.plain = sum_by-append (one_if name) c.pre c.plain in
+    let last : sum_by (one_if name) (x ∷ []) ≡ one_if name x = omega arith in
+    let goal : sum_by (one_if name) ((c.pre ++ x ∷ []) ++ c.plain) ≡ sum_by (one_if name) (c.pre ++ c.plain) + one_if name x = omega arith in goal
+
+abbrev held_by : ℕ → Cleanups Payload → ℕ
+held_by name c = count_by (is_brigade name) (all_held c)
+
+held_more_as : (how : CleanupKind) (n : ℕ) (x : Payload) (ps : Pools Payload) (name : ℕ) → times_held (registered_as how n x ps) name n ≡ times_held ps name n + one_if name x
+unfolding registered_as
+held_more_as how n x ps name = ap (held_by name) (upd_at ps.payloads n (with_one how x (ps.payloads n))) ∙ counted_one how name x (ps.payloads n)
+
+held_more : (n : ℕ) (x : Payload) (ps : Pools Payload) (name : ℕ) → times_held (registered n x ps) name n ≡ times_held ps name n + one_if name x
+held_more n x ps name = held_more_as Plain n x ps name
+
+held_elsewhere_as : (how : CleanupKind) (n : ℕ) (x : Payload) (ps : Pools Payload) (name p : ℕ) → p ≢ n → times_held (registered_as how n x ps) name p ≡ times_held ps name p
+unfolding registered_as
+held_elsewhere_as how n x ps name p ne = ap (held_by name) (upd_off ps.payloads n p (with_one how x (ps.payloads n)) ne)
 
 held_elsewhere : (n : ℕ) (x : Payload) (ps : Pools Payload) (name p : ℕ) → p ≢ n → times_held (registered n x ps) name p ≡ times_held ps name p
-unfolding registered
-held_elsewhere n x ps name p ne = ap (count_by (is_brigade name)) (upd_off ps.payloads n p (ps.payloads n ++ x ∷ []) ne)
+held_elsewhere n x ps name p ne = held_elsewhere_as Plain n x ps name p ne
 
 -- a payload that is not this brigade
-pub held_beside : (n : ℕ) (x : Payload) (ps : Pools Payload) (name p : ℕ) → is_brigade name x ≡ false → times_held (registered n x ps) name p ≡ times_held ps name p
-held_beside n x ps name p other = elim (cases_eq p n) [
+pub held_beside_as : (how : CleanupKind) (n : ℕ) (x : Payload) (ps : Pools Payload) (name p : ℕ) → is_brigade name x ≡ false → times_held (registered_as how n x ps) name p ≡ times_held ps name p
+held_beside_as how n x ps name p other = elim (cases_eq p n) [
   | inl is ↦ (let none : one_if name x ≡ 0 = ap (λ (b : Bool). cond b 1 0) other in
-      let more : times_held (registered n x ps) name n ≡ times_held ps name n + one_if name x = held_more n x ps name in
-      let same : times_held (registered n x ps) name n ≡ times_held ps name n = omega arith in
-      subst (λ (k : ℕ). times_held (registered n x ps) name k ≡ times_held ps name k) (sym is) same)
-  | inr ne ↦ held_elsewhere n x ps name p ne
+      let more : times_held (registered_as how n x ps) name n ≡ times_held ps name n + one_if name x = held_more_as how n x ps name in
+      let same : times_held (registered_as how n x ps) name n ≡ times_held ps name n = omega arith in
+      subst (λ (k : ℕ). times_held (registered_as how n x ps) name k ≡ times_held ps name k) (sym is) same)
+  | inr ne ↦ held_elsewhere_as how n x ps name p ne
 ]
+
+pub held_beside : (n : ℕ) (x : Payload) (ps : Pools Payload) (name p : ℕ) → is_brigade name x ≡ false → times_held (registered n x ps) name p ≡ times_held ps name p
+held_beside n x ps name p other = held_beside_as Plain n x ps name p other
 
 held_referred : (target : ℕ) (files : List ℕ) (ps : Pools Payload) (name p : ℕ) → times_held (all_referred target files ps) name p ≡ times_held ps name p
 unfolding all_referred
@@ -98,16 +123,24 @@ thinned text name (Brigade other ∷ xs) = by_tests (list_any (is_label text) xs
 
 held_killed : (n : ℕ) (text : List ℕ) (ps : Pools Payload) (name p : ℕ) → times_held (killed n (is_label text) ps) name p ≡ times_held ps name p
 unfolding killed
-held_killed n text ps name p = elim (upd_either ps.payloads n p (without_last (is_label text) (ps.payloads n))) [
-  | inl q ↦ ap (count_by (is_brigade name)) q.1 ∙ (thinned text name (ps.payloads n) ∙ sym (ap (λ (k : ℕ). times_held ps name k) q.0))
-  | inr q ↦ ap (count_by (is_brigade name)) q.1
-]
+held_killed n text ps name p = elim (upd_either ps.payloads n p thin) [
+  | inl q ↦ ap (held_by name) q.1 ∙ (thinner ∙ sym (ap (λ (k : ℕ). times_held ps name k) q.0))
+  | inr q ↦ ap (held_by name) q.1
+] where
+  thin : Cleanups Payload
+  thin = record (ps.payloads n) { plain = without_last (is_label text) (ps.payloads n).plain }
+
+  thinner : held_by name thin ≡ held_by name (ps.payloads n)
+  thinner =
+      sum_by-append (one_if name) (ps.payloads n).pre (without_last (is_label text) (ps.payloads n).plain)
+      ∙ (ap (λ (k : ℕ). sum_by (one_if name) (ps.payloads n).pre + k) (thinned text name (ps.payloads n).plain)
+      ∙ sym (sum_by-append (one_if name) (ps.payloads n).pre (ps.payloads n).plain))
 
 pub held_created : (parent : ℕ) (ps : Pools Payload) → IsPoolMap ps → (name p : ℕ) → times_held (created parent ps) name p ≡ times_held ps name p
 unfolding created
-held_created parent ps f name p = elim (upd_either ps.payloads ps.next p []) [
-  | inl q ↦ (let bare : ps.payloads p ≡ [] = f.bare p (formed_fresh ps f p (omega (arith, q.0))) in ap (count_by (is_brigade name)) q.1 ∙ sym (ap (count_by (is_brigade name)) bare))
-  | inr q ↦ ap (count_by (is_brigade name)) q.1
+held_created parent ps f name p = elim (upd_either ps.payloads ps.next p no_cleanups) [
+  | inl q ↦ (let bare : ps.payloads p ≡ no_cleanups = f.bare p (formed_fresh ps f p (omega (arith, q.0))) in ap (held_by name) q.1 ∙ sym (ap (held_by name) bare))
+  | inr q ↦ ap (held_by name) q.1
 ]
 
 -- Variables.
@@ -159,11 +192,11 @@ pub went_as : (M N : ℕ → ℕ → Type 0) (n : ℕ) (ps new : Pools Payload) 
     → ((name p : ℕ) → M name p → is_under ps n p ≡ false → N name p) → ((name p : ℕ) → N name p → M name p × (is_under ps n p ≡ false)) → AreRegistered M ps → AreRegistered N new
 went_as M N n ps new e stays left s = record { once = once; only = λ name p h. only name p h (is_under ps n p) refl } where
   once : (name p : ℕ) → N name p → times_held new name p ≡ 1
-  once name p m = let old = left name p m in ap (count_by (is_brigade name)) (e.kept p old.1) ∙ s.once name p old.0
+  once name p m = let old = left name p m in ap (held_by name) (e.kept p old.1) ∙ s.once name p old.0
 
   only : (name p : ℕ) → 0 < times_held new name p → (b : Bool) → is_under ps n p ≡ b → N name p
-  only name p h true under = absurd (let none : times_held new name p ≡ 0 = ap (count_by (is_brigade name)) (e.gone p under) in omega arith)
-  only name p h false off = stays name p (s.only name p (subst (λ (xs : List Payload). 0 < count_by (is_brigade name) xs) (e.kept p off) h)) off
+  only name p h true under = absurd (let none : times_held new name p ≡ 0 = ap (held_by name) (e.gone p under) in omega arith)
+  only name p h false off = stays name p (s.only name p (subst (λ (c : Cleanups Payload). 0 < held_by name c) (e.kept p off) h)) off
 
 -- Instances.
 
@@ -343,6 +376,7 @@ module _ (Others : ℕ → ℕ → Type 0) where
     loose = λ xs r s. kept r (set_loose xs r) (still r.shared.pools) (all_same r) s;
     numbers = λ n v r s. kept r (set_number n v r) (still r.shared.pools) (all_same r) s;
     buffer = λ bytes r s. kept r (with_buffer bytes r) (still r.shared.pools) (all_same r) s;
+    left = λ r s. kept r (do_leave r) (still r.shared.pools) (all_same r) s;
     names = λ n r s. kept r (names_given n r) (still r.shared.pools) (all_same r) s;
     refs = λ target files r lives s. kept r (with_pools (all_referred target files r.shared.pools) r) (held_referred target files r.shared.pools) (all_same r) s;
   }
@@ -362,8 +396,11 @@ module _ (Others : ℕ → ℕ → Type 0) where
   stays_registered p choice (instr.PClear q) r on may sound d given s = absurd (cc)
   stays_registered p choice (instr.PDestroy q) r on may sound d given s = absurd (cc)
   stays_registered p choice (instr.Label q t) r on may sound d given s =
-      on_named WithPools (label_registered (text_of p t)) (pool_named r q) r s
-      (λ n e. kept r (label_registered (text_of p t) n r) (λ name k. held_beside n (Label (text_of p t)) r.shared.pools name k refl) (all_same r) s)
+      on_named WithPools (label_registered Plain (text_of p t)) (pool_named r q) r s
+      (λ n e. kept r (label_registered Plain (text_of p t) n r) (λ name k. held_beside n (Label (text_of p t)) r.shared.pools name k refl) (all_same r) s)
+  stays_registered p choice (instr.PreLabel q t) r on may sound d given s =
+      on_named WithPools (label_registered Pre (text_of p t)) (pool_named r q) r s
+      (λ n e. kept r (label_registered Pre (text_of p t) n r) (λ name k. held_beside_as Pre n (Label (text_of p t)) r.shared.pools name k refl) (all_same r) s)
   stays_registered p choice (instr.Unlabel q t) r on may sound d given s =
       on_named WithPools (label_killed (text_of p t)) (pool_named r q) r s (λ n e. kept r (label_killed (text_of p t) n r) (held_killed n (text_of p t) r.shared.pools) (all_same r) s)
   stays_registered p choice (instr.BCreate o) r on may sound d given s =

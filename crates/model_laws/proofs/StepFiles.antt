@@ -1,4 +1,6 @@
 -- A step keeps the files of FILE buckets open.
+use Rattle.run_model.specs.declared.effect.CleanupKind.{CleanupKind}
+use Rattle.run_model.specs.declared.effect.CleanupKind.TheVariants.{Plain, Pre}
 use Rattle.std.proofs.Common.{◌≡◌, ℕ, ◌<◌, ◌⊎◌, arith, eqb-true, Bool, true, false, ◌||◌, ◌==◌, cond, List, [], ◌≤◌, ◌∷◌, map, filter_map, Option, Some, None, is_some, All, inl, inr, refl, sym, ◌∙◌}
 use Rattle.std.proofs.Common.{ap, subst}
 use Rattle.std.specs.List.{cons_option, list_any}
@@ -23,7 +25,7 @@ use Rattle.run_model.specs.declared.bucket.BrigadeVar.{BrigadeVar}
 use Rattle.run_model.specs.declared.payload.Payload.{Payload}
 use Rattle.run_model.specs.declared.payload.Payload.TheVariants.{Label}
 use Rattle.run_model.specs.Indexed.{upd}
-use Rattle.run_model.specs.Pools.{Pools, is_under, created, registered}
+use Rattle.run_model.specs.Pools.{Pools, is_under, created, registered, registered_as}
 use Rattle.run_model.specs.Buckets.{is_dead, is_ended, end_call, end_pools, returned_bucket, cleared_bucket}
 use Rattle.run_model.specs.Cutting.{set_aside, FitsKind, LivesAs}
 use Rattle.run_model.specs.Files.{Files}
@@ -54,7 +56,7 @@ use Rattle.model_laws.proofs.EachItem.{none, cleaned_each, handed_over_each, wri
 use Rattle.model_laws.proofs.Marks.{first_none, second_none}
 use Rattle.model_laws.proofs.Kept.{files_go}
 use Rattle.model_laws.proofs.MadeBrigades.{brigade_refers, brigade_back}
-use Rattle.run_model.proofs.References.{one_of, or_left, or_right, refers_given, referred_at, created_refers, created_back, registered_refers, registered_back, all_grow, all_there, all_back}
+use Rattle.run_model.proofs.References.{one_of, or_left, or_right, refers_given, referred_at, created_refers, created_back, registered_refers, registered_back, all_grow, all_there, all_back, registered_as_refers, registered_as_back}
 use Rattle.run_model.proofs.References.{killed_refers, Emptied, emptied_refers, emptied_back}
 
 -- Lists and variables.
@@ -161,13 +163,13 @@ made_files files parent q r pools s =
     (λ p file h. created_refers parent r.shared.pools p file pools.formed h) (λ p file h. created_back parent r.shared.pools p file h) refl refl refl refl s
 
 -- a label is no reference
-pub label_back : (n : ℕ) (text : List ℕ) (ps : Pools Payload) (p file : ℕ) → refers (registered n (Label text) ps) p file ≡ true → refers ps p file ≡ true
-label_back n text ps p file there = elim (registered_back n (Label text) ps p file there) [ inl h ↦ h | inr e ↦ absurd (cc) ]
+pub label_back : (how : CleanupKind) (n : ℕ) (text : List ℕ) (ps : Pools Payload) (p file : ℕ) → refers (registered_as how n (Label text) ps) p file ≡ true → refers ps p file ≡ true
+label_back how n text ps p file there = elim (registered_as_back how n (Label text) ps p file there) [ inl h ↦ h | inr e ↦ absurd (cc) ]
 
-labelled_files : (files : List (ℕ × ℕ)) (text : List ℕ) (n : ℕ) (r : Configuration) → SoundFiles files r → SoundFiles files (label_registered text n r)
+labelled_files : (k : CleanupKind) (files : List (ℕ × ℕ)) (text : List ℕ) (n : ℕ) (r : Configuration) → SoundFiles files r → SoundFiles files (label_registered k text n r)
 unfolding with_pools
-labelled_files files text n r s =
-    refilled_files files r (label_registered text n r) (λ p file h. registered_refers n (Label text) r.shared.pools p file h) (label_back n text r.shared.pools) refl refl refl refl s
+labelled_files k files text n r s =
+    refilled_files files r (label_registered k text n r) (λ p file h. registered_as_refers k n (Label text) r.shared.pools p file h) (label_back k n text r.shared.pools) refl refl refl refl s
 
 unlabelled_files : (files : List (ℕ × ℕ)) (text : List ℕ) (n : ℕ) (r : Configuration) → SoundFiles files r → SoundFiles files (label_killed text n r)
 unfolding with_pools
@@ -407,7 +409,8 @@ pub step_files : StepKeepsFiles
 step_files p choice (instr.PCreate q) files r may s held = made_under_named (SoundFiles files) p q r held (λ parent e. made_files files parent q r s.pools held)
 step_files p choice (instr.PClear q) files r may s held = emptied_files files Clear q r s.pools held
 step_files p choice (instr.PDestroy q) files r may s held = emptied_files files Destroy q r s.pools held
-step_files p choice (instr.Label q t) files r may s held = on_named (SoundFiles files) (label_registered (text_of p t)) (pool_named r q) r held (λ n e. labelled_files files (text_of p t) n r held)
+step_files p choice (instr.Label q t) files r may s held = on_named (SoundFiles files) (label_registered Plain (text_of p t)) (pool_named r q) r held (λ n e. labelled_files Plain files (text_of p t) n r held)
+step_files p choice (instr.PreLabel q t) files r may s held = on_named (SoundFiles files) (label_registered Pre (text_of p t)) (pool_named r q) r held (λ n e. labelled_files Pre files (text_of p t) n r held)
 step_files p choice (instr.Unlabel q t) files r may s held = on_named (SoundFiles files) (label_killed (text_of p t)) (pool_named r q) r held (λ n e. unlabelled_files files (text_of p t) n r held)
 step_files p choice (instr.BCreate o) files r may s held = create_files files p o r held
 step_files p choice (instr.BClean b) files r may s held = clean_files files b r held

@@ -153,9 +153,9 @@ gives p choice effect.Nothing r other last = same_slots r r refl refl refl (star
 gives p choice (effect.MakePool q) r other last = pcreate_names p q r (start r.shared.next 0 last)
 gives p choice (effect.EmptyPool k q) r other last =
     let limit = start r.shared.next 0 last in on_emptied (NamesStep r) k q r (same_slots r r refl refl refl limit) (λ n left is so. emptied_names left n r limit)
-gives p choice (effect.Register q t) r other last =
+gives p choice (effect.Register k q t) r other last =
     let limit = start r.shared.next 0 last in
-    on_named (NamesStep r) (label_registered (text_of p t)) (pool_named r q) r (same_slots r r refl refl refl limit) (λ n is. same_slots r _ refl refl refl limit)
+    on_named (NamesStep r) (label_registered k (text_of p t)) (pool_named r q) r (same_slots r r refl refl refl limit) (λ n is. same_slots r _ refl refl refl limit)
 gives p choice (effect.Kill q t) r other last =
     let limit = start r.shared.next 0 last in on_named (NamesStep r) (label_killed (text_of p t)) (pool_named r q) r (same_slots r r refl refl refl limit) (λ n is. same_slots r _ refl refl refl limit)
 gives p choice (effect.Clean b) r other last = clean_names b r (start r.shared.next 0 last)
@@ -175,6 +175,7 @@ gives p choice (effect.Number n number) r other last = got_names n (number_of r 
 gives p choice (effect.Put x) r other last = let limit = start r.shared.next 0 last in put_keeps (NamesStep r) x r (same_slots r r refl refl refl limit) (λ buffer. same_slots r _ refl refl refl limit)
 gives p choice effect.ClearBuffer r other last = same_slots r _ refl refl refl (start r.shared.next 0 last)
 gives p choice effect.Return r other last = return_names r (start r.shared.next 0 last)
+gives p choice effect.Leave r other last = same_slots r _ refl refl refl (start r.shared.next 0 last)
 gives p choice e r other last = absurd (cc)
 
 pub step_gives : StepGivesNames

@@ -1,4 +1,6 @@
 -- Steps keep each brigade on a live pool.
+use Rattle.run_model.specs.declared.effect.CleanupKind.{CleanupKind}
+use Rattle.run_model.specs.declared.effect.CleanupKind.TheVariants.{Plain, Pre}
 use Rattle.std.proofs.Common.{◌≡◌, ℕ, ◌+◌, ◌^◌, ◌<◌, inl, inr, Bool, true, false, ◌||◌, cond, List, [], ◌∷◌, ◌++◌, filter_map, Option, Some, None, refl, sym, ◌∙◌, ap, subst, arith}
 use Rattle.module_code.specs.declared.instr.PoolRef.{PoolRef}
 use Rattle.module_code.specs.declared.instr.Instr.{Instr}
@@ -14,7 +16,7 @@ use Rattle.run_model.specs.declared.payload.Payload.{Payload}
 use Rattle.run_model.specs.declared.payload.Payload.TheVariants.{Label, FileRef}
 use Rattle.run_model.specs.Payloads.{is_label}
 use Rattle.run_model.specs.Indexed.{upd}
-use Rattle.run_model.specs.Pools.{Pools, is_live, created, registered}
+use Rattle.run_model.specs.Pools.{Pools, is_live, created, registered, registered_as}
 use Rattle.run_model.specs.RunOrder.{IsPoolMap, killed}
 use Rattle.run_model.specs.State.{Configuration, items_of, set_pool, with_pools, set_brigade, set_loose, set_cursor, set_number, pool_named}
 use Rattle.run_model.specs.Clearing.{run_down}
@@ -31,7 +33,7 @@ use Rattle.model_laws.proofs.BrigadePools.{KeepsPool, pool_kept, clean_on, pass_
 use Rattle.run_model.specs.declared.effect.ClearKind.TheVariants.{Clear, Destroy}
 use Rattle.model_laws.proofs.PoolsGone.{Emptying, pool_emptied, on_emptied}
 use Rattle.model_laws.proofs.StepNames.{not_spent}
-use Rattle.run_model.proofs.Formed.{created_formed, registered_formed, killed_formed}
+use Rattle.run_model.proofs.Formed.{created_formed, registered_formed, killed_formed, registered_as_formed}
 use Rattle.model_laws.proofs.NamedPools.{made_is, on_named, made_under_named, own_named, conn_given, req_given}
 use Rattle.model_laws.proofs.BucketFrame.{IsFrame, placed_step}
 use Rattle.model_laws.proofs.PoolsKept.{keeps_paths, keeps_pools, went_pools}
@@ -82,17 +84,17 @@ concat_pools a b r s = keeps_slots r (do_concat a b r) refl refl refl refl (move
 
 -- references to files are registered on a live pool
 pub referred_path : (target : ℕ) (files : List ℕ) (ps : Pools Payload) → (all_referred target files ps).path ≡ ps.path
-unfolding all_referred registered
+unfolding all_referred registered_as
 referred_path target [] ps = refl
 referred_path target (file ∷ files) ps = referred_path target files (registered target (FileRef file) ps)
 
 pub referred_next : (target : ℕ) (files : List ℕ) (ps : Pools Payload) → (all_referred target files ps).next ≡ ps.next
-unfolding all_referred registered
+unfolding all_referred registered_as
 referred_next target [] ps = refl
 referred_next target (file ∷ files) ps = referred_next target files (registered target (FileRef file) ps)
 
 still_live : (n target : ℕ) (x : Payload) (ps : Pools Payload) → is_live ps n ≡ true → is_live (registered target x ps) n ≡ true
-unfolding is_live registered
+unfolding is_live registered_as
 still_live n target x ps lives = lives
 
 referred_formed : (target : ℕ) (files : List ℕ) (ps : Pools Payload) → is_live ps target ≡ true → IsPoolMap ps → IsPoolMap (all_referred target files ps)
@@ -162,9 +164,9 @@ emptied_pools q n left r is so s =
     let own = s.own q n is in
     went_pools n r (pool_emptied left n r) so.payloads.next (so.formed s.formed) so.apart refl (λ m e. (e, λ same. own.2 (e ∙ ap (λ (k : ℕ). Some k) same))) refl (λ b. refl) own.0 s
 
-labelled_pools : (text : List ℕ) (n : ℕ) (r : Configuration) → is_live r.shared.pools n ≡ true → SoundPools r → SoundPools (label_registered text n r)
-unfolding registered with_pools
-labelled_pools text n r lives s = keeps_paths r (label_registered text n r) (registered_formed n (Label text) r.shared.pools lives s.formed) refl refl refl refl refl s.brigades s
+labelled_pools : (k : CleanupKind) (text : List ℕ) (n : ℕ) (r : Configuration) → is_live r.shared.pools n ≡ true → SoundPools r → SoundPools (label_registered k text n r)
+unfolding registered_as with_pools
+labelled_pools k text n r lives s = keeps_paths r (label_registered k text n r) (registered_as_formed k n (Label text) r.shared.pools lives s.formed) refl refl refl refl refl s.brigades s
 
 unlabelled_pools : (text : List ℕ) (n : ℕ) (r : Configuration) → SoundPools r → SoundPools (label_killed text n r)
 unfolding killed with_pools
@@ -178,6 +180,7 @@ pools_frame = record {
   loose = λ xs r s. keeps_pools r _ refl refl refl refl s.brigades s;
   numbers = λ n v r s. keeps_pools r _ refl refl refl refl s.brigades s;
   buffer = λ bytes r s. keeps_pools r _ refl refl refl refl s.brigades s;
+  left = λ r s. keeps_pools r _ refl refl refl refl s.brigades s;
   names = λ n r s. keeps_pools r _ refl refl refl refl s.brigades s;
   refs = λ target files r lives s. keeps_paths r _ (referred_formed target files r.shared.pools lives s.formed) (referred_path target files r.shared.pools)
       (referred_next target files r.shared.pools) refl refl refl s.brigades s;
@@ -192,7 +195,9 @@ step_pools p choice (instr.PCreate q) r may s = pcreate_pools p q r (lasting_poo
 step_pools p choice (instr.PClear q) r may s = on_emptied SoundPools Clear q r s (λ n left e so. emptied_pools q n left r (own_named q n r e) so s)
 step_pools p choice (instr.PDestroy q) r may s = on_emptied SoundPools Destroy q r s (λ n left e so. emptied_pools q n left r (own_named q n r e) so s)
 step_pools p choice (instr.Label q t) r may s =
-    on_named SoundPools (label_registered (text_of p t)) (pool_named r q) r s (λ n e. labelled_pools (text_of p t) n r (named_lives r q n (wanted_pool r q None may.faultless) e) s)
+    on_named SoundPools (label_registered Plain (text_of p t)) (pool_named r q) r s (λ n e. labelled_pools Plain (text_of p t) n r (named_lives r q n (wanted_pool r q None may.faultless) e) s)
+step_pools p choice (instr.PreLabel q t) r may s =
+    on_named SoundPools (label_registered Pre (text_of p t)) (pool_named r q) r s (λ n e. labelled_pools Pre (text_of p t) n r (named_lives r q n (wanted_pool r q None may.faultless) e) s)
 step_pools p choice (instr.Unlabel q t) r may s = on_named SoundPools (label_killed (text_of p t)) (pool_named r q) r s (λ n e. unlabelled_pools (text_of p t) n r s)
 step_pools p choice (instr.BCreate o) r may s = create_pools p o r (wanted_pool r (pool_of_brigade p o) _ may.faultless) s
 step_pools p choice (instr.BClean b) r may s = clean_pools b r s

@@ -1,4 +1,6 @@
 -- A step keeps ranges in their files.
+use Rattle.run_model.specs.declared.effect.CleanupKind.{CleanupKind}
+use Rattle.run_model.specs.declared.effect.CleanupKind.TheVariants.{Plain, Pre}
 use Rattle.std.proofs.Common.{◌≡◌, ℕ, ◌+◌, ◌-◌, ◌<◌, ◌≤◌, arith, Bool, true, false, ◌&&◌, ◌==◌, nat_le, List, [], ◌∷◌, map, filter_map, length, Some, None, All, inl, inr, refl, sym, ◌∙◌, ap, subst}
 use Rattle.std.specs.List.{list_any}
 use Rattle.std.proofs.lemmas.Bool.Decides.{nat_tests}
@@ -119,10 +121,10 @@ made_ranges : (files : List (ℕ × ℕ)) (parent q : ℕ) (r : Configuration) �
 unfolding set_pool with_pools
 made_ranges files parent q r s = record { brigades = s.brigades; loose = s.loose; told = s.told; given = λ p file h. s.given p file (created_back parent r.shared.pools p file h) }
 
-labelled_ranges : (files : List (ℕ × ℕ)) (text : List ℕ) (n : ℕ) (r : Configuration) → SoundRanges files r → SoundRanges files (label_registered text n r)
+labelled_ranges : (k : CleanupKind) (files : List (ℕ × ℕ)) (text : List ℕ) (n : ℕ) (r : Configuration) → SoundRanges files r → SoundRanges files (label_registered k text n r)
 unfolding with_pools
-labelled_ranges files text n r s =
-    record { brigades = s.brigades; loose = s.loose; told = s.told; given = λ p file h. s.given p file (label_back n text r.shared.pools p file h) }
+labelled_ranges k files text n r s =
+    record { brigades = s.brigades; loose = s.loose; told = s.told; given = λ p file h. s.given p file (label_back k n text r.shared.pools p file h) }
 
 unlabelled_ranges : (files : List (ℕ × ℕ)) (text : List ℕ) (n : ℕ) (r : Configuration) → SoundRanges files r → SoundRanges files (label_killed text n r)
 unfolding with_pools
@@ -288,7 +290,8 @@ step_ranges p choice (instr.PClear q) files r may sound held s =
     (on_emptied (IfHeld files) Clear q r (λ h. s) (λ n left e so. went_ranges files n r left so.payloads sound.pools s)) (step_files p choice (instr.PClear q) files r may sound held)
 step_ranges p choice (instr.PDestroy q) files r may sound held s =
     (on_emptied (IfHeld files) Destroy q r (λ h. s) (λ n left e so. went_ranges files n r left so.payloads sound.pools s)) (step_files p choice (instr.PDestroy q) files r may sound held)
-step_ranges p choice (instr.Label q t) files r may sound held s = on_named (SoundRanges files) (label_registered (text_of p t)) (pool_named r q) r s (λ n e. labelled_ranges files (text_of p t) n r s)
+step_ranges p choice (instr.Label q t) files r may sound held s = on_named (SoundRanges files) (label_registered Plain (text_of p t)) (pool_named r q) r s (λ n e. labelled_ranges Plain files (text_of p t) n r s)
+step_ranges p choice (instr.PreLabel q t) files r may sound held s = on_named (SoundRanges files) (label_registered Pre (text_of p t)) (pool_named r q) r s (λ n e. labelled_ranges Pre files (text_of p t) n r s)
 step_ranges p choice (instr.Unlabel q t) files r may sound held s = on_named (SoundRanges files) (label_killed (text_of p t)) (pool_named r q) r s (λ n e. unlabelled_ranges files (text_of p t) n r s)
 step_ranges p choice (instr.BCreate o) files r may sound held s = create_ranges files p o r s
 step_ranges p choice (instr.BClean b) files r may sound held s = clean_ranges files b r s

@@ -6,7 +6,7 @@ use Rattle.run_model.specs.declared.event.Event.{Event}
 use Rattle.run_model.specs.Cursors.{place_of_cursor}
 use Rattle.run_model.specs.State.{Call, fresh_call}
 use Rattle.model_laws.specs.CursorLaws.{name_held, StandsOnce}
-use Rattle.run_model.specs.Chains.{Frame, Connection, Common, configuration, IsChain}
+use Rattle.run_model.specs.Chains.{Frame, Connection, Common, configuration, IsChain, places}
 use Rattle.run_model.specs.Worlds.{World, Answer, IsWholeRun}
 use Rattle.model_laws.specs.ChainSound.{WorldSound}
 use Rattle.model_laws.specs.KeptInRuns.{OfConnections}
@@ -29,7 +29,7 @@ CallsStandOnce g c = (above below : List Frame) (f : Frame) (v : Cursor) → c.s
 
 -- So it is with what an instance of the chain has where no call is.
 abbrev pub InstancesStandOnce : List Program → Common → Connection → Type 0
-InstancesStandOnce chain g c = (k : ℕ) (v : Cursor) → k < length chain
+InstancesStandOnce chain g c = (k : ℕ) (v : Cursor) → k < places chain
     → (let r = configuration g c (record { of = k; call = fresh_call 0; pc = 0 }) in StandsOnce r v (place_of_cursor r v))
 
 abbrev pub WorldStandsOnce : List Program → World → Type 0

@@ -5,7 +5,7 @@ use Rattle.run_model.specs.declared.event.Event.{Event}
 use Rattle.run_model.specs.declared.event.Event.TheVariants as event
 use Rattle.run_model.specs.Faults.{fault}
 use Rattle.run_model.specs.Steps.{current, lacks_names, is_spent}
-use Rattle.run_model.specs.Chains.{Frame, Connection, Common, Linked, module_at, configuration, IsChain}
+use Rattle.run_model.specs.Chains.{Frame, Connection, Common, Linked, module_at, configuration, IsChain, is_last}
 use Rattle.run_model.specs.Passing.{Reads, proceeds}
 use Rattle.run_model.specs.Turns.{calls_of}
 use Rattle.run_model.specs.Worlds.{World, Told, Answer, happens, IsWholeRun}
@@ -17,7 +17,7 @@ pub record MayProceed (chain : List Program) (g : Common) (c : Connection) (f : 
   pub on_top : c.stack ≡ f ∷ rest
   pub faultless : fault (module_at chain f.of) (configuration g c f) (current (module_at chain f.of) f.pc) ≡ None
   pub names_last : lacks_names (configuration g c f) (current (module_at chain f.of) f.pc) ≡ false
-  pub calls_last : is_spent g.next (calls_of chain (current (module_at chain f.of) f.pc) f rest c.queue) ≡ false
+  pub calls_last : is_spent g.next (calls_of (is_last chain c f.of) (current (module_at chain f.of) f.pc) rest c.queue) ≡ false
 
 -- what that instruction leaves
 abbrev pub after_top : List Program → Reads → Common → Connection → Frame → List Frame → Linked

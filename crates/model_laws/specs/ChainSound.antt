@@ -9,7 +9,7 @@ use Rattle.run_model.specs.State.{Instance, items_of}
 use Rattle.run_model.specs.Sound.{sum_below, count_named, brigade_name, SoundPools}
 use Rattle.model_laws.specs.AsDeclared.{AsDeclared}
 use Rattle.run_model.specs.Steps.{current}
-use Rattle.run_model.specs.Chains.{Frame, Connection, Common, module_at, configuration}
+use Rattle.run_model.specs.Chains.{Frame, Connection, Common, module_at, places, configuration}
 use Rattle.run_model.specs.Worlds.{World}
 
 -- How many buckets have this name: in the brigades of an instance, loose in calls, and in a connection.
@@ -22,7 +22,7 @@ count_loose [] n = 0
 count_loose (f ∷ fs) n = count_named n f.call.loose + count_loose fs n
 
 unfoldable pub count_in : List Program → Connection → ℕ → ℕ
-count_in chain c n = sum_below (length chain) (λ k. count_at (c.instances k) n) + count_loose c.stack n
+count_in chain c n = sum_below (places chain) (λ k. count_at (c.instances k) n) + count_loose c.stack n
 
 -- Names. once: a name is one bucket's at most. fresh: a name that was not given out is no bucket's. own: no two own brigades of all
 -- instances have one name. incoming: a brigade that came in is an own one of a filter before, or of none. given: a brigade's name was
@@ -47,10 +47,10 @@ pub record ChainPools (chain : List Program) (g : Common) (c : Connection) : Typ
   pub declared : (f : Frame) → AsDeclared (module_at chain f.of) (configuration g c f)
   pub apart : (j k q s n : ℕ) → (c.instances j).pools q ≡ poolvar.Made n → (c.instances k).pools s ≡ poolvar.Made n → j ≡ k
 
--- Each call waits for that of the next module.
+-- Each call waits for that of a later module.
 unfoldable pub IsNested : Frame → List Frame → Type 0
 IsNested f [] = Unit {0}
-IsNested f (w ∷ rest) = (f.of ≡ w.of + 1) × IsNested w rest
+IsNested f (w ∷ rest) = (w.of < f.of) × IsNested w rest
 
 unfoldable pub IsNestedStack : List Frame → Type 0
 IsNestedStack [] = Unit {0}
@@ -61,9 +61,9 @@ unfoldable pub AreNamed : ℕ → List Frame → Type 0
 AreNamed next [] = Unit {0}
 AreNamed next (f ∷ fs) = (0 < f.call.name) × (f.call.name < next) × All (λ w. w.call.name ≢ f.call.name) fs × AreNamed next fs
 
--- A call is of a module of the chain, at one of its instructions; no request is open in `open`, and one is in `init` and `main`.
+-- A call is of a module of the chain or of the output filter, at one of its instructions; no request is open in `open`, and one is in `init` and `main`.
 pub record IsFramePlaced (chain : List Program) (req : Option ℕ) (f : Frame) : Type 0 where
-  pub of : f.of < length chain
+  pub of : f.of < places chain
   pub at : f.pc < length (module_at chain f.of).code
   pub opening : f.pc < (module_at chain f.of).init → req ≡ None
   pub serving : (module_at chain f.of).init ≤ f.pc → is_some req ≡ true

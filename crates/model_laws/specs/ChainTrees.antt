@@ -5,7 +5,7 @@ use Rattle.module_code.specs.Program.{Program}
 use Rattle.run_model.specs.declared.bucket.PoolVar.TheVariants as poolvar
 use Rattle.run_model.specs.declared.event.Event.{Event}
 use Rattle.run_model.specs.declared.payload.Payload.{Payload}
-use Rattle.run_model.specs.Pools.{Pools, is_in, planted}
+use Rattle.run_model.specs.Pools.{Pools, is_in, planted, no_cleanups}
 use Rattle.run_model.specs.RunOrder.{is_child, IsPoolMap}
 use Rattle.run_model.specs.Chains.{Connection, IsChain}
 use Rattle.run_model.specs.Worlds.{World, Told, happens, tree_below, tree_of, with_part}
@@ -24,7 +24,7 @@ pub record WorldPoolsApart (w : World) : Type 0 where
   pub top : (k : ℕ) (c : Connection) → w.conns k ≡ Some c → c.path c.conn ≡ c.conn ∷ w.common.root ∷ []
   pub own : (j k n : ℕ) (c d : Connection) → w.conns j ≡ Some c → w.conns k ≡ Some d → is_own c n ≡ true → is_own d n ≡ true → j ≡ k
   pub named : (j k i q n : ℕ) (c d : Connection) → w.conns j ≡ Some c → w.conns k ≡ Some d → (c.instances i).pools q ≡ poolvar.Made n → is_own d n ≡ true → j ≡ k
-  pub bare : (k : ℕ) (c : Connection) → w.conns k ≡ Some c → c.payloads w.common.root ≡ []
+  pub bare : (k : ℕ) (c : Connection) → w.conns k ≡ Some c → c.payloads w.common.root ≡ no_cleanups
   pub rising : (j k : ℕ) (c d : Connection) → w.conns j ≡ Some c → w.conns k ≡ Some d → j < k → c.conn < d.conn
 
 -- Each event keeps it, and so it is true of each world that a run reaches.

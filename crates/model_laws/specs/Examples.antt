@@ -287,7 +287,7 @@ pub record PassRuns : Type 0 where
 
 -- what the first pool that the module made, of name 3, holds after so many steps of `open`
 abbrev pub held_after : ℕ → Program → List Payload
-held_after steps p = (tree_of (world_after p (event.Open ∷ replicate steps event.Step))).payloads 3
+held_after steps p = ((tree_of (world_after p (event.Open ∷ replicate steps event.Step))).payloads 3).plain
 
 -- How pools are made, cleared and destroyed, and their labels run.
 pub record PoolRuns : Type 0 where

@@ -5,7 +5,7 @@ use Rattle.run_model.specs.declared.bucket.NamedBucket.{NamedBucket}
 use Rattle.run_model.specs.declared.event.Event.{Event}
 use Rattle.run_model.specs.declared.event.Piece.{Piece}
 use Rattle.run_model.specs.State.{fresh_call}
-use Rattle.run_model.specs.Chains.{Frame, Connection, Common, module_at, is_last, touched_frame, IsChain}
+use Rattle.run_model.specs.Chains.{Frame, Connection, Common, module_at, is_last, touched_frame, IsChain, place_from, next_place}
 use Rattle.run_model.specs.Passing.{Reads, handler_at}
 use Rattle.run_model.specs.Turns.{opened, begun, brought_in, steps}
 use Rattle.run_model.specs.Worlds.{World, Answer, IsWholeRun}
@@ -22,11 +22,12 @@ LiesBetween from to pc = (from ≤ pc) × (pc < to)
 abbrev pub new_call : Common → ℕ → ℕ → Frame
 new_call g k pc = record { of = k; call = fresh_call g.next; pc = pc }
 
--- An opening begins a call of the first module at `open`, a request at `init`, and a brigade at `main`; no other call is there.
+-- An opening begins a call of the first module at `open`, a request at `init`, and a brigade one at `main` of the first
+-- that has not left, or one of the output filter; no other call is there.
 abbrev pub CallsBegin : Type 0
 CallsBegin = (chain : List Program) (pieces : List Piece) (req : ℕ) (g : Common) (c : Connection)
     → ((opened chain g).1.stack ≡ new_call g 0 0 ∷ []) × ((begun chain (g, c)).1.stack ≡ new_call g 0 (module_at chain 0).init ∷ [])
-    × ((brought_in chain pieces req (g, c)).1.stack ≡ new_call g 0 (module_at chain 0).main ∷ [])
+    × (let k = place_from chain c.instances 0 in (brought_in chain pieces req (g, c)).1.stack ≡ new_call g k (module_at chain k).main ∷ [])
 
 -- A call goes on: it is the same one, and stands in the handler in which it stood.
 pub record GoesOnIn (chain : List Program) (old new : Frame) : Type 0 where
@@ -40,8 +41,8 @@ pub data CallsAfter (chain : List Program) (g : Common) (c : Connection) : List 
   Stay : (fs : List Frame) → CallsAfter chain g c fs fs
   -- the call on top goes on
   GoesOn : (f new : Frame) (rest : List Frame) (bucket : NamedBucket → NamedBucket) → GoesOnIn chain f new → CallsAfter chain g c (f ∷ rest) (new ∷ map (touched_frame bucket) rest)
-  -- it waits, and `main` of the next filter begins
-  Passes : (f : Frame) (rest : List Frame) → is_last chain f.of ≡ false → CallsAfter chain g c (f ∷ rest) (new_call g (f.of + 1) (module_at chain (f.of + 1)).main ∷ (f ∷ rest))
+  -- it waits, and `main` of the next filter that has not left begins
+  Passes : (f : Frame) (rest : List Frame) → is_last chain c f.of ≡ false → CallsAfter chain g c (f ∷ rest) (new_call g (next_place chain c f.of) (module_at chain (next_place chain c f.of)).main ∷ (f ∷ rest))
   -- it ends, and the call that waited for it goes on
   Returns : (f w new : Frame) (rest : List Frame) (bucket : NamedBucket → NamedBucket) → GoesOnIn chain w new → CallsAfter chain g c (f ∷ (w ∷ rest)) (new ∷ map (touched_frame bucket) rest)
   -- it ends, and the next module's begins, at `open` or at `init`

@@ -1,7 +1,7 @@
 -- The parts of all connections, with the root, are the whole pool map.
 use Rattle.std.specs.Prelude.{◌≡◌, ◌≢◌, ℕ, suc, ◌<◌, true, [], ◌∷◌, Some}
 use Rattle.run_model.specs.declared.payload.Payload.{Payload}
-use Rattle.run_model.specs.Pools.{Pools, is_live, is_under}
+use Rattle.run_model.specs.Pools.{Pools, is_live, is_under, no_cleanups}
 use Rattle.run_model.specs.RunOrder.{IsPoolMap}
 use Rattle.run_model.specs.Chains.{Connection}
 use Rattle.run_model.specs.Worlds.{World, tree_of, with_part}
@@ -25,7 +25,7 @@ pub record StandsWith (w : World) (ps : Pools Payload) (n : ℕ) : Type 0 where
 pub record ArePoolsOf (w : World) (ps : Pools Payload) : Type 0 where
   pub formed : IsPoolMap ps
   pub root : ps.path w.common.root ≡ w.common.root ∷ []
-  pub bare : ps.payloads w.common.root ≡ []
+  pub bare : ps.payloads w.common.root ≡ no_cleanups
   pub next : ps.next ≡ w.common.pools
   pub parts : (k : ℕ) (c : Connection) → w.conns k ≡ Some c → HasItsPart ps c
   pub covered : (n : ℕ) → is_live ps n ≡ true → n ≢ w.common.root → StandsWith w ps n

@@ -28,7 +28,8 @@ use Rattle.run_model.specs.declared.bucket.Home.{Home}
 use Rattle.run_model.specs.declared.bucket.Home.TheVariants as home
 use Rattle.run_model.specs.declared.payload.Payload.{Payload}
 use Rattle.run_model.specs.declared.payload.Payload.TheVariants as payload
-use Rattle.run_model.specs.Pools.{Pools, is_live, is_under, created, cleared, destroyed}
+use Rattle.run_model.specs.declared.effect.CleanupKind.TheVariants.{Plain}
+use Rattle.run_model.specs.Pools.{Pools, no_cleanups, is_live, is_under, created, cleared, destroyed}
 use Rattle.run_model.specs.RunOrder.{IsPoolMap, runs_within, run_order}
 use Rattle.std.specs.List.{list_any, AllZip}
 use Rattle.run_model.specs.Payloads.{is_file_ref, labels_in}
@@ -140,6 +141,11 @@ abbrev pub may_change_sent : Effect → Bool
 may_change_sent (effect.Pass b) = true
 may_change_sent e = false
 
+-- whether by it the instance leaves its chain
+abbrev pub may_change_left : Effect → Bool
+may_change_left effect.Leave = true
+may_change_left e = false
+
 -- whether it may change the call's name
 abbrev pub may_change_call_name : Effect → Bool
 may_change_call_name effect.Return = true
@@ -164,7 +170,7 @@ abbrev pub changes_pools : Instr → Bool
 changes_pools i = may_change_tree (effect_of i)
 
 -- What an effect does not name, or stand at by a cursor, is as before: other brigades, pool variables, numbers and
--- cursors, the loose buckets and the buffer, and but for a pass whether an EOS was passed. Pools change by their own
+-- cursors, the loose buckets and the buffer, but for a pass whether an EOS was passed, and but for `leave` whether the instance has left. Pools change by their own
 -- effects, where a brigade is made and where a file gets a reference; labels are run and files closed by clears
 -- alone; no more names are given out than it wants. The place in the code is as before (the host sets it), and so is the
 -- call's name, but for a return.
@@ -173,6 +179,7 @@ pub record ChangesOnly (e : Effect) (r new : Configuration) : Type 0 where
   pub pools : (k : ℕ) → may_change_pool e k ≡ false → new.instance.pools k ≡ r.instance.pools k
   pub numbers : (k : ℕ) → may_change_number e k ≡ false → new.instance.numbers k ≡ r.instance.numbers k
   pub sent : may_change_sent e ≡ false → new.instance.sent ≡ r.instance.sent
+  pub left : may_change_left e ≡ false → new.instance.left ≡ r.instance.left
   pub cursors : (k : ℕ) → may_change_cursor e k ≡ false → new.call.cursors k ≡ r.call.cursors k
   pub loose : may_change_loose r e ≡ false → new.call.loose ≡ r.call.loose
   pub buffer : may_change_buffer e ≡ false → new.call.buffer ≡ r.call.buffer
@@ -202,7 +209,7 @@ FaultOfCuts = (sent : Bool) (xs ys : List NamedBucket) → or_else (send_fault s
 pub record CreateKeeps {T : Type 0} (parent : ℕ) (ps new : Pools T) : Type 0 where
   pub fresh : is_live ps ps.next ≡ false
   pub child : new.path ps.next ≡ ps.next ∷ ps.path parent
-  pub bare : new.payloads ps.next ≡ []
+  pub bare : new.payloads ps.next ≡ no_cleanups
   pub path : (m : ℕ) → is_live ps m ≡ true → new.path m ≡ ps.path m
   pub payloads : (m : ℕ) → is_live ps m ≡ true → new.payloads m ≡ ps.payloads m
   pub names : new.next ≡ ps.next + 1
@@ -212,14 +219,15 @@ CreatesKeepOthers = (parent : ℕ) (ps : Pools Payload) → IsPoolMap ps → Cre
 
 -- A label that is registered and then killed leaves all payloads as they were, also where the same label was there before.
 abbrev pub KillsTheNewest : Type 0
-KillsTheNewest = (n m : ℕ) (text : List ℕ) (r : Configuration) → (label_killed text n (label_registered text n r)).shared.pools.payloads m ≡ r.shared.pools.payloads m
+KillsTheNewest = (n m : ℕ) (text : List ℕ) (r : Configuration) → (label_killed text n (label_registered Plain text n r)).shared.pools.payloads m ≡ r.shared.pools.payloads m
 
--- What a kill of a label leaves in the pools. newest: of the payloads of its pool that are this label, the one that was
--- registered last goes, and no other payload. none: where there is none, all stay. others: other pools keep theirs. path,
+-- What a kill of a label leaves in the pools. newest: of the plain payloads of its pool that are this label, the one that was
+-- registered last goes, and no other payload. none: where there is none, all stay. early: pre-payloads stay. others: other pools keep theirs. path,
 -- names: no pool comes or goes.
 pub record KillKeeps (n : ℕ) (text : List ℕ) (old new : Pools Payload) : Type 0 where
-  pub newest : (xs ys : List Payload) → old.payloads n ≡ xs ++ payload.Label text ∷ ys → All (λ y. y ≢ payload.Label text) ys → new.payloads n ≡ xs ++ ys
-  pub none : All (λ y. y ≢ payload.Label text) (old.payloads n) → new.payloads n ≡ old.payloads n
+  pub newest : (xs ys : List Payload) → (old.payloads n).plain ≡ xs ++ payload.Label text ∷ ys → All (λ y. y ≢ payload.Label text) ys → (new.payloads n).plain ≡ xs ++ ys
+  pub none : All (λ y. y ≢ payload.Label text) (old.payloads n).plain → new.payloads n ≡ old.payloads n
+  pub early : (new.payloads n).pre ≡ (old.payloads n).pre
   pub others : (m : ℕ) → m ≢ n → new.payloads m ≡ old.payloads m
   pub path : new.path ≡ old.path
   pub names : new.next ≡ old.next
@@ -228,10 +236,10 @@ abbrev pub KillsOneLabel : Type 0
 KillsOneLabel = (n : ℕ) (text : List ℕ) (r : Configuration) → KillKeeps n text r.shared.pools (label_killed text n r).shared.pools
 
 -- In the run order of a pool p each payload of p and of the pools under it stands once: of each such pool there are its
--- payloads, the last first, and of no other pool is there any.
+-- pre-payloads, the last first, and then its plain ones, the last first, and of no other pool is there any.
 abbrev pub EachStandsOnce : Type 0
 EachStandsOnce = (n p : ℕ) (ps : Pools Payload) → IsPoolMap ps → is_live ps p ≡ true
-    → filter (λ (x : ℕ × Payload). x.0 == n) (run_order ps p) ≡ (if is_under ps p n then map (λ x. (n, x)) (reverse (ps.payloads n)) else [])
+    → filter (λ (x : ℕ × Payload). x.0 == n) (run_order ps p) ≡ (if is_under ps p n then map (λ x. (n, x)) (reverse (ps.payloads n).pre) ++ map (λ x. (n, x)) (reverse (ps.payloads n).plain) else [])
 
 -- It is the run order down to any depth that is deep enough.
 abbrev pub DepthDoesNotMatter : Type 0
@@ -243,8 +251,8 @@ pub record ClearKeeps {T : Type 0} (n : ℕ) (ps new : Pools T) : Type 0 where
   pub path : (m : ℕ) → is_under ps n m ≡ false → new.path m ≡ ps.path m
   pub payloads : (m : ℕ) → is_under ps n m ≡ false → new.payloads m ≡ ps.payloads m
   pub itself : new.path n ≡ ps.path n
-  pub empty : is_live ps n ≡ true → new.payloads n ≡ []
-  pub under : (m : ℕ) → is_under ps n m ≡ true → m ≢ n → (new.path m ≡ []) × (new.payloads m ≡ [])
+  pub empty : is_live ps n ≡ true → new.payloads n ≡ no_cleanups
+  pub under : (m : ℕ) → is_under ps n m ≡ true → m ≢ n → (new.path m ≡ []) × (new.payloads m ≡ no_cleanups)
   pub names : new.next ≡ ps.next
 
 -- Where it is destroyed, it goes too.
@@ -252,7 +260,7 @@ pub record DestroyKeeps {T : Type 0} (n : ℕ) (ps new : Pools T) : Type 0 where
   pub path : (m : ℕ) → is_under ps n m ≡ false → new.path m ≡ ps.path m
   pub payloads : (m : ℕ) → is_under ps n m ≡ false → new.payloads m ≡ ps.payloads m
   pub itself : is_live ps n ≡ true → is_live new n ≡ false
-  pub under : (m : ℕ) → is_under ps n m ≡ true → (new.path m ≡ []) × (new.payloads m ≡ [])
+  pub under : (m : ℕ) → is_under ps n m ≡ true → (new.path m ≡ []) × (new.payloads m ≡ no_cleanups)
   pub names : new.next ≡ ps.next
 
 abbrev pub ClearsKeepOthers : Type 0

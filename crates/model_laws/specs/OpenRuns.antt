@@ -264,11 +264,11 @@ pub record GoOnElsewhere (s new : Standing) : Type 0 where
   pub limits : (next < 2 ^ 64) × (pools < 2 ^ 64)
   pub is : new ≡ record s { now = gone_elsewhere next pools files out s.now }
 
--- The request ends between calls: its pool is destroyed, and no EOS was passed in the next one.
+-- The request ends between calls: its pool is destroyed; in the next one no EOS was passed, and the instance is in its chain.
 abbrev pub request_ended : ℕ → Configuration → Configuration
 request_ended req r =
     let gone = pool_destroyed req r in
-    record gone { instance = record gone.instance { sent = false }; shared = record gone.shared { req = None }; out = record gone.out { ended = false } }
+    record gone { instance = record gone.instance { sent = false; left = false }; shared = record gone.shared { req = None }; out = record gone.out { ended = false } }
 
 pub record Ends (s new : Standing) : Type 0 where
   pub phase : s.phase ≡ Rests

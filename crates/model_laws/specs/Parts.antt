@@ -1,7 +1,8 @@
 -- A connection's part of the one pool map that all connections share: the root, and what stands at its own pool and under it.
+use Rattle.run_model.specs.declared.effect.CleanupKind.{CleanupKind}
 use Rattle.std.specs.Prelude.{◌≡◌, ◌≢◌, ℕ, ◌+◌, Bool, true, false, ◌||◌, if◌then◌else◌, List, [], ◌∷◌}
 use Rattle.run_model.specs.declared.payload.Payload.{Payload}
-use Rattle.run_model.specs.Pools.{Pools, is_in, is_live, is_under, planted, created, registered, cleared, destroyed}
+use Rattle.run_model.specs.Pools.{Pools, is_in, is_live, is_under, planted, created, registered_as, no_cleanups, cleared, destroyed}
 use Rattle.run_model.specs.RunOrder.{IsPoolMap, killed, run_order}
 
 -- whether a path is that of the root
@@ -18,7 +19,7 @@ belongs c path = is_top path || is_in c path
 unfoldable pub part : {T : Type 0} → ℕ → Pools T → Pools T
 part c ps = record {
   path = λ n. if belongs c (ps.path n) then ps.path n else [];
-  payloads = λ n. if belongs c (ps.path n) then ps.payloads n else [];
+  payloads = λ n. if belongs c (ps.path n) then ps.payloads n else no_cleanups;
   next = ps.next;
 }
 
@@ -32,7 +33,7 @@ pub record HasPart {T : Type 0} (ps : Pools T) (c : ℕ) : Type 0 where
 pub data Change : Type 0 where
   -- a pool is made under it
   Made : Change
-  Registered : Payload → Change
+  Registered : CleanupKind → Payload → Change
   -- of its payloads that pass the test the newest goes
   Killed : (Payload → Bool) → Change
   Cleared : Change
@@ -40,7 +41,7 @@ pub data Change : Type 0 where
 
 abbrev pub changed : Change → ℕ → Pools Payload → Pools Payload
 changed Made p ps = created p ps
-changed (Registered x) p ps = registered p x ps
+changed (Registered how x) p ps = registered_as how p x ps
 changed (Killed test) p ps = killed p test ps
 changed Cleared p ps = cleared p ps
 changed Destroyed p ps = destroyed p ps
@@ -69,7 +70,7 @@ ChangesSpareTheRoot = (change : Change) (c p : ℕ) (ps : Pools Payload) (h : Ha
 
 -- A pool that is made under the root, on which nothing is registered, is a part of its own: that of an only connection.
 abbrev pub NewPartIsPlanted : Type 0
-NewPartIsPlanted = (root : ℕ) (ps : Pools Payload) → IsPoolMap ps → ps.path root ≡ root ∷ [] → ps.payloads root ≡ []
+NewPartIsPlanted = (root : ℕ) (ps : Pools Payload) → IsPoolMap ps → ps.path root ≡ root ∷ [] → ps.payloads root ≡ no_cleanups
     → part ps.next (created root ps) ≡ created root (record (planted root) { next = ps.next })
 
 -- Of other parts it changes the next name alone.

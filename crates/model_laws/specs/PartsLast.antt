@@ -24,7 +24,7 @@ use Rattle.model_laws.specs.PartSteps.{OwnFiles, LiesIn}
 -- a pool that is destroyed is not d
 abbrev pub IsNotDestroyed : Change → ℕ → ℕ → Type 0
 IsNotDestroyed Made d p = Unit {0}
-IsNotDestroyed (Registered x) d p = Unit {0}
+IsNotDestroyed (Registered how x) d p = Unit {0}
 IsNotDestroyed (Killed test) d p = Unit {0}
 IsNotDestroyed Cleared d p = Unit {0}
 IsNotDestroyed Destroyed d p = d ≢ p
@@ -41,7 +41,7 @@ OldPoolsLast = (change : Change) (d p n : ℕ) (ps : Pools Payload) → n < ps.n
 -- a reference that is registered is to a file of c alone, or to a new one
 abbrev pub IsOwnChange : Change → ℕ → Pools Payload → Type 0
 IsOwnChange Made c ps = Unit {0}
-IsOwnChange (Registered x) c ps = (file : ℕ) → is_file_ref file x ≡ true → (q : ℕ) → refers ps q file ≡ true → is_under ps c q ≡ true
+IsOwnChange (Registered how x) c ps = (file : ℕ) → is_file_ref file x ≡ true → (q : ℕ) → refers ps q file ≡ true → is_under ps c q ≡ true
 IsOwnChange (Killed test) c ps = Unit {0}
 IsOwnChange Cleared c ps = Unit {0}
 IsOwnChange Destroyed c ps = Unit {0}

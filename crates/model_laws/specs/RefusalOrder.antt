@@ -13,9 +13,9 @@ use Rattle.run_model.specs.declared.event.Stepped.TheVariants as stepped
 use Rattle.run_model.specs.Faults.{fault}
 use Rattle.run_model.specs.Steps.{is_spent, lacks_names, grows, current}
 use Rattle.run_model.specs.Pieces.{data_behind_eos, lacks_file}
-use Rattle.run_model.specs.Chains.{Frame, Connection, Linked, module_at, configuration}
+use Rattle.run_model.specs.Chains.{Frame, Connection, Linked, module_at, configuration, is_last}
 use Rattle.run_model.specs.Passing.{Reads, proceeds}
-use Rattle.run_model.specs.Turns.{is_missing, is_failing, number_given, is_busy, calls_of, broken_by, counted, steps}
+use Rattle.run_model.specs.Turns.{is_missing, is_failing, number_given, is_busy, calls_of, broken_by, counted, steps, puts_out}
 use Rattle.run_model.specs.Worlds.{World, Told, Refused, happens}
 
 -- A refused event changes nothing, but that a step that is refused while its call runs leaves the connection broken, by
@@ -201,11 +201,11 @@ NoConnectionIsTold = (memory : Bool) (budget : ℕ) (chain : List Program) (told
 
 -- whether what the call on top wants of names is there
 abbrev pub lacks_for : List Program → Linked → Frame → List Frame → Bool
-lacks_for chain (g, c) f rest = (let i = current (module_at chain f.of) f.pc in lacks_names (configuration g c f) i || is_spent g.next (calls_of chain i f rest c.queue))
+lacks_for chain (g, c) f rest = (let i = current (module_at chain f.of) f.pc in lacks_names (configuration g c f) i || is_spent g.next (calls_of (is_last chain c f.of) i rest c.queue))
 
 -- whether its instruction wants memory
 abbrev pub grows_for : List Program → Linked → Frame → List Frame → Bool
-grows_for chain (g, c) f rest = (let i = current (module_at chain f.of) f.pc in grows (configuration g c f) i || nat_lt 0 (calls_of chain i f rest c.queue))
+grows_for chain (g, c) f rest = (let i = current (module_at chain f.of) f.pc in grows (configuration g c f) i || nat_lt 0 (calls_of (is_last chain c f.of) i rest c.queue) || puts_out chain f (g, c))
 
 abbrev pub fault_of : List Program → Linked → Frame → Option FaultKind
 fault_of chain (g, c) f = fault (module_at chain f.of) (configuration g c f) (current (module_at chain f.of) f.pc)

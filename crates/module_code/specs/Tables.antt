@@ -102,13 +102,15 @@ is_main_only (operand.Brigade b) = b == 8
 is_main_only (operand.Ending status.Fail) = true
 is_main_only _ = false
 
-abbrev pub is_pass : Op → Bool
-is_pass op.Pass = true
-is_pass _ = false
+-- a word that only `main` has
+abbrev pub is_main_word : Op → Bool
+is_main_word op.Pass = true
+is_main_word op.Leave = true
+is_main_word _ = false
 
 abbrev pub has_main_only : Op → Operands → Bool
 has_main_only i o =
-    is_pass i || is_main_only o.first || is_main_only o.second || is_main_only o.third || is_main_only o.fourth
+    is_main_word i || is_main_only o.first || is_main_only o.second || is_main_only o.third || is_main_only o.fourth
 
 -- an operand that `open` may not have: `req`, or a variable under it
 abbrev pub touches_req : List PoolRef → List PoolRef → Operand → Bool

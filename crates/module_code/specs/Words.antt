@@ -34,6 +34,7 @@ op_text op.PClear = codes "pclear"
 op_text op.PDestroy = codes "pdestroy"
 op_text op.Label = codes "label"
 op_text op.Unlabel = codes "unlabel"
+op_text op.PreLabel = codes "prelabel"
 op_text op.BCreate = codes "bcreate"
 op_text op.BClean = codes "bclean"
 op_text op.BConcat = codes "bconcat"
@@ -73,6 +74,7 @@ op_text op.JLt = codes "jlt"
 op_text op.JEq = codes "jeq"
 op_text op.JNull = codes "jnull"
 op_text op.JSent = codes "jsent"
+op_text op.Leave = codes "leave"
 op_text op.Jump = codes "jump"
 op_text op.Ret = codes "ret"
 
@@ -106,6 +108,7 @@ signature op.PClear = going_on (one_operand kind.Pool)
 signature op.PDestroy = going_on (one_operand kind.Pool)
 signature op.Label = going_on (two_operands kind.Place kind.Text)
 signature op.Unlabel = going_on (two_operands kind.Place kind.Text)
+signature op.PreLabel = going_on (two_operands kind.Place kind.Text)
 signature op.BCreate = going_on (one_operand kind.Brigade)
 signature op.BClean = going_on (one_operand kind.Source)
 signature op.BConcat = going_on (two_operands kind.Source kind.Source)
@@ -145,6 +148,7 @@ signature op.JLt = going_on (three_operands kind.Number kind.Value kind.Label)
 signature op.JEq = going_on (three_operands kind.Number kind.Value kind.Label)
 signature op.JNull = going_on (two_operands kind.Variable kind.Label)
 signature op.JSent = going_on (one_operand kind.Label)
+signature op.Leave = going_on no_operand
 signature op.Jump = leaving (one_operand kind.Label)
 signature op.Ret = leaving (one_operand kind.Ending)
 
@@ -179,15 +183,15 @@ word_kinds (word.Op o) = op_kinds o
 abbrev pub all_words : List Word
 all_words =
     word.Module ∷ word.Pool ∷ word.Brigade ∷ word.Open ∷ word.Init ∷ word.Main ∷ word.End
-    ∷ word.Op op.PCreate ∷ word.Op op.PClear ∷ word.Op op.PDestroy ∷ word.Op op.Label ∷ word.Op op.Unlabel
+    ∷ word.Op op.PCreate ∷ word.Op op.PClear ∷ word.Op op.PDestroy ∷ word.Op op.Label ∷ word.Op op.Unlabel ∷ word.Op op.PreLabel
     ∷ word.Op op.BCreate ∷ word.Op op.BClean ∷ word.Op op.BConcat ∷ word.Op op.BSplit ∷ word.Op op.BPart
     ∷ word.Op op.BSave ∷ word.Op op.Pass ∷ word.Op op.JEmpty ∷ word.Op op.First ∷ word.Op op.Next ∷ word.Op op.JEnd
     ∷ word.Op op.JKind ∷ word.Op op.Unlink ∷ word.Op op.BDelete ∷ word.Op op.Tail ∷ word.Op op.Head ∷ word.Op op.Before
     ∷ word.Op op.Heap ∷ word.Op op.Immortal ∷ word.Op op.FromBuf ∷ word.Op op.Transient ∷ word.Op op.PoolB
     ∷ word.Op op.Flush ∷ word.Op op.Eos ∷ word.Op op.Split ∷ word.Op op.Copy ∷ word.Op op.Aside ∷ word.Op op.Read
     ∷ word.Op op.Len ∷ word.Op op.Get ∷ word.Op op.Put ∷ word.Op op.ClearBuf ∷ word.Op op.Set ∷ word.Op op.Add
-    ∷ word.Op op.Sub ∷ word.Op op.JLt ∷ word.Op op.JEq ∷ word.Op op.JNull ∷ word.Op op.JSent ∷ word.Op op.Jump
-    ∷ word.Op op.Ret ∷ []
+    ∷ word.Op op.Sub ∷ word.Op op.JLt ∷ word.Op op.JEq ∷ word.Op op.JNull ∷ word.Op op.JSent ∷ word.Op op.Leave
+    ∷ word.Op op.Jump ∷ word.Op op.Ret ∷ []
 
 -- the word that is written so
 unfoldable pub word_at : List ℕ → Option Word

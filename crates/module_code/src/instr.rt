@@ -95,6 +95,8 @@ pub enum Instr {
     Label(PoolRef, u8),
     /// `unlabel P T`: kills a cleanup of this text on P (apr_pool_cleanup_kill).
     Unlabel(PoolRef, u8),
+    /// `prelabel P T`: registers a cleanup of this text on P that runs before those of its subpools (apr_pool_pre_cleanup_register).
+    PreLabel(PoolRef, u8),
     /// `bcreate O`: an empty brigade on its declared pool (apr_brigade_create).
     BCreate(u8),
     /// `bclean B`: destroys the buckets of B, which is usable again (apr_brigade_cleanup).
@@ -177,6 +179,8 @@ pub enum Instr {
     JNull(VarRef, u16),
     /// `jsent L`: to L where this instance passed an EOS in this request.
     JSent(u16),
+    /// `leave`: takes this instance out of its chain for the rest of the request (ap_remove_output_filter).
+    Leave,
     /// `jump L`.
     Jump(u16),
     /// `ret ok` and `ret fail`.

@@ -40,6 +40,7 @@ fn split(instr: Instr) -> (Op, Args)
         Instr::PDestroy(q) => (Op::PDestroy, Pool(q), Nothing, Nothing, Nothing),
         Instr::Label(q, t) => (Op::Label, Place(q), Text(t), Nothing, Nothing),
         Instr::Unlabel(q, t) => (Op::Unlabel, Place(q), Text(t), Nothing, Nothing),
+        Instr::PreLabel(q, t) => (Op::PreLabel, Place(q), Text(t), Nothing, Nothing),
         Instr::BCreate(o) => (Op::BCreate, Brigade(o), Nothing, Nothing, Nothing),
         Instr::BClean(b) => (Op::BClean, Source(b), Nothing, Nothing, Nothing),
         Instr::BConcat(a, b) => (Op::BConcat, Source(a), Source(b), Nothing, Nothing),
@@ -79,6 +80,7 @@ fn split(instr: Instr) -> (Op, Args)
         Instr::JEq(n, x, l) => (Op::JEq, Number(n), Value(x), Target(l), Nothing),
         Instr::JNull(v, l) => (Op::JNull, Variable(v), Target(l), Nothing, Nothing),
         Instr::JSent(l) => (Op::JSent, Target(l), Nothing, Nothing, Nothing),
+        Instr::Leave => (Op::Leave, Nothing, Nothing, Nothing, Nothing),
         Instr::Jump(l) => (Op::Jump, Target(l), Nothing, Nothing, Nothing),
         Instr::Ret(s) => (Op::Ret, Ending(s), Nothing, Nothing, Nothing),
     };
@@ -94,6 +96,7 @@ fn make(op: Op, args: Args) -> Instr
         Op::PDestroy => Instr::PDestroy(args.first.index()),
         Op::Label => Instr::Label(args.first.place(), args.second.text()),
         Op::Unlabel => Instr::Unlabel(args.first.place(), args.second.text()),
+        Op::PreLabel => Instr::PreLabel(args.first.place(), args.second.text()),
         Op::BCreate => Instr::BCreate(args.first.index()),
         Op::BClean => Instr::BClean(args.first.index()),
         Op::BConcat => Instr::BConcat(args.first.index(), args.second.index()),
@@ -142,6 +145,7 @@ fn make(op: Op, args: Args) -> Instr
         Op::JEq => Instr::JEq(args.first.index(), args.second.value(), args.third.aim()),
         Op::JNull => Instr::JNull(args.first.variable(), args.second.aim()),
         Op::JSent => Instr::JSent(args.first.aim()),
+        Op::Leave => Instr::Leave,
         Op::Jump => Instr::Jump(args.first.aim()),
         Op::Ret => Instr::Ret(args.first.status()),
     }

@@ -128,6 +128,7 @@ pub enum Op {
     PDestroy,
     Label,
     Unlabel,
+    PreLabel,
     BCreate,
     BClean,
     BConcat,
@@ -167,6 +168,7 @@ pub enum Op {
     JEq,
     JNull,
     JSent,
+    Leave,
     Jump,
     Ret,
 }
@@ -182,6 +184,7 @@ impl Op {
             Op::PDestroy => b"pdestroy",
             Op::Label => b"label",
             Op::Unlabel => b"unlabel",
+            Op::PreLabel => b"prelabel",
             Op::BCreate => b"bcreate",
             Op::BClean => b"bclean",
             Op::BConcat => b"bconcat",
@@ -221,6 +224,7 @@ impl Op {
             Op::JEq => b"jeq",
             Op::JNull => b"jnull",
             Op::JSent => b"jsent",
+            Op::Leave => b"leave",
             Op::Jump => b"jump",
             Op::Ret => b"ret",
         }
@@ -232,7 +236,9 @@ impl Op {
     {
         match self {
             Op::PCreate | Op::PClear | Op::PDestroy => Signature::goes_on(OperandKinds::one(Pool)),
-            Op::Label | Op::Unlabel => Signature::goes_on(OperandKinds::two(Place, Text)),
+            Op::Label | Op::Unlabel | Op::PreLabel => Signature::goes_on(OperandKinds::two(
+                Place, Text,
+            )),
             Op::BCreate => Signature::goes_on(OperandKinds::one(Brigade)),
             Op::BClean => Signature::goes_on(OperandKinds::one(Source)),
             Op::BConcat => Signature::goes_on(OperandKinds::two(Source, Source)),
@@ -257,7 +263,7 @@ impl Op {
                 Number, Value, Label,
             )),
             Op::Put => Signature::goes_on(OperandKinds::two(Value, Label)),
-            Op::ClearBuf => Signature::goes_on(OperandKinds::none()),
+            Op::ClearBuf | Op::Leave => Signature::goes_on(OperandKinds::none()),
             Op::Set | Op::Add | Op::Sub => Signature::goes_on(OperandKinds::two(Number, Value)),
             Op::JNull => Signature::goes_on(OperandKinds::two(Variable, Label)),
             Op::JSent => Signature::goes_on(OperandKinds::one(Label)),
@@ -328,7 +334,7 @@ impl Word {
 }
 
 /// The words of module texts, in the order in which they are looked for.
-pub const WORDS: [Word; 53] = [
+pub const WORDS: [Word; 55] = [
     Word::Module,
     Word::Pool,
     Word::Brigade,
@@ -341,6 +347,7 @@ pub const WORDS: [Word; 53] = [
     Word::Op(Op::PDestroy),
     Word::Op(Op::Label),
     Word::Op(Op::Unlabel),
+    Word::Op(Op::PreLabel),
     Word::Op(Op::BCreate),
     Word::Op(Op::BClean),
     Word::Op(Op::BConcat),
@@ -380,6 +387,7 @@ pub const WORDS: [Word; 53] = [
     Word::Op(Op::JEq),
     Word::Op(Op::JNull),
     Word::Op(Op::JSent),
+    Word::Op(Op::Leave),
     Word::Op(Op::Jump),
     Word::Op(Op::Ret),
 ];

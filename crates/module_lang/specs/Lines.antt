@@ -1,6 +1,6 @@
 -- What a line says, and whether it may say so there. The tests of a line stand in the order of their codes.
 pub use Rattle.module_code.specs.Tables.{any_touches_req, are_declared, has_equal_brigades, has_long_text, has_main_only, has_text, is_declared, is_due, is_handler, is_long_text, is_main}
-pub use Rattle.module_code.specs.Tables.{is_main_only, is_next, is_open, is_pass, is_text_operand, misplaced, place_is_declared, same_brigade, touches_req, under_req}
+pub use Rattle.module_code.specs.Tables.{is_main_only, is_next, is_open, is_main_word, is_text_operand, misplaced, place_is_declared, same_brigade, touches_req, under_req}
 pub use Rattle.module_lang.specs.Drafts.{instruction_count}
 use Rattle.std.specs.Prelude.{ℕ, Bool, ◌&&◌, ◌||◌, not, nat_lt, ◌==◌, if◌then◌else◌, List, length, Option, Some, None, Result, Ok, Err}
 use Rattle.byte_text.specs.Bytes.{all_printable, begins, tail, token, after_token, unindented}

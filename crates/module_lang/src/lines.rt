@@ -182,7 +182,7 @@ fn is_main_only(operand: Operand) -> bool
 fn has_main_only(op: Op, operands: Operands) -> bool
     ensures { result ≡ has_main_only op operands }
 {
-    matches!(op, Op::Pass)
+    matches!(op, Op::Pass | Op::Leave)
         || is_main_only(operands.first)
         || is_main_only(operands.second)
         || is_main_only(operands.third)

@@ -47,8 +47,10 @@ stacked_beside chain at rings pools next c labels conn req files out ended count
     quiet = stacked.called.quiet;
     rises = stacked.called.rises;
     bottom = stacked.called.bottom;
+    outer = stacked.called.outer;
   };
   brought = stacked.brought;
+  whole = stacked.whole;
 }
 
 -- labels that are the same change nothing

@@ -10,7 +10,7 @@ use Rattle.module_code.specs.declared.instr.Status.{Status}
 use Rattle.run_model.specs.declared.bucket.Mark.TheVariants.{Passed, Usable}
 use Rattle.run_model.specs.declared.payload.Payload.{Payload}
 use Rattle.run_model.specs.Chains.{module_at}
-use Rattle.run_model.specs.Pools.{Pools}
+use Rattle.run_model.specs.Pools.{Pools, is_under}
 use Rattle.bucket_kinds.specs.declared.stored.Stored.{Stored}
 use Rattle.brigade_ops.specs.declared.store.Brigades.{Brigades}
 use Rattle.brigade_ops.specs.Store.{lists, brigade_of, pool_of, next_name}
@@ -80,6 +80,32 @@ module _ {R : Type 0} {g : Ghosts R Stored} (ps : Pools Payload) (old new : Brig
     calls = λ k f x is now. ends.calls k f x is (sym (same k) ∙ now);
     brought = λ k m f is named free unheld. ends.brought k m f is named free (λ h. unheld (record { at = h.at; filter = h.filter; is = same h.at ∙ h.is; by = h.by }));
   }
+
+-- What was before is told of a connection with the same filters.
+module _ {R : Type 0} {g : Ghosts R Stored} (ps : Pools Payload) (old new : Brigades R g) where
+  pub leaves_from : (c d e : Conn) → c.conn ≡ d.conn → ((k : ℕ) → filter_at c k ≡ filter_at d k) → LeavesOthers ps old new c e → LeavesOthers ps old new d e
+  leaves_from c d e conn same left = record {
+    rises = left.rises;
+    names = left.names;
+    others = λ n foreign. left.others n (record {
+      real = foreign.real;
+      given = foreign.given;
+      unheld = λ h. foreign.unheld (to_old n h);
+      off = λ p on. ap (λ (k : ℕ). is_under ps k p) conn ∙ foreign.off p on;
+    });
+    holds = λ n pos h. elim (left.holds n pos h) [
+      | inl held ↦ inl (to_old n held)
+      | inr new ↦ inr new
+    ];
+  } where
+    to_old : (n : ℕ) → HoldsName c n → HoldsName d n
+    to_old n h = record { at = h.at; filter = h.filter; is = sym (same h.at) ∙ h.is; by = h.by }
+
+pub ends_from : {R : Type 0} {g : Ghosts R Stored} (old new : Brigades R g) (c d e : Conn) → ((k : ℕ) → filter_at c k ≡ filter_at d k) → EndsLoose old new c e → EndsLoose old new d e
+ends_from old new c d e same ends = record {
+  calls = λ k f x is now. ends.calls k f x (same k ∙ is) now;
+  brought = λ k m f is. ends.brought k m f (same k ∙ is);
+}
 
 -- No filter changed.
 pub ends_unchanged : {R : Type 0} {g : Ghosts R Stored} (old new : Brigades R g) (c d : Conn) → ((k : ℕ) → filter_at d k ≡ filter_at c k) → EndsLoose old new c d
@@ -392,14 +418,14 @@ module _ {R : Type 0} {g : Ghosts R Stored} (ps : Pools Payload) (old new : Brig
   }
 
 -- A brigade was brought, and the call of the first filter began.
-module _ {R : Type 0} {g : Ghosts R Stored} (chain : List Program) (ps : Pools Payload) (old new : Brigades R g) (c d : Conn) (before : Filter) (before_is : filter_at c 0 ≡ Some before)
-    (begins : CalledMain chain (next_name old) (next_name old + 1) c d) where
+module _ {R : Type 0} {g : Ghosts R Stored} (chain : List Program) (ps : Pools Payload) (old new : Brigades R g) (c d : Conn) (to : ℕ) (before : Filter) (before_is : filter_at c to ≡ Some before)
+    (begins : CalledMain chain to (next_name old) (next_name old + 1) c d) where
   main_came : (k : ℕ) (f : Filter) → filter_at d k ≡ Some f → Came c (next_name old) f
-  main_came k f is n pos by = elim (cases_eq k 0) [
+  main_came k f is n pos by = elim (cases_eq k to) [
     | inl q ↦ at_first (begins.first before before_is) (ap (filter_at d) (sym q) ∙ is)
     | inr ne ↦ came_same c (next_name old) k f (sym (begins.others k ne) ∙ is) n pos by
   ] where
-    at_first : (e : Filter) × ((filter_at d 0 ≡ Some e) × StartsWith (next_name old) (next_name old + 1) (module_at chain 0).main before e) → filter_at d 0 ≡ Some f
+    at_first : (e : Filter) × ((filter_at d to ≡ Some e) × StartsWith (next_name old) (next_name old + 1) (module_at chain to).main before e) → filter_at d to ≡ Some f
         → (HoldsName c n) ⊎ (next_name old ≤ n)
     at_first e there =
         let same : f ≡ e.0 = some_is f e.0 (sym there ∙ e.1.0) in
@@ -409,7 +435,7 @@ module _ {R : Type 0} {g : Ghosts R Stored} (chain : List Program) (ps : Pools P
         ] where
           go : (t : Bool) (a : ℕ) → name_in (if t then slot.Made (next_name old + 1) None Usable else slot_at before.instance a) ≡ Some n → (HoldsName c n) ⊎ (next_name old ≤ n)
           go true a named = inr (let e : next_name old + 1 ≡ n = some_is (next_name old + 1) n named in omega (arith, e))
-          go false a named = inl (held_by c 0 a n before before_is named)
+          go false a named = inl (held_by c to a n before before_is named)
 
   pub main_leaves : ((n : ℕ) → n < next_name old → lists new n ≡ lists old n) → next_name old ≤ next_name new → NoneRevived (brigade_of old) (brigade_of new) (next_name old)
       → pool_of new ≡ pool_of old → LeavesOthers ps old new c d

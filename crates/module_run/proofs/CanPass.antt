@@ -1,7 +1,7 @@
 -- A connection whose call on top is at a pass that may proceed.
-use Rattle.std.proofs.Common.{◌≡◌, ◌≢◌, ℕ, ◌+◌, ◌-◌, ◌^◌, ◌<◌, ◌≤◌, nat_lt, Bool, true, false, List, length, Option, Some, None, is_some, refl, sym, ◌∙◌, ap, inl, inr, arith}
+use Rattle.std.proofs.Common.{◌≡◌, ◌≢◌, ℕ, ◌+◌, ◌-◌, ◌^◌, ◌<◌, ◌≤◌, nat_le, nat_lt, Bool, true, false, List, length, Option, Some, None, is_some, refl, sym, ◌∙◌, ap, inl, inr, arith}
 use Rattle.std.specs.Prelude.{if◌then◌else◌}
-use Rattle.std.proofs.lemmas.Bool.{cases_eq, leb-false, ltb-false, false≢true}
+use Rattle.std.proofs.lemmas.Bool.{cases_eq, le-leb, lt-leb, ltb-false, false≢true}
 use Rattle.module_code.specs.Program.{Program}
 use Rattle.module_code.specs.declared.instr.Instr.TheVariants as instr
 use Rattle.bucket_kinds.specs.Device.{Device}
@@ -9,7 +9,8 @@ use Rattle.bucket_ring.specs.declared.rings.Rings.{Ghosts}
 use Rattle.run_model.specs.declared.bucket.BrigadeVar.{BrigadeVar}
 use Rattle.run_model.specs.declared.bucket.BrigadeVar.TheVariants as var
 use Rattle.run_model.specs.declared.payload.Payload.{Payload}
-use Rattle.run_model.specs.Chains.{Frame, Linked, configuration, is_last, module_at}
+use Rattle.run_model.specs.Chains.{Frame, Linked, configuration, is_last, module_at, next_place, place_from}
+use Rattle.model_laws.proofs.chains.Modules.{next_later}
 use Rattle.run_model.specs.Effects.{handed_over}
 use Rattle.run_model.specs.Faults.{fault}
 use Rattle.run_model.specs.State as model
@@ -27,7 +28,7 @@ use Rattle.ring_calls.specs.declared.machine.Slot.{Slot}
 use Rattle.ring_calls.specs.declared.machine.Slot.TheVariants as slot
 use Rattle.module_run.specs.declared.conn.Filter.{Filter}
 use Rattle.module_run.specs.declared.conn.Conn.{Conn}
-use Rattle.module_run.specs.Conns.{filter_at, top_of, runs_of, lent_by, shown_instance, shown_filter}
+use Rattle.module_run.specs.Conns.{filter_at, place_in, top_of, runs_of, lent_by, shown_instance, shown_filter}
 use Rattle.module_run.specs.Proceeding.{IsReady}
 use Rattle.ring_calls.specs.Seen.{seen_over, shown_as, shown_slot}
 use Rattle.ring_calls.specs.Slots.{slot_at, name_in, live_in}
@@ -113,10 +114,26 @@ module _ {R : Type 0} {g : Ghosts R Stored} (chain : List Program) (b l : ℕ) (
       go None e some = absurd (false≢true some)
       go (Some n) e some = (n, ap name_in (live_is (lists store) (slot_at passer.filter.instance b) n e).1.1.0)
 
+  -- where the brigade goes
+  pub goes_to : (to : ℕ) → ((rings : ℕ → Option Items) → to ≡ place_in chain rings c (top_of c + 1)) → next_place chain v.1 f.of ≡ to
+  goes_to to next =
+      ap (λ (is : ℕ → model.Instance). place_from chain is (f.of + 1)) (instances_are (map_of tree) (lists store) (next_name store) c v ready.stands.left.seen)
+      ∙ (ap (λ (n : ℕ). place_in chain (lists store) c (n + 1)) passer_at ∙ sym (next (lists store)))
+
+  -- where no filter comes after it
+  pub last_there : (to : ℕ) → ((rings : ℕ → Option Items) → to ≡ place_in chain rings c (top_of c + 1)) → length chain ≤ to → is_last chain v.1 f.of ≡ true
+  last_there to next le = ap (nat_le (length chain)) (goes_to to next) ∙ le-leb (length chain) to le
+
   -- The next filter, where there is one: it has no call, and nothing came in to it.
-  module _ (behind : is_last chain (top_of c) ≡ false) where
-    pub next_within : top_of c + 1 < length chain
-    next_within = leb-false (length chain) (top_of c + 1) behind
+  module _ (to : ℕ) (inside : to < length chain) (next : (rings : ℕ → Option Items) → to ≡ place_in chain rings c (top_of c + 1)) where
+    pub next_is : next_place chain v.1 f.of ≡ to
+    next_is = goes_to to next
+
+    pub not_last : is_last chain v.1 f.of ≡ false
+    not_last = ap (nat_le (length chain)) next_is ∙ lt-leb (length chain) to inside
+
+    pub next_behind : top_of c < to
+    next_behind = (let at = passer_at in let low = next_later chain v.1 f.of in let is = next_is in omega (arith, at, low, is))
 
     -- a name is left for its call
     pub next_left : next_name store < 2 ^ 64 - 1
@@ -124,7 +141,7 @@ module _ {R : Type 0} {g : Ghosts R Stored} (chain : List Program) (b l : ℕ) (
     next_left =
         (let at = ready.stands.left.seen.given in
         let left : nat_lt (2 ^ 64 - 1) (v.0.next + 1) ≡ false =
-        ap (λ (t : Bool). nat_lt (2 ^ 64 - 1) (v.0.next + (if t then 0 else 1))) (sym (ap (is_last chain) passer_at ∙ behind)) ∙ ready.calls_last in
+        ap (λ (t : Bool). nat_lt (2 ^ 64 - 1) (v.0.next + (if t then 0 else 1))) (sym not_last) ∙ ready.calls_last in
         let low = ltb-false (2 ^ 64 - 1) (v.0.next + 1) left in
         omega (arith, at, low))
 
@@ -134,29 +151,29 @@ module _ {R : Type 0} {g : Ghosts R Stored} (chain : List Program) (b l : ℕ) (
       go None is = is
       go (Some p) is = absurd (let a = brigades store (next_name store) (ready.stands.left.house.there (next_name store) p is) in omega (arith, a))
 
-    pub next_there : (e : Filter) × (filter_at c (top_of c + 1) ≡ Some e)
-    next_there = filter_within c (top_of c + 1) (let a = ready.stands.left.stacked.many in let w = next_within in omega (arith, a, w))
+    pub next_there : (e : Filter) × (filter_at c to ≡ Some e)
+    next_there = filter_within c to (let a = ready.stands.left.stacked.many in omega (arith, a, inside))
 
     pub next_idle : next_there.0.call.name ≡ 0
-    next_idle = ready.stands.left.stacked.called.idle (top_of c + 1) next_there.0 next_there.1 (not_called chain c ready.stands.left.stacked.called (top_of c + 1) (omega arith))
+    next_idle = ready.stands.left.stacked.called.idle to next_there.0 next_there.1 (not_called chain c ready.stands.left.stacked.called to next_behind)
 
     pub next_empty : named_at next_there.0 8 ≡ None
-    next_empty = ready.stands.left.stacked.called.incoming (top_of c + 1) next_there.0 next_there.1 (not_called chain c ready.stands.left.stacked.called (top_of c + 1) (omega arith))
+    next_empty = ready.stands.left.stacked.called.incoming to next_there.0 next_there.1 (not_called chain c ready.stands.left.stacked.called to next_behind)
 
     pub next_alone : next_there.0.lent ≡ None
-    next_alone = none_of next_there.0.lent (ready.stands.left.stacked.called.lent (top_of c + 1) next_there.0 next_there.1 ∙ waits_not chain c ready.stands.left.stacked.called (top_of c + 1) (omega arith))
+    next_alone = none_of next_there.0.lent (ready.stands.left.stacked.called.lent to next_there.0 next_there.1 ∙ waits_not chain c ready.stands.left.stacked.called to (let low = next_behind in omega (arith, low)))
 
     -- the brigade of the pass is in no variable of it
     pub next_lacks : (m a : ℕ) → named_at passer.filter b ≡ Some m → named_at next_there.0 a ≢ Some m
     next_lacks m a here there =
-        (let v = passed_variable in let nine = names_known.nine (top_of c + 1) a m next_there.0 next_there.1 there in
+        (let v = passed_variable in let nine = names_known.nine to a m next_there.0 next_there.1 there in
         elim (cases_eq a 8) [
           | inl q ↦ none_some m (sym next_empty ∙ (ap (named_at next_there.0) (sym q) ∙ there))
           | inr off ↦ elim (cases_eq b 8) [
-            | inl q ↦ ready.stands.left.stacked.apart.later (top_of c) (top_of c + 1) a m passer.filter next_there.0 (omega arith) (omega (arith, nine, off)) passer.is next_there.1
+            | inl q ↦ ready.stands.left.stacked.apart.later (top_of c) to a m passer.filter next_there.0 next_behind (omega (arith, nine, off)) passer.is next_there.1
                 (ap (named_at passer.filter) (sym q) ∙ here) there
-            | inr ne ↦ (let same = ready.stands.left.stacked.apart.own (top_of c) (top_of c + 1) b a m passer.filter next_there.0 (omega (arith, v, ne))
-                (omega (arith, nine, off)) passer.is next_there.1 here there in omega (arith, same))
+            | inr ne ↦ (let same = ready.stands.left.stacked.apart.own (top_of c) to b a m passer.filter next_there.0 (omega (arith, v, ne))
+                (omega (arith, nine, off)) passer.is next_there.1 here there in let low = next_behind in omega (arith, same, low))
           ]
         ]) where
           none_some : (n : ℕ) → None ≡ Some n → ⊥

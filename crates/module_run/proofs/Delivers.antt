@@ -4,6 +4,7 @@ use Rattle.std.specs.Prelude.{if◌then◌else◌}
 use Rattle.std.specs.Global.{Vec}
 use Rattle.std.proofs.lemmas.Bool.{cases_eq, eq-eqb, ne_eqb}
 use Rattle.module_code.specs.Program.{Program}
+use Rattle.module_code.specs.declared.instr.Instr.{Instr}
 use Rattle.module_code.specs.declared.instr.Instr.TheVariants as instr
 use Rattle.bucket_kinds.specs.Device.{Device, Held, is_there}
 use Rattle.bucket_ring.specs.declared.rings.Rings.{Ghosts}
@@ -12,7 +13,7 @@ use Rattle.run_model.specs.declared.bucket.Mark.TheVariants.{Passed}
 use Rattle.run_model.specs.declared.bucket.NamedBucket.{NamedBucket}
 use Rattle.run_model.specs.declared.event.Stepped.TheVariants as stepped
 use Rattle.run_model.specs.declared.payload.Payload.{Payload}
-use Rattle.run_model.specs.Chains.{Frame, Connection, Linked, configuration, files_of, is_last, led_to, module_at, put_back, stepped_in}
+use Rattle.run_model.specs.Chains.{Frame, Connection, Linked, configuration, files_of, is_last, led_to, module_at, next_place, put_back, stepped_in}
 use Rattle.run_model.specs.Effects.{do_pass}
 use Rattle.run_model.specs.Passing.{Reads, delivered, delivered_by, passed_to, proceeds}
 use Rattle.run_model.specs.State.{Configuration, Out, items_of, set_brigade}
@@ -43,7 +44,12 @@ use Rattle.ring_calls.proofs.HeldAlike.{held_cursors}
 use Rattle.module_run.proofs.Outs.{with_out, seen_out, stacked_out}
 use Rattle.module_run.proofs.Restacked.{changed, ChangesTop, rest_goes_on, restacked}
 use Rattle.module_run.proofs.Resumed.{seen_put_back}
+use Rattle.module_run.proofs.TopFilter.{in_chain}
 use Rattle.module_run.proofs.Tops.{OnTop, view_of}
+
+abbrev is_passing : Instr → Bool
+is_passing (instr.Pass b l) = true
+is_passing i = false
 
 -- where a pass leads
 pub pass_leads : (well : Bool) (b l pc : ℕ) → (if well then pc + 1 else l) ≡ led_to (jumps_if (is_fail (answer_to well))) (instr.Pass b l) pc
@@ -134,7 +140,7 @@ module _ {R : Type 0} {g : Ghosts R Stored} (chain : List Program) (b l : ℕ) (
 
     module _ (reads : Reads) (given : IfElse c.ended (e ≡ d) (ReadsGiven d e (items_of ((seen old view x.instance x.call).instance.brigades b)) reads 0))
         (told : delivered (out_of c.out c.ended) (items_of ((seen old view x.instance x.call).instance.brigades b)) reads ≡ (out_of out ended, well))
-        (numbered : e.numbered ≡ d.numbered) (last : is_last chain (top_of c) ≡ true) where
+        (numbered : e.numbered ≡ d.numbered) (last : is_last chain v.1 (top_of c) ≡ true) where
       items_are : items_of ((v.1.instances f.of).brigades b) ≡ items_of ((seen old view x.instance x.call).instance.brigades b)
       unfolding configuration
       items_are = ap (λ (r : Configuration). items_of (r.instance.brigades b)) (work.config chain (instr.Pass b l) tree old d c v f rest ready x here)
@@ -143,8 +149,8 @@ module _ {R : Type 0} {g : Ghosts R Stored} (chain : List Program) (b l : ℕ) (
       unfolding conn_of
       out_is = ap (λ (n : Connection). n.out) was.seen.conn
 
-      last_here : is_last chain f.of ≡ true
-      last_here = ap (is_last chain) (work.of_top chain (instr.Pass b l) tree old d c v f rest ready x here) ∙ last
+      last_here : is_last chain v.1 f.of ≡ true
+      last_here = ap (is_last chain v.1) (work.of_top chain (instr.Pass b l) tree old d c v f rest ready x here) ∙ last
 
       delivered_is : delivered v.1.out (items_of ((v.1.instances f.of).brigades b)) reads ≡ (out_of out ended, well)
       delivered_is =
@@ -155,10 +161,13 @@ module _ {R : Type 0} {g : Ghosts R Stored} (chain : List Program) (b l : ℕ) (
       by_answer : Out × Bool → Linked
       by_answer q = (let left = stepped_in (module_at chain f.of) (record { answer = answer_to q.1; given = None }) (instr.Pass b l) f rest v in (left.0, record left.1 { out = q.0 }))
 
+      abbrev towards : ℕ → Linked
+      towards n = passed_to (module_at chain n) n b f rest v
+
       goes : (proceeds chain reads (instr.Pass b l) f rest v).1 ≡ by_answer (out_of out ended, well)
       unfolding proceeds delivered_by by_answer
       goes =
-          ap (λ (t : Bool). if t then delivered_by (module_at chain f.of) reads b (instr.Pass b l) f rest v else passed_to (module_at chain (f.of + 1)) b f rest v) last_here
+          ap (λ (t : Bool). if t then delivered_by (module_at chain f.of) reads b (instr.Pass b l) f rest v else towards (next_place chain v.1 f.of)) last_here
           ∙ ap by_answer delivered_is
 
       left_then : LeftAs chain tree new e (with_out then_conn out ended) (by_answer (out_of out ended, well))
@@ -177,7 +186,7 @@ module _ {R : Type 0} {g : Ghosts R Stored} (chain : List Program) (b l : ℕ) (
         stacked = stacked_out then_conn out ended chain (brigade_of new) (lists new) (pool_of new) (next_name new)
             (restacked c fs c.labels (next_name old) (next_name new) x passed_on change chain (brigade_of old) (brigade_of new) (lists old) (lists new) (pool_of old) (pool_of new)
             (rest_goes_on (brigade_of old) (brigade_of new) (lists old) (lists new) (pool_of old) (pool_of new) (next_name old) (next_name new) x.instance x.call alone.rises alone.names quiet)
-            was.stacked
+            was.stacked (in_chain chain (instr.Pass b l) tree old d c v f rest ready is_passing refl refl)
             (held_cursors (brigade_of new) (lists new) (pool_of new) (next_name new) i x.call passed_on.call refl (λ k. refl)
             (kept x.call (work.held_top chain (instr.Pass b l) tree old d c v f rest ready x here))));
       })

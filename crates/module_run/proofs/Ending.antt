@@ -21,9 +21,9 @@ use Rattle.brigade_ops.specs.declared.store.Brigades.{Brigades}
 use Rattle.brigade_ops.specs.Store.{lists, brigade_of, pool_of, references, next_name}
 use Rattle.module_run.specs.declared.conn.Conn.{Conn}
 use Rattle.module_run.specs.declared.conn.Filter.{Filter}
-use Rattle.module_run.specs.Conns.{call_name, conn_of, counting, filter_at, runs_of, shown_filter, shown_frame, waiting}
+use Rattle.module_run.specs.Conns.{modules_of, call_name, conn_of, counting, filter_at, runs_of, shown_filter, shown_frame, waiting}
 use Rattle.ring_calls.specs.Held.{IsHeld}
-use Rattle.module_run.specs.Proceeding.{IsReady, RefinesStep}
+use Rattle.module_run.specs.Proceeding.{IsReady, RefinesReturn}
 use Rattle.ring_calls.specs.Seen.{is_running}
 use Rattle.module_run.proofs.EndedLast.{EndsLast, each_left, idle, left_as, stays, waits_none}
 use Rattle.module_run.proofs.Finishing.{led, nine, returned_so, top_first}
@@ -54,17 +54,17 @@ module _ {R : Type 0} {g : Ghosts R Stored} (chain : List Program) (s : Status) 
   abbrev after : Linked
   after = (v.0, conn_of (map_of tree) (lists new) v.1.opened d)
 
-  ended_is : length filters.items ≡ length c.filters.items → c.queue ≡ length c.filters.items
+  ended_is : length filters.items ≡ length c.filters.items → c.queue ≡ modules_of c
       → returned_from chain s (shown_frame (runs_of c) (lists store) c.first (Some x.top)) (v.0, conn_of (map_of tree) (lists store) v.1.opened c) ≡ (stepped.CallEnded s, after)
   unfolding returned_from put_back configuration conn_of counting
   ended_is count last =
       ap (λ (n : ℕ). next_called chain s (counting c.queue n) (built (left_as chain (brigade_of store) (lists store) (lists new) (pool_of store) (next_name store) c d ready.stands.left.stacked
       (nine chain s tree store device c v f rest ready none) x) (length c.filters.items)))
-      (let e : length c.filters.items - c.queue ≡ 0 = omega (arith, last) in e)
+      (let e : modules_of c - c.queue ≡ 0 = omega (arith, last) in e)
       ∙ (ap (λ (is : ℕ → model.Instance). (stepped.CallEnded s, built is (length c.filters.items))) (fun_ext each)
       ∙ ap (λ (n : ℕ). (stepped.CallEnded s, built (λ k. shown_filter (runs_of d) (lists new) (filter_at d k)) n)) (sym count)) where
         built : (ℕ → model.Instance) → ℕ → Linked
-        built is n = (v.0, record (conn_of (map_of tree) (lists store) v.1.opened c) { instances = is; stack = []; queue = counting c.queue (n - c.queue) })
+        built is n = (v.0, record (conn_of (map_of tree) (lists store) v.1.opened c) { instances = is; stack = []; queue = counting c.queue ((n - 1) - c.queue) })
 
   name_none : ((k : ℕ) → k ≢ c.first → filter_at d k ≡ filter_at c k) → (k : ℕ) (e : Filter) → filter_at d k ≡ Some e → e.call.name ≡ 0
   name_none others k e is = elim (cases_eq k c.first) [
@@ -95,10 +95,10 @@ module _ {R : Type 0} {g : Ghosts R Stored} (chain : List Program) (s : Status) 
         (ready.stands.left.stacked.held k e was))
   ]
 
-  pub ending : length filters.items ≡ length c.filters.items → c.queue ≡ length c.filters.items → ((k : ℕ) → k ≢ c.first → filter_at d k ≡ filter_at c k)
+  pub ending : length filters.items ≡ length c.filters.items → c.queue ≡ modules_of c → ((k : ℕ) → k ≢ c.first → filter_at d k ≡ filter_at c k)
       → next_name new ≡ next_name store → pool_of new ≡ pool_of store → references new ≡ references store → NoneRevived (brigade_of store) (brigade_of new) (next_name store)
       → IsHeld new x.ended.instance x.ended.call
-      → RefinesStep chain (instr.Ret s) device device v f rest tree new d (stepped.CallEnded s)
+      → RefinesReturn chain s device v f rest tree new d (stepped.CallEnded s)
   unfolding conn_of
   ending count last others next pools refs names held =
       led chain s tree store device c v f rest ready none new d x pools refs (stepped.CallEnded s) after

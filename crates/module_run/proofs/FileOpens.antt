@@ -15,7 +15,7 @@ use Rattle.run_model.specs.declared.payload.Payload.{Payload}
 use Rattle.run_model.specs.declared.payload.Payload.TheVariants.{FileRef}
 use Rattle.run_model.specs.Chains.{Connection, Linked, pools_of}
 use Rattle.run_model.specs.Indexed.{upd}
-use Rattle.run_model.specs.Pools.{Pools, registered}
+use Rattle.run_model.specs.Pools.{Pools, registered, registered_as, Cleanups}
 use Rattle.run_model.specs.RunOrder.{IsPoolMap}
 use Rattle.run_model.specs.Turns.{file_taken}
 use Rattle.pool_tree.specs.declared.tree.PoolTree.{PoolTree}
@@ -180,11 +180,11 @@ module _ (d e : Device) (name : List ℕ) (number len : ℕ) (opens : Opens d na
         ∙ sym (ap (λ (ps : Pools Payload). ps.payloads) map_is)
 
     path_then : (map_of tree).path ≡ (map_of newer).path
-    unfolding registered
+    unfolding registered_as
     path_then = sym (ap (λ (ps : Pools Payload). ps.path) map_is)
 
     next_then : (map_of tree).next ≡ (map_of newer).next
-    unfolding registered
+    unfolding registered_as
     next_then = sym (ap (λ (ps : Pools Payload). ps.next) map_is)
 
     conn_then : (file_taken req number bytes v).1 ≡ conn_of (map_of newer) (lists new) opened_then (record c { files = files })
@@ -192,13 +192,13 @@ module _ (d e : Device) (name : List ℕ) (number len : ℕ) (opens : Opens d na
     conn_then =
         ap over left.seen.conn
         ∙ (ap (λ (path : ℕ → List ℕ). view path (registered req (FileRef number) (pools_of v.0 v.1)).payloads (lengths c.files.items ++ (number, length bytes) ∷ []) (lists old)) path_then
-        ∙ (ap (λ (loads : ℕ → List Payload). view (map_of newer).path loads (lengths c.files.items ++ (number, length bytes) ∷ []) (lists old)) payloads_then
+        ∙ (ap (λ (loads : ℕ → Cleanups Payload). view (map_of newer).path loads (lengths c.files.items ++ (number, length bytes) ∷ []) (lists old)) payloads_then
         ∙ (ap (λ (fs : List (ℕ × ℕ)). view (map_of newer).path (map_of newer).payloads fs (lists old)) lengths_then
         ∙ ap (view (map_of newer).path (map_of newer).payloads (lengths files.items)) (sym same_lists)))) where
           over : Connection → Connection
           over x = record x { opened = opened_then; files = x.files ++ (number, length bytes) ∷ []; payloads = (registered req (FileRef number) (pools_of v.0 v.1)).payloads }
 
-          view : (ℕ → List ℕ) → (ℕ → List Payload) → List (ℕ × ℕ) → (ℕ → Option Items) → Connection
+          view : (ℕ → List ℕ) → (ℕ → Cleanups Payload) → List (ℕ × ℕ) → (ℕ → Option Items) → Connection
           view path loads fs rings = record (conn_of (map_of tree) rings opened_then c) { path = path; payloads = loads; files = fs }
 
     opens_then : (n : ℕ) (bs : List ℕ) → opened_then n ≡ Some bs → MayHold (e.numbered n) bs

@@ -12,7 +12,7 @@ use Rattle.run_model.specs.declared.event.Stepped.{Stepped}
 use Rattle.run_model.specs.declared.payload.Payload.{Payload}
 use Rattle.run_model.specs.Chains.{Frame, Connection, Linked}
 use Rattle.run_model.specs.Effects.{handed_over}
-use Rattle.run_model.specs.Passing.{Reads, proceeds, returned_from}
+use Rattle.run_model.specs.Passing.{returned_from, returns}
 use Rattle.run_model.specs.State as model
 use Rattle.run_model.proofs.Updates.{upd_either}
 use Rattle.pool_tree.specs.declared.tree.PoolTree.{PoolTree}
@@ -29,7 +29,7 @@ use Rattle.ring_calls.specs.declared.machine.Instance.{Instance}
 use Rattle.ring_calls.specs.declared.machine.Slot.{Slot}
 use Rattle.ring_calls.specs.declared.machine.Slot.TheVariants as slot
 use Rattle.module_run.specs.Conns.{IsSeenAs, conn_of, filter_at, lent_by, runs_of, shown_filter, shown_frame, shown_instance, stack_over, top_of, waiting}
-use Rattle.module_run.specs.Proceeding.{IsReady, RefinesStep, LeftAs}
+use Rattle.module_run.specs.Proceeding.{IsReady, RefinesReturn, LeftAs}
 use Rattle.ring_calls.specs.Seen.{shown_as, shown_slot}
 use Rattle.ring_calls.specs.Slots.{slot_at}
 use Rattle.module_run.specs.Stacked.{IsStacked}
@@ -76,16 +76,12 @@ module _ {R : Type 0} {g : Ghosts R Stored} (chain : List Program) (s : Status) 
   unfolding stack_over
   rest_none = (on_top_of chain (instr.Ret s) tree store device c v f rest ready).below ∙ ap (stack_over (frame_at (lists store) c)) (no_callers c.callers.items none)
 
-  pub no_reads : Reads
-  no_reads n = None
-
   pub returned_so : (t : Filter) → filter_at c c.first ≡ Some t
-      → proceeds chain no_reads (instr.Ret s) f rest v ≡ returned_from chain s (shown_frame (runs_of c) (lists store) c.first (Some t)) (v.0, conn_of (map_of tree) (lists store) v.1.opened c)
-  unfolding proceeds
+      → returns chain s f rest v ≡ returned_from chain s (shown_frame (runs_of c) (lists store) c.first (Some t)) (v.0, conn_of (map_of tree) (lists store) v.1.opened c)
   returned_so t is =
-      ap (λ (h : Frame). proceeds chain no_reads (instr.Ret s) h rest v)
+      ap (λ (h : Frame). returns chain s h rest v)
       (top_frame chain (instr.Ret s) tree store device c v f rest ready t (ap (filter_at c) top_first ∙ is) ∙ ap (λ (n : ℕ). shown_frame (runs_of c) (lists store) n (Some t)) top_first)
-      ∙ (ap (λ (fs : List Frame). proceeds chain no_reads (instr.Ret s) (shown_frame (runs_of c) (lists store) c.first (Some t)) fs v) rest_none
+      ∙ (ap (λ (fs : List Frame). returns chain s (shown_frame (runs_of c) (lists store) c.first (Some t)) fs v) rest_none
       ∙ ap (λ (C : Connection). returned_from chain s (shown_frame (runs_of c) (lists store) c.first (Some t)) (v.0, C)) ready.stands.left.seen.conn)
 
   no_pool : (n : ℕ) (o : Option ℕ) → pool_of store n ≡ o → next_name store ≤ n → o ≡ None
@@ -118,13 +114,10 @@ module _ {R : Type 0} {g : Ghosts R Stored} (chain : List Program) (s : Status) 
       runs = Rattle.module_run.proofs.TopFilter.top_runs chain (instr.Ret s) tree store device c v f rest ready x.top (ap (filter_at c) top_first ∙ x.on_top)
 
     -- what it leads to
-    pub led : (answer : Stepped) (after : Linked) → proceeds chain no_reads (instr.Ret s) f rest v ≡ (answer, after) → after.1.opened ≡ v.1.opened
+    pub led : (answer : Stepped) (after : Linked) → returns chain s f rest v ≡ (answer, after) → after.1.opened ≡ v.1.opened
         → IsSeenAs (map_of tree) (lists new) (next_name new) d after
-        → IsStacked chain new d → RefinesStep chain (instr.Ret s) device device v f rest tree new d answer
+        → IsStacked chain new d → RefinesReturn chain s device v f rest tree new d answer
     led answer after so opened seen stacked = record {
-      reads = no_reads;
-      told = refl;
-      closed = tt;
       answers = ap (λ (z : Stepped × Linked). z.0) so;
       left = subst (LeftAs chain tree new device d) (sym (ap (λ (z : Stepped × Linked). z.1) so)) left_after;
     } where

@@ -27,7 +27,7 @@ use Rattle.module_run.specs.declared.conn.Conn.{Conn}
 use Rattle.module_run.specs.declared.conn.Filter.{Filter}
 use Rattle.ring_calls.specs.declared.machine.Instance.{Instance}
 use Rattle.module_run.specs.CalledFirst.{CalledFirst, CallStarts}
-use Rattle.module_run.specs.Conns.{call_name, conn_of, counting, filter_at, lent_by, runs_of, shown_call, shown_filter, shown_frame, shown_instance, stack_of, stack_over, top_of}
+use Rattle.module_run.specs.Conns.{modules_of, call_name, conn_of, counting, filter_at, lent_by, runs_of, shown_call, shown_filter, shown_frame, shown_instance, stack_of, stack_over, top_of}
 use Rattle.module_run.specs.Conns.{waiting}
 use Rattle.ring_calls.specs.Seen.{is_running, shown, shown_cursor, shown_slot}
 use Rattle.ring_calls.specs.Slots.{cursor_at, slot_at}
@@ -214,18 +214,18 @@ module _ {R : Type 0} {g : Ghosts R Stored} (chain : List Program) (old new : Br
   stack_as : stack_of (lists new) d ≡ (record { of = 0; call = fresh_call (next_name old); pc = handler_at r (module_at chain 0) }) ∷ []
   stack_as = stack_first d waits_are callers_are top_is_first (lists new) _ (ap (λ (x : Conn). x.busy) begins.rest) (frame_as (runs_of d))
 
-  queue_as : counting d.queue (length d.filters.items - d.queue) ≡ tail_of (numbers_below (length chain))
+  queue_as : counting d.queue (modules_of d - d.queue) ≡ tail_of (numbers_below (length chain))
   queue_as =
-      ap (λ (n : ℕ). counting n (length d.filters.items - n)) (ap (λ (x : Conn). x.queue) begins.rest)
-      ∙ (ap (λ (n : ℕ). counting 1 (n - 1)) (begins.many ∙ stacked.many) ∙ later_filters (length chain))
+      ap (λ (n : ℕ). counting n (modules_of d - n)) (ap (λ (x : Conn). x.queue) begins.rest)
+      ∙ (ap (λ (n : ℕ). counting 1 ((n - 1) - 1)) (begins.many ∙ stacked.many) ∙ (ap (λ (n : ℕ). counting 1 (n - 1)) (let e : (length chain + 1) - 1 ≡ length chain = omega arith in e) ∙ later_filters (length chain)))
 
   -- what it reads as, over pools of which these are its paths and payloads
   pub conn_called : (ps : Pools Payload) (opened : ℕ → Option (List ℕ)) (k : Common) → k.next ≡ next_name old
       → conn_of ps (lists new) opened d ≡ (called chain 0 (tail_of (numbers_below (length chain))) (k, record (conn_of ps (lists old) opened c) { req = r; count = 0 })).1
   unfolding conn_of
   conn_called ps opened k given =
-      ap (λ (i : ℕ → model.Instance). view d i (stack_of (lists new) d) (counting d.queue (length d.filters.items - d.queue))) instances_as
-      ∙ (ap (λ (s : List Frame). view d (λ j. shown_filter (runs_of c) (lists old) (filter_at c j)) s (counting d.queue (length d.filters.items - d.queue))) stack_as
+      ap (λ (i : ℕ → model.Instance). view d i (stack_of (lists new) d) (counting d.queue (modules_of d - d.queue))) instances_as
+      ∙ (ap (λ (s : List Frame). view d (λ j. shown_filter (runs_of c) (lists old) (filter_at c j)) s (counting d.queue (modules_of d - d.queue))) stack_as
       ∙ (ap (λ (q : List ℕ). view d (λ j. shown_filter (runs_of c) (lists old) (filter_at c j)) (top (next_name old) ∷ []) q) queue_as
       ∙ (ap (λ (x : Conn). view x (λ j. shown_filter (runs_of c) (lists old) (filter_at c j)) (top (next_name old) ∷ []) (tail_of (numbers_below (length chain)))) begins.rest
       ∙ ap (λ (n : ℕ). view (record c { req = r; count = 0 }) (λ j. shown_filter (runs_of c) (lists old) (filter_at c j)) (top n ∷ []) (tail_of (numbers_below (length chain)))) (sym given)))) where

@@ -1,5 +1,5 @@
 -- The filter whose call is on top, where none waits for it, may end it.
-use Rattle.std.proofs.Common.{◌≡◌, ◌≢◌, ℕ, suc, ◌+◌, ◌-◌, ◌<◌, true, List, [], ◌∷◌, length, set, Option, Some, None, is_some, refl, sym, ap, subst, ◌∙◌, inl, inr, arith}
+use Rattle.std.proofs.Common.{Bool, ◌≡◌, ◌≢◌, ℕ, suc, ◌+◌, ◌-◌, ◌<◌, true, List, [], ◌∷◌, length, set, Option, Some, None, is_some, refl, sym, ap, subst, ◌∙◌, inl, inr, arith}
 use Rattle.std.specs.Prelude.{slice_get, slice_index_or}
 use Rattle.std.proofs.lemmas.Bool.{cases_eq, false≢true}
 use Rattle.std.proofs.lemmas.List.{length-set}
@@ -22,7 +22,7 @@ use Rattle.brigade_ops.specs.Store.{lists, brigade_of, pool_of, next_name}
 use Rattle.module_run.specs.declared.conn.Conn.{Conn}
 use Rattle.module_run.specs.declared.conn.Filter.{Filter}
 use Rattle.ring_calls.specs.declared.machine.Instance.{Instance}
-use Rattle.module_run.specs.Conns.{conn_of, counting, filter_at, waiting}
+use Rattle.module_run.specs.Conns.{modules_of, conn_of, counting, filter_at, waiting}
 use Rattle.ring_calls.specs.Held.{IsHeld}
 use Rattle.module_run.specs.Proceeding.{IsReady}
 use Rattle.module_run.specs.Stacked.{named_at}
@@ -48,26 +48,26 @@ module _ {R : Type 0} {g : Ghosts R Stored} (chain : List Program) (s : Status) 
   zero_free = free_0 (pool_of store 0) refl
 
   -- what is still to run
-  queue_is : v.1.queue ≡ counting c.queue (length c.filters.items - c.queue)
+  queue_is : v.1.queue ≡ counting c.queue (modules_of c - c.queue)
   unfolding conn_of
   queue_is = ap (λ (x : Connection). x.queue) ready.stands.left.seen.conn
 
-  queue_more : c.queue < length c.filters.items → v.1.queue ≡ c.queue ∷ counting (suc c.queue) (length c.filters.items - (c.queue + 1))
+  queue_more : c.queue < modules_of c → v.1.queue ≡ c.queue ∷ counting (suc c.queue) (modules_of c - (c.queue + 1))
   unfolding counting
-  queue_more within = queue_is ∙ ap (counting c.queue) (let e : length c.filters.items - c.queue ≡ suc (length c.filters.items - (c.queue + 1)) = omega (arith, within) in e)
+  queue_more within = queue_is ∙ ap (counting c.queue) (let e : modules_of c - c.queue ≡ suc (modules_of c - (c.queue + 1)) = omega (arith, within) in e)
 
   frame_of : f.of ≡ c.first
   frame_of = ap (λ (h : Frame). h.of) (on_top_of chain (instr.Ret s) tree store device c v f rest ready).frame ∙ top_first chain s tree store device c v f rest ready none
 
   -- the next filter comes later than the first one
-  pub queue_later : c.queue < length c.filters.items → c.first < c.queue
+  pub queue_later : c.queue < modules_of c → c.first < c.queue
   unfolding IsRising
   queue_later within = subst (λ (n : ℕ). n < c.queue) frame_of (subst (IsRising f.of) (queue_more within) (ready.stands.lawful.sound.calls.later f rest ready.on_top)).0
 
   -- a call begins
-  pub one_begins : c.queue < length c.filters.items → calls_of chain (instr.Ret s) f rest v.1.queue ≡ 1
-  one_begins within = ap (λ (fs : List Frame). calls_of chain (instr.Ret s) f fs v.1.queue) (rest_none chain s tree store device c v f rest ready none)
-      ∙ ap (calls_of chain (instr.Ret s) f []) (queue_more within)
+  pub one_begins : (last : Bool) → c.queue < modules_of c → calls_of last (instr.Ret s) rest v.1.queue ≡ 1
+  one_begins last within = ap (λ (fs : List Frame). calls_of last (instr.Ret s) fs v.1.queue) (rest_none chain s tree store device c v f rest ready none)
+      ∙ ap (calls_of last (instr.Ret s) []) (queue_more within)
 
   module _ (t : Filter) (at : t ≡ slice_index_or c.filters.items c.first t) where
     pub first_read : filter_at c c.first ≡ Some t

@@ -22,12 +22,12 @@ use Rattle.module_run.specs.declared.conn.Filter.{Filter}
 use Rattle.ring_calls.specs.declared.machine.Call.{Call}
 use Rattle.ring_calls.specs.declared.machine.Instance.{Instance}
 use Rattle.module_run.specs.CalledFirst.{CalledFirst, CallStarts}
-use Rattle.module_run.specs.Conns.{conn_of, filter_at}
+use Rattle.module_run.specs.Conns.{top_of, conn_of, filter_at}
 use Rattle.ring_calls.specs.Held.{IsHeld}
 use Rattle.module_run.specs.Proceeding.{LeftAs}
 use Rattle.ring_calls.specs.Slots.{slot_at, name_in}
 use Rattle.module_run.specs.Stacked.{FiltersApart, AreCalled, IsStacked, is_called, is_waiting, named_at}
-use Rattle.module_run.proofs.Callers.{alone_bottom, alone_called, alone_names, alone_rises, called_top, none_in_callers}
+use Rattle.module_run.proofs.Callers.{no_callers, alone_bottom, alone_called, alone_names, alone_rises, called_top, none_in_callers}
 use Rattle.ring_passes.proofs.Begins.{held_begun}
 use Rattle.ring_calls.proofs.Changes.{ring_off}
 use Rattle.module_run.proofs.FirstCalls.{Was, was, others_stay, waits_are, first_is, none_waiting, starts, before, before_is, after, after_is, conn_called, no_call, nothing_in, not_lent, top_is_first}
@@ -118,6 +118,7 @@ module _ {R : Type 0} {g : Ghosts R Stored} (chain : List Program) (old new : Br
     waits = alone_names d (none_waiting chain old new c d r stacked idle begins over) (waits_are chain old new c d r stacked idle begins over);
     rises = alone_rises d (none_waiting chain old new c d r stacked idle begins over);
     bottom = alone_bottom d (none_waiting chain old new c d r stacked idle begins over) (top_is_first chain old new c d r stacked idle begins over ∙ sym (first_is chain old new c d r stacked idle begins over));
+    outer = λ e. no_callers d.callers.items (none_waiting chain old new c d r stacked idle begins over);
     quiet = λ e. absurd (true_false d.busy (ap (λ (x : Conn). x.busy) begins.rest) e);
   } where
     first_runs : (k : ℕ) (f : Filter) → filter_at d k ≡ Some f → FilterThere k f → k ≡ 0 → 0 < f.call.name
@@ -146,23 +147,23 @@ module _ {R : Type 0} {g : Ghosts R Stored} (chain : List Program) (old new : Br
       held_beside old new (λ n lt. over n ∙ ring_off (lists old) (next_name old) n (Some []) (less n (next_name old) lt)) (omega (arith, next)) names pools f.instance f.call
       (stacked.held (suc k) f (sym (others_stay chain old new c d r stacked idle begins over (suc k) (λ e. omega (arith, e))) ∙ is))
 
-  pub stacked_called : IsStacked chain new d
-  stacked_called = record {
+  pub stacked_called : 0 < length chain → IsStacked chain new d
+  stacked_called some = record {
     many = begins.many ∙ stacked.many;
-    within = (let top = top_is_first chain old new c d r stacked idle begins over in let some = stacked.within in omega
-        (arith, top, some));
-    queue = (let q = ap (λ (x : Conn). x.queue) begins.rest in let some = stacked.within in omega (arith, q, some));
+    within = (let top = top_is_first chain old new c d r stacked idle begins over in omega (arith, top));
+    queue = (let q = ap (λ (x : Conn). x.queue) begins.rest in omega (arith, q, some));
     held = held_called;
     apart = apart_called;
     called = calls_called;
     brought = λ m f is e. absurd (not_in d.first f is m e);
+    whole = λ out m f is e. absurd (not_in (top_of d) f is m e);
   }
 
   -- All of it. Its pools may have been changed, and a request begun.
-  pub left_called : (tree newer : PoolTree Payload) (dev : Device) (k : Common) (x : Connection) → LeftAs chain tree old dev c (k, x) → references new ≡ references old
+  pub left_called : 0 < length chain → (tree newer : PoolTree Payload) (dev : Device) (k : Common) (x : Connection) → LeftAs chain tree old dev c (k, x) → references new ≡ references old
       → IsPoolMap (map_of newer) → IsHouse old (map_of newer) → LeftAs chain newer new dev d (all_called chain (with_pools (map_of newer) (k, record x { req = r })))
   unfolding conn_of all_called
-  left_called tree newer dev k x left refs formed house = record {
+  left_called some tree newer dev k x left refs formed house = record {
     seen = record {
       pools = refl;
       given = ap (λ (n : ℕ). n + 1) left.seen.given ∙ sym next;
@@ -174,7 +175,7 @@ module _ {R : Type 0} {g : Ghosts R Stored} (chain : List Program) (old new : Br
     house = house_loose old new (map_of newer) pools refs house (next_name old) [] over;
     references = subst (λ (f : ℕ → ℕ). AreOpen f dev) (sym refs) left.references;
     none = over 0 ∙ (ring_off (lists old) (next_name old) 0 (Some []) (less 0 (next_name old) first_name) ∙ left.none);
-    stacked = stacked_called;
+    stacked = stacked_called some;
   } where
     first_name : 0 < next_name old
     first_name = (let a = (stacked.held 0 was_first first_was).called in omega (arith, a))

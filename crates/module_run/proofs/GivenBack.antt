@@ -252,4 +252,4 @@ module _ (chain : List Program) (s : Status) (at : BucketId → Option ℕ) (L M
         ∙ (ap (λ (fs : List Frame). built (λ k. shown_filter (runs_of d) M (filter_at d k)) fs (length c.filters.items)) (sym stack_is)
         ∙ ap (λ (n : ℕ). built (λ k. shown_filter (runs_of d) M (filter_at d k)) (stack_of M d) n) (sym x.count)) where
           built : (ℕ → model.Instance) → List Frame → ℕ → Linked
-          built is fs n = (g, record (conn_of ps L opened c) { instances = is; stack = fs; queue = counting c.queue (n - c.queue) })
+          built is fs n = (g, record (conn_of ps L opened c) { instances = is; stack = fs; queue = counting c.queue ((n - 1) - c.queue) })

@@ -1,5 +1,5 @@
 -- The filters of a connection as a pass to the next one writes them.
-use Rattle.std.proofs.Common.{◌≡◌, ◌≢◌, ◌==◌, ℕ, ◌+◌, ◌<◌, Bool, true, List, [], ◌∷◌, ◌++◌, length, set, Some, None, Result, Ok, Err, is_ok, sym, ◌∙◌, ap, arith}
+use Rattle.std.proofs.Common.{◌≡◌, ◌≢◌, ◌==◌, ℕ, ◌<◌, Bool, true, List, [], ◌∷◌, ◌++◌, length, set, Some, None, Result, Ok, Err, is_ok, sym, ◌∙◌, ap, arith}
 use Rattle.std.specs.Prelude.{if◌then◌else◌, slice_get, slice_index_or, OnErr}
 use Rattle.std.specs.Global.{Vec}
 use Rattle.std.specs.Vec.{with_item}
@@ -33,50 +33,49 @@ pub reads_here : (c : Conn) (t : ℕ) → t ≡ top_of c → (x r : Filter) → 
 unfolding filter_at
 reads_here c t at x r here is = read_as c.filters.items t r x is (ap (slice_get c.filters.items) at ∙ here)
 
--- what is read behind the filter on top
-pub reads_next : (c : Conn) (t : ℕ) → t ≡ top_of c → (e r : Filter) → filter_at c (top_of c + 1) ≡ Some e → r ≡ slice_index_or c.filters.items (t + 1) r → r ≡ e
+-- what is read of another filter
+pub reads_next : (c : Conn) (to : ℕ) (e r : Filter) → filter_at c to ≡ Some e → r ≡ slice_index_or c.filters.items to r → r ≡ e
 unfolding filter_at
-reads_next c t at e r behind is = read_as c.filters.items (t + 1) r e is (ap (λ (n : ℕ). slice_get c.filters.items (n + 1)) at ∙ behind)
+reads_next c to e r behind is = read_as c.filters.items to r e is behind
 
-module _ (c : Conn) (t : ℕ) (at : t ≡ top_of c) (was y z : Filter) where
+module _ (c : Conn) (t to : ℕ) (at : t ≡ top_of c) (later : top_of c < to) (was y z : Filter) where
   abbrev pub written : Vec Filter
-  written = with_item (with_item (with_item c.filters (t + 1) was) t y) (t + 1) z
+  written = with_item (with_item (with_item c.filters to was) t y) to z
 
-  module _ (x e : Filter) (top : filter_at c (top_of c) ≡ Some x) (behind : filter_at c (top_of c + 1) ≡ Some e) (within : top_of c + 1 < length c.filters.items) where
+  module _ (x e : Filter) (top : filter_at c (top_of c) ≡ Some x) (behind : filter_at c to ≡ Some e) (within : to < length c.filters.items) where
     -- What is read there: the filter on top first, then the next one, and the one on top again.
-    pub reads_top : (r : Filter) → r ≡ slice_index_or (set c.filters.items (t + 1) was) t r → r ≡ x
+    pub reads_top : (r : Filter) → r ≡ slice_index_or (set c.filters.items to was) t r → r ≡ x
     unfolding filter_at
-    reads_top r is = read_as (set c.filters.items (t + 1) was) t r x is (get_other c.filters.items (t + 1) t was (λ q. omega (arith, q)) ∙ (ap (slice_get c.filters.items) at ∙ top))
+    reads_top r is = read_as (set c.filters.items to was) t r x is (get_other c.filters.items to t was (λ q. omega (arith, q, at, later)) ∙ (ap (slice_get c.filters.items) at ∙ top))
 
-    pub reads_behind : (r : Filter) → r ≡ slice_index_or (set (set c.filters.items (t + 1) was) t y) (t + 1) r → r ≡ was
-    reads_behind r is = read_as (set (set c.filters.items (t + 1) was) t y) (t + 1) r was is
-        (get_other (set c.filters.items (t + 1) was) t (t + 1) y (λ q. omega (arith, q)) ∙ get_here c.filters.items (t + 1) was (omega (arith, at, within)))
+    pub reads_behind : (r : Filter) → r ≡ slice_index_or (set (set c.filters.items to was) t y) to r → r ≡ was
+    reads_behind r is = read_as (set (set c.filters.items to was) t y) to r was is
+        (get_other (set c.filters.items to was) t to y (λ q. omega (arith, q, at, later)) ∙ get_here c.filters.items to was (omega (arith, within)))
 
     pub reads_again : (r : Filter) → r ≡ slice_index_or written.items t r → r ≡ y
     reads_again r is = read_as written.items t r y is
-        (get_other (set (set c.filters.items (t + 1) was) t y) (t + 1) t z (λ q. omega (arith, q))
-        ∙ get_here (set c.filters.items (t + 1) was) t y (let n = length-set c.filters.items (t + 1) was in omega (arith, at, within, n)))
+        (get_other (set (set c.filters.items to was) t y) to t z (λ q. omega (arith, q, at, later))
+        ∙ get_here (set c.filters.items to was) t y (let n = length-set c.filters.items to was in omega (arith, at, later, within, n)))
 
     module _ (cs ws : Vec ℕ) (next b m : ℕ) (callers : cs.items ≡ c.callers.items ++ top_of c ∷ []) (waits : ws.items ≡ c.waits.items ++ x.call.name ∷ []) (busy : c.busy ≡ true) (variable : b < 9) (handed : named_at x b ≡ Some m)
         (slots : (a : ℕ) → slot_at y.instance a ≡ (if a == b then marked Passed (slot_at x.instance b) else slot_at x.instance a))
         (slots_behind : (a : ℕ) → slot_at z.instance a ≡ (if a == 8 then slot.Made m None Usable else slot_at e.instance a))
         (call : y.call ≡ x.call) (name : z.call.name ≡ next) (lent : y.lent ≡ Some b) (alone : z.lent ≡ None) where
-      pub built : HandsOn c written cs ws (top_of c + 1) next b m x e y z
+      pub built : HandsOn c written cs ws to next b m x e y z
       unfolding filter_at
       built = record {
-        later = omega arith;
+        later = later;
         top = top;
         behind = behind;
         top_after = ap (slice_get written.items) (sym at)
-            ∙ (get_other (set (set c.filters.items (t + 1) was) t y) (t + 1) t z (λ q. omega (arith, q))
-            ∙ get_here (set c.filters.items (t + 1) was) t y (let n = length-set c.filters.items (t + 1) was in omega (arith, at, within, n)));
-        behind_after = ap (λ (n : ℕ). slice_get written.items (n + 1)) (sym at)
-            ∙ get_here (set (set c.filters.items (t + 1) was) t y) (t + 1) z
-            (let n = length-set c.filters.items (t + 1) was in let k = length-set (set c.filters.items (t + 1) was) t y in omega (arith, at, within, n, k));
+            ∙ (get_other (set (set c.filters.items to was) t y) to t z (λ q. omega (arith, q, at, later))
+            ∙ get_here (set c.filters.items to was) t y (let n = length-set c.filters.items to was in omega (arith, at, later, within, n)));
+        behind_after = get_here (set (set c.filters.items to was) t y) to z
+            (let n = length-set c.filters.items to was in let k = length-set (set c.filters.items to was) t y in omega (arith, within, n, k));
         others = λ j ne off.
-            get_other (set (set c.filters.items (t + 1) was) t y) (t + 1) j z (λ q. off (omega (arith, q, at)))
-            ∙ (get_other (set c.filters.items (t + 1) was) t j y (λ q. ne (omega (arith, q, at))) ∙ get_other c.filters.items (t + 1) j was (λ q. off (omega (arith, q, at))));
-        many = length-set (set (set c.filters.items (t + 1) was) t y) (t + 1) z ∙ (length-set (set c.filters.items (t + 1) was) t y ∙ length-set c.filters.items (t + 1) was);
+            get_other (set (set c.filters.items to was) t y) to j z off
+            ∙ (get_other (set c.filters.items to was) t j y (λ q. ne (omega (arith, q, at))) ∙ get_other c.filters.items to j was off);
+        many = length-set (set (set c.filters.items to was) t y) to z ∙ (length-set (set c.filters.items to was) t y ∙ length-set c.filters.items to was);
         waits = waits;
         callers = callers;
         busy = busy;

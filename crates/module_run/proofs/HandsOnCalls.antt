@@ -1,5 +1,5 @@
 -- Calls before and after a pass to the next filter.
-use Rattle.std.proofs.Common.{◌≡◌, ◌≢◌, ℕ, suc, ◌+◌, ◌<◌, ◌≤◌, ◌||◌, Bool, true, List, [], ◌∷◌, ◌++◌, length, Option, Some, is_some, refl, sym, ◌∙◌, ap, ◌⊎◌, inl, inr, arith}
+use Rattle.std.proofs.Common.{◌≡◌, ◌≢◌, ℕ, suc, ◌<◌, ◌≤◌, ◌||◌, Bool, true, List, [], ◌∷◌, ◌++◌, length, Option, Some, is_some, refl, sym, ◌∙◌, ap, ◌⊎◌, inl, inr, arith}
 use Rattle.std.specs.Prelude.{if◌then◌else◌, slice_get}
 use Rattle.std.specs.Global.{Vec}
 use Rattle.std.proofs.lemmas.Bool.{cases_eq, eq-eqb, ne_eqb, false≢true}
@@ -41,8 +41,8 @@ module _ (chain : List Program) (c : Conn) (fs : Vec Filter) (cs ws : Vec ℕ) (
   waiting_top : is_waiting (changed c fs cs ws to) (top_of c) ≡ true
   waiting_top = ap (is_in (top_of c)) h.callers ∙ pushed_in (top_of c) (top_of c) c.callers.items refl
 
-  pub called_after : 0 < next → current (module_at chain (top_of c)) x.call.pc ≡ instr.Pass b l → AreCalled chain c → AreCalled chain (changed c fs cs ws to)
-  called_after pos passing called = record {
+  pub called_after : (inside : to < length chain) → 0 < next → current (module_at chain (top_of c)) x.call.pc ≡ instr.Pass b l → AreCalled chain c → AreCalled chain (changed c fs cs ws to)
+  called_after inside pos passing called = record {
     runs = λ j f is runs. elim (cases_eq j (to)) [
       | inl q ↦ (let n = ap (λ (g : Filter). g.call.name) (at_behind j f is q) ∙ h.name in omega (arith, n, pos))
       | inr ne ↦ (let p = old j f is in let n = ap (λ (t : Call). t.name) (p.call ne) in let r = called.runs j p.filter p.is (sym (called_before c fs cs ws to next b m x e y z h j ne) ∙ runs) in
@@ -109,6 +109,7 @@ module _ (chain : List Program) (c : Conn) (fs : Vec Filter) (cs ws : Vec ℕ) (
       | inr new ↦ (let a = new.0 in let low = called_low chain c called i k (placed_low i k at (omega (arith, a, lt))) in let q = new.1 in omega (arith, low, q))
     ];
     bottom = get_left cs.items ((to) ∷ []) 0 c.first (ap (λ (ks : List ℕ). slice_get ks 0) h.callers ∙ called.bottom);
+    outer = λ e. absurd (omega (arith, e, inside));
     quiet = λ q. absurd (false≢true (sym q ∙ h.busy));
   } where
     old : (j : ℕ) (f : Filter) → filter_at (changed c fs cs ws to) j ≡ Some f → FilterBefore c fs cs ws to next b m x e y z h j f

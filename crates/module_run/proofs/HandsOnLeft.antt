@@ -1,5 +1,5 @@
 -- What a pass to the next filter leaves of a connection.
-use Rattle.std.proofs.Common.{◌≡◌, ℕ, ◌+◌, ◌<◌, ◌≤◌, Bool, true, false, List, [], Option, Some, None, is_some, refl, sym, ◌∙◌, ap, subst, inl, inr, arith}
+use Rattle.std.proofs.Common.{length, ◌≡◌, ℕ, ◌+◌, ◌<◌, ◌≤◌, Bool, true, false, List, [], Option, Some, None, is_some, refl, sym, ◌∙◌, ap, subst, inl, inr, arith}
 use Rattle.std.specs.Prelude.{if◌then◌else◌}
 use Rattle.std.specs.Global.{Vec}
 use Rattle.std.proofs.lemmas.Bool.{cases_eq}
@@ -13,7 +13,7 @@ use Rattle.bucket_ring.specs.Kept.{NoneRevived, once_in}
 use Rattle.run_model.specs.declared.bucket.Mark.TheVariants.{Usable}
 use Rattle.run_model.specs.declared.event.Stepped.TheVariants as stepped
 use Rattle.run_model.specs.declared.payload.Payload.{Payload}
-use Rattle.run_model.specs.Chains.{Frame, Linked, is_last, module_at}
+use Rattle.run_model.specs.Chains.{Frame, Linked, is_last, module_at, next_place}
 use Rattle.run_model.specs.Effects.{do_pass}
 use Rattle.run_model.specs.Passing.{delivered_by, passed_to, proceeds}
 use Rattle.run_model.specs.State.{items_of, set_brigade, fresh_call}
@@ -31,7 +31,7 @@ use Rattle.ring_calls.specs.declared.machine.Slot.TheVariants as slot
 use Rattle.module_run.specs.declared.conn.Filter.{Filter}
 use Rattle.module_run.specs.declared.conn.Conn.{Conn}
 use Rattle.ring_calls.specs.ContextViews.{ContextView}
-use Rattle.module_run.specs.Conns.{filter_at, top_of, shown_call}
+use Rattle.module_run.specs.Conns.{filter_at, place_in, top_of, shown_call}
 use Rattle.ring_passes.specs.Delivery.{IfElse, ReadsGiven}
 use Rattle.ring_passes.specs.Handed.{lent}
 use Rattle.ring_calls.specs.Held.{IsHeld, WasGiven}
@@ -41,7 +41,7 @@ use Rattle.ring_calls.specs.Slots.{name_in, live_in}
 use Rattle.module_run.specs.Stacked.{IsStacked, called_of, named_at}
 use Rattle.run_model.specs.Pools.{is_in}
 use Rattle.module_run.proofs.Callers.{called_low, first_below, in_get, not_called}
-use Rattle.module_run.proofs.CanPass.{passer, passer_alone, passer_at, passes_there, names_known, next_within, next_there, next_alone}
+use Rattle.module_run.proofs.CanPass.{passer, passer_alone, passes_there, names_known, next_is, not_last, next_there, next_alone}
 use Rattle.ring_calls.proofs.Changes.{ring_here, ring_off}
 use Rattle.module_run.proofs.HandsOn.{HandsOn, HasNamesBelow, changed, same_some, top_rises, apart_after, named_top}
 use Rattle.module_run.proofs.HandsOnCalls.{called_after}
@@ -92,15 +92,15 @@ module _ {R : Type 0} {g : Ghosts R Stored} (old new : Brigades R g) (more : One
     }
 
 module _ {R : Type 0} {g : Ghosts R Stored} (chain : List Program) (b l : ℕ) (tree : PoolTree Payload) (old new : Brigades R g) (d : Device) (c : Conn) (v : Linked) (f : Frame) (rest : List Frame)
-    (ready : IsReady chain (instr.Pass b l) tree old d c v f rest) (behind : is_last chain (top_of c) ≡ false) (more : OneMore old new)
+    (ready : IsReady chain (instr.Pass b l) tree old d c v f rest) (to : ℕ) (inside : to < length chain) (next : (rings : ℕ → Option Items) → to ≡ place_in chain rings c (top_of c + 1)) (more : OneMore old new)
     (fs : Vec Filter) (cs ws : Vec ℕ) (m : ℕ) (y z : Filter) where
   abbrev x : Filter
   x = (passer chain b l tree old d c v f rest ready).filter
 
   abbrev e : Filter
-  e = (next_there chain b l tree old d c v f rest ready behind).0
+  e = (next_there chain b l tree old d c v f rest ready to inside next).0
 
-  module _ (h : HandsOn c fs cs ws (top_of c + 1) (next_name old) b m x e y z) (here : IsHeld new y.instance y.call) (there : IsHeld new z.instance z.call) where
+  module _ (h : HandsOn c fs cs ws to (next_name old) b m x e y z) (here : IsHeld new y.instance y.call) (there : IsHeld new z.instance z.call) where
     old_left : LeftAs chain tree old d c v
     old_left = ready.stands.left
 
@@ -113,24 +113,25 @@ module _ {R : Type 0} {g : Ghosts R Stored} (chain : List Program) (b l : ℕ) (
     next_real : 0 < next_name old
     next_real = (let a = names.calls (top_of c) x h.top in omega (arith, a))
 
-    stacked_after : IsStacked chain new (changed c fs cs ws (top_of c + 1))
+    stacked_after : IsStacked chain new (changed c fs cs ws to)
     stacked_after = record {
       many = h.many ∙ old_left.stacked.many;
-      within = (let a = next_within chain b l tree old d c v f rest ready behind in let r = top_rises c fs cs ws (top_of c + 1) (next_name old) b m x e y z h in omega (arith, a, r));
+      within = (let r = top_rises c fs cs ws to (next_name old) b m x e y z h in omega (arith, r, inside));
       queue = old_left.stacked.queue;
       held = held_each;
-      apart = apart_after c fs cs ws (top_of c + 1) (next_name old) b m x e y z h names old_left.stacked.apart (not_called chain c old_left.stacked.called) old_left.stacked.called.incoming;
-      called = called_after chain c fs cs ws (top_of c + 1) (next_name old) b m l x e y z h next_real (passes_there chain b l tree old d c v f rest ready) old_left.stacked.called;
+      apart = apart_after c fs cs ws to (next_name old) b m x e y z h names old_left.stacked.apart (not_called chain c old_left.stacked.called) old_left.stacked.called.incoming;
+      called = called_after chain c fs cs ws to (next_name old) b m l x e y z h inside next_real (passes_there chain b l tree old d c v f rest ready) old_left.stacked.called;
       brought = brought_in;
+      whole = λ out k n is named. absurd (let r = top_rises c fs cs ws to (next_name old) b m x e y z h in omega (arith, out, r, inside));
     } where
-      at_top : (j : ℕ) (n : Filter) → filter_at (changed c fs cs ws (top_of c + 1)) j ≡ Some n → j ≡ top_of c → y ≡ n
-      at_top j n is q = same_some y n (sym h.top_after ∙ (ap (filter_at (changed c fs cs ws (top_of c + 1))) (sym q) ∙ is))
+      at_top : (j : ℕ) (n : Filter) → filter_at (changed c fs cs ws to) j ≡ Some n → j ≡ top_of c → y ≡ n
+      at_top j n is q = same_some y n (sym h.top_after ∙ (ap (filter_at (changed c fs cs ws to)) (sym q) ∙ is))
 
-      held_each : (j : ℕ) (n : Filter) → filter_at (changed c fs cs ws (top_of c + 1)) j ≡ Some n → IsHeld new n.instance n.call
+      held_each : (j : ℕ) (n : Filter) → filter_at (changed c fs cs ws to) j ≡ Some n → IsHeld new n.instance n.call
       held_each j n is = elim (cases_eq j (top_of c)) [
         | inl q ↦ subst (λ (t : Filter). IsHeld new t.instance t.call) (at_top j n is q) here
-        | inr ne ↦ elim (cases_eq j (top_of c + 1)) [
-          | inl q ↦ subst (λ (t : Filter). IsHeld new t.instance t.call) (same_some z n (sym h.behind_after ∙ (ap (filter_at (changed c fs cs ws (top_of c + 1))) (sym q) ∙ is))) there
+        | inr ne ↦ elim (cases_eq j to) [
+          | inl q ↦ subst (λ (t : Filter). IsHeld new t.instance t.call) (same_some z n (sym h.behind_after ∙ (ap (filter_at (changed c fs cs ws to)) (sym q) ∙ is))) there
           | inr off ↦ held_more old new more n.instance n.call (old_left.stacked.held j n (sym (h.others j ne off) ∙ is))
         ]
       ]
@@ -139,10 +140,10 @@ module _ {R : Type 0} {g : Ghosts R Stored} (chain : List Program) (b l : ℕ) (
       still_brought k n is named = (let was = old_left.stacked.brought k n is named in
           (ap (λ (f : ℕ → Option ℕ). f k) more.pools ∙ was.0, still_there old new more k was.1))
 
-      brought_in : (k : ℕ) (n : Filter) → filter_at (changed c fs cs ws (top_of c + 1)) c.first ≡ Some n → named_at n 8 ≡ Some k → (pool_of new k ≡ None) × (is_some (lists new k) ≡ true)
+      brought_in : (k : ℕ) (n : Filter) → filter_at (changed c fs cs ws to) c.first ≡ Some n → named_at n 8 ≡ Some k → (pool_of new k ≡ None) × (is_some (lists new k) ≡ true)
       brought_in k n is named = elim (cases_eq c.first (top_of c)) [
-        | inl q ↦ still_brought k x (ap (filter_at c) q ∙ h.top) (sym (named_top c fs cs ws (top_of c + 1) (next_name old) b m x e y z h 8) ∙ (ap (λ (t : Filter). named_at t 8) (at_top c.first n is q) ∙ named))
-        | inr ne ↦ still_brought k n (sym (h.others c.first ne (λ r. let low = first_below chain c old_left.stacked.called in omega (arith, r, low))) ∙ is) named
+        | inl q ↦ still_brought k x (ap (filter_at c) q ∙ h.top) (sym (named_top c fs cs ws to (next_name old) b m x e y z h 8) ∙ (ap (λ (t : Filter). named_at t 8) (at_top c.first n is q) ∙ named))
+        | inr ne ↦ still_brought k n (sym (h.others c.first ne (λ r. let low = first_below chain c old_left.stacked.called in let l = h.later in omega (arith, r, low, l))) ∙ is) named
       ]
 
     house_after : IsHouse new (map_of tree)
@@ -157,13 +158,13 @@ module _ {R : Type 0} {g : Ghosts R Stored} (chain : List Program) (b l : ℕ) (
         → seen new view z.instance call ≡ set_brigade 8 (shown_slot (calls_in view call) (lists new) (slot.Made m None Usable)) (seen new view e.instance call))
         (live : is_some (lists old m) ≡ true)
         (begun : (waits : List ℕ) → shown_call (is_running z.call.name waits) (lists new) z.call ≡ fresh_call (next_name old))
-        (at : z.call.pc ≡ (module_at chain (top_of c + 1)).main) where
-      left_after : LeftAs chain tree new d (changed c fs cs ws (top_of c + 1)) (passed_to (module_at chain (top_of c + 1)) b f rest v)
+        (at : z.call.pc ≡ (module_at chain to).main) where
+      left_after : LeftAs chain tree new d (changed c fs cs ws to) (passed_to (module_at chain to) to b f rest v)
       unfolding passed_to
       left_after = record {
-        seen = seen_after (lists old) (lists new) (next_name old) (next_name new) c fs cs ws (top_of c + 1) b m x e y z h names called_under (lists_kept old new more) (all_older old) live
-            (passer_alone chain b l tree old d c v f rest ready) (next_alone chain b l tree old d c v f rest ready behind) lends takes
-            (module_at chain (top_of c + 1)).main f rest (passer chain b l tree old d c v f rest ready) begun at (map_of tree) v (module_at chain (top_of c + 1)) refl more.next refl old_left.seen;
+        seen = seen_after (lists old) (lists new) (next_name old) (next_name new) c fs cs ws to b m x e y z h names called_under (lists_kept old new more) (all_older old) live
+            (passer_alone chain b l tree old d c v f rest ready) (next_alone chain b l tree old d c v f rest ready to inside next) lends takes
+            (module_at chain to).main f rest (passer chain b l tree old d c v f rest ready) begun at (map_of tree) v (module_at chain to) refl more.next old_left.seen;
         opens = old_left.opens;
         formed = old_left.formed;
         house = house_after;
@@ -172,19 +173,22 @@ module _ {R : Type 0} {g : Ghosts R Stored} (chain : List Program) (b l : ℕ) (
         stacked = stacked_after;
       }
 
-      pub hands_on : RefinesStep chain (instr.Pass b l) d d v f rest tree new (changed c fs cs ws (top_of c + 1)) stepped.Went
+      pub hands_on : RefinesStep chain (instr.Pass b l) d d v f rest tree new (changed c fs cs ws to) stepped.Went
       unfolding proceeds
       hands_on = record {
         reads = λ n. None;
-        told = subst (λ (t : Bool). IfElse t (IfElse v.1.out.ended (d ≡ d) (ReadsGiven d d (items_of ((v.1.instances f.of).brigades b)) (λ n. None) 0)) (d ≡ d)) (sym not_last) refl;
+        told = subst (λ (t : Bool). IfElse t (IfElse v.1.out.ended (d ≡ d) (ReadsGiven d d (items_of ((v.1.instances f.of).brigades b)) (λ n. None) 0)) (d ≡ d)) (sym last) refl;
         closed = tt;
         answers = refl;
-        left = subst (λ (w : Linked). LeftAs chain tree new d (changed c fs cs ws (top_of c + 1)) w) (sym goes) left_after;
+        left = subst (λ (w : Linked). LeftAs chain tree new d (changed c fs cs ws to) w) (sym goes) left_after;
       } where
-        not_last : is_last chain f.of ≡ false
-        not_last = ap (is_last chain) (passer_at chain b l tree old d c v f rest ready) ∙ behind
+        last : is_last chain v.1 f.of ≡ false
+        last = not_last chain b l tree old d c v f rest ready to inside next
 
-        goes : (proceeds chain (λ n. None) (instr.Pass b l) f rest v).1 ≡ passed_to (module_at chain (top_of c + 1)) b f rest v
+        towards : ℕ → Linked
+        towards n = passed_to (module_at chain n) n b f rest v
+
+        goes : (proceeds chain (λ n. None) (instr.Pass b l) f rest v).1 ≡ passed_to (module_at chain to) to b f rest v
         goes =
-            ap (λ (t : Bool). if t then delivered_by (module_at chain f.of) (λ n. None) b (instr.Pass b l) f rest v else passed_to (module_at chain (f.of + 1)) b f rest v) not_last
-            ∙ ap (λ (n : ℕ). passed_to (module_at chain (n + 1)) b f rest v) (passer_at chain b l tree old d c v f rest ready)
+            ap (λ (t : Bool). if t then delivered_by (module_at chain f.of) (λ n. None) b (instr.Pass b l) f rest v else towards (next_place chain v.1 f.of)) last
+            ∙ ap towards (next_is chain b l tree old d c v f rest ready to inside next)

@@ -1,5 +1,5 @@
 -- What a connection reads as after a pass to the next filter.
-use Rattle.std.proofs.Common.{◌≡◌, ◌≢◌, ◌==◌, ℕ, zero, suc, ◌+◌, ◌-◌, ◌<◌, ◌≤◌, ◌||◌, Bool, true, false, List, [], ◌∷◌, ◌++◌, length, Option, Some, None, is_some, refl, sym, ◌∙◌, ap, inl, inr, arith}
+use Rattle.std.proofs.Common.{◌≡◌, ◌≢◌, ◌==◌, ℕ, zero, suc, ◌+◌, ◌-◌, ◌<◌, ◌≤◌, ◌||◌, Bool, true, false, List, [], ◌∷◌, ◌++◌, Option, Some, None, is_some, refl, sym, ◌∙◌, ap, inl, inr, arith}
 use Rattle.std.specs.Prelude.{if◌then◌else◌}
 use Rattle.std.specs.Global.{Vec}
 use Rattle.std.specs.List.{list_any}
@@ -27,7 +27,7 @@ use Rattle.ring_calls.specs.declared.machine.Slot.TheVariants as slot
 use Rattle.module_run.specs.declared.conn.Filter.{Filter}
 use Rattle.module_run.specs.declared.conn.Conn.{Conn}
 use Rattle.ring_calls.specs.ContextViews.{ContextView}
-use Rattle.module_run.specs.Conns.{conn_of, IsSeenAs, filter_at, call_name, top_of, runs_of, counting, stack_over, stack_of, shown_frame, shown_filter, shown_instance, shown_call, lent_by}
+use Rattle.module_run.specs.Conns.{modules_of, conn_of, IsSeenAs, filter_at, call_name, top_of, runs_of, counting, stack_over, stack_of, shown_frame, shown_filter, shown_instance, shown_call, lent_by}
 use Rattle.ring_passes.specs.Handed.{lent}
 use Rattle.ring_calls.specs.Seen.{seen_over, calls_in, is_running, shown_as, shown_slot}
 use Rattle.ring_calls.specs.Slots.{slot_at}
@@ -190,25 +190,22 @@ module _ (L M : ℕ → Option Items) (k l : ℕ) (c : Conn) (fs : Vec Filter) (
         ∙ (ap (λ (g : Frame). g ∷ stack_over (frame_at L c) c.callers.items) (ap (shown_frame (runs_of c) L (top_of c)) t.is ∙ sym t.frame)
         ∙ ap (λ (gs : List Frame). f ∷ gs) (sym t.below))))))
 
-    pub seen_after : (ps : Pools Payload) (v : Linked) (callee : Program) → callee.main ≡ pc → l ≡ k + 1 → to ≡ top_of c + 1 → IsSeenAs ps L k c v
-        → IsSeenAs ps M l (changed c fs cs ws to) (passed_to callee b f rest v)
+    pub seen_after : (ps : Pools Payload) (v : Linked) (callee : Program) → callee.main ≡ pc → l ≡ k + 1 → IsSeenAs ps L k c v
+        → IsSeenAs ps M l (changed c fs cs ws to) (passed_to callee to b f rest v)
     unfolding passed_to conn_of configuration set_brigade
-    seen_after ps v callee main next behind seen = record {
+    seen_after ps v callee main next seen = record {
       pools = seen.pools;
       given = ap (λ (n : ℕ). n + 1) seen.given ∙ sym next;
-      conn = ap (λ (n : Connection). record n { instances = handed v.1.instances f.of (f.of + 1) b; stack = entered (f.of + 1) v.0.next callee.main }) seen.conn
-          ∙ (ap (λ (is : ℕ → model.Instance). made is (entered (f.of + 1) v.0.next callee.main) (counting c.queue (length c.filters.items - c.queue)))
-          (ap (λ (is : ℕ → model.Instance). handed is f.of (f.of + 1) b) (instances_are ps L k c v seen)
-          ∙ (ap (λ (n : ℕ). handed shown_all n (f.of + 1) b) of_top ∙ (ap (λ (n : ℕ). handed shown_all (top_of c) n b) placed ∙ fun_ext instances_after)))
-          ∙ (ap (λ (fs : List Frame). made shown_then fs (counting c.queue (length c.filters.items - c.queue)))
-          (ap (λ (n : ℕ). entered n v.0.next callee.main) placed ∙ (ap (λ (n : ℕ). entered to n callee.main) seen.given ∙ (ap (entered to k) main ∙ sym stack_after)))
-          ∙ ap (λ (n : ℕ). made shown_then (stack_of M (changed c fs cs ws to)) (counting c.queue (n - c.queue))) (sym h.many)));
+      conn = ap (λ (n : Connection). record n { instances = handed v.1.instances f.of to b; stack = entered to v.0.next callee.main }) seen.conn
+          ∙ (ap (λ (is : ℕ → model.Instance). made is (entered to v.0.next callee.main) (counting c.queue (modules_of c - c.queue)))
+          (ap (λ (is : ℕ → model.Instance). handed is f.of to b) (instances_are ps L k c v seen)
+          ∙ (ap (λ (n : ℕ). handed shown_all n to b) of_top ∙ fun_ext instances_after))
+          ∙ (ap (λ (fs : List Frame). made shown_then fs (counting c.queue (modules_of c - c.queue)))
+          (ap (λ (n : ℕ). entered to n callee.main) seen.given ∙ (ap (entered to k) main ∙ sym stack_after))
+          ∙ ap (λ (n : ℕ). made shown_then (stack_of M (changed c fs cs ws to)) (counting c.queue ((n - 1) - c.queue))) (sym h.many)));
     } where
       of_top : f.of ≡ top_of c
       of_top = ap (λ (g : Frame). g.of) t.frame
-
-      placed : f.of + 1 ≡ to
-      placed = ap (λ (n : ℕ). n + 1) of_top ∙ sym behind
 
       entered : ℕ → ℕ → ℕ → List Frame
       entered of name pc = record { of = of; call = fresh_call name; pc = pc } ∷ (f ∷ rest)

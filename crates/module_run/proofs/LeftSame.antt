@@ -1,5 +1,6 @@
 -- Where the lists of a store are as they were, a connection over it stands for the same.
-use Rattle.std.proofs.Common.{◌≡◌, ℕ, Option, List, is_some, sym, ap, subst, ◌∙◌, arith}
+use Rattle.std.proofs.Common.{[], ◌≡◌, ℕ, Option, List, is_some, sym, ap, subst, ◌∙◌, arith}
+use Rattle.std.specs.Option.{option_map_or}
 use Rattle.std.proofs.Math.Path.{fun_ext}
 use Rattle.bucket_ring.specs.declared.rings.Rings.{Ghosts}
 use Rattle.bucket_ring.specs.Kept.{NoneRevived, once_in}
@@ -17,7 +18,7 @@ use Rattle.brigade_ops.specs.Store.{lists, brigade_of, pool_of, references, next
 use Rattle.module_run.specs.declared.conn.Conn.{Conn}
 use Rattle.module_run.specs.Conns.{conn_of}
 use Rattle.module_run.specs.Proceeding.{LeftAs}
-use Rattle.module_run.specs.Stacked.{IsStacked}
+use Rattle.module_run.specs.Stacked.{AreWhole, IsStacked}
 use Rattle.module_run.proofs.HeldStays.{held_stays}
 
 module _ {R : Type 0} {g : Ghosts R Stored} (chain : List Program) (tree : PoolTree Payload) (store new : Brigades R g) (device : Device) (c : Conn) (v : Linked)
@@ -42,6 +43,7 @@ module _ {R : Type 0} {g : Ghosts R Stored} (chain : List Program) (tree : PoolT
     apart = old.apart;
     called = old.called;
     brought = λ m f is named. let b = old.brought m f is named in (ap (λ (q : ℕ → Option ℕ). q m) pools ∙ b.0, ap is_some (out m) ∙ b.1);
+    whole = λ last m f is named. subst (λ (o : Option Items). AreWhole (option_map_or (λ bs. bs) o [])) (sym (out m)) (old.whole last m f is named);
   }
 
   pub left_same : LeftAs chain tree store device c v → LeftAs chain tree new device c v

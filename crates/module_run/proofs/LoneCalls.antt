@@ -1,5 +1,5 @@
 -- The only call of a connection ended, and no other one runs, or a new one of one filter: what is true of the filters and calls.
-use Rattle.std.proofs.Common.{◌≡◌, ◌≢◌, ◌⊎◌, ℕ, ◌<◌, ◌≤◌, true, false, List, length, Option, Some, None, is_some, sym, ap, ◌∙◌, inl, inr, arith, []}
+use Rattle.std.proofs.Common.{◌+◌, ◌≡◌, ◌≢◌, ◌⊎◌, ℕ, ◌<◌, ◌≤◌, true, false, List, length, Option, Some, None, is_some, sym, ap, ◌∙◌, inl, inr, arith, []}
 use Rattle.bucket_ring.specs.declared.names.BucketId.{BucketId}
 use Rattle.module_code.specs.Program.{Program}
 use Rattle.stored_rings.specs.Items.{Items}
@@ -9,7 +9,7 @@ use Rattle.module_run.specs.Conns.{filter_at, top_of, waiting}
 use Rattle.ring_calls.specs.Held.{HeldOver}
 use Rattle.module_run.specs.Stacked.{FiltersApart, AreCalled, StackedOver, is_called, named_at}
 use Rattle.module_run.proofs.EndedLast.{CameLone, EndsLast, HasNine, came}
-use Rattle.module_run.proofs.Callers.{alone_bottom, alone_names, alone_rises, none_in_callers}
+use Rattle.module_run.proofs.Callers.{no_callers, alone_bottom, alone_names, alone_rises, none_in_callers}
 
 -- no call has a name but this filter's, which is a new one
 pub record HasLone (next turn : ℕ) (d : Conn) : Type 0 where
@@ -67,10 +67,11 @@ module _ (chain : List Program) (at : BucketId → Option ℕ) (L M : ℕ → Op
     waits = alone_names d one.none one.empty;
     rises = alone_rises d one.none;
     bottom = alone_bottom d one.none one.top;
+    outer = λ e. no_callers d.callers.items one.none;
     quiet = λ quiet. one.none;
   }
 
-  pub stacked_lone : (new_at : BucketId → Option ℕ) (new_pools : ℕ → Option ℕ) (new_next : ℕ) → length d.filters.items ≡ length chain → d.first < length chain → d.queue ≤ length chain
+  pub stacked_lone : (new_at : BucketId → Option ℕ) (new_pools : ℕ → Option ℕ) (new_next : ℕ) → length d.filters.items ≡ length chain + 1 → d.first < length chain + 1 → d.queue ≤ length chain
       → ((k : ℕ) (e : Filter) → filter_at d k ≡ Some e → HeldOver new_at M new_pools new_next e.instance e.call) → StackedOver chain new_at M new_pools new_next d
   stacked_lone new_at new_pools new_next many within queue held = record {
     many = many;
@@ -80,4 +81,5 @@ module _ (chain : List Program) (at : BucketId → Option ℕ) (L M : ℕ → Op
     apart = apart_lone;
     called = called_lone;
     brought = λ m f is named. absurd (no_in d.first m f is named);
+    whole = λ out m f is named. absurd (no_in (top_of d) m f is named);
   }

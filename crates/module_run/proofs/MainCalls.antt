@@ -1,9 +1,9 @@
 -- A brigade is brought, where no call runs: what the connection reads as.
-use Rattle.std.proofs.Common.{◌≡◌, ◌==◌, ℕ, zero, suc, ◌+◌, ◌-◌, ◌<◌, ◌||◌, Bool, true, false, List, [], ◌∷◌, length, Option, Some, None, is_some, refl, sym, ap, subst, ◌∙◌, arith}
+use Rattle.std.proofs.Common.{inr, inl, ◌≡◌, ◌==◌, ℕ, zero, suc, ◌+◌, ◌-◌, ◌<◌, ◌||◌, Bool, true, false, List, [], ◌∷◌, length, Option, Some, None, is_some, refl, sym, ap, subst, ◌∙◌, arith}
 use Rattle.std.specs.Prelude.{if◌then◌else◌, slice_index_or}
 use Rattle.std.specs.Option.{option_map_or}
 use Rattle.std.proofs.Math.Path.{fun_ext}
-use Rattle.std.proofs.lemmas.Bool.{eq-eqb, ne_eqb}
+use Rattle.std.proofs.lemmas.Bool.{cases_eq, eq-eqb, ne_eqb}
 use Rattle.bucket_ring.specs.declared.names.BucketId.{BucketId}
 use Rattle.bucket_ring.specs.declared.rings.Rings.{Ghosts}
 use Rattle.bucket_ring.specs.Lists.{list_at, times}
@@ -35,16 +35,16 @@ use Rattle.module_run.specs.declared.conn.Filter.{Filter}
 use Rattle.ring_calls.specs.declared.machine.Slot.{Slot}
 use Rattle.ring_calls.specs.declared.machine.Slot.TheVariants as slot
 use Rattle.module_run.specs.CalledMain.{CalledMain, StartsWith}
-use Rattle.module_run.specs.Conns.{call_name, conn_of, counting, filter_at, labels_handed, lengths, lent_by, runs_of, shown_call, shown_filter, shown_frame, shown_instance, stack_of, stack_over, top_of}
+use Rattle.module_run.specs.Conns.{modules_of, call_name, conn_of, counting, filter_at, labels_handed, lengths, lent_by, runs_of, shown_call, shown_filter, shown_frame, shown_instance, stack_of, stack_over, top_of}
 use Rattle.module_run.proofs.Callers.{no_callers}
-use Rattle.module_run.specs.Conns.{waiting}
+use Rattle.module_run.specs.Conns.{place_in, waiting}
 use Rattle.ring_calls.specs.Seen.{is_running, shown, shown_as, shown_cursor, shown_slot}
 use Rattle.ring_calls.specs.Slots.{cursor_at, slot_at, name_in}
 use Rattle.module_run.specs.Stacked.{IsStacked}
 use Rattle.ring_passes.proofs.Begins.{items_begun}
 use Rattle.module_run.proofs.Brought.{brought_shown}
-use Rattle.module_run.proofs.FirstCalls.{filter_first, no_runs, none_waits, not_lent}
-use Rattle.module_run.proofs.Tops.{frame_at}
+use Rattle.module_run.proofs.FirstCalls.{no_runs, none_waits, not_lent}
+use Rattle.module_run.proofs.Tops.{filter_within, frame_at}
 
 -- a call runs
 runs_itself : (n : ℕ) → 0 < n → is_running n [] n ≡ true
@@ -59,30 +59,34 @@ pub record HasBrought {R : Type 0} {g : Ghosts R Stored} (old new : Brigades R g
   pub loose : lists new (next_name old) ≡ Some []
   pub brigade : lists new (next_name old + 1) ≡ Some items
 
-module _ {R : Type 0} {g : Ghosts R Stored} (chain : List Program) (old new : Brigades R g) (c d : Conn) (req : ℕ) (pieces : List Piece) (stacked : IsStacked chain old c) (idle : c.busy ≡ false)
-    (begins : CalledMain chain (next_name old) (next_name old + 1) c d) (made : HasBrought old new req pieces) where
-  abbrev pub before : Filter
-  before = (filter_first chain old c stacked idle).0
+module _ {R : Type 0} {g : Ghosts R Stored} (chain : List Program) (old new : Brigades R g) (c d : Conn) (to : ℕ) (inside : to < length chain + 1) (req : ℕ) (pieces : List Piece) (stacked : IsStacked chain old c) (idle : c.busy ≡ false)
+    (begins : CalledMain chain to (next_name old) (next_name old + 1) c d) (made : HasBrought old new req pieces) where
+  -- the filter to which it is brought
+  abbrev pub found : (f : Filter) × (filter_at c to ≡ Some f)
+  found = filter_within c to (let m = stacked.many in omega (arith, m, inside))
 
-  pub before_is : filter_at c 0 ≡ Some before
-  before_is = (filter_first chain old c stacked idle).1
+  abbrev pub before : Filter
+  before = found.0
+
+  pub before_is : filter_at c to ≡ Some before
+  before_is = found.1
 
   abbrev pub after : Filter
   after = (begins.first before before_is).0
 
-  pub after_is : filter_at d 0 ≡ Some after
+  pub after_is : filter_at d to ≡ Some after
   after_is = (begins.first before before_is).1.0
 
-  pub starts : StartsWith (next_name old) (next_name old + 1) (module_at chain 0).main before after
+  pub starts : StartsWith (next_name old) (next_name old + 1) (module_at chain to).main before after
   starts = (begins.first before before_is).1.1
 
   pub first_name : 0 < next_name old
-  first_name = (let a = (stacked.held 0 before before_is).called in omega (arith, a))
+  first_name = (let a = (stacked.held to before before_is).called in omega (arith, a))
 
   pub waits_are : d.waits.items ≡ []
   waits_are = ap (λ (x : Conn). x.waits.items) begins.rest ∙ none_waits chain old c stacked idle
 
-  pub first_is : d.first ≡ 0
+  pub first_is : d.first ≡ to
   first_is = ap (λ (x : Conn). x.first) begins.rest
 
   pub callers_are : d.callers.items ≡ []
@@ -91,7 +95,7 @@ module _ {R : Type 0} {g : Ghosts R Stored} (chain : List Program) (old new : Br
   pub none_waiting : waiting d ≡ 0
   none_waiting = ap (λ (xs : List ℕ). length xs) callers_are
 
-  pub top_is : top_of d ≡ 0
+  pub top_is : top_of d ≡ to
   top_is = ap (λ (x : Conn). x.top) begins.rest
 
   runs_now : runs_of d ≡ is_running (next_name old) []
@@ -140,19 +144,20 @@ module _ {R : Type 0} {g : Ghosts R Stored} (chain : List Program) (old new : Br
     go : (t : Bool) → shown_slot (is_running (next_name old) []) (lists new)
         (if t then slot.Made (next_name old + 1) None Usable else slot_at before.instance b) ≡ (if t then in_var else shown_slot (is_running 0 []) (lists old) (slot_at before.instance b))
     go true = in_as
-    go false = slot_at_as 0 before before_is b
+    go false = slot_at_as to before before_is b
 
   first_as : shown_filter (is_running (next_name old) []) (lists new) (Some after) ≡ set_in in_var (shown_filter (is_running 0 []) (lists old) (Some before))
   first_as =
       ap (λ (o : Option ℕ). lent_by o (shown_instance (is_running (next_name old) []) (lists new) after.instance)) (starts.lent ∙ alone)
       ∙ (ap (λ (vars : ℕ → BrigadeVar). record (shown_instance (is_running (next_name old) []) (lists new) after.instance) { brigades = vars }) (fun_ext first_slots)
-      ∙ (ap (λ (ps : _). record (shows (slots_then)) { pools = λ p. slice_index_or ps p poolvar.Null; numbers = λ n. slice_index_or after.instance.numbers n 0; sent = after.instance.sent })
+      ∙ (ap (λ (ps : _). record (shows (slots_then)) { pools = λ p. slice_index_or ps p poolvar.Null; numbers = λ n. slice_index_or after.instance.numbers n 0; sent = after.instance.sent; left = after.instance.left })
       starts.rest.pools
-      ∙ (ap (λ (ns : _). record (shows (slots_then)) { numbers = λ n. slice_index_or ns n 0; sent = after.instance.sent }) starts.rest.numbers
-      ∙ (ap (λ (s : Bool). record (shows (slots_then)) { sent = s }) starts.rest.sent
-      ∙ ap (λ (o : Option ℕ). set_in in_var (lent_by o (shown_instance (is_running 0 []) (lists old) before.instance))) (sym alone))))) where
+      ∙ (ap (λ (ns : _). record (shows (slots_then)) { numbers = λ n. slice_index_or ns n 0; sent = after.instance.sent; left = after.instance.left }) starts.rest.numbers
+      ∙ (ap (λ (s : Bool). record (shows (slots_then)) { sent = s; left = after.instance.left }) starts.rest.sent
+      ∙ (ap (λ (s : Bool). record (shows (slots_then)) { left = s }) starts.rest.left
+      ∙ ap (λ (o : Option ℕ). set_in in_var (lent_by o (shown_instance (is_running 0 []) (lists old) before.instance))) (sym alone)))))) where
         alone : before.lent ≡ None
-        alone = not_lent chain old c stacked idle 0 before before_is
+        alone = not_lent chain old c stacked idle to before before_is
 
         slots_then : ℕ → BrigadeVar
         slots_then = upd (λ (a : ℕ). shown_slot (is_running 0 []) (lists old) (slot_at before.instance a)) 8 in_var
@@ -166,25 +171,29 @@ module _ {R : Type 0} {g : Ghosts R Stored} (chain : List Program) (old new : Br
   abbrev shown_before : ℕ → model.Instance
   shown_before k = shown_filter (runs_of c) (lists old) (filter_at c k)
 
-  instance_as : (k : ℕ) → shown_filter (is_running (next_name old) []) (lists new) (filter_at d k) ≡ upd (λ (j : ℕ). shown_filter (is_running 0 []) (lists old) (filter_at c j)) 0
-      (set_in in_var (shown_filter (is_running 0 []) (lists old) (filter_at c 0))) k
+  instance_as : (k : ℕ) → shown_filter (is_running (next_name old) []) (lists new) (filter_at d k) ≡ upd (λ (j : ℕ). shown_filter (is_running 0 []) (lists old) (filter_at c j)) to
+      (set_in in_var (shown_filter (is_running 0 []) (lists old) (filter_at c to))) k
   unfolding upd
-  instance_as zero =
-      ap (shown_filter (is_running (next_name old) []) (lists new)) after_is
-      ∙ (first_as ∙ ap (λ (o : Option Filter). set_in in_var (shown_filter (is_running 0 []) (lists old) o)) (sym before_is))
-  instance_as (suc k) =
-      ap (shown_filter (is_running (next_name old) []) (lists new)) (begins.others (suc k) (λ e. omega (arith, e)))
-      ∙ (go (filter_at c (suc k)) refl
-      ∙ sym (ap (λ (t : Bool). if t then set_in in_var (shown_filter (is_running 0 []) (lists old) (filter_at c 0)) else shown_filter (is_running 0 []) (lists old) (filter_at c (suc k)))
-      (ne_eqb (suc k) 0 (λ e. omega (arith, e))))) where
-        go : (o : Option Filter) → filter_at c (suc k) ≡ o → shown_filter (is_running (next_name old) []) (lists new) o ≡ shown_filter (is_running 0 []) (lists old) o
-        go None is = refl
-        go (Some f) is = filter_as (suc k) f is
+  instance_as k = elim (cases_eq k to) [
+    | inl e ↦ ap (λ (j : ℕ). shown_filter (is_running (next_name old) []) (lists new) (filter_at d j)) e
+        ∙ (ap (shown_filter (is_running (next_name old) []) (lists new)) after_is
+        ∙ (first_as
+        ∙ (ap (λ (o : Option Filter). set_in in_var (shown_filter (is_running 0 []) (lists old) o)) (sym before_is)
+        ∙ sym (ap chosen (eq-eqb k to e)))))
+    | inr ne ↦ ap (shown_filter (is_running (next_name old) []) (lists new)) (begins.others k ne)
+        ∙ (go (filter_at c k) refl ∙ sym (ap chosen (ne_eqb k to ne)))
+  ] where
+    chosen : Bool → model.Instance
+    chosen t = if t then set_in in_var (shown_filter (is_running 0 []) (lists old) (filter_at c to)) else shown_filter (is_running 0 []) (lists old) (filter_at c k)
 
-  instances_as : shown_now ≡ upd shown_before 0 (set_in in_var (shown_before 0))
+    go : (o : Option Filter) → filter_at c k ≡ o → shown_filter (is_running (next_name old) []) (lists new) o ≡ shown_filter (is_running 0 []) (lists old) o
+    go None is = refl
+    go (Some f) is = filter_as k f is
+
+  instances_as : shown_now ≡ upd shown_before to (set_in in_var (shown_before to))
   instances_as = fun_ext (λ k.
       ap (λ (runs : ℕ → Bool). shown_filter runs (lists new) (filter_at d k)) runs_now
-      ∙ (instance_as k ∙ ap (λ (runs : ℕ → Bool). upd (λ (j : ℕ). shown_filter runs (lists old) (filter_at c j)) 0 (set_in in_var (shown_filter runs (lists old) (filter_at c 0))) k)
+      ∙ (instance_as k ∙ ap (λ (runs : ℕ → Bool). upd (λ (j : ℕ). shown_filter runs (lists old) (filter_at c j)) to (set_in in_var (shown_filter runs (lists old) (filter_at c to))) k)
       (sym (no_runs chain old c stacked idle))))
 
   call_as : (runs : ℕ → Bool) → shown_call runs (lists new) after.call ≡ fresh_call (next_name old)
@@ -196,43 +205,45 @@ module _ {R : Type 0} {g : Ghosts R Stored} (chain : List Program) (old new : Br
         made_of : ℕ → (ℕ → Cursor) → List ℕ → List NamedBucket → model.Call
         made_of n f bytes items = record { name = n; cursors = f; buffer = bytes; loose = items }
 
-  frame_as : (runs : ℕ → Bool) → shown_frame runs (lists new) 0 (filter_at d 0) ≡ (record { of = 0; call = fresh_call (next_name old); pc = (module_at chain 0).main })
+  frame_as : (runs : ℕ → Bool) → shown_frame runs (lists new) to (filter_at d to) ≡ (record { of = to; call = fresh_call (next_name old); pc = (module_at chain to).main })
   frame_as runs =
-      ap (shown_frame runs (lists new) 0) after_is
+      ap (shown_frame runs (lists new) to) after_is
       ∙ (ap (λ (x : model.Call). frame x after.call.pc) (call_as runs) ∙ ap (frame (fresh_call (next_name old))) starts.at) where
         frame : model.Call → ℕ → Frame
-        frame x pc = record { of = 0; call = x; pc = pc }
+        frame x pc = record { of = to; call = x; pc = pc }
 
-  stack_as : stack_of (lists new) d ≡ (record { of = 0; call = fresh_call (next_name old); pc = (module_at chain 0).main }) ∷ []
+  stack_as : stack_of (lists new) d ≡ (record { of = to; call = fresh_call (next_name old); pc = (module_at chain to).main }) ∷ []
   unfolding stack_over
   stack_as =
       ap (λ (b : Bool). if b then frame_at (lists new) d (top_of d) ∷ stack_over (frame_at (lists new) d) d.callers.items else []) (ap (λ (x : Conn). x.busy) begins.rest)
       ∙ (ap (λ (k : ℕ). frame_at (lists new) d k ∷ stack_over (frame_at (lists new) d) d.callers.items) top_is
-      ∙ (ap (λ (ks : List ℕ). frame_at (lists new) d 0 ∷ stack_over (frame_at (lists new) d) ks) callers_are
+      ∙ (ap (λ (ks : List ℕ). frame_at (lists new) d to ∷ stack_over (frame_at (lists new) d) ks) callers_are
       ∙ ap (λ (f : Frame). f ∷ []) (frame_as (runs_of d))))
 
-  queue_as : counting d.queue (length d.filters.items - d.queue) ≡ counting c.queue (length c.filters.items - c.queue)
+  queue_as : counting d.queue (modules_of d - d.queue) ≡ counting c.queue (modules_of c - c.queue)
   queue_as =
-      ap (λ (n : ℕ). counting n (length d.filters.items - n)) (ap (λ (x : Conn). x.queue) begins.rest)
-      ∙ ap (λ (n : ℕ). counting c.queue (n - c.queue)) begins.many
+      ap (λ (n : ℕ). counting n (modules_of d - n)) (ap (λ (x : Conn). x.queue) begins.rest)
+      ∙ ap (λ (n : ℕ). counting c.queue ((n - 1) - c.queue)) begins.many
 
-  pub conn_brought : (ps : Pools Payload) (opened : ℕ → Option (List ℕ)) (k : Common) → k.next ≡ next_name old
+  pub conn_brought : (ps : Pools Payload) (opened : ℕ → Option (List ℕ)) (k : Common) → k.next ≡ next_name old → to ≡ place_in chain (lists old) c 0
       → conn_of ps (lists new) opened d ≡ (brought_in chain pieces req (k, conn_of ps (lists old) opened c)).1
   unfolding conn_of
-  conn_brought ps opened k given =
-      ap (λ (i : ℕ → model.Instance). view d i (stack_of (lists new) d) (counting d.queue (length d.filters.items - d.queue))) instances_as
-      ∙ (ap (λ (s : List Frame). view d instances_then s (counting d.queue (length d.filters.items - d.queue))) stack_as
+  conn_brought ps opened k given place =
+      ap (λ (i : ℕ → model.Instance). view d i (stack_of (lists new) d) (counting d.queue (modules_of d - d.queue))) instances_as
+      ∙ (ap (λ (s : List Frame). view d instances_then s (counting d.queue (modules_of d - d.queue))) stack_as
       ∙ (ap (λ (q : List ℕ). view d instances_then (top (next_name old) ∷ []) q) queue_as
-      ∙ (ap (λ (x : Conn). view x instances_then (top (next_name old) ∷ []) (counting c.queue (length c.filters.items - c.queue))) begins.rest
-      ∙ ap (λ (n : ℕ). view (record c { count = 0 }) (upd shown_before 0 (set_in (var_of n) (shown_before 0))) (top n ∷ []) (counting c.queue (length c.filters.items - c.queue))) (sym given)))) where
+      ∙ (ap (λ (x : Conn). view x instances_then (top (next_name old) ∷ []) (counting c.queue (modules_of c - c.queue))) begins.rest
+      ∙ (ap (λ (n : ℕ). view (record c { count = 0 }) (upd shown_before to (set_in (var_of n) (shown_before to))) (top n ∷ []) (counting c.queue (modules_of c - c.queue))) (sym given)
+      ∙ ap (λ (j : ℕ). view (record c { count = 0 }) (upd shown_before j (set_in (var_of k.next) (shown_before j))) (record { of = j; call = fresh_call k.next; pc = (module_at chain j).main } ∷ [])
+      (counting c.queue (modules_of c - c.queue))) place)))) where
         var_of : ℕ → BrigadeVar
         var_of n = var.Live (record { name = n + 1; on = None; mark = Usable; items = named_from (bucket_of n req) (n + 2) pieces })
 
         instances_then : ℕ → model.Instance
-        instances_then = upd shown_before 0 (set_in in_var (shown_before 0))
+        instances_then = upd shown_before to (set_in in_var (shown_before to))
 
         top : ℕ → Frame
-        top n = record { of = 0; call = fresh_call n; pc = (module_at chain 0).main }
+        top n = record { of = to; call = fresh_call n; pc = (module_at chain to).main }
 
         view : Conn → (ℕ → model.Instance) → List Frame → List ℕ → Connection
         view x i s q = record {

@@ -1,4 +1,5 @@
 -- One more call runs, whose name is new: what was there reads as it did.
+use Rattle.run_model.specs.Pools.{no_cleanups}
 use Rattle.std.proofs.Common.{◌≡◌, ◌≢◌, ℕ, suc, ◌<◌, Bool, true, false, ◌&&◌, nat_lt, cond, List, [], ◌∷◌, Option, Some, None, is_some, refl, sym, ap, subst, ◌∙◌, inl, inr, arith}
 use Rattle.std.specs.Prelude.{if◌then◌else◌}
 use Rattle.std.specs.Option.{option_map_or}
@@ -116,7 +117,7 @@ module _ (old new : ℕ → Bool) (k : ℕ) (runs : (n : ℕ) → n ≢ k → ne
 -- surroundings with nothing but these calls that wait
 abbrev pub amid : List ℕ → ContextView
 amid waits = record {
-  pools = record { path = λ n. []; payloads = λ n. []; next = 0 };
+  pools = record { path = λ n. []; payloads = λ n. no_cleanups; next = 0 };
   conn = 0;
   req = None;
   labels = [];

@@ -1,5 +1,6 @@
 -- A connection stays as it was where an event of another leaves what is foreign to that one.
 use Rattle.std.proofs.Common.{◌≡◌, ℕ, zero, suc, ◌<◌, ◌≤◌, Bool, List, [], Option, Some, None, is_some, refl, sym, ap, subst, ◌∙◌, inl, inr, arith, ◌∷◌}
+use Rattle.std.specs.Option.{option_map_or}
 use Rattle.std.specs.Prelude.{if◌then◌else◌}
 use Rattle.std.proofs.Math.Path.{fun_ext}
 use Rattle.bucket_ring.specs.declared.names.BucketId.{BucketId}
@@ -23,7 +24,7 @@ use Rattle.module_run.specs.declared.conn.Conn.{Conn}
 use Rattle.module_run.specs.declared.conn.Filter.{Filter}
 use Rattle.module_run.specs.Conns.{conn_of, filter_at, lent_by, runs_of, shown_filter, shown_frame, shown_instance, stack_of, stack_over, top_of}
 use Rattle.module_run.specs.Neighbours.{HoldsName, IsForeign, LeavesOthers, SameRing}
-use Rattle.module_run.specs.Stacked.{IsStacked, named_at}
+use Rattle.module_run.specs.Stacked.{AreWhole, IsStacked, named_at}
 use Rattle.module_run.proofs.Untouched.{slot_same}
 
 -- Nothing changed but names that were given out.
@@ -119,4 +120,5 @@ module _ {R : Type 0} {g : Ghosts R Stored} (chain : List Program) (ps : Pools P
     apart = stacked.apart;
     called = stacked.called;
     brought = λ m f is named. (let was = stacked.brought m f is named in let same = by_slot e.first 8 m f is named in (same.pool ∙ was.0, ap is_some same.list ∙ was.1));
+    whole = λ out m f is named. (let same = by_slot (top_of e) 8 m f is named in subst (λ (o : Option Items). AreWhole (option_map_or (λ bs. bs) o [])) (sym same.list) (stacked.whole out m f is named));
   }

@@ -26,9 +26,9 @@ use Rattle.module_run.specs.declared.conn.Filter.{Filter}
 use Rattle.ring_calls.specs.declared.machine.Instance.{Instance}
 use Rattle.ring_calls.specs.declared.machine.CursorValue.TheVariants as stand
 use Rattle.ring_passes.specs.Begun.{IsBegun}
-use Rattle.module_run.specs.Conns.{call_name, conn_of, counting, filter_at, runs_of, shown_filter, shown_frame, stack_of, stack_over, top_of, waiting}
+use Rattle.module_run.specs.Conns.{modules_of, call_name, conn_of, counting, filter_at, runs_of, shown_filter, shown_frame, stack_of, stack_over, top_of, waiting}
 use Rattle.ring_calls.specs.Held.{IsHeld}
-use Rattle.module_run.specs.Proceeding.{IsReady, RefinesStep}
+use Rattle.module_run.specs.Proceeding.{IsReady, RefinesReturn}
 use Rattle.ring_calls.specs.Seen.{is_running}
 use Rattle.module_run.specs.Stacked.{is_called}
 use Rattle.module_run.proofs.EndedLast.{EndsLast, each_left, idle, left_as, stays, stays_after, waits_none}
@@ -49,7 +49,7 @@ pub record Turns (chain : List Program) (next : ℕ) (c d : Conn) : Type 0 where
   pub before : Filter
   pub begun : Filter
   pub later : c.first < c.queue
-  pub within : c.queue < length c.filters.items
+  pub within : c.queue < modules_of c
   pub was : filter_at c c.queue ≡ Some before
   pub now : filter_at d c.queue ≡ Some begun
   pub instance : begun.instance ≡ before.instance
@@ -100,14 +100,14 @@ module _ {R : Type 0} {g : Ghosts R Stored} (chain : List Program) (s : Status) 
   unfolding returned_from put_back configuration conn_of counting
   turned_is =
       let left = left_as chain (brigade_of store) (lists store) (lists new) (pool_of store) (next_name store) c d ready.stands.left.stacked (nine chain s tree store device c v f rest ready none) x in
-      let more = length c.filters.items - (c.queue + 1) in
+      let more = modules_of c - (c.queue + 1) in
       ap (λ (n : ℕ). next_called chain s (counting c.queue n) (v.0, record (conn_of (map_of tree) (lists store) v.1.opened c) { instances = left; stack = [] }))
-      (let e : length c.filters.items - c.queue ≡ suc more = (let w = y.within in omega (arith, w)) in e)
+      (let e : modules_of c - c.queue ≡ suc more = (let w = y.within in omega (arith, w)) in e)
       ∙ (ap (λ (is : ℕ → model.Instance). (stepped.Went, built is (next_frame v.0.next ∷ []) (suc c.queue) more)) (fun_ext each)
       ∙ (ap (λ (n : ℕ). (stepped.Went, built (λ k. shown_filter (runs_of d) (lists new) (filter_at d k)) (next_frame n ∷ []) (suc c.queue) more)) ready.stands.left.seen.given
       ∙ (ap (λ (fs : List Frame). (stepped.Went, built (λ k. shown_filter (runs_of d) (lists new) (filter_at d k)) fs (suc c.queue) more)) (sym stack_is)
       ∙ (ap (λ (n : ℕ). (stepped.Went, built (λ k. shown_filter (runs_of d) (lists new) (filter_at d k)) (stack_of (lists new) d) n more)) (let e : suc c.queue ≡ c.queue + 1 = omega arith in e)
-      ∙ ap (λ (n : ℕ). (stepped.Went, built (λ k. shown_filter (runs_of d) (lists new) (filter_at d k)) (stack_of (lists new) d) (c.queue + 1) (n - (c.queue + 1)))) (sym y.count))))) where
+      ∙ ap (λ (n : ℕ). (stepped.Went, built (λ k. shown_filter (runs_of d) (lists new) (filter_at d k)) (stack_of (lists new) d) (c.queue + 1) ((n - 1) - (c.queue + 1)))) (sym y.count))))) where
         built : (ℕ → model.Instance) → List Frame → ℕ → ℕ → Linked
         built is fs k n = (record v.0 { next = v.0.next + 1 }, record (conn_of (map_of tree) (lists store) v.1.opened c) { instances = is; stack = fs; queue = counting k n })
 
@@ -186,7 +186,7 @@ module _ {R : Type 0} {g : Ghosts R Stored} (chain : List Program) (s : Status) 
       ])
     ]
 
-    pub turning : references new ≡ references store → RefinesStep chain (instr.Ret s) device device v f rest tree new d stepped.Went
+    pub turning : references new ≡ references store → RefinesReturn chain s device v f rest tree new d stepped.Went
     unfolding conn_of
     turning refs =
         led chain s tree store device c v f rest ready none new d x pools refs stepped.Went after

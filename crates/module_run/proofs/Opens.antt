@@ -34,7 +34,7 @@ use Rattle.module_run.specs.declared.conn.Filter.{Filter}
 use Rattle.module_run.specs.declared.conn.OpenFile.{OpenFile}
 use Rattle.ring_calls.specs.declared.machine.Instance.{Instance}
 use Rattle.module_run.specs.CalledFirst.{CalledFirst}
-use Rattle.module_run.specs.Conns.{conn_of, counting, filter_at, labels_handed, lengths, lent_by, runs_of, shown_filter, shown_instance, stack_of, stack_over, top_of, waiting}
+use Rattle.module_run.specs.Conns.{modules_of, conn_of, counting, filter_at, labels_handed, lengths, lent_by, runs_of, shown_filter, shown_instance, stack_of, stack_over, top_of, waiting}
 use Rattle.module_run.specs.Neighbours.{ComesBeside, HoldsName}
 use Rattle.module_run.specs.Opening.{CanOpen, IsNewConn, IsNewFilter, over}
 use Rattle.module_run.specs.Proceeding.{LeftAs}
@@ -60,15 +60,16 @@ all_pushed T (z ∷ zs) x each last (suc k) y is = all_pushed T zs x (λ j w at.
 new_instance : (runs : ℕ → Bool) (rings : ℕ → Option Items) (f : Filter) → IsNewFilter f → shown_filter runs rings (Some f) ≡ fresh_instance
 new_instance runs rings f is =
     ap (λ (o : Option ℕ). lent_by o (shown_instance runs rings f.instance)) is.lent
+    ∙ (ap (λ (t : Bool). record (shown_instance runs rings f.instance) { left = t }) is.left
     ∙ (ap (λ (ps : ℕ → PoolVar). made ps (λ b. shown_slot runs rings (slot_at f.instance b)) (λ n. slice_index_or f.instance.numbers n 0) f.instance.sent) (fun_ext is.pools)
     ∙ (ap (λ (bs : ℕ → BrigadeVar). made (λ p. poolvar.Null) bs (λ n. slice_index_or f.instance.numbers n 0) f.instance.sent) (fun_ext (λ b. ap (shown_slot runs rings) (is.slots b)))
     ∙ (ap (λ (ns : ℕ → ℕ). made (λ p. poolvar.Null) (λ b. var.Null) ns f.instance.sent) (fun_ext is.numbers)
-    ∙ ap (made (λ p. poolvar.Null) (λ b. var.Null) (λ n. 0)) is.sent))) where
+    ∙ ap (made (λ p. poolvar.Null) (λ b. var.Null) (λ n. 0)) is.sent)))) where
       made : (ℕ → PoolVar) → (ℕ → BrigadeVar) → (ℕ → ℕ) → Bool → model.Instance
-      made ps bs ns sent = record { pools = ps; brigades = bs; numbers = ns; sent = sent }
+      made ps bs ns sent = record { pools = ps; brigades = bs; numbers = ns; sent = sent; left = false }
 
 module _ {R : Type 0} {g : Ghosts R Stored} (chain : List Program) (tree : PoolTree Payload) (old : Brigades R g) (new : CanOpen tree old) (c : Conn) (some : 0 < length chain) (filters : Vec Filter)
-    (is : IsNewConn filters (map_of tree).next c) (many : length c.filters.items ≡ length chain) (fresh : (k : ℕ) (f : Filter) → filter_at c k ≡ Some f → IsNewFilter f) where
+    (is : IsNewConn filters (map_of tree).next c) (many : length c.filters.items ≡ length chain + 1) (fresh : (k : ℕ) (f : Filter) → filter_at c k ≡ Some f → IsNewFilter f) where
   none_named : (k b m : ℕ) (f : Filter) → filter_at c k ≡ Some f → named_at f b ≡ Some m → ⊥
   none_named k b m f at e = no_lent (named_at f b) m (ap name_in ((fresh k f at).slots b)) e
 
@@ -76,7 +77,7 @@ module _ {R : Type 0} {g : Ghosts R Stored} (chain : List Program) (tree : PoolT
   none_lent_at k b f at e = no_lent f.lent b (fresh k f at).lent e
 
   queue_is : c.queue ≡ length chain
-  queue_is = is.queue ∙ (ap (λ (fs : Vec Filter). length fs.items) (sym is.filters_are) ∙ many)
+  queue_is = (let q = is.queue in let l : length filters.items ≡ length chain + 1 = ap (λ (fs : Vec Filter). length fs.items) (sym is.filters_are) ∙ many in omega (arith, q, l))
 
   -- 0 is on no pool
   zero_off : pool_of old 0 ≡ None
@@ -106,6 +107,7 @@ module _ {R : Type 0} {g : Ghosts R Stored} (chain : List Program) (tree : PoolT
     waits = alone_names c none_waits is.waits;
     rises = alone_rises c none_waits;
     bottom = alone_bottom c none_waits (is.top ∙ sym is.first);
+    outer = λ e. is.callers;
     quiet = λ e. none_waits;
   }
 
@@ -118,6 +120,7 @@ module _ {R : Type 0} {g : Ghosts R Stored} (chain : List Program) (tree : PoolT
     apart = new_apart;
     called = new_called;
     brought = λ m f at e. absurd (none_named c.first 8 m f at e);
+    whole = λ out m f at e. absurd (none_named (top_of c) 8 m f at e);
   }
 
   abbrev shown_at : ℕ → model.Instance
@@ -132,10 +135,10 @@ module _ {R : Type 0} {g : Ghosts R Stored} (chain : List Program) (tree : PoolT
     go k None at = refl
     go k (Some f) at = new_instance (runs_of c) (lists old) f (fresh k f at)
 
-  new_queue : [] ≡ counting c.queue (length c.filters.items - c.queue)
+  new_queue : [] ≡ counting c.queue (modules_of c - c.queue)
   unfolding counting
   new_queue = ap (counting c.queue) none_more where
-    none_more : 0 ≡ length c.filters.items - c.queue
+    none_more : 0 ≡ modules_of c - c.queue
     none_more = (let a = queue_is in omega (arith, a, many))
 
   new_stack : [] ≡ stack_of (lists old) c
@@ -177,7 +180,7 @@ module _ {R : Type 0} {g : Ghosts R Stored} (chain : List Program) (tree : PoolT
         }
 
         rest : ℕ → Option ℕ → List (List ℕ) → List (ℕ × ℕ) → List ℕ → Bool → ℕ → Option Cause → Connection
-        rest = view shown_at (stack_of (lists old) c) (counting c.queue (length c.filters.items - c.queue))
+        rest = view shown_at (stack_of (lists old) c) (counting c.queue (modules_of c - c.queue))
 
   pub new_left : (dev : Device) (k : Common) → AreOpen (references old) dev → k.pools ≡ (map_of tree).next → k.next ≡ next_name old → IsPoolMap (map_of tree)
       → LeftAs chain tree old dev c (k, before k)
@@ -200,7 +203,7 @@ module _ {R : Type 0} {g : Ghosts R Stored} (chain : List Program) (tree : PoolT
   unfolding opened all_called created
   opened_left newer store d dev k root open_files named given formed begins map new_formed out next names pools refs =
       subst (λ (w : Linked). LeftAs chain newer store dev d w) (sym same)
-      (left_called chain old store c d None new_stacked is.busy begins out next names pools (next_off_pools old (map_of tree) new.house) tree newer dev k (before k)
+      (left_called chain old store c d None new_stacked is.busy begins out next names pools (next_off_pools old (map_of tree) new.house) some tree newer dev k (before k)
       (new_left dev k open_files named given formed) refs new_formed house) where
         same : over (map_of newer) (opened chain k) ≡ all_called chain (with_pools (map_of newer) (k, before k))
         same = ap (λ (n : ℕ). over (map_of newer) (all_called chain (record k { pools = n }, fresh_connection k)))

@@ -34,6 +34,7 @@ module _ (c : Conn) (out : List ℕ) (ended : Bool) where
     quiet = a.quiet;
     rises = a.rises;
     bottom = a.bottom;
+    outer = a.outer;
   }
 
   pub stacked_out : (chain : List Program) (at : BucketId → Option ℕ) (L : ℕ → Option Items) (P : ℕ → Option ℕ) (next : ℕ) → StackedOver chain at L P next c → StackedOver chain at L P next with_out
@@ -46,6 +47,7 @@ module _ (c : Conn) (out : List ℕ) (ended : Bool) where
     apart = apart_out s.apart;
     called = called_out chain s.called;
     brought = s.brought;
+    whole = s.whole;
   }
 
   pub seen_out : (ps : Pools Payload) (L : ℕ → Option Items) (next : ℕ) (v : Linked) → IsSeenAs ps L next c v → IsSeenAs ps L next with_out (v.0, record v.1 { out = out_of out ended })

@@ -126,7 +126,7 @@ module _ {R : Type 0} {g : Ghosts R Stored} (chain : List Program) (tree : PoolT
   begun_left newer new d idle begins map formed over next names pools refs =
       subst (λ (ps : Pools Payload). LeftAs chain newer new dev d (all_called chain (with_pools ps (v.0, record v.1 { req = Some v.0.pools })))) pools_so
       (subst (λ (n : ℕ). LeftAs chain newer new dev d (all_called chain (with_pools (map_of newer) (v.0, record v.1 { req = Some n })))) (sym stands.left.seen.pools)
-      (left_called chain old new c d (Some (map_of tree).next) stands.left.stacked idle begins over next names pools next_free tree newer dev v.0 v.1 stands.left refs formed house)) where
+      (left_called chain old new c d (Some (map_of tree).next) stands.left.stacked idle begins over next names pools next_free stands.lawful.chained.some tree newer dev v.0 v.1 stands.left refs formed house)) where
         pools_so : map_of newer ≡ created v.1.conn (pools_of v.0 v.1)
         pools_so =
             map ∙ (ap (λ (n : ℕ). created n (map_of tree)) (sym (conn_is (map_of tree) (lists old) (next_name old) c v stands.left.seen))

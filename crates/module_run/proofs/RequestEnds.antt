@@ -31,7 +31,7 @@ use Rattle.module_run.specs.declared.conn.Conn.{Conn}
 use Rattle.module_run.specs.declared.conn.Filter.{Filter}
 use Rattle.module_run.specs.declared.conn.OpenFile.{OpenFile}
 use Rattle.ring_run.specs.Cleared.{LooksAt}
-use Rattle.module_run.specs.Conns.{IsSeenAs, call_name, conn_of, counting, filter_at, labels_handed, lengths, lent_by, runs_of, shown_filter, shown_instance, stack_of, stack_over, top_of, waiting}
+use Rattle.module_run.specs.Conns.{modules_of, IsSeenAs, call_name, conn_of, counting, filter_at, labels_handed, lengths, lent_by, runs_of, shown_filter, shown_instance, stack_of, stack_over, top_of, waiting}
 use Rattle.module_run.specs.Destroyed.{WasDestroyed, quieted, request_left}
 use Rattle.ring_calls.specs.Held.{IsHeld}
 use Rattle.module_run.specs.Proceeding.{HasOpen, LeftAs, MayHold}
@@ -177,9 +177,11 @@ module _ {R : Type 0} {g : Ghosts R Stored} (chain : List Program) (tree newer :
         waits = alone_names after none_waiting_then (none_waits chain old c stacked idle);
         rises = stacked.called.rises;
         bottom = stacked.called.bottom;
+        outer = stacked.called.outer;
         quiet = λ busy. none_waiting_then;
       };
       brought = λ m f is named. absurd (no_lent (named_at f 8) m (nothing_in_then c.first f is) named);
+      whole = λ out m f is named. absurd (no_lent (named_at f 8) m (nothing_in_then (top_of c) f is) named);
     } where
       held_quiet : (x : Filter) → IsHeld new x.instance x.call → IsHeld new (quieted x).instance (quieted x).call
       held_quiet x held = held_slots (brigade_of new) (lists new) (pool_of new) (next_name new) x.instance (quieted x).instance x.call (λ b. slots_quiet x b) held
@@ -224,23 +226,23 @@ module _ {R : Type 0} {g : Ghosts R Stored} (chain : List Program) (tree newer :
       labels_then : labels_handed c.labels.items ++ labels_in (run_order (map_of tree) pool) ≡ labels_handed labels.items
       labels_then = sym more
 
-      queue_then : counting c.queue (length c.filters.items - c.queue) ≡ counting c.queue (length filters.items - c.queue)
-      queue_then = ap (λ (n : ℕ). counting c.queue (n - c.queue)) (stacked.many ∙ sym stacked_then.many)
+      queue_then : counting c.queue (modules_of c - c.queue) ≡ counting c.queue ((length filters.items - 1) - c.queue)
+      queue_then = ap (λ (n : ℕ). counting c.queue ((n - 1) - c.queue)) (stacked.many ∙ sym stacked_then.many)
 
       conn_then : (request_over pool v).1 ≡ conn_of (map_of newer) (lists new) (request_over pool v).1.opened after
       unfolding configuration run_down with_pools conn_of
       conn_then =
           ap (over v.1) pools_as
           ∙ (ap (λ (x : Connection). over x (map_of tree)) left.seen.conn
-          ∙ (ap (λ (i : ℕ → model.Instance). view i (stack_of (lists old) c) (counting c.queue (length c.filters.items - c.queue)) (destroyed pool (map_of tree))
+          ∙ (ap (λ (i : ℕ → model.Instance). view i (stack_of (lists old) c) (counting c.queue (modules_of c - c.queue)) (destroyed pool (map_of tree))
           (labels_handed c.labels.items ++ labels_in (run_order (map_of tree) pool)) []) instances_then
-          ∙ (ap (λ (s : List Frame). view shown_then s (counting c.queue (length c.filters.items - c.queue)) (destroyed pool (map_of tree))
+          ∙ (ap (λ (s : List Frame). view shown_then s (counting c.queue (modules_of c - c.queue)) (destroyed pool (map_of tree))
           (labels_handed c.labels.items ++ labels_in (run_order (map_of tree) pool)) []) (no_stack (lists old) c idle ∙ sym (no_stack (lists new) after idle))
           ∙ (ap (λ (q : List ℕ). view shown_then (stack_of (lists new) after) q (destroyed pool (map_of tree)) (labels_handed c.labels.items ++ labels_in (run_order (map_of tree) pool)) []) queue_then
-          ∙ (ap (λ (ps : Pools Payload). view shown_then (stack_of (lists new) after) (counting c.queue (length filters.items - c.queue)) ps
+          ∙ (ap (λ (ps : Pools Payload). view shown_then (stack_of (lists new) after) (counting c.queue ((length filters.items - 1) - c.queue)) ps
           (labels_handed c.labels.items ++ labels_in (run_order (map_of tree) pool)) []) (sym gone.pools)
-          ∙ (ap (λ (ls : List (List ℕ)). view shown_then (stack_of (lists new) after) (counting c.queue (length filters.items - c.queue)) (map_of newer) ls []) labels_then
-          ∙ ap (λ (fs : List (ℕ × ℕ)). view shown_then (stack_of (lists new) after) (counting c.queue (length filters.items - c.queue)) (map_of newer) (labels_handed labels.items) fs)
+          ∙ (ap (λ (ls : List (List ℕ)). view shown_then (stack_of (lists new) after) (counting c.queue ((length filters.items - 1) - c.queue)) (map_of newer) ls []) labels_then
+          ∙ ap (λ (fs : List (ℕ × ℕ)). view shown_then (stack_of (lists new) after) (counting c.queue ((length filters.items - 1) - c.queue)) (map_of newer) (labels_handed labels.items) fs)
           (sym (ap lengths none_open)))))))) where
             over : Connection → Pools Payload → Connection
             over x ps = record x {

@@ -77,12 +77,13 @@ module _ (old new : ℕ → Bool) (name : ℕ) (gone : RunsWithout old new name)
   pub ended_instance : (i i' : Instance) → ((a : ℕ) → slot_at i' a ≡ (if a == 8 then slot.Null else slot_at i a)) → SameButSlots i i' → ((b n : ℕ) → b ≢ 8 → name_in (slot_at i b) ≡ Some n → M n ≡ L n)
       → shown_instance new M i' ≡ record (shown_instance old L i) { brigades = λ b. if b == 8 then var.Null else returned_var name (shown_slot old L (slot_at i b)) }
   ended_instance i i' nulled rest same =
-      ap (λ (bs : ℕ → BrigadeVar). made i'.pools bs i'.numbers i'.sent) (fun_ext each)
+      ap (λ (t : Bool). record (shown_instance new M i') { left = t }) rest.left
+      ∙ (ap (λ (bs : ℕ → BrigadeVar). made i'.pools bs i'.numbers i'.sent) (fun_ext each)
       ∙ (ap (λ (ps : List PoolVar). made ps after i'.numbers i'.sent) rest.pools
       ∙ (ap (λ (ns : List ℕ). made i.pools after ns i'.sent) rest.numbers
-      ∙ ap (made i.pools after i.numbers) rest.sent)) where
+      ∙ ap (made i.pools after i.numbers) rest.sent))) where
         made : List PoolVar → (ℕ → BrigadeVar) → List ℕ → Bool → model.Instance
-        made ps bs ns sent = record { pools = λ p. slice_index_or ps p poolvar.Null; brigades = bs; numbers = λ n. slice_index_or ns n 0; sent = sent }
+        made ps bs ns sent = record { pools = λ p. slice_index_or ps p poolvar.Null; brigades = bs; numbers = λ n. slice_index_or ns n 0; sent = sent; left = i.left }
 
         after : ℕ → BrigadeVar
         after b = if b == 8 then var.Null else returned_var name (shown_slot old L (slot_at i b))

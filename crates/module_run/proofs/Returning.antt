@@ -13,7 +13,7 @@ use Rattle.run_model.specs.declared.event.Stepped.TheVariants as stepped
 use Rattle.run_model.specs.declared.payload.Payload.{Payload}
 use Rattle.run_model.specs.Chains.{Frame, Connection, Linked, module_at}
 use Rattle.model_laws.specs.ChainSound.{IsFramePlaced, WaitsAtPass}
-use Rattle.run_model.specs.Passing.{Reads, proceeds, went}
+use Rattle.run_model.specs.Passing.{returns, went}
 use Rattle.run_model.specs.Steps.{current}
 use Rattle.pool_tree.specs.declared.tree.PoolTree.{PoolTree}
 use Rattle.pool_tree.specs.Tree.{map_of}
@@ -25,7 +25,7 @@ use Rattle.module_run.specs.declared.conn.Conn.{Conn}
 use Rattle.module_run.specs.declared.conn.Filter.{Filter}
 use Rattle.module_run.specs.Conns.{conn_of, filter_at, runs_of, shown_frame, stack_over, top_of}
 use Rattle.ring_calls.specs.Held.{IsHeld}
-use Rattle.module_run.specs.Proceeding.{IsReady, RefinesStep, LeftAs}
+use Rattle.module_run.specs.Proceeding.{IsReady, RefinesReturn, LeftAs}
 use Rattle.ring_calls.proofs.Changes.{ring_off}
 use Rattle.module_run.proofs.Callers.{over_pushed}
 use Rattle.module_run.proofs.GivenBack.{GivesBack, returned_is, runs_top, with_calls}
@@ -64,20 +64,16 @@ module _ {R : Type 0} {g : Ghosts R Stored} (chain : List Program) (s : Status) 
     abbrev after : Linked
     after = (v.0, conn_of (map_of tree) (lists new) v.1.opened (with_calls c filters callers waits w))
 
-    no_reads : Reads
-    no_reads n = None
-
     top_is : filter_at c (top_of c) ≡ Some x.top
     top_is = x.on_top
 
-    proceeds_is : proceeds chain no_reads (instr.Ret s) f rest v ≡ (stepped.Went, after)
-    unfolding proceeds
+    proceeds_is : returns chain s f rest v ≡ (stepped.Went, after)
     proceeds_is =
         let left = ready.stands.left in
-        ap (λ (h : Frame). proceeds chain no_reads (instr.Ret s) h rest v)
+        ap (λ (h : Frame). returns chain s h rest v)
         (top_frame chain (instr.Ret s) tree store device c v f rest ready x.top top_is)
-        ∙ (ap (λ (fs : List Frame). proceeds chain no_reads (instr.Ret s) (shown_frame (runs_of c) (lists store) (top_of c) (Some x.top)) fs v) (below_frames x.left w x.wait x.callers x.below)
-        ∙ (ap (λ (C : Connection). proceeds chain no_reads (instr.Ret s) (shown_frame (runs_of c) (lists store) (top_of c) (Some x.top))
+        ∙ (ap (λ (fs : List Frame). returns chain s (shown_frame (runs_of c) (lists store) (top_of c) (Some x.top)) fs v) (below_frames x.left w x.wait x.callers x.below)
+        ∙ (ap (λ (C : Connection). returns chain s (shown_frame (runs_of c) (lists store) (top_of c) (Some x.top))
         (shown_frame (runs_of c) (lists store) w (Some x.wait) ∷ stack_over (frame_at (lists store) c) x.left) (v.0, C)) left.seen.conn
         ∙ ap went (returned_is chain s (brigade_of store) (lists store) (lists new) (pool_of store) (next_name store) c filters callers waits w left.stacked x (map_of tree) v.1.opened v.0)))
 
@@ -111,11 +107,8 @@ module _ {R : Type 0} {g : Ghosts R Stored} (chain : List Program) (s : Status) 
               (next_name new) c filters callers waits w left.stacked x next pools names held;
         }
 
-    pub returning : RefinesStep chain (instr.Ret s) device device v f rest tree new (with_calls c filters callers waits w) stepped.Went
+    pub returning : RefinesReturn chain s device v f rest tree new (with_calls c filters callers waits w) stepped.Went
     returning = record {
-      reads = no_reads;
-      told = refl;
-      closed = tt;
       answers = ap (λ (z : Stepped × Linked). z.0) proceeds_is;
       left = subst (LeftAs chain tree new device (with_calls c filters callers waits w)) (sym (ap (λ (z : Stepped × Linked). z.1) proceeds_is)) left_after;
     }

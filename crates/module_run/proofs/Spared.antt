@@ -1,5 +1,6 @@
 -- A connection that was left as it was, though there may be more room in its lists.
 use Rattle.std.proofs.Common.{◌≡◌, ℕ, suc, ◌-◌, ◌<◌, ◌&&◌, Bool, List, [], length, Option, Some, is_some, sym, ◌∙◌, ap, subst, arith, ◌==◌, ◌||◌, ◌++◌, ◌∷◌, refl}
+use Rattle.std.specs.Option.{option_map_or}
 use Rattle.std.specs.Prelude.{slice_get, if◌then◌else◌}
 use Rattle.std.specs.Global.{Vec}
 use Rattle.std.proofs.Math.Path.{fun_ext}
@@ -21,7 +22,7 @@ use Rattle.module_run.specs.declared.conn.Conn.{Conn}
 use Rattle.module_run.specs.Conns.{conn_of, filter_at, call_name, top_of, stack_over, shown_frame, shown_filter, counting}
 use Rattle.module_run.specs.Proceeding.{LeftAs}
 use Rattle.ring_calls.specs.Seen.{is_running}
-use Rattle.module_run.specs.Stacked.{FiltersApart, AreCalled, IsStacked, called_of, is_called, is_waiting, names_of}
+use Rattle.module_run.specs.Stacked.{AreWhole, FiltersApart, AreCalled, IsStacked, called_of, is_called, is_waiting, names_of}
 use Rattle.ring_calls.proofs.Names.{held_kept, no_less, still_same}
 use Rattle.run_model.specs.Pools.{is_in}
 use Rattle.module_run.proofs.Callers.{names_same}
@@ -69,6 +70,7 @@ module _ (c : Conn) (fs : Vec Filter) (cs ws : Vec ℕ) (filters : fs.items ≡ 
     quiet = λ idle. ap (λ (ks : List ℕ). length ks) callers ∙ called.quiet idle;
     rises = λ i j k l lt a b. called.rises i j k l lt (was_placed i k a) (was_placed j l b);
     bottom = ap (λ (ks : List ℕ). slice_get (ks ++ top_of c ∷ []) 0) callers ∙ called.bottom;
+    outer = λ e. callers ∙ called.outer e;
   } where
     was_placed : (i k : ℕ) → slice_get (called_of (changed c fs cs ws)) i ≡ Some k → slice_get (called_of c) i ≡ Some k
     was_placed i k at = ap (λ (ks : List ℕ). slice_get (ks ++ top_of c ∷ []) i) (sym callers) ∙ at
@@ -86,7 +88,7 @@ module _ (c : Conn) (fs : Vec Filter) (cs ws : Vec ℕ) (filters : fs.items ≡ 
           shape xs ks ns = record (conn_of ps M opened c) {
             instances = λ k. shown_filter (runs xs ns) M (slice_get xs k);
             stack = if c.busy then shown_frame (runs xs ns) M (top_of c) (slice_get xs (top_of c)) ∷ stack_over (λ k. shown_frame (runs xs ns) M k (slice_get xs k)) ks else [];
-            queue = counting c.queue (length xs - c.queue);
+            queue = counting c.queue ((length xs - 1) - c.queue);
           }
 
   module _ {R : Type 0} {g : Ghosts R Stored} (chain : List Program) (tree : PoolTree Payload) (old new : Brigades R g) (d : Device) (v : Linked)
@@ -102,6 +104,7 @@ module _ (c : Conn) (fs : Vec Filter) (cs ws : Vec ℕ) (filters : fs.items ≡ 
       called = called_spared chain stacked.called;
       brought = λ m f is named. (let was = stacked.brought m f (was_at c.first f is) named in
           (ap (λ (p : ℕ → Option ℕ). p m) pools ∙ was.0, ap is_some (same m) ∙ was.1));
+      whole = λ out m f is named. subst (λ (o : Option Items). AreWhole (option_map_or (λ bs. bs) o [])) (sym (same m)) (stacked.whole out m f (was_at (top_of c) f is) named);
     }
 
     pub left_spared : LeftAs chain tree old d c v → LeftAs chain tree new d (changed c fs cs ws) v

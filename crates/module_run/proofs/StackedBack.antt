@@ -219,6 +219,7 @@ module _ (chain : List Program) (s : Status) (at new_at : BucketId → Option �
         ∙ ap (names_of d) (sym x.callers_after));
     rises = λ i j k l lt a b. st.called.rises i j k l lt (placed_before i k a) (placed_before j l b);
     bottom = ap (λ (ks : List ℕ). slice_get ks 0) called_is ∙ first_there;
+    outer = λ e. absurd (let low = w_below chain s at L M pools next c filters callers waits w st x in let lt = st.within in omega (arith, e, low, lt));
     quiet = λ quiet. absurd (false≢true (sym quiet ∙ x.busy));
   } where
     runs : (k : ℕ) (f : Filter) → filter_at d k ≡ Some f → is_called d k ≡ true → 0 < f.call.name
@@ -303,6 +304,7 @@ module _ (chain : List Program) (s : Status) (at new_at : BucketId → Option �
       held = held_each;
       apart = apart_after;
       called = called_now;
+      whole = λ out m f is named. absurd (let a = st.within in let low = w_below chain s at L M pools next c filters callers waits w st x in omega (arith, out, a, low));
       brought = brought;
     } where
       brought : (m : ℕ) (f : Filter) → filter_at d c.first ≡ Some f → named_at f 8 ≡ Some m → (new_pools m ≡ None) × (is_some (M m) ≡ true)

@@ -6,7 +6,7 @@ use Rattle.bucket_kinds.specs.Device.{Device, Held, Missing}
 use Rattle.run_model.specs.declared.payload.Payload.{Payload}
 use Rattle.run_model.specs.Holding.{refers}
 use Rattle.run_model.specs.Payloads.{is_file_ref}
-use Rattle.run_model.specs.Pools.{Pools, is_live, is_under}
+use Rattle.run_model.specs.Pools.{Pools, is_live, is_under, all_held}
 use Rattle.run_model.specs.RunOrder.{IsPoolMap, run_order}
 use Rattle.run_model.proofs.Sums.{all_none}
 use Rattle.brigade_ops.specs.Files.{SameButOpen}
@@ -26,9 +26,9 @@ none_handed : (ps : Pools Payload) → IsPoolMap ps → (pool : ℕ) → is_live
 none_handed ps formed pool live file none =
     any_none (λ (x : ℕ × Payload). is_file_ref file x.1) (run_order ps pool)
     (run_counted (is_file_ref file) ps formed pool live
-    ∙ all_none ps.next (λ p. cond (is_under ps pool p) (count_by (is_file_ref file) (ps.payloads p)) 0) (λ p lt. none_at p (is_under ps pool p) refl)) where
-      none_at : (p : ℕ) (b : Bool) → is_under ps pool p ≡ b → cond b (count_by (is_file_ref file) (ps.payloads p)) 0 ≡ 0
-      none_at p true under = none_counted (is_file_ref file) (ps.payloads p) (none p under)
+    ∙ all_none ps.next (λ p. cond (is_under ps pool p) (count_by (is_file_ref file) (all_held (ps.payloads p))) 0) (λ p lt. none_at p (is_under ps pool p) refl)) where
+      none_at : (p : ℕ) (b : Bool) → is_under ps pool p ≡ b → cond b (count_by (is_file_ref file) (all_held (ps.payloads p))) 0 ≡ 0
+      none_at p true under = none_counted (is_file_ref file) (all_held (ps.payloads p)) (none p under)
       none_at p false under = refl
 
 pub unreferred_stays : (ps : Pools Payload) → IsPoolMap ps → (pool : ℕ) → is_live ps pool ≡ true → (file : ℕ) → ((p : ℕ) → is_under ps pool p ≡ true → refers ps p file ≡ false)

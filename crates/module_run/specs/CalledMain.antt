@@ -1,4 +1,4 @@
--- A brigade is brought to the first filter of a connection.
+-- A brigade is brought to a filter of a connection, or to its output filter.
 use Rattle.std.specs.Prelude.{◌≡◌, ◌≢◌, ◌==◌, ℕ, true, List, [], length, Some, None, if◌then◌else◌}
 use Rattle.module_code.specs.Program.{Program}
 use Rattle.run_model.specs.declared.bucket.Mark.TheVariants.{Usable}
@@ -20,9 +20,9 @@ pub record StartsWith (name brigade pc : ℕ) (f e : Filter) : Type 0 where
   pub buffer : e.call.buffer ≡ []
   pub at : e.call.pc ≡ pc
 
--- `main` of the first filter begins.
-pub record CalledMain (chain : List Program) (name brigade : ℕ) (c d : Conn) : Type 0 where
-  pub first : (f : Filter) → filter_at c 0 ≡ Some f → (e : Filter) × ((filter_at d 0 ≡ Some e) × StartsWith name brigade (module_at chain 0).main f e)
-  pub others : (k : ℕ) → k ≢ 0 → filter_at d k ≡ filter_at c k
+-- `main` of the filter at the place `to` begins.
+pub record CalledMain (chain : List Program) (to name brigade : ℕ) (c d : Conn) : Type 0 where
+  pub first : (f : Filter) → filter_at c to ≡ Some f → (e : Filter) × ((filter_at d to ≡ Some e) × StartsWith name brigade (module_at chain to).main f e)
+  pub others : (k : ℕ) → k ≢ to → filter_at d k ≡ filter_at c k
   pub many : length d.filters.items ≡ length c.filters.items
-  pub rest : d ≡ record c { filters = d.filters; first = 0; top = 0; busy = true; count = 0 }
+  pub rest : d ≡ record c { filters = d.filters; first = to; top = to; busy = true; count = 0 }

@@ -24,9 +24,9 @@ use Rattle.module_run.specs.Neighbours.{HoldsName}
 use Rattle.module_run.specs.Stacked.{named_at}
 use Rattle.ring_run.specs.declared.labels_run.LabelsRun.{LabelsRun}
 
--- in no request an EOS was passed
+-- in the next request no EOS was passed, and it is in its chain
 abbrev pub quieted : Filter → Filter
-quieted f = record f { instance = record f.instance { sent = false } }
+quieted f = record f { instance = record f.instance { sent = false; left = false } }
 
 -- a connection whose request is over, with these filters, labels and files
 abbrev pub request_left : Conn → Vec Filter → Vec LabelsRun → Vec OpenFile → Conn

@@ -1,5 +1,5 @@
 -- What a connection is opened over, and its filters before their `open`.
-use Rattle.std.specs.Prelude.{◌≡◌, ℕ, ◌<◌, false, [], length, Option, None, slice_index_or}
+use Rattle.std.specs.Prelude.{◌≡◌, ℕ, ◌<◌, ◌-◌, false, [], length, Option, None, slice_index_or}
 use Rattle.std.specs.Global.{Vec}
 use Rattle.bucket_ring.specs.Kept.{NoneRevived}
 use Rattle.bucket_ring.specs.declared.names.BucketId.{BucketId}
@@ -27,6 +27,7 @@ pub record IsNewFilter (f : Filter) : Type 0 where
   pub pools : (p : ℕ) → slice_index_or f.instance.pools p poolvar.Null ≡ poolvar.Null
   pub numbers : (n : ℕ) → slice_index_or f.instance.numbers n 0 ≡ 0
   pub sent : f.instance.sent ≡ false
+  pub left : f.instance.left ≡ false
   pub idle : f.call.name ≡ 0
   pub lent : f.lent ≡ None
   pub held : (at : BucketId → Option ℕ) (rings : ℕ → Option Items) (pools : ℕ → Option ℕ) (next : ℕ) → 0 < next → pools 0 ≡ None → HeldOver at rings pools next f.instance f.call
@@ -39,7 +40,7 @@ pub record IsNewConn (filters : Vec Filter) (pool : ℕ) (c : Conn) : Type 0 whe
   pub callers : c.callers.items ≡ []
   pub waits : c.waits.items ≡ []
   pub busy : c.busy ≡ false
-  pub queue : c.queue ≡ length filters.items
+  pub queue : c.queue ≡ length filters.items - 1
   pub conn : c.conn ≡ pool
   pub req : c.req ≡ None
   pub labels : c.labels.items ≡ []

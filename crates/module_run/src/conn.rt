@@ -23,9 +23,10 @@ pub struct OpenFile {
     pub(crate) len: u64,
 }
 
-/// A connection. The call of the filter `top` runs. `callers` are the filters whose calls wait, the outermost first, each for that of the next
+/// A connection. It has a filter for each module of its chain, and behind them one for the output, which has no module: a call of it takes a
+/// brigade that is brought where all others have left. The call of the filter `top` runs. `callers` are the filters whose calls wait, the outermost first, each for that of the next
 /// one, and the last one for that of `top`; `waits` are the names of their calls. `first` is the filter of the outermost call. `busy` tells whether any call runs. `queue` is the next filter
-/// whose `open` or `init` is to run; where none is, it is the number of filters. `conn` is the connection's pool, and `req` that of the
+/// whose `open` or `init` is to run; where none is, it is the number of modules. `conn` is the connection's pool, and `req` that of the
 /// open request. `labels` has a list for each clear that ran labels, the oldest first. `files` are those of the request. `out` is the output that was not
 /// taken yet, and `ended` tells whether an EOS came to it in this request. `count` is the number of instructions that were executed since
 /// the last open, begin or bring. `broken` is why the connection broke.

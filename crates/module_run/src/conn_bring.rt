@@ -1,8 +1,9 @@
 //! A brigade is brought to a connection.
 
-ghost use Rattle.std.specs.Prelude.{◌≡◌, ◌<◌, ◌≤◌, ◌+◌, ℕ, List, None, Some, [], length, is_ok, if◌then◌else◌, IfOk, OnOk, OnErr};
+ghost use Rattle.std.specs.Prelude.{◌≡◌, ◌<◌, ◌≤◌, ◌+◌, ℕ, List, None, Some, [], Option, length, is_ok, if◌then◌else◌, IfOk, OnOk, OnErr};
 ghost use Rattle.module_run.specs.Prelude.{upd, NoneRevived, Device, Payload, Linked, Pools, first_refusal, bucket_of, named_from, is_spent, brings, PoolTree, Items, named, lists, brigade_of};
-ghost use Rattle.module_run.specs.Prelude.{pool_of, references, next_name, CalledMain, StartsWith, Happened, Stands, lasted, refusal_of, LeavesOthers, StandsFor, bring_tests, lengths};
+ghost use Rattle.module_run.specs.Prelude.{pool_of, references, next_name, CalledMain, StartsWith, Happened, Stands, lasted, refusal_of, LeavesOthers, StandsFor, bring_tests, lengths, place_in};
+ghost use Rattle.run_model.specs.Chains.{module_at};
 
 use crate::conn::{Conn, Filter};
 use crate::pieces::{buckets_of, has_data_behind_eos, lack_files};
@@ -44,6 +45,19 @@ fn call_and_brigade<R: Rings<Stored> + Drop>(
     }
 }
 
+/// Where the one instruction of the output filter stands, behind an `open` and an `init` that do nothing.
+const OUTPUT_MAIN: usize = 2;
+
+/// Where the call begins that takes a brigade at a place of the chain.
+fn main_at(modules: &[Module], place: usize) -> usize
+    ensures { result ≡ (module_at modules.now place).main }
+{
+    match modules.get(place) {
+        Some(code) => code.main(),
+        None => OUTPUT_MAIN,
+    }
+}
+
 impl Filter {
     /// A call of this name begins, at this instruction, with this brigade as its `in`.
     fn start_with(&mut self, name: BrigadeId, brigade: BrigadeId, pc: usize)
@@ -56,17 +70,17 @@ impl Filter {
 }
 
 impl Conn {
-    /// `main` of the first filter begins: the call has this name, and this brigade is its `in`.
-    #[tactic(auto, unfolding(crate::specs::Conns::filter_at))]
+    /// `main` of the first filter that has not left begins, or the call of the output filter: the call has this name, and this brigade is
+    /// its `in`.
     fn call_main(&mut self, modules: &[Module], name: BrigadeId, brigade: BrigadeId)
-        requires some { 0 < length modules.now }
-        requires many { length self.old.filters.items ≡ length modules.now }
-        ensures { CalledMain modules.now name brigade self.old self.new }
+        requires { length self.old.filters.items ≡ length modules.now + 1 }
+        ensures { (rings : ℕ → Option Items) → CalledMain modules.now (place_in modules.now rings self.old 0) name brigade self.old self.new }
     {
-        let pc = modules[0].main();
-        self.filters[0].start_with(name, brigade, pc);
-        self.first = 0;
-        self.top = 0;
+        let to = self.place_from(modules, 0);
+        let pc = main_at(modules, to);
+        self.filters[to].start_with(name, brigade, pc);
+        self.first = to;
+        self.top = to;
         self.busy = true;
         self.count = 0;
     }
@@ -101,8 +115,8 @@ impl Conn {
         Ok(pool)
     }
 
-    /// A brigade of these pieces comes: it is the `in` of the first filter, whose `main` begins. Refused, nothing is changed and the pieces are
-    /// dropped: `Broken`; `Busy`: a call is running; `NotInRequest`; `DataAfterEos`: a data piece stands behind an EOS; `NoFile`: a range
+    /// A brigade of these pieces comes: it is the `in` of the first filter that has not left, whose `main` begins. Where all have left, it is
+    /// that of the output filter, which takes it in the next step. Refused, nothing is changed and the pieces are dropped: `Broken`; `Busy`: a call is running; `NotInRequest`; `DataAfterEos`: a data piece stands behind an EOS; `NoFile`: a range
     /// is of no file that was opened in this request, or ends behind it; `NamesSpent`: a name to be given out would be `u64::MAX`;
     /// `NoMemory`.
     pub fn bring<R: Rings<Stored> + Drop>(

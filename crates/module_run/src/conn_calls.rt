@@ -1,6 +1,6 @@
 //! The handlers `open` and `init` of all filters.
 
-ghost use Rattle.std.specs.Prelude.{◌≡◌, ◌<◌, length};
+ghost use Rattle.std.specs.Prelude.{◌≡◌, ◌<◌, ◌+◌, length};
 ghost use Rattle.module_run.specs.CalledFirst.{CalledFirst, CallStarts};
 
 use crate::conn::{Conn, Filter};
@@ -22,7 +22,7 @@ impl Conn {
     #[tactic(auto, unfolding(crate::specs::Conns::filter_at), using(crate::proofs::FirstStacked::left_called))]
     pub(crate) fn call_first(&mut self, modules: &[Module], name: BrigadeId)
         requires some { 0 < length modules.now }
-        requires many { length self.old.filters.items ≡ length modules.now }
+        requires many { length self.old.filters.items ≡ length modules.now + 1 }
         ensures { CalledFirst modules.now name self.old self.new }
     {
         let pc = match self.req {

@@ -11,12 +11,13 @@ use ring_run::labels::add_labels;
 use run_model::{Payload, Refusal};
 use std::alloc::AllocError;
 
-/// No EOS was passed yet in the next request.
-fn forget_sent(filters: &mut Vec<Filter>)
+/// In the next request no EOS was passed yet, and each filter is in its chain.
+fn start_over(filters: &mut Vec<Filter>)
     ensures { filters.new.items ≡ map quieted filters.old.items }
 {
     for k in 0..filters.len() {
         filters[k].instance.sent = false;
+        filters[k].instance.left = false;
     }
 }
 
@@ -71,13 +72,13 @@ impl Conn {
         Ok(())
     }
 
-    /// The request is over: no file is open in it, and no EOS was passed in the next one.
+    /// The request is over: no file is open in it; in the next one no EOS was passed, and each filter is in its chain.
     fn forget_request(&mut self)
         ensures quiet { self.new.filters.items ≡ map quieted self.old.filters.items }
         ensures files { self.new.files.items ≡ [] }
         ensures rest { self.new ≡ request_left self.old self.new.filters self.old.labels self.new.files }
     {
-        forget_sent(&mut self.filters);
+        start_over(&mut self.filters);
         self.req = None;
         self.files.clear();
         self.ended = false;

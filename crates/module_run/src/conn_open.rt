@@ -39,8 +39,9 @@ fn new_filters(alloc: Global, many: usize) -> Result<Vec<Filter>, AllocError>
 }
 
 impl Conn {
-    /// A connection of these filters, before its first call.
+    /// A connection of these filters, of which the last is that of the output, before its first call.
     fn new(alloc: Global, filters: Vec<Filter>, pool: PoolId) -> Conn
+        requires { 0 < length filters.items }
         ensures { IsNewConn filters pool result }
     {
         Conn {
@@ -50,7 +51,7 @@ impl Conn {
             callers: Vec::new(alloc),
             waits: Vec::new(alloc),
             busy: false,
-            queue: filters.len(),
+            queue: filters.len() - 1,
             filters,
             conn: pool,
             req: None,
@@ -84,7 +85,7 @@ impl Conn {
         if is_spent(tree.next_name(), 1) || is_spent(store.next_name(), 1) {
             return Err(StepRefusal::NamesSpent);
         }
-        let Ok(filters) = new_filters(alloc, modules.len()) else {
+        let Ok(filters) = new_filters(alloc, modules.len() + 1) else {
             return Err(StepRefusal::NoMemory);
         };
         let root = tree.root();

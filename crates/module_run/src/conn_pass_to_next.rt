@@ -1,9 +1,9 @@
 //! A filter passes a brigade to the next one.
 
-ghost use Rattle.std.specs.Prelude.{◌≡◌, ◌==◌, ◌<◌, ◌+◌, ◌-◌, ◌^◌, ℕ, List, None, Some, [], true, false, is_some, is_ok, if◌then◌else◌, OnOk, OnErr};
-ghost use Rattle.module_run.specs.Prelude.{Device, NoneRevived, upd, Pools, Frame, Linked, is_last, fresh_call, do_pass, PoolTree, Payload, lists, brigade_of, pool_of, references, next_name, Call};
+ghost use Rattle.std.specs.Prelude.{◌≡◌, ◌==◌, ◌<◌, ◌+◌, ◌-◌, ◌^◌, ℕ, List, Option, None, Some, [], length, true, false, is_some, is_ok, if◌then◌else◌, OnOk, OnErr};
+ghost use Rattle.module_run.specs.Prelude.{Device, NoneRevived, upd, Pools, Frame, Linked, Items, fresh_call, do_pass, PoolTree, Payload, lists, brigade_of, pool_of, references, next_name, Call};
 ghost use Rattle.module_run.specs.Prelude.{ContextView, shown_call, top_of, lent, CanPass, IsHeld, EndsLoose, LeavesOthers, IsReady, RefinesStep, LeftAs, seen, is_running, live_in, marked, name_in};
-ghost use Rattle.module_run.specs.Prelude.{slot_at};
+ghost use Rattle.module_run.specs.Prelude.{place_in, slot_at};
 
 use crate::conn::{Conn, Filter};
 use brigade_ops::{BrigadeId, Brigades, RingRefusal, Rings, Stored};
@@ -65,14 +65,17 @@ impl Filter {
 }
 
 impl Conn {
-    /// The filter on top passes the brigade of a variable to the next filter, whose `main` begins. Without memory nothing is changed.
+    /// The filter on top passes the brigade of a variable to the next filter that has not left, whose place is `to` and whose `main` begins.
+    /// Without memory nothing is changed.
     pub(crate) fn pass_to_next<R: Rings<Stored> + Drop>(
         &mut self,
         modules: &[Module],
         store: &mut Brigades<R>,
         b: u8,
+        to: usize,
     ) -> Result<(), AllocError>
-        requires last { is_last modules.now (top_of self.old) ≡ false }
+        requires last { to < length modules.now }
+        requires next { (rings : ℕ → Option Items) → to ≡ place_in modules.now rings self.old (top_of self.old + 1) }
         requires ready { (d : Device) × CanPass modules.now b store.old d self.old }
         ensures ok { OnOk result ((tree : PoolTree Payload) (d : Device) (l : ℕ) (v : Linked) (f : Frame) (rest : List Frame)
             → IsReady modules.now (Instr.Pass b l) tree store.old d self.old v f rest
@@ -86,12 +89,12 @@ impl Conn {
         let top = self.top();
         self.waits.reserve(1)?;
         self.callers.reserve(1)?;
-        self.filters[top + 1].begin_in(store, modules[top + 1].main())?;
+        self.filters[to].begin_in(store, modules[to].main())?;
         let name = self.filters[top].lend(store, b);
-        take_in(&mut self.filters[top + 1].instance, store, name);
+        take_in(&mut self.filters[to].instance, store, name);
         self.waits.push(self.filters[top].call.name).unwrap();
         self.callers.push(top).unwrap();
-        self.top += 1;
+        self.top = to;
         Ok(())
     }
 }

@@ -23,7 +23,7 @@ impl Conn {
     ) -> Result<(), AllocError>
         requires ready { (chain : List Program) × (tree : PoolTree Payload) × CanProceed chain (Instr.Pass b target) tree store.old (F.device files.old) self.old }
         ensures ok { OnOk result ((chain : List Program) (tree : PoolTree Payload) (v : Linked) (f : Frame) (rest : List Frame)
-            → is_last chain (top_of self.old) ≡ true → IsReady chain (Instr.Pass b target) tree store.old (F.device files.old) self.old v f rest
+            → is_last chain v.1 (top_of self.old) ≡ true → IsReady chain (Instr.Pass b target) tree store.old (F.device files.old) self.old v f rest
             → RefinesStep chain (Instr.Pass b target) (F.device files.old) (F.device files.new) v f rest tree store.new self.new Stepped.Went) }
         ensures err { OnErr result ((chain : List Program) (tree : PoolTree Payload) (v : Linked)
             → LeftAs chain tree store.old (F.device files.old) self.old v → LeftAs chain tree store.new (F.device files.new) self.new v) }

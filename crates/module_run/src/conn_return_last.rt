@@ -1,7 +1,7 @@
 //! A call returns that none waits for.
 
 ghost use Rattle.std.specs.Prelude.{◌≡◌, ℕ, List, IfOk, IsOk, OnErr};
-ghost use Rattle.module_run.specs.Prelude.{Device, Pools, Frame, Linked, handler_at, calls_of, waiting, EndsLoose, LeavesOthers, CanProceed, IsReady, RefinesStep, LeftAs};
+ghost use Rattle.module_run.specs.Prelude.{Device, Pools, Frame, Linked, handler_at, calls_of, waiting, EndsLoose, LeavesOthers, CanProceed, IsReady, RefinesReturn, LeftAs, is_last};
 
 use crate::conn::Conn;
 use brigade_ops::{Brigades, PoolId, PoolTree, Rings, Stored};
@@ -31,10 +31,10 @@ impl Conn {
         requires ready { (tree : PoolTree Payload) × (d : Device) × CanProceed modules.now (Instr.Ret status) tree store.old d self.old }
         ensures leads { IfOk result (λ answer. (tree : PoolTree Payload) (d : Device) (v : Linked) (f : Frame) (rest : List Frame)
             → IsReady modules.now (Instr.Ret status) tree store.old d self.old v f rest
-            → RefinesStep modules.now (Instr.Ret status) d d v f rest tree store.new self.new answer) }
+            → RefinesReturn modules.now status d v f rest tree store.new self.new answer) }
         ensures err { OnErr result ((tree : PoolTree Payload) (d : Device) (v : Linked) → LeftAs modules.now tree store.old d self.old v → LeftAs modules.now tree store.new d self.new v) }
         ensures sure { (tree : PoolTree Payload) (d : Device) (v : Linked) (f : Frame) (rest : List Frame) → IsReady modules.now (Instr.Ret status) tree store.old d self.old v f rest
-            → calls_of modules.now (Instr.Ret status) f rest v.1.queue ≡ 0 → IsOk result }
+            → calls_of (is_last modules.now v.1 f.of) (Instr.Ret status) rest v.1.queue ≡ 0 → IsOk result }
         ensures leaves { (ps : Pools Payload) → LeavesOthers ps store.old store.new self.old self.new }
         ensures ended { EndsLoose store.old store.new self.old self.new }
         ensures count { self.new.count ≡ self.old.count }
@@ -42,7 +42,7 @@ impl Conn {
     {
         let first = self.first;
         let next = self.queue;
-        if next == self.filters.len() {
+        if next == modules.len() {
             self.filters[first].end_first(store);
             self.busy = false;
             return Ok(Stepped::CallEnded(status));

@@ -1,7 +1,7 @@
 //! A call returns to the one that waits for it.
 
 ghost use Rattle.std.specs.Prelude.{◌≡◌, ◌<◌, ℕ, List, None, length};
-ghost use Rattle.module_run.specs.Prelude.{Device, Pools, Frame, Linked, after_pass, current, waiting, EndsLoose, LeavesOthers, CanProceed, IsReady, RefinesStep};
+ghost use Rattle.module_run.specs.Prelude.{Device, Pools, Frame, Linked, after_pass, current, waiting, EndsLoose, LeavesOthers, CanProceed, IsReady, RefinesReturn};
 
 use crate::conn::{Conn, Filter};
 use brigade_ops::{Brigades, PoolTree, Rings, Stored};
@@ -45,7 +45,7 @@ impl Conn {
         requires waits { 0 < waiting self.old }
         requires ready { (tree : PoolTree Payload) × (d : Device) × CanProceed modules.now (Instr.Ret status) tree store.old d self.old }
         ensures leads { (tree : PoolTree Payload) (d : Device) (v : Linked) (f : Frame) (rest : List Frame) → IsReady modules.now (Instr.Ret status) tree store.old d self.old v f rest
-            → RefinesStep modules.now (Instr.Ret status) d d v f rest tree store.new self.new Stepped.Went }
+            → RefinesReturn modules.now status d v f rest tree store.new self.new Stepped.Went }
         ensures leaves { (ps : Pools Payload) → LeavesOthers ps store.old store.new self.old self.new }
         ensures ended { EndsLoose store.old store.new self.old self.new }
         ensures count { self.new.count ≡ self.old.count }

@@ -1,15 +1,17 @@
 //! A look at the next instruction of a connection.
 
-ghost use Rattle.std.specs.Prelude.{◌≡◌, ◌<◌, ℕ, List, length, Some, None};
+ghost use Rattle.std.specs.Prelude.{◌≡◌, ◌<◌, ◌+◌, ◌-◌, ℕ, List, Option, length, min, Some, None};
 ghost use Rattle.module_run.specs.Prelude.{Device, Frame, Linked, OnlyAsked, TreeOnlyAsked, IsNextInstr, StandsAt, next_of, step_lacks_names, calls_at, filter_at, top_of, IsOnTop, next_fault};
+ghost use Rattle.module_run.specs.Prelude.{Items};
 ghost use Rattle.module_run.specs.declared.conn.Filter.{Filter};
+ghost use Rattle.run_model.specs.Chains.{module_at};
 
 use crate::conn::Conn;
 use brigade_ops::{Brigades, PoolTree, Rings, Stored};
 use ring_calls::asks::{is_spent, lacks_names};
 use ring_calls::context::Context;
 use ring_wants::wants::fault;
-use run_model::{FaultKind, Instr, Module, Payload};
+use run_model::{FaultKind, Instr, Module, Payload, Status};
 
 /// The next instruction of the call on top: the number of its module and its own.
 #[derive(Clone, Copy)]
@@ -20,21 +22,29 @@ pub(crate) struct NextInstr {
 }
 
 impl Conn {
-    /// The next instruction of the call on top.
+    /// The next instruction of the call on top. The output filter, which has no module, returns at once.
     pub(crate) fn next_instr(&self, modules: &[Module]) -> NextInstr
         requires { StandsAt modules.now self.now }
         ensures { (filter : Filter) → filter_at self.now (top_of self.now) ≡ Some filter → result ≡ next_of modules.now self.now filter }
     {
         let of = self.top();
-        let (Some(filter), Some(code)) = (self.filters.get(of), modules.get(of)) else {
+        let Some(filter) = self.filters.get(of) else {
             unreachable!()
         };
         let pc = filter.call.pc;
-        NextInstr {
-            of,
-            pc,
-            instr: code.at(pc),
-        }
+        let instr = match modules.get(of) {
+            Some(code) => code.at(pc),
+            None => Instr::Ret(Status::Success),
+        };
+        NextInstr { of, pc, instr }
+    }
+
+    /// The module by whose declarations the next instruction is read: that of the call on top. The return of the output filter reads none.
+    fn code<'a>(&self, modules: &'a [Module]) -> &'a Module
+        requires { 0 < length modules.now }
+        ensures { result.now ≡ module_at modules.now (min (top_of self.now) (length modules.now - 1)) }
+    {
+        &modules[self.top().min(modules.len() - 1)]
     }
 
     /// The fault of the next instruction of the call on top, if it has one.
@@ -51,8 +61,8 @@ impl Conn {
         ensures tree_asked { TreeOnlyAsked tree.old tree.new }
         ensures asked { OnlyAsked store.old store.new }
     {
-        let of = self.top();
-        let (Some(filter), Some(code)) = (self.filters.get(of), modules.get(of)) else {
+        let code = self.code(modules);
+        let Some(filter) = self.filters.get(self.top()) else {
             unreachable!()
         };
         let context = Context {
@@ -72,15 +82,16 @@ impl Conn {
         )
     }
 
-    /// How many calls an instruction of the call on top begins: a pass to the next filter one, and the last return of an `open` or `init`
+    /// How many calls an instruction of the call on top begins: a pass to another filter one, and the last return of an `open` or `init`
     /// that of the next filter.
     fn calls(&self, modules: &[Module], instr: Instr) -> u64
-        requires { top_of self.now < length modules.now }
-        ensures { result ≡ calls_at (length modules.now) self.now instr }
+        requires many { length self.now.filters.items ≡ length modules.now + 1 }
+        requires within { top_of self.now < length self.now.filters.items }
+        ensures { (rings : ℕ → Option Items) → result ≡ calls_at modules.now rings self.now instr }
     {
         match instr {
-            Instr::Pass(_, _) if self.top() + 1 < modules.len() => 1,
-            Instr::Ret(_) if self.callers.is_empty() && self.queue < self.filters.len() => 1,
+            Instr::Pass(_, _) => u64::from(self.next_place(modules) < modules.len()),
+            Instr::Ret(_) => u64::from(self.callers.is_empty() && self.queue < modules.len()),
             _ => 0,
         }
     }
@@ -101,8 +112,8 @@ impl Conn {
         ensures { (d : Device) (v : Linked) (f : Frame) (rest : List Frame) → IsOnTop modules.now tree.now store.now d self.now v f rest
             → IsNextInstr modules.now f next → result ≡ step_lacks_names modules.now v f rest next }
     {
-        let of = self.top();
-        let (Some(filter), Some(code)) = (self.filters.get(of), modules.get(of)) else {
+        let code = self.code(modules);
+        let Some(filter) = self.filters.get(self.top()) else {
             unreachable!()
         };
         let context = Context {

@@ -1,11 +1,12 @@
 -- What changes of single records do to the links.
-use Rattle.std.specs.Prelude.{◌≡◌, ℕ, Bool, true, false, ◌==◌, ◌&&◌, not, is_some, if◌then◌else◌, Option, None, Some, [], refl}
+use Rattle.std.specs.Prelude.{List, ◌≡◌, ℕ, Bool, true, false, ◌==◌, ◌&&◌, not, is_some, if◌then◌else◌, Option, None, Some, [], refl}
 use Rattle.std.specs.Option.{option_map, option_map_or, option_and_then}
 use Rattle.std.proofs.Common.{sym, ◌∙◌, ap, inl, inr}
 use Rattle.std.proofs.lemmas.Bool.{eq-eqb, ne_eqb, cases_Bool, both_ways, cases_eq, and_parts}
 use Rattle.run_model.specs.Indexed.{upd}
+use Rattle.run_model.specs.Pools.{Cleanups, no_cleanups}
 use Rattle.pool_tree.specs.declared.records.Pool.{Pool}
-use Rattle.pool_tree.specs.Records.{names, changed, parent_of, newest_of, older_of, younger_of, payloads_of}
+use Rattle.pool_tree.specs.Records.{names, changed, parent_of, newest_of, older_of, younger_of, cleanups, payloads_of}
 use Rattle.pool_tree.specs.Links.{IsChildAdded, HasNeighbours, IsRemoved}
 use Rattle.pool_tree.proofs.Newest.{named_is}
 
@@ -26,11 +27,15 @@ keep_live f false o = refl
 keep_live f true None = refl
 keep_live f true (Some q) = refl
 
-keep_payloads : {T : Type 0} (f : Pool T → Pool T) → ((q : Pool T) → (f q).payloads ≡ q.payloads) → (b : Bool) (o : Option (Pool T))
-    → option_map_or (λ q. q.payloads.items) (if b then option_map f o else o) [] ≡ option_map_or (λ q. q.payloads.items) o []
+-- nothing of either kind
+pub bare_cleanups : {T : Type 0} (early late : List T) → early ≡ [] → late ≡ [] → ◌≡◌ {A = Cleanups T} (record { pre = early; plain = late }) no_cleanups
+bare_cleanups early late pre plain = λ i. record { pre = pre i; plain = plain i }
+
+keep_payloads : {T : Type 0} (f : Pool T → Pool T) → ((q : Pool T) → cleanups (f q) ≡ cleanups q) → (b : Bool) (o : Option (Pool T))
+    → option_map_or cleanups (if b then option_map f o else o) no_cleanups ≡ option_map_or cleanups o no_cleanups
 keep_payloads f same false o = refl
 keep_payloads f same true None = refl
-keep_payloads f same true (Some q) = ap (λ v. v.items) (same q)
+keep_payloads f same true (Some q) = same q
 
 -- Where the pool that a link names is changed, it stays, and so does each link that the change keeps.
 record Step {T : Type 0} (link : Option ℕ) (change : Pool T → Pool T) (was now : ℕ → Option (Pool T)) : Type 0 where
@@ -56,14 +61,14 @@ put_live pool true o = refl
 put_live pool false o = refl
 
 put_payloads : {T : Type 0} (pool : Pool T) (b : Bool) (o : Option (Pool T))
-    → option_map_or (λ q. q.payloads.items) (if b then Some pool else o) [] ≡ (if b then pool.payloads.items else option_map_or (λ q. q.payloads.items) o [])
+    → option_map_or cleanups (if b then Some pool else o) no_cleanups ≡ (if b then cleanups pool else option_map_or cleanups o no_cleanups)
 put_payloads pool true o = refl
 put_payloads pool false o = refl
 
 module _ {T : Type 0} (old r1 r2 new : ℕ → Option (Pool T)) (name parent : ℕ) (older : Option ℕ) (pool : Pool T)
     (free : old name ≡ None) (live : is_some (old parent) ≡ true) (last : (n : ℕ) → newest_of old parent ≡ Some n → is_some (old n) ≡ true)
     (is_older : older ≡ newest_of old parent)
-    (has_parent : pool.parent ≡ Some parent) (has_newest : pool.newest ≡ None) (has_older : pool.older ≡ older) (has_younger : pool.younger ≡ None) (has_payloads : pool.payloads.items ≡ [])
+    (has_parent : pool.parent ≡ Some parent) (has_newest : pool.newest ≡ None) (has_older : pool.older ≡ older) (has_younger : pool.younger ≡ None) (has_payloads : cleanups pool ≡ no_cleanups)
     (puts : (n : ℕ) → r1 n ≡ upd old name (Some pool) n)
     (sets : (n : ℕ) → r2 n ≡ changed (Some parent) (λ q. record q { newest = Some name }) r1 n)
     (links : (n : ℕ) → new n ≡ changed older (λ q. record q { younger = Some name }) r2 n) where
@@ -105,12 +110,12 @@ module _ {T : Type 0} (old r1 r2 new : ℕ → Option (Pool T)) (name parent : �
         | inr e ↦ rw (e, second.keeps (λ q. q.younger) (λ _. refl) n, link_1 (λ q. q.younger) n, has_younger)
       ])
 
-  payloads_3 : (n : ℕ) → payloads_of new n ≡ (if n == name then [] else payloads_of old n)
+  payloads_3 : (n : ℕ) → payloads_of new n ≡ (if n == name then no_cleanups else payloads_of old n)
   unfolding changed upd
   payloads_3 n =
-      ap (λ o. option_map_or (λ q. q.payloads.items) o []) (links n) ∙ keep_payloads (λ q. record q { younger = Some name }) (λ _. refl) (names older n) (r2 n)
-      ∙ ap (λ o. option_map_or (λ q. q.payloads.items) o []) (sets n) ∙ keep_payloads (λ q. record q { newest = Some name }) (λ _. refl) (parent == n) (r1 n)
-      ∙ ap (λ o. option_map_or (λ q. q.payloads.items) o []) (puts n) ∙ put_payloads pool (n == name) (old n)
+      ap (λ o. option_map_or cleanups o no_cleanups) (links n) ∙ keep_payloads (λ q. record q { younger = Some name }) (λ _. refl) (names older n) (r2 n)
+      ∙ ap (λ o. option_map_or cleanups o no_cleanups) (sets n) ∙ keep_payloads (λ q. record q { newest = Some name }) (λ _. refl) (parent == n) (r1 n)
+      ∙ ap (λ o. option_map_or cleanups o no_cleanups) (puts n) ∙ put_payloads pool (n == name) (old n)
       ∙ ap (λ xs. if n == name then xs else payloads_of old n) has_payloads
 
   pub added_by : IsChildAdded name parent old new
@@ -132,7 +137,7 @@ gone_live : {T : Type 0} (b : Bool) (o : Option (Pool T)) → is_some (if b then
 gone_live true o = refl
 gone_live false o = refl
 
-gone_payloads : {T : Type 0} (b : Bool) (o : Option (Pool T)) → option_map_or (λ q. q.payloads.items) (if b then None else o) [] ≡ (if b then [] else option_map_or (λ q. q.payloads.items) o [])
+gone_payloads : {T : Type 0} (b : Bool) (o : Option (Pool T)) → option_map_or cleanups (if b then None else o) no_cleanups ≡ (if b then no_cleanups else option_map_or cleanups o no_cleanups)
 gone_payloads true o = refl
 gone_payloads false o = refl
 
@@ -223,13 +228,13 @@ module _ {T : Type 0} (old r1 r2 r3 new : ℕ → Option (Pool T)) (p : ℕ) (po
       (set_there (names pool.older n) (names pool.older n) (n == p) (is_some (old n)) pool.younger (younger_of old n)
       (λ _. refl) (λ _ at. beside.older n (is_older ∙ named_is pool.older n at)))
 
-  removed_payloads : (n : ℕ) → payloads_of new n ≡ (if n == p then [] else payloads_of old n)
+  removed_payloads : (n : ℕ) → payloads_of new n ≡ (if n == p then no_cleanups else payloads_of old n)
   unfolding changed upd
   removed_payloads n =
-      ap (λ o. option_map_or (λ q. q.payloads.items) o []) (newest n) ∙ keep_payloads (λ q. record q { newest = pool.older }) (λ _. refl) (names above n) (r3 n)
-      ∙ ap (λ o. option_map_or (λ q. q.payloads.items) o []) (younger n) ∙ keep_payloads (λ q. record q { older = pool.older }) (λ _. refl) (names pool.younger n) (r2 n)
-      ∙ ap (λ o. option_map_or (λ q. q.payloads.items) o []) (elder n) ∙ keep_payloads (λ q. record q { younger = pool.younger }) (λ _. refl) (names pool.older n) (r1 n)
-      ∙ ap (λ o. option_map_or (λ q. q.payloads.items) o []) (takes n) ∙ gone_payloads (n == p) (old n)
+      ap (λ o. option_map_or cleanups o no_cleanups) (newest n) ∙ keep_payloads (λ q. record q { newest = pool.older }) (λ _. refl) (names above n) (r3 n)
+      ∙ ap (λ o. option_map_or cleanups o no_cleanups) (younger n) ∙ keep_payloads (λ q. record q { older = pool.older }) (λ _. refl) (names pool.younger n) (r2 n)
+      ∙ ap (λ o. option_map_or cleanups o no_cleanups) (elder n) ∙ keep_payloads (λ q. record q { younger = pool.younger }) (λ _. refl) (names pool.older n) (r1 n)
+      ∙ ap (λ o. option_map_or cleanups o no_cleanups) (takes n) ∙ gone_payloads (n == p) (old n)
 
   pub removed_by : IsRemoved p old new
   removed_by = record {

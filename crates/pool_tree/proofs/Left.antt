@@ -12,7 +12,7 @@ use Rattle.run_model.proofs.RunOrderLaws.{under_above, under_itself}
 use Rattle.pool_tree.specs.declared.tree.PoolTree.{PoolTree}
 use Rattle.pool_tree.specs.Records.{record_of, parent_of, newest_of, older_of, younger_of}
 use Rattle.pool_tree.specs.Tree.{map_of}
-use Rattle.pool_tree.specs.Printed.{line, margin, spaced_all}
+use Rattle.pool_tree.specs.Printed.{line, margin, spaced_all, marked_all}
 use Rattle.pool_tree.specs.Left.{from_on, level_of, behind_path, text_behind, text_left, IsPlace}
 use Rattle.pool_tree.proofs.Cleared.{top_or_under}
 use Rattle.pool_tree.proofs.Paths.{placed_path, place_at, step}
@@ -230,7 +230,7 @@ if_some P (Some y) told x e = (let is : y ≡ x = cc in subst P is told)
 
 pub line_some : {T : Type 0} (text : T → List ℕ) (ps : Pools T) (depth p : ℕ) → 0 < length (line text ps depth p)
 unfolding line
-line_some text ps depth p = omega (arith, length-append (margin depth ++ codes "pool " ++ decimal p ++ spaced_all text (ps.payloads p)) (10 ∷ []))
+line_some text ps depth p = omega (arith, length-append (margin depth ++ codes "pool " ++ decimal p ++ marked_all text (ps.payloads p).pre ++ spaced_all text (ps.payloads p).plain) (10 ∷ []))
 
 pub none_of : {X : Type 0} (o : Option X) → ((x : X) → o ≡ Some x → ⊥) → o ≡ None
 none_of None never = refl

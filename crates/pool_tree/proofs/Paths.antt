@@ -3,10 +3,10 @@ use Rattle.std.specs.Prelude.{◌≡◌, ℕ, zero, suc, ◌<◌, true, false, �
 use Rattle.std.specs.Option.{option_map, option_map_or, option_and_then}
 use Rattle.std.proofs.Common.{sym, ◌∙◌, ap, subst, inl, inr, arith}
 use Rattle.std.proofs.lemmas.Bool.{cases_Bool}
-use Rattle.run_model.specs.Pools.{Pools, is_live, is_under, is_in, is_empty}
+use Rattle.run_model.specs.Pools.{Pools, no_cleanups, is_live, is_under, is_in, is_empty}
 use Rattle.run_model.specs.RunOrder.{leads_to, is_child, children_below, IsPoolMap}
 use Rattle.pool_tree.specs.declared.records.Pool.{Pool}
-use Rattle.pool_tree.specs.Records.{names, parent_of, payloads_of}
+use Rattle.pool_tree.specs.Records.{names, parent_of, cleanups, payloads_of}
 use Rattle.pool_tree.specs.Links.{linked_path, path_within, map_at, newest_below, RecordsLinked}
 
 -- where a pool stands: nowhere, at the root, or under a pool
@@ -116,11 +116,11 @@ top_placed above n k (Some pool) closed at = under pool.parent closed at
         cc
 
 bare_placed : {T : Type 0} (above : ℕ → List ℕ) (n : ℕ) (pool : Option (Pool T)) → placed_path above n (option_map (λ pool. pool.parent) pool) ≡ []
-    → option_map_or (λ pool. pool.payloads.items) pool [] ≡ []
+    → option_map_or cleanups pool no_cleanups ≡ no_cleanups
 bare_placed above n None at = refl
 bare_placed above n (Some pool) at = some pool.parent at
   where
-    some : (parent : Option ℕ) → placed_path above n (Some parent) ≡ [] → pool.payloads.items ≡ []
+    some : (parent : Option ℕ) → placed_path above n (Some parent) ≡ [] → cleanups pool ≡ no_cleanups
     some None at = cc
     some (Some p) at = cc
 

@@ -4,9 +4,9 @@ use Rattle.std.specs.Option.{option_map, option_map_or, option_and_then}
 use Rattle.std.proofs.Common.{sym, ◌∙◌, ap, inl, inr, arith}
 use Rattle.std.proofs.lemmas.Bool.{eq-eqb, ne_eqb}
 use Rattle.run_model.specs.Indexed.{upd}
-use Rattle.run_model.specs.Pools.{planted}
+use Rattle.run_model.specs.Pools.{no_cleanups, planted}
 use Rattle.pool_tree.specs.declared.records.Pool.{Pool}
-use Rattle.pool_tree.specs.Records.{names, parent_of}
+use Rattle.pool_tree.specs.Records.{names, parent_of, cleanups}
 use Rattle.pool_tree.specs.Links.{newest_below, map_at, RecordsLinked}
 use Rattle.pool_tree.proofs.Newest.{below_there, pick}
 use Rattle.pool_tree.proofs.Paths.{placed_path, pools_same, step, map_next, map_payloads}
@@ -16,7 +16,7 @@ newest_none records p zero none = unfold newest_below in refl
 newest_none records p (suc m) none = below_there records p m (none m (omega arith)) ∙ newest_none records p m (λ k below. none k (omega arith))
 
 module _ {T : Type 0} (first : ℕ) (empty records : ℕ → Option (Pool T)) (pool : Pool T)
-    (has_parent : pool.parent ≡ None) (has_newest : pool.newest ≡ None) (has_older : pool.older ≡ None) (has_younger : pool.younger ≡ None) (has_payloads : pool.payloads.items ≡ [])
+    (has_parent : pool.parent ≡ None) (has_newest : pool.newest ≡ None) (has_older : pool.older ≡ None) (has_younger : pool.younger ≡ None) (has_payloads : cleanups pool ≡ no_cleanups)
     (bare : (n : ℕ) → empty n ≡ None) (puts : (n : ℕ) → records n ≡ upd empty first (Some pool) n) where
   here_or_none : (n : ℕ) → ((n ≡ first) × (records n ≡ Some pool)) ⊎ ((n ≡ first → ⊥) × (records n ≡ None))
   unfolding upd
@@ -68,8 +68,8 @@ module _ {T : Type 0} (first : ℕ) (empty records : ℕ → Option (Pool T)) (p
   planted_payloads n =
       map_payloads first (suc first) records planted_linked n
       ∙ elim (here_or_none n) [
-        | inl here ↦ ap (λ o. option_map_or (λ q. q.payloads.items) o []) here.1 ∙ has_payloads
-        | inr there ↦ ap (λ o. option_map_or (λ q. q.payloads.items) o []) there.1
+        | inl here ↦ ap (λ o. option_map_or cleanups o no_cleanups) here.1 ∙ has_payloads
+        | inr there ↦ ap (λ o. option_map_or cleanups o no_cleanups) there.1
       ]
 
   planted_next : (map_at (suc first) records).next ≡ (planted {T = T} first).next

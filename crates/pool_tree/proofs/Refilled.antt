@@ -7,6 +7,7 @@ use Rattle.std.proofs.lemmas.List.{take-append-drop, get_or_default}
 use Rattle.pool_tree.specs.Payloads.{IsLastAt}
 use Rattle.std.proofs.lemmas.Bool.{eq-eqb, ne_eqb, cases_eq, or_right, or_left, or_parts}
 use Rattle.run_model.specs.Indexed.{upd}
+use Rattle.run_model.specs.Pools.{Cleanups}
 use Rattle.run_model.specs.RunOrder.{last_that, without_last}
 use Rattle.pool_tree.specs.declared.records.Pool.{Pool}
 use Rattle.pool_tree.specs.Records.{names, parent_of, payloads_of}
@@ -14,7 +15,7 @@ use Rattle.pool_tree.specs.Links.{newest_below, map_at, RecordsLinked, IsRefille
 use Rattle.pool_tree.proofs.Newest.{newest_same}
 use Rattle.pool_tree.proofs.Paths.{place_same, parent_at, map_path_same, pools_same, map_next, map_payloads}
 
-module _ {T : Type 0} (root next name : ℕ) (items : List T) (old new : ℕ → Option (Pool T)) (linked : RecordsLinked root next old) (refilled : IsRefilled name items old new) where
+module _ {T : Type 0} (root next name : ℕ) (items : Cleanups T) (old new : ℕ → Option (Pool T)) (linked : RecordsLinked root next old) (refilled : IsRefilled name items old new) where
   below : (p m : ℕ) → newest_below new p m ≡ newest_below old p m
   below p m = newest_same new old p m (λ k _. ap (λ o. names o p) (refilled.parents k))
 

@@ -6,7 +6,7 @@ use Rattle.run_model.specs.Pools.{is_empty}
 use Rattle.std.proofs.Common.{sym, ◌∙◌, ap, subst, get_or, add-one}
 use Rattle.std.proofs.lemmas.List.{append_assoc, append-nil, take_more}
 use Rattle.std.proofs.lemmas.List.Concat.{flat_map-append}
-use Rattle.pool_tree.specs.Printed.{margin, spaced, spaced_all}
+use Rattle.pool_tree.specs.Printed.{margin, spaced, spaced_all, marked, marked_all}
 
 true≢false : true ≡ false → ⊥
 true≢false h = cc
@@ -65,3 +65,21 @@ spaced_some (x ∷ xs) some = refl
 pub wrote_ok : {E : Type 0} (a b : Option (List ℕ)) (xs : List ℕ) (r : Result (Unit {0}) E) → Wrote r a b xs → OnOk r (Appends a b xs)
 wrote_ok a b xs (Ok u) h = h
 wrote_ok a b xs (Err e) h = tt
+
+-- The same with a caret.
+
+pub marked_more : {T : Type 0} (text : T → List ℕ) (xs : List T) (i : ℕ) (x : T) → i < length xs → x ≡ get_or xs i x
+    → marked_all text (take (i + 1) xs) ≡ marked_all text (take i xs) ++ marked (text x)
+unfolding marked_all
+marked_more text xs i x within at =
+    rw (take_more xs i x within, ← at, flat_map-append (λ x. marked (text x)) (take i xs) (x ∷ []), append-nil (marked (text x)))
+
+pub marked_none : (xs : List ℕ) → not (is_empty xs) ≡ false → [] ≡ marked xs
+unfolding marked
+marked_none [] none = refl
+marked_none (x ∷ xs) none = absurd (true≢false none)
+
+pub marked_some : (xs : List ℕ) → not (is_empty xs) ≡ true → 32 ∷ 94 ∷ xs ≡ marked xs
+unfolding marked
+marked_some [] some = absurd (true≢false (sym some))
+marked_some (x ∷ xs) some = refl

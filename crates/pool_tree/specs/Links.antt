@@ -1,7 +1,7 @@
 -- What the linked records mean, and what is true of them between two calls.
 use Rattle.std.specs.Prelude.{◌≡◌, ℕ, zero, suc, ◌<◌, Bool, true, false, ◌==◌, ◌&&◌, not, if◌then◌else◌, is_some, Option, None, Some, List, [], ◌∷◌}
 use Rattle.std.specs.Option.{option_map_or}
-use Rattle.run_model.specs.Pools.{Pools}
+use Rattle.run_model.specs.Pools.{Pools, Cleanups, no_cleanups}
 use Rattle.pool_tree.specs.declared.records.Pool.{Pool}
 use Rattle.pool_tree.specs.Records.{names, parent_of, newest_of, older_of, younger_of, payloads_of}
 
@@ -48,10 +48,10 @@ pub record IsChildAdded {T : Type 0} (name parent : ℕ) (old new : ℕ → Opti
   pub newest : (n : ℕ) → newest_of new n ≡ (if n == parent then Some name else if n == name then None else newest_of old n)
   pub older : (n : ℕ) → older_of new n ≡ (if n == name then newest_of old parent else older_of old n)
   pub younger : (n : ℕ) → younger_of new n ≡ (if names (newest_of old parent) n then Some name else if n == name then None else younger_of old n)
-  pub payloads : (n : ℕ) → payloads_of new n ≡ (if n == name then [] else payloads_of old n)
+  pub payloads : (n : ℕ) → payloads_of new n ≡ (if n == name then no_cleanups else payloads_of old n)
 
 -- The payloads of one pool are others, and nothing else was changed.
-pub record IsRefilled {T : Type 0} (name : ℕ) (items : List T) (old new : ℕ → Option (Pool T)) : Type 0 where
+pub record IsRefilled {T : Type 0} (name : ℕ) (items : Cleanups T) (old new : ℕ → Option (Pool T)) : Type 0 where
   pub live : (n : ℕ) → is_some (new n) ≡ is_some (old n)
   pub parents : (n : ℕ) → parent_of new n ≡ parent_of old n
   pub newest : (n : ℕ) → newest_of new n ≡ newest_of old n
@@ -66,7 +66,7 @@ pub record IsCleared {T : Type 0} (p : ℕ) (goes : ℕ → Bool) (old new : ℕ
   pub newest : (n : ℕ) → newest_of new n ≡ (if goes n then None else if n == p then None else newest_of old n)
   pub older : (n : ℕ) → older_of new n ≡ (if goes n then None else older_of old n)
   pub younger : (n : ℕ) → younger_of new n ≡ (if goes n then None else younger_of old n)
-  pub payloads : (n : ℕ) → payloads_of new n ≡ (if goes n then [] else if n == p then [] else payloads_of old n)
+  pub payloads : (n : ℕ) → payloads_of new n ≡ (if goes n then no_cleanups else if n == p then no_cleanups else payloads_of old n)
 
 -- A pool went that had no children, and those beside it and above it are linked past it.
 pub record IsRemoved {T : Type 0} (p : ℕ) (old new : ℕ → Option (Pool T)) : Type 0 where
@@ -75,7 +75,7 @@ pub record IsRemoved {T : Type 0} (p : ℕ) (old new : ℕ → Option (Pool T)) 
   pub newest : (n : ℕ) → newest_of new n ≡ (if n == p then None else if names (parent_of old p) n && not (is_some (younger_of old p)) then older_of old p else newest_of old n)
   pub older : (n : ℕ) → older_of new n ≡ (if n == p then None else if names (younger_of old p) n then older_of old p else older_of old n)
   pub younger : (n : ℕ) → younger_of new n ≡ (if n == p then None else if names (older_of old p) n then younger_of old p else younger_of old n)
-  pub payloads : (n : ℕ) → payloads_of new n ≡ (if n == p then [] else payloads_of old n)
+  pub payloads : (n : ℕ) → payloads_of new n ≡ (if n == p then no_cleanups else payloads_of old n)
 
 -- A pool is there, and so are those that it is linked to.
 pub record HasNeighbours {T : Type 0} (p : ℕ) (records : ℕ → Option (Pool T)) : Type 0 where

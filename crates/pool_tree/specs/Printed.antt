@@ -22,9 +22,17 @@ spaced (c ∷ cs) = 32 ∷ c ∷ cs
 unfoldable pub spaced_all : {T : Type 0} → (T → List ℕ) → List T → List ℕ
 spaced_all text xs = flat_map (λ x. spaced (text x)) xs
 
+-- the same with a caret, of the payloads that are handed on before those of the pools below
+unfoldable pub marked : List ℕ → List ℕ
+marked [] = []
+marked (c ∷ cs) = 32 ∷ 94 ∷ c ∷ cs
+
+unfoldable pub marked_all : {T : Type 0} → (T → List ℕ) → List T → List ℕ
+marked_all text xs = flat_map (λ x. marked (text x)) xs
+
 -- the line of a pool
 unfoldable pub line : {T : Type 0} → (T → List ℕ) → Pools T → ℕ → ℕ → List ℕ
-line text ps depth p = margin depth ++ codes "pool " ++ decimal p ++ spaced_all text (ps.payloads p) ++ 10 ∷ []
+line text ps depth p = margin depth ++ codes "pool " ++ decimal p ++ marked_all text (ps.payloads p).pre ++ spaced_all text (ps.payloads p).plain ++ 10 ∷ []
 
 -- the lines of a pool and those under it, down to so many below it
 unfoldable pub printed_within : {T : Type 0} → ℕ → (T → List ℕ) → Pools T → ℕ → ℕ → List ℕ

@@ -1,7 +1,8 @@
 -- The linked records, as functions from names.
-use Rattle.std.specs.Prelude.{ℕ, Bool, false, Option, None, Some, List, [], nat_eq, ◌==◌, if◌then◌else◌}
+use Rattle.std.specs.Prelude.{ℕ, Bool, false, Option, None, Some, nat_eq, ◌==◌, if◌then◌else◌}
 use Rattle.std.specs.Option.{option_map, option_map_or, option_and_then}
 use Rattle.std.specs.HashMap.{get}
+use Rattle.run_model.specs.Pools.{Cleanups, no_cleanups}
 use Rattle.pool_tree.specs.declared.records.Pool.{Pool}
 use Rattle.pool_tree.specs.declared.records.Records.{Records}
 
@@ -34,6 +35,10 @@ older_of records n = option_and_then (λ pool. pool.older) (records n)
 abbrev pub younger_of : {T : Type 0} → (ℕ → Option (Pool T)) → ℕ → Option ℕ
 younger_of records n = option_and_then (λ pool. pool.younger) (records n)
 
--- what the pool has to hand on, oldest first
-abbrev pub payloads_of : {T : Type 0} → (ℕ → Option (Pool T)) → ℕ → List T
-payloads_of records n = option_map_or (λ pool. pool.payloads.items) (records n) []
+-- what a record has to hand on
+abbrev pub cleanups : {T : Type 0} → Pool T → Cleanups T
+cleanups pool = record { pre = pool.pre.items; plain = pool.plain.items }
+
+-- what the pool has to hand on
+abbrev pub payloads_of : {T : Type 0} → (ℕ → Option (Pool T)) → ℕ → Cleanups T
+payloads_of records n = option_map_or cleanups (records n) no_cleanups

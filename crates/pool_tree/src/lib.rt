@@ -11,6 +11,6 @@ mod tree;
 
 pub use byte_text::WriteFault;
 pub use refusal::PoolError;
-pub use run_model::ClearKind;
+pub use run_model::{CleanupKind, ClearKind};
 pub use text::PoolText;
 pub use tree::{PoolId, PoolTree, Room};

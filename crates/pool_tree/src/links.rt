@@ -26,7 +26,8 @@ pub(crate) fn add_child<T: Drop>(
         newest: None,
         older,
         younger: None,
-        payloads: Vec::new(alloc),
+        pre: Vec::new(alloc),
+        plain: Vec::new(alloc),
     };
     records.put(name, pool)?;
     records.set_newest(Some(parent), Some(name));

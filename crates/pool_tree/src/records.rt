@@ -3,8 +3,10 @@
 ghost use Rattle.std.specs.Prelude.{◌≡◌, ℕ, None, Some, length, nat_eq, OnOk, OnErr};
 ghost use Rattle.std.specs.Option.{option_copied};
 ghost use Rattle.run_model.specs.Indexed.{upd};
+ghost use Rattle.run_model.specs.Pools.{held_as};
 
 use name_table::NameHasher;
+use run_model::CleanupKind;
 use std::alloc::{AllocError, Global};
 use std::collections::HashMap;
 use std::hash::BuildHasherDefault;
@@ -20,8 +22,10 @@ pub(crate) struct Pool<T> {
     pub(crate) older: Option<u64>,
     /// The child of the same pool that was made after this one.
     pub(crate) younger: Option<u64>,
-    /// What a clear hands on, oldest first.
-    pub(crate) payloads: Vec<T>,
+    /// What a clear hands on before what the pools under it do, oldest first.
+    pub(crate) pre: Vec<T>,
+    /// What a clear hands on after that, oldest first.
+    pub(crate) plain: Vec<T>,
 }
 
 /// The pools by name.
@@ -107,22 +111,28 @@ impl<T: Drop> Records<T> {
         }
     }
 
-    /// The payloads of a pool, oldest first.
-    pub(crate) fn payloads(&self, name: u64) -> &[T]
-        ensures { result.now ≡ payloads_of (record_of self.now) name }
+    /// The payloads of a pool that are of a kind, oldest first.
+    pub(crate) fn payloads(&self, kind: CleanupKind, name: u64) -> &[T]
+        ensures { result.now ≡ held_as kind (payloads_of (record_of self.now) name) }
     {
         match self.by_name.get(&name) {
-            Some(pool) => pool.payloads.as_slice(),
+            Some(pool) => match kind {
+                CleanupKind::Pre => pool.pre.as_slice(),
+                CleanupKind::Plain => pool.plain.as_slice(),
+            },
             None => &[],
         }
     }
 
-    /// How many payloads a pool has.
-    pub(crate) fn payload_count(&self, name: u64) -> usize
-        ensures { result ≡ length (payloads_of (record_of self.now) name) }
+    /// How many payloads a pool hands on in a turn.
+    pub(crate) fn payload_count(&self, turn: (u64, CleanupKind)) -> usize
+        ensures { result ≡ length (held_as turn.1 (payloads_of (record_of self.now) turn.0)) }
     {
-        match self.by_name.get(&name) {
-            Some(pool) => pool.payloads.len(),
+        match self.by_name.get(&turn.0) {
+            Some(pool) => match turn.1 {
+                CleanupKind::Pre => pool.pre.len(),
+                CleanupKind::Plain => pool.plain.len(),
+            },
             None => 0,
         }
     }

@@ -13,6 +13,7 @@ use crate::payloads::{push, take_at, take_newest_equal};
 use crate::records::{Pool, Records};
 use crate::refusal::PoolError;
 pub use clear::Room;
+use run_model::CleanupKind;
 use std::alloc::{AllocError, Global};
 
 /// The name of a pool.
@@ -31,7 +32,7 @@ pub struct PoolTree<T> {
 
 #[tactic(auto, using(crate::proofs::Trees::tree_formed, crate::proofs::Trees::tree_next))]
 impl<T: Drop> PoolTree<T> {
-    ghost use Rattle.run_model.specs.Pools.{planted, created, registered, is_live, is_under};
+    ghost use Rattle.run_model.specs.Pools.{planted, created, registered, registered_as, pre_registered, with_plain, is_live, is_under};
     ghost use Rattle.run_model.specs.Indexed.{upd};
     ghost use Rattle.run_model.specs.RunOrder.{last_that, killed, IsPoolMap};
     ghost use Rattle.pool_tree.specs.Tree.{map_of, once_more};
@@ -52,7 +53,8 @@ impl<T: Drop> PoolTree<T> {
             newest: None,
             older: None,
             younger: None,
-            payloads: Vec::new(alloc),
+            pre: Vec::new(alloc),
+            plain: Vec::new(alloc),
         };
         records.put(first, pool)?;
         Ok(PoolTree {
@@ -110,7 +112,27 @@ impl<T: Drop> PoolTree<T> {
         self.next = next;
     }
 
-    /// Registers a payload with a pool, as its newest. Without memory nothing is changed, and the payload comes back.
+    /// Registers a payload with a pool, as its newest of a kind. Without memory nothing is changed, and the payload comes back.
+    pub fn register_as(
+        &mut self,
+        kind: CleanupKind,
+        pool: PoolId,
+        payload: T,
+    ) -> Result<(), (AllocError, T)>
+        requires { IsTrue (is_live (map_of self.old) pool) }
+        ensures ok { OnOk result (map_of self.new ≡ registered_as kind pool payload (map_of self.old)) }
+        ensures formed { IsPoolMap (map_of self.new) }
+        ensures err { OnErr result (map_of self.new ≡ map_of self.old) }
+        ensures back { IfErr result (λ refused. refused.1 ≡ payload) }
+        ensures unasked { self.new.asked ≡ self.old.asked }
+    {
+        match push(&mut self.records, kind, pool, payload) {
+            Ok(()) => Ok(()),
+            Err(failed) => Err((AllocError, failed.value)),
+        }
+    }
+
+    /// Registers a payload that is handed on after what the pools under this one hand on.
     pub fn register(&mut self, pool: PoolId, payload: T) -> Result<(), (AllocError, T)>
         requires { IsTrue (is_live (map_of self.old) pool) }
         ensures ok { OnOk result (map_of self.new ≡ registered pool payload (map_of self.old)) }
@@ -119,18 +141,27 @@ impl<T: Drop> PoolTree<T> {
         ensures back { IfErr result (λ refused. refused.1 ≡ payload) }
         ensures unasked { self.new.asked ≡ self.old.asked }
     {
-        match push(&mut self.records, pool, payload) {
-            Ok(()) => Ok(()),
-            Err(failed) => Err((AllocError, failed.value)),
-        }
+        self.register_as(CleanupKind::Plain, pool, payload)
     }
 
-    /// Takes out the newest payload of a pool that equals this one; `None` where none does, and nothing is changed.
+    /// Registers a payload that is handed on before what the pools under this one hand on.
+    pub fn register_pre(&mut self, pool: PoolId, payload: T) -> Result<(), (AllocError, T)>
+        requires { IsTrue (is_live (map_of self.old) pool) }
+        ensures ok { OnOk result (map_of self.new ≡ pre_registered pool payload (map_of self.old)) }
+        ensures formed { IsPoolMap (map_of self.new) }
+        ensures err { OnErr result (map_of self.new ≡ map_of self.old) }
+        ensures back { IfErr result (λ refused. refused.1 ≡ payload) }
+        ensures unasked { self.new.asked ≡ self.old.asked }
+    {
+        self.register_as(CleanupKind::Pre, pool, payload)
+    }
+
+    /// Takes out the newest plain payload of a pool that equals this one; `None` where none does, and nothing is changed.
     pub fn kill(&mut self, pool: PoolId, payload: &T) -> Option<T>
     where
         T: PartialEq,
         requires { IsTrue (is_live (map_of self.old) pool) }
-        ensures taken { result ≡ last_that (λ other. T.eq other payload.now) ((map_of self.old).payloads pool) }
+        ensures taken { result ≡ last_that (λ other. T.eq other payload.now) ((map_of self.old).payloads pool).plain }
         ensures rest { map_of self.new ≡ killed pool (λ other. T.eq other payload.now) (map_of self.old) }
         ensures formed { IsPoolMap (map_of self.new) }
         ensures unasked { self.new.asked ≡ self.old.asked }
@@ -138,20 +169,20 @@ impl<T: Drop> PoolTree<T> {
         take_newest_equal(&mut self.records, pool, payload)
     }
 
-    /// The payloads of a pool, the oldest first.
+    /// The plain payloads of a pool, the oldest first.
     #[tactic(auto, using(crate::proofs::Trees::tree_payloads))]
     pub fn payloads(&self, pool: PoolId) -> &[T]
-        ensures { result.now ≡ (map_of self.now).payloads pool }
+        ensures { result.now ≡ ((map_of self.now).payloads pool).plain }
     {
-        self.records.payloads(pool)
+        self.records.payloads(CleanupKind::Plain, pool)
     }
 
-    /// Takes out the payload of a pool that has an index among its payloads.
+    /// Takes out the plain payload of a pool that has an index among those.
     pub fn take_out(&mut self, pool: PoolId, index: usize) -> T
         requires live { IsTrue (is_live (map_of self.old) pool) }
-        requires within { index < length ((map_of self.old).payloads pool) }
-        ensures taken { result ≡ slice_index_or ((map_of self.old).payloads pool) index result }
-        ensures rest { map_of self.new ≡ record (map_of self.old) { payloads = upd (map_of self.old).payloads pool (remove ((map_of self.old).payloads pool) index) } }
+        requires within { index < length ((map_of self.old).payloads pool).plain }
+        ensures taken { result ≡ slice_index_or ((map_of self.old).payloads pool).plain index result }
+        ensures rest { map_of self.new ≡ record (map_of self.old) { payloads = upd (map_of self.old).payloads pool (with_plain (λ items. remove items index) ((map_of self.old).payloads pool)) } }
         ensures formed { IsPoolMap (map_of self.new) }
         ensures unasked { self.new.asked ≡ self.old.asked }
     {

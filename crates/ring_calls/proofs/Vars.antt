@@ -26,8 +26,8 @@ use Rattle.ring_calls.specs.Slots.{slot_at, name_in, live_in, marked, SameButSlo
 use Rattle.ring_calls.specs.Seen.{seen_over, calls_in, shown_as, shown_slot}
 use Rattle.ring_calls.proofs.Changes.{ApartIn, ring_here, live_is, seen_same, seen_slot}
 
-abbrev instance_as : (ℕ → PoolVar) → (ℕ → BrigadeVar) → (ℕ → ℕ) → Bool → Configuration → Configuration
-instance_as pools brigades numbers sent r = record r { instance = record { pools = pools; brigades = brigades; numbers = numbers; sent = sent } }
+abbrev instance_as : (ℕ → PoolVar) → (ℕ → BrigadeVar) → (ℕ → ℕ) → Bool → Bool → Configuration → Configuration
+instance_as pools brigades numbers sent left r = record r { instance = record { pools = pools; brigades = brigades; numbers = numbers; sent = sent; left = left } }
 
 pub seen_var : (L : ℕ → Option Items) (k : ℕ) (view : ContextView) (i new : Instance) (call : Call) (b : ℕ) (s : Slot) → SameButSlots i new
     → ((a : ℕ) → slot_at new a ≡ (if a == b then s else slot_at i a))
@@ -37,18 +37,20 @@ seen_var L k view i new call b s same sets =
     let r = seen_over L k view i call in
     let runs = calls_in view call in
     ap (λ (f : ℕ → BrigadeVar).
-    record r { instance = record { pools = λ p. slice_index_or new.pools p poolvar.Null; brigades = f; numbers = λ n. slice_index_or new.numbers n 0; sent = new.sent } }) (fun_ext by_slot)
+    record r { instance = record { pools = λ p. slice_index_or new.pools p poolvar.Null; brigades = f; numbers = λ n. slice_index_or new.numbers n 0; sent = new.sent; left = new.left } }) (fun_ext by_slot)
     ∙ (ap (λ (ps : List PoolVar). record r {
       instance = record {
         pools = λ p. slice_index_or ps p poolvar.Null;
         brigades = upd r.instance.brigades b (shown_slot runs L s);
         numbers = λ n. slice_index_or new.numbers n 0;
         sent = new.sent;
+        left = new.left;
       };
     }) same.pools
     ∙ (ap (λ (ns : List ℕ).
-    record r { instance = record { pools = r.instance.pools; brigades = upd r.instance.brigades b (shown_slot runs L s); numbers = λ n. slice_index_or ns n 0; sent = new.sent } }) same.numbers
-    ∙ ap (λ (t : Bool). record r { instance = record { pools = r.instance.pools; brigades = upd r.instance.brigades b (shown_slot runs L s); numbers = r.instance.numbers; sent = t } }) same.sent))
+    record r { instance = record { pools = r.instance.pools; brigades = upd r.instance.brigades b (shown_slot runs L s); numbers = λ n. slice_index_or ns n 0; sent = new.sent; left = new.left } }) same.numbers
+    ∙ (ap (λ (t : Bool). record r { instance = record { pools = r.instance.pools; brigades = upd r.instance.brigades b (shown_slot runs L s); numbers = r.instance.numbers; sent = t; left = new.left } }) same.sent
+    ∙ ap (λ (t : Bool). record r { instance = record { pools = r.instance.pools; brigades = upd r.instance.brigades b (shown_slot runs L s); numbers = r.instance.numbers; sent = r.instance.sent; left = t } }) same.left)))
   where
     by_slot : (a : ℕ) → shown_slot (calls_in view call) L (slot_at new a) ≡ upd (λ c. shown_slot (calls_in view call) L (slot_at i c)) b (shown_slot (calls_in view call) L s) a
     by_slot a = ap (shown_slot (calls_in view call) L) (sets a) ∙ go (a == b) where

@@ -1,6 +1,7 @@
 //! What a step sees: an instance of a module, and a call of one of its handlers.
 
 ghost use Rattle.std.specs.Prelude.{◌⊎◌, ◌≡◌, ◌<◌, ◌==◌, ◌||◌, ◌+◌, ℕ, Option, [], None, Some, true, false, is_some, if◌then◌else◌, slice_index_or, OnOk};
+ghost use Rattle.run_model.specs.Effects.{do_leave};
 ghost use Rattle.ring_calls.specs.Prelude.{Items, set_cursor, ContextView, seen_over, shown_cursor};
 
 use brigade_ops::{BrigadeId, BucketId};
@@ -29,7 +30,7 @@ pub enum CursorValue {
     End(BrigadeId),
 }
 
-/// A module on a connection: its variables, and whether it passed an EOS in this request. Brigade variables are numbered 0 to 7, and
+/// A module on a connection: its variables, whether it passed an EOS in this request, and whether it took itself out of its chain. Brigade variables are numbered 0 to 7, and
 /// 8 is the brought brigade `in`.
 #[derive(Drop)]
 pub struct Instance {
@@ -37,6 +38,7 @@ pub struct Instance {
     pub pools: [PoolVar; 8],
     pub numbers: [u32; 8],
     pub sent: bool,
+    pub left: bool,
 }
 
 /// A call of a handler. Its name is that of the brigade of its loose buckets; between calls it is 0. Cursors are numbered 0 to 7,
@@ -60,12 +62,14 @@ impl Instance {
         ensures pools { (p : ℕ) → slice_index_or result.pools p PoolVar.Null ≡ PoolVar.Null }
         ensures numbers { (n : ℕ) → slice_index_or result.numbers n 0 ≡ 0 }
         ensures sent { result.sent ≡ false }
+        ensures left { result.left ≡ false }
     {
         Instance {
             slots: [Slot::Null; 9],
             pools: [PoolVar::Null; 8],
             numbers: [0; 8],
             sent: false,
+            left: false,
         }
     }
 
@@ -135,8 +139,19 @@ impl Instance {
         ensures pools { self.new.pools ≡ self.old.pools }
         ensures numbers { self.new.numbers ≡ self.old.numbers }
         ensures sent { self.new.sent ≡ (self.old.sent || eos) }
+        ensures left { self.new.left ≡ self.old.left }
     {
         self.sent = self.sent || eos;
+    }
+
+    /// Remembers that it took itself out of its chain in this request.
+    #[tactic(auto, unfolding(crate::specs::Slots::slot_at, crate::specs::Seen::seen_over))]
+    pub fn leave(&mut self)
+        ensures slots { (a : ℕ) → slot_at self.new a ≡ slot_at self.old a }
+        ensures seen { (rings : ℕ → Option Items) (next : ℕ) (view : ContextView) (call : Call)
+            → seen_over rings next view self.new call ≡ do_leave (seen_over rings next view self.old call) }
+    {
+        self.left = true;
     }
 }
 

@@ -355,6 +355,12 @@ was_ended d bytes ended items is = record {
   told = ap (λ (t : Bool). if t then (out_of bytes ended, true) else (out_of (bytes ++ (taken items 0 (λ k. None)).bytes) (has_eos items), (taken items 0 (λ k. None)).whole)) is;
 }
 
+-- nothing is put out of no buckets
+pub none_delivered : (d : Device) (bytes : List ℕ) (ended : Bool) → WasDelivered d d (out_of bytes ended) [] (out_of bytes ended) true
+unfolding delivered ReadsGiven taken
+none_delivered d bytes true = was_ended d bytes true [] refl
+none_delivered d bytes false = record { reads = λ k. None; given = refl; told = ap (λ (bs : List ℕ). (out_of bs false, true)) (append-nil bytes) }
+
 pub was_delivered : (d e : Device) (runs : ℕ → Bool) (xs : Items) (whole : Bool) (more bytes after : List ℕ) (ended eos : Bool) → ended ≡ false → ItemsTaken d e xs more whole
     → after ≡ bytes ++ more → eos ≡ has_eos (shown runs xs)
     → WasDelivered d e (out_of bytes ended) (shown runs xs) (out_of after eos) whole

@@ -42,7 +42,7 @@ abbrev with_sent : Bool → Configuration → Configuration
 with_sent t r = record r { instance = record r.instance { sent = t } }
 
 module _ (L : ℕ → Option Items) (k : ℕ) (view : ContextView) (i noted new : Instance) (call : Call) (b : ℕ)
-    (same : (a : ℕ) → slot_at noted a ≡ slot_at i a) (pools : noted.pools ≡ i.pools) (numbers : noted.numbers ≡ i.numbers) where
+    (same : (a : ℕ) → slot_at noted a ≡ slot_at i a) (pools : noted.pools ≡ i.pools) (numbers : noted.numbers ≡ i.numbers) (left : noted.left ≡ i.left) where
   seen_noted : seen_over L k view noted call ≡ with_sent noted.sent (seen_over L k view i call)
   unfolding seen_over
   seen_noted =
@@ -53,11 +53,13 @@ module _ (L : ℕ → Option Items) (k : ℕ) (view : ContextView) (i noted new 
           brigades = f;
           numbers = λ n. slice_index_or noted.numbers n 0;
           sent = noted.sent;
+          left = noted.left;
         };
       }) (fun_ext (λ a. ap (shown_slot (calls_in view call) L) (same a)))
-      ∙ (ap (λ (ps : List PoolVar). record r { instance = record r.instance { pools = λ p. slice_index_or ps p poolvar.Null; numbers = λ n. slice_index_or noted.numbers n 0; sent = noted.sent } })
+      ∙ (ap (λ (ps : List PoolVar). record r { instance = record r.instance { pools = λ p. slice_index_or ps p poolvar.Null; numbers = λ n. slice_index_or noted.numbers n 0; sent = noted.sent; left = noted.left } })
       pools
-      ∙ ap (λ (ns : List ℕ). record r { instance = record r.instance { numbers = λ n. slice_index_or ns n 0; sent = noted.sent } }) numbers)
+      ∙ (ap (λ (ns : List ℕ). record r { instance = record r.instance { numbers = λ n. slice_index_or ns n 0; sent = noted.sent; left = noted.left } }) numbers
+      ∙ ap (λ (t : Bool). record r { instance = record r.instance { sent = noted.sent; left = t } }) left))
 
   pub seen_lent : noted.sent ≡ (i.sent || has_eos (contents (calls_in view call) L (live_in L (slot_at i b)))) → SameButSlots noted new
       → ((a : ℕ) → slot_at new a ≡ (if a == b then marked Passed (slot_at noted b) else slot_at noted a))

@@ -97,12 +97,13 @@ module _ (L M : ℕ → Option Items) (i new : Instance) (call ended : Call)
       let brigades : ℕ → BrigadeVar = λ b. if b == 8 then var.Null else returned_var call.name (r.instance.brigades b) in
       let made : List PoolVar → (ℕ → BrigadeVar) → List ℕ → Bool → ℕ → (ℕ → Cursor) → List ℕ → List NamedBucket → ℕ → ℕ → Configuration =
       λ ps bs ns sent name cursors buffer items next pc. record r {
-        instance = record { pools = λ p. slice_index_or ps p poolvar.Null; brigades = bs; numbers = λ n. slice_index_or ns n 0; sent = sent };
+        instance = record { pools = λ p. slice_index_or ps p poolvar.Null; brigades = bs; numbers = λ n. slice_index_or ns n 0; sent = sent; left = i.left };
         call = record { name = name; cursors = cursors; buffer = buffer; loose = items };
         shared = record r.shared { next = next };
         pc = pc;
       } in
-      ap (λ bs. made new.pools bs new.numbers new.sent ended.name (λ c. shown_cursor (cursor_at ended c)) ended.buffer (shown (calls_in view ended) (list_at M ended.name)) l ended.pc)
+      ap (λ (t : Bool). record (seen_over M l view new ended) { instance = record (seen_over M l view new ended).instance { left = t } }) same.left
+      ∙ (ap (λ bs. made new.pools bs new.numbers new.sent ended.name (λ c. shown_cursor (cursor_at ended c)) ended.buffer (shown (calls_in view ended) (list_at M ended.name)) l ended.pc)
       (fun_ext by_slot)
       ∙ (ap (λ ps. made ps brigades new.numbers new.sent ended.name (λ c. shown_cursor (cursor_at ended c)) ended.buffer (shown (calls_in view ended) (list_at M ended.name)) l ended.pc) same.pools
       ∙ (ap (λ ns. made i.pools brigades ns new.sent ended.name (λ c. shown_cursor (cursor_at ended c)) ended.buffer (shown (calls_in view ended) (list_at M ended.name)) l ended.pc) same.numbers
@@ -112,7 +113,7 @@ module _ (L M : ℕ → Option Items) (i new : Instance) (call ended : Call)
       ∙ (ap (λ items. made i.pools brigades i.numbers i.sent ended.name (λ c. cursor.Unset) [] items l ended.pc) no_loose
       ∙ (ap (λ n. made i.pools brigades i.numbers i.sent n (λ c. cursor.Unset) [] [] l ended.pc) name
       ∙ (ap (λ n. made i.pools brigades i.numbers i.sent 0 (λ c. cursor.Unset) [] [] n ended.pc) next
-      ∙ ap (λ n. made i.pools brigades i.numbers i.sent 0 (λ c. cursor.Unset) [] [] k n) at)))))))) where
+      ∙ ap (λ n. made i.pools brigades i.numbers i.sent 0 (λ c. cursor.Unset) [] [] k n) at))))))))) where
         without : RunsWithout (calls_in view call) (calls_in view ended) call.name
         without n = ap (λ j. is_running j view.waits n) name ∙ runs_without call.name view.waits other n
 

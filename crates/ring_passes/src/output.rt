@@ -4,12 +4,12 @@ ghost use Rattle.std.specs.Prelude.{◌≡◌, ◌==◌, ◌⊎◌, ◌+◌, ◌
 ghost use Rattle.ring_passes.specs.Prelude.{SomeWentWell, counts, is_there, IsOpenFor, BucketId, list_at, has_eos, is_eos_kind, length_in, items_of, do_pass, has_bytes};
 ghost use Rattle.ring_passes.specs.Prelude.{EndsInFile, length_of, read_limit};
 ghost use Rattle.ring_passes.specs.Prelude.{Bucket, named, lists, brigade_of, bucket_at, content_of, ContentAdded, HasFront, IsFetched, ItemsAdded, WasDelivered, out_of, Call, ContextView};
-ghost use Rattle.ring_passes.specs.Prelude.{EndInFiles, RangeIsOpen, IsHeld, LeavesForeign, live_in, marked, slot_at, seen, shown, contents};
+ghost use Rattle.ring_passes.specs.Prelude.{EndInFiles, RangeIsOpen, IsHeld, LeavesForeign, live_in, marked, name_in, slot_at, seen, shown, contents};
 
 use crate::output_block::OutputBlock;
 use crate::passes::{hand_over_with, has_eos, is_eos};
 use brigade_ops::{BrigadeId, Brigades, Content, ContentView, FileNo, Files, Rings, Stored};
-use ring_calls::machine::Instance;
+use ring_calls::machine::{Instance, Slot};
 use run_model::Mark;
 use std::alloc::AllocError;
 
@@ -231,6 +231,34 @@ fn empty_passed<R: Rings<Stored> + Drop>(
     let name = instance.brigade(b);
     hand_over_with(instance, store, b, eos);
     store.clean(name);
+}
+
+/// The bytes of the brigade of a variable are put out, if it has one, and it is told whether that went well. The brigade stays as it is.
+/// Without memory nothing is changed; parts may have been read.
+pub fn put_out<R: Rings<Stored> + Drop, F: Files>(
+    instance: &Instance,
+    store: &Brigades<R>,
+    files: &mut F,
+    b: u8,
+    out: &mut OutputBlock,
+    ended: &mut bool,
+) -> Result<bool, AllocError>
+    requires slot { b < 9 }
+    requires there { (m : ℕ) → name_in (slot_at instance.now b) ≡ Some m → is_some (lists store.now m) ≡ true }
+    requires ends { EndInFiles store.now instance.now }
+    requires open { (view : ContextView) × (call : Call) × All (RangeIsOpen (F.device files.old)) (items_of ((seen store.now view instance.now call).instance.brigades b)) }
+    ensures delivered { IfOk result (λ well. (view : ContextView) (call : Call)
+        → WasDelivered (F.device files.old) (F.device files.new) (out_of out.old ended.old) (items_of
+        ((seen store.now view instance.now call).instance.brigades b)) (out_of out.new ended.new) well) }
+    ensures kept { OnErr result (out_of out.new ended.new ≡ out_of out.old ended.old) }
+    ensures sure { (view : ContextView) (call : Call) → (not ended.old && has_bytes (items_of ((seen store.now view instance.now call).instance.brigades b))) ≡ false → IsOk result }
+    ensures read { OnErr result (SomeWentWell (F.device files.old) (F.device files.new)) }
+    ensures open_files { (F.device files.new).numbered ≡ (F.device files.old).numbered }
+{
+    match instance.slot(b) {
+        Slot::Made(name, _, _) => add_brigade(store, files, name, out, ended),
+        Slot::Null => Ok(true),
+    }
 }
 
 /// The last filter passes the brigade of a variable to the end of the chain, and it is told whether that went well. Without memory

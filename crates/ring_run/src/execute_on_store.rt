@@ -77,6 +77,7 @@ pub(crate) fn execute_on_store<R: Rings<Stored> + Drop>(
         Effect::Number(n, number) => Ok(change_number(code, instance, call, store, n, number)),
         Effect::Put(x) => bytes::put(instance, call, x),
         Effect::ClearBuffer => Ok(call.clear_buffer()),
+        Effect::Leave => Ok(instance.leave()),
         Effect::Make(c, source) => {
             makers::make_bucket(alloc, code, instance, call, context, tree, store, c, source)
         }

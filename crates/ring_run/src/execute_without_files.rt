@@ -59,9 +59,9 @@ pub(crate) fn execute_without_files<R: Rings<Stored> + Drop>(
             let parent = live_pool(instance, tree, context, code.pool_parent(q));
             create_pool(instance, tree, q, parent)
         }
-        Effect::Register(pool, text) => {
+        Effect::Register(kind, pool, text) => {
             let on = live_pool(instance, tree, context, pool);
-            label(alloc, code, tree, on, text)
+            label(alloc, code, tree, kind, on, text)
         }
         Effect::Kill(pool, text) => {
             let on = live_pool(instance, tree, context, pool);

@@ -8,7 +8,7 @@ use crate::labels::newest_label;
 use crate::makers::text;
 use brigade_ops::{PoolId, PoolTree};
 use ring_calls::machine::Instance;
-use run_model::{Module, Payload, PoolVar};
+use run_model::{CleanupKind, Module, Payload, PoolVar};
 use std::alloc::{AllocError, Global};
 
 /// Makes a pool under its declared parent. Without memory, and where the names of pools are spent, nothing is changed.
@@ -37,12 +37,13 @@ pub(crate) fn create_pool(
     Ok(())
 }
 
-/// Registers a label with a pool. Without memory nothing is changed.
+/// Registers a label with a pool, as its newest of a kind. Without memory nothing is changed.
 #[tactic(auto, unfolding(ring_calls::specs::Seen::seen_over, run_model::specs::State::with_pools))]
 pub(crate) fn label(
     alloc: Global,
     code: &Module,
     tree: &mut PoolTree<Payload>,
+    kind: CleanupKind,
     pool: PoolId,
     t: u8,
 ) -> Result<(), AllocError>
@@ -50,14 +51,14 @@ pub(crate) fn label(
     requires live { IsTrue (is_live (map_of tree.old) pool) }
     ensures ok { OnOk result ((rings : ℕ → Option Items) (next : ℕ) (view : ContextView) (i : Instance) (call : Call)
         → seen_over rings next (record view { pools = map_of tree.new }) i call
-        ≡ on_pool (label_registered (text_of code.now t)) (Some pool) (seen_over rings next (record view { pools = map_of tree.old }) i call)) }
+        ≡ on_pool (label_registered kind (text_of code.now t)) (Some pool) (seen_over rings next (record view { pools = map_of tree.old }) i call)) }
     ensures err { OnErr result ((rings : ℕ → Option Items) (next : ℕ) (view : ContextView) (i : Instance) (call : Call)
         → seen_over rings next (record view { pools = map_of tree.new }) i call ≡ seen_over rings next (record view { pools = map_of tree.old }) i call) }
     ensures house { (rings : ℕ → Option Items) (pools : ℕ → Option ℕ) (references : ℕ → ℕ) → AreHoused rings pools references (map_of tree.old) → AreHoused rings pools references (map_of tree.new) }
     ensures tree_unasked { tree.new.asked ≡ tree.old.asked }
 {
     let label = text(alloc, code, t)?;
-    let Ok(()) = tree.register(pool, Payload::Label(label)) else {
+    let Ok(()) = tree.register_as(kind, pool, Payload::Label(label)) else {
         return Err(AllocError);
     };
     Ok(())

@@ -1,7 +1,9 @@
 -- What the calls on pools make of a pool map is one.
 use Rattle.std.proofs.Common.{◌≡◌, ◌≢◌, ℕ, ◌+◌, ◌<◌, ◌≤◌, Bool, true, false, ◌&&◌, ◌||◌, not, ◌==◌, cond, List, [], ◌∷◌, ◌++◌, ◌⊎◌, inl, inr, refl, sym, ◌∙◌, ap, subst, arith, eqb-true}
 use Rattle.run_model.specs.Indexed.{upd}
-use Rattle.run_model.specs.Pools.{Pools, is_empty, is_in, is_live, is_under, planted, created, registered, cleared, destroyed}
+use Rattle.run_model.specs.Pools.{Pools, Cleanups, no_cleanups, is_empty, is_in, is_live, is_under, with_one, planted, created, registered, registered_as, cleared, destroyed}
+use Rattle.run_model.specs.declared.effect.CleanupKind.{CleanupKind}
+use Rattle.run_model.specs.declared.effect.CleanupKind.TheVariants.{Plain}
 use Rattle.run_model.specs.RunOrder.{IsPoolMap, without_last, killed}
 use Rattle.run_model.proofs.RunOrderLaws.{under_above}
 use Rattle.run_model.proofs.Updates.{upd_at, upd_off, upd_either}
@@ -50,7 +52,7 @@ lived ps new n path live = elim path [
 
 -- where each path is as before or gone, and what stands above a pool that stays stays
 pub thinned_formed : {T : Type 0} (ps new : Pools T) → new.next ≡ ps.next → ((k : ℕ) → (new.path k ≡ []) ⊎ (new.path k ≡ ps.path k))
-    → ((n m p : ℕ) (above : List ℕ) → new.path n ≡ m ∷ p ∷ above → new.path p ≡ ps.path p) → ((n : ℕ) → new.path n ≡ [] → new.payloads n ≡ []) → IsPoolMap ps → IsPoolMap new
+    → ((n m p : ℕ) (above : List ℕ) → new.path n ≡ m ∷ p ∷ above → new.path p ≡ ps.path p) → ((n : ℕ) → new.path n ≡ [] → new.payloads n ≡ no_cleanups) → IsPoolMap ps → IsPoolMap new
 thinned_formed ps new next paths stays bare f = record {
   first = λ n m above is. f.first n m above (was ps new paths n m above is);
   rises = λ n m p above is. f.rises n m p above (was ps new paths n m (p ∷ above) is);
@@ -67,10 +69,10 @@ destroyed_off q ps n m above is = by_test (is_under ps q n) is where
   by_test true is = absurd (cc)
   by_test false is = (refl, is)
 
-destroyed_bare : {T : Type 0} (q : ℕ) (ps : Pools T) → IsPoolMap ps → (n : ℕ) → (destroyed q ps).path n ≡ [] → (destroyed q ps).payloads n ≡ []
+destroyed_bare : {T : Type 0} (q : ℕ) (ps : Pools T) → IsPoolMap ps → (n : ℕ) → (destroyed q ps).path n ≡ [] → (destroyed q ps).payloads n ≡ no_cleanups
 unfolding destroyed
 destroyed_bare q ps f n is = by_test (is_under ps q n) is where
-  by_test : (b : Bool) → cond b [] (ps.path n) ≡ [] → cond b [] (ps.payloads n) ≡ []
+  by_test : (b : Bool) → cond b [] (ps.path n) ≡ [] → cond b no_cleanups (ps.payloads n) ≡ no_cleanups
   by_test true is = refl
   by_test false is = f.bare n is
 
@@ -88,10 +90,10 @@ cleared_off q ps n m above is = by_test (is_under ps q n) (n == q) refl is where
   by_test true false same is = absurd (cc)
   by_test false c same is = (inl refl, is)
 
-cleared_bare : {T : Type 0} (q : ℕ) (ps : Pools T) → IsPoolMap ps → (n : ℕ) → (cleared q ps).path n ≡ [] → (cleared q ps).payloads n ≡ []
+cleared_bare : {T : Type 0} (q : ℕ) (ps : Pools T) → IsPoolMap ps → (n : ℕ) → (cleared q ps).path n ≡ [] → (cleared q ps).payloads n ≡ no_cleanups
 unfolding cleared
 cleared_bare q ps f n is = by_test (is_under ps q n) (not (n == q)) is where
-  by_test : (b c : Bool) → cond (b && c) [] (ps.path n) ≡ [] → cond b [] (ps.payloads n) ≡ []
+  by_test : (b c : Bool) → cond (b && c) [] (ps.path n) ≡ [] → cond b no_cleanups (ps.payloads n) ≡ no_cleanups
   by_test true c is = refl
   by_test false c is = f.bare n is
 
@@ -112,7 +114,7 @@ created_cases : {T : Type 0} (parent : ℕ) (ps : Pools T) (n : ℕ)
 unfolding created
 created_cases parent ps n = elim (upd_either ps.path ps.next n (ps.next ∷ ps.path parent)) [
   | inl p ↦ inl (p.0, p.1)
-  | inr p ↦ inr (p.0, p.1, upd_off ps.payloads ps.next n [] p.0)
+  | inr p ↦ inr (p.0, p.1, upd_off ps.payloads ps.next n no_cleanups p.0)
 ]
 
 -- the heads and the tails of equal lists
@@ -162,7 +164,7 @@ planted_cases : (T : Type 0) (root n : ℕ) → ((n ≡ root) × ((planted {T = 
 unfolding planted
 planted_cases T root n = elim (upd_either (λ (k : ℕ). []) root n (root ∷ [])) [ inl p ↦ inl (p.0, p.1) | inr p ↦ inr p.1 ]
 
-planted_bare : (T : Type 0) (root n : ℕ) → (planted {T = T} root).payloads n ≡ []
+planted_bare : (T : Type 0) (root n : ℕ) → (planted {T = T} root).payloads n ≡ no_cleanups
 unfolding planted
 planted_bare T root n = refl
 
@@ -196,27 +198,30 @@ planted_formed T root = record {
 -- Payloads come and go.
 
 -- the payloads of one pool are others
-refilled_formed : {T : Type 0} (n : ℕ) (items : List T) (ps new : Pools T) → new.next ≡ ps.next → new.path ≡ ps.path → ((k : ℕ) → new.payloads k ≡ upd ps.payloads n items k)
-    → (ps.path n ≡ [] → items ≡ []) → IsPoolMap ps → IsPoolMap new
+refilled_formed : {T : Type 0} (n : ℕ) (items : Cleanups T) (ps new : Pools T) → new.next ≡ ps.next → new.path ≡ ps.path → ((k : ℕ) → new.payloads k ≡ upd ps.payloads n items k)
+    → (ps.path n ≡ [] → items ≡ no_cleanups) → IsPoolMap ps → IsPoolMap new
 refilled_formed n items ps new next path payloads none_bare f =
     thinned_formed ps new next (λ k. inr (same k)) (λ k m p above is. same p) bare f where
       same : (k : ℕ) → new.path k ≡ ps.path k
       same k = ap (λ (g : ℕ → List ℕ). g k) path
 
-      bare : (k : ℕ) → new.path k ≡ [] → new.payloads k ≡ []
+      bare : (k : ℕ) → new.path k ≡ [] → new.payloads k ≡ no_cleanups
       bare k none = payloads k ∙ elim (upd_either ps.payloads n k items) [
         | inl p ↦ p.1 ∙ none_bare (ap ps.path (sym p.0) ∙ (sym (same k) ∙ none))
         | inr p ↦ p.1 ∙ f.bare k (sym (same k) ∙ none)
       ]
 
-pub registered_formed : {T : Type 0} (n : ℕ) (x : T) (ps : Pools T) → is_live ps n ≡ true → IsPoolMap ps → IsPoolMap (registered n x ps)
-unfolding registered
-registered_formed n x ps live f = refilled_formed n (ps.payloads n ++ x ∷ []) ps (registered n x ps) refl refl (λ k. refl) (λ none. absurd (live_path ps n live none)) f
+pub registered_as_formed : {T : Type 0} (k : CleanupKind) (n : ℕ) (x : T) (ps : Pools T) → is_live ps n ≡ true → IsPoolMap ps → IsPoolMap (registered_as k n x ps)
+unfolding registered_as
+registered_as_formed k n x ps live f = refilled_formed n (with_one k x (ps.payloads n)) ps (registered_as k n x ps) refl refl (λ k. refl) (λ none. absurd (live_path ps n live none)) f
 
-nothing_less : {T : Type 0} (test : T → Bool) (xs : List T) → xs ≡ [] → without_last test xs ≡ []
+pub registered_formed : {T : Type 0} (n : ℕ) (x : T) (ps : Pools T) → is_live ps n ≡ true → IsPoolMap ps → IsPoolMap (registered n x ps)
+registered_formed n x ps live f = registered_as_formed Plain n x ps live f
+
+nothing_less : {T : Type 0} (test : T → Bool) (c : Cleanups T) → c ≡ no_cleanups → record c { plain = without_last test c.plain } ≡ no_cleanups
 unfolding without_last
-nothing_less test xs none = ap (without_last test) none
+nothing_less {T} test c none = ap (λ (d : Cleanups T). record d { plain = without_last test d.plain }) none
 
 pub killed_formed : {T : Type 0} (n : ℕ) (test : T → Bool) (ps : Pools T) → IsPoolMap ps → IsPoolMap (killed n test ps)
 unfolding killed
-killed_formed n test ps f = refilled_formed n (without_last test (ps.payloads n)) ps (killed n test ps) refl refl (λ k. refl) (λ none. nothing_less test (ps.payloads n) (f.bare n none)) f
+killed_formed n test ps f = refilled_formed n (record (ps.payloads n) { plain = without_last test (ps.payloads n).plain }) ps (killed n test ps) refl refl (λ k. refl) (λ none. nothing_less test (ps.payloads n) (f.bare n none)) f

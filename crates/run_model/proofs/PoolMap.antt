@@ -1,6 +1,6 @@
 -- What a new pool and a destroyed one leave of the others.
 use Rattle.std.proofs.Common.{◌≡◌, ◌≢◌, ℕ, ◌+◌, ◌<◌, ◌≤◌, Bool, true, false, ◌&&◌, not, ◌==◌, cond, [], ◌∷◌, ◌⊎◌, inl, inr, refl, ◌∙◌, ap, arith, eq-eqb, ne_eqb}
-use Rattle.run_model.specs.Pools.{Pools, is_empty, is_in, is_live, is_under, created, cleared, destroyed}
+use Rattle.run_model.specs.Pools.{Pools, no_cleanups, is_empty, is_in, is_live, is_under, created, cleared, destroyed}
 use Rattle.run_model.proofs.Updates.{upd_at, upd_off, upd_either}
 
 -- a pool that is live has a path
@@ -46,11 +46,11 @@ destroyed_path p ps n = by_test (is_under ps p n) where
 
 pub destroyed_apart : {T : Type 0} (p : ℕ) (ps : Pools T) (n : ℕ) → is_under ps p n ≡ false → ((destroyed p ps).path n ≡ ps.path n) × ((destroyed p ps).payloads n ≡ ps.payloads n)
 unfolding destroyed
-destroyed_apart p ps n apart = (ap (λ b. cond b [] (ps.path n)) apart, ap (λ b. cond b [] (ps.payloads n)) apart)
+destroyed_apart p ps n apart = (ap (λ b. cond b [] (ps.path n)) apart, ap (λ b. cond b no_cleanups (ps.payloads n)) apart)
 
-pub destroyed_under : {T : Type 0} (p : ℕ) (ps : Pools T) (n : ℕ) → is_under ps p n ≡ true → ((destroyed p ps).path n ≡ []) × ((destroyed p ps).payloads n ≡ [])
+pub destroyed_under : {T : Type 0} (p : ℕ) (ps : Pools T) (n : ℕ) → is_under ps p n ≡ true → ((destroyed p ps).path n ≡ []) × ((destroyed p ps).payloads n ≡ no_cleanups)
 unfolding destroyed
-destroyed_under p ps n under = (ap (λ b. cond b [] (ps.path n)) under, ap (λ b. cond b [] (ps.payloads n)) under)
+destroyed_under p ps n under = (ap (λ b. cond b [] (ps.path n)) under, ap (λ b. cond b no_cleanups (ps.payloads n)) under)
 
 -- a path of a cleared map is empty or as before
 pub cleared_path : {T : Type 0} (p : ℕ) (ps : Pools T) (n : ℕ) → ((cleared p ps).path n ≡ []) ⊎ ((cleared p ps).path n ≡ ps.path n)
@@ -63,7 +63,7 @@ cleared_path p ps n = by_test (is_under ps p n && not (n == p)) where
 -- what does not stand under the cleared pool is as it was
 pub cleared_apart : {T : Type 0} (p : ℕ) (ps : Pools T) (n : ℕ) → is_under ps p n ≡ false → ((cleared p ps).path n ≡ ps.path n) × ((cleared p ps).payloads n ≡ ps.payloads n)
 unfolding cleared
-cleared_apart p ps n apart = (ap (λ b. cond (b && not (n == p)) [] (ps.path n)) apart, ap (λ b. cond b [] (ps.payloads n)) apart)
+cleared_apart p ps n apart = (ap (λ b. cond (b && not (n == p)) [] (ps.path n)) apart, ap (λ b. cond b no_cleanups (ps.payloads n)) apart)
 
 -- the cleared pool stays
 pub cleared_itself : {T : Type 0} (p : ℕ) (ps : Pools T) → (cleared p ps).path p ≡ ps.path p
@@ -78,9 +78,9 @@ pub cleared_under : {T : Type 0} (p : ℕ) (ps : Pools T) (n : ℕ) → is_under
 unfolding cleared
 cleared_under p ps n under ne = ap (λ b. cond (b && not (n == p)) [] (ps.path n)) under ∙ ap (λ b. cond (not b) [] (ps.path n)) (ne_eqb n p ne)
 
-pub cleared_payloads : {T : Type 0} (p : ℕ) (ps : Pools T) (n : ℕ) → is_under ps p n ≡ true → (cleared p ps).payloads n ≡ []
+pub cleared_payloads : {T : Type 0} (p : ℕ) (ps : Pools T) (n : ℕ) → is_under ps p n ≡ true → (cleared p ps).payloads n ≡ no_cleanups
 unfolding cleared
-cleared_payloads p ps n under = ap (λ b. cond b [] (ps.payloads n)) under
+cleared_payloads p ps n under = ap (λ b. cond b no_cleanups (ps.payloads n)) under
 
 pub cleared_next : {T : Type 0} (p : ℕ) (ps : Pools T) → (cleared p ps).next ≡ ps.next
 unfolding cleared

@@ -7,7 +7,8 @@ use Rattle.std.proofs.lemmas.List.Concat.{flat_map-append}
 use Rattle.std.proofs.lemmas.List.Elements.{filter-append}
 use Rattle.std.proofs.lemmas.Bool.{cases_Bool, eqb-true, eq-eqb, ne_eqb, or_cases, or_left, or_right, cases_eq, false_from_ne_true, both_ways, lt-ltb, le-ltb, cases_lt}
 use Rattle.run_model.specs.Pools.{Pools, is_live, is_under, is_in, is_empty}
-use Rattle.run_model.specs.RunOrder.{leads_to, is_child, children_below, children, own_run, runs_within, run_order, order_within, order, order_under, IsPoolMap}
+use Rattle.run_model.specs.declared.effect.CleanupKind.TheVariants.{Plain, Pre}
+use Rattle.run_model.specs.RunOrder.{leads_to, is_child, children_below, children, pre_run, own_run, runs_within, run_order, order_within, order, order_under, Turn, turns_at, both_turns, turn_run, turns_within, turns, turns_under, IsPoolMap}
 
 -- the list of one number, or the empty list
 unfoldable pub once_if : Bool → ℕ → List ℕ
@@ -22,15 +23,15 @@ flat_map_same : {A B : Type 0} (f g : A → List B) → ((x : A) → f x ≡ g x
 flat_map_same f g same [] = refl
 flat_map_same f g same (x ∷ xs) = rw (same x) (ap (λ ys. g x ++ ys) (flat_map_same f g same xs))
 
--- the run order is that of its pools
-pub runs-order : {T : Type 0} (depth : ℕ) (ps : Pools T) (p : ℕ) → runs_within depth ps p ≡ flat_map (own_run ps) (order_within depth ps p)
-unfolding runs_within order_within
-runs-order zero ps p = refl
-runs-order (suc depth) ps p =
-    let below : flat_map (runs_within depth ps) (children ps p) ≡ flat_map (own_run ps) (flat_map (order_within depth ps) (children ps p))
-    = flat_map_same (runs_within depth ps) (λ x. flat_map (own_run ps) (order_within depth ps x)) (runs-order depth ps) (children ps p)
-    ∙ sym (flat_map_flat_map (own_run ps) (order_within depth ps) (children ps p)) in
-    rw (flat_map-append (own_run ps) (flat_map (order_within depth ps) (children ps p)) (p ∷ []), below, append-nil (own_run ps p))
+-- the run order is that of its turns
+pub runs-turns : {T : Type 0} (depth : ℕ) (ps : Pools T) (p : ℕ) → runs_within depth ps p ≡ flat_map (turn_run ps) (turns_within depth ps p)
+unfolding runs_within turns_within turn_run pre_run own_run
+runs-turns zero ps p = refl
+runs-turns (suc depth) ps p =
+    let below : flat_map (runs_within depth ps) (children ps p) ≡ flat_map (turn_run ps) (flat_map (turns_within depth ps) (children ps p))
+    = flat_map_same (runs_within depth ps) (λ x. flat_map (turn_run ps) (turns_within depth ps x)) (runs-turns depth ps) (children ps p)
+    ∙ sym (flat_map_flat_map (turn_run ps) (turns_within depth ps) (children ps p)) in
+    rw (flat_map-append (turn_run ps) (flat_map (turns_within depth ps) (children ps p)) ((p, Plain) ∷ []), below, append-nil (own_run ps p))
 
 -- a child's path
 pub child_path : {T : Type 0} (ps : Pools T) → IsPoolMap ps → (p n : ℕ) (xs : List ℕ) → ps.path n ≡ xs → leads_to p xs ≡ true → (above : List ℕ) × (ps.path n ≡ n ∷ p ∷ above)
@@ -164,20 +165,25 @@ lt_suc_apart b m apart =
       | inr above ↦ le-ltb b (suc m) (omega (arith, apart)) ∙ sym (le-ltb b m above)
     ]
 
--- the pools that a list of children brings, where f gives those of each
-module _ {T : Type 0} (ps : Pools T) (p n : ℕ) (f : ℕ → List ℕ)
-    (each : (c : ℕ) → is_child ps p c ≡ true → filter (λ m. m == n) (f c) ≡ once_if (is_under ps c n) n) where
-  below_none : ((c : ℕ) → is_child ps p c ≡ true → is_under ps c n ≡ false) → (m : ℕ) → filter (λ k. k == n) (flat_map f (children_below ps p m)) ≡ []
-  unfolding children_below once_if
+-- these items, or none
+unfoldable pub all_if : {X : Type 0} → Bool → List X → List X
+all_if true xs = xs
+all_if false xs = []
+
+-- what a list of children brings, where f gives that of each: of the pool n, what `ones` lists
+module _ {T X : Type 0} (ps : Pools T) (p n : ℕ) (f : ℕ → List X) (test : X → Bool) (ones : List X)
+    (each : (c : ℕ) → is_child ps p c ≡ true → filter test (f c) ≡ all_if (is_under ps c n) ones) where
+  below_none : ((c : ℕ) → is_child ps p c ≡ true → is_under ps c n ≡ false) → (m : ℕ) → filter test (flat_map f (children_below ps p m)) ≡ []
+  unfolding children_below all_if
   below_none none zero = refl
   below_none none (suc m) =
       elim (cases_Bool (is_child ps p m)) [
-        | inl child ↦ rw child (rw (filter-append (λ k. k == n) (f m) (flat_map f (children_below ps p m)), each m child, none m child) (below_none none m))
+        | inl child ↦ rw child (rw (filter-append test (f m) (flat_map f (children_below ps p m)), each m child, none m child) (below_none none m))
         | inr other ↦ rw other (below_none none m)
       ]
 
-  below_one : (b : ℕ) → IsBranch ps p n b → (m : ℕ) → filter (λ k. k == n) (flat_map f (children_below ps p m)) ≡ once_if (nat_lt b m) n
-  unfolding children_below once_if
+  below_one : (b : ℕ) → IsBranch ps p n b → (m : ℕ) → filter test (flat_map f (children_below ps p m)) ≡ all_if (nat_lt b m) ones
+  unfolding children_below all_if
   below_one b is zero = rw (le-ltb b 0 (omega arith))
   below_one b is (suc m) =
       elim (cases_Bool (is_child ps p m)) [
@@ -187,16 +193,17 @@ module _ {T : Type 0} (ps : Pools T) (p n : ℕ) (f : ℕ → List ℕ)
                   let under : is_under ps m n ≡ true = subst (λ c. is_under ps c n ≡ true) (sym here) is.under in
                   rw (
                     child,
-                    filter-append (λ k. k == n) (f m) (flat_map f (children_below ps p m)),
+                    filter-append test (f m) (flat_map f (children_below ps p m)),
                     each m child,
                     under,
                     below_one b is m,
                     lt-ltb b (suc m) (omega arith),
                     le-ltb b m (omega arith),
+                    append-nil ones,
                   )
               | inr apart ↦
                   let aside : is_under ps m n ≡ false = false_from_ne_true (is_under ps m n) (λ under. apart (is.alone m child under)) in
-                  rw (child, filter-append (λ k. k == n) (f m) (flat_map f (children_below ps p m)), each m child, aside, lt_suc_apart b m apart)
+                  rw (child, filter-append test (f m) (flat_map f (children_below ps p m)), each m child, aside, lt_suc_apart b m apart)
                   (below_one b is m)
             ]
         | inr other ↦
@@ -204,20 +211,25 @@ module _ {T : Type 0} (ps : Pools T) (p n : ℕ) (f : ℕ → List ℕ)
             rw (other, lt_suc_apart b m apart) (below_one b is m)
       ]
 
+once_all : (b : Bool) (n : ℕ) → once_if b n ≡ all_if b (n ∷ [])
+unfolding once_if all_if
+once_all true n = refl
+once_all false n = refl
+
 -- Each pool under p stands exactly once among the pools of its run order, and no other pool does.
 pub order_once : {T : Type 0} (ps : Pools T) → IsPoolMap ps → (n depth p : ℕ) → ps.next ≤ depth + p → is_live ps p ≡ true
     → filter (λ m. m == n) (order_within depth ps p) ≡ once_if (is_under ps p n) n
-unfolding order_within once_if
+unfolding order_within once_if all_if
 order_once ps formed n zero p deep live = absurd (omega (arith, formed.named p live))
 order_once ps formed n (suc depth) p deep live =
-    let each = λ (c : ℕ) (child : is_child ps p c ≡ true). order_once ps formed n depth c (omega (arith, child_above ps formed p c child)) (child_live ps formed p c child) in
+    let each = λ (c : ℕ) (child : is_child ps p c ≡ true). order_once ps formed n depth c (omega (arith, child_above ps formed p c child)) (child_live ps formed p c child) ∙ once_all (is_under ps c n) n in
     elim (cases_eq p n) [
       | inl here ↦
           let none = λ (c : ℕ) (child : is_child ps p c ≡ true). false_from_ne_true (is_under ps c n) (λ under. absurd (omega (arith, (under_child ps formed p c n child under).1))) in
           let under : is_under ps p n ≡ true = subst (λ k. is_under ps p k ≡ true) here (under_itself ps formed p live) in
           rw (
             filter-append (λ k. k == n) (flat_map (order_within depth ps) (children ps p)) (p ∷ []),
-            below_none ps p n (order_within depth ps) each none ps.next,
+            below_none ps p n (order_within depth ps) (λ k. k == n) (n ∷ []) each none ps.next,
             eq-eqb p n here,
             under,
             here,
@@ -231,15 +243,15 @@ order_once ps formed n (suc depth) p deep live =
           (elim (cases_Bool (is_under ps p n)) [
             | inl under ↦
                 let b = branch ps formed p n under (omega (arith, under_above ps formed p n under, apart)) in
-                rw (under, below_one ps p n (order_within depth ps) each b.0 b.1 ps.next, lt-ltb b.0 ps.next (formed.named b.0 (child_live ps formed p b.0 b.1.child)))
+                rw (under, below_one ps p n (order_within depth ps) (λ k. k == n) (n ∷ []) each b.0 b.1 ps.next, lt-ltb b.0 ps.next (formed.named b.0 (child_live ps formed p b.0 b.1.child)))
             | inr aside ↦
                 let none = λ (c : ℕ) (child : is_child ps p c ≡ true). false_from_ne_true (is_under ps c n) (λ under. both_ways (is_under ps p n) aside (under_child ps formed p c n child under).0) in
-                rw (aside, below_none ps p n (order_within depth ps) each none ps.next)
+                rw (aside, below_none ps p n (order_within depth ps) (λ k. k == n) (n ∷ []) each none ps.next)
           ])
     ]
 
 -- the children's pools do not hang on the depth where those of each child do not
-children_same : {T : Type 0} (ps : Pools T) (p : ℕ) (f g : ℕ → List ℕ) → ((c : ℕ) → is_child ps p c ≡ true → f c ≡ g c) → (m : ℕ)
+children_same : {T X : Type 0} (ps : Pools T) (p : ℕ) (f g : ℕ → List X) → ((c : ℕ) → is_child ps p c ≡ true → f c ≡ g c) → (m : ℕ)
     → flat_map f (children_below ps p m) ≡ flat_map g (children_below ps p m)
 unfolding children_below
 children_same ps p f g same zero = refl
@@ -284,19 +296,42 @@ order_is : {T : Type 0} (ps : Pools T) (p : ℕ) → order ps p ≡ order_within
 unfolding order
 order_is ps p = refl
 
-pub run_order-order : {T : Type 0} (ps : Pools T) (p : ℕ) → run_order ps p ≡ flat_map (own_run ps) (order ps p)
-unfolding run_order order
-run_order-order ps p = runs-order ps.next ps p
+-- a greater depth changes nothing
+pub turns_deep : {T : Type 0} (ps : Pools T) → IsPoolMap ps → (d e p : ℕ) → ps.next ≤ d + p → ps.next ≤ e + p → is_live ps p ≡ true
+    → turns_within d ps p ≡ turns_within e ps p
+unfolding turns_within
+turns_deep ps formed zero e p deep far live = absurd (omega (arith, formed.named p live))
+turns_deep ps formed (suc d) zero p deep far live = absurd (omega (arith, formed.named p live))
+turns_deep ps formed (suc d) (suc e) p deep far live =
+    ap (λ (xs : List Turn). (p, Pre) ∷ (xs ++ (p, Plain) ∷ [])) (children_same ps p (turns_within d ps) (turns_within e ps)
+    (λ c child. turns_deep ps formed d e c (omega (arith, child_above ps formed p c child)) (omega (arith, child_above ps formed p c child)) (child_live ps formed p c child))
+    ps.next)
 
-pub run_order_step : {T : Type 0} (ps : Pools T) → IsPoolMap ps → (p : ℕ) → is_live ps p ≡ true → run_order ps p ≡ flat_map (own_run ps) (order_under ps p) ++ own_run ps p
+pub turns_step : {T : Type 0} (ps : Pools T) → IsPoolMap ps → (p : ℕ) → is_live ps p ≡ true → turns ps p ≡ (p, Pre) ∷ (turns_under ps p ++ (p, Plain) ∷ [])
+unfolding turns turns_under turns_within
+turns_step ps formed p live = turns_deep ps formed ps.next (suc ps.next) p (omega arith) (omega arith) live
+
+pub run_order-turns : {T : Type 0} (ps : Pools T) (p : ℕ) → run_order ps p ≡ flat_map (turn_run ps) (turns ps p)
+unfolding run_order turns
+run_order-turns ps p = runs-turns ps.next ps p
+
+-- the run order of a pool, by its turns
+pub run_order_turns : {T : Type 0} (ps : Pools T) → IsPoolMap ps → (p : ℕ) → is_live ps p ≡ true
+    → run_order ps p ≡ turn_run ps (p, Pre) ++ (flat_map (turn_run ps) (turns_under ps p) ++ turn_run ps (p, Plain))
+run_order_turns ps formed p live =
+    rw (run_order-turns ps p, turns_step ps formed p live, flat_map-append (turn_run ps) (turns_under ps p) ((p, Plain) ∷ []), append-nil (turn_run ps (p, Plain))) refl
+
+pub run_order_step : {T : Type 0} (ps : Pools T) → IsPoolMap ps → (p : ℕ) → is_live ps p ≡ true
+    → run_order ps p ≡ pre_run ps p ++ (flat_map (turn_run ps) (turns_under ps p) ++ own_run ps p)
+unfolding turn_run pre_run own_run
 run_order_step ps formed p live =
-    rw (run_order-order ps p, order_step ps formed p live, flat_map-append (own_run ps) (order_under ps p) (p ∷ []), append-nil (own_run ps p))
+    run_order_turns ps formed p live
 
 -- A greater depth changes nothing: the run order is that down to any depth that is deep enough.
 pub run_deep : {T : Type 0} (ps : Pools T) → IsPoolMap ps → (depth p : ℕ) → ps.next ≤ depth + p → is_live ps p ≡ true → runs_within depth ps p ≡ run_order ps p
 unfolding run_order
 run_deep ps formed depth p deep live =
-    rw (runs-order depth ps p, runs-order ps.next ps p, order_deep ps formed depth ps.next p deep (omega arith) live)
+    rw (runs-turns depth ps p, runs-turns ps.next ps p, turns_deep ps formed depth ps.next p deep (omega arith) live)
 
 -- each pool under p but p itself stands exactly once
 pub order_under_once : {T : Type 0} (ps : Pools T) → IsPoolMap ps → (n p : ℕ) → is_live ps p ≡ true
@@ -316,6 +351,55 @@ order_under_once ps formed n p live =
           rw (ne_eqb n p (λ e. apart (sym e))) (elim (cases_Bool (is_under ps p n)) [ inl e ↦ (let now = rw e at all in rw e now) | inr e ↦ (let now = rw e at all in rw e now) ])
     ]
 
+-- Each pool under p has its two turns once, that before its subpools first, and no other pool has any.
+pub turns_once : {T : Type 0} (ps : Pools T) → IsPoolMap ps → (n depth p : ℕ) → ps.next ≤ depth + p → is_live ps p ≡ true
+    → filter (turns_at n) (turns_within depth ps p) ≡ all_if (is_under ps p n) (both_turns n)
+unfolding turns_within all_if
+turns_once ps formed n zero p deep live = absurd (omega (arith, formed.named p live))
+turns_once ps formed n (suc depth) p deep live =
+    let each = λ (c : ℕ) (child : is_child ps p c ≡ true). turns_once ps formed n depth c (omega (arith, child_above ps formed p c child)) (child_live ps formed p c child) in
+    let below : List Turn = flat_map (turns_within depth ps) (children ps p) in
+    elim (cases_eq p n) [
+      | inl here ↦
+          let none = λ (c : ℕ) (child : is_child ps p c ≡ true). false_from_ne_true (is_under ps c n) (λ under. absurd (omega (arith, (under_child ps formed p c n child under).1))) in
+          let under : is_under ps p n ≡ true = subst (λ k. is_under ps p k ≡ true) here (under_itself ps formed p live) in
+          rw (eq-eqb p n here, filter-append (turns_at n) below ((p, Plain) ∷ []), eq-eqb p n here, below_none ps p n (turns_within depth ps) (turns_at n) (both_turns n) each none ps.next, under)
+          (ap both_turns here)
+      | inr apart ↦
+          rw (ne_eqb p n apart, filter-append (turns_at n) below ((p, Plain) ∷ []), ne_eqb p n apart, append-nil (filter (turns_at n) below))
+          (elim (cases_Bool (is_under ps p n)) [
+            | inl under ↦
+                let b = branch ps formed p n under (omega (arith, under_above ps formed p n under, apart)) in
+                rw (under, below_one ps p n (turns_within depth ps) (turns_at n) (both_turns n) each b.0 b.1 ps.next, lt-ltb b.0 ps.next (formed.named b.0 (child_live ps formed p b.0 b.1.child)))
+            | inr aside ↦
+                let none = λ (c : ℕ) (child : is_child ps p c ≡ true). false_from_ne_true (is_under ps c n) (λ under. both_ways (is_under ps p n) aside (under_child ps formed p c n child under).0) in
+                rw (aside, below_none ps p n (turns_within depth ps) (turns_at n) (both_turns n) each none ps.next)
+          ])
+    ]
+
+-- each pool under p but p itself has its two turns once
+pub turns_under_once : {T : Type 0} (ps : Pools T) → IsPoolMap ps → (n p : ℕ) → is_live ps p ≡ true
+    → filter (turns_at n) (turns_under ps p) ≡ all_if (is_under ps p n && not (n == p)) (both_turns n)
+unfolding turns turns_under all_if
+turns_under_once ps formed n p live =
+    let each = λ (c : ℕ) (child : is_child ps p c ≡ true). turns_once ps formed n ps.next c (omega arith) (child_live ps formed p c child) in
+    elim (cases_eq p n) [
+      | inl here ↦
+          let none = λ (c : ℕ) (child : is_child ps p c ≡ true). false_from_ne_true (is_under ps c n) (λ under. absurd (omega (arith, (under_child ps formed p c n child under).1))) in
+          rw (eq-eqb n p (sym here), below_none ps p n (turns ps) (turns_at n) (both_turns n) each none ps.next)
+          (elim (cases_Bool (is_under ps p n)) [ inl e ↦ rw e refl | inr e ↦ rw e refl ])
+      | inr apart ↦
+          rw (ne_eqb n p (λ e. apart (sym e)))
+          (elim (cases_Bool (is_under ps p n)) [
+            | inl under ↦
+                let b = branch ps formed p n under (omega (arith, under_above ps formed p n under, apart)) in
+                rw (under, below_one ps p n (turns ps) (turns_at n) (both_turns n) each b.0 b.1 ps.next, lt-ltb b.0 ps.next (formed.named b.0 (child_live ps formed p b.0 b.1.child)))
+            | inr aside ↦
+                let none = λ (c : ℕ) (child : is_child ps p c ≡ true). false_from_ne_true (is_under ps c n) (λ under. both_ways (is_under ps p n) aside (under_child ps formed p c n child under).0) in
+                rw (aside, below_none ps p n (turns ps) (turns_at n) (both_turns n) each none ps.next)
+          ])
+    ]
+
 -- whether an entry of a run order is of the pool n
 abbrev pub is_of : {T : Type 0} → ℕ → ℕ × T → Bool
 is_of n entry = entry.0 == n
@@ -328,22 +412,46 @@ own_filter_no : {T : Type 0} (n p : ℕ) → (p ≡ n → ⊥) → (xs : List T)
 own_filter_no n p apart [] = refl
 own_filter_no n p apart (x ∷ xs) = rw (ne_eqb p n apart) (own_filter_no n p apart xs)
 
-own_runs_filter : {T : Type 0} (ps : Pools T) (n : ℕ) (names : List ℕ) → filter (is_of n) (flat_map (own_run ps) names) ≡ flat_map (own_run ps) (filter (λ m. m == n) names)
-unfolding own_run
-own_runs_filter ps n [] = refl
-own_runs_filter ps n (m ∷ names) =
-    elim (cases_eq m n) [
-      | inl here ↦ rw (filter-append (is_of n) (own_run ps m) (flat_map (own_run ps) names), own_filter_yes n m here (reverse (ps.payloads m)), eq-eqb m n here)
-          (ap (λ es. own_run ps m ++ es) (own_runs_filter ps n names))
-      | inr apart ↦ rw (filter-append (is_of n) (own_run ps m) (flat_map (own_run ps) names), own_filter_no n m apart (reverse (ps.payloads m)), ne_eqb m n apart)
-          (own_runs_filter ps n names)
+-- what a pool hands on, before and behind its children
+pub whole_run : {T : Type 0} → Pools T → ℕ → List (ℕ × T)
+whole_run ps n = pre_run ps n ++ own_run ps n
+
+own_of_one : {T : Type 0} (n p : ℕ) (pre own : List T) → p ≡ n
+    → filter (is_of n) (map (λ x. (p, x)) pre ++ map (λ x. (p, x)) own) ≡ map (λ x. (p, x)) pre ++ map (λ x. (p, x)) own
+own_of_one n p pre own here = filter-append (is_of n) (map (λ x. (p, x)) pre) (map (λ x. (p, x)) own) ∙ rw (own_filter_yes n p here pre, own_filter_yes n p here own) refl
+
+-- Each payload under p stands exactly once in the run order of p: of each pool under p there are its pre-payloads, last first, and then
+-- its plain ones, last first, and of no other pool is there any.
+runs_once : {T : Type 0} (ps : Pools T) → IsPoolMap ps → (n depth p : ℕ) → ps.next ≤ depth + p → is_live ps p ≡ true
+    → filter (is_of n) (runs_within depth ps p) ≡ all_if (is_under ps p n) (whole_run ps n)
+unfolding runs_within all_if whole_run pre_run own_run
+runs_once ps formed n zero p deep live = absurd (omega (arith, formed.named p live))
+runs_once {T} ps formed n (suc depth) p deep live =
+    let each = λ (c : ℕ) (child : is_child ps p c ≡ true). runs_once ps formed n depth c (omega (arith, child_above ps formed p c child)) (child_live ps formed p c child) in
+    let pre : List (ℕ × T) = map (λ (x : T). (p, x)) (reverse (ps.payloads p).pre) in
+    let own : List (ℕ × T) = map (λ (x : T). (p, x)) (reverse (ps.payloads p).plain) in
+    let below : List (ℕ × T) = flat_map (runs_within depth ps) (children ps p) in
+    let parts : filter (is_of n) (pre ++ (below ++ own)) ≡ filter (is_of n) pre ++ (filter (is_of n) below ++ filter (is_of n) own)
+    = filter-append (is_of n) pre (below ++ own) ∙ ap (λ xs. filter (is_of n) pre ++ xs) (filter-append (is_of n) below own) in
+    parts ∙ elim (cases_eq p n) [
+      | inl here ↦
+          let none = λ (c : ℕ) (child : is_child ps p c ≡ true). false_from_ne_true (is_under ps c n) (λ under. absurd (omega (arith, (under_child ps formed p c n child under).1))) in
+          let under : is_under ps p n ≡ true = subst (λ k. is_under ps p k ≡ true) here (under_itself ps formed p live) in
+          rw (own_filter_yes n p here (reverse (ps.payloads p).pre), own_filter_yes n p here (reverse (ps.payloads p).plain), below_none ps p n (runs_within depth ps) (is_of n) (whole_run ps n) each none ps.next, under)
+          (ap (λ (k : ℕ). map (λ (x : T). (k, x)) (reverse (ps.payloads k).pre) ++ map (λ (x : T). (k, x)) (reverse (ps.payloads k).plain)) here)
+      | inr apart ↦
+          rw (own_filter_no n p apart (reverse (ps.payloads p).pre), own_filter_no n p apart (reverse (ps.payloads p).plain), append-nil (filter (is_of n) below))
+          (elim (cases_Bool (is_under ps p n)) [
+            | inl under ↦
+                let b = branch ps formed p n under (omega (arith, under_above ps formed p n under, apart)) in
+                rw (under, below_one ps p n (runs_within depth ps) (is_of n) (whole_run ps n) each b.0 b.1 ps.next, lt-ltb b.0 ps.next (formed.named b.0 (child_live ps formed p b.0 b.1.child)))
+            | inr aside ↦
+                let none = λ (c : ℕ) (child : is_child ps p c ≡ true). false_from_ne_true (is_under ps c n) (λ under. both_ways (is_under ps p n) aside (under_child ps formed p c n child under).0) in
+                rw (aside, below_none ps p n (runs_within depth ps) (is_of n) (whole_run ps n) each none ps.next)
+          ])
     ]
 
--- Each payload under p stands exactly once in the run order of p: of each pool under p there are its payloads, last
--- first, and of no other pool is there any.
 pub run_order_once : {T : Type 0} (ps : Pools T) → IsPoolMap ps → (n p : ℕ) → is_live ps p ≡ true
-    → filter (is_of n) (run_order ps p) ≡ (if is_under ps p n then own_run ps n else [])
-unfolding once_if order
-run_order_once ps formed n p live =
-    rw (run_order-order ps p, own_runs_filter ps n (order ps p), order_once ps formed n ps.next p (omega arith) live)
-    (elim (cases_Bool (is_under ps p n)) [ inl e ↦ rw (e, append-nil (own_run ps n)) | inr e ↦ rw e ])
+    → filter (is_of n) (run_order ps p) ≡ (if is_under ps p n then pre_run ps n ++ own_run ps n else [])
+unfolding run_order all_if whole_run
+run_order_once ps formed n p live = runs_once ps formed n ps.next p (omega arith) live ∙ elim (cases_Bool (is_under ps p n)) [ inl e ↦ rw e refl | inr e ↦ rw e refl ]

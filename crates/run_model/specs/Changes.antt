@@ -4,7 +4,7 @@ use Rattle.run_model.specs.declared.effect.Effect.{Effect}
 use Rattle.run_model.specs.declared.effect.Effect.TheVariants as effect
 
 pub data Extent : Type 0 where
-  -- single buckets, cursors, numbers and the buffer, or nothing
+  -- single buckets, cursors, numbers and the buffer, that the instance left, or nothing
   OnBuckets : Extent
   -- single buckets, and what a pool holds
   OnBucketsAndPools : Extent
@@ -23,7 +23,7 @@ abbrev pub extent : Effect → Extent
 extent effect.Nothing = OnBuckets
 extent (effect.MakePool q) = OnPools
 extent (effect.EmptyPool k q) = OnAllUnder
-extent (effect.Register q t) = OnPools
+extent (effect.Register k q t) = OnPools
 extent (effect.Kill q t) = OnPools
 extent (effect.MakeBrigade o) = OnBrigadesAndPools
 extent (effect.Clean b) = OnBrigades
@@ -45,6 +45,7 @@ extent (effect.Read c) = OnBuckets
 extent (effect.Number n number) = OnBuckets
 extent (effect.Put x) = OnBuckets
 extent effect.ClearBuffer = OnBuckets
+extent effect.Leave = OnBuckets
 extent effect.Return = OnCall
 
 -- whether the pool map is in it

@@ -4,7 +4,7 @@ use Rattle.std.specs.List.{list_any}
 use Rattle.std.specs.Str.{bytes_eq}
 use Rattle.run_model.specs.declared.payload.Payload.{Payload}
 use Rattle.run_model.specs.Indexed.{upd, any_below}
-use Rattle.run_model.specs.Pools.{Pools}
+use Rattle.run_model.specs.Pools.{Pools, all_held}
 use Rattle.run_model.specs.Payloads.{is_file_ref}
 use Rattle.run_model.specs.Cutting.{read_limit}
 
@@ -28,7 +28,7 @@ file_opened name fs = record fs { opened = upd fs.opened fs.next (fs.named name)
 
 -- whether a pool holds a reference to the file
 abbrev pub is_referred : Pools Payload → ℕ → Bool
-is_referred ps file = any_below ps.next (λ p. list_any (is_file_ref file) (ps.payloads p))
+is_referred ps file = any_below ps.next (λ p. list_any (is_file_ref file) (all_held (ps.payloads p)))
 
 -- A file closes where its last reference is handed on by a clear, which left these pools.
 abbrev pub let_go : List (ℕ × Payload) → Pools Payload → Files → Files

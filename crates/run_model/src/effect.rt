@@ -14,6 +14,15 @@ pub enum ClearKind {
     Destroy,
 }
 
+/// When a cleanup of a pool runs.
+#[derive(Clone, Copy)]
+pub enum CleanupKind {
+    /// After those of the pools under it (apr_pool_cleanup_register).
+    Plain,
+    /// Before them (apr_pool_pre_cleanup_register).
+    Pre,
+}
+
 /// What a bucket is made from.
 #[derive(Clone, Copy)]
 pub enum MadeFrom {
@@ -68,8 +77,8 @@ pub enum Effect {
     MakePool(u8),
     /// The pool in this variable is cleared or destroyed.
     EmptyPool(ClearKind, u8),
-    /// The cleanup of a text is registered on a pool (apr_pool_cleanup_register).
-    Register(PoolRef, u8),
+    /// The cleanup of a text is registered on a pool.
+    Register(CleanupKind, PoolRef, u8),
     /// It is killed (apr_pool_cleanup_kill).
     Kill(PoolRef, u8),
     /// A brigade is made in this variable (apr_brigade_create).
@@ -112,6 +121,8 @@ pub enum Effect {
     Put(Value),
     /// The buffer is emptied.
     ClearBuffer,
+    /// The instance takes itself out of its chain (ap_remove_output_filter).
+    Leave,
     /// The call ends.
     Return,
 }
@@ -169,8 +180,9 @@ pub fn effect_of(instr: Instr) -> Effect
         Instr::PCreate(q) => Effect::MakePool(q),
         Instr::PClear(q) => Effect::EmptyPool(ClearKind::Clear, q),
         Instr::PDestroy(q) => Effect::EmptyPool(ClearKind::Destroy, q),
-        Instr::Label(q, t) => Effect::Register(q, t),
+        Instr::Label(q, t) => Effect::Register(CleanupKind::Plain, q, t),
         Instr::Unlabel(q, t) => Effect::Kill(q, t),
+        Instr::PreLabel(q, t) => Effect::Register(CleanupKind::Pre, q, t),
         Instr::BCreate(o) => Effect::MakeBrigade(o),
         Instr::BClean(b) => Effect::Clean(b),
         Instr::BConcat(a, b) => Effect::Concat(a, b),
@@ -211,6 +223,7 @@ pub fn effect_of(instr: Instr) -> Effect
         | Instr::JNull(_, _)
         | Instr::JSent(_)
         | Instr::Jump(_) => Effect::Nothing,
+        Instr::Leave => Effect::Leave,
         Instr::Ret(_) => Effect::Return,
     }
 }

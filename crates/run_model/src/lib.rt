@@ -13,7 +13,8 @@ pub use bucket::{
     Brigade, BrigadeVar, Bucket, Content, Cursor, Home, Kind, Mark, NamedBucket, PoolVar,
 };
 pub use effect::{
-    Branch, ClearKind, Condition, Effect, MadeFrom, NewNumber, Side, branch_of, effect_of,
+    Branch, CleanupKind, ClearKind, Condition, Effect, MadeFrom, NewNumber, Side, branch_of,
+    effect_of,
 };
 pub use event::{Cause, Event, Exit, Piece, Refusal, StepRefusal, Stepped};
 pub use fault::FaultKind;

@@ -151,9 +151,10 @@ pub fn wants(code: &Module, instr: Instr) -> Wanted
     match instr {
         Instr::PCreate(q) => two(Want::Pool(code.pool_parent(q)), Want::NewPool(q)),
         Instr::PClear(q) | Instr::PDestroy(q) => one(Want::Pool(PoolRef::Own(q))),
-        Instr::Label(pool, _) | Instr::Unlabel(pool, _) | Instr::PoolB(_, pool) => one(Want::Pool(
-            pool,
-        )),
+        Instr::Label(pool, _)
+        | Instr::Unlabel(pool, _)
+        | Instr::PreLabel(pool, _)
+        | Instr::PoolB(_, pool) => one(Want::Pool(pool)),
         Instr::BCreate(o) => two(Want::Pool(code.brigade_pool(o)), Want::New(o)),
         Instr::BClean(b) => one(Want::Brigade(b)),
         Instr::BConcat(a, b) => two(Want::Usable(a), Want::Usable(b)),
@@ -204,6 +205,7 @@ pub fn wants(code: &Module, instr: Instr) -> Wanted
         | Instr::JEq(_, _, _)
         | Instr::JNull(_, _)
         | Instr::JSent(_)
+        | Instr::Leave
         | Instr::Jump(_) => nothing(),
     }
 }

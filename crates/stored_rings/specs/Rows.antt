@@ -67,5 +67,5 @@ pub record BucketChanges : Type 0 where
   pub above_aside : put_aside 2 (range 1 5 10) ≡ (a, range 1 5 10) ∷ (b, eos) ∷ []
   pub above_refers : file_for pools 2 (range 1 5 10) ≡ None
   pub file_aside : put_aside 1 (range 2 5 10) ≡ (a, range 1 5 10) ∷ (b, eos) ∷ []
-  pub file_refers : (pools_for 1 (file_for pools 1 (range 2 5 10)) pools).payloads 1 ≡ FileRef 1 ∷ []
+  pub file_refers : (pools_for 1 (file_for pools 1 (range 2 5 10)) pools).payloads 1 ≡ record { pre = []; plain = FileRef 1 ∷ [] }
   pub file_counted : count_for 1 (file_for pools 1 (range 2 5 10)) 0 ≡ 1

@@ -275,3 +275,29 @@ bclean b0
 ret fail
 end
 ";
+
+/// Puts a letter in front of the first brigade of a request, and leaves.
+pub(crate) const LEAVER: &[u8] = b"module 1
+brigade b0 req
+open
+ret ok
+init
+bcreate b0
+ret ok
+main
+jsent drop
+heap c0 \"x\"
+tail b0 c0
+bconcat b0 in
+leave
+pass b0 bad
+bclean b0
+ret ok
+:bad
+bclean b0
+ret fail
+:drop
+bclean in
+ret ok
+end
+";

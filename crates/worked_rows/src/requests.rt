@@ -1,6 +1,6 @@
 //! Rows of requests.
 
-use crate::modules::{FAILING, IDENTITY, POOL_BYTES};
+use crate::modules::{FAILING, IDENTITY, LEAVER, POOL_BYTES};
 use crate::pages::{BUDGET, MOMENT, Server, answers, show};
 use anyhow::Result;
 use filter_chain::{Rings, Stored};
@@ -140,6 +140,12 @@ const OTHERS: &[(Other, &str, Stream)] = &[
         Other::Module(POOL_BYTES),
         "a filter that passes on bytes of its own, of an empty file",
         Stream::Asks("GET", "/e", 0),
+    ),
+    // The second brigade of a file goes past a filter that left at the first.
+    (
+        Other::Module(LEAVER),
+        "a filter that puts a letter in front and leaves, of 65537 bytes",
+        Stream::Asks("GET", "/l", 0),
     ),
     // After the year 9999 there is no Date.
     (

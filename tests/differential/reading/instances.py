@@ -34,6 +34,7 @@ class Instance:
         self.numbers = [0] * 8
         self.brigades = {}
         self.sent = False                # it passed an EOS in this request
+        self.has_left = False            # it took itself out of the chain in this request
         self.call = None
         self.brought = None              # the brigade `in` of the call
         self.loose = Brigade()           # the loose buckets of the call
@@ -45,7 +46,7 @@ class Instance:
         self.call = Call(self.pools.name('call'), self.module.start[handler])
         self.brought = None if buckets is None else Brigade(buckets=buckets)
 
-    def leave(self):
+    def finish(self):
         """The call is over. Gives the buckets that are left in `in`."""
         left = self.brought.buckets if self.brought else []
         self.call, self.brought, self.loose = None, None, Brigade()

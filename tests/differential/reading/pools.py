@@ -42,10 +42,11 @@ class Brigade:
 
 
 class Pool:
-    """A pool with its payloads, the oldest first: ('label', text), ('brigade', name) or ('file', number)."""
+    """A pool with its payloads, the oldest first: ('label', text), ('brigade', name) or ('file', number); and apart from them those
+    that run before the payloads of the pools under it."""
 
     def __init__(self, parent):
-        self.parent, self.payloads = parent, []
+        self.parent, self.payloads, self.pre = parent, [], []
 
 
 class OpenFile:
@@ -120,7 +121,7 @@ class Pools:
 
     def run_order(self, pool):
         """The payloads at and under a pool in the order in which a clear runs them."""
-        order = []
+        order = self.tree[pool].pre[::-1]
         for child in reversed(self.children(pool)):
             order += self.run_order(child)
         return order + self.tree[pool].payloads[::-1]
@@ -134,14 +135,17 @@ class Pools:
         labels = [value for kind, value in payloads if kind == 'label']
         if len(labels) > 1:
             arose('clear with two or more labels')
-        self.tree[pool].payloads = []
+        if any(self.tree[name].pre for name in gone):
+            arose('clear with a pre-cleanup' + (', below the pool too' if any(self.tree[name].pre for name in gone - {pool}) else ''))
+        self.tree[pool].payloads, self.tree[pool].pre = [], []
         for name in gone:
             if name != pool or destroy:
                 del self.tree[name]
         return labels
 
     def show(self, pool=ROOT, depth=0):
-        """A line for each pool at and under a pool, with its labels."""
-        labels = [value for kind, value in self.tree[pool].payloads if kind == 'label']
-        line = '  ' * depth + ' '.join(['pool %d' % (pool + self.first - 1)] + [show_text(label) for label in labels]) + '\n'
+        """A line for each pool at and under a pool, with its labels, those that run before all under it in front."""
+        labels = ['^' + show_text(value) for _, value in self.tree[pool].pre]
+        labels += [show_text(value) for kind, value in self.tree[pool].payloads if kind == 'label']
+        line = '  ' * depth + ' '.join(['pool %d' % (pool + self.first - 1)] + labels) + '\n'
         return line + ''.join(self.show(child, depth + 1) for child in self.children(pool))

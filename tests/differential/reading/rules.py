@@ -187,7 +187,10 @@ class Rule:
         self.pool(pool)
         return self.next(self.state)
 
-    rule_unlabel = rule_label
+    rule_unlabel = rule_prelabel = rule_label
+
+    def rule_leave(self):
+        return self.next(self.state)
 
     def rule_jnull(self, variable, label):
         letter, index = variable

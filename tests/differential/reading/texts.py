@@ -15,11 +15,11 @@ U32 = 2 ** 32 - 1
 # brigade, C a cursor, K a kind, N a number variable, X one or a constant, T a text, L a label, S a status.
 OPERANDS = {
     'pcreate': 'Q', 'pclear': 'Q', 'pdestroy': 'Q',
-    'label': 'PT', 'unlabel': 'PT',
+    'label': 'PT', 'unlabel': 'PT', 'prelabel': 'PT',
     'jnull': 'VL',
     'bcreate': 'O', 'bclean': 'B', 'bconcat': 'BB', 'bsave': 'OB',
     'bsplit': 'BCB', 'bpart': 'BXCL',
-    'jempty': 'BL', 'pass': 'BL', 'jsent': 'L',
+    'jempty': 'BL', 'pass': 'BL', 'jsent': 'L', 'leave': '',
     'first': 'CB', 'next': 'CC', 'jend': 'CL', 'jkind': 'CKL',
     'unlink': 'C', 'bdelete': 'C',
     'tail': 'BC', 'head': 'BC', 'before': 'CC',
@@ -35,6 +35,7 @@ OPERANDS = {
 }
 KINDS = ('heap', 'transient', 'immortal', 'pool', 'file', 'flush', 'eos', 'data')
 HANDLERS = ('open', 'init', 'main')
+ONLY_IN_MAIN = ('pass', 'leave')
 STRUCTURE = {'module', 'pool', 'brigade', 'end', ':'}.union(HANDLERS)
 # The words of structure that are due after what was read last; within a handler labels and instructions are too.
 DUE = {
@@ -295,7 +296,7 @@ class Reader:
             codes.add(4)
         if are_one_brigade(kinds, words):
             codes.add(4)
-        if first == 'pass' and handler != 'main':
+        if first in ONLY_IN_MAIN and handler != 'main':
             codes.add(9)
         return [self.operand(kind, word, handler, codes) for kind, word in zip(kinds, words)]
 

@@ -27,7 +27,7 @@ use Rattle.run_model.specs.Faults.{fault, has_pool_at, is_stray, keeps_stray, cu
 use Rattle.run_model.specs.Files.{no_files}
 use Rattle.run_model.specs.Indexed.{upd, any_below}
 use Rattle.run_model.specs.Passing.{set_in}
-use Rattle.run_model.specs.Pools.{is_in, is_live, is_under, created, planted, registered}
+use Rattle.run_model.specs.Pools.{is_in, is_live, is_under, created, planted, registered_as}
 use Rattle.run_model.specs.Sound.{sum_below, count_named, count, brigade_name}
 use Rattle.run_model.specs.State.{Configuration, fresh_instance, fresh_call, items_of, pool_named, named_at, is_own_at, set_pool, with_pools, set_brigade, set_number, set_cursor, set_loose}
 use Rattle.run_model.specs.Steps.{current, lacks_names, is_spent}
@@ -191,13 +191,13 @@ cleans_at_last = record main_call { phase = Broken }
 from_main : IsOpenRun never_creates (rests_after second_call.now) (Main [] ∷ (Execute None ∷ [])) (Done ∷ (Faults F2 ∷ [])) cleans_at_last
 unfolding IsOpenRun IsMove executed current planted created upd is_spent lacks_names is_live is_under any_below named_at is_own_at has_pool_at is_stray keeps_stray cursor_fault
     place_of_cursor holder_of
-    variable_of found_below buckets_before buckets_from set_brigade set_cursor set_loose set_pool set_number with_pools with_brigade registered pool_of_brigade pool_of_pool
+    variable_of found_below buckets_before buckets_from set_brigade set_cursor set_loose set_pool set_number with_pools with_brigade registered_as pool_of_brigade pool_of_pool
 from_main = (main_call, (refl, main_begins), ends never_creates (instr.BClean 0) main_call F2 refl refl refl)
 
 from_init : IsOpenRun never_creates (request_after first_call.now) (Start ∷ (Execute None ∷ (Main [] ∷ (Execute None ∷ [])))) (Done ∷ (Returns Success [] ∷ (Done ∷ (Faults F2 ∷ [])))) cleans_at_last
 unfolding IsOpenRun IsMove executed current planted created upd is_spent lacks_names is_live is_under any_below named_at is_own_at has_pool_at is_stray keeps_stray cursor_fault
     place_of_cursor holder_of
-    variable_of found_below buckets_before buckets_from set_brigade set_cursor set_loose set_pool set_number with_pools with_brigade registered pool_of_brigade pool_of_pool
+    variable_of found_below buckets_before buckets_from set_brigade set_cursor set_loose set_pool set_number with_pools with_brigade registered_as pool_of_brigade pool_of_pool
 from_init = (
   second_call,
   (refl, record { phase = refl; name = 2; next = 3; named = record { new = omega arith; given = omega arith; limit = omega arith }; is = refl }),
@@ -208,14 +208,14 @@ from_request : IsOpenRun never_creates (rests_after first_call.now) (Begin ∷ (
     (Done ∷ (Done ∷ (Returns Success [] ∷ (Done ∷ (Faults F2 ∷ []))))) cleans_at_last
 unfolding IsOpenRun IsMove executed current planted created upd is_spent lacks_names is_live is_under any_below named_at is_own_at has_pool_at is_stray keeps_stray cursor_fault
     place_of_cursor holder_of
-    variable_of found_below buckets_before buckets_from set_brigade set_cursor set_loose set_pool set_number with_pools with_brigade registered pool_of_brigade pool_of_pool
+    variable_of found_below buckets_before buckets_from set_brigade set_cursor set_loose set_pool set_number with_pools with_brigade registered_as pool_of_brigade pool_of_pool
 from_request = (request_after first_call.now, (refl, record { phase = refl; none = refl; names = refl; is = refl }), from_init)
 
 cleans_none_run : IsOpenRun never_creates (record { phase = Due; lasting = none_lasts; now = opened }) (Start ∷ (Execute None ∷ (Begin ∷ (Start ∷ (Execute None ∷ (Main [] ∷ (Execute None ∷ [])))))))
     (Done ∷ (Returns Success [] ∷ (Done ∷ (Done ∷ (Returns Success [] ∷ (Done ∷ (Faults F2 ∷ []))))))) cleans_at_last
 unfolding IsOpenRun IsMove executed current planted created upd is_spent lacks_names is_live is_under any_below named_at is_own_at has_pool_at is_stray keeps_stray cursor_fault
     place_of_cursor holder_of
-    variable_of found_below buckets_before buckets_from set_brigade set_cursor set_loose set_pool set_number with_pools with_brigade registered pool_of_brigade pool_of_pool
+    variable_of found_below buckets_before buckets_from set_brigade set_cursor set_loose set_pool set_number with_pools with_brigade registered_as pool_of_brigade pool_of_pool
 cleans_none_run = (
   first_call,
   (refl, record { phase = refl; name = 1; next = 2; named = record { new = omega arith; given = omega arith; limit = omega arith }; is = refl }),
@@ -274,7 +274,7 @@ none_at y e = cc
 two_is_others : IsOthers (do_return beginning.now) 2
 unfolding IsOpenRun IsMove executed current planted created upd is_spent lacks_names is_live is_under any_below named_at is_own_at has_pool_at is_stray keeps_stray cursor_fault
     place_of_cursor holder_of
-    variable_of found_below buckets_before buckets_from set_brigade set_cursor set_loose set_pool set_number with_pools with_brigade registered pool_of_brigade pool_of_pool
+    variable_of found_below buckets_before buckets_from set_brigade set_cursor set_loose set_pool set_number with_pools with_brigade registered_as pool_of_brigade pool_of_pool
 two_is_others = record {
   live = refl;
   above = λ k n e. by_ref k n e;
@@ -298,7 +298,7 @@ LentMayCome x = may_come (record { calls = 4 ∷ []; pools = 2 ∷ [] }) (do_ret
 serving_begins : Calls keeps_a_file (lent ∷ []) (rests_after beginning.now) serving
 unfolding IsOpenRun IsMove executed current planted created upd is_spent lacks_names is_live is_under any_below named_at is_own_at has_pool_at is_stray keeps_stray cursor_fault
     place_of_cursor holder_of
-    variable_of found_below buckets_before buckets_from set_brigade set_cursor set_loose set_pool set_number with_pools with_brigade registered pool_of_brigade pool_of_pool Fine AllFine
+    variable_of found_below buckets_before buckets_from set_brigade set_cursor set_loose set_pool set_number with_pools with_brigade registered_as pool_of_brigade pool_of_pool Fine AllFine
 serving_begins = record {
   phase = refl;
   request = refl;
@@ -345,31 +345,31 @@ keeps_at_last = record kept_there { phase = Broken }
 keeps_5 : IsOpenRun keeps_a_file kept_there (Execute None ∷ []) (Faults F6 ∷ []) keeps_at_last
 unfolding IsOpenRun IsMove executed current planted created upd is_spent lacks_names is_live is_under any_below named_at is_own_at has_pool_at is_stray keeps_stray cursor_fault
     place_of_cursor holder_of
-    variable_of found_below buckets_before buckets_from set_brigade set_cursor set_loose set_pool set_number with_pools with_brigade registered pool_of_brigade pool_of_pool
+    variable_of found_below buckets_before buckets_from set_brigade set_cursor set_loose set_pool set_number with_pools with_brigade registered_as pool_of_brigade pool_of_pool
 keeps_5 = ends keeps_a_file (instr.Ret Success) kept_there F6 refl refl refl
 
 keeps_4 : IsOpenRun keeps_a_file taken (Execute None ∷ (Execute None ∷ [])) (Done ∷ (Faults F6 ∷ [])) keeps_at_last
 unfolding IsOpenRun IsMove executed current planted created upd is_spent lacks_names is_live is_under any_below named_at is_own_at has_pool_at is_stray keeps_stray cursor_fault
     place_of_cursor holder_of
-    variable_of found_below buckets_before buckets_from set_brigade set_cursor set_loose set_pool set_number with_pools with_brigade registered pool_of_brigade pool_of_pool
+    variable_of found_below buckets_before buckets_from set_brigade set_cursor set_loose set_pool set_number with_pools with_brigade registered_as pool_of_brigade pool_of_pool
 keeps_4 = goes keeps_a_file (instr.Tail 0 0) taken keeps_at_last (Execute None ∷ []) (Faults F6 ∷ []) refl refl refl refl keeps_5
 
 keeps_3 : IsOpenRun keeps_a_file at_kind (Execute None ∷ (Execute None ∷ (Execute None ∷ []))) (Done ∷ (Done ∷ (Faults F6 ∷ []))) keeps_at_last
 unfolding IsOpenRun IsMove executed current planted created upd is_spent lacks_names is_live is_under any_below named_at is_own_at has_pool_at is_stray keeps_stray cursor_fault
     place_of_cursor holder_of
-    variable_of found_below buckets_before buckets_from set_brigade set_cursor set_loose set_pool set_number with_pools with_brigade registered pool_of_brigade pool_of_pool
+    variable_of found_below buckets_before buckets_from set_brigade set_cursor set_loose set_pool set_number with_pools with_brigade registered_as pool_of_brigade pool_of_pool
 keeps_3 = goes keeps_a_file (instr.Unlink 0) at_kind keeps_at_last (Execute None ∷ (Execute None ∷ [])) (Done ∷ (Faults F6 ∷ [])) refl refl refl refl keeps_4
 
 keeps_2 : IsOpenRun keeps_a_file at_end_test (Execute None ∷ (Execute None ∷ (Execute None ∷ (Execute None ∷ [])))) (Done ∷ (Done ∷ (Done ∷ (Faults F6 ∷ [])))) keeps_at_last
 unfolding IsOpenRun IsMove executed current planted created upd is_spent lacks_names is_live is_under any_below named_at is_own_at has_pool_at is_stray keeps_stray cursor_fault
     place_of_cursor holder_of
-    variable_of found_below buckets_before buckets_from set_brigade set_cursor set_loose set_pool set_number with_pools with_brigade registered pool_of_brigade pool_of_pool
+    variable_of found_below buckets_before buckets_from set_brigade set_cursor set_loose set_pool set_number with_pools with_brigade registered_as pool_of_brigade pool_of_pool
 keeps_2 = goes keeps_a_file (instr.JKind 0 File 7) at_end_test keeps_at_last (Execute None ∷ (Execute None ∷ (Execute None ∷ []))) (Done ∷ (Done ∷ (Faults F6 ∷ []))) refl refl refl refl keeps_3
 
 keeps_1 : IsOpenRun keeps_a_file at_first (Execute None ∷ (Execute None ∷ (Execute None ∷ (Execute None ∷ (Execute None ∷ []))))) (Done ∷ (Done ∷ (Done ∷ (Done ∷ (Faults F6 ∷ []))))) keeps_at_last
 unfolding IsOpenRun IsMove executed current planted created upd is_spent lacks_names is_live is_under any_below named_at is_own_at has_pool_at is_stray keeps_stray cursor_fault
     place_of_cursor holder_of
-    variable_of found_below buckets_before buckets_from set_brigade set_cursor set_loose set_pool set_number with_pools with_brigade registered pool_of_brigade pool_of_pool
+    variable_of found_below buckets_before buckets_from set_brigade set_cursor set_loose set_pool set_number with_pools with_brigade registered_as pool_of_brigade pool_of_pool
 keeps_1 = goes keeps_a_file (instr.JEnd 0 6) at_first keeps_at_last (Execute None ∷ (Execute None ∷ (Execute None ∷ (Execute None ∷ []))))
     (Done ∷ (Done ∷ (Done ∷ (Faults F6 ∷ [])))) refl refl refl refl keeps_2
 
@@ -377,7 +377,7 @@ keeps_0 : IsOpenRun keeps_a_file serving (Execute None ∷ (Execute None ∷ (Ex
     (Done ∷ (Done ∷ (Done ∷ (Done ∷ (Done ∷ (Faults F6 ∷ [])))))) keeps_at_last
 unfolding IsOpenRun IsMove executed current planted created upd is_spent lacks_names is_live is_under any_below named_at is_own_at has_pool_at is_stray keeps_stray cursor_fault
     place_of_cursor holder_of
-    variable_of found_below buckets_before buckets_from set_brigade set_cursor set_loose set_pool set_number with_pools with_brigade registered pool_of_brigade pool_of_pool
+    variable_of found_below buckets_before buckets_from set_brigade set_cursor set_loose set_pool set_number with_pools with_brigade registered_as pool_of_brigade pool_of_pool
 keeps_0 = goes keeps_a_file (instr.First 0 8) serving keeps_at_last (Execute None ∷ (Execute None ∷ (Execute None ∷ (Execute None ∷ (Execute None ∷ [])))))
     (Done ∷ (Done ∷ (Done ∷ (Done ∷ (Faults F6 ∷ []))))) refl refl refl refl keeps_1
 
@@ -385,14 +385,14 @@ keeps_main : IsOpenRun keeps_a_file (rests_after beginning.now) (Main (lent ∷ 
     (Done ∷ (Done ∷ (Done ∷ (Done ∷ (Done ∷ (Done ∷ (Faults F6 ∷ []))))))) keeps_at_last
 unfolding IsOpenRun IsMove executed current planted created upd is_spent lacks_names is_live is_under any_below named_at is_own_at has_pool_at is_stray keeps_stray cursor_fault
     place_of_cursor holder_of
-    variable_of found_below buckets_before buckets_from set_brigade set_cursor set_loose set_pool set_number with_pools with_brigade registered pool_of_brigade pool_of_pool
+    variable_of found_below buckets_before buckets_from set_brigade set_cursor set_loose set_pool set_number with_pools with_brigade registered_as pool_of_brigade pool_of_pool
 keeps_main = (serving, (refl, serving_begins), keeps_0)
 
 keeps_init : IsOpenRun keeps_a_file (request_after made.now) (Start ∷ (Execute None ∷ (Main (lent ∷ []) ∷ (Execute None ∷ (Execute None
     ∷ (Execute None ∷ (Execute None ∷ (Execute None ∷ (Execute None ∷ []))))))))) (Done ∷ (Returns Success [] ∷ (Done ∷ (Done ∷ (Done ∷ (Done ∷ (Done ∷ (Done ∷ (Faults F6 ∷ []))))))))) keeps_at_last
 unfolding IsOpenRun IsMove executed current planted created upd is_spent lacks_names is_live is_under any_below named_at is_own_at has_pool_at is_stray keeps_stray cursor_fault
     place_of_cursor holder_of
-    variable_of found_below buckets_before buckets_from set_brigade set_cursor set_loose set_pool set_number with_pools with_brigade registered pool_of_brigade pool_of_pool
+    variable_of found_below buckets_before buckets_from set_brigade set_cursor set_loose set_pool set_number with_pools with_brigade registered_as pool_of_brigade pool_of_pool
 keeps_init = (
   beginning,
   (
@@ -414,14 +414,14 @@ keeps_request : IsOpenRun keeps_a_file (rests_after made.now) (Begin ∷ (Start 
     ∷ (Execute None ∷ (Execute None ∷ (Execute None ∷ [])))))))))) (Done ∷ (Done ∷ (Returns Success [] ∷ (Done ∷ (Done ∷ (Done ∷ (Done ∷ (Done ∷ (Done ∷ (Faults F6 ∷ [])))))))))) keeps_at_last
 unfolding IsOpenRun IsMove executed current planted created upd is_spent lacks_names is_live is_under any_below named_at is_own_at has_pool_at is_stray keeps_stray cursor_fault
     place_of_cursor holder_of
-    variable_of found_below buckets_before buckets_from set_brigade set_cursor set_loose set_pool set_number with_pools with_brigade registered pool_of_brigade pool_of_pool
+    variable_of found_below buckets_before buckets_from set_brigade set_cursor set_loose set_pool set_number with_pools with_brigade registered_as pool_of_brigade pool_of_pool
 keeps_request = (request_after made.now, (refl, record { phase = refl; none = refl; names = refl; is = refl }), keeps_init)
 
 keeps_open : IsOpenRun keeps_a_file made (Execute None ∷ (Begin ∷ (Start ∷ (Execute None ∷ (Main (lent ∷ []) ∷ (Execute None ∷ (Execute None ∷ (Execute None ∷ (Execute None ∷ (Execute None
     ∷ (Execute None ∷ []))))))))))) (Returns Success [] ∷ (Done ∷ (Done ∷ (Returns Success [] ∷ (Done ∷ (Done ∷ (Done ∷ (Done ∷ (Done ∷ (Done ∷ (Faults F6 ∷ []))))))))))) keeps_at_last
 unfolding IsOpenRun IsMove executed current planted created upd is_spent lacks_names is_live is_under any_below named_at is_own_at has_pool_at is_stray keeps_stray cursor_fault
     place_of_cursor holder_of
-    variable_of found_below buckets_before buckets_from set_brigade set_cursor set_loose set_pool set_number with_pools with_brigade registered pool_of_brigade pool_of_pool
+    variable_of found_below buckets_before buckets_from set_brigade set_cursor set_loose set_pool set_number with_pools with_brigade registered_as pool_of_brigade pool_of_pool
 keeps_open = goes keeps_a_file (instr.Ret Success) made keeps_at_last (Begin ∷ (Start ∷ (Execute None ∷ (Main (lent ∷ []) ∷ (Execute None ∷ (Execute None ∷ (Execute None ∷ (Execute None
     ∷ (Execute None ∷ (Execute None ∷ [])))))))))) (Done ∷ (Done ∷ (Returns Success [] ∷ (Done ∷ (Done ∷ (Done ∷ (Done ∷ (Done ∷ (Done ∷ (Faults F6 ∷ [])))))))))) refl refl refl refl keeps_request
 
@@ -430,7 +430,7 @@ keeps_run : IsOpenRun keeps_a_file (record { phase = Due; lasting = none_lasts; 
     (Done ∷ (Done ∷ (Returns Success [] ∷ (Done ∷ (Done ∷ (Returns Success [] ∷ (Done ∷ (Done ∷ (Done ∷ (Done ∷ (Done ∷ (Done ∷ (Faults F6 ∷ []))))))))))))) keeps_at_last
 unfolding IsOpenRun IsMove executed current planted created upd is_spent lacks_names is_live is_under any_below named_at is_own_at has_pool_at is_stray keeps_stray cursor_fault
     place_of_cursor holder_of
-    variable_of found_below buckets_before buckets_from set_brigade set_cursor set_loose set_pool set_number with_pools with_brigade registered pool_of_brigade pool_of_pool
+    variable_of found_below buckets_before buckets_from set_brigade set_cursor set_loose set_pool set_number with_pools with_brigade registered_as pool_of_brigade pool_of_pool
 keeps_run = (
   first_call,
   (refl, record { phase = refl; name = 1; next = 2; named = record { new = omega arith; given = omega arith; limit = omega arith }; is = refl }),

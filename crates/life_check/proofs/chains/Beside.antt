@@ -6,7 +6,7 @@ use Rattle.run_model.specs.declared.bucket.Home.{Home}
 use Rattle.run_model.specs.declared.bucket.Home.TheVariants as home
 use Rattle.run_model.specs.declared.bucket.PoolVar.TheVariants as poolvar
 use Rattle.run_model.specs.declared.payload.Payload.{Payload}
-use Rattle.run_model.specs.Pools.{is_live}
+use Rattle.run_model.specs.Pools.{Cleanups, is_live}
 use Rattle.run_model.specs.State.{Configuration, Shared, Out, PoolView, pool_view, named_at}
 use Rattle.run_model.specs.Chains.{Frame, Connection, Common, module_at, configuration}
 use Rattle.life_state.specs.States.{Homes, State}
@@ -43,11 +43,11 @@ fits_among C D s r shared pc out more lives f =
     }
 
 -- the same, but for payloads, labels, files, output and count
-abbrev pub beside : (ℕ → List Payload) → List (List ℕ) → (ℕ → Option (List ℕ)) → List (ℕ × ℕ) → Out → ℕ → Connection → Connection
+abbrev pub beside : (ℕ → Cleanups Payload) → List (List ℕ) → (ℕ → Option (List ℕ)) → List (ℕ × ℕ) → Out → ℕ → Connection → Connection
 beside payloads labels opened files out count c = record c { payloads = payloads; labels = labels; opened = opened; files = files; out = out; count = count }
 
 module _ (chain : List Program) (certs : ℕ → Certificate) (g h : Common) (c : Connection)
-    (payloads : ℕ → List Payload) (labels : List (List ℕ)) (opened : ℕ → Option (List ℕ)) (files : List (ℕ × ℕ)) (out : Out) (count : ℕ) where
+    (payloads : ℕ → Cleanups Payload) (labels : List (List ℕ)) (opened : ℕ → Option (List ℕ)) (files : List (ℕ × ℕ)) (out : Out) (count : ℕ) where
   abbrev now : Connection
   now = beside payloads labels opened files out count c
 

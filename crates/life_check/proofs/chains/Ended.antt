@@ -15,7 +15,7 @@ use Rattle.life_state.specs.States.{Unset, State}
 use Rattle.life_state.proofs.Tests.{split3}
 use Rattle.life_check.specs.Certificates.{Certificate, AllBounded}
 use Rattle.life_check.specs.ChainMeaning.{Lives, TopFits, AllWait, between, before, RestsIn, resting_frame, is_on, ChainStands}
-use Rattle.life_check.specs.ChainTheorem.{AllTyped}
+use Rattle.life_check.proofs.chains.Output.{AllPlacesTyped}
 use Rattle.life_check.specs.Meaning.{Covers}
 use Rattle.life_check.specs.Soundness.{FitsSome, MeetsNeeds}
 use Rattle.life_check.specs.Typed.{IsTyped, flows, is_below, left_by, fits_between, fits_lines}
@@ -81,7 +81,7 @@ module _ (chain : List Program) (certs : ℕ → Certificate) (g : Common) (c : 
         (fits_flow p lives (greater_fits {lives = lives}) (configuration after.0 after.1 called_frame) o (m.at called_frame.pc) sounds (sound.pools.declared called_frame) (all.at called_frame.pc)
         (before_flows p m c.req typed) (handler_fits o (λ u is. before_unset p m c.req u all typed is) rests))
 
-    pub called_stands : AllTyped chain certs → IsRising f.of (k ∷ ks) → ChainSound chain after.0 after.1 → Sound (configuration after.0 after.1 called_frame)
+    pub called_stands : AllPlacesTyped chain certs → IsRising f.of (k ∷ ks) → ChainSound chain after.0 after.1 → Sound (configuration after.0 after.1 called_frame)
         → Sound (configuration after.0 after.1 (resting_frame f.of))
         → ChainStands chain certs after.0 after.1
     unfolding IsRising AllWait

@@ -7,14 +7,14 @@ use Rattle.run_model.specs.Pools.{is_in}
 use Rattle.run_model.specs.Clearing.{run_down}
 use Rattle.run_model.specs.Sound.{Sound}
 use Rattle.run_model.specs.State.{Configuration, with_pools}
-use Rattle.run_model.specs.Chains.{Connection, Common, module_at, configuration}
+use Rattle.run_model.specs.Chains.{Connection, Common, module_at, configuration, places}
 use Rattle.run_model.specs.Turns.{request_over}
 use Rattle.model_laws.specs.ChainSound.{ChainSound}
 use Rattle.model_laws.proofs.chains.Views.{sound_resting}
 use Rattle.life_state.specs.States.{State}
 use Rattle.life_check.specs.Certificates.{Certificate}
 use Rattle.life_check.specs.ChainMeaning.{StackStands, before, between, resting_frame, RestsIn, ChainStands}
-use Rattle.life_check.specs.ChainTheorem.{AllTyped}
+use Rattle.life_check.proofs.chains.Output.{AllPlacesTyped}
 use Rattle.life_check.specs.Meaning.{NoneLives, Between}
 use Rattle.life_check.specs.Typed.{request_end}
 use Rattle.life_check.proofs.Cleared.{request_end_lands}
@@ -33,9 +33,9 @@ pub ended_fits : (p : Program) (req : ℕ) (r : Configuration) (o : Option State
 ended_fits p req r None proper sound declared is h = absurd h
 ended_fits p req r (Some s) proper sound declared is h = request_end_lands p req r s proper sound declared is h
 
-module _ (chain : List Program) (certs : ℕ → Certificate) (modules : (k : ℕ) → IsModule (module_at chain k)) (typed : AllTyped chain certs) where
+module _ (chain : List Program) (certs : ℕ → Certificate) (modules : (k : ℕ) → IsModule (module_at chain k)) (typed : AllPlacesTyped chain certs) where
   over_rests : (req : ℕ) (g : Common) (c : Connection) → c.req ≡ Some req → ChainSound chain g c → ChainSound chain (request_over req (g, c)).0 (request_over req (g, c)).1
-      → (k : ℕ) → k < length chain → RestsIn chain g c k (certs k).ready → RestsIn chain (request_over req (g, c)).0 (request_over req (g, c)).1 k (certs k).idle
+      → (k : ℕ) → k < places chain → RestsIn chain g c k (certs k).ready → RestsIn chain (request_over req (g, c)).0 (request_over req (g, c)).1 k (certs k).idle
   unfolding configuration
   over_rests req g c is was sound k inside h =
       let p = module_at chain k in

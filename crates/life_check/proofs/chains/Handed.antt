@@ -17,7 +17,7 @@ use Rattle.run_model.specs.Pools.{is_in}
 use Rattle.run_model.specs.Sound.{Sound}
 use Rattle.run_model.specs.State.{Instance, Configuration, pool_view, fresh_call, set_brigade}
 use Rattle.run_model.specs.Steps.{do_pass, handed_over}
-use Rattle.run_model.specs.Chains.{Frame, Connection, Common, Linked, module_at, configuration, shared_of}
+use Rattle.run_model.specs.Chains.{Frame, Connection, Common, Linked, module_at, configuration, shared_of, places}
 use Rattle.model_laws.specs.ChainSound.{ChainSound, IsNested, IsNestedStack, IsFramePlaced}
 use Rattle.run_model.specs.Passing.{handed_in, set_in}
 use Rattle.run_model.proofs.Updates.{upd_at, upd_off}
@@ -27,7 +27,7 @@ use Rattle.life_state.specs.States.{only_call, holds, State}
 use Rattle.life_state.proofs.Tests.{split2, split3}
 use Rattle.life_check.specs.Certificates.{Certificate, AllBounded, IsBoundedSome}
 use Rattle.life_check.specs.ChainMeaning.{Lives, TopFits, WaitingFits, AllWait, StackStands, between, before, known_of, RestsIn, is_on, ChainStands}
-use Rattle.life_check.specs.ChainTheorem.{AllTyped}
+use Rattle.life_check.proofs.chains.Output.{AllPlacesTyped}
 use Rattle.life_check.specs.Meaning.{Covers, NoneLives, FitsBrigade, Fits}
 use Rattle.life_check.specs.Soundness.{FitsSome, MeetsNeeds}
 use Rattle.life_check.specs.Typed.{IsTyped, flows, fits_between, fits_lines, leads_on, main_from}
@@ -52,7 +52,7 @@ known_ready p m k [] None e is = cc
 known_ready p m k [] (Some n) e is = refl
 known_ready p m k (j ∷ js) req e is = cc
 
-module _ (chain : List Program) (certs : ℕ → Certificate) (g : Common) (c : Connection) (f : Frame) (rest : List Frame) (b l : ℕ) where
+module _ (chain : List Program) (certs : ℕ → Certificate) (g : Common) (c : Connection) (f : Frame) (rest : List Frame) (b l to : ℕ) (behind : f.of < to) where
   abbrev seen : Configuration
   seen = configuration g c f
 
@@ -66,29 +66,29 @@ module _ (chain : List Program) (certs : ℕ → Certificate) (g : Common) (c : 
   incoming = handed_in (seen.instance.brigades b)
 
   abbrev instances : ℕ → Instance
-  instances = upd here (f.of + 1) (set_in incoming (here (f.of + 1)))
+  instances = upd here to (set_in incoming (here to))
 
   abbrev callee : Frame
-  callee = record { of = f.of + 1; call = fresh_call g.next; pc = (module_at chain (f.of + 1)).main }
+  callee = record { of = to; call = fresh_call g.next; pc = (module_at chain to).main }
 
   abbrev after : Linked
   after = turned g c (g.next + 1) instances (callee ∷ (f ∷ rest)) c.queue
 
   caller_is : instances f.of ≡ caller
-  caller_is = upd_off here (f.of + 1) f.of (set_in incoming (here (f.of + 1))) (λ e. absurd (omega (arith, e))) ∙ upd_at c.instances f.of caller
+  caller_is = upd_off here to f.of (set_in incoming (here to)) (λ e. absurd (omega (arith, e))) ∙ upd_at c.instances f.of caller
 
-  callee_is : instances (f.of + 1) ≡ set_in incoming (c.instances (f.of + 1))
-  callee_is = upd_at here (f.of + 1) (set_in incoming (here (f.of + 1))) ∙ ap (set_in incoming) (upd_off c.instances f.of (f.of + 1) caller (λ e. absurd (omega (arith, e))))
+  callee_is : instances to ≡ set_in incoming (c.instances to)
+  callee_is = upd_at here to (set_in incoming (here to)) ∙ ap (set_in incoming) (upd_off c.instances f.of to caller (λ e. absurd (omega (arith, e))))
 
-  other_is : (k : ℕ) → k ≢ f.of → k ≢ f.of + 1 → instances k ≡ c.instances k
-  other_is k ne off = upd_off here (f.of + 1) k (set_in incoming (here (f.of + 1))) off ∙ upd_off c.instances f.of k caller ne
+  other_is : (k : ℕ) → k ≢ f.of → k ≢ to → instances k ≡ c.instances k
+  other_is k ne off = upd_off here to k (set_in incoming (here to)) off ∙ upd_off c.instances f.of k caller ne
 
   caller_pools : caller.pools ≡ (c.instances f.of).pools
   unfolding configuration set_brigade
   caller_pools = refl
 
   own : (k : ℕ) → (instances k).pools ≡ (c.instances k).pools
-  own k = upd_pools here (f.of + 1) (set_in incoming (here (f.of + 1))) refl k ∙ upd_pools c.instances f.of caller caller_pools k
+  own k = upd_pools here to (set_in incoming (here to)) refl k ∙ upd_pools c.instances f.of caller caller_pools k
 
   more : (w : Frame) (waiting : List Frame) (x : Home) → Lives c w waiting x → Lives after.1 w waiting x
   more = lives_same c after.1 refl own
@@ -134,14 +134,14 @@ module _ (chain : List Program) (certs : ℕ → Certificate) (g : Common) (c : 
     abbrev begun : Instance → Configuration
     begun i = record { instance = i; call = fresh_call g.next; shared = shared_of after.0 after.1; pc = callee.pc; out = c.out }
 
-    incoming_fits : FitsBrigade (Covers (module_at chain (f.of + 1)) (pool_view (begun (set_in incoming (c.instances (f.of + 1))))) (Lives after.1 callee (f ∷ rest)))
+    incoming_fits : FitsBrigade (Covers (module_at chain to) (pool_view (begun (set_in incoming (c.instances to)))) (Lives after.1 callee (f ∷ rest)))
         (holds NoLateData only_call) incoming
     unfolding configuration
     incoming_fits =
         let p = module_at chain f.of in
-        let q = module_at chain (f.of + 1) in
+        let q = module_at chain to in
         let v = pool_view seen in
-        let w = pool_view (begun (set_in incoming (c.instances (f.of + 1)))) in
+        let w = pool_view (begun (set_in incoming (c.instances to))) in
         let lives = Lives after.1 callee (f ∷ rest) in
         let rules = both_none (need s (WHomes b)) (or_else (need s (WSend b)) None) (both_none (need s (WUsable b)) (or_else (need s (WHomes b)) (or_else (need s (WSend b)) None)) ready.met).1 in
         let alive : (s.brigades b).homes.dead ≡ false = unless_some (s.brigades b).homes.dead F5 rules.0 in
@@ -154,22 +154,22 @@ module _ (chain : List Program) (certs : ℕ → Certificate) (g : Common) (c : 
         (λ x covered. covers_handed p q v w (Lives c f rest) lives (s.brigades b).homes refl refl reaches alive x covered) usable (both_none (need s (WSend b)) None rules.1).0 (ready.fits.brigades b)
 
     -- what is known of its instance between calls is known of its `main`
-    main_runs : (o : Option State) → IsBoundedSome o → fits_between (module_at chain (f.of + 1)) o ≡ true → RestsIn chain g c (f.of + 1) o
-        → FitsSome (Covers (module_at chain (f.of + 1)) (pool_view (configuration after.0 after.1 callee)) (Lives after.1 callee (f ∷ rest))) (main_from o) (configuration after.0 after.1 callee)
+    main_runs : (o : Option State) → IsBoundedSome o → fits_between (module_at chain to) o ≡ true → RestsIn chain g c to o
+        → FitsSome (Covers (module_at chain to) (pool_view (configuration after.0 after.1 callee)) (Lives after.1 callee (f ∷ rest))) (main_from o) (configuration after.0 after.1 callee)
     unfolding configuration
     main_runs None bounded fit h = absurd h
     main_runs (Some t) bounded fit h =
-        let q = module_at chain (f.of + 1) in
+        let q = module_at chain to in
         let lives = Lives after.1 callee (f ∷ rest) in
-        let resting = configuration g c (record { of = f.of + 1; call = fresh_call 0; pc = 0 }) in
+        let resting = configuration g c (record { of = to; call = fresh_call 0; pc = 0 }) in
         subst (λ (i : Instance). Fits (Covers q (pool_view (begun i)) lives) (at_main t) (begun i)) (sym callee_is)
         (main_begins q lives incoming t resting g.next (g.next + 1) callee.pc (between_unset q (Some t) t bounded fit refl) incoming_fits h)
 
-    callee_runs : AllBounded (certs (f.of + 1)) → IsTyped (module_at chain (f.of + 1)) (certs (f.of + 1)) → ChainSound chain after.0 after.1 → Sound (configuration after.0 after.1 callee)
-        → RestsIn chain g c (f.of + 1) (certs (f.of + 1)).ready → TopFits chain certs after.0 after.1 callee (f ∷ rest)
+    callee_runs : AllBounded (certs to) → IsTyped (module_at chain to) (certs to) → ChainSound chain after.0 after.1 → Sound (configuration after.0 after.1 callee)
+        → RestsIn chain g c to (certs to).ready → TopFits chain certs after.0 after.1 callee (f ∷ rest)
     callee_runs bounded typed sound sounds rests =
-        let q = module_at chain (f.of + 1) in
-        let m = certs (f.of + 1) in
+        let q = module_at chain to in
+        let m = certs to in
         let shapes = split3 (fits_between q m.idle) (fits_between q m.ready) (fits_lines q m) typed.shape in
         runs_of chain certs after.0 after.1 callee (f ∷ rest) (m.at callee.pc) refl
         (fits_flow q (Lives after.1 callee (f ∷ rest)) (greater_fits {lives = Lives after.1 callee (f ∷ rest)}) (configuration after.0 after.1 callee) (main_from m.ready) (m.at callee.pc) sounds
@@ -184,7 +184,7 @@ module _ (chain : List Program) (certs : ℕ → Certificate) (g : Common) (c : 
         (waits_kept chain certs g c (g.next + 1) instances (callee ∷ (f ∷ rest)) c.queue (λ x. x) none_mild own (λ fs. Unit {0}) (λ w fs away. tt) (λ w fs away. none_keeps (Lives c w fs)) f.of
         (λ k lt. beside_same (c.instances k) (instances k) (other_is k (λ e. absurd (omega (arith, e))) (λ e. absurd (omega (arith, e))))) f rest (omega arith) nested tt wait)
 
-    others_rest : ChainStands chain certs g c → c.stack ≡ f ∷ rest → (k : ℕ) → k < length chain → is_on k after.1.stack ≡ false → RestsIn chain after.0 after.1 k (known_of chain certs after.1 k)
+    others_rest : ChainStands chain certs g c → c.stack ≡ f ∷ rest → (k : ℕ) → k < places chain → is_on k after.1.stack ≡ false → RestsIn chain after.0 after.1 k (known_of chain certs after.1 k)
     others_rest stands top k lt off =
         let first = off_parts k callee (f ∷ rest) off in
         let second = off_parts k f rest first.1 in
@@ -192,12 +192,12 @@ module _ (chain : List Program) (certs : ℕ → Certificate) (g : Common) (c : 
         (beside_same (c.instances k) (instances k) (other_is k second.0 first.0)) (none_keeps NoneLives)
         (stands.rests k lt (subst (λ (fs : List Frame). is_on k fs ≡ false) (sym top) first.1))
 
-    pub handed_stands : ((k : ℕ) → IsModule (module_at chain k)) → AllTyped chain certs → ChainSound chain g c → ChainSound chain after.0 after.1 → Sound (configuration after.0 after.1 callee)
+    pub handed_stands : ((k : ℕ) → IsModule (module_at chain k)) → AllPlacesTyped chain certs → ChainSound chain g c → ChainSound chain after.0 after.1 → Sound (configuration after.0 after.1 callee)
         → ChainStands chain certs g c → c.stack ≡ f ∷ rest → slice_get (module_at chain f.of).code f.pc ≡ Some (instr.Pass b l)
         → leads_on (certs f.of) f.pc (instr.Pass b l) (edges (module_at chain f.of) (instr.Pass b l) s) ≡ true → ChainStands chain certs after.0 after.1
     unfolding IsNestedStack AllWait
     handed_stands proper typed sound new_sound sounds stands top at leads =
-        let k = f.of + 1 in
+        let k = to in
         let placed : IsFramePlaced chain c.req callee = All-head (IsFramePlaced chain c.req) callee (f ∷ rest) new_sound.calls.placed in
         let nested : IsNested f rest = subst IsNestedStack top sound.calls.nested in
         let waiting : AllWait chain certs g c rest = (subst (StackStands chain certs g c) top stands.stack).1 in

@@ -11,7 +11,7 @@ use Rattle.model_laws.specs.Laws.{ChangesOnly, is_return}
 use Rattle.run_model.specs.Pools.{is_in}
 use Rattle.run_model.specs.State.{Instance, Configuration, Out, PoolView, pool_view}
 use Rattle.run_model.specs.Steps.{Choice, Outcome, step, lacks_names}
-use Rattle.run_model.specs.Chains.{Frame, Connection, Common, Linked, module_at, configuration, files_of, put_back, led_to, touched_var, touched_bucket, touched_instance, touched_frame, IsChain}
+use Rattle.run_model.specs.Chains.{Frame, Connection, Common, Linked, module_at, configuration, files_of, put_back, led_to, touched_var, touched_bucket, touched_instance, touched_frame, IsChain, places}
 use Rattle.model_laws.specs.ChainSound.{ChainSound}
 use Rattle.model_laws.proofs.chains.Modules.{module_at_proper}
 use Rattle.model_laws.proofs.chains.Views.{sound_top}
@@ -21,7 +21,7 @@ use Rattle.life_state.specs.States.{Homes, State}
 use Rattle.life_state.proofs.Tests.{split2}
 use Rattle.life_check.specs.Certificates.{Certificate}
 use Rattle.life_check.specs.ChainMeaning.{Lives, TopFits, ChainStands, known_of, before, between, is_on, RestsIn}
-use Rattle.life_check.specs.ChainTheorem.{AllTyped}
+use Rattle.life_check.proofs.chains.Output.{AllPlacesTyped}
 use Rattle.life_check.specs.Meaning.{CoversPool, ByConnection, ByMember, ByDead, ByCall, Covers}
 use Rattle.life_check.specs.Soundness.{FitsSome, Lands, MeetsNeeds}
 use Rattle.life_check.specs.Typed.{flows}
@@ -74,7 +74,7 @@ runs_by chain certs g c f rest None at fit = absurd fit
 runs_by chain certs g c f rest (Some s) at fit = record { state = s; given = at; fits = fit }
 
 module _ (chain : List Program) (certs : ℕ → Certificate) (g : Common) (c : Connection) (f : Frame) (rest : List Frame)
-    (chained : IsChain chain) (typed : AllTyped chain certs) (sound : ChainSound chain g c) (stands : ChainStands chain certs g c) (on_top : c.stack ≡ f ∷ rest)
+    (chained : IsChain chain) (typed : AllPlacesTyped chain certs) (sound : ChainSound chain g c) (stands : ChainStands chain certs g c) (on_top : c.stack ≡ f ∷ rest)
     (choice : Choice) (out : Out) (on : is_return (next_of chain f) ≡ false) (last : lacks_names (configuration g c f) (next_of chain f) ≡ false) where
   abbrev stepped : Outcome
   stepped = step (module_at chain f.of) choice (next_of chain f) (configuration g c f)
@@ -181,7 +181,7 @@ module _ (chain : List Program) (certs : ℕ → Certificate) (g : Common) (c : 
   unfolding put_back
   known_same k = ap (λ (o : Option ℕ). cond (is_in k c.queue) (before (module_at chain k) (certs k) o) (between (certs k) o)) same_req
 
-  rests_there : (k : ℕ) → k < length chain → is_on k (onward ∷ waiting) ≡ false → RestsIn chain left_in_place.0 left_in_place.1 k (known_of chain certs left_in_place.1 k)
+  rests_there : (k : ℕ) → k < places chain → is_on k (onward ∷ waiting) ≡ false → RestsIn chain left_in_place.0 left_in_place.1 k (known_of chain certs left_in_place.1 k)
   rests_there k lt off =
       let was : is_on k (f ∷ rest) ≡ false = sym (ap (λ (b : Bool). (f.of == k) || b) (on_touched k (touched_bucket (configuration g c f) (next_of chain f)) rest)) ∙ off in
       subst (RestsIn chain left_in_place.0 left_in_place.1 k) (sym (known_same k))

@@ -1,5 +1,5 @@
 -- A chain of typed modules never faults.
-use Rattle.std.proofs.Common.{ℕ, zero, suc, List, [], ◌∷◌, arith}
+use Rattle.std.proofs.Common.{◌≡◌, length, ℕ, zero, suc, List, [], ◌∷◌, arith}
 use Rattle.std.proofs.lemmas.List.Elements.{All-nil, All-cons}
 use Rattle.module_code.specs.Program.{Program, IsModule}
 use Rattle.run_model.specs.Chains.{Frame, Connection, Common, module_at, IsChain}
@@ -18,6 +18,7 @@ use Rattle.life_check.specs.ChainTheorem.{AllTyped, ChainNeverFaults, TypedChain
 use Rattle.life_check.specs.Typed.{IsTyped}
 use Rattle.life_check.proofs.chains.Ends.{over_stands}
 use Rattle.life_check.proofs.chains.Events.{EventsLand}
+use Rattle.life_check.proofs.chains.Output.{AllPlacesTyped, bare_certificate, with_output, behind_is, places_typed}
 use Rattle.life_check.proofs.chains.Starts.{opened_stands, begun_stands, brought_stands}
 use Rattle.life_check.proofs.chains.Theorem.{chain_never_faults}
 use Rattle.life_check.proofs.chains.TopStands.{top_stands}
@@ -33,7 +34,7 @@ top_sound chain reads g c f rest may sound = record {
   calls = top_keeps_calls chain reads g c f rest may sound;
 }
 
-module _ (chain : List Program) (certs : ℕ → Certificate) (proper : IsChain chain) (typed : AllTyped chain certs) where
+module _ (chain : List Program) (certs : ℕ → Certificate) (proper : IsChain chain) (typed : AllPlacesTyped chain certs) (behind : certs (length chain) ≡ bare_certificate) where
   top_lands : TopLands chain certs
   top_lands = record {
     faultless = λ g c f rest top sound stands. top_never_faults chain certs g c f rest proper typed sound stands top;
@@ -42,15 +43,18 @@ module _ (chain : List Program) (certs : ℕ → Certificate) (proper : IsChain 
 
   events_land : EventsLand chain certs
   events_land = record {
-    opened = opened_stands chain certs proper.some typed;
-    begun = begun_stands chain certs proper.some typed;
-    brought = brought_stands chain certs proper.some typed;
+    opened = opened_stands chain certs proper.some typed behind;
+    begun = begun_stands chain certs proper.some typed behind;
+    brought = brought_stands chain certs proper.some typed behind;
     over = over_stands chain certs (module_at_proper chain proper) typed;
   }
 
 pub typed_chain_never_faults : TypedChainNeverFaults
 typed_chain_never_faults chain certs proper typed =
-    chain_never_faults chain certs proper (top_lands chain certs proper typed) (events_land chain certs proper typed) event_keeps_world
+    let all = with_output chain certs in
+    let known = places_typed chain certs typed in
+    let behind = behind_is chain certs in
+    chain_never_faults chain all proper (top_lands chain all proper known behind) (events_land chain all proper known behind) event_keeps_world
 
 pub checked_never_faults : (chain : List Program) → IsCheckedChain chain → ChainNeverFaults chain
 checked_never_faults chain h = typed_chain_never_faults chain h.certs h.chained h.typed

@@ -15,7 +15,7 @@ use Rattle.model_laws.proofs.chains.Apart.{own_is, under_no_other, under_no_requ
 
 -- the calls that wait for one of the module top
 abbrev pub WaitBelow : ℕ → List Frame → Type 0
-WaitBelow top rest = (w : Frame) (more : List Frame) → rest ≡ w ∷ more → (top ≡ w.of + 1) × IsNested w more
+WaitBelow top rest = (w : Frame) (more : List Frame) → rest ≡ w ∷ more → (w.of < top) × IsNested w more
 
 pub nested_below : (f : Frame) (rest : List Frame) → IsNested f rest → WaitBelow f.of rest
 unfolding IsNested

@@ -1,5 +1,5 @@
 -- A return to a call that waits: it goes on behind its pass, or where that leads.
-use Rattle.std.proofs.Common.{◌≡◌, ◌≢◌, ℕ, ◌+◌, Bool, true, false, ◌||◌, ◌==◌, List, [], ◌∷◌, map, Some, All, inl, inr, refl, sym, ◌∙◌, ap, subst, arith}
+use Rattle.std.proofs.Common.{◌≡◌, ◌≢◌, ℕ, ◌+◌, ◌<◌, Bool, true, false, ◌||◌, ◌==◌, List, [], ◌∷◌, map, Some, All, inl, inr, refl, sym, ◌∙◌, ap, subst, arith}
 use Rattle.std.proofs.lemmas.List.Elements.{All-head, All-tail}
 use Rattle.module_code.specs.declared.instr.Instr.TheVariants as instr
 use Rattle.module_code.specs.declared.instr.Status.{Status}
@@ -67,7 +67,7 @@ module _ (chain : List Program) (certs : ℕ → Certificate) (g : Common) (c : 
   there k waits ended = upd_off before_it w.of k (given_back b left (before_it w.of)) waits ∙ returned_there chain certs g c f k ended
 
   module _ (nested : IsNested f (w ∷ rest)) (apart : All (λ v. v.call.name ≢ f.call.name) (w ∷ rest)) where
-    above : f.of ≡ w.of + 1
+    above : w.of < f.of
     unfolding IsNested
     above = nested.0
 

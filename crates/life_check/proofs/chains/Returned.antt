@@ -11,7 +11,7 @@ use Rattle.run_model.specs.Effects.{do_return, returned_var}
 use Rattle.run_model.specs.Pools.{is_in}
 use Rattle.run_model.specs.Sound.{Sound}
 use Rattle.run_model.specs.State.{Instance, Configuration, fresh_call}
-use Rattle.run_model.specs.Chains.{Frame, Connection, Common, Linked, module_at, configuration, shared_of, touched_instance}
+use Rattle.run_model.specs.Chains.{Frame, Connection, Common, Linked, module_at, configuration, shared_of, touched_instance, places}
 use Rattle.model_laws.specs.ChainSound.{ChainSound, IsFramePlaced, IsRising}
 use Rattle.life_state.specs.Rules.{at_return}
 use Rattle.life_state.specs.States.{State}
@@ -115,7 +115,7 @@ module _ (chain : List Program) (certs : ℕ → Certificate) (g : Common) (c : 
           → ((j : ℕ) → j ≢ f.of → is_on j stack ≡ false → instances j ≡ touched_instance (returned_var f.call.name) (c.instances j))
           → ((j : ℕ) → j ≢ f.of → is_on j stack ≡ false → is_on j c.stack ≡ false)
           → ((j : ℕ) → j ≢ f.of → is_on j stack ≡ false → is_in j c.queue ≡ is_in j queue) → is_in f.of queue ≡ false
-          → (j : ℕ) → j < length chain → is_on j stack ≡ false → RestsIn chain after.0 after.1 j (known_of chain certs after.1 j)
+          → (j : ℕ) → j < places chain → is_on j stack ≡ false → RestsIn chain after.0 after.1 j (known_of chain certs after.1 j)
       all_rest bounded placed below sound sounds stands there off same gone j lt rests = elim (cases_eq j f.of) [
         | inl e ↦ subst (λ (i : ℕ). RestsIn chain after.0 after.1 i (known_of chain certs after.1 i)) (sym e)
             (subst (λ (b : Bool). RestsIn chain after.0 after.1 f.of (cond b (before (module_at chain f.of) (certs f.of) c.req) (between (certs f.of) c.req))) (sym gone)

@@ -15,23 +15,23 @@ use Rattle.run_model.specs.declared.event.Piece.{Piece}
 use Rattle.run_model.specs.Indexed.{upd}
 use Rattle.run_model.specs.Pools.{is_in, is_empty, is_live, created}
 use Rattle.run_model.specs.Pieces.{bucket_of, named_from, data_behind_eos}
-use Rattle.run_model.specs.State.{Instance, Call, pool_view, named_at, fresh_call}
-use Rattle.run_model.specs.Chains.{Frame, Connection, Common, module_at, configuration, pools_of}
+use Rattle.run_model.specs.State.{Instance, Configuration, Call, pool_view, named_at, fresh_call}
+use Rattle.run_model.specs.Chains.{Frame, Connection, Common, module_at, configuration, pools_of, places, place_from}
 use Rattle.run_model.specs.Passing.{set_in}
 use Rattle.run_model.specs.Turns.{numbers_below, tail_of, all_called, opened, begun, brought_in}
 use Rattle.model_laws.specs.ChainSound.{ChainSound}
 use Rattle.model_laws.proofs.Brought.{buckets_as_pieces}
 use Rattle.run_model.proofs.Formed.{path_live}
 use Rattle.run_model.proofs.PoolMap.{created_lives, created_kept}
-use Rattle.run_model.proofs.Updates.{upd_off}
+use Rattle.run_model.proofs.Updates.{upd_at, upd_off}
 use Rattle.model_laws.proofs.chains.Views.{sound_top}
 use Rattle.life_state.specs.declared.parts.Contents.TheVariants.{NoLateData}
-use Rattle.life_state.specs.Rules.{at_open}
+use Rattle.life_state.specs.Rules.{at_open, at_main}
 use Rattle.life_state.specs.States.{Homes, only_call, holds, State}
 use Rattle.life_state.proofs.Tests.{split3}
 use Rattle.life_check.specs.Certificates.{Certificate, IsBoundedSome}
 use Rattle.life_check.specs.ChainMeaning.{IsNamedIn, IsCallIn, Lives, AllWait, between, before, known_of, resting_frame, RestsIn, is_on, ChainStands}
-use Rattle.life_check.specs.ChainTheorem.{AllTyped}
+use Rattle.life_check.proofs.chains.Output.{AllPlacesTyped, bare_certificate, output_known}
 use Rattle.life_check.specs.Meaning.{Covers, LivesIn, NoneLives, FitsBrigade, Differ, Fits, InCall, Between}
 use Rattle.life_check.specs.Soundness.{FitsSome}
 use Rattle.life_check.specs.Typed.{fits_between, fits_lines, main_from}
@@ -39,6 +39,8 @@ use Rattle.life_check.proofs.Starting.{calm_fits, between_unset, pieces_covered}
 use Rattle.life_check.proofs.Orders.{greater_fits}
 use Rattle.life_check.proofs.Pools.{brigade_more}
 use Rattle.life_check.proofs.Standards.{fits_under, fits_flow, unset_differ, covers_begun}
+use Rattle.model_laws.proofs.chains.Modules.{first_in_places}
+use Rattle.std.proofs.lemmas.Bool.{cases_lt}
 use Rattle.life_check.proofs.chains.Begun.{runs_of, main_begins, off_parts}
 use Rattle.life_check.proofs.chains.Beside.{covers_more, fits_among}
 
@@ -83,7 +85,7 @@ fits_resting chain g c k None h = h
 fits_resting chain g c k (Some s) h = h
 
 pub rests_between : (chain : List Program) (certs : ℕ → Certificate) (g : Common) (c : Connection) → c.stack ≡ [] → ChainSound chain g c → ChainStands chain certs g c
-    → (k : ℕ) → k < length chain → (req : Option ℕ) → c.req ≡ req → RestsIn chain g c k (between (certs k) req)
+    → (k : ℕ) → k < places chain → (req : Option ℕ) → c.req ≡ req → RestsIn chain g c k (between (certs k) req)
 rests_between chain certs g c idle sound stands k inside req is =
     let here : RestsIn chain g c k (known_of chain certs c k) = stands.rests k inside (ap (is_on k) idle) in
     subst (λ (o : Option ℕ). RestsIn chain g c k (between (certs k) o)) is
@@ -97,14 +99,31 @@ lives_first c f (home.Call n) l = inl l
 lives_first c f (home.Pool n) l = inl l
 lives_first c f home.Ended l = l
 
-module _ (chain : List Program) (certs : ℕ → Certificate) (some : 0 < length chain) (typed : AllTyped chain certs) where
-  pub between_shape : (k : ℕ) → k < length chain → (req : Option ℕ) → fits_between (module_at chain k) (between (certs k) req) ≡ true
+module _ (chain : List Program) (certs : ℕ → Certificate) (some : 0 < length chain) (typed : AllPlacesTyped chain certs) (behind : certs (length chain) ≡ bare_certificate) where
+  first_inside : 0 < places chain
+  first_inside = omega arith
+
+  -- what is known of an instance whose handler is still to be called, and of the output filter
+  known_first : (k : ℕ) (queue : List ℕ) (req : Option ℕ) → k ≢ 0 → k < places chain → queue ≡ tail_of (numbers_below (length chain))
+      → cond (is_in k queue) (before (module_at chain k) (certs k) req) (between (certs k) req) ≡ before (module_at chain k) (certs k) req
+  known_first k queue req differ inside is = elim (cases_lt k (length chain)) [
+    | inl lt ↦ ap (λ (b : Bool). cond b (before (module_at chain k) (certs k) req) (between (certs k) req)) (ap (is_in k) is ∙ queued (length chain) k (omega (arith, differ)) lt)
+    | inr past ↦ (let at : k ≡ length chain = omega (arith, past, inside) in
+        let same : between (certs k) req ≡ before (module_at chain k) (certs k) req =
+        subst (λ (j : ℕ). between (certs j) req ≡ before (module_at chain j) (certs j) req) (sym at) (output_known chain certs behind req) in
+        ap (cond (is_in k queue) (before (module_at chain k) (certs k) req)) same ∙ both_same (is_in k queue))
+  ] where
+    both_same : (b : Bool) → cond b (before (module_at chain k) (certs k) req) (before (module_at chain k) (certs k) req) ≡ before (module_at chain k) (certs k) req
+    both_same true = refl
+    both_same false = refl
+
+  pub between_shape : (k : ℕ) → k < places chain → (req : Option ℕ) → fits_between (module_at chain k) (between (certs k) req) ≡ true
   between_shape k inside None =
       (split3 (fits_between (module_at chain k) (certs k).idle) (fits_between (module_at chain k) (certs k).ready) (fits_lines (module_at chain k) (certs k)) (typed k inside).1.shape).0
   between_shape k inside (Some n) =
       (split3 (fits_between (module_at chain k) (certs k).idle) (fits_between (module_at chain k) (certs k).ready) (fits_lines (module_at chain k) (certs k)) (typed k inside).1.shape).1
 
-  pub between_bounded : (k : ℕ) → k < length chain → (req : Option ℕ) → IsBoundedSome (between (certs k) req)
+  pub between_bounded : (k : ℕ) → k < places chain → (req : Option ℕ) → IsBoundedSome (between (certs k) req)
   between_bounded k inside None = (typed k inside).0.idle
   between_bounded k inside (Some n) = (typed k inside).0.ready
 
@@ -133,13 +152,12 @@ module _ (chain : List Program) (certs : ℕ → Certificate) (some : 0 < length
           runs_of chain certs new c f [] ((certs 0).at 0) refl
               (fits_under p (Lives c f []) (greater_fits {lives = Lives c f []}) (configuration new c f) (at_open (length p.pools) (length p.brigades)) ((certs 0).at 0)
               (sound_top chain new c f [] refl sound) (sound.pools.declared f)
-              ((typed 0 some).0.at 0) (typed 0 some).1.opens (fresh_fits (Covers p (pool_view (configuration new c f)) (Lives c f [])) (length p.pools) (length p.brigades) g f g.next refl)),
+              ((typed 0 first_inside).0.at 0) (typed 0 first_inside).1.opens (fresh_fits (Covers p (pool_view (configuration new c f)) (Lives c f [])) (length p.pools) (length p.brigades) g f g.next refl)),
           tt,
         );
         rests = λ k inside off.
             (let differ : k ≢ 0 = (off_parts k f [] off).0 in
-            let last : is_in k c.queue ≡ true = queued (length chain) k (omega (arith, differ)) inside in
-            subst (λ (b : Bool). RestsIn chain new c k (cond b (before (module_at chain k) (certs k) c.req) (between (certs k) c.req))) (sym last)
+            subst (RestsIn chain new c k) (sym (known_first k c.queue c.req differ inside refl))
             (fresh_fits (Between (module_at chain k) (configuration new c (resting_frame k))) (length (module_at chain k).pools) (length (module_at chain k).brigades) g (resting_frame k) 0 refl));
       }
 
@@ -187,43 +205,46 @@ module _ (chain : List Program) (certs : ℕ → Certificate) (some : 0 < length
           runs_of chain certs new d f [] ((certs 0).at p.init) refl
               (fits_flow p (Lives d f []) (greater_fits {lives = Lives d f []}) (configuration new d f) (certs 0).idle ((certs 0).at p.init) (sound_top chain new d f [] refl sound)
               (sound.pools.declared f)
-              ((typed 0 some).0.at p.init) (typed 0 some).1.inits
-              (begun_fits g c (Lives d f []) 0 g.next p.init (certs 0).idle (between_bounded 0 some None) (between_shape 0 some None) none was
-              (rests_between chain certs g c idle was stands 0 some None none))),
+              ((typed 0 first_inside).0.at p.init) (typed 0 first_inside).1.inits
+              (begun_fits g c (Lives d f []) 0 g.next p.init (certs 0).idle (between_bounded 0 first_inside None) (between_shape 0 first_inside None) none was
+              (rests_between chain certs g c idle was stands 0 first_inside None none))),
           tt,
         );
         rests = λ k inside off.
             (let differ : k ≢ 0 = (off_parts k f [] off).0 in
-            let last : is_in k d.queue ≡ true = queued (length chain) k (omega (arith, differ)) inside in
-            subst (λ (b : Bool). RestsIn chain new d k (cond b (before (module_at chain k) (certs k) d.req) (between (certs k) d.req))) (sym last)
+            subst (RestsIn chain new d k) (sym (known_first k d.queue d.req differ inside refl))
             (rests_of chain new d k (certs k).idle
             (begun_fits g c NoneLives k 0 0 (certs k).idle (between_bounded k inside None) (between_shape k inside None) none was (rests_between chain certs g c idle was stands k inside None none))));
       }
 
   -- A brigade is brought.
 
-  brought_fits : (pieces : List Piece) (req : ℕ) (g : Common) (c : Connection) (o : Option State) → IsBoundedSome o → fits_between (module_at chain 0) o ≡ true → c.req ≡ Some req
+  brought_fits : (pieces : List Piece) (req : ℕ) (g : Common) (c : Connection) (o : Option State) → IsBoundedSome o → fits_between (module_at chain (place_from chain c.instances 0)) o ≡ true → c.req ≡ Some req
       → data_behind_eos pieces ≡ false
-      → ChainSound chain g c → RestsIn chain g c 0 o
-      → (let f : Frame = record { of = 0; call = fresh_call g.next; pc = (module_at chain 0).main } in
+      → ChainSound chain g c → RestsIn chain g c (place_from chain c.instances 0) o
+      → (let k = place_from chain c.instances 0 in let f : Frame = record { of = k; call = fresh_call g.next; pc = (module_at chain k).main } in
       let d = (brought_in chain pieces req (g, c)).1 in let new = configuration (brought_in chain pieces req (g, c)).0 d f in
-      FitsSome (Covers (module_at chain 0) (pool_view new) (Lives d f [])) (main_from o) new)
+      FitsSome (Covers (module_at chain k) (pool_view new) (Lives d f [])) (main_from o) new)
   unfolding configuration upd
   brought_fits pieces req g c None bounded shape is late was h = absurd h
   brought_fits pieces req g c (Some s) bounded shape is late was h =
-      let p = module_at chain 0 in
-      let f : Frame = record { of = 0; call = fresh_call g.next; pc = p.main } in
+      let k = place_from chain c.instances 0 in
+      let p = module_at chain k in
+      let f : Frame = record { of = k; call = fresh_call g.next; pc = p.main } in
       let d = (brought_in chain pieces req (g, c)).1 in
-      let r = configuration g c (resting_frame 0) in
+      let r = configuration g c (resting_frame k) in
       let new = configuration (brought_in chain pieces req (g, c)).0 d f in
       let n = g.next in
       let in_brigade : Brigade = record { name = n + 1; on = None; mark = Usable; items = named_from (bucket_of n req) (n + 2) pieces } in
-      let live : is_live (pools_of g c) req ≡ true = path_live (pools_of g c) req req _ ((was.pools.sound (resting_frame 0)).req req is).0 in
-      let fits : FitsBrigade (InCall p new) (holds NoLateData only_call) (var.Live in_brigade) =
-      (refl, (refl, buckets_as_pieces n req (n + 2) pieces ∙ late, pieces_covered p new req (n + 2) pieces is live)) in
-      main_begins p (Lives d f []) (var.Live in_brigade) s r n (n + 2 + length pieces) p.main (between_unset p (Some s) s bounded shape refl)
-      (brigade_more (InCall p new) (Covers p (pool_view new) (Lives d f []))
-      (covers_more p (pool_view new) (pool_view new) (LivesIn n c.req) (Lives d f []) refl (λ m l. l) (λ k m e. e) (lives_first d f)) (holds NoLateData only_call) (var.Live in_brigade) fits) h
+      let brought : Instance = set_in (var.Live in_brigade) (c.instances k) in
+      let x : Configuration = record new { instance = brought } in
+      let live : is_live (pools_of g c) req ≡ true = path_live (pools_of g c) req req _ ((was.pools.sound (resting_frame k)).req req is).0 in
+      let fits : FitsBrigade (InCall p x) (holds NoLateData only_call) (var.Live in_brigade) =
+      (refl, (refl, buckets_as_pieces n req (n + 2) pieces ∙ late, pieces_covered p x req (n + 2) pieces is live)) in
+      subst (λ (i : Instance). Fits (Covers p (pool_view (record new { instance = i })) (Lives d f [])) (at_main s) (record new { instance = i })) (sym (upd_at c.instances k brought))
+      (main_begins p (Lives d f []) (var.Live in_brigade) s r n (n + 2 + length pieces) p.main (between_unset p (Some s) s bounded shape refl)
+      (brigade_more (InCall p x) (Covers p (pool_view x) (Lives d f []))
+      (covers_more p (pool_view x) (pool_view x) (LivesIn n c.req) (Lives d f []) refl (λ m l. l) (λ k m e. e) (lives_first d f)) (holds NoLateData only_call) (var.Live in_brigade) fits) h)
 
   brought_named : (pieces : List Piece) (req : ℕ) (g : Common) (c : Connection) (k : ℕ) (j : PoolRef) (n : ℕ) → named_at (pool_view (configuration g c (resting_frame k))) j ≡ Some n
       → named_at (pool_view (record (configuration (brought_in chain pieces req (g, c)).0 (brought_in chain pieces req (g, c)).1 (resting_frame k)) { instance = c.instances k })) j ≡ Some n
@@ -233,7 +254,7 @@ module _ (chain : List Program) (certs : ℕ → Certificate) (some : 0 < length
   brought_named pieces req g c k (pool.Own q) n e = e
 
   -- the others rest as they were
-  brought_rests : (pieces : List Piece) (req : ℕ) (g : Common) (c : Connection) (k : ℕ) → k ≢ 0 → (o : Option State) → RestsIn chain g c k o
+  brought_rests : (pieces : List Piece) (req : ℕ) (g : Common) (c : Connection) (k : ℕ) → k ≢ place_from chain c.instances 0 → (o : Option State) → RestsIn chain g c k o
       → RestsIn chain (brought_in chain pieces req (g, c)).0 (brought_in chain pieces req (g, c)).1 k o
   unfolding configuration
   brought_rests pieces req g c k differ None h = h
@@ -242,7 +263,7 @@ module _ (chain : List Program) (certs : ℕ → Certificate) (some : 0 < length
       let new = (brought_in chain pieces req (g, c)).0 in
       let d = (brought_in chain pieces req (g, c)).1 in
       let r = configuration g c (resting_frame k) in
-      let same : d.instances k ≡ c.instances k = upd_off c.instances 0 k (set_in _ (c.instances 0)) differ in
+      let same : d.instances k ≡ c.instances k = upd_off c.instances (place_from chain c.instances 0) k (set_in _ (c.instances (place_from chain c.instances 0))) differ in
       subst (λ (i : Instance). (let x = record (configuration new d (resting_frame k)) { instance = i } in Fits (Between p x) s x)) (sym same)
       (let x = record (configuration new d (resting_frame k)) { instance = c.instances k } in
       fits_among (Between p r) (Between p x) s r x.shared 0 x.out (covers_more p (pool_view r) (pool_view x) NoneLives NoneLives refl (λ n live. live) (brought_named pieces req g c k) (λ y l. l))
@@ -256,17 +277,18 @@ module _ (chain : List Program) (certs : ℕ → Certificate) (some : 0 < length
   brought_stands pieces req g c idle is late was stands sound =
       let new = (brought_in chain pieces req (g, c)).0 in
       let d = (brought_in chain pieces req (g, c)).1 in
-      let p = module_at chain 0 in
-      let f : Frame = record { of = 0; call = fresh_call g.next; pc = p.main } in
+      let k = place_from chain c.instances 0 in
+      let p = module_at chain k in
+      let f : Frame = record { of = k; call = fresh_call g.next; pc = p.main } in
       record {
         stack = (
-          runs_of chain certs new d f [] ((certs 0).at p.main) refl
-              (fits_flow p (Lives d f []) (greater_fits {lives = Lives d f []}) (configuration new d f) (main_from (certs 0).ready) ((certs 0).at p.main) (sound_top chain new d f [] refl sound)
+          runs_of chain certs new d f [] ((certs k).at p.main) refl
+              (fits_flow p (Lives d f []) (greater_fits {lives = Lives d f []}) (configuration new d f) (main_from (certs k).ready) ((certs k).at p.main) (sound_top chain new d f [] refl sound)
               (sound.pools.declared f)
-              ((typed 0 some).0.at p.main) (typed 0 some).1.serves
-              (brought_fits pieces req g c (certs 0).ready (between_bounded 0 some (Some req)) (between_shape 0 some (Some req)) is late was
-              (rests_between chain certs g c idle was stands 0 some (Some req) is))),
+              ((typed k (first_in_places chain c.instances)).0.at p.main) (typed k (first_in_places chain c.instances)).1.serves
+              (brought_fits pieces req g c (certs k).ready (between_bounded k (first_in_places chain c.instances) (Some req)) (between_shape k (first_in_places chain c.instances) (Some req)) is late was
+              (rests_between chain certs g c idle was stands k (first_in_places chain c.instances) (Some req) is))),
           tt,
         );
-        rests = λ k inside off. brought_rests pieces req g c k (off_parts k f [] off).0 (known_of chain certs d k) (stands.rests k inside (ap (is_on k) idle));
+        rests = λ j inside off. brought_rests pieces req g c j (off_parts j f [] off).0 (known_of chain certs d j) (stands.rests j inside (ap (is_on j) idle));
       }

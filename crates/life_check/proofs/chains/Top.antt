@@ -16,7 +16,7 @@ use Rattle.life_state.specs.Rules.{Edges, edges, first_need}
 use Rattle.life_state.specs.States.{State}
 use Rattle.life_check.specs.Certificates.{Certificate}
 use Rattle.life_check.specs.ChainMeaning.{Lives, FitsFrame, TopFits, AllWait, StackStands, ChainStands}
-use Rattle.life_check.specs.ChainTheorem.{AllTyped}
+use Rattle.life_check.proofs.chains.Output.{AllPlacesTyped}
 use Rattle.life_check.specs.Meaning.{Covers}
 use Rattle.life_check.specs.Soundness.{LivesOutside, MeetsNeeds, wants_request}
 use Rattle.life_check.specs.Typed.{IsLed, exits, leads_on}
@@ -64,7 +64,7 @@ module _ (chain : List Program) (certs : ℕ → Certificate) (g : Common) (c : 
   ]
 
   -- sounds: what the call sees is sound
-  pub top_met : ((k : ℕ) → IsModule (module_at chain k)) → AllTyped chain certs → ChainSound chain g c → Sound (configuration g c f) → ChainStands chain certs g c → c.stack ≡ f ∷ rest
+  pub top_met : ((k : ℕ) → IsModule (module_at chain k)) → AllPlacesTyped chain certs → ChainSound chain g c → Sound (configuration g c f) → ChainStands chain certs g c → c.stack ≡ f ∷ rest
       → MetOnTop chain certs g c f rest
   unfolding configuration
   top_met proper typed sound sounds stands top =
@@ -88,7 +88,7 @@ module _ (chain : List Program) (certs : ℕ → Certificate) (g : Common) (c : 
       }
 
   -- the instruction of the call on top has no fault
-  pub top_faultless : ((k : ℕ) → IsModule (module_at chain k)) → AllTyped chain certs → ChainSound chain g c → Sound (configuration g c f) → ChainStands chain certs g c → c.stack ≡ f ∷ rest
+  pub top_faultless : ((k : ℕ) → IsModule (module_at chain k)) → AllPlacesTyped chain certs → ChainSound chain g c → Sound (configuration g c f) → ChainStands chain certs g c → c.stack ≡ f ∷ rest
       → fault (module_at chain f.of) (configuration g c f) (next_of chain f) ≡ None
   top_faultless proper typed sound sounds stands top = (top_met proper typed sound sounds stands top).faultless
 

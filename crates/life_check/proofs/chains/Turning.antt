@@ -11,9 +11,9 @@ use Rattle.run_model.specs.declared.event.Stepped.{Stepped}
 use Rattle.run_model.specs.declared.fault.FaultKind.{FaultKind}
 use Rattle.run_model.specs.Faults.{fault}
 use Rattle.run_model.specs.Steps.{lacks_names, grows, current, is_spent}
-use Rattle.run_model.specs.Chains.{Frame, Connection, Common, Linked, module_at, configuration, IsChain}
-use Rattle.run_model.specs.Passing.{Reads, next_called, returned_from, returns, proceeds}
-use Rattle.run_model.specs.Turns.{calls_of, broken_by, counted, executed, unless_fault, watched, step_top, step_unless, steps}
+use Rattle.run_model.specs.Chains.{Frame, Connection, Common, Linked, module_at, configuration, IsChain, is_last}
+use Rattle.run_model.specs.Passing.{Reads, next_called, returned_from, returns, proceeds, put_out_by, answered_so}
+use Rattle.run_model.specs.Turns.{calls_of, broken_by, counted, executed, unless_fault, watched, step_top, step_unless, steps, puts_out}
 use Rattle.model_laws.specs.ChainSound.{ChainSound}
 use Rattle.model_laws.specs.ChainLaws.{MayProceed, after_top}
 use Rattle.life_check.specs.Certificates.{Certificate}
@@ -51,10 +51,14 @@ unfolding returned_from
 returns_answer chain s f [] v = next_answers chain s v.1.queue _
 returns_answer chain s f (w ∷ rest) v = tt
 
+so_answered : (well : Bool) (t : Stepped) → NoFaultIn (Ok t) → NoFaultIn (Ok (answered_so well t))
+so_answered true t none = none
+so_answered false t none = tt
+
 proceeds_answer : (chain : List Program) (reads : Reads) (i : Instr) (f : Frame) (rest : List Frame) (v : Linked) → NoFaultIn (Ok (proceeds chain reads i f rest v).0)
 unfolding proceeds
 proceeds_answer chain reads (instr.Pass b l) f rest v = tt
-proceeds_answer chain reads (instr.Ret s) f rest v = returns_answer chain s f rest v
+proceeds_answer chain reads (instr.Ret s) f rest v = so_answered (put_out_by chain reads f v.1).1 (returns chain s f rest v).0 (returns_answer chain s f rest v)
 proceeds_answer chain reads i f rest v = tt
 
 counted_stands : (chain : List Program) (certs : ℕ → Certificate) (a : Stepped × Linked) → NoFaultIn (Ok a.0) → ChainStands chain certs a.1.0 a.1.1 → Answered chain certs (counted a)
@@ -72,25 +76,25 @@ module _ (chain : List Program) (certs : ℕ → Certificate) (proper : IsChain 
       → Answered chain certs (executed memory chain reads (current (module_at chain f.of) f.pc) f rest (g, c))
   unfolding executed
   executed_stands f rest on faultless =
-      by_names (lacks_names (configuration g c f) (current (module_at chain f.of) f.pc) || is_spent g.next (calls_of chain (current (module_at chain f.of) f.pc) f rest c.queue)) refl where
+      by_names (lacks_names (configuration g c f) (current (module_at chain f.of) f.pc) || is_spent g.next (calls_of (is_last chain c f.of) (current (module_at chain f.of) f.pc) rest c.queue)) refl where
         by_memory : (b : Bool) → (lacks_names (configuration g c f) (current (module_at chain f.of) f.pc) || is_spent g.next
-            (calls_of chain (current (module_at chain f.of) f.pc) f rest c.queue)) ≡ false
+            (calls_of (is_last chain c f.of) (current (module_at chain f.of) f.pc) rest c.queue)) ≡ false
             → Answered chain certs (cond b (counted (proceeds chain reads (current (module_at chain f.of) f.pc) f rest (g, c))) (broken_by cause.NoMemory (g, c)))
         by_memory false last = broken_stands chain certs cause.NoMemory (g, c)
         by_memory true last =
             let both = not_either (lacks_names (configuration g c f) (current (module_at chain f.of) f.pc))
-            (is_spent g.next (calls_of chain (current (module_at chain f.of) f.pc) f rest c.queue)) last in
+            (is_spent g.next (calls_of (is_last chain c f.of) (current (module_at chain f.of) f.pc) rest c.queue)) last in
             let may : MayProceed chain g c f rest = record { chained = proper; on_top = on; faultless = faultless; names_last = both.0; calls_last = both.1 } in
             counted_stands chain certs (proceeds chain reads (current (module_at chain f.of) f.pc) f rest (g, c))
             (proceeds_answer chain reads (current (module_at chain f.of) f.pc) f rest (g, c)) (top.lands reads g c f rest may sound stands)
 
-        by_names : (b : Bool) → (lacks_names (configuration g c f) (current (module_at chain f.of) f.pc) || is_spent g.next (calls_of chain (current (module_at chain f.of) f.pc) f rest c.queue)) ≡ b
+        by_names : (b : Bool) → (lacks_names (configuration g c f) (current (module_at chain f.of) f.pc) || is_spent g.next (calls_of (is_last chain c f.of) (current (module_at chain f.of) f.pc) rest c.queue)) ≡ b
             → Answered chain certs (cond b (broken_by cause.NamesSpent (g, c))
-            (cond (memory || not (grows (configuration g c f) (current (module_at chain f.of) f.pc) || nat_lt 0 (calls_of chain (current (module_at chain f.of) f.pc) f rest c.queue)))
+            (cond (memory || not (grows (configuration g c f) (current (module_at chain f.of) f.pc) || nat_lt 0 (calls_of (is_last chain c f.of) (current (module_at chain f.of) f.pc) rest c.queue) || puts_out chain f (g, c)))
             (counted (proceeds chain reads (current (module_at chain f.of) f.pc) f rest (g, c))) (broken_by cause.NoMemory (g, c))))
         by_names true last = broken_stands chain certs cause.NamesSpent (g, c)
         by_names false last =
-            by_memory (memory || not (grows (configuration g c f) (current (module_at chain f.of) f.pc) || nat_lt 0 (calls_of chain (current (module_at chain f.of) f.pc) f rest c.queue))) last
+            by_memory (memory || not (grows (configuration g c f) (current (module_at chain f.of) f.pc) || nat_lt 0 (calls_of (is_last chain c f.of) (current (module_at chain f.of) f.pc) rest c.queue) || puts_out chain f (g, c))) last
 
   watched_stands : (f : Frame) (rest : List Frame) → c.stack ≡ f ∷ rest → Answered chain certs (watched memory chain reads f rest (g, c))
   watched_stands f rest on = by_fault (fault (module_at chain f.of) (configuration g c f) (current (module_at chain f.of) f.pc)) faultless where

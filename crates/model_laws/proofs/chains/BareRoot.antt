@@ -1,4 +1,6 @@
 -- Nothing is registered on the root.
+use Rattle.run_model.specs.declared.effect.CleanupKind.{CleanupKind}
+use Rattle.run_model.specs.declared.effect.CleanupKind.TheVariants.{Plain, Pre}
 use Rattle.std.proofs.Common.{subst, ◌≡◌, ℕ, ◌<◌, ◌≤◌, Bool, List, [], ◌∷◌, filter_map, Option, Some, None, inl, inr, refl, sym, ◌∙◌, ap, arith}
 use Rattle.std.proofs.lemmas.Bool.Decides.{eqb_tells}
 use Rattle.module_code.specs.declared.instr.Instr.{Instr}
@@ -7,7 +9,7 @@ use Rattle.module_code.specs.declared.instr.PoolRef.{PoolRef}
 use Rattle.module_code.specs.Program.{Program, pool_of_brigade}
 use Rattle.run_model.specs.declared.payload.Payload.{Payload}
 use Rattle.run_model.specs.declared.payload.Payload.TheVariants.{FileRef}
-use Rattle.run_model.specs.Pools.{Pools, is_under, created, destroyed, registered}
+use Rattle.run_model.specs.Pools.{Pools, is_under, created, destroyed, registered, registered_as, no_cleanups}
 use Rattle.run_model.specs.RunOrder.{killed}
 use Rattle.run_model.specs.Clearing.{run_down}
 use Rattle.run_model.specs.Cursors.{Place, at_cursor}
@@ -49,15 +51,15 @@ brigade_newer p r s d b n is =
 
 module _ (root : ℕ) where
   abbrev pub IsBare : Pools Payload → Type 0
-  IsBare ps = ps.payloads root ≡ []
+  IsBare ps = ps.payloads root ≡ no_cleanups
 
   pub created_bare : (parent : ℕ) (ps : Pools Payload) → root < ps.next → IsBare ps → IsBare (created parent ps)
   unfolding created
-  created_bare parent ps newer bare = upd_off ps.payloads ps.next root [] (λ same. absurd (omega (arith, same))) ∙ bare
+  created_bare parent ps newer bare = upd_off ps.payloads ps.next root no_cleanups (λ same. absurd (omega (arith, same))) ∙ bare
 
-  registered_bare : (p : ℕ) (x : Payload) (ps : Pools Payload) → root < p → IsBare ps → IsBare (registered p x ps)
-  unfolding registered
-  registered_bare p x ps newer bare = upd_off ps.payloads p root _ (λ same. absurd (omega (arith, same))) ∙ bare
+  registered_bare : (how : CleanupKind) (p : ℕ) (x : Payload) (ps : Pools Payload) → root < p → IsBare ps → IsBare (registered_as how p x ps)
+  unfolding registered_as
+  registered_bare how p x ps newer bare = upd_off ps.payloads p root _ (λ same. absurd (omega (arith, same))) ∙ bare
 
   killed_bare : (p : ℕ) (test : Payload → Bool) (ps : Pools Payload) → root < p → IsBare ps → IsBare (killed p test ps)
   unfolding killed
@@ -69,7 +71,7 @@ module _ (root : ℕ) where
   referred_bare : (target : ℕ) (files : List ℕ) (ps : Pools Payload) → root < target → IsBare ps → IsBare (all_referred target files ps)
   unfolding all_referred
   referred_bare target [] ps newer bare = bare
-  referred_bare target (file ∷ files) ps newer bare = referred_bare target files (registered target (FileRef file) ps) newer (registered_bare target (FileRef file) ps newer bare)
+  referred_bare target (file ∷ files) ps newer bare = referred_bare target files (registered target (FileRef file) ps) newer (registered_bare Plain target (FileRef file) ps newer bare)
 
   -- Steps.
 
@@ -79,7 +81,7 @@ module _ (root : ℕ) where
   with_brigade_bare : (on : Option ℕ) (name : ℕ) (ps : Pools Payload) → ((n : ℕ) → on ≡ Some n → root < n) → IsBare ps → IsBare (with_brigade on name ps)
   unfolding with_brigade
   with_brigade_bare None name ps newer bare = bare
-  with_brigade_bare (Some n) name ps newer bare = registered_bare n _ ps (newer n refl) bare
+  with_brigade_bare (Some n) name ps newer bare = registered_bare Plain n _ ps (newer n refl) bare
 
   aside_bare : (s : Place) (target : ℕ) (r : Configuration) → root < target → Bares r → Bares (aside_into s target r)
   aside_bare s target r newer bare = (let left = aside_pools s target r in subst IsBare (sym left.1) (referred_bare target left.0 r.shared.pools newer bare))
@@ -93,7 +95,8 @@ module _ (root : ℕ) where
     step_bare choice (instr.PCreate q) bare = made_under_named Bares p q r bare (λ parent is. created_bare parent r.shared.pools (let lt = conn_given r s in omega arith) bare)
     step_bare choice (instr.PClear q) bare = on_emptied Bares Clear q r bare (λ n left is so. emptied_bare n r.shared.pools left so.payloads bare)
     step_bare choice (instr.PDestroy q) bare = on_emptied Bares Destroy q r bare (λ n left is so. emptied_bare n r.shared.pools left so.payloads bare)
-    step_bare choice (instr.Label q t) bare = on_named Bares (label_registered (text_of p t)) (pool_named r q) r bare (λ n is. registered_bare n _ r.shared.pools (named_after q n is) bare)
+    step_bare choice (instr.Label q t) bare = on_named Bares (label_registered Plain (text_of p t)) (pool_named r q) r bare (λ n is. registered_bare Plain n _ r.shared.pools (named_after q n is) bare)
+    step_bare choice (instr.PreLabel q t) bare = on_named Bares (label_registered Pre (text_of p t)) (pool_named r q) r bare (λ n is. registered_bare Pre n _ r.shared.pools (named_after q n is) bare)
     step_bare choice (instr.Unlabel q t) bare = on_named Bares (label_killed (text_of p t)) (pool_named r q) r bare (λ n is. killed_bare n _ r.shared.pools (named_after q n is) bare)
     step_bare choice (instr.BCreate o) bare = with_brigade_bare (pool_named r (pool_of_brigade p o)) r.shared.next r.shared.pools (λ n is. named_after (pool_of_brigade p o) n is) bare
     step_bare choice (instr.BSave o b) bare = on_named Bares (saved_into o b) (made_on (r.instance.brigades o)) r bare (λ n is.
@@ -111,8 +114,8 @@ module _ (root : ℕ) where
       proceeds_so (λ ps files next req. IsBare ps) chain reads i f rest g c
       (λ choice. step_bare (module_at chain f.of) (configuration g c f) (s.pools.sound f) (s.pools.declared f) newer choice i bare) bare
 
-  pub turn_bare : (chain : List Program) (g : Common) (c : Connection) (v : Linked) → EventTurn chain AnyLength g c v → ChainSound chain g c → root < c.conn → c.payloads root ≡ []
-      → v.1.payloads root ≡ []
+  pub turn_bare : (chain : List Program) (g : Common) (c : Connection) (v : Linked) → EventTurn chain AnyLength g c v → ChainSound chain g c → root < c.conn → c.payloads root ≡ no_cleanups
+      → v.1.payloads root ≡ no_cleanups
   unfolding begun all_called configuration run_down with_pools
   turn_bare chain g c v (Stood out broken) s newer bare = bare
   turn_bare chain g c v (Went reads f rest whole may) s newer bare = went_bare chain reads f rest g c s newer bare
@@ -120,5 +123,5 @@ module _ (root : ℕ) where
       created_bare c.conn (pools_of g c) (let lt = conn_given (configuration g c (looking 0)) (s.pools.sound (looking 0)) in omega arith) bare
   turn_bare chain g c v (Brought pieces req whole idle is there next) s newer bare = bare
   turn_bare chain g c v (FileTaken req file bytes whole idle is short newest last) s newer bare =
-      registered_bare req (FileRef file) (pools_of g c) (let lt = ((s.pools.sound (looking 0)).req req is).1 in omega arith) bare
+      registered_bare Plain req (FileRef file) (pools_of g c) (let lt = ((s.pools.sound (looking 0)).req req is).1 in omega arith) bare
   turn_bare chain g c v (Ended req whole idle is) s newer bare = emptied_bare req (pools_of g c) (destroyed req (pools_of g c)) (destroyed_emptied req (pools_of g c)) bare

@@ -12,7 +12,7 @@ use Rattle.run_model.specs.BrigadeLists.{bucket_named}
 use Rattle.module_code.specs.declared.instr.Status.{Status}
 use Rattle.run_model.specs.Clearing.{cleared_var}
 use Rattle.run_model.specs.Pools.{is_under}
-use Rattle.run_model.specs.Chains.{Frame, Connection, Common, Linked, module_at, is_last, configuration, pools_of, touched_var, touched_instance, put_back, stepped_in}
+use Rattle.run_model.specs.Chains.{Frame, Connection, Common, Linked, module_at, is_last, next_place, configuration, pools_of, touched_var, touched_instance, put_back, stepped_in, places, place_from}
 use Rattle.run_model.specs.Effects.{do_pass, do_return}
 use Rattle.run_model.specs.Indexed.{upd}
 use Rattle.run_model.specs.Passing.{Reads, passed_to, returned_to, delivered, delivered_by, next_called, returned_from, proceeds}
@@ -30,13 +30,13 @@ use Rattle.model_laws.specs.ChainFiles.{OfEachBucket}
 use Rattle.model_laws.specs.ChainSound.{count_at, count_loose, count_in, ChainNames, ChainSound, IsFramePlaced}
 use Rattle.model_laws.proofs.chains.EachBucket.{LooseOf, no_calls, one_call}
 use Rattle.model_laws.proofs.chains.EventTurns.{EventTurn, Stood, Went, Begun, Brought, FileTaken, Ended}
-use Rattle.model_laws.proofs.chains.Modules.{next_in_chain}
+use Rattle.model_laws.proofs.chains.Modules.{next_in_chain, first_in_places}
 use Rattle.model_laws.proofs.chains.Names.{left_either}
 use Rattle.model_laws.proofs.chains.WorldKept.{AnyLength}
 
 -- instances past the end of the chain have no brigades
 abbrev pub NoneBeyond : List Program → Connection → Type 0
-NoneBeyond chain c = (k b : ℕ) → length chain ≤ k → (c.instances k).brigades b ≡ var.Null
+NoneBeyond chain c = (k b : ℕ) → places chain ≤ k → (c.instances k).brigades b ≡ var.Null
 
 -- One name.
 
@@ -47,7 +47,7 @@ all_other P n (x ∷ xs) none =
     All-cons (λ y. y.name ≡ n → P y) x xs (λ same. absurd (let one : ◌≡◌ {A = ℕ} (cond (x.name == n) 1 0) 1 = ap (λ (t : Bool). cond t 1 0) (eq-eqb x.name n same) in omega arith))
     (all_other P n xs (omega arith))
 
-module _ (chain : List Program) (g : Common) (c : Connection) (names : ChainNames chain g c) (beyond : NoneBeyond chain c) (j d n : ℕ) (z : NamedBucket) (placed : j < length chain)
+module _ (chain : List Program) (g : Common) (c : Connection) (names : ChainNames chain g c) (beyond : NoneBeyond chain c) (j d n : ℕ) (z : NamedBucket) (placed : j < places chain)
     (there : bucket_named n (items_of ((c.instances j).brigades d)) ≡ Some z) where
   here : 1 ≤ count_named n (items_of ((c.instances j).brigades d))
   here = subst (λ (m : ℕ). 1 ≤ count_named m (items_of ((c.instances j).brigades d))) (named_is n (items_of ((c.instances j).brigades d)) z there)
@@ -63,24 +63,24 @@ module _ (chain : List Program) (g : Common) (c : Connection) (names : ChainName
   in_place : count_named n (items_of ((c.instances j).brigades d)) ≤ count_at (c.instances j) n
   in_place = term_below 9 d (λ b. count_named n (items_of ((c.instances j).brigades b))) low
 
-  of_chain : count_at (c.instances j) n ≤ sum_below (length chain) (λ k. count_at (c.instances k) n)
-  of_chain = term_below (length chain) j (λ k. count_at (c.instances k) n) placed
+  of_chain : count_at (c.instances j) n ≤ sum_below (places chain) (λ k. count_at (c.instances k) n)
+  of_chain = term_below (places chain) j (λ k. count_at (c.instances k) n) placed
 
-  total : sum_below (length chain) (λ k. count_at (c.instances k) n) + count_loose c.stack n ≤ 1
+  total : sum_below (places chain) (λ k. count_at (c.instances k) n) + count_loose c.stack n ≤ 1
   unfolding count_in
   total = names.once n
 
   -- in another brigade there is none of this name
   elsewhere : (k b : ℕ) → (k ≢ j) ⊎ (b ≢ d) → count_named n (items_of ((c.instances k).brigades b)) ≡ 0
-  elsewhere k b differ = elim (cases_lt k (length chain)) [
+  elsewhere k b differ = elim (cases_lt k (places chain)) [
     | inr past ↦ ap (λ (v : BrigadeVar). count_named n (items_of v)) (beyond k b past) ∙ count_none n
     | inl inside ↦ elim (cases_lt b 9) [
       | inr past ↦ ap (λ (v : BrigadeVar). count_named n (items_of v)) (names.slots k b past) ∙ count_none n
       | inl slot ↦ (let some = here in let all = total in let first = in_place in let second = of_chain in
           let one : count_named n (items_of ((c.instances k).brigades b)) ≤ count_at (c.instances k) n = term_below 9 b (λ a. count_named n (items_of ((c.instances k).brigades a))) slot in
           elim (cases_eq k j) [
-            | inr off ↦ (let both : count_at (c.instances k) n + count_at (c.instances j) n ≤ sum_below (length chain) (λ i. count_at (c.instances i) n) =
-                two_below (length chain) k j (λ i. count_at (c.instances i) n) inside placed off in omega arith)
+            | inr off ↦ (let both : count_at (c.instances k) n + count_at (c.instances j) n ≤ sum_below (places chain) (λ i. count_at (c.instances i) n) =
+                two_below (places chain) k j (λ i. count_at (c.instances i) n) inside placed off in omega arith)
             | inl same ↦ elim differ [
               | inl off ↦ absurd (off same)
               | inr off ↦ (let both : count_named n (items_of ((c.instances k).brigades b)) + count_named n (items_of ((c.instances k).brigades d)) ≤ count_at (c.instances k) n =
@@ -125,7 +125,7 @@ null_touched r i v is = ap (touched_var r i) is ∙ by_instruction i where
   by_instruction (instr.Ret s) = refl
   by_instruction i = refl
 
-module _ (chain : List Program) (g : Common) (c : Connection) (f : Frame) (beyond : NoneBeyond chain c) (placed : f.of < length chain) where
+module _ (chain : List Program) (g : Common) (c : Connection) (f : Frame) (beyond : NoneBeyond chain c) (placed : f.of < places chain) where
   put_beyond : (i : Instr) (s : Configuration) (top rest : List Frame) → NoneBeyond chain (put_back i f s top rest (g, c)).1
   unfolding put_back
   put_beyond i s top rest k b past = elim (left_either f.of s.instance (touched_instance (touched_var (configuration g c f) i)) c.instances k) [
@@ -137,25 +137,25 @@ module _ (chain : List Program) (g : Common) (c : Connection) (f : Frame) (beyon
   unfolding stepped_in
   stepped_beyond p choice i rest = put_beyond i _ _ rest
 
-  passed_beyond : (callee : Program) (b : ℕ) (rest : List Frame) → f.of + 1 < length chain → NoneBeyond chain (passed_to callee b f rest (g, c)).1
+  passed_beyond : (callee : Program) (to b : ℕ) (rest : List Frame) → to < places chain → NoneBeyond chain (passed_to callee to b f rest (g, c)).1
   unfolding passed_to
-  passed_beyond callee b rest next k d past =
-      ap (λ (x : Instance). x.brigades d) (upd_off (upd c.instances f.of (do_pass b (configuration g c f)).instance) (f.of + 1) k _ (λ e. absurd (omega (arith, e, past, next)))
+  passed_beyond callee to b rest next k d past =
+      ap (λ (x : Instance). x.brigades d) (upd_off (upd c.instances f.of (do_pass b (configuration g c f)).instance) to k _ (λ e. absurd (omega (arith, e, past, next)))
       ∙ upd_off c.instances f.of k _ (λ e. absurd (omega (arith, e, past, placed)))) ∙ beyond k d past
 
-  returned_beyond : (caller : Program) (s : Status) (w : Frame) (rest : List Frame) → w.of < length chain → NoneBeyond chain (returned_to caller s f w rest (g, c)).1
+  returned_beyond : (caller : Program) (s : Status) (w : Frame) (rest : List Frame) → w.of < places chain → NoneBeyond chain (returned_to caller s f w rest (g, c)).1
   unfolding returned_to
   returned_beyond caller s w rest waits k d past =
       ap (λ (x : Instance). x.brigades d) (upd_off _ w.of k _ (λ e. absurd (omega (arith, e, past, waits)))) ∙ put_beyond (instr.Ret s) (do_return (configuration g c f)) [] (w ∷ rest) k d past
 
-  proceeds_beyond : (reads : Reads) (i : Instr) (rest : List Frame) → ((w : Frame) (more : List Frame) → rest ≡ w ∷ more → w.of < length chain)
+  proceeds_beyond : (reads : Reads) (i : Instr) (rest : List Frame) → ((w : Frame) (more : List Frame) → rest ≡ w ∷ more → w.of < places chain)
       → NoneBeyond chain (proceeds chain reads i f rest (g, c)).1.1
   unfolding proceeds delivered_by returned_from
-  proceeds_beyond reads (instr.Pass b l) rest waits = by_last (is_last chain f.of) refl where
-    by_last : (t : Bool) → is_last chain f.of ≡ t
-        → NoneBeyond chain (cond t (delivered_by (module_at chain f.of) reads b (instr.Pass b l) f rest (g, c)) (passed_to (module_at chain (f.of + 1)) b f rest (g, c))).1
+  proceeds_beyond reads (instr.Pass b l) rest waits = by_last (is_last chain c f.of) refl where
+    by_last : (t : Bool) → is_last chain c f.of ≡ t
+        → NoneBeyond chain (cond t (delivered_by (module_at chain f.of) reads b (instr.Pass b l) f rest (g, c)) (passed_to (module_at chain (next_place chain c f.of)) (next_place chain c f.of) b f rest (g, c))).1
     by_last true is = stepped_beyond (module_at chain f.of) (record { answer = answer_to (delivered c.out (items_of ((c.instances f.of).brigades b)) reads).1; given = None }) (instr.Pass b l) rest
-    by_last false is = passed_beyond (module_at chain (f.of + 1)) b rest (next_in_chain chain f.of is)
+    by_last false is = passed_beyond (module_at chain (next_place chain c f.of)) (next_place chain c f.of) b rest (let lt = next_in_chain chain c f.of is in omega arith)
   proceeds_beyond reads (instr.Ret s) [] waits = by_queue c.queue where
     by_queue : (queue : List ℕ) → NoneBeyond chain (next_called chain s queue (put_back (instr.Ret s) f (do_return (configuration g c f)) [] [] (g, c))).1.1
     by_queue [] = put_beyond (instr.Ret s) (do_return (configuration g c f)) [] []
@@ -163,11 +163,11 @@ module _ (chain : List Program) (g : Common) (c : Connection) (f : Frame) (beyon
   proceeds_beyond reads (instr.Ret s) (w ∷ rest) waits = returned_beyond (module_at chain w.of) s w rest (waits w rest refl)
   proceeds_beyond reads i rest waits = stepped_beyond (module_at chain f.of) (record { answer = answer_to true; given = reads 0 }) i rest
 
-pub turn_beyond : (chain : List Program) (g : Common) (c : Connection) (v : Linked) → 0 < length chain → EventTurn chain AnyLength g c v → ChainSound chain g c → NoneBeyond chain c
+pub turn_beyond : (chain : List Program) (g : Common) (c : Connection) (v : Linked) → EventTurn chain AnyLength g c v → ChainSound chain g c → NoneBeyond chain c
     → NoneBeyond chain v.1
 unfolding begun all_called
-turn_beyond chain g c v some (Stood out broken) s h = h
-turn_beyond chain g c v some (Went reads f rest whole may) s h = proceeds_beyond chain g c f h (placed.of) reads _ rest (λ w more e. (waits w more e).of) where
+turn_beyond chain g c v (Stood out broken) s h = h
+turn_beyond chain g c v (Went reads f rest whole may) s h = proceeds_beyond chain g c f h (placed.of) reads _ rest (λ w more e. (waits w more e).of) where
   all : All (IsFramePlaced chain c.req) (f ∷ rest)
   all = subst (λ (fs : List Frame). All (IsFramePlaced chain c.req) fs) may.on_top s.calls.placed
 
@@ -176,8 +176,8 @@ turn_beyond chain g c v some (Went reads f rest whole may) s h = proceeds_beyond
 
   waits : (w : Frame) (more : List Frame) → rest ≡ w ∷ more → IsFramePlaced chain c.req w
   waits w more e = All-head (IsFramePlaced chain c.req) w more (subst (λ (fs : List Frame). All (IsFramePlaced chain c.req) fs) e (All-tail (IsFramePlaced chain c.req) f rest all))
-turn_beyond chain g c v some (Begun whole idle no_request pools next) s h = h
-turn_beyond chain g c v some (Brought pieces req whole idle is there next) s h =
-    λ k b past. ap (λ (x : Instance). x.brigades b) (upd_off c.instances 0 k _ (λ e. absurd (omega (arith, e, past, some)))) ∙ h k b past
-turn_beyond chain g c v some (FileTaken req file bytes whole idle is short newer last) s h = h
-turn_beyond chain g c v some (Ended req whole idle is) s h = λ k b past. ap (cleared_var (is_under (pools_of g c) req)) (h k b past)
+turn_beyond chain g c v (Begun whole idle no_request pools next) s h = h
+turn_beyond chain g c v (Brought pieces req whole idle is there next) s h =
+    λ k b past. (let inside = first_in_places chain c.instances in ap (λ (x : Instance). x.brigades b) (upd_off c.instances (place_from chain c.instances 0) k _ (λ e. absurd (omega (arith, e, past, inside)))) ∙ h k b past)
+turn_beyond chain g c v (FileTaken req file bytes whole idle is short newer last) s h = h
+turn_beyond chain g c v (Ended req whole idle is) s h = λ k b past. ap (cleared_var (is_under (pools_of g c) req)) (h k b past)

@@ -8,7 +8,7 @@ use Rattle.run_model.specs.State.{Call, Configuration}
 use Rattle.run_model.specs.Steps.{current}
 use Rattle.model_laws.proofs.chains.EachCall.{KeepsCall, one_fresh, proceeds_on, opened_on, begun_on}
 use Rattle.model_laws.specs.Ranges.{BufferInRange}
-use Rattle.run_model.specs.Chains.{Frame, Connection, Common, Linked, module_at}
+use Rattle.run_model.specs.Chains.{Frame, Connection, Common, Linked, module_at, place_from}
 use Rattle.run_model.specs.Passing.{Reads}
 use Rattle.run_model.specs.Turns.{steps, opened, begun, begins, opens_file, brought, brings, ended, ends}
 use Rattle.run_model.specs.Worlds.{Told, new_world}
@@ -40,7 +40,7 @@ module _ (chain : List Program) (g : Common) (c : Connection) (h : BuffersInRang
 
   brought_buffers : (pieces : List Piece) (req : Option ℕ) → Left (brought chain pieces req (g, c))
   brought_buffers pieces None = h
-  brought_buffers pieces (Some req) = one_fresh AnyInstr InBuffer buffers_keep g.next 0 g.next _
+  brought_buffers pieces (Some req) = one_fresh AnyInstr InBuffer buffers_keep g.next (place_from chain c.instances 0) g.next _
 
   brings_buffers : (memory : Bool) (pieces : List Piece) → Left (brings memory chain pieces (g, c)).1
   unfolding brings

@@ -12,12 +12,12 @@ use Rattle.run_model.specs.declared.payload.Payload.{Payload}
 use Rattle.run_model.specs.Indexed.{upd}
 use Rattle.run_model.specs.Pools.{Pools}
 use Rattle.run_model.specs.Buckets.{cleared_bucket, returned_bucket}
-use Rattle.run_model.specs.State.{Instance, Configuration, items_of, set_brigade}
+use Rattle.run_model.specs.State.{Out, Instance, Configuration, items_of, set_brigade}
 use Rattle.run_model.specs.Effects.{do_pass, do_return, handed_over}
 use Rattle.run_model.specs.Steps.{Choice, answer_to, current, step}
-use Rattle.run_model.specs.Chains.{Frame, Connection, Common, Linked, module_at, is_last, configuration, pools_of, touched_var, touched_bucket, touched_instance, touched_frame, cleared_by, led_to}
+use Rattle.run_model.specs.Chains.{Frame, Connection, Common, Linked, module_at, is_last, next_place, configuration, pools_of, touched_var, touched_bucket, touched_instance, touched_frame, cleared_by, led_to}
 use Rattle.run_model.specs.Chains.{put_back, stepped_in}
-use Rattle.run_model.specs.Passing.{Reads, handed_in, set_in, passed_to, passed_by, given_back, returned_to, called, delivered, delivered_by, next_called, returned_from, proceeds}
+use Rattle.run_model.specs.Passing.{Reads, handed_in, set_in, passed_to, passed_by, given_back, returned_to, called, delivered, delivered_by, next_called, returned_from, proceeds, put_out_by}
 use Rattle.model_laws.specs.Laws.{is_return}
 use Rattle.model_laws.specs.ChainFiles.{OfEachBucket}
 use Rattle.run_model.proofs.Updates.{upd_either}
@@ -61,12 +61,12 @@ module _ (T : NamedBucket → Type 0) where
   pub called_each : (chain : List Program) (k : ℕ) (queue : List ℕ) (g : Common) (c : Connection) → OfEachBucket T c → OfEachBucket T (called chain k queue (g, c)).1
   called_each chain k queue g c h = record { brigades = h.brigades; loose = one_call _ [] (none T) no_calls }
 
-  pub passed_to_each : (callee : Program) (b : ℕ) (f : Frame) (rest : List Frame) (g : Common) (c : Connection) → c.stack ≡ f ∷ rest → OfEachBucket T c
-      → OfEachBucket T (passed_to callee b f rest (g, c)).1
+  pub passed_to_each : (callee : Program) (to b : ℕ) (f : Frame) (rest : List Frame) (g : Common) (c : Connection) → c.stack ≡ f ∷ rest → OfEachBucket T c
+      → OfEachBucket T (passed_to callee to b f rest (g, c)).1
   unfolding passed_to configuration set_brigade
-  passed_to_each callee b f rest g c is h = record {
-    brigades = written_instances here (f.of + 1) (set_in (handed_in ((c.instances f.of).brigades b)) (here (f.of + 1))) in_here
-        (written_each T (here (f.of + 1)).brigades 8 (handed_in ((c.instances f.of).brigades b)) (handed_in_each ((c.instances f.of).brigades b) (h.brigades f.of b)) (in_here (f.of + 1)));
+  passed_to_each callee to b f rest g c is h = record {
+    brigades = written_instances here to (set_in (handed_in ((c.instances f.of).brigades b)) (here to)) in_here
+        (written_each T (here to).brigades 8 (handed_in ((c.instances f.of).brigades b)) (handed_in_each ((c.instances f.of).brigades b) (h.brigades f.of b)) (in_here to));
     loose = one_call _ (f ∷ rest) (none T) (subst (LooseOf T) is h.loose);
   } where
     here : ℕ → Instance
@@ -172,19 +172,23 @@ module _ (T U : Pools Payload → NamedBucket → Type 0) (chain : List Program)
             (All-tail (λ v. All V v.call.loose) _ _ left.loose);
       }
 
+  -- the output is no bucket
+  put_out : (v : Linked) (out : Out) → Left v → Left (v.0, record v.1 { out = out })
+  put_out v out h = record { brigades = h.brigades; loose = h.loose }
+
   pub proceeds_each : (reads : Reads) (i : Instr) (rest : List Frame) → c.stack ≡ f ∷ rest → Steps i → BucketBefore → Left (proceeds chain reads i f rest (g, c)).1
   unfolding proceeds returned_from passed_to configuration set_brigade
-  proceeds_each reads (instr.Pass b l) rest is steps old = by_last (is_last chain f.of) where
-    by_last : (t : Bool) → Left (cond t (delivered_by (module_at chain f.of) reads b (instr.Pass b l) f rest (g, c)) (passed_to (module_at chain (f.of + 1)) b f rest (g, c)))
+  proceeds_each reads (instr.Pass b l) rest is steps old = by_last (is_last chain c f.of) where
+    by_last : (t : Bool) → Left (cond t (delivered_by (module_at chain f.of) reads b (instr.Pass b l) f rest (g, c)) (passed_to (module_at chain (next_place chain c f.of)) (next_place chain c f.of) b f rest (g, c)))
     by_last true = delivered_each reads b (instr.Pass b l) rest is steps old
     by_last false = each_bucket_so (T (pools_of g c)) (U (pools_of g c)) (steps.touched (record { answer = answer_to true; given = None })) _
-        (passed_to_each (T (pools_of g c)) (module_at chain (f.of + 1)) b f rest g c is old)
-  proceeds_each reads (instr.Ret s) [] is steps old = next_left c.queue where
+        (passed_to_each (T (pools_of g c)) (module_at chain (next_place chain c f.of)) (next_place chain c f.of) b f rest g c is old)
+  proceeds_each reads (instr.Ret s) [] is steps old = put_out (next_called chain s c.queue back).1 (put_out_by chain reads f c).0 (next_left c.queue) where
     back : Linked
     back = put_back (instr.Ret s) f (do_return (configuration g c f)) [] [] (g, c)
 
     next_left : (queue : List ℕ) → Left (next_called chain s queue back).1
     next_left [] = back_each s [] is steps old
     next_left (k ∷ ks) = called_each (U (pools_of back.0 back.1)) chain k ks back.0 back.1 (back_each s [] is steps old)
-  proceeds_each reads (instr.Ret s) (w ∷ rest) is steps old = returned_to_each (module_at chain w.of) s w rest is steps old
+  proceeds_each reads (instr.Ret s) (w ∷ rest) is steps old = put_out (returned_to (module_at chain w.of) s f w rest (g, c)) (put_out_by chain reads f c).0 (returned_to_each (module_at chain w.of) s w rest is steps old)
   proceeds_each reads i rest is steps old = stepped_each _ i rest is steps old

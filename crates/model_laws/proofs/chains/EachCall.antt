@@ -10,7 +10,7 @@ use Rattle.run_model.specs.Sound.{Sound}
 use Rattle.run_model.specs.Effects.{do_return}
 use Rattle.run_model.specs.Steps.{Choice, answer_to, current, step}
 use Rattle.model_laws.specs.Laws.{MayExecute}
-use Rattle.run_model.specs.Chains.{Frame, Connection, Common, Linked, module_at, is_last, configuration, touched_frame, put_back, stepped_in}
+use Rattle.run_model.specs.Chains.{Frame, Connection, Common, Linked, module_at, is_last, next_place, configuration, touched_frame, put_back, stepped_in, place_from}
 use Rattle.run_model.specs.Passing.{Reads, delivered, delivered_by, passed_to, returned_to, next_called, returned_from, proceeds}
 use Rattle.run_model.specs.Turns.{all_called, opened, begun}
 use Rattle.model_laws.specs.ChainSound.{ChainSound}
@@ -74,8 +74,8 @@ module _ (Ready : Program → Instr → Configuration → Type 0) (T : ℕ → C
       → Ready (module_at chain f.of) i (configuration g c f) → On g.next (f ∷ rest)
       → Left (proceeds chain reads i f rest (g, c)).1
   unfolding proceeds returned_from returned_to passed_to put_back configuration
-  proceeds_on chain reads (instr.Pass b l) f rest g c may h = by_last (is_last chain f.of) where
-    by_last : (t : Bool) → Left (cond t (delivered_by (module_at chain f.of) reads b (instr.Pass b l) f rest (g, c)) (passed_to (module_at chain (f.of + 1)) b f rest (g, c)))
+  proceeds_on chain reads (instr.Pass b l) f rest g c may h = by_last (is_last chain c f.of) where
+    by_last : (t : Bool) → Left (cond t (delivered_by (module_at chain f.of) reads b (instr.Pass b l) f rest (g, c)) (passed_to (module_at chain (next_place chain c f.of)) (next_place chain c f.of) b f rest (g, c)))
     by_last true = delivered_on chain g c f rest h reads b (instr.Pass b l) may
     by_last false = and_call (g.next + 1) _ (f ∷ rest) (keeps.fresh (g.next + 1) g.next) (risen_on g.next (g.next + 1) (f ∷ rest) (omega arith) h)
   proceeds_on chain reads (instr.Ret s) f [] g c may h = by_queue c.queue where
@@ -110,7 +110,7 @@ module _ (T : ℕ → Call → Type 0) (keeps : KeepsCall MayGo T) where
       proceeds_on MayGo T keeps chain reads (current (module_at chain f.of) f.pc) f rest g c
       (may_step chain g c f rest may s, sound_top chain g c f rest may.on_top s) (subst (λ (fs : List Frame). All (λ w. T g.next w.call) fs) may.on_top h)
   turn_calls chain g c v (Begun whole idle none pools next) s h = begun_on MayGo T keeps chain g c
-  turn_calls chain g c v (Brought pieces req whole idle is there next) s h = one_fresh MayGo T keeps _ 0 g.next _
+  turn_calls chain g c v (Brought pieces req whole idle is there next) s h = one_fresh MayGo T keeps _ (place_from chain c.instances 0) g.next _
   turn_calls chain g c v (FileTaken req file bytes whole idle is short newer last) s h = h
   turn_calls chain g c v (Ended req whole idle is) s h = subst (λ (fs : List Frame). All (λ w. T v.0.next w.call) fs) (sym idle) (All-nil (λ (f : Frame). T v.0.next f.call))
 

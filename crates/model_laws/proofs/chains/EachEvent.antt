@@ -10,7 +10,7 @@ use Rattle.run_model.specs.declared.payload.Payload.{Payload}
 use Rattle.run_model.specs.Pools.{Pools, created, is_under}
 use Rattle.run_model.specs.Buckets.{cleared_bucket}
 use Rattle.run_model.specs.Pieces.{bucket_of, named_from}
-use Rattle.run_model.specs.Chains.{Connection, Common, pools_of}
+use Rattle.run_model.specs.Chains.{Connection, Common, pools_of, place_from}
 use Rattle.run_model.specs.Passing.{set_in}
 use Rattle.run_model.specs.Turns.{all_called, with_pools, fresh_connection, opened, begun, brought_in, request_over}
 use Rattle.model_laws.specs.ChainFiles.{OfEachBucket}
@@ -34,9 +34,12 @@ module _ (T : NamedBucket → Type 0) where
   pub brought_in_each : (chain : List Program) (pieces : List Piece) (req : ℕ) (g : Common) (c : Connection) → All T (named_from (bucket_of g.next req) (g.next + 2) pieces) → OfEachBucket T c
       → OfEachBucket T (brought_in chain pieces req (g, c)).1
   brought_in_each chain pieces req g c new h = record {
-    brigades = written_instances T c.instances 0 (set_in there (c.instances 0)) h.brigades (written_each T (c.instances 0).brigades 8 there new (h.brigades 0));
+    brigades = written_instances T c.instances k (set_in there (c.instances k)) h.brigades (written_each T (c.instances k).brigades 8 there new (h.brigades k));
     loose = one_call T _ [] (none T) (no_calls T);
   } where
+    k : ℕ
+    k = place_from chain c.instances 0
+
     there : BrigadeVar
     there = var.Live (record { name = g.next + 1; on = None; mark = Usable; items = named_from (bucket_of g.next req) (g.next + 2) pieces })
 

@@ -4,9 +4,10 @@ use Rattle.std.proofs.lemmas.List.Elements.{All-nil, All-cons, All-head, All-tai
 use Rattle.module_code.specs.Program.{Program, IsModule}
 use Rattle.run_model.specs.declared.event.Piece.{Piece}
 use Rattle.run_model.specs.State.{fresh_call}
-use Rattle.run_model.specs.Chains.{Frame, Connection, Common, Linked, module_at}
+use Rattle.run_model.specs.Chains.{Frame, Connection, Common, Linked, module_at, places, place_from}
 use Rattle.run_model.specs.Turns.{numbers_below, tail_of, all_called, opened, begun, file_taken, brought_in, request_over}
 use Rattle.model_laws.specs.ChainSound.{IsNested, AreNamed, IsFramePlaced, WaitsAtPass, IsRising, ChainCalls}
+use Rattle.model_laws.proofs.chains.Modules.{first_in_places}
 use Rattle.model_laws.proofs.chains.Stacks.{all_to, named_below, busy_calls, idle_calls}
 use Rattle.model_laws.proofs.chains.TopCalls.{LinkedCalls, same_calls, rising_none, called_calls}
 
@@ -67,21 +68,24 @@ pub file_taken_calls : (chain : List Program) (req file : ℕ) (bytes : List ℕ
 file_taken_calls chain req file bytes g c h = same_calls chain g _ c _ refl refl refl refl h
 
 -- `main` of the first filter begins
-pub brought_in_calls : (chain : List Program) (pieces : List Piece) (req : ℕ) (g : Common) (c : Connection) → IsModule (module_at chain 0) → 0 < length chain → 0 < g.next → c.stack ≡ []
+pub brought_in_calls : (chain : List Program) (pieces : List Piece) (req : ℕ) (g : Common) (c : Connection) → ((k : ℕ) → IsModule (module_at chain k)) → 0 < g.next → c.stack ≡ []
     → c.req ≡ Some req → ChainCalls chain g c
     → LinkedCalls chain (brought_in chain pieces req (g, c))
 unfolding IsNested AreNamed
-brought_in_calls chain pieces req g c m some first idle is h =
+brought_in_calls chain pieces req g c proper first idle is h =
+    let k : ℕ = place_from chain c.instances 0 in
+    let m : IsModule (module_at chain k) = proper k in
+    let inside : k < places chain = first_in_places chain c.instances in
     let none : c.queue ≡ [] = h.idle idle in
-    let low : (module_at chain 0).init < (module_at chain 0).main = m.initial.some in
-    busy_calls chain _ _ (record { of = 0; call = fresh_call g.next; pc = (module_at chain 0).main }) [] refl (record {
-      top = record { of = some; at = m.mains; opening = λ lt. absurd (omega arith); serving = λ le. ap is_some is };
+    let low : (module_at chain k).init < (module_at chain k).main = m.initial.some in
+    busy_calls chain _ _ (record { of = k; call = fresh_call g.next; pc = (module_at chain k).main }) [] refl (record {
+      top = record { of = inside; at = m.mains; opening = λ lt. absurd (omega arith); serving = λ le. ap is_some is };
       below = All-nil (IsFramePlaced chain c.req);
       nested = tt;
       named = (first, omega arith, All-nil (λ (f : Frame). f.call.name ≢ g.next), tt);
       waiting = All-nil (WaitsAtPass chain);
       queue = h.queue;
-      later = rising_none 0 c.queue none;
+      later = rising_none k c.queue none;
       serving = λ le. none;
       alone = λ w more e. absurd (cc);
     })

@@ -13,7 +13,7 @@ use Rattle.run_model.specs.State.{Instance, items_of}
 use Rattle.run_model.specs.State as state
 use Rattle.run_model.specs.Pieces.{bucket_of, named_from}
 use Rattle.run_model.specs.Sound.{sum_below, count_named, brigade_name}
-use Rattle.run_model.specs.Chains.{Connection, Common, Linked, configuration, pools_of, touched_instance}
+use Rattle.run_model.specs.Chains.{Connection, Common, Linked, configuration, pools_of, touched_instance, places, place_from}
 use Rattle.run_model.specs.Passing.{set_in}
 use Rattle.run_model.specs.Turns.{all_called, with_pools, fresh_connection, opened, begun, brought_in, file_taken, request_over}
 use Rattle.model_laws.specs.ChainSound.{count_at, count_loose, count_in, ChainNames}
@@ -21,6 +21,7 @@ use Rattle.run_model.proofs.Updates.{upd_either}
 use Rattle.run_model.proofs.Sums.{all_none, sum_below_le, sum_below_upd, sum_written}
 use Rattle.run_model.proofs.Names.{count_none, count_before, count_once, count_behind, cleared_fewer}
 use Rattle.model_laws.proofs.chains.Apart.{some_is}
+use Rattle.model_laws.proofs.chains.Modules.{first_in_places}
 use Rattle.model_laws.proofs.chains.Names.{ChainNamesStep, chain_names_stay, carried_names, same_names, touched_at}
 use Rattle.model_laws.proofs.chains.PassNames.{called_names}
 use Rattle.model_laws.proofs.chains.TopNames.{NamesOf}
@@ -42,8 +43,8 @@ rising_names chain g later c rises limit s = record {
 empty_counted : (chain : List Program) (g : Common) (n : ℕ) → count_in chain (fresh_connection g) n ≡ 0
 unfolding count_in count_loose
 empty_counted chain g n =
-    let none : (k : ℕ) → k < length chain → count_at ((fresh_connection g).instances k) n ≡ 0 = λ k lt. all_none 9 (λ b. count_named n []) (λ b less. count_none n) in
-    let all : sum_below (length chain) (λ k. count_at ((fresh_connection g).instances k) n) ≡ 0 = all_none (length chain) (λ k. count_at ((fresh_connection g).instances k) n) none in
+    let none : (k : ℕ) → k < places chain → count_at ((fresh_connection g).instances k) n ≡ 0 = λ k lt. all_none 9 (λ b. count_named n []) (λ b less. count_none n) in
+    let all : sum_below (places chain) (λ k. count_at ((fresh_connection g).instances k) n) ≡ 0 = all_none (places chain) (λ k. count_at ((fresh_connection g).instances k) n) none in
     omega arith
 
 empty_names : (chain : List Program) (g : Common) → g.next < 2 ^ 64 → ChainNames chain g (fresh_connection g)
@@ -87,34 +88,37 @@ request_over_names chain req g c s =
     chain_names_stay chain g c v.0 v.1 (carried_names chain g c v.0 v.1 (λ k b. (cleared_fewer (is_under (pools_of g c) req) ((c.instances k).brigades b)).carried) fewer (omega arith) s.limit) s where
       fewer : (n : ℕ) → count_in chain (request_over req (g, c)).1 n ≤ count_in chain c n
       fewer n =
-          let left : sum_below (length chain) (λ k. count_at (touched_instance (cleared_var (is_under (pools_of g c) req)) (c.instances k)) n) ≤ sum_below (length chain)
+          let left : sum_below (places chain) (λ k. count_at (touched_instance (cleared_var (is_under (pools_of g c) req)) (c.instances k)) n) ≤ sum_below (places chain)
           (λ k. count_at (c.instances k) n) =
-          sum_below_le (length chain) _ _ (λ k. touched_at (cleared_var (is_under (pools_of g c) req)) (cleared_fewer (is_under (pools_of g c) req)) (c.instances k) n) in
+          sum_below_le (places chain) _ _ (λ k. touched_at (cleared_var (is_under (pools_of g c) req)) (cleared_fewer (is_under (pools_of g c) req)) (c.instances k) n) in
           omega arith
 
 -- A brigade is brought.
 
-module _ (chain : List Program) (pieces : List Piece) (req : ℕ) (g : Common) (c : Connection) (some : 0 < length chain) (limit : g.next + (2 + length pieces) < 2 ^ 64) (s : ChainNames chain g c) where
+module _ (chain : List Program) (pieces : List Piece) (req : ℕ) (g : Common) (c : Connection) (limit : g.next + (2 + length pieces) < 2 ^ 64) (s : ChainNames chain g c) where
+  abbrev first : ℕ
+  first = place_from chain c.instances 0
+
   abbrev in_brigade : Brigade
   in_brigade = record { name = g.next + 1; on = None; mark = Usable; items = named_from (bucket_of g.next req) (g.next + 2) pieces }
 
   abbrev new : ℕ → Instance
-  new = upd c.instances 0 (set_in (var.Live in_brigade) (c.instances 0))
+  new = upd c.instances first (set_in (var.Live in_brigade) (c.instances first))
 
   counted : (n : ℕ) → count_in chain (brought_in chain pieces req (g, c)).1 n ≤ count_in chain c n + count_named n in_brigade.items
   unfolding count_in count_loose
   counted n =
-      let all : sum_below (length chain) (λ k. count_at (new k) n) + count_at (c.instances 0) n ≡ sum_below (length chain) (λ k. count_at (c.instances k) n) + count_at
-      (set_in (var.Live in_brigade) (c.instances 0)) n =
-      sum_below_upd (length chain) 0 c.instances (set_in (var.Live in_brigade) (c.instances 0)) (λ x. count_at x n) some in
-      let here : count_at (set_in (var.Live in_brigade) (c.instances 0)) n ≤ count_at (c.instances 0) n + count_named n in_brigade.items =
-      sum_written 9 8 (c.instances 0).brigades (var.Live in_brigade) (λ x. count_named n (items_of x)) in
+      let all : sum_below (places chain) (λ k. count_at (new k) n) + count_at (c.instances first) n ≡ sum_below (places chain) (λ k. count_at (c.instances k) n) + count_at
+      (set_in (var.Live in_brigade) (c.instances first)) n =
+      sum_below_upd (places chain) first c.instances (set_in (var.Live in_brigade) (c.instances first)) (λ x. count_at x n) (first_in_places chain c.instances) in
+      let here : count_at (set_in (var.Live in_brigade) (c.instances first)) n ≤ count_at (c.instances first) n + count_named n in_brigade.items =
+      sum_written 9 8 (c.instances first).brigades (var.Live in_brigade) (λ x. count_named n (items_of x)) in
       let none : count_named n [] ≡ 0 = count_none n in
       omega arith
 
-  named : (k b n : ℕ) → brigade_name ((new k).brigades b) ≡ Some n → (brigade_name ((c.instances k).brigades b) ≡ Some n) ⊎ ((k ≡ 0) × (b ≡ 8) × (g.next + 1 ≡ n))
-  named k b n h = elim (upd_either c.instances 0 k (set_in (var.Live in_brigade) (c.instances 0))) [
-    | inl p ↦ elim (upd_either (c.instances 0).brigades 8 b (var.Live in_brigade)) [
+  named : (k b n : ℕ) → brigade_name ((new k).brigades b) ≡ Some n → (brigade_name ((c.instances k).brigades b) ≡ Some n) ⊎ ((k ≡ first) × (b ≡ 8) × (g.next + 1 ≡ n))
+  named k b n h = elim (upd_either c.instances first k (set_in (var.Live in_brigade) (c.instances first))) [
+    | inl p ↦ elim (upd_either (c.instances first).brigades 8 b (var.Live in_brigade)) [
       | inl q ↦ inr (p.0, q.0, some_is (g.next + 1) n (subst (λ v. brigade_name v ≡ Some n) q.1 (subst (λ (x : Instance). brigade_name (x.brigades b) ≡ Some n) p.1 h)))
       | inr q ↦ inl (subst (λ (m : ℕ). brigade_name ((c.instances m).brigades b) ≡ Some n) (sym p.0)
           (subst (λ v. brigade_name v ≡ Some n) q.1 (subst (λ (x : Instance). brigade_name (x.brigades b) ≡ Some n) p.1 h)))
@@ -123,8 +127,8 @@ module _ (chain : List Program) (pieces : List Piece) (req : ℕ) (g : Common) (
   ]
 
   null : (k b : ℕ) → 9 ≤ b → (c.instances k).brigades b ≡ var.Null → (new k).brigades b ≡ var.Null
-  null k b le none = elim (upd_either c.instances 0 k (set_in (var.Live in_brigade) (c.instances 0))) [
-    | inl p ↦ ap (λ (x : Instance). x.brigades b) p.1 ∙ elim (upd_either (c.instances 0).brigades 8 b (var.Live in_brigade)) [
+  null k b le none = elim (upd_either c.instances first k (set_in (var.Live in_brigade) (c.instances first))) [
+    | inl p ↦ ap (λ (x : Instance). x.brigades b) p.1 ∙ elim (upd_either (c.instances first).brigades 8 b (var.Live in_brigade)) [
       | inl q ↦ absurd (omega (arith, q.0, le))
       | inr q ↦ q.1 ∙ subst (λ (m : ℕ). (c.instances m).brigades b ≡ var.Null) p.0 none
     ]
@@ -144,9 +148,9 @@ module _ (chain : List Program) (pieces : List Piece) (req : ℕ) (g : Common) (
     ];
     apart = λ j k b d n hb hd. elim (named j b n hb) [
       | inl was ↦ inl was
-      | inr first ↦ elim (named k d n hd) [
+      | inr one ↦ elim (named k d n hd) [
         | inl was ↦ inr (inl was)
-        | inr second ↦ inr (inr (first.0 ∙ sym second.0, first.1 ∙ sym second.1))
+        | inr second ↦ inr (inr (one.0 ∙ sym second.0, one.1 ∙ sym second.1))
       ]
     ];
     slots = null;

@@ -10,13 +10,13 @@ use Rattle.run_model.specs.declared.bucket.PoolVar.{PoolVar}
 use Rattle.run_model.specs.declared.event.Piece.{Piece}
 use Rattle.run_model.specs.declared.payload.Payload.{Payload}
 use Rattle.run_model.specs.declared.payload.Payload.TheVariants.{FileRef}
-use Rattle.run_model.specs.Pools.{Pools, is_live, planted, created, destroyed, registered}
+use Rattle.run_model.specs.Pools.{Pools, is_live, planted, created, destroyed, registered, registered_as}
 use Rattle.run_model.specs.RunOrder.{IsPoolMap}
 use Rattle.run_model.specs.Clearing.{run_down}
 use Rattle.run_model.specs.State.{Configuration, name_in, named_at, pool_named, with_pools}
 use Rattle.run_model.specs.Sound.{brigade_pool, SoundPools}
 use Rattle.model_laws.specs.AsDeclared.{AsDeclared}
-use Rattle.run_model.specs.Chains.{Connection, Common, Linked, module_at, configuration, pools_of}
+use Rattle.run_model.specs.Chains.{Connection, Common, Linked, module_at, configuration, pools_of, place_from}
 use Rattle.run_model.specs.Passing.{set_in}
 use Rattle.run_model.specs.Turns.{all_called, fresh_connection, opened, begun, file_taken, brought_in, request_over}
 use Rattle.model_laws.specs.ChainSound.{ChainPools}
@@ -137,7 +137,7 @@ begun_pools chain g c none limit h = all_called_pools chain _ (record {
 
 pub file_taken_pools : (chain : List Program) (req file : ℕ) (bytes : List ℕ) (g : Common) (c : Connection) → c.req ≡ Some req → ChainPools chain g c
     → LinkedPools chain (file_taken req file bytes (g, c))
-unfolding configuration registered
+unfolding configuration registered_as
 file_taken_pools chain req file bytes g c is h = record {
   sound = λ f. (let s = h.sound f in
       keeps_paths (configuration g c f) _ (registered_formed req (FileRef file) (pools_of g c) (path_live (pools_of g c) req req _ (s.req req is).0) s.formed) refl refl refl refl refl s.brigades s);
@@ -149,8 +149,9 @@ file_taken_pools chain req file bytes g c is h = record {
 
 pub brought_in_pools : (chain : List Program) (pieces : List Piece) (req : ℕ) (g : Common) (c : Connection) → ChainPools chain g c → LinkedPools chain (brought_in chain pieces req (g, c))
 brought_in_pools chain pieces req g c h =
-    one_instance chain g _ c _ 0 (set_in _ (c.instances 0)) refl refl refl refl
-    (one_brigade (c.instances 0) 8 _ (inr (refl, λ w e. (let same = live_same _ w e in ap (λ (v : Brigade). v.on) (sym same))))) h where
+    let k : ℕ = place_from chain c.instances 0 in
+    one_instance chain g _ c _ k (set_in _ (c.instances k)) refl refl refl refl
+    (one_brigade (c.instances k) 8 _ (inr (refl, λ w e. (let same = live_same _ w e in ap (λ (v : Brigade). v.on) (sym same))))) h where
       live_same : (v w : Brigade) → var.Live v ≡ var.Live w → v ≡ w
       live_same v w e = cc
 

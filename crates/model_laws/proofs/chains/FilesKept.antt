@@ -1,4 +1,5 @@
 -- The files of FILE buckets stay open in each connection with a chain.
+use Rattle.run_model.specs.declared.effect.CleanupKind.TheVariants.{Plain, Pre}
 use Rattle.std.proofs.Common.{◌≡◌, ◌⊎◌, ℕ, ◌+◌, Bool, true, false, ◌&&◌, ◌||◌, ◌==◌, List, [], ◌∷◌, length, nat_le, filter_map, Option, Some, None, is_some, inl, inr, refl, sym, ◌∙◌, ap, subst}
 use Rattle.std.proofs.Common.{eqb-true}
 use Rattle.std.proofs.lemmas.Option.{none-some, same_Some}
@@ -11,7 +12,7 @@ use Rattle.run_model.specs.declared.bucket.NamedBucket.{NamedBucket}
 use Rattle.run_model.specs.declared.payload.Payload.{Payload}
 use Rattle.run_model.specs.declared.payload.Payload.TheVariants.{FileRef, Label}
 use Rattle.run_model.specs.Indexed.{upd}
-use Rattle.run_model.specs.Pools.{Pools, is_under, planted, created, registered, destroyed}
+use Rattle.run_model.specs.Pools.{Pools, is_under, planted, created, registered, destroyed, registered_as}
 use Rattle.run_model.specs.RunOrder.{IsPoolMap, killed}
 use Rattle.run_model.specs.Payloads.{is_label}
 use Rattle.run_model.specs.Buckets.{cleared_bucket}
@@ -34,7 +35,7 @@ use Rattle.run_model.proofs.Updates.{upd_either}
 use Rattle.model_laws.proofs.StepPools.{aside_pools}
 use Rattle.model_laws.proofs.NamedPools.{on_named, made_under_named}
 use Rattle.model_laws.proofs.MadeBrigades.{brigade_refers}
-use Rattle.run_model.proofs.References.{Emptied, one_of, created_refers, created_back, registered_refers, registered_back, registered_itself, all_grow, killed_refers, emptied_refers, cleared_emptied}
+use Rattle.run_model.proofs.References.{Emptied, one_of, created_refers, created_back, registered_refers, registered_back, registered_itself, all_grow, killed_refers, emptied_refers, cleared_emptied, registered_as_refers}
 use Rattle.run_model.proofs.References.{destroyed_emptied}
 use Rattle.model_laws.proofs.StepFiles.{cleared_held, returned_held, went_and, step_files}
 use Rattle.model_laws.proofs.EachItem.{none}
@@ -78,8 +79,11 @@ touched_held p choice (instr.Ret s) r formed x h = returned_held r.call.name r.s
 touched_held p choice (instr.PCreate q) r formed x h =
     made_under_named (LeavesUnseen r x) p q r h (λ parent e. held_so r.shared.pools (created parent r.shared.pools) (λ m file there. created_refers parent r.shared.pools m file formed there) x h)
 touched_held p choice (instr.Label q t) r formed x h =
-    on_named (LeavesUnseen r x) (label_registered (text_of p t)) (pool_named r q) r h
+    on_named (LeavesUnseen r x) (label_registered Plain (text_of p t)) (pool_named r q) r h
     (λ n e. held_so r.shared.pools (registered n (Label (text_of p t)) r.shared.pools) (λ m file there. registered_refers n (Label (text_of p t)) r.shared.pools m file there) x h)
+touched_held p choice (instr.PreLabel q t) r formed x h =
+    on_named (LeavesUnseen r x) (label_registered Pre (text_of p t)) (pool_named r q) r h
+    (λ n e. held_so r.shared.pools (registered_as Pre n (Label (text_of p t)) r.shared.pools) (λ m file there. registered_as_refers Pre n (Label (text_of p t)) r.shared.pools m file there) x h)
 touched_held p choice (instr.Unlabel q t) r formed x h =
     on_named (LeavesUnseen r x) (label_killed (text_of p t)) (pool_named r q) r h
     (λ n e. held_so r.shared.pools (killed n (is_label (text_of p t)) r.shared.pools) (λ m file there. killed_refers n (text_of p t) r.shared.pools m file ∙ there) x h)
@@ -186,7 +190,7 @@ stays_open files next file bytes which = elim (upd_either files next file (Some 
 
 taken_files : (req new_file : ℕ) (bytes : List ℕ) (g : Common) (c : Connection) → c.req ≡ Some req → KeptConnection g c
     → KeptConnection (file_taken req new_file bytes (g, c)).0 (file_taken req new_file bytes (g, c)).1
-unfolding registered
+unfolding registered_as
 taken_files req new_file bytes g c is h =
     let ps : Pools Payload = pools_of g c in
     let new : Pools Payload = registered req (FileRef new_file) ps in

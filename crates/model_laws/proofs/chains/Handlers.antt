@@ -9,7 +9,7 @@ use Rattle.run_model.specs.State.{items_of}
 use Rattle.run_model.specs.Effects.{do_return}
 use Rattle.run_model.specs.Steps.{Choice, answer_to, current, step}
 use Rattle.model_laws.specs.Laws.{is_return}
-use Rattle.run_model.specs.Chains.{Frame, Connection, Common, module_at, is_last, configuration, touched_bucket, put_back, stepped_in, led_to}
+use Rattle.run_model.specs.Chains.{Frame, Connection, Common, module_at, is_last, next_place, configuration, touched_bucket, put_back, stepped_in, led_to}
 use Rattle.run_model.specs.Passing.{Reads, delivered, delivered_by, passed_to, returned_to, next_called, returned_from, proceeds}
 use Rattle.run_model.specs.Turns.{all_called, opened, begun}
 use Rattle.model_laws.specs.ChainSound.{WaitsAtPass}
@@ -41,8 +41,8 @@ module _ (chain : List Program) (proper : (k : ℕ) → IsModule (module_at chai
             (subst (LeadsWhere (LiesBetween from to) f.pc) (sym is) (code_leads (module_at chain f.of) (proper f.of) from to f.pc code stands));
       })
 
-  passed_after : (rest : List Frame) (reads : Reads) (b l : ℕ) (last : Bool) → is_last chain f.of ≡ last → instr.Pass b l ≡ current (module_at chain f.of) f.pc
-      → CallsAfter chain g c (f ∷ rest) (cond last (delivered_by (module_at chain f.of) reads b (instr.Pass b l) f rest (g, c)) (passed_to (module_at chain (f.of + 1)) b f rest (g, c))).1.stack
+  passed_after : (rest : List Frame) (reads : Reads) (b l : ℕ) (last : Bool) → is_last chain c f.of ≡ last → instr.Pass b l ≡ current (module_at chain f.of) f.pc
+      → CallsAfter chain g c (f ∷ rest) (cond last (delivered_by (module_at chain f.of) reads b (instr.Pass b l) f rest (g, c)) (passed_to (module_at chain (next_place chain c f.of)) (next_place chain c f.of) b f rest (g, c))).1.stack
   unfolding delivered_by passed_to
   passed_after rest reads b l true e is = stepped_after rest (record { answer = answer_to (delivered c.out (items_of ((c.instances f.of).brigades b)) reads).1; given = None }) (instr.Pass b l) is refl
   passed_after rest reads b l false e is = Passes f rest e
@@ -65,7 +65,7 @@ module _ (chain : List Program) (proper : (k : ℕ) → IsModule (module_at chai
   proceeds_after : (rest : List Frame) (reads : Reads) (i : Instr) → i ≡ current (module_at chain f.of) f.pc → All (WaitsAtPass chain) rest
       → CallsAfter chain g c (f ∷ rest) (proceeds chain reads i f rest (g, c)).1.1.stack
   unfolding proceeds returned_from
-  proceeds_after rest reads (instr.Pass b l) is waits = passed_after rest reads b l (is_last chain f.of) refl is
+  proceeds_after rest reads (instr.Pass b l) is waits = passed_after rest reads b l (is_last chain c f.of) refl is
   proceeds_after [] reads (instr.Ret s) is waits = ended_after s c.queue refl
   proceeds_after (w ∷ rest) reads (instr.Ret s) is waits = returned_after s w rest (All-head (WaitsAtPass chain) w rest waits)
   proceeds_after rest reads i is waits = stepped_after rest (record { answer = answer_to true; given = reads 0 }) i is refl

@@ -8,14 +8,14 @@ use Rattle.run_model.specs.declared.bucket.NamedBucket.{NamedBucket}
 use Rattle.run_model.specs.declared.event.Piece.{Piece}
 use Rattle.run_model.specs.declared.event.Piece.TheVariants as piece
 use Rattle.run_model.specs.declared.payload.Payload.{Payload}
-use Rattle.run_model.specs.Pools.{Pools, is_live, is_under, created, destroyed, registered}
+use Rattle.run_model.specs.Pools.{Pools, is_live, is_under, created, destroyed, registered, registered_as}
 use Rattle.run_model.specs.Clearing.{run_down}
 use Rattle.run_model.specs.State.{items_of, with_pools}
 use Rattle.run_model.specs.Steps.{Choice, answer_to, current, step}
 use Rattle.run_model.specs.Pieces.{bucket_of, named_from}
 use Rattle.model_laws.specs.Laws.{MayExecute, is_return}
 use Rattle.run_model.specs.Sound.{Sound}
-use Rattle.run_model.specs.Chains.{Frame, Connection, Common, Linked, module_at, is_last, configuration, pools_of, touched_bucket, touched_frame, put_back, stepped_in}
+use Rattle.run_model.specs.Chains.{Frame, Connection, Common, Linked, module_at, is_last, next_place, configuration, pools_of, touched_bucket, touched_frame, put_back, stepped_in}
 use Rattle.run_model.specs.Passing.{Reads, passed_to, returned_to, delivered, delivered_by, returned_from, proceeds}
 use Rattle.run_model.specs.Turns.{all_called, opened, begun, brought_in, request_over}
 use Rattle.model_laws.specs.ChainSound.{ChainSound}
@@ -57,7 +57,7 @@ stepped_calls chain choice i f rest g c on n (inl here) others = inl ((step_chan
 stepped_calls chain choice i f rest g c on n (inr there) others = inr (map_called _ rest n there)
 
 passed_calls : (chain : List Program) (reads : Reads) (b l : ℕ) (f : Frame) (rest : List Frame) (g : Common) (c : Connection) (t : Bool)
-    → CallsStay (instr.Pass b l) f rest (cond t (delivered_by (module_at chain f.of) reads b (instr.Pass b l) f rest (g, c)) (passed_to (module_at chain (f.of + 1)) b f rest (g, c))).1.stack
+    → CallsStay (instr.Pass b l) f rest (cond t (delivered_by (module_at chain f.of) reads b (instr.Pass b l) f rest (g, c)) (passed_to (module_at chain (next_place chain c f.of)) (next_place chain c f.of) b f rest (g, c))).1.stack
 unfolding CallsStay IsCalled delivered_by passed_to
 passed_calls chain reads b l f rest g c true n h others =
     stepped_calls chain (record { answer = answer_to (delivered c.out (items_of ((c.instances f.of).brigades b)) reads).1; given = None }) (instr.Pass b l) f rest g c refl n h others
@@ -70,7 +70,7 @@ gone i f new on n (inr there) others = absurd there
 
 proceeds_calls : (chain : List Program) (reads : Reads) (i : Instr) (f : Frame) (rest : List Frame) (g : Common) (c : Connection) → CallsStay i f rest (proceeds chain reads i f rest (g, c)).1.1.stack
 unfolding CallsStay IsCalled proceeds returned_to returned_from put_back
-proceeds_calls chain reads (instr.Pass b l) f rest g c n h others = passed_calls chain reads b l f rest g c (is_last chain f.of) n h others
+proceeds_calls chain reads (instr.Pass b l) f rest g c n h others = passed_calls chain reads b l f rest g c (is_last chain c f.of) n h others
 proceeds_calls chain reads (instr.Ret s) f [] g c n h others = gone (instr.Ret s) f _ refl n h others
 proceeds_calls chain reads (instr.Ret s) f (w ∷ rest) g c n (inl here) others = absurd (others refl (sym here))
 proceeds_calls chain reads (instr.Ret s) f (w ∷ rest) g c n (inr (inl waits)) others = inl waits
@@ -171,7 +171,7 @@ over_homes req g c idle h =
     (apart_lives req (pools_of g c) (destroyed req (pools_of g c)) (destroyed_so req (pools_of g c))) x.bucket.home a) h
 
 turn_homes : (chain : List Program) (g : Common) (c : Connection) (v : Linked) → EventTurn chain AnyLength g c v → ChainSound chain g c → ChainHomes g c → ChainHomes v.0 v.1
-unfolding configuration is_live registered
+unfolding configuration is_live registered_as
 turn_homes chain g c v (Stood out broken) s h = record { brigades = h.brigades; loose = h.loose }
 turn_homes chain g c v (Went reads f rest whole may) s h = (let left = went_homes chain reads f rest g c may s h in record { brigades = left.brigades; loose = left.loose })
 turn_homes chain g c v (Begun whole idle no_request pools next) s h = begun_homes chain g c idle h

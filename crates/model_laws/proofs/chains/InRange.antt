@@ -11,11 +11,11 @@ use Rattle.run_model.specs.declared.event.Piece.{Piece}
 use Rattle.run_model.specs.Indexed.{upd}
 use Rattle.run_model.specs.Pools.{destroyed, is_under}
 use Rattle.run_model.specs.Buckets.{returned_bucket}
-use Rattle.run_model.specs.State.{Instance, Configuration, items_of, fresh_call, set_brigade}
+use Rattle.run_model.specs.State.{Out, Instance, Configuration, items_of, fresh_call, set_brigade}
 use Rattle.run_model.specs.Effects.{do_pass, do_return}
 use Rattle.run_model.specs.Steps.{Choice, answer_to, current, step}
 use Rattle.model_laws.specs.Ranges.{AreBytes, HoldsBytes, BufferInRange, InRange, GivesBytes, IsOfBytes, BringsBytes}
-use Rattle.run_model.specs.Chains.{Frame, Connection, Common, Linked, module_at, is_last, configuration, pools_of, touched_bucket, touched_var, touched_instance, touched_frame, led_to, put_back}
+use Rattle.run_model.specs.Chains.{Frame, Connection, Common, Linked, module_at, is_last, next_place, configuration, pools_of, touched_bucket, touched_var, touched_instance, touched_frame, led_to, put_back, place_from}
 use Rattle.run_model.specs.Chains.{stepped_in, IsChain}
 use Rattle.run_model.specs.Passing.{Reads, passed_to, passed_by, returned_to, called, delivered, delivered_by, next_called, returned_from, proceeds}
 use Rattle.run_model.specs.Turns.{file_taken, steps, all_called, opened, begun, begins, opens_file, brought, brings, ended, ends}
@@ -87,11 +87,11 @@ put_back_range i f s top rest g c is left loose old = record {
 called_range : (chain : List Program) (k : ℕ) (queue : List ℕ) (g : Common) (c : Connection) → BytesInRange c → BytesInRange (called chain k queue (g, c)).1
 called_range chain k queue g c h = record { numbers = h.numbers; held = called_each OfNamed chain k queue g c h.held; opened = h.opened }
 
-passed_to_range : (callee : Program) (b : ℕ) (f : Frame) (rest : List Frame) (g : Common) (c : Connection) → c.stack ≡ f ∷ rest → BytesInRange c → BytesInRange (passed_to callee b f rest (g, c)).1
+passed_to_range : (callee : Program) (to b : ℕ) (f : Frame) (rest : List Frame) (g : Common) (c : Connection) → c.stack ≡ f ∷ rest → BytesInRange c → BytesInRange (passed_to callee to b f rest (g, c)).1
 unfolding passed_to configuration set_brigade
-passed_to_range callee b f rest g c is h =
-    let held = passed_to_each OfNamed callee b f rest g c is h.held in record {
-      numbers = written_numbers _ (f.of + 1) _ here (here (f.of + 1));
+passed_to_range callee to b f rest g c is h =
+    let held = passed_to_each OfNamed callee to b f rest g c is h.held in record {
+      numbers = written_numbers _ to _ here (here to);
       held = record { brigades = held.brigades; loose = held.loose };
       opened = h.opened;
     } where
@@ -141,22 +141,26 @@ returned_to_range chain chained s f w rest g c is fit buffer h =
       opened = left.opened;
     }
 
+-- the output is no bucket
+out_range : (c : Connection) (out : Out) → BytesInRange c → BytesInRange (record c { out = out })
+out_range c out h = record { numbers = h.numbers; held = record { brigades = h.held.brigades; loose = h.held.loose }; opened = h.opened }
+
 proceeds_range : (chain : List Program) (chained : IsChain chain) (reads : Reads) → ((k : ℕ) (bytes : List ℕ) → reads k ≡ Some bytes → AreBytes bytes)
     → (i : Instr) (f : Frame) (rest : List Frame) (g : Common) (c : Connection)
     → c.stack ≡ f ∷ rest → fits (module_at chain f.of) i ≡ true → BufferInRange f.call.buffer → BytesInRange c → BytesInRange (proceeds chain reads i f rest (g, c)).1.1
 unfolding proceeds returned_from
-proceeds_range chain chained reads gives (instr.Pass b l) f rest g c is fit buffer h = by_last (is_last chain f.of) where
-  by_last : (t : Bool) → BytesInRange (cond t (delivered_by (module_at chain f.of) reads b (instr.Pass b l) f rest (g, c)) (passed_to (module_at chain (f.of + 1)) b f rest (g, c))).1
+proceeds_range chain chained reads gives (instr.Pass b l) f rest g c is fit buffer h = by_last (is_last chain c f.of) where
+  by_last : (t : Bool) → BytesInRange (cond t (delivered_by (module_at chain f.of) reads b (instr.Pass b l) f rest (g, c)) (passed_to (module_at chain (next_place chain c f.of)) (next_place chain c f.of) b f rest (g, c))).1
   by_last true = delivered_range chain chained g c f rest is (instr.Pass b l) fit buffer h reads b
-  by_last false = passed_to_range (module_at chain (f.of + 1)) b f rest g c is h
-proceeds_range chain chained reads gives (instr.Ret s) f [] g c is fit buffer h = by_queue c.queue where
+  by_last false = passed_to_range (module_at chain (next_place chain c f.of)) (next_place chain c f.of) b f rest g c is h
+proceeds_range chain chained reads gives (instr.Ret s) f [] g c is fit buffer h = out_range (next_called chain s c.queue back).1.1 _ (by_queue c.queue) where
   back : Linked
   back = put_back (instr.Ret s) f (do_return (configuration g c f)) [] [] (g, c)
 
   by_queue : (queue : List ℕ) → BytesInRange (next_called chain s queue back).1.1
   by_queue [] = back_range chain chained s f [] g c is fit buffer h
   by_queue (k ∷ ks) = called_range chain k ks back.0 back.1 (back_range chain chained s f [] g c is fit buffer h)
-proceeds_range chain chained reads gives (instr.Ret s) f (w ∷ rest) g c is fit buffer h = returned_to_range chain chained s f w rest g c is fit buffer h
+proceeds_range chain chained reads gives (instr.Ret s) f (w ∷ rest) g c is fit buffer h = out_range (returned_to (module_at chain w.of) s f w rest (g, c)).1 _ (returned_to_range chain chained s f w rest g c is fit buffer h)
 proceeds_range chain chained reads gives i f rest g c is fit buffer h = stepped_range chain chained g c f rest is i fit buffer h _ (λ bytes e. gives 0 bytes e)
 
 -- Events.
@@ -172,7 +176,7 @@ module _ (chain : List Program) (g : Common) (c : Connection) (buffers : Buffers
   brought_range : (pieces : List Piece) (req : Option ℕ) → All IsOfBytes pieces → BytesInRange (brought chain pieces req (g, c)).1
   brought_range pieces None all = h
   brought_range pieces (Some req) all = record {
-    numbers = written_numbers c.instances 0 _ h.numbers (h.numbers 0);
+    numbers = written_numbers c.instances (place_from chain c.instances 0) _ h.numbers (h.numbers (place_from chain c.instances 0));
     held = brought_in_each OfNamed chain pieces req g c (named_bytes g.next req (g.next + 2) pieces all) h.held;
     opened = h.opened;
   }

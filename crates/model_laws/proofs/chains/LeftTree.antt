@@ -1,4 +1,5 @@
 -- What an event leaves of the tree of its world is the tree of the world that it leaves.
+use Rattle.run_model.specs.declared.effect.CleanupKind.TheVariants.{Plain}
 use Rattle.std.proofs.Common.{Option, ◌≡◌, ◌≢◌, ℕ, suc, ◌<◌, true, false, not, nat_lt, List, [], ◌∷◌, Some, Result, Ok, Err, inl, inr, refl, sym, ◌∙◌, ap, subst}
 use Rattle.std.proofs.lemmas.Option.{same_Some}
 use Rattle.std.proofs.lemmas.Bool.{cases_Bool, both_ways, false_from_ne_true, ltb-true, ltb-false}
@@ -8,7 +9,7 @@ use Rattle.run_model.specs.declared.event.Refusal.{Refusal}
 use Rattle.run_model.specs.declared.payload.Payload.{Payload}
 use Rattle.run_model.specs.declared.payload.Payload.TheVariants.{FileRef}
 use Rattle.run_model.specs.Indexed.{upd}
-use Rattle.run_model.specs.Pools.{Pools, is_empty, is_in, is_live, is_under, registered}
+use Rattle.run_model.specs.Pools.{Pools, is_empty, is_in, is_live, is_under, registered, registered_as, no_cleanups}
 use Rattle.run_model.specs.Clearing.{run_down}
 use Rattle.run_model.specs.State.{with_pools}
 use Rattle.run_model.specs.Steps.{current}
@@ -63,7 +64,7 @@ module _ (chain : List Program) (ps : Pools Payload) (g : Common) (c : Connectio
   unturned v next paths payloads = same_within c.conn whole (pools_of v.0 v.1) has next paths payloads
 
   pub turn_within : (v : Linked) → EventTurn chain AnyLength g all v → StaysWithin c.conn whole (pools_of v.0 v.1)
-  unfolding begun all_called configuration run_down with_pools registered
+  unfolding begun all_called configuration run_down with_pools registered_as
   turn_within v (Stood out broken) = unturned v refl refl refl
   turn_within v (Went reads f rest sane may) =
       let i : Instr = current (module_at chain f.of) f.pc in
@@ -72,7 +73,7 @@ module _ (chain : List Program) (ps : Pools Payload) (g : Common) (c : Connectio
       record { rises = left.rises; off = left.off; inside = left.inside }
   turn_within v (Begun sane idle none pools next) = changes_within Made c.conn c.conn whole has (part_under whole c.conn has)
   turn_within v (Brought pieces req sane idle is there next) = unturned v refl refl refl
-  turn_within v (FileTaken req file bytes sane idle is short newer last) = changes_within (Registered (FileRef file)) c.conn req whole has (request req is)
+  turn_within v (FileTaken req file bytes sane idle is short newer last) = changes_within (Registered Plain (FileRef file)) c.conn req whole has (request req is)
   turn_within v (Ended req sane idle is) = changes_within Destroyed c.conn req whole has (request req is)
 
   turn_conn : (v : Linked) → EventTurn chain AnyLength g all v → v.1.conn ≡ c.conn
@@ -90,12 +91,12 @@ module _ (chain : List Program) (ps : Pools Payload) (g : Common) (c : Connectio
     SparesTree v = part d (pools_of v.0 v.1) ≡ record (part d whole) { next = v.0.pools }
 
     turn_spares : (v : Linked) → EventTurn chain AnyLength g all v → SparesTree v
-    unfolding begun all_called configuration run_down with_pools registered
+    unfolding begun all_called configuration run_down with_pools registered_as
     turn_spares v (Stood out broken) = same_next d whole whole refl
     turn_spares v (Went reads f rest sane may) = top_spares d chain reads (current (module_at chain f.of) f.pc) f rest g all (l.lies f) other ne may.faultless
     turn_spares v (Begun sane idle none pools next) = others_stay Made c.conn d c.conn whole has other ne (part_under whole c.conn has)
     turn_spares v (Brought pieces req sane idle is there next) = same_next d whole whole refl
-    turn_spares v (FileTaken req file bytes sane idle is short newer last) = others_stay (Registered (FileRef file)) c.conn d req whole has other ne (request req is)
+    turn_spares v (FileTaken req file bytes sane idle is short newer last) = others_stay (Registered Plain (FileRef file)) c.conn d req whole has other ne (request req is)
     turn_spares v (Ended req sane idle is) = others_stay Destroyed c.conn d req whole has other ne (request req is)
 
 -- The world that it leaves.
@@ -198,7 +199,7 @@ module _ (chain : List Program) (w : World) (ps : Pools Payload) (k : ℕ) (c : 
   left_pools = record {
     formed = formed;
     root = subst (λ (n : ℕ). now.path n ≡ n ∷ []) (sym same_root) (root_stays.0 ∙ s.pools.root);
-    bare = subst (λ (n : ℕ). now.payloads n ≡ []) (sym same_root) (root_stays.1 ∙ s.pools.bare);
+    bare = subst (λ (n : ℕ). now.payloads n ≡ no_cleanups) (sym same_root) (root_stays.1 ∙ s.pools.bare);
     next = refl;
     parts = parts_then;
     covered = λ n live other. covered n live (λ is. other (is ∙ sym same_root));

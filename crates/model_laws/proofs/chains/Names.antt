@@ -10,7 +10,7 @@ use Rattle.run_model.specs.declared.bucket.BrigadeVar.{BrigadeVar}
 use Rattle.run_model.specs.declared.bucket.BrigadeVar.TheVariants as var
 use Rattle.run_model.specs.State.{Instance, Configuration}
 use Rattle.run_model.specs.Sound.{NamesStep, sum_below, count_named, count, brigade_name}
-use Rattle.run_model.specs.Chains.{Frame, Connection, Common, configuration, touched_var, touched_bucket, touched_instance, touched_frame, cleared_by, put_back}
+use Rattle.run_model.specs.Chains.{Frame, Connection, Common, configuration, touched_var, touched_bucket, touched_instance, touched_frame, cleared_by, put_back, places}
 use Rattle.model_laws.specs.ChainSound.{count_at, count_loose, count_in, ChainNames}
 use Rattle.run_model.proofs.Sums.{sum_below_le, sum_below_but}
 use Rattle.run_model.proofs.Names.{count_map, Carried, carried_same, Fewer, fewer_same, cleared_fewer, returned_fewer}
@@ -95,8 +95,8 @@ names_carried chain g c new carried once fresh s = record {
 -- Brigades stay, and loose buckets go.
 pub fewer_loose : (chain : List Program) (c new : Connection) (n : ℕ) → new.instances ≡ c.instances → count_loose new.stack n ≤ count_loose c.stack n → count_in chain new n ≤ count_in chain c n
 unfolding count_in
-fewer_loose chain c new n same fewer = (let instances : sum_below (length chain) (λ k. count_at (new.instances k) n) ≡ sum_below (length chain) (λ k. count_at (c.instances k) n) =
-    ap (λ (g : ℕ → Instance). sum_below (length chain) (λ k. count_at (g k) n)) same in omega arith)
+fewer_loose chain c new n same fewer = (let instances : sum_below (places chain) (λ k. count_at (new.instances k) n) ≡ sum_below (places chain) (λ k. count_at (c.instances k) n) =
+    ap (λ (g : ℕ → Instance). sum_below (places chain) (λ k. count_at (g k) n)) same in omega arith)
 
 -- Brigades and loose buckets stay.
 pub same_names : (chain : List Program) (g : Common) (c new : Connection) → new.instances ≡ c.instances → new.stack ≡ c.stack → ChainNames chain g c → ChainNames chain g new
@@ -148,16 +148,16 @@ left_either at s change g k = elim (eqb_tells k at) [ inl p ↦ inl (p.1, rw (p.
 
 -- The call on top changes as NamesStep says, and others only lose. So does the connection.
 module _ (chain : List Program) (i : Instr) (f : Frame) (s : Configuration) (top rest : List Frame) (g : Common) (c : Connection)
-    (is : c.stack ≡ f ∷ rest) (placed : f.of < length chain) (steps : NamesStep (configuration g c f) s) (loose : (n : ℕ) → count_loose top n ≤ count_named n s.call.loose) where
+    (is : c.stack ≡ f ∷ rest) (placed : f.of < places chain) (steps : NamesStep (configuration g c f) s) (loose : (n : ℕ) → count_loose top n ≤ count_named n s.call.loose) where
   -- the instances that are left
   left : ℕ → Instance
   left = left_at f.of s.instance (touched_instance (touched_var (configuration g c f) i)) c.instances
 
-  counted_left : (n : ℕ) → sum_below (length chain) (λ k. count_at (left k) n) + count_at (c.instances f.of) n ≤ sum_below (length chain) (λ k. count_at (c.instances k) n) + count_at s.instance n
+  counted_left : (n : ℕ) → sum_below (places chain) (λ k. count_at (left k) n) + count_at (c.instances f.of) n ≤ sum_below (places chain) (λ k. count_at (c.instances k) n) + count_at s.instance n
   unfolding left
   counted_left n =
-      let but : sum_below (length chain) (λ k. count_at (left k) n) + count_at (c.instances f.of) n ≤ sum_below (length chain) (λ k. count_at (c.instances k) n) + count_at (left f.of) n =
-      sum_below_but (length chain) f.of (λ k. count_at (c.instances k) n) (λ k. count_at (left k) n) placed (λ k ne. others k ne) in
+      let but : sum_below (places chain) (λ k. count_at (left k) n) + count_at (c.instances f.of) n ≤ sum_below (places chain) (λ k. count_at (c.instances k) n) + count_at (left f.of) n =
+      sum_below_but (places chain) f.of (λ k. count_at (c.instances k) n) (λ k. count_at (left k) n) placed (λ k ne. others k ne) in
       let here : count_at (left f.of) n ≡ count_at s.instance n = elim (left_either f.of s.instance (touched_instance (touched_var (configuration g c f) i)) c.instances f.of) [
         | inl p ↦ ap (λ x. count_at x n) p.1
         | inr p ↦ absurd (p.0 refl)

@@ -13,7 +13,7 @@ use Rattle.run_model.specs.Clearing.{cleared_var}
 use Rattle.run_model.specs.State.{Instance, Configuration, items_of}
 use Rattle.run_model.specs.Effects.{do_return, returned_var}
 use Rattle.run_model.specs.Steps.{Choice, answer_to, current, step}
-use Rattle.run_model.specs.Chains.{Frame, Connection, Common, Linked, module_at, is_last, configuration, pools_of, touched_var, touched_bucket, cleared_by, led_to, touched_instance, touched_frame}
+use Rattle.run_model.specs.Chains.{Frame, Connection, Common, Linked, module_at, is_last, next_place, configuration, pools_of, touched_var, touched_bucket, cleared_by, led_to, touched_instance, touched_frame, place_from}
 use Rattle.run_model.specs.Chains.{put_back, stepped_in, IsChain}
 use Rattle.run_model.specs.Passing.{Reads, delivered, delivered_by, passed_to, after_pass, returned_to, next_called, returned_from, proceeds}
 use Rattle.run_model.specs.Turns.{Opening, all_called, opened, begun, begins, opens_file, brought, brings, ended, ends, steps}
@@ -78,18 +78,18 @@ module _ (chain : List Program) (g : Common) (c : Connection) (f : Frame) (rest 
       let others = others_free new (map (touched_frame (touched_bucket r i)) rest) k free in
       put_vacant i o.state (new ∷ []) rest k (λ is. absurd (others.0 is)) (sym (touched_free (touched_bucket r i) rest k) ∙ others.1)
 
-  passed_vacant : (callee : Program) (b : ℕ) → Vacant (passed_to callee b f rest (g, c)).1
+  passed_vacant : (callee : Program) (to b : ℕ) → Vacant (passed_to callee to b f rest (g, c)).1
   unfolding passed_to
-  passed_vacant callee b k free =
+  passed_vacant callee to b k free =
       let parts = others_free _ _ k free in
       let below = others_free f rest k parts.1 in
-      ap (λ (x : Instance). x.brigades 8) (upd_off _ (f.of + 1) k _ parts.0 ∙ upd_off c.instances f.of k _ below.0) ∙ elsewhere k below.0 below.1
+      ap (λ (x : Instance). x.brigades 8) (upd_off _ to k _ parts.0 ∙ upd_off c.instances f.of k _ below.0) ∙ elsewhere k below.0 below.1
 
   passes_vacant : (reads : Reads) (b : ℕ) (i : Instr) (last : Bool)
-      → Vacant (cond last (delivered_by (module_at chain f.of) reads b i f rest (g, c)) (passed_to (module_at chain (f.of + 1)) b f rest (g, c))).1
+      → Vacant (cond last (delivered_by (module_at chain f.of) reads b i f rest (g, c)) (passed_to (module_at chain (next_place chain c f.of)) (next_place chain c f.of) b f rest (g, c))).1
   unfolding delivered_by
   passes_vacant reads b i true = stepped_vacant (record { answer = answer_to (delivered c.out (items_of ((c.instances f.of).brigades b)) reads).1; given = None }) i
-  passes_vacant reads b i false = passed_vacant (module_at chain (f.of + 1)) b
+  passes_vacant reads b i false = passed_vacant (module_at chain (next_place chain c f.of)) (next_place chain c f.of) b
 
 returned_vacant : (chain : List Program) (s : Status) (f w : Frame) (rest : List Frame) (g : Common) (c : Connection) → c.stack ≡ f ∷ (w ∷ rest) → Vacant c
     → Vacant (returned_to (module_at chain w.of) s f w rest (g, c)).1
@@ -112,7 +112,7 @@ ended_vacant chain s f g c top h = by_queue c.queue where
 proceeds_vacant : (chain : List Program) (reads : Reads) (i : Instr) (f : Frame) (rest : List Frame) (g : Common) (c : Connection) → c.stack ≡ f ∷ rest → Vacant c
     → Vacant (proceeds chain reads i f rest (g, c)).1.1
 unfolding proceeds
-proceeds_vacant chain reads (instr.Pass b l) f rest g c top h = passes_vacant chain g c f rest top h reads b (instr.Pass b l) (is_last chain f.of)
+proceeds_vacant chain reads (instr.Pass b l) f rest g c top h = passes_vacant chain g c f rest top h reads b (instr.Pass b l) (is_last chain c f.of)
 proceeds_vacant chain reads (instr.Ret s) f [] g c top h = ended_vacant chain s f g c top h
 proceeds_vacant chain reads (instr.Ret s) f (w ∷ rest) g c top h = returned_vacant chain s f w rest g c top h
 proceeds_vacant chain reads i f rest g c top h = stepped_vacant chain g c f rest top h (record { answer = answer_to true; given = reads 0 }) i
@@ -128,7 +128,7 @@ turn_vacant chain g c v (Stood out broken) h = h
 turn_vacant chain g c v (Went reads f rest whole may) h = proceeds_vacant chain reads (current (module_at chain f.of) f.pc) f rest g c may.on_top h
 turn_vacant chain g c v (Begun whole idle none pools next) h = λ k free. idle_vacant c idle h k
 turn_vacant chain g c v (Brought pieces req whole idle is there next) h =
-    λ k free. (let parts = others_free _ _ k free in ap (λ (x : Instance). x.brigades 8) (upd_off c.instances 0 k _ parts.0) ∙ idle_vacant c idle h k)
+    λ k free. (let parts = others_free _ _ k free in ap (λ (x : Instance). x.brigades 8) (upd_off c.instances (place_from chain c.instances 0) k _ parts.0) ∙ idle_vacant c idle h k)
 turn_vacant chain g c v (FileTaken req file bytes whole idle is short newer last) h = h
 turn_vacant chain g c v (Ended req whole idle is) h = λ k free. ap (cleared_var (is_under (pools_of g c) req)) (h k free)
 

@@ -21,7 +21,7 @@ use Rattle.model_laws.specs.PartSteps.{OwnFiles}
 use Rattle.model_laws.specs.SharedPools.{LiesOver, over}
 use Rattle.model_laws.specs.SharedTree.{ReachedLiesOver}
 use Rattle.run_model.proofs.PoolMap.{live_path}
-use Rattle.run_model.proofs.References.{or_right}
+use Rattle.run_model.proofs.References.{or_right, held_refers}
 use Rattle.model_laws.proofs.NamedPools.{made_is}
 use Rattle.model_laws.proofs.parts.Paths.{top_apart}
 use Rattle.model_laws.proofs.chains.BareRoot.{brigade_newer}
@@ -83,10 +83,10 @@ module _ (chain : List Program) (w : World) (sound : WorldSound chain w) (number
   none_held file there = cc
 
   held_there : (q file : ℕ) → refers whole q file ≡ true → whole.path q ≢ []
-  held_there q file there none = none_held file (ap (list_any (is_file_ref file)) (sym (grown_whole.formed.bare q none)) ∙ there)
+  held_there q file there none = none_held file (ap (held_refers file) (sym (grown_whole.formed.bare q none)) ∙ there)
 
   opened_by : (j q file : ℕ) (d : Connection) → w.conns j ≡ Some d → is_own d q ≡ true → refers whole q file ≡ true → is_some (d.opened file) ≡ true
-  opened_by j q file d there own holds = (files j d there).lasts q file (ap (list_any (is_file_ref file)) (sym (in_all chain w sound numbers paths h j q d there own).payloads) ∙ holds)
+  opened_by j q file d there own holds = (files j d there).lasts q file (ap (held_refers file) (sym (in_all chain w sound numbers paths h j q d there own).payloads) ∙ holds)
 
   -- the root stands under no connection's pool
   not_root : (p : ℕ) → is_under whole c.conn p ≡ true → p ≢ w.common.root
@@ -97,7 +97,7 @@ module _ (chain : List Program) (w : World) (sound : WorldSound chain w) (number
   unfolding is_under
   own_files = record {
     apart = λ p q file under here there. elim (grown_whole.from q (held_there q file there)) [
-      | inl root ↦ absurd (none_held file (ap (list_any (is_file_ref file)) (sym (ap (tree_of w).payloads root ∙ grown_whole.bare)) ∙ there))
+      | inl root ↦ absurd (none_held file (ap (held_refers file) (sym (ap (tree_of w).payloads root ∙ grown_whole.bare)) ∙ there))
       | inr s ↦ same_under q s (apart.own k s.number file c s.conn at s.there (opened_by k p file c at (mine p under) here) (opened_by s.number q file s.conn s.there s.own there))
     ];
   } where

@@ -11,7 +11,7 @@ use Rattle.run_model.specs.Pools.{created}
 use Rattle.run_model.specs.State.{Configuration, Instance, items_of, set_brigade, set_pool, with_pools}
 use Rattle.run_model.specs.Effects.{do_pass, do_return}
 use Rattle.run_model.specs.Steps.{Choice, answer_to, current, step}
-use Rattle.run_model.specs.Chains.{Frame, Connection, Common, Linked, configuration, is_last, module_at, put_back, stepped_in, touched_instance, touched_var}
+use Rattle.run_model.specs.Chains.{Frame, Connection, Common, Linked, configuration, is_last, next_place, module_at, put_back, stepped_in, touched_instance, touched_var, place_from}
 use Rattle.run_model.specs.Passing.{Reads, delivered, delivered_by, next_called, passed_to, proceeds, returned_from, returned_to}
 use Rattle.run_model.specs.Turns.{all_called, begun}
 use Rattle.run_model.proofs.Updates.{upd_either}
@@ -78,10 +78,10 @@ module _ (chain : List Program) (f : Frame) (rest : List Frame) (g : Common) (c 
   unfolding delivered_by
   delivered_names p reads b i = stepped_names p (record { answer = answer_to (delivered c.out (items_of ((c.instances f.of).brigades b)) reads).1; given = None }) i
 
-  passed_names : (callee : Program) (b : ℕ) → NamesFrom g c (passed_to callee b f rest (g, c))
+  passed_names : (callee : Program) (to b : ℕ) → NamesFrom g c (passed_to callee to b f rest (g, c))
   unfolding passed_to set_brigade configuration
-  passed_names callee b = same_names g c (passed_to callee b f rest (g, c)) (λ k.
-      set_names (upd c.instances f.of (do_pass b (configuration g c f)).instance) (f.of + 1) _ refl k
+  passed_names callee to b = same_names g c (passed_to callee to b f rest (g, c)) (λ k.
+      set_names (upd c.instances f.of (do_pass b (configuration g c f)).instance) to _ refl k
       ∙ set_names c.instances f.of (do_pass b (configuration g c f)).instance refl k)
 
   left_names : (s : Status) (top waiting : List Frame) → NamesFrom g c (put_back (instr.Ret s) f (do_return (configuration g c f)) top waiting (g, c))
@@ -101,10 +101,10 @@ module _ (chain : List Program) (f : Frame) (rest : List Frame) (g : Common) (c 
 
 top_names : (chain : List Program) (reads : Reads) (i : Instr) (f : Frame) (rest : List Frame) (g : Common) (c : Connection) → NamesFrom g c (proceeds chain reads i f rest (g, c)).1
 unfolding proceeds
-top_names chain reads (instr.Pass b l) f rest g c = by_last (is_last chain f.of) where
-  by_last : (t : Bool) → NamesFrom g c (cond t (delivered_by (module_at chain f.of) reads b (instr.Pass b l) f rest (g, c)) (passed_to (module_at chain (f.of + 1)) b f rest (g, c)))
+top_names chain reads (instr.Pass b l) f rest g c = by_last (is_last chain c f.of) where
+  by_last : (t : Bool) → NamesFrom g c (cond t (delivered_by (module_at chain f.of) reads b (instr.Pass b l) f rest (g, c)) (passed_to (module_at chain (next_place chain c f.of)) (next_place chain c f.of) b f rest (g, c)))
   by_last true = delivered_names chain f rest g c (module_at chain f.of) reads b (instr.Pass b l)
-  by_last false = passed_names chain f rest g c (module_at chain (f.of + 1)) b
+  by_last false = passed_names chain f rest g c (module_at chain (next_place chain c f.of)) (next_place chain c f.of) b
 top_names chain reads (instr.Ret s) f [] g c = ended_names chain f [] g c s
 top_names chain reads (instr.Ret s) f (w ∷ rest) g c = returned_names chain f rest g c (module_at chain w.of) s w
 top_names chain reads i f rest g c = stepped_names chain f rest g c (module_at chain f.of) (record { answer = answer_to true; given = reads 0 }) i
@@ -115,6 +115,6 @@ unfolding begun all_called
 turn_names chain g c v (Stood out broken) = same_names g c v (λ k. refl)
 turn_names chain g c v (Went reads f rest whole may) = top_names chain reads (current (module_at chain f.of) f.pc) f rest g c
 turn_names chain g c v (Begun whole idle none pools next) = same_names g c v (λ k. refl)
-turn_names chain g c v (Brought pieces req whole idle is there next) = same_names g c v (set_names c.instances 0 _ refl)
+turn_names chain g c v (Brought pieces req whole idle is there next) = same_names g c v (set_names c.instances (place_from chain c.instances 0) _ refl)
 turn_names chain g c v (FileTaken req file bytes whole idle is short newer last) = same_names g c v (λ k. refl)
 turn_names chain g c v (Ended req whole idle is) = same_names g c v (λ k. refl)

@@ -13,7 +13,7 @@ use Rattle.run_model.specs.State.{Instance, Configuration, items_of, set_brigade
 use Rattle.run_model.specs.Effects.{do_pass, do_return, handed_over, returned_var, with_items}
 use Rattle.run_model.specs.Steps.{current}
 use Rattle.run_model.specs.Sound.{sum_below, count_named, count, brigade_name}
-use Rattle.run_model.specs.Chains.{Frame, Connection, Common, configuration, put_back}
+use Rattle.run_model.specs.Chains.{Frame, Connection, Common, configuration, put_back, places}
 use Rattle.run_model.specs.Passing.{handed_in, set_in, passed_to, passed_by, given_back, returned_to, called}
 use Rattle.model_laws.specs.ChainSound.{count_at, count_loose, count_in, ChainNames}
 use Rattle.run_model.proofs.Updates.{upd_either}
@@ -39,8 +39,8 @@ handed_name n var.Null h = h
 handed_name n var.Gone h = h
 handed_name n (var.Live v) h = h
 
-module _ (chain : List Program) (callee : Program) (b : ℕ) (f : Frame) (rest : List Frame) (g : Common) (c : Connection)
-    (is : c.stack ≡ f ∷ rest) (placed : f.of + 1 < length chain) (limit : g.next + 1 < 2 ^ 64) (s : ChainNames chain g c) where
+module _ (chain : List Program) (callee : Program) (to b : ℕ) (f : Frame) (rest : List Frame) (g : Common) (c : Connection)
+    (is : c.stack ≡ f ∷ rest) (later : f.of < to) (placed : to < places chain) (limit : g.next + 1 < 2 ^ 64) (s : ChainNames chain g c) where
   abbrev handed : BrigadeVar
   handed = (c.instances f.of).brigades b
 
@@ -51,10 +51,10 @@ module _ (chain : List Program) (callee : Program) (b : ℕ) (f : Frame) (rest :
   here = upd c.instances f.of passed
 
   abbrev into : Instance
-  into = set_in (handed_in handed) (here (f.of + 1))
+  into = set_in (handed_in handed) (here to)
 
   abbrev new : ℕ → Instance
-  new = upd here (f.of + 1) into
+  new = upd here to into
 
   -- the caller's brigade is empty
   passed_counted : (n : ℕ) → count_at passed n + count_named n (items_of handed) ≤ count_at (c.instances f.of) n
@@ -73,35 +73,35 @@ module _ (chain : List Program) (callee : Program) (b : ℕ) (f : Frame) (rest :
             omega arith)
       ]
 
-  into_counted : (n : ℕ) → count_at into n ≤ count_at (here (f.of + 1)) n + count_named n (items_of handed)
+  into_counted : (n : ℕ) → count_at into n ≤ count_at (here to) n + count_named n (items_of handed)
   into_counted n =
-      let all : count_at into n ≤ count_at (here (f.of + 1)) n + count_named n (items_of (handed_in handed)) =
-      sum_written 9 8 (here (f.of + 1)).brigades (handed_in handed) (λ x. count_named n (items_of x)) in
+      let all : count_at into n ≤ count_at (here to) n + count_named n (items_of (handed_in handed)) =
+      sum_written 9 8 (here to).brigades (handed_in handed) (λ x. count_named n (items_of x)) in
       let same : count_named n (items_of (handed_in handed)) ≡ count_named n (items_of handed) = handed_items n handed in
       omega arith
 
-  passed_in_counted : (n : ℕ) → count_in chain (passed_to callee b f rest (g, c)).1 n ≤ count_in chain c n
+  passed_in_counted : (n : ℕ) → count_in chain (passed_to callee to b f rest (g, c)).1 n ≤ count_in chain c n
   unfolding passed_to count_in count_loose configuration
   passed_in_counted n =
       let caller = passed_counted n in
       let next = into_counted n in
-      let first : sum_below (length chain) (λ k. count_at (here k) n) + count_at (c.instances f.of) n ≡ sum_below (length chain) (λ k. count_at (c.instances k) n) + count_at passed n =
-      sum_below_upd (length chain) f.of c.instances passed (λ x. count_at x n) (omega arith) in
-      let second : sum_below (length chain) (λ k. count_at (new k) n) + count_at (here (f.of + 1)) n ≡ sum_below (length chain) (λ k. count_at (here k) n) + count_at into n =
-      sum_below_upd (length chain) (f.of + 1) here into (λ x. count_at x n) placed in
+      let first : sum_below (places chain) (λ k. count_at (here k) n) + count_at (c.instances f.of) n ≡ sum_below (places chain) (λ k. count_at (c.instances k) n) + count_at passed n =
+      sum_below_upd (places chain) f.of c.instances passed (λ x. count_at x n) (omega arith) in
+      let second : sum_below (places chain) (λ k. count_at (new k) n) + count_at (here to) n ≡ sum_below (places chain) (λ k. count_at (here k) n) + count_at into n =
+      sum_below_upd (places chain) to here into (λ x. count_at x n) placed in
       let stack : count_loose c.stack n ≡ count_named n f.call.loose + count_loose rest n = ap (λ (fs : List Frame). count_loose fs n) is in
       let none : count_named n [] ≡ 0 = count_none n in
       omega arith
 
   -- A variable holds what it held, or it is the `in` of the next filter and holds what is passed.
-  passed_named : (j d n : ℕ) → brigade_name ((new j).brigades d) ≡ Some n → (brigade_name ((c.instances j).brigades d) ≡ Some n) ⊎ ((j ≡ f.of + 1) × (d ≡ 8) × (brigade_name handed ≡ Some n))
+  passed_named : (j d n : ℕ) → brigade_name ((new j).brigades d) ≡ Some n → (brigade_name ((c.instances j).brigades d) ≡ Some n) ⊎ ((j ≡ to) × (d ≡ 8) × (brigade_name handed ≡ Some n))
   unfolding configuration set_brigade
-  passed_named j d n h = elim (upd_either here (f.of + 1) j into) [
+  passed_named j d n h = elim (upd_either here to j into) [
     | inl p ↦
         (let at : brigade_name (into.brigades d) ≡ Some n = subst (λ (x : Instance). brigade_name (x.brigades d) ≡ Some n) p.1 h in
-        elim (upd_either (here (f.of + 1)).brigades 8 d (handed_in handed)) [
+        elim (upd_either (here to).brigades 8 d (handed_in handed)) [
           | inl q ↦ inr (p.0, q.0, handed_name n handed (subst (λ v. brigade_name v ≡ Some n) q.1 at))
-          | inr q ↦ inl (subst (λ (m : ℕ). brigade_name ((c.instances m).brigades d) ≡ Some n) (sym p.0) (in_here (f.of + 1) d n (subst (λ v. brigade_name v ≡ Some n) q.1 at)))
+          | inr q ↦ inl (subst (λ (m : ℕ). brigade_name ((c.instances m).brigades d) ≡ Some n) (sym p.0) (in_here to d n (subst (λ v. brigade_name v ≡ Some n) q.1 at)))
         ])
     | inr p ↦ inl (in_here j d n (subst (λ (x : Instance). brigade_name (x.brigades d) ≡ Some n) p.1 h))
   ] where
@@ -119,7 +119,7 @@ module _ (chain : List Program) (callee : Program) (b : ℕ) (f : Frame) (rest :
   passed_own j d n own h = elim (passed_named j d n h) [ inl was ↦ was | inr at ↦ absurd (omega (arith, own, at.1)) ]
 
   -- what is passed is an own brigade of the caller or of a filter before
-  comes_from : (j d n : ℕ) → d < 8 → brigade_name handed ≡ Some n → brigade_name ((c.instances j).brigades d) ≡ Some n → j < f.of + 1
+  comes_from : (j d n : ℕ) → d < 8 → brigade_name handed ≡ Some n → brigade_name ((c.instances j).brigades d) ≡ Some n → j < to
   comes_from j d n own hb hd = elim (cases_lt b 8) [
     | inl lt ↦ (let same = s.own j f.of d b n own lt hd hb in omega (arith, same.0))
     | inr le ↦ elim (cases_lt 8 b) [
@@ -134,10 +134,10 @@ module _ (chain : List Program) (callee : Program) (b : ℕ) (f : Frame) (rest :
   -- the variables beyond the nine stay null
   stays_null : (k d : ℕ) → 9 ≤ d → (new k).brigades d ≡ var.Null
   unfolding configuration set_brigade
-  stays_null k d le = elim (upd_either here (f.of + 1) k into) [
-    | inl p ↦ ap (λ (x : Instance). x.brigades d) p.1 ∙ elim (upd_either (here (f.of + 1)).brigades 8 d (handed_in handed)) [
+  stays_null k d le = elim (upd_either here to k into) [
+    | inl p ↦ ap (λ (x : Instance). x.brigades d) p.1 ∙ elim (upd_either (here to).brigades 8 d (handed_in handed)) [
       | inl q ↦ absurd (omega (arith, q.0, le))
-      | inr q ↦ q.1 ∙ null_here (f.of + 1)
+      | inr q ↦ q.1 ∙ null_here to
     ]
     | inr p ↦ ap (λ (x : Instance). x.brigades d) p.1 ∙ null_here k
   ] where
@@ -147,7 +147,7 @@ module _ (chain : List Program) (callee : Program) (b : ℕ) (f : Frame) (rest :
       | inr p ↦ ap (λ (x : Instance). x.brigades d) p.1 ∙ s.slots j d le
     ]
 
-  pub passed_to_names : ChainNames chain (passed_to callee b f rest (g, c)).0 (passed_to callee b f rest (g, c)).1
+  pub passed_to_names : ChainNames chain (passed_to callee to b f rest (g, c)).0 (passed_to callee to b f rest (g, c)).1
   unfolding passed_to configuration
   passed_to_names = record {
     once = λ n. (let few = passed_in_counted n in let once : count_in chain c n ≤ 1 = s.once n in omega arith);
@@ -182,7 +182,7 @@ return_counted n r =
     omega arith
 
 module _ (chain : List Program) (caller : Program) (status : Status) (f w : Frame) (rest : List Frame) (g : Common) (c : Connection)
-    (is : c.stack ≡ f ∷ (w ∷ rest)) (f_placed : f.of < length chain) (w_placed : w.of < length chain) (s : ChainNames chain g c) where
+    (is : c.stack ≡ f ∷ (w ∷ rest)) (f_placed : f.of < places chain) (w_placed : w.of < places chain) (s : ChainNames chain g c) where
   abbrev back : Common × Connection
   back = put_back (instr.Ret status) f (do_return (configuration g c f)) [] (w ∷ rest) (g, c)
 
@@ -219,9 +219,9 @@ module _ (chain : List Program) (caller : Program) (status : Status) (f w : Fram
       let same : count_named n remaining ≡ count_named n (items_of ((c.instances f.of).brigades 8)) =
       count_map n (returned_bucket f.call.name) (λ x. refl) (items_of ((c.instances f.of).brigades 8)) in
       let given = resting_counted n in
-      let all : sum_below (length chain) (λ k. count_at (upd back.1.instances w.of resting k) n) + count_at (back.1.instances w.of) n ≡ sum_below (length chain)
+      let all : sum_below (places chain) (λ k. count_at (upd back.1.instances w.of resting k) n) + count_at (back.1.instances w.of) n ≡ sum_below (places chain)
       (λ k. count_at (back.1.instances k) n) + count_at resting n =
-      sum_below_upd (length chain) w.of back.1.instances resting (λ x. count_at x n) w_placed in
+      sum_below_upd (places chain) w.of back.1.instances resting (λ x. count_at x n) w_placed in
       omega arith
 
   returned_carried : (k b : ℕ) → Carried ((back.1.instances k).brigades b) ((upd back.1.instances w.of resting k).brigades b)

@@ -22,7 +22,7 @@ use Rattle.run_model.specs.Effects.{do_pass, do_return, with_items}
 use Rattle.run_model.specs.Faults.{fault}
 use Rattle.run_model.specs.Steps.{Choice, answer_to, current, step}
 use Rattle.run_model.specs.Refusals.{if_broken}
-use Rattle.run_model.specs.Chains.{Frame, Connection, Common, Linked, module_at, is_last, configuration, pools_of, touched_var, cleared_by, touched_instance, put_back, stepped_in, IsChain}
+use Rattle.run_model.specs.Chains.{Frame, Connection, Common, Linked, module_at, is_last, next_place, configuration, pools_of, touched_var, cleared_by, touched_instance, put_back, stepped_in, IsChain, place_from}
 use Rattle.run_model.specs.Passing.{Reads, set_in, handed_in, delivered, delivered_by, passed_to, given_back, passed_by, returned_to, next_called, returned_from, proceeds}
 use Rattle.run_model.specs.Turns.{Opening, is_busy, all_called, begun, begins, opens_file, brought, brings, ended, ends, steps}
 use Rattle.run_model.specs.Worlds.{World, Told, put_conn, answered, file_answered, step_answered, closes, adds_file, happens_on, happens}
@@ -34,6 +34,7 @@ use Rattle.run_model.proofs.Updates.{upd_at, upd_either}
 use Rattle.model_laws.proofs.Passed.{still, cleared_stays, returned_stays, step_keeps_passed}
 use Rattle.model_laws.proofs.EventAnswers.{unless_so, answer_so, none_first, none_if}
 use Rattle.model_laws.proofs.chains.Names.{left_either}
+use Rattle.model_laws.proofs.chains.Modules.{next_later}
 use Rattle.model_laws.proofs.chains.EventTurns.{not_busy}
 use Rattle.model_laws.proofs.chains.StepCases.{steps_so}
 use Rattle.model_laws.proofs.chains.Others.{others_stay, opening_stays}
@@ -43,7 +44,7 @@ later_free : (f : Frame) (rest : List Frame) (k : ℕ) → IsNested f rest → f
 unfolding IsNested has_call
 later_free f [] k nested lt = ap (λ (b : Bool). b || false) (ne_eqb f.of k (λ is. omega arith))
 later_free f (w ∷ rest) k nested lt =
-    let below : has_call (w ∷ rest) k ≡ false = later_free w rest k nested.1 (let is : f.of ≡ w.of + 1 = nested.0 in omega arith) in
+    let below : has_call (w ∷ rest) k ≡ false = later_free w rest k nested.1 (let is : w.of < f.of = nested.0 in omega arith) in
     ap (λ (b : Bool). b || has_call (w ∷ rest) k) (ne_eqb f.of k (λ is. omega arith)) ∙ below
 
 -- What is done to a variable.
@@ -106,9 +107,9 @@ module _ (chain : List Program) (g : Common) (c : Connection) (f : Frame) (rest 
         (subst (λ (x : Instr). ((f.of == j) && lets_go x b) ≡ false) is other) at)
 
   -- a pass to the next filter
-  passed_stays : (callee : Program) (a l : ℕ) → fault (module_at chain f.of) r (instr.Pass a l) ≡ None → (c.instances (f.of + 1)).brigades 8 ≡ var.Null → PassedStays (passed_to callee a f rest (g, c))
+  passed_stays : (callee : Program) (to a l : ℕ) → fault (module_at chain f.of) r (instr.Pass a l) ≡ None → (c.instances to).brigades 8 ≡ var.Null → PassedStays (passed_to callee to a f rest (g, c))
   unfolding passed_to
-  passed_stays callee a l none free = elim (upd_either here (f.of + 1) j (set_in (handed_in (r.instance.brigades a)) (here (f.of + 1)))) [
+  passed_stays callee to a l none free = elim (upd_either here to j (set_in (handed_in (r.instance.brigades a)) (here to))) [
     | inl p ↦ subst (λ (x : Instance). StaysPassed ((c.instances j).brigades b) (x.brigades b)) (sym p.1) (incoming p.0)
     | inr p ↦ subst (λ (x : Instance). StaysPassed ((c.instances j).brigades b) (x.brigades b)) (sym p.1) in_here
   ] where
@@ -125,9 +126,9 @@ module _ (chain : List Program) (g : Common) (c : Connection) (f : Frame) (rest 
       off true = refl
       off false = refl
 
-    incoming : j ≡ f.of + 1 → StaysPassed ((c.instances j).brigades b) (upd (here (f.of + 1)).brigades 8 (handed_in (r.instance.brigades a)) b)
-    incoming is = elim (upd_either (here (f.of + 1)).brigades 8 b (handed_in (r.instance.brigades a))) [
-      | inl p ↦ absurd (subst HoldsPassed (ap (λ (k : ℕ). (c.instances k).brigades b) is ∙ ap (λ (d : ℕ). (c.instances (f.of + 1)).brigades d) p.0 ∙ free) h)
+    incoming : j ≡ to → StaysPassed ((c.instances j).brigades b) (upd (here to).brigades 8 (handed_in (r.instance.brigades a)) b)
+    incoming is = elim (upd_either (here to).brigades 8 b (handed_in (r.instance.brigades a))) [
+      | inl p ↦ absurd (subst HoldsPassed (ap (λ (k : ℕ). (c.instances k).brigades b) is ∙ ap (λ (d : ℕ). (c.instances to).brigades d) p.0 ∙ free) h)
       | inr p ↦ subst (StaysPassed ((c.instances j).brigades b)) (sym p.1) (subst (λ (k : ℕ). StaysPassed ((c.instances j).brigades b) ((here k).brigades b)) is in_here)
     ]
 
@@ -146,14 +147,14 @@ given_stays v j b at left h k old = elim (upd_either h k j (given_back at left (
 
 -- an instruction without a fault, where the next filter has nothing brought if it is passed to
 proceeds_stays : (chain : List Program) (reads : Reads) (i : Instr) (f : Frame) (rest : List Frame) (g : Common) (c : Connection) (j b : ℕ) → HoldsPassed ((c.instances j).brigades b)
-    → fault (module_at chain f.of) (configuration g c f) i ≡ None → ((f.of == j) && lets_go i b) ≡ false → (c.instances (f.of + 1)).brigades 8 ≡ var.Null
+    → fault (module_at chain f.of) (configuration g c f) i ≡ None → ((f.of == j) && lets_go i b) ≡ false → (c.instances (next_place chain c f.of)).brigades 8 ≡ var.Null
     → StaysPassed ((c.instances j).brigades b) (((proceeds chain reads i f rest (g, c)).1.1.instances j).brigades b)
 unfolding proceeds returned_to returned_from
-proceeds_stays chain reads (instr.Pass a l) f rest g c j b h none other free = by_last (is_last chain f.of) where
+proceeds_stays chain reads (instr.Pass a l) f rest g c j b h none other free = by_last (is_last chain c f.of) where
   by_last : (t : Bool) → StaysPassed ((c.instances j).brigades b)
-      (((cond t (delivered_by (module_at chain f.of) reads a (instr.Pass a l) f rest (g, c)) (passed_to (module_at chain (f.of + 1)) a f rest (g, c))).1.instances j).brigades b)
+      (((cond t (delivered_by (module_at chain f.of) reads a (instr.Pass a l) f rest (g, c)) (passed_to (module_at chain (next_place chain c f.of)) (next_place chain c f.of) a f rest (g, c))).1.instances j).brigades b)
   by_last true = delivered_stays chain g c f rest j b h (instr.Pass a l) none other reads a
-  by_last false = passed_stays chain g c f rest j b h (module_at chain (f.of + 1)) a l none free
+  by_last false = passed_stays chain g c f rest j b h (module_at chain (next_place chain c f.of)) (next_place chain c f.of) a l none free
 proceeds_stays chain reads (instr.Ret s) f [] g c j b h none other free = by_queue c.queue where
   by_queue : (queue : List ℕ)
       → StaysPassed ((c.instances j).brigades b) (((next_called chain s queue (put_back (instr.Ret s) f (do_return (configuration g c f)) [] [] (g, c))).1.1.instances j).brigades b)
@@ -182,17 +183,20 @@ module _ (budget : ℕ) (chain : List Program) (chained : IsChain chain) (g : Co
   unfolding brings has_call
   brings_stays memory pieces = unless_so PassedKept _ (g, c) (brought chain pieces c.req (g, c)) unchanged (λ none.
       let idle = none_if (is_busy c.stack) refusal.Busy _ (none_first (if_broken c.broken) _ none) in
-      by_request c.req (order.nothing_brought 0 (subst (λ (fs : List Frame). has_call fs 0 ≡ false) (sym (not_busy c.stack idle.0)) refl))) where
-        written : (v : BrigadeVar) → (c.instances 0).brigades 8 ≡ var.Null → PassedKept (g, record c { instances = upd c.instances 0 (set_in v (c.instances 0)) })
-        written v free = elim (upd_either c.instances 0 j (set_in v (c.instances 0))) [
-          | inl p ↦ subst (λ (x : Instance). StaysPassed ((c.instances j).brigades b) (x.brigades b)) (sym p.1) (elim (upd_either (c.instances 0).brigades 8 b v) [
-            | inl q ↦ absurd (subst HoldsPassed (ap (λ (k : ℕ). (c.instances k).brigades b) p.0 ∙ ap (λ (d : ℕ). (c.instances 0).brigades d) q.0 ∙ free) h)
-            | inr q ↦ as_it_is ((c.instances j).brigades b) (upd (c.instances 0).brigades 8 v b) (q.1 ∙ ap (λ (k : ℕ). (c.instances k).brigades b) (sym p.0)) h
+      by_request c.req (order.nothing_brought first (subst (λ (fs : List Frame). has_call fs first ≡ false) (sym (not_busy c.stack idle.0)) refl))) where
+        first : ℕ
+        first = place_from chain c.instances 0
+
+        written : (v : BrigadeVar) → (c.instances first).brigades 8 ≡ var.Null → PassedKept (g, record c { instances = upd c.instances first (set_in v (c.instances first)) })
+        written v free = elim (upd_either c.instances first j (set_in v (c.instances first))) [
+          | inl p ↦ subst (λ (x : Instance). StaysPassed ((c.instances j).brigades b) (x.brigades b)) (sym p.1) (elim (upd_either (c.instances first).brigades 8 b v) [
+            | inl q ↦ absurd (subst HoldsPassed (ap (λ (k : ℕ). (c.instances k).brigades b) p.0 ∙ ap (λ (d : ℕ). (c.instances first).brigades d) q.0 ∙ free) h)
+            | inr q ↦ as_it_is ((c.instances j).brigades b) (upd (c.instances first).brigades 8 v b) (q.1 ∙ ap (λ (k : ℕ). (c.instances k).brigades b) (sym p.0)) h
           ])
           | inr p ↦ subst (λ (x : Instance). StaysPassed ((c.instances j).brigades b) (x.brigades b)) (sym p.1) unchanged
         ]
 
-        by_request : (req : Option ℕ) → (c.instances 0).brigades 8 ≡ var.Null → PassedKept (brought chain pieces req (g, c))
+        by_request : (req : Option ℕ) → (c.instances first).brigades 8 ≡ var.Null → PassedKept (brought chain pieces req (g, c))
         by_request None free = unchanged
         by_request (Some req) free = written _ free
 
@@ -211,8 +215,8 @@ module _ (budget : ℕ) (chain : List Program) (chained : IsChain chain) (g : Co
   unfolding IsNestedStack
   steps_stay memory reads other = steps_so PassedKept memory budget chain reads g c unchanged (λ k. unchanged) (λ f rest few ready.
       proceeds_stays chain reads (current (module_at chain f.of) f.pc) f rest g c j b h ready.faultless (subst (λ (fs : List Frame). top_lets_go chain fs j b ≡ false) ready.on_top other)
-      (order.nothing_brought (f.of + 1)
-      (subst (λ (fs : List Frame). has_call fs (f.of + 1) ≡ false) (sym ready.on_top) (later_free f rest (f.of + 1) (subst IsNestedStack ready.on_top nested) (omega arith)))))
+      (order.nothing_brought (next_place chain c f.of)
+      (subst (λ (fs : List Frame). has_call fs (next_place chain c f.of) ≡ false) (sym ready.on_top) (later_free f rest (next_place chain c f.of) (subst IsNestedStack ready.on_top nested) (next_later chain c f.of)))))
 
 -- In a world.
 

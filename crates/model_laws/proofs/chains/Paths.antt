@@ -1,4 +1,5 @@
 -- The pools of a connection with a chain lie under its own.
+use Rattle.run_model.specs.declared.effect.CleanupKind.TheVariants.{Plain, Pre}
 use Rattle.std.proofs.Common.{◌≡◌, ◌⊎◌, ℕ, ◌<◌, ◌≤◌, true, not, ◌==◌, List, [], ◌∷◌, filter_map, Some, inl, inr, refl, sym, ◌∙◌, ap, subst, arith, eq-eqb}
 use Rattle.module_code.specs.declared.instr.PoolRef.{PoolRef}
 use Rattle.module_code.specs.declared.instr.PoolRef.TheVariants as pool
@@ -6,7 +7,7 @@ use Rattle.module_code.specs.declared.instr.Instr.{Instr}
 use Rattle.module_code.specs.declared.instr.Instr.TheVariants as instr
 use Rattle.module_code.specs.Program.{Program, pool_of_brigade, pool_of_pool}
 use Rattle.run_model.specs.declared.payload.Payload.{Payload}
-use Rattle.run_model.specs.Pools.{Pools, is_live, is_under, is_in, is_empty, planted, created, registered}
+use Rattle.run_model.specs.Pools.{Pools, is_live, is_under, is_in, is_empty, planted, created, registered, registered_as}
 use Rattle.run_model.specs.RunOrder.{killed}
 use Rattle.run_model.specs.Clearing.{run_down}
 use Rattle.run_model.specs.State.{Configuration, items_of, named_at, pool_named, set_pool, with_pools, set_brigade}
@@ -73,7 +74,7 @@ PathsStay root r s = LieUnder root r.shared.conn s.shared.pools
 
 pub step_under : (root : ℕ) (p : Program) (choice : Choice) (i : Instr) (r : Configuration) → MayExecute p r i → SoundPools r → root < r.shared.conn → LieUnder root r.shared.conn r.shared.pools
     → PathsStay root r (step p choice i r).state
-unfolding with_pools set_pool run_down registered killed set_brigade
+unfolding with_pools set_pool run_down registered_as killed set_brigade
 step_under root p choice (instr.PCreate q) r may s newer h = made_under_named (PathsStay root r) p q r h (λ parent e.
     let older = named_newer r (pool_of_pool p q) parent s e in
     let live = named_lives r (pool_of_pool p q) parent (wanted_pool r (pool_of_pool p q) _ may.faultless) e in
@@ -83,7 +84,9 @@ step_under root p choice (instr.PClear q) r may s newer h =
 step_under root p choice (instr.PDestroy q) r may s newer h =
     on_named (PathsStay root r) pool_destroyed (pool_named r (pool.Own q)) r h (λ n e. kept_under root r.shared.conn r.shared.pools _ (destroyed_path n r.shared.pools) h)
 step_under root p choice (instr.Label q t) r may s newer h =
-    on_named (PathsStay root r) (label_registered (text_of p t)) (pool_named r q) r h (λ n e. same_under root r.shared.conn r.shared.pools _ refl h)
+    on_named (PathsStay root r) (label_registered Plain (text_of p t)) (pool_named r q) r h (λ n e. same_under root r.shared.conn r.shared.pools _ refl h)
+step_under root p choice (instr.PreLabel q t) r may s newer h =
+    on_named (PathsStay root r) (label_registered Pre (text_of p t)) (pool_named r q) r h (λ n e. same_under root r.shared.conn r.shared.pools _ refl h)
 step_under root p choice (instr.Unlabel q t) r may s newer h = on_named (PathsStay root r) (label_killed (text_of p t)) (pool_named r q) r h
     (λ n e. same_under root r.shared.conn r.shared.pools _ refl h)
 step_under root p choice (instr.BCreate o) r may s newer h = same_under root r.shared.conn r.shared.pools _ (brigade_path (pool_named r (pool_of_brigade p o)) r.shared.next r.shared.pools) h
@@ -151,7 +154,7 @@ went_under chain reads f rest g c may s h =
     }
 
 turn_under : (chain : List Program) (g : Common) (c : Connection) (v : Linked) → EventTurn chain AnyLength g c v → ChainSound chain g c → Under g c → Under v.0 v.1
-unfolding is_live is_under registered
+unfolding is_live is_under registered_as
 turn_under chain g c v (Stood out broken) s h = record { newer = h.newer; pools = h.pools }
 turn_under chain g c v (Went reads f rest whole may) s h = (let left = went_under chain reads f rest g c may s h in record { newer = left.newer; pools = left.pools })
 turn_under chain g c v (Begun whole idle none pools next) s h = begun_under chain g c s.pools h

@@ -1,4 +1,5 @@
 -- No pool is two connections', no variable names one of another connection, and the pool of a later connection is newer.
+use Rattle.run_model.specs.declared.effect.CleanupKind.TheVariants.{Plain, Pre}
 use Rattle.std.proofs.Common.{◌≡◌, ◌⊎◌, ℕ, ◌+◌, ◌<◌, ◌≤◌, ◌==◌, true, false, not, List, [], ◌∷◌, filter_map, Some, None, inl, inr, refl, sym, ◌∙◌, ap, subst, arith, eqb-true}
 use Rattle.std.proofs.lemmas.Option.{same_Some}
 use Rattle.std.proofs.lemmas.Bool.{or_cases}
@@ -8,7 +9,7 @@ use Rattle.module_code.specs.declared.instr.Instr.TheVariants as instr
 use Rattle.module_code.specs.Program.{Program, pool_of_brigade}
 use Rattle.run_model.specs.declared.bucket.PoolVar.TheVariants as poolvar
 use Rattle.run_model.specs.declared.payload.Payload.{Payload}
-use Rattle.run_model.specs.Pools.{Pools, is_empty, is_in, is_live, planted, created, registered}
+use Rattle.run_model.specs.Pools.{Pools, is_empty, is_in, is_live, planted, created, registered, registered_as, no_cleanups}
 use Rattle.run_model.specs.RunOrder.{killed}
 use Rattle.run_model.specs.Clearing.{run_down}
 use Rattle.run_model.specs.State.{Configuration, items_of, pool_named, set_pool, with_pools, set_brigade}
@@ -67,13 +68,15 @@ abbrev PoolsLeft : Configuration → Configuration → Type 0
 PoolsLeft r s = From r.shared.pools s.shared.pools
 
 step_from : (p : Program) (choice : Choice) (i : Instr) (r : Configuration) → PoolsLeft r (step p choice i r).state
-unfolding with_pools set_pool run_down registered killed set_brigade
+unfolding with_pools set_pool run_down registered_as killed set_brigade
 step_from p choice (instr.PCreate q) r = made_under_named (PoolsLeft r) p q r (same_from r.shared.pools r.shared.pools refl) (λ parent e. created_from parent r.shared.pools)
 step_from p choice (instr.PClear q) r =
     on_named (PoolsLeft r) pool_cleared (pool_named r (pool.Own q)) r (same_from r.shared.pools r.shared.pools refl) (λ n e. stays_from r.shared.pools _ (cleared_path n r.shared.pools))
 step_from p choice (instr.PDestroy q) r =
     on_named (PoolsLeft r) pool_destroyed (pool_named r (pool.Own q)) r (same_from r.shared.pools r.shared.pools refl) (λ n e. stays_from r.shared.pools _ (destroyed_path n r.shared.pools))
-step_from p choice (instr.Label q t) r = on_named (PoolsLeft r) (label_registered (text_of p t)) (pool_named r q) r (same_from r.shared.pools r.shared.pools refl)
+step_from p choice (instr.Label q t) r = on_named (PoolsLeft r) (label_registered Plain (text_of p t)) (pool_named r q) r (same_from r.shared.pools r.shared.pools refl)
+    (λ n e. same_from r.shared.pools _ refl)
+step_from p choice (instr.PreLabel q t) r = on_named (PoolsLeft r) (label_registered Pre (text_of p t)) (pool_named r q) r (same_from r.shared.pools r.shared.pools refl)
     (λ n e. same_from r.shared.pools _ refl)
 step_from p choice (instr.Unlabel q t) r = on_named (PoolsLeft r) (label_killed (text_of p t)) (pool_named r q) r (same_from r.shared.pools r.shared.pools refl)
     (λ n e. same_from r.shared.pools _ refl)
@@ -105,7 +108,7 @@ went_from chain reads f rest g c =
     }
 
 turn_from : (chain : List Program) (g : Common) (c : Connection) (v : Linked) → EventTurn chain AnyLength g c v → TurnsFrom g c v
-unfolding begun all_called configuration run_down with_pools registered
+unfolding begun all_called configuration run_down with_pools registered_as
 turn_from chain g c v (Stood out broken) = unturned g c v refl refl
 turn_from chain g c v (Went reads f rest whole may) = (let left = went_from chain reads f rest g c in record { conn = left.conn; from = left.from })
 turn_from chain g c v (Begun whole idle none pools next) = record { conn = refl; from = created_from c.conn (pools_of g c) }
@@ -143,7 +146,7 @@ record PutsNew (k : ℕ) (w : World) (v : Linked) : Type 0 where
   top : v.1.path v.1.conn ≡ v.1.conn ∷ w.common.root ∷ []
   from : (n : ℕ) → is_own v.1 n ≡ true → ((w.common.pools ≤ n) × (n < v.0.pools)) ⊎ ((c : Connection) × (w.conns k ≡ Some c) × (is_own c n ≡ true))
   names : (i q n : ℕ) → (v.1.instances i).pools q ≡ poolvar.Made n → (w.common.pools ≤ n) ⊎ ((c : Connection) × (w.conns k ≡ Some c) × ((c.instances i).pools q ≡ poolvar.Made n))
-  bare : v.1.payloads w.common.root ≡ []
+  bare : v.1.payloads w.common.root ≡ no_cleanups
   earlier : (j : ℕ) (c : Connection) → w.conns j ≡ Some c → j < k → c.conn < v.1.conn
   later : (j : ℕ) (c : Connection) → w.conns j ≡ Some c → k < j → v.1.conn < c.conn
 
@@ -218,8 +221,8 @@ module _ (chain : List Program) (k : ℕ) (w : World) (v : Linked) (sound : Worl
     ]);
     own = λ i j n x y at_i at_j own_x own_y. both i j n (comes i n x at_i own_x) (comes j n y at_j own_y);
     named = λ l j i q n x y at_l at_j made own_y. same_of l j i q n (names_come l i q n x at_l made) (comes j n y at_j own_y);
-    bare = λ j x e. subst (λ (m : ℕ). x.payloads m ≡ []) (sym new.root)
-        (elim (which j x e) [ inl at ↦ subst (λ (y : Connection). y.payloads w.common.root ≡ []) at.1 new.bare | inr old ↦ h.bare j x old ]);
+    bare = λ j x e. subst (λ (m : ℕ). x.payloads m ≡ no_cleanups) (sym new.root)
+        (elim (which j x e) [ inl at ↦ subst (λ (y : Connection). y.payloads w.common.root ≡ no_cleanups) at.1 new.bare | inr old ↦ h.bare j x old ]);
     rising = λ i j x y at_i at_j lt. rises i j x y (which i x at_i) (which j y at_j) lt;
   }
 
@@ -332,7 +335,7 @@ module _ (chain : List Program) (w : World) (sound : WorldSound chain w) (number
   unfolding opened all_called
   opened_root = refl
 
-  opened_bare : (opened chain w.common).1.payloads w.common.root ≡ []
+  opened_bare : (opened chain w.common).1.payloads w.common.root ≡ no_cleanups
   unfolding opened all_called planted
   opened_bare = created_bare w.common.root w.common.root (pools_of w.common (fresh_connection w.common)) sound.names.pools.0 refl
 

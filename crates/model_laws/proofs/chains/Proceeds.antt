@@ -8,7 +8,7 @@ use Rattle.run_model.specs.Pools.{Pools}
 use Rattle.run_model.specs.State.{items_of}
 use Rattle.run_model.specs.Effects.{do_return}
 use Rattle.run_model.specs.Steps.{Choice, answer_to, step}
-use Rattle.run_model.specs.Chains.{Frame, Connection, Common, Linked, module_at, is_last, configuration, pools_of, put_back, stepped_in}
+use Rattle.run_model.specs.Chains.{Frame, Connection, Common, Linked, module_at, is_last, next_place, configuration, pools_of, put_back, stepped_in}
 use Rattle.run_model.specs.Passing.{Reads, passed_to, returned_to, delivered, delivered_by, next_called, returned_from, proceeds}
 
 -- what it leaves as it was: the files of the request, which pool is the connection's, and how many instructions were counted
@@ -18,8 +18,8 @@ left_alone c = (c.files, c.conn, c.count)
 proceeds_leaves : (chain : List Program) (reads : Reads) (i : Instr) (f : Frame) (rest : List Frame) (g : Common) (c : Connection)
     → left_alone (proceeds chain reads i f rest (g, c)).1.1 ≡ left_alone c
 unfolding proceeds delivered_by passed_to returned_from returned_to put_back stepped_in
-proceeds_leaves chain reads (instr.Pass b l) f rest g c = by_last (is_last chain f.of) where
-  by_last : (t : Bool) → left_alone (cond t (delivered_by (module_at chain f.of) reads b (instr.Pass b l) f rest (g, c)) (passed_to (module_at chain (f.of + 1)) b f rest (g, c))).1 ≡ left_alone c
+proceeds_leaves chain reads (instr.Pass b l) f rest g c = by_last (is_last chain c f.of) where
+  by_last : (t : Bool) → left_alone (cond t (delivered_by (module_at chain f.of) reads b (instr.Pass b l) f rest (g, c)) (passed_to (module_at chain (next_place chain c f.of)) (next_place chain c f.of) b f rest (g, c))).1 ≡ left_alone c
   by_last true = refl
   by_last false = refl
 proceeds_leaves chain reads (instr.Ret s) f [] g c = by_queue c.queue where
@@ -57,8 +57,8 @@ pub proceeds_so : (P : Pools Payload → (ℕ → Option (List ℕ)) → ℕ →
     → ((choice : Choice) → (let s = (step (module_at chain f.of) choice i (configuration g c f)).state.shared in P s.pools s.files.opened s.files.next s.req)) → P (pools_of g c) c.opened g.file c.req
     → (let v = (proceeds chain reads i f rest (g, c)).1 in P (pools_of v.0 v.1) v.1.opened v.0.file v.1.req)
 unfolding proceeds returned_from returned_to passed_to put_back configuration
-proceeds_so P chain reads (instr.Pass b l) f rest g c stepped here = by_last (is_last chain f.of) where
-  by_last : (t : Bool) → (let v = cond t (delivered_by (module_at chain f.of) reads b (instr.Pass b l) f rest (g, c)) (passed_to (module_at chain (f.of + 1)) b f rest (g, c)) in
+proceeds_so P chain reads (instr.Pass b l) f rest g c stepped here = by_last (is_last chain c f.of) where
+  by_last : (t : Bool) → (let v = cond t (delivered_by (module_at chain f.of) reads b (instr.Pass b l) f rest (g, c)) (passed_to (module_at chain (next_place chain c f.of)) (next_place chain c f.of) b f rest (g, c)) in
       P (pools_of v.0 v.1) v.1.opened v.0.file v.1.req)
   by_last true = delivered_so P chain (instr.Pass b l) f g c stepped here reads b rest
   by_last false = here

@@ -1,10 +1,11 @@
 -- Steps that make, clear and destroy no pool leave the pools where they are.
+use Rattle.run_model.specs.declared.effect.CleanupKind.TheVariants.{Plain, Pre}
 use Rattle.std.proofs.Common.{◌≡◌, ℕ, Bool, true, false, filter_map, refl, ◌∙◌}
 use Rattle.module_code.specs.declared.instr.Instr.{Instr}
 use Rattle.module_code.specs.declared.instr.Instr.TheVariants as instr
 use Rattle.module_code.specs.Program.{Program, pool_of_brigade}
 use Rattle.run_model.specs.declared.bucket.Cursor.{Cursor}
-use Rattle.run_model.specs.Pools.{registered}
+use Rattle.run_model.specs.Pools.{registered, registered_as}
 use Rattle.run_model.specs.RunOrder.{killed}
 use Rattle.run_model.specs.State.{Configuration, items_of, set_cursor, set_brigade, set_loose, set_number, with_pools, pool_named}
 use Rattle.run_model.specs.Steps.{Choice, step, label_registered, label_killed, text_of, made_on, new_ref, saved_into}
@@ -43,6 +44,7 @@ quiet_frame r = record {
   loose = λ xs x s. still r x _ refl refl refl refl refl s;
   numbers = λ n v x s. still r x _ refl refl refl refl refl s;
   buffer = λ bytes x s. still r x _ refl refl refl refl refl s;
+  left = λ x s. still r x _ refl refl refl refl refl s;
   names = λ n x s. still r x _ refl refl refl refl refl s;
   refs = λ target files x lives s. still r x _ (referred_path target files x.shared.pools) (referred_next target files x.shared.pools) refl refl refl s;
 }
@@ -55,11 +57,12 @@ itself : (r : Configuration) → IsQuiet r r
 itself r = as_before r r refl refl refl refl refl
 
 pub quiet_step : (p : Program) (choice : Choice) (i : Instr) (r : Configuration) → moves_pools i ≡ false → MayExecute p r i → IsQuiet r (step p choice i r).state
-unfolding set_brigade with_pools registered killed
+unfolding set_brigade with_pools registered_as killed
 quiet_step p choice (instr.PCreate q) r not_moved may = absurd (cc)
 quiet_step p choice (instr.PClear q) r not_moved may = absurd (cc)
 quiet_step p choice (instr.PDestroy q) r not_moved may = absurd (cc)
-quiet_step p choice (instr.Label q t) r not_moved may = on_named (IsQuiet r) (label_registered (text_of p t)) (pool_named r q) r (itself r) (λ n e. as_before r _ refl refl refl refl refl)
+quiet_step p choice (instr.Label q t) r not_moved may = on_named (IsQuiet r) (label_registered Plain (text_of p t)) (pool_named r q) r (itself r) (λ n e. as_before r _ refl refl refl refl refl)
+quiet_step p choice (instr.PreLabel q t) r not_moved may = on_named (IsQuiet r) (label_registered Pre (text_of p t)) (pool_named r q) r (itself r) (λ n e. as_before r _ refl refl refl refl refl)
 quiet_step p choice (instr.Unlabel q t) r not_moved may = on_named (IsQuiet r) (label_killed (text_of p t)) (pool_named r q) r (itself r) (λ n e. as_before r _ refl refl refl refl refl)
 quiet_step p choice (instr.BCreate o) r not_moved may =
     as_before r _ (brigade_path (pool_named r (pool_of_brigade p o)) r.shared.next r.shared.pools) (brigade_next (pool_named r (pool_of_brigade p o)) r.shared.next r.shared.pools) refl refl refl

@@ -1,4 +1,5 @@
 -- Names rise at each instruction of the call on top, and stay below their limit.
+use Rattle.run_model.specs.declared.effect.CleanupKind.TheVariants.{Plain, Pre}
 use Rattle.std.proofs.Common.{◌≡◌, ℕ, ◌+◌, ◌^◌, ◌<◌, ◌≤◌, Bool, true, false, cond, List, [], ◌∷◌, filter_map, refl, sym, subst, arith}
 use Rattle.module_code.specs.declared.instr.Instr.{Instr}
 use Rattle.module_code.specs.declared.instr.Instr.TheVariants as instr
@@ -6,7 +7,7 @@ use Rattle.module_code.specs.declared.instr.PoolRef.TheVariants as pool
 use Rattle.module_code.specs.declared.instr.Status.{Status}
 use Rattle.module_code.specs.Program.{Program, pool_of_brigade}
 use Rattle.run_model.specs.declared.bucket.Cursor.{Cursor}
-use Rattle.run_model.specs.Pools.{created, registered, cleared, destroyed}
+use Rattle.run_model.specs.Pools.{created, registered, cleared, destroyed, registered_as}
 use Rattle.run_model.specs.RunOrder.{killed}
 use Rattle.run_model.specs.Clearing.{run_down}
 use Rattle.run_model.specs.State.{Configuration, items_of, pool_named, set_pool, set_brigade, set_loose, set_number, set_cursor, with_pools}
@@ -14,7 +15,7 @@ use Rattle.run_model.specs.Effects.{do_return}
 use Rattle.run_model.specs.Sound.{SoundPools}
 use Rattle.run_model.specs.Steps.{Choice, current, is_spent, step, label_killed, label_registered, made_on, new_ref, pool_cleared, pool_destroyed, saved_into, text_of}
 use Rattle.model_laws.specs.Laws.{MayExecute}
-use Rattle.run_model.specs.Chains.{Frame, Connection, Common, module_at, is_last, configuration, put_back, stepped_in}
+use Rattle.run_model.specs.Chains.{Frame, Connection, Common, module_at, is_last, next_place, configuration, put_back, stepped_in}
 use Rattle.run_model.specs.Passing.{Reads, delivered_by, passed_to, next_called, returned_from, returned_to, proceeds}
 use Rattle.run_model.specs.Turns.{calls_of}
 use Rattle.model_laws.specs.ChainLaws.{Rises, TopRaisesNames}
@@ -37,6 +38,7 @@ risen_frame m = record {
   loose = λ xs r h. h;
   numbers = λ n v r h. h;
   buffer = λ bytes r h. h;
+  left = λ r h. h;
   names = λ n r h. h;
   refs = λ target files r lives h. (let same = referred_next target files r.shared.pools in omega arith);
 }
@@ -53,11 +55,12 @@ saved_risen m o b target r h =
     omega arith
 
 pub step_raises : (m : ℕ) (p : Program) (choice : Choice) (i : Instr) (r : Configuration) → MayExecute p r i → HasRisen m r → HasRisen m (step p choice i r).state
-unfolding set_pool set_brigade with_pools run_down created cleared destroyed registered killed
+unfolding set_pool set_brigade with_pools run_down created cleared destroyed registered_as killed
 step_raises m p choice (instr.PCreate q) r may h = made_under_named (HasRisen m) p q r h (λ parent e. omega arith)
 step_raises m p choice (instr.PClear q) r may h = on_named (HasRisen m) pool_cleared (pool_named r (pool.Own q)) r h (λ n e. h)
 step_raises m p choice (instr.PDestroy q) r may h = on_named (HasRisen m) pool_destroyed (pool_named r (pool.Own q)) r h (λ n e. h)
-step_raises m p choice (instr.Label q t) r may h = on_named (HasRisen m) (label_registered (text_of p t)) (pool_named r q) r h (λ n e. h)
+step_raises m p choice (instr.Label q t) r may h = on_named (HasRisen m) (label_registered Plain (text_of p t)) (pool_named r q) r h (λ n e. h)
+step_raises m p choice (instr.PreLabel q t) r may h = on_named (HasRisen m) (label_registered Pre (text_of p t)) (pool_named r q) r h (λ n e. h)
 step_raises m p choice (instr.Unlabel q t) r may h = on_named (HasRisen m) (label_killed (text_of p t)) (pool_named r q) r h (λ n e. h)
 step_raises m p choice (instr.BCreate o) r may h = subst (λ (n : ℕ). m ≤ n) (sym (brigade_next (pool_named r (pool_of_brigade p o)) r.shared.next r.shared.pools)) h
 step_raises m p choice (instr.BClean b) r may h = h
@@ -95,21 +98,21 @@ unfolding delivered_by
 delivered_raises chain reads b i f rest g c may s = stepped_raises chain _ i f rest g c may s
 
 returned_from_raises : (chain : List Program) (status : Status) (f : Frame) (g : Common) (c : Connection) → g.next < 2 ^ 64 → g.pools < 2 ^ 64
-    → is_spent g.next (calls_of chain (instr.Ret status) f [] c.queue) ≡ false → Rises g (returned_from chain status f (g, c)).1.0
+    → is_spent g.next (calls_of (is_last chain c f.of) (instr.Ret status) [] c.queue) ≡ false → Rises g (returned_from chain status f (g, c)).1.0
 unfolding returned_from put_back configuration
 returned_from_raises chain status f g c next pools last = by_queue c.queue last where
-  by_queue : (queue : List ℕ) → is_spent g.next (calls_of chain (instr.Ret status) f [] queue) ≡ false
+  by_queue : (queue : List ℕ) → is_spent g.next (calls_of (is_last chain c f.of) (instr.Ret status) [] queue) ≡ false
       → Rises g (next_called chain status queue (put_back (instr.Ret status) f (do_return (configuration g c f)) [] [] (g, c))).1.0
   by_queue [] last = same_raises g next pools
   by_queue (k ∷ ks) last = one_more_raises g (not_spent g.next 1 last) pools
 
 proceeds_raises : (chain : List Program) (reads : Reads) (i : Instr) (f : Frame) (rest : List Frame) (g : Common) (c : Connection)
-    → MayExecute (module_at chain f.of) (configuration g c f) i → is_spent g.next (calls_of chain i f rest c.queue) ≡ false → g.next < 2 ^ 64 → SoundPools (configuration g c f)
+    → MayExecute (module_at chain f.of) (configuration g c f) i → is_spent g.next (calls_of (is_last chain c f.of) i rest c.queue) ≡ false → g.next < 2 ^ 64 → SoundPools (configuration g c f)
     → Rises g (proceeds chain reads i f rest (g, c)).1.0
 unfolding proceeds passed_to returned_to put_back configuration
-proceeds_raises chain reads (instr.Pass b l) f rest g c may last next s = by_last (is_last chain f.of) last where
+proceeds_raises chain reads (instr.Pass b l) f rest g c may last next s = by_last (is_last chain c f.of) last where
   by_last : (t : Bool) → is_spent g.next (cond t 0 1) ≡ false
-      → Rises g (cond t (delivered_by (module_at chain f.of) reads b (instr.Pass b l) f rest (g, c)) (passed_to (module_at chain (f.of + 1)) b f rest (g, c))).0
+      → Rises g (cond t (delivered_by (module_at chain f.of) reads b (instr.Pass b l) f rest (g, c)) (passed_to (module_at chain (next_place chain c f.of)) (next_place chain c f.of) b f rest (g, c))).0
   by_last true last = delivered_raises chain reads b (instr.Pass b l) f rest g c may s
   by_last false last = one_more_raises g (not_spent g.next 1 last) s.limit
 proceeds_raises chain reads (instr.Ret status) f [] g c may last next s = returned_from_raises chain status f g c next s.limit last

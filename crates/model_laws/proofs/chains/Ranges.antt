@@ -15,7 +15,7 @@ use Rattle.run_model.specs.declared.event.Piece.{Piece}
 use Rattle.run_model.specs.declared.payload.Payload.{Payload}
 use Rattle.run_model.specs.declared.payload.Payload.TheVariants.{FileRef}
 use Rattle.run_model.specs.Indexed.{upd}
-use Rattle.run_model.specs.Pools.{Pools, is_under, planted, registered, cleared, destroyed}
+use Rattle.run_model.specs.Pools.{Pools, is_under, planted, registered, cleared, destroyed, registered_as}
 use Rattle.run_model.specs.RunOrder.{run_order}
 use Rattle.run_model.specs.Payloads.{is_file_ref}
 use Rattle.run_model.specs.Buckets.{cleared_bucket}
@@ -176,7 +176,7 @@ went_ranges chain reads f rest g c may s held left h =
 -- A file is opened under a number that was not given out.
 taken_ranges : (req new : ℕ) (bytes : List ℕ) (g : Common) (c : Connection) → c.req ≡ Some req → g.file ≤ new → ChainFiles g c → ChainRanges g c
     → ChainRanges (file_taken req new bytes (g, c)).0 (file_taken req new bytes (g, c)).1
-unfolding registered
+unfolding registered_as
 taken_ranges req new bytes g c is newer held h =
     let v : Linked = file_taken req new bytes (g, c) in
     let all = each_bucket_so (λ x. LiesInFile (files_of g c) x × HasReference ps x) (LiesInFile (files_of v.0 v.1)) still c

@@ -24,7 +24,7 @@ use Rattle.run_model.specs.declared.fault.FaultKind.TheVariants.{F5}
 use Rattle.run_model.specs.BrigadeLists.{first_bucket, buckets_before, buckets_from, bucket_named}
 use Rattle.run_model.specs.BucketSteps.{items_at, bucket_read, first_read, rest_named, read_given, read_within, do_read}
 use Rattle.run_model.specs.Buckets.{is_dead, is_ended}
-use Rattle.run_model.specs.Chains.{Frame, Connection, Common, Linked, module_at, is_last, configuration, touched_bucket, touched_frame, put_back, stepped_in, led_to, IsChain, touched_var}
+use Rattle.run_model.specs.Chains.{Frame, Connection, Common, Linked, module_at, is_last, next_place, configuration, touched_bucket, touched_frame, put_back, stepped_in, led_to, IsChain, touched_var, places}
 use Rattle.run_model.specs.Chains.{touched_instance, pools_of}
 use Rattle.run_model.specs.Cursors.{Place, Nowhere, AtLoose, Within, AtEndOf, at_cursor, bucket_at}
 use Rattle.run_model.specs.Cursors.{read_cursor, place_of_loose, place_in_brigade, place_of_bucket, place_of_end, place_of_cursor, holder_of, variable_of}
@@ -199,7 +199,7 @@ read_lasts C live bytes b content.Nothing is fits on alive =
 
 module _ (chain : List Program) (reads : Reads) (g : Common) (c : Connection) (f : Frame) (rest : List Frame) (i : Instr) (may : MayExecute (module_at chain f.of) (configuration g c f) i)
     (top : c.stack ≡ f ∷ rest)
-    (placed : f.of < length chain) (named : AreNamed g.next (f ∷ rest)) (given : All (λ w. HoldsGiven g.next w.call) (f ∷ rest)) (homes : ChainHomes g c) (stack : StackReads c (f ∷ rest)) where
+    (placed : f.of < places chain) (named : AreNamed g.next (f ∷ rest)) (given : All (λ w. HoldsGiven g.next w.call) (f ∷ rest)) (homes : ChainHomes g c) (stack : StackReads c (f ∷ rest)) where
   abbrev left : Linked
   left = (proceeds chain reads i f rest (g, c)).1
 
@@ -315,7 +315,7 @@ read_sets given (Within b x) r there none live n e = by_given (read_given given 
       }
 
 module _ (chain : List Program) (reads : Reads) (g : Common) (c : Connection) (f : Frame) (rest : List Frame) (top : c.stack ≡ f ∷ rest)
-    (placed : f.of < length chain) (named : AreNamed g.next (f ∷ rest)) (given : All (λ w. HoldsGiven g.next w.call) (f ∷ rest)) (homes : ChainHomes g c) (sound : ChainSound chain g c)
+    (placed : f.of < places chain) (named : AreNamed g.next (f ∷ rest)) (given : All (λ w. HoldsGiven g.next w.call) (f ∷ rest)) (homes : ChainHomes g c) (sound : ChainSound chain g c)
     (stack : StackReads c (f ∷ rest)) where
   abbrev HomesLeft : Instr → Type 0
   HomesLeft i = StackReads (proceeds chain reads i f rest (g, c)).1.1 (proceeds chain reads i f rest (g, c)).1.1.stack
@@ -378,22 +378,33 @@ module _ (chain : List Program) (reads : Reads) (g : Common) (c : Connection) (f
     )
 
   -- To the next filter, or to the end of the chain.
-  pass_leaves : (b l : ℕ) → MayExecute (module_at chain f.of) (configuration g c f) (instr.Pass b l) → (t : Bool) → is_last chain f.of ≡ t → HomesLeft (instr.Pass b l)
+  pass_leaves : (b l : ℕ) → MayExecute (module_at chain f.of) (configuration g c f) (instr.Pass b l) → (t : Bool) → is_last chain c f.of ≡ t → HomesLeft (instr.Pass b l)
   unfolding proceeds delivered_by passed_to stepped_in put_back
   pass_leaves b l may true last =
       let choice : Choice = record { answer = answer_to (delivered c.out (items_of ((c.instances f.of).brigades b)) reads).1; given = None } in
       let i : Instr = instr.Pass b l in
       subst (StackReads (proceeds chain reads i f rest (g, c)).1.1)
-      (sym (ap (λ (x : Bool). (cond x (delivered_by (module_at chain f.of) reads b i f rest (g, c)) (passed_to (module_at chain (f.of + 1)) b f rest (g, c))).1.stack) last))
+      (sym (ap (λ (x : Bool). (cond x (delivered_by (module_at chain f.of) reads b i f rest (g, c)) (passed_to (module_at chain (next_place chain c f.of)) (next_place chain c f.of) b f rest (g, c))).1.stack) last))
       (in_place chain reads g c f rest i may top placed named given homes stack choice refl refl)
   pass_leaves b l may false last =
       let i : Instr = instr.Pass b l in
       subst (StackReads (proceeds chain reads i f rest (g, c)).1.1)
-      (sym (ap (λ (x : Bool). (cond x (delivered_by (module_at chain f.of) reads b i f rest (g, c)) (passed_to (module_at chain (f.of + 1)) b f rest (g, c))).1.stack) last))
-      (fresh_top chain reads g c f rest i may top placed named given homes stack (record { of = f.of + 1; call = fresh_call g.next; pc = (module_at chain (f.of + 1)).main }) (f ∷ rest) refl
+      (sym (ap (λ (x : Bool). (cond x (delivered_by (module_at chain f.of) reads b i f rest (g, c)) (passed_to (module_at chain (next_place chain c f.of)) (next_place chain c f.of) b f rest (g, c))).1.stack) last))
+      (fresh_top chain reads g c f rest i may top placed named given homes stack (record { of = next_place chain c f.of; call = fresh_call g.next; pc = (module_at chain (next_place chain c f.of)).main }) (f ∷ rest) refl
       (passed_stays chain reads g c f rest i may top placed named given homes stack (f ∷ rest) refl (alike_same (f ∷ rest))))
 
 -- Whatever the instruction.
+
+same_each : (T : NamedBucket → Type 0) (c d : Connection) → d.instances ≡ c.instances → d.stack ≡ c.stack → OfEachBucket T c → OfEachBucket T d
+same_each T c d instances stack h = record {
+  brigades = λ k b. subst (λ (g : ℕ → Instance). All T (items_of ((g k).brigades b))) (sym instances) (h.brigades k b);
+  loose = subst (LooseOf T) (sym stack) h.loose;
+}
+
+same_reads : (c d : Connection) → d.instances ≡ c.instances → d.stack ≡ c.stack → (fs : List Frame) → StackReads c fs → StackReads d fs
+unfolding StackReads
+same_reads c d instances stack [] h = tt
+same_reads c d instances stack (w ∷ more) h = (λ n e. same_each (NamedLasts n (IsCalled (w ∷ more))) c d instances stack (h.0 n e), same_reads c d instances stack more h.1)
 
 first_leaves : (chain : List Program) (g : Common) (c : Connection) (f : Frame) (s : Status) (queue : List ℕ)
     → (let left = (next_called chain s queue (put_back (instr.Ret s) f (do_return (configuration g c f)) [] [] (g, c))).1.1 in StackReads left left.stack)
@@ -402,14 +413,15 @@ first_leaves chain g c f s [] = tt
 first_leaves chain g c f s (k ∷ ks) = (λ n e. absurd (unset_at n cursor.Unset refl e), tt)
 
 top_leaves : (chain : List Program) (reads : Reads) (g : Common) (c : Connection) (f : Frame) (rest : List Frame) (i : Instr) → MayExecute (module_at chain f.of) (configuration g c f) i
-    → c.stack ≡ f ∷ rest → f.of < length chain
+    → c.stack ≡ f ∷ rest → f.of < places chain
     → AreNamed g.next (f ∷ rest) → All (λ w. HoldsGiven g.next w.call) (f ∷ rest) → ChainHomes g c → ChainSound chain g c → StackReads c (f ∷ rest)
     → ChainNames chain (proceeds chain reads i f rest (g, c)).1.0 (proceeds chain reads i f rest (g, c)).1.1 → NoneBeyond chain (proceeds chain reads i f rest (g, c)).1.1
     → StackReads (proceeds chain reads i f rest (g, c)).1.1 (proceeds chain reads i f rest (g, c)).1.1.stack
 unfolding proceeds stepped_in put_back returned_from returned_to AreAlike
 top_leaves chain reads g c f rest (instr.Pass b l) may top placed named given homes sound stack new none =
-    pass_leaves chain reads g c f rest top placed named given homes sound stack b l may (is_last chain f.of) refl
-top_leaves chain reads g c f [] (instr.Ret s) may top placed named given homes sound stack new none = first_leaves chain g c f s c.queue
+    pass_leaves chain reads g c f rest top placed named given homes sound stack b l may (is_last chain c f.of) refl
+top_leaves chain reads g c f [] (instr.Ret s) may top placed named given homes sound stack new none =
+    same_reads (returned_from chain s f (g, c)).1.1 _ refl refl (returned_from chain s f (g, c)).1.1.stack (first_leaves chain g c f s c.queue)
 top_leaves chain reads g c f (w ∷ more) (instr.Ret s) may top placed named given homes sound stack new none =
     rest_stays chain reads g c f (w ∷ more) (instr.Ret s) may top placed named given homes stack (proceeds chain reads (instr.Ret s) f (w ∷ more) (g, c)).1.1.stack
     (refl, refl, alike_touched (touched_bucket (configuration g c f) (instr.Ret s)) more)
@@ -426,17 +438,6 @@ record ReadsKept (chain : List Program) (g : Common) (c : Connection) : Type 0 w
   cursors : CursorsGiven g c
   beyond : NoneBeyond chain c
   reads : StackReads c c.stack
-
-same_each : (T : NamedBucket → Type 0) (c d : Connection) → d.instances ≡ c.instances → d.stack ≡ c.stack → OfEachBucket T c → OfEachBucket T d
-same_each T c d instances stack h = record {
-  brigades = λ k b. subst (λ (g : ℕ → Instance). All T (items_of ((g k).brigades b))) (sym instances) (h.brigades k b);
-  loose = subst (LooseOf T) (sym stack) h.loose;
-}
-
-same_reads : (c d : Connection) → d.instances ≡ c.instances → d.stack ≡ c.stack → (fs : List Frame) → StackReads c fs → StackReads d fs
-unfolding StackReads
-same_reads c d instances stack [] h = tt
-same_reads c d instances stack (w ∷ more) h = (λ n e. same_each (NamedLasts n (IsCalled (w ∷ more))) c d instances stack (h.0 n e), same_reads c d instances stack more h.1)
 
 no_reads : (d : Connection) (fs : List Frame) → fs ≡ [] → StackReads d fs
 unfolding StackReads
@@ -471,7 +472,7 @@ reads_kept chain chained =
       rising = λ g new c rises s h. record { homes = homes.rising g new c rises s h.homes; cursors = cursors.rising g new c rises s h.cursors; beyond = h.beyond; reads = h.reads };
       opening = λ g has s. record { homes = homes.opening g has s; cursors = cursors.opening g has s; beyond = λ k b past. refl; reads = fresh_reads _ _ refl };
       turns = λ g c v has t s new h.
-          let none = turn_beyond chain g c v chained.some t s h.beyond in
+          let none = turn_beyond chain g c v t s h.beyond in
           record { homes = homes.turns g c v has t s new h.homes; cursors = cursors.turns g c v has t s new h.cursors; beyond = none; reads = turn_reads chain g c v t s none h };
     }
 

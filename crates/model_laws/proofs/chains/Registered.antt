@@ -15,7 +15,7 @@ use Rattle.run_model.specs.declared.payload.Payload.{Payload}
 use Rattle.run_model.specs.declared.payload.Payload.TheVariants.{FileRef}
 use Rattle.run_model.specs.Indexed.{upd}
 use Rattle.run_model.specs.Payloads.{is_brigade}
-use Rattle.run_model.specs.Pools.{Pools, is_under, planted, created, registered, destroyed}
+use Rattle.run_model.specs.Pools.{Pools, is_under, planted, created, registered, destroyed, registered_as, Cleanups, no_cleanups, all_held}
 use Rattle.run_model.specs.Buckets.{returned_bucket}
 use Rattle.run_model.specs.Clearing.{run_down}
 use Rattle.run_model.specs.State.{Instance, Configuration, items_of, set_brigade, with_pools}
@@ -26,7 +26,7 @@ use Rattle.run_model.specs.Sound.{Sound}
 use Rattle.model_laws.specs.Laws.{MayExecute}
 use Rattle.model_laws.specs.Registered.{IsMadeIn, AreRegistered, IsMadeInOne}
 use Rattle.run_model.specs.Holding.{times_held}
-use Rattle.run_model.specs.Chains.{Frame, Connection, Common, Linked, module_at, is_last, configuration, pools_of, touched_var, touched_instance, put_back, stepped_in}
+use Rattle.run_model.specs.Chains.{Frame, Connection, Common, Linked, module_at, is_last, next_place, configuration, pools_of, touched_var, touched_instance, put_back, stepped_in, place_from}
 use Rattle.run_model.specs.Passing.{Reads, delivered, delivered_by, handed_in, set_in, passed_to, passed_by, given_back, gone_on, returned_to, next_called, returned_from, proceeds}
 use Rattle.run_model.specs.Turns.{all_called, fresh_connection, opened, begun, brought_in, file_taken, request_over}
 use Rattle.model_laws.specs.ChainSound.{ChainSound}
@@ -162,11 +162,11 @@ module _ (chain : List Program) (g : Common) (c : Connection) (f : Frame) (s : C
         (at_each SameBrigade (here b k).brigades 8 (handed_in v)
         (no_brigade ((here b k).brigades 8) (handed_in v) (λ name q h. in_before k name q ((passed_same b k 8 name q).1 h)) (on_none v)) same_brigade)
 
-    passed_registered : (callee : Program) (b : ℕ) (rest : List Frame) → Left (passed_to callee b f rest (g, c))
+    passed_registered : (callee : Program) (to b : ℕ) (rest : List Frame) → Left (passed_to callee to b f rest (g, c))
     unfolding passed_to here
-    passed_registered callee b rest =
-        same_all (here b) (upd (here b) (f.of + 1) (set_in (handed_in ((configuration g c f).instance.brigades b)) (here b (f.of + 1)))) (pools_of g c)
-        (handed_same_in b (f.of + 1) ((configuration g c f).instance.brigades b)) (same_all c.instances (here b) (pools_of g c) (passed_same b) old)
+    passed_registered callee to b rest =
+        same_all (here b) (upd (here b) to (set_in (handed_in ((configuration g c f).instance.brigades b)) (here b to))) (pools_of g c)
+        (handed_same_in b to ((configuration g c f).instance.brigades b)) (same_all c.instances (here b) (pools_of g c) (passed_same b) old)
 
     gone_on_registered : (st : Status) (i : Instr) (w : Frame) (left : List NamedBucket) (v : Linked) → Left v → Left (gone_on st i w left v)
     gone_on_registered st i w left v h =
@@ -182,10 +182,10 @@ module _ (chain : List Program) (g : Common) (c : Connection) (f : Frame) (s : C
 
     top_registered : (reads : Reads) (i : Instr) (rest : List Frame) → MayExecute (module_at chain f.of) (configuration g c f) i → Left (proceeds chain reads i f rest (g, c)).1
     unfolding proceeds returned_from returned_to
-    top_registered reads (instr.Pass b l) rest may = by_last (is_last chain f.of) where
-      by_last : (t : Bool) → Left (cond t (delivered_by (module_at chain f.of) reads b (instr.Pass b l) f rest (g, c)) (passed_to (module_at chain (f.of + 1)) b f rest (g, c)))
+    top_registered reads (instr.Pass b l) rest may = by_last (is_last chain c f.of) where
+      by_last : (t : Bool) → Left (cond t (delivered_by (module_at chain f.of) reads b (instr.Pass b l) f rest (g, c)) (passed_to (module_at chain (next_place chain c f.of)) (next_place chain c f.of) b f rest (g, c)))
       by_last true = delivered_registered reads b (instr.Pass b l) rest may
-      by_last false = passed_registered (module_at chain (f.of + 1)) b rest
+      by_last false = passed_registered (module_at chain (next_place chain c f.of)) (next_place chain c f.of) b rest
     top_registered reads (instr.Ret st) [] may = returned_registered st c.queue may
     top_registered reads (instr.Ret st) (w ∷ rest) may =
         gone_on_registered st (current (module_at chain w.of) w.pc) w (map (returned_bucket f.call.name) (items_of ((configuration g c f).instance.brigades 8)))
@@ -200,13 +200,13 @@ opened_registered chain g = record {
   once = λ name p m. absurd (let no = m.1.1 in cc);
   only = λ name p h. absurd (nowhere name p h);
 } where
-  nothing : ℕ → List Payload
-  nothing k = []
+  nothing : ℕ → Cleanups Payload
+  nothing k = no_cleanups
 
   nowhere : (name p : ℕ) → 0 < times_held (created g.root (pools_of g (fresh_connection g))) name p → ⊥
-  nowhere name p h = elim (upd_either nothing g.pools p []) [
-    | inl q ↦ (let none : times_held (created g.root (pools_of g (fresh_connection g))) name p ≡ 0 = ap (count_by (is_brigade name)) q.1 in omega arith)
-    | inr q ↦ (let none : times_held (created g.root (pools_of g (fresh_connection g))) name p ≡ 0 = ap (count_by (is_brigade name)) q.1 in omega arith)
+  nowhere name p h = elim (upd_either nothing g.pools p no_cleanups) [
+    | inl q ↦ (let none : times_held (created g.root (pools_of g (fresh_connection g))) name p ≡ 0 = ap (λ (c : Cleanups Payload). count_by (is_brigade name) (all_held c)) q.1 in omega arith)
+    | inr q ↦ (let none : times_held (created g.root (pools_of g (fresh_connection g))) name p ≡ 0 = ap (λ (c : Cleanups Payload). count_by (is_brigade name) (all_held c)) q.1 in omega arith)
   ]
 
 -- payloads count alike, and instances are as before
@@ -221,16 +221,19 @@ begun_registered chain g c s h = instances_kept c.instances (pools_of g c) (crea
 brought_registered : (chain : List Program) (pieces : List Piece) (req : ℕ) (g : Common) (c : Connection) → ChainSound chain g c → ChainRegistered g c
     → ChainRegistered (brought_in chain pieces req (g, c)).0 (brought_in chain pieces req (g, c)).1
 unfolding configuration
-brought_registered chain pieces req g c s h = same_all c.instances (upd c.instances 0 (set_in there (c.instances 0))) (pools_of g c)
-    (one_same c.instances 0 (set_in there (c.instances 0)) (at_each SameBrigade (c.instances 0).brigades 8 there new_in same_brigade)) h where
+brought_registered chain pieces req g c s h = same_all c.instances (upd c.instances first (set_in there (c.instances first))) (pools_of g c)
+    (one_same c.instances first (set_in there (c.instances first)) (at_each SameBrigade (c.instances first).brigades 8 there new_in same_brigade)) h where
+      first : ℕ
+      first = place_from chain c.instances 0
+
       there : BrigadeVar
       there = var.Live (record { name = g.next + 1; on = None; mark = Usable; items = named_from (bucket_of g.next req) (g.next + 2) pieces })
 
-      new_in : SameBrigade ((c.instances 0).brigades 8) there
-      new_in = no_brigade ((c.instances 0).brigades 8) there (in_on_none (module_at chain 0) (configuration g c (looking 0)) (s.pools.declared (looking 0))) (λ name q h. let no = h.1 in cc)
+      new_in : SameBrigade ((c.instances first).brigades 8) there
+      new_in = no_brigade ((c.instances first).brigades 8) there (in_on_none (module_at chain first) (configuration g c (looking first)) (s.pools.declared (looking first))) (λ name q h. let no = h.1 in cc)
 
 taken_registered : (req file : ℕ) (bytes : List ℕ) (g : Common) (c : Connection) → ChainRegistered g c → ChainRegistered (file_taken req file bytes (g, c)).0 (file_taken req file bytes (g, c)).1
-unfolding registered
+unfolding registered_as
 taken_registered req file bytes g c h = (let left = instances_kept c.instances (pools_of g c) (registered req (FileRef file) (pools_of g c))
     (λ name p. held_beside req (FileRef file) (pools_of g c) name p refl) h in record { once = left.once; only = left.only })
 

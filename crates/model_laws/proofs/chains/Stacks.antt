@@ -14,7 +14,7 @@ all_to P Q xs to h k d lt = to _ (h k d lt)
 pub nested_alike : (f new : Frame) (rest : List Frame) → new.of ≡ f.of → IsNested f rest → IsNested new rest
 unfolding IsNested
 nested_alike f new [] is h = tt
-nested_alike f new (w ∷ rest) is h = (is ∙ h.0, h.1)
+nested_alike f new (w ∷ rest) is h = (subst (λ (k : ℕ). w.of < k) (sym is) h.0, h.1)
 
 module _ (bucket : NamedBucket → NamedBucket) where
   pub nested_touched : (f : Frame) (rest : List Frame) → IsNested f rest → IsNested f (map (touched_frame bucket) rest)

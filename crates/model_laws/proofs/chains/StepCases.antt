@@ -7,9 +7,9 @@ use Rattle.run_model.specs.declared.event.Cause.TheVariants as cause
 use Rattle.run_model.specs.declared.fault.FaultKind.{FaultKind}
 use Rattle.run_model.specs.Faults.{fault}
 use Rattle.run_model.specs.Steps.{lacks_names, grows, current, is_spent}
-use Rattle.run_model.specs.Chains.{Frame, Connection, Common, Linked, module_at, configuration}
+use Rattle.run_model.specs.Chains.{Frame, Connection, Common, Linked, module_at, configuration, is_last}
 use Rattle.run_model.specs.Passing.{Reads, proceeds}
-use Rattle.run_model.specs.Turns.{calls_of, broken_by, counted, executed, unless_fault, watched, step_top, step_unless, steps}
+use Rattle.run_model.specs.Turns.{calls_of, broken_by, counted, executed, unless_fault, watched, step_top, step_unless, steps, puts_out}
 use Rattle.model_laws.specs.ChainLaws.{after_top}
 use Rattle.model_laws.proofs.StepFiles.{neither}
 
@@ -22,7 +22,7 @@ pub record IsTopReady (chain : List Program) (g : Common) (c : Connection) (f : 
   pub on_top : c.stack ≡ f ∷ rest
   pub faultless : fault (module_at chain f.of) (configuration g c f) (current (module_at chain f.of) f.pc) ≡ None
   pub names_last : lacks_names (configuration g c f) (current (module_at chain f.of) f.pc) ≡ false
-  pub calls_last : is_spent g.next (calls_of chain (current (module_at chain f.of) f.pc) f rest c.queue) ≡ false
+  pub calls_last : is_spent g.next (calls_of (is_last chain c f.of) (current (module_at chain f.of) f.pc) rest c.queue) ≡ false
 
 below : (budget count : ℕ) → nat_le budget count ≡ false → count < budget
 below budget count h = grind (arith, nat_tests)
@@ -38,19 +38,19 @@ module _ (Q : Linked → Type 0) (memory : Bool) (budget : ℕ) (chain : List Pr
       → Q (executed memory chain reads (current (module_at chain f.of) f.pc) f rest (g, c)).1
   unfolding executed
   executed_so f rest whole few top none =
-      by_names (lacks_names (configuration g c f) (current (module_at chain f.of) f.pc) || is_spent g.next (calls_of chain (current (module_at chain f.of) f.pc) f rest c.queue)) refl where
+      by_names (lacks_names (configuration g c f) (current (module_at chain f.of) f.pc) || is_spent g.next (calls_of (is_last chain c f.of) (current (module_at chain f.of) f.pc) rest c.queue)) refl where
         by_memory : (b : Bool) → IsTopReady chain g c f rest → Q (cond b (counted (proceeds chain reads (current (module_at chain f.of) f.pc) f rest (g, c))) (broken_by cause.NoMemory (g, c))).1
         by_memory true ready = went f rest whole few ready
         by_memory false ready = broke cause.NoMemory (λ e. cc)
 
-        by_names : (b : Bool) → (lacks_names (configuration g c f) (current (module_at chain f.of) f.pc) || is_spent g.next (calls_of chain (current (module_at chain f.of) f.pc) f rest c.queue)) ≡ b
+        by_names : (b : Bool) → (lacks_names (configuration g c f) (current (module_at chain f.of) f.pc) || is_spent g.next (calls_of (is_last chain c f.of) (current (module_at chain f.of) f.pc) rest c.queue)) ≡ b
             → Q (cond b (broken_by cause.NamesSpent (g, c))
-            (cond (memory || not (grows (configuration g c f) (current (module_at chain f.of) f.pc) || nat_lt 0 (calls_of chain (current (module_at chain f.of) f.pc) f rest c.queue)))
+            (cond (memory || not (grows (configuration g c f) (current (module_at chain f.of) f.pc) || nat_lt 0 (calls_of (is_last chain c f.of) (current (module_at chain f.of) f.pc) rest c.queue) || puts_out chain f (g, c)))
             (counted (proceeds chain reads (current (module_at chain f.of) f.pc) f rest (g, c))) (broken_by cause.NoMemory (g, c)))).1
         by_names true spent = broke cause.NamesSpent (λ e. cc)
         by_names false there =
             let last = neither (lacks_names (configuration g c f) (current (module_at chain f.of) f.pc))
-            (is_spent g.next (calls_of chain (current (module_at chain f.of) f.pc) f rest c.queue)) there in
+            (is_spent g.next (calls_of (is_last chain c f.of) (current (module_at chain f.of) f.pc) rest c.queue)) there in
             by_memory _ (record { on_top = top; faultless = none; names_last = last.0; calls_last = last.1 })
 
   watched_so : (f : Frame) (rest : List Frame) → c.broken ≡ None → c.count < budget → c.stack ≡ f ∷ rest → Q (watched memory chain reads f rest (g, c)).1

@@ -1,4 +1,5 @@
 -- What a step does to homes: those of calls that are alive, and of live pools.
+use Rattle.run_model.specs.declared.effect.CleanupKind.TheVariants.{Plain, Pre}
 use Rattle.std.proofs.Common.{◌≡◌, ◌≢◌, ℕ, ◌≤◌, Bool, true, false, ◌==◌, cond, not, List, [], ◌∷◌, map, filter_map, Option, Some, None, All, inl, inr, refl, sym, ◌∙◌, ap, subst, eq-eqb}
 use Rattle.std.specs.List.{list_any}
 use Rattle.std.proofs.lemmas.List.Elements.{All-cons, All-head, All-tail}
@@ -11,7 +12,7 @@ use Rattle.run_model.specs.declared.bucket.Home.TheVariants as home
 use Rattle.run_model.specs.declared.bucket.Bucket.{Bucket}
 use Rattle.run_model.specs.declared.bucket.NamedBucket.{NamedBucket}
 use Rattle.run_model.specs.declared.payload.Payload.{Payload}
-use Rattle.run_model.specs.Pools.{Pools, is_live, is_under, is_empty, created, registered}
+use Rattle.run_model.specs.Pools.{Pools, is_live, is_under, is_empty, created, registered, registered_as}
 use Rattle.run_model.specs.RunOrder.{IsPoolMap, killed}
 use Rattle.run_model.specs.Buckets.{is_dead, end_pools, end_call, cleared_bucket, returned_bucket}
 use Rattle.run_model.specs.Clearing.{run_down}
@@ -97,13 +98,15 @@ module _ (C : ℕ → Type 0) where
 
   pub touched_alive : (p : Program) (choice : Choice) (i : Instr) (r : Configuration) → is_return i ≡ false → (x : NamedBucket) → AliveAs C r.shared.pools x
       → AliveAs C (step p choice i r).state.shared.pools (touched_bucket r i x)
-  unfolding with_pools set_pool run_down set_brigade registered killed
+  unfolding with_pools set_pool run_down set_brigade registered_as killed
   touched_alive p choice (instr.PClear q) r on x a = gone_alive pool_cleared (pool_named r (pool.Own q)) r (λ n. cleared_so n r.shared.pools) x a
   touched_alive p choice (instr.PDestroy q) r on x a = gone_alive pool_destroyed (pool_named r (pool.Own q)) r (λ n. destroyed_so n r.shared.pools) x a
   touched_alive p choice (instr.Ret s) r on x a = absurd (cc)
   touched_alive p choice (instr.PCreate q) r on x a = made_under_named (Left x) p q r a (λ parent e. stays r.shared.pools (created parent r.shared.pools) (created_lives parent r.shared.pools) x a)
   touched_alive p choice (instr.Label q t) r on x a =
-      on_named (Left x) (label_registered (text_of p t)) (pool_named r q) r a (λ n e. stays r.shared.pools _ (same_path r.shared.pools (label_registered (text_of p t) n r).shared.pools refl) x a)
+      on_named (Left x) (label_registered Plain (text_of p t)) (pool_named r q) r a (λ n e. stays r.shared.pools _ (same_path r.shared.pools (label_registered Plain (text_of p t) n r).shared.pools refl) x a)
+  touched_alive p choice (instr.PreLabel q t) r on x a =
+      on_named (Left x) (label_registered Pre (text_of p t)) (pool_named r q) r a (λ n e. stays r.shared.pools _ (same_path r.shared.pools (label_registered Pre (text_of p t) n r).shared.pools refl) x a)
   touched_alive p choice (instr.Unlabel q t) r on x a =
       on_named (Left x) (label_killed (text_of p t)) (pool_named r q) r a (λ n e. stays r.shared.pools _ (same_path r.shared.pools (label_killed (text_of p t) n r).shared.pools refl) x a)
   touched_alive p choice (instr.BCreate o) r on x a =
@@ -201,12 +204,14 @@ module _ (C : ℕ → Type 0) where
 
   pub step_alive : (p : Program) (choice : Choice) (i : Instr) (r : Configuration) → is_return i ≡ false → MayExecute p r i → Sound r → C r.call.name → SeenHomes r
       → SeenHomes (step p choice i r).state
-  unfolding set_brigade with_pools set_pool run_down registered killed
+  unfolding set_brigade with_pools set_pool run_down registered_as killed
   step_alive p choice (instr.PCreate q) r on may sound named h = made_under_named SeenHomes p q r h (λ parent e. grown r _ (created_lives parent r.shared.pools) h.brigades h.loose)
   step_alive p choice (instr.PClear q) r on may sound named h = on_emptied SeenHomes Clear q r h (λ n left e so. emptied n left r so h)
   step_alive p choice (instr.PDestroy q) r on may sound named h = on_emptied SeenHomes Destroy q r h (λ n left e so. emptied n left r so h)
   step_alive p choice (instr.Label q t) r on may sound named h =
-      on_named SeenHomes (label_registered (text_of p t)) (pool_named r q) r h (λ n e. grown r _ (same_path r.shared.pools (label_registered (text_of p t) n r).shared.pools refl) h.brigades h.loose)
+      on_named SeenHomes (label_registered Plain (text_of p t)) (pool_named r q) r h (λ n e. grown r _ (same_path r.shared.pools (label_registered Plain (text_of p t) n r).shared.pools refl) h.brigades h.loose)
+  step_alive p choice (instr.PreLabel q t) r on may sound named h =
+      on_named SeenHomes (label_registered Pre (text_of p t)) (pool_named r q) r h (λ n e. grown r _ (same_path r.shared.pools (label_registered Pre (text_of p t) n r).shared.pools refl) h.brigades h.loose)
   step_alive p choice (instr.Unlabel q t) r on may sound named h =
       on_named SeenHomes (label_killed (text_of p t)) (pool_named r q) r h (λ n e. grown r _ (same_path r.shared.pools (label_killed (text_of p t) n r).shared.pools refl) h.brigades h.loose)
   step_alive p choice (instr.BCreate o) r on may sound named h =

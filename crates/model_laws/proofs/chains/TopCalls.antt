@@ -10,13 +10,13 @@ use Rattle.run_model.specs.State.{Configuration, fresh_call, items_of}
 use Rattle.run_model.specs.Effects.{do_return}
 use Rattle.run_model.specs.Steps.{Choice, step, answer_to, current}
 use Rattle.model_laws.specs.Laws.{is_return}
-use Rattle.run_model.specs.Chains.{Frame, Connection, Common, Linked, module_at, is_last, configuration, put_back, stepped_in, led_to, touched_frame, touched_bucket}
+use Rattle.run_model.specs.Chains.{Frame, Connection, Common, Linked, module_at, is_last, next_place, configuration, put_back, stepped_in, led_to, touched_frame, touched_bucket, places}
 use Rattle.run_model.specs.Passing.{Reads, delivered, delivered_by, passed_to, after_pass, returned_to, handler_at, called, next_called, returned_from, passes, returns, proceeds}
 use Rattle.model_laws.specs.ChainSound.{IsNested, IsNestedStack, AreNamed, IsFramePlaced, WaitsAtPass, IsRising, ChainCalls}
 use Rattle.model_laws.specs.ChainLaws.{TopKeepsCalls}
 use Rattle.model_laws.proofs.Unchanged.{step_changes_only}
 use Rattle.model_laws.proofs.Handlers.{LeadsWhere}
-use Rattle.model_laws.proofs.chains.Modules.{module_at_proper, next_in_chain}
+use Rattle.model_laws.proofs.chains.Modules.{module_at_proper, next_later, next_in_chain}
 use Rattle.model_laws.proofs.chains.Places.{led, SameHandler, stays_in_handler, pass_in_main, after_leads}
 use Rattle.model_laws.proofs.chains.Stacks.{nested_alike, nested_touched, named_touched, placed_touched, waiting_touched, named_below, none_next, StandsOnTop, busy_calls, idle_calls, stands_on_top}
 
@@ -41,7 +41,7 @@ same_calls chain g new c left next req stack queue h = record {
 -- a call goes on in its handler
 pub goes_placed : (chain : List Program) (req : Option ℕ) (f new : Frame) → new.of ≡ f.of → SameHandler (module_at chain f.of) f.pc new.pc → IsFramePlaced chain req f → IsFramePlaced chain req new
 goes_placed chain req f new is same p = record {
-  of = subst (λ (k : ℕ). k < length chain) (sym is) p.of;
+  of = subst (λ (k : ℕ). k < places chain) (sym is) p.of;
   at = subst (λ (k : ℕ). new.pc < length (module_at chain k).code) (sym is) same.inside;
   opening = λ lt. p.opening (same.opening (subst (λ (k : ℕ). new.pc < (module_at chain k).init) is lt));
   serving = λ le. p.serving (same.serving (subst (λ (k : ℕ). (module_at chain k).init ≤ new.pc) is le));
@@ -51,11 +51,11 @@ goes_placed chain req f new is same p = record {
 pub handler_placed : (chain : List Program) (req : Option ℕ) (k name : ℕ) → IsModule (module_at chain k) → k < length chain
     → IsFramePlaced chain req (record { of = k; call = fresh_call name; pc = handler_at req (module_at chain k) }) × ((module_at chain k).main ≤ handler_at req (module_at chain k) → ⊥)
 handler_placed chain None k name m lt = (
-  record { of = lt; at = m.opens; opening = λ h. refl; serving = λ le. absurd (let some : 0 < (module_at chain k).init = m.opening.some in omega arith) },
+  record { of = omega arith; at = m.opens; opening = λ h. refl; serving = λ le. absurd (let some : 0 < (module_at chain k).init = m.opening.some in omega arith) },
   λ le. (let some : 0 < (module_at chain k).init = m.opening.some in let low : (module_at chain k).init < (module_at chain k).main = m.initial.some in absurd (omega arith)),
 )
 handler_placed chain (Some req) k name m lt = (
-  record { of = lt; at = m.inits; opening = λ h. absurd (omega arith); serving = λ le. refl },
+  record { of = omega arith; at = m.inits; opening = λ h. absurd (omega arith); serving = λ le. refl },
   λ le. (let low : (module_at chain k).init < (module_at chain k).main = m.initial.some in absurd (omega arith)),
 )
 
@@ -127,31 +127,33 @@ module _ (chain : List Program) (g : Common) (c : Connection) (proper : (k : ℕ
       same_calls chain _ _ _ _ refl refl refl refl (stepped_calls (record { answer = answer_to (delivered c.out (items_of ((c.instances f.of).brigades b)) reads).1; given = None }) i is on)
 
   -- to the next filter: the call waits at its pass, in `main`
-  passed_calls : (b l : ℕ) → instr.Pass b l ≡ current (module_at chain f.of) f.pc → is_last chain f.of ≡ false → LinkedCalls chain (passed_to (module_at chain (f.of + 1)) b f rest (g, c))
+  passed_calls : (b l : ℕ) → instr.Pass b l ≡ current (module_at chain f.of) f.pc → is_last chain c f.of ≡ false → LinkedCalls chain (passed_to (module_at chain (next_place chain c f.of)) (next_place chain c f.of) b f rest (g, c))
   unfolding passed_to IsNested AreNamed IsRising
   passed_calls b l is more =
       let m : IsModule (module_at chain f.of) = proper f.of in
-      let callee : IsModule (module_at chain (f.of + 1)) = proper (f.of + 1) in
+      let to : ℕ = next_place chain c f.of in
+      let callee : IsModule (module_at chain to) = proper to in
       let main : (module_at chain f.of).main ≤ f.pc = pass_in_main (module_at chain f.of) f.pc b l m t.top.at (sym is) in
       let none : c.queue ≡ [] = t.serving main in
       let low : (module_at chain f.of).init < (module_at chain f.of).main = m.initial.some in
-      let below_main : (module_at chain (f.of + 1)).init < (module_at chain (f.of + 1)).main = callee.initial.some in
-      busy_calls chain _ _ (record { of = f.of + 1; call = fresh_call g.next; pc = (module_at chain (f.of + 1)).main }) (f ∷ rest) refl (record {
-        top = record { of = next_in_chain chain f.of more; at = callee.mains; opening = λ lt. absurd (omega arith); serving = λ le. t.top.serving (omega arith) };
+      let below_main : (module_at chain to).init < (module_at chain to).main = callee.initial.some in
+      let inside : to < length chain = next_in_chain chain c f.of more in
+      busy_calls chain _ _ (record { of = to; call = fresh_call g.next; pc = (module_at chain to).main }) (f ∷ rest) refl (record {
+        top = record { of = omega arith; at = callee.mains; opening = λ lt. absurd (omega arith); serving = λ le. t.top.serving (omega arith) };
         below = All-cons (IsFramePlaced chain c.req) f rest t.top t.below;
-        nested = (refl, t.nested);
+        nested = (next_later chain c f.of, t.nested);
         named = (let first = t.named in (omega (arith, first.0, first.1), omega arith, none_next g.next (f ∷ rest) first, named_below g.next (g.next + 1) (f ∷ rest) (omega arith) first));
         waiting = All-cons (WaitsAtPass chain) f rest (b, l, sym is) t.waiting;
         queue = t.queue;
-        later = subst (IsRising (f.of + 1)) (sym none) tt;
+        later = subst (IsRising to) (sym none) tt;
         serving = λ le. none;
         alone = λ w others e. none;
       })
 
   passes_calls : (reads : Reads) (b l : ℕ) → instr.Pass b l ≡ current (module_at chain f.of) f.pc → LinkedCalls chain (passes chain reads b (instr.Pass b l) f rest (g, c))
-  passes_calls reads b l is = by_test (is_last chain f.of) refl where
-    by_test : (last : Bool) → is_last chain f.of ≡ last
-        → LinkedCalls chain (cond last (delivered_by (module_at chain f.of) reads b (instr.Pass b l) f rest (g, c)) (passed_to (module_at chain (f.of + 1)) b f rest (g, c)))
+  passes_calls reads b l is = by_test (is_last chain c f.of) refl where
+    by_test : (last : Bool) → is_last chain c f.of ≡ last
+        → LinkedCalls chain (cond last (delivered_by (module_at chain f.of) reads b (instr.Pass b l) f rest (g, c)) (passed_to (module_at chain (next_place chain c f.of)) (next_place chain c f.of) b f rest (g, c)))
     by_test true e = delivered_calls reads b (instr.Pass b l) is refl
     by_test false e = passed_calls b l is e
 
@@ -207,7 +209,7 @@ top_calls : (chain : List Program) (reads : Reads) (g : Common) (c : Connection)
     → StandsOnTop chain g.next c.req c.queue f rest → LinkedCalls chain (proceeds chain reads i f rest (g, c)).1
 unfolding proceeds
 top_calls chain reads g c proper (instr.Pass b l) f rest is t = passes_calls chain g c proper f rest t reads b l is
-top_calls chain reads g c proper (instr.Ret s) f rest is t = returns_calls chain g c proper s f rest t
+top_calls chain reads g c proper (instr.Ret s) f rest is t = same_calls chain _ _ _ _ refl refl refl refl (returns_calls chain g c proper s f rest t)
 top_calls chain reads g c proper i f rest is t = stepped_calls chain g c proper f rest t (record { answer = answer_to true; given = reads 0 }) i is refl
 
 pub top_keeps_calls : TopKeepsCalls

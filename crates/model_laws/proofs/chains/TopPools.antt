@@ -16,7 +16,7 @@ use Rattle.run_model.specs.Effects.{do_pass, do_return, handed_over, with_items}
 use Rattle.run_model.specs.Steps.{Choice, answer_to, current}
 use Rattle.run_model.specs.Sound.{Sound}
 use Rattle.model_laws.specs.Laws.{MayExecute}
-use Rattle.run_model.specs.Chains.{Frame, Connection, Common, Linked, module_at, is_last, configuration, put_back, stepped_in}
+use Rattle.run_model.specs.Chains.{Frame, Connection, Common, Linked, module_at, is_last, next_place, configuration, put_back, stepped_in}
 use Rattle.run_model.specs.Passing.{Reads, delivered, delivered_by, handed_in, set_in, passed_to, passed_by, given_back, gone_on, returned_to, called, next_called, returned_from, passes, returns}
 use Rattle.run_model.specs.Passing.{proceeds}
 use Rattle.model_laws.specs.ChainSound.{ChainPools}
@@ -63,19 +63,19 @@ module _ (chain : List Program) (g : Common) (c : Connection) (proper : (k : ℕ
   passed_instance b = (let changed = one_brigade (c.instances f.of) b (handed_over ((c.instances f.of).brigades b)) (inl (handed_on ((c.instances f.of).brigades b))) in
       record { own = refl; brigades = changed.brigades })
 
-  passed_pools : (callee : Program) (b : ℕ) (rest : List Frame) → LinkedPools chain (passed_to callee b f rest (g, c))
+  passed_pools : (callee : Program) (to b : ℕ) (rest : List Frame) → LinkedPools chain (passed_to callee to b f rest (g, c))
   unfolding passed_to here
-  passed_pools callee b rest =
-      one_instance chain g _ (record c { instances = here b }) _ (f.of + 1) (set_in (handed_in ((configuration g c f).instance.brigades b)) (here b (f.of + 1))) refl refl refl refl
-      (one_brigade (here b (f.of + 1)) 8 (handed_in ((configuration g c f).instance.brigades b)) (inr (refl, no_pool ((configuration g c f).instance.brigades b) _ refl)))
+  passed_pools callee to b rest =
+      one_instance chain g _ (record c { instances = here b }) _ to (set_in (handed_in ((configuration g c f).instance.brigades b)) (here b to)) refl refl refl refl
+      (one_brigade (here b to) 8 (handed_in ((configuration g c f).instance.brigades b)) (inr (refl, no_pool ((configuration g c f).instance.brigades b) _ refl)))
       (one_instance chain g g c (record c { instances = here b }) f.of (do_pass b (configuration g c f)).instance refl refl refl refl (passed_instance b) h)
 
   passes_pools : (reads : Reads) (b l : ℕ) (rest : List Frame) → MayExecute (module_at chain f.of) (configuration g c f) (instr.Pass b l)
       → LinkedPools chain (passes chain reads b (instr.Pass b l) f rest (g, c))
-  passes_pools reads b l rest may = by_test (is_last chain f.of) where
-    by_test : (last : Bool) → LinkedPools chain (cond last (delivered_by (module_at chain f.of) reads b (instr.Pass b l) f rest (g, c)) (passed_to (module_at chain (f.of + 1)) b f rest (g, c)))
+  passes_pools reads b l rest may = by_test (is_last chain c f.of) where
+    by_test : (last : Bool) → LinkedPools chain (cond last (delivered_by (module_at chain f.of) reads b (instr.Pass b l) f rest (g, c)) (passed_to (module_at chain (next_place chain c f.of)) (next_place chain c f.of) b f rest (g, c)))
     by_test true = delivered_pools reads b (instr.Pass b l) rest may
-    by_test false = passed_pools (module_at chain (f.of + 1)) b rest
+    by_test false = passed_pools (module_at chain (next_place chain c f.of)) (next_place chain c f.of) b rest
 
   -- what a return leaves
   left_pools : (s : Status) (top rest : List Frame) → MayExecute (module_at chain f.of) (configuration g c f) (instr.Ret s)
@@ -100,7 +100,7 @@ module _ (chain : List Program) (g : Common) (c : Connection) (proper : (k : ℕ
   top_pools : (reads : Reads) (i : Instr) (rest : List Frame) → MayExecute (module_at chain f.of) (configuration g c f) i → LinkedPools chain (proceeds chain reads i f rest (g, c)).1
   unfolding proceeds
   top_pools reads (instr.Pass b l) rest may = passes_pools reads b l rest may
-  top_pools reads (instr.Ret s) rest may = returns_pools s rest may
+  top_pools reads (instr.Ret s) rest may = same_instances chain _ _ _ _ refl refl refl refl (returns_pools s rest may)
   top_pools reads i rest may = stepped_pools (record { answer = answer_to true; given = reads 0 }) i rest may
 
 pub top_keeps_pools : TopKeepsPools

@@ -7,7 +7,7 @@ use Rattle.run_model.proofs.References.{or_left}
 use Rattle.std.proofs.lemmas.Bool.Decides.{eqb_tells}
 use Rattle.module_code.specs.Program.{Program}
 use Rattle.run_model.specs.declared.payload.Payload.{Payload}
-use Rattle.run_model.specs.Pools.{Pools, is_empty, is_in, is_live, is_under}
+use Rattle.run_model.specs.Pools.{Pools, is_empty, is_in, is_live, is_under, no_cleanups}
 use Rattle.run_model.specs.Chains.{Connection}
 use Rattle.run_model.specs.Worlds.{World, tree_below, tree_of, with_part}
 use Rattle.model_laws.specs.ChainNumbers.{WorldNumbers}
@@ -110,10 +110,10 @@ module _ (chain : List Program) (w : World) (sound : WorldSound chain w) (number
     root_path : c.path w.common.root ≡ w.common.root ∷ []
     root_path = (part_formed chain w sound paths h k c at).closed c.conn c.conn w.common.root [] (h.top k c at)
 
-    not_own : (n : ℕ) → n ≢ w.common.root → is_own c n ≡ false → (c.path n ≡ []) × (c.payloads n ≡ [])
+    not_own : (n : ℕ) → n ≢ w.common.root → is_own c n ≡ false → (c.path n ≡ []) × (c.payloads n ≡ no_cleanups)
     unfolding is_live is_under
     not_own n other off = by_path (c.path n) refl where
-      by_path : (xs : List ℕ) → c.path n ≡ xs → (c.path n ≡ []) × (c.payloads n ≡ [])
+      by_path : (xs : List ℕ) → c.path n ≡ xs → (c.path n ≡ []) × (c.payloads n ≡ no_cleanups)
       by_path [] is = (is, (part_formed chain w sound paths h k c at).bare n is)
       by_path (m ∷ xs) is = elim ((paths k c at).pools n (ap (λ (path : List ℕ). not (is_empty path)) is)) [
         | inl root ↦ absurd (other root)

@@ -3,7 +3,7 @@ use Rattle.std.proofs.Common.{◌≡◌, ◌≢◌, ◌⊎◌, ℕ, zero, suc, �
 use Rattle.std.proofs.lemmas.Bool.{cases_Bool, or_cases}
 use Rattle.module_code.specs.Program.{Program}
 use Rattle.run_model.specs.declared.payload.Payload.{Payload}
-use Rattle.run_model.specs.Pools.{Pools, is_empty, is_in, is_live, planted}
+use Rattle.run_model.specs.Pools.{Pools, is_empty, is_in, is_live, planted, no_cleanups}
 use Rattle.run_model.specs.RunOrder.{is_child, IsPoolMap}
 use Rattle.run_model.specs.Chains.{Connection, pools_of, configuration}
 use Rattle.run_model.specs.Worlds.{World, tree_below, with_part}
@@ -124,7 +124,7 @@ module _ (chain : List Program) (w : World) (sound : WorldSound chain w) (paths 
   pub record TreeGrown (k : ℕ) : Type 0 where
     pub formed : IsPoolMap (tree_up_to k w)
     pub root : (tree_up_to k w).path w.common.root ≡ w.common.root ∷ []
-    pub bare : (tree_up_to k w).payloads w.common.root ≡ []
+    pub bare : (tree_up_to k w).payloads w.common.root ≡ no_cleanups
     pub next : (tree_up_to k w).next ≡ w.common.pools
     pub from : (n : ℕ) → (tree_up_to k w).path n ≢ [] → (n ≡ w.common.root) ⊎ StandsBelow k n
 

@@ -68,10 +68,10 @@ turn_sound chain Lengths g c v chained has (Begun whole idle none pools next) s 
   calls = begun_calls chain g c (module_at_proper chain chained 0) chained.some has.first;
 }
 turn_sound chain Lengths g c v chained has (Brought pieces req whole idle is there next) s = record {
-  names = brought_in_names chain pieces req g c chained.some next s.names;
+  names = brought_in_names chain pieces req g c next s.names;
   buckets = brought_in_buckets chain pieces req g c s.buckets;
   pools = brought_in_pools chain pieces req g c s.pools;
-  calls = brought_in_calls chain pieces req g c (module_at_proper chain chained 0) chained.some has.first idle is s.calls;
+  calls = brought_in_calls chain pieces req g c (module_at_proper chain chained) has.first idle is s.calls;
 }
 turn_sound chain Lengths g c v chained has (FileTaken req file bytes whole idle is told newer last) s = record {
   names = file_taken_names chain req file bytes g c s.names;

@@ -6,7 +6,7 @@ use Rattle.module_code.specs.Program.{Program}
 use Rattle.run_model.specs.State.{fresh_call}
 use Rattle.run_model.specs.Cutting.{FitsKind}
 use Rattle.run_model.specs.Sound.{sum_below, count_named, count, brigade_name, SoundNames, Sound}
-use Rattle.run_model.specs.Chains.{Frame, Connection, Common, configuration}
+use Rattle.run_model.specs.Chains.{Frame, Connection, Common, configuration, places}
 use Rattle.model_laws.specs.ChainSound.{count_at, count_loose, count_in, ChainNames, ChainSound, IsFramePlaced}
 use Rattle.run_model.proofs.Sums.{term_below}
 use Rattle.run_model.proofs.Names.{count_none}
@@ -23,11 +23,11 @@ all_within P [] f below h = All-head P f below h
 all_within P (w ∷ above) f below h = all_within P above f below (All-tail P w (above ++ f ∷ below) h)
 
 -- Its buckets are among those of the connection.
-pub count_within : (chain : List Program) (g : Common) (c : Connection) (f : Frame) (n : ℕ) → f.of < length chain → count_named n f.call.loose ≤ count_loose c.stack n
+pub count_within : (chain : List Program) (g : Common) (c : Connection) (f : Frame) (n : ℕ) → f.of < places chain → count_named n f.call.loose ≤ count_loose c.stack n
     → count (configuration g c f) n ≤ count_in chain c n
 unfolding configuration count_in
 count_within chain g c f n placed loose =
-    let here : count_at (c.instances f.of) n ≤ sum_below (length chain) (λ k. count_at (c.instances k) n) = term_below (length chain) f.of (λ k. count_at (c.instances k) n) placed in
+    let here : count_at (c.instances f.of) n ≤ sum_below (places chain) (λ k. count_at (c.instances k) n) = term_below (places chain) f.of (λ k. count_at (c.instances k) n) placed in
     omega arith
 
 -- Brigades of one instance.
@@ -60,7 +60,7 @@ one_variable chain g c k b d n s hb hd =
     ]
 
 -- What a call sees of names, where its loose buckets are among those of the stack.
-names_seen : (chain : List Program) (g : Common) (c : Connection) (f : Frame) → f.of < length chain → ((n : ℕ) → count_named n f.call.loose ≤ count_loose c.stack n)
+names_seen : (chain : List Program) (g : Common) (c : Connection) (f : Frame) → f.of < places chain → ((n : ℕ) → count_named n f.call.loose ≤ count_loose c.stack n)
     → ChainNames chain g c → SoundNames (configuration g c f)
 unfolding configuration
 names_seen chain g c f placed loose s = record {
@@ -92,7 +92,7 @@ pub sound_top : (chain : List Program) (g : Common) (c : Connection) (f : Frame)
 sound_top chain g c f rest is s = sound_of chain g c [] f rest is s
 
 -- An instance of the chain is sound by itself, as it is between calls.
-pub sound_resting : (chain : List Program) (g : Common) (c : Connection) (k : ℕ) → k < length chain → ChainSound chain g c → Sound (configuration g c (record { of = k; call = fresh_call 0; pc = 0 }))
+pub sound_resting : (chain : List Program) (g : Common) (c : Connection) (k : ℕ) → k < places chain → ChainSound chain g c → Sound (configuration g c (record { of = k; call = fresh_call 0; pc = 0 }))
 unfolding configuration
 sound_resting chain g c k lt s =
     let f : Frame = record { of = k; call = fresh_call 0; pc = 0 } in

@@ -2,7 +2,7 @@
 use Rattle.std.proofs.Common.{◌≡◌, ◌≢◌, ℕ, zero, suc, ◌+◌, ◌≤◌, ◌-◌, Bool, true, false, not, cond, List, [], ◌∷◌, Option, Some, None, inl, inr, refl, sym, ◌∙◌, ap, subst, arith}
 use Rattle.std.proofs.lemmas.Bool.{cases_Bool, cases_eq}
 use Rattle.run_model.specs.declared.payload.Payload.{Payload}
-use Rattle.run_model.specs.Pools.{Pools, is_empty, is_in, is_live, is_under, planted}
+use Rattle.run_model.specs.Pools.{Pools, is_empty, is_in, is_live, is_under, planted, Cleanups}
 use Rattle.run_model.specs.Chains.{Connection}
 use Rattle.run_model.specs.Worlds.{World, tree_of, tree_below, with_part}
 use Rattle.model_laws.specs.Parts.{belongs, part}
@@ -28,7 +28,7 @@ module _ (ps : Pools Payload) (c : Connection) (h : HasItsPart ps c) where
   its_path n = ap (λ (f : ℕ → List ℕ). f n) h.path
 
   its_payloads : (n : ℕ) → c.payloads n ≡ (part c.conn ps).payloads n
-  its_payloads n = ap (λ (f : ℕ → List Payload). f n) h.payloads
+  its_payloads n = ap (λ (f : ℕ → Cleanups Payload). f n) h.payloads
 
   there : (n : ℕ) → is_in c.conn (c.path n) ≡ true → (c.path n ≡ ps.path n) × (c.payloads n ≡ ps.payloads n)
   there n inside =

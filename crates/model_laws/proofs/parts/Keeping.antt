@@ -1,4 +1,6 @@
 -- A step that has no fault keeps the part of each connection.
+use Rattle.run_model.specs.declared.effect.CleanupKind.{CleanupKind}
+use Rattle.run_model.specs.declared.effect.CleanupKind.TheVariants.{Plain, Pre}
 use Rattle.std.proofs.Common.{◌≡◌, ◌≢◌, ℕ, Bool, true, false, cond, List, [], ◌∷◌, filter_map, Option, Some, None, All, inl, inr, refl, sym, ◌∙◌, ap, subst, eqb-true}
 use Rattle.std.specs.List.{list_any, cons_option}
 use Rattle.std.proofs.lemmas.Bool.{cases_eq}
@@ -78,7 +80,7 @@ refs_own c target ps own (x ∷ xs) fit live held =
 -- References are registered one after another.
 
 stays_own : (c target f : ℕ) (ps : Pools Payload) → is_under ps c target ≡ true → (g : ℕ) → IsOwn c ps g → IsOwn c (registered target (FileRef f) ps) g
-stays_own c target f ps under g own q there = registered_under c target q (FileRef f) ps ∙ (elim (refers_new target (FileRef f) ps q g there) [
+stays_own c target f ps under g own q there = registered_under c target q (FileRef f) ps ∙ (elim (refers_new Plain target (FileRef f) ps q g there) [
   | inl old ↦ own q old
   | inr new ↦ ap (is_under ps c) new.0 ∙ under
 ])
@@ -94,15 +96,15 @@ unfolding all_referred
 all_own c d target [] ps hc hd under all own = own
 all_own c d target (f ∷ fs) ps hc hd under all own =
     let new : Pools Payload = registered target (FileRef f) ps in
-    all_own c d target fs new (parts_last (Registered (FileRef f)) c c target ps hc hc under tt) (parts_last (Registered (FileRef f)) c d target ps hc hd under tt)
+    all_own c d target fs new (parts_last (Registered Plain (FileRef f)) c c target ps hc hc under tt) (parts_last (Registered Plain (FileRef f)) c d target ps hc hd under tt)
     (registered_under c target target (FileRef f) ps ∙ under) (all_stay c target f ps under fs (All-tail (IsOwn c ps) f fs all))
-    (own_last (Registered (FileRef f)) c d target ps hc hd under (λ file is. subst (IsOwn c ps) (eqb-true f file is) (All-head (IsOwn c ps) f fs all)) own)
+    (own_last (Registered Plain (FileRef f)) c d target ps hc hd under (λ file is. subst (IsOwn c ps) (eqb-true f file is) (All-head (IsOwn c ps) f fs all)) own)
 
 all_has : (c d target : ℕ) (files : List ℕ) (ps : Pools Payload) → HasPart ps c → HasPart ps d → is_under ps c target ≡ true → HasPart (all_referred target files ps) d
 unfolding all_referred
 all_has c d target [] ps hc hd under = hd
 all_has c d target (f ∷ fs) ps hc hd under =
-    all_has c d target fs (registered target (FileRef f) ps) (parts_last (Registered (FileRef f)) c c target ps hc hc under tt) (parts_last (Registered (FileRef f)) c d target ps hc hd under tt)
+    all_has c d target fs (registered target (FileRef f) ps) (parts_last (Registered Plain (FileRef f)) c c target ps hc hc under tt) (parts_last (Registered Plain (FileRef f)) c d target ps hc hd under tt)
     (registered_under c target target (FileRef f) ps ∙ under)
 
 -- What a step keeps.
@@ -165,9 +167,9 @@ module _ (c d : ℕ) (p : Program) (r : Configuration) (s : LiesIn c r) (k : Kee
   saved_keeps o b target live under = referred_kept c d r.shared.pools s.has other target _ under
       (refs_own c target r.shared.pools s.files (items_of (r.instance.brigades b)) (k.buckets.brigades b) live (k.brigades b))
 
-  labelled_keeps : (text : List ℕ) (n : ℕ) → is_under r.shared.pools c n ≡ true → Keeps d r.shared.pools (label_registered text n r)
+  labelled_keeps : (how : CleanupKind) (text : List ℕ) (n : ℕ) → is_under r.shared.pools c n ≡ true → Keeps d r.shared.pools (label_registered how text n r)
   unfolding with_pools
-  labelled_keeps text n under = kept (Registered (Label text)) n under tt (λ file is. absurd (cc))
+  labelled_keeps how text n under = kept (Registered how (Label text)) n under tt (λ file is. absurd (cc))
 
   unlabelled_keeps : (text : List ℕ) (n : ℕ) → is_under r.shared.pools c n ≡ true → Keeps d r.shared.pools (label_killed text n r)
   unfolding with_pools
@@ -189,7 +191,7 @@ module _ (c d : ℕ) (p : Program) (r : Configuration) (s : LiesIn c r) (k : Kee
   brigade_keeps : (on : Option ℕ) (name : ℕ) → ((n : ℕ) → on ≡ Some n → is_under r.shared.pools c n ≡ true) → PartKept d r.shared.pools (with_brigade on name r.shared.pools)
   unfolding with_brigade
   brigade_keeps None name under = itself d r.shared.pools other
-  brigade_keeps (Some n) name under = kept (Registered (payload.Brigade name)) n (under n refl) tt (λ file is. absurd (cc))
+  brigade_keeps (Some n) name under = kept (Registered Plain (payload.Brigade name)) n (under n refl) tt (λ file is. absurd (cc))
 
 alone : (a : Option FaultKind) → or_else a None ≡ None → a ≡ None
 alone None h = refl
@@ -205,8 +207,11 @@ steps_keep c d p choice (instr.PDestroy q) r s k other none =
     on_named (Keeps d r.shared.pools) pool_destroyed (pool_named r (pool.Own q)) r (itself d r.shared.pools other)
     (λ n is. destroyed_keeps c d p r s k other n (wanted_under c p r s (pool.Own q) (wanted_pool r (pool.Own q) None none) n is) (k.below q n (own_named q n r is)))
 steps_keep c d p choice (instr.Label q t) r s k other none =
-    on_named (Keeps d r.shared.pools) (label_registered (text_of p t)) (pool_named r q) r (itself d r.shared.pools other)
-    (λ n is. labelled_keeps c d p r s k other (text_of p t) n (wanted_under c p r s q (wanted_pool r q None none) n is))
+    on_named (Keeps d r.shared.pools) (label_registered Plain (text_of p t)) (pool_named r q) r (itself d r.shared.pools other)
+    (λ n is. labelled_keeps c d p r s k other Plain (text_of p t) n (wanted_under c p r s q (wanted_pool r q None none) n is))
+steps_keep c d p choice (instr.PreLabel q t) r s k other none =
+    on_named (Keeps d r.shared.pools) (label_registered Pre (text_of p t)) (pool_named r q) r (itself d r.shared.pools other)
+    (λ n is. labelled_keeps c d p r s k other Pre (text_of p t) n (wanted_under c p r s q (wanted_pool r q None none) n is))
 steps_keep c d p choice (instr.Unlabel q t) r s k other none =
     on_named (Keeps d r.shared.pools) (label_killed (text_of p t)) (pool_named r q) r (itself d r.shared.pools other)
     (λ n is. unlabelled_keeps c d p r s k other (text_of p t) n (wanted_under c p r s q (wanted_pool r q None none) n is))

@@ -1,11 +1,12 @@
 -- What is done to a pool keeps every part.
+use Rattle.run_model.specs.declared.effect.CleanupKind.{CleanupKind}
 use Rattle.std.proofs.Common.{◌≡◌, ◌≢◌, ℕ, ◌<◌, Bool, true, false, ◌||◌, not, cond, List, [], ◌∷◌, ◌++◌, ◌⊎◌, inl, inr, refl, sym, ◌∙◌, ap, ne_eqb}
 use Rattle.std.specs.List.{list_any}
 use Rattle.std.proofs.Math.Bool.{or-false}
 use Rattle.std.proofs.lemmas.Bool.{cases_eq, both_ways, or_cases, or_left, or_right}
 use Rattle.std.proofs.lemmas.List.Folds.{list_any-append}
 use Rattle.run_model.specs.declared.payload.Payload.{Payload}
-use Rattle.run_model.specs.Pools.{Pools, is_empty, is_in, is_live, is_under, created, registered, cleared, destroyed}
+use Rattle.run_model.specs.Pools.{Pools, is_empty, is_in, is_live, is_under, created, registered, cleared, destroyed, registered_as, with_one}
 use Rattle.run_model.specs.RunOrder.{without_last, killed}
 use Rattle.run_model.specs.Payloads.{is_file_ref}
 use Rattle.run_model.specs.Holding.{refers}
@@ -15,8 +16,8 @@ use Rattle.model_laws.specs.PartsLast.{PartsLast, OldPoolsLast, OwnFilesLast}
 use Rattle.run_model.proofs.Updates.{upd_either}
 use Rattle.run_model.proofs.PoolMap.{live_path, created_kept, cleared_path, cleared_apart, cleared_itself, destroyed_path, destroyed_apart}
 use Rattle.run_model.proofs.RunOrderLaws.{under_itself}
-use Rattle.run_model.proofs.Formed.{path_live, created_formed, registered_formed, killed_formed, cleared_formed, destroyed_formed}
-use Rattle.run_model.proofs.References.{emptied_back, refers_given, created_back}
+use Rattle.run_model.proofs.Formed.{path_live, created_formed, registered_formed, killed_formed, cleared_formed, destroyed_formed, registered_as_formed}
+use Rattle.run_model.proofs.References.{emptied_back, refers_given, created_back, held_refers, held_parts, one_held}
 use Rattle.model_laws.proofs.parts.Paths.{under_live, apart_under, root_off, root_path}
 use Rattle.model_laws.proofs.PoolsGone.{Emptying, cleared_so, destroyed_so}
 use Rattle.model_laws.proofs.parts.Steps.{registered_path}
@@ -40,8 +41,8 @@ top_off ps c d p hc hd under ne = ap (is_in p) hd.top ∙ (ap (λ (t : Bool). t 
 pub parts_last : PartsLast
 parts_last Made c d p ps hc hd under ne =
     record { formed = created_formed p ps (under_live ps c p under) hc.formed; root = hd.root; top = created_kept p ps d (hd.formed.named d (path_live ps d d (hd.root ∷ []) hd.top)) ∙ hd.top }
-parts_last (Registered x) c d p ps hc hd under ne =
-    record { formed = registered_formed p x ps (under_live ps c p under) hc.formed; root = hd.root; top = ap (λ (f : ℕ → List ℕ). f d) (registered_path p x ps) ∙ hd.top }
+parts_last (Registered how x) c d p ps hc hd under ne =
+    record { formed = registered_as_formed how p x ps (under_live ps c p under) hc.formed; root = hd.root; top = ap (λ (f : ℕ → List ℕ). f d) (registered_path how p x ps) ∙ hd.top }
 parts_last (Killed test) c d p ps hc hd under ne = record { formed = killed_formed p test ps hc.formed; root = hd.root; top = ap (λ (f : ℕ → List ℕ). f d) (killed_path p test ps) ∙ hd.top }
 parts_last Cleared c d p ps hc hd under ne = record { formed = cleared_formed p ps hc.formed; root = hd.root; top = cleared_top ∙ hd.top } where
   cleared_top : (cleared p ps).path d ≡ ps.path d
@@ -55,7 +56,7 @@ parts_last Destroyed c d p ps hc hd under ne = record { formed = destroyed_forme
 
 pub old_path : (change : Change) (p n : ℕ) (ps : Pools Payload) → n < ps.next → ((changed change p ps).path n ≡ []) ⊎ ((changed change p ps).path n ≡ ps.path n)
 old_path Made p n ps lt = inr (created_kept p ps n lt)
-old_path (Registered x) p n ps lt = inr (ap (λ (f : ℕ → List ℕ). f n) (registered_path p x ps))
+old_path (Registered how x) p n ps lt = inr (ap (λ (f : ℕ → List ℕ). f n) (registered_path how p x ps))
 old_path (Killed test) p n ps lt = inr (ap (λ (f : ℕ → List ℕ). f n) (killed_path p test ps))
 old_path Cleared p n ps lt = cleared_path p ps n
 old_path Destroyed p n ps lt = destroyed_path p ps n
@@ -104,24 +105,30 @@ fewer file test (x ∷ xs) h = by_tests (list_any test xs) (test x) (fewer file 
 
 killed_back : (p : ℕ) (test : Payload → Bool) (ps : Pools Payload) (q file : ℕ) → refers (killed p test ps) q file ≡ true → refers ps q file ≡ true
 unfolding killed
-killed_back p test ps q file h = elim (upd_either ps.payloads p q (without_last test (ps.payloads p))) [
-  | inl at ↦ ap (λ (k : ℕ). refers ps k file) at.0 ∙ fewer file test (ps.payloads p) (sym (ap (list_any (is_file_ref file)) at.1) ∙ h)
-  | inr off ↦ sym (ap (list_any (is_file_ref file)) off.1) ∙ h
+killed_back p test ps q file h = elim (upd_either ps.payloads p q (record (ps.payloads p) { plain = without_last test (ps.payloads p).plain })) [
+  | inl at ↦ ap (λ (k : ℕ). refers ps k file) at.0
+      ∙ (held_parts file (ps.payloads p).pre (ps.payloads p).plain
+      ∙ (elim (or_cases (list_any (is_file_ref file) (ps.payloads p).pre) (list_any (is_file_ref file) (without_last test (ps.payloads p).plain))
+      (sym (held_parts file (ps.payloads p).pre (without_last test (ps.payloads p).plain)) ∙ (sym (ap (held_refers file) at.1) ∙ h))) [
+        | inl early ↦ or_left (list_any (is_file_ref file) (ps.payloads p).pre) _ early
+        | inr later ↦ or_right (list_any (is_file_ref file) (ps.payloads p).pre) _ (fewer file test (ps.payloads p).plain later)
+      ]))
+  | inr off ↦ sym (ap (held_refers file) off.1) ∙ h
 ]
 
 -- a reference after one was registered was there, or is the new one
-pub refers_new : (p : ℕ) (x : Payload) (ps : Pools Payload) (q file : ℕ) → refers (registered p x ps) q file ≡ true → (refers ps q file ≡ true) ⊎ ((q ≡ p) × (is_file_ref file x ≡ true))
-unfolding registered
-refers_new p x ps q file h = elim (upd_either ps.payloads p q (ps.payloads p ++ x ∷ [])) [
-  | inl at ↦ (elim (or_cases (list_any (is_file_ref file) (ps.payloads p)) (is_file_ref file x || false)
-      (sym (list_any-append (is_file_ref file) (ps.payloads p) (x ∷ [])) ∙ (sym (ap (list_any (is_file_ref file)) at.1) ∙ h))) [
+pub refers_new : (how : CleanupKind) (p : ℕ) (x : Payload) (ps : Pools Payload) (q file : ℕ) → refers (registered_as how p x ps) q file ≡ true → (refers ps q file ≡ true) ⊎ ((q ≡ p) × (is_file_ref file x ≡ true))
+unfolding registered_as
+refers_new how p x ps q file h = elim (upd_either ps.payloads p q (with_one how x (ps.payloads p))) [
+  | inl at ↦ (elim (or_cases (held_refers file (ps.payloads p)) (is_file_ref file x || false)
+      (sym (one_held how file (ps.payloads p) x) ∙ (sym (ap (held_refers file) at.1) ∙ h))) [
         | inl old ↦ inl (ap (λ (k : ℕ). refers ps k file) at.0 ∙ old)
         | inr new ↦ inr (at.0, sym (or-false (is_file_ref file x)) ∙ new)
       ])
-  | inr off ↦ inl (sym (ap (list_any (is_file_ref file)) off.1) ∙ h)
+  | inr off ↦ inl (sym (ap (held_refers file) off.1) ∙ h)
 ]
 
-module _ (c d p : ℕ) (x : Payload) (ps : Pools Payload) (hc : HasPart ps c) (hd : HasPart ps d) (under : is_under ps c p ≡ true)
+module _ (how : CleanupKind) (c d p : ℕ) (x : Payload) (ps : Pools Payload) (hc : HasPart ps c) (hd : HasPart ps d) (under : is_under ps c p ≡ true)
     (only : (file : ℕ) → is_file_ref file x ≡ true → (q : ℕ) → refers ps q file ≡ true → is_under ps c q ≡ true) (own : OwnFiles d ps) where
   -- what stands under both stands with all of c
   with_both : (n q : ℕ) → is_under ps c n ≡ true → is_under ps d n ≡ true → is_under ps c q ≡ true → is_under ps d q ≡ true
@@ -130,27 +137,27 @@ module _ (c d p : ℕ) (x : Payload) (ps : Pools Payload) (hc : HasPart ps c) (h
     | inr ne ↦ absurd (both_ways (is_under ps d n) (apart_under ps c d n hc hd ne in_c) in_d)
   ]
 
-  apart_after : (n q file : ℕ) → is_under ps d n ≡ true → refers (registered p x ps) n file ≡ true → refers (registered p x ps) q file ≡ true → is_under ps d q ≡ true
-  apart_after n q file in_d at_n at_q = elim (refers_new p x ps n file at_n) [
-    | inl old ↦ (elim (refers_new p x ps q file at_q) [
+  apart_after : (n q file : ℕ) → is_under ps d n ≡ true → refers (registered_as how p x ps) n file ≡ true → refers (registered_as how p x ps) q file ≡ true → is_under ps d q ≡ true
+  apart_after n q file in_d at_n at_q = elim (refers_new how p x ps n file at_n) [
+    | inl old ↦ (elim (refers_new how p x ps q file at_q) [
       | inl was ↦ own.apart n q file in_d old was
       | inr new ↦ with_both n q (only file new.1 n old) in_d (ap (is_under ps c) new.0 ∙ under)
     ])
     | inr first ↦
         (let in_c : is_under ps c n ≡ true = ap (is_under ps c) first.0 ∙ under in
-        elim (refers_new p x ps q file at_q) [
+        elim (refers_new how p x ps q file at_q) [
           | inl was ↦ with_both n q in_c in_d (only file first.1 q was)
           | inr new ↦ with_both n q in_c in_d (ap (is_under ps c) new.0 ∙ under)
         ])
   ]
 
-  registered_own : OwnFiles d (registered p x ps)
+  registered_own : OwnFiles d (registered_as how p x ps)
   registered_own = record {
     apart = λ n q file in_d at_n at_q.
-        same_under ps (registered p x ps) d q (same q) ∙ apart_after n q file (sym (same_under ps (registered p x ps) d n (same n)) ∙ in_d) at_n at_q;
+        same_under ps (registered_as how p x ps) d q (same q) ∙ apart_after n q file (sym (same_under ps (registered_as how p x ps) d n (same n)) ∙ in_d) at_n at_q;
   } where
-    same : (n : ℕ) → (registered p x ps).path n ≡ ps.path n
-    same n = ap (λ (f : ℕ → List ℕ). f n) (registered_path p x ps)
+    same : (n : ℕ) → (registered_as how p x ps).path n ≡ ps.path n
+    same n = ap (λ (f : ℕ → List ℕ). f n) (registered_path how p x ps)
 
 emptied_kept : (p : ℕ) (ps new : Pools Payload) → Emptying p ps new → (q file : ℕ) → refers new q file ≡ true → KeptPools ps new q file
 emptied_kept p ps new so q file h = (let was = emptied_back p ps new so.payloads q file h in record { path = so.apart q was.0; refers = was.1 })
@@ -160,7 +167,7 @@ made_kept p ps c hc q file h = (let was = created_back p ps q file h in record {
 
 pub own_last : OwnFilesLast
 own_last Made c d p ps hc hd under is own = all_kept d ps (created p ps) (made_kept p ps c hc) own
-own_last (Registered x) c d p ps hc hd under is own = registered_own c d p x ps hc hd under is own
+own_last (Registered how x) c d p ps hc hd under is own = registered_own how c d p x ps hc hd under is own
 own_last (Killed test) c d p ps hc hd under is own =
     all_kept d ps (killed p test ps) (λ q file h. record { path = ap (λ (f : ℕ → List ℕ). f q) (killed_path p test ps); refers = killed_back p test ps q file h }) own
 own_last Cleared c d p ps hc hd under is own = all_kept d ps (cleared p ps) (emptied_kept p ps (cleared p ps) (cleared_so p ps)) own

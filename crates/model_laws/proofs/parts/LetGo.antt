@@ -1,4 +1,5 @@
 -- Which files close where a pool under c goes is told alike in the part of c and in the whole.
+use Rattle.run_model.proofs.References.{held_refers}
 use Rattle.std.proofs.Common.{◌≡◌, ℕ, Bool, true, false, ◌&&◌, not, nat_lt, List, [], ◌∷◌, inl, inr, refl, sym, ◌∙◌, ap}
 use Rattle.std.specs.List.{list_any}
 use Rattle.std.proofs.lemmas.Bool.{cases_Bool, ltb-true, ltb-false}
@@ -27,7 +28,7 @@ module _ (c n : ℕ) (ps left : Pools Payload) (h : HasPart ps c) (own : OwnFile
   unfolding is_live
   live_then q file there = by_path (left.path q) refl where
     by_path : (xs : List ℕ) → left.path q ≡ xs → not (is_empty xs) ≡ true
-    by_path [] none = absurd (no_ref file (ap (list_any (is_file_ref file)) (sym (formed.bare q none)) ∙ there))
+    by_path [] none = absurd (no_ref file (ap (held_refers file) (sym (formed.bare q none)) ∙ there))
     by_path (m ∷ xs) is = refl
 
   -- where a file that was handed on is referred to still, that is under c
@@ -36,7 +37,7 @@ module _ (c n : ℕ) (ps left : Pools Payload) (h : HasPart ps c) (own : OwnFile
     | inl here ↦ under_belongs left c q (within.inside q (inl here) (live_then q file there))
     | inr off ↦ (elim (cases_Bool (nat_lt q ps.next)) [
       | inl given ↦
-          let was : refers ps q file ≡ true = ap (list_any (is_file_ref file)) (sym (within.off q (ltb-true q ps.next given) off).1) ∙ there in
+          let was : refers ps q file ≡ true = ap (held_refers file) (sym (within.off q (ltb-true q ps.next given) off).1) ∙ there in
           absurd (let both : true ≡ false = sym (own.apart first.at q file first.under first.refers was) ∙ off in cc)
       | inr fresh ↦ under_belongs left c q (within.inside q (inr (ltb-false q ps.next fresh)) (live_then q file there))
     ])

@@ -1,4 +1,5 @@
 -- What a call sees lies in its part after each step without a fault.
+use Rattle.run_model.specs.declared.effect.CleanupKind.TheVariants.{Plain, Pre}
 use Rattle.std.proofs.Common.{◌≡◌, ℕ, true, ◌==◌, [], ◌++◌, Option, Some, None, ◌⊎◌, inl, inr, refl, sym, ◌∙◌, ap, subst}
 use Rattle.std.proofs.lemmas.Bool.{or_right}
 use Rattle.module_code.specs.declared.instr.Instr.{Instr}
@@ -56,6 +57,7 @@ on_frame c ps = record {
   loose = λ xs r h. h;
   numbers = λ n v r h. h;
   buffer = λ bytes r h. h;
+  left = λ r h. h;
   names = λ n r h. h;
   refs = λ target files r lives h. h;
 }
@@ -91,7 +93,9 @@ step_brigades c p choice (instr.PDestroy q) r s may = gone_brigades c r pool_des
 step_brigades c p choice (instr.Ret status) r s may = kept_on c r.shared.pools r.instance.brigades _ (return_on r.instance.brigades r.call.name) s.brigades
 step_brigades c p choice (instr.PCreate q) r s may = moved c p choice (instr.PCreate q) r s may (made_under_named (On c r.shared.pools) p q r s.brigades (λ parent is. s.brigades))
 step_brigades c p choice (instr.Label q t) r s may =
-    moved c p choice (instr.Label q t) r s may (on_named (On c r.shared.pools) (label_registered (text_of p t)) (pool_named r q) r s.brigades (λ n is. s.brigades))
+    moved c p choice (instr.Label q t) r s may (on_named (On c r.shared.pools) (label_registered Plain (text_of p t)) (pool_named r q) r s.brigades (λ n is. s.brigades))
+step_brigades c p choice (instr.PreLabel q t) r s may =
+    moved c p choice (instr.PreLabel q t) r s may (on_named (On c r.shared.pools) (label_registered Pre (text_of p t)) (pool_named r q) r s.brigades (λ n is. s.brigades))
 step_brigades c p choice (instr.Unlabel q t) r s may =
     moved c p choice (instr.Unlabel q t) r s may (on_named (On c r.shared.pools) (label_killed (text_of p t)) (pool_named r q) r s.brigades (λ n is. s.brigades))
 step_brigades c p choice (instr.BCreate o) r s may =

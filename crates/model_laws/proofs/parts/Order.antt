@@ -3,8 +3,8 @@ use Rattle.std.proofs.Common.{◌≡◌, ℕ, zero, suc, ◌≤◌, Bool, true, 
 use Rattle.std.specs.List.{flat_map}
 use Rattle.std.proofs.lemmas.Bool.{cases_Bool, or_cases, or_left, or_right, both_ways, false_from_ne_true}
 use Rattle.run_model.specs.Indexed.{upd}
-use Rattle.run_model.specs.Pools.{Pools, is_in, is_under, planted, created}
-use Rattle.run_model.specs.RunOrder.{IsPoolMap, leads_to, is_child, children_below, own_run, runs_within, run_order}
+use Rattle.run_model.specs.Pools.{Pools, is_in, is_under, planted, created, Cleanups, no_cleanups}
+use Rattle.run_model.specs.RunOrder.{IsPoolMap, leads_to, is_child, children_below, own_run, runs_within, run_order, pre_run}
 use Rattle.model_laws.specs.Parts.{is_top, belongs, part, HasPart, PartIsPoolMap, NewPartIsPlanted, PartReadsAlike}
 use Rattle.run_model.proofs.RunOrderLaws.{under_child, under_itself, child_live}
 use Rattle.run_model.proofs.Formed.{thinned_formed, formed_fresh, formed_older}
@@ -37,7 +37,7 @@ module _ {T : Type 0} (c : ℕ) (ps : Pools T) (h : HasPart ps c) where
     | inr off ↦ absurd (let both : [] ≡ m ∷ k ∷ above = sym (part_off ps c n off).0 ∙ is in cc)
   ]
 
-  part_bare : (n : ℕ) → (part c ps).path n ≡ [] → (part c ps).payloads n ≡ []
+  part_bare : (n : ℕ) → (part c ps).path n ≡ [] → (part c ps).payloads n ≡ no_cleanups
   part_bare n none = elim (cases_Bool (belongs c (ps.path n))) [
     | inl here ↦ part_payloads ps c n here ∙ h.formed.bare n (sym (part_path ps c n here) ∙ none)
     | inr off ↦ (part_off ps c n off).1
@@ -86,17 +86,22 @@ module _ {T : Type 0} (c : ℕ) (ps : Pools T) (h : HasPart ps c) where
 
   own_alike : (p : ℕ) → is_under ps c p ≡ true → own_run (part c ps) p ≡ own_run ps p
   unfolding own_run
-  own_alike p under = ap (λ (xs : List T). map (λ x. (p, x)) (reverse xs)) (part_payloads ps c p (under_belongs ps c p under))
+  own_alike p under = ap (λ (xs : Cleanups T). map (λ x. (p, x)) (reverse xs.plain)) (part_payloads ps c p (under_belongs ps c p under))
+
+  early_alike : (p : ℕ) → is_under ps c p ≡ true → pre_run (part c ps) p ≡ pre_run ps p
+  unfolding pre_run
+  early_alike p under = ap (λ (xs : Cleanups T). map (λ x. (p, x)) (reverse xs.pre)) (part_payloads ps c p (under_belongs ps c p under))
 
   runs_alike : (depth p : ℕ) → is_under ps c p ≡ true → runs_within depth (part c ps) p ≡ runs_within depth ps p
   unfolding runs_within
   runs_alike zero p under = refl
   runs_alike (suc depth) p under =
-      ap (λ (k : ℕ). flat_map (runs_within depth (part c ps)) (children_below (part c ps) p k) ++ own_run (part c ps) p) same_next
-      ∙ (ap (λ (ms : List ℕ). flat_map (runs_within depth (part c ps)) ms ++ own_run (part c ps) p) (children_alike p under ps.next)
-      ∙ (ap (λ (xs : List (ℕ × T)). xs ++ own_run (part c ps) p)
+      ap (λ (k : ℕ). pre_run (part c ps) p ++ (flat_map (runs_within depth (part c ps)) (children_below (part c ps) p k) ++ own_run (part c ps) p)) same_next
+      ∙ (ap (λ (ms : List ℕ). pre_run (part c ps) p ++ (flat_map (runs_within depth (part c ps)) ms ++ own_run (part c ps) p)) (children_alike p under ps.next)
+      ∙ (ap (λ (xs : List (ℕ × T)). pre_run (part c ps) p ++ (xs ++ own_run (part c ps) p))
       (brought_alike p (runs_within depth (part c ps)) (runs_within depth ps) (λ n child. runs_alike depth n (child_under p n under child)) ps.next)
-      ∙ ap (λ (xs : List (ℕ × T)). flat_map (runs_within depth ps) (children_below ps p ps.next) ++ xs) (own_alike p under)))
+      ∙ (ap (λ (xs : List (ℕ × T)). pre_run (part c ps) p ++ (flat_map (runs_within depth ps) (children_below ps p ps.next) ++ xs)) (own_alike p under)
+      ∙ ap (λ (xs : List (ℕ × T)). xs ++ (flat_map (runs_within depth ps) (children_below ps p ps.next) ++ own_run ps p)) (early_alike p under))))
 
   pub order_alike : (p : ℕ) → is_under ps c p ≡ true → run_order (part c ps) p ≡ run_order ps p
   unfolding run_order
@@ -142,19 +147,19 @@ module _ {T : Type 0} (root : ℕ) (ps : Pools T) (f : IsPoolMap ps) (at : ps.pa
     by_test false true is = ap (λ (xs : List ℕ). cond (belongs ps.next xs) xs []) (ap ps.path (eqb-true n root is) ∙ at)
     by_test false false is = ap (λ (t : Bool). cond t (ps.path n) []) (older_off n is)
 
-  new_payloads : ps.payloads root ≡ [] → (n : ℕ) → (part ps.next (created root ps)).payloads n ≡ (created root (record (planted {T = T} root) { next = ps.next })).payloads n
+  new_payloads : ps.payloads root ≡ no_cleanups → (n : ℕ) → (part ps.next (created root ps)).payloads n ≡ (created root (record (planted {T = T} root) { next = ps.next })).payloads n
   unfolding part created planted upd
   new_payloads none n = by_test (n == ps.next) (n == root) refl where
-    by_test : (b e : Bool) → (n == root) ≡ e → cond (belongs ps.next (cond b (ps.next ∷ ps.path root) (ps.path n))) (cond b [] (ps.payloads n)) [] ≡ cond b [] []
-    by_test true e is = never (belongs ps.next (ps.next ∷ ps.path root)) []
-    by_test false true is = ap (λ (xs : List T). cond (belongs ps.next (ps.path n)) xs []) (ap ps.payloads (eqb-true n root is) ∙ none) ∙ never (belongs ps.next (ps.path n)) []
-    by_test false false is = ap (λ (t : Bool). cond t (ps.payloads n) []) (older_off n is)
+    by_test : (b e : Bool) → (n == root) ≡ e → cond (belongs ps.next (cond b (ps.next ∷ ps.path root) (ps.path n))) (cond b no_cleanups (ps.payloads n)) no_cleanups ≡ cond b no_cleanups no_cleanups
+    by_test true e is = never (belongs ps.next (ps.next ∷ ps.path root)) no_cleanups
+    by_test false true is = ap (λ (xs : Cleanups T). cond (belongs ps.next (ps.path n)) xs no_cleanups) (ap ps.payloads (eqb-true n root is) ∙ none) ∙ never (belongs ps.next (ps.path n)) no_cleanups
+    by_test false false is = ap (λ (t : Bool). cond t (ps.payloads n) no_cleanups) (older_off n is)
 
   new_next : (part ps.next (created root ps)).next ≡ (created root (record (planted {T = T} root) { next = ps.next })).next
   unfolding part created
   new_next = refl
 
-  new_part : ps.payloads root ≡ [] → part ps.next (created root ps) ≡ created root (record (planted root) { next = ps.next })
+  new_part : ps.payloads root ≡ no_cleanups → part ps.next (created root ps) ≡ created root (record (planted root) { next = ps.next })
   new_part none = same_pools (part ps.next (created root ps)) (created root (record (planted root) { next = ps.next })) new_path (new_payloads none) new_next
 
 pub new_planted : NewPartIsPlanted

@@ -1,7 +1,7 @@
 -- Paths of a pool map in which pools stand right under the root.
 use Rattle.std.proofs.Common.{◌≡◌, ◌≢◌, ℕ, Bool, true, false, ◌||◌, not, ◌==◌, cond, List, [], ◌∷◌, inl, inr, refl, sym, ◌∙◌, ap, eqb-true}
 use Rattle.std.proofs.lemmas.Bool.{cases_Bool, or_cases, or_right, both_ways, false_from_ne_true}
-use Rattle.run_model.specs.Pools.{Pools, is_empty, is_in, is_live, is_under}
+use Rattle.run_model.specs.Pools.{Pools, is_empty, is_in, is_live, is_under, no_cleanups}
 use Rattle.run_model.specs.RunOrder.{IsPoolMap}
 use Rattle.model_laws.specs.Parts.{is_top, belongs, part, HasPart}
 use Rattle.run_model.proofs.RunOrderLaws.{under_itself}
@@ -107,11 +107,11 @@ part_path ps c n here = ap (λ b. cond b (ps.path n) []) here
 
 pub part_payloads : {T : Type 0} (ps : Pools T) (c n : ℕ) → belongs c (ps.path n) ≡ true → (part c ps).payloads n ≡ ps.payloads n
 unfolding part
-part_payloads ps c n here = ap (λ b. cond b (ps.payloads n) []) here
+part_payloads ps c n here = ap (λ b. cond b (ps.payloads n) no_cleanups) here
 
-pub part_off : {T : Type 0} (ps : Pools T) (c n : ℕ) → belongs c (ps.path n) ≡ false → ((part c ps).path n ≡ []) × ((part c ps).payloads n ≡ [])
+pub part_off : {T : Type 0} (ps : Pools T) (c n : ℕ) → belongs c (ps.path n) ≡ false → ((part c ps).path n ≡ []) × ((part c ps).payloads n ≡ no_cleanups)
 unfolding part
-part_off ps c n off = (ap (λ b. cond b (ps.path n) []) off, ap (λ b. cond b (ps.payloads n) []) off)
+part_off ps c n off = (ap (λ b. cond b (ps.path n) []) off, ap (λ b. cond b (ps.payloads n) no_cleanups) off)
 
 pub under_alike : {T : Type 0} (ps : Pools T) (c p n : ℕ) → HasPart ps c → is_under ps c p ≡ true → is_under (part c ps) p n ≡ is_under ps p n
 unfolding is_under

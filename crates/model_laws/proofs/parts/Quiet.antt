@@ -125,6 +125,7 @@ module _ (change : Pools Payload → Pools Payload) where
   run_alike p choice (effect.Put x) r quiet = into_alike x r
   run_alike p choice effect.ClearBuffer r quiet = refl
   run_alike p choice effect.Return r quiet = refl
+  run_alike p choice effect.Leave r quiet = refl
   run_alike p choice e r quiet = absurd (cc)
 
   pub quiet_alike : (p : Program) (choice : Choice) (i : Instr) (r : Configuration) → may_change_tree (effect_of i) ≡ false

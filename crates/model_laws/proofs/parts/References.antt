@@ -1,5 +1,5 @@
 -- References to files, in a part and in the whole.
-use Rattle.std.proofs.Common.{◌≡◌, ℕ, zero, suc, Bool, true, false, ◌&&◌, ◌||◌, not, cond, List, [], ◌∷◌, map, reverse, Option, None, inl, inr, refl, sym, ◌∙◌, ap}
+use Rattle.std.proofs.Common.{◌≡◌, ℕ, zero, suc, Bool, true, false, ◌&&◌, ◌||◌, not, cond, List, [], ◌∷◌, ◌++◌, map, reverse, Option, None, inl, inr, refl, sym, ◌∙◌, ap}
 use Rattle.std.specs.List.{list_any, flat_map}
 use Rattle.std.proofs.Math.Path.{fun_ext}
 use Rattle.std.proofs.Math.Bool.{or-false}
@@ -9,13 +9,13 @@ use Rattle.std.proofs.lemmas.List.Folds.{list_any-append}
 use Rattle.run_model.specs.declared.payload.Payload.{Payload}
 use Rattle.run_model.specs.Indexed.{any_below}
 use Rattle.run_model.specs.Pools.{Pools, is_under}
-use Rattle.run_model.specs.RunOrder.{is_child, children_below, own_run, runs_within, run_order}
+use Rattle.run_model.specs.RunOrder.{is_child, children_below, own_run, runs_within, run_order, pre_run}
 use Rattle.run_model.specs.Payloads.{is_file_ref}
 use Rattle.run_model.specs.Files.{Files, is_referred, let_go}
 use Rattle.run_model.specs.Holding.{refers}
 use Rattle.model_laws.specs.Parts.{belongs, part, HasPart}
 use Rattle.model_laws.specs.PartSteps.{OwnFiles}
-use Rattle.run_model.proofs.References.{emptied_back}
+use Rattle.run_model.proofs.References.{emptied_back, held_refers, held_parts}
 use Rattle.model_laws.proofs.PoolsGone.{Emptying}
 use Rattle.model_laws.proofs.parts.Paths.{under_belongs, part_payloads, part_off}
 use Rattle.model_laws.proofs.parts.Order.{child_under}
@@ -42,7 +42,15 @@ with_pool file p (x ∷ xs) h = elim (or_cases (is_file_ref file x) (hands file 
 
 own_refers : (file p : ℕ) (ps : Pools Payload) → hands file (own_run ps p) ≡ true → refers ps p file ≡ true
 unfolding own_run
-own_refers file p ps h = turned file (ps.payloads p) (with_pool file p (reverse (ps.payloads p)) h)
+own_refers file p ps h =
+    held_parts file (ps.payloads p).pre (ps.payloads p).plain
+    ∙ or_right (list_any (is_file_ref file) (ps.payloads p).pre) _ (turned file (ps.payloads p).plain (with_pool file p (reverse (ps.payloads p).plain) h))
+
+early_refers : (file p : ℕ) (ps : Pools Payload) → hands file (pre_run ps p) ≡ true → refers ps p file ≡ true
+unfolding pre_run
+early_refers file p ps h =
+    held_parts file (ps.payloads p).pre (ps.payloads p).plain
+    ∙ or_left (list_any (is_file_ref file) (ps.payloads p).pre) _ (turned file (ps.payloads p).pre (with_pool file p (reverse (ps.payloads p).pre) h))
 
 -- a pool under c that refers to the file
 pub record HasRef (c file : ℕ) (ps : Pools Payload) : Type 0 where
@@ -69,10 +77,13 @@ module _ (c file : ℕ) (ps : Pools Payload) (h : HasPart ps c) where
   unfolding runs_within
   handed_within zero p under handed = absurd (cc)
   handed_within (suc depth) p under handed =
-      elim (or_cases (hands file (flat_map (runs_within depth ps) (children_below ps p ps.next))) (hands file (own_run ps p))
-      (sym (list_any-append (λ x. is_file_ref file x.1) (flat_map (runs_within depth ps) (children_below ps p ps.next)) (own_run ps p)) ∙ handed)) [
-        | inl below ↦ brought p (runs_within depth ps) (λ n child there. handed_within depth n (child_under c ps h p n under child) there) ps.next below
-        | inr own ↦ record { at = p; under = under; refers = own_refers file p ps own }
+      let below : List (ℕ × Payload) = flat_map (runs_within depth ps) (children_below ps p ps.next) in
+      elim (or_cases (hands file (pre_run ps p)) (hands file (below ++ own_run ps p)) (sym (list_any-append (λ x. is_file_ref file x.1) (pre_run ps p) (below ++ own_run ps p)) ∙ handed)) [
+        | inl early ↦ record { at = p; under = under; refers = early_refers file p ps early }
+        | inr later ↦ (elim (or_cases (hands file below) (hands file (own_run ps p)) (sym (list_any-append (λ x. is_file_ref file x.1) below (own_run ps p)) ∙ later)) [
+          | inl under_it ↦ brought p (runs_within depth ps) (λ n child there. handed_within depth n (child_under c ps h p n under child) there) ps.next under_it
+          | inr own ↦ record { at = p; under = under; refers = own_refers file p ps own }
+        ])
       ]
 
   pub handed_from : (p : ℕ) → is_under ps c p ≡ true → hands file (run_order ps p) ≡ true → HasRef c file ps
@@ -84,8 +95,8 @@ module _ (c file : ℕ) (ps : Pools Payload) (h : HasPart ps c) where
 module _ (c file : ℕ) (ps : Pools Payload) (within : (q : ℕ) → refers ps q file ≡ true → belongs c (ps.path q) ≡ true) where
   refers_alike : (q : ℕ) → refers (part c ps) q file ≡ refers ps q file
   refers_alike q = elim (cases_Bool (belongs c (ps.path q))) [
-    | inl here ↦ ap (list_any (is_file_ref file)) (part_payloads ps c q here)
-    | inr off ↦ ap (list_any (is_file_ref file)) (part_off ps c q off).1 ∙ sym (false_from_ne_true (refers ps q file) (λ there. both_ways (belongs c (ps.path q)) off (within q there)))
+    | inl here ↦ ap (held_refers file) (part_payloads ps c q here)
+    | inr off ↦ ap (held_refers file) (part_off ps c q off).1 ∙ sym (false_from_ne_true (refers ps q file) (λ there. both_ways (belongs c (ps.path q)) off (within q there)))
   ]
 
   pub referred_alike : is_referred (part c ps) file ≡ is_referred ps file

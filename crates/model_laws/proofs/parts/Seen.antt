@@ -1,4 +1,5 @@
 -- Events over the pools of all connections, seen in the part of one.
+use Rattle.run_model.specs.declared.effect.CleanupKind.TheVariants.{Plain}
 use Rattle.std.proofs.Common.{◌≡◌, ℕ, Bool, true, false, ◌||◌, not, cond, nat_le, nat_lt, List, [], ◌∷◌, length, ◌+◌, ◌++◌, Option, Some, None, Result, Ok, refl, sym, ap, ap₂, ◌∙◌}
 use Rattle.module_code.specs.Program.{Program}
 use Rattle.module_code.specs.declared.instr.Instr.{Instr}
@@ -11,14 +12,14 @@ use Rattle.run_model.specs.declared.fault.FaultKind.{FaultKind}
 use Rattle.run_model.specs.declared.payload.Payload.{Payload}
 use Rattle.run_model.specs.declared.payload.Payload.TheVariants.{FileRef}
 use Rattle.run_model.specs.Indexed.{upd}
-use Rattle.run_model.specs.Pools.{Pools, created, is_under, registered}
+use Rattle.run_model.specs.Pools.{Pools, created, is_under, registered, registered_as, Cleanups}
 use Rattle.run_model.specs.Clearing.{cleared_var}
 use Rattle.run_model.specs.Faults.{fault}
 use Rattle.run_model.specs.State.{Configuration, Shared, fresh_call}
 use Rattle.run_model.specs.Steps.{current, grows, is_spent, lacks_names}
-use Rattle.run_model.specs.Chains.{Frame, Connection, Common, Linked, common_after, configuration, module_at, parts_after, pools_of, touched_instance}
+use Rattle.run_model.specs.Chains.{Frame, Connection, Common, Linked, common_after, configuration, module_at, parts_after, pools_of, touched_instance, is_last}
 use Rattle.run_model.specs.Passing.{Reads, proceeds}
-use Rattle.run_model.specs.Turns.{Opening, Found, Missing, Failing, all_called, begins, begun, between_requests, brings, broken_by, brought, calls_of, closing_labels, counted, ended, ends, executed}
+use Rattle.run_model.specs.Turns.{Opening, Found, Missing, Failing, all_called, begins, begun, between_requests, brings, broken_by, brought, calls_of, closing_labels, counted, ended, ends, executed, puts_out}
 use Rattle.run_model.specs.Turns.{file_answer, file_taken, opens_file, pool_gone, request_over, step_top, step_unless, steps, unless_fault, unless_refused, watched, with_pools}
 use Rattle.model_laws.specs.Parts.{part, HasPart, Made, Registered}
 use Rattle.model_laws.specs.PartSteps.{LiesIn, in_part, linked_in_part}
@@ -34,7 +35,7 @@ use Rattle.model_laws.proofs.parts.Tops.{top_alike}
 pub its_part : (ps : Pools Payload) (g : Common) (c : Connection) → LiesOver ps g c → (g, c) ≡ linked_in_part c.conn (g, over ps c)
 unfolding part
 its_part ps g c l = ap (λ (p : ℕ → List ℕ). put p c.payloads) l.part.path ∙ ap (put (part c.conn ps).path) l.part.payloads where
-  put : (ℕ → List ℕ) → (ℕ → List Payload) → Linked
+  put : (ℕ → List ℕ) → (ℕ → Cleanups Payload) → Linked
   put p q = (g, record c { path = p; payloads = q })
 
 -- these pools are the connection's over them
@@ -53,17 +54,21 @@ module _ (d : ℕ) (memory : Bool) (chain : List Program) (reads : Reads) (f : F
   unfolding configuration part
   seen = refl
 
+  put_alike : puts_out chain f here ≡ puts_out chain f (g, c)
+  unfolding configuration part
+  put_alike = refl
+
   executed_alike : (i : Instr) → fault (module_at chain f.of) (configuration g c f) i ≡ None → executed memory chain reads i f rest here ≡ seen_in d (executed memory chain reads i f rest (g, c))
   unfolding executed
   executed_alike i none = ap₂ choose names room ∙ by_names (lacks_names (configuration g c f) i || is_spent g.next calls) where
     calls : ℕ
-    calls = calls_of chain i f rest c.queue
+    calls = calls_of (is_last chain c f.of) i rest c.queue
 
     grow : Bool
-    grow = grows (configuration g c f) i
+    grow = grows (configuration g c f) i || nat_lt 0 calls || puts_out chain f (g, c)
 
     enough : Bool → Bool
-    enough t = memory || not (t || nat_lt 0 calls)
+    enough t = memory || not t
 
     choose : Bool → Bool → Result Stepped Refusal × Linked
     choose t u = cond t (broken_by cause.NamesSpent here) (cond (enough u) (counted (proceeds chain reads i f rest here)) (broken_by cause.NoMemory here))
@@ -71,8 +76,9 @@ module _ (d : ℕ) (memory : Bool) (chain : List Program) (reads : Reads) (f : F
     names : (lacks_names (configuration here.0 here.1 f) i || is_spent g.next calls) ≡ (lacks_names (configuration g c f) i || is_spent g.next calls)
     names = ap (λ (r : Configuration). lacks_names r i || is_spent g.next calls) seen ∙ ap (λ (b : Bool). b || is_spent g.next calls) (names_alike d i (configuration g c f))
 
-    room : grows (configuration here.0 here.1 f) i ≡ grow
-    room = ap (λ (r : Configuration). grows r i) seen ∙ grows_alike d (module_at chain f.of) i (configuration g c f) lies none
+    room : (grows (configuration here.0 here.1 f) i || nat_lt 0 calls || puts_out chain f here) ≡ grow
+    room = ap (λ (b : Bool). b || nat_lt 0 calls || puts_out chain f here) (ap (λ (r : Configuration). grows r i) seen ∙ grows_alike d (module_at chain f.of) i (configuration g c f) lies none)
+        ∙ ap (λ (b : Bool). grows (configuration g c f) i || nat_lt 0 calls || b) put_alike
 
     by_memory : (t : Bool) → cond t (counted (proceeds chain reads i f rest here)) (broken_by cause.NoMemory here) ≡ seen_in d
         (cond t (counted (proceeds chain reads i f rest (g, c))) (broken_by cause.NoMemory (g, c)))
@@ -169,9 +175,9 @@ module _ (ps : Pools Payload) (g : Common) (c : Connection) (l : LiesOver ps g c
   under req is = l.request req is
 
   taken_alike : (req file : ℕ) (bytes : List ℕ) → c.req ≡ Some req → file_taken req file bytes (linked_in_part c.conn all) ≡ linked_in_part c.conn (file_taken req file bytes all)
-  unfolding part registered
-  taken_alike req file bytes is = ap (λ (qs : Pools Payload). taken qs.payloads) (sym (own_changes (Registered (FileRef file)) c.conn req (pools_of g (over ps c)) has (under req is))) where
-    taken : (ℕ → List Payload) → Linked
+  unfolding part registered_as
+  taken_alike req file bytes is = ap (λ (qs : Pools Payload). taken qs.payloads) (sym (own_changes (Registered Plain (FileRef file)) c.conn req (pools_of g (over ps c)) has (under req is))) where
+    taken : (ℕ → Cleanups Payload) → Linked
     taken payloads = (
       record g { file = file + 1 },
       record c {

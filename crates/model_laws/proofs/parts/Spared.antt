@@ -1,4 +1,6 @@
 -- A step that has no fault leaves the parts of other connections, but for the next name.
+use Rattle.run_model.specs.declared.effect.CleanupKind.{CleanupKind}
+use Rattle.run_model.specs.declared.effect.CleanupKind.TheVariants.{Plain, Pre}
 use Rattle.std.proofs.Common.{◌≡◌, ◌≢◌, ℕ, true, false, List, [], ◌∷◌, filter_map, Option, Some, None, refl, sym, ◌∙◌, ap, subst}
 use Rattle.module_code.specs.declared.instr.Instr.{Instr}
 use Rattle.module_code.specs.declared.instr.Instr.TheVariants as instr
@@ -43,8 +45,8 @@ all_off : (d target : ℕ) (files : List ℕ) (ps : Pools Payload) → belongs d
 unfolding all_referred
 all_off d target [] ps off = refl
 all_off d target (file ∷ files) ps off =
-    all_off d target files (registered target (FileRef file) ps) (ap (λ (path : ℕ → List ℕ). belongs d (path target)) (registered_path target (FileRef file) ps) ∙ off)
-    ∙ registered_off d target (FileRef file) ps off
+    all_off d target files (registered target (FileRef file) ps) (ap (λ (path : ℕ → List ℕ). belongs d (path target)) (registered_path Plain target (FileRef file) ps) ∙ off)
+    ∙ registered_off Plain d target (FileRef file) ps off
 
 module _ (c d : ℕ) (p : Program) (r : Configuration) (s : LiesIn c r) (other : HasPart r.shared.pools d) (ne : c ≢ d) where
   changes : (change : Change) (n : ℕ) → is_under r.shared.pools c n ≡ true → part d (changed change n r.shared.pools) ≡ record (part d r.shared.pools) { next = (changed change n r.shared.pools).next }
@@ -67,9 +69,9 @@ module _ (c d : ℕ) (p : Program) (r : Configuration) (s : LiesIn c r) (other :
   unfolding set_brigade with_pools
   saved_spares o b target under = refers target (filter_map (new_ref r.shared.pools target) (items_of (r.instance.brigades b))) under
 
-  labelled_spares : (text : List ℕ) (n : ℕ) → is_under r.shared.pools c n ≡ true → SparesPart d r.shared.pools (label_registered text n r)
+  labelled_spares : (how : CleanupKind) (text : List ℕ) (n : ℕ) → is_under r.shared.pools c n ≡ true → SparesPart d r.shared.pools (label_registered how text n r)
   unfolding with_pools
-  labelled_spares text n under = changes (Registered (Label text)) n under
+  labelled_spares how text n under = changes (Registered how (Label text)) n under
 
   unlabelled_spares : (text : List ℕ) (n : ℕ) → is_under r.shared.pools c n ≡ true → SparesPart d r.shared.pools (label_killed text n r)
   unfolding with_pools
@@ -91,7 +93,7 @@ module _ (c d : ℕ) (p : Program) (r : Configuration) (s : LiesIn c r) (other :
       → part d (with_brigade on name r.shared.pools) ≡ record (part d r.shared.pools) { next = (with_brigade on name r.shared.pools).next }
   unfolding with_brigade
   with_brigade_spares None name under = itself d r
-  with_brigade_spares (Some n) name under = changes (Registered (payload.Brigade name)) n (under n refl)
+  with_brigade_spares (Some n) name under = changes (Registered Plain (payload.Brigade name)) n (under n refl)
 
 pub steps_spare : StepsSpareOthers
 unfolding set_brigade
@@ -103,8 +105,11 @@ steps_spare c d p choice (instr.PDestroy q) r s other ne none =
     on_named (SparesPart d r.shared.pools) pool_destroyed (pool_named r (pool.Own q)) r (itself d r)
     (λ n is. destroyed_spares c d p r s other ne n (wanted_under c p r s (pool.Own q) (wanted_pool r (pool.Own q) None none) n is))
 steps_spare c d p choice (instr.Label q t) r s other ne none =
-    on_named (SparesPart d r.shared.pools) (label_registered (text_of p t)) (pool_named r q) r (itself d r)
-    (λ n is. labelled_spares c d p r s other ne (text_of p t) n (wanted_under c p r s q (wanted_pool r q None none) n is))
+    on_named (SparesPart d r.shared.pools) (label_registered Plain (text_of p t)) (pool_named r q) r (itself d r)
+    (λ n is. labelled_spares c d p r s other ne Plain (text_of p t) n (wanted_under c p r s q (wanted_pool r q None none) n is))
+steps_spare c d p choice (instr.PreLabel q t) r s other ne none =
+    on_named (SparesPart d r.shared.pools) (label_registered Pre (text_of p t)) (pool_named r q) r (itself d r)
+    (λ n is. labelled_spares c d p r s other ne Pre (text_of p t) n (wanted_under c p r s q (wanted_pool r q None none) n is))
 steps_spare c d p choice (instr.Unlabel q t) r s other ne none =
     on_named (SparesPart d r.shared.pools) (label_killed (text_of p t)) (pool_named r q) r (itself d r)
     (λ n is. unlabelled_spares c d p r s other ne (text_of p t) n (wanted_under c p r s q (wanted_pool r q None none) n is))

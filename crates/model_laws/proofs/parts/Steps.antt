@@ -1,4 +1,6 @@
 -- A step that has no fault does the same in the part of its connection and in the whole.
+use Rattle.run_model.specs.declared.effect.CleanupKind.{CleanupKind}
+use Rattle.run_model.specs.declared.effect.CleanupKind.TheVariants.{Plain, Pre}
 use Rattle.std.proofs.Common.{◌≡◌, ℕ, ◌+◌, Bool, true, cond, List, [], ◌∷◌, ◌++◌, map, filter_map, Option, Some, None, refl, sym, ◌∙◌, ap}
 use Rattle.std.proofs.lemmas.Option.{same_Some}
 use Rattle.std.proofs.Math.Path.{fun_ext}
@@ -17,7 +19,7 @@ use Rattle.run_model.specs.declared.payload.Payload.{Payload}
 use Rattle.run_model.specs.declared.payload.Payload.TheVariants.{Label, FileRef}
 use Rattle.run_model.specs.declared.payload.Payload.TheVariants as payload
 use Rattle.run_model.specs.Payloads.{is_label, labels_in}
-use Rattle.run_model.specs.Pools.{Pools, is_live, is_under, created, registered, cleared, destroyed}
+use Rattle.run_model.specs.Pools.{Pools, is_live, is_under, created, registered, cleared, destroyed, registered_as}
 use Rattle.run_model.specs.RunOrder.{run_order}
 use Rattle.run_model.specs.Buckets.{cleared_bucket}
 use Rattle.run_model.specs.Clearing.{cleared_var, run_down}
@@ -63,24 +65,24 @@ aside_part c target ps under = fun_ext (λ (x : NamedBucket). ap (λ (t : Bool).
 pub ref_part : (c target : ℕ) (ps : Pools Payload) → is_under ps c target ≡ true → new_ref (part c ps) target ≡ new_ref ps target
 ref_part c target ps under = fun_ext (λ (x : NamedBucket). ap (λ (t : Bool). cond t None (file_of x.bucket.kind x.bucket.content)) (above_part c target ps under x.bucket.home))
 
-pub registered_path : (n : ℕ) (x : Payload) (ps : Pools Payload) → (registered n x ps).path ≡ ps.path
-unfolding registered
-registered_path n x ps = refl
+pub registered_path : (how : CleanupKind) (n : ℕ) (x : Payload) (ps : Pools Payload) → (registered_as how n x ps).path ≡ ps.path
+unfolding registered_as
+registered_path how n x ps = refl
 
 registered_has : (c n : ℕ) (x : Payload) (ps : Pools Payload) → is_under ps c n ≡ true → HasPart ps c → HasPart (registered n x ps) c
 registered_has c n x ps under h = record { formed = registered_formed n x ps (under_live ps c n under) h.formed; root = h.root; top = same_path ∙ h.top } where
   same_path : (registered n x ps).path c ≡ ps.path c
-  same_path = ap (λ (path : ℕ → List ℕ). path c) (registered_path n x ps)
+  same_path = ap (λ (path : ℕ → List ℕ). path c) (registered_path Plain n x ps)
 
 pub registered_under : (c n p : ℕ) (x : Payload) (ps : Pools Payload) → is_under (registered n x ps) c p ≡ is_under ps c p
-unfolding registered is_under
+unfolding registered_as is_under
 registered_under c n p x ps = refl
 
 all_part : (c target : ℕ) (files : List ℕ) (ps : Pools Payload) → HasPart ps c → is_under ps c target ≡ true → all_referred target files (part c ps) ≡ part c (all_referred target files ps)
 unfolding all_referred
 all_part c target [] ps h under = refl
 all_part c target (file ∷ files) ps h under =
-    ap (all_referred target files) (sym (own_registered c target ps h under (FileRef file)))
+    ap (all_referred target files) (sym (own_registered c target ps h under Plain (FileRef file)))
     ∙ all_part c target files (registered target (FileRef file) ps) (registered_has c target (FileRef file) ps under h) (registered_under c target target (FileRef file) ps ∙ under)
 
 refs_part : (c target : ℕ) (items : List NamedBucket) (ps : Pools Payload) → HasPart ps c → is_under ps c target ≡ true
@@ -116,9 +118,9 @@ module _ (c target : ℕ) (r : Configuration) (s : LiesIn c r) (under : is_under
 
   -- What is registered, and made.
 
-  labelled_alike : (text : List ℕ) → label_registered text target (in_part c r) ≡ in_part c (label_registered text target r)
+  labelled_alike : (how : CleanupKind) (text : List ℕ) → label_registered how text target (in_part c r) ≡ in_part c (label_registered how text target r)
   unfolding with_pools
-  labelled_alike text = ap (λ (ps : Pools Payload). with_pools ps r) (sym (own_registered c target r.shared.pools s.has under (Label text)))
+  labelled_alike how text = ap (λ (ps : Pools Payload). with_pools ps r) (sym (own_registered c target r.shared.pools s.has under how (Label text)))
 
   unlabelled_alike : (text : List ℕ) → label_killed text target (in_part c r) ≡ in_part c (label_killed text target r)
   unfolding with_pools
@@ -174,7 +176,7 @@ with_part_brigade : (c : ℕ) (on : Option ℕ) (name : ℕ) (ps : Pools Payload
     → with_brigade on name (part c ps) ≡ part c (with_brigade on name ps)
 unfolding with_brigade
 with_part_brigade c None name ps h under = refl
-with_part_brigade c (Some n) name ps h under = sym (own_registered c n ps h (under n refl) (payload.Brigade name))
+with_part_brigade c (Some n) name ps h under = sym (own_registered c n ps h (under n refl) Plain (payload.Brigade name))
 
 abbrev made : ℕ → Configuration → Option ℕ → Configuration
 made q r None = r
@@ -212,7 +214,9 @@ steps_alike c p choice (instr.PClear q) r s none =
 steps_alike c p choice (instr.PDestroy q) r s none =
     ap (went GoOn) (on_alike c r pool_destroyed (pool_named r (pool.Own q)) (λ n is. destroyed_alike c n r s (wanted_under c p r s (pool.Own q) (wanted_pool r (pool.Own q) None none) n is)))
 steps_alike c p choice (instr.Label q t) r s none =
-    ap (went GoOn) (on_alike c r (label_registered (text_of p t)) (pool_named r q) (λ n is. labelled_alike c n r s (wanted_under c p r s q (wanted_pool r q None none) n is) (text_of p t)))
+    ap (went GoOn) (on_alike c r (label_registered Plain (text_of p t)) (pool_named r q) (λ n is. labelled_alike c n r s (wanted_under c p r s q (wanted_pool r q None none) n is) Plain (text_of p t)))
+steps_alike c p choice (instr.PreLabel q t) r s none =
+    ap (went GoOn) (on_alike c r (label_registered Pre (text_of p t)) (pool_named r q) (λ n is. labelled_alike c n r s (wanted_under c p r s q (wanted_pool r q None none) n is) Pre (text_of p t)))
 steps_alike c p choice (instr.Unlabel q t) r s none =
     ap (went GoOn) (on_alike c r (label_killed (text_of p t)) (pool_named r q) (λ n is. unlabelled_alike c n r s (wanted_under c p r s q (wanted_pool r q None none) n is) (text_of p t)))
 steps_alike c p choice (instr.BCreate o) r s none = ap (went GoOn) (create_alike c p r s o (wanted_pool r (pool_of_brigade p o) _ none))

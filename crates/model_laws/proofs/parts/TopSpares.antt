@@ -5,12 +5,12 @@ use Rattle.module_code.specs.declared.instr.Instr.{Instr}
 use Rattle.module_code.specs.declared.instr.Instr.TheVariants as instr
 use Rattle.module_code.specs.declared.instr.Status.{Status}
 use Rattle.run_model.specs.declared.payload.Payload.{Payload}
-use Rattle.run_model.specs.Pools.{Pools}
+use Rattle.run_model.specs.Pools.{Pools, Cleanups}
 use Rattle.run_model.specs.State.{items_of}
 use Rattle.run_model.specs.Effects.{do_return}
 use Rattle.run_model.specs.Faults.{fault}
 use Rattle.run_model.specs.Steps.{Choice, answer_to}
-use Rattle.run_model.specs.Chains.{Frame, Connection, Common, Linked, configuration, is_last, module_at, pools_of, stepped_in, put_back}
+use Rattle.run_model.specs.Chains.{Frame, Connection, Common, Linked, configuration, is_last, next_place, module_at, pools_of, stepped_in, put_back}
 use Rattle.model_laws.specs.Parts.{part, HasPart}
 use Rattle.model_laws.specs.PartSteps.{LiesIn}
 use Rattle.run_model.specs.Passing.{Reads, delivered, delivered_by, next_called, passed_to, proceeds, returned_from, returned_to}
@@ -25,7 +25,7 @@ same_paths : (d : ℕ) (g : Common) (c : Connection) (w : Linked) → w.1.path �
 unfolding part
 same_paths d g c w paths payloads =
     ap (λ (p : ℕ → List ℕ). part d (record { path = p; payloads = w.1.payloads; next = w.0.pools })) paths
-    ∙ ap (λ (q : ℕ → List Payload). part d (record { path = c.path; payloads = q; next = w.0.pools })) payloads
+    ∙ ap (λ (q : ℕ → Cleanups Payload). part d (record { path = c.path; payloads = q; next = w.0.pools })) payloads
 
 module _ (d : ℕ) (chain : List Program) (reads : Reads) (f : Frame) (rest : List Frame) (g : Common) (c : Connection) where
   delivers : (b l : ℕ) → LiesIn c.conn (configuration g c f) → HasPart (pools_of g c) d → c.conn ≢ d → fault (module_at chain f.of) (configuration g c f) (instr.Pass b l) ≡ None
@@ -34,9 +34,9 @@ module _ (d : ℕ) (chain : List Program) (reads : Reads) (f : Frame) (rest : Li
   delivers b l lies other ne none = steps_spare c.conn d (module_at chain f.of) (record { answer = answer_to (delivered c.out (items_of ((c.instances f.of).brigades b)) reads).1; given = None })
       (instr.Pass b l) (configuration g c f) lies other ne none
 
-  passes : (b : ℕ) → SamePart d (pools_of g c) (passed_to (module_at chain (f.of + 1)) b f rest (g, c))
+  passes : (b : ℕ) → SamePart d (pools_of g c) (passed_to (module_at chain (next_place chain c f.of)) (next_place chain c f.of) b f rest (g, c))
   unfolding passed_to configuration
-  passes b = same_paths d g c (passed_to (module_at chain (f.of + 1)) b f rest (g, c)) refl refl
+  passes b = same_paths d g c (passed_to (module_at chain (next_place chain c f.of)) (next_place chain c f.of) b f rest (g, c)) refl refl
 
   ends : (s : Status) (q : List ℕ) → SamePart d (pools_of g c) (next_called chain s q (put_back (instr.Ret s) f (do_return (configuration g c f)) [] [] (g, c))).1
   unfolding put_back configuration
@@ -55,8 +55,8 @@ module _ (d : ℕ) (chain : List Program) (reads : Reads) (f : Frame) (rest : Li
 
 pub top_spares : TopSparesOthers
 unfolding proceeds returned_from
-top_spares d chain reads (instr.Pass b l) f rest g c lies other ne none = by_last (is_last chain f.of) where
-  by_last : (t : Bool) → SamePart d (pools_of g c) (cond t (delivered_by (module_at chain f.of) reads b (instr.Pass b l) f rest (g, c)) (passed_to (module_at chain (f.of + 1)) b f rest (g, c)))
+top_spares d chain reads (instr.Pass b l) f rest g c lies other ne none = by_last (is_last chain c f.of) where
+  by_last : (t : Bool) → SamePart d (pools_of g c) (cond t (delivered_by (module_at chain f.of) reads b (instr.Pass b l) f rest (g, c)) (passed_to (module_at chain (next_place chain c f.of)) (next_place chain c f.of) b f rest (g, c)))
   by_last true = delivers d chain reads f rest g c b l lies other ne none
   by_last false = passes d chain reads f rest g c b
 top_spares d chain reads (instr.Ret s) f [] g c lies other ne none = ends d chain reads f [] g c s c.queue

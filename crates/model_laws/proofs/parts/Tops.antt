@@ -16,9 +16,9 @@ use Rattle.run_model.specs.State.{Configuration, Out, items_of, named_at, pool_n
 use Rattle.run_model.specs.Effects.{do_return}
 use Rattle.run_model.specs.Faults.{fault}
 use Rattle.run_model.specs.Steps.{Choice, Outcome, answer_to, step, current}
-use Rattle.run_model.specs.Chains.{Frame, Connection, Common, Linked, module_at, is_last, configuration, common_after, parts_after, is_under_named, cleared_by, touched_var, touched_bucket}
+use Rattle.run_model.specs.Chains.{Frame, Connection, Common, Linked, module_at, is_last, next_place, configuration, common_after, parts_after, is_under_named, cleared_by, touched_var, touched_bucket}
 use Rattle.run_model.specs.Chains.{touched_instance, touched_frame, put_back, led_to, stepped_in}
-use Rattle.run_model.specs.Passing.{Reads, delivered, delivered_by, passed_to, gone_on, returned_to, next_called, returned_from, went, proceeds}
+use Rattle.run_model.specs.Passing.{Reads, delivered, delivered_by, passed_to, gone_on, returned_to, next_called, returned_from, went, proceeds, put_out_by, answered_so, returns}
 use Rattle.model_laws.specs.Parts.{part}
 use Rattle.model_laws.specs.PartSteps.{in_part, LiesIn, linked_in_part, TopStaysInPart}
 use Rattle.model_laws.proofs.StepPools.{wanted_pool}
@@ -91,9 +91,9 @@ module _ (d : ℕ) (chain : List Program) (i : Instr) (f : Frame) (g : Common) (
     put : Linked → Linked
     put v = (v.0, record v.1 { out = told.0 })
 
-  passed_alike : (callee : Program) (b : ℕ) (rest : List Frame) → passed_to callee b f rest (linked_in_part d (g, c)) ≡ linked_in_part d (passed_to callee b f rest (g, c))
+  passed_alike : (callee : Program) (to b : ℕ) (rest : List Frame) → passed_to callee to b f rest (linked_in_part d (g, c)) ≡ linked_in_part d (passed_to callee to b f rest (g, c))
   unfolding passed_to configuration set_brigade
-  passed_alike callee b rest = refl
+  passed_alike callee to b rest = refl
 
 abbrev InPart : ℕ → Stepped × Linked → Stepped × Linked
 InPart d a = (a.0, linked_in_part d a.1)
@@ -118,13 +118,18 @@ module _ (d : ℕ) (chain : List Program) (s : Status) (f : Frame) (g : Common) 
       (left_alike d chain (instr.Ret s) f g c lies none (do_return (configuration g c f)) [] (w ∷ rest))
 
 pub top_alike : TopStaysInPart
-unfolding proceeds
-top_alike d chain reads (instr.Pass b l) f rest g c s none = by_last (is_last chain f.of) where
+unfolding proceeds put_out_by
+top_alike d chain reads (instr.Pass b l) f rest g c s none = by_last (is_last chain c f.of) where
   by_last : (t : Bool)
-      → went (cond t (delivered_by (module_at chain f.of) reads b (instr.Pass b l) f rest (linked_in_part d (g, c))) (passed_to (module_at chain (f.of + 1)) b f rest (linked_in_part d (g, c))))
-      ≡ InPart d (went (cond t (delivered_by (module_at chain f.of) reads b (instr.Pass b l) f rest (g, c)) (passed_to (module_at chain (f.of + 1)) b f rest (g, c))))
+      → went (cond t (delivered_by (module_at chain f.of) reads b (instr.Pass b l) f rest (linked_in_part d (g, c))) (passed_to (module_at chain (next_place chain c f.of)) (next_place chain c f.of) b f rest (linked_in_part d (g, c))))
+      ≡ InPart d (went (cond t (delivered_by (module_at chain f.of) reads b (instr.Pass b l) f rest (g, c)) (passed_to (module_at chain (next_place chain c f.of)) (next_place chain c f.of) b f rest (g, c))))
   by_last true = ap went (delivered_alike d chain (instr.Pass b l) f g c s none reads b rest)
-  by_last false = ap went (passed_alike d chain (instr.Pass b l) f g c s none (module_at chain (f.of + 1)) b rest)
-top_alike d chain reads (instr.Ret st) f [] g c s none = ended_alike d chain st f g c s none
-top_alike d chain reads (instr.Ret st) f (w ∷ rest) g c s none = ap went (returned_alike d chain st f g c s none w rest)
+  by_last false = ap went (passed_alike d chain (instr.Pass b l) f g c s none (module_at chain (next_place chain c f.of)) (next_place chain c f.of) b rest)
+top_alike d chain reads (instr.Ret st) f rest g c s none = ap told (by_rest rest) where
+  told : Stepped × Linked → Stepped × Linked
+  told a = (answered_so (put_out_by chain reads f c).1 a.0, (a.1.0, record a.1.1 { out = (put_out_by chain reads f c).0 }))
+
+  by_rest : (rest : List Frame) → returns chain st f rest (linked_in_part d (g, c)) ≡ InPart d (returns chain st f rest (g, c))
+  by_rest [] = ended_alike d chain st f g c s none
+  by_rest (w ∷ rest) = ap went (returned_alike d chain st f g c s none w rest)
 top_alike d chain reads i f rest g c s none = ap went (stepped_alike d chain i f g c s none (record { answer = answer_to true; given = reads 0 }) rest)

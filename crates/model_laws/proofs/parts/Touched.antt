@@ -1,4 +1,6 @@
 -- Brigades of other instances and pools of other connections, after a step that has no fault.
+use Rattle.run_model.specs.declared.effect.CleanupKind.{CleanupKind}
+use Rattle.run_model.specs.declared.effect.CleanupKind.TheVariants.{Plain, Pre}
 use Rattle.std.proofs.Common.{◌≡◌, ℕ, Bool, true, false, cond, List, map, filter_map, Option, Some, None, refl, sym, ◌∙◌, ap, subst}
 use Rattle.module_code.specs.declared.instr.Instr.TheVariants as instr
 use Rattle.module_code.specs.declared.instr.PoolRef.TheVariants as pool
@@ -9,7 +11,7 @@ use Rattle.run_model.specs.declared.bucket.PoolVar.TheVariants as poolvar
 use Rattle.run_model.specs.declared.payload.Payload.{Payload}
 use Rattle.run_model.specs.declared.payload.Payload.TheVariants.{Label}
 use Rattle.run_model.specs.Payloads.{is_label}
-use Rattle.run_model.specs.Pools.{Pools, is_in, is_under, created, registered}
+use Rattle.run_model.specs.Pools.{Pools, is_in, is_under, created, registered, registered_as}
 use Rattle.run_model.specs.RunOrder.{killed}
 use Rattle.run_model.specs.Buckets.{cleared_bucket}
 use Rattle.run_model.specs.Clearing.{is_reached, cleared_var}
@@ -76,9 +78,9 @@ module _ (c : ℕ) (r : Configuration) (s : LiesIn c r) (v : BrigadeVar) (lies :
       let was = stays_on (is_under r.shared.pools n) v m is in
       same_under r.shared.pools (gone n r).shared.pools c m ((so n).apart m was.1) ∙ lies m was.0
 
-  labelled_lies : (text : List ℕ) (n : ℕ) → LiesUnder c (label_registered text n r).shared.pools v
-  unfolding with_pools
-  labelled_lies text n = over (registered n (Label text) r.shared.pools) (λ m under. ap (λ (f : ℕ → List ℕ). f m) (registered_path n (Label text) r.shared.pools))
+  labelled_lies : (how : CleanupKind) (text : List ℕ) (n : ℕ) → LiesUnder c (label_registered how text n r).shared.pools v
+  unfolding with_pools registered_as
+  labelled_lies how text n = over (registered_as how n (Label text) r.shared.pools) (λ m under. refl)
 
   unlabelled_lies : (text : List ℕ) (n : ℕ) → LiesUnder c (label_killed text n r).shared.pools v
   unfolding with_pools
@@ -102,7 +104,9 @@ touched_lies c p choice (instr.PCreate q) r v s none lies = made_under_named (λ
 touched_lies c p choice (instr.PClear q) r v s none lies = gone_lies c r s v lies pool_cleared (pool_named r (pool.Own q)) (λ n. cleared_so n r.shared.pools)
 touched_lies c p choice (instr.PDestroy q) r v s none lies = gone_lies c r s v lies pool_destroyed (pool_named r (pool.Own q)) (λ n. destroyed_so n r.shared.pools)
 touched_lies c p choice (instr.Label q t) r v s none lies =
-    on_named (λ x. LiesUnder c x.shared.pools v) (label_registered (text_of p t)) (pool_named r q) r lies (λ n is. labelled_lies c r s v lies (text_of p t) n)
+    on_named (λ x. LiesUnder c x.shared.pools v) (label_registered Plain (text_of p t)) (pool_named r q) r lies (λ n is. labelled_lies c r s v lies Plain (text_of p t) n)
+touched_lies c p choice (instr.PreLabel q t) r v s none lies =
+    on_named (λ x. LiesUnder c x.shared.pools v) (label_registered Pre (text_of p t)) (pool_named r q) r lies (λ n is. labelled_lies c r s v lies Pre (text_of p t) n)
 touched_lies c p choice (instr.Unlabel q t) r v s none lies =
     on_named (λ x. LiesUnder c x.shared.pools v) (label_killed (text_of p t)) (pool_named r q) r lies (λ n is. unlabelled_lies c r s v lies (text_of p t) n)
 touched_lies c p choice (instr.BCreate o) r v s none lies =

@@ -1,4 +1,5 @@
 -- What an instruction does to pools lies under its connection's: the others stay, and what it makes stands there.
+use Rattle.run_model.specs.declared.effect.CleanupKind.TheVariants.{Plain, Pre}
 use Rattle.std.proofs.Common.{◌≡◌, ◌≢◌, ◌⊎◌, ℕ, ◌<◌, ◌≤◌, ◌==◌, true, false, not, List, [], ◌∷◌, filter_map, Option, Some, None, inl, inr, refl, sym, ◌∙◌, ap, subst, arith}
 use Rattle.std.proofs.lemmas.Bool.{both_ways, false_from_ne_true}
 use Rattle.module_code.specs.declared.instr.Instr.{Instr}
@@ -9,7 +10,7 @@ use Rattle.run_model.specs.declared.payload.Payload.{Payload}
 use Rattle.run_model.specs.declared.payload.Payload.TheVariants.{Label, FileRef}
 use Rattle.run_model.specs.declared.payload.Payload.TheVariants as payload
 use Rattle.run_model.specs.Payloads.{is_label}
-use Rattle.run_model.specs.Pools.{Pools, is_empty, is_in, is_live, is_under, cleared, created, destroyed, registered}
+use Rattle.run_model.specs.Pools.{Pools, is_empty, is_in, is_live, is_under, cleared, created, destroyed, registered, registered_as, Cleanups, no_cleanups}
 use Rattle.run_model.specs.RunOrder.{IsPoolMap, killed}
 use Rattle.run_model.specs.Clearing.{run_down}
 use Rattle.run_model.specs.State.{Configuration, items_of, pool_named, set_brigade, set_loose, set_pool, with_pools}
@@ -67,7 +68,7 @@ made_within : (c p : ℕ) (ps : Pools Payload) → IsPoolMap ps → is_under ps 
 unfolding is_under is_live created
 made_within c p ps formed under = record {
   rises = omega arith;
-  off = λ n lt apart. (created_kept p ps n lt, upd_off ps.payloads ps.next n [] (λ same. absurd (omega (arith, same))));
+  off = λ n lt apart. (created_kept p ps n lt, upd_off ps.payloads ps.next n no_cleanups (λ same. absurd (omega (arith, same))));
   inside = λ n old live. elim (upd_either ps.path ps.next n (ps.next ∷ ps.path p)) [
     | inl at ↦ ap (is_in c) at.1 ∙ or_right (ps.next == c) (is_in c (ps.path p)) under
     | inr off ↦ elim old [
@@ -78,9 +79,9 @@ made_within c p ps formed under = record {
 }
 
 pub changes_within : (change : Change) (c p : ℕ) (ps : Pools Payload) → HasPart ps c → is_under ps c p ≡ true → StaysWithin c ps (changed change p ps)
-unfolding registered killed
+unfolding registered_as killed
 changes_within Made c p ps h under = made_within c p ps h.formed under
-changes_within (Registered x) c p ps h under = refilled c p ps (registered p x ps) h.formed under refl refl (λ n ne. upd_off ps.payloads p n _ ne)
+changes_within (Registered how x) c p ps h under = refilled c p ps (registered_as how p x ps) h.formed under refl refl (λ n ne. upd_off ps.payloads p n _ ne)
 changes_within (Killed test) c p ps h under = refilled c p ps (killed p test ps) h.formed under refl refl (λ n ne. upd_off ps.payloads p n _ ne)
 changes_within Cleared c p ps h under = fewer c ps (cleared p ps) h.formed (cleared_next p ps) (cleared_path p ps) (λ n apart. cleared_apart p ps n (not_reached c p n ps h.formed under apart))
 changes_within Destroyed c p ps h under =
@@ -88,10 +89,10 @@ changes_within Destroyed c p ps h under =
 
 pub same_within : (c : ℕ) (ps new : Pools Payload) → HasPart ps c → new.next ≡ ps.next → new.path ≡ ps.path → new.payloads ≡ ps.payloads → StaysWithin c ps new
 same_within c ps new h next paths payloads =
-    fewer c ps new h.formed next (λ n. inr (ap (λ (path : ℕ → List ℕ). path n) paths)) (λ n apart. (ap (λ (path : ℕ → List ℕ). path n) paths, ap (λ (xs : ℕ → List Payload). xs n) payloads))
+    fewer c ps new h.formed next (λ n. inr (ap (λ (path : ℕ → List ℕ). path n) paths)) (λ n apart. (ap (λ (path : ℕ → List ℕ). path n) paths, ap (λ (xs : ℕ → Cleanups Payload). xs n) payloads))
 
 referred_off : (target : ℕ) (files : List ℕ) (ps : Pools Payload) (n : ℕ) → n ≢ target → (all_referred target files ps).payloads n ≡ ps.payloads n
-unfolding all_referred registered
+unfolding all_referred registered_as
 referred_off target [] ps n ne = refl
 referred_off target (file ∷ files) ps n ne = referred_off target files (registered target (FileRef file) ps) n ne ∙ upd_off ps.payloads target n _ ne
 
@@ -118,7 +119,7 @@ module _ (c : ℕ) (p : Program) (r : Configuration) (s : LiesIn c r) where
   with_brigade_within : (on : Option ℕ) (name : ℕ) → ((n : ℕ) → on ≡ Some n → is_under r.shared.pools c n ≡ true) → StaysWithin c r.shared.pools (with_brigade on name r.shared.pools)
   unfolding with_brigade
   with_brigade_within None name under = itself
-  with_brigade_within (Some n) name under = changes_within (Registered (payload.Brigade name)) c n r.shared.pools s.has (under n refl)
+  with_brigade_within (Some n) name under = changes_within (Registered Plain (payload.Brigade name)) c n r.shared.pools s.has (under n refl)
 
   pub step_within : (choice : Choice) (i : Instr) → fault p r i ≡ None → WithinStays c r (step p choice i r).state
   unfolding set_brigade set_pool with_pools run_down
@@ -131,8 +132,11 @@ module _ (c : ℕ) (p : Program) (r : Configuration) (s : LiesIn c r) where
       on_named (WithinStays c r) pool_destroyed (pool_named r (pool.Own q)) r itself
       (λ n is. changes_within Destroyed c n r.shared.pools s.has (wanted_under c p r s (pool.Own q) (wanted_pool r (pool.Own q) None none) n is))
   step_within choice (instr.Label q t) none =
-      on_named (WithinStays c r) (label_registered (text_of p t)) (pool_named r q) r itself
-      (λ n is. changes_within (Registered (Label (text_of p t))) c n r.shared.pools s.has (wanted_under c p r s q (wanted_pool r q None none) n is))
+      on_named (WithinStays c r) (label_registered Plain (text_of p t)) (pool_named r q) r itself
+      (λ n is. changes_within (Registered Plain (Label (text_of p t))) c n r.shared.pools s.has (wanted_under c p r s q (wanted_pool r q None none) n is))
+  step_within choice (instr.PreLabel q t) none =
+      on_named (WithinStays c r) (label_registered Pre (text_of p t)) (pool_named r q) r itself
+      (λ n is. changes_within (Registered Pre (Label (text_of p t))) c n r.shared.pools s.has (wanted_under c p r s q (wanted_pool r q None none) n is))
   step_within choice (instr.Unlabel q t) none =
       on_named (WithinStays c r) (label_killed (text_of p t)) (pool_named r q) r itself
       (λ n is. changes_within (Killed (is_label (text_of p t))) c n r.shared.pools s.has (wanted_under c p r s q (wanted_pool r q None none) n is))

@@ -1,34 +1,39 @@
 //! Clearing and destroying pools.
 
 ghost use Rattle.std.specs.Prelude.{◌≡◌, ◌≢◌, ◌≤◌, IsTrue, IfOk, OnOk, OnErr, reverse, length, vec_capacity, [], ◌∷◌};
-ghost use Rattle.pool_tree.specs.Prelude.{is_live, cleared, destroyed, children, run_order, IsPoolMap, order_under, pools_after, IsRoomFor, map_of};
+ghost use Rattle.pool_tree.specs.Prelude.{is_live, cleared, destroyed, children, run_order, IsPoolMap, turns_under, pools_after, IsRoomFor, map_of};
 ghost use Rattle.run_model.specs.declared.effect.ClearKind.TheVariants.{Destroy};
 
 use super::{PoolId, PoolTree};
-use crate::handed::{empty_pool, take_pools};
+use crate::handed::{empty_pool, take_turn, take_turns};
 use crate::links::remove_leaf;
-use run_model::ClearKind;
+use run_model::{CleanupKind, ClearKind};
 use std::alloc::AllocError;
 
 /// The memory that a clear of one pool takes.
 #[derive(Drop)]
 pub struct Room<T> {
-    pub(crate) found: Vec<PoolId>,
+    pub(crate) found: Vec<(PoolId, CleanupKind)>,
     pub(crate) ran: Vec<(PoolId, T)>,
 }
 
 #[tactic(auto, using(crate::proofs::Trees::tree_formed))]
 impl<T: Drop> PoolTree<T> {
-    /// An empty list with room for what a clear of a pool hands on, where these are the pools under it.
-    fn room_for(&self, names: &[PoolId], pool: PoolId) -> Result<Vec<(PoolId, T)>, AllocError>
+    /// An empty list with room for what a clear of a pool hands on, where these are the turns of the pools under it.
+    fn room_for(
+        &self,
+        turns: &[(PoolId, CleanupKind)],
+        pool: PoolId,
+    ) -> Result<Vec<(PoolId, T)>, AllocError>
         requires live { IsTrue (is_live (map_of self.now) pool) }
-        requires under { reverse names.now ≡ order_under (map_of self.now) pool }
+        requires under { reverse turns.now ≡ turns_under (map_of self.now) pool }
         ensures empty { IfOk result (λ ran. ran.items ≡ []) }
         ensures room { IfOk result (λ ran. length (run_order (map_of self.now) pool) ≤ vec_capacity ran) }
     {
-        let mut count = self.records.payload_count(pool);
-        for name in names {
-            count = count.saturating_add(self.records.payload_count(*name));
+        let mut count = self.records.payload_count((pool, CleanupKind::Pre));
+        count = count.saturating_add(self.records.payload_count((pool, CleanupKind::Plain)));
+        for turn in turns {
+            count = count.saturating_add(self.records.payload_count(*turn));
         }
         Vec::with_capacity(self.alloc, count)
     }
@@ -38,7 +43,7 @@ impl<T: Drop> PoolTree<T> {
         requires { IsTrue (is_live (map_of self.now) pool) }
         ensures { IfOk result (IsRoomFor (map_of self.now) pool) }
     {
-        let found = self.pools_under(pool)?;
+        let found = self.turns_under(pool)?;
         let ran = self.room_for(found.as_slice(), pool)?;
         Ok(Room { found, ran })
     }
@@ -53,13 +58,14 @@ impl<T: Drop> PoolTree<T> {
         ensures unasked { self.new.asked ≡ self.old.asked }
     {
         let mut ran = room.ran;
-        take_pools(&mut self.records, room.found, &mut ran);
+        take_turn(&mut self.records, (pool, CleanupKind::Pre), &mut ran);
+        take_turns(&mut self.records, room.found, &mut ran);
         empty_pool(&mut self.records, pool, &mut ran);
         ran
     }
 
-    /// Clears a pool: all pools under it go, and its own payloads. Answers what they hand on, in the run order: each
-    /// subpool, newest first, by the same order, then the pool's own payloads, last first; each with its pool.
+    /// Clears a pool: all pools under it go, and its own payloads. Answers what they hand on, in the run order: the pool's own
+    /// pre-payloads, last first, then each subpool, newest first, by the same order, then its own plain payloads, last first; each with its pool.
     /// Without memory nothing is changed.
     pub fn clear(&mut self, pool: PoolId) -> Result<Vec<(PoolId, T)>, AllocError>
         requires { IsTrue (is_live (map_of self.old) pool) }

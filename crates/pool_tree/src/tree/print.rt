@@ -3,12 +3,13 @@
 ghost use Rattle.std.specs.Prelude.{◌≡◌, ℕ, ◌+◌, ◌≤◌, List, ◌++◌, reverse, IsTrue, IfSome, OnOk, MatchOption, None, Some, [], ◌∷◌};
 ghost use Rattle.std.specs.List.{flat_map};
 ghost use Rattle.std.specs.Io.KnownBytes.{Appends};
-ghost use Rattle.pool_tree.specs.Prelude.{is_live, children, IsPlace, text_behind, text_left, record_of, parent_of, newest_of, older_of, margin, spaced, spaced_all, line, printed, map_of};
+ghost use Rattle.pool_tree.specs.Prelude.{is_live, children, IsPlace, text_behind, text_left, record_of, parent_of, newest_of, older_of, margin, spaced, spaced_all, marked, marked_all, line, printed, map_of};
 
 use super::{PoolId, PoolTree};
 use crate::text::PoolText;
 use byte_text::{WriteFault, put_all};
 use itoa::Buffer;
+use run_model::CleanupKind;
 use std::io::Write;
 
 /// Writes two spaces for each pool above.
@@ -42,6 +43,27 @@ fn put_payloads<T: PoolText, W: Write>(out: &mut W, payloads: &[T]) -> Result<()
     Ok(())
 }
 
+/// Writes a space, a caret and the text of a payload, where that is shown.
+fn put_early<T: PoolText, W: Write>(out: &mut W, payload: &T) -> Result<(), WriteFault>
+    ensures { OnOk result (Appends (W.contents out.old) (W.contents out.new) (marked (T.shown payload.now))) }
+{
+    if !payload.is_shown() {
+        return Ok(());
+    }
+    put_all(out, b" ^")?;
+    payload.put(out)
+}
+
+/// Writes the texts of pre-payloads, the oldest first.
+fn put_pre_payloads<T: PoolText, W: Write>(out: &mut W, payloads: &[T]) -> Result<(), WriteFault>
+    ensures { OnOk result (Appends (W.contents out.old) (W.contents out.new) (marked_all T.shown payloads.now)) }
+{
+    for payload in payloads {
+        put_early(out, payload)?;
+    }
+    Ok(())
+}
+
 impl<T: Drop + PoolText> PoolTree<T> {
     /// Writes the line of a pool.
     fn put_line<W: Write>(&self, out: &mut W, pool: PoolId, depth: u64) -> Result<(), WriteFault>
@@ -51,7 +73,8 @@ impl<T: Drop + PoolText> PoolTree<T> {
         put_margin(out, depth)?;
         put_all(out, b"pool ")?;
         put_all(out, digits.format(pool).as_bytes())?;
-        put_payloads(out, self.records.payloads(pool))?;
+        put_pre_payloads(out, self.records.payloads(CleanupKind::Pre, pool))?;
+        put_payloads(out, self.records.payloads(CleanupKind::Plain, pool))?;
         put_all(out, b"\n")
     }
 
@@ -128,7 +151,7 @@ impl<T: Drop + PoolText> PoolTree<T> {
     }
 
     /// Writes a line for each pool, its children below it, the oldest first: two spaces for each pool above,
-    /// `pool` and its name, then a space and the text of each payload whose text is not empty, the oldest first.
+    /// `pool` and its name, then a space, a caret and the text of each pre-payload, then a space and the text of each plain payload whose text is not empty, the oldest first.
     /// It takes no memory, and no more stack where the tree is deeper.
     pub fn print<W: Write>(&self, out: &mut W) -> Result<(), WriteFault>
         ensures { (root : ℕ) → (map_of self.now).path root ≡ root ∷ [] → OnOk result (Appends (W.contents out.old) (W.contents out.new) (printed T.shown (map_of self.now) 0 root)) }

@@ -14,7 +14,7 @@ use Rattle.ring_passes.proofs.passes.hand_over_with.Goals as goal
 pub returns-clause-seen : goal.returns-clause-seen
 returns-clause-seen g c view call =
     seen_lent (lists c.args.store.now)
-    (next_name c.args.store.now) view c.args.instance.now c.note_sent.new.self c.set_mark.new.self call c.args.b c.note_sent.ensures.slots c.note_sent.ensures.pools c.note_sent.ensures.numbers
+    (next_name c.args.store.now) view c.args.instance.now c.note_sent.new.self c.set_mark.new.self call c.args.b c.note_sent.ensures.slots c.note_sent.ensures.pools c.note_sent.ensures.numbers c.note_sent.ensures.left
     (c.note_sent.ensures.sent ∙ ap (λ t. c.args.instance.now.sent || t) (c.requires.eos (calls_in view call))) c.set_mark.ensures.rest c.set_mark.ensures.slots
 
 pub returns-clause-held : goal.returns-clause-held

@@ -14,6 +14,8 @@ use Rattle.brigade_ops.specs.Store.{brigade_of, lists, next_name, pool_of}
 use Rattle.ring_calls.proofs.LeftAlone.{left_none}
 use Rattle.ring_calls.specs.Context.{in_context}
 use Rattle.ring_calls.specs.Seen.{seen_over}
+use Rattle.ring_calls.specs.Slots.{name_in}
+use Rattle.ring_calls.proofs.HeldAlike.{held_slots}
 use Rattle.ring_calls.proofs.Faultless.{nowhere}
 use Rattle.ring_calls.proofs.Quiet.{grown_none}
 use Rattle.run_model.specs.EffectOf.{instr_with}
@@ -152,3 +154,18 @@ returns-in-Put-clause-left g c = left_none c.args.store.now c.args.instance.now 
 
 pub returns-in-ClearBuffer-clause-left : goal.returns-in-ClearBuffer-clause-left
 returns-in-ClearBuffer-clause-left g c = left_none c.args.store.now c.args.instance.now c.args.call.now
+
+pub returns-in-Leave-clause-left : goal.returns-in-Leave-clause-left
+returns-in-Leave-clause-left g c = left_none c.args.store.now c.args.instance.now c.args.call.now
+
+pub returns-in-Leave-clause-ok : goal.returns-in-Leave-clause-ok
+returns-in-Leave-clause-ok g c = λ view choice. rw c.in-Leave.is
+    (c.leave.ensures.seen (lists c.args.store.now) (next_name c.args.store.now) (in_context c.args.context.now (map_of c.args.tree.now) view) c.args.call.now)
+
+pub returns-in-Leave-clause-held : goal.returns-in-Leave-clause-held
+returns-in-Leave-clause-held g c =
+    let s = c.args.store.now in
+    held_slots (brigade_of s) (lists s) (pool_of s) (next_name s) c.args.instance.now c.leave.new.self c.args.call.now c.leave.ensures.slots c.requires.held
+
+pub returns-in-Leave-clause-slots : goal.returns-in-Leave-clause-slots
+returns-in-Leave-clause-slots g c = λ b. ap name_in (c.leave.ensures.slots b)

@@ -1,14 +1,14 @@
 -- The pools that instructions name are live, since there is no fault.
-use Rattle.std.proofs.Common.{rules, ℕ, Option, refl, sym, ap, ◌∙◌}
+use Rattle.std.proofs.Common.{rules, ℕ, Option, refl, sym, ap, ◌∙◌, ◌≡◌, Some}
 use Rattle.std.specs.Prelude.{option_to_list}
 use Rattle.std.proofs.lemmas.Bool.{false≢true}
 use Rattle.std.proofs.lemmas.Result.{on_err_weaker, on_ok_weaker}
-use Rattle.module_code.specs.Program.{pool_of_brigade, pool_of_pool}
+use Rattle.module_code.specs.Program.{pool_of_brigade, pool_of_pool, Program}
 use Rattle.module_code.specs.declared.instr.PoolRef.{PoolRef}
 use Rattle.run_model.specs.BucketSteps.{items_at}
 use Rattle.run_model.specs.Cursors.{bucket_at, at_cursor}
 use Rattle.run_model.specs.Effects.{made_on}
-use Rattle.run_model.specs.Faults.{OnBucket, WHome, WHomes, WPool, fault_want}
+use Rattle.run_model.specs.Faults.{OnBucket, WHome, WHomes, WPool, fault_want, wants}
 use Rattle.run_model.specs.State.{items_of, pool_named}
 use Rattle.run_model.specs.Steps.{takes_reference}
 use Rattle.pool_tree.specs.Tree.{map_of}
@@ -23,7 +23,11 @@ use Rattle.ring_calls.proofs.LeftAlone.{rest_none, rest_others}
 use Rattle.ring_run.proofs.CarriedOut.{names_kept, names_same}
 use Rattle.ring_run.proofs.Trees.{house_left, over_pools}
 use Rattle.ring_calls.proofs.OpenFiles.{open_items, open_at_cursor, refs_same}
-use Rattle.ring_calls.proofs.Faultless.{nowhere}
+use Rattle.run_model.specs.EffectOf.{instr_with}
+use Rattle.ring_calls.proofs.Faultless.{nowhere, want_at}
+use Rattle.run_model.specs.declared.effect.CleanupKind.{CleanupKind}
+use Rattle.run_model.specs.declared.effect.CleanupKind.TheVariants.{Plain, Pre}
+use Rattle.run_model.specs.declared.effect.Effect.TheVariants as effect
 use Rattle.ring_calls.proofs.Quiet.{grown_none}
 use Rattle.ring_run.specs.Grows.{grows_by}
 use Rattle.ring_calls.proofs.Needed.{met, stands, usable_live}
@@ -39,9 +43,14 @@ live_pool-parent-requires g c =
     ∙ met (c.requires.faultless nowhere) c.in-MakePool.is 0 (WPool (pool_of_pool c.args.code.now c.in-MakePool.q)) refl in
     record { there = (lists c.args.store.now, (next_name c.args.store.now, (nowhere, (c.args.call.now, none)))) }
 
+-- both kinds of labels want a pool
+register_wants : (p : Program) (how : CleanupKind) (q : PoolRef) (t : ℕ) → want_at 0 (wants p (instr_with (effect.Register how q t))) ≡ Some (WPool q)
+register_wants p Plain q t = refl
+register_wants p Pre q t = refl
+
 pub live_pool-on-requires : goal.live_pool-on-requires
 live_pool-on-requires g c =
-    let none = met (c.requires.faultless nowhere) c.in-Register.is 0 (WPool c.in-Register.pool) refl in
+    let none = met (c.requires.faultless nowhere) c.in-Register.is 0 (WPool c.in-Register.pool) (register_wants c.args.code.now c.in-Register.kind c.in-Register.pool c.in-Register.text) in
     record { there = (lists c.args.store.now, (next_name c.args.store.now, (nowhere, (c.args.call.now, none)))) }
 
 pub live_pool-on-requires-in-Kill : goal.live_pool-on-requires-in-Kill

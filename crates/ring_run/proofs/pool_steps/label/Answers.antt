@@ -12,4 +12,4 @@ pub returns-clause-house : goal.returns-clause-house
 returns-clause-house c =
     λ rings pools references house.
     subst (λ (ps : Pools Payload). AreHoused rings pools references ps) (sym c.in-Ok.ensures.ok)
-    (house_labelled rings pools references (map_of c.args.tree.now) house c.args.pool c.in_ok-label.label (tree_formed c.args.tree.now) c.requires.live)
+    (house_labelled rings pools references (map_of c.args.tree.now) house c.args.kind c.args.pool c.in_ok-label.label (tree_formed c.args.tree.now) c.requires.live)

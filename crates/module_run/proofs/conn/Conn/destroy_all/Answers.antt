@@ -1,7 +1,7 @@
 -- By what the end of the pool hands on, and what of its calls is ended.
 use Rattle.module_code.specs.Program.{Program}
 use Rattle.module_run.proofs.Callers.{first_below}
-use Rattle.std.proofs.Common.{◌≡◌, ℕ, ◌<◌, List, length, Option, Some, None, is_some, ◌++◌, refl, sym, ap, subst, ◌∙◌, inr, arith}
+use Rattle.std.proofs.Common.{◌≡◌, ℕ, ◌+◌, ◌<◌, List, length, Option, Some, None, is_some, ◌++◌, refl, sym, ap, subst, ◌∙◌, inr, arith}
 use Rattle.std.proofs.lemmas.Option.{slice_get_read}
 use Rattle.std.proofs.lemmas.Result.{err_from_is_err_and}
 use Rattle.bucket_kinds.specs.Device.{Device}
@@ -52,7 +52,7 @@ end_brigade-requires g c =
     let s = c.requires.stands in
     let stacked = s.1.so.left.stacked in
     let self = c.args.self.now in
-    let within : self.first < length self.filters.items = first_within s.0 self (length s.0) stacked.called stacked.within stacked.many in
+    let within : self.first < length self.filters.items = first_within s.0 self (length s.0 + 1) stacked.called stacked.within stacked.many in
     let was = stacked.brought c.in-Some.name c.index.result.now (slice_get_read self.filters.items (length self.filters.items) self.first c.index.result.now refl within c.index.ensures)
     (sym c.incoming.ensures ∙ c.in-Some.is) in
     record {
@@ -124,7 +124,7 @@ returns-in-Some g c =
     let l = c.end_calls.ensures in
     let d = c.clear.ensures in
     let next = d.next in
-    let within : self.first < length self.filters.items = first_within s.0 self (length s.0) s.1.so.left.stacked.called s.1.so.left.stacked.within s.1.so.left.stacked.many in
+    let within : self.first < length self.filters.items = first_within s.0 self (length s.0 + 1) s.1.so.left.stacked.called s.1.so.left.stacked.within s.1.so.left.stacked.many in
     let here = slice_get_read self.filters.items (length self.filters.items) self.first c.index.result.now refl within c.index.ensures in
     let e = c.end_brigade.ensures in
     let was = s.1.so.left.stacked.brought c.in-Some.name c.index.result.now here (sym c.incoming.ensures ∙ c.in-Some.is) in
@@ -178,7 +178,7 @@ returns-in_default g c =
     let l = c.end_calls.ensures in
     let d = c.clear.ensures in
     let next = d.next in
-    let within : self.first < length self.filters.items = first_within s.0 self (length s.0) s.1.so.left.stacked.called s.1.so.left.stacked.within s.1.so.left.stacked.many in
+    let within : self.first < length self.filters.items = first_within s.0 self (length s.0 + 1) s.1.so.left.stacked.called s.1.so.left.stacked.within s.1.so.left.stacked.many in
     let here = slice_get_read self.filters.items (length self.filters.items) self.first c.index.result.now refl within c.index.ensures in
     record {
       labels = λ chain v stands. (c.add_labels.ensures.told ∙ (ap (λ (hs : List LabelsRun). labels_handed hs ++ labels_in c.in_ok-ran.ran.items) c.reserve.ensures.items

@@ -1,5 +1,5 @@
 -- By what is left of a new connection.
-use Rattle.std.proofs.Common.{◌≡◌, ℕ, List, None, Option, length, sym, ap, subst, ◌∙◌}
+use Rattle.std.proofs.Common.{◌≡◌, ℕ, ◌+◌, List, None, Option, length, sym, ap, subst, ◌∙◌}
 use Rattle.std.specs.Prelude.{slice_get}
 use Rattle.std.specs.Global.{Vec}
 use Rattle.module_code.specs.Program.{Program}
@@ -17,8 +17,8 @@ use Rattle.module_run.proofs.conn.Conn.open.Goals as goal
 
 -- the new connection, by the names that were given out
 begun : (chain : List Program) (filters : Vec Filter) (name pool next root : ℕ) (c d : Conn) → ◌≡◌ {A = ℕ × ℕ} (name, pool) (next, root) → IsNewConn filters pool c → CalledFirst chain name c d
-    → length filters.items ≡ length chain
-    → IsNewConn filters root c × ((length c.filters.items ≡ length chain) × CalledFirst chain next (record c { req = None }) d)
+    → length filters.items ≡ length chain + 1
+    → IsNewConn filters root c × ((length c.filters.items ≡ length chain + 1) × CalledFirst chain next (record c { req = None }) d)
 begun chain filters name pool next root c d made is called many = (
   subst (λ (p : ℕ × ℕ). IsNewConn filters p.1 c) made is,
   (

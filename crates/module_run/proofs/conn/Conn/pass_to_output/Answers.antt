@@ -151,7 +151,7 @@ module _ (g : Over) (c : goal.After-self-2-1 g)
   top_read = reads_here c.args.self.now c.top-top.result c.top-top.ensures top_was.filter c.index_mut-filter.result.now top_was.is c.index_mut-filter.ensures.value
 
   within : top_of c.args.self.now < length c.args.self.now.filters.items
-  within = (let n : length c.args.self.now.filters.items ≡ length p.0 = p.2.ready.stands.left.stacked.many in let lt = p.2.ready.stands.left.stacked.within in omega (arith, n, lt))
+  within = (let n : length c.args.self.now.filters.items ≡ length p.0 + 1 = p.2.ready.stands.left.stacked.many in let lt = p.2.ready.stands.left.stacked.within in omega (arith, n, lt))
 
   top_after : filter_at conn_is (top_of c.args.self.now) ≡ Some top_is
   top_after = writes_here c.args.self.now c.top-top.result c.top-top.ensures top_is within

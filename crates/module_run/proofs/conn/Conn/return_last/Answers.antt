@@ -7,14 +7,14 @@ use Rattle.module_code.specs.declared.instr.Instr.TheVariants as instr
 use Rattle.bucket_kinds.specs.Device.{Device}
 use Rattle.bucket_ring.specs.Kept.{NoneRevived}
 use Rattle.run_model.specs.declared.payload.Payload.{Payload}
-use Rattle.run_model.specs.Chains.{module_at}
+use Rattle.run_model.specs.Chains.{is_last, module_at}
 use Rattle.run_model.specs.Passing.{handler_at}
 use Rattle.pool_tree.specs.declared.tree.PoolTree.{PoolTree}
 use Rattle.brigade_ops.specs.Store.{lists, brigade_of, pool_of, next_name}
 use Rattle.ring_passes.specs.Begun.{IsBegun}
 use Rattle.module_run.specs.declared.conn.Conn.{Conn}
 use Rattle.module_run.specs.declared.conn.Filter.{Filter}
-use Rattle.module_run.specs.Conns.{filter_at}
+use Rattle.module_run.specs.Conns.{filter_at, modules_of}
 use Rattle.module_run.specs.Proceeding.{CanProceed}
 use Rattle.module_run.proofs.CallsLeave.{ends_unchanged, last_ends, last_leaves, turn_ends, turn_leaves}
 use Rattle.module_run.proofs.EndedLast.{EndsLast, parts}
@@ -75,13 +75,13 @@ returns-in_default-clause-err g c tree device v left =
 
 pub returns-in_default-clause-sure : goal.returns-in_default-clause-sure
 returns-in_default-clause-sure g c tree device v f rest ready none =
-    let within : c.args.self.now.queue < length c.args.self.now.filters.items =
-    (let a : c.args.self.now.queue ≢ c.len.result = c.if-next-len.false in let b = c.len.ensures in let o = c.args.self.now.filters.ok.0 in let q = ready.stands.left.stacked.queue in let m =
-    ready.stands.left.stacked.many in omega (arith, a, b, o, q, m)) in
-    absurd (let one = one_begins c.args.modules.now c.args.status tree c.args.store.now device c.args.self.now v f rest ready c.requires.alone within in omega (arith, one, none))
+    let within : c.args.self.now.queue < modules_of c.args.self.now =
+    (let a : c.args.self.now.queue ≢ length c.args.modules.now = c.if-next-modules.false in let q = ready.stands.left.stacked.queue in let m =
+    ready.stands.left.stacked.many in omega (arith, a, q, m)) in
+    absurd (let one = one_begins c.args.modules.now c.args.status tree c.args.store.now device c.args.self.now v f rest ready c.requires.alone (is_last c.args.modules.now v.1 f.of) within in omega (arith, one, none))
 
 -- No filter is left in the queue: the call ended.
-module _ (g : Over) (c : goal.After-self-then-next-len-1 g)
+module _ (g : Over) (c : goal.After-self-then-next-modules-1 g)
     (p : (tree : PoolTree Payload) × (d : Device) × CanProceed c.args.modules.now (instr.Ret c.args.status) tree c.args.store.now d c.args.self.now) where
   abbrev ended_filters : Vec Filter
   ended_filters = with_item c.args.self.now.filters c.args.self.now.first c.end_first.new.self
@@ -109,33 +109,33 @@ module _ (g : Over) (c : goal.After-self-then-next-len-1 g)
     lent = c.end_first.ensures.lent;
   }
 
-pub returns-then-next-len-clause-leads : goal.returns-then-next-len-clause-leads
+pub returns-then-next-modules-clause-leads : goal.returns-then-next-modules-clause-leads
 unfolding ends_alone
-returns-then-next-len-clause-leads g c tree device v f rest ready =
+returns-then-next-modules-clause-leads g c tree device v f rest ready =
     let p : (t : PoolTree Payload) × (d : Device)
     × CanProceed c.args.modules.now (instr.Ret c.args.status) t c.args.store.now d c.args.self.now = (tree, device, record { v = v; top = f; rest = rest; ready = ready }) in
     ending c.args.modules.now c.args.status tree c.args.store.now device c.args.self.now v f rest ready c.requires.alone c.end_first.new.store (ended_filters g c p) (ends_alone g c p)
-    (length-set c.args.self.now.filters.items c.args.self.now.first c.end_first.new.self) (c.if-next-len.true ∙ (c.len.ensures ∙ c.args.self.now.filters.ok.0)) (alone_set g c p).1
+    (length-set c.args.self.now.filters.items c.args.self.now.first c.end_first.new.self) (let q : c.args.self.now.queue ≡ length c.args.modules.now = c.if-next-modules.true in let m = ready.stands.left.stacked.many in omega (arith, q, m)) (alone_set g c p).1
     c.end_first.ensures.next c.end_first.ensures.pools c.end_first.ensures.references c.end_first.ensures.names c.end_first.ensures.held
 
-pub returns-then-next-len-clause-leaves : goal.returns-then-next-len-clause-leaves
-returns-then-next-len-clause-leaves g c ps =
+pub returns-then-next-modules-clause-leaves : goal.returns-then-next-modules-clause-leaves
+returns-then-next-modules-clause-leaves g c ps =
     let p = c.requires.ready in
     last_leaves c.args.modules.now ps c.args.store.now c.end_first.new.store c.args.self.now (idle g c p) p.2.ready.stands.left.stacked (ends_alone g c p) p.2.ready.stands.left.none
     (alone_set g c p).1 c.end_first.ensures.next c.end_first.ensures.names c.end_first.ensures.pools
 
-pub returns-then-next-len-clause-ended : goal.returns-then-next-len-clause-ended
+pub returns-then-next-modules-clause-ended : goal.returns-then-next-modules-clause-ended
 unfolding ends_alone
-returns-then-next-len-clause-ended g c =
+returns-then-next-modules-clause-ended g c =
     let p = c.requires.ready in
     last_ends c.args.modules.now (map_of p.0) c.args.store.now c.end_first.new.store c.args.self.now (idle g c p) p.2.ready.stands.left.stacked (ends_alone g c p) p.2.ready.stands.left.none
     (alone_set g c p).1 c.end_first.ensures.gone c.end_first.ensures.brought
 
 -- The first call of the next filter begins.
 module _ (g : Over) (c : goal.After-self-6-1 g) (p : (tree : PoolTree Payload) × (d : Device) × CanProceed c.args.modules.now (instr.Ret c.args.status) tree c.args.store.now d c.args.self.now) where
-  within : c.args.self.now.queue < length c.args.self.now.filters.items
-  within = (let a : c.args.self.now.queue ≢ c.len.result = c.if-next-len.false in let b = c.len.ensures in let o = c.args.self.now.filters.ok.0 in let q = p.2.ready.stands.left.stacked.queue in
-      let m = p.2.ready.stands.left.stacked.many in omega (arith, a, b, o, q, m))
+  within : c.args.self.now.queue < modules_of c.args.self.now
+  within = (let a : c.args.self.now.queue ≢ length c.args.modules.now = c.if-next-modules.false in let q = p.2.ready.stands.left.stacked.queue in
+      let m = p.2.ready.stands.left.stacked.many in omega (arith, a, q, m))
 
   later : c.args.self.now.first < c.args.self.now.queue
   later = queue_later c.args.modules.now c.args.status p.0 c.args.store.now p.1 c.args.self.now p.2.v p.2.top p.2.rest p.2.ready c.requires.alone within
@@ -147,7 +147,7 @@ module _ (g : Over) (c : goal.After-self-6-1 g) (p : (tree : PoolTree Payload) �
   goes_on = turned c.args.self.now next_filters
 
   both_set : SetNext c.args.self.now goes_on c.end_first-2.new.self c.index_mut-3.result.now c.begin.new.self
-  both_set = set_next c.args.self.now goes_on c.end_first-2.new.self c.index_mut-3.result.now c.begin.new.self later within c.index_mut-3.ensures.value c.begin.ensures.instance c.begin.ensures.lent
+  both_set = set_next c.args.self.now goes_on c.end_first-2.new.self c.index_mut-3.result.now c.begin.new.self later (let w = within in omega (arith, w)) c.index_mut-3.ensures.value c.begin.ensures.instance c.begin.ensures.lent
       refl
 
   no_loose : lists c.end_first-2.new.store (next_name c.args.store.now) ≡ Some []

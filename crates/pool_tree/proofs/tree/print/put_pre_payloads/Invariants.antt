@@ -1,0 +1,7 @@
+use Rattle.std.proofs.Common.{take}
+use Rattle.std.specs.Io.KnownBytes.{Appends}
+use Rattle.pool_tree.specs.Printed.{marked_all}
+use Rattle.pool_tree.proofs.tree.print.put_pre_payloads.Given as goal
+
+abbrev pub invariant-loop-payload : goal.invariant-loop-payload
+invariant-loop-payload g l = Appends (g.W.Write.contents l.initial.out) (g.W.Write.contents l.out) (marked_all g.T.PoolText.shown (take l.payload-index l.payloads))
