@@ -7,9 +7,10 @@
 Checked are, in each Markdown file: that links lead to a file, and to a heading of it; that a file or folder which is named
 `like/this.rt` is there; that a function or definition which is linked `like_this` stands in the file that the link names, and the
 clauses named after it in the contract of that function; that a number beside a link in a table is the file's number of lines; that what a transcript shows below
-`$ cat FILE` and `$ ./host < SCRIPT` is that file, and the answers kept with that script; that docs/TRUST.md names each file of
-definitions; that the words of docs/MODEL.md are there; that no cell of a table in README.md has more than 30 words; and that no line but
-one of a table has more than 200 characters (python3 tests/wrap.py lays them out).
+`$ cat FILE` and `$ ./host < SCRIPT`, or `$ ./host --unproved < SCRIPT`, is that file, and the answers kept with that script; that
+docs/TRUST.md names each file of definitions; that the words of docs/MODEL.md are there; that README.md has at most 900 words, and no cell
+of a table there more than 30; that examples/README.md names each script; and that no line but one of a table has more than 200
+characters (python3 tests/wrap.py lays them out).
 """
 import os
 import re
@@ -18,6 +19,7 @@ import sys
 TOP = os.path.dirname(os.path.dirname(os.path.abspath(__file__)))
 LEFT_OUT = {'.git', 'out', '__pycache__'}
 MOST_WORDS = 30
+README_WORDS = 900
 LONGEST = 200
 
 LINK = re.compile(r'\[([^\]]+)\]\(([^)\s]+)\)')
@@ -139,7 +141,7 @@ def transcript_faults(text):
         kept = re.fullmatch(r'( *)\$ cat (\S+)', line)
         if kept and lines[number:number + read(kept[2]).count('\n')] != [kept[1] + due for due in read(kept[2]).split('\n')[:-1]]:
             yield number, 'not the text of %s' % kept[2]
-        found = re.fullmatch(r'( *)\$ \./host < (\S+)\.script', line)
+        found = re.fullmatch(r'( *)\$ \./host(?: --unproved)? < (\S+)\.script', line)
         if not found:
             continue
         answers = [end for end in ('.expected', '.stdout') if os.path.exists(os.path.join(TOP, found[2] + end))]
@@ -159,6 +161,19 @@ def model_faults():
         for span in SPAN.findall(line.split('|')[1]) if line.startswith('|') else []:
             if re.fullmatch(r'\w+', span) and span not in words:
                 yield 'docs/MODEL.md:%d: no definition %s' % (number, span)
+
+
+def length_faults():
+    """Whether README.md is longer than two screens."""
+    count = len(read('README.md').split())
+    if count > README_WORDS:
+        yield 'README.md: %d words, at most %d are wanted' % (count, README_WORDS)
+
+
+def unlisted():
+    """The scripts that the index of examples does not name."""
+    named = {target for _, target in LINK.findall(read('examples/README.md'))}
+    return [name for name in sorted(os.listdir(os.path.join(TOP, 'examples'))) if name.endswith('.script') and name not in named]
 
 
 def lines_of(path, target):
@@ -200,7 +215,9 @@ def faults():
         found += ['%s:%d: %s' % (path, number, fault) for number, fault in transcript_faults(text)]
         if text != with_figures(path):
             found.append('%s: numbers of lines are not right; python3 tests/documents.py --write puts them right' % path)
-    return found + [*model_faults()] + ['docs/TRUST.md: it does not name %s' % file for file in unnamed()]
+    found += [*model_faults(), *length_faults()]
+    found += ['examples/README.md: it does not name %s' % file for file in unlisted()]
+    return found + ['docs/TRUST.md: it does not name %s' % file for file in unnamed()]
 
 
 def unnamed():

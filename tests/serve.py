@@ -356,44 +356,62 @@ def check_streams(server, told):
     return count
 
 
-def refused(program, folder, words, told, line, status):
-    """A start that is told to be none."""
+def refused(program, folder, words, told, line, status, cause=None):
+    """A start that is told to be none, and its cause on the standard error."""
     done = subprocess.run([program, 'serve'] + words, cwd=folder, capture_output=True, timeout=PATIENCE)
-    if done.returncode != status or (status == 1 and done.stdout != line):
-        told('serve %s: status %d and %r, due is %r' % (' '.join(words), done.returncode, done.stdout[:200], line))
+    due = b'cause: %s\n' % cause.encode() if cause else b''
+    if done.returncode != status or (status == 1 and (done.stdout, done.stderr) != (line, due)):
+        told('serve %s: status %d and %r, due is %r' % (' '.join(words), done.returncode, (done.stdout[:200], done.stderr[:200]), (line, due)))
+
+
+ABSENT = 'No such file or directory (os error 2)'
+NOT_ENDED = 'the line does not end with LF'
+NO_LINE = 'a line is a path, a space and the name of a file, in UTF-8'
+NO_PATH = 'a path is a slash, and letters, digits and -._~/ behind it'
+TAKEN = 'an earlier line has the path'
+TOO_LONG = 'a site file has at most 1048576 bytes'
+SITES = [(b'/a f\n/b f', 2, NOT_ENDED), (b'/a\n', 1, NO_LINE), (b'/a \n', 1, NO_LINE), (b' f\n', 1, NO_PATH), (b'a f\n', 1, NO_PATH),
+         (b'/a f\n/a g\n', 2, TAKEN), (b'/a f\n\n', 2, NO_LINE), (b'/{x} f\n', 1, NO_PATH), (b'/a%20 f\n', 1, NO_PATH), (b'/a \xff\n', 1, NO_LINE),
+         (b'/\xc3\xa9 f\n', 1, NO_PATH), (b'/a f\n# x\n', 2, NO_PATH), (b'/a\tf\n', 1, NO_LINE), (b'/a f\n/b f\n/c', 3, NOT_ENDED)]
+
+
+def refused_starts(program, folder, at):
+    """The words of starts that are none, with the line and the cause that are due."""
+    write(folder, 'faulty', b'module 1\nfrob\n')
+    for name, cert in (('uncertain', None), ('doubtful', open(os.path.join(folder, 'fails.cert'), 'rb').read()), ('halfcert', b'cert 1\n')):
+        write(folder, name, open(os.path.join(folder, 'm'), 'rb').read())
+        if cert:
+            write(folder, name + '.cert', cert)
+    doubt = subprocess.run([program, 'check', 'doubtful', 'doubtful.cert'], cwd=folder, capture_output=True).stdout
+    half = subprocess.run([program, 'check', 'halfcert', 'halfcert.cert'], cwd=folder, capture_output=True).stdout
+    yield at + ['nothing'], b'cannot read nothing\n', ABSENT
+    yield at + ['uncertain'], b'cannot read uncertain.cert\n', ABSENT
+    yield at + ['faulty'], b'asm line 2 code 3\n', None
+    yield at + ['halfcert'], half, None
+    yield at + ['m', 'doubtful'], doubt.replace(b'refused at', b'refused module 1 at'), None
+    yield ['--site', 'none', '--port', '1', 'm'], b'cannot read none\n', ABSENT
+    yield ['--site', 'none', '--port', '1', 'm', 'nothing'], b'cannot read nothing\n', ABSENT
+    for number, (text, line, cause) in enumerate(SITES):
+        write(folder, 's%d' % number, text)
+        yield ['--site', 's%d' % number, '--port', '1', 'm'], b'site line %d\n' % line, cause
+    write(folder, 'long', b'/a ' + b'x' * 1048573 + b'\n')
+    os.mkdir(os.path.join(folder, 'folder'))
+    os.mkfifo(os.path.join(folder, 'pipe'))
+    for site, cause in (('long', TOO_LONG), ('folder', 'Is a directory (os error 21)'), ('/dev/zero', TOO_LONG)):
+        yield ['--site', site, '--port', '1', 'm'], b'cannot read %s\n' % site.encode(), cause
+    yield at + ['--listen', 'nowhere', 'm'], b'cannot listen\n', 'what --listen names is no address of IPv4 or IPv6'
+    yield at + ['--listen', '203.0.113.1', 'm'], b'cannot listen\n', 'Cannot assign requested address (os error 99)'
 
 
 def check_starts(program, folder, told):
     """What is told where nothing is served."""
     at = ['--site', 'site', '--port', str(free_port())]
-    write(folder, 'faulty', b'module 1\nfrob\n')
-    write(folder, 'uncertain', open(os.path.join(folder, 'm'), 'rb').read())
-    write(folder, 'doubtful', open(os.path.join(folder, 'm'), 'rb').read())
-    write(folder, 'doubtful.cert', open(os.path.join(folder, 'fails.cert'), 'rb').read())
-    write(folder, 'halfcert', open(os.path.join(folder, 'm'), 'rb').read())
-    write(folder, 'halfcert.cert', b'cert 1\n')
-    doubt = subprocess.run([program, 'check', 'doubtful', 'doubtful.cert'], cwd=folder, capture_output=True).stdout
     count = 0
-    lines = [(at + ['nothing'], b'cannot read nothing\n'), (at + ['uncertain'], b'cannot read uncertain.cert\n'), (at + ['faulty'], b'asm line 2 code 3\n'),
-             (at + ['halfcert'], subprocess.run([program, 'check', 'halfcert', 'halfcert.cert'], cwd=folder, capture_output=True).stdout),
-             (at + ['m', 'doubtful'], doubt.replace(b'refused at', b'refused module 1 at')), (['--site', 'none', '--port', '1', 'm'], b'cannot read none\n'),
-             (['--site', 'none', '--port', '1', 'm', 'nothing'], b'cannot read nothing\n')]
-    sites = [(b'/a f\n/b f', 2), (b'/a\n', 1), (b'/a \n', 1), (b' f\n', 1), (b'a f\n', 1), (b'/a f\n/a g\n', 2), (b'/a f\n\n', 2), (b'/{x} f\n', 1), (b'/a%20 f\n', 1),
-             (b'/a \xff\n', 1), (b'/\xc3\xa9 f\n', 1), (b'/a f\n# x\n', 2), (b'/a\tf\n', 1), (b'/a f\n/b f\n/c', 3)]
-    for number, (text, line) in enumerate(sites):
-        write(folder, 's%d' % number, text)
-        lines.append((['--site', 's%d' % number, '--port', '1', 'm'], b'site line %d\n' % line))
-    write(folder, 'long', b'/a ' + b'x' * 1048573 + b'\n')
-    os.mkdir(os.path.join(folder, 'folder'))
-    os.mkfifo(os.path.join(folder, 'pipe'))
-    lines += [(['--site', 'long', '--port', '1', 'm'], b'cannot read long\n'), (['--site', 'folder', '--port', '1', 'm'], b'cannot read folder\n'),
-              (['--site', '/dev/zero', '--port', '1', 'm'], b'cannot read /dev/zero\n'), (at + ['--listen', 'nowhere', 'm'], b'cannot listen\n'),
-              (at + ['--listen', '203.0.113.1', 'm'], b'cannot listen\n')]
-    for words, line in lines:
-        refused(program, folder, words, told, line, 1)
+    for words, line, cause in refused_starts(program, folder, at):
+        refused(program, folder, words, told, line, 1, cause)
         count += 1
     with Server(program, folder, ['--forever']) as server:
-        refused(program, folder, ['--site', 'site', '--port', str(server.port), 'm'], told, b'cannot listen\n', 1)
+        refused(program, folder, ['--site', 'site', '--port', str(server.port), 'm'], told, b'cannot listen\n', 1, 'Address already in use (os error 98)')
     for words in (['--site', 'site', 'm'], ['--port', '1', 'm'], at, ['--site', 'site', '--port', '0', 'm'], ['--site', 'site', '--port', '65536', 'm'],
                   at + ['--timeout', '0', 'm'], at + ['--at-once', '0', 'm'], at + ['--at-once', '65536', 'm'], at + ['--conns', '4294967296', 'm'],
                   at + ['--budget', '-1', 'm'], at + ['--conns', 'x', 'm'], at + ['--conns', '2', '--forever', 'm'],

@@ -151,11 +151,26 @@ def closed(program, script):
     return faults
 
 
+def unreadable(program):
+    """Files that cannot be read: the cause is told on the standard error."""
+    module = os.path.join(TOP, 'filters', 'upper.mod')
+    faults = []
+    for words, name, cause in ((['assemble', 'none'], 'none', 'No such file or directory (os error 2)'),
+                               (['certify', 'none'], 'none', 'No such file or directory (os error 2)'),
+                               (['certify', '/'], '/', 'Is a directory (os error 21)'),
+                               (['check', 'none', '/'], 'none', 'No such file or directory (os error 2)'),
+                               (['check', module, '/'], '/', 'Is a directory (os error 21)')):
+        done = subprocess.run([program] + words, stdin=subprocess.DEVNULL, capture_output=True)
+        if not is_well(done, b'cannot read %s\n' % name.encode(), b'cause: %s\n' % cause.encode(), 1):
+            faults.append('%s: %r, %r, status %d' % (' '.join(words), done.stdout, done.stderr, done.returncode))
+    return faults
+
+
 def faults(program, folder):
     """How many plays there were, and what was not as it should be."""
     script, answers, before = texts()
     found = line_by_line(program, script, answers, before) + byte_by_byte(program, script, answers)
-    found += ends_early(program, script, answers, before) + closed(program, script)
+    found += ends_early(program, script, answers, before) + closed(program, script) + unreadable(program)
     for size in range(len(script) + 1):
         if not reader_fails(program, script, answers, before, size):
             found.append('a reader that fails behind byte %d' % size)

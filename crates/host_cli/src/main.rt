@@ -27,8 +27,14 @@ fn end_unwritten(rt: &HostRuntime) -> ExitCode {
     ExitCode::FAILURE
 }
 
-/// Tells how a task ended, and a fault of the program by one line; the name is that of what could not be read.
-fn end(rt: &HostRuntime, ended: Result<Ended, PlayFault>, name: &str) -> ExitCode {
+/// Tells how a task ended, and a fault of the program by one line; the name is that of what could not be read. Why it could not, where that is
+/// known, is told on the standard error.
+fn end(
+    rt: &HostRuntime,
+    ended: Result<Ended, PlayFault>,
+    name: &str,
+    why: Option<io::Error>,
+) -> ExitCode {
     let told = match ended {
         Ok(Ended::Done) => return ExitCode::SUCCESS,
         Ok(Ended::Refused) => Ok(()),
@@ -39,13 +45,16 @@ fn end(rt: &HostRuntime, ended: Result<Ended, PlayFault>, name: &str) -> ExitCod
     if told.is_err() {
         return end_unwritten(rt);
     }
+    if let Some(why) = why {
+        let _ = rt.eprintln(format_args!("cause: {why}"));
+    }
     ExitCode::FAILURE
 }
 
 /// Tells why the words ask for nothing, or the help that they ask for.
 fn end_words(rt: &HostRuntime, error: &Error) -> ExitCode {
     if error.kind() == ErrorKind::OutOfMemory {
-        return end(rt, Err(PlayFault::NoMemory), "");
+        return end(rt, Err(PlayFault::NoMemory), "", None);
     }
     let printed = error.print(rt);
     if error.use_stderr() {
@@ -60,7 +69,7 @@ fn end_words(rt: &HostRuntime, error: &Error) -> ExitCode {
 fn assemble_file(rt: &HostRuntime, file: &str) -> ExitCode {
     let mut reader = CountedSource::from_reader(NamedFile::new(rt, file));
     let assembled = run_assemble(rt.alloc(), &mut reader, &mut StdSink::new(rt.stdout()));
-    end(rt, assembled, file)
+    end(rt, assembled, file, reader.source().reader.fault())
 }
 
 /// Whether help is told on the standard error: where it was asked for, or where that is a terminal.
@@ -79,15 +88,13 @@ fn is_refused(ended: &Result<Ended, PlayFault>) -> bool {
     matches!(ended, Ok(Ended::Refused))
 }
 
-/// Makes a certificate of what a reader of this name gives.
+/// Makes a certificate of what a reader gives, and tells how that ended.
 fn certify<T: Read + Drop>(
     rt: &HostRuntime,
     input: T,
-    name: &str,
     is_slim: bool,
-    asked: bool,
-) -> ExitCode {
-    let helps = tells_help(rt, asked);
+    helps: bool,
+) -> Result<Ended, PlayFault> {
     let mut reader = CountedSource::from_reader(Recorded::new(rt.alloc(), input, helps));
     let mut writer = StdSink::new(rt.stdout());
     let certified = run_certify(rt.alloc(), &mut reader, &mut writer, is_slim);
@@ -95,7 +102,18 @@ fn certify<T: Read + Drop>(
         let given = reader.source().reader.given();
         tell_help(rt, explain_certify(rt.alloc(), given));
     }
-    end(rt, certified, name)
+    certified
+}
+
+fn certify_file(rt: &HostRuntime, file: &str, is_slim: bool, asked: bool) -> ExitCode {
+    let mut input = NamedFile::new(rt, file);
+    let certified = certify(rt, &mut input, is_slim, tells_help(rt, asked));
+    end(rt, certified, file, input.fault())
+}
+
+fn certify_input(rt: &HostRuntime, is_slim: bool, asked: bool) -> ExitCode {
+    let certified = certify(rt, rt.stdin(), is_slim, tells_help(rt, asked));
+    end(rt, certified, "standard input", None)
 }
 
 fn play_script(rt: &HostRuntime, asked: bool) -> ExitCode {
@@ -108,7 +126,7 @@ fn play_script(rt: &HostRuntime, asked: bool) -> ExitCode {
         let given = reader.source().reader.given();
         tell_help(rt, explain_play(rt.alloc(), given, writer.writer.taken()));
     }
-    end(rt, played, "standard input")
+    end(rt, played, "standard input", None)
 }
 
 /// Checks a certificate of a module, and tells how that ended.
@@ -131,28 +149,32 @@ fn check<T: Read + Drop, C: Read + Drop>(
 }
 
 fn check_file(rt: &HostRuntime, file: &str, cert: &str, asked: bool) -> ExitCode {
+    let mut module_file = NamedFile::new(rt, file);
     let mut cert_file = NamedFile::new(rt, cert);
     let helps = tells_help(rt, asked);
-    let checked = check(rt, NamedFile::new(rt, file), &mut cert_file, helps);
-    let name = if cert_file.is_read() { cert } else { file };
-    end(rt, checked, name)
+    let checked = check(rt, &mut module_file, &mut cert_file, helps);
+    if cert_file.is_read() {
+        end(rt, checked, cert, cert_file.fault())
+    } else {
+        end(rt, checked, file, module_file.fault())
+    }
 }
 
 fn perform(rt: &HostRuntime, task: CliTask<'_>) -> ExitCode {
     match task {
         CliTask::Play { explains } => play_script(rt, explains),
-        CliTask::New => end(rt, run_new(&mut StdSink::new(rt.stdout())), ""),
+        CliTask::New => end(rt, run_new(&mut StdSink::new(rt.stdout())), "", None),
         CliTask::Assemble { file } => assemble_file(rt, file),
         CliTask::Certify {
             file: Some(file),
             is_slim,
             explains,
-        } => certify(rt, NamedFile::new(rt, file), file, is_slim, explains),
+        } => certify_file(rt, file, is_slim, explains),
         CliTask::Certify {
             file: None,
             is_slim,
             explains,
-        } => certify(rt, rt.stdin(), "standard input", is_slim, explains),
+        } => certify_input(rt, is_slim, explains),
         CliTask::Check {
             file,
             cert,
@@ -176,6 +198,7 @@ fn main(rt: HostRuntime) -> ExitCode {
             &rt,
             Err(PlayFault::NoMemory),
             "",
+            None,
         ),
         Err(_) => {
             let _ = rt.eprintln("error: an argument is not UTF-8");

@@ -241,6 +241,9 @@ fn command_of<'a>(alloc: Global, row: &'static CommandRow) -> Result<Command<'a>
     Command::new(alloc, row.name).about(row.about).args(args)
 }
 
+/// What `--version` prints behind the name of the program.
+const VERSION: &str = "0.1.0-dev";
+
 /// The program, with its commands.
 pub fn program<'a>(alloc: Global) -> Result<Command<'a>, AllocError> {
     let mut commands = Vec::new(alloc);
@@ -249,5 +252,6 @@ pub fn program<'a>(alloc: Global) -> Result<Command<'a>, AllocError> {
     }
     Command::new(alloc, "host_cli")
         .about("A host of output filters")
+        .version(VERSION)
         .subcommands(commands)
 }

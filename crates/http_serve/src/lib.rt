@@ -8,7 +8,9 @@ mod head_reader;
 mod listening;
 mod request_log;
 mod serve_command;
+mod site_reading;
 mod socket;
+mod start_error;
 mod system_clock;
 mod unclosed;
 

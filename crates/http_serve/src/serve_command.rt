@@ -7,15 +7,17 @@ ghost use Rattle.http_front.specs.Driven.{IsAlive};
 use crate::descriptors::{files_to_keep, too_few};
 use crate::event_loop::serve_turns;
 use crate::listening::{ServeSettings, serve_all};
+use crate::site_reading::read_site;
+use crate::start_error::{StartCause, StartError, cannot_read, told, told_for};
 use bucket_kinds::DiskFiles;
-use byte_streams::{CountedSource, READ_BYTES, READS};
+use byte_streams::CountedSource;
 use byte_text::put_all;
 use filter_chain::{CheckedChain, Files, Host, Limits, RawRings, Rings, Stored};
-use http_message::{SITE_BYTES, Site, SiteRefusal, site_of};
+use http_message::Site;
 use module_tools::{CommandOutput, Loaded, NamedFile, PlayFault, load_part};
 use script_text::{Refused, ScriptModule, accept_parts, put_refused_module};
 use std::alloc::{AllocError, Global};
-use std::io::{self, Read};
+use std::io;
 use std::net::{IpAddr, Net, SocketAddr, TcpListener, TcpStream};
 use std::os::unix::fs::FileExt;
 use std::process::ExitCode;
@@ -45,40 +47,10 @@ pub struct ServeOptions<'a> {
     pub modules: Vec<&'a str>,
 }
 
-/// Why nothing is served.
-#[derive(Drop)]
-enum StartError {
-    /// The line that tells it.
-    Told(Vec<u8>),
-    /// There was no memory.
-    NoMemory,
-}
-
-impl From<AllocError> for StartError {
-    fn from(_error: AllocError) -> StartError {
-        StartError::NoMemory
-    }
-}
-
-/// The stop that this line tells.
-fn told(alloc: Global, line: Result<String, AllocError>) -> StartError {
-    let Ok(line) = line else {
-        return StartError::NoMemory;
-    };
-    match Vec::from_slice(alloc, line.as_bytes()) {
-        Ok(text) => StartError::Told(text),
-        Err(AllocError) => StartError::NoMemory,
-    }
-}
-
-fn cannot_read(alloc: Global, name: &str) -> StartError {
-    told(alloc, format!(in alloc; "cannot read {name}\n"))
-}
-
 /// The stop of a fault of reading; none of these functions writes.
-fn stop_of(alloc: Global, fault: PlayFault, name: &str) -> StartError {
+fn stop_of(alloc: Global, fault: PlayFault, name: &str, cause: StartCause) -> StartError {
     match fault {
-        PlayFault::Read => cannot_read(alloc, name),
+        PlayFault::Read => cannot_read(alloc, name, cause),
         PlayFault::Write | PlayFault::NoMemory => StartError::NoMemory,
     }
 }
@@ -88,11 +60,14 @@ fn part_of(
     alloc: Global,
     loaded: Result<Loaded, PlayFault>,
     name: &str,
+    cause: StartCause,
 ) -> Result<ScriptModule, StartError> {
     match loaded {
         Ok(Loaded::Part(part)) => Ok(part),
-        Ok(Loaded::Told(CommandOutput { text, ended: _ })) => Err(StartError::Told(text)),
-        Err(fault) => Err(stop_of(alloc, fault, name)),
+        Ok(Loaded::Told(CommandOutput { text, ended: _ })) => {
+            Err(StartError::Told(text, StartCause::Told))
+        }
+        Err(fault) => Err(stop_of(alloc, fault, name, cause)),
     }
 }
 
@@ -111,7 +86,11 @@ fn read_files<R: FileSystem + AllocGlobal>(
     } else {
         name
     };
-    part_of(alloc, loaded, last)
+    let fault = match cert.source().reader.fault() {
+        Some(fault) => Some(fault),
+        None => reader.source().reader.fault(),
+    };
+    part_of(alloc, loaded, last, StartCause::of_fault(fault))
 }
 
 /// Reads a module and its certificate, which stands in the file of its name with `.cert` behind it.
@@ -141,7 +120,7 @@ fn read_parts<R: FileSystem + AllocGlobal>(
 fn stop_of_module(alloc: Global, at: Refused) -> Result<StartError, AllocError> {
     let mut line = Vec::new(alloc);
     put_refused_module(alloc, &mut line, at.index, at.refusal.pc, at.refusal.rule)?;
-    Ok(StartError::Told(line))
+    Ok(StartError::Told(line, StartCause::Told))
 }
 
 /// The chain of these modules, which is checked.
@@ -169,48 +148,14 @@ fn read_chain<R: FileSystem + AllocGlobal>(
     chain_of(alloc, parts)
 }
 
-/// The text of a site file. No more of it is read than a site file may have.
-fn read_site_text<R: FileSystem + AllocGlobal>(rt: &R, name: &str) -> Result<Vec<u8>, StartError> {
-    let mut reader = NamedFile::new(rt, name);
-    let mut text = Vec::new(rt.alloc());
-    let mut buffer = [0; READ_BYTES];
-    for _ in 0..READS {
-        if text.len() > SITE_BYTES {
-            break;
-        }
-        match reader.read(&mut buffer) {
-            Ok(0) => return Ok(text),
-            Ok(count) => text.extend_from_slice(&buffer[..count])?,
-            Err(_) => break,
-        }
-    }
-    Err(cannot_read(rt.alloc(), name))
-}
-
-/// The site that a file says.
-fn read_site<R: FileSystem + AllocGlobal>(rt: &R, name: &str) -> Result<Site, StartError> {
-    let alloc = rt.alloc();
-    let text = read_site_text(rt, name)?;
-    if text.len() > SITE_BYTES {
-        return Err(cannot_read(alloc, name));
-    }
-    match site_of(alloc, text.as_slice()) {
-        Ok(site) => Ok(site),
-        Err(SiteRefusal::Line(number)) => {
-            Err(told(alloc, format!(in alloc; "site line {number}\n")))
-        }
-        Err(SiteRefusal::NoMemory) => Err(StartError::NoMemory),
-    }
-}
-
 /// The address and the port, where they are one.
 fn address_of(options: &ServeOptions<'_>) -> Option<SocketAddr> {
     let address = options.listen.parse::<IpAddr>().ok()?;
     Some(SocketAddr::new(address, options.port))
 }
 
-fn cannot_listen(alloc: Global) -> StartError {
-    told(alloc, format!(in alloc; "cannot listen\n"))
+fn cannot_listen(alloc: Global, cause: StartCause) -> StartError {
+    told_for(alloc, format!(in alloc; "cannot listen\n"), cause)
 }
 
 fn too_few_line(alloc: Global, at_once: u32, there: u64) -> Result<String, AllocError> {
@@ -251,11 +196,12 @@ where
     R: AllocGlobal + Net<Listener = TcpListener, Stream = TcpStream>,
 {
     let Some(address) = address_of(options) else {
-        return Err(cannot_listen(rt.alloc()));
+        let words = "what --listen names is no address of IPv4 or IPv6";
+        return Err(cannot_listen(rt.alloc(), StartCause::Words(words)));
     };
     match TcpListener::bind(rt, address) {
         Ok(listener) => Ok((listener, address)),
-        Err(_) => Err(cannot_listen(rt.alloc())),
+        Err(fault) => Err(cannot_listen(rt.alloc(), StartCause::System(fault))),
     }
 }
 
@@ -267,15 +213,17 @@ fn is_told<R: Print>(rt: &R, fault: PlayFault) -> bool {
     rt.println(fault).is_ok()
 }
 
-/// Ends with a line on the standard output, or with that of a fault there.
+/// Ends with a line on the standard output and its cause on the standard error, or with a line there on a fault of the standard output.
 fn tell_stop<R: Print + Eprint>(rt: &R, stop: StartError) -> ExitCode {
-    let told = match stop {
-        StartError::Told(line) => is_put(rt, line.as_slice()),
-        StartError::NoMemory => is_told(rt, PlayFault::NoMemory),
+    let (told, cause) = match stop {
+        StartError::Told(line, cause) => (is_put(rt, line.as_slice()), cause),
+        StartError::NoMemory => (is_told(rt, PlayFault::NoMemory), StartCause::Told),
     };
-    if !told {
-        let _ = rt.eprintln(PlayFault::Write);
-    }
+    let _ = if told {
+        rt.eprint(cause)
+    } else {
+        rt.eprintln(PlayFault::Write)
+    };
     ExitCode::FAILURE
 }
 

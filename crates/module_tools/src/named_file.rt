@@ -11,6 +11,7 @@ pub struct NamedFile<'a, R: Files> {
     name: &'a str,
     file: Option<R::File>,
     is_read: bool,
+    fault: Option<io::Error>,
 }
 
 impl<'a, R: Files> NamedFile<'a, R> {
@@ -21,6 +22,7 @@ impl<'a, R: Files> NamedFile<'a, R> {
             name,
             file: None,
             is_read: false,
+            fault: None,
         }
     }
 
@@ -33,6 +35,11 @@ impl<'a, R: Files> NamedFile<'a, R> {
     pub fn is_read(&self) -> bool {
         self.is_read
     }
+
+    /// Why it was not opened, or not read; none where nothing failed.
+    pub fn fault(&self) -> Option<io::Error> {
+        self.fault
+    }
 }
 
 impl<R: Files> Read for NamedFile<'_, R>
@@ -43,10 +50,23 @@ where
         self.is_read = true;
         let mut file = match self.file.take() {
             Some(file) => file,
-            None => File::open(self.runtime, self.name)?,
+            None => match File::open(self.runtime, self.name) {
+                Ok(file) => file,
+                Err(fault) => {
+                    self.fault = Some(fault);
+                    return Err(fault);
+                }
+            },
         };
-        let count = file.read(buf)?;
-        self.file = Some(file);
-        Ok(count)
+        match file.read(buf) {
+            Ok(count) => {
+                self.file = Some(file);
+                Ok(count)
+            }
+            Err(fault) => {
+                self.fault = Some(fault);
+                Err(fault)
+            }
+        }
     }
 }
