@@ -8,7 +8,8 @@ that passes on, so that the rest is the loop. All servers are asked by turns; to
 one PROGRAM each is a server of its own, so that a change is compared with what was there before.
 
 Peers, where they are there: nginx with a body filter in Lua, which LuaJIT compiles; apache2 with an output filter in Lua
-(`mod_lua`), and with one in C (bench/upper_filter.c, built by `apxs`). Each makes letters a to z capitals, byte by byte.
+(`mod_lua`), and with one in C (bench/upper_filter.c, built by `apxs`). Each makes letters a to z capitals, byte by byte. Where node is there,
+the same loop as WebAssembly is measured by itself (bench/upper_wasm.js), and beside it what the filter costs in `serve`.
 """
 import argparse
 import os
@@ -78,6 +79,14 @@ def servers(programs, folder):
                                  for k, text in enumerate(lines)]
 
 
+def in_wasm():
+    """How many milliseconds of a processor the loop takes as WebAssembly; none where node is not there."""
+    if shutil.which('node') is None:
+        return None
+    done = subprocess.run(['node', os.path.join(TOP, 'bench', 'upper_wasm.js'), str(SIZE)], stdout=subprocess.PIPE)
+    return float(done.stdout) if done.returncode == 0 else None
+
+
 def body(peer, length):
     """The body of a response of so many bytes, its chunks put together."""
     peer.link.sendall(ask_for(SIZE))
@@ -124,6 +133,10 @@ def main():
                 passed, changed = (statistics.median(took[number][k] for took in rounds) / 1000 for k in (0, 1))
                 ratio = statistics.median(took[0][1] / took[number][1] for took in rounds)
                 print('%-16s passes on %7.2f ms, upper %7.2f ms%s' % (name, passed, changed, '' if number == 0 else ': serve takes %.2f of it' % ratio), flush=True)
+            alone = in_wasm()
+            if alone is not None:
+                loop = statistics.median(took[0][1] - took[0][0] for took in rounds) / 1000
+                print('%-16s the loop alone %6.2f ms: that of serve takes %.2f of it' % ('WebAssembly', alone, loop / alone), flush=True)
         finally:
             for _, passes, uppers, _, _ in peers:
                 passes.stop()

@@ -3,3 +3,5 @@ pub mod OnlyAsked
 pub mod FirstFault
 pub mod LiveContents
 pub mod LateVisits
+pub mod RoundSteps
+pub mod ByteWalks

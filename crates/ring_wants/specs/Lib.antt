@@ -1,3 +1,4 @@
 pub mod QuietSteps
 pub mod OnlyAsked
 pub mod Prelude
+pub mod ByteRounds

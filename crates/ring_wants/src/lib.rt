@@ -3,6 +3,7 @@
 #![tactic(auto)]
 
 mod brigade_wants;
+mod byte_rounds;
 mod faults;
 mod home_walks;
 mod home_wants;
@@ -10,4 +11,5 @@ mod needs;
 mod places;
 mod pool_wants;
 pub mod quiet_steps;
+mod walks;
 pub mod wants;
