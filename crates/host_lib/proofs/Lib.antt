@@ -1,0 +1,6 @@
+mod Fronts
+mod Shown
+mod Refused
+mod Slots
+mod Steps
+mod Values

@@ -1,0 +1,79 @@
+-- What each call of C does to the session that its handle holds.
+use Rattle.std.specs.Prelude.{◌≡◌, ℕ, Bool, true, false, List, Option, Some, None, Result}
+use Rattle.std.specs.Global.{Vec}
+use Rattle.run_model.specs.declared.event.Event.{Event}
+use Rattle.run_model.specs.declared.event.Event.TheVariants.{Begin, Bring, Close, End, Open}
+use Rattle.run_model.specs.declared.event.Refusal.{Refusal}
+use Rattle.run_model.specs.declared.event.Stepped.{Stepped}
+use Rattle.ring_run.specs.declared.labels_run.LabelsRun.{LabelsRun}
+use Rattle.filter_chain.specs.Hosting.{close_answer, done_answer, open_answer}
+use Rattle.host_lib.specs.Adding.{TellsPiece}
+use Rattle.host_lib.specs.Codes.{close_code, done_code, number_in, only, open_code, piece_code, run_code, told_of}
+use Rattle.host_lib.specs.Does.{Does, DropsPieces, KeepsPieces, RunsUpTo, pieces_of}
+use Rattle.host_lib.specs.Making.{IsMade}
+use Rattle.host_lib.specs.Output.{TellsOutput}
+use Rattle.host_lib.specs.Texts.{IsRefusedFor}
+use Rattle.host_lib.specs.declared.loading.Lengths.{Lengths}
+use Rattle.host_lib.specs.declared.loading.LoadRefusal.{LoadRefusal}
+use Rattle.host_lib.specs.declared.pieces.PieceRefusal.{PieceRefusal}
+use Rattle.host_lib.specs.declared.session.Session.{Session}
+use Rattle.host_lib.specs.declared.told.Told.{Told}
+
+-- Where the handle held a session, it holds one, and so the call changed it. Where it held none, it holds none, and that is answered.
+abbrev pub OnSession : Option Session → Option Session → Type 0 → (Session → Session → Type 0) → Type 0
+OnSession None None answered does = answered
+OnSession None (Some t) answered does = ⊥
+OnSession (Some s) None answered does = ⊥
+OnSession (Some s) (Some t) answered does = does s t
+
+-- the answer of a call where the handle holds none
+abbrev pub IsNoSession : ℕ → Type 0
+IsNoSession code = code ≡ 15
+
+-- A connection was opened, which has this number, or this tells why not.
+abbrev pub Opens : ℕ → ℕ → Session → Session → Type 0
+Opens number code s t = ((r : Result ℕ Refusal) × (number ≡ number_in r) × (code ≡ open_code r) × Does s t 0 Open (open_answer r)) × KeepsPieces s t
+
+-- This event of a connection was done, or this tells why not. It has no pieces then.
+abbrev pub DoesEvent : Event → ℕ → ℕ → Session → Session → Type 0
+DoesEvent what number code s t = ((r : Option Refusal) × (code ≡ done_code r) × Does s t number what (done_answer r)) × DropsPieces number s t
+
+abbrev pub Begins : ℕ → ℕ → Session → Session → Type 0
+Begins number code s t = DoesEvent Begin number code s t
+
+-- The pieces that the connection had are brought.
+abbrev pub Brings : ℕ → ℕ → Session → Session → Type 0
+Brings number code s t = DoesEvent (Bring (pieces_of s number)) number code s t
+
+abbrev pub Ends : ℕ → ℕ → Session → Session → Type 0
+Ends number code s t = DoesEvent End number code s t
+
+-- The connection is closed, or this tells why not. It has no pieces then.
+abbrev pub Closes : ℕ → ℕ → Session → Session → Type 0
+Closes number code s t = ((r : Result (Vec LabelsRun) Refusal) × (code ≡ close_code r) × Does s t number Close (close_answer r)) × DropsPieces number s t
+
+-- A piece is added, or this tells why not. Of the model nothing is changed.
+abbrev pub Adds : ℕ → ℕ → List ℕ → ℕ → Session → Session → Type 0
+Adds number kind bytes code s t = ((r : Result (Unit {0}) PieceRefusal) × (code ≡ piece_code r) × TellsPiece number kind bytes s t r) × (t.host ≡ s.host)
+
+-- Steps were made, at most so many; this tells what the last of them answered.
+abbrev pub Runs : ℕ → ℕ → ℕ → Session → Session → Type 0
+Runs number most code s t = ((r : Result Stepped Refusal) × (code ≡ run_code r) × RunsUpTo most s t number r) × KeepsPieces s t
+
+-- So long is the output, and where the buffer has room it is taken.
+abbrev pub Tells : ℕ → List ℕ → List ℕ → ℕ → Session → Session → Type 0
+Tells number old new n s t = TellsOutput number old new n s t × KeepsPieces s t
+
+abbrev pub TellsNothing : List ℕ → List ℕ → ℕ → Type 0
+TellsNothing old new n = (n ≡ 0) × (new ≡ old)
+
+-- The handle held none. A session is made of the texts; or it holds none, and is told why.
+abbrev pub MakesAnew : List ℕ → List Lengths → ℕ → Option Session → Told → Bool → Type 0
+MakesAnew texts lengths budget (Some s) told true = IsMade texts lengths budget s × (told ≡ only 0)
+MakesAnew texts lengths budget None told false = (e : LoadRefusal) × IsRefusedFor texts lengths e × (told ≡ told_of e)
+MakesAnew texts lengths budget new told made = ⊥
+
+-- A handle that holds a session already holds it afterwards.
+abbrev pub Makes : List ℕ → List Lengths → ℕ → Option Session → Option Session → Told → Bool → Type 0
+Makes texts lengths budget None new told made = MakesAnew texts lengths budget new told made
+Makes texts lengths budget (Some s) new told made = (new ≡ Some s) × (made ≡ false) × (told ≡ only 6)

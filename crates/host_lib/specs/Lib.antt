@@ -1,0 +1,12 @@
+pub mod Owned
+pub mod Awake
+pub mod Pieces
+pub mod Kinds
+pub mod Does
+pub mod Adding
+pub mod Output
+pub mod Texts
+pub mod Reading
+pub mod Making
+pub mod Codes
+pub mod Calls

@@ -1,0 +1,319 @@
+/* Chains and sessions of both modules, and the library's memory. */
+#include "checked_session.h"
+#include <errno.h>
+#include <malloc.h>
+#include <stdio.h>
+#include <stdlib.h>
+#include <string.h>
+#include <sys/stat.h>
+
+enum {
+    TEXT_MOST = 16 << 20, /* bytes of a text */
+    KEPT_MOST = 1 << 20,  /* bytes that a session may hold and be kept */
+    IDLE_MOST = 1024      /* sessions that are kept */
+};
+
+/* The session whose call this thread is in; null where nothing is counted. */
+static _Thread_local struct session *in_hand;
+
+static unsigned char no_block[16];
+
+/* Whether the session in hand may hold so many bytes more. */
+static bool may_hold(size_t more)
+{
+    if (!in_hand || (in_hand->held < in_hand->most && more <= in_hand->most - in_hand->held))
+        return true;
+    in_hand->limited = true;
+    return false;
+}
+
+static struct rattle_tried counted(void *p, size_t before)
+{
+    if (!p)
+        return (struct rattle_tried){false, no_block};
+    if (in_hand)
+        in_hand->held += malloc_usable_size(p) - before;
+    return (struct rattle_tried){true, p};
+}
+
+struct rattle_tried rattle_alloc(size_t size, size_t align)
+{
+    size_t wanted = size ? size : align;
+    return counted(may_hold(wanted) ? malloc(wanted) : NULL, 0);
+}
+
+struct rattle_tried rattle_realloc(void *p, size_t kept, size_t size, size_t align)
+{
+    size_t wanted = size ? size : align, before = malloc_usable_size(p);
+    void *moved = wanted <= before || may_hold(wanted - before) ? realloc(p, wanted) : NULL;
+    struct rattle_tried tried = counted(moved, before);
+    (void)kept;
+    return tried.ok ? tried : (struct rattle_tried){false, p};
+}
+
+void rattle_dealloc(void *p)
+{
+    if (in_hand)
+        in_hand->held -= malloc_usable_size(p);
+    free(p);
+}
+
+void chain_begin(struct chain *chain)
+{
+    memset(chain, 0, sizeof *chain);
+    pthread_mutex_init(&chain->lock, NULL);
+}
+
+/* Puts the text of a file behind the others. A file that is not there is an empty text where it is `optional`. */
+static bool add_text(struct chain *chain, const char *name, bool optional, size_t *length, char *why, size_t room)
+{
+    struct stat info;
+    unsigned char *texts;
+    FILE *file = fopen(name, "rb");
+    const char *wrong = NULL;
+    *length = 0;
+    if (!file && optional && errno == ENOENT)
+        return true;
+    if (!file || fstat(fileno(file), &info) != 0)
+        wrong = strerror(errno);
+    else if (!S_ISREG(info.st_mode) || info.st_size > TEXT_MOST)
+        wrong = "no regular file of at most 16 MiB";
+    else if (!(texts = realloc(chain->texts, chain->texts_length + (size_t)info.st_size + 1)))
+        wrong = "no memory";
+    else {
+        chain->texts = texts;
+        *length = fread(texts + chain->texts_length, 1, (size_t)info.st_size, file);
+        chain->texts_length += *length;
+        if (*length != (size_t)info.st_size)
+            wrong = "cannot be read";
+    }
+    if (file)
+        fclose(file);
+    if (wrong)
+        snprintf(why, room, "%s: %s", name, wrong);
+    return !wrong;
+}
+
+bool chain_add(struct chain *chain, const char *file, char *why, size_t room)
+{
+    char cert[4096];
+    size_t index = chain->count;
+    if (index == CHAIN_MODULES || snprintf(cert, sizeof cert, "%s.cert", file) >= (int)sizeof cert) {
+        snprintf(why, room, index == CHAIN_MODULES ? "a chain has 1 to 16 modules" : "%.80s..: too long a name", file);
+        return false;
+    }
+    chain->files[index] = strdup(file);
+    if (!chain->files[index]) {
+        snprintf(why, room, "no memory");
+        return false;
+    }
+    chain->count++;
+    return add_text(chain, file, false, &chain->lengths[index].module, why, room) &&
+           add_text(chain, cert, true, &chain->lengths[index].certificate, why, room);
+}
+
+/* The line that tells why a chain is refused. */
+static void tell(const struct chain *chain, const struct cidawru_told *told, char *why, size_t room)
+{
+    static const char *const RULES[] = {"shape", "entry", "flow", "exit", "request"};
+    const char *file = told->module < chain->count ? chain->files[told->module] : "";
+    unsigned long long place = told->place;
+    if (told->what == CIDAWRU_TOLD_NO_MODULE)
+        snprintf(why, room, "%s: asm line %llu code %u", file, place, (unsigned)told->code);
+    else if (told->what == CIDAWRU_TOLD_NO_CERT)
+        snprintf(why, room, "%s.cert: cert line %llu code %u", file, place, (unsigned)told->code);
+    else if (told->what == CIDAWRU_TOLD_REFUSED && told->code >= CIDAWRU_RULE_SHAPE && told->code <= CIDAWRU_RULE_REQUEST)
+        snprintf(why, room, "%s: refused at %llu: %s", file, place, RULES[told->code - CIDAWRU_RULE_SHAPE]);
+    else if (told->what == CIDAWRU_TOLD_REFUSED)
+        snprintf(why, room, "%s: refused at %llu: F%u", file, place, (unsigned)told->code);
+    else
+        snprintf(why, room, told->what == CIDAWRU_TOLD_NO_MEMORY ? "no memory" : "a chain has 1 to 16 modules");
+}
+
+static void end_session(struct session *session)
+{
+    in_hand = session;
+    cidawru_free(&session->handle);
+    in_hand = NULL;
+    free(session);
+}
+
+/* A new session; null where the chain is refused, as `told` says. */
+static struct session *new_session(const struct chain *chain, uint64_t budget, size_t limit, struct cidawru_told *told)
+{
+    static const unsigned char none[1];
+    bool made;
+    struct session *session = calloc(1, sizeof *session);
+    if (!session) {
+        told->what = CIDAWRU_TOLD_NO_MEMORY;
+        return NULL;
+    }
+    session->budget = budget;
+    session->most = SIZE_MAX; /* a chain that was accepted is made, whatever that takes */
+    in_hand = session;
+    made = cidawru_new(&session->handle, chain->texts ? chain->texts : none, chain->texts_length, chain->lengths, chain->count, budget, told);
+    in_hand = NULL;
+    session->most = limit;
+    if (made)
+        return session;
+    free(session);
+    return NULL;
+}
+
+bool chain_check(struct chain *chain, char *why, size_t room)
+{
+    struct cidawru_told told = {0};
+    struct session *session = new_session(chain, CHAIN_BUDGET, SIZE_MAX, &told);
+    if (session)
+        end_session(session);
+    else
+        tell(chain, &told, why, room);
+    return session != NULL;
+}
+
+void chain_rest(struct chain *chain)
+{
+    struct session *session;
+    pthread_mutex_lock(&chain->lock);
+    session = chain->idle;
+    chain->idle = NULL;
+    chain->idle_count = 0;
+    pthread_mutex_unlock(&chain->lock);
+    while (session) {
+        struct session *next = session->next;
+        end_session(session);
+        session = next;
+    }
+}
+
+void chain_free(struct chain *chain)
+{
+    chain_rest(chain);
+    for (size_t k = 0; k < CHAIN_MODULES; k++)
+        free(chain->files[k]);
+    free(chain->texts);
+    pthread_mutex_destroy(&chain->lock);
+}
+
+struct session *session_take(struct chain *chain, uint64_t budget, size_t limit)
+{
+    struct cidawru_told told;
+    struct session *session, **at;
+    pthread_mutex_lock(&chain->lock);
+    for (at = &chain->idle; *at && (*at)->budget != budget; at = &(*at)->next) {
+        /* of another location */
+    }
+    session = *at;
+    if (session) {
+        *at = session->next;
+        chain->idle_count--;
+    }
+    pthread_mutex_unlock(&chain->lock);
+    if (!session)
+        return new_session(chain, budget, limit, &told);
+    session->most = limit;
+    session->limited = false;
+    return session;
+}
+
+void session_give(struct chain *chain, struct session *session, uint64_t number)
+{
+    bool kept = !session->spent;
+    session->most = SIZE_MAX;
+    in_hand = session;
+    if (number)
+        kept = cidawru_close(&session->handle, number) == CIDAWRU_DONE && kept;
+    in_hand = NULL;
+    if (kept && session->held <= KEPT_MOST) {
+        pthread_mutex_lock(&chain->lock);
+        kept = chain->idle_count < IDLE_MOST;
+        if (kept) {
+            session->next = chain->idle;
+            chain->idle = session;
+            chain->idle_count++;
+        }
+        pthread_mutex_unlock(&chain->lock);
+        if (kept)
+            return;
+    }
+    end_session(session);
+}
+
+/* The end of a call. */
+static uint32_t called(struct session *session, uint32_t code)
+{
+    in_hand = NULL;
+    session->spent |= code == CIDAWRU_NO_NAMES || code == CIDAWRU_BROKE_NAMES;
+    return code;
+}
+
+uint32_t session_open(struct session *session, uint64_t *number)
+{
+    in_hand = session;
+    return called(session, cidawru_open(&session->handle, number));
+}
+
+uint32_t session_begin(struct session *session, uint64_t number)
+{
+    in_hand = session;
+    return called(session, cidawru_begin(&session->handle, number));
+}
+
+uint32_t session_piece(struct session *session, uint64_t number, uint32_t kind, const void *bytes, size_t length)
+{
+    in_hand = session;
+    return called(session, cidawru_piece(&session->handle, number, kind, bytes, length));
+}
+
+uint32_t session_bring(struct session *session, uint64_t number)
+{
+    in_hand = session;
+    return called(session, cidawru_bring(&session->handle, number));
+}
+
+uint32_t session_run(struct session *session, uint64_t number, uint64_t most)
+{
+    in_hand = session;
+    return called(session, cidawru_run(&session->handle, number, most));
+}
+
+size_t session_output(struct session *session, uint64_t number, void *buffer, size_t room)
+{
+    size_t length;
+    in_hand = session;
+    length = cidawru_output(&session->handle, number, buffer, room);
+    in_hand = NULL;
+    return length;
+}
+
+/* A limit does not hold for this. */
+uint32_t session_end(struct session *session, uint64_t number)
+{
+    size_t most = session->most;
+    uint32_t code;
+    session->most = SIZE_MAX;
+    in_hand = session;
+    code = called(session, cidawru_end(&session->handle, number));
+    session->most = most;
+    return code;
+}
+
+const char *session_cause(const struct session *session, uint32_t code)
+{
+    switch (code) {
+    case CIDAWRU_FAILED:
+        return "a filter failed";
+    case CIDAWRU_NO_MEMORY:
+    case CIDAWRU_BROKE_MEMORY:
+        return session && session->limited ? "the limit of memory was met" : "no memory";
+    case CIDAWRU_NO_NAMES:
+    case CIDAWRU_BROKE_NAMES:
+        return "no name is left";
+    case CIDAWRU_BROKE_BUDGET:
+        return "the budget of instructions was met";
+    case CIDAWRU_AFTER_EOS:
+        return "data came behind the end";
+    default:
+        return "a call was not due";
+    }
+}

@@ -1,0 +1,78 @@
+/* Chains of checked filters, and sessions of them, as a module of a server holds them: what both modules share.
+ *
+ * A chain is read and checked while the configuration is read. A session is taken for a request or a connection and given back; each is with
+ * one user at a time, so no two threads are in one. What a session holds of memory is counted, and is refused past the chain's limit. */
+#ifndef CHECKED_SESSION_H
+#define CHECKED_SESSION_H
+
+#include <pthread.h>
+
+/* A server loads its modules into one space of names: none of these is seen there. */
+#pragma GCC visibility push(hidden)
+#include "cidawru.h"
+
+enum {
+    CHAIN_MODULES = 16,          /* the most modules of a chain */
+    CHAIN_BUDGET = 1000000,      /* instructions of a call, where nothing else is said */
+    CHAIN_LIMIT = 64 << 20,      /* bytes that a session may hold, likewise */
+    CHAIN_LEAST_LIMIT = 1 << 20, /* the least limit that may be set */
+    CHAIN_PIECES = 65536,        /* the most bytes that a call is brought */
+    CHAIN_HOLD = 65536           /* bytes of output that are held before the first are passed on */
+};
+
+struct session {
+    struct cidawru handle;
+    uint64_t budget;   /* instructions that a call may execute */
+    size_t held, most; /* bytes of memory that the library holds for it, and may hold */
+    bool limited;      /* it was refused some, since it was taken */
+    bool spent;        /* no name is left: it is not used again */
+    struct session *next;
+};
+
+/* Modules in their order, with certificates where they have some, and the sessions of this process that nobody uses. */
+struct chain {
+    char *files[CHAIN_MODULES];
+    unsigned char *texts; /* the modules and certificates, one after another */
+    size_t texts_length, count; /* of modules */
+    struct cidawru_lengths lengths[CHAIN_MODULES];
+    struct session *idle;
+    unsigned idle_count;
+    pthread_mutex_t lock; /* of the idle ones */
+};
+
+/* The empty chain. */
+void chain_begin(struct chain *);
+
+/* Adds the module of a file, and the certificate of FILE.cert where that is there. False: `why` has a line that says what is wrong. */
+bool chain_add(struct chain *, const char *file, char *why, size_t room);
+
+/* Whether the chain is accepted; else `why` has a line with the file, the line or the instruction, and the code or the rule. */
+bool chain_check(struct chain *, char *why, size_t room);
+
+/* Frees the sessions that nobody uses. */
+void chain_rest(struct chain *);
+
+/* Frees all of a chain. */
+void chain_free(struct chain *);
+
+/* A session with no connection, whose calls execute at most `budget` instructions, and which holds at most `limit` bytes; null where there is no
+ * memory. */
+struct session *session_take(struct chain *, uint64_t budget, size_t limit);
+
+/* Closes a connection of the session, where `number` is not 0, and gives the session back. A limit does not hold for this. */
+void session_give(struct chain *, struct session *, uint64_t number);
+
+/* The calls of cidawru.h of these names, by this session. */
+uint32_t session_open(struct session *, uint64_t *number);
+uint32_t session_begin(struct session *, uint64_t number);
+uint32_t session_piece(struct session *, uint64_t number, uint32_t kind, const void *bytes, size_t length);
+uint32_t session_bring(struct session *, uint64_t number);
+uint32_t session_run(struct session *, uint64_t number, uint64_t most);
+size_t session_output(struct session *, uint64_t number, void *buffer, size_t room);
+uint32_t session_end(struct session *, uint64_t number);
+
+/* What a code means that is not CIDAWRU_DONE, for a log. */
+const char *session_cause(const struct session *, uint32_t code);
+
+#pragma GCC visibility pop
+#endif

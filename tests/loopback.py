@@ -1,0 +1,172 @@
+"""What the tests of servers share: a port, a client, a backend that takes its time, and a certificate for TLS."""
+import collections
+import http.client
+import os
+import shutil
+import socket
+import ssl
+import subprocess
+import threading
+import time
+
+import filters
+
+TOP = os.path.dirname(os.path.dirname(os.path.abspath(__file__)))
+PATIENCE = 30
+LIBRARY = os.path.join(TOP, 'crates', 'host_lib', 'out', 'libhost_lib.a')
+
+Answer = collections.namedtuple('Answer', 'status fields body whole')
+
+
+def free_port():
+    with socket.socket() as listener:
+        listener.bind(('127.0.0.1', 0))
+        return listener.getsockname()[1]
+
+
+def wait_for(port):
+    """Waits until somebody listens on a port."""
+    end = time.time() + PATIENCE
+    while time.time() < end:
+        try:
+            socket.create_connection(('127.0.0.1', port), 1).close()
+            return True
+        except OSError:
+            time.sleep(0.02)
+    return False
+
+
+def client(port, tls=False):
+    if tls:
+        return http.client.HTTPSConnection('127.0.0.1', port, timeout=PATIENCE, context=ssl._create_unverified_context())
+    return http.client.HTTPConnection('127.0.0.1', port, timeout=PATIENCE)
+
+
+def ask(connection, target, body=None, method=None, **fields):
+    """The answer to a request; it is not whole where the server broke it off."""
+    fields = {name.replace('_', '-'): value for name, value in fields.items()}
+    connection.request(method or ('GET' if body is None else 'POST'), target, body, fields)
+    got = connection.getresponse()
+    try:
+        return Answer(got.status, got.headers, got.read(), True)
+    except (http.client.IncompleteRead, ConnectionError) as fault:
+        connection.close()
+        return Answer(got.status, got.headers, getattr(fault, 'partial', b''), False)
+
+
+def ask_once(port, target, **more):
+    connection = client(port)
+    try:
+        return ask(connection, target, **more)
+    finally:
+        connection.close()
+
+
+class Backend:
+    """A server that answers each request by parts of a body, with pauses between them, in seconds."""
+
+    def __init__(self, parts, pause=0.0, status='200 OK', fields=(), breaks=False):
+        self.parts, self.pause, self.status, self.fields, self.breaks = parts, pause, status, fields, breaks
+        self.heads = []
+        self.listener = socket.create_server(('127.0.0.1', 0))
+        self.port = self.listener.getsockname()[1]
+        threading.Thread(target=self.accept, daemon=True).start()
+
+    def accept(self):
+        while True:
+            try:
+                peer, _ = self.listener.accept()
+            except OSError:
+                return
+            threading.Thread(target=self.answer, args=(peer,), daemon=True).start()
+
+    def answer(self, peer):
+        with peer:
+            head = b''
+            while b'\r\n\r\n' not in head:
+                more = peer.recv(65536)
+                if not more:
+                    return
+                head += more
+            self.heads.append(head)
+            lines = ['HTTP/1.1 ' + self.status, 'Transfer-Encoding: chunked', 'Connection: close', *self.fields, '', '']
+            try:
+                peer.sendall('\r\n'.join(lines).encode())
+                for part in self.parts_of(head):
+                    peer.sendall(b'%x\r\n%s\r\n' % (len(part), part))
+                    time.sleep(self.pause)
+                if not self.breaks:
+                    peer.sendall(b'0\r\n\r\n')
+            except OSError:
+                pass
+
+    def parts_of(self, head):
+        return self.parts
+
+    def close(self):
+        self.listener.close()
+
+
+def arrivals(port, target):
+    """The times, from the first byte of the body on, at which bytes of a chunked body came, with these bytes."""
+    got = []
+    with socket.create_connection(('127.0.0.1', port), PATIENCE) as peer:
+        peer.sendall(b'GET %s HTTP/1.1\r\nHost: h\r\nConnection: close\r\n\r\n' % target.encode())
+        head = b''
+        while b'\r\n\r\n' not in head:
+            head += peer.recv(1)
+        while True:
+            more = peer.recv(65536)
+            if not more:
+                return got
+            got.append((time.time(), more))
+
+
+def certificate(folder):
+    """A certificate of this machine for itself, and its key."""
+    names = [os.path.join(folder, name) for name in ('cert.pem', 'key.pem')]
+    subprocess.run(['openssl', 'req', '-x509', '-newkey', 'rsa:2048', '-nodes', '-days', '2', '-subj', '/CN=localhost', '-out', names[0], '-keyout',
+                    names[1]], check=True, capture_output=True)
+    return names
+
+
+def curl(*words):
+    return subprocess.run(['curl', '-sk', '--max-time', str(PATIENCE), *words], capture_output=True)
+
+
+def asked(*words):
+    return subprocess.run(words, capture_output=True, text=True).stdout.strip()
+
+
+def versions(*packages):
+    """Packages with their versions, where the system's package manager tells them."""
+    found = asked('dpkg-query', '-W', '-f', '${Package} ${Version}, ', *packages) if shutil.which('dpkg-query') else ''
+    return found.rstrip(', ')
+
+
+def page(length):
+    """A page of small letters."""
+    return (b'a page of words, and more of them. ' * (length // 35 + 1))[:length]
+
+
+def lib(name):
+    return os.path.join(TOP, 'filters', name + '.mod')
+
+
+class Faults(list):
+    """What was not as it should be, and how much was looked at."""
+
+    def __init__(self):
+        super().__init__()
+        self.count = 0
+
+    def due(self, what, found, wanted):
+        self.count += 1
+        if found != wanted:
+            self.append('%s: %.200r, due is %.200r' % (what, found, wanted))
+
+
+def tests_of(path):
+    """The bodies of a test, as lists of requests on one connection: pairs of what is sent and what is to come out."""
+    with open(path, encoding='latin-1') as file:
+        return [filters.bodies(line[5:]) for line in file.read().split('\n') if line.startswith('body ')]
