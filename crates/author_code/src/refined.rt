@@ -1,0 +1,168 @@
+//! Ranges of numbers.
+
+use author_text::tree::{Comparison, ScaleOp, SumOp};
+use std::alloc::{AllocError, Global};
+
+/// From `low` up to and with `high`.
+#[derive(Clone, Copy, PartialEq, Eq)]
+pub(crate) struct Range {
+    pub(crate) low: u32,
+    pub(crate) high: u32,
+}
+
+impl Range {
+    /// All numbers.
+    pub(crate) const ALL: Range = Range {
+        low: 0,
+        high: u32::MAX,
+    };
+
+    /// One number.
+    pub(crate) fn only(value: u32) -> Range {
+        Range {
+            low: value,
+            high: value,
+        }
+    }
+
+    /// From 0 on.
+    pub(crate) fn up_to(high: u32) -> Range {
+        Range { low: 0, high }
+    }
+
+    /// Those of the numbers for which a comparison with a constant is so; none where there are none.
+    pub(crate) fn compared(self, op: Comparison, value: u32, sense: bool) -> Option<Range> {
+        let Range { low, high } = self;
+        let (low, high) = match (op, sense) {
+            (Comparison::Less, true) | (Comparison::GreaterOrEqual, false) => {
+                if value == 0 {
+                    return None;
+                }
+                (low, high.min(value - 1))
+            }
+            (Comparison::Less, false) | (Comparison::GreaterOrEqual, true) => {
+                (low.max(value), high)
+            }
+            (Comparison::Equal, true) | (Comparison::NotEqual, false) => {
+                (low.max(value), high.min(value))
+            }
+            (Comparison::Equal, false) | (Comparison::NotEqual, true) => {
+                return self.without(value);
+            }
+            _ => (low, high),
+        };
+        if low <= high {
+            Some(Range { low, high })
+        } else {
+            None
+        }
+    }
+
+    /// Without a number that stands at an end.
+    fn without(self, value: u32) -> Option<Range> {
+        let Range { low, high } = self;
+        if low == high && low == value {
+            return None;
+        }
+        if low == value {
+            return Some(Range {
+                low: low.saturating_add(1),
+                high,
+            });
+        }
+        if high == value {
+            return Some(Range {
+                low,
+                high: high.saturating_sub(1),
+            });
+        }
+        Some(self)
+    }
+}
+
+/// Both ranges, and what lies between them.
+pub(crate) fn both(left: Range, right: Range) -> Range {
+    Range {
+        low: left.low.min(right.low),
+        high: left.high.max(right.high),
+    }
+}
+
+/// Where ways meet.
+pub(crate) fn joined(left: Option<Vec<Range>>, right: Option<Vec<Range>>) -> Option<Vec<Range>> {
+    let (mut left, right) = match (left, right) {
+        (Some(left), Some(right)) => (left, right),
+        (Some(left), None) => return Some(left),
+        (None, right) => return right,
+    };
+    for (place, range) in left.iter_mut().enumerate() {
+        if let Some(other) = right.get(place) {
+            *range = both(*range, *other);
+        }
+    }
+    Some(left)
+}
+
+/// The next greater end of a range that grows.
+fn wider(high: u32) -> u32 {
+    if high <= 255 {
+        255
+    } else if high <= 65535 {
+        65535
+    } else {
+        u32::MAX
+    }
+}
+
+/// Ranges that grew, grown so far that they soon grow no more.
+pub(crate) fn widened(
+    alloc: Global,
+    old: &[Range],
+    new: &[Range],
+) -> Result<Vec<Range>, AllocError> {
+    let mut wide = Vec::new(alloc);
+    for (place, range) in new.iter().enumerate() {
+        let old = match old.get(place) {
+            Some(old) => *old,
+            None => *range,
+        };
+        let low = if range.low < old.low { 0 } else { range.low };
+        let high = if old.high < range.high {
+            wider(range.high)
+        } else {
+            range.high
+        };
+        wide.push(Range { low, high })?;
+    }
+    Ok(wide)
+}
+
+/// Of a sum or a difference.
+pub(crate) fn of_sum(op: SumOp, left: Range, right: Range) -> Range {
+    match op {
+        SumOp::Add => Range {
+            low: left.low.saturating_add(right.low),
+            high: left.high.saturating_add(right.high),
+        },
+        SumOp::Sub => Range {
+            low: left.low.saturating_sub(right.high),
+            high: left.high.saturating_sub(right.low),
+        },
+    }
+}
+
+/// Of a product, a quotient or a rest.
+pub(crate) fn of_scale(op: ScaleOp, left: Range, by: u32) -> Range {
+    match op {
+        ScaleOp::Times => Range {
+            low: left.low.saturating_mul(by),
+            high: left.high.saturating_mul(by),
+        },
+        ScaleOp::Over if by != 0 => Range {
+            low: left.low / by,
+            high: left.high / by,
+        },
+        ScaleOp::Modulo if left.high < by => left,
+        ScaleOp::Over | ScaleOp::Modulo => Range::up_to(by.saturating_sub(1)),
+    }
+}
